@@ -1,0 +1,6 @@
+pub mod Faults
+pub mod Files
+pub mod Text
+pub mod Planned
+pub mod InMemory
+pub mod SinkInMemory

@@ -1,0 +1,80 @@
+use crate::{
+    DiskShelf, Fail, LoadError, MemoryShelf, MemorySink, OutSink, Shelf, Sink, WriteError,
+};
+use std::test::Fail as TestFail;
+use std::{fs, io};
+
+#[test]
+fn disk_shelf_reads_and_writes_real_files(rt: HostRuntime) -> Result<(), TestFail> {
+    let mut shelf = DiskShelf::new(rt);
+    assert!(rt; matches!(shelf.load(rt.alloc(), "a.hex", 5), Err(LoadError::Failed)));
+    assert!(rt;
+        matches!(
+            shelf.create(rt.alloc(), "no/such/folder"),
+            Err(WriteError::Failed)
+        )
+    );
+    shelf.create(rt.alloc(), "a.hex")?;
+    shelf.append(rt.alloc(), b"he")?;
+    shelf.append(rt.alloc(), b"llo")?;
+    assert_eq!(rt;
+        shelf.load(rt.alloc(), "a.hex", 5)?.as_slice(),
+        b"hello".as_slice()
+    );
+    assert!(rt; matches!(shelf.load(rt.alloc(), "a.hex", 4), Err(LoadError::TooLong)));
+    shelf.create(rt.alloc(), "a.hex")?;
+    assert_eq!(rt; shelf.load(rt.alloc(), "a.hex", 0)?.len(), 0);
+    Ok(())
+}
+
+#[test]
+fn out_sink_writes_to_a_real_output(rt: HostRuntime) -> Result<(), TestFail> {
+    let mut out = OutSink::new(fs::create(&rt, "out.txt")?);
+    out.put(rt.alloc(), b"one\n")?;
+    out.put(rt.alloc(), b"two\n")?;
+    assert_eq!(rt;
+        fs::read(&rt, "out.txt")?.as_slice(),
+        b"one\ntwo\n".as_slice()
+    );
+    OutSink::new(io::writer(&rt)).put(rt.alloc(), b"to standard output\n")?;
+    Ok(())
+}
+
+#[test]
+fn memory_shelf_fails_as_planned(rt: HostRuntime) -> Result<(), TestFail> {
+    let fails = [
+        Fail { call: 2, keep: 0 },
+        Fail { call: 5, keep: 2 },
+        Fail { call: 5, keep: 9 },
+        Fail { call: 6, keep: 0 },
+    ];
+    let mut shelf = MemoryShelf::new(rt.alloc(), &fails)?;
+    shelf.add(rt.alloc(), "b", b"other")?;
+    shelf.add(rt.alloc(), "a", b"old")?;
+    shelf.add(rt.alloc(), "a", b"xy")?;
+    assert_eq!(rt;
+        shelf.load(rt.alloc(), "a", 2)?.as_slice(),
+        b"xy".as_slice()
+    );
+    assert!(rt; matches!(shelf.load(rt.alloc(), "a", 2), Err(LoadError::Failed)));
+    shelf.create(rt.alloc(), "a")?;
+    shelf.append(rt.alloc(), b"first ")?;
+    assert!(rt; matches!(shelf.append(rt.alloc(), b"second"), Err(WriteError::Failed)));
+    assert_eq!(rt; shelf.file("a").unwrap_or_default(), b"first se".as_slice());
+    assert!(rt; matches!(shelf.create(rt.alloc(), "a"), Err(WriteError::Failed)));
+    assert_eq!(rt; shelf.file("a").unwrap_or_default(), b"first se".as_slice());
+    assert_eq!(rt; shelf.file("b").unwrap_or_default(), b"other".as_slice());
+    assert!(rt; shelf.file("c").is_none());
+    assert!(rt; matches!(shelf.load(rt.alloc(), "b", 4), Err(LoadError::TooLong)));
+    Ok(())
+}
+
+#[test]
+fn memory_sink_fails_as_planned(rt: HostRuntime) -> Result<(), TestFail> {
+    let mut sink = MemorySink::new(rt.alloc(), &[Fail { call: 2, keep: 3 }])?;
+    sink.put(rt.alloc(), b"one ")?;
+    assert!(rt; matches!(sink.put(rt.alloc(), b"two "), Err(WriteError::Failed)));
+    sink.put(rt.alloc(), b" three")?;
+    assert_eq!(rt; sink.text(), b"one two three".as_slice());
+    Ok(())
+}
