@@ -1,0 +1,14 @@
+pub mod CellsLemmas
+pub mod CutLaws
+pub mod DigitLaws
+pub mod LineLaws
+pub mod LineSteps
+pub mod PlaceLaws
+pub mod RecordLaws
+pub mod RecordSteps
+pub mod TextBack
+pub mod TextLaws
+pub mod TextLength
+pub mod Verdicts
+pub mod WhyLaws
+pub mod Written

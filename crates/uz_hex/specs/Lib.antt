@@ -1,0 +1,5 @@
+pub mod Cells
+pub mod HexText
+pub mod Reading
+pub mod Records
+pub mod Writing
