@@ -1,0 +1,17 @@
+//! Instructions and flash images as text.
+//!
+//! Source: AVR Instruction Set Manual for mnemonics and operands. The form of targets and of a listing's
+//! lines is this project's profile.
+#![tactic(auto)]
+
+mod laws;
+mod lines;
+mod operands;
+mod print;
+
+pub use laws::one_listing;
+pub use lines::listing;
+pub use print::print_one;
+
+#[cfg(test)]
+mod tests;
