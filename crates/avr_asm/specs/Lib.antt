@@ -1,0 +1,12 @@
+pub mod Assembly
+pub mod Codes
+pub mod Directives
+pub mod Emission
+pub mod Faults
+pub mod Fields
+pub mod Hints
+pub mod Instructions
+pub mod Layout
+pub mod Lines
+pub mod Mnemonics
+pub mod Operands

@@ -1,0 +1,251 @@
+//! The second pass over the lines, and the whole.
+
+ghost use Rattle.std.specs.Prelude.{◌≡◌, ◌<◌, ◌≤◌, ◌-◌, ◌+◌, ◌^◌, All, IfOk, OnOk, MatchResult, length, drop, map as mapped};
+ghost use Rattle.avr_asm.specs.Faults.{Gives};
+ghost use Rattle.avr_asm.specs.Operands.{AllLie, EachLies};
+ghost use Rattle.avr_asm.specs.Layout.{EachShort, GivesLayout};
+ghost use Rattle.avr_asm.specs.Assembly.{seen_built, with_instruction, with_data, with_hint, with_directive, with_action, with_line, following as following_address, output_from, nothing, assembly};
+
+use crate::directives::Directive;
+use crate::emission::{byte_data, code_of, put, word_data};
+use crate::faults::{AsmError, AsmWhy};
+use crate::hints::hint_of;
+use crate::layout::{is_instruction_line, lay_out};
+use crate::lines::{Action, action_of, arguments_of, body_of, content_of, lines_of, parts_of};
+use crate::operands::Operands;
+use crate::output::{Built, Placed};
+use avr_table::Instr;
+use avr_text::{Symbols, Token};
+use std::alloc::Global;
+use uz_hex::Image;
+
+/// Puts an instruction at a byte address.
+#[tactic(auto, unfolding(crate::specs::Assembly::with_instruction))]
+fn put_instruction(
+    alloc: Global,
+    built: &mut Built,
+    line: u32,
+    address: u32,
+    instr: Instr,
+) -> Result<(), AsmWhy>
+    requires { address ≤ 65536 }
+    ensures { Gives (λ _. seen_built built.new) result (with_instruction line address (seen_built built.old) instr) }
+{
+    let bytes = code_of(alloc, &instr)?;
+    put(&mut built.image, address, bytes.as_slice())?;
+    built.items.push(Placed {
+        at: (address / 2) as u16,
+        line,
+        instr,
+    })?;
+    Ok(())
+}
+
+/// Puts data at a byte address.
+#[tactic(auto, unfolding(crate::specs::Assembly::with_data))]
+fn put_data(built: &mut Built, address: u32, bytes: &[u8]) -> Result<(), AsmWhy>
+    requires { address ≤ 65536 }
+    ensures { Gives (λ _. seen_built built.new) result (with_data address (seen_built built.old) bytes.now) }
+{
+    put(&mut built.image, address, bytes)
+}
+
+/// Puts a directive's data or hint out.
+fn put_directive(
+    alloc: Global,
+    built: &mut Built,
+    directive: Directive,
+    line: &[u8],
+    symbols: &Symbols,
+    address: u32,
+    following: u16,
+    parts: &[&[Token]],
+) -> Result<(), AsmWhy>
+    requires lie { EachLies (length line.now) parts.now }
+    requires address { address ≤ 65536 }
+    ensures { Gives (λ _. seen_built built.new) result (with_directive directive line.now symbols.now address following (mapped (λ p. p.now) parts.now) (seen_built built.old)) }
+{
+    match directive {
+        Directive::Db => {
+            let bytes = byte_data(alloc, line, symbols, parts)?;
+            put_data(built, address, bytes.as_slice())
+        }
+        Directive::Dw => {
+            let bytes = word_data(alloc, line, symbols, parts)?;
+            put_data(built, address, bytes.as_slice())
+        }
+        _ => {
+            if let Some(hint) = hint_of(directive, line, symbols, parts, following)? {
+                built.hints.push(hint)?;
+            }
+            Ok(())
+        }
+    }
+}
+
+/// Puts out what a line does.
+fn put_action(
+    alloc: Global,
+    built: &mut Built,
+    action: Action,
+    line: &[u8],
+    symbols: &Symbols,
+    number: u32,
+    address: u32,
+    following: u16,
+    parts: &[&[Token]],
+) -> Result<(), AsmWhy>
+    requires lie { EachLies (length line.now) parts.now }
+    requires address { address ≤ 65536 }
+    ensures { Gives (λ _. seen_built built.new) result (with_action action line.now symbols.now number address following (mapped (λ p. p.now) parts.now) (seen_built built.old)) }
+{
+    match action {
+        Action::Instruction(mnemonic) => {
+            let operands = Operands {
+                line,
+                symbols,
+                next: address + 2,
+                parts,
+            };
+            let instr = operands.instruction(mnemonic)?;
+            put_instruction(alloc, built, number, address, instr)
+        }
+        Action::Directive(directive) => {
+            put_directive(
+                alloc, built, directive, line, symbols, address, following, parts,
+            )
+        }
+        _ => Ok(()),
+    }
+}
+
+/// Puts out a line at its address.
+#[tactic(auto, unfolding(crate::specs::Assembly::with_line))]
+fn put_line(
+    alloc: Global,
+    built: &mut Built,
+    line: &[u8],
+    symbols: &Symbols,
+    number: u32,
+    address: u32,
+    following: u16,
+) -> Result<(), AsmWhy>
+    requires short { length line.now < 2 ^ 32 - 1 }
+    requires address { address ≤ 65536 }
+    ensures { Gives (λ _. seen_built built.new) result (with_line line.now symbols.now number address following (seen_built built.old)) }
+{
+    let tokens = content_of(alloc, line)?;
+    let tokens = tokens.as_slice();
+    let body = body_of(line.len(), tokens);
+    let action = action_of(line, body);
+    let arguments = arguments_of(line.len(), action, body);
+    let parts = parts_of(alloc, line.len(), arguments)?;
+    put_action(
+        alloc,
+        built,
+        action,
+        line,
+        symbols,
+        number,
+        address,
+        following,
+        parts.as_slice(),
+    )
+}
+
+/// The word address of the first instruction line from a line on, and 0 where there is none.
+fn next_instruction(
+    alloc: Global,
+    lines: &[&[u8]],
+    addresses: &[u32],
+    from: usize,
+) -> Result<u16, AsmWhy>
+    requires short { EachShort lines.now }
+    requires same { length addresses.now ≡ length lines.now }
+    requires below { All (λ a. a ≤ 65536) addresses.now }
+    ensures { MatchResult result (λ n. n ≡ following_address (drop from (mapped (λ line. line.now) lines.now)) (drop from addresses.now)) (λ why. why ≡ AsmWhy.Memory) }
+{
+    for i in from..lines.len() {
+        if is_instruction_line(alloc, lines[i])? {
+            return Ok((addresses[i] / 2) as u16);
+        }
+    }
+    Ok(0)
+}
+
+/// The word address that follows a line: it changes at instruction lines alone.
+fn following_line(
+    alloc: Global,
+    lines: &[&[u8]],
+    addresses: &[u32],
+    i: usize,
+    following: u16,
+) -> Result<u16, AsmWhy>
+    requires short { EachShort lines.now }
+    requires same { length addresses.now ≡ length lines.now }
+    requires below { All (λ a. a ≤ 65536) addresses.now }
+    requires within { i < length lines.now }
+    requires following { following ≡ following_address (drop i (mapped (λ line. line.now) lines.now)) (drop i addresses.now) }
+    ensures { MatchResult result (λ n. n ≡ following_address (drop (i + 1) (mapped (λ line. line.now) lines.now)) (drop (i + 1) addresses.now)) (λ why. why ≡ AsmWhy.Memory) }
+{
+    if is_instruction_line(alloc, lines[i])? {
+        next_instruction(alloc, lines, addresses, i + 1)
+    } else {
+        Ok(following)
+    }
+}
+
+/// Puts out all lines at their addresses.
+fn put_lines(
+    alloc: Global,
+    lines: &[&[u8]],
+    addresses: &[u32],
+    symbols: &Symbols,
+) -> Result<Built, AsmError>
+    requires short { EachShort lines.now }
+    requires few { length lines.now < 2 ^ 32 - 1 }
+    requires same { length addresses.now ≡ length lines.now }
+    requires below { All (λ a. a ≤ 65536) addresses.now }
+    ensures { GivesLayout seen_built result (output_from 1 symbols.now nothing (mapped (λ line. line.now) lines.now) addresses.now) }
+{
+    let mut built = Built {
+        image: Image::empty(alloc)?,
+        items: Vec::new(alloc),
+        hints: Vec::new(alloc),
+    };
+    let mut following = match next_instruction(alloc, lines, addresses, 0) {
+        Ok(following) => following,
+        Err(why) => return Err(AsmError { line: 0, why }),
+    };
+    for (i, line) in lines.iter().enumerate() {
+        match following_line(alloc, lines, addresses, i, following) {
+            Ok(next) => following = next,
+            Err(why) => return Err(AsmError { line: 0, why }),
+        }
+        let number = i as u32 + 1;
+        if let Err(why) = put_line(
+            alloc,
+            &mut built,
+            line,
+            symbols,
+            number,
+            addresses[i],
+            following,
+        ) {
+            return Err(AsmError { line: number, why });
+        }
+    }
+    Ok(built)
+}
+
+/// Assembles a source.
+#[tactic(auto, using(crate::proofs::LineLemmas::each_short, crate::proofs::LineLemmas::few_lines))]
+pub fn assemble(alloc: Global, text: &[u8]) -> Result<Built, AsmError>
+    requires { length text.now < 2 ^ 32 - 1 }
+    ensures built { GivesLayout seen_built result (assembly text.now) }
+{
+    let lines = lines_of(alloc, text)?;
+    let lines = lines.as_slice();
+    let (addresses, symbols) = lay_out(alloc, lines)?;
+    put_lines(alloc, lines, addresses.as_slice(), &symbols)
+}

@@ -1,0 +1,9 @@
+pub mod Characters
+pub mod Numbers
+pub mod Pieces
+pub mod Tokens
+pub mod Names
+pub mod Arithmetic
+pub mod Operators
+pub mod Reading
+pub mod Words

@@ -1,0 +1,14 @@
+-- The names that a map's entries have.
+use Rattle.std.specs.Prelude.{ℕ, ℤ, List, map, Vec}
+use Rattle.std.specs.declared.alloc.Global.{Global}
+use Rattle.std.specs.Ordering.{nat_cmp}
+use Rattle.std.specs.Cmp.Lexicographic.{slice_cmp}
+use Rattle.std.specs.FinMap.{FinMap}
+
+-- names as lists of bytes
+abbrev pub named : List (Vec ℕ Global × ℤ) → List (List ℕ × ℤ)
+named entries = map {B = List ℕ × ℤ} (λ (e : Vec ℕ Global × ℤ). (e.0.items, e.1)) entries
+
+-- the values of names
+abbrev pub NameMap : Type 0
+NameMap = FinMap {K = List ℕ} (slice_cmp nat_cmp) ℤ

@@ -1,0 +1,52 @@
+//! Cutting a text into tokens.
+
+ghost use Rattle.std.specs.Prelude.{◌≡◌, ◌<◌, ◌-◌, ◌^◌, All, IfOk, length};
+ghost use Rattle.avr_text.specs.Tokens.{line_after as line_after_token, tokens_of, GivesTokens, Lies};
+
+use crate::pieces::{Piece, piece_at};
+use crate::tokens::{LexError, Token, TokenKind};
+use std::alloc::Global;
+
+/// The line after a token.
+fn line_after(kind: TokenKind, line: u32) -> u32
+    requires { line < 2 ^ 32 - 1 }
+    ensures { result ≡ line_after_token kind line }
+{
+    match kind {
+        TokenKind::LineEnd => line + 1,
+        _ => line,
+    }
+}
+
+/// The tokens of a text, in order: the longest word, then the next piece, and so on. Blanks (spaces,
+/// tabs, a CR right before LF) and comments from `;` to the line's end are no tokens.
+///
+/// The first fault is named, with its line.
+pub fn lex(alloc: Global, text: &[u8]) -> Result<Vec<Token>, LexError>
+    requires { length text.now < 2 ^ 32 - 1 }
+    ensures tokens { GivesTokens result (tokens_of text.now) }
+    ensures lie { IfOk result (λ v. All (Lies (length text.now)) v.items) }
+{
+    let mut tokens = Vec::new(alloc);
+    let mut line = 1;
+    let mut at = 0;
+    while at < text.len() {
+        let (_, rest) = text.split_at(at);
+        match piece_at(rest) {
+            Piece::Gap(n) => at += n,
+            Piece::Token(kind, n) => {
+                let from = at as u32;
+                at += n;
+                tokens.push(Token {
+                    kind,
+                    line,
+                    from,
+                    to: at as u32,
+                })?;
+                line = line_after(kind, line);
+            }
+            Piece::Fault(why) => return Err(LexError { line, why }),
+        }
+    }
+    Ok(tokens)
+}
