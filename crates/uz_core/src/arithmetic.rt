@@ -1,0 +1,352 @@
+//! Results and flags of the arithmetic instructions, as the AVR Instruction Set Manual gives them.
+//!
+//! Each call gives a result and the flags that the instruction sets or clears. The bits of SREG in the mask take the
+//! value's; the other bits stay.
+
+ghost use Rattle.std.specs.Prelude.{◌≡◌, ◌<◌, ◌≤◌, ◌+◌, ◌*◌, ◌/◌, ◌%◌, ◌*ℤ◌, ◌+ℤ◌, ◌-ℤ◌, pos};
+ghost use Rattle.uz_machine.specs.declared.Flags.{Flags};
+ghost use Rattle.uz_machine.specs.Arithmetic.{FitsMask, bit_value, signed, overflows, flags_cznvsh, flags_znvs, flags_cznvs, flags_cz, sum_of, difference_of, chained_result, and_of, or_of, xor_of, complement_of, negation_of, increment_of, decrement_of, shift_result, logical_shift_of, arithmetic_shift_of, rotation_of, pair_sum_of, pair_difference_of, factor, low_word, left_shift_of, product_of, flags_of, alu_result};
+
+use uz_machine::Flags;
+
+fn bit_value(b: bool) -> u8
+    ensures { result ≡ bit_value b }
+{
+    if b { 1 } else { 0 }
+}
+
+/// A byte in two's complement, moved up by 128.
+fn lifted(a: u8) -> u16
+    ensures { pos result ≡ signed a +ℤ pos 128 }
+{
+    if a < 128 {
+        u16::from(a) + 128
+    } else {
+        u16::from(a) - 128
+    }
+}
+
+fn sum_overflows(a: u8, b: u8, carry: bool) -> bool
+    ensures { result ≡ overflows (signed a +ℤ signed b +ℤ pos (bit_value carry)) }
+{
+    let sum = lifted(a) + lifted(b) + u16::from(bit_value(carry));
+    sum < 128 || sum >= 384
+}
+
+fn difference_overflows(a: u8, b: u8, carry: bool) -> bool
+    ensures { result ≡ overflows (signed a -ℤ signed b -ℤ pos (bit_value carry)) }
+{
+    let difference = lifted(a) + 512 - lifted(b) - u16::from(bit_value(carry));
+    difference < 384 || difference >= 640
+}
+
+/// C, Z, N, V, S and H.
+fn all_flags(c: bool, z: bool, n: bool, v: bool, h: bool) -> Flags
+    ensures flags { flags_of result ≡ flags_cznvsh c z n v h }
+    ensures mask { FitsMask result }
+{
+    Flags {
+        value: bit_value(c)
+            + bit_value(z) * 2
+            + bit_value(n) * 4
+            + bit_value(v) * 8
+            + bit_value(n != v) * 16
+            + bit_value(h) * 32,
+        mask: 0x3F,
+    }
+}
+
+/// C, Z, N, V and S.
+fn shift_flags(c: bool, z: bool, n: bool, v: bool) -> Flags
+    ensures flags { flags_of result ≡ flags_cznvs c z n v }
+    ensures mask { FitsMask result }
+{
+    Flags {
+        value: bit_value(c)
+            + bit_value(z) * 2
+            + bit_value(n) * 4
+            + bit_value(v) * 8
+            + bit_value(n != v) * 16,
+        mask: 0x1F,
+    }
+}
+
+/// Z, N, V and S.
+fn logic_flags(z: bool, n: bool, v: bool) -> Flags
+    ensures flags { flags_of result ≡ flags_znvs z n v }
+    ensures mask { FitsMask result }
+{
+    Flags {
+        value: bit_value(z) * 2 + bit_value(n) * 4 + bit_value(v) * 8 + bit_value(n != v) * 16,
+        mask: 0x1E,
+    }
+}
+
+/// C and Z.
+fn product_flags(c: bool, z: bool) -> Flags
+    ensures flags { flags_of result ≡ flags_cz c z }
+    ensures mask { FitsMask result }
+{
+    Flags {
+        value: bit_value(c) + bit_value(z) * 2,
+        mask: 0x03,
+    }
+}
+
+/// ADD and ADC: `a + b`, and one more with `carry`.
+pub fn add8(a: u8, b: u8, carry: bool) -> (u8, Flags)
+    ensures result { alu_result result ≡ sum_of a b carry }
+    ensures mask { FitsMask result.1 }
+{
+    let c = u16::from(bit_value(carry));
+    let sum = u16::from(a) + u16::from(b) + c;
+    let low = u16::from(a % 16) + u16::from(b % 16) + c;
+    let result = (sum % 256) as u8;
+    let overflow = sum_overflows(a, b, carry);
+    (
+        result,
+        all_flags(sum >= 256, result == 0, result >= 128, overflow, low >= 16),
+    )
+}
+
+/// SUB, SUBI, SBC, SBCI, CP, CPI, CPC: `a - b`, and one less with `carry`. Z is set exactly where the result is 0 and
+/// `zero` is true, which is the old Z of an instruction with carry and true of the others.
+pub fn sub8(a: u8, b: u8, carry: bool, zero: bool) -> (u8, Flags)
+    ensures result { alu_result result ≡ chained_result (difference_of a b carry) zero }
+    ensures mask { FitsMask result.1 }
+{
+    let c = u16::from(bit_value(carry));
+    let less = u16::from(b) + c;
+    let result = ((u16::from(a) + 512 - less) % 256) as u8;
+    let overflow = difference_overflows(a, b, carry);
+    let half = u16::from(a % 16) < u16::from(b % 16) + c;
+    (
+        result,
+        all_flags(
+            u16::from(a) < less,
+            result == 0 && zero,
+            result >= 128,
+            overflow,
+            half,
+        ),
+    )
+}
+
+/// AND and ANDI.
+pub fn and8(a: u8, b: u8) -> (u8, Flags)
+    ensures result { alu_result result ≡ and_of a b }
+    ensures mask { FitsMask result.1 }
+{
+    let result = a & b;
+    (result, logic_flags(result == 0, result >= 128, false))
+}
+
+/// OR and ORI.
+pub fn or8(a: u8, b: u8) -> (u8, Flags)
+    ensures result { alu_result result ≡ or_of a b }
+    ensures mask { FitsMask result.1 }
+{
+    let result = a | b;
+    (result, logic_flags(result == 0, result >= 128, false))
+}
+
+/// EOR.
+pub fn xor8(a: u8, b: u8) -> (u8, Flags)
+    ensures result { alu_result result ≡ xor_of a b }
+    ensures mask { FitsMask result.1 }
+{
+    let result = a ^ b;
+    (result, logic_flags(result == 0, result >= 128, false))
+}
+
+/// INC. V is set where the result is 0x80.
+pub fn inc8(a: u8) -> (u8, Flags)
+    ensures result { alu_result result ≡ increment_of a }
+    ensures mask { FitsMask result.1 }
+{
+    let result = ((u16::from(a) + 1) % 256) as u8;
+    (
+        result,
+        logic_flags(result == 0, result >= 128, result == 128),
+    )
+}
+
+/// DEC. V is set where the result is 0x7F.
+pub fn dec8(a: u8) -> (u8, Flags)
+    ensures result { alu_result result ≡ decrement_of a }
+    ensures mask { FitsMask result.1 }
+{
+    let result = ((u16::from(a) + 255) % 256) as u8;
+    (
+        result,
+        logic_flags(result == 0, result >= 128, result == 127),
+    )
+}
+
+/// COM: `255 - a`. C is set.
+pub fn com8(a: u8) -> (u8, Flags)
+    ensures result { alu_result result ≡ complement_of a }
+    ensures mask { FitsMask result.1 }
+{
+    let result = 255 - a;
+    (result, shift_flags(true, result == 0, result >= 128, false))
+}
+
+/// NEG: `0 - a`.
+pub fn neg8(a: u8) -> (u8, Flags)
+    ensures result { alu_result result ≡ negation_of a }
+    ensures mask { FitsMask result.1 }
+{
+    sub8(0, a, false, true)
+}
+
+/// The flags of a shift of `a` to the right.
+fn shifted(a: u8, moved: u8) -> (u8, Flags)
+    ensures result { alu_result result ≡ shift_result a moved }
+    ensures mask { FitsMask result.1 }
+{
+    let carry = a % 2 == 1;
+    let negative = moved >= 128;
+    (
+        moved,
+        shift_flags(carry, moved == 0, negative, negative != carry),
+    )
+}
+
+/// LSR: a 0 comes in at bit 7.
+pub fn lsr8(a: u8) -> (u8, Flags)
+    ensures result { alu_result result ≡ logical_shift_of a }
+    ensures mask { FitsMask result.1 }
+{
+    shifted(a, a / 2)
+}
+
+/// ASR: bit 7 stays.
+pub fn asr8(a: u8) -> (u8, Flags)
+    ensures result { alu_result result ≡ arithmetic_shift_of a }
+    ensures mask { FitsMask result.1 }
+{
+    shifted(a, a / 2 + a / 128 * 128)
+}
+
+/// ROR: `carry`, the old C, comes in at bit 7.
+pub fn ror8(a: u8, carry: bool) -> (u8, Flags)
+    ensures result { alu_result result ≡ rotation_of a carry }
+    ensures mask { FitsMask result.1 }
+{
+    shifted(a, a / 2 + bit_value(carry) * 128)
+}
+
+/// ADIW: a pair and a constant. N is bit 15 of the result.
+pub fn add16(a: u16, k: u8) -> (u16, Flags)
+    ensures result { alu_result result ≡ pair_sum_of a k }
+    ensures mask { FitsMask result.1 }
+{
+    let result = ((u32::from(a) + u32::from(k)) % 65536) as u16;
+    let before = a >= 32768;
+    let after = result >= 32768;
+    (
+        result,
+        shift_flags(!after && before, result == 0, after, !before && after),
+    )
+}
+
+/// SBIW: a pair less a constant. N is bit 15 of the result.
+pub fn sub16(a: u16, k: u8) -> (u16, Flags)
+    ensures result { alu_result result ≡ pair_difference_of a k }
+    ensures mask { FitsMask result.1 }
+{
+    let result = ((u32::from(a) + 65536 - u32::from(k)) % 65536) as u16;
+    let before = a >= 32768;
+    let after = result >= 32768;
+    (
+        result,
+        shift_flags(after && !before, result == 0, after, before && !after),
+    )
+}
+
+/// A byte as a number, in two's complement or not.
+fn factor(a: u8, is_signed: bool) -> i16
+    ensures { result ≡ factor a is_signed }
+{
+    if is_signed && a >= 128 {
+        i16::from(a) - 256
+    } else {
+        i16::from(a)
+    }
+}
+
+/// The low 16 bits of a product.
+fn low_product(x: i16, y: i16) -> u16
+    ensures { result ≡ low_word (x *ℤ y) }
+{
+    x.wrapping_mul(y).cast_unsigned()
+}
+
+fn left_shift(shifted: bool, word: u16) -> u16
+    ensures { result ≡ left_shift_of shifted word }
+{
+    if shifted { word.wrapping_mul(2) } else { word }
+}
+
+/// MUL, MULS, MULSU, and with `shifted` FMUL, FMULS, FMULSU: the low 16 bits of the product, shifted left by one with
+/// `shifted`. C is bit 15 of the product before the shift.
+pub fn mul16(a: u8, b: u8, a_signed: bool, b_signed: bool, shifted: bool) -> (u16, Flags)
+    ensures result { alu_result result ≡ product_of a b a_signed b_signed shifted }
+    ensures mask { FitsMask result.1 }
+{
+    let product = low_product(factor(a, a_signed), factor(b, b_signed));
+    let result = left_shift(shifted, product);
+    (result, product_flags(product >= 32768, result == 0))
+}
+
+#[cfg(test)]
+mod tests {
+    use super::*;
+
+    fn flags(value: u8, mask: u8) -> Flags {
+        Flags { value, mask }
+    }
+
+    /// Results and flags by the Boolean equations of the AVR Instruction Set Manual.
+    #[test]
+    fn gives_the_manuals_results(rt: HostRuntime) {
+        for (got, want) in [
+            (add8(0x7F, 0x01, false), (0x80, flags(0x2C, 0x3F))),
+            (add8(0xFF, 0xFF, true), (0xFF, flags(0x35, 0x3F))),
+            (sub8(0x10, 0x01, false, true), (0x0F, flags(0x20, 0x3F))),
+            (sub8(0x05, 0x04, true, false), (0x00, flags(0x00, 0x3F))),
+            (sub8(0x80, 0x7F, true, true), (0x00, flags(0x3A, 0x3F))),
+            (and8(0xF0, 0x8F), (0x80, flags(0x14, 0x1E))),
+            (or8(0x00, 0x00), (0x00, flags(0x02, 0x1E))),
+            (xor8(0xFF, 0x7F), (0x80, flags(0x14, 0x1E))),
+            (inc8(0x7F), (0x80, flags(0x0C, 0x1E))),
+            (dec8(0x80), (0x7F, flags(0x18, 0x1E))),
+            (com8(0x55), (0xAA, flags(0x15, 0x1F))),
+            (neg8(0x10), (0xF0, flags(0x15, 0x3F))),
+            (lsr8(0x01), (0x00, flags(0x1B, 0x1F))),
+            (asr8(0x81), (0xC0, flags(0x15, 0x1F))),
+            (ror8(0x02, true), (0x81, flags(0x0C, 0x1F))),
+        ] {
+            assert_eq!(rt; got, want);
+        }
+        for (got, want) in [
+            (add16(0x7FFF, 63), (0x803E, flags(0x0C, 0x1F))),
+            (sub16(0x0000, 1), (0xFFFF, flags(0x15, 0x1F))),
+            (
+                mul16(0xFF, 0xFF, false, false, false),
+                (0xFE01, flags(0x01, 0x03)),
+            ),
+            (
+                mul16(0xFF, 0xFF, true, false, false),
+                (0xFF01, flags(0x01, 0x03)),
+            ),
+            (
+                mul16(0x80, 0x80, true, true, true),
+                (0x8000, flags(0x00, 0x03)),
+            ),
+        ] {
+            assert_eq!(rt; got, want);
+        }
+    }
+}

@@ -1,0 +1,20 @@
+//! The core of an ATmega644: its registers, one step by the instruction table, and the arithmetic of its instructions.
+//!
+//! Source: AVR Instruction Set Manual, with the clocks of parts that have a 16-bit program counter.
+#![tactic(auto)]
+
+mod arithmetic;
+mod cpu;
+mod data;
+mod effect;
+mod instruction;
+mod operation;
+mod step;
+
+pub use arithmetic::{
+    add8, add16, and8, asr8, com8, dec8, inc8, lsr8, mul16, neg8, or8, ror8, sub8, sub16, xor8,
+};
+pub use cpu::Cpu;
+pub use data::Data;
+pub use step::{Step, Why};
+pub use uz_machine::Flags;

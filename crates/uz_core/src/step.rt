@@ -1,0 +1,235 @@
+//! One instruction, and an interrupt's entry.
+
+ghost use Rattle.std.specs.Prelude.{◌≡◌, ◌≢◌, ◌<◌, ◌≤◌, ◌+◌, ◌-◌, [], filter, IsTrue, ◌↔◌};
+ghost use Rattle.uz_machine.specs.declared.Effect.TheVariants.{Stop};
+ghost use Rattle.uz_machine.specs.Effects.{effect_of};
+ghost use Rattle.uz_machine.specs.Core.{Core, LoadModel, changed_core, loaded_bytes, content_after_loads, load_addresses, stores_of, pc_stores, leaves_core, next_pc, outcome_of, sample_clock, step_result, owes_instruction, returns_from_interrupt, interrupted_core};
+ghost use Rattle.avr_table.specs.Rows.{clocks_of};
+ghost use Rattle.uz_machine.specs.OperandRanges.{EffectFits};
+ghost use Rattle.uz_core.specs.Steps.{IsStep};
+ghost use Rattle.uz_core.specs.declared.step.Step.TheVariants.{Took};
+
+use crate::effect::effect;
+use crate::instruction::bit_equals;
+use crate::operation::{I, with_bit};
+use crate::{Cpu, Data};
+use avr_decode::{decode, length};
+use avr_table::{Instr, Outcome, clocks, words};
+use uz_hex::Image;
+use uz_machine::Effect;
+
+/// Why a step stopped.
+#[derive(Clone, Copy, Debug, PartialEq, Eq)]
+pub enum Why {
+    /// No row of the instruction table reads the words at pc. It holds the first word.
+    Opcode(u16),
+    /// SPM, which this project's profile leaves out.
+    Spm,
+}
+
+/// What a step did.
+#[derive(Clone, Copy, Debug, PartialEq, Eq)]
+pub enum Step {
+    /// One instruction, of so many clocks. `owed` is true exactly after RETI and BSET 7: one more instruction is made
+    /// before the next interrupt. `returned` is true exactly after RETI.
+    Took {
+        clocks: u8,
+        owed: bool,
+        returned: bool,
+    },
+    /// Nothing: core and data space are unchanged.
+    Stopped(Why),
+}
+
+/// The first address of an interrupt's service: the vector of TIMER1_COMPA (ATmega644 data sheet).
+const VECTOR: u16 = 0x001A;
+
+impl Cpu {
+    /// Makes an effect of a row with these words, its loads sampled at this clock. Answers the outcome.
+    fn perform<D: Data>(
+        &mut self,
+        e: Effect,
+        flash: &Image,
+        words: u8,
+        late: u8,
+        space: &mut D,
+    ) -> Outcome
+        requires fits { EffectFits e }
+        requires words { words < 3 }
+        requires free { D.held space.old ≡ [] }
+        requires runs { e ≢ Stop }
+        ensures core { let loaded = loaded_bytes D.model self.old late (D.content space.old) (load_addresses e self.old) in self.new ≡ record (changed_core e flash.now words loaded self.old) { pc = next_pc e result words loaded self.old } }
+        ensures content { D.content space.new ≡ content_after_loads D.model late (D.content space.old) (load_addresses e self.old) }
+        ensures held { D.held space.new ≡ filter leaves_core (stores_of e words self.old) }
+        ensures outcome { let loaded = loaded_bytes D.model self.old late (D.content space.old) (load_addresses e self.old) in result ≡ outcome_of e flash.now words loaded self.old }
+    {
+        let following = self.following_pc(words);
+        let _same = following;
+        match e {
+            Effect::NoOperation => {}
+            Effect::CopyByte { d, source } => self.copy_byte(d, source),
+            Effect::CopyPair { d, r } => self.copy_pair(d, r),
+            Effect::Binary {
+                op,
+                d,
+                source,
+                compare,
+            } => self.binary(op, d, source, compare),
+            Effect::Unary { op, d } => self.unary(op, d),
+            Effect::AddToPair {
+                d,
+                constant,
+                subtract,
+            } => self.add_to_pair(d, constant, subtract),
+            Effect::Multiply {
+                d,
+                r,
+                d_signed,
+                r_signed,
+                shifted,
+            } => self.multiply(d, r, d_signed, r_signed, shifted),
+            Effect::Load { d, from } => self.load(space, d, from, late),
+            Effect::Store { to, r } => self.store(space, to, r),
+            Effect::PushByte { r } => self.push_byte(space, r),
+            Effect::PopByte { d } => self.pop_byte(space, d, late),
+            Effect::LoadProgram { d, increment } => self.load_program(flash, d, increment),
+            Effect::WriteIoBit { address, bit, set } => space.bit(u16::from(address), bit, set),
+            Effect::WriteFlag { flag, set } => self.write_flag(flag, set),
+            Effect::LoadBit { d, bit } => self.load_bit(d, bit),
+            Effect::StoreBit { d, bit } => self.store_bit(d, bit),
+            Effect::Branch { flag, set, offset } => {
+                if bit_equals(self.sreg(), flag, set) {
+                    self.set_pc((following + offset) % 32768);
+                    return Outcome::Taken;
+                }
+            }
+            Effect::SkipIf { test } => {
+                if self.test_holds(space, test, late) {
+                    if length(flash.word(following)) == 2 {
+                        self.set_pc((following + 2) % 32768);
+                        return Outcome::SkipTwo;
+                    }
+                    self.set_pc((following + 1) % 32768);
+                    return Outcome::SkipOne;
+                }
+            }
+            Effect::Jump { target, call } => {
+                let target = self.jump_address(target, words);
+                if call {
+                    self.push_pc(space, following);
+                }
+                self.set_pc(target);
+                return Outcome::Next;
+            }
+            Effect::Return { from_interrupt } => {
+                let pc = self.pop_pc(space, late, from_interrupt);
+                self.set_pc(pc);
+                return Outcome::Next;
+            }
+            Effect::Stop => {}
+        }
+        self.set_pc(following);
+        Outcome::Next
+    }
+
+    /// Runs the instruction that was read.
+    fn execute<D: Data>(&mut self, i: &Instr, e: Effect, flash: &Image, space: &mut D) -> Step
+        requires free { D.held space.old ≡ [] }
+        requires effect { effect_of i.now ≡ e }
+        requires fits { EffectFits e }
+        requires runs { e ≢ Stop }
+        ensures core { self.new ≡ (step_result D.model flash.now i.now self.old (D.content space.old)).core }
+        ensures content { D.content space.new ≡ (step_result D.model flash.now i.now self.old (D.content space.old)).content }
+        ensures held { D.held space.new ≡ (step_result D.model flash.now i.now self.old (D.content space.old)).calls }
+        ensures took { let r = step_result D.model flash.now i.now self.old (D.content space.old) in result ≡ Took r.clocks r.owed r.returned }
+    {
+        let late = sample_clock(i, e);
+        let outcome = self.perform(e, flash, words(i), late, space);
+        Step::Took {
+            clocks: clocks(i, outcome),
+            owed: owes_instruction(e),
+            returned: returns_from_interrupt(e),
+        }
+    }
+
+    /// Runs one instruction, of the instruction table, over any data space. The data space's own part is done by its
+    /// loads, sampled as the table of phases says, and by the stores that it then holds, at most two and in order.
+    ///
+    /// Stopped comes exactly where no row reads the words at pc, or where the row is SPM; all is then unchanged.
+    #[tactic(auto, using(crate::proofs::StepMade::step_made))]
+    pub fn step<D: Data>(&mut self, flash: &Image, space: &mut D) -> Step
+        requires { D.held space.old ≡ [] }
+        ensures { IsStep D.model flash.now self.old (D.content space.old) self.new (D.content space.new) (D.held space.new) result }
+    {
+        let pc = self.pc();
+        let first = flash.word(pc);
+        let second = flash.word((pc + 1) % 32768);
+        match &decode(first, second) {
+            None => Step::Stopped(Why::Opcode(first)),
+            Some(i) => {
+                let e = effect(i);
+                if stops(e) {
+                    Step::Stopped(Why::Spm)
+                } else {
+                    self.execute(i, e, flash, space)
+                }
+            }
+        }
+    }
+
+    /// Makes the core's part of an interrupt's entry: pushes pc as a call does, then clears I, then sets pc to 0x001A,
+    /// the vector of TIMER1_COMPA.
+    pub fn interrupt<D: Data>(&mut self, space: &mut D)
+        requires { D.held space.old ≡ [] }
+        ensures core { self.new ≡ interrupted_core self.old }
+        ensures held { D.held space.new ≡ filter leaves_core (pc_stores self.old.pc self.old) }
+        ensures content { D.content space.new ≡ D.content space.old }
+    {
+        let pc = self.pc();
+        self.push_pc(space, pc);
+        let sreg = with_bit(I, false, self.sreg());
+        self.set_sreg(sreg);
+        self.set_pc(VECTOR);
+    }
+}
+
+/// How many clocks after the start a load is sampled: a skip's test at the start, all else one clock before the end.
+fn sample_clock(i: &Instr, e: Effect) -> u8
+    requires { effect_of i.now ≡ e }
+    ensures { result ≡ sample_clock e (clocks_of i.now) }
+{
+    match e {
+        Effect::SkipIf { .. } => 0,
+        _ => clocks(i, Outcome::Next).saturating_sub(1),
+    }
+}
+
+fn owes_instruction(e: Effect) -> bool
+    ensures { result ≡ owes_instruction e }
+{
+    match e {
+        Effect::WriteFlag { flag, set } => set && flag == I,
+        Effect::Return { from_interrupt } => from_interrupt,
+        _ => false,
+    }
+}
+
+fn returns_from_interrupt(e: Effect) -> bool
+    ensures { result ≡ returns_from_interrupt e }
+{
+    match e {
+        Effect::Return {
+            from_interrupt: true,
+        } => true,
+        _ => false,
+    }
+}
+
+fn stops(e: Effect) -> bool
+    ensures { IsTrue result ↔ (e ≡ Stop) }
+{
+    match e {
+        Effect::Stop => true,
+        _ => false,
+    }
+}

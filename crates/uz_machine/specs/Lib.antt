@@ -1,0 +1,11 @@
+pub mod Arithmetic
+pub mod Effects
+pub mod Core
+pub mod OperandRanges
+pub mod CoreRange
+pub mod Timer
+pub mod PadLine
+pub mod Space
+pub mod Turn
+pub mod Run
+pub mod StateRange

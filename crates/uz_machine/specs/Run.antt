@@ -1,0 +1,46 @@
+-- Runs of the machine, over the whole list of PORTA's values.
+use Rattle.std.specs.Prelude.{◌≡◌, ℕ, zero, suc, ◌<◌, ◌≤◌, nat_le, List, [], ◌++◌, filter}
+use Rattle.uz_machine.specs.declared.Edge.{Edge}
+use Rattle.uz_machine.specs.PadLine.{PadHistory}
+use Rattle.uz_machine.specs.Space.{history_wiring}
+use Rattle.uz_machine.specs.Turn.{State, Turn}
+
+-- so many turns from a state, with all their edges in order, to the last state
+abbrev pub Run : ℕ → State PadHistory → List Edge → State PadHistory → Type 0
+Run zero s edges last = (edges ≡ []) × (last ≡ s)
+Run (suc n) s edges last =
+    (first : List Edge) × (mid : State PadHistory) × (rest : List Edge) ×
+    Turn history_wiring s first mid × Run n mid rest last × (edges ≡ first ++ rest)
+
+-- no turn goes on from a state
+abbrev pub HasNoTurn : State PadHistory → Type 0
+HasNoTurn s = (edges : List Edge) (next : State PadHistory) → Turn history_wiring s edges next → ⊥
+
+-- so many turns, each of which begins before the limit
+abbrev pub RunBefore : ℕ → ℕ → State PadHistory → List Edge → State PadHistory → Type 0
+RunBefore limit zero s edges last = (edges ≡ []) × (last ≡ s)
+RunBefore limit (suc n) s edges last =
+    (s.clock < limit) × (first : List Edge) × (mid : State PadHistory) × (rest : List Edge) ×
+    Turn history_wiring s first mid × RunBefore limit n mid rest last × (edges ≡ first ++ rest)
+
+-- the edges of clock at most the limit
+abbrev pub edges_until : ℕ → List Edge → List Edge
+edges_until limit edges = filter (λ edge. nat_le edge.clock limit) edges
+
+-- Part of the run of so many clocks: turns that begin before the limit, and those of their edges whose clock is at most the limit
+pub record IsRunPart (limit : ℕ) (s : State PadHistory) (edges : List Edge) (last : State PadHistory) : Type 0 where
+  pub turns : ℕ
+  pub all_edges : List Edge
+  pub run : RunBefore limit turns s all_edges last
+  pub in_time : edges ≡ edges_until limit all_edges
+
+-- The run of so many clocks, where it isn't stopped: every turn that begins before the limit is made
+pub record IsClockRun (limit : ℕ) (s : State PadHistory) (edges : List Edge) (last : State PadHistory) : Type 0 where
+  pub part : IsRunPart limit s edges last
+  pub over : limit ≤ last.clock
+
+-- The run of so many clocks, where it is stopped: one of its states, that is one of clock below the limit, has no turn
+pub record IsStoppedRun (limit : ℕ) (s : State PadHistory) (edges : List Edge) (last : State PadHistory) : Type 0 where
+  pub part : IsRunPart limit s edges last
+  pub in_run : last.clock < limit
+  pub stopped : HasNoTurn last
