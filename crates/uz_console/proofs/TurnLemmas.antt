@@ -1,0 +1,196 @@
+-- A turn of the console, from its parts.
+use Rattle.std.proofs.Common.{◌≡◌, ◌≢◌, ℕ, ◌+◌, ◌<◌, ◌≤◌, Bool, true, false, not, ◌&&◌, ◌||◌, if◌then◌else◌, nat_le, List, refl, sym, ◌∙◌, ap, subst, inl, inr, lit<, lit≤, arith, []}
+use Rattle.std.specs.Ordering.{nat_cmp}
+use Rattle.std.specs.FinMap.{FinMap}
+use Rattle.std.proofs.lemmas.Bool.Decides.{nat_tests}
+use Rattle.avr_table.specs.declared.Instr.{Instr}
+use Rattle.avr_table.specs.declared.Outcome.{Outcome}
+use Rattle.avr_table.specs.Rows.{words_of, clocks_of}
+use Rattle.uz_machine.specs.declared.Call.{Call}
+use Rattle.uz_machine.specs.declared.Edge.{Edge}
+use Rattle.uz_cert.specs.declared.kinds.Response.{Response}
+use Rattle.uz_cert.specs.declared.kinds.Response.TheVariants.{Four, Five}
+use Rattle.uz_cert.specs.Schedule.{response_clocks}
+use Rattle.uz_machine.specs.declared.Effect.{Effect}
+use Rattle.uz_machine.specs.declared.Effect.TheVariants.{Stop}
+use Rattle.uz_machine.specs.Arithmetic.{bit_is_set}
+use Rattle.uz_machine.specs.Timer.{is_due}
+use Rattle.uz_machine.specs.Run.{HasNoTurn}
+use Rattle.uz_machine.proofs.RowClocks.{stops, clocks_within}
+use Rattle.uz_machine.specs.Effects.{effect_of}
+use Rattle.uz_machine.specs.Core.{Core, step_result, outcome_of, loaded_bytes, sample_clock, load_addresses, is_core_address, core_byte}
+use Rattle.uz_machine.specs.PadLine.{PadHistory}
+use Rattle.uz_machine.specs.Space.{Space, history_wiring, space_loads, byte_at}
+use Rattle.uz_machine.specs.Turn.{State, state_byte, is_entry, after_entry, entry_edges, after_instruction, instruction_edges, IsEntryTurn, IsInstructionTurn}
+use Rattle.uz_machine.specs.Turn as machine
+use Rattle.uz_machine.proofs.LoadModels.{LoadAlike, ResultAlike, same_effect_result}
+use Rattle.uz_machine.proofs.Wirings.{Alike, SpaceAlike, TurnAlike, same_byte, turn_alike, with_space}
+use Rattle.uz_core.specs.Steps.{IsStep}
+use Rattle.uz_core.specs.declared.step.Why.{Why}
+use Rattle.uz_core.specs.declared.step.Why.TheVariants.{Opcode, Spm}
+use Rattle.uz_core.specs.declared.step.Step.{Step}
+use Rattle.uz_core.specs.declared.step.Step.TheVariants as step
+use Rattle.uz_pads.specs.declared.pads.Pads.{Pads}
+use Rattle.uz_pads.specs.Pads.{pads_wiring, StandsFor}
+use Rattle.uz_pads.proofs.History.{stands_after, lines_stand}
+use Rattle.uz_ports.specs.Boards.{BoardContent, board_loads}
+use Rattle.uz_console.specs.declared.console.Console.{Console}
+use Rattle.uz_console.specs.Consoles as console
+use Rattle.uz_console.specs.Consoles.{state_of}
+use Rattle.uz_console.specs.declared.turn.Made.{Made}
+use Rattle.uz_console.specs.declared.turn.Made.TheVariants as made
+use Rattle.uz_console.specs.Turns.{IsBoardStep, StopsAt, Halts, IsMade, TakesTime, IsInstructed}
+
+-- A step over the board is a step over its data space
+
+-- the space of a content, and the rest as it was
+abbrev Same : BoardContent → BoardContent → Space Pads → Type 0
+Same first c space = (c.space ≡ space) × (c.entered ≡ first.entered) × (c.clock ≡ first.clock)
+
+board_alike : (first : BoardContent) → LoadAlike board_loads (space_loads pads_wiring) (Same first)
+board_alike first = record {
+  same = λ c space at late r. ap (λ x. (space_loads pads_wiring).byte x at late) r.0;
+  kept = λ c space at late r. (ap (λ x. (space_loads pads_wiring).content_after x at late) r.0, r.1, r.2);
+}
+
+same_result : (image : FinMap nat_cmp ℕ) (s : Core) (c : BoardContent) (i : Instr) → ResultAlike (Same c) (step_result board_loads image i s c) (step_result (space_loads pads_wiring) image i s c.space)
+same_result image s c i = same_effect_result board_loads (space_loads pads_wiring) (Same c) (board_alike c) image (effect_of i) (words_of i) (clocks_of i) s c c.space (refl, refl, refl)
+
+pub board_step : (image : FinMap nat_cmp ℕ) (s : Core) (c : BoardContent) (s' : Core) (c' : BoardContent) (calls : List Call) (answer : Step) → IsStep board_loads image s c s' c' calls answer → IsBoardStep image s c s' c' calls answer
+board_step image s c s' c' calls (step.Took clocks owed returned) h =
+    let i = h.0 in
+    let r = h.3 in
+    let same : ResultAlike (Same c) (step_result board_loads image i s c) (step_result (space_loads pads_wiring) image i s c.space) = same_result image s c i in
+    let took : step.Took clocks owed returned ≡ step.Took (step_result board_loads image i s c).clocks (step_result board_loads image i s c).owed (step_result board_loads image i s c).returned = r.3 in
+    let clocks_are : clocks ≡ (step_result board_loads image i s c).clocks = cc in
+    let owed_is : owed ≡ (step_result board_loads image i s c).owed = cc in
+    let returned_is : returned ≡ (step_result board_loads image i s c).returned = cc in (
+      i,
+      h.1,
+      h.2,
+      (
+        r.0 ∙ same.core,
+        ap (λ x. x.space) r.1 ∙ same.content.0,
+        ap (λ x. x.entered) r.1 ∙ same.content.1,
+        ap (λ x. x.clock) r.1 ∙ same.content.2,
+        r.2 ∙ same.calls,
+        clocks_are ∙ same.clocks,
+        owed_is ∙ same.owed,
+        returned_is ∙ same.returned,
+      ),
+    )
+board_step image s c s' c' calls (step.Stopped (Opcode word)) h = ((h.0, h.1), h.2, h.3, h.4)
+board_step image s c s' c' calls (step.Stopped Spm) h = ((h.0, h.1, h.2), h.3, h.4, h.5)
+
+-- The console's turn, over the board's pads, is the machine's
+
+pads_alike : Alike pads_wiring history_wiring StandsFor
+pads_alike = record { lines = lines_stand; with_level = λ n p history r. stands_after p history n r }
+
+-- the state that a console stands for, over the console's parts
+state_is : (c : Console) (s : State PadHistory) → console.StandsFor c s → s ≡ with_space (state_of c) s.space
+state_is c s h =
+    let by : FinMap nat_cmp ℕ → Core → ℕ → Bool → ℕ → State PadHistory = λ image core response owed clock. record { image = image; core = core; space = s.space; response = response; is_owed = owed; clock = clock } in
+    ap (λ x. by x s.core s.response s.is_owed s.clock) h.image ∙
+    (ap (λ x. by (state_of c).image x s.response s.is_owed s.clock) h.core ∙
+    (ap (λ x. by (state_of c).image (state_of c).core x s.is_owed s.clock) h.response ∙
+    (ap (λ x. by (state_of c).image (state_of c).core (state_of c).response x s.clock) h.is_owed ∙
+    ap (λ x. by (state_of c).image (state_of c).core (state_of c).response (state_of c).is_owed x) h.clock)))
+
+space_is : (c : Console) (s : State PadHistory) → console.StandsFor c s → SpaceAlike StandsFor (state_of c).space s.space
+space_is c s h = record { bytes = sym h.bytes; timer = sym h.timer; pads = h.pads }
+
+-- a turn of the console's own state is one of each state that it stands for
+carried : (old new : Console) (edges : List Edge) → machine.Turn pads_wiring (state_of old) edges (state_of new) → (s : State PadHistory) → console.StandsFor old s →
+    (next : State PadHistory) × machine.Turn history_wiring s edges next × console.StandsFor new next
+carried old new edges turn s h =
+    let t : TurnAlike StandsFor history_wiring (state_of old) s.space edges (state_of new) = turn_alike pads_wiring history_wiring StandsFor pads_alike (state_of old) s.space (space_is old s h) edges (state_of new) turn in
+    let next = with_space (state_of new) t.after in (
+      next,
+      subst (λ x. machine.Turn history_wiring x edges next) (sym (state_is old s h)) t.turn,
+      record {
+        image = refl;
+        core = refl;
+        bytes = sym t.alike.bytes;
+        timer = sym t.alike.timer;
+        pads = t.alike.pads;
+        response = refl;
+        is_owed = refl;
+        clock = refl;
+      },
+    )
+
+-- a byte of the console's own state is one of each state that it stands for
+pub byte_is : (c : Console) (s : State PadHistory) (at : ℕ) → console.StandsFor c s → state_byte pads_wiring (state_of c) at ≡ state_byte history_wiring s at
+byte_is c s at h =
+    ap (λ core. if is_core_address at then core_byte core at else byte_at pads_wiring (state_of c).space at) (sym h.core) ∙
+    ap (λ x. if is_core_address at then core_byte s.core at else x) (same_byte pads_wiring history_wiring StandsFor pads_alike (state_of c).space s.space at (space_is c s h))
+
+entry_is : (c : Console) (s : State PadHistory) → console.StandsFor c s → is_entry s ≡ is_entry (state_of c)
+entry_is c s h =
+    ap (λ timer. is_due timer && bit_is_set s.core.sreg 7 && not s.is_owed) h.timer ∙
+    (ap (λ core. is_due (state_of c).space.timer && bit_is_set core.sreg 7 && not s.is_owed) h.core ∙
+    ap (λ owed. is_due (state_of c).space.timer && bit_is_set (state_of c).core.sreg 7 && not owed) h.is_owed)
+
+-- An entry
+
+pub entered : (old new : Console) (edges : List Edge) → is_entry (state_of old) ≡ true → state_of new ≡ after_entry pads_wiring (state_of old) → edges ≡ entry_edges pads_wiring (state_of old) →
+    (s : State PadHistory) → console.StandsFor old s → (next : State PadHistory) × machine.Turn history_wiring s edges next × console.StandsFor new next
+entered old new edges e goes emits = carried old new edges (inl (record { enters = e; goes_to = goes; emits = emits }))
+
+four_or_five : (irq : Response) → (0 < response_clocks irq) × (response_clocks irq ≤ 5)
+four_or_five Four = (lit< tt, lit≤ tt)
+four_or_five Five = (lit< tt, lit≤ tt)
+
+pub entered_time : (old new : Console) → state_of new ≡ after_entry pads_wiring (state_of old) → (console.clock_of old < console.clock_of new) × (console.clock_of new ≤ console.clock_of old + 5)
+entered_time old new goes =
+    let clock : console.clock_of new ≡ console.clock_of old + response_clocks old.irq = ap (λ s. s.clock) goes in
+    let few = four_or_five old.irq in
+    (omega arith, omega arith)
+
+-- An instruction
+
+-- its outcome
+abbrev outcome_in : State Pads → Instr → Outcome
+outcome_in s i = outcome_of (effect_of i) s.image (words_of i) (loaded_bytes (space_loads pads_wiring) s.core (sample_clock (effect_of i) (clocks_of i)) s.space (load_addresses (effect_of i) s.core)) s.core
+
+no_turn : (s : State PadHistory) (why : Why) → is_entry s ≡ false → StopsAt s.image s.core why → HasNoTurn s
+no_turn s why e stops edges next (inl turn) = let enters : is_entry s ≡ true = turn.enters in absurd cc
+no_turn s (Opcode word) e stops edges next (inr turn) = stops.1 turn.row turn.reads
+no_turn s Spm e stops edges next (inr turn) = turn.runs (ap effect_of (stops.1.only turn.row turn.reads) ∙ stops.2)
+
+halts : (c : Console) (s : State PadHistory) (why : Why) → console.StandsFor c s → is_entry (state_of c) ≡ false → StopsAt (state_of c).image (state_of c).core why → Halts s why
+halts c s why h e stops =
+    let enters : is_entry s ≡ false = entry_is c s h ∙ e in
+    let here : StopsAt s.image s.core why = subst (λ core. StopsAt s.image core why) (sym h.core) (subst (λ image. StopsAt image (state_of c).core why) (sym h.image) stops) in
+    record { enters = enters; stops = here; no_turn = no_turn s why enters here }
+
+pub instructed : (old new : Console) (answer : Made) → is_entry (state_of old) ≡ false → IsInstructed (state_of old) (state_of new) answer → IsMade old new answer
+instructed old new made.Quiet e h = carried old new [] (inr (record { enters = e; row = h.0; reads = h.1.reads; runs = h.2; goes_to = h.3; emits = h.4 }))
+instructed old new (made.Edges edges) e h = carried old new edges.items (inr (record { enters = e; row = h.0; reads = h.1.reads; runs = h.2; goes_to = h.3; emits = h.4 }))
+instructed old new (made.Stopped why) e h = (h.1, λ s stands. halts old s why stands e h.0)
+
+not_stop : (e : Effect) → e ≢ Stop → stops e ≡ false
+not_stop Stop h = absurd (h refl)
+not_stop e h = refl
+
+some_clocks : (b : Bool) (n : ℕ) → b ≡ false → (b || (nat_le 1 n && nat_le n 4)) ≡ true → (0 < n) × (n ≤ 4)
+some_clocks b n e h = (grind (arith, nat_tests), grind (arith, nat_tests))
+
+later : (old new : Console) (i : Instr) → effect_of i ≢ Stop → state_of new ≡ after_instruction pads_wiring i (state_of old) → (console.clock_of old < console.clock_of new) × (console.clock_of new ≤ console.clock_of old + 5)
+later old new i runs goes =
+    let outcome = outcome_in (state_of old) i in
+    let clock : console.clock_of new ≡ console.clock_of old + clocks_of i outcome = ap (λ s. s.clock) goes in
+    let few : (0 < clocks_of i outcome) × (clocks_of i outcome ≤ 4) = some_clocks (stops (effect_of i)) (clocks_of i outcome) (not_stop (effect_of i) runs) (clocks_within i outcome) in
+    (omega arith, omega arith)
+
+pub instructed_time : (old new : Console) (answer : Made) → IsInstructed (state_of old) (state_of new) answer → TakesTime old new answer
+instructed_time old new made.Quiet h = later old new h.0 h.2 h.3
+instructed_time old new (made.Edges edges) h = later old new h.0 h.2 h.3
+instructed_time old new (made.Stopped why) h = ap (λ s. s.clock) h.1
+
+-- a turn without edges, as one with an empty list of them
+pub quiet_turn : (old new : Console) (edges : List Edge) → edges ≡ [] →
+    ((s : State PadHistory) → console.StandsFor old s → (next : State PadHistory) × machine.Turn history_wiring s [] next × console.StandsFor new next) →
+    (s : State PadHistory) → console.StandsFor old s → (next : State PadHistory) × machine.Turn history_wiring s edges next × console.StandsFor new next
+quiet_turn old new edges e turn s h = let t = turn s h in (t.0, subst (λ es. machine.Turn history_wiring s es t.0) (sym e) t.1, t.2)

@@ -1,0 +1,17 @@
+use Rattle.std.proofs.Common.{◌-◌, ◌≤◌, List}
+use Rattle.uz_machine.specs.declared.Edge.{Edge}
+use Rattle.uz_machine.specs.PadLine.{PadHistory}
+use Rattle.uz_machine.specs.Turn.{State}
+use Rattle.uz_console.specs.Consoles.{clock_of}
+use Rattle.uz_console.specs.Runs.{RunsTo}
+use Rattle.uz_console.proofs.console.Console.advance.Given as goal
+
+-- the turns so far had no edges, and the clock didn't go back
+abbrev pub invariant-loop-self : goal.invariant-loop-self
+invariant-loop-self l = record {
+  run : (start : State PadHistory) (edges : List Edge) → RunsTo l.limit start edges l.initial.self → RunsTo l.limit start edges l.self;
+  time : clock_of l.initial.self ≤ clock_of l.self;
+}
+
+abbrev pub decreases-loop-self : goal.decreases-loop-self
+decreases-loop-self l = l.limit - clock_of l.self

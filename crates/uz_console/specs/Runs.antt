@@ -1,0 +1,37 @@
+-- Runs of so many clocks, by the console's turns.
+use Rattle.std.specs.Prelude.{ℕ, ◌<◌, ◌≤◌, List, ◌++◌}
+use Rattle.uz_machine.specs.declared.Edge.{Edge}
+use Rattle.uz_machine.specs.PadLine.{PadHistory}
+use Rattle.uz_machine.specs.Turn.{State}
+use Rattle.uz_machine.specs.Run.{IsRunPart, IsClockRun, IsStoppedRun}
+use Rattle.uz_console.specs.declared.console.Console.{Console}
+use Rattle.uz_console.specs.declared.running.Progress.{Progress}
+use Rattle.uz_console.specs.declared.running.Progress.TheVariants.{Took, Over, Stopped}
+use Rattle.uz_console.specs.Consoles.{StandsFor, clock_of}
+use Rattle.uz_console.specs.Turns.{Halts}
+
+-- A console that has come from a state by turns that begin before the limit, with these of their edges in time
+abbrev pub RunsTo : ℕ → State PadHistory → List Edge → Console → Type 0
+RunsTo limit start edges console = (last : State PadHistory) × IsRunPart limit start edges last × StandsFor console last
+
+-- it is at the end of the run of so many clocks: the run is over, or it is stopped
+abbrev pub RunIsOver : ℕ → State PadHistory → List Edge → Console → Type 0
+RunIsOver limit start edges console = (last : State PadHistory) × IsClockRun limit start edges last × StandsFor console last
+
+abbrev pub RunIsStopped : ℕ → State PadHistory → List Edge → Console → Type 0
+RunIsStopped limit start edges console = (last : State PadHistory) × IsStoppedRun limit start edges last × StandsFor console last
+
+-- Took: more turns of each run of which the console is a part. Over, Stopped: that run is at its end
+abbrev pub IsProgress : ℕ → Console → Console → Progress → Type 0
+IsProgress limit old new (Took more) =
+    (start : State PadHistory) (edges : List Edge) → RunsTo limit start edges old → RunsTo limit start (edges ++ more.items) new
+IsProgress limit old new Over = (start : State PadHistory) (edges : List Edge) → RunsTo limit start edges old → RunIsOver limit start edges new
+IsProgress limit old new (Stopped why) =
+    (start : State PadHistory) (edges : List Edge) → RunsTo limit start edges old →
+    (last : State PadHistory) × IsStoppedRun limit start edges last × Halts last why × StandsFor new last
+
+-- an answer with edges brings the clock nearer to the limit, and the clock never goes back
+abbrev pub MovesOn : ℕ → Console → Console → Progress → Type 0
+MovesOn limit old new (Took more) = (clock_of old < clock_of new) × (clock_of old < limit)
+MovesOn limit old new Over = clock_of old ≤ clock_of new
+MovesOn limit old new (Stopped why) = clock_of old ≤ clock_of new

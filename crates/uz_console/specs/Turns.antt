@@ -1,0 +1,84 @@
+-- What a console's turn does.
+use Rattle.std.specs.Prelude.{◌≡◌, ◌≢◌, ℕ, ◌+◌, ◌<◌, ◌≤◌, List, [], IsFalse}
+use Rattle.std.specs.Ordering.{nat_cmp}
+use Rattle.std.specs.FinMap.{FinMap}
+use Rattle.uz_hex.specs.Cells.{word_of}
+use Rattle.avr_table.specs.declared.Instr.{Instr}
+use Rattle.uz_machine.specs.declared.Call.{Call}
+use Rattle.uz_machine.specs.declared.Effect.TheVariants.{Stop}
+use Rattle.uz_machine.specs.Core.{Core, step_result}
+use Rattle.uz_machine.specs.Effects.{effect_of}
+use Rattle.uz_machine.specs.PadLine.{PadHistory}
+use Rattle.uz_machine.specs.Space.{history_wiring, space_loads}
+use Rattle.uz_machine.specs.Turn.{State, is_entry, after_instruction, instruction_edges}
+use Rattle.uz_machine.specs.Turn as machine
+use Rattle.uz_machine.specs.Run.{HasNoTurn}
+use Rattle.uz_core.specs.Steps.{ReadsHere, IsInstruction}
+use Rattle.uz_core.specs.declared.step.Why.{Why}
+use Rattle.uz_core.specs.declared.step.Why.TheVariants.{Opcode, Spm}
+use Rattle.uz_core.specs.declared.step.Step.{Step}
+use Rattle.uz_core.specs.declared.step.Step.TheVariants as step
+use Rattle.uz_pads.specs.declared.pads.Pads.{Pads}
+use Rattle.uz_pads.specs.Pads.{pads_wiring}
+use Rattle.uz_ports.specs.Boards.{BoardContent}
+use Rattle.uz_console.specs.declared.console.Console.{Console}
+use Rattle.uz_console.specs.declared.turn.Turn.{Turn}
+use Rattle.uz_console.specs.declared.turn.Turn.TheVariants.{Took, Stopped}
+use Rattle.uz_console.specs.declared.turn.Made.{Made}
+use Rattle.uz_console.specs.declared.turn.Made.TheVariants as made
+use Rattle.uz_console.specs.Consoles.{StandsFor, state_of, clock_of}
+
+-- why an instruction stops: no row reads the words at pc, of which the first is given; or they are SPM
+abbrev pub StopsAt : FinMap nat_cmp ℕ → Core → Why → Type 0
+StopsAt image core (Opcode word) = (word ≡ word_of image core.pc) × ((i : Instr) → ReadsHere image core i → ⊥)
+StopsAt image core Spm = (i : Instr) × IsInstruction image core i × (effect_of i ≡ Stop)
+
+-- A state that has no turn, and why: it doesn't enter the interrupt, and its instruction stops
+pub record Halts (s : State PadHistory) (why : Why) : Type 0 where
+  pub enters : IsFalse (is_entry s)
+  pub stops : StopsAt s.image s.core why
+  pub no_turn : HasNoTurn s
+
+-- Took: for each state that the console stands for it is a turn with these edges, and the console then stands for the
+-- state after it. Stopped: each such state has no turn, and the console is as before
+abbrev pub IsTurn : Console → Console → Turn → Type 0
+IsTurn old new (Took edges) =
+    (s : State PadHistory) → StandsFor old s → (next : State PadHistory) × machine.Turn history_wiring s edges.items next × StandsFor new next
+IsTurn old new (Stopped why) = (state_of new ≡ state_of old) × ((s : State PadHistory) → StandsFor old s → Halts s why)
+
+-- a turn takes 1 to 5 clocks, and a console that stops stays
+abbrev pub TurnTakesTime : Console → Console → Turn → Type 0
+TurnTakesTime old new (Took edges) = (clock_of old < clock_of new) × (clock_of new ≤ clock_of old + 5)
+TurnTakesTime old new (Stopped why) = clock_of new ≡ clock_of old
+
+-- Steps by the code, over the board's own pads
+
+-- core and board after a step, with the stores that it holds
+abbrev pub IsBoardStep : FinMap nat_cmp ℕ → Core → BoardContent → Core → BoardContent → List Call → Step → Type 0
+IsBoardStep image s c s' c' calls (step.Took clocks owed returned) =
+    (i : Instr) × IsInstruction image s i × (effect_of i ≢ Stop) ×
+    (let r = step_result (space_loads pads_wiring) image i s c.space in
+    (s' ≡ r.core) × (c'.space ≡ r.content) × (c'.entered ≡ c.entered) × (c'.clock ≡ c.clock) ×
+    (calls ≡ r.calls) × (clocks ≡ r.clocks) × (owed ≡ r.owed) × (returned ≡ r.returned))
+IsBoardStep image s c s' c' calls (step.Stopped why) = StopsAt image s why × (s' ≡ s) × (c' ≡ c) × (calls ≡ [])
+
+abbrev pub IsInstructed : State Pads → State Pads → Made → Type 0
+IsInstructed old new made.Quiet =
+    (i : Instr) × IsInstruction old.image old.core i × (effect_of i ≢ Stop) ×
+    (new ≡ after_instruction pads_wiring i old) × ([] ≡ instruction_edges pads_wiring i old)
+IsInstructed old new (made.Edges edges) =
+    (i : Instr) × IsInstruction old.image old.core i × (effect_of i ≢ Stop) ×
+    (new ≡ after_instruction pads_wiring i old) × (edges.items ≡ instruction_edges pads_wiring i old)
+IsInstructed old new (made.Stopped why) = StopsAt old.image old.core why × (new ≡ old)
+
+abbrev pub IsMade : Console → Console → Made → Type 0
+IsMade old new made.Quiet =
+    (s : State PadHistory) → StandsFor old s → (next : State PadHistory) × machine.Turn history_wiring s [] next × StandsFor new next
+IsMade old new (made.Edges edges) =
+    (s : State PadHistory) → StandsFor old s → (next : State PadHistory) × machine.Turn history_wiring s edges.items next × StandsFor new next
+IsMade old new (made.Stopped why) = (state_of new ≡ state_of old) × ((s : State PadHistory) → StandsFor old s → Halts s why)
+
+abbrev pub TakesTime : Console → Console → Made → Type 0
+TakesTime old new made.Quiet = (clock_of old < clock_of new) × (clock_of new ≤ clock_of old + 5)
+TakesTime old new (made.Edges edges) = (clock_of old < clock_of new) × (clock_of new ≤ clock_of old + 5)
+TakesTime old new (made.Stopped why) = clock_of new ≡ clock_of old

@@ -1,0 +1,27 @@
+//! Laws of the machine: one turn, one run, and states that stay in range.
+
+ghost use Rattle.std.specs.Prelude.{◌≡◌, ℕ, List};
+ghost use Rattle.uz_machine.specs.declared.Edge.{Edge};
+ghost use Rattle.uz_machine.specs.PadLine.{PadHistory};
+ghost use Rattle.uz_machine.specs.Space.{history_wiring};
+ghost use Rattle.uz_machine.specs.Turn.{State, Turn};
+ghost use Rattle.uz_machine.specs.Run.{Run, IsClockRun, IsStoppedRun};
+ghost use Rattle.uz_machine.specs.StateRange.{IsState};
+
+/// The law that a state has at most one turn. Does nothing.
+pub fn turn_is_unique()
+    ensures { (s n1 n2 : State PadHistory) (e1 e2 : List Edge) → Turn history_wiring s e1 n1 → Turn history_wiring s e2 n2 → (e1 ≡ e2) × (n1 ≡ n2) }
+{}
+
+/// The law that a state has at most one run of so many clocks, and that it is over or stopped and not both. Does nothing.
+pub fn run_is_unique()
+    ensures over { (limit : ℕ) (s l1 l2 : State PadHistory) (e1 e2 : List Edge) → IsClockRun limit s e1 l1 → IsClockRun limit s e2 l2 → (e1 ≡ e2) × (l1 ≡ l2) }
+    ensures stopped { (limit : ℕ) (s l1 l2 : State PadHistory) (e1 e2 : List Edge) → IsStoppedRun limit s e1 l1 → IsStoppedRun limit s e2 l2 → (e1 ≡ e2) × (l1 ≡ l2) }
+    ensures apart { (limit : ℕ) (s l1 l2 : State PadHistory) (e1 e2 : List Edge) → IsClockRun limit s e1 l1 → IsStoppedRun limit s e2 l2 → ⊥ }
+{}
+
+/// The law that a run keeps the parts of a state in range. Does nothing.
+#[tactic(auto, using(uz_machine::proofs::StateKept::run_kept))]
+pub fn run_keeps_states()
+    ensures { (n : ℕ) (s last : State PadHistory) (edges : List Edge) → Run n s edges last → IsState s → IsState last }
+{}

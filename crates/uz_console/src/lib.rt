@@ -1,0 +1,15 @@
+//! The console: its turns, and runs of so many clocks.
+#![tactic(auto)]
+
+mod console;
+mod laws;
+mod running;
+#[cfg(test)]
+mod tests;
+mod turn;
+
+pub use console::Console;
+pub use laws::{run_is_unique, run_keeps_states, turn_is_unique};
+pub use running::Progress;
+pub use turn::Turn;
+pub use uz_cert::Response;

@@ -1,0 +1,62 @@
+//! Runs of so many clocks.
+
+ghost use Rattle.std.specs.Prelude.{◌≡◌, ◌≤◌, ◌^◌};
+ghost use Rattle.uz_machine.specs.Run.{edges_until};
+ghost use Rattle.uz_console.specs.Runs.{IsProgress, MovesOn};
+
+use crate::Console;
+use crate::turn::Made;
+use arrayvec::ArrayVec;
+use uz_core::Why;
+use uz_machine::Edge;
+
+/// How a run of so many clocks goes on.
+#[derive(Drop)]
+pub enum Progress {
+    /// More turns, each of which began before the limit. These are their edges of clock at most the limit.
+    Took { edges: ArrayVec<Edge, 4> },
+    /// Every turn that begins before the limit is made.
+    Over,
+    /// The next turn begins before the limit, and there is none.
+    Stopped(Why),
+}
+
+/// The edges of clock at most the limit.
+fn in_time(edges: ArrayVec<Edge, 4>, limit: u64) -> ArrayVec<Edge, 4>
+    ensures { result.items ≡ edges_until limit edges.items }
+{
+    if edges.is_empty() {
+        return edges;
+    }
+    let mut kept = ArrayVec::new();
+    for edge in edges.as_slice() {
+        if edge.clock <= limit {
+            kept.push(*edge);
+        }
+    }
+    kept
+}
+
+impl Console {
+    /// Goes on with a run of `limit` clocks from reset: makes turns up to the next one with edges, or says how the run
+    /// ended. The run makes every turn that begins before the limit, and its edges are those of clock at most the limit.
+    #[tactic(auto, using(crate::proofs::RunLemmas::ends))]
+    pub fn advance(&mut self, limit: u64) -> Progress
+        requires { limit ≤ 2 ^ 62 }
+        ensures run { IsProgress limit self.old self.new result }
+        ensures time { MovesOn limit self.old self.new result }
+    {
+        while self.clock() < limit {
+            match self.make() {
+                Made::Quiet => {}
+                Made::Edges(edges) => {
+                    return Progress::Took {
+                        edges: in_time(edges, limit),
+                    };
+                }
+                Made::Stopped(why) => return Progress::Stopped(why),
+            }
+        }
+        Progress::Over
+    }
+}

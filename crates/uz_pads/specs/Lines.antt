@@ -1,0 +1,103 @@
+-- The text of a pad file: lines that end in LF or CRLF, each blank or a pair of words.
+use Rattle.std.specs.Prelude.{◌≡◌, ℕ, ◌+◌, ◌-◌, ◌*◌, ◌≤◌, Bool, true, false, ◌&&◌, ◌||◌, ◌==◌, if◌then◌else◌, nat_le, nat_lt, List, [], ◌∷◌, ◌++◌, length, slice_index, take, Option, Some, None}
+use Rattle.std.specs.List.{slice_split, All}
+use Rattle.std.specs.Prelude.{slice_index_or}
+use Rattle.uz_pads.specs.declared.pads.Pad.{Pad}
+use Rattle.uz_pads.specs.declared.lines.Line.{Line}
+use Rattle.uz_pads.specs.declared.lines.Line.TheVariants.{Blank, Pair, Faulty}
+use Rattle.uz_pads.specs.declared.errors.PadWhy.{PadWhy}
+use Rattle.uz_pads.specs.declared.errors.PadWhy.TheVariants.{Digits, Count}
+
+-- One line
+
+-- what a hexadecimal digit of either case stands for: 0 to 9 are the bytes 48 to 57, A to F 65 to 70, a to f 97 to 102
+abbrev pub digit_of : ℕ → Option ℕ
+digit_of byte =
+    if nat_le 48 byte && nat_le byte 57 then Some (byte - 48) else
+    if nat_le 65 byte && nat_le byte 70 then Some (byte - 65 + 10) else
+    if nat_le 97 byte && nat_le byte 102 then Some (byte - 97 + 10) else None
+
+abbrev pub of_digits : Option ℕ → Option ℕ → Option ℕ → Option ℕ → Option ℕ
+of_digits (Some a) (Some b) (Some c) (Some d) = Some ((a * 16 + b) * 256 + (c * 16 + d))
+of_digits a b c d = None
+
+abbrev pub word_of : ℕ → ℕ → ℕ → ℕ → Option ℕ
+word_of a b c d = of_digits (digit_of a) (digit_of b) (digit_of c) (digit_of d)
+
+abbrev pub pad_of : Option ℕ → Option ℕ → Option Pad
+pad_of (Some one) (Some two) = Some (record { one = one; two = two })
+pad_of one two = None
+
+-- four hexadecimal digits, one space, four hexadecimal digits
+abbrev pub pair_in : List ℕ → Option Pad
+pair_in (a ∷ b ∷ c ∷ d ∷ space ∷ e ∷ f ∷ g ∷ h ∷ []) = if space == 32 then pad_of (word_of a b c d) (word_of e f g h) else None
+pair_in line = None
+
+-- nothing but spaces and tabs
+abbrev pub is_blank : List ℕ → Bool
+is_blank [] = true
+is_blank (byte ∷ bytes) = (byte == 32 || byte == 9) && is_blank bytes
+
+abbrev pub line_of_pair : Option Pad → Line
+line_of_pair (Some pad) = Pair pad
+line_of_pair None = Faulty
+
+abbrev pub kind_of : List ℕ → Line
+kind_of line = if is_blank line then Blank else line_of_pair (pair_in line)
+
+-- The lines of a text
+
+-- a line that LF ends, without its CR
+abbrev pub without_cr : List ℕ → List ℕ
+without_cr line = if nat_lt 0 (length line) && slice_index line (length line - 1) == 13 then take (length line - 1) line else line
+
+-- a CR belongs to a line's end only where LF follows; the last line has no LF
+abbrev pub lines_of_pieces : List (List ℕ) → List (List ℕ)
+lines_of_pieces [] = []
+lines_of_pieces (last ∷ []) = last ∷ []
+lines_of_pieces (piece ∷ next ∷ more) = without_cr piece ∷ lines_of_pieces (next ∷ more)
+
+abbrev pub lines_of : List ℕ → List (List ℕ)
+lines_of text = lines_of_pieces (slice_split (λ byte. byte == 10) text)
+
+-- Many lines
+
+abbrev pub pads_of : Line → List Pad
+pads_of Blank = []
+pads_of (Pair pad) = pad ∷ []
+pads_of Faulty = []
+
+-- the pairs of some lines, in order
+abbrev pub pads_in : List (List ℕ) → List Pad
+pads_in [] = []
+pads_in (line ∷ lines) = pads_of (kind_of line) ++ pads_in lines
+
+abbrev pub is_well_formed : Line → Bool
+is_well_formed Faulty = false
+is_well_formed line = true
+
+-- Lines that are each blank or a pair, with at most 65,536 pairs
+pub record IsRead (lines : List (List ℕ)) (pads : List Pad) : Type 0 where
+  pub well_formed : All (λ line. is_well_formed (kind_of line) ≡ true) lines
+  pub few : length (pads_in lines) ≤ 65536
+  pub are : pads ≡ pads_in lines
+
+-- What is wrong with a line, where some pairs came before it: it is neither blank nor a pair, or it is pair number 65,537
+abbrev pub IsFault : Line → ℕ → PadWhy → Type 0
+IsFault Faulty before Digits = Unit {0}
+IsFault (Pair pad) before Count = before ≡ 65536
+IsFault line before why = ⊥
+
+-- The first faulty line: all lines before it are read, and it has a fault
+pub record IsFirstFault (lines : List (List ℕ)) (number : ℕ) (why : PadWhy) : Type 0 where
+  pub earlier : List (List ℕ)
+  pub line : List ℕ
+  pub later : List (List ℕ)
+  pub cut : lines ≡ earlier ++ line ∷ later
+  pub number_is : number ≡ length earlier + 1
+  pub read : IsRead earlier (pads_in earlier)
+  pub fault : IsFault (kind_of line) (length (pads_in earlier)) why
+
+-- the line at a place among the pieces of a text
+abbrev pub line_at : List (List ℕ) → ℕ → List ℕ
+line_at pieces at = if nat_lt (at + 1) (length pieces) then without_cr (slice_index_or pieces at []) else slice_index_or pieces at []

@@ -1,0 +1,70 @@
+-- What a value of the pads stands for, and what becomes of it.
+use Rattle.std.specs.Prelude.{◌≡◌, ℕ, ◌+◌, ◌-◌, ◌*◌, not, if◌then◌else◌, List, [], ◌∷◌, length, map, min, slice_index_or, nat_le, nat_lt, Option, Some, None}
+use Rattle.uz_machine.specs.Arithmetic.{bit_value, bit_is_set}
+use Rattle.uz_machine.specs.PadLine.{PadHistory, is_fall, is_rise, latches, moves}
+use Rattle.uz_machine.specs.Space.{PadWiring}
+use Rattle.uz_pads.specs.declared.pads.Pad.{Pad}
+use Rattle.uz_pads.specs.declared.pads.Pads.{Pads}
+
+-- a list of pads as the machine's list of pairs
+abbrev pub pairs_of : List Pad → List (ℕ × ℕ)
+pairs_of list = map (λ pad. (pad.one, pad.two)) list
+
+-- the latest of PORTA's values
+abbrev pub latest : List ℕ → ℕ
+latest [] = 0
+latest (value ∷ older) = value
+
+-- PORTA has had a value
+abbrev pub IsBegun : List ℕ → Type 0
+IsBegun [] = ⊥
+IsBegun (value ∷ older) = Unit {0}
+
+abbrev pub no_pad : Pad
+no_pad = record { one = 0; two = 0 }
+
+-- the pair that latch number n loads, counted from 1; latch 0 is none
+abbrev pub latched_pad : ℕ → List Pad → Option Pad
+latched_pad n list = if nat_le 1 n then (if nat_le n (length list) then Some (slice_index_or list (n - 1) no_pad) else None) else None
+
+-- The pads stand for a list of pairs and the whole list of PORTA's values: they keep the pair that was latched last,
+-- and count latches up to the list's length and moves up to 12
+pub record StandsFor (p : Pads) (history : PadHistory) : Type 0 where
+  pub pairs : history.pairs ≡ pairs_of p.list.items
+  pub begun : IsBegun history.levels
+  pub level : p.level ≡ latest history.levels
+  pub next : p.next ≡ min (latches history.levels) (length p.list.items)
+  pub current : p.current ≡ latched_pad (latches history.levels) p.list.items
+  pub moves : p.moves ≡ min (moves history.levels) 12
+
+-- The pads by themselves
+
+-- a latch
+abbrev pub pads_loaded : Pads → Pads
+pads_loaded p =
+    if nat_lt p.next (length p.list.items)
+    then record p { current = Some (slice_index_or p.list.items p.next no_pad); next = p.next + 1 }
+    else record p { current = None }
+
+-- PORTA takes a value
+abbrev pub pads_after : ℕ → Pads → Pads
+pads_after value p =
+    let rise = bit_value (is_rise 3 (p.level, value)) in
+    if is_fall 2 (p.level, value)
+    then record (pads_loaded p) { level = value; moves = rise }
+    else record p { level = value; moves = if nat_lt p.moves 12 then p.moves + rise else p.moves }
+
+-- the level of a line that shows a bit of a word
+abbrev pub shown_bit : ℕ → ℕ → ℕ
+shown_bit word at = bit_value (not (bit_is_set word at))
+
+abbrev pub lines_of : Option Pad → ℕ → ℕ
+lines_of None at = 3
+lines_of (Some pad) at = if nat_lt at 12 then shown_bit pad.one at + shown_bit pad.two at * 2 else 3
+
+abbrev pub pads_lines : Pads → ℕ
+pads_lines p = lines_of p.current p.moves
+
+-- how these pads hang on PORTA
+abbrev pub pads_wiring : PadWiring Pads
+pads_wiring = record { lines = pads_lines; with_level = pads_after }

@@ -1,0 +1,15 @@
+//! The game pads: the file of their words, and the two data lines that they drive.
+#![tactic(auto)]
+
+mod errors;
+mod laws;
+mod lines;
+mod pads;
+mod reading;
+#[cfg(test)]
+mod tests;
+
+pub use errors::{PadError, PadWhy};
+pub use laws::reading_is_unique;
+pub use pads::{Pad, Pads};
+pub use reading::read_pads;

@@ -1,0 +1,132 @@
+//! The board and its readings.
+
+ghost use Rattle.std.specs.Prelude.{◌≡◌, ◌<◌, ◌+◌, ◌^◌, [], length, All, IfOk, if◌then◌else◌, None, Some};
+ghost use Rattle.uz_machine.specs.Core.{is_core_address};
+ghost use Rattle.uz_machine.specs.Space.{space_at_reset, byte_at};
+ghost use Rattle.uz_pads.specs.Pads.{pads_wiring};
+ghost use Rattle.uz_ports.specs.CallFits.{CallFits};
+
+use crate::address::{LAST, PINA, PINB, PINC, PIND, PORTA};
+use arrayvec::ArrayVec;
+use std::alloc::{AllocError, Global};
+use uz_core::Data;
+use uz_machine::Call;
+use uz_pads::Pads;
+use uz_timer::Timer1;
+
+/// The data space of the ATmega644 but for the core's own addresses, with timer 1, the pads on PORTA, the stores
+/// that are held for the turn's end, and the clock. Clocks count from reset.
+#[derive(Drop)]
+pub struct Board {
+    pub(crate) bytes: Vec<u8>,
+    pub(crate) timer: Timer1,
+    pub(crate) pads: Pads,
+    pub(crate) held: ArrayVec<Call, 2>,
+    /// TCNT1 as an interrupt was taken in this turn.
+    pub(crate) entered: Option<u16>,
+    pub(crate) clock: u64,
+    ghost sized: { length bytes.items ≡ 4352 },
+    ghost fit: { All CallFits held.items },
+}
+
+impl Board {
+    ghost use Rattle.uz_ports.specs.Boards.{space_of, held_of, entered_of, clock_of};
+
+    /// The board at reset: RAM, ports and timer are 0, with nothing held or noted, at clock 0.
+    pub fn reset(alloc: Global, pads: Pads) -> Result<Board, AllocError>
+        ensures space { IfOk result (λ board. space_of board ≡ space_at_reset pads) }
+        ensures idle { IfOk result (λ board. (held_of board ≡ []) × (entered_of board ≡ None)) }
+        ensures clock { IfOk result (λ board. clock_of board ≡ 0) }
+    {
+        Ok(Board {
+            bytes: vec![in alloc; 0; LAST as usize + 1]?,
+            timer: Timer1::reset(),
+            pads,
+            held: ArrayVec::new(),
+            entered: None,
+            clock: 0,
+        })
+    }
+
+    /// The clock, counted from reset.
+    pub fn clock(&self) -> u64
+        ensures { result ≡ clock_of self.now }
+    {
+        self.clock
+    }
+
+    /// Timer 1.
+    pub fn timer(&self) -> &Timer1
+        ensures { result.now ≡ (space_of self.now).timer }
+    {
+        &self.timer
+    }
+
+    /// The byte that a read of a data address would give, without its effect. The core's own addresses answer 0.
+    pub fn byte(&self, at: u16) -> u8
+        ensures { result ≡ (if is_core_address at then 0 else byte_at pads_wiring (space_of self.now) at) }
+    {
+        if at < 0x20 || (at >= 0x5D && at <= 0x5F) {
+            0
+        } else {
+            self.peek(at)
+        }
+    }
+
+    /// The byte of the data space.
+    pub(crate) fn peek(&self, at: u16) -> u8
+        ensures { result ≡ byte_at pads_wiring (space_of self.now) at }
+    {
+        let bytes = self.bytes.as_slice();
+        match at {
+            PINA => bytes[PORTA as usize] / 4 * 4 + self.pads.lines(),
+            PINB | PINC | PIND => bytes[at as usize + 2],
+            _ => {
+                if Timer1::owns(at) {
+                    self.timer.peek(at)
+                } else if at > LAST {
+                    0
+                } else {
+                    bytes[at as usize]
+                }
+            }
+        }
+    }
+}
+
+impl Data for Board {
+    ghost use Rattle.uz_ports.specs.Boards.{BoardContent, content_of, held_of, board_loads};
+
+    ghost Content = { BoardContent };
+
+    ghost content = { content_of };
+
+    ghost held = { held_of };
+
+    ghost model = { board_loads };
+
+    fn load(&mut self, at: u16, late: u8) -> u8 {
+        let bytes = self.bytes.as_slice();
+        match at {
+            PINA => bytes[PORTA as usize] / 4 * 4 + self.pads.lines(),
+            PINB | PINC | PIND => bytes[at as usize + 2],
+            _ => {
+                if Timer1::owns(at) {
+                    self.timer.read(at, late)
+                } else if at > LAST {
+                    0
+                } else {
+                    bytes[at as usize]
+                }
+            }
+        }
+    }
+
+    fn store(&mut self, at: u16, value: u8) {
+        self.held.push(Call::Byte { at, value });
+    }
+
+    fn bit(&mut self, at: u16, bit: u8, set: bool) {
+        self.held.push(Call::Bit { at, bit, set });
+    }
+}

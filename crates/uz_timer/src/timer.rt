@@ -1,0 +1,192 @@
+//! Timer 1.
+
+ghost use Rattle.std.specs.Prelude.{◌≡◌, ◌<◌, ◌↔◌, IsTrue};
+ghost use Rattle.uz_machine.specs.Timer.{timer_at_reset, is_counting, count_after, matches_within, timer_after, timer_taken, is_due, is_timer_address, timer_byte, timer_after_read, timer_after_write};
+
+use std::marker::Model;
+
+/// Timer 1 of the ATmega644 with TEMP: the count, one compare register and one flag. Contracts see the registers.
+#[derive(Drop)]
+pub struct Timer1 {
+    count: u16,
+    top: u16,
+    matched: bool,
+    temp: u8,
+    interrupt_mask: u8,
+    control_a: u8,
+    control_b: u8,
+}
+
+impl Model for Timer1 {
+    ghost use Rattle.uz_machine.specs.Timer.{Timer};
+
+    ghost Value = { Timer };
+
+    ghost view = { λ t. record { count = t.count; top = t.top; matched = t.matched; temp = t.temp; interrupt_mask = t.interrupt_mask; control_a = t.control_a; control_b = t.control_b } };
+}
+
+/// The count some clocks on, and whether it went from the top to 0 on the way.
+fn advanced(count: u16, top: u16, clocks: u8) -> (u16, bool)
+    ensures count { result.0 ≡ count_after count top clocks }
+    ensures matched { result.1 ≡ matches_within count top clocks }
+{
+    let period = u32::from(top) + 1;
+    let next = u32::from(count) + u32::from(clocks);
+    if count <= top {
+        if next < period {
+            (next as u16, false)
+        } else {
+            ((next % period) as u16, true)
+        }
+    } else if next < 65536 {
+        (next as u16, false)
+    } else {
+        let rest = next - 65536;
+        ((rest % period) as u16, rest >= period)
+    }
+}
+
+impl Timer1 {
+    /// The timer at reset: all its registers are 0.
+    pub fn reset() -> Timer1
+        ensures { result ≡ timer_at_reset }
+    {
+        Timer1 {
+            count: 0,
+            top: 0,
+            matched: false,
+            temp: 0,
+            interrupt_mask: 0,
+            control_a: 0,
+            control_b: 0,
+        }
+    }
+
+    /// Whether a data address is one of the timer's registers: TIFR1 0x36, TIMSK1 0x6F, TCCR1A 0x80, TCCR1B 0x81,
+    /// TCNT1L 0x84, TCNT1H 0x85, OCR1AL 0x88, OCR1AH 0x89.
+    pub fn owns(at: u16) -> bool
+        ensures { result ≡ is_timer_address at }
+    {
+        matches!(at, 0x36 | 0x6F | 0x80 | 0x81 | 0x84 | 0x85 | 0x88 | 0x89)
+    }
+
+    /// Whether the timer counts: CTC mode at the processor's clock, that is TCCR1B bits 0 to 4 are 01001 and TCCR1A
+    /// bits 0 and 1 are 0. In other settings it stands still (this project's profile).
+    pub fn counting(&self) -> bool
+        ensures { result ≡ is_counting self.now }
+    {
+        self.control_b % 32 == 9 && self.control_a % 4 == 0
+    }
+
+    /// Moves on by some clocks. OCF1A is set when TCNT1 goes from OCR1A to 0.
+    pub fn pass(&mut self, clocks: u8)
+        ensures { self.new ≡ timer_after clocks self.old }
+    {
+        if self.counting() {
+            let (count, matched) = advanced(self.count, self.top, clocks);
+            self.count = count;
+            self.matched = self.matched || matched;
+        }
+    }
+
+    /// Whether the interrupt is due: exactly where OCF1A and OCIE1A (TIMSK1 bit 1) are set.
+    pub fn due(&self) -> bool
+        ensures { result ≡ is_due self.now }
+    {
+        self.matched && self.interrupt_mask >> 1 & 1 == 1
+    }
+
+    /// Takes the interrupt: clears OCF1A.
+    pub fn take(&mut self)
+        ensures { self.new ≡ timer_taken self.old }
+    {
+        self.matched = false;
+    }
+
+    /// TCNT1.
+    pub fn phase(&self) -> u16
+        ensures { result ≡ self.now.count }
+    {
+        self.count
+    }
+
+    /// OCR1A.
+    pub fn top(&self) -> u16
+        ensures { result ≡ self.now.top }
+    {
+        self.top
+    }
+
+    /// The count and the flag, some clocks on.
+    fn sampled(&self, late: u8) -> (u16, bool)
+        ensures count { result.0 ≡ (timer_after late self.now).count }
+        ensures matched { result.1 ≡ (timer_after late self.now).matched }
+    {
+        if self.counting() {
+            let (count, matched) = advanced(self.count, self.top, late);
+            (count, self.matched || matched)
+        } else {
+            (self.count, self.matched)
+        }
+    }
+
+    /// Reads a register as it is `late` clocks on, and leaves the time. Reading TCNT1L keeps its high byte in TEMP.
+    pub fn read(&mut self, at: u16, late: u8) -> u8
+        requires { IsTrue (is_timer_address at) }
+        ensures value { result ≡ timer_byte (timer_after late self.old) at }
+        ensures left { self.new ≡ timer_after_read at late self.old }
+    {
+        let (count, matched) = self.sampled(late);
+        match at {
+            0x36 => if matched { 2 } else { 0 },
+            0x6F => self.interrupt_mask,
+            0x80 => self.control_a,
+            0x81 => self.control_b,
+            0x84 => {
+                self.temp = (count / 256) as u8;
+                (count % 256) as u8
+            }
+            0x85 => self.temp,
+            0x88 => (self.top % 256) as u8,
+            _ => (self.top / 256) as u8,
+        }
+    }
+
+    /// A register as it is now, without effect.
+    pub fn peek(&self, at: u16) -> u8
+        requires { IsTrue (is_timer_address at) }
+        ensures { result ≡ timer_byte self.now at }
+    {
+        match at {
+            0x36 => if self.matched { 2 } else { 0 },
+            0x6F => self.interrupt_mask,
+            0x80 => self.control_a,
+            0x81 => self.control_b,
+            0x84 => (self.count % 256) as u8,
+            0x85 => self.temp,
+            0x88 => (self.top % 256) as u8,
+            _ => (self.top / 256) as u8,
+        }
+    }
+
+    /// Writes a register. A 1 in bit 1 of TIFR1 clears OCF1A. TCNT1H and OCR1AH are kept in TEMP, and TCNT1L and
+    /// OCR1AL write the whole word with it.
+    pub fn write(&mut self, at: u16, value: u8)
+        requires { IsTrue (is_timer_address at) }
+        ensures { self.new ≡ timer_after_write at value self.old }
+    {
+        match at {
+            0x36 => {
+                if value >> 1 & 1 == 1 {
+                    self.matched = false;
+                }
+            }
+            0x6F => self.interrupt_mask = value,
+            0x80 => self.control_a = value,
+            0x81 => self.control_b = value,
+            0x84 => self.count = u16::from(self.temp) * 256 + u16::from(value),
+            0x88 => self.top = u16::from(self.temp) * 256 + u16::from(value),
+            _ => self.temp = value,
+        }
+    }
+}
