@@ -1,0 +1,52 @@
+-- The limits and orders that the parts of a certificate keep.
+use Rattle.std.specs.Prelude.{ℕ, ◌<◌, ◌≤◌, ◌+◌, ◌&&◌, nat_le, Bool, true, IsTrue, List, [], ◌∷◌, All, map, length, ⊤}
+use Rattle.uz_cert.specs.declared.lines.Schedule.{Schedule}
+use Rattle.uz_cert.specs.declared.lines.Event.{Event}
+use Rattle.uz_cert.specs.declared.lines.EventKind.{EventKind}
+use Rattle.uz_cert.specs.declared.lines.EventKind.TheVariants.{Sync, Pixel, Sound, Leave}
+
+-- the first number is at least this, and each later one is above the one before it
+abbrev pub rises_from : ℕ → List ℕ → Bool
+rises_from least [] = true
+rises_from least (x ∷ xs) = nat_le least x && rises_from (x + 1) xs
+
+-- each number is above the one before it
+abbrev pub rises : List ℕ → Bool
+rises xs = rises_from 0 xs
+
+-- a sync event sets the level 0 or 1
+abbrev pub KindFits : EventKind → Type 0
+KindFits (Sync level) = level ≤ 1
+KindFits Pixel = ⊤
+KindFits Sound = ⊤
+KindFits Leave = ⊤
+
+-- a line has the clocks 0 to 1819
+pub record EventFits (e : Event) : Type 0 where
+  pub clock : e.clock < 1820
+  pub kind : KindFits e.kind
+
+-- the events of a kind of line, clocks rising
+pub record EventsFit (events : List Event) : Type 0 where
+  pub some : 1 ≤ length events
+  pub few : length events ≤ 1820
+  pub each : All EventFits events
+  pub rise : IsTrue (rises (map (λ e. e.clock) events))
+
+-- the kinds of line
+pub record KindsFit (kinds : List (List Event)) : Type 0 where
+  pub some : 1 ≤ length kinds
+  pub few : length kinds ≤ 525
+  pub each : All EventsFit kinds
+
+-- the lines of a frame, each of one of this many kinds
+pub record LinesFit (kinds : ℕ) (lines : List ℕ) : Type 0 where
+  pub some : 1 ≤ length lines
+  pub few : length lines ≤ 525
+  pub there : All (λ kind. kind < kinds) lines
+
+pub record ScheduleFits (s : Schedule) : Type 0 where
+  pub kinds : KindsFit s.kinds
+  pub lines : LinesFit (length s.kinds) s.lines
+  pub fall_some : 1 ≤ s.fall
+  pub fall_in_line : s.fall < 1820

@@ -1,0 +1,67 @@
+//! What a certificate says of a byte, of a pair of registers and of a flag.
+
+use crate::ranges::{Span, Wide};
+
+/// What is known of a byte (a register, a stack slot or a cell) at the instances of a point.
+#[derive(Clone, Copy, Debug, Default, PartialEq, Eq)]
+pub enum Fact {
+    /// Any byte.
+    #[default]
+    Any,
+    /// A byte in a range.
+    Between(Span),
+    /// `a * line + b`, modulo 256.
+    Line(u8, u8),
+    /// `a * count + b`, modulo 256.
+    Loop(u8, u8),
+    /// The value that this register, 0 to 31, had when the handler was entered.
+    Old(u8),
+    /// The status register when the handler was entered, with bit 7 clear.
+    OldFlags,
+}
+
+/// What is known of one of the register pairs X, Y and Z at the instances of a point.
+#[derive(Clone, Copy, Debug, PartialEq, Eq)]
+pub enum PairFact {
+    /// What the two bytes say.
+    Any,
+    /// A number in a range.
+    Between(Wide),
+    /// `a * line + b`, modulo 65,536.
+    Line(u16, u16),
+    /// `a * count + b`, modulo 65,536.
+    Loop(u16, u16),
+}
+
+/// What is known of a flag of the status register.
+#[derive(Clone, Copy, Debug, PartialEq, Eq)]
+pub enum Bit {
+    Zero,
+    One,
+    /// Nothing is known.
+    Free,
+    /// The flag as it was when the handler was entered.
+    Old,
+}
+
+/// What is known of a byte in one instance.
+#[derive(Clone, Copy, Debug, PartialEq, Eq)]
+pub enum Val {
+    /// A byte in a range.
+    Range(Span),
+    /// The value that this register, 0 to 31, had when the handler was entered.
+    Old(u8),
+    /// The status register when the handler was entered, with bit 7 clear.
+    OldFlags,
+}
+
+impl Default for Val {
+    ghost use Rattle.std.specs.Prelude.{◌≡◌};
+    ghost use Rattle.uz_cert.specs.declared.facts.Val.TheVariants.{OldFlags};
+
+    ghost is_default = { λ v. v ≡ OldFlags };
+
+    fn default() -> Self {
+        Val::OldFlags
+    }
+}

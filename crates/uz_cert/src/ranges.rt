@@ -1,0 +1,156 @@
+//! Ranges of bytes and of 16-bit numbers. Both ends belong to the range, and the lower end is never above the upper one.
+
+ghost use Rattle.std.specs.Prelude.{◌≡◌, ◌≤◌, ◌↔◌, IsSome, IfSome};
+
+use std::marker::Model;
+
+/// A range of bytes, both ends in it: `lo <= hi` holds of every value.
+#[derive(Clone, Copy, Debug, PartialEq, Eq)]
+pub struct Span {
+    lo: u8,
+    hi: u8,
+}
+
+impl Model for Span {
+    ghost use Rattle.std.specs.Prelude.{◌≤◌};
+    ghost use Rattle.uz_cert.specs.Ends.{Ends, ends_code};
+
+    ghost Value = { Ends };
+
+    ghost coded = { ends_code };
+
+    ghost view = { λ s. record { lo = s.lo; hi = s.hi } };
+
+    ghost invariant = { λ s. s.lo ≤ s.hi };
+
+    ghost inverse = { λ e. record { lo = e.lo; hi = e.hi } };
+}
+
+impl Span {
+    /// The range from `lo` to `hi`, or None exactly where `lo > hi`.
+    pub fn new(lo: u8, hi: u8) -> Option<Span>
+        ensures fits { IsSome result ↔ (lo ≤ hi) }
+        ensures ends { IfSome result (λ s. s ≡ record { lo = lo; hi = hi }) }
+    {
+        if lo <= hi {
+            Some(Span { lo, hi })
+        } else {
+            None
+        }
+    }
+
+    /// The range between two ends that are known to be in order.
+    pub fn between(lo: u8, hi: u8) -> Span
+        requires { lo ≤ hi }
+        ensures { result ≡ record { lo = lo; hi = hi } }
+    {
+        Span { lo, hi }
+    }
+
+    /// The range of a single byte.
+    pub fn single(value: u8) -> Span
+        ensures { result ≡ record { lo = value; hi = value } }
+    {
+        Span {
+            lo: value,
+            hi: value,
+        }
+    }
+
+    /// The lower end.
+    pub fn lo(&self) -> u8
+        ensures value { result ≡ self.now.lo }
+        ensures ordered { self.now.lo ≤ self.now.hi }
+    {
+        self.lo
+    }
+
+    /// The upper end.
+    pub fn hi(&self) -> u8
+        ensures value { result ≡ self.now.hi }
+        ensures ordered { self.now.lo ≤ self.now.hi }
+    {
+        self.hi
+    }
+}
+
+impl Default for Span {
+    ghost use Rattle.std.specs.Prelude.{◌≡◌};
+
+    ghost is_default = { λ s. s ≡ record { lo = 0; hi = 0 } };
+
+    /// The range of the byte 0 alone.
+    fn default() -> Self {
+        Span { lo: 0, hi: 0 }
+    }
+}
+
+/// A range of 16-bit numbers, both ends in it: `lo <= hi` holds of every value.
+#[derive(Clone, Copy, Debug, PartialEq, Eq)]
+pub struct Wide {
+    lo: u16,
+    hi: u16,
+}
+
+impl Model for Wide {
+    ghost use Rattle.std.specs.Prelude.{◌≤◌};
+    ghost use Rattle.uz_cert.specs.Ends.{Ends, ends_code};
+
+    ghost Value = { Ends };
+
+    ghost coded = { ends_code };
+
+    ghost view = { λ w. record { lo = w.lo; hi = w.hi } };
+
+    ghost invariant = { λ w. w.lo ≤ w.hi };
+
+    ghost inverse = { λ e. record { lo = e.lo; hi = e.hi } };
+}
+
+impl Wide {
+    /// The range from `lo` to `hi`, or None exactly where `lo > hi`.
+    pub fn new(lo: u16, hi: u16) -> Option<Wide>
+        ensures fits { IsSome result ↔ (lo ≤ hi) }
+        ensures ends { IfSome result (λ w. w ≡ record { lo = lo; hi = hi }) }
+    {
+        if lo <= hi {
+            Some(Wide { lo, hi })
+        } else {
+            None
+        }
+    }
+
+    /// The range between two ends that are known to be in order.
+    pub fn between(lo: u16, hi: u16) -> Wide
+        requires { lo ≤ hi }
+        ensures { result ≡ record { lo = lo; hi = hi } }
+    {
+        Wide { lo, hi }
+    }
+
+    /// The range of a single number.
+    pub fn single(value: u16) -> Wide
+        ensures { result ≡ record { lo = value; hi = value } }
+    {
+        Wide {
+            lo: value,
+            hi: value,
+        }
+    }
+
+    /// The lower end.
+    pub fn lo(&self) -> u16
+        ensures value { result ≡ self.now.lo }
+        ensures ordered { self.now.lo ≤ self.now.hi }
+    {
+        self.lo
+    }
+
+    /// The upper end.
+    pub fn hi(&self) -> u16
+        ensures value { result ≡ self.now.hi }
+        ensures ordered { self.now.lo ≤ self.now.hi }
+    {
+        self.hi
+    }
+}

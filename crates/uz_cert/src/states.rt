@@ -1,0 +1,104 @@
+//! Points, the states that they stand for, and the states where runs enter.
+
+use crate::facts::{Bit, Fact, PairFact, Val};
+use crate::kinds::Kind;
+use crate::ranges::{Span, Wide};
+use arrayvec::ArrayVec;
+
+/// Where the handler of a line returns to the main loop, and what holds there.
+#[derive(Debug, Drop)]
+pub struct Rest {
+    /// The line, counted from 0.
+    pub line: u16,
+    /// The clock of the line at which the return ends, 0 to 1819.
+    pub clock: u16,
+    /// The number of the point where the handler's next entry is.
+    pub vector: u32,
+    /// A range for each cell of the handler.
+    pub cells: ArrayVec<Span, 16>,
+}
+
+/// The states at which the claim of a certificate begins.
+#[derive(Debug, Drop)]
+pub struct Entry {
+    /// Main or alone.
+    pub kind: Kind,
+    /// The number of its point, counted from 0.
+    pub id: u32,
+    /// The program counter, a word address below 32,768.
+    pub pc: u16,
+    /// The line, counted from 0.
+    pub line: u16,
+    /// The clock of the line, 0 to 1819.
+    pub clock: u16,
+    /// The values that each register may have.
+    pub regs: [Span; 32],
+    /// What is known of the flags C, Z, N, V, S, H and T.
+    pub flags: [Bit; 7],
+    /// The values that each byte of the stack may have, from the bottom.
+    pub stack: ArrayVec<Span, 32>,
+    /// The values that each cell may have that its kind tracks.
+    pub cells: ArrayVec<Span, 16>,
+}
+
+/// A place of the program, for a box of lines and counts of a loop.
+#[derive(Debug, Drop)]
+pub struct Point {
+    /// What it belongs to.
+    pub kind: Kind,
+    /// The program counter, a word address below 32,768.
+    pub pc: u16,
+    /// The first line of the box.
+    pub l0: u16,
+    /// The last line of the box.
+    pub l1: u16,
+    /// The first count of the box.
+    pub c0: u8,
+    /// The last count of the box.
+    pub c1: u8,
+    /// The clock of the line at count 0, 0 to 1819.
+    pub clock: u16,
+    /// The clocks by which each count is later, -1819 to 1819.
+    pub slope: i16,
+    /// Whether a compare match waits for its interrupt.
+    pub pending: bool,
+    /// What is known of each register.
+    pub regs: [Fact; 32],
+    /// What is known of the pairs X, Y and Z.
+    pub pairs: [PairFact; 3],
+    /// What is known of the flags C, Z, N, V, S, H and T.
+    pub flags: [Bit; 7],
+    /// What is known of each byte of the stack, from the bottom.
+    pub stack: ArrayVec<Fact, 32>,
+    /// What is known of each cell that its kind tracks.
+    pub cells: ArrayVec<Fact, 16>,
+    /// The numbers of the points where an instruction may lead, rising.
+    pub next: ArrayVec<u32, 16>,
+}
+
+/// A point at one line and one count of its box.
+#[derive(Debug, Drop)]
+pub struct Instance {
+    /// What it belongs to.
+    pub kind: Kind,
+    /// The program counter, a word address below 32,768.
+    pub pc: u16,
+    /// The line, counted from 0.
+    pub line: u16,
+    /// The clock of the line, 0 to 1819.
+    pub clock: u16,
+    /// The level of sync, 0 or 1.
+    pub level: u8,
+    /// Whether a compare match waits for its interrupt.
+    pub pending: bool,
+    /// What is known of each register.
+    pub regs: [Val; 32],
+    /// The values that the pairs X, Y and Z may have.
+    pub pairs: [Wide; 3],
+    /// What is known of the flags C, Z, N, V, S, H and T.
+    pub flags: [Bit; 7],
+    /// What is known of each byte of the stack, from the bottom.
+    pub stack: ArrayVec<Val, 32>,
+    /// The values that each cell may have that its kind tracks.
+    pub cells: ArrayVec<Span, 16>,
+}

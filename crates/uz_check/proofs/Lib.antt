@@ -1,0 +1,10 @@
+mod Ranges
+mod Words
+mod Level
+mod Lines
+mod Steps
+mod Instructions
+mod OneTurn
+mod Headline
+mod Entering
+mod Rules

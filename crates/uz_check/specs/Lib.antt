@@ -1,0 +1,9 @@
+pub mod Runs
+pub mod Claim
+pub mod Opcodes
+pub mod Machine
+pub mod Instances
+pub mod LocalRule
+pub mod FrameRules
+pub mod Acceptance
+pub mod Certified

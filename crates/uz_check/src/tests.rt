@@ -1,0 +1,214 @@
+//! A ring of NOPs that drives sync by itself, as an image and a certificate made by hand.
+
+ghost use Rattle.std.specs.Prelude.{◌<◌, ◌≤◌};
+
+use crate::{Fail, RefusedWhy, check, verdict};
+use arrayvec::ArrayVec;
+use std::alloc::{AllocError, Global};
+use std::test::Fail as TestFail;
+use uz_cert::{
+    Bit, Cert, Entry, Event, EventKind, Fact, Head, Kind, PairFact, Point, Response, Schedule,
+    Sequence, Span, well_formed,
+};
+use uz_hex::Image;
+
+fn set_word(image: &mut Image, at: u16, word: u16)
+    requires { at < 32768 }
+{
+    image.set(2 * at, (word % 256) as u8);
+    image.set(2 * at + 1, (word / 256) as u8);
+}
+
+/// Word 0 `ldi r16,0`, word 1 `ldi r17,1`, word 2 `out PORTB,r16`, NOPs, word 138 `out PORTB,r17`, NOPs, and at this word
+/// `rjmp` to word 2.
+fn ring(alloc: Global, jump: u16) -> Result<Image, AllocError>
+    requires { jump < 4096 }
+{
+    let mut image = Image::empty(alloc)?;
+    for at in 3..jump {
+        set_word(&mut image, at, 0);
+    }
+    set_word(&mut image, 0, 0xe000);
+    set_word(&mut image, 1, 0xe011);
+    set_word(&mut image, 2, 0xb905);
+    set_word(&mut image, 138, 0xb915);
+    set_word(&mut image, jump, 0xd001 - jump);
+    Ok(image)
+}
+
+/// r16 is 0 and r17 is 1.
+fn point(pc: u16, clock: u16, next: u32) -> Point {
+    let mut regs = [Fact::Any; 32];
+    regs[16] = Fact::Between(Span::single(0));
+    regs[17] = Fact::Between(Span::single(1));
+    let mut ids = ArrayVec::new();
+    ids.push(next);
+    Point {
+        kind: Kind::Alone,
+        pc,
+        l0: 0,
+        l1: 0,
+        c0: 0,
+        c1: 0,
+        clock,
+        slope: 0,
+        pending: false,
+        regs,
+        pairs: [PairFact::Any; 3],
+        flags: [Bit::Free; 7],
+        stack: ArrayVec::new(),
+        cells: ArrayVec::new(),
+        next: ids,
+    }
+}
+
+fn points(alloc: Global, count: u16) -> Result<Sequence<Point>, AllocError>
+    requires { (2 ≤ count) × (count < 2000) }
+{
+    let mut points = Sequence::new(alloc);
+    for k in 0..count - 1 {
+        points.push(point(2 + k, k, u32::from(k) + 1))?;
+    }
+    points.push(point(1 + count, count - 1, 0))?;
+    Ok(points)
+}
+
+/// One line, on which sync falls and then rises at these clocks.
+fn schedule(alloc: Global, fall: u16, rise: u16) -> Result<Schedule, AllocError> {
+    let mut events = Sequence::new(alloc);
+    events.push(Event {
+        clock: 1,
+        kind: EventKind::Sync(0),
+    })?;
+    events.push(Event {
+        clock: rise,
+        kind: EventKind::Sync(1),
+    })?;
+    let mut kinds = Sequence::new(alloc);
+    kinds.push(events)?;
+    let mut lines = Sequence::new(alloc);
+    lines.push(0)?;
+    Ok(Schedule { kinds, lines, fall })
+}
+
+fn entry(pc: u16) -> Entry {
+    let mut regs = [Span::between(0, 255); 32];
+    regs[16] = Span::single(0);
+    regs[17] = Span::single(1);
+    Entry {
+        kind: Kind::Alone,
+        id: 0,
+        pc,
+        line: 0,
+        clock: 0,
+        regs,
+        flags: [Bit::Free; 7],
+        stack: ArrayVec::new(),
+        cells: ArrayVec::new(),
+    }
+}
+
+fn head() -> Head {
+    Head {
+        irq: Response::Four,
+        lo: 4350,
+        hi: 4351,
+        main: 0,
+        handler: 0,
+        cells: ArrayVec::new(),
+    }
+}
+
+/// A ring and its certificate, changed in one place or none.
+#[derive(Drop)]
+struct Case {
+    /// The word of the jump.
+    jump: u16,
+    /// What word 3 is.
+    third: u16,
+    /// How many points there are.
+    points: u16,
+    /// The schedule's fall.
+    fall: u16,
+    /// The clock at which sync rises.
+    rise: u16,
+    /// The entry's pc.
+    pc: u16,
+    /// Why it is refused.
+    refused: Option<RefusedWhy>,
+}
+
+fn cert(alloc: Global, case: &Case) -> Result<Cert, AllocError>
+    requires { (2 ≤ case.now.points) × (case.now.points < 2000) }
+{
+    Ok(Cert {
+        head: head(),
+        schedule: schedule(alloc, case.fall, case.rise)?,
+        rests: Sequence::new(alloc),
+        entry: entry(case.pc),
+        points: points(alloc, case.points)?,
+    })
+}
+
+/// The refusal of the point's only instance.
+fn of_point(id: u32, why: Fail) -> Option<RefusedWhy> {
+    Some(RefusedWhy::Point {
+        id,
+        l: 0,
+        c: 0,
+        why,
+    })
+}
+
+fn changed(jump: u16, points: u16, fall: u16, rise: u16, refused: Option<RefusedWhy>) -> Case {
+    Case {
+        jump,
+        third: 0,
+        points,
+        fall,
+        rise,
+        pc: 2,
+        refused,
+    }
+}
+
+#[test]
+fn rings_are_accepted_or_refused_at_the_first_failing_item(
+    rt: HostRuntime,
+) -> Result<(), TestFail> {
+    let unsteady = Some(RefusedWhy::Schedule { line: 0, clock: 1 });
+    let unknown_word = Case {
+        third: 0xffff,
+        ..changed(1820, 1819, 1, 137, of_point(1, Fail::Opcode))
+    };
+    let late_entry = Case {
+        pc: 3,
+        ..changed(1820, 1819, 1, 137, Some(RefusedWhy::Entry))
+    };
+    let cases = [
+        changed(1820, 1819, 1, 137, None),
+        changed(1819, 1818, 1, 137, of_point(1817, Fail::Successor)),
+        changed(1820, 1819, 1, 138, of_point(136, Fail::Edge)),
+        changed(1820, 1819, 2, 137, unsteady),
+        unknown_word,
+        late_entry,
+    ];
+    for case in &cases {
+        let fits = 2 <= case.points && case.points < 2000 && case.jump < 4096;
+        assert!(rt; fits);
+        let mut image = ring(rt.alloc(), case.jump)?;
+        set_word(&mut image, 3, case.third);
+        let cert = cert(rt.alloc(), case)?;
+        let well_formed = well_formed(&cert);
+        assert!(rt; well_formed);
+        assert_eq!(rt; verdict(&image, &cert), case.refused);
+        match check(image, cert) {
+            Ok(accepted) => {
+                let (_image, _cert) = accepted.into_parts();
+                assert!(rt; case.refused.is_none());
+            }
+            Err(refused) => assert_eq!(rt; Some(refused.why), case.refused),
+        }
+    }
+    Ok(())
+}
