@@ -1,0 +1,6 @@
+use Rattle.std.proofs.Common.{rules}
+use Rattle.uz_range.proofs.PairsCover.{pair_add_covers}
+use Rattle.uz_range.proofs.pairs.pair_add.Goals as goal
+
+pub returns-clause-holds : goal.returns-clause-holds
+returns-clause-holds c = rw c.pair_add_by_rule.ensures (λ x w h. pair_add_covers _ _ x w (search rules) h)

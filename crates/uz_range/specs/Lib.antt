@@ -1,0 +1,3 @@
+pub mod Containment
+pub mod Answers
+pub mod Rules
