@@ -1,0 +1,175 @@
+-- What holds of every command.
+use Rattle.std.proofs.Common.{◌≡◌, ◌≢◌, ◌⊎◌, inl, inr, sym, subst}
+use Rattle.std.specs.Prelude.{Option, Some, None, IfSome}
+use Rattle.uz_shelf.specs.Files.{FileMap}
+use Rattle.uz_top.specs.declared.status.Status.{Status}
+use Rattle.uz_top.specs.declared.status.Status.TheVariants as status
+use Rattle.uz_top.specs.Answers.{Answer, Outside, ComesTo, Outcome}
+use Rattle.uz_top.specs.Words.{Command, Asm, Check, Dis, Trace}
+use Rattle.uz_top.specs.Commands.{Answers, LacksRead, PartAnswers, Succeeds}
+use Rattle.uz_top.proofs.OutcomeLemmas.{from_answer, unwritten_by, exact_by, done_without_faults}
+use Rattle.uz_top.proofs.TraceAnswerLemmas.{trace_status, trace_done}
+use Rattle.uz_top.proofs.TraceSameLemmas.{trace_same}
+use Rattle.uz_top.proofs.AsmLemmas.{asm_done_answer, asm_same, asm_status}
+use Rattle.uz_top.proofs.DisLemmas.{dis_status, dis_same, dis_done}
+use Rattle.uz_top.proofs.CheckLemmas.{check_status, check_same, check_done}
+
+never_usage : (files : Option FileMap) (load_fault : Type 0) (c : Command) (answer : Answer) → Answers files load_fault c answer → answer.status ≢ status.Usage
+never_usage files load_fault (Check hex cert) answer h is =
+    elim (check_status files load_fault hex cert answer h) [
+      | inl (e, cause) ↦ absurd (cc (e, is))
+      | inr (inl e) ↦ absurd (cc (e, is))
+      | inr (inr (inl e)) ↦ absurd (cc (e, is))
+      | inr (inr (inr e)) ↦ absurd (cc (e, is))
+    ]
+never_usage files load_fault (Dis hex) answer h is =
+    elim (dis_status files load_fault hex answer h) [
+      | inl (e, cause) ↦ absurd (cc (e, is))
+      | inr (inl e) ↦ absurd (cc (e, is))
+      | inr (inr e) ↦ absurd (cc (e, is))
+    ]
+never_usage files load_fault (Asm source hex) answer h is =
+    elim (asm_status files load_fault source hex answer h) [
+      | inl (e, cause) ↦ absurd (cc (e, is))
+      | inr (inl e) ↦ absurd (cc (e, is))
+      | inr (inr e) ↦ absurd (cc (e, is))
+    ]
+never_usage files load_fault (Trace hex pads irq clocks) answer h is =
+    elim (trace_status files load_fault hex pads irq clocks answer h) [
+      | inl (e, cause) ↦ absurd (cc (e, is))
+      | inr (inl e) ↦ absurd (cc (e, is))
+      | inr (inr (inl e)) ↦ absurd (cc (e, is))
+      | inr (inr (inr e)) ↦ absurd (cc (e, is))
+    ]
+
+never_unwritten : (files : Option FileMap) (load_fault : Type 0) (c : Command) (answer : Answer) → Answers files load_fault c answer → answer.status ≢ status.Unwritten
+never_unwritten files load_fault (Check hex cert) answer h is =
+    elim (check_status files load_fault hex cert answer h) [
+      | inl (e, cause) ↦ absurd (cc (e, is))
+      | inr (inl e) ↦ absurd (cc (e, is))
+      | inr (inr (inl e)) ↦ absurd (cc (e, is))
+      | inr (inr (inr e)) ↦ absurd (cc (e, is))
+    ]
+never_unwritten files load_fault (Dis hex) answer h is =
+    elim (dis_status files load_fault hex answer h) [
+      | inl (e, cause) ↦ absurd (cc (e, is))
+      | inr (inl e) ↦ absurd (cc (e, is))
+      | inr (inr e) ↦ absurd (cc (e, is))
+    ]
+never_unwritten files load_fault (Asm source hex) answer h is =
+    elim (asm_status files load_fault source hex answer h) [
+      | inl (e, cause) ↦ absurd (cc (e, is))
+      | inr (inl e) ↦ absurd (cc (e, is))
+      | inr (inr e) ↦ absurd (cc (e, is))
+    ]
+never_unwritten files load_fault (Trace hex pads irq clocks) answer h is =
+    elim (trace_status files load_fault hex pads irq clocks answer h) [
+      | inl (e, cause) ↦ absurd (cc (e, is))
+      | inr (inl e) ↦ absurd (cc (e, is))
+      | inr (inr (inl e)) ↦ absurd (cc (e, is))
+      | inr (inr (inr e)) ↦ absurd (cc (e, is))
+    ]
+
+unread_cause : (files : Option FileMap) (load_fault : Type 0) (c : Command) (answer : Answer) → Answers files load_fault c answer → answer.status ≡ status.Unread → load_fault ⊎ LacksRead files c
+unread_cause files load_fault (Check hex cert) answer h is =
+    elim (check_status files load_fault hex cert answer h) [
+      | inl (e, cause) ↦ cause
+      | inr (inl e) ↦ absurd (cc (e, is))
+      | inr (inr (inl e)) ↦ absurd (cc (e, is))
+      | inr (inr (inr e)) ↦ absurd (cc (e, is))
+    ]
+unread_cause files load_fault (Dis hex) answer h is =
+    elim (dis_status files load_fault hex answer h) [
+      | inl (e, cause) ↦ cause
+      | inr (inl e) ↦ absurd (cc (e, is))
+      | inr (inr e) ↦ absurd (cc (e, is))
+    ]
+unread_cause files load_fault (Asm source hex) answer h is =
+    elim (asm_status files load_fault source hex answer h) [
+      | inl (e, cause) ↦ cause
+      | inr (inl e) ↦ absurd (cc (e, is))
+      | inr (inr e) ↦ absurd (cc (e, is))
+    ]
+unread_cause files load_fault (Trace hex pads irq clocks) answer h is =
+    elim (trace_status files load_fault hex pads irq clocks answer h) [
+      | inl (e, cause) ↦ cause
+      | inr (inl e) ↦ absurd (cc (e, is))
+      | inr (inr (inl e)) ↦ absurd (cc (e, is))
+      | inr (inr (inr e)) ↦ absurd (cc (e, is))
+    ]
+
+same_answers : (files : FileMap) (load_fault : Type 0) (c : Command) (a b : Answer) → Answers (Some files) load_fault c a → Answers (Some files) ⊥ c b → (a ≡ b) ⊎ load_fault
+same_answers files load_fault (Check hex cert) a b p q = check_same files load_fault hex cert a b p q
+same_answers files load_fault (Dis hex) a b p q = dis_same files load_fault hex a b p q
+same_answers files load_fault (Asm source hex) a b p q = asm_same files load_fault source hex a b p q
+same_answers files load_fault (Trace hex pads irq clocks) a b p q = trace_same files load_fault hex pads irq clocks a b p q
+
+done_answer : (files : Option FileMap) (c : Command) → Succeeds files c → (answer : Answer) × Answers files ⊥ c answer × (answer.status ≡ status.Done)
+done_answer files (Check hex cert) h = check_done files hex cert h
+done_answer files (Dis hex) h = dis_done files hex h
+done_answer files (Asm source hex) h = asm_done_answer files source hex h
+done_answer files (Trace hex pads irq clocks) h = trace_done files hex pads irq clocks h
+
+usage_not_memory : status.Usage ≢ status.NoMemory
+usage_not_memory e = cc
+
+usage_not_unwritten : status.Usage ≢ status.Unwritten
+usage_not_unwritten e = cc
+
+unread_not_memory : status.Unread ≢ status.NoMemory
+unread_not_memory e = cc
+
+unread_not_unwritten : status.Unread ≢ status.Unwritten
+unread_not_unwritten e = cc
+
+module _ (files : Option FileMap) (load_fault write_fault : Type 0) (c : Command) (came : Status) (old new : Outside) where
+  not_usage : Outcome (Answers files load_fault c) (PartAnswers files c) write_fault came old new → came ≢ status.Usage
+  not_usage h is =
+      let from = from_answer (Answers files load_fault c) (PartAnswers files c) write_fault came old new status.Usage usage_not_memory usage_not_unwritten h is in
+      never_usage files load_fault c from.0 from.1 from.2
+
+  unread_by : Outcome (Answers files load_fault c) (PartAnswers files c) write_fault came old new → came ≡ status.Unread → load_fault ⊎ LacksRead files c
+  unread_by h is =
+      let from = from_answer (Answers files load_fault c) (PartAnswers files c) write_fault came old new status.Unread unread_not_memory unread_not_unwritten h is in
+      unread_cause files load_fault c from.0 from.1 from.2
+
+  pub unwritten : Outcome (Answers files load_fault c) (PartAnswers files c) write_fault came old new → came ≡ status.Unwritten → write_fault
+  unwritten = unwritten_by (Answers files load_fault c) (PartAnswers files c) write_fault came old new (never_unwritten files load_fault c)
+
+module _ (told : FileMap) (load_fault write_fault : Type 0) (c : Command) (came : Status) (old new : Outside) where
+  exact : Outcome (Answers (Some told) load_fault c) (PartAnswers (Some told) c) write_fault came old new → (wanted : Answer) → Answers (Some told) ⊥ c wanted → ComesTo wanted load_fault write_fault came old new
+  exact h wanted q = exact_by (Answers (Some told) load_fault c) (PartAnswers (Some told) c) write_fault came old new load_fault wanted (λ answer p. same_answers told load_fault c answer wanted p q) h
+
+  complete : Outcome (Answers (Some told) load_fault c) (PartAnswers (Some told) c) write_fault came old new → Succeeds (Some told) c → (load_fault → ⊥) → (write_fault → ⊥) → (came ≡ status.Done) ⊎ (came ≡ status.NoMemory)
+  complete h well loads writes =
+      let wanted = done_answer (Some told) c well in
+      done_without_faults load_fault write_fault came old new wanted.0 wanted.2 loads writes (exact h wanted.0 wanted.1)
+
+pub outcome_at : (k l : Command) (files : Option FileMap) (load_fault write_fault : Type 0) (came : Status) (old new : Outside) → k ≡ l → Outcome (Answers files load_fault l) (PartAnswers files l) write_fault came old new → Outcome (Answers files load_fault k) (PartAnswers files k) write_fault came old new
+outcome_at k l files load_fault write_fault came old new same h = subst (λ c. Outcome (Answers files load_fault c) (PartAnswers files c) write_fault came old new) (sym same) h
+
+exact_told : (files : Option FileMap) (load_fault write_fault : Type 0) (c : Command) (came : Status) (old new : Outside) → Outcome (Answers files load_fault c) (PartAnswers files c) write_fault came old new → IfSome files (λ told. (wanted : Answer) → Answers files ⊥ c wanted → ComesTo wanted load_fault write_fault came old new)
+exact_told None load_fault write_fault c came old new h = tt
+exact_told (Some told) load_fault write_fault c came old new h = exact told load_fault write_fault c came old new h
+
+pub exact_in : (o : Option Command) (c : Command) (files : Option FileMap) (load_fault write_fault : Type 0) (came : Status) (old new : Outside) → Some c ≡ o → Outcome (Answers files load_fault c) (PartAnswers files c) write_fault came old new → IfSome o (λ k. IfSome files (λ told. (wanted : Answer) → Answers files ⊥ k wanted → ComesTo wanted load_fault write_fault came old new))
+exact_in o c files load_fault write_fault came old new is h =
+    subst (λ p. IfSome p (λ k. IfSome files (λ told. (wanted : Answer) → Answers files ⊥ k wanted → ComesTo wanted load_fault write_fault came old new))) is
+    (exact_told files load_fault write_fault c came old new h)
+
+pub unread_in : (o : Option Command) (c : Command) (files : Option FileMap) (load_fault write_fault : Type 0) (came : Status) (old new : Outside) → Some c ≡ o → Outcome (Answers files load_fault c) (PartAnswers files c) write_fault came old new → came ≡ status.Unread → IfSome o (λ k. load_fault ⊎ LacksRead files k)
+unread_in o c files load_fault write_fault came old new is h unread =
+    subst (λ p. IfSome p (λ k. load_fault ⊎ LacksRead files k)) is (unread_by files load_fault write_fault c came old new h unread)
+
+complete_told : (files : Option FileMap) (load_fault write_fault : Type 0) (c : Command) (came : Status) (old new : Outside) → Outcome (Answers files load_fault c) (PartAnswers files c) write_fault came old new → IfSome files (λ told. Succeeds files c → (load_fault → ⊥) → (write_fault → ⊥) → (came ≡ status.Done) ⊎ (came ≡ status.NoMemory))
+complete_told None load_fault write_fault c came old new h = tt
+complete_told (Some told) load_fault write_fault c came old new h = complete told load_fault write_fault c came old new h
+
+pub complete_in : (o : Option Command) (c : Command) (files : Option FileMap) (load_fault write_fault : Type 0) (came : Status) (old new : Outside) → Some c ≡ o → Outcome (Answers files load_fault c) (PartAnswers files c) write_fault came old new → IfSome o (λ k. IfSome files (λ told. Succeeds files k → (load_fault → ⊥) → (write_fault → ⊥) → (came ≡ status.Done) ⊎ (came ≡ status.NoMemory)))
+complete_in o c files load_fault write_fault came old new is h =
+    subst (λ p. IfSome p (λ k. IfSome files (λ told. Succeeds files k → (load_fault → ⊥) → (write_fault → ⊥) → (came ≡ status.Done) ⊎ (came ≡ status.NoMemory)))) is
+    (complete_told files load_fault write_fault c came old new h)
+
+pub usage_in : (o : Option Command) (c : Command) (files : Option FileMap) (load_fault write_fault : Type 0) (came : Status) (old new : Outside) → Some c ≡ o → Outcome (Answers files load_fault c) (PartAnswers files c) write_fault came old new → (came ≡ status.Usage → o ≡ None) × (o ≡ None → came ≡ status.Usage)
+usage_in o c files load_fault write_fault came old new is h =
+    ((λ usage. absurd (not_usage files load_fault write_fault c came old new h usage)), (λ none. absurd (cc (is, none))))

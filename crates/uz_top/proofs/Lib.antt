@@ -1,0 +1,13 @@
+pub mod TextLemmas
+pub mod EndingLemmas
+pub mod ReadingLemmas
+pub mod FaultLemmas
+pub mod CheckLemmas
+pub mod OutcomeLemmas
+pub mod ReadsLemmas
+pub mod CommandLemmas
+pub mod DisLemmas
+pub mod TraceLemmas
+pub mod TraceAnswerLemmas
+pub mod TraceSameLemmas
+pub mod AsmLemmas

@@ -1,0 +1,20 @@
+use Rattle.std.proofs.Common.{ap, subst}
+use Rattle.uz_top.specs.CommandValues.{value_of}
+use Rattle.uz_top.specs.Commands.{CreatesNone}
+use Rattle.uz_top.proofs.CommandLemmas.{outcome_at}
+use Rattle.uz_top.proofs.top.run.Goals as goal
+
+pub returns-in-Check-clause-outcome : goal.returns-in-Check-clause-outcome
+returns-in-Check-clause-outcome g c = outcome_at (value_of c.args.command.now) _ _ _ _ _ _ _ (ap value_of c.in-Check.is) c.run_check.ensures.outcome
+
+pub returns-in-Dis-clause-outcome : goal.returns-in-Dis-clause-outcome
+returns-in-Dis-clause-outcome g c = outcome_at (value_of c.args.command.now) _ _ _ _ _ _ _ (ap value_of c.in-Dis.is) c.run_dis.ensures.outcome
+
+pub returns-in-Trace-clause-outcome : goal.returns-in-Trace-clause-outcome
+returns-in-Trace-clause-outcome g c = outcome_at (value_of c.args.command.now) _ _ _ _ _ _ _ (ap value_of c.in-Trace.is) c.run_trace.ensures.outcome
+
+pub returns-in-Asm-clause-outcome : goal.returns-in-Asm-clause-outcome
+returns-in-Asm-clause-outcome g c = outcome_at (value_of c.args.command.now) _ _ _ _ _ _ _ (ap value_of c.in-Asm.is) c.run_asm.ensures
+
+pub returns-in-Asm-clause-untouched : goal.returns-in-Asm-clause-untouched
+returns-in-Asm-clause-untouched g c = λ none. absurd (subst CreatesNone (ap value_of c.in-Asm.is) none)

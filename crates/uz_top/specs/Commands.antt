@@ -1,0 +1,51 @@
+-- What each command answers, and what is asked of its files.
+use Rattle.std.specs.Prelude.{◌≡◌, ◌⊎◌, List, ℕ, Option}
+use Rattle.uz_shelf.specs.Files.{FileMap, LacksFile}
+use Rattle.uz_top.specs.Answers.{Answer, NoPart}
+use Rattle.uz_top.specs.Words.{Command, Asm, Check, Dis, Trace}
+use Rattle.uz_top.specs.TraceCommand.{TraceAnswers, TraceLacks, TraceParts, TraceSucceeds}
+use Rattle.uz_top.specs.AsmCommand.{AsmAnswers, AsmSucceeds}
+use Rattle.uz_top.specs.DisCommand.{DisAnswers, DisSucceeds}
+use Rattle.uz_top.specs.CheckCommand.{CheckAnswers, CheckLacks, CheckSucceeds, FilesCertified}
+
+-- the answer of a command, from what its files say
+abbrev pub Answers : Option FileMap → Type 0 → Command → Answer → Type 0
+Answers files load_fault (Check hex cert) answer = CheckAnswers files load_fault hex cert answer
+Answers files load_fault (Dis hex) answer = DisAnswers files load_fault hex answer
+Answers files load_fault (Asm source hex) answer = AsmAnswers files load_fault source hex answer
+Answers files load_fault (Trace hex pads irq clocks) answer = TraceAnswers files load_fault hex pads irq clocks answer
+
+-- a file that the command reads isn't there, and all earlier ones are read
+abbrev pub LacksRead : Option FileMap → Command → Type 0
+LacksRead files (Check hex cert) = CheckLacks files hex cert
+LacksRead files (Dis hex) = LacksFile files hex
+LacksRead files (Asm source hex) = LacksFile files source
+LacksRead files (Trace hex pads irq clocks) = TraceLacks files hex pads
+
+-- all that the command reads is there and in its grammar, and what it asks of it holds
+abbrev pub Succeeds : Option FileMap → Command → Type 0
+Succeeds files (Check hex cert) = CheckSucceeds files hex cert
+Succeeds files (Dis hex) = DisSucceeds files hex
+Succeeds files (Asm source hex) = AsmSucceeds files source
+Succeeds files (Trace hex pads irq clocks) = TraceSucceeds files hex pads irq clocks
+
+-- the command creates no file
+abbrev pub CreatesNone : Command → Type 0
+CreatesNone (Check hex cert) = Unit {0}
+CreatesNone (Dis hex) = Unit {0}
+CreatesNone (Asm source hex) = ⊥
+CreatesNone (Trace hex pads irq clocks) = Unit {0}
+
+-- what a command is worth where it is done
+abbrev pub Certifies : Option FileMap → Command → Type 0
+Certifies files (Check hex cert) = FilesCertified files hex cert
+Certifies files (Dis hex) = Unit {0}
+Certifies files (Asm source hex) = Unit {0}
+Certifies files (Trace hex pads irq clocks) = Unit {0}
+
+-- what a command has come to that is cut short in the midst of its work
+abbrev pub PartAnswers : Option FileMap → Command → Answer → Type 0
+PartAnswers files (Check hex cert) = NoPart
+PartAnswers files (Dis hex) = NoPart
+PartAnswers files (Asm source hex) = NoPart
+PartAnswers files (Trace hex pads irq clocks) = TraceParts files hex pads irq clocks

@@ -1,0 +1,17 @@
+pub mod Lines
+pub mod Answers
+pub mod Reading
+pub mod Words
+pub mod Endings
+pub mod ImageFile
+pub mod CertificateFile
+pub mod CheckCommand
+pub mod Commands
+pub mod CommandValues
+pub mod DisCommand
+pub mod PadFile
+pub mod TraceCommand
+pub mod TraceValues
+pub mod SourceFile
+pub mod AsmCommand
+pub mod AsmValues

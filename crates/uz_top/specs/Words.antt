@@ -1,0 +1,48 @@
+-- Which words are which command.
+use Rattle.std.specs.Prelude.{ℕ, List, [], ◌∷◌, codes, bytes_eq, Option, Some, None, if◌then◌else◌}
+use Rattle.uz_text.specs.Numbers.{number_within}
+use Rattle.uz_cert.specs.declared.kinds.Response.{Response}
+use Rattle.uz_cert.specs.declared.kinds.Response.TheVariants.{Four, Five}
+
+-- a command, with the names of its files
+pub data Command : Type 0 where
+  Check : (hex cert : List ℕ) → Command
+  Dis : (hex : List ℕ) → Command
+  Asm : (source hex : List ℕ) → Command
+  Trace : (hex pads : List ℕ) → (irq : Response) → (clocks : ℕ) → Command
+
+-- the file words of a command differ
+abbrev pub check_words : List (List ℕ) → Option Command
+check_words (hex ∷ cert ∷ []) = if bytes_eq hex cert then None else Some (Check hex cert)
+check_words other = None
+
+abbrev pub asm_words : List (List ℕ) → Option Command
+asm_words (source ∷ hex ∷ []) = if bytes_eq source hex then None else Some (Asm source hex)
+asm_words other = None
+
+abbrev pub dis_words : List (List ℕ) → Option Command
+dis_words (hex ∷ []) = Some (Dis hex)
+dis_words other = None
+
+-- the clocks of an interrupt's entry, 4 or 5
+abbrev pub response_of : List ℕ → Option Response
+response_of word = if bytes_eq word (codes "4") then Some Four else if bytes_eq word (codes "5") then Some Five else None
+
+abbrev pub trace_with : List ℕ → List ℕ → Option Response → Option ℕ → Option Command
+trace_with hex pads (Some irq) (Some clocks) = Some (Trace hex pads irq clocks)
+trace_with hex pads irq clocks = None
+
+-- the clocks are 1 to 1,000,000,000
+abbrev pub trace_words : List (List ℕ) → Option Command
+trace_words (hex ∷ pads ∷ irq ∷ clocks ∷ []) =
+    if bytes_eq hex pads then None else trace_with hex pads (response_of irq) (number_within 1 1000000001 clocks)
+trace_words other = None
+
+abbrev pub command_of : List (List ℕ) → Option Command
+command_of [] = None
+command_of (verb ∷ words) =
+    if bytes_eq verb (codes "check") then check_words words
+    else if bytes_eq verb (codes "dis") then dis_words words
+    else if bytes_eq verb (codes "asm") then asm_words words
+    else if bytes_eq verb (codes "trace") then trace_words words
+    else None

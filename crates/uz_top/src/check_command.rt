@@ -1,0 +1,58 @@
+//! `check HEX CERT`.
+
+ghost use Rattle.std.specs.Prelude.{◌≡◌, ◌≤◌, IfOk};
+ghost use Rattle.uz_cert.specs.WellFormed.{WellFormed};
+ghost use Rattle.uz_check.specs.Certified.{Certified};
+ghost use Rattle.uz_shelf.specs.Faults.{Rose};
+ghost use Rattle.uz_top.specs.CheckCommand.{CheckAnswers, FilesCertified, check_answer};
+ghost use Rattle.uz_top.specs.Endings.{Gives, answer_of};
+
+use crate::certificate_file::read_certificate;
+use crate::check_lines::{accepted, refused};
+use crate::ending::{Ending, Failure};
+use crate::image_file::read_image;
+use crate::status::Status;
+use std::alloc::{AllocError, Global};
+use uz_cert::Cert;
+use uz_check::check;
+use uz_hex::Image;
+use uz_shelf::Shelf;
+
+/// Checks a pair, and says what is printed of it.
+fn check_pair(alloc: Global, image: Image, cert: Cert) -> Result<Ending, AllocError>
+    requires { WellFormed cert }
+    ensures answer { IfOk result (λ e. answer_of e ≡ check_answer image cert) }
+    ensures certified { IfOk result (λ e. e.status ≡ Status.Done → Certified image cert) }
+{
+    match check(image, cert) {
+        Ok(pair) => Ok(Ending {
+            status: Status::Done,
+            line: accepted(alloc, pair.cert())?,
+        }),
+        Err(pair) => Ok(Ending {
+            status: Status::Refused,
+            line: refused(alloc, &pair.cert, pair.why)?,
+        }),
+    }
+}
+
+/// Reads both files in their order, and checks the pair.
+pub(crate) fn check_files<H: Shelf>(
+    alloc: Global,
+    shelf: &mut H,
+    hex: &str,
+    cert: &str,
+) -> Result<Ending, Failure>
+    ensures gives { Gives (CheckAnswers (H.files shelf.old) (Rose (H.load_faults shelf.old) (H.load_faults shelf.new)) hex.now cert.now) result }
+    ensures certified { IfOk result (λ e. e.status ≡ Status.Done → FilesCertified (H.files shelf.old) hex.now cert.now) }
+    ensures files { H.files shelf.new ≡ H.files shelf.old }
+    ensures load_faults { H.load_faults shelf.old ≤ H.load_faults shelf.new }
+    ensures write_faults { H.write_faults shelf.new ≡ H.write_faults shelf.old }
+{
+    let image = read_image(alloc, shelf, hex)?;
+    let certificate = match read_certificate(alloc, shelf, cert) {
+        Ok(certificate) => certificate,
+        Err(failure) => return Err(failure),
+    };
+    Ok(check_pair(alloc, image, certificate)?)
+}

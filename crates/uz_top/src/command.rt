@@ -1,0 +1,116 @@
+//! Which words are which command.
+
+ghost use Rattle.std.specs.Prelude.{◌≡◌, map, option_map, string_bytes};
+ghost use Rattle.uz_top.specs.CommandValues.{value_of};
+ghost use Rattle.uz_top.specs.Words.{asm_words, check_words, command_of, dis_words, response_of, trace_words};
+
+use uz_cert::Response;
+use uz_text::number_within;
+
+/// A command, with the names of its files.
+#[derive(Clone, Copy, Debug)]
+pub(crate) enum Command<'a> {
+    Check {
+        hex: &'a str,
+        cert: &'a str,
+    },
+    Dis {
+        hex: &'a str,
+    },
+    Asm {
+        source: &'a str,
+        hex: &'a str,
+    },
+    Trace {
+        hex: &'a str,
+        pads: &'a str,
+        irq: Response,
+        clocks: u32,
+    },
+}
+
+/// The command of these words, without the program's name, or `None` where they are no command.
+pub(crate) fn parse(words: &[String]) -> Option<Command<'_>>
+    ensures { option_map value_of result ≡ command_of (map string_bytes words.now) }
+{
+    let [verb, rest @ ..] = words else {
+        return None;
+    };
+    match verb.as_str() {
+        "check" => check(rest),
+        "dis" => dis(rest),
+        "asm" => asm(rest),
+        "trace" => trace(rest),
+        _ => None,
+    }
+}
+
+/// `check HEX CERT`, of two files.
+fn check(words: &[String]) -> Option<Command<'_>>
+    ensures { option_map value_of result ≡ check_words (map string_bytes words.now) }
+{
+    match words {
+        [hex, cert] if hex.as_str() != cert.as_str() => Some(Command::Check {
+            hex: hex.as_str(),
+            cert: cert.as_str(),
+        }),
+        _ => None,
+    }
+}
+
+/// `dis HEX`.
+fn dis(words: &[String]) -> Option<Command<'_>>
+    ensures { option_map value_of result ≡ dis_words (map string_bytes words.now) }
+{
+    match words {
+        [hex] => Some(Command::Dis { hex: hex.as_str() }),
+        _ => None,
+    }
+}
+
+/// The clocks of an interrupt's entry, 4 or 5.
+fn response(word: &str) -> Option<Response>
+    ensures { result ≡ response_of word.now }
+{
+    match word {
+        "4" => Some(Response::Four),
+        "5" => Some(Response::Five),
+        _ => None,
+    }
+}
+
+/// `trace HEX PADS IRQ CLOCKS`, of two files, for 1 to 1,000,000,000 clocks.
+fn trace(words: &[String]) -> Option<Command<'_>>
+    ensures { option_map value_of result ≡ trace_words (map string_bytes words.now) }
+{
+    match words {
+        [hex, pads, irq, clocks] if hex.as_str() != pads.as_str() => {
+            match (
+                response(irq.as_str()),
+                number_within(clocks.as_bytes(), 1, 1_000_000_001),
+            ) {
+                (Some(irq), Some(clocks)) => Some(Command::Trace {
+                    hex: hex.as_str(),
+                    pads: pads.as_str(),
+                    irq,
+                    clocks,
+                }),
+                _ => None,
+            }
+        }
+        _ => None,
+    }
+}
+
+/// `asm SRC HEX`, of two files.
+fn asm(words: &[String]) -> Option<Command<'_>>
+    ensures { option_map value_of result ≡ asm_words (map string_bytes words.now) }
+{
+    match words {
+        [source, hex] if source.as_str() != hex.as_str() => Some(Command::Asm {
+            source: source.as_str(),
+            hex: hex.as_str(),
+        }),
+        _ => None,
+    }
+}

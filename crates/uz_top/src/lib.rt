@@ -1,0 +1,25 @@
+//! The commands of `uzebox`: words and files in, a status, printed lines and files out.
+#![tactic(auto)]
+
+mod asm_command;
+mod certificate_file;
+mod check_command;
+mod check_lines;
+mod command;
+mod dis_command;
+mod ending;
+mod image_file;
+mod loading;
+mod pad_file;
+mod source_file;
+mod status;
+mod top;
+mod trace_command;
+mod trace_lines;
+mod trace_run;
+
+pub use status::Status;
+pub use top::uzebox;
+
+#[cfg(test)]
+mod tests;
