@@ -5,3 +5,4 @@ pub mod Cuts
 pub mod Signs
 pub mod Stacks
 pub mod SymbolMaps
+pub mod KeptValues

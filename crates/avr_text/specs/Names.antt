@@ -1,9 +1,9 @@
 -- The names that a map's entries have.
-use Rattle.std.specs.Prelude.{ℕ, ℤ, List, map, Vec}
+use Rattle.std.specs.Prelude.{◌≡◌, ℕ, ℤ, List, map, Vec, Some}
 use Rattle.std.specs.declared.alloc.Global.{Global}
 use Rattle.std.specs.Ordering.{nat_cmp}
 use Rattle.std.specs.Cmp.Lexicographic.{slice_cmp}
-use Rattle.std.specs.FinMap.{FinMap}
+use Rattle.std.specs.FinMap.{FinMap, get}
 
 -- names as lists of bytes
 abbrev pub named : List (Vec ℕ Global × ℤ) → List (List ℕ × ℤ)
@@ -12,3 +12,7 @@ named entries = map {B = List ℕ × ℤ} (λ (e : Vec ℕ Global × ℤ). (e.0.
 -- the values of names
 abbrev pub NameMap : Type 0
 NameMap = FinMap {K = List ℕ} (slice_cmp nat_cmp) ℤ
+
+-- each name that has a value keeps it
+abbrev pub Keeps : NameMap → NameMap → Type 0
+Keeps before after = (name : List ℕ) (x : ℤ) → get before name ≡ Some x → get after name ≡ Some x

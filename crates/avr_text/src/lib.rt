@@ -3,6 +3,7 @@
 
 mod arithmetic;
 mod characters;
+mod laws;
 mod lexer;
 mod numbers;
 mod operators;
@@ -14,6 +15,7 @@ mod values;
 mod waiting;
 mod words;
 
+pub use laws::value_is_kept;
 pub use lexer::lex;
 pub use reader::text_of;
 pub use symbols::Symbols;

@@ -1,0 +1,11 @@
+//! Laws of the values of expressions.
+
+ghost use Rattle.std.specs.Prelude.{◌≡◌, ℕ, ℤ, List, Option, Ok};
+ghost use Rattle.avr_text.specs.declared.tokens.Token.{Token};
+ghost use Rattle.avr_text.specs.Names.{NameMap, Keeps};
+ghost use Rattle.avr_text.specs.Reading.{value_of};
+
+/// The law that an expression's value stays where names are added and none changes its value. Does nothing.
+pub fn value_is_kept()
+    ensures { (text : List ℕ) (tokens : List Token) (symbols more : NameMap) (dot : Option ℤ) (v : ℤ) → Keeps symbols more → value_of text tokens symbols dot ≡ Ok v → value_of text tokens more dot ≡ Ok v }
+{}
