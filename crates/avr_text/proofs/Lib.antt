@@ -6,3 +6,6 @@ pub mod Signs
 pub mod Stacks
 pub mod SymbolMaps
 pub mod KeptValues
+pub mod TreesRead
+pub mod TreesFound
+pub mod MeaningsFormed

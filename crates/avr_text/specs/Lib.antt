@@ -7,3 +7,4 @@ pub mod Arithmetic
 pub mod Operators
 pub mod Reading
 pub mod Words
+pub mod Expressions

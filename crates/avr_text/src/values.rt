@@ -3,6 +3,7 @@
 ghost use Rattle.std.specs.Prelude.{◌≡◌, All, length};
 ghost use Rattle.avr_text.specs.Tokens.{Lies};
 ghost use Rattle.avr_text.specs.Reading.{value_of};
+ghost use Rattle.avr_text.specs.Expressions.{Tree, IsExpressionOf, IsExpression, FormUnless, meaning};
 
 use crate::reader::Reader;
 use crate::symbols::Symbols;
@@ -24,6 +25,18 @@ pub enum ValueWhy {
 /// A value, or why there is none.
 pub type Outcome = Result<i64, ValueWhy>;
 
+/// The value that the reader gives the tokens.
+fn read(text: &[u8], tokens: &[Token], symbols: &Symbols, dot: Option<i64>) -> Outcome
+    requires { All (Lies (length text.now)) tokens.now }
+    ensures { result ≡ value_of text.now tokens.now symbols.now dot }
+{
+    let mut reader = Reader::new();
+    for (at, token) in tokens.iter().enumerate() {
+        reader.step(text, tokens, at, *token, symbols, dot);
+    }
+    reader.finish()
+}
+
 /// The value of the expression that tokens are, with the names' values, and the value of `.` where it has one.
 ///
 /// Operators, from the loosest: `|`, `^`, `&`, `<<` `>>`, `+` `-`, `*` `/` `%`, the signs `-` `~`, and parentheses
@@ -37,10 +50,8 @@ pub fn value(
 ) -> Result<i64, ValueWhy>
     requires { All (Lies (length text.now)) tokens.now }
     ensures value { result ≡ value_of text.now tokens.now symbols.now dot }
+    ensures form { FormUnless (IsExpression text.now dot tokens.now) result }
+    ensures tree { (tree : Tree) → IsExpressionOf text.now dot tokens.now tree → result ≡ meaning symbols.now dot tree }
 {
-    let mut reader = Reader::new();
-    for (at, token) in tokens.iter().enumerate() {
-        reader.step(text, tokens, at, *token, symbols, dot);
-    }
-    reader.finish()
+    read(text, tokens, symbols, dot)
 }

@@ -1,6 +1,6 @@
 use Rattle.std.proofs.Common.{◌≡◌, drop}
 use Rattle.avr_text.specs.Reading.{run, beginning}
-use Rattle.avr_text.proofs.values.value.Given as goal
+use Rattle.avr_text.proofs.values.read.Given as goal
 
 -- the tokens that are left bring the reader where all of them do
 abbrev pub invariant-loop-at : goal.invariant-loop-at
