@@ -9,3 +9,5 @@ pub mod KeptValues
 pub mod TreesRead
 pub mod TreesFound
 pub mod MeaningsFormed
+pub mod PiecesFound
+pub mod SpansFound

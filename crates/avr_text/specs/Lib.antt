@@ -8,3 +8,4 @@ pub mod Operators
 pub mod Reading
 pub mod Words
 pub mod Expressions
+pub mod Spans

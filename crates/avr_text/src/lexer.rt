@@ -1,7 +1,8 @@
 //! Cutting a text into tokens.
 
-ghost use Rattle.std.specs.Prelude.{◌≡◌, ◌<◌, ◌-◌, ◌^◌, All, IfOk, length};
+ghost use Rattle.std.specs.Prelude.{◌≡◌, ◌<◌, ◌-◌, ◌^◌, All, IfOk, IfErr, length};
 ghost use Rattle.avr_text.specs.Tokens.{line_after as line_after_token, tokens_of, GivesTokens, Lies};
+ghost use Rattle.avr_text.specs.Spans.{IsSpelled, IsFaultOf};
 
 use crate::pieces::{Piece, piece_at};
 use crate::tokens::{LexError, Token, TokenKind};
@@ -18,11 +19,8 @@ fn line_after(kind: TokenKind, line: u32) -> u32
     }
 }
 
-/// The tokens of a text, in order: the longest word, then the next piece, and so on. Blanks (spaces,
-/// tabs, a CR right before LF) and comments from `;` to the line's end are no tokens.
-///
-/// The first fault is named, with its line.
-pub fn lex(alloc: Global, text: &[u8]) -> Result<Vec<Token>, LexError>
+/// The pieces of a text, one after another.
+fn cut(alloc: Global, text: &[u8]) -> Result<Vec<Token>, LexError>
     requires { length text.now < 2 ^ 32 - 1 }
     ensures tokens { GivesTokens result (tokens_of text.now) }
     ensures lie { IfOk result (λ v. All (Lies (length text.now)) v.items) }
@@ -49,4 +47,19 @@ pub fn lex(alloc: Global, text: &[u8]) -> Result<Vec<Token>, LexError>
         }
     }
     Ok(tokens)
+}
+
+/// The tokens of a text, in order: the longest word, then the next piece, and so on. Blanks (spaces,
+/// tabs, a CR right before LF) and comments from `;` to the line's end are no tokens: nothing else stands
+/// before, between and after the tokens.
+///
+/// The first fault is named, with its line.
+pub fn lex(alloc: Global, text: &[u8]) -> Result<Vec<Token>, LexError>
+    requires { length text.now < 2 ^ 32 - 1 }
+    ensures tokens { GivesTokens result (tokens_of text.now) }
+    ensures lie { IfOk result (λ v. All (Lies (length text.now)) v.items) }
+    ensures spelled { IfOk result (λ v. IsSpelled text.now v.items) }
+    ensures fault { IfErr result (IsFaultOf text.now) }
+{
+    cut(alloc, text)
 }

@@ -1,7 +1,7 @@
 use Rattle.std.proofs.Common.{All, length, ◌-◌, ◌≡◌, ◌+◌, ◌≤◌, drop}
 use Rattle.avr_text.specs.Tokens.{cut_from, tokens_of, Lies}
 use Rattle.avr_text.proofs.Cuts.{with_front}
-use Rattle.avr_text.proofs.lexer.lex.Given as goal
+use Rattle.avr_text.proofs.lexer.cut.Given as goal
 
 -- the tokens so far, and those of the rest
 abbrev pub invariant-loop-at : goal.invariant-loop-at
