@@ -16,11 +16,11 @@ use Rattle.avr_table.specs.Rows.{row, words_of, ReadsAt, Spells}
 use Rattle.avr_asm.specs.Codes.{field_of, place_bit, count_of, written, number_of, first_word, second_word}
 use Rattle.avr_asm.proofs.RowTests.{wanted, covered, row_tests}
 
-both : (a b : Bool) → (a && b) ≡ true → (a ≡ true) × (b ≡ true)
+pub both : (a b : Bool) → (a && b) ≡ true → (a ≡ true) × (b ≡ true)
 both true b e = (refl, e)
 both false b e = absurd cc
 
-same : (a b : ℕ) → nat_eq a b ≡ true → a ≡ b
+pub same : (a b : ℕ) → nat_eq a b ≡ true → a ≡ b
 same a b e = grind (arith, nat_tests)
 
 pow-suc : (k : ℕ) → 2 ^ suc k ≡ 2 ^ k + 2 ^ k
@@ -36,7 +36,7 @@ top (suc b) zero y v P hb hd hy hv e = let z : b ≡ 0 = omega arith in let p : 
 top (suc b) (suc d) y v P hb hd hy hv e = let z : b ≡ d = omega arith in let p : suc b * P ≡ suc d * P = ap (λ x. suc x * P) z in (ap suc z, omega (arith, p))
 
 -- the number of a letter, with places counted by recursion
-spelt : ℕ → List ℕ → ℕ → ℕ
+unfoldable pub spelt : ℕ → List ℕ → ℕ → ℕ
 spelt c [] n = 0
 spelt c (d ∷ ds) n = cond (nat_eq d c) (bit_at n (length ds) * 2 ^ count_of c ds + spelt c ds n) (spelt c ds n)
 
@@ -51,7 +51,7 @@ spelt-lt c [] n = omega arith
 spelt-lt c (d ∷ ds) n = step-lt (nat_eq d c) (bit_at n (length ds)) (spelt c ds n) (count_of c ds) (bit_at-lt n (length ds)) (spelt-lt c ds n)
 
 -- a number's lowest 1 + k bits are those of b and x
-parts_of : (v b k x : ℕ) → b < 2 → x < 2 ^ k → v % 2 ^ (1 + k) ≡ b * 2 ^ k + x → (bit_at v k ≡ b) × (v % 2 ^ k ≡ x)
+pub parts_of : (v b k x : ℕ) → b < 2 → x < 2 ^ k → v % 2 ^ (1 + k) ≡ b * 2 ^ k + x → (bit_at v k ≡ b) × (v % 2 ^ k ≡ x)
 parts_of v b k x hb hx e =
     let low : v % 2 ^ k < 2 ^ k = mod-lt v (pow_pos k) in
     let cut : v % 2 ^ (1 + k) ≡ v / 2 ^ k % 2 * 2 ^ k + v % 2 ^ k = mod-pow-add v 1 k in
@@ -96,7 +96,7 @@ eq_turned a b = by_case (nat_eq a b) refl
 count_is : (c : ℕ) (ds : List ℕ) → count_of c ds ≡ count_by (nat_eq c) ds
 count_is c ds = is_count_by (count_of c) (nat_eq c) refl (λ x xs. ap (λ t. cond t (1 + count_of c xs) (count_of c xs)) (eq_turned x c)) ds
 
-spelled_is : (c : ℕ) (p : List ℕ) (n : ℕ) → spelled c p n ≡ spelt c p n
+pub spelled_is : (c : ℕ) (p : List ℕ) (n : ℕ) → spelled c p n ≡ spelt c p n
 unfolding spelled spelt
 spelled_is c [] n = refl
 spelled_is c (d ∷ ds) n =
@@ -159,10 +159,10 @@ zero_low c n (d ∷ ds) e =
     chosen true x y e f = omega arith
     chosen false x y e f = f
 
-dashes : ℕ → List ℕ
+unfoldable pub dashes : ℕ → List ℕ
 dashes k = replicate k 45
 
-dashes-length : (k : ℕ) → length (dashes k) ≡ k
+pub dashes-length : (k : ℕ) → length (dashes k) ≡ k
 unfolding dashes
 dashes-length k = length-replicate k 45
 

@@ -5,3 +5,17 @@ pub mod CodeLemmas
 pub mod EmissionLemmas
 pub mod LineLemmas
 pub mod RowTests
+pub mod RowFields
+pub mod WrittenReads
+pub mod OutcomeLemmas
+pub mod LinePuts
+pub mod Decoding
+pub mod LaidLines
+pub mod DecodedItems
+pub mod WordCounts
+pub mod LineEnds
+pub mod EntryLists
+pub mod MadeMaps
+pub mod KeptEffects
+pub mod Statements
+pub mod OneAssembly

@@ -6,7 +6,10 @@ pub mod Faults
 pub mod Fields
 pub mod Hints
 pub mod Instructions
+pub mod Items
 pub mod Layout
+pub mod LineOutputs
 pub mod Lines
 pub mod Mnemonics
 pub mod Operands
+pub mod Relation

@@ -4,6 +4,9 @@ ghost use Rattle.std.specs.Prelude.{◌≡◌, ◌<◌, ◌≤◌, ◌-◌, ◌+
 ghost use Rattle.avr_asm.specs.Faults.{Gives};
 ghost use Rattle.avr_asm.specs.Operands.{AllLie, EachLies};
 ghost use Rattle.avr_asm.specs.Layout.{EachShort, GivesLayout};
+ghost use Rattle.uz_hex.specs.Cells.{IsFlash};
+ghost use Rattle.avr_asm.specs.Items.{IsDecoded, IsInFlash};
+ghost use Rattle.avr_asm.specs.Relation.{IsAssembly};
 ghost use Rattle.avr_asm.specs.Assembly.{seen_built, with_instruction, with_data, with_hint, with_directive, with_action, with_line, following as following_address, output_from, nothing, assembly};
 
 use crate::directives::Directive;
@@ -15,7 +18,7 @@ use crate::lines::{Action, action_of, arguments_of, body_of, content_of, lines_o
 use crate::operands::Operands;
 use crate::output::{Built, Placed};
 use avr_table::Instr;
-use avr_text::{Symbols, Token};
+use avr_text::{Symbols, Token, value_is_kept};
 use std::alloc::Global;
 use uz_hex::Image;
 
@@ -206,7 +209,8 @@ fn put_lines(
     requires few { length lines.now < 2 ^ 32 - 1 }
     requires same { length addresses.now ≡ length lines.now }
     requires below { All (λ a. a ≤ 65536) addresses.now }
-    ensures { GivesLayout seen_built result (output_from 1 symbols.now nothing (mapped (λ line. line.now) lines.now) addresses.now) }
+    ensures built { GivesLayout seen_built result (output_from 1 symbols.now nothing (mapped (λ line. line.now) lines.now) addresses.now) }
+    ensures flash { IfOk result (λ built. IsFlash built.image) }
 {
     let mut built = Built {
         image: Image::empty(alloc)?,
@@ -235,17 +239,35 @@ fn put_lines(
             return Err(AsmError { line: number, why });
         }
     }
+    built.image.is_flash();
     Ok(built)
 }
 
-/// Assembles a source.
+/// What a source assembles to by its definition.
 #[tactic(auto, using(crate::proofs::LineLemmas::each_short, crate::proofs::LineLemmas::few_lines))]
-pub fn assemble(alloc: Global, text: &[u8]) -> Result<Built, AsmError>
+fn assemble_lines(alloc: Global, text: &[u8]) -> Result<Built, AsmError>
     requires { length text.now < 2 ^ 32 - 1 }
     ensures built { GivesLayout seen_built result (assembly text.now) }
+    ensures flash { IfOk result (λ built. IsFlash built.image) }
 {
     let lines = lines_of(alloc, text)?;
     let lines = lines.as_slice();
     let (addresses, symbols) = lay_out(alloc, lines)?;
     put_lines(alloc, lines, addresses.as_slice(), &symbols)
+}
+
+/// Assembles a source.
+pub fn assemble(alloc: Global, text: &[u8]) -> Result<Built, AsmError>
+    requires { length text.now < 2 ^ 32 - 1 }
+    ensures built { GivesLayout seen_built result (assembly text.now) }
+
+    // What stands in the image at each item's address is the item's instruction, and all of it lies in the flash.
+    ensures decodes { IfOk result (λ built. All (IsDecoded built.image) built.items.items) }
+    ensures in_flash { IfOk result (λ built. All IsInFlash built.items.items) }
+
+    // Without the passes: each line's address, the symbols, the image, the items and the hints.
+    ensures relation { IfOk result (λ built. IsAssembly text.now (seen_built built)) }
+{
+    value_is_kept();
+    assemble_lines(alloc, text)
 }

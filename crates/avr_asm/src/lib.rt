@@ -9,6 +9,7 @@ mod fields;
 mod first_pass;
 mod hints;
 mod instructions;
+mod laws;
 mod layout;
 mod lines;
 mod mnemonics;
@@ -18,4 +19,5 @@ mod pointers;
 
 pub use assembler::assemble;
 pub use faults::{AsmError, AsmWhy};
+pub use laws::assembly_is_unique;
 pub use output::{Built, Hint, Placed};

@@ -4,8 +4,8 @@ use Rattle.avr_asm.proofs.LayoutLemmas.{or_fault}
 use Rattle.avr_asm.proofs.AssemblyLemmas.{output_more, output_fault, output_end}
 use Rattle.avr_asm.proofs.assembler.put_lines.Goals as goal
 
-pub returns-in-Err-put_line : goal.returns-in-Err-put_line
-returns-in-Err-put_line c = or_fault c.in-Err-put_line.ensures (λ e.
+pub returns-in-Err-put_line-clause-built : goal.returns-in-Err-put_line-clause-built
+returns-in-Err-put_line-clause-built c = or_fault c.in-Err-put_line.ensures (λ e.
     sym c.loop-i.invariant.left
     ∙ output_fault c.args.symbols.now (seen_built c.loop-i.built) c.args.lines.now c.args.addresses.now c.loop-i.i _ c.in-Ok-following_line.next c.in-Err-put_line.why c.loop-i-test.true c.requires.same c.in-Ok-following_line.ensures e)
 
@@ -18,5 +18,5 @@ loop-i-preserved c = record {
       ∙ c.loop-i.invariant.left;
 }
 
-pub returns : goal.returns
-returns c = sym c.loop-i.invariant.left ∙ output_end (c.loop-i.i + 1) c.args.symbols.now (seen_built c.loop-i.built) c.args.lines.now c.args.addresses.now c.loop-i.i (omega arith)
+pub returns-clause-built : goal.returns-clause-built
+returns-clause-built c = sym c.loop-i.invariant.left ∙ output_end (c.loop-i.i + 1) c.args.symbols.now (seen_built c.loop-i.built) c.args.lines.now c.args.addresses.now c.loop-i.i (omega arith)

@@ -1,0 +1,5 @@
+use Rattle.avr_asm.proofs.OneAssembly.{one_assembly}
+use Rattle.avr_asm.proofs.laws.assembly_is_unique.Goals as goal
+
+pub returns : goal.returns
+returns c = one_assembly
