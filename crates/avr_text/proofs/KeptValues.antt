@@ -18,10 +18,11 @@ use Rattle.avr_text.specs.declared.tokens.TokenKind.TheVariants.{Name, Number, M
 use Rattle.avr_text.specs.declared.tokens.Token.{Token}
 use Rattle.avr_text.specs.declared.values.ValueWhy.TheVariants.{Form}
 use Rattle.avr_text.specs.Arithmetic.{Outcome}
-use Rattle.avr_text.specs.Names.{NameMap, Keeps}
+use Rattle.avr_text.specs.Names.{NameMap, Keeps, known}
 use Rattle.avr_text.specs.Operators.{level_of, applied_to, combined, binary_of, sign_value, sign_applied, bracket_value, bracket_applied}
 use Rattle.avr_text.specs.Tokens.{text_of}
-use Rattle.avr_text.specs.Reading.{signed, reduced, bracket_word, known, word_or_value, mark_operand, kind_operand, in_mode, beginning, opened, closed_at, closed, operand_step, waits, waiting, is_mark_of, operator_or_none, operator_step, bracket_step, step_in, step, run, finished_in, value_of}
+use Rattle.avr_text.specs.Words.{bracket_word}
+use Rattle.avr_text.specs.Reading.{signed, reduced, word_or_value, mark_operand, kind_operand, in_mode, beginning, opened, closed_at, closed, operand_step, waits, waiting, is_mark_of, operator_or_none, operator_step, bracket_step, step_in, step, run, finished_in, value_of}
 
 -- a number that is found stays
 abbrev pub Stays : Outcome → Outcome → Type 0

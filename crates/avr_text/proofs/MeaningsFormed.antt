@@ -12,9 +12,9 @@ use Rattle.avr_text.specs.declared.tokens.TokenKind.TheVariants.{Name, Number, M
 use Rattle.avr_text.specs.declared.tokens.Token.{Token}
 use Rattle.avr_text.specs.declared.values.ValueWhy.TheVariants.{Form, Unknown, Overflow, ZeroDivisor}
 use Rattle.avr_text.specs.Arithmetic.{Outcome, fits, checked, is_zero, with_count, negated_of, complement_of}
-use Rattle.avr_text.specs.Names.{NameMap}
+use Rattle.avr_text.specs.Names.{NameMap, known}
 use Rattle.avr_text.specs.Operators.{applied_to, combined, sign_value, sign_applied, bracket_applied}
-use Rattle.avr_text.specs.Reading.{known, value_of}
+use Rattle.avr_text.specs.Reading.{value_of}
 use Rattle.avr_text.specs.Expressions.{Tree, Spells, spells_number, spells_name, spells_dot, spells_sign, spells_bracket, spells_binary, dot_value, meaning, FormUnless, IsExpression}
 use Rattle.avr_text.proofs.TreesRead.{reads_whole}
 use Rattle.avr_text.proofs.TreesFound.{tree_found}

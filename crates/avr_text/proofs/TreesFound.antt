@@ -19,10 +19,11 @@ use Rattle.avr_text.specs.declared.tokens.TokenKind.TheVariants.{Name, Number, M
 use Rattle.avr_text.specs.declared.tokens.Token.{Token}
 use Rattle.avr_text.specs.declared.values.ValueWhy.TheVariants.{Form}
 use Rattle.avr_text.specs.Arithmetic.{Outcome}
-use Rattle.avr_text.specs.Names.{NameMap}
+use Rattle.avr_text.specs.Names.{NameMap, known}
 use Rattle.avr_text.specs.Operators.{level_of, combined, binary_of, is_sign}
 use Rattle.avr_text.specs.Tokens.{text_of}
-use Rattle.avr_text.specs.Reading.{reduced, bracket_word, known, word_or_value, dot_operand, kind_operand, operand_of, in_mode, beginning, opened, closed_at, closed, operand_step, waits, is_mark_of, operator_or_none, operator_step, bracket_step, step_in, step, run, emptied, finished_in, value_of}
+use Rattle.avr_text.specs.Words.{bracket_word}
+use Rattle.avr_text.specs.Reading.{reduced, word_or_value, dot_operand, kind_operand, operand_of, in_mode, beginning, opened, closed_at, closed, operand_step, waits, is_mark_of, operator_or_none, operator_step, bracket_step, step_in, step, run, emptied, finished_in, value_of}
 use Rattle.avr_text.specs.Expressions.{Tree, number_tree, name_tree, dot_tree, sign_tree, bracket_tree, binary_tree, Opens, opens_plain, opens_word, Spells, spells_number, spells_name, spells_dot, spells_sign, spells_bracket, spells_binary}
 use Rattle.avr_text.proofs.TreesRead.{Below, level_least, level_most}
 

@@ -21,10 +21,10 @@ use Rattle.avr_text.specs.declared.tokens.TokenKind.{TokenKind}
 use Rattle.avr_text.specs.declared.tokens.TokenKind.TheVariants.{Name, Number, Mark, ShiftLeft, ShiftRight, LineEnd}
 use Rattle.avr_text.specs.declared.tokens.Token.{Token}
 use Rattle.avr_text.specs.Arithmetic.{Outcome}
-use Rattle.avr_text.specs.Names.{NameMap}
+use Rattle.avr_text.specs.Names.{NameMap, known}
 use Rattle.avr_text.specs.Operators.{level_of, combined, binary_mark, binary_of, is_sign, bracket_applied}
 use Rattle.avr_text.specs.Tokens.{text_of}
-use Rattle.avr_text.specs.Reading.{signed, reduced, known, word_or_value, dot_operand, kind_operand, operand_of, beginning, opened, closed_at, closed, operand_step, waits, is_mark_of, operator_or_none, operator_step, bracket_step, run, emptied, finished, value_of}
+use Rattle.avr_text.specs.Reading.{signed, reduced, word_or_value, dot_operand, kind_operand, operand_of, beginning, opened, closed_at, closed, operand_step, waits, is_mark_of, operator_or_none, operator_step, bracket_step, run, emptied, finished, value_of}
 use Rattle.avr_text.specs.Expressions.{Tree, number_tree, name_tree, dot_tree, sign_tree, bracket_tree, binary_tree, Opens, opens_plain, opens_word, Spells, spells_number, spells_name, spells_dot, spells_sign, spells_bracket, spells_binary, dot_value, meaning}
 use Rattle.avr_text.proofs.Signs.{signed_more}
 

@@ -1,7 +1,8 @@
 -- The expressions that tokens spell, as trees, and what a tree means.
 --
--- The grammar is that of C's operators (ISO/IEC 9899, 6.5, from the multiplicative to the inclusive OR operators, in
--- its order of precedence, each from left to right) on this project's tokens, with lo8(..) and hi8(..). Parentheses lie at most 32 deep.
+-- The grammar is that of C's operators (ISO/IEC 9899, 6.5: the signs - and ~, and the operators from the multiplicative
+-- ones to the inclusive OR, in its order of precedence, each from left to right) on this project's tokens, with lo8(..)
+-- and hi8(..). Parentheses lie at most 32 deep.
 use Rattle.std.specs.Prelude.{◌≡◌, ◌≢◌, ◌⊎◌, ℕ, suc, ◌<◌, ◌≤◌, true, ℤ, List, [], ◌∷◌, ◌++◌, Option, Some, None, Ok, Err}
 use Rattle.std.specs.FinMap as map
 use Rattle.avr_text.specs.declared.operators.Binary.{Binary}
@@ -12,11 +13,12 @@ use Rattle.avr_text.specs.declared.tokens.TokenKind.TheVariants.{Name, Number, M
 use Rattle.avr_text.specs.declared.tokens.Token.{Token}
 use Rattle.avr_text.specs.declared.values.ValueWhy.TheVariants.{Form}
 use Rattle.avr_text.specs.Arithmetic.{Outcome}
-use Rattle.avr_text.specs.Names.{NameMap}
+use Rattle.avr_text.specs.Names.{NameMap, known}
 use Rattle.avr_text.specs.Operators.{level_of, combined, binary_of, is_sign, sign_applied, bracket_applied}
-use Rattle.avr_text.specs.Reading.{bracket_word, known}
+use Rattle.avr_text.specs.Words.{bracket_word}
 use Rattle.avr_text.specs.Tokens.{text_of}
 
+-- a number, a name, `.`, a sign before an operand, parentheses (with lo8, hi8 or neither before them), an operator between operands
 pub data Tree : Type 0 where
   number_tree : ℤ → Tree
   name_tree : List ℕ → Tree
@@ -31,7 +33,8 @@ pub data Opens (text : List ℕ) : List Token → Bracket → Type 0 where
   opens_word : {word mark : Token} {bracket : Bracket} → word.kind ≡ Name → bracket_word (text_of text word) ≡ Some bracket → mark.kind ≡ Mark 40 → Opens text (word ∷ mark ∷ []) bracket
 
 -- Tokens that lie inside so many parentheses spell a tree, whose operators outside of further parentheses bind at
--- least as tightly as a level. The right operand binds more tightly than its operator, so chains go from left to right.
+-- least as tightly as a level: at level 1 any may stand there, at level 7 none. The right operand binds more tightly
+-- than its operator, so chains go from left to right.
 pub data Spells (text : List ℕ) (dot : Option ℤ) : ℕ → ℕ → List Token → Tree → Type 0 where
   spells_number : {depth level : ℕ} {t : Token} {n : ℤ} → t.kind ≡ Number n → Spells text dot depth level (t ∷ []) (number_tree n)
   spells_name : {depth level : ℕ} {t : Token} → t.kind ≡ Name → bracket_word (text_of text t) ≡ None → Spells text dot depth level (t ∷ []) (name_tree (text_of text t))

@@ -2,10 +2,10 @@ pub mod Characters
 pub mod Numbers
 pub mod Pieces
 pub mod Tokens
+pub mod Words
 pub mod Names
 pub mod Arithmetic
 pub mod Operators
 pub mod Reading
-pub mod Words
 pub mod Expressions
 pub mod Spans

@@ -1,9 +1,11 @@
 -- The names that a map's entries have.
-use Rattle.std.specs.Prelude.{◌≡◌, ℕ, ℤ, List, map, Vec, Some}
+use Rattle.std.specs.Prelude.{◌≡◌, ℕ, ℤ, List, map, Vec, Option, Some, None, Ok, Err}
 use Rattle.std.specs.declared.alloc.Global.{Global}
 use Rattle.std.specs.Ordering.{nat_cmp}
 use Rattle.std.specs.Cmp.Lexicographic.{slice_cmp}
 use Rattle.std.specs.FinMap.{FinMap, get}
+use Rattle.avr_text.specs.declared.values.ValueWhy.TheVariants.{Unknown}
+use Rattle.avr_text.specs.Arithmetic.{Outcome}
 
 -- names as lists of bytes
 abbrev pub named : List (Vec ℕ Global × ℤ) → List (List ℕ × ℤ)
@@ -12,6 +14,11 @@ named entries = map {B = List ℕ × ℤ} (λ (e : Vec ℕ Global × ℤ). (e.0.
 -- the values of names
 abbrev pub NameMap : Type 0
 NameMap = FinMap {K = List ℕ} (slice_cmp nat_cmp) ℤ
+
+-- the value of a name, where it has one
+abbrev pub known : Option ℤ → Outcome
+known None = Err Unknown
+known (Some x) = Ok x
 
 -- each name that has a value keeps it
 abbrev pub Keeps : NameMap → NameMap → Type 0

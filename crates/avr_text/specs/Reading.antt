@@ -2,12 +2,12 @@
 --
 -- Two stacks of the trade in one: operators wait with their left operand until one comes that binds no tighter, and
 -- parentheses until they are closed. The signs before an operand are named by the places of their tokens.
-use Rattle.std.specs.Prelude.{ℕ, ◌+◌, ◌-◌, ◌==◌, ◌||◌, nat_le, Bool, false, ℤ, List, [], ◌∷◌, length, codes, Option, Some, None, Ok, Err, if◌then◌else◌}
+use Rattle.std.specs.Prelude.{ℕ, ◌+◌, ◌-◌, ◌==◌, ◌||◌, nat_le, Bool, false, ℤ, List, [], ◌∷◌, length, Option, Some, None, Ok, Err, if◌then◌else◌}
 use Rattle.std.specs.List.{slice_range}
 use Rattle.std.specs.FinMap as map
 use Rattle.avr_text.specs.declared.operators.Binary.{Binary}
 use Rattle.avr_text.specs.declared.operators.Bracket.{Bracket}
-use Rattle.avr_text.specs.declared.operators.Bracket.TheVariants.{Plain, Low, High}
+use Rattle.avr_text.specs.declared.operators.Bracket.TheVariants.{Plain}
 use Rattle.avr_text.specs.declared.waiting.Entry.{Entry}
 use Rattle.avr_text.specs.declared.waiting.Entry.TheVariants.{Waiting, Open}
 use Rattle.avr_text.specs.declared.reader.Operand.{Operand}
@@ -19,12 +19,12 @@ use Rattle.avr_text.specs.declared.reader.Reader.{Reader}
 use Rattle.avr_text.specs.declared.tokens.TokenKind.{TokenKind}
 use Rattle.avr_text.specs.declared.tokens.TokenKind.TheVariants.{Name, Number, Mark}
 use Rattle.avr_text.specs.declared.tokens.Token.{Token}
-use Rattle.avr_text.specs.declared.values.ValueWhy.TheVariants.{Form, Unknown}
+use Rattle.avr_text.specs.declared.values.ValueWhy.TheVariants.{Form}
 use Rattle.avr_text.specs.Arithmetic.{Outcome}
-use Rattle.avr_text.specs.Names.{NameMap}
+use Rattle.avr_text.specs.Names.{NameMap, known}
 use Rattle.avr_text.specs.Operators.{level_of, combined, binary_of, is_sign, sign_applied, bracket_applied}
 use Rattle.avr_text.specs.Tokens.{text_of}
-use Rattle.avr_text.specs.Words.{is_word_named}
+use Rattle.avr_text.specs.Words.{bracket_word}
 
 -- signs before an operand: the last one is applied first
 abbrev pub signed : List Token → Outcome → Outcome
@@ -38,15 +38,6 @@ reduced level value (Open bracket from at ∷ entries) = (value, Open bracket fr
 reduced level value (Waiting left operator ∷ entries) =
     if nat_le level (level_of operator) then reduced level (combined operator left value) entries
     else (value, Waiting left operator ∷ entries)
-
--- lo8 and hi8, in either case
-abbrev pub bracket_word : List ℕ → Option Bracket
-bracket_word word = if is_word_named word (codes "lo8") then Some Low else if is_word_named word (codes "hi8") then Some High else None
-
--- the value of a name
-abbrev pub known : Option ℤ → Outcome
-known None = Err Unknown
-known (Some x) = Ok x
 
 abbrev pub word_or_value : Option Bracket → Outcome → Operand
 word_or_value None value = Value value
