@@ -11,3 +11,4 @@ pub mod TreesFound
 pub mod MeaningsFormed
 pub mod PiecesFound
 pub mod SpansFound
+pub mod SpelledCut

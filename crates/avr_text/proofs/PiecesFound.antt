@@ -26,20 +26,20 @@ ends_cons b bs = sum_by-cons (λ x. cond (x == 10) 1 0) b bs
 pub ends_append : (xs ys : List ℕ) → ends (xs ++ ys) ≡ ends xs + ends ys
 ends_append xs ys = sum_by-append (λ x. cond (x == 10) 1 0) xs ys
 
-quiet_byte : (b : ℕ) (bs : List ℕ) → (b == 10) ≡ false → ends bs ≡ 0 → ends (b ∷ bs) ≡ 0
+pub quiet_byte : (b : ℕ) (bs : List ℕ) → (b == 10) ≡ false → ends bs ≡ 0 → ends (b ∷ bs) ≡ 0
 quiet_byte b bs e f = ends_cons b bs ∙ ap (λ t. cond t 1 0 + ends bs) e ∙ omega arith
 
-quiet : (test : ℕ → Bool) → ((b : ℕ) → test b ≡ true → (b == 10) ≡ false) → (bs : List ℕ) → Each test bs → ends bs ≡ 0
+pub quiet : (test : ℕ → Bool) → ((b : ℕ) → test b ≡ true → (b == 10) ≡ false) → (bs : List ℕ) → Each test bs → ends bs ≡ 0
 quiet test h [] k = refl
 quiet test h (b ∷ bs) k = quiet_byte b bs (h b k.0) (quiet test h bs k.1)
 
-word_is_quiet : (b : ℕ) → is_word b ≡ true → (b == 10) ≡ false
+pub word_is_quiet : (b : ℕ) → is_word b ≡ true → (b == 10) ≡ false
 word_is_quiet b h = grind (arith, nat_tests)
 
-line_is_quiet : (b : ℕ) → goes_on_line b ≡ true → (b == 10) ≡ false
+pub line_is_quiet : (b : ℕ) → goes_on_line b ≡ true → (b == 10) ≡ false
 line_is_quiet b h = grind (arith, nat_tests)
 
-blank_is_quiet : (b : ℕ) → is_blank b ≡ true → (b == 10) ≡ false
+pub blank_is_quiet : (b : ℕ) → is_blank b ≡ true → (b == 10) ≡ false
 blank_is_quiet b h = grind (arith, nat_tests)
 
 -- the front of a list that passes a test
@@ -82,7 +82,7 @@ PieceSays (piece.Token kind n) bytes = TokenSays kind n bytes
 PieceSays (piece.Fault why) bytes = FaultAt why bytes
 
 -- a word
-same_line : (line n : ℕ) → n ≡ 0 → line ≡ line + n
+pub same_line : (line n : ℕ) → n ≡ 0 → line ≡ line + n
 same_line line n e = omega arith
 
 number_says : (bytes word after : List ℕ) (o : Option ℕ) → bytes ≡ word ++ after → IsWord word after → is_digit (slice_index word 0) ≡ true → number_of word ≡ o → PieceSays (number_piece (length word) o) bytes

@@ -11,6 +11,8 @@ use Rattle.avr_text.specs.declared.pieces.Piece.TheVariants as piece
 use Rattle.avr_text.specs.declared.tokens.TokenKind.{TokenKind}
 use Rattle.avr_text.specs.declared.tokens.Token.{Token}
 use Rattle.avr_text.specs.declared.tokens.LexError.{LexError}
+use Rattle.avr_text.specs.declared.tokens.LexWhy.{LexWhy}
+use Rattle.avr_text.specs.declared.tokens.LexWhy.TheVariants.{Memory}
 use Rattle.avr_text.specs.Pieces.{piece_at}
 use Rattle.avr_text.specs.Tokens.{Cut, with_first, line_after, cut_from, tokens_of, GivesTokens}
 use Rattle.avr_text.specs.Spans.{IsGap, gap_none, IsSpelling, line_of, IsNext, SpelledTo, IsSpelled, HasFault, IsFaultOf}
@@ -18,7 +20,7 @@ use Rattle.avr_text.proofs.Cuts.{cut_gap, cut_token, cut_fault, cut_end}
 use Rattle.avr_text.proofs.PiecesFound.{ends, ends_append, PieceSays, piece_says}
 
 module _ (text : List ℕ) where
-  past_bytes : (at : ℕ) (word after : List ℕ) → drop at text ≡ word ++ after → drop (at + length word) text ≡ after
+  pub past_bytes : (at : ℕ) (word after : List ℕ) → drop at text ≡ word ++ after → drop (at + length word) text ≡ after
   past_bytes at word after e = sym (drop-drop (length word) at text) ∙ ap (drop (length word)) e ∙ drop-append_seam word after
 
   word_there : (at : ℕ) (word after : List ℕ) → drop at text ≡ word ++ after → take (length word) (drop at text) ≡ word
@@ -33,7 +35,7 @@ module _ (text : List ℕ) where
       let m : length (drop at text) ≡ length word + length after = ap length e ∙ length-append word after in
       omega arith
 
-  line_past : (at : ℕ) (word after : List ℕ) → drop at text ≡ word ++ after → line_of text (at + length word) ≡ line_of text at + ends word
+  pub line_past : (at : ℕ) (word after : List ℕ) → drop at text ≡ word ++ after → line_of text (at + length word) ≡ line_of text at + ends word
   line_past at word after e =
       let n : ends (take (at + length word) text) ≡ ends (take at text) + ends word =
       ap ends (take-add at (length word) text ∙ ap (λ w. take at text ++ w) (word_there at word after e)) ∙ ends_append (take at text) word in
@@ -129,7 +131,7 @@ module _ (text : List ℕ) where
         why = says;
       })
 
-  says_there : (at : ℕ) (bs : List ℕ) → drop at text ≡ bs → at < length text → PieceSays (piece_at (drop at text)) (drop at text)
+  pub says_there : (at : ℕ) (bs : List ℕ) → drop at text ≡ bs → at < length text → PieceSays (piece_at (drop at text)) (drop at text)
   says_there at [] e h = absurd (let n = length-drop at text in let m : length (drop at text) ≡ 0 = ap length e in omega arith)
   says_there at (b ∷ us) e h = subst (λ bs. PieceSays (piece_at bs) bs) (sym e) (piece_says b us)
 
@@ -149,7 +151,11 @@ pub given_spelled : (text : List ℕ) (r : Result (Vec Token Global) LexError) �
 given_spelled text (Ok v) e = subst (CutSays text 0) e (cut_says text)
 given_spelled text (Err fault) g = tt
 
-pub given_fault : (text : List ℕ) (r : Result (Vec Token Global) LexError) → GivesTokens r (tokens_of text) → IfErr r (IsFaultOf text)
-given_fault text (Ok v) e = tt
-given_fault text (Err fault) (inl e) = inl e
-given_fault text (Err fault) (inr e) = inr (subst (CutSays text 0) e (cut_says text))
+pub given_fault : (text : List ℕ) (r : Result (Vec Token Global) LexError) → IfErr r (λ e. e.why ≡ Memory → e.line ≡ 0) → GivesTokens r (tokens_of text) → IfErr r (IsFaultOf text)
+given_fault text (Ok v) m e = tt
+given_fault text (Err fault) m (inl e) = inl (e, m e)
+given_fault text (Err fault) m (inr e) = inr (subst (CutSays text 0) e (cut_says text))
+
+-- no piece is a fault for want of memory
+pub not_memory : (text : List ℕ) (at : ℕ) (why : LexWhy) → at < length text → piece_at (drop at text) ≡ piece.Fault why → ¬ (why ≡ Memory)
+not_memory text at why h e m = subst (λ p. PieceSays p (drop at text)) (e ∙ ap (λ w. piece.Fault w) m) (says_there text at (drop at text) refl h)

@@ -85,6 +85,6 @@ pub record HasFault (text : List ℕ) (at : ℕ) (fault : LexError) : Type 0 whe
   pub line : fault.line ≡ line_of text place
   pub why : FaultAt fault.why (drop place text)
 
--- the first fault of a text, unless memory ran out
+-- the first fault of a text, unless memory ran out: then the line is 0
 abbrev pub IsFaultOf : List ℕ → LexError → Type 0
-IsFaultOf text fault = (fault.why ≡ lex_why.Memory) ⊎ HasFault text 0 fault
+IsFaultOf text fault = ((fault.why ≡ lex_why.Memory) × (fault.line ≡ 0)) ⊎ HasFault text 0 fault

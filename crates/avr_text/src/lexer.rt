@@ -1,7 +1,9 @@
 //! Cutting a text into tokens.
 
-ghost use Rattle.std.specs.Prelude.{◌≡◌, ◌<◌, ◌-◌, ◌^◌, All, IfOk, IfErr, length};
+ghost use Rattle.std.specs.Prelude.{◌≡◌, ◌<◌, ◌-◌, ◌^◌, List, Ok, All, IfOk, IfErr, length};
 ghost use Rattle.avr_text.specs.Tokens.{line_after as line_after_token, tokens_of, GivesTokens, Lies};
+ghost use Rattle.avr_text.specs.declared.tokens.Token.{Token};
+ghost use Rattle.avr_text.specs.declared.tokens.LexWhy.TheVariants.{Memory};
 ghost use Rattle.avr_text.specs.Spans.{IsSpelled, IsFaultOf};
 
 use crate::pieces::{Piece, piece_at};
@@ -24,6 +26,7 @@ fn cut(alloc: Global, text: &[u8]) -> Result<Vec<Token>, LexError>
     requires { length text.now < 2 ^ 32 - 1 }
     ensures tokens { GivesTokens result (tokens_of text.now) }
     ensures lie { IfOk result (λ v. All (Lies (length text.now)) v.items) }
+    ensures memory { IfErr result (λ e. e.why ≡ Memory → e.line ≡ 0) }
 {
     let mut tokens = Vec::new(alloc);
     let mut line = 1;
@@ -59,6 +62,7 @@ pub fn lex(alloc: Global, text: &[u8]) -> Result<Vec<Token>, LexError>
     ensures tokens { GivesTokens result (tokens_of text.now) }
     ensures lie { IfOk result (λ v. All (Lies (length text.now)) v.items) }
     ensures spelled { IfOk result (λ v. IsSpelled text.now v.items) }
+    ensures only { (tokens : List Token) → IsSpelled text.now tokens → GivesTokens result (Ok tokens) }
     ensures fault { IfErr result (IsFaultOf text.now) }
 {
     cut(alloc, text)

@@ -56,7 +56,7 @@ impl From<AllocError> for LexError {
     ghost use Rattle.std.specs.Prelude.{◌≡◌};
     ghost use Rattle.avr_text.specs.declared.tokens.LexWhy.TheVariants.{Memory};
 
-    ghost from_gives = { λ _ e. e.why ≡ Memory };
+    ghost from_gives = { λ _ e. (e.why ≡ Memory) × (e.line ≡ 0) };
 
     fn from(_e: AllocError) -> LexError {
         LexError {
@@ -70,7 +70,7 @@ impl<T: Drop> From<AllocFailed<T>> for LexError {
     ghost use Rattle.std.specs.Prelude.{◌≡◌};
     ghost use Rattle.avr_text.specs.declared.tokens.LexWhy.TheVariants.{Memory};
 
-    ghost from_gives = { λ _ e. e.why ≡ Memory };
+    ghost from_gives = { λ _ e. (e.why ≡ Memory) × (e.line ≡ 0) };
 
     fn from(_e: AllocFailed<T>) -> LexError {
         LexError {

@@ -3,6 +3,7 @@ use Rattle.avr_text.specs.Pieces.{piece_at}
 use Rattle.std.proofs.lemmas.List.Elements.{All-nil, All-cons, All-append}
 use Rattle.avr_text.specs.Tokens.{cut_from, tokens_of, Lies}
 use Rattle.avr_text.proofs.Cuts.{with_front, with_front_none, cut_gap, cut_fault, line_after-≤, token_more, whole}
+use Rattle.avr_text.proofs.SpansFound.{not_memory}
 use Rattle.avr_text.proofs.lexer.cut.Goals as goal
 
 pub loop-at-init : goal.loop-at-init
@@ -44,7 +45,7 @@ loop-at-preserved c =
 pub returns-in-Fault : goal.returns-in-Fault
 returns-in-Fault c =
     let there = ap piece_at (sym c.split_at.ensures.back) ∙ sym c.in-Fault.ensures.piece in
-    record { lie = tt; tokens = inr (sym c.loop-at.invariant.left ∙ ap (with_front c.loop-at.tokens.items) (cut_fault c.args.text.now c.loop-at.at c.loop-at.line c.in-Fault.why c.loop-at-test.true there)) }
+    record { lie = tt; memory = λ m. absurd (not_memory c.args.text.now c.loop-at.at c.in-Fault.why c.loop-at-test.true there m); tokens = inr (sym c.loop-at.invariant.left ∙ ap (with_front c.loop-at.tokens.items) (cut_fault c.args.text.now c.loop-at.at c.loop-at.line c.in-Fault.why c.loop-at-test.true there)) }
 
 pub returns : goal.returns
-returns c = record { lie = c.loop-at.invariant.lie; tokens = sym c.loop-at.invariant.left ∙ whole c.loop-at.tokens.items c.args.text.now c.loop-at.at c.loop-at.line (omega arith) }
+returns c = record { lie = c.loop-at.invariant.lie; memory = tt; tokens = sym c.loop-at.invariant.left ∙ whole c.loop-at.tokens.items c.args.text.now c.loop-at.at c.loop-at.line (omega arith) }
