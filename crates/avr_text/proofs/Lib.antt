@@ -12,3 +12,4 @@ pub mod MeaningsFormed
 pub mod PiecesFound
 pub mod SpansFound
 pub mod SpelledCut
+pub mod TreesAlone

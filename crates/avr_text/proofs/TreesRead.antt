@@ -39,10 +39,10 @@ below_more level more [] h k = tt
 below_more level more (Waiting value operator ∷ entries) h k = omega arith
 below_more level more (Open bracket from at ∷ entries) h k = tt
 
-not_le : (k n : ℕ) → n < k → nat_le k n ≡ false
+pub not_le : (k n : ℕ) → n < k → nat_le k n ≡ false
 not_le k n h = grind (arith, nat_tests)
 
-is_le : (k n : ℕ) → k ≤ n → nat_le k n ≡ true
+pub is_le : (k n : ℕ) → k ≤ n → nat_le k n ≡ true
 is_le k n h = grind (arith, nat_tests)
 
 pub stays_put : (k : ℕ) (v : Outcome) (entries : List Entry) → Below k entries → reduced k v entries ≡ (v, entries)
@@ -106,7 +106,7 @@ mark_41 b op h = go (b == 41) refl
     go false e = e
     go true e = let is : b ≡ 41 = grind (arith, nat_tests) in let no : None ≡ Some op = subst (λ n. binary_mark n ≡ Some op) is h in absurd cc
 
-not_closing : (kind : TokenKind) (op : Binary) → binary_of kind ≡ Some op → is_mark_of 41 kind ≡ false
+pub not_closing : (kind : TokenKind) (op : Binary) → binary_of kind ≡ Some op → is_mark_of 41 kind ≡ false
 not_closing (Mark b) op h = mark_41 b op h
 not_closing Name op h = refl
 not_closing (Number n) op h = refl

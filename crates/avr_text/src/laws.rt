@@ -4,8 +4,14 @@ ghost use Rattle.std.specs.Prelude.{◌≡◌, ℕ, ℤ, List, Option, Ok};
 ghost use Rattle.avr_text.specs.declared.tokens.Token.{Token};
 ghost use Rattle.avr_text.specs.Names.{NameMap, Keeps};
 ghost use Rattle.avr_text.specs.Reading.{value_of};
+ghost use Rattle.avr_text.specs.Expressions.{Tree, IsExpressionOf};
 
 /// The law that an expression's value stays where names are added and none changes its value. Does nothing.
 pub fn value_is_kept()
     ensures { (text : List ℕ) (tokens : List Token) (symbols more : NameMap) (dot : Option ℤ) (v : ℤ) → Keeps symbols more → value_of text tokens symbols dot ≡ Ok v → value_of text tokens more dot ≡ Ok v }
+{}
+
+/// The law that tokens spell at most one expression. Does nothing.
+pub fn one_expression()
+    ensures { (text : List ℕ) (tokens : List Token) (dot : Option ℤ) (x y : Tree) → IsExpressionOf text dot tokens x → IsExpressionOf text dot tokens y → x ≡ y }
 {}
