@@ -26,7 +26,7 @@ keys_push : {K X : Type 0} (es : List (K × X)) (k : K) (v : X) → keys_of (es 
 keys_push [] k v = refl
 keys_push (e ∷ es) k v = ap (λ ks. e.0 ∷ ks) (keys_push es k v)
 
-key_at : {K X : Type 0} (es : List (K × X)) (i : ℕ) (d : K × X) → get_or (keys_of es) i d.0 ≡ (get_or es i d).0
+pub key_at : {K X : Type 0} (es : List (K × X)) (i : ℕ) (d : K × X) → get_or (keys_of es) i d.0 ≡ (get_or es i d).0
 key_at [] i d = refl
 key_at (e ∷ es) zero d = refl
 key_at (e ∷ es) (suc i) d = key_at es i d
@@ -36,7 +36,7 @@ keys_len [] = refl
 keys_len (e ∷ es) = ap suc (keys_len es)
 
 module _ {K X : Type 0} (R : K → K → Ordering) where
-  looked_up : (q : K) (es : List (K × X)) → find R q es ≡ lookup (eq_by_cmp R q) es
+  pub looked_up : (q : K) (es : List (K × X)) → find R q es ≡ lookup (eq_by_cmp R q) es
   looked_up q [] = refl
   looked_up q (e ∷ es) = ap (cond (eq_by_cmp R q e.0) (Some e.1)) (looked_up q es)
 
@@ -56,7 +56,7 @@ module _ {K X : Type 0} (R : K → K → Ordering) where
       by_case true rest m = absurd cc
       by_case false rest m = rest m
 
-same_key : {K : Type 0} {R : K → K → Ordering} → IsAntisymmetric R → (x y : K) → eq_by_cmp R x y ≡ true → x ≡ y
+pub same_key : {K : Type 0} {R : K → K → Ordering} → IsAntisymmetric R → (x y : K) → eq_by_cmp R x y ≡ true → x ≡ y
 same_key {R = R} exact x y e = exact x y (equal_of (R x y) e)
 
 module _ {K X : Type 0} {R : K → K → Ordering} (o : IsTotalOrder R) (exact : IsAntisymmetric R) where

@@ -18,4 +18,4 @@ pub mod EntryLists
 pub mod MadeMaps
 pub mod KeptEffects
 pub mod Statements
-pub mod OneAssembly
+pub mod ExactAssembly

@@ -1,5 +1,5 @@
 -- A line's end: the address after it is as many bytes further on as it puts out.
-use Rattle.std.proofs.Common.{◌≡◌, ℕ, suc, ◌+◌, ◌*◌, ◌%◌, Bool, true, false, ◌&&◌, not, cond, List, [], ◌∷◌, ◌++◌, length, nat_lt, nat_le, refl, sym, ◌∙◌, ap, subst, arith, ◌≢◌}
+use Rattle.std.proofs.Common.{◌≡◌, ℕ, suc, ◌+◌, ◌*◌, ◌%◌, ◌<◌, ◌≤◌, Bool, true, false, ◌&&◌, not, cond, List, [], ◌∷◌, ◌++◌, length, nat_lt, nat_le, refl, sym, ◌∙◌, ap, subst, arith, ◌≢◌}
 use Rattle.std.specs.Prelude.{Option, None, Ok, Err, ◌==◌, ℤ, pos, unsigned_abs}
 use Rattle.std.proofs.lemmas.Bool.Decides.{nat_tests}
 use Rattle.std.proofs.lemmas.List.{length-append}
@@ -101,23 +101,43 @@ take_end n even address next e = by_case (nat_lt 0 n && nat_lt 65536 (address + 
     by_case false true e' = absurd cc
     by_case false false e' = ok_same (address + n) next e'
 
+-- the address after a line, and that its bytes end within the flash
+abbrev EndsAt : Effect → ℕ → ℕ → List ℕ → Type 0
+EndsAt effect address next bytes = (end_by effect address bytes ≡ next) × (0 < length bytes → address + length bytes ≤ 65536)
+
 abbrev TakesNone : Effect → Type 0
 TakesNone (Take n even) = ⊥
 TakesNone effect = Unit {0}
 
-none_end : (effect : Effect) (address next : ℕ) (bytes : List ℕ) → TakesNone effect → bytes ≡ [] → placed effect address ≡ Ok next → end_by effect address bytes ≡ next
-none_end Nothing address next bytes t b e = ap (λ xs. address + length xs) b ∙ omega (arith, ok_same address next e)
-none_end (Move to) address next bytes t b e = ok_same to next e
-none_end (Define value) address next bytes t b e = ap (λ xs. address + length xs) b ∙ omega (arith, ok_same address next e)
-none_end (Take n even) address next bytes t b e = absurd t
-none_end Wrong address next bytes t b e = absurd cc
+none_ends : (effect : Effect) (address next : ℕ) (bytes : List ℕ) → TakesNone effect → bytes ≡ [] → placed effect address ≡ Ok next → end_by effect address bytes ≡ next
+none_ends Nothing address next bytes t b e = ap (λ xs. address + length xs) b ∙ omega (arith, ok_same address next e)
+none_ends (Move to) address next bytes t b e = ok_same to next e
+none_ends (Define value) address next bytes t b e = ap (λ xs. address + length xs) b ∙ omega (arith, ok_same address next e)
+none_ends (Take n even) address next bytes t b e = absurd t
+none_ends Wrong address next bytes t b e = absurd cc
 
-some_end : (effect : Effect) (n : ℕ) (even : Bool) (address next : ℕ) (bytes : List ℕ) → Take n even ≡ effect → length bytes ≡ n → placed effect address ≡ Ok next → end_by effect address bytes ≡ next
+none_end : (effect : Effect) (address next : ℕ) (bytes : List ℕ) → TakesNone effect → bytes ≡ [] → placed effect address ≡ Ok next → EndsAt effect address next bytes
+none_end effect address next bytes t b e = (none_ends effect address next bytes t b e, λ some. absurd (let none : length bytes ≡ 0 = ap length b in omega (arith, none, some)))
+
+take_within : (n : ℕ) (even : Bool) (address next : ℕ) → placed (Take n even) address ≡ Ok next → 0 < n → address + n ≤ 65536
+take_within n even address next e some = by_case (nat_lt 65536 (address + n)) (even && not (address % 2 == 0)) refl (ap (λ t. cond (t && nat_lt 65536 (address + n)) (Err why.Past) (cond (even && not (address % 2 == 0)) (Err why.Directive) (Ok (address + n)))) (sym is_some) ∙ e)
+  where
+    is_some : nat_lt 0 n ≡ true
+    is_some = grind (arith, nat_tests)
+
+    by_case : (past odd : Bool) → nat_lt 65536 (address + n) ≡ past → cond (true && past) (Err why.Past) (cond odd (Err why.Directive) (Ok (address + n))) ≡ Ok next → address + n ≤ 65536
+    by_case true odd is e' = absurd cc
+    by_case false odd is e' = grind (arith, nat_tests)
+
+some_end : (effect : Effect) (n : ℕ) (even : Bool) (address next : ℕ) (bytes : List ℕ) → Take n even ≡ effect → length bytes ≡ n → placed effect address ≡ Ok next → EndsAt effect address next bytes
 some_end effect n even address next bytes is size e =
-    subst (λ f. end_by f address bytes ≡ next) is (ap (λ k. address + k) size ∙ take_end n even address next (ap (λ f. placed f address) is ∙ e))
+    let at : placed (Take n even) address ≡ Ok next = ap (λ f. placed f address) is ∙ e in (
+      subst (λ f. end_by f address bytes ≡ next) is (ap (λ k. address + k) size ∙ take_end n even address next at),
+      λ some. subst (λ k. address + k ≤ 65536) (sym size) (take_within n even address next at (subst (λ k. 0 < k) size some)),
+    )
 
 -- data takes its bytes, or its line has the wrong operands
-shaped_end : (shape even : Bool) (n : ℕ) (effect : Effect) (address next : ℕ) (bytes : List ℕ) → ◌≡◌ {A = Outcome Effect} (cond shape (Ok (Take n even)) (Ok Wrong)) (Ok effect) → length bytes ≡ n → placed effect address ≡ Ok next → end_by effect address bytes ≡ next
+shaped_end : (shape even : Bool) (n : ℕ) (effect : Effect) (address next : ℕ) (bytes : List ℕ) → ◌≡◌ {A = Outcome Effect} (cond shape (Ok (Take n even)) (Ok Wrong)) (Ok effect) → length bytes ≡ n → placed effect address ≡ Ok next → EndsAt effect address next bytes
 shaped_end true even n effect address next bytes is size e = some_end effect n even address next bytes (ok_same (Take n even) effect is) size e
 shaped_end false even n effect address next bytes is size e = let no : placed Wrong address ≡ Ok next = ap (λ f. placed f address) (ok_same Wrong effect is) ∙ e in absurd cc
 
@@ -151,7 +171,7 @@ hint_empty : (o : Outcome (Option Hint)) (out : LineOutput) → mapped o hint_ou
 hint_empty o out e = let it = made o hint_output out e in sym (ap (λ (p : LineOutput). p.bytes) it.2)
 
 directive_end : (d : Directive) (line : List ℕ) (known symbols : NameMap) (arguments : List Token) (parts : List (List Token)) (follows : Bool) (address following next : ℕ) (effect : Effect) (out : LineOutput)
-    → directive_effect d line known arguments parts follows ≡ Ok effect → directive_output d line symbols following parts ≡ Ok out → placed effect address ≡ Ok next → end_by effect address out.bytes ≡ next
+    → directive_effect d line known arguments parts follows ≡ Ok effect → directive_output d line symbols following parts ≡ Ok out → placed effect address ≡ Ok next → EndsAt effect address next out.bytes
 directive_end directive.Org line known symbols arguments parts follows address following next effect out is puts e = none_end effect address next out.bytes (org_none line known parts effect is) (hint_empty (hint_of directive.Org line symbols parts following) out puts) e
 directive_end directive.Equ line known symbols arguments parts follows address following next effect out is puts e = none_end effect address next out.bytes (equ_none line known arguments effect is) (hint_empty (hint_of directive.Equ line symbols parts following) out puts) e
 directive_end directive.Db line known symbols arguments parts follows address following next effect out is puts e =
@@ -167,7 +187,7 @@ directive_end directive.Cell line known symbols arguments parts follows address 
 directive_end directive.Fact line known symbols arguments parts follows address following next effect out is puts e = none_end effect address next out.bytes (shaped_none (has_shape directive.Fact line parts follows) effect is) (hint_empty (hint_of directive.Fact line symbols parts following) out puts) e
 
 pub line_end : (a : Action) (line : List ℕ) (known symbols : NameMap) (arguments : List Token) (parts : List (List Token)) (follows : Bool) (address following next : ℕ) (effect : Effect) (out : LineOutput)
-    → effect_of a line known arguments parts follows ≡ Ok effect → action_output a line symbols address following parts ≡ Ok out → placed effect address ≡ Ok next → end_by effect address out.bytes ≡ next
+    → effect_of a line known arguments parts follows ≡ Ok effect → action_output a line symbols address following parts ≡ Ok out → placed effect address ≡ Ok next → EndsAt effect address next out.bytes
 line_end action.Empty line known symbols arguments parts follows address following next effect out is puts e =
     none_end effect address next out.bytes (subst TakesNone (ok_same Nothing effect is) tt) (sym (ap (λ (p : LineOutput). p.bytes) (ok_same no_output out puts))) e
 line_end action.Unknown line known symbols arguments parts follows address following next effect out is puts e = absurd cc

@@ -39,12 +39,19 @@ chain_at : (symbols : NameMap) (front before : List Statement) (s : Statement) (
 chain_at symbols front [] s after c = subst (λ f. IsStatement symbols f s after) (sym (append-nil front)) c.0
 chain_at symbols front (b ∷ bs) s after c = subst (λ f. IsStatement symbols f s after) (append_assoc front (b ∷ []) bs) (chain_at symbols (front ++ b ∷ []) bs s after c.1)
 
+pub chain_from : (symbols : NameMap) (front ss : List Statement) → ((b : List Statement) (s : Statement) (a : List Statement) → ss ≡ b ++ s ∷ a → IsStatement symbols (front ++ b) s a) → Chain symbols front ss
+chain_from symbols front [] h = tt
+chain_from symbols front (s ∷ ss) h = (
+  subst (λ f. IsStatement symbols f s ss) (append-nil front) (h [] s ss refl),
+  chain_from symbols (front ++ s ∷ []) ss (λ b t a e. subst (λ f. IsStatement symbols f t a) (sym (append_assoc front (s ∷ []) b)) (h (s ∷ b) t a (ap (λ xs. s ∷ xs) e))),
+)
+
 -- one more statement
 definitions_more : (before : List Statement) (s : Statement) → definitions_of (before ++ s ∷ []) ≡ definitions_of before ++ definitions_in s
 definitions_more [] s = append-nil (definitions_in s)
 definitions_more (b ∷ bs) s = ap (λ ds. definitions_in b ++ ds) (definitions_more bs s) ∙ sym (append_assoc (definitions_in b) (definitions_of bs) (definitions_in s))
 
-definitions_append : (xs ys : List Statement) → definitions_of (xs ++ ys) ≡ definitions_of xs ++ definitions_of ys
+pub definitions_append : (xs ys : List Statement) → definitions_of (xs ++ ys) ≡ definitions_of xs ++ definitions_of ys
 definitions_append [] ys = refl
 definitions_append (x ∷ xs) ys = ap (λ ds. definitions_in x ++ ds) (definitions_append xs ys) ∙ sym (append_assoc (definitions_in x) (definitions_of xs) (definitions_of ys))
 
@@ -54,7 +61,7 @@ names_append xs ys = ap (λ ds. predefined_names ++ ds) (definitions_append xs y
 pub names_more : (before : List Statement) (s : Statement) → names_of before ++ definitions_in s ≡ names_of (before ++ s ∷ [])
 names_more before s = append_assoc predefined_names (definitions_of before) (definitions_in s) ∙ ap (λ ds. predefined_names ++ ds) (sym (definitions_more before s))
 
-bytes_more : (before : List Statement) (s : Statement) → bytes_of before ++ bytes_from s.address s.output.bytes ≡ bytes_of (before ++ s ∷ [])
+pub bytes_more : (before : List Statement) (s : Statement) → bytes_of before ++ bytes_from s.address s.output.bytes ≡ bytes_of (before ++ s ∷ [])
 bytes_more [] s = sym (append-nil (bytes_from s.address s.output.bytes))
 bytes_more (b ∷ bs) s = append_assoc (bytes_from b.address b.output.bytes) (bytes_of bs) (bytes_from s.address s.output.bytes) ∙ ap (λ ds. bytes_from b.address b.output.bytes ++ ds) (bytes_more bs s)
 
@@ -92,7 +99,7 @@ tokens_put line symbols address next tokens o is e = sym (ap (λ (c : Outcome (L
 ended : (follows : Bool) (line : List ℕ) (place next : Place) (all : NameMap) (after : ℕ) (l : LaidLine follows line place next) (o : LineOutput) → tokens_output line all place.address after l.tokens ≡ Ok o → end_by l.effect place.address o.bytes ≡ next.address
 unfolding effect_in
 ended follows line place next all after l o e =
-    line_end (action_of line (body_of l.tokens)) line place.symbols all (arguments_in line l.tokens) (parts_of (arguments_in line l.tokens)) follows place.address after next.address l.effect o l.is_effect e l.is_placed
+    (line_end (action_of line (body_of l.tokens)) line place.symbols all (arguments_in line l.tokens) (parts_of (arguments_in line l.tokens)) follows place.address after next.address l.effect o l.is_effect e l.is_placed).0
 
 free_append : (xs ys : List (List ℕ × ℤ)) → AreFree xs → AreFree ys → AreFree (xs ++ ys)
 free_append [] ys f g = g

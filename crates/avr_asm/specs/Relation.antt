@@ -93,16 +93,21 @@ abbrev pub hints_of : List Statement → List Hint
 hints_of [] = []
 hints_of (s ∷ statements) = hint_list s.output.hint ++ hints_of statements
 
--- A statement between those before it and those after it: the names of its `.org` or `.equ` are defined before it; all
--- values are by all names; a `.fact` speaks of the first instruction line after it. Its bytes end within the flash, an
--- instruction stands at an even address, and a directive has its operands.
+-- a statement between those before it and those after it
 pub record IsStatement (symbols : NameMap) (before : List Statement) (s : Statement) (after : List Statement) : Type 0 where
+  -- lines count from 1
   pub numbered : s.number ≡ length before + 1
+  -- it stands where those before it end
   pub located : s.address ≡ end_of 0 before
+  -- its tokens are its line's
   pub read : content_of s.source ≡ Ok s.tokens
+  -- the names of its `.org` or `.equ` are defined before it
   pub known : effect_in s.source (from_entries (names_of before)) (list_any is_instruction_line (map (λ t. t.source) after)) s.tokens ≡ Ok s.effect
+  -- and its value is that by all names
   pub does : effect_in s.source symbols (list_any is_instruction_line (map (λ t. t.source) after)) s.tokens ≡ Ok s.effect
+  -- its bytes end within the flash, an instruction stands at an even address, and a directive has its operands
   pub fits : placed s.effect s.address ≡ Ok (end_by s.effect s.address s.output.bytes)
+  -- what it puts out is by the values of all names; a `.fact` speaks of the first instruction line after it
   pub puts : tokens_output s.source symbols s.address (following (map (λ t. t.source) after) (map (λ t. t.address) after)) s.tokens ≡ Ok s.output
 
 -- each of some statements is one, wherever they are cut
@@ -113,10 +118,14 @@ AreStatements symbols statements = (before : List Statement) (s : Statement) (af
 pub record IsAssembly (text : List ℕ) (built : Output) : Type 0 where
   pub statements : List Statement
   pub symbols : NameMap
+  -- the statements are the lines, in order
   pub sources : map (λ s. s.source) statements ≡ lines_of text
   pub meanings : AreStatements symbols statements
+  -- the symbols are the predefined names, the labels and the `.equ` names, each defined once
   pub names : IsMapOf symbols (names_of statements)
+  -- none that a line defines is a register's or a pointer's
   pub free : All (λ entry. is_reserved entry.0 ≡ false) (definitions_of statements)
+  -- the image holds the statements' bytes, no two at one address, and nothing else
   pub image : IsMapOf built.image (bytes_of statements)
   pub items : built.items ≡ items_of statements
   pub hints : built.hints ≡ hints_of statements

@@ -1,13 +1,13 @@
 //! The second pass over the lines, and the whole.
 
-ghost use Rattle.std.specs.Prelude.{◌≡◌, ◌<◌, ◌≤◌, ◌-◌, ◌+◌, ◌^◌, All, IfOk, OnOk, MatchResult, length, drop, map as mapped};
+ghost use Rattle.std.specs.Prelude.{◌≡◌, ◌<◌, ◌≤◌, ◌-◌, ◌+◌, ◌^◌, All, IfOk, OnOk, MatchResult, Ok, length, drop, map as mapped};
 ghost use Rattle.avr_asm.specs.Faults.{Gives};
 ghost use Rattle.avr_asm.specs.Operands.{AllLie, EachLies};
 ghost use Rattle.avr_asm.specs.Layout.{EachShort, GivesLayout};
 ghost use Rattle.uz_hex.specs.Cells.{IsFlash};
 ghost use Rattle.avr_asm.specs.Items.{IsDecoded, IsInFlash};
 ghost use Rattle.avr_asm.specs.Relation.{IsAssembly};
-ghost use Rattle.avr_asm.specs.Assembly.{seen_built, with_instruction, with_data, with_hint, with_directive, with_action, with_line, following as following_address, output_from, nothing, assembly};
+ghost use Rattle.avr_asm.specs.Assembly.{Output, seen_built, with_instruction, with_data, with_hint, with_directive, with_action, with_line, following as following_address, output_from, nothing, assembly};
 
 use crate::directives::Directive;
 use crate::emission::{byte_data, code_of, put, word_data};
@@ -265,8 +265,10 @@ pub fn assemble(alloc: Global, text: &[u8]) -> Result<Built, AsmError>
     ensures decodes { IfOk result (λ built. All (IsDecoded built.image) built.items.items) }
     ensures in_flash { IfOk result (λ built. All IsInFlash built.items.items) }
 
-    // Without the passes: each line's address, the symbols, the image, the items and the hints.
+    // Without the passes: each line's address, the symbols, the image, the items and the hints. Where some output is the
+    // source's by this relation, it is what comes, unless memory runs out.
     ensures relation { IfOk result (λ built. IsAssembly text.now (seen_built built)) }
+    ensures complete { (out : Output) → IsAssembly text.now out → GivesLayout seen_built result (Ok out) }
 {
     value_is_kept();
     assemble_lines(alloc, text)

@@ -19,5 +19,5 @@ mod pointers;
 
 pub use assembler::assemble;
 pub use faults::{AsmError, AsmWhy};
-pub use laws::assembly_is_unique;
+pub use laws::{assembly_is_exact, assembly_is_unique};
 pub use output::{Built, Hint, Placed};

@@ -1,4 +1,5 @@
 use Rattle.avr_asm.proofs.DecodedItems.{decoded_built, in_flash_built}
+use Rattle.avr_asm.proofs.ExactAssembly.{complete_built}
 use Rattle.avr_asm.proofs.Statements.{relation_built}
 use Rattle.avr_asm.proofs.assembler.assemble.Goals as goal
 
@@ -10,3 +11,6 @@ returns-clause-in_flash c = in_flash_built c.args.text.now c.assemble_lines.resu
 
 pub returns-clause-relation : goal.returns-clause-relation
 returns-clause-relation c = relation_built c.value_is_kept.ensures c.args.text.now c.assemble_lines.result c.assemble_lines.ensures.built
+
+pub returns-clause-complete : goal.returns-clause-complete
+returns-clause-complete c = complete_built c.args.text.now c.assemble_lines.result c.assemble_lines.ensures.built

@@ -1,4 +1,4 @@
-use Rattle.avr_asm.proofs.OneAssembly.{one_assembly}
+use Rattle.avr_asm.proofs.ExactAssembly.{one_assembly}
 use Rattle.avr_asm.proofs.laws.assembly_is_unique.Goals as goal
 
 pub returns : goal.returns

@@ -1,0 +1,5 @@
+use Rattle.avr_asm.proofs.ExactAssembly.{exact_assembly}
+use Rattle.avr_asm.proofs.laws.assembly_is_exact.Goals as goal
+
+pub returns : goal.returns
+returns c = exact_assembly
