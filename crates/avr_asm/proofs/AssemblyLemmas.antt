@@ -3,8 +3,8 @@ use Rattle.std.proofs.Common.{◌≡◌, ℕ, zero, suc, ◌+◌, ◌/◌, ◌<�
 use Rattle.std.specs.Prelude.{Ok, Err}
 use Rattle.std.proofs.lemmas.List.{drop_all}
 use Rattle.avr_text.specs.Names.{NameMap}
-use Rattle.avr_asm.specs.declared.faults.AsmWhy.{AsmWhy}
-use Rattle.avr_asm.specs.Faults.{Outcome}
+use Rattle.avr_operands.specs.declared.faults.AsmWhy.{AsmWhy}
+use Rattle.avr_operands.specs.Faults.{Outcome}
 use Rattle.avr_asm.specs.Layout.{is_instruction_line}
 use Rattle.avr_asm.specs.Assembly.{Output, following, at_line, output_from, with_line}
 

@@ -5,8 +5,8 @@ use Rattle.std.specs.FinMap as finite
 use Rattle.std.proofs.lemmas.Bool.Decides.{nat_tests}
 use Rattle.avr_text.specs.declared.tokens.Token.{Token}
 use Rattle.avr_text.specs.Names.{NameMap}
-use Rattle.avr_asm.specs.declared.faults.AsmWhy.TheVariants.{Past, Overlap}
-use Rattle.avr_asm.specs.Faults.{Outcome}
+use Rattle.avr_operands.specs.declared.faults.AsmWhy.TheVariants.{Past, Overlap}
+use Rattle.avr_operands.specs.Faults.{Outcome}
 use Rattle.avr_asm.specs.Emission.{data_value, with_number, data_from, put, Flash}
 
 part_there : (ls : List (Bor (List Token))) (i : ℕ) (d : Bor (List Token)) → i < length ls → get_or (map (λ l. l.now) ls) i [] ≡ (get_or ls i d).now

@@ -15,13 +15,13 @@ use Rattle.std.proofs.lemmas.Map.Views.{Contains-from_lookup}
 use Rattle.avr_text.specs.declared.tokens.Token.{Token}
 use Rattle.avr_text.specs.Names.{NameMap}
 use Rattle.avr_asm.specs.declared.faults.AsmError.{AsmError}
-use Rattle.avr_asm.specs.declared.faults.AsmWhy.TheVariants as why
+use Rattle.avr_operands.specs.declared.faults.AsmWhy.TheVariants as why
 use Rattle.avr_asm.specs.declared.first_pass.Effect.{Effect}
 use Rattle.avr_asm.specs.declared.first_pass.Effect.TheVariants.{Nothing, Move, Define, Take, Wrong}
 use Rattle.avr_asm.specs.declared.layout.Place.{Place}
 use Rattle.avr_asm.specs.declared.output.Built.{Built}
 use Rattle.avr_asm.specs.Emission.{Flash, put}
-use Rattle.avr_asm.specs.Faults.{Outcome, ◌>>=◌}
+use Rattle.avr_operands.specs.Faults.{Outcome, ◌>>=◌}
 use Rattle.avr_asm.specs.Hints.{mapped}
 use Rattle.avr_asm.specs.Layout.{is_reserved, defined, with_symbols, labelled, named, at_address, placed, applied, arguments_in, effect_in, after_line, is_instruction_line, with_address, at_line as at_laid, layout_from, layout_of, start, GivesLayout}
 use Rattle.avr_asm.specs.Lines.{lines_of, label_of, first_text, body_of, action_of, parts_of}

@@ -5,9 +5,9 @@ use Rattle.std.specs.List.{list_any}
 use Rattle.std.proofs.lemmas.List.{drop_all, append-nil}
 use Rattle.std.proofs.lemmas.Bool.Decides.{nat_tests}
 use Rattle.avr_asm.specs.declared.faults.AsmError.{AsmError}
-use Rattle.avr_asm.specs.declared.faults.AsmWhy.{AsmWhy}
+use Rattle.avr_operands.specs.declared.faults.AsmWhy.{AsmWhy}
 use Rattle.avr_asm.specs.declared.layout.Place.{Place}
-use Rattle.avr_asm.specs.Faults.{Outcome}
+use Rattle.avr_operands.specs.Faults.{Outcome}
 use Rattle.avr_asm.specs.Layout.{Layout, with_address, at_line, layout_from, after_line, is_instruction_line, IsLast}
 
 -- addresses in front of those of a layout

@@ -1,4 +1,3 @@
-pub mod FieldLemmas
 pub mod LayoutLemmas
 pub mod AssemblyLemmas
 pub mod CodeLemmas

@@ -11,7 +11,7 @@ use Rattle.avr_text.specs.Names.{NameMap}
 use Rattle.avr_text.specs.Reading.{is_mark_of}
 use Rattle.avr_asm.specs.declared.directives.Directive.{Directive}
 use Rattle.avr_asm.specs.declared.directives.Directive.TheVariants as directive
-use Rattle.avr_asm.specs.declared.faults.AsmWhy.TheVariants as why
+use Rattle.avr_operands.specs.declared.faults.AsmWhy.TheVariants as why
 use Rattle.avr_asm.specs.declared.first_pass.Effect.{Effect}
 use Rattle.avr_asm.specs.declared.first_pass.Effect.TheVariants.{Nothing, Move, Define, Take, Wrong}
 use Rattle.avr_asm.specs.declared.lines.Action.{Action}
@@ -19,14 +19,14 @@ use Rattle.avr_asm.specs.declared.lines.Action.TheVariants as action
 use Rattle.avr_asm.specs.declared.output.Hint.{Hint}
 use Rattle.avr_asm.specs.Codes.{first_word, second_word}
 use Rattle.avr_asm.specs.Emission.{bytes_of_number, data_value, with_number, data_from, padded, padded_outcome, byte_data, word_data, word_bytes, instruction_bytes}
-use Rattle.avr_asm.specs.Faults.{Outcome}
+use Rattle.avr_operands.specs.Faults.{Outcome}
 use Rattle.avr_asm.specs.Hints.{hint_of, mapped}
-use Rattle.avr_asm.specs.Instructions.{instruction_of}
+use Rattle.avr_operands.specs.Instructions.{instruction_of}
 use Rattle.avr_asm.specs.Layout.{has_shape, moved, set, org_effect, equ_effect, directive_effect, effect_of, placed}
 use Rattle.avr_asm.specs.LineOutputs.{LineOutput, no_output, instruction_output, data_output, hint_output, directive_output, action_output}
 use Rattle.avr_asm.specs.Lines.{is_name}
-use Rattle.avr_asm.specs.Mnemonics.{words_of}
-use Rattle.avr_asm.specs.Operands.{number, expression}
+use Rattle.avr_operands.specs.Mnemonics.{words_of}
+use Rattle.avr_operands.specs.Operands.{number, expression}
 use Rattle.avr_asm.specs.Relation.{end_by}
 use Rattle.avr_asm.proofs.OutcomeLemmas.{ok_same, made}
 use Rattle.avr_asm.proofs.WordCounts.{instruction_words}

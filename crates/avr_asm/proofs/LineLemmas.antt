@@ -7,7 +7,7 @@ use Rattle.avr_text.specs.declared.tokens.Token.{Token}
 use Rattle.avr_text.specs.Tokens.{Lies}
 use Rattle.avr_asm.specs.Lines.{goes_on, lines_of, onto_first, first_len, is_comma, parts_of}
 use Rattle.avr_asm.specs.Layout.{EachShort}
-use Rattle.avr_asm.specs.Operands.{AllLie, EachLies}
+use Rattle.avr_operands.specs.Operands.{AllLie, EachLies}
 
 -- one that passes more, and the first that doesn't
 pub passes_more : (p : Token → Bool) (xs : List Token) (n : ℕ) (d : Token) → n < length xs → p (get_or xs n d) ≡ true → prefix_len p (drop n xs) ≡ 1 + prefix_len p (drop (n + 1) xs)

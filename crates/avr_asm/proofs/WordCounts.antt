@@ -7,19 +7,19 @@ use Rattle.avr_table.specs.declared.Instr.{Instr}
 use Rattle.avr_table.specs.declared.Instr.TheVariants as i
 use Rattle.avr_table.specs.Rows.{words_of as words}
 use Rattle.avr_text.specs.declared.tokens.Token.{Token}
-use Rattle.avr_asm.specs.declared.instructions.Forms.{Forms}
-use Rattle.avr_asm.specs.declared.instructions.Forms.TheVariants.{Zero, One, Two, Load, Store, LoadDisplaced, StoreDisplaced, ProgramMemory}
-use Rattle.avr_asm.specs.declared.mnemonics.Mnemonic.{Mnemonic}
-use Rattle.avr_asm.specs.declared.mnemonics.Mnemonic.TheVariants as m
-use Rattle.avr_asm.specs.declared.pointers.Pointer.{Pointer}
-use Rattle.avr_asm.specs.declared.pointers.Pointer.TheVariants.{X, Y, Z}
-use Rattle.avr_asm.specs.declared.pointers.Step.{Step}
-use Rattle.avr_asm.specs.declared.pointers.Step.TheVariants.{Plain, Increment, Decrement}
-use Rattle.avr_asm.specs.Faults.{Outcome}
-use Rattle.avr_asm.specs.Fields.{field}
-use Rattle.avr_asm.specs.Instructions.{forms_of, row_of, by_forms, instruction_of, mapped, none_of, one, load, store, at_address, loaded, stored, displaced, loaded_displaced, stored_displaced, program_row, from_program, loaded_from_program, program_memory, address_of, displaced_of}
-use Rattle.avr_asm.specs.Mnemonics.{words_of}
-use Rattle.avr_asm.specs.Operands.{Operands, register, number, both, one_value, pair_of, two_values}
+use Rattle.avr_operands.specs.declared.instructions.Forms.{Forms}
+use Rattle.avr_operands.specs.declared.instructions.Forms.TheVariants.{Zero, One, Two, Load, Store, LoadDisplaced, StoreDisplaced, ProgramMemory}
+use Rattle.avr_operands.specs.declared.mnemonics.Mnemonic.{Mnemonic}
+use Rattle.avr_operands.specs.declared.mnemonics.Mnemonic.TheVariants as m
+use Rattle.avr_operands.specs.declared.pointers.Pointer.{Pointer}
+use Rattle.avr_operands.specs.declared.pointers.Pointer.TheVariants.{X, Y, Z}
+use Rattle.avr_operands.specs.declared.pointers.Step.{Step}
+use Rattle.avr_operands.specs.declared.pointers.Step.TheVariants.{Plain, Increment, Decrement}
+use Rattle.avr_operands.specs.Faults.{Outcome}
+use Rattle.avr_operands.specs.Fields.{field}
+use Rattle.avr_operands.specs.Instructions.{forms_of, row_of, by_forms, instruction_of, mapped, none_of, one, load, store, at_address, loaded, stored, displaced, loaded_displaced, stored_displaced, program_row, from_program, loaded_from_program, program_memory, address_of, displaced_of}
+use Rattle.avr_operands.specs.Mnemonics.{words_of}
+use Rattle.avr_operands.specs.Operands.{Operands, register, number, both, one_value, pair_of, two_values}
 
 row_words : (name : Mnemonic) (x y : ℤ) → words (row_of name x y) ≡ words_of name
 row_words m.Add x y = refl

@@ -12,18 +12,18 @@ use Rattle.avr_text.specs.Names.{NameMap}
 use Rattle.avr_text.specs.Reading.{is_mark_of}
 use Rattle.avr_asm.specs.declared.directives.Directive.{Directive}
 use Rattle.avr_asm.specs.declared.directives.Directive.TheVariants.{Org, Db, Dw, Equ, Start, Lines, Stack, Cell, Fact}
-use Rattle.avr_asm.specs.declared.faults.AsmWhy.TheVariants as why
+use Rattle.avr_operands.specs.declared.faults.AsmWhy.TheVariants as why
 use Rattle.avr_asm.specs.declared.faults.AsmError.{AsmError}
 use Rattle.avr_asm.specs.declared.layout.Place.{Place}
 use Rattle.avr_asm.specs.declared.first_pass.Effect.{Effect}
 use Rattle.avr_asm.specs.declared.first_pass.Effect.TheVariants.{Nothing, Move, Define, Take, Wrong}
 use Rattle.avr_asm.specs.declared.lines.Action.{Action}
 use Rattle.avr_asm.specs.declared.lines.Action.TheVariants as action
-use Rattle.avr_asm.specs.Faults.{Outcome, ◌>>=◌}
-use Rattle.avr_asm.specs.Instructions.{pointer_named}
+use Rattle.avr_operands.specs.Faults.{Outcome, ◌>>=◌}
+use Rattle.avr_operands.specs.Instructions.{pointer_named}
 use Rattle.avr_asm.specs.Lines.{content_of, label_of, body_of, action_of, arguments_of, parts_of, is_name, first_text}
-use Rattle.avr_asm.specs.Mnemonics.{words_of}
-use Rattle.avr_asm.specs.Operands.{register_of, expression, number, name_of}
+use Rattle.avr_operands.specs.Mnemonics.{words_of}
+use Rattle.avr_operands.specs.Operands.{register_of, expression, number, name_of}
 
 -- register and pointer names can't be defined
 abbrev pub is_reserved : List ℕ → Bool

@@ -2,14 +2,9 @@ pub mod Assembly
 pub mod Codes
 pub mod Directives
 pub mod Emission
-pub mod Faults
-pub mod Fields
 pub mod Hints
-pub mod Instructions
 pub mod Items
 pub mod Layout
 pub mod LineOutputs
 pub mod Lines
-pub mod Mnemonics
-pub mod Operands
 pub mod Relation

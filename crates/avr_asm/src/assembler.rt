@@ -1,8 +1,8 @@
 //! The second pass over the lines, and the whole.
 
 ghost use Rattle.std.specs.Prelude.{◌≡◌, ◌<◌, ◌≤◌, ◌-◌, ◌+◌, ◌^◌, All, IfOk, OnOk, MatchResult, Ok, length, drop, map as mapped};
-ghost use Rattle.avr_asm.specs.Faults.{Gives};
-ghost use Rattle.avr_asm.specs.Operands.{AllLie, EachLies};
+ghost use Rattle.avr_operands.specs.Faults.{Gives};
+ghost use Rattle.avr_operands.specs.Operands.{AllLie, EachLies};
 ghost use Rattle.avr_asm.specs.Layout.{EachShort, GivesLayout};
 ghost use Rattle.uz_hex.specs.Cells.{IsFlash};
 ghost use Rattle.avr_asm.specs.Items.{IsDecoded, IsInFlash};
@@ -11,12 +11,12 @@ ghost use Rattle.avr_asm.specs.Assembly.{Output, seen_built, with_instruction, w
 
 use crate::directives::Directive;
 use crate::emission::{byte_data, code_of, put, word_data};
-use crate::faults::{AsmError, AsmWhy};
+use crate::faults::AsmError;
 use crate::hints::hint_of;
 use crate::layout::{is_instruction_line, lay_out};
 use crate::lines::{Action, action_of, arguments_of, body_of, content_of, lines_of, parts_of};
-use crate::operands::Operands;
 use crate::output::{Built, Placed};
+use avr_operands::{AsmWhy, Operands};
 use avr_table::Instr;
 use avr_text::{Symbols, Token, value_is_kept};
 use std::alloc::Global;

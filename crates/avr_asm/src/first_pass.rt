@@ -1,15 +1,13 @@
 //! The first pass over the lines: addresses and symbols.
 
 ghost use Rattle.std.specs.Prelude.{◌≡◌, ◌<◌, ◌≤◌, ◌^◌, IfOk, length, map};
-ghost use Rattle.avr_asm.specs.Operands.{AllLie, EachLies};
+ghost use Rattle.avr_operands.specs.Operands.{AllLie, EachLies};
 ghost use Rattle.avr_text.specs.Reading.{is_mark_of};
 ghost use Rattle.avr_asm.specs.Layout.{is_reserved as is_reserved_name, is_word as is_word_operand, is_start as is_start_shape, is_cell as is_cell_shape, has_shape as has_shape_of, takes as taken_by, org_effect as org_effect_of, equ_effect as equ_effect_of, directive_effect as directive_effect_of, effect_of as effect_of_line, placed as placed_effect, IsWithin};
 
 use crate::directives::Directive;
-use crate::faults::AsmWhy;
 use crate::lines::{Action, is_name};
-use crate::operands::{expression, name_of, number, register_number};
-use crate::pointers::find_pointer;
+use avr_operands::{AsmWhy, expression, find_pointer, name_of, number, register_number};
 use avr_text::{Symbols, Token, TokenKind};
 
 /// One after the last byte address.

@@ -1,15 +1,13 @@
 //! The hint directives.
 
 ghost use Rattle.std.specs.Prelude.{◌≡◌, ◌<◌, length, map};
-ghost use Rattle.avr_asm.specs.Operands.{AllLie, EachLies};
+ghost use Rattle.avr_operands.specs.Operands.{AllLie, EachLies};
 ghost use Rattle.avr_asm.specs.Hints.{short as short_operand, byte as byte_operand, word_address as word_address_operand, place_of as place_of_operand, start_hint, lines_hint, stack_hint, cell_hint, fact_hint, part_at, shorts_at, bytes_at, ranged as ranged_cell, main_cell_hint, handler_cell_hint, pointer_place as pointer_place_of, hint_of as hint_of_directive};
 
 use crate::directives::Directive;
-use crate::faults::AsmWhy;
 use crate::first_pass::is_word;
-use crate::operands::{both, name_of, number, register_number};
 use crate::output::Hint;
-use crate::pointers::{Pointer, find_pointer};
+use avr_operands::{AsmWhy, Pointer, both, find_pointer, name_of, number, register_number};
 use avr_text::{Symbols, Token};
 use uz_cert::Kind;
 

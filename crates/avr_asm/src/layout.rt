@@ -3,14 +3,15 @@
 ghost use Rattle.std.specs.Prelude.{◌≡◌, ◌<◌, ◌≤◌, ◌-◌, ◌^◌, All, IfOk, OnOk, MatchResult, length, map as mapped};
 ghost use Rattle.std.specs.Option.{option_copied};
 ghost use Rattle.std.specs.FinMap as map;
-ghost use Rattle.avr_asm.specs.Faults.{Gives};
-ghost use Rattle.avr_asm.specs.Operands.{AllLie};
+ghost use Rattle.avr_operands.specs.Faults.{Gives};
+ghost use Rattle.avr_operands.specs.Operands.{AllLie};
 ghost use Rattle.avr_asm.specs.Layout.{with_value, with_ports, with_core, with_data, predefined as predefined_names, defined, labelled, named, applied as applied_effect, effect_in as effect_in_line, after_line as place_after_line, is_instruction_line as is_line_of_instruction, IsLast, IsWithin, EachShort, arguments_in, layout_of, GivesLayout, seen_layout};
 ghost use Rattle.avr_asm.specs.Lines.{first_text};
 
-use crate::faults::{AsmError, AsmWhy};
+use crate::faults::AsmError;
 use crate::first_pass::{Effect, effect_of, is_reserved, placed};
 use crate::lines::{Action, action_of, arguments_of, body_of, content_of, label_of, parts_of};
+use avr_operands::AsmWhy;
 use avr_text::{Symbols, Token, text_of};
 use std::alloc::{AllocError, Global};
 

@@ -2,8 +2,8 @@
 use Rattle.std.specs.Prelude.{◌≡◌, ◌≢◌, ℕ, List, codes, Result, Ok, Err}
 use Rattle.avr_asm.specs.Assembly.{Output, assembly}
 use Rattle.avr_asm.specs.declared.faults.AsmError.{AsmError}
-use Rattle.avr_asm.specs.declared.faults.AsmWhy.{AsmWhy}
-use Rattle.avr_asm.specs.declared.faults.AsmWhy.TheVariants.{Lex, Mnemonic, Operand, Range, Symbol, Twice, Overlap, Past, Directive, Memory}
+use Rattle.avr_operands.specs.declared.faults.AsmWhy.{AsmWhy}
+use Rattle.avr_operands.specs.declared.faults.AsmWhy.TheVariants.{Lex, Mnemonic, Operand, Range, Symbol, Twice, Overlap, Past, Directive, Memory}
 use Rattle.uz_top.specs.declared.status.Status.TheVariants.{BadInput}
 use Rattle.uz_top.specs.Answers.{Answer, one_line}
 use Rattle.uz_top.specs.Lines.{bad_line}

@@ -1,8 +1,8 @@
 //! The instruction of a line.
 
 ghost use Rattle.std.specs.Prelude.{◌≡◌, length};
-ghost use Rattle.avr_asm.specs.Operands.{seen, pair_of, EachLies};
-ghost use Rattle.avr_asm.specs.Instructions.{none as no_operand, load as load_row, store as store_row, loaded, stored, loaded_displaced, stored_displaced, program_memory, forms_of as forms_of_name, row_of as row_of_name, instruction_of};
+ghost use Rattle.avr_operands.specs.Operands.{seen, pair_of, EachLies};
+ghost use Rattle.avr_operands.specs.Instructions.{none as no_operand, load as load_row, store as store_row, loaded, stored, loaded_displaced, stored_displaced, program_memory, forms_of as forms_of_name, row_of as row_of_name, instruction_of};
 
 use crate::faults::AsmWhy;
 use crate::fields::field;

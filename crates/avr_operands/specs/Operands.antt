@@ -9,11 +9,11 @@ use Rattle.avr_text.specs.Names.{NameMap}
 use Rattle.avr_text.specs.Reading.{value_of}
 use Rattle.avr_text.specs.Arithmetic as text
 use Rattle.avr_text.specs.Tokens.{Lies, text_of}
-use Rattle.avr_asm.specs.declared.faults.AsmWhy.TheVariants.{Operand, Range}
-use Rattle.avr_asm.specs.declared.operands.Operands as source
-use Rattle.avr_asm.specs.declared.operands.Form.{Form}
-use Rattle.avr_asm.specs.declared.operands.Form.TheVariants.{Register, UpperRegister, MiddleRegister, Pair, UpperPair, Byte, SixBits, FiveBits, ThreeBits, Word, Relative7, Relative12, Absolute}
-use Rattle.avr_asm.specs.Faults.{Outcome, least, why_of}
+use Rattle.avr_operands.specs.declared.faults.AsmWhy.TheVariants.{Operand, Range}
+use Rattle.avr_operands.specs.declared.operands.Operands as source
+use Rattle.avr_operands.specs.declared.operands.Form.{Form}
+use Rattle.avr_operands.specs.declared.operands.Form.TheVariants.{Register, UpperRegister, MiddleRegister, Pair, UpperPair, Byte, SixBits, FiveBits, ThreeBits, Word, Relative7, Relative12, Absolute}
+use Rattle.avr_operands.specs.Faults.{Outcome, least, why_of}
 
 -- each token lies in a line of a length
 abbrev pub AllLie : ℕ → List Token → Type 0

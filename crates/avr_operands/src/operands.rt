@@ -2,7 +2,7 @@
 
 ghost use Rattle.std.specs.Prelude.{◌≡◌, ◌<◌, ◌≤ℤ◌, IfOk, IfSome, length, option_map};
 ghost use Rattle.std.specs.Option.{option_copied};
-ghost use Rattle.avr_asm.specs.Operands.{AllLie, register_of, name_of as name_of_tokens, expression as expression_of, within as within_range, register as register_operand, half as half_of, number as number_operand, relative as relative_operand, operand as operand_by_form, both as both_values, one_value, pair_of, two_values, seen, EachLies};
+ghost use Rattle.avr_operands.specs.Operands.{AllLie, register_of, name_of as name_of_tokens, expression as expression_of, within as within_range, register as register_operand, half as half_of, number as number_operand, relative as relative_operand, operand as operand_by_form, both as both_values, one_value, pair_of, two_values, seen, EachLies};
 
 use crate::faults::{AsmWhy, why_without_value};
 use avr_text::{Symbols, Token, TokenKind, text_of, value};
@@ -68,7 +68,7 @@ pub fn name_of<'a>(line: &'a [u8], tokens: &[Token]) -> Option<&'a [u8]>
 }
 
 /// The number of the register that an operand is.
-pub fn register(line: &[u8], tokens: &[Token]) -> Result<i64, AsmWhy>
+pub(crate) fn register(line: &[u8], tokens: &[Token]) -> Result<i64, AsmWhy>
     requires { AllLie (length line.now) tokens.now }
     ensures { result ≡ register_operand line.now tokens.now }
 {
@@ -230,7 +230,7 @@ pub struct Operands<'a> {
 
 impl Operands<'_> {
     /// The number that the only operand gives.
-    pub fn one(&self, form: Form) -> Result<i64, AsmWhy>
+    pub(crate) fn one(&self, form: Form) -> Result<i64, AsmWhy>
         requires { EachLies (length self.now.line.now) self.now.parts.now }
         ensures { result ≡ one_value form (seen self.now) (seen self.now).parts }
     {
@@ -241,7 +241,7 @@ impl Operands<'_> {
     }
 
     /// The two operands, where there are two.
-    pub fn pair(&self) -> Option<(&[Token], &[Token])>
+    pub(crate) fn pair(&self) -> Option<(&[Token], &[Token])>
         requires { EachLies (length self.now.line.now) self.now.parts.now }
         ensures pair { option_map (λ p. (p.0.now, p.1.now)) result ≡ pair_of (seen self.now).parts }
         ensures lie { IfSome result (λ p. AllLie (length self.now.line.now) p.0.now × AllLie (length self.now.line.now) p.1.now) }
@@ -253,7 +253,7 @@ impl Operands<'_> {
     }
 
     /// The numbers that two operands give.
-    pub fn two(&self, form: Form, other: Form) -> Result<(i64, i64), AsmWhy>
+    pub(crate) fn two(&self, form: Form, other: Form) -> Result<(i64, i64), AsmWhy>
         requires { EachLies (length self.now.line.now) self.now.parts.now }
         ensures { result ≡ two_values form other (seen self.now) (pair_of (seen self.now).parts) }
     {

@@ -9,21 +9,21 @@ use Rattle.avr_text.specs.declared.tokens.TokenKind.TheVariants.{Name}
 use Rattle.avr_text.specs.Reading.{is_mark_of}
 use Rattle.avr_text.specs.Tokens.{text_of}
 use Rattle.avr_text.specs.Words.{is_word_named}
-use Rattle.avr_asm.specs.declared.faults.AsmWhy.TheVariants.{Operand}
-use Rattle.avr_asm.specs.declared.pointers.Pointer.{Pointer}
-use Rattle.avr_asm.specs.declared.pointers.Pointer.TheVariants.{X, Y, Z}
-use Rattle.avr_asm.specs.declared.pointers.Step.{Step}
-use Rattle.avr_asm.specs.declared.pointers.Step.TheVariants.{Plain, Increment, Decrement}
-use Rattle.avr_asm.specs.declared.mnemonics.Mnemonic.{Mnemonic}
-use Rattle.avr_asm.specs.declared.mnemonics.Mnemonic.TheVariants as m
+use Rattle.avr_operands.specs.declared.faults.AsmWhy.TheVariants.{Operand}
+use Rattle.avr_operands.specs.declared.pointers.Pointer.{Pointer}
+use Rattle.avr_operands.specs.declared.pointers.Pointer.TheVariants.{X, Y, Z}
+use Rattle.avr_operands.specs.declared.pointers.Step.{Step}
+use Rattle.avr_operands.specs.declared.pointers.Step.TheVariants.{Plain, Increment, Decrement}
+use Rattle.avr_operands.specs.declared.mnemonics.Mnemonic.{Mnemonic}
+use Rattle.avr_operands.specs.declared.mnemonics.Mnemonic.TheVariants as m
 use Rattle.avr_text.specs.Arithmetic.{complement_of}
-use Rattle.avr_asm.specs.declared.instructions.Forms.{Forms}
-use Rattle.avr_asm.specs.declared.instructions.Forms.TheVariants.{Zero, One, Two, Load, Store, LoadDisplaced, StoreDisplaced, ProgramMemory}
-use Rattle.avr_asm.specs.declared.operands.Form.{Form}
-use Rattle.avr_asm.specs.declared.operands.Form.TheVariants.{Register, UpperRegister, MiddleRegister, Pair, UpperPair, Byte, SixBits, FiveBits, ThreeBits, Word, Relative7, Relative12, Absolute}
-use Rattle.avr_asm.specs.Faults.{Outcome}
-use Rattle.avr_asm.specs.Fields.{field}
-use Rattle.avr_asm.specs.Operands.{Operands, register, number, both, one_value, pair_of, two_values}
+use Rattle.avr_operands.specs.declared.instructions.Forms.{Forms}
+use Rattle.avr_operands.specs.declared.instructions.Forms.TheVariants.{Zero, One, Two, Load, Store, LoadDisplaced, StoreDisplaced, ProgramMemory}
+use Rattle.avr_operands.specs.declared.operands.Form.{Form}
+use Rattle.avr_operands.specs.declared.operands.Form.TheVariants.{Register, UpperRegister, MiddleRegister, Pair, UpperPair, Byte, SixBits, FiveBits, ThreeBits, Word, Relative7, Relative12, Absolute}
+use Rattle.avr_operands.specs.Faults.{Outcome}
+use Rattle.avr_operands.specs.Fields.{field}
+use Rattle.avr_operands.specs.Operands.{Operands, register, number, both, one_value, pair_of, two_values}
 
 -- no operand
 abbrev pub none_of : Instr → List (List Token) → Outcome Instr

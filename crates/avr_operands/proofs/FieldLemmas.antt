@@ -8,7 +8,7 @@ use Rattle.std.proofs.Math.Pow.{pow_mono}
 use Rattle.std.proofs.lemmas.Nat.{pow_pos, one_shl}
 use Rattle.std.proofs.lemmas.Int.{ints, to_z-of_z}
 use Rattle.avr_table.specs.declared.Field.{Field}
-use Rattle.avr_asm.specs.Fields.{unsigned}
+use Rattle.avr_operands.specs.Fields.{unsigned}
 
 made : (b v : ℕ) → v < 2 ^ b → Field b
 made b v p = record { value = v; in_range = p }

@@ -1,7 +1,7 @@
 //! Numbers as fields of instructions.
 
 ghost use Rattle.std.specs.Prelude.{◌≡◌, ◌≤◌};
-ghost use Rattle.avr_asm.specs.Fields.{field as field_of};
+ghost use Rattle.avr_operands.specs.Fields.{field as field_of};
 
 use avr_table::Field;
 

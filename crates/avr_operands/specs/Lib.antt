@@ -1,0 +1,5 @@
+pub mod Faults
+pub mod Fields
+pub mod Instructions
+pub mod Mnemonics
+pub mod Operands

@@ -1,0 +1,17 @@
+//! The instruction that a name and its operands are.
+//!
+//! A line's operands come as tokens, with the values of names; they go out as numbers, registers and pointers, and as
+//! the row of the instruction table that the name has with them. Source: AVR Instruction Set Manual.
+#![tactic(auto)]
+
+mod faults;
+mod fields;
+mod instructions;
+mod mnemonics;
+mod operands;
+mod pointers;
+
+pub use faults::AsmWhy;
+pub use mnemonics::{Mnemonic, mnemonic_of};
+pub use operands::{Operands, both, expression, name_of, number, register_number};
+pub use pointers::{Pointer, find_pointer};
