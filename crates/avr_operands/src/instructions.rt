@@ -1,6 +1,8 @@
 //! The instruction of a line.
 
-ghost use Rattle.std.specs.Prelude.{◌≡◌, length};
+ghost use Rattle.std.specs.Prelude.{◌≡◌, IfOk, length};
+ghost use Rattle.avr_table.specs.Rows.{words_of as row_words};
+ghost use Rattle.avr_operands.specs.Mnemonics.{words_of};
 ghost use Rattle.avr_operands.specs.Operands.{seen, pair_of, EachLies};
 ghost use Rattle.avr_operands.specs.Instructions.{none as no_operand, load as load_row, store as store_row, loaded, stored, loaded_displaced, stored_displaced, program_memory, forms_of as forms_of_name, row_of as row_of_name, instruction_of};
 
@@ -523,9 +525,9 @@ impl Operands<'_> {
 }
 
 impl Operands<'_> {
-    /// The instruction that a name and these operands are.
+    /// What a name and these operands are by the forms that the name wants.
     #[tactic(auto, unfolding(crate::specs::Instructions::instruction_of))]
-    pub fn instruction(&self, mnemonic: Mnemonic) -> Result<Instr, AsmWhy>
+    fn instruction_by_forms(&self, mnemonic: Mnemonic) -> Result<Instr, AsmWhy>
         requires { EachLies (length self.now.line.now) self.now.parts.now }
         ensures { result ≡ instruction_of mnemonic (seen self.now) }
     {
@@ -545,5 +547,17 @@ impl Operands<'_> {
             Forms::StoreDisplaced => self.store_displaced(),
             Forms::ProgramMemory => self.load_program_memory(),
         }
+    }
+    /// The instruction that a name and these operands are, or why the line is refused.
+    ///
+    /// It has as many words as the name has, whatever its operands are. Operand where the operands' number or form isn't
+    /// the name's, Range where a value doesn't fit, Symbol where a name has no value; of two operands' faults the one that
+    /// stands first in `AsmWhy`. Source: AVR Instruction Set Manual.
+    pub fn instruction(&self, mnemonic: Mnemonic) -> Result<Instr, AsmWhy>
+        requires { EachLies (length self.now.line.now) self.now.parts.now }
+        ensures instruction { result ≡ instruction_of mnemonic (seen self.now) }
+        ensures words { IfOk result (λ i. row_words i ≡ words_of mnemonic) }
+    {
+        self.instruction_by_forms(mnemonic)
     }
 }
