@@ -6,6 +6,7 @@ use Rattle.std.proofs.lemmas.List.{drop_all, append-nil}
 use Rattle.std.proofs.lemmas.Bool.Decides.{nat_tests}
 use Rattle.avr_asm.specs.declared.faults.AsmError.{AsmError}
 use Rattle.avr_operands.specs.declared.faults.AsmWhy.{AsmWhy}
+use Rattle.avr_operands.specs.declared.faults.AsmWhy.TheVariants.{Memory}
 use Rattle.avr_asm.specs.declared.layout.Place.{Place}
 use Rattle.avr_operands.specs.Faults.{Outcome}
 use Rattle.avr_asm.specs.Layout.{Layout, with_address, at_line, layout_from, after_line, is_instruction_line, IsLast}
@@ -141,7 +142,9 @@ pub none_last_from : (lines : List (List ℕ)) (i : ℕ) → i ≤ 0 → list_an
 none_last_from lines zero h e = none_last lines e
 none_last_from lines (suc i) h e = absurd (omega arith)
 
--- a fault of a step is one of the whole
-pub or_fault : {A B C : Type 0} → A ⊎ B → (B → C) → A ⊎ C
-or_fault (inl a) f = inl a
-or_fault (inr b) f = inr (f b)
+-- a line's fault is told with its line, and want of memory with none
+pub told_fault : {X Y : Type 0} (k : ℕ) (why : AsmWhy) (told : AsmError) (says : Outcome X) (whole : Result Y AsmError) → (why ≡ Memory) ⊎ (says ≡ Err why) → (says ≡ Err why → whole ≡ Err (record { line = k; why = why }))
+    → told.why ≡ why → (why ≡ Memory) ⊎ (told.line ≡ k) → (told.why ≡ Memory) ⊎ (whole ≡ Err told)
+told_fault k why told says whole (inl m) f w l = inl (w ∙ m)
+told_fault k why told says whole (inr e) f w (inl m) = inl (w ∙ m)
+told_fault k why told says whole (inr e) f w (inr l) = inr (f e ∙ (λ i. Err (record { line = sym l i; why = sym w i })))

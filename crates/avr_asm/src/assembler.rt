@@ -1,6 +1,6 @@
 //! The second pass over the lines, and the whole.
 
-ghost use Rattle.std.specs.Prelude.{◌≡◌, ◌<◌, ◌≤◌, ◌-◌, ◌+◌, ◌^◌, All, IfOk, OnOk, MatchResult, Ok, length, drop, map as mapped};
+ghost use Rattle.std.specs.Prelude.{◌≡◌, ◌<◌, ◌≤◌, ◌-◌, ◌+◌, ◌^◌, All, IfErr, IfOk, OnOk, MatchResult, Ok, length, drop, map as mapped};
 ghost use Rattle.avr_operands.specs.Faults.{Gives};
 ghost use Rattle.avr_operands.specs.Operands.{AllLie, EachLies};
 ghost use Rattle.avr_asm.specs.Layout.{EachShort, GivesLayout};
@@ -211,6 +211,7 @@ fn put_lines(
     requires below { All (λ a. a ≤ 65536) addresses.now }
     ensures built { GivesLayout seen_built result (output_from 1 symbols.now nothing (mapped (λ line. line.now) lines.now) addresses.now) }
     ensures flash { IfOk result (λ built. IsFlash built.image) }
+    ensures memory { IfErr result (λ e. e.why ≡ AsmWhy.Memory → e.line ≡ 0) }
 {
     let mut built = Built {
         image: Image::empty(alloc)?,
@@ -236,7 +237,7 @@ fn put_lines(
             addresses[i],
             following,
         ) {
-            return Err(AsmError { line: number, why });
+            return Err(AsmError::in_line(number, why));
         }
     }
     built.image.is_flash();
@@ -249,6 +250,7 @@ fn assemble_lines(alloc: Global, text: &[u8]) -> Result<Built, AsmError>
     requires { length text.now < 2 ^ 32 - 1 }
     ensures built { GivesLayout seen_built result (assembly text.now) }
     ensures flash { IfOk result (λ built. IsFlash built.image) }
+    ensures memory { IfErr result (λ e. e.why ≡ AsmWhy.Memory → e.line ≡ 0) }
 {
     let lines = lines_of(alloc, text)?;
     let lines = lines.as_slice();
@@ -256,10 +258,14 @@ fn assemble_lines(alloc: Global, text: &[u8]) -> Result<Built, AsmError>
     put_lines(alloc, lines, addresses.as_slice(), &symbols)
 }
 
-/// Assembles a source.
+/// Assembles a source: its image, its instruction lines and its hints, or its first fault.
+///
+/// A fault of addresses and names goes before those of operands and bytes; of such a kind the least line is named, and
+/// of a line the fault that stands first in `AsmWhy`. Memory may come for any source, then with line 0.
 pub fn assemble(alloc: Global, text: &[u8]) -> Result<Built, AsmError>
     requires { length text.now < 2 ^ 32 - 1 }
     ensures built { GivesLayout seen_built result (assembly text.now) }
+    ensures memory { IfErr result (λ e. e.why ≡ AsmWhy.Memory → e.line ≡ 0) }
 
     // What stands in the image at each item's address is the item's instruction, and all of it lies in the flash.
     ensures decodes { IfOk result (λ built. All (IsDecoded built.image) built.items.items) }

@@ -1,6 +1,6 @@
 //! Where lines lie, and what names mean.
 
-ghost use Rattle.std.specs.Prelude.{◌≡◌, ◌<◌, ◌≤◌, ◌-◌, ◌^◌, All, IfOk, OnOk, MatchResult, length, map as mapped};
+ghost use Rattle.std.specs.Prelude.{◌≡◌, ◌<◌, ◌≤◌, ◌-◌, ◌^◌, All, IfErr, IfOk, OnOk, MatchResult, length, map as mapped};
 ghost use Rattle.std.specs.Option.{option_copied};
 ghost use Rattle.std.specs.FinMap as map;
 ghost use Rattle.avr_operands.specs.Faults.{Gives};
@@ -239,6 +239,7 @@ pub fn lay_out(alloc: Global, lines: &[&[u8]]) -> Result<(Vec<u32>, Symbols), As
     ensures layout { GivesLayout seen_layout result (layout_of (mapped (λ line. line.now) lines.now)) }
     ensures flash { IfOk result (λ r. All (λ address. address ≤ 65536) r.0.items) }
     ensures count { IfOk result (λ r. length r.0.items ≡ length lines.now) }
+    ensures memory { IfErr result (λ e. e.why ≡ AsmWhy.Memory → e.line ≡ 0) }
 {
     let last = match last_instruction(alloc, lines) {
         Ok(last) => last,
@@ -254,10 +255,7 @@ pub fn lay_out(alloc: Global, lines: &[&[u8]]) -> Result<(Vec<u32>, Symbols), As
         match lay_line(alloc, &mut place, i + 1 < last, line) {
             Ok(()) => addresses.push(address)?,
             Err(why) => {
-                return Err(AsmError {
-                    line: i as u32 + 1,
-                    why,
-                });
+                return Err(AsmError::in_line(i as u32 + 1, why));
             }
         }
     }

@@ -1,13 +1,13 @@
 use Rattle.std.proofs.Common.{◌+◌, sym, ◌∙◌, arith}
 use Rattle.avr_asm.specs.Assembly.{seen_built}
-use Rattle.avr_asm.proofs.LayoutLemmas.{or_fault}
+use Rattle.avr_asm.proofs.LayoutLemmas.{told_fault}
 use Rattle.avr_asm.proofs.AssemblyLemmas.{output_more, output_fault, output_end}
 use Rattle.avr_asm.proofs.assembler.put_lines.Goals as goal
 
 pub returns-in-Err-put_line-clause-built : goal.returns-in-Err-put_line-clause-built
-returns-in-Err-put_line-clause-built c = or_fault c.in-Err-put_line.ensures (λ e.
+returns-in-Err-put_line-clause-built c = told_fault (c.loop-i.i + 1) c.in-Err-put_line.why _ _ _ c.in-Err-put_line.ensures (λ e.
     sym c.loop-i.invariant.left
-    ∙ output_fault c.args.symbols.now (seen_built c.loop-i.built) c.args.lines.now c.args.addresses.now c.loop-i.i _ c.in-Ok-following_line.next c.in-Err-put_line.why c.loop-i-test.true c.requires.same c.in-Ok-following_line.ensures e)
+    ∙ output_fault c.args.symbols.now (seen_built c.loop-i.built) c.args.lines.now c.args.addresses.now c.loop-i.i _ c.in-Ok-following_line.next c.in-Err-put_line.why c.loop-i-test.true c.requires.same c.in-Ok-following_line.ensures e) c.in_line.ensures.why c.in_line.ensures.line
 
 pub loop-i-preserved : goal.loop-i-preserved
 loop-i-preserved c = record {

@@ -1,13 +1,13 @@
 use Rattle.std.proofs.Common.{◌≤◌, ◌+◌, ◌∷◌, [], All, length, nat_lt, refl, sym, ◌∙◌, ap, subst, arith}
 use Rattle.std.proofs.lemmas.List.{length-append}
 use Rattle.std.proofs.lemmas.List.Elements.{All-nil, All-cons, All-append}
-use Rattle.avr_asm.proofs.LayoutLemmas.{or_fault, more_lent, faulty_lent, last_lent}
+use Rattle.avr_asm.proofs.LayoutLemmas.{told_fault, more_lent, faulty_lent, last_lent}
 use Rattle.avr_asm.proofs.layout.lay_out.Goals as goal
 
 pub returns-in-Err-lay_line-clause-layout : goal.returns-in-Err-lay_line-clause-layout
-returns-in-Err-lay_line-clause-layout c = or_fault c.in-Err-lay_line.ensures.place (λ e.
+returns-in-Err-lay_line-clause-layout c = told_fault (c.loop-i.i + 1) c.in-Err-lay_line.why _ _ _ c.in-Err-lay_line.ensures.place (λ e.
     sym c.loop-i.invariant.left
-    ∙ faulty_lent c.loop-i.i c.loop-i.place c.args.lines.now _ (nat_lt (c.loop-i.i + 1) c.in-Ok.last) c.in-Ok.last c.loop-i.addresses.items c.in-Err-lay_line.why c.loop-i-test.true c.in-Ok.ensures refl e)
+    ∙ faulty_lent c.loop-i.i c.loop-i.place c.args.lines.now _ (nat_lt (c.loop-i.i + 1) c.in-Ok.last) c.in-Ok.last c.loop-i.addresses.items c.in-Err-lay_line.why c.loop-i-test.true c.in-Ok.ensures refl e) c.in_line.ensures.why c.in_line.ensures.line
 
 pub loop-i-preserved : goal.loop-i-preserved
 loop-i-preserved c = record {
