@@ -24,7 +24,7 @@ impl From<AllocError> for PadError {
     ghost use Rattle.std.specs.Prelude.{◌≡◌};
     ghost use Rattle.uz_pads.specs.declared.errors.PadWhy.TheVariants.{Memory};
 
-    ghost from_gives = { λ _ e. e.why ≡ Memory };
+    ghost from_gives = { λ _ e. (e.line ≡ 0) × (e.why ≡ Memory) };
 
     fn from(_e: AllocError) -> PadError {
         PadError {
@@ -38,7 +38,7 @@ impl<T: Drop> From<AllocFailed<T>> for PadError {
     ghost use Rattle.std.specs.Prelude.{◌≡◌};
     ghost use Rattle.uz_pads.specs.declared.errors.PadWhy.TheVariants.{Memory};
 
-    ghost from_gives = { λ _ e. e.why ≡ Memory };
+    ghost from_gives = { λ _ e. (e.line ≡ 0) × (e.why ≡ Memory) };
 
     fn from(_e: AllocFailed<T>) -> PadError {
         PadError {

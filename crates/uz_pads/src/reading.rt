@@ -30,6 +30,7 @@ fn read_pieces(alloc: Global, pieces: &[&[u8]]) -> Result<Vec<Pad>, PadError>
     requires { length pieces.now < 2 ^ 32 }
     ensures read { IfOk result (λ list. IsRead (lines_of_pieces (map (λ piece. piece.now) pieces.now)) list.items) }
     ensures refused { IfErr result (λ e. (e.why ≡ Memory) ⊎ IsFirstFault (lines_of_pieces (map (λ piece. piece.now) pieces.now)) e.line e.why) }
+    ensures memory { IfErr result (λ e. e.why ≡ Memory → e.line ≡ 0) }
 {
     let mut list = Vec::new(alloc);
     for at in 0..pieces.len() {
@@ -59,11 +60,12 @@ fn read_pieces(alloc: Global, pieces: &[&[u8]]) -> Result<Vec<Pad>, PadError>
 /// Reads a pad file: lines that end in LF or CRLF, each blank (nothing but spaces and tabs) or four hexadecimal
 /// digits, one space, four hexadecimal digits. Digits are of either case. The answer is the pairs in order, or the
 /// first faulty line: `Digits` where it is neither blank nor a pair, `Count` where it holds pair number 65,537.
-/// `Memory` may come at any point.
+/// `Memory` may come at any point, and its line is 0.
 pub fn read_pads(alloc: Global, text: &[u8]) -> Result<Vec<Pad>, PadError>
     requires { length text.now < 2 ^ 32 - 1 }
     ensures read { IfOk result (λ list. IsRead (lines_of text.now) list.items) }
     ensures refused { IfErr result (λ e. (e.why ≡ Memory) ⊎ IsFirstFault (lines_of text.now) e.line e.why) }
+    ensures memory { IfErr result (λ e. e.why ≡ Memory → e.line ≡ 0) }
 {
     let pieces = pieces(alloc, text)?;
     read_pieces(alloc, pieces.as_slice())

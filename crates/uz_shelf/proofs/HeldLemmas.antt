@@ -7,7 +7,7 @@ use Rattle.std.proofs.lemmas.Slice.Eq.{bytes_eq-Decides}
 use Rattle.std.specs.Ordering.{nat_cmp, eq_by_cmp, is_eq}
 use Rattle.std.specs.Cmp.{tied_itself}
 use Rattle.std.specs.Cmp.Lexicographic.{slice_cmp, texts_ties, nat_list_cmp_total}
-use Rattle.std.specs.FinMap.{FinMap, get, insert, get-insert, get-empty, same_map, slice_cmp-IsAntisymmetric, nat_cmp-IsAntisymmetric}
+use Rattle.std.specs.FinMap.{get, insert, get-insert, get-empty, same_map, slice_cmp-IsAntisymmetric, nat_cmp-IsAntisymmetric}
 use Rattle.uz_shelf.specs.Files.{FileMap, bytes_so_far, AppendsAll, AppendsPrefix}
 use Rattle.uz_shelf.specs.InMemory.{files_of, bytes_of, first_name, open_in}
 use Rattle.uz_shelf.specs.declared.memory_shelf.File.{File}

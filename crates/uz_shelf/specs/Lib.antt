@@ -4,3 +4,4 @@ pub mod Text
 pub mod Planned
 pub mod InMemory
 pub mod SinkInMemory
+pub mod RealOutput

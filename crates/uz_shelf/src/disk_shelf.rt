@@ -1,6 +1,6 @@
 //! The shelf of real files. It tells nothing of their content.
 
-ghost use Rattle.std.specs.Prelude.{◌≡◌, ◌≤◌, ◌<◌, ◌+◌, ◌^◌, IfOk, IsSome, option_map, string_bytes, vec_len};
+ghost use Rattle.std.specs.Prelude.{◌≡◌, ◌≤◌, ◌<◌, ◌+◌, ◌^◌, IfOk, IsSome, None, option_map, string_bytes, vec_len};
 
 use crate::errors::{LoadError, WriteError};
 use crate::shelf::Shelf;
@@ -28,7 +28,11 @@ struct OpenFile<R: Files + Drop> {
 
 impl<R: Files + Drop> DiskShelf<R> {
     /// The files that the runtime reaches, with none open and no fault met. Takes no memory.
-    pub fn new(rt: R) -> DiskShelf<R> {
+    pub fn new(rt: R) -> DiskShelf<R>
+        ensures open { ⟦<DiskShelf<R> as Shelf>⟧.open_file result ≡ None }
+        ensures load_faults { ⟦<DiskShelf<R> as Shelf>⟧.load_faults result ≡ 0 }
+        ensures write_faults { ⟦<DiskShelf<R> as Shelf>⟧.write_faults result ≡ 0 }
+    {
         DiskShelf {
             rt,
             target: None,

@@ -1,4 +1,10 @@
-//! The sink of a real output. It tells nothing of its text.
+//! The sink of a real output. It tells nothing of its text, but what the output tells of its own bytes.
+
+ghost use Rattle.std.specs.Prelude.{◌≡◌, ◌≤◌, ℕ, IsErrOf, None, OnErr, OnOk, take};
+ghost use Rattle.std.specs.Io.KnownBytes.{Appends};
+ghost use Rattle.uz_shelf.specs.Faults.{Rose, raised};
+ghost use Rattle.uz_shelf.specs.RealOutput.{faults_of, output_of};
+ghost use Rattle.uz_shelf.specs.Text.{TakesAll, TakesPrefix};
 
 use crate::errors::WriteError;
 use crate::sink::Sink;
@@ -15,19 +21,35 @@ pub struct OutSink<W: Write + Drop> {
 
 impl<W: Write + Drop> OutSink<W> {
     /// A sink over that output, with no fault met. Takes no memory.
-    pub fn new(out: W) -> OutSink<W> {
+    pub fn new(out: W) -> OutSink<W>
+        ensures output { output_of result ≡ out }
+        ensures faults { faults_of result ≡ 0 }
+    {
         OutSink { out, faults: 0 }
     }
 }
 
 impl<W: Write + Drop> Sink for OutSink<W> {
     ghost use Rattle.std.specs.Prelude.{None};
+    ghost use Rattle.uz_shelf.specs.RealOutput.{faults_of};
 
     ghost text = { λ _. None };
 
-    ghost faults = { λ s. s.faults };
+    ghost faults = { λ s. faults_of s };
 
-    fn put(&mut self, _alloc: Global, piece: &[u8]) -> Result<(), WriteError> {
+    fn put(&mut self, _alloc: Global, piece: &[u8]) -> Result<(), WriteError>
+        ensures ok { OnOk result (TakesAll None piece.now None) }
+        ensures err { OnErr result (TakesPrefix None piece.now None) }
+        ensures failed { IsErrOf result WriteError.Failed → Rose (faults_of self.old) (faults_of self.new) }
+        ensures faults { faults_of self.old ≤ faults_of self.new }
+
+        // Where the output tells its bytes, the piece is added to them, and a prefix of it where this fails. Each failure
+        // raises the count by one.
+        ensures written { OnOk result (Appends (W.contents (output_of self.old)) (W.contents (output_of self.new)) piece.now) }
+        ensures written_part { OnErr result ((count : ℕ) × Appends (W.contents (output_of self.old)) (W.contents (output_of self.new)) (take count piece.now)) }
+        ensures kept { OnOk result (faults_of self.new ≡ faults_of self.old) }
+        ensures counted { OnErr result (faults_of self.new ≡ raised (faults_of self.old)) }
+    {
         let written = write_piece(&mut self.out, piece);
         if written.is_err() {
             self.faults = self.faults.saturating_add(1);

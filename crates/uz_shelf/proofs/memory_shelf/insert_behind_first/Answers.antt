@@ -1,4 +1,4 @@
-use Rattle.std.proofs.Common.{◌≡◌, ◌<◌, length, arith, vec_len}
+use Rattle.std.proofs.Common.{◌<◌, length, arith}
 use Rattle.std.proofs.lemmas.Bool.Decides.{nat_tests}
 use Rattle.uz_shelf.proofs.HeldLemmas.{files_of-insert_behind}
 use Rattle.uz_shelf.proofs.memory_shelf.insert_behind_first.Goals as goal
