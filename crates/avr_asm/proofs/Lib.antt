@@ -16,5 +16,6 @@ pub mod LineEnds
 pub mod EntryLists
 pub mod MadeMaps
 pub mod KeptEffects
+pub mod AddressLaws
 pub mod Statements
 pub mod ExactAssembly

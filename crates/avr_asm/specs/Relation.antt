@@ -4,7 +4,7 @@
 -- A line's address is the value of the last `.org` before it plus the lengths of the lines between. The image holds the
 -- bytes of the statements at their addresses, and nothing else. The items are the instruction lines in order, and the
 -- hints the hint directives in order.
-use Rattle.std.specs.Prelude.{◌≡◌, ◌≢◌, ◌↔◌, ℕ, ◌+◌, ◌/◌, false, ℤ, pos, List, [], ◌∷◌, ◌++◌, map, length, All, Option, Some, None, Ok}
+use Rattle.std.specs.Prelude.{◌≡◌, ◌≢◌, ◌↔◌, ℕ, ◌+◌, ◌/◌, Bool, true, false, ℤ, pos, List, [], ◌∷◌, ◌++◌, map, length, All, Option, Some, None, Ok}
 use Rattle.std.specs.List.{list_any, Contains, AllPairs}
 use Rattle.std.specs.declared.cmp.Ordering.{Ordering}
 use Rattle.std.specs.FinMap.{FinMap, get, from_entries}
@@ -43,6 +43,18 @@ end_by other address bytes = address + length bytes
 abbrev pub end_of : ℕ → List Statement → ℕ
 end_of address [] = address
 end_of address (s ∷ statements) = end_of (end_by s.effect address s.output.bytes) statements
+
+-- an `.org`, and how many bytes some statements put out
+abbrev pub is_origin : Effect → Bool
+is_origin (Move to) = true
+is_origin other = false
+
+abbrev pub HaveNoOrigin : List Statement → Type 0
+HaveNoOrigin statements = All (λ s. is_origin s.effect ≡ false) statements
+
+abbrev pub length_of : List Statement → ℕ
+length_of [] = 0
+length_of (s ∷ statements) = length s.output.bytes + length_of statements
 
 -- the names that a statement defines: a label with the statement's address, an `.equ` name with its value
 abbrev pub label_entries : Option (List ℕ) → ℕ → List (List ℕ × ℤ)

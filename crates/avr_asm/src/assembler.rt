@@ -244,7 +244,7 @@ fn put_lines(
     Ok(built)
 }
 
-/// What a source assembles to by its definition.
+/// Assembles a source as the definition in two passes says.
 #[tactic(auto, using(crate::proofs::LineLemmas::each_short, crate::proofs::LineLemmas::few_lines))]
 fn assemble_lines(alloc: Global, text: &[u8]) -> Result<Built, AsmError>
     requires { length text.now < 2 ^ 32 - 1 }
