@@ -6,7 +6,7 @@ use Rattle.std.specs.Cmp.{tied_itself}
 use Rattle.std.specs.Cmp.Lexicographic.{nat_list_cmp_total}
 use Rattle.std.specs.FinMap.{get, insert, get-insert}
 use Rattle.uz_shelf.specs.Files.{FileMap, AppendsAll, AppendsPrefix, Creates, CreatesOrKeeps, LacksFile, bytes_so_far}
-use Rattle.uz_shelf.specs.Text.{TakesAll, TakesPrefix}
+use Rattle.uz_shelf.specs.Text.{TakesPrefix}
 use Rattle.uz_shelf.proofs.HeldLemmas.{insert_again}
 use Rattle.uz_top.specs.declared.asm_command.Work.{Work}
 use Rattle.uz_top.specs.declared.ending.Failure.{Failure}

@@ -1,7 +1,7 @@
 -- What `check` answers, from what its steps do.
 use Rattle.std.proofs.Common.{◌≡◌, ◌⊎◌, ◌≤◌, inl, inr, ℕ, List, refl, sym, ap, ◌∙◌, subst}
 use Rattle.std.specs.Prelude.{Option, Some, None}
-use Rattle.uz_shelf.specs.Files.{FileMap, LacksFile}
+use Rattle.uz_shelf.specs.Files.{FileMap}
 use Rattle.uz_hex.specs.Reading.{Flash}
 use Rattle.uz_top.specs.declared.ending.Failure.{Failure}
 use Rattle.uz_top.specs.Endings.{EndsBy}

@@ -2,7 +2,7 @@
 use Rattle.std.proofs.Common.{◌≡◌, ◌≢◌, ◌⊎◌, inl, inr, sym, ◌∙◌, subst}
 use Rattle.uz_top.specs.declared.status.Status.{Status}
 use Rattle.uz_top.specs.declared.status.Status.TheVariants as status
-use Rattle.uz_top.specs.Answers.{Answer, Outside, ComesOf, ComesTo, Ends, Outcome}
+use Rattle.uz_top.specs.Answers.{Answer, Outside, ComesTo, Ends, Outcome}
 
 module _ (Whole Part : Answer → Type 0) (write_fault : Type 0) (came : Status) (old new : Outside) where
   -- where the status comes from

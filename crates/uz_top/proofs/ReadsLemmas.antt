@@ -1,6 +1,6 @@
 -- A shelf that tells its files gives one answer, unless loading met a fault.
 use Rattle.std.proofs.Common.{◌≡◌, ◌⊎◌, inl, inr, ℕ, ◌<◌, ◌≤◌, List, length, sym, ◌∙◌, ap, subst, arith}
-use Rattle.std.specs.Prelude.{Option, Some, None, Result, Ok, Err}
+use Rattle.std.specs.Prelude.{Option, Some, Result, Ok, Err}
 use Rattle.std.specs.FinMap.{get}
 use Rattle.uz_shelf.specs.Files.{FileMap, LacksFile}
 use Rattle.uz_top.specs.declared.status.Status.TheVariants.{Unread, BadInput}

@@ -1,15 +1,13 @@
 -- A shelf that tells its files gives one trace, unless loading met a fault.
 use Rattle.std.proofs.Common.{◌≡◌, ◌⊎◌, inl, inr, ℕ, List, refl, sym, ap, ◌∙◌, subst}
-use Rattle.std.specs.Prelude.{Option, Some}
+use Rattle.std.specs.Prelude.{Some}
 use Rattle.uz_shelf.specs.Files.{FileMap}
 use Rattle.uz_cert.specs.declared.kinds.Response.{Response}
 use Rattle.uz_core.specs.declared.step.Why.{Why}
 use Rattle.uz_core.specs.declared.step.Why.TheVariants.{Opcode, Spm}
-use Rattle.uz_machine.specs.declared.Edge.{Edge}
 use Rattle.uz_machine.specs.PadLine.{PadHistory}
 use Rattle.uz_machine.specs.Turn.{State}
 use Rattle.uz_pads.specs.Lines.{lines_of}
-use Rattle.uz_pads.specs.declared.errors.PadWhy.{PadWhy}
 use Rattle.uz_pads.proofs.ReadingLaws.{one_fault, one_list, read_or_faulty}
 use Rattle.uz_console.proofs.RunLaws.{one_run, one_stopped_run, over_or_stopped}
 use Rattle.uz_console.specs.Turns.{Halts}

@@ -1,5 +1,5 @@
 -- What each command answers, and what is asked of its files.
-use Rattle.std.specs.Prelude.{◌≡◌, ◌⊎◌, List, ℕ, Option}
+use Rattle.std.specs.Prelude.{Option}
 use Rattle.uz_shelf.specs.Files.{FileMap, LacksFile}
 use Rattle.uz_top.specs.Answers.{Answer, NoPart}
 use Rattle.uz_top.specs.Words.{Command, Asm, Check, Dis, Trace}

@@ -1,5 +1,5 @@
 -- The values of the code as answers.
-use Rattle.std.specs.Prelude.{ℕ, List, Result, Ok, Err}
+use Rattle.std.specs.Prelude.{Result, Ok, Err}
 use Rattle.uz_top.specs.Answers.{Answer, Outside, ComesOf, StartsWithoutMemory, one_line}
 use Rattle.uz_top.specs.declared.status.Status.{Status}
 use Rattle.uz_top.specs.declared.ending.Ending.{Ending}

@@ -19,7 +19,7 @@ use Rattle.uz_console.specs.Turns.{Halts}
 use Rattle.uz_top.specs.declared.status.Status.TheVariants.{Done, Stopped, Unwritten}
 use Rattle.uz_top.specs.Answers.{Answer, ended}
 use Rattle.uz_top.specs.Lines.{hex_word}
-use Rattle.uz_top.specs.Reading.{Fails, Reads, Refuses, Says, Spells, text_limit}
+use Rattle.uz_top.specs.Reading.{Reads, Refuses, Says, Spells, text_limit}
 use Rattle.uz_top.specs.ImageFile.{image_of}
 use Rattle.uz_top.specs.PadFile.{RefusesPads, SpellsPads}
 

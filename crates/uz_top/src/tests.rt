@@ -120,7 +120,12 @@ fn rings_are_checked(rt: HostRuntime) -> Result<(), TestFail> {
     }
     let mut out = MemorySink::new(rt.alloc(), &[Fail { call: 1, keep: 8 }])?;
     assert_eq!(rt;
-        outcome(rt.alloc(), &["check", "ring.hex", "ring.cert"], &mut shelf, &mut out)?,
+        outcome(
+            rt.alloc(),
+            &["check", "ring.hex", "ring.cert"],
+            &mut shelf,
+            &mut out
+        )?,
         Status::Unwritten
     );
     assert_eq!(rt; out.text(), b"accepted".as_slice());
