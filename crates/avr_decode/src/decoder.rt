@@ -14,6 +14,7 @@ use avr_table::Instr;
 ///
 /// A row of one word doesn't look at `second`. A JMP or CALL with a target above 0x7FFF matches no row.
 /// Source: AVR Instruction Set Manual.
+#[inline(always)]
 pub fn decode(first: u16, second: u16) -> Option<Instr>
     ensures found { IfSome result (λ i. Reads first second i) }
     ensures none { IfNone result ((i : Instr) → Reads first second i → ⊥) }

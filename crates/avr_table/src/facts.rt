@@ -38,6 +38,7 @@ macro_rules! clocks_match {
 }
 
 /// How many words an instruction has: 1, or 2 for LDS, STS, JMP and CALL.
+#[inline(always)]
 pub fn words(i: &Instr) -> u8
     ensures { result ≡ words_of i.now }
 {
@@ -47,6 +48,7 @@ pub fn words(i: &Instr) -> u8
 /// The clocks of an instruction that had this outcome.
 ///
 /// An outcome that the row can't have counts as `Next`. SPM has no clocks here, since it isn't run: 0.
+#[inline(always)]
 pub fn clocks(i: &Instr, outcome: Outcome) -> u8
     ensures { result ≡ clocks_of i.now outcome }
 {

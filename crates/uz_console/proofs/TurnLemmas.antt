@@ -165,10 +165,10 @@ halts c s why h e stops =
     let here : StopsAt s.image s.core why = subst (λ core. StopsAt s.image core why) (sym h.core) (subst (λ image. StopsAt image (state_of c).core why) (sym h.image) stops) in
     record { enters = enters; stops = here; no_turn = no_turn s why enters here }
 
-pub instructed : (old new : Console) (answer : Made) → is_entry (state_of old) ≡ false → IsInstructed (state_of old) (state_of new) answer → IsMade old new answer
-instructed old new made.Quiet e h = carried old new [] (inr (record { enters = e; row = h.0; reads = h.1.reads; runs = h.2; goes_to = h.3; emits = h.4 }))
-instructed old new (made.Edges edges) e h = carried old new edges.items (inr (record { enters = e; row = h.0; reads = h.1.reads; runs = h.2; goes_to = h.3; emits = h.4 }))
-instructed old new (made.Stopped why) e h = (h.1, λ s stands. halts old s why stands e h.0)
+pub instructed : (old new : Console) (edges : List Edge) (answer : Made) → is_entry (state_of old) ≡ false → IsInstructed (state_of old) (state_of new) edges answer → IsMade old new edges answer
+instructed old new edges made.Quiet e h = carried old new [] (inr (record { enters = e; row = h.0; reads = h.1.reads; runs = h.2; goes_to = h.3; emits = h.4 }))
+instructed old new edges made.Edges e h = carried old new edges (inr (record { enters = e; row = h.0; reads = h.1.reads; runs = h.2; goes_to = h.3; emits = h.4 }))
+instructed old new edges (made.Stopped why) e h = (h.1, λ s stands. halts old s why stands e h.0)
 
 not_stop : (e : Effect) → e ≢ Stop → stops e ≡ false
 not_stop Stop h = absurd (h refl)
@@ -184,10 +184,10 @@ later old new i runs goes =
     let few : (0 < clocks_of i outcome) × (clocks_of i outcome ≤ 4) = some_clocks (stops (effect_of i)) (clocks_of i outcome) (not_stop (effect_of i) runs) (clocks_within i outcome) in
     (omega arith, omega arith)
 
-pub instructed_time : (old new : Console) (answer : Made) → IsInstructed (state_of old) (state_of new) answer → TakesTime old new answer
-instructed_time old new made.Quiet h = later old new h.0 h.2 h.3
-instructed_time old new (made.Edges edges) h = later old new h.0 h.2 h.3
-instructed_time old new (made.Stopped why) h = ap (λ s. s.clock) h.1
+pub instructed_time : (old new : Console) (edges : List Edge) (answer : Made) → IsInstructed (state_of old) (state_of new) edges answer → TakesTime old new answer
+instructed_time old new edges made.Quiet h = later old new h.0 h.2 h.3
+instructed_time old new edges made.Edges h = later old new h.0 h.2 h.3
+instructed_time old new edges (made.Stopped why) h = ap (λ s. s.clock) h.1
 
 -- a turn without edges, as one with an empty list of them
 pub quiet_turn : (old new : Console) (edges : List Edge) → edges ≡ [] →

@@ -5,6 +5,7 @@ use Rattle.std.specs.FinMap.{FinMap}
 use Rattle.uz_hex.specs.Cells.{word_of}
 use Rattle.avr_table.specs.declared.Instr.{Instr}
 use Rattle.uz_machine.specs.declared.Call.{Call}
+use Rattle.uz_machine.specs.declared.Edge.{Edge}
 use Rattle.uz_machine.specs.declared.Effect.TheVariants.{Stop}
 use Rattle.uz_machine.specs.Core.{Core, step_result}
 use Rattle.uz_machine.specs.Effects.{effect_of}
@@ -51,7 +52,7 @@ abbrev pub TurnTakesTime : Console → Console → Turn → Type 0
 TurnTakesTime old new (Took edges) = (clock_of old < clock_of new) × (clock_of new ≤ clock_of old + 5)
 TurnTakesTime old new (Stopped why) = clock_of new ≡ clock_of old
 
--- Steps by the code, over the board's own pads
+-- Steps by the code, over the board's own pads. The edges are those of the caller's list, and count where the answer says so
 
 -- core and board after a step, with the stores that it holds
 abbrev pub IsBoardStep : FinMap nat_cmp ℕ → Core → BoardContent → Core → BoardContent → List Call → Step → Type 0
@@ -62,23 +63,23 @@ IsBoardStep image s c s' c' calls (step.Took clocks owed returned) =
     (calls ≡ r.calls) × (clocks ≡ r.clocks) × (owed ≡ r.owed) × (returned ≡ r.returned))
 IsBoardStep image s c s' c' calls (step.Stopped why) = StopsAt image s why × (s' ≡ s) × (c' ≡ c) × (calls ≡ [])
 
-abbrev pub IsInstructed : State Pads → State Pads → Made → Type 0
-IsInstructed old new made.Quiet =
+abbrev pub IsInstructed : State Pads → State Pads → List Edge → Made → Type 0
+IsInstructed old new edges made.Quiet =
     (i : Instr) × IsInstruction old.image old.core i × (effect_of i ≢ Stop) ×
     (new ≡ after_instruction pads_wiring i old) × ([] ≡ instruction_edges pads_wiring i old)
-IsInstructed old new (made.Edges edges) =
+IsInstructed old new edges made.Edges =
     (i : Instr) × IsInstruction old.image old.core i × (effect_of i ≢ Stop) ×
-    (new ≡ after_instruction pads_wiring i old) × (edges.items ≡ instruction_edges pads_wiring i old)
-IsInstructed old new (made.Stopped why) = StopsAt old.image old.core why × (new ≡ old)
+    (new ≡ after_instruction pads_wiring i old) × (edges ≡ instruction_edges pads_wiring i old)
+IsInstructed old new edges (made.Stopped why) = StopsAt old.image old.core why × (new ≡ old)
 
-abbrev pub IsMade : Console → Console → Made → Type 0
-IsMade old new made.Quiet =
+abbrev pub IsMade : Console → Console → List Edge → Made → Type 0
+IsMade old new edges made.Quiet =
     (s : State PadHistory) → StandsFor old s → (next : State PadHistory) × machine.Turn history_wiring s [] next × StandsFor new next
-IsMade old new (made.Edges edges) =
-    (s : State PadHistory) → StandsFor old s → (next : State PadHistory) × machine.Turn history_wiring s edges.items next × StandsFor new next
-IsMade old new (made.Stopped why) = (state_of new ≡ state_of old) × ((s : State PadHistory) → StandsFor old s → Halts s why)
+IsMade old new edges made.Edges =
+    (s : State PadHistory) → StandsFor old s → (next : State PadHistory) × machine.Turn history_wiring s edges next × StandsFor new next
+IsMade old new edges (made.Stopped why) = (state_of new ≡ state_of old) × ((s : State PadHistory) → StandsFor old s → Halts s why)
 
 abbrev pub TakesTime : Console → Console → Made → Type 0
 TakesTime old new made.Quiet = (clock_of old < clock_of new) × (clock_of new ≤ clock_of old + 5)
-TakesTime old new (made.Edges edges) = (clock_of old < clock_of new) × (clock_of new ≤ clock_of old + 5)
+TakesTime old new made.Edges = (clock_of old < clock_of new) × (clock_of new ≤ clock_of old + 5)
 TakesTime old new (made.Stopped why) = clock_of new ≡ clock_of old

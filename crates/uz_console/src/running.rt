@@ -40,16 +40,16 @@ fn in_time(edges: ArrayVec<Edge, 4>, limit: u64) -> ArrayVec<Edge, 4>
 impl Console {
     /// Goes on with a run of `limit` clocks from reset: makes turns up to the next one with edges, or says how the run
     /// ended. The run makes every turn that begins before the limit, and its edges are those of clock at most the limit.
-    #[tactic(auto, using(crate::proofs::RunLemmas::ends))]
     pub fn advance(&mut self, limit: u64) -> Progress
         requires { limit ≤ 2 ^ 62 }
         ensures run { IsProgress limit self.old self.new result }
         ensures time { MovesOn limit self.old self.new result }
     {
+        let mut edges = ArrayVec::new();
         while self.clock() < limit {
-            match self.make() {
+            match self.make(&mut edges) {
                 Made::Quiet => {}
-                Made::Edges(edges) => {
+                Made::Edges => {
                     return Progress::Took {
                         edges: in_time(edges, limit),
                     };

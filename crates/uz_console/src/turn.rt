@@ -1,9 +1,11 @@
 //! One turn.
 
-ghost use Rattle.std.specs.Prelude.{◌≡◌, ◌<◌, ◌^◌, [], false};
-ghost use Rattle.uz_machine.specs.Turn.{is_entry, after_entry, entry_edges};
+ghost use Rattle.std.specs.Prelude.{◌≡◌, ◌<◌, ◌+◌, ◌^◌, [], ◌∷◌, ◌++◌, false, None, if◌then◌else◌};
+ghost use Rattle.uz_machine.specs.Space.{space_after};
+ghost use Rattle.uz_machine.specs.Turn.{is_entry, after_entry, entry_edges, after_stores, edges_at, all_edge_kinds};
+ghost use Rattle.uz_machine.specs.declared.EdgeKind.TheVariants.{Leave};
 ghost use Rattle.uz_pads.specs.Pads.{pads_wiring};
-ghost use Rattle.uz_ports.specs.Boards.{held_of, content_of};
+ghost use Rattle.uz_ports.specs.Boards.{held_of, content_of, space_of, entered_of, entry_edge, clock_of as board_clock};
 ghost use Rattle.uz_console.specs.Consoles.{clock_of, state_of};
 ghost use Rattle.uz_console.specs.Turns.{IsTurn, TurnTakesTime, IsMade, TakesTime, IsBoardStep, IsInstructed};
 
@@ -23,12 +25,27 @@ pub enum Turn {
     Stopped(Why),
 }
 
-/// What a turn did, with its edges only where it may have some: most turns have none, and need no list.
-#[derive(Drop)]
+/// What a turn did, without its edges: most turns have none, and no list is made or moved for them.
+#[derive(Clone, Copy)]
 pub(crate) enum Made {
+    /// A turn without edges.
     Quiet,
-    Edges(ArrayVec<Edge, 4>),
+    /// A turn whose edges the caller's list now has.
+    Edges,
+    /// Nothing.
     Stopped(Why),
+}
+
+/// The end of a turn that may have edges, which the list then has. Kept apart, so that the others pay nothing for it.
+#[inline(never)]
+fn finish(board: &mut Board, clocks: u8, returned: bool, edges: &mut ArrayVec<Edge, 4>)
+    requires { board_clock board.old < 2 ^ 62 }
+    ensures space { space_of board.new ≡ after_stores pads_wiring (held_of board.old) (space_after clocks (space_of board.old)) }
+    ensures idle { (held_of board.new ≡ []) × (entered_of board.new ≡ None) }
+    ensures clock { board_clock board.new ≡ board_clock board.old + clocks }
+    ensures edges { edges.new.items ≡ entry_edge (board_clock board.old) (entered_of board.old) ++ edges_at (board_clock board.old + clocks) (all_edge_kinds pads_wiring (held_of board.old) (space_after clocks (space_of board.old)) ++ (if returned then Leave ∷ [] else [])) }
+{
+    *edges = board.finish(clocks, returned);
 }
 
 /// One instruction, whose stores the board holds.
@@ -48,21 +65,22 @@ impl Console {
         self.board.timer().due() && self.cpu.sreg() >> 7 & 1 == 1 && !self.owed
     }
 
-    fn enter(&mut self) -> ArrayVec<Edge, 4>
+    #[inline(never)]
+    fn enter(&mut self, edges: &mut ArrayVec<Edge, 4>)
         requires { clock_of self.old < 2 ^ 62 }
         ensures state { state_of self.new ≡ after_entry pads_wiring (state_of self.old) }
-        ensures edges { result.items ≡ entry_edges pads_wiring (state_of self.old) }
+        ensures edges { edges.new.items ≡ entry_edges pads_wiring (state_of self.old) }
     {
         let clocks = self.irq.clocks() as u8;
         self.board.enter();
         self.cpu.interrupt(&mut self.board);
         self.owed = false;
-        self.board.finish(clocks, false)
+        finish(&mut self.board, clocks, false, edges);
     }
 
-    fn instruct(&mut self) -> Made
+    fn instruct(&mut self, edges: &mut ArrayVec<Edge, 4>) -> Made
         requires { clock_of self.old < 2 ^ 62 }
-        ensures { IsInstructed (state_of self.old) (state_of self.new) result }
+        ensures { IsInstructed (state_of self.old) (state_of self.new) edges.new.items result }
     {
         match step(&mut self.cpu, &self.image, &mut self.board) {
             Step::Took {
@@ -75,24 +93,26 @@ impl Console {
                     self.board.pass(clocks);
                     Made::Quiet
                 } else {
-                    Made::Edges(self.board.finish(clocks, returned))
+                    finish(&mut self.board, clocks, returned, edges);
+                    Made::Edges
                 }
             }
             Step::Stopped(why) => Made::Stopped(why),
         }
     }
 
-    /// One turn, with its edges only where it may have some.
+    /// One turn, whose edges the list has afterwards where the answer says so.
     #[tactic(auto, using(crate::proofs::TurnLemmas::entered_time, crate::proofs::TurnLemmas::instructed, crate::proofs::TurnLemmas::instructed_time))]
-    pub(crate) fn make(&mut self) -> Made
+    pub(crate) fn make(&mut self, edges: &mut ArrayVec<Edge, 4>) -> Made
         requires { clock_of self.old < 2 ^ 62 }
-        ensures turn { IsMade self.old self.new result }
+        ensures turn { IsMade self.old self.new edges.new.items result }
         ensures time { TakesTime self.old self.new result }
     {
         if self.enters() {
-            Made::Edges(self.enter())
+            self.enter(edges);
+            Made::Edges
         } else {
-            self.instruct()
+            self.instruct(edges)
         }
     }
 
@@ -103,11 +123,12 @@ impl Console {
         ensures turn { IsTurn self.old self.new result }
         ensures time { TurnTakesTime self.old self.new result }
     {
-        match self.make() {
+        let mut edges = ArrayVec::new();
+        match self.make(&mut edges) {
             Made::Quiet => Turn::Took {
                 edges: ArrayVec::new(),
             },
-            Made::Edges(edges) => Turn::Took { edges },
+            Made::Edges => Turn::Took { edges },
             Made::Stopped(why) => Turn::Stopped(why),
         }
     }

@@ -7,11 +7,11 @@ use Rattle.uz_console.specs.Runs.{RunsTo}
 use Rattle.uz_console.proofs.console.Console.advance.Given as goal
 
 -- the turns so far had no edges, and the clock didn't go back
-abbrev pub invariant-loop-self : goal.invariant-loop-self
-invariant-loop-self l = record {
+abbrev pub invariant-loop-edges : goal.invariant-loop-edges
+invariant-loop-edges l = record {
   run : (start : State PadHistory) (edges : List Edge) → RunsTo l.limit start edges l.initial.self → RunsTo l.limit start edges l.self;
   time : clock_of l.initial.self ≤ clock_of l.self;
 }
 
-abbrev pub decreases-loop-self : goal.decreases-loop-self
-decreases-loop-self l = l.limit - clock_of l.self
+abbrev pub decreases-loop-edges : goal.decreases-loop-edges
+decreases-loop-edges l = l.limit - clock_of l.self
