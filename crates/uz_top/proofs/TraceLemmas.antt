@@ -22,7 +22,7 @@ use Rattle.uz_top.specs.declared.ending.Ending.{Ending}
 use Rattle.uz_top.specs.Endings.{answer_of}
 use Rattle.uz_top.specs.Lines.{no_memory_line}
 use Rattle.uz_top.specs.TraceCommand.{edge_line, edge_lines}
-use Rattle.uz_top.specs.TraceValues.{IsPrinted, IsPrintedPart, IsPrintedSoFar}
+use Rattle.uz_top.specs.TraceValues.{IsPrinted, IsPrintedPart, IsPrintedSoFar, TakesAllBut}
 use Rattle.uz_top.proofs.TextLemmas.{takes_both}
 
 edge_lines-append : (a b : List Edge) → edge_lines (a ++ b) ≡ edge_lines a ++ edge_lines b
@@ -39,35 +39,49 @@ takes_then_prefix : (old mid new : Option (List ℕ)) (a b : List ℕ) → Takes
 takes_then_prefix old mid new a b whole part =
     (length a + part.0, subst (λ p. TakesAll old p new) (sym (take-append-add a b part.0)) (takes_both old a (take part.0 b) mid new whole part.1))
 
-pub starts_printed : (limit : ℕ) (start : State PadHistory) (console : Console) (text : Option (List ℕ)) → RunsTo limit start [] console → IsPrintedSoFar limit start console text text
-starts_printed limit start console text run = ([], run, takes_none text)
+-- a text, of which some bytes wait, that goes on
+flushed : (printed waiting old_waiting more flush : List ℕ) → flush ++ waiting ≡ old_waiting ++ more → (printed ++ flush) ++ waiting ≡ (printed ++ old_waiting) ++ more
+flushed printed waiting old_waiting more flush e = append_assoc printed flush waiting ∙ (ap (λ t. printed ++ t) e ∙ sym (append_assoc printed old_waiting more))
 
-pub goes_on : (limit : ℕ) (start : State PadHistory) (mid next : Console) (more : List Edge) (old was new : Option (List ℕ)) → IsPrintedSoFar limit start mid old was → ((s : State PadHistory) (edges : List Edge) → RunsTo limit s edges mid → RunsTo limit s (edges ++ more) next) → TakesAll was (edge_lines more) new → IsPrintedSoFar limit start next old new
-goes_on limit start mid next more old was new (edges, run, printed) step piece = (
+pub starts_printed : (limit : ℕ) (start : State PadHistory) (console : Console) (text : Option (List ℕ)) → RunsTo limit start [] console → IsPrintedSoFar limit start console [] text text
+starts_printed limit start console text run = ([], run, ([], refl, takes_none text))
+
+pub goes_on : (limit : ℕ) (start : State PadHistory) (mid next : Console) (more : List Edge) (waiting waits : List ℕ) (old was new : Option (List ℕ)) → IsPrintedSoFar limit start mid waiting old was → ((s : State PadHistory) (edges : List Edge) → RunsTo limit s edges mid → RunsTo limit s (edges ++ more) next) → TakesAllBut waits was (waiting ++ edge_lines more) new → IsPrintedSoFar limit start next waits old new
+goes_on limit start mid next more waiting waits old was new (edges, run, (printed, whole, takes)) step (flush, rest, piece) = (
   edges ++ more,
   step start edges run,
-  subst (λ t. TakesAll old t new) (sym (edge_lines-append edges more)) (takes_both old (edge_lines edges) (edge_lines more) was new printed piece),
+  (
+    printed ++ flush,
+    flushed printed waits waiting (edge_lines more) flush rest ∙ (ap (λ t. t ++ edge_lines more) whole ∙ sym (edge_lines-append edges more)),
+    takes_both old printed flush was new takes piece,
+  ),
 )
 
-pub is_cut : (limit : ℕ) (start : State PadHistory) (mid next : Console) (more : List Edge) (old was new : Option (List ℕ)) → IsPrintedSoFar limit start mid old was → ((s : State PadHistory) (edges : List Edge) → RunsTo limit s edges mid → RunsTo limit s (edges ++ more) next) → TakesPrefix was (edge_lines more) new → IsPrintedPart limit start old new
-is_cut limit start mid next more old was new (edges, run, printed) step piece =
-    let goes = step start edges run in (
+pub is_cut : (limit : ℕ) (start : State PadHistory) (mid next : Console) (more : List Edge) (waiting : List ℕ) (old was new : Option (List ℕ)) → IsPrintedSoFar limit start mid waiting old was → ((s : State PadHistory) (edges : List Edge) → RunsTo limit s edges mid → RunsTo limit s (edges ++ more) next) → TakesPrefix was (waiting ++ edge_lines more) new → IsPrintedPart limit start old new
+is_cut limit start mid next more waiting old was new (edges, run, (printed, whole, takes)) step piece =
+    let goes = step start edges run in
+    let lines : printed ++ (waiting ++ edge_lines more) ≡ edge_lines (edges ++ more) = sym (append_assoc printed waiting (edge_lines more)) ∙ (ap (λ t. t ++ edge_lines more) whole ∙ sym (edge_lines-append edges more)) in (
       edges ++ more,
       goes.0,
       goes.1,
-      subst (λ t. TakesPrefix old t new) (sym (edge_lines-append edges more)) (takes_then_prefix old was new (edge_lines edges) (edge_lines more) printed piece),
+      subst (λ t. TakesPrefix old t new) lines (takes_then_prefix old was new printed (waiting ++ edge_lines more) takes piece),
     )
 
--- a run that is over, and one that is stopped
-pub prints_over : (limit : ℕ) (start : State PadHistory) (mid next : Console) (old new : Option (List ℕ)) → IsPrintedSoFar limit start mid old new → ((s : State PadHistory) (edges : List Edge) → RunsTo limit s edges mid → RunIsOver limit s edges next) → IsPrinted limit start end.Over old new
-prints_over limit start mid next old new (edges, run, printed) step =
-    let over = step start edges run in
-    (edges, over.0, over.1, printed)
+-- the lines that wait at the run's end are cut
+pub end_is_cut : (limit : ℕ) (start : State PadHistory) (mid : Console) (waiting : List ℕ) (old was new : Option (List ℕ)) → IsPrintedSoFar limit start mid waiting old was → TakesPrefix was waiting new → IsPrintedPart limit start old new
+end_is_cut limit start mid waiting old was new (edges, run, (printed, whole, takes)) piece =
+    (edges, run.0, run.1, subst (λ t. TakesPrefix old t new) whole (takes_then_prefix old was new printed waiting takes piece))
 
-pub prints_stopped : (limit : ℕ) (start : State PadHistory) (mid next : Console) (pc : ℕ) (why : Why) (old new : Option (List ℕ)) → IsPrintedSoFar limit start mid old new → ((s : State PadHistory) (edges : List Edge) → RunsTo limit s edges mid → (last : State PadHistory) × IsStoppedRun limit s edges last × Halts last why × StandsFor next last) → ((s : State PadHistory) → StandsFor next s → pc ≡ s.core.pc) → IsPrinted limit start (end.Stopped pc why) old new
-prints_stopped limit start mid next pc why old new (edges, run, printed) step at =
+-- a run that is over, and one that is stopped
+pub prints_over : (limit : ℕ) (start : State PadHistory) (mid next : Console) (waiting : List ℕ) (old was new : Option (List ℕ)) → IsPrintedSoFar limit start mid waiting old was → ((s : State PadHistory) (edges : List Edge) → RunsTo limit s edges mid → RunIsOver limit s edges next) → TakesAll was waiting new → IsPrinted limit start end.Over old new
+prints_over limit start mid next waiting old was new (edges, run, (printed, whole, takes)) step piece =
+    let over = step start edges run in
+    (edges, over.0, over.1, subst (λ t. TakesAll old t new) whole (takes_both old printed waiting was new takes piece))
+
+pub prints_stopped : (limit : ℕ) (start : State PadHistory) (mid next : Console) (pc : ℕ) (why : Why) (waiting : List ℕ) (old was new : Option (List ℕ)) → IsPrintedSoFar limit start mid waiting old was → ((s : State PadHistory) (edges : List Edge) → RunsTo limit s edges mid → (last : State PadHistory) × IsStoppedRun limit s edges last × Halts last why × StandsFor next last) → ((s : State PadHistory) → StandsFor next s → pc ≡ s.core.pc) → TakesAll was waiting new → IsPrinted limit start (end.Stopped pc why) old new
+prints_stopped limit start mid next pc why waiting old was new (edges, run, (printed, whole, takes)) step at piece =
     let stop = step start edges run in
-    (edges, stop.0, stop.1, stop.2, at stop.0 stop.3, printed)
+    (edges, stop.0, stop.1, stop.2, at stop.0 stop.3, subst (λ t. TakesAll old t new) whole (takes_both old printed waiting was new takes piece))
 
 -- what comes after what is printed already
 cut_after : (printed line further : List ℕ) (s : Status) (files : Option FileMap) (old mid new : Option (List ℕ)) → TakesAll old printed mid → IsCut (one_line s line) further (outside files mid) (outside files new) → IsCut (ended printed s line) further (outside files old) (outside files new)

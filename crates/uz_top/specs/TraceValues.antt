@@ -1,5 +1,5 @@
 -- The values of the code that make a trace.
-use Rattle.std.specs.Prelude.{◌≡◌, ◌⊎◌, ℕ, List, [], Option}
+use Rattle.std.specs.Prelude.{◌≡◌, ◌⊎◌, ℕ, List, [], ◌++◌, Option}
 use Rattle.uz_shelf.specs.Files.{FileMap}
 use Rattle.uz_shelf.specs.Text.{TakesAll, TakesPrefix}
 use Rattle.uz_hex.specs.Reading.{Flash}
@@ -49,10 +49,14 @@ abbrev pub IsPrintedPart : ℕ → State PadHistory → Option (List ℕ) → Op
 IsPrintedPart limit start old new =
     (edges : List Edge) × (last : State PadHistory) × IsRunPart limit start edges last × TakesPrefix old (edge_lines edges) new
 
--- the console has come so far, and the lines of that part are printed
-abbrev pub IsPrintedSoFar : ℕ → State PadHistory → Console → Option (List ℕ) → Option (List ℕ) → Type 0
-IsPrintedSoFar limit start console old new =
-    (edges : List Edge) × RunsTo limit start edges console × TakesAll old (edge_lines edges) new
+-- a whole text is printed but for its end, which waits
+abbrev pub TakesAllBut : List ℕ → Option (List ℕ) → List ℕ → Option (List ℕ) → Type 0
+TakesAllBut waiting old whole new = (printed : List ℕ) × (printed ++ waiting ≡ whole) × TakesAll old printed new
+
+-- the console has come so far, and the lines of that part are printed but for those that wait
+abbrev pub IsPrintedSoFar : ℕ → State PadHistory → Console → List ℕ → Option (List ℕ) → Option (List ℕ) → Type 0
+IsPrintedSoFar limit start console waiting old new =
+    (edges : List Edge) × RunsTo limit start edges console × TakesAllBut waiting old (edge_lines edges) new
 
 -- the status and the line of a run's end
 abbrev pub end_status : RunEnd → Status

@@ -1,6 +1,6 @@
 //! `trace HEX PADS IRQ CLOCKS`.
 
-ghost use Rattle.std.specs.Prelude.{◌≡◌, ◌≤◌, ◌^◌, [], IfErr, IfOk, IsErrOf, OnErr, OnOk};
+ghost use Rattle.std.specs.Prelude.{◌≡◌, ◌≤◌, ◌^◌, ◌++◌, [], IfErr, IfOk, IsErrOf, OnErr, OnOk};
 ghost use Rattle.uz_shelf.specs.Faults.{Rose};
 ghost use Rattle.uz_shelf.specs.Text.{TakesAll, TakesPrefix};
 ghost use Rattle.uz_console.specs.Runs.{RunsTo};
@@ -8,13 +8,13 @@ ghost use Rattle.uz_machine.specs.PadLine.{PadHistory};
 ghost use Rattle.uz_machine.specs.Turn.{State};
 ghost use Rattle.uz_top.specs.Endings.{EndsBy};
 ghost use Rattle.uz_top.specs.TraceCommand.{edge_lines};
-ghost use Rattle.uz_top.specs.TraceValues.{IsPrinted, IsPrintedPart, StartsTrace, TracePreface, end_status, last_line};
+ghost use Rattle.uz_top.specs.TraceValues.{IsPrinted, IsPrintedPart, StartsTrace, TakesAllBut, TracePreface, end_status, last_line};
 
 use crate::ending::{Ending, Failure};
 use crate::image_file::read_image;
 use crate::pad_file::read_pad_file;
 use crate::status::Status;
-use crate::trace_lines::{end, set_lines, stopped};
+use crate::trace_lines::{add_lines, end, stopped};
 use std::alloc::{AllocError, Global};
 use uz_cert::Response;
 use uz_console::{Console, Progress};
@@ -50,26 +50,43 @@ pub(crate) fn reset_console<H: Shelf>(
     Ok(Console::reset(alloc, image, list, irq)?)
 }
 
-/// Prints the lines of these edges. The text is a buffer for them.
-fn put_edges<K: Sink>(
+/// So many bytes of lines are gathered before they are printed.
+const PAGE: usize = 1024;
+
+/// Adds the lines of these edges to those that wait, and prints them all once they fill a page.
+fn keep_lines<K: Sink>(
     alloc: Global,
     out: &mut K,
-    text: &mut Vec<u8>,
+    waiting: &mut Vec<u8>,
     edges: &[Edge],
 ) -> Result<(), WriteError>
-    ensures ok { OnOk result (TakesAll (K.text out.old) (edge_lines edges.now) (K.text out.new)) }
-    ensures err { OnErr result (TakesPrefix (K.text out.old) (edge_lines edges.now) (K.text out.new)) }
+    ensures ok { OnOk result (TakesAllBut waiting.new.items (K.text out.old) (waiting.old.items ++ edge_lines edges.now) (K.text out.new)) }
+    ensures err { OnErr result (TakesPrefix (K.text out.old) (waiting.old.items ++ edge_lines edges.now) (K.text out.new)) }
     ensures failed { IsErrOf result WriteError.Failed → Rose (K.faults out.old) (K.faults out.new) }
     ensures faults { K.faults out.old ≤ K.faults out.new }
 {
-    if edges.is_empty() {
-        return Ok(());
+    add_lines(waiting, edges)?;
+    if waiting.len() >= PAGE {
+        out.put(alloc, waiting.as_slice())?;
+        waiting.clear();
     }
-    set_lines(text, edges)?;
-    out.put(alloc, text.as_slice())
+    Ok(())
 }
 
-/// Runs the console until its clock has come to the limit, and prints a line for each edge as the run goes.
+/// Prints the lines that wait.
+fn put_waiting<K: Sink>(alloc: Global, out: &mut K, waiting: &[u8]) -> Result<(), WriteError>
+    ensures ok { OnOk result (TakesAll (K.text out.old) waiting.now (K.text out.new)) }
+    ensures err { OnErr result (TakesPrefix (K.text out.old) waiting.now (K.text out.new)) }
+    ensures failed { IsErrOf result WriteError.Failed → Rose (K.faults out.old) (K.faults out.new) }
+    ensures faults { K.faults out.old ≤ K.faults out.new }
+{
+    if waiting.is_empty() {
+        return Ok(());
+    }
+    out.put(alloc, waiting)
+}
+
+/// Runs the console until its clock has come to the limit, and prints a line for each edge as the run goes, page by page.
 pub(crate) fn print_run<K: Sink>(
     alloc: Global,
     console: &mut Console,
@@ -82,19 +99,29 @@ pub(crate) fn print_run<K: Sink>(
     ensures failed { IsErrOf result WriteError.Failed → Rose (K.faults out.old) (K.faults out.new) }
     ensures faults { K.faults out.old ≤ K.faults out.new }
 {
-    let mut text = Vec::new(alloc);
+    let mut waiting = Vec::new(alloc);
     'turns: loop {
         match console.advance(limit) {
-            Progress::Took { edges } => match put_edges(alloc, out, &mut text, edges.as_slice()) {
-                Ok(()) => {}
-                Err(error) => return Err(error),
-            },
-            Progress::Over => return Ok(RunEnd::Over),
+            Progress::Took { edges } => {
+                match keep_lines(alloc, out, &mut waiting, edges.as_slice()) {
+                    Ok(()) => {}
+                    Err(error) => return Err(error),
+                }
+            }
+            Progress::Over => {
+                return match put_waiting(alloc, out, waiting.as_slice()) {
+                    Ok(()) => Ok(RunEnd::Over),
+                    Err(error) => Err(error),
+                };
+            }
             Progress::Stopped(why) => {
-                return Ok(RunEnd::Stopped {
-                    pc: console.pc(),
-                    why,
-                });
+                return match put_waiting(alloc, out, waiting.as_slice()) {
+                    Ok(()) => Ok(RunEnd::Stopped {
+                        pc: console.pc(),
+                        why,
+                    }),
+                    Err(error) => Err(error),
+                };
             }
         }
     }

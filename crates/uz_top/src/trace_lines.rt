@@ -43,11 +43,10 @@ fn push_edge(line: &mut Vec<u8>, edge: Edge) -> Result<(), AllocError>
     Ok(())
 }
 
-/// Puts the lines of these edges in place of what was there.
-pub(crate) fn set_lines(text: &mut Vec<u8>, edges: &[Edge]) -> Result<(), AllocError>
-    ensures { OnOk result (text.new.items ≡ edge_lines edges.now) }
+/// Adds the lines of these edges at the end of a text.
+pub(crate) fn add_lines(text: &mut Vec<u8>, edges: &[Edge]) -> Result<(), AllocError>
+    ensures { OnOk result (text.new.items ≡ text.old.items ++ edge_lines edges.now) }
 {
-    text.clear();
     for edge in edges {
         push_edge(text, *edge)?;
     }
