@@ -109,19 +109,21 @@ pub(crate) fn print_run<K: Sink>(
                 }
             }
             Progress::Over => {
-                return match put_waiting(alloc, out, waiting.as_slice()) {
-                    Ok(()) => Ok(RunEnd::Over),
-                    Err(error) => Err(error),
-                };
+                match put_waiting(alloc, out, waiting.as_slice()) {
+                    Ok(()) => return Ok(RunEnd::Over),
+                    Err(error) => return Err(error),
+                }
             }
             Progress::Stopped(why) => {
-                return match put_waiting(alloc, out, waiting.as_slice()) {
-                    Ok(()) => Ok(RunEnd::Stopped {
-                        pc: console.pc(),
-                        why,
-                    }),
-                    Err(error) => Err(error),
-                };
+                match put_waiting(alloc, out, waiting.as_slice()) {
+                    Ok(()) => {
+                        return Ok(RunEnd::Stopped {
+                            pc: console.pc(),
+                            why,
+                        });
+                    }
+                    Err(error) => return Err(error),
+                }
             }
         }
     }
