@@ -23,6 +23,7 @@ pub fn decode(first: u16, second: u16) -> Option<Instr>
     by_first_bits(first, second)
 }
 
+#[inline(always)]
 fn by_first_bits(first: u16, second: u16) -> Option<Instr>
     ensures { Decoded first second result }
 {
@@ -46,6 +47,7 @@ fn by_first_bits(first: u16, second: u16) -> Option<Instr>
 }
 
 /// NOP, MOVW, the products of upper registers, CPC, SBC, ADD.
+#[inline(always)]
 fn words_0000(first: u16) -> Option<Instr>
     requires { first / 2 ^ 12 ≡ 0 }
     ensures { (second : ℕ) → second < 2 ^ 16 → Decoded first second result }
@@ -61,6 +63,7 @@ fn words_0000(first: u16) -> Option<Instr>
 }
 
 /// NOP, MOVW, the products of upper registers.
+#[inline(always)]
 fn words_0000_00(first: u16) -> Option<Instr>
     requires { first / 2 ^ 10 ≡ 0 }
     ensures { (second : ℕ) → second < 2 ^ 16 → Decoded first second result }
@@ -77,6 +80,7 @@ fn words_0000_00(first: u16) -> Option<Instr>
 }
 
 /// The products of two of the registers 16 to 23.
+#[inline(always)]
 fn words_0000_0011(first: u16) -> Option<Instr>
     requires { first / 2 ^ 8 ≡ 3 }
     ensures { (second : ℕ) → second < 2 ^ 16 → Decoded first second result }
@@ -93,6 +97,7 @@ fn words_0000_0011(first: u16) -> Option<Instr>
 }
 
 /// CPSE, CP, SUB, ADC.
+#[inline(always)]
 fn words_0001(first: u16) -> Instr
     requires { first / 2 ^ 12 ≡ 1 }
     ensures { (second : ℕ) → second < 2 ^ 16 → Reads first second result }
@@ -108,6 +113,7 @@ fn words_0001(first: u16) -> Instr
 }
 
 /// AND, EOR, OR, MOV.
+#[inline(always)]
 fn words_0010(first: u16) -> Instr
     requires { first / 2 ^ 12 ≡ 2 }
     ensures { (second : ℕ) → second < 2 ^ 16 → Reads first second result }
@@ -123,6 +129,7 @@ fn words_0010(first: u16) -> Instr
 }
 
 /// CPI, SBCI, SUBI, ORI, ANDI.
+#[inline(always)]
 fn immediate(first: u16) -> Instr
     requires from { 3 ≤ first / 2 ^ 12 }
     requires to { first / 2 ^ 12 ≤ 7 }
@@ -140,6 +147,7 @@ fn immediate(first: u16) -> Instr
 }
 
 /// LDD and STD: words that begin with 10 and have a 0 in bit 12.
+#[inline(always)]
 fn displaced(first: u16) -> Option<Instr>
     requires { bit_and first 0xD000 ≡ 0x8000 }
     ensures { (second : ℕ) → second < 2 ^ 16 → Decoded first second result }
@@ -154,6 +162,7 @@ fn displaced(first: u16) -> Option<Instr>
     }
 }
 
+#[inline(always)]
 fn words_1001(first: u16, second: u16) -> Option<Instr>
     requires { first / 2 ^ 12 ≡ 9 }
     ensures { Decoded first second result }
@@ -167,6 +176,7 @@ fn words_1001(first: u16, second: u16) -> Option<Instr>
 }
 
 /// LDS, LD, LPM with a register, POP.
+#[inline(always)]
 fn loads(first: u16, second: u16) -> Option<Instr>
     requires { first / 2 ^ 9 ≡ 0x48 }
     ensures { Decoded first second result }
@@ -190,6 +200,7 @@ fn loads(first: u16, second: u16) -> Option<Instr>
 }
 
 /// STS, ST, PUSH.
+#[inline(always)]
 fn stores(first: u16, second: u16) -> Option<Instr>
     requires { first / 2 ^ 9 ≡ 0x49 }
     ensures { Decoded first second result }
@@ -211,6 +222,7 @@ fn stores(first: u16, second: u16) -> Option<Instr>
 }
 
 /// Rows of one register, jumps and calls of a whole first word, and control.
+#[inline(always)]
 fn words_1001_010(first: u16, second: u16) -> Option<Instr>
     requires { first / 2 ^ 9 ≡ 0x4A }
     ensures { Decoded first second result }
@@ -225,6 +237,7 @@ fn words_1001_010(first: u16, second: u16) -> Option<Instr>
 }
 
 /// COM, NEG, SWAP, INC, ASR, LSR, ROR, DEC, and control.
+#[inline(always)]
 fn one_register(first: u16) -> Option<Instr>
     requires begins { first / 2 ^ 9 ≡ 0x4A }
     requires ijmp { first ≢ 0x9409 }
@@ -249,6 +262,7 @@ fn one_register(first: u16) -> Option<Instr>
 }
 
 /// BSET, BCLR, returns, LPM with no operand, SPM, and the rows that do nothing.
+#[inline(always)]
 fn control(first: u16) -> Option<Instr>
     requires { bit_and first 0xFE0F ≡ 0x9408 }
     ensures { (second : ℕ) → second < 2 ^ 16 → Decoded first second result }
@@ -270,6 +284,7 @@ fn control(first: u16) -> Option<Instr>
 }
 
 /// ADIW, SBIW, CBI, SBIC, SBI, SBIS, MUL: words that begin with 1001 011 or 1001 1.
+#[inline(always)]
 fn words_1001_upper(first: u16) -> Instr
     requires begins { first / 2 ^ 12 ≡ 9 }
     requires upper { 0x4B ≤ first / 2 ^ 9 }
@@ -298,6 +313,7 @@ fn words_1001_upper(first: u16) -> Instr
 }
 
 /// IN, OUT.
+#[inline(always)]
 fn words_1011(first: u16) -> Instr
     requires { first / 2 ^ 12 ≡ 11 }
     ensures { (second : ℕ) → second < 2 ^ 16 → Reads first second result }
@@ -311,6 +327,7 @@ fn words_1011(first: u16) -> Instr
 }
 
 /// BRBS, BRBC, BLD, BST, SBRC, SBRS.
+#[inline(always)]
 fn words_1111(first: u16) -> Option<Instr>
     requires { first / 2 ^ 12 ≡ 15 }
     ensures { (second : ℕ) → second < 2 ^ 16 → Decoded first second result }
@@ -325,6 +342,7 @@ fn words_1111(first: u16) -> Option<Instr>
 }
 
 /// BLD, BST, SBRC, SBRS.
+#[inline(always)]
 fn words_1111_1(first: u16) -> Option<Instr>
     requires { first / 2 ^ 11 ≡ 31 }
     ensures { (second : ℕ) → second < 2 ^ 16 → Decoded first second result }

@@ -26,13 +26,20 @@ macro_rules! name_match {
 macro_rules! clocks_match {
     (($i:expr, $outcome:expr) $($variant:ident { $($field:ident $bits:literal),* } $key:ident $name:literal [$($operand:ident($($part:tt),*)),*],
       words $words:literal, clocks ($next:literal, $taken:literal, $one:literal, $two:literal), fixed $mask:literal is $value:literal;)*) => {
-        match $i {
-            $(Instr::$variant { .. } => match $outcome {
-                Outcome::Next => $next,
-                Outcome::Taken => $taken,
-                Outcome::SkipOne => $one,
-                Outcome::SkipTwo => $two,
-            },)*
+        // the row inside, so that each outcome is a table of numbers and no jump
+        match $outcome {
+            Outcome::Next => match $i {
+                $(Instr::$variant { .. } => $next,)*
+            },
+            Outcome::Taken => match $i {
+                $(Instr::$variant { .. } => $taken,)*
+            },
+            Outcome::SkipOne => match $i {
+                $(Instr::$variant { .. } => $one,)*
+            },
+            Outcome::SkipTwo => match $i {
+                $(Instr::$variant { .. } => $two,)*
+            },
         }
     };
 }

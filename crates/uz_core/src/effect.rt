@@ -418,6 +418,7 @@ macro_rules! effects {
 }
 
 /// What an instruction does.
+#[inline(always)]
 pub(crate) fn effect(i: &Instr) -> Effect
     ensures value { result ≡ effect_of i.now }
     ensures fits { EffectFits result }
