@@ -32,7 +32,7 @@ use Rattle.avr_asm.proofs.OutcomeLemmas.{ok_same}
 use Rattle.avr_asm.proofs.EntryLists.{same_key, looked_up}
 use Rattle.avr_asm.proofs.MadeMaps.{predefined_made, AreFree}
 use Rattle.avr_asm.proofs.LinePuts.{with_output, line_put}
-use Rattle.avr_asm.proofs.LineEnds.{line_end}
+use Rattle.avr_asm.proofs.LineEnds.{WordsByName, line_end}
 use Rattle.avr_asm.proofs.Statements.{Chain, chain_from, end_more, names_more, bytes_more, definitions_append}
 
 -- no two entries have one key
@@ -175,10 +175,10 @@ all_laid symbols k address before (s ∷ ss) chain at free once =
     ∙ ap (λ bs. Ok (record { addresses = s.address ∷ map (λ (t : Statement). t.address) ss; symbols = from_entries (names_of bs) })) front
 
 -- the bytes of a statement end within the flash
-within_flash : (symbols : NameMap) (before : List Statement) (s : Statement) (after : List Statement) → IsStatement symbols before s after → 0 < length s.output.bytes → s.address + length s.output.bytes ≤ 65536
+within_flash : (counts : WordsByName) (symbols : NameMap) (before : List Statement) (s : Statement) (after : List Statement) → IsStatement symbols before s after → 0 < length s.output.bytes → s.address + length s.output.bytes ≤ 65536
 unfolding effect_in
-within_flash symbols before s after is =
-    (line_end (action_of s.source (body_of s.tokens)) s.source (from_entries (names_of before)) symbols (arguments_in s.source s.tokens) (parts_of (arguments_in s.source s.tokens))
+within_flash counts symbols before s after is =
+    (line_end counts (action_of s.source (body_of s.tokens)) s.source (from_entries (names_of before)) symbols (arguments_in s.source s.tokens) (parts_of (arguments_in s.source s.tokens))
     (list_any is_instruction_line (map (λ (t : Statement). t.source) after)) s.address (following (map (λ (t : Statement). t.source) after) (map (λ (t : Statement). t.address) after))
     (end_by s.effect s.address s.output.bytes) s.effect s.output is.known is.puts is.fits).1
 
@@ -186,14 +186,14 @@ within_flash symbols before s after is =
 abbrev output_of_statements : List Statement → List Statement → Output → Output
 output_of_statements before ss out = record { image = from_entries (bytes_of (before ++ ss)); items = out.items ++ items_of ss; hints = out.hints ++ hints_of ss }
 
-statement_put : (symbols : NameMap) (k : ℕ) (before : List Statement) (s : Statement) (after : List Statement) (ys : List (ℕ × ℕ)) (out : Output) → IsStatement symbols before s after → s.number ≡ k → out.image ≡ from_entries (bytes_of before)
+statement_put : (counts : WordsByName) (symbols : NameMap) (k : ℕ) (before : List Statement) (s : Statement) (after : List Statement) (ys : List (ℕ × ℕ)) (out : Output) → IsStatement symbols before s after → s.number ≡ k → out.image ≡ from_entries (bytes_of before)
     → Once ((bytes_of before ++ bytes_from s.address s.output.bytes) ++ ys)
     → with_line s.source symbols k s.address (following (map (λ t. t.source) after) (map (λ t. t.address) after)) out
     ≡ Ok (record { image = from_entries (bytes_of (before ++ s ∷ [])); items = out.items ++ item_of s.number s.address s.output.instruction; hints = out.hints ++ hint_list s.output.hint })
 unfolding line_output
-statement_put symbols k before s after ys out is number image once =
+statement_put counts symbols k before s after ys out is number image once =
     let next = following (map (λ (t : Statement). t.source) after) (map (λ (t : Statement). t.address) after) in
-    let bytes = is_put_at s.address s.output.bytes out.image (bytes_of before) ys image once (within_flash symbols before s after is) in
+    let bytes = is_put_at s.address s.output.bytes out.image (bytes_of before) ys image once (within_flash counts symbols before s after is) in
     line_put s.source symbols k s.address next out
     ∙ ap (λ (o : Outcome (List Token)). (o >>= tokens_output s.source symbols s.address next) >>= with_output k s.address out) is.read
     ∙ ap (λ (o : Outcome LineOutput). o >>= with_output k s.address out) is.puts
@@ -205,20 +205,20 @@ bytes_append : (xs ys : List Statement) → bytes_of (xs ++ ys) ≡ bytes_of xs 
 bytes_append [] ys = refl
 bytes_append (x ∷ xs) ys = ap (λ ds. bytes_from x.address x.output.bytes ++ ds) (bytes_append xs ys) ∙ sym (append_assoc (bytes_from x.address x.output.bytes) (bytes_of xs) (bytes_of ys))
 
-all_put : (symbols : NameMap) (k : ℕ) (before ss : List Statement) (out : Output) → Chain symbols before ss → k ≡ length before + 1 → out.image ≡ from_entries (bytes_of before) → Once (bytes_of (before ++ ss))
+all_put : (counts : WordsByName) (symbols : NameMap) (k : ℕ) (before ss : List Statement) (out : Output) → Chain symbols before ss → k ≡ length before + 1 → out.image ≡ from_entries (bytes_of before) → Once (bytes_of (before ++ ss))
     → output_from k symbols out (map (λ s. s.source) ss) (map (λ s. s.address) ss) ≡ Ok (output_of_statements before ss out)
 unfolding output_from
-all_put symbols k before [] out chain count image once =
+all_put counts symbols k before [] out chain count image once =
     λ i. Ok (record { image = (image ∙ ap (λ bs. from_entries {R = nat_cmp} (bytes_of bs)) (sym (append-nil before))) i; items = sym (append-nil out.items) i; hints = sym (append-nil out.hints) i })
-all_put symbols k before (s ∷ ss) out chain count image once =
+all_put counts symbols k before (s ∷ ss) out chain count image once =
     let front : (before ++ s ∷ []) ++ ss ≡ before ++ s ∷ ss = append_assoc before (s ∷ []) ss in
     let number : s.number ≡ k = chain.0.numbered ∙ sym count in
     let bytes : bytes_of (before ++ s ∷ ss) ≡ (bytes_of before ++ bytes_from s.address s.output.bytes) ++ bytes_of ss =
     bytes_append before (s ∷ ss) ∙ sym (append_assoc (bytes_of before) (bytes_from s.address s.output.bytes) (bytes_of ss)) in
     let next : Output = record { image = from_entries (bytes_of (before ++ s ∷ [])); items = out.items ++ item_of s.number s.address s.output.instruction; hints = out.hints ++ hint_list s.output.hint } in
-    let step = statement_put symbols k before s ss (bytes_of ss) out chain.0 number image (subst (λ xs. Once xs) bytes once) in
+    let step = statement_put counts symbols k before s ss (bytes_of ss) out chain.0 number image (subst (λ xs. Once xs) bytes once) in
     let more : k + 1 ≡ length (before ++ s ∷ []) + 1 = omega (arith, count, length-append before (s ∷ [])) in
-    let rest = all_put symbols (k + 1) (before ++ s ∷ []) ss next chain.1 more refl (subst (λ bs. Once (bytes_of bs)) (sym front) once) in
+    let rest = all_put counts symbols (k + 1) (before ++ s ∷ []) ss next chain.1 more refl (subst (λ bs. Once (bytes_of bs)) (sym front) once) in
     ap (λ (o : Outcome Output). at_line k o (λ n. output_from (k + 1) symbols n (map (λ (t : Statement). t.source) ss) (map (λ (t : Statement). t.address) ss))) step
     ∙ rest
     ∙ (λ i. Ok (record {
@@ -227,8 +227,8 @@ all_put symbols k before (s ∷ ss) out chain count image once =
       hints = append_assoc out.hints (hint_list s.output.hint) (hints_of ss) i;
     }))
 
-pub exact_assembly : (text : List ℕ) (out : Output) → IsAssembly text out → assembly text ≡ Ok out
-exact_assembly text out is =
+pub exact_assembly : (counts : WordsByName) (text : List ℕ) (out : Output) → IsAssembly text out → assembly text ≡ Ok out
+exact_assembly counts text out is =
     let ss = is.statements in
     let chain = chain_from is.symbols [] ss is.meanings in
     let symbols : is.symbols ≡ from_entries (names_of ss) = is_made nat_list_cmp_total (slice_cmp-IsAntisymmetric nat_cmp-IsAntisymmetric) is.symbols (names_of ss) is.names in
@@ -237,7 +237,7 @@ exact_assembly text out is =
     let laid = all_laid is.symbols 1 0 [] ss chain refl (recursion_from_All (λ entry. is_reserved entry.0 ≡ false) (definitions_of ss) is.free) is.names.once in
     let layout : layout_of (lines_of text) ≡ Ok (record { addresses = map (λ (s : Statement). s.address) ss; symbols = from_entries (names_of ss) }) =
     ap layout_of (sym is.sources) ∙ ap (λ p. layout_from 1 p (map (λ (s : Statement). s.source) ss)) begins ∙ laid in
-    let puts = all_put is.symbols 1 [] ss nothing chain refl refl is.image.once in
+    let puts = all_put counts is.symbols 1 [] ss nothing chain refl refl is.image.once in
     let same : Output = record { image = from_entries (bytes_of ss); items = items_of ss; hints = hints_of ss } in
     ap (output_of (lines_of text)) layout
     ∙ ap (λ m. output_from 1 m nothing (lines_of text) (map (λ (s : Statement). s.address) ss)) (sym symbols)
@@ -246,8 +246,8 @@ exact_assembly text out is =
     ∙ (λ i. Ok (record { image = sym image i; items = sym is.items i; hints = sym is.hints i }))
 
 -- so a source has one assembly at most
-pub one_assembly : (text : List ℕ) (a b : Output) → IsAssembly text a → IsAssembly text b → a ≡ b
-one_assembly text a b p q = ok_same a b (sym (exact_assembly text a p) ∙ exact_assembly text b q)
+pub one_assembly : (counts : WordsByName) (text : List ℕ) (a b : Output) → IsAssembly text a → IsAssembly text b → a ≡ b
+one_assembly counts text a b p q = ok_same a b (sym (exact_assembly counts text a p) ∙ exact_assembly counts text b q)
 
-pub complete_built : (text : List ℕ) (result : Result Built AsmError) → GivesLayout seen_built result (assembly text) → (out : Output) → IsAssembly text out → GivesLayout seen_built result (Ok out)
-complete_built text result e out is = subst (GivesLayout seen_built result) (exact_assembly text out is) e
+pub complete_built : (counts : WordsByName) (text : List ℕ) (result : Result Built AsmError) → GivesLayout seen_built result (assembly text) → (out : Output) → IsAssembly text out → GivesLayout seen_built result (Ok out)
+complete_built counts text result e out is = subst (GivesLayout seen_built result) (exact_assembly counts text out is) e

@@ -125,7 +125,7 @@ takes_even (action.Directive d) line symbols arguments parts follows effect is e
 takes_even (action.Instruction m) line symbols arguments parts follows effect is e = (2 * words_of m, ok_same (Take (2 * words_of m) true) effect e)
 
 even_placed : (n address next : ℕ) → placed (Take n true) address ≡ Ok next → address % 2 ≡ 0
-even_placed n address next e = by_case (nat_lt 0 n && nat_lt 65536 (address + n)) (address % 2 == 0) refl e
+even_placed n address next e = by_case (nat_lt 65536 (address + n)) (address % 2 == 0) refl e
   where
     by_case : (past even : Bool) → (address % 2 == 0) ≡ even → cond past (Err why.Past) (cond (true && not even) (Err why.Directive) (Ok (address + n))) ≡ Ok next → address % 2 ≡ 0
     by_case true even is e' = absurd cc

@@ -11,7 +11,6 @@ pub mod LinePuts
 pub mod Decoding
 pub mod LaidLines
 pub mod DecodedItems
-pub mod WordCounts
 pub mod LineEnds
 pub mod EntryLists
 pub mod MadeMaps

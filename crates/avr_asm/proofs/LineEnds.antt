@@ -12,6 +12,7 @@ use Rattle.avr_text.specs.Reading.{is_mark_of}
 use Rattle.avr_asm.specs.declared.directives.Directive.{Directive}
 use Rattle.avr_asm.specs.declared.directives.Directive.TheVariants as directive
 use Rattle.avr_operands.specs.declared.faults.AsmWhy.TheVariants as why
+use Rattle.avr_operands.specs.declared.mnemonics.Mnemonic.{Mnemonic}
 use Rattle.avr_asm.specs.declared.first_pass.Effect.{Effect}
 use Rattle.avr_asm.specs.declared.first_pass.Effect.TheVariants.{Nothing, Move, Define, Take, Wrong}
 use Rattle.avr_asm.specs.declared.lines.Action.{Action}
@@ -26,10 +27,9 @@ use Rattle.avr_asm.specs.Layout.{has_shape, moved, set, org_effect, equ_effect, 
 use Rattle.avr_asm.specs.LineOutputs.{LineOutput, no_output, instruction_output, data_output, hint_output, directive_output, action_output}
 use Rattle.avr_asm.specs.Lines.{is_name}
 use Rattle.avr_operands.specs.Mnemonics.{words_of}
-use Rattle.avr_operands.specs.Operands.{number, expression}
+use Rattle.avr_operands.specs.Operands.{Operands, number, expression}
 use Rattle.avr_asm.specs.Relation.{end_by}
 use Rattle.avr_asm.proofs.OutcomeLemmas.{ok_same, made}
-use Rattle.avr_asm.proofs.WordCounts.{instruction_words}
 
 -- the bytes of data
 abbrev wide_size : Bool → ℕ
@@ -84,6 +84,10 @@ word_size line symbols parts bytes e =
     let nothing : 0 ≡ length d.0 = ap length (ok_same [] d.0 d.1) in
     omega (arith, d.2, nothing)
 
+-- an instruction has as many words as its name says
+abbrev pub WordsByName : Type 0
+WordsByName = (name : Mnemonic) (operands : Operands) (instr : Instr) → instruction_of name operands ≡ Ok instr → words instr ≡ words_of name
+
 -- the bytes of an instruction
 code_size : (i : Instr) → length (instruction_bytes i) ≡ 2 * words i
 code_size i = by_case (nat_le (length (places (row i).pattern)) 16)
@@ -94,7 +98,7 @@ code_size i = by_case (nat_le (length (places (row i).pattern)) 16)
 
 -- where the first pass ends a line
 take_end : (n : ℕ) (even : Bool) (address next : ℕ) → placed (Take n even) address ≡ Ok next → address + n ≡ next
-take_end n even address next e = by_case (nat_lt 0 n && nat_lt 65536 (address + n)) (even && not (address % 2 == 0)) e
+take_end n even address next e = by_case (nat_lt 65536 (address + n)) (even && not (address % 2 == 0)) e
   where
     by_case : (past odd : Bool) → cond past (Err why.Past) (cond odd (Err why.Directive) (Ok (address + n))) ≡ Ok next → address + n ≡ next
     by_case true odd e' = absurd cc
@@ -119,13 +123,10 @@ none_ends Wrong address next bytes t b e = absurd cc
 none_end : (effect : Effect) (address next : ℕ) (bytes : List ℕ) → TakesNone effect → bytes ≡ [] → placed effect address ≡ Ok next → EndsAt effect address next bytes
 none_end effect address next bytes t b e = (none_ends effect address next bytes t b e, λ some. absurd (let none : length bytes ≡ 0 = ap length b in omega (arith, none, some)))
 
-take_within : (n : ℕ) (even : Bool) (address next : ℕ) → placed (Take n even) address ≡ Ok next → 0 < n → address + n ≤ 65536
-take_within n even address next e some = by_case (nat_lt 65536 (address + n)) (even && not (address % 2 == 0)) refl (ap (λ t. cond (t && nat_lt 65536 (address + n)) (Err why.Past) (cond (even && not (address % 2 == 0)) (Err why.Directive) (Ok (address + n)))) (sym is_some) ∙ e)
+take_within : (n : ℕ) (even : Bool) (address next : ℕ) → placed (Take n even) address ≡ Ok next → address + n ≤ 65536
+take_within n even address next e = by_case (nat_lt 65536 (address + n)) (even && not (address % 2 == 0)) refl e
   where
-    is_some : nat_lt 0 n ≡ true
-    is_some = grind (arith, nat_tests)
-
-    by_case : (past odd : Bool) → nat_lt 65536 (address + n) ≡ past → cond (true && past) (Err why.Past) (cond odd (Err why.Directive) (Ok (address + n))) ≡ Ok next → address + n ≤ 65536
+    by_case : (past odd : Bool) → nat_lt 65536 (address + n) ≡ past → cond past (Err why.Past) (cond odd (Err why.Directive) (Ok (address + n))) ≡ Ok next → address + n ≤ 65536
     by_case true odd is e' = absurd cc
     by_case false odd is e' = grind (arith, nat_tests)
 
@@ -133,7 +134,7 @@ some_end : (effect : Effect) (n : ℕ) (even : Bool) (address next : ℕ) (bytes
 some_end effect n even address next bytes is size e =
     let at : placed (Take n even) address ≡ Ok next = ap (λ f. placed f address) is ∙ e in (
       subst (λ f. end_by f address bytes ≡ next) is (ap (λ k. address + k) size ∙ take_end n even address next at),
-      λ some. subst (λ k. address + k ≤ 65536) (sym size) (take_within n even address next at (subst (λ k. 0 < k) size some)),
+      λ some. subst (λ k. address + k ≤ 65536) (sym size) (take_within n even address next at),
     )
 
 -- data takes its bytes, or its line has the wrong operands
@@ -186,16 +187,16 @@ directive_end directive.Stack line known symbols arguments parts follows address
 directive_end directive.Cell line known symbols arguments parts follows address following next effect out is puts e = none_end effect address next out.bytes (shaped_none (has_shape directive.Cell line parts follows) effect is) (hint_empty (hint_of directive.Cell line symbols parts following) out puts) e
 directive_end directive.Fact line known symbols arguments parts follows address following next effect out is puts e = none_end effect address next out.bytes (shaped_none (has_shape directive.Fact line parts follows) effect is) (hint_empty (hint_of directive.Fact line symbols parts following) out puts) e
 
-pub line_end : (a : Action) (line : List ℕ) (known symbols : NameMap) (arguments : List Token) (parts : List (List Token)) (follows : Bool) (address following next : ℕ) (effect : Effect) (out : LineOutput)
+pub line_end : (counts : WordsByName) (a : Action) (line : List ℕ) (known symbols : NameMap) (arguments : List Token) (parts : List (List Token)) (follows : Bool) (address following next : ℕ) (effect : Effect) (out : LineOutput)
     → effect_of a line known arguments parts follows ≡ Ok effect → action_output a line symbols address following parts ≡ Ok out → placed effect address ≡ Ok next → EndsAt effect address next out.bytes
-line_end action.Empty line known symbols arguments parts follows address following next effect out is puts e =
+line_end counts action.Empty line known symbols arguments parts follows address following next effect out is puts e =
     none_end effect address next out.bytes (subst TakesNone (ok_same Nothing effect is) tt) (sym (ap (λ (p : LineOutput). p.bytes) (ok_same no_output out puts))) e
-line_end action.Unknown line known symbols arguments parts follows address following next effect out is puts e = absurd cc
-line_end action.NoDirective line known symbols arguments parts follows address following next effect out is puts e =
+line_end counts action.Unknown line known symbols arguments parts follows address following next effect out is puts e = absurd cc
+line_end counts action.NoDirective line known symbols arguments parts follows address following next effect out is puts e =
     let no : placed Wrong address ≡ Ok next = ap (λ f. placed f address) (ok_same Wrong effect is) ∙ e in absurd cc
-line_end (action.Instruction name) line known symbols arguments parts follows address following next effect out is puts e =
+line_end counts (action.Instruction name) line known symbols arguments parts follows address following next effect out is puts e =
     let it = made (instruction_of name (record { line = line; symbols = symbols; next = address + 2; parts = parts })) instruction_output out puts in
     let size : length out.bytes ≡ 2 * words_of name =
-    sym (ap (λ (p : LineOutput). length p.bytes) it.2) ∙ code_size it.0 ∙ ap (λ n. 2 * n) (instruction_words name (record { line = line; symbols = symbols; next = address + 2; parts = parts }) it.0 it.1) in
+    sym (ap (λ (p : LineOutput). length p.bytes) it.2) ∙ code_size it.0 ∙ ap (λ n. 2 * n) (counts name (record { line = line; symbols = symbols; next = address + 2; parts = parts }) it.0 it.1) in
     some_end effect (2 * words_of name) true address next out.bytes (ok_same (Take (2 * words_of name) true) effect is) size e
-line_end (action.Directive d) line known symbols arguments parts follows address following next effect out is puts e = directive_end d line known symbols arguments parts follows address following next effect out is puts e
+line_end counts (action.Directive d) line known symbols arguments parts follows address following next effect out is puts e = directive_end d line known symbols arguments parts follows address following next effect out is puts e

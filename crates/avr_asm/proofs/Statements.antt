@@ -27,7 +27,7 @@ use Rattle.avr_asm.proofs.LinePuts.{with_output, line_put}
 use Rattle.avr_asm.proofs.Decoding.{at_line_ok}
 use Rattle.avr_asm.proofs.LaidLines.{LaidLine, laid_lines, no_lines}
 use Rattle.avr_asm.proofs.KeptEffects.{ValuesStay, effect_stays, front_kept}
-use Rattle.avr_asm.proofs.LineEnds.{line_end}
+use Rattle.avr_asm.proofs.LineEnds.{WordsByName, line_end}
 use Rattle.avr_asm.proofs.DecodedItems.{laid_out}
 
 -- statements one after another
@@ -96,10 +96,10 @@ tokens_put : (line : List ℕ) (symbols : NameMap) (address next : ℕ) (tokens 
 unfolding line_output
 tokens_put line symbols address next tokens o is e = sym (ap (λ (c : Outcome (List Token)). c >>= tokens_output line symbols address next) is) ∙ e
 
-ended : (follows : Bool) (line : List ℕ) (place next : Place) (all : NameMap) (after : ℕ) (l : LaidLine follows line place next) (o : LineOutput) → tokens_output line all place.address after l.tokens ≡ Ok o → end_by l.effect place.address o.bytes ≡ next.address
+ended : (counts : WordsByName) (follows : Bool) (line : List ℕ) (place next : Place) (all : NameMap) (after : ℕ) (l : LaidLine follows line place next) (o : LineOutput) → tokens_output line all place.address after l.tokens ≡ Ok o → end_by l.effect place.address o.bytes ≡ next.address
 unfolding effect_in
-ended follows line place next all after l o e =
-    (line_end (action_of line (body_of l.tokens)) line place.symbols all (arguments_in line l.tokens) (parts_of (arguments_in line l.tokens)) follows place.address after next.address l.effect o l.is_effect e l.is_placed).0
+ended counts follows line place next all after l o e =
+    (line_end counts (action_of line (body_of l.tokens)) line place.symbols all (arguments_in line l.tokens) (parts_of (arguments_in line l.tokens)) follows place.address after next.address l.effect o l.is_effect e l.is_placed).0
 
 free_append : (xs ys : List (List ℕ × ℤ)) → AreFree xs → AreFree ys → AreFree (xs ++ ys)
 free_append [] ys f g = g
@@ -127,21 +127,21 @@ is_put k address out next o e =
     let it = made (put address o.bytes out.image) (λ image. record { image = image; items = out.items ++ item_of k address o.instruction; hints = out.hints ++ hint_list o.hint }) next e in
     record { bytes = it.1 ∙ ap (λ (n : Output). Ok n.image) it.2; items = sym (ap (λ (n : Output). n.items) it.2); hints = sym (ap (λ (n : Output). n.hints) it.2) }
 
-ready_more : (follows : Bool) (line : List ℕ) (place next : Place) (before : List Statement) (k : ℕ) (all : NameMap) (after : ℕ) (l : LaidLine follows line place next) (out put_out : Output) (o : LineOutput)
+ready_more : (counts : WordsByName) (follows : Bool) (line : List ℕ) (place next : Place) (before : List Statement) (k : ℕ) (all : NameMap) (after : ℕ) (l : LaidLine follows line place next) (out put_out : Output) (o : LineOutput)
     → IsReady before k place out → tokens_output line all place.address after l.tokens ≡ Ok o → IsPut k place.address out put_out o → IsReady (before ++ statement k l o ∷ []) (k + 1) next put_out
-ready_more follows line place next before k all after l out put_out o ready e p =
+ready_more counts follows line place next before k all after l out put_out o ready e p =
     let s = statement k l o in
     record {
       numbered = omega (arith, ready.numbered, length-append before (s ∷ []));
-      placed = sym (end_more 0 before s ∙ ap (λ a. end_by l.effect a o.bytes) (sym ready.placed) ∙ ended follows line place next all after l o e);
+      placed = sym (end_more 0 before s ∙ ap (λ a. end_by l.effect a o.bytes) (sym ready.placed) ∙ ended counts follows line place next all after l o e);
       names = (named_more follows line place next before k l o ready.names).0;
       image = subst (IsMadeOf put_out.image) (bytes_more before s) (put_made place.address o.bytes out.image put_out.image (bytes_of before) p.bytes ready.image);
     }
 
-pub stated : (stay : ValuesStay) (all : NameMap) (before : List Statement) (k : ℕ) (place : Place) (out last : Output) (lines : List (List ℕ)) (layout : Layout)
+pub stated : (stay : ValuesStay) (counts : WordsByName) (all : NameMap) (before : List Statement) (k : ℕ) (place : Place) (out last : Output) (lines : List (List ℕ)) (layout : Layout)
     → layout.symbols ≡ all → layout_from k place lines ≡ Ok layout → output_from k all out lines layout.addresses ≡ Ok last → IsReady before k place out → AreStated all before out last lines layout
 unfolding output_from
-stated stay all before k place out last [] layout is_all e f ready =
+stated stay counts all before k place out last [] layout is_all e f ready =
     let end = no_lines k place layout e in
     let same : out ≡ last = ok_same out last f in
     record {
@@ -155,7 +155,7 @@ stated stay all before k place out last [] layout is_all e f ready =
       items = sym (ap (λ (o : Output). o.items) same) ∙ sym (append-nil out.items);
       hints = sym (ap (λ (o : Output). o.hints) same) ∙ sym (append-nil out.hints);
     }
-stated stay all before k place out last (line ∷ lines) layout is_all e f ready =
+stated stay counts all before k place out last (line ∷ lines) layout is_all e f ready =
     let laid = laid_lines k place line lines layout e in
     let l = laid.here in
     let g : output_from k all out (line ∷ lines) (place.address ∷ laid.rest.addresses) ≡ Ok last = ap (output_from k all out (line ∷ lines)) (sym laid.addresses) ∙ f in
@@ -166,7 +166,7 @@ stated stay all before k place out last (line ∷ lines) layout is_all e f ready
     let p = is_put k place.address out it.0 o step.2 in
     let puts = tokens_put line all place.address after l.tokens o l.is_content step.1 in
     let s = statement k l o in
-    let rest = stated stay all (before ++ s ∷ []) (k + 1) laid.next it.0 last lines laid.rest (sym laid.symbols ∙ is_all) laid.is_rest it.2 (ready_more (list_any is_instruction_line lines) line place laid.next before k all after l out it.0 o ready puts p) in
+    let rest = stated stay counts all (before ++ s ∷ []) (k + 1) laid.next it.0 last lines laid.rest (sym laid.symbols ∙ is_all) laid.is_rest it.2 (ready_more counts (list_any is_instruction_line lines) line place laid.next before k all after l out it.0 o ready puts p) in
     let front : (before ++ s ∷ []) ++ rest.statements ≡ before ++ s ∷ rest.statements = append_assoc before (s ∷ []) rest.statements in
     let keeps : Keeps (from_entries (names_of before)) all =
     front_kept (names_of before) (definitions_of (s ∷ rest.statements)) all (sym is_all ∙ laid.symbols ∙ rest.names.is ∙ ap (λ ns. from_entries {R = slice_cmp nat_cmp} ns) (ap names_of front ∙ names_append before (s ∷ rest.statements))) in
@@ -177,7 +177,7 @@ stated stay all before k place out last (line ∷ lines) layout is_all e f ready
       located = ready.placed;
       read = l.is_content;
       known = known;
-      fits = l.is_placed ∙ ap Ok (sym (ended (list_any is_instruction_line lines) line place laid.next all after l o puts));
+      fits = l.is_placed ∙ ap Ok (sym (ended counts (list_any is_instruction_line lines) line place laid.next all after l o puts));
       does = effect_stays stay (from_entries (names_of before)) all keeps line (list_any is_instruction_line (map (λ (t : Statement). t.source) rest.statements)) l.tokens l.effect known;
       puts = ap (λ ls. tokens_output line all place.address (following ls (map (λ (t : Statement). t.address) rest.statements)) l.tokens) rest.sources
           ∙ ap (λ xs. tokens_output line all place.address (following lines xs) l.tokens) rest.addresses ∙ puts;
@@ -198,11 +198,11 @@ nothing_made : IsMadeOf {X = ℕ} {R = nat_cmp} empty []
 unfolding IsDistinct
 nothing_made = record { is = refl; once = tt }
 
-pub is_assembly : (stay : ValuesStay) (text : List ℕ) (out : Output) → assembly text ≡ Ok out → IsAssembly text out
-is_assembly stay text out e =
+pub is_assembly : (stay : ValuesStay) (counts : WordsByName) (text : List ℕ) (out : Output) → assembly text ≡ Ok out → IsAssembly text out
+is_assembly stay counts text out e =
     let l = laid_out text out e in
     let ready : IsReady [] 1 start nothing = record { numbered = refl; placed = refl; names = subst (IsMadeOf start.symbols) (sym (append-nil predefined_names)) predefined_made; image = nothing_made } in
-    let all = stated stay l.0.symbols [] 1 start nothing out (lines_of text) l.0 refl l.1 l.2 ready in
+    let all = stated stay counts l.0.symbols [] 1 start nothing out (lines_of text) l.0 refl l.1 l.2 ready in
     record {
       statements = all.statements;
       symbols = l.0.symbols;
@@ -215,6 +215,6 @@ is_assembly stay text out e =
       hints = all.hints;
     }
 
-pub relation_built : (stay : ValuesStay) (text : List ℕ) (result : Result Built AsmError) → GivesLayout seen_built result (assembly text) → IfOk result (λ b. IsAssembly text (seen_built b))
-relation_built stay text (Ok b) e = is_assembly stay text (seen_built b) e
-relation_built stay text (Err fault) e = tt
+pub relation_built : (stay : ValuesStay) (counts : WordsByName) (text : List ℕ) (result : Result Built AsmError) → GivesLayout seen_built result (assembly text) → IfOk result (λ b. IsAssembly text (seen_built b))
+relation_built stay counts text (Ok b) e = is_assembly stay counts text (seen_built b) e
+relation_built stay counts text (Err fault) e = tt

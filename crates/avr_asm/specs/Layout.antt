@@ -111,7 +111,7 @@ placed Nothing address = Ok address
 placed (Move to) address = Ok to
 placed (Define value) address = Ok address
 placed (Take bytes even) address =
-    if nat_lt 0 bytes && nat_lt 65536 (address + bytes) then Err why.Past
+    if nat_lt 65536 (address + bytes) then Err why.Past
     else if even && not (address % 2 == 0) then Err why.Directive
     else Ok (address + bytes)
 placed Wrong address = Err why.Directive

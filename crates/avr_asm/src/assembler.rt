@@ -16,7 +16,7 @@ use crate::hints::hint_of;
 use crate::layout::{is_instruction_line, lay_out};
 use crate::lines::{Action, action_of, arguments_of, body_of, content_of, lines_of, parts_of};
 use crate::output::{Built, Placed};
-use avr_operands::{AsmWhy, Operands};
+use avr_operands::{AsmWhy, Operands, name_gives_word_count};
 use avr_table::Instr;
 use avr_text::{Symbols, Token, value_is_kept};
 use std::alloc::Global;
@@ -277,5 +277,6 @@ pub fn assemble(alloc: Global, text: &[u8]) -> Result<Built, AsmError>
     ensures complete { (out : Output) → IsAssembly text.now out → GivesLayout seen_built result (Ok out) }
 {
     value_is_kept();
+    name_gives_word_count();
     assemble_lines(alloc, text)
 }

@@ -217,7 +217,7 @@ pub fn placed(effect: Effect, address: u32) -> Result<u32, AsmWhy>
         Effect::Move(to) => Ok(to),
         Effect::Wrong => Err(AsmWhy::Directive),
         Effect::Take { bytes, even } => {
-            if bytes > 0 && bytes > (FLASH_END - address) as usize {
+            if bytes > (FLASH_END - address) as usize {
                 Err(AsmWhy::Past)
             } else if even && address % 2 != 0 {
                 Err(AsmWhy::Directive)

@@ -135,3 +135,7 @@ words_of_instruction name o = of_numbers (forms_of name) name o refl
 -- the same of what a call gave
 pub words_of_result : (name : Mnemonic) (o : Operands) (result : Outcome Instr) → result ≡ instruction_of name o → HasWords (words_of name) result
 words_of_result name o result e = subst (HasWords (words_of name)) (sym e) (words_of_instruction name o)
+
+-- the same of an instruction
+pub words_of_made : (name : Mnemonic) (o : Operands) (instr : Instr) → instruction_of name o ≡ Ok instr → row_words instr ≡ words_of name
+words_of_made name o instr e = subst (HasWords (words_of name)) e (words_of_instruction name o)

@@ -7,11 +7,13 @@
 mod faults;
 mod fields;
 mod instructions;
+mod laws;
 mod mnemonics;
 mod operands;
 mod pointers;
 
 pub use faults::AsmWhy;
+pub use laws::name_gives_word_count;
 pub use mnemonics::{Mnemonic, mnemonic_of};
 pub use operands::{Operands, both, expression, name_of, number, register_number};
 pub use pointers::{Pointer, find_pointer};

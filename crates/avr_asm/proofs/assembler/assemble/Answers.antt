@@ -10,7 +10,7 @@ pub returns-clause-in_flash : goal.returns-clause-in_flash
 returns-clause-in_flash c = in_flash_built c.args.text.now c.assemble_lines.result c.assemble_lines.ensures.built c.assemble_lines.ensures.flash
 
 pub returns-clause-relation : goal.returns-clause-relation
-returns-clause-relation c = relation_built c.value_is_kept.ensures c.args.text.now c.assemble_lines.result c.assemble_lines.ensures.built
+returns-clause-relation c = relation_built c.value_is_kept.ensures c.name_gives_word_count.ensures c.args.text.now c.assemble_lines.result c.assemble_lines.ensures.built
 
 pub returns-clause-complete : goal.returns-clause-complete
-returns-clause-complete c = complete_built c.args.text.now c.assemble_lines.result c.assemble_lines.ensures.built
+returns-clause-complete c = complete_built c.name_gives_word_count.ensures c.args.text.now c.assemble_lines.result c.assemble_lines.ensures.built
