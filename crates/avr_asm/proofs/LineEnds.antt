@@ -23,7 +23,7 @@ use Rattle.avr_asm.specs.Emission.{bytes_of_number, data_value, with_number, dat
 use Rattle.avr_operands.specs.Faults.{Outcome}
 use Rattle.avr_asm.specs.Hints.{hint_of, mapped}
 use Rattle.avr_operands.specs.Instructions.{instruction_of}
-use Rattle.avr_asm.specs.Layout.{has_shape, moved, set, org_effect, equ_effect, directive_effect, effect_of, placed}
+use Rattle.avr_asm.specs.Layout.{is_start, is_cell, moved, set, org_effect, equ_effect, directive_effect, effect_of, placed}
 use Rattle.avr_asm.specs.LineOutputs.{LineOutput, no_output, instruction_output, data_output, hint_output, directive_output, action_output}
 use Rattle.avr_asm.specs.Lines.{is_name}
 use Rattle.avr_operands.specs.Mnemonics.{words_of}
@@ -138,11 +138,11 @@ some_end effect n even address next bytes is size e =
     )
 
 -- data takes its bytes, or its line has the wrong operands
-shaped_end : (shape even : Bool) (n : ℕ) (effect : Effect) (address next : ℕ) (bytes : List ℕ) → ◌≡◌ {A = Outcome Effect} (cond shape (Ok (Take n even)) (Ok Wrong)) (Ok effect) → length bytes ≡ n → placed effect address ≡ Ok next → EndsAt effect address next bytes
+shaped_end : (shape even : Bool) (n : ℕ) (effect : Effect) (address next : ℕ) (bytes : List ℕ) → ◌≡◌ {A = Outcome Effect} (Ok (cond shape (Take n even) Wrong)) (Ok effect) → length bytes ≡ n → placed effect address ≡ Ok next → EndsAt effect address next bytes
 shaped_end true even n effect address next bytes is size e = some_end effect n even address next bytes (ok_same (Take n even) effect is) size e
 shaped_end false even n effect address next bytes is size e = let no : placed Wrong address ≡ Ok next = ap (λ f. placed f address) (ok_same Wrong effect is) ∙ e in absurd cc
 
-shaped_none : (shape : Bool) (effect : Effect) → ◌≡◌ {A = Outcome Effect} (cond shape (Ok Nothing) (Ok Wrong)) (Ok effect) → TakesNone effect
+shaped_none : (shape : Bool) (effect : Effect) → ◌≡◌ {A = Outcome Effect} (Ok (cond shape Nothing Wrong)) (Ok effect) → TakesNone effect
 shaped_none true effect is = subst TakesNone (ok_same Nothing effect is) tt
 shaped_none false effect is = subst TakesNone (ok_same Wrong effect is) tt
 
@@ -177,15 +177,15 @@ directive_end directive.Org line known symbols arguments parts follows address f
 directive_end directive.Equ line known symbols arguments parts follows address following next effect out is puts e = none_end effect address next out.bytes (equ_none line known arguments effect is) (hint_empty (hint_of directive.Equ line symbols parts following) out puts) e
 directive_end directive.Db line known symbols arguments parts follows address following next effect out is puts e =
     let it = made (byte_data line symbols parts) data_output out puts in
-    shaped_end (has_shape directive.Db line parts follows) false (length parts + length parts % 2) effect address next out.bytes is (sym (ap (λ (p : LineOutput). length p.bytes) it.2) ∙ byte_size line symbols parts it.0 it.1) e
+    shaped_end (nat_lt 0 (length parts)) false (length parts + length parts % 2) effect address next out.bytes is (sym (ap (λ (p : LineOutput). length p.bytes) it.2) ∙ byte_size line symbols parts it.0 it.1) e
 directive_end directive.Dw line known symbols arguments parts follows address following next effect out is puts e =
     let it = made (word_data line symbols parts) data_output out puts in
-    shaped_end (has_shape directive.Dw line parts follows) false (2 * length parts) effect address next out.bytes is (sym (ap (λ (p : LineOutput). length p.bytes) it.2) ∙ word_size line symbols parts it.0 it.1) e
-directive_end directive.Start line known symbols arguments parts follows address following next effect out is puts e = none_end effect address next out.bytes (shaped_none (has_shape directive.Start line parts follows) effect is) (hint_empty (hint_of directive.Start line symbols parts following) out puts) e
-directive_end directive.Lines line known symbols arguments parts follows address following next effect out is puts e = none_end effect address next out.bytes (shaped_none (has_shape directive.Lines line parts follows) effect is) (hint_empty (hint_of directive.Lines line symbols parts following) out puts) e
-directive_end directive.Stack line known symbols arguments parts follows address following next effect out is puts e = none_end effect address next out.bytes (shaped_none (has_shape directive.Stack line parts follows) effect is) (hint_empty (hint_of directive.Stack line symbols parts following) out puts) e
-directive_end directive.Cell line known symbols arguments parts follows address following next effect out is puts e = none_end effect address next out.bytes (shaped_none (has_shape directive.Cell line parts follows) effect is) (hint_empty (hint_of directive.Cell line symbols parts following) out puts) e
-directive_end directive.Fact line known symbols arguments parts follows address following next effect out is puts e = none_end effect address next out.bytes (shaped_none (has_shape directive.Fact line parts follows) effect is) (hint_empty (hint_of directive.Fact line symbols parts following) out puts) e
+    shaped_end (nat_lt 0 (length parts)) false (2 * length parts) effect address next out.bytes is (sym (ap (λ (p : LineOutput). length p.bytes) it.2) ∙ word_size line symbols parts it.0 it.1) e
+directive_end directive.Start line known symbols arguments parts follows address following next effect out is puts e = none_end effect address next out.bytes (shaped_none (is_start line parts) effect is) (hint_empty (hint_of directive.Start line symbols parts following) out puts) e
+directive_end directive.Lines line known symbols arguments parts follows address following next effect out is puts e = none_end effect address next out.bytes (shaped_none (length parts == 2) effect is) (hint_empty (hint_of directive.Lines line symbols parts following) out puts) e
+directive_end directive.Stack line known symbols arguments parts follows address following next effect out is puts e = none_end effect address next out.bytes (shaped_none (length parts == 4) effect is) (hint_empty (hint_of directive.Stack line symbols parts following) out puts) e
+directive_end directive.Cell line known symbols arguments parts follows address following next effect out is puts e = none_end effect address next out.bytes (shaped_none (is_cell line parts) effect is) (hint_empty (hint_of directive.Cell line symbols parts following) out puts) e
+directive_end directive.Fact line known symbols arguments parts follows address following next effect out is puts e = none_end effect address next out.bytes (shaped_none ((length parts == 3) && follows) effect is) (hint_empty (hint_of directive.Fact line symbols parts following) out puts) e
 
 pub line_end : (counts : WordsByName) (a : Action) (line : List ℕ) (known symbols : NameMap) (arguments : List Token) (parts : List (List Token)) (follows : Bool) (address following next : ℕ) (effect : Effect) (out : LineOutput)
     → effect_of a line known arguments parts follows ≡ Ok effect → action_output a line symbols address following parts ≡ Ok out → placed effect address ≡ Ok next → EndsAt effect address next out.bytes

@@ -54,23 +54,9 @@ is_cell line (a ∷ w ∷ lo ∷ hi ∷ []) = is_word (codes "main") line w
 is_cell line (a ∷ w ∷ lo ∷ hi ∷ first ∷ []) = is_word (codes "handler") line w
 is_cell line other = false
 
--- whether a directive has its operands; a `.fact` has to be followed by an instruction line
-abbrev pub has_shape : Directive → List ℕ → List (List Token) → Bool → Bool
-has_shape Org line parts follows = length parts == 1
-has_shape Db line parts follows = nat_lt 0 (length parts)
-has_shape Dw line parts follows = nat_lt 0 (length parts)
-has_shape Equ line parts follows = true
-has_shape Start line parts follows = is_start line parts
-has_shape Lines line parts follows = length parts == 2
-has_shape Stack line parts follows = length parts == 4
-has_shape Cell line parts follows = is_cell line parts
-has_shape Fact line parts follows = (length parts == 3) && follows
-
--- the bytes that it takes: bytes in pairs, words
-abbrev pub takes : Directive → ℕ → Effect
-takes Db count = Take (count + count % 2) false
-takes Dw count = Take (2 * count) false
-takes other count = Nothing
+-- what a directive does if it has its operands; else they are wrong
+abbrev pub if_shaped : Bool → Effect → Effect
+if_shaped shaped effect = if shaped then effect else Wrong
 
 abbrev pub moved : Outcome ℤ → Outcome Effect
 moved (Ok to) = Ok (Move (unsigned_abs to))
@@ -91,11 +77,18 @@ equ_effect line symbols (n ∷ e ∷ rest) =
     if is_name n.kind && is_mark_of 61 e.kind then set (expression line symbols None rest) else Ok Wrong
 equ_effect line symbols other = Ok Wrong
 
+-- what a directive does: `.db` takes bytes in pairs and `.dw` words; a hint takes none, and a `.fact` has to be followed by
+-- an instruction line
 abbrev pub directive_effect : Directive → List ℕ → NameMap → List Token → List (List Token) → Bool → Outcome Effect
 directive_effect Org line symbols arguments parts follows = org_effect line symbols parts
+directive_effect Db line symbols arguments parts follows = Ok (if_shaped (nat_lt 0 (length parts)) (Take (length parts + length parts % 2) false))
+directive_effect Dw line symbols arguments parts follows = Ok (if_shaped (nat_lt 0 (length parts)) (Take (2 * length parts) false))
 directive_effect Equ line symbols arguments parts follows = equ_effect line symbols arguments
-directive_effect directive line symbols arguments parts follows =
-    if has_shape directive line parts follows then Ok (takes directive (length parts)) else Ok Wrong
+directive_effect Start line symbols arguments parts follows = Ok (if_shaped (is_start line parts) Nothing)
+directive_effect Lines line symbols arguments parts follows = Ok (if_shaped (length parts == 2) Nothing)
+directive_effect Stack line symbols arguments parts follows = Ok (if_shaped (length parts == 4) Nothing)
+directive_effect Cell line symbols arguments parts follows = Ok (if_shaped (is_cell line parts) Nothing)
+directive_effect Fact line symbols arguments parts follows = Ok (if_shaped ((length parts == 3) && follows) Nothing)
 
 -- what a line does, or the fault that goes before those of its names and places
 abbrev pub effect_of : Action → List ℕ → NameMap → List Token → List (List Token) → Bool → Outcome Effect

@@ -1,9 +1,10 @@
 //! The first pass over the lines: addresses and symbols.
 
-ghost use Rattle.std.specs.Prelude.{◌≡◌, ◌<◌, ◌≤◌, ◌^◌, IfOk, length, map};
+ghost use Rattle.std.specs.Prelude.{◌≡◌, ◌<◌, ◌≤◌, ◌^◌, false, IfOk, length, map};
 ghost use Rattle.avr_operands.specs.Operands.{AllLie, EachLies};
 ghost use Rattle.avr_text.specs.Reading.{is_mark_of};
-ghost use Rattle.avr_asm.specs.Layout.{is_reserved as is_reserved_name, is_word as is_word_operand, is_start as is_start_shape, is_cell as is_cell_shape, has_shape as has_shape_of, takes as taken_by, org_effect as org_effect_of, equ_effect as equ_effect_of, directive_effect as directive_effect_of, effect_of as effect_of_line, placed as placed_effect, IsWithin};
+ghost use Rattle.avr_asm.specs.declared.first_pass.Effect.TheVariants.{Take};
+ghost use Rattle.avr_asm.specs.Layout.{is_reserved as is_reserved_name, is_word as is_word_operand, is_start as is_start_shape, is_cell as is_cell_shape, if_shaped as effect_if_shaped, org_effect as org_effect_of, equ_effect as equ_effect_of, directive_effect as directive_effect_of, effect_of as effect_of_line, placed as placed_effect, IsWithin};
 
 use crate::directives::Directive;
 use crate::lines::{Action, is_name};
@@ -67,40 +68,21 @@ fn is_cell(line: &[u8], parts: &[&[Token]]) -> bool
     }
 }
 
-/// Whether a directive has its operands. A `.fact` has to be followed by an instruction line.
-pub fn has_shape(directive: Directive, line: &[u8], parts: &[&[Token]], follows: bool) -> bool
-    requires { EachLies (length line.now) parts.now }
-    ensures { result ≡ has_shape_of directive line.now (map (λ p. p.now) parts.now) follows }
-{
-    match directive {
-        Directive::Org => parts.len() == 1,
-        Directive::Db | Directive::Dw => parts.len() > 0,
-        Directive::Equ => true,
-        Directive::Start => is_start(line, parts),
-        Directive::Lines => parts.len() == 2,
-        Directive::Stack => parts.len() == 4,
-        Directive::Cell => is_cell(line, parts),
-        Directive::Fact => parts.len() == 3 && follows,
-    }
-}
-
-/// The bytes that a directive with so many operands takes.
-fn takes(directive: Directive, count: usize) -> Effect
-    requires { count < 2 ^ 62 }
-    ensures effect { result ≡ taken_by directive count }
+/// What a directive does if it has its operands.
+fn if_shaped(shaped: bool, effect: Effect) -> Effect
+    requires { IsWithin effect }
+    ensures effect { result ≡ effect_if_shaped shaped effect }
     ensures within { IsWithin result }
 {
-    match directive {
-        Directive::Db => Effect::Take {
-            bytes: count + count % 2,
-            even: false,
-        },
-        Directive::Dw => Effect::Take {
-            bytes: 2 * count,
-            even: false,
-        },
-        _ => Effect::Nothing,
-    }
+    if shaped { effect } else { Effect::Wrong }
+}
+
+/// Data takes bytes at any address.
+fn data_effect(bytes: usize) -> Effect
+    ensures effect { result ≡ Take bytes false }
+    ensures within { IsWithin result }
+{
+    Effect::Take { bytes, even: false }
 }
 
 /// `.org E`.
@@ -148,7 +130,7 @@ fn equ_effect(line: &[u8], symbols: &Symbols, arguments: &[Token]) -> Result<Eff
     }
 }
 
-/// What a directive does.
+/// What a directive does. A `.fact` has to be followed by an instruction line.
 fn directive_effect(
     directive: Directive,
     line: &[u8],
@@ -163,16 +145,17 @@ fn directive_effect(
     ensures effect { result ≡ directive_effect_of directive line.now symbols.now arguments.now (map (λ p. p.now) parts.now) follows }
     ensures within { IfOk result IsWithin }
 {
+    let count = parts.len();
     match directive {
         Directive::Org => org_effect(line, symbols, parts),
+        Directive::Db => Ok(if_shaped(count > 0, data_effect(count + count % 2))),
+        Directive::Dw => Ok(if_shaped(count > 0, data_effect(2 * count))),
         Directive::Equ => equ_effect(line, symbols, arguments),
-        _ => {
-            if has_shape(directive, line, parts, follows) {
-                Ok(takes(directive, parts.len()))
-            } else {
-                Ok(Effect::Wrong)
-            }
-        }
+        Directive::Start => Ok(if_shaped(is_start(line, parts), Effect::Nothing)),
+        Directive::Lines => Ok(if_shaped(count == 2, Effect::Nothing)),
+        Directive::Stack => Ok(if_shaped(count == 4, Effect::Nothing)),
+        Directive::Cell => Ok(if_shaped(is_cell(line, parts), Effect::Nothing)),
+        Directive::Fact => Ok(if_shaped(count == 3 && follows, Effect::Nothing)),
     }
 }
 
