@@ -4,12 +4,12 @@ ghost use Rattle.std.specs.Prelude.{◌≡◌, []};
 
 use arrayvec::ArrayVec;
 use uz_core::Data;
-use uz_machine::Call;
+use uz_machine::HeldStore;
 
 /// A load gives the address and 51 times the sampling clock, modulo 256.
 #[derive(Drop)]
 pub struct Echo {
-    held: ArrayVec<Call, 2>,
+    held: ArrayVec<HeldStore, 2>,
 }
 
 impl Data for Echo {
@@ -28,11 +28,11 @@ impl Data for Echo {
     }
 
     fn store(&mut self, at: u16, value: u8) {
-        self.held.push(Call::Byte { at, value });
+        self.held.push(HeldStore::Byte { at, value });
     }
 
     fn bit(&mut self, at: u16, bit: u8, set: bool) {
-        self.held.push(Call::Bit { at, bit, set });
+        self.held.push(HeldStore::Bit { at, bit, set });
     }
 }
 
@@ -46,7 +46,7 @@ impl Echo {
     }
 
     /// The held stores, in order.
-    pub fn calls(&self) -> &[Call] {
+    pub fn stores(&self) -> &[HeldStore] {
         self.held.as_slice()
     }
 

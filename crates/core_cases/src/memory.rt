@@ -5,7 +5,7 @@ ghost use Rattle.std.specs.Prelude.{◌≡◌, [], length, IfOk};
 use arrayvec::ArrayVec;
 use std::alloc::{AllocError, Global};
 use uz_core::Data;
-use uz_machine::Call;
+use uz_machine::HeldStore;
 
 /// How many bytes the data space has (ATmega644 data sheet).
 const DATA_BYTES: usize = 4352;
@@ -14,7 +14,7 @@ const DATA_BYTES: usize = 4352;
 #[derive(Drop)]
 pub struct Memory {
     bytes: Vec<u8>,
-    held: ArrayVec<Call, 2>,
+    held: ArrayVec<HeldStore, 2>,
     ghost sized: { length bytes.items ≡ 4352 },
 }
 
@@ -38,11 +38,11 @@ impl Data for Memory {
     }
 
     fn store(&mut self, at: u16, value: u8) {
-        self.held.push(Call::Byte { at, value });
+        self.held.push(HeldStore::Byte { at, value });
     }
 
     fn bit(&mut self, at: u16, bit: u8, set: bool) {
-        self.held.push(Call::Bit { at, bit, set });
+        self.held.push(HeldStore::Bit { at, bit, set });
     }
 }
 
@@ -71,10 +71,10 @@ impl Memory {
         self.make(second);
     }
 
-    fn make(&mut self, call: Option<Call>)
+    fn make(&mut self, store: Option<HeldStore>)
         ensures { self.new.held.items ≡ self.old.held.items }
     {
-        if let Some(Call::Byte { at, value }) = call {
+        if let Some(HeldStore::Byte { at, value }) = store {
             if (at as usize) < DATA_BYTES {
                 self.bytes[at as usize] = value;
             }

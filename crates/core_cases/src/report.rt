@@ -4,7 +4,7 @@ use crate::case::Case;
 use crate::echo::Echo;
 use anyhow::Result;
 use uz_core::{Cpu, Step, Why};
-use uz_machine::Call;
+use uz_machine::HeldStore;
 
 /// The step's answer.
 pub fn print_step(rt: &impl Print, step: Step) -> Result<()> {
@@ -34,10 +34,10 @@ pub fn print_core(rt: &impl Print, case: &Case, cpu: &Cpu, space: &Echo) -> Resu
             print!(rt; " r{n} {value:02X}")?;
         }
     }
-    for call in space.calls() {
-        match *call {
-            Call::Byte { at, value } => print!(rt; " store {at:04X} {value:02X}")?,
-            Call::Bit { at, bit, set } => print!(rt; " bit {at:04X}.{bit} {set}")?,
+    for store in space.stores() {
+        match *store {
+            HeldStore::Byte { at, value } => print!(rt; " store {at:04X} {value:02X}")?,
+            HeldStore::Bit { at, bit, set } => print!(rt; " bit {at:04X}.{bit} {set}")?,
         }
     }
     println!(rt; "")?;

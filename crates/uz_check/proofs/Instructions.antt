@@ -15,7 +15,8 @@ use Rattle.uz_check.specs.declared.instance.Instance.{Instance}
 use Rattle.uz_check.specs.declared.instruction.Instruction.{Instruction}
 use Rattle.uz_check.specs.declared.instruction.Instruction.TheVariants.{Nop, Ldi, OutPortB, Rjmp}
 use Rattle.uz_check.specs.Machine.{State, IsState, HasWidths, register_of, level_of, clocks_of, next_pc, registers_after, port_b_after, state_after, edges_between}
-use Rattle.uz_check.specs.Claim.{shown, shown_at, listed, InTime}
+use Rattle.uz_events.specs.Events.{shown, shown_at, listed}
+use Rattle.uz_check.specs.Claim.{InTime}
 use Rattle.uz_check.specs.Instances.{whole, single, range_at, position_of, Meets, ranges_after}
 use Rattle.uz_check.specs.LocalRule.{emitted_level, emission, is_decided}
 

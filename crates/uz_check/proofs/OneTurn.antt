@@ -23,7 +23,8 @@ use Rattle.uz_check.specs.declared.instance.Instance.{Instance}
 use Rattle.uz_check.specs.declared.instruction.Instruction.{Instruction}
 use Rattle.uz_check.specs.Opcodes.{instruction_of}
 use Rattle.uz_check.specs.Machine.{State, IsState, Turn, HasWidths, clock_of, level_of, clocks_of, next_pc, state_after, edges_between}
-use Rattle.uz_check.specs.Claim.{shown_at, listed, scheduled}
+use Rattle.uz_events.specs.Events.{shown_at, listed}
+use Rattle.uz_check.specs.Claim.{scheduled}
 use Rattle.uz_check.specs.Instances.{instance_of, range_at, position_of, Meets, result_of, are_within, lies_in}
 use Rattle.uz_check.specs.LocalRule.{emission, is_decided, is_kind, is_event, is_quiet, edge_passes, lies_at, has_successor, fail_of_instruction, fail_of}
 use Rattle.uz_check.proofs.Level.{level_step, event_at_mod, mod_shift, level_mod}

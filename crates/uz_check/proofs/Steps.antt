@@ -8,8 +8,9 @@ use Rattle.std.proofs.lemmas.Bool.Decides.{nat_tests}
 use Rattle.std.specs.Prelude.{Option, Some, None}
 use Rattle.uz_cert.specs.declared.lines.EventKind.{EventKind}
 use Rattle.uz_machine.specs.declared.Edge.{Edge}
-use Rattle.uz_check.specs.Runs.{Run}
-use Rattle.uz_check.specs.Claim.{event_of, shown_at, shown, listed, scheduled, until, InTime, Follows}
+use Rattle.uz_machine.specs.Run.{Run}
+use Rattle.uz_events.specs.Events.{event_of, shown_at, shown, listed}
+use Rattle.uz_check.specs.Claim.{scheduled, until, InTime, Follows}
 
 -- one turn keeps to the schedule, and to what holds at each position
 pub record StepFollows {S : Type 0} (clock_of : S → ℕ) (at : ℕ → Option EventKind) (Meets : ℕ → S → Type 0) (p : ℕ) (s : S) (edges : List Edge) (next : S) : Type 0 where
@@ -93,16 +94,16 @@ along turn clock_of at Meets h zero p s edges end m run =
       entries = rw run.0 (λ k d b. absurd (omega arith));
     }
 along turn clock_of at Meets h (suc n) p s edges end m run =
-    let mid = run.0 in
-    let step = h.follows p s run.1 mid m run.3 in
+    let mid = run.1 in
+    let step = h.follows p s run.0 mid m run.3 in
     let rest = along turn clock_of at Meets h n (p + step.clocks) mid run.2 end step.meets run.4 in
     record {
       clocks = step.clocks + rest.clocks;
       some = omega (arith, step.some, rest.some);
       clock = omega (arith, step.clock, rest.clock);
       meets = rw (← add_assoc) rest.meets;
-      exact = ap shown run.5 ∙ joined at p (clock_of s) step.clocks rest.clocks (clock_of mid) run.1 run.2 step.exact step.clock rest.exact;
-      entries = rw run.5 (All-append (λ e. InTime e.kind) run.1 run.2 step.entries rest.entries);
+      exact = ap shown run.5 ∙ joined at p (clock_of s) step.clocks rest.clocks (clock_of mid) run.0 run.2 step.exact step.clock rest.exact;
+      entries = rw run.5 (All-append (λ e. InTime e.kind) run.0 run.2 step.entries rest.entries);
     }
 
 -- a run of n turns, however many
@@ -112,7 +113,7 @@ goes turn clock_of at Meets h (suc n) p s m =
     let first = h.goes_on p s m in
     let step = h.follows p s first.0 first.1 m first.2 in
     let rest = goes turn clock_of at Meets h n (p + step.clocks) first.1 step.meets in
-    (first.0 ++ rest.0, rest.1, (first.1, first.0, rest.0, first.2, rest.2, refl))
+    (first.0 ++ rest.0, rest.1, (first.0, first.1, rest.0, first.2, rest.2, refl))
 
 -- where every turn keeps to the schedule, every run does, for every number of clocks
 pub every_run : {S : Type 0} (turn : S → List Edge → S → Type 0) (clock_of : S → ℕ) (at : ℕ → Option EventKind) (Meets : ℕ → S → Type 0) → EveryStep turn clock_of at Meets → (p : ℕ) (s : S) → Meets p s → (T : ℕ) → Follows turn clock_of at s p T

@@ -1,4 +1,3 @@
-pub mod Runs
 pub mod Claim
 pub mod Opcodes
 pub mod Machine

@@ -5,7 +5,7 @@ use Rattle.uz_machine.specs.declared.Edge.{Edge}
 use Rattle.uz_machine.specs.PadLine.{PadHistory}
 use Rattle.uz_machine.specs.Space.{history_wiring}
 use Rattle.uz_machine.specs.Turn.{State, is_entry, after_instruction, instruction_edges, Turn}
-use Rattle.uz_machine.specs.Run.{HasNoTurn, RunBefore, edges_until, IsRunPart, IsClockRun, IsStoppedRun}
+use Rattle.uz_machine.specs.Run.{Run, TurnBefore, HasNoTurn, edges_until, IsRunPart, IsClockRun, IsStoppedRun}
 
 pub turn_is_unique : (s n1 n2 : State PadHistory) (e1 e2 : List Edge) → Turn history_wiring s e1 n1 → Turn history_wiring s e2 n2 → (e1 ≡ e2) × (n1 ≡ n2)
 turn_is_unique s n1 n2 e1 e2 (inl a) (inl b) = (a.emits ∙ sym b.emits, a.goes_to ∙ sym b.goes_to)
@@ -26,13 +26,13 @@ at_end : (limit : ℕ) (s next : State PadHistory) (edges : List Edge) → IsEnd
 at_end limit s next edges (inl over) before turn = omega arith
 at_end limit s next edges (inr stopped) before turn = stopped edges next turn
 
-same_runs : (limit n m : ℕ) (s l1 l2 : State PadHistory) (e1 e2 : List Edge) → RunBefore limit n s e1 l1 → IsEnd limit l1 → RunBefore limit m s e2 l2 → IsEnd limit l2 → (e1 ≡ e2) × (l1 ≡ l2)
+same_runs : (limit n m : ℕ) (s l1 l2 : State PadHistory) (e1 e2 : List Edge) → Run (TurnBefore limit) n s e1 l1 → IsEnd limit l1 → Run (TurnBefore limit) m s e2 l2 → IsEnd limit l2 → (e1 ≡ e2) × (l1 ≡ l2)
 same_runs limit zero zero s l1 l2 e1 e2 a ea b eb = (a.0 ∙ sym b.0, a.1 ∙ sym b.1)
-same_runs limit zero (suc m) s l1 l2 e1 e2 a ea (before, first, mid, rest, turn, run, cut) eb = absurd (at_end limit s mid first (subst (IsEnd limit) a.1 ea) before turn)
-same_runs limit (suc n) zero s l1 l2 e1 e2 (before, first, mid, rest, turn, run, cut) ea b eb = absurd (at_end limit s mid first (subst (IsEnd limit) b.1 eb) before turn)
-same_runs limit (suc n) (suc m) s l1 l2 e1 e2 (before, first, mid, rest, turn, run, cut) ea (before', first', mid', rest', turn', run', cut') eb =
+same_runs limit zero (suc m) s l1 l2 e1 e2 a ea (first, mid, rest, (before, turn), run, cut) eb = absurd (at_end limit s mid first (subst (IsEnd limit) a.1 ea) before turn)
+same_runs limit (suc n) zero s l1 l2 e1 e2 (first, mid, rest, (before, turn), run, cut) ea b eb = absurd (at_end limit s mid first (subst (IsEnd limit) b.1 eb) before turn)
+same_runs limit (suc n) (suc m) s l1 l2 e1 e2 (first, mid, rest, (before, turn), run, cut) ea (first', mid', rest', (before', turn'), run', cut') eb =
     let one = turn_is_unique s mid mid' first first' turn turn' in
-    let more = same_runs limit n m mid l1 l2 rest rest' run ea (subst (λ x. RunBefore limit m x rest' l2) (sym one.1) run') eb in
+    let more = same_runs limit n m mid l1 l2 rest rest' run ea (subst (λ x. Run (TurnBefore limit) m x rest' l2) (sym one.1) run') eb in
     (cut ∙ (ap (λ x. x ++ rest) one.0 ∙ (ap (λ x. first' ++ x) more.0 ∙ sym cut')), more.1)
 
 parts_agree : (limit : ℕ) (s l1 l2 : State PadHistory) (e1 e2 : List Edge) → IsRunPart limit s e1 l1 → IsEnd limit l1 → IsRunPart limit s e2 l2 → IsEnd limit l2 → (e1 ≡ e2) × (l1 ≡ l2)

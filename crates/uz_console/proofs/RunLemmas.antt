@@ -6,7 +6,7 @@ use Rattle.uz_machine.specs.PadLine.{PadHistory}
 use Rattle.uz_machine.specs.Space.{history_wiring}
 use Rattle.uz_machine.specs.Turn.{State}
 use Rattle.uz_machine.specs.Turn as machine
-use Rattle.uz_machine.specs.Run.{RunBefore, edges_until, IsRunPart, IsStoppedRun}
+use Rattle.uz_machine.specs.Run.{Run, TurnBefore, edges_until, IsRunPart, IsStoppedRun}
 use Rattle.uz_core.specs.declared.step.Why.{Why}
 use Rattle.uz_pads.specs.declared.pads.Pads.{Pads}
 use Rattle.uz_console.specs.declared.console.Console.{Console}
@@ -19,24 +19,22 @@ pub begins : (console : Console) (start : State PadHistory) (limit : ℕ) → St
 begins console start limit h = (start, record { turns = 0; all_edges = []; run = (refl, refl); in_time = refl }, h)
 
 -- one more turn
-run_more : (limit n : ℕ) (start last next : State PadHistory) (edges more : List Edge) → RunBefore limit n start edges last → last.clock < limit → machine.Turn history_wiring last more next →
-    RunBefore limit (suc n) start (edges ++ more) next
-run_more limit zero start last next edges more run h turn = (
-  subst (λ s. s.clock < limit) run.1 h,
+run_more : (limit n : ℕ) (start last next : State PadHistory) (edges more : List Edge) → Run (TurnBefore limit) n start edges last → TurnBefore limit last more next →
+    Run (TurnBefore limit) (suc n) start (edges ++ more) next
+run_more limit zero start last next edges more run turn = (
   more,
   next,
   [],
-  subst (λ s. machine.Turn history_wiring s more next) run.1 turn,
+  subst (λ s. TurnBefore limit s more next) run.1 turn,
   (refl, refl),
   ap (λ es. es ++ more) run.0 ∙ sym (append-nil more),
 )
-run_more limit (suc n) start last next edges more (first_in, first, mid, rest, turn_first, run, cut) h turn = (
-  first_in,
+run_more limit (suc n) start last next edges more (first, mid, rest, turn_first, run, cut) turn = (
   first,
   mid,
   rest ++ more,
   turn_first,
-  run_more limit n mid last next rest more run h turn,
+  run_more limit n mid last next rest more run turn,
   ap (λ es. es ++ more) cut ∙ append_assoc first rest more,
 )
 
@@ -45,7 +43,7 @@ part_more : (limit : ℕ) (start last next : State PadHistory) (edges more : Lis
 part_more limit start last next edges more part h turn = record {
   turns = suc part.turns;
   all_edges = part.all_edges ++ more;
-  run = run_more limit part.turns start last next part.all_edges more part.run h turn;
+  run = run_more limit part.turns start last next part.all_edges more part.run (h, turn);
   in_time = ap (λ es. es ++ edges_until limit more) part.in_time ∙ sym (filter-append (λ (edge : Edge). nat_le edge.clock limit) part.all_edges more);
 }
 

@@ -6,7 +6,7 @@ use Rattle.std.proofs.lemmas.Bool.Decides.{nat_tests}
 use Rattle.avr_table.specs.declared.Instr.{Instr}
 use Rattle.avr_table.specs.declared.Outcome.{Outcome}
 use Rattle.avr_table.specs.Rows.{words_of, clocks_of}
-use Rattle.uz_machine.specs.declared.Call.{Call}
+use Rattle.uz_machine.specs.declared.HeldStore.{HeldStore}
 use Rattle.uz_machine.specs.declared.Edge.{Edge}
 use Rattle.uz_cert.specs.declared.kinds.Response.{Response}
 use Rattle.uz_cert.specs.declared.kinds.Response.TheVariants.{Four, Five}
@@ -56,8 +56,8 @@ board_alike first = record {
 same_result : (image : FinMap nat_cmp ℕ) (s : Core) (c : BoardContent) (i : Instr) → ResultAlike (Same c) (step_result board_loads image i s c) (step_result (space_loads pads_wiring) image i s c.space)
 same_result image s c i = same_effect_result board_loads (space_loads pads_wiring) (Same c) (board_alike c) image (effect_of i) (words_of i) (clocks_of i) s c c.space (refl, refl, refl)
 
-pub board_step : (image : FinMap nat_cmp ℕ) (s : Core) (c : BoardContent) (s' : Core) (c' : BoardContent) (calls : List Call) (answer : Step) → IsStep board_loads image s c s' c' calls answer → IsBoardStep image s c s' c' calls answer
-board_step image s c s' c' calls (step.Took clocks owed returned) h =
+pub board_step : (image : FinMap nat_cmp ℕ) (s : Core) (c : BoardContent) (s' : Core) (c' : BoardContent) (stores : List HeldStore) (answer : Step) → IsStep board_loads image s c s' c' stores answer → IsBoardStep image s c s' c' stores answer
+board_step image s c s' c' stores (step.Took clocks owed returned) h =
     let i = h.0 in
     let r = h.3 in
     let same : ResultAlike (Same c) (step_result board_loads image i s c) (step_result (space_loads pads_wiring) image i s c.space) = same_result image s c i in
@@ -73,14 +73,14 @@ board_step image s c s' c' calls (step.Took clocks owed returned) h =
         ap (λ x. x.space) r.1 ∙ same.content.0,
         ap (λ x. x.entered) r.1 ∙ same.content.1,
         ap (λ x. x.clock) r.1 ∙ same.content.2,
-        r.2 ∙ same.calls,
+        r.2 ∙ same.stores,
         clocks_are ∙ same.clocks,
         owed_is ∙ same.owed,
         returned_is ∙ same.returned,
       ),
     )
-board_step image s c s' c' calls (step.Stopped (Opcode word)) h = ((h.0, h.1), h.2, h.3, h.4)
-board_step image s c s' c' calls (step.Stopped Spm) h = ((h.0, h.1, h.2), h.3, h.4, h.5)
+board_step image s c s' c' stores (step.Stopped (Opcode word)) h = ((h.0, h.1), h.2, h.3, h.4)
+board_step image s c s' c' stores (step.Stopped Spm) h = ((h.0, h.1, h.2), h.3, h.4, h.5)
 
 -- The console's turn, over the board's pads, is the machine's
 

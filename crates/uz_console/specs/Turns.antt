@@ -4,7 +4,7 @@ use Rattle.std.specs.Ordering.{nat_cmp}
 use Rattle.std.specs.FinMap.{FinMap}
 use Rattle.uz_hex.specs.Cells.{word_of}
 use Rattle.avr_table.specs.declared.Instr.{Instr}
-use Rattle.uz_machine.specs.declared.Call.{Call}
+use Rattle.uz_machine.specs.declared.HeldStore.{HeldStore}
 use Rattle.uz_machine.specs.declared.Edge.{Edge}
 use Rattle.uz_machine.specs.declared.Effect.TheVariants.{Stop}
 use Rattle.uz_machine.specs.Core.{Core, step_result}
@@ -55,13 +55,13 @@ TurnTakesTime old new (Stopped why) = clock_of new ≡ clock_of old
 -- Steps by the code, over the board's own pads. The edges are those of the caller's list, and count where the answer says so
 
 -- core and board after a step, with the stores that it holds
-abbrev pub IsBoardStep : FinMap nat_cmp ℕ → Core → BoardContent → Core → BoardContent → List Call → Step → Type 0
-IsBoardStep image s c s' c' calls (step.Took clocks owed returned) =
+abbrev pub IsBoardStep : FinMap nat_cmp ℕ → Core → BoardContent → Core → BoardContent → List HeldStore → Step → Type 0
+IsBoardStep image s c s' c' stores (step.Took clocks owed returned) =
     (i : Instr) × IsInstruction image s i × (effect_of i ≢ Stop) ×
     (let r = step_result (space_loads pads_wiring) image i s c.space in
     (s' ≡ r.core) × (c'.space ≡ r.content) × (c'.entered ≡ c.entered) × (c'.clock ≡ c.clock) ×
-    (calls ≡ r.calls) × (clocks ≡ r.clocks) × (owed ≡ r.owed) × (returned ≡ r.returned))
-IsBoardStep image s c s' c' calls (step.Stopped why) = StopsAt image s why × (s' ≡ s) × (c' ≡ c) × (calls ≡ [])
+    (stores ≡ r.stores) × (clocks ≡ r.clocks) × (owed ≡ r.owed) × (returned ≡ r.returned))
+IsBoardStep image s c s' c' stores (step.Stopped why) = StopsAt image s why × (s' ≡ s) × (c' ≡ c) × (stores ≡ [])
 
 abbrev pub IsInstructed : State Pads → State Pads → List Edge → Made → Type 0
 IsInstructed old new edges made.Quiet =

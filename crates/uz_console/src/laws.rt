@@ -5,7 +5,7 @@ ghost use Rattle.uz_machine.specs.declared.Edge.{Edge};
 ghost use Rattle.uz_machine.specs.PadLine.{PadHistory};
 ghost use Rattle.uz_machine.specs.Space.{history_wiring};
 ghost use Rattle.uz_machine.specs.Turn.{State, Turn};
-ghost use Rattle.uz_machine.specs.Run.{Run, IsClockRun, IsStoppedRun};
+ghost use Rattle.uz_machine.specs.Run.{Run, MachineTurn, IsRunPart, IsClockRun, IsStoppedRun};
 ghost use Rattle.uz_machine.specs.StateRange.{IsState};
 
 /// The law that a state has at most one turn. Does nothing.
@@ -20,8 +20,9 @@ pub fn run_is_unique()
     ensures apart { (limit : ℕ) (s l1 l2 : State PadHistory) (e1 e2 : List Edge) → IsClockRun limit s e1 l1 → IsStoppedRun limit s e2 l2 → ⊥ }
 {}
 
-/// The law that a run keeps the parts of a state in range. Does nothing.
-#[tactic(auto, using(uz_machine::proofs::StateKept::run_kept))]
+/// The law that a run keeps the parts of a state in range, and so does a part of the run of so many clocks. Does nothing.
+#[tactic(auto, using(uz_machine::proofs::StateKept::run_kept, uz_machine::proofs::StateKept::run_part_kept))]
 pub fn run_keeps_states()
-    ensures { (n : ℕ) (s last : State PadHistory) (edges : List Edge) → Run n s edges last → IsState s → IsState last }
+    ensures run { (n : ℕ) (s last : State PadHistory) (edges : List Edge) → Run MachineTurn n s edges last → IsState s → IsState last }
+    ensures part { (limit : ℕ) (s last : State PadHistory) (edges : List Edge) → IsRunPart limit s edges last → IsState s → IsState last }
 {}

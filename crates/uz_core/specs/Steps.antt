@@ -5,7 +5,7 @@ use Rattle.std.specs.FinMap.{FinMap}
 use Rattle.uz_hex.specs.Cells.{word_of}
 use Rattle.avr_table.specs.declared.Instr.{Instr}
 use Rattle.avr_table.specs.Rows.{Reads}
-use Rattle.uz_machine.specs.declared.Call.{Call}
+use Rattle.uz_machine.specs.declared.HeldStore.{HeldStore}
 use Rattle.uz_machine.specs.declared.Effect.TheVariants.{Stop}
 use Rattle.uz_machine.specs.Effects.{effect_of}
 use Rattle.uz_machine.specs.Core.{Core, LoadModel, step_result}
@@ -23,11 +23,11 @@ pub record IsInstruction (image : FinMap nat_cmp ℕ) (s : Core) (i : Instr) : T
   pub only : (j : Instr) → ReadsHere image s j → j ≡ i
 
 -- core, content and held stores after a step, and its answer
-abbrev pub IsStep : {C : Type 0} → LoadModel C → FinMap nat_cmp ℕ → Core → C → Core → C → List Call → Step → Type 0
-IsStep model image s c s' c' calls (Took clocks owed returned) =
+abbrev pub IsStep : {C : Type 0} → LoadModel C → FinMap nat_cmp ℕ → Core → C → Core → C → List HeldStore → Step → Type 0
+IsStep model image s c s' c' stores (Took clocks owed returned) =
     (i : Instr) × IsInstruction image s i × (effect_of i ≢ Stop) × (let r = step_result model image i s c in
-    (s' ≡ r.core) × (c' ≡ r.content) × (calls ≡ r.calls) × (Took clocks owed returned ≡ Took r.clocks r.owed r.returned))
-IsStep model image s c s' c' calls (Stopped (Opcode word)) =
-    (word ≡ word_of image s.pc) × ((i : Instr) → ReadsHere image s i → ⊥) × (s' ≡ s) × (c' ≡ c) × (calls ≡ [])
-IsStep model image s c s' c' calls (Stopped Spm) =
-    (i : Instr) × IsInstruction image s i × (effect_of i ≡ Stop) × (s' ≡ s) × (c' ≡ c) × (calls ≡ [])
+    (s' ≡ r.core) × (c' ≡ r.content) × (stores ≡ r.stores) × (Took clocks owed returned ≡ Took r.clocks r.owed r.returned))
+IsStep model image s c s' c' stores (Stopped (Opcode word)) =
+    (word ≡ word_of image s.pc) × ((i : Instr) → ReadsHere image s i → ⊥) × (s' ≡ s) × (c' ≡ c) × (stores ≡ [])
+IsStep model image s c s' c' stores (Stopped Spm) =
+    (i : Instr) × IsInstruction image s i × (effect_of i ≡ Stop) × (s' ≡ s) × (c' ≡ c) × (stores ≡ [])

@@ -2,12 +2,12 @@
 
 ghost use Rattle.std.specs.Prelude.{◌≡◌, ◌<◌, ◌++◌, ◌∷◌, [], length, List};
 ghost use Rattle.uz_machine.specs.Core.{LoadModel};
-ghost use Rattle.uz_machine.specs.declared.Call.{Call};
-ghost use Rattle.uz_machine.specs.declared.Call.TheVariants.{Byte, Bit};
+ghost use Rattle.uz_machine.specs.declared.HeldStore.{HeldStore};
+ghost use Rattle.uz_machine.specs.declared.HeldStore.TheVariants.{Byte, Bit};
 
 /// What lies behind the core: all data addresses but 0x00 to 0x1F (registers) and 0x5D to 0x5F (SPL, SPH, SREG).
 ///
-/// Stores are held until the turn ends, and act in the order of the calls.
+/// Stores are held until the turn ends, and act in the order in which they were made.
 pub trait Data {
     /// What the implementation holds, as plain data.
     ghost Content: { Type 0 };
@@ -16,7 +16,7 @@ pub trait Data {
     ghost content: { Self → Content };
 
     /// the stores that are held for the turn's end
-    ghost held: { Self → List Call };
+    ghost held: { Self → List HeldStore };
 
     /// for each content, address and clock the byte that a load gives, and the content after it
     ghost model: { LoadModel Content };

@@ -2,7 +2,7 @@
 
 ghost use Rattle.std.specs.Prelude.{◌≡◌, ◌≢◌, ◌<◌, ◌+◌, ◌-◌, ◌++◌, ◌∷◌, [], length, slice_index, filter, fold, ◌%◌, ◌*◌, true, false};
 ghost use Rattle.std.specs.FinMap as map;
-ghost use Rattle.uz_machine.specs.declared.Call.TheVariants.{Byte, Bit};
+ghost use Rattle.uz_machine.specs.declared.HeldStore.TheVariants.{Byte, Bit};
 ghost use Rattle.uz_machine.specs.declared.Effect.TheVariants.{CopyByte, CopyPair, Binary, Unary, AddToPair, Multiply, Load, Store, PushByte, PopByte, LoadProgram, WriteIoBit, WriteFlag, LoadBit, StoreBit, Branch, SkipIf, Jump, Return};
 ghost use Rattle.uz_machine.specs.Core.{Core, LoadModel, test_holds, bit_equals, jump_address, load_addresses, with_sp, changed_core, loaded_bytes, content_after_loads, with_store, leaves_core, stores_of, pc_stores, following_pc};
 ghost use Rattle.uz_machine.specs.OperandRanges.{EffectFits, SkipTestFits, JumpTargetFits};

@@ -140,7 +140,7 @@ impl Cpu {
         requires runs { e ≢ Stop }
         ensures core { self.new ≡ (step_result D.model flash.now i.now self.old (D.content space.old)).core }
         ensures content { D.content space.new ≡ (step_result D.model flash.now i.now self.old (D.content space.old)).content }
-        ensures held { D.held space.new ≡ (step_result D.model flash.now i.now self.old (D.content space.old)).calls }
+        ensures held { D.held space.new ≡ (step_result D.model flash.now i.now self.old (D.content space.old)).stores }
         ensures took { let r = step_result D.model flash.now i.now self.old (D.content space.old) in result ≡ Took r.clocks r.owed r.returned }
     {
         let late = sample_clock(i, e);

@@ -21,11 +21,11 @@ use Rattle.uz_machine.specs.declared.JumpTarget.{JumpTarget}
 use Rattle.uz_machine.specs.declared.JumpTarget.TheVariants.{Absolute, Relative, Indirect}
 use Rattle.uz_machine.specs.declared.Effect.{Effect}
 use Rattle.uz_machine.specs.declared.Effect.TheVariants.{CopyByte, CopyPair, Binary, Unary, AddToPair, Multiply, Load, Store, PushByte, PopByte, LoadProgram, WriteIoBit, WriteFlag, LoadBit, StoreBit, Branch, SkipIf, Jump, Return}
-use Rattle.uz_machine.specs.declared.Call.{Call}
-use Rattle.uz_machine.specs.declared.Call.TheVariants.{Byte, Bit}
+use Rattle.uz_machine.specs.declared.HeldStore.{HeldStore}
+use Rattle.uz_machine.specs.declared.HeldStore.TheVariants.{Byte, Bit}
 use Rattle.uz_machine.specs.Arithmetic.{AluResult, bit_value, bit_is_set, with_bit, difference_of, chained_result, with_z_cleared, product_of, left_shift_of, low_word, factor, merged_sreg}
 use Rattle.uz_machine.specs.Core.{Core, LoadModel, StepResult, register, pair, with_register, with_pair, with_sp, with_sreg, with_flags, operand_value, binary_result, unary_result, add_to_pair_result, is_core_address, core_byte, with_core_byte, effective_address, with_pointer_after, following_pc, load_addresses, sample_clock, loaded_bytes, content_after_loads, pc_stores, stores_of, with_store, leaves_core, jump_address, next_pc, changed_core, effect_result, interrupted_core}
-use Rattle.uz_machine.specs.CoreRange.{IsByte, IsCore, IsCall, IsLoadModel}
+use Rattle.uz_machine.specs.CoreRange.{IsByte, IsCore, IsHeldStore, IsLoadModel}
 use Rattle.uz_machine.specs.OperandRanges.{OperandFits, AddressModeFits, JumpTargetFits, EffectFits}
 use Rattle.uz_machine.proofs.ByteLists.{byte_at, bytes_set}
 
@@ -159,11 +159,11 @@ kept_core_byte at v s b h =
     (choose IsCore (nat_eq at 0x5D) _ _ (kept_sp (s.sp / 256 * 256 + v) s (omega (arith, h.sp)) h)
     (choose IsCore (nat_eq at 0x5E) _ _ (kept_sp (v * 256 + s.sp % 256) s (omega arith) h) (kept_sreg v s b h)))
 
-kept_store : (c : Call) (s : Core) → IsCall c → IsCore s → IsCore (with_store s c)
+kept_store : (c : HeldStore) (s : Core) → IsHeldStore c → IsCore s → IsCore (with_store s c)
 kept_store (Byte at v) s c h = choose IsCore (is_core_address at) _ _ (kept_core_byte at v s c.1 h) h
 kept_store (Bit at b set) s c h = h
 
-kept_stores : (cs : List Call) (s : Core) → AllByRecursion IsCall cs → IsCore s → IsCore (fold with_store s cs)
+kept_stores : (cs : List HeldStore) (s : Core) → AllByRecursion IsHeldStore cs → IsCore s → IsCore (fold with_store s cs)
 kept_stores [] s c h = h
 kept_stores (c ∷ cs) s all h = kept_stores cs (with_store s c) all.1 (kept_store c s all.0 h)
 
@@ -180,21 +180,21 @@ kept_pointer mode at s b h = h
 
 -- The stores
 
-pub pc_stores_fit : (pc : ℕ) (s : Core) → pc < 32768 → IsCore s → AllByRecursion IsCall (pc_stores pc s)
+pub pc_stores_fit : (pc : ℕ) (s : Core) → pc < 32768 → IsCore s → AllByRecursion IsHeldStore (pc_stores pc s)
 pc_stores_fit pc s b h = ((h.sp, omega arith), ((omega arith, omega arith), tt))
 
-stores_fit : (e : Effect) (words : ℕ) (s : Core) → EffectFits e → IsCore s → AllByRecursion IsCall (stores_of e words s)
+stores_fit : (e : Effect) (words : ℕ) (s : Core) → EffectFits e → IsCore s → AllByRecursion IsHeldStore (stores_of e words s)
 stores_fit (Store to r) words s fits h = ((address_below to s fits.0 h, register_byte s r h), tt)
 stores_fit (PushByte r) words s fits h = ((h.sp, register_byte s r h), tt)
 stores_fit (WriteIoBit at b set) words s fits h = ((omega (arith, fits.0), fits.1), tt)
 stores_fit (Jump target true) words s fits h = pc_stores_fit (following_pc words s) s (omega arith) h
 stores_fit e words s fits h = tt
 
-filter_one : (b : Bool) (c : Call) (cs : List Call) → IsCall c → AllByRecursion IsCall cs → AllByRecursion IsCall (if b then c ∷ cs else cs)
+filter_one : (b : Bool) (c : HeldStore) (cs : List HeldStore) → IsHeldStore c → AllByRecursion IsHeldStore cs → AllByRecursion IsHeldStore (if b then c ∷ cs else cs)
 filter_one true c cs h all = (h, all)
 filter_one false c cs h all = all
 
-filter_keeps : (test : Call → Bool) (cs : List Call) → AllByRecursion IsCall cs → AllByRecursion IsCall (filter test cs)
+filter_keeps : (test : HeldStore → Bool) (cs : List HeldStore) → AllByRecursion IsHeldStore cs → AllByRecursion IsHeldStore (filter test cs)
 filter_keeps test [] h = h
 filter_keeps test (c ∷ cs) h = filter_one (test c) c (filter test cs) h.0 (filter_keeps test cs h.1)
 
@@ -278,7 +278,7 @@ next_pc_below e o words loaded s fits = omega arith
 pub record ResultFits {C : Type 0} (P : C → Type 0) (r : StepResult C) : Type 0 where
   pub core : IsCore r.core
   pub content : P r.content
-  pub calls : AllByRecursion IsCall r.calls
+  pub stores : AllByRecursion IsHeldStore r.stores
 
 pub effect_result_fits : {C : Type 0} → (model : LoadModel C) (P : C → Type 0) → IsLoadModel model P → (image : FinMap nat_cmp ℕ) (e : Effect) (words : ℕ) (clocks : Outcome → ℕ) (s : Core) (c : C) →
     EffectFits e → IsFlash image → IsCore s → P c → ResultFits P (effect_result model image e words clocks s c)
@@ -287,7 +287,7 @@ effect_result_fits model P m image e words clocks s c fits f h p =
     record {
       core = kept_pc _ _ (next_pc_below e _ words _ s fits) (changed_fits e image words _ s fits f l h);
       content = content_kept model P m (sample_clock e clocks) c (load_addresses e s) p;
-      calls = filter_keeps leaves_core (stores_of e words s) (stores_fit e words s fits h);
+      stores = filter_keeps leaves_core (stores_of e words s) (stores_fit e words s fits h);
     }
 
 -- an interrupt's entry
@@ -296,5 +296,5 @@ interrupted_core_fits s h =
     let t : IsCore (fold with_store s (pc_stores s.pc s)) = kept_stores (pc_stores s.pc s) s (pc_stores_fit s.pc s h.pc h) h in
     record { count = t.count; registers = t.registers; sreg = with_bit_below 7 false _ (omega arith) t.sreg; sp = omega arith; pc = omega arith }
 
-pub entry_calls_fit : (s : Core) → IsCore s → AllByRecursion IsCall (filter leaves_core (pc_stores s.pc s))
-entry_calls_fit s h = filter_keeps leaves_core (pc_stores s.pc s) (pc_stores_fit s.pc s h.pc h)
+pub entry_stores_fit : (s : Core) → IsCore s → AllByRecursion IsHeldStore (filter leaves_core (pc_stores s.pc s))
+entry_stores_fit s h = filter_keeps leaves_core (pc_stores s.pc s) (pc_stores_fit s.pc s h.pc h)

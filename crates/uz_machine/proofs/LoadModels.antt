@@ -34,7 +34,7 @@ kept_content by of R h late c s (at ∷ ats) r =
 pub record ResultAlike {C S : Type 0} (R : C → S → Type 0) (a : StepResult C) (b : StepResult S) : Type 0 where
   pub core : a.core ≡ b.core
   pub content : R a.content b.content
-  pub calls : a.calls ≡ b.calls
+  pub stores : a.stores ≡ b.stores
   pub clocks : a.clocks ≡ b.clocks
   pub owed : a.owed ≡ b.owed
   pub returned : a.returned ≡ b.returned
@@ -46,7 +46,7 @@ same_effect_result by of R h image e words spent core c s r =
     record {
       core = ap (λ got. let core' : Core = record (changed_core e image words got core) { pc = next_pc e (outcome_of e image words got core) words got core } in core') g;
       content = kept_content by of R h (sample_clock e spent) c s (load_addresses e core) r;
-      calls = refl;
+      stores = refl;
       clocks = ap (λ got. spent (outcome_of e image words got core)) g;
       owed = refl;
       returned = refl;

@@ -10,20 +10,20 @@ use Rattle.std.proofs.lemmas.List.{length-set, length-replicate}
 use Rattle.std.proofs.lemmas.Nat.{or_lt, xor_lt, and_le_l}
 use Rattle.std.proofs.Math.Pow.{pow-lt}
 use Rattle.avr_table.specs.Rows.{words_of, clocks_of}
-use Rattle.uz_machine.specs.declared.Call.{Call}
-use Rattle.uz_machine.specs.declared.Call.TheVariants.{Byte, Bit}
+use Rattle.uz_machine.specs.declared.HeldStore.{HeldStore}
+use Rattle.uz_machine.specs.declared.HeldStore.TheVariants.{Byte, Bit}
 use Rattle.uz_machine.specs.declared.Edge.{Edge}
 use Rattle.uz_machine.specs.Arithmetic.{bit_value, with_bit}
 use Rattle.uz_machine.specs.Effects.{effect_of}
-use Rattle.uz_machine.specs.CoreRange.{IsByte, IsCall, IsLoadModel}
+use Rattle.uz_machine.specs.CoreRange.{IsByte, IsHeldStore, IsLoadModel}
 use Rattle.uz_machine.specs.Timer.{Timer, IsTimer, is_counting, count_after, timer_after, is_timer_address, timer_byte, timer_after_read, timer_after_write}
 use Rattle.uz_machine.specs.PadLine.{PadHistory, line_level, pad_lines}
 use Rattle.uz_machine.specs.Space.{Space, IsSpace, history_wiring, is_pin, takes_one_bit, plain_byte, byte_at, space_after, space_loads, space_taken, after_byte, after_store, with_port_a, with_plain_byte}
-use Rattle.uz_machine.specs.Turn.{State, state_at_reset, history_at_reset, after_stores, entry_calls, instruction_result, IsEntryTurn, IsInstructionTurn, Turn}
-use Rattle.uz_machine.specs.Run.{Run, RunBefore}
+use Rattle.uz_machine.specs.Turn.{State, state_at_reset, history_at_reset, after_stores, entry_stores, instruction_result, IsEntryTurn, IsInstructionTurn, Turn}
+use Rattle.uz_machine.specs.Run.{Run, MachineTurn, TurnBefore, IsRunPart}
 use Rattle.uz_machine.specs.StateRange.{IsState}
 use Rattle.uz_machine.proofs.ByteLists as bytes
-use Rattle.uz_machine.proofs.CoreKept.{ResultFits, effect_result_fits, interrupted_core_fits, entry_calls_fit}
+use Rattle.uz_machine.proofs.CoreKept.{ResultFits, effect_result_fits, interrupted_core_fits, entry_stores_fit}
 use Rattle.uz_machine.proofs.EffectRanges.{effect_fits}
 
 choose : {A : Type 0} → (P : A → Type 0) (b : Bool) (x y : A) → P x → P y → P (if b then x else y)
@@ -141,23 +141,23 @@ with_bit_below : (k : ℕ) (b : Bool) (n : ℕ) → k < 8 → IsByte n → IsByt
 with_bit_below k true n h v = or_lt 8 n (2 ^ k) v (pow-lt h)
 with_bit_below k false n h v = omega (arith, and_le_l n (255 - 2 ^ k))
 
-store_kept : (call : Call) (s : Space PadHistory) → IsCall call → IsSpace s → IsSpace (after_store history_wiring call s)
+store_kept : (store : HeldStore) (s : Space PadHistory) → IsHeldStore store → IsSpace s → IsSpace (after_store history_wiring store s)
 store_kept (Byte at value) s c h = byte_kept at value s c.1 h
 store_kept (Bit at b set) s c h =
     choose IsSpace (takes_one_bit at) _ _
     (choose IsSpace set _ s (byte_kept at (2 ^ b) s (pow-lt c.1) h) h)
     (byte_kept at _ s (with_bit_below b set (byte_at history_wiring s at) c.1 (byte_below s at h)) h)
 
-stores_kept : (calls : List Call) (s : Space PadHistory) → AllByRecursion IsCall calls → IsSpace s → IsSpace (after_stores history_wiring calls s)
+stores_kept : (stores : List HeldStore) (s : Space PadHistory) → AllByRecursion IsHeldStore stores → IsSpace s → IsSpace (after_stores history_wiring stores s)
 stores_kept [] s c h = h
-stores_kept (call ∷ calls) s c h = stores_kept calls (after_store history_wiring call s) c.1 (store_kept call s c.0 h)
+stores_kept (store ∷ stores) s c h = stores_kept stores (after_store history_wiring store s) c.1 (store_kept store s c.0 h)
 
 -- Turns
 
 entry_kept : (s next : State PadHistory) (edges : List Edge) → IsEntryTurn history_wiring s edges next → IsState s → IsState next
 entry_kept s next edges turn h =
-    let space : IsSpace (after_stores history_wiring (entry_calls s) (space_after s.response (space_taken s.space))) =
-    stores_kept (entry_calls s) _ (entry_calls_fit s.core h.core) (after_kept s.response (space_taken s.space) (taken_kept s.space h.space)) in
+    let space : IsSpace (after_stores history_wiring (entry_stores s) (space_after s.response (space_taken s.space))) =
+    stores_kept (entry_stores s) _ (entry_stores_fit s.core h.core) (after_kept s.response (space_taken s.space) (taken_kept s.space h.space)) in
     subst IsState (sym turn.goes_to) (record { image = h.image; core = interrupted_core_fits s.core h.core; space = space; response = h.response })
 
 instruction_kept : (s next : State PadHistory) (edges : List Edge) → IsInstructionTurn history_wiring s edges next → IsState s → IsState next
@@ -166,7 +166,7 @@ instruction_kept s next edges turn h =
     let r : ResultFits IsSpace (instruction_result history_wiring i s) =
     effect_result_fits (space_loads history_wiring) IsSpace loads_fit s.image (effect_of i) (words_of i) (clocks_of i) s.core s.space (effect_fits i) h.image h.core h.space in
     let d = instruction_result history_wiring i s in
-    let space : IsSpace (after_stores history_wiring d.calls (space_after d.clocks d.content)) = stores_kept d.calls _ r.calls (after_kept d.clocks d.content r.content) in
+    let space : IsSpace (after_stores history_wiring d.stores (space_after d.clocks d.content)) = stores_kept d.stores _ r.stores (after_kept d.clocks d.content r.content) in
     subst IsState (sym turn.goes_to) (record { image = h.image; core = r.core; space = space; response = h.response })
 
 pub state_kept : (s next : State PadHistory) (edges : List Edge) → Turn history_wiring s edges next → IsState s → IsState next
@@ -175,13 +175,18 @@ state_kept s next edges (inr turn) h = instruction_kept s next edges turn h
 
 -- Runs
 
-pub run_kept : (n : ℕ) (s last : State PadHistory) (edges : List Edge) → Run n s edges last → IsState s → IsState last
-run_kept zero s last edges run h = subst IsState (sym run.1) h
-run_kept (suc n) s last edges (first, mid, rest, turn, run, cut) h = run_kept n mid last rest run (state_kept s mid first turn h)
+-- what every turn keeps, every run keeps
+pub kept_along : {S : Type 0} (turn : S → List Edge → S → Type 0) (P : S → Type 0) → ((s : S) (edges : List Edge) (next : S) → turn s edges next → P s → P next) →
+    (n : ℕ) (s : S) (edges : List Edge) (last : S) → Run turn n s edges last → P s → P last
+kept_along turn P kept zero s edges last run h = subst P (sym run.1) h
+kept_along turn P kept (suc n) s edges last (first, mid, rest, now, run, cut) h = kept_along turn P kept n mid rest last run (kept s first mid now h)
 
-pub run_before_kept : (limit n : ℕ) (s last : State PadHistory) (edges : List Edge) → RunBefore limit n s edges last → IsState s → IsState last
-run_before_kept limit zero s last edges run h = subst IsState (sym run.1) h
-run_before_kept limit (suc n) s last edges (before, first, mid, rest, turn, run, cut) h = run_before_kept limit n mid last rest run (state_kept s mid first turn h)
+pub run_kept : (n : ℕ) (s last : State PadHistory) (edges : List Edge) → Run MachineTurn n s edges last → IsState s → IsState last
+run_kept n s last edges run h = kept_along MachineTurn IsState (λ s edges next turn h. state_kept s next edges turn h) n s edges last run h
+
+pub run_part_kept : (limit : ℕ) (s last : State PadHistory) (edges : List Edge) → IsRunPart limit s edges last → IsState s → IsState last
+run_part_kept limit s last edges part h =
+    kept_along (TurnBefore limit) IsState (λ s edges next turn h. state_kept s next edges turn.1 h) part.turns s part.all_edges last part.run h
 
 -- At reset
 

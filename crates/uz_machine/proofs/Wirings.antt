@@ -1,14 +1,14 @@
 -- Pads that stand for pads: what a data space loads and stores is the same.
 use Rattle.std.proofs.Common.{◌≡◌, ℕ, ◌+◌, ◌^◌, Bool, true, false, if◌then◌else◌, not, ◌&&◌, List, [], ◌∷◌, ◌++◌, slice_index, slice_set, nat_eq, nat_lt, bit_xor, refl, sym, ◌∙◌, ap, subst, inl, inr}
-use Rattle.uz_machine.specs.declared.Call.{Call}
-use Rattle.uz_machine.specs.declared.Call.TheVariants.{Byte, Bit}
+use Rattle.uz_machine.specs.declared.HeldStore.{HeldStore}
+use Rattle.uz_machine.specs.declared.HeldStore.TheVariants.{Byte, Bit}
 use Rattle.uz_machine.specs.Arithmetic.{bit_is_set, with_bit}
 use Rattle.uz_machine.specs.Timer.{Timer, timer_after, is_timer_address, timer_after_read, timer_after_write, timer_taken, timer_at_reset, is_due}
 use Rattle.uz_machine.specs.Space.{Space, PadWiring, is_pin, takes_one_bit, byte_at, space_loads, after_store, after_byte, space_after, space_taken}
 use Rattle.uz_machine.specs.declared.Edge.{Edge}
 use Rattle.uz_machine.specs.declared.EdgeKind.{EdgeKind}
 use Rattle.uz_machine.specs.declared.EdgeKind.TheVariants.{Enter, Leave}
-use Rattle.uz_machine.specs.Turn.{State, edge_kinds, after_stores, all_edge_kinds, edges_at, entry_calls, IsEntryTurn, IsInstructionTurn, Turn, instruction_result}
+use Rattle.uz_machine.specs.Turn.{State, edge_kinds, after_stores, all_edge_kinds, edges_at, entry_stores, IsEntryTurn, IsInstructionTurn, Turn, instruction_result}
 use Rattle.avr_table.specs.Rows.{words_of, clocks_of}
 use Rattle.uz_machine.specs.Effects.{effect_of}
 use Rattle.uz_machine.specs.Core.{Core}
@@ -59,14 +59,14 @@ same_byte w v R h s t at r =
     (ap (λ x. byte_by t.bytes x (w.lines s.pads) at) r.timer ∙
     ap (λ x. byte_by t.bytes t.timer x at) (h.lines s.pads t.pads r.pads))
 
-pub store_alike : {P Q : Type 0} → (w : PadWiring P) (v : PadWiring Q) (R : P → Q → Type 0) → Alike w v R → (c : Call) (s : Space P) (t : Space Q) → SpaceAlike R s t → SpaceAlike R (after_store w c s) (after_store v c t)
+pub store_alike : {P Q : Type 0} → (w : PadWiring P) (v : PadWiring Q) (R : P → Q → Type 0) → Alike w v R → (c : HeldStore) (s : Space P) (t : Space Q) → SpaceAlike R s t → SpaceAlike R (after_store w c s) (after_store v c t)
 store_alike w v R h (Byte at n) s t r = byte_alike w v R h at n s t r
 store_alike w v R h (Bit at b set) s t r =
     choose (takes_one_bit at) _ _ _ _ (SpaceAlike R)
     (choose set _ _ _ _ (SpaceAlike R) (byte_alike w v R h at (2 ^ b) s t r) r)
     (subst (λ x. SpaceAlike R (after_byte w at (with_bit b set (byte_at w s at)) s) (after_byte v at (with_bit b set x) t)) (same_byte w v R h s t at r) (byte_alike w v R h at (with_bit b set (byte_at w s at)) s t r))
 
-pub stores_alike : {P Q : Type 0} → (w : PadWiring P) (v : PadWiring Q) (R : P → Q → Type 0) → Alike w v R → (calls : List Call) (s : Space P) (t : Space Q) → SpaceAlike R s t → SpaceAlike R (after_stores w calls s) (after_stores v calls t)
+pub stores_alike : {P Q : Type 0} → (w : PadWiring P) (v : PadWiring Q) (R : P → Q → Type 0) → Alike w v R → (stores : List HeldStore) (s : Space P) (t : Space Q) → SpaceAlike R s t → SpaceAlike R (after_stores w stores s) (after_stores v stores t)
 stores_alike w v R h [] s t r = r
 stores_alike w v R h (c ∷ cs) s t r = stores_alike w v R h cs (after_store w c s) (after_store v c t) (store_alike w v R h c s t r)
 
@@ -78,10 +78,10 @@ taken_alike R s t r = record { bytes = r.bytes; timer = ap timer_taken r.timer; 
 
 -- Edges look at the bytes alone
 
-abbrev kinds_by : Call → List ℕ → List ℕ → List EdgeKind
+abbrev kinds_by : HeldStore → List ℕ → List ℕ → List EdgeKind
 kinds_by c old new = edge_kinds {P = ℕ} c (record { bytes = old; timer = timer_at_reset; pads = 0 }) (record { bytes = new; timer = timer_at_reset; pads = 0 })
 
-pub kinds_alike : {P Q : Type 0} → (w : PadWiring P) (v : PadWiring Q) (R : P → Q → Type 0) → Alike w v R → (calls : List Call) (s : Space P) (t : Space Q) → SpaceAlike R s t → all_edge_kinds w calls s ≡ all_edge_kinds v calls t
+pub kinds_alike : {P Q : Type 0} → (w : PadWiring P) (v : PadWiring Q) (R : P → Q → Type 0) → Alike w v R → (stores : List HeldStore) (s : Space P) (t : Space Q) → SpaceAlike R s t → all_edge_kinds w stores s ≡ all_edge_kinds v stores t
 kinds_alike w v R h [] s t r = refl
 kinds_alike w v R h (c ∷ cs) s t r =
     let next : SpaceAlike R (after_store w c s) (after_store v c t) = store_alike w v R h c s t r in
@@ -106,18 +106,18 @@ ended s core space is_owed clocks = record { image = s.image; core = core; space
 
 entry_alike : {P Q : Type 0} → (w : PadWiring P) (v : PadWiring Q) (R : P → Q → Type 0) → Alike w v R → (s : State P) (t : Space Q) → SpaceAlike R s.space t → (edges : List Edge) (new : State P) → IsEntryTurn w s edges new → TurnAlike R v s t edges new
 entry_alike w v R h s t r edges new turn =
-    let calls = entry_calls s in
+    let stores = entry_stores s in
     let aged : SpaceAlike R (space_after s.response (space_taken s.space)) (space_after s.response (space_taken t)) = after_alike R s.response (space_taken s.space) (space_taken t) (taken_alike R s.space t r) in
-    let after = after_stores v calls (space_after s.response (space_taken t)) in
-    let stored : SpaceAlike R (after_stores w calls (space_after s.response (space_taken s.space))) after = stores_alike w v R h calls _ _ aged in
+    let after = after_stores v stores (space_after s.response (space_taken t)) in
+    let stored : SpaceAlike R (after_stores w stores (space_after s.response (space_taken s.space))) after = stores_alike w v R h stores _ _ aged in
     record {
       after = after;
       turn = inl (record {
         enters = ap (λ x. is_due x && bit_is_set s.core.sreg 7 && not s.is_owed) (sym r.timer) ∙ turn.enters;
         goes_to = ap (λ x. with_space x after) turn.goes_to;
         emits = turn.emits ∙
-            (ap (λ x. record { clock = s.clock; kind = Enter x.count } ∷ edges_at (s.clock + s.response) (all_edge_kinds w calls (space_after s.response (space_taken s.space)))) r.timer ∙
-            ap (λ x. record { clock = s.clock; kind = Enter t.timer.count } ∷ edges_at (s.clock + s.response) x) (kinds_alike w v R h calls _ _ aged));
+            (ap (λ x. record { clock = s.clock; kind = Enter x.count } ∷ edges_at (s.clock + s.response) (all_edge_kinds w stores (space_after s.response (space_taken s.space)))) r.timer ∙
+            ap (λ x. record { clock = s.clock; kind = Enter t.timer.count } ∷ edges_at (s.clock + s.response) x) (kinds_alike w v R h stores _ _ aged));
       });
       alike = subst (λ x. SpaceAlike R x.space after) (sym turn.goes_to) stored;
     }
@@ -130,11 +130,11 @@ instruction_alike w v R h s t r edges new turn =
     let same : ResultAlike (SpaceAlike R) a b = same_effect_result (space_loads w) (space_loads v) (SpaceAlike R) (load_alike w v R h) s.image (effect_of i) (words_of i) (clocks_of i) s.core s.space t r in
     let aged : SpaceAlike R (space_after a.clocks a.content) (space_after b.clocks b.content) =
     subst (λ n. SpaceAlike R (space_after a.clocks a.content) (space_after n b.content)) same.clocks (after_alike R a.clocks a.content b.content same.content) in
-    let after = after_stores v b.calls (space_after b.clocks b.content) in
-    let stored : SpaceAlike R (after_stores w a.calls (space_after a.clocks a.content)) after =
-    subst (λ calls. SpaceAlike R (after_stores w a.calls (space_after a.clocks a.content)) (after_stores v calls (space_after b.clocks b.content))) same.calls (stores_alike w v R h a.calls _ _ aged) in
-    let kinds : all_edge_kinds w a.calls (space_after a.clocks a.content) ≡ all_edge_kinds v b.calls (space_after b.clocks b.content) =
-    kinds_alike w v R h a.calls _ _ aged ∙ ap (λ calls. all_edge_kinds v calls (space_after b.clocks b.content)) same.calls in
+    let after = after_stores v b.stores (space_after b.clocks b.content) in
+    let stored : SpaceAlike R (after_stores w a.stores (space_after a.clocks a.content)) after =
+    subst (λ stores. SpaceAlike R (after_stores w a.stores (space_after a.clocks a.content)) (after_stores v stores (space_after b.clocks b.content))) same.stores (stores_alike w v R h a.stores _ _ aged) in
+    let kinds : all_edge_kinds w a.stores (space_after a.clocks a.content) ≡ all_edge_kinds v b.stores (space_after b.clocks b.content) =
+    kinds_alike w v R h a.stores _ _ aged ∙ ap (λ stores. all_edge_kinds v stores (space_after b.clocks b.content)) same.stores in
     record {
       after = after;
       turn = inr (record {
@@ -148,8 +148,8 @@ instruction_alike w v R h s t r edges new turn =
             ap (λ clocks. ended s b.core after b.owed clocks) same.clocks));
         emits = turn.emits ∙
             (ap (λ x. edges_at (s.clock + a.clocks) (x ++ (if a.returned then Leave ∷ [] else []))) kinds ∙
-            (ap (λ n. edges_at (s.clock + n) (all_edge_kinds v b.calls (space_after b.clocks b.content) ++ (if a.returned then Leave ∷ [] else []))) same.clocks ∙
-            ap (λ x. edges_at (s.clock + b.clocks) (all_edge_kinds v b.calls (space_after b.clocks b.content) ++ (if x then Leave ∷ [] else []))) same.returned));
+            (ap (λ n. edges_at (s.clock + n) (all_edge_kinds v b.stores (space_after b.clocks b.content) ++ (if a.returned then Leave ∷ [] else []))) same.clocks ∙
+            ap (λ x. edges_at (s.clock + b.clocks) (all_edge_kinds v b.stores (space_after b.clocks b.content) ++ (if x then Leave ∷ [] else []))) same.returned));
       });
       alike = subst (λ x. SpaceAlike R x.space after) (sym turn.goes_to) stored;
     }

@@ -23,8 +23,8 @@ use Rattle.uz_machine.specs.declared.JumpTarget.{JumpTarget}
 use Rattle.uz_machine.specs.declared.JumpTarget.TheVariants.{Absolute, Relative, Indirect}
 use Rattle.uz_machine.specs.declared.Effect.{Effect}
 use Rattle.uz_machine.specs.declared.Effect.TheVariants.{CopyByte, CopyPair, Binary, Unary, AddToPair, Multiply, Load, Store, PushByte, PopByte, LoadProgram, WriteIoBit, WriteFlag, LoadBit, StoreBit, Branch, SkipIf, Jump, Return}
-use Rattle.uz_machine.specs.declared.Call.{Call}
-use Rattle.uz_machine.specs.declared.Call.TheVariants.{Byte, Bit}
+use Rattle.uz_machine.specs.declared.HeldStore.{HeldStore}
+use Rattle.uz_machine.specs.declared.HeldStore.TheVariants.{Byte, Bit}
 use Rattle.uz_machine.specs.Arithmetic.{AluResult, bit_is_set, with_bit, sum_of, difference_of, chained_result, and_of, or_of, xor_of, complement_of, negation_of, swap_of, increment_of, decrement_of, arithmetic_shift_of, logical_shift_of, rotation_of, pair_sum_of, pair_difference_of, product_of, merged_sreg}
 use Rattle.uz_machine.specs.Effects.{effect_of}
 
@@ -162,10 +162,10 @@ content_after_loads model late c (at ∷ more) =
 -- Stores, in order
 
 -- a pc is pushed low byte first
-abbrev pub pc_stores : ℕ → Core → List Call
+abbrev pub pc_stores : ℕ → Core → List HeldStore
 pc_stores pc s = Byte s.sp (pc % 256) ∷ Byte ((s.sp + 65535) % 65536) (pc / 256) ∷ []
 
-abbrev pub stores_of : Effect → ℕ → Core → List Call
+abbrev pub stores_of : Effect → ℕ → Core → List HeldStore
 stores_of (Store to r) words s = Byte (effective_address to s) (register s r) ∷ []
 stores_of (PushByte r) words s = Byte s.sp (register s r) ∷ []
 stores_of (WriteIoBit at b set) words s = Bit at b set ∷ []
@@ -173,12 +173,12 @@ stores_of (Jump target true) words s = pc_stores (following_pc words s) s
 stores_of e words s = []
 
 -- a store to one of the core's own addresses
-abbrev pub with_store : Core → Call → Core
+abbrev pub with_store : Core → HeldStore → Core
 with_store s (Byte at v) = if is_core_address at then with_core_byte at v s else s
 with_store s (Bit at b set) = s
 
 -- the stores that are held for the data space
-abbrev pub leaves_core : Call → Bool
+abbrev pub leaves_core : HeldStore → Bool
 leaves_core (Byte at v) = not (is_core_address at)
 leaves_core (Bit at b set) = true
 
@@ -266,7 +266,7 @@ returns_from_interrupt e = false
 pub record StepResult (C : Type 0) : Type 0 where
   pub core : Core
   pub content : C  -- after the loads, before the stores
-  pub calls : List Call  -- the stores that are held
+  pub stores : List HeldStore  -- the stores that are held
   pub clocks : ℕ
   pub owed : Bool
   pub returned : Bool
@@ -280,7 +280,7 @@ effect_result model image e words clocks s c =
     record {
       core = record (changed_core e image words loaded s) { pc = next_pc e outcome words loaded s };
       content = content_after_loads model late c (load_addresses e s);
-      calls = filter leaves_core (stores_of e words s);
+      stores = filter leaves_core (stores_of e words s);
       clocks = clocks outcome;
       owed = owes_instruction e;
       returned = returns_from_interrupt e;

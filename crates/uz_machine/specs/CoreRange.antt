@@ -1,8 +1,8 @@
 -- A core, a held store and loads whose parts are in range, as the chip's registers hold them.
 use Rattle.std.specs.Prelude.{◌≡◌, ℕ, ◌<◌, length}
 use Rattle.std.specs.List.{AllByRecursion}
-use Rattle.uz_machine.specs.declared.Call.{Call}
-use Rattle.uz_machine.specs.declared.Call.TheVariants.{Byte, Bit}
+use Rattle.uz_machine.specs.declared.HeldStore.{HeldStore}
+use Rattle.uz_machine.specs.declared.HeldStore.TheVariants.{Byte, Bit}
 use Rattle.uz_machine.specs.Core.{Core, LoadModel}
 
 abbrev pub IsByte : ℕ → Type 0
@@ -16,9 +16,9 @@ pub record IsCore (s : Core) : Type 0 where
   pub sp : s.sp < 65536
   pub pc : s.pc < 32768
 
-abbrev pub IsCall : Call → Type 0
-IsCall (Byte at v) = (at < 65536) × IsByte v
-IsCall (Bit at b set) = (at < 65536) × (b < 8)
+abbrev pub IsHeldStore : HeldStore → Type 0
+IsHeldStore (Byte at v) = (at < 65536) × IsByte v
+IsHeldStore (Bit at b set) = (at < 65536) × (b < 8)
 
 -- loads give bytes, and keep what holds of a content
 pub record IsLoadModel {C : Type 0} (model : LoadModel C) (P : C → Type 0) : Type 0 where

@@ -1,27 +1,27 @@
--- Runs of the machine, over the whole list of PORTA's values.
+-- Runs: turns one after another. A run is of any state and any turn; the machine's runs are its instances.
 use Rattle.std.specs.Prelude.{◌≡◌, ℕ, zero, suc, ◌<◌, ◌≤◌, nat_le, List, [], ◌++◌, filter}
 use Rattle.uz_machine.specs.declared.Edge.{Edge}
 use Rattle.uz_machine.specs.PadLine.{PadHistory}
 use Rattle.uz_machine.specs.Space.{history_wiring}
 use Rattle.uz_machine.specs.Turn.{State, Turn}
 
--- so many turns from a state, with all their edges in order, to the last state
-abbrev pub Run : ℕ → State PadHistory → List Edge → State PadHistory → Type 0
-Run zero s edges last = (edges ≡ []) × (last ≡ s)
-Run (suc n) s edges last =
-    (first : List Edge) × (mid : State PadHistory) × (rest : List Edge) ×
-    Turn history_wiring s first mid × Run n mid rest last × (edges ≡ first ++ rest)
+-- So many turns from a state, with all their edges in order, to the last state. Nothing here knows what a turn is
+abbrev pub Run : {S : Type 0} → (S → List Edge → S → Type 0) → ℕ → S → List Edge → S → Type 0
+Run turn zero s edges last = (edges ≡ []) × (last ≡ s)
+Run {S = S} turn (suc n) s edges last =
+    (first : List Edge) × (mid : S) × (rest : List Edge) × turn s first mid × Run turn n mid rest last × (edges ≡ first ++ rest)
+
+-- a turn of the machine, over the whole list of PORTA's values
+abbrev pub MachineTurn : State PadHistory → List Edge → State PadHistory → Type 0
+MachineTurn s edges next = Turn history_wiring s edges next
 
 -- no turn goes on from a state
 abbrev pub HasNoTurn : State PadHistory → Type 0
-HasNoTurn s = (edges : List Edge) (next : State PadHistory) → Turn history_wiring s edges next → ⊥
+HasNoTurn s = (edges : List Edge) (next : State PadHistory) → MachineTurn s edges next → ⊥
 
--- so many turns, each of which begins before the limit
-abbrev pub RunBefore : ℕ → ℕ → State PadHistory → List Edge → State PadHistory → Type 0
-RunBefore limit zero s edges last = (edges ≡ []) × (last ≡ s)
-RunBefore limit (suc n) s edges last =
-    (s.clock < limit) × (first : List Edge) × (mid : State PadHistory) × (rest : List Edge) ×
-    Turn history_wiring s first mid × RunBefore limit n mid rest last × (edges ≡ first ++ rest)
+-- a turn that begins before the limit
+abbrev pub TurnBefore : ℕ → State PadHistory → List Edge → State PadHistory → Type 0
+TurnBefore limit s edges next = (s.clock < limit) × MachineTurn s edges next
 
 -- the edges of clock at most the limit
 abbrev pub edges_until : ℕ → List Edge → List Edge
@@ -31,7 +31,7 @@ edges_until limit edges = filter (λ edge. nat_le edge.clock limit) edges
 pub record IsRunPart (limit : ℕ) (s : State PadHistory) (edges : List Edge) (last : State PadHistory) : Type 0 where
   pub turns : ℕ
   pub all_edges : List Edge
-  pub run : RunBefore limit turns s all_edges last
+  pub run : Run (TurnBefore limit) turns s all_edges last
   pub in_time : edges ≡ edges_until limit all_edges
 
 -- The run of so many clocks, where it isn't stopped: every turn that begins before the limit is made

@@ -5,8 +5,8 @@
 -- other devices keep what was written, and above 0x10FF there is nothing.
 use Rattle.std.specs.Prelude.{◌≡◌, ℕ, ◌+◌, ◌*◌, ◌/◌, ◌^◌, Bool, true, not, ◌||◌, ◌==◌, if◌then◌else◌, nat_eq, nat_lt, List, length, slice_index, slice_set, replicate, bit_xor}
 use Rattle.std.specs.List.{AllByRecursion}
-use Rattle.uz_machine.specs.declared.Call.{Call}
-use Rattle.uz_machine.specs.declared.Call.TheVariants.{Byte, Bit}
+use Rattle.uz_machine.specs.declared.HeldStore.{HeldStore}
+use Rattle.uz_machine.specs.declared.HeldStore.TheVariants.{Byte, Bit}
 use Rattle.uz_machine.specs.Arithmetic.{with_bit}
 use Rattle.uz_machine.specs.Core.{LoadModel}
 use Rattle.uz_machine.specs.CoreRange.{IsByte}
@@ -86,12 +86,12 @@ after_byte wiring at value space =
 abbrev pub takes_one_bit : ℕ → Bool
 takes_one_bit at = at == 0x20 || is_pin at || at == 0x36
 
-abbrev pub is_store : Call → Bool
+abbrev pub is_store : HeldStore → Bool
 is_store (Byte at value) = true
 is_store (Bit at bit set) = set || not (takes_one_bit at)
 
 -- The data space after a store. SBI and CBI on another byte change its one bit
-abbrev pub after_store : {P : Type 0} → PadWiring P → Call → Space P → Space P
+abbrev pub after_store : {P : Type 0} → PadWiring P → HeldStore → Space P → Space P
 after_store wiring (Byte at value) space = after_byte wiring at value space
 after_store wiring (Bit at bit set) space =
     if takes_one_bit at

@@ -8,8 +8,8 @@ use Rattle.std.specs.FinMap.{FinMap}
 use Rattle.uz_hex.specs.Cells.{word_of}
 use Rattle.avr_table.specs.declared.Instr.{Instr}
 use Rattle.avr_table.specs.Rows.{Reads}
-use Rattle.uz_machine.specs.declared.Call.{Call}
-use Rattle.uz_machine.specs.declared.Call.TheVariants.{Byte, Bit}
+use Rattle.uz_machine.specs.declared.HeldStore.{HeldStore}
+use Rattle.uz_machine.specs.declared.HeldStore.TheVariants.{Byte, Bit}
 use Rattle.uz_machine.specs.declared.Edge.{Edge}
 use Rattle.uz_machine.specs.declared.EdgeKind.{EdgeKind}
 use Rattle.uz_machine.specs.declared.EdgeKind.TheVariants.{Sync, Pixel, Sound, Enter, Leave}
@@ -45,7 +45,7 @@ state_byte wiring s at = if is_core_address at then core_byte s.core at else byt
 
 -- Edges
 
-abbrev pub address_of : Call → ℕ
+abbrev pub address_of : HeldStore → ℕ
 address_of (Byte at value) = at
 address_of (Bit at bit set) = at
 
@@ -55,22 +55,22 @@ sync_level space = plain_byte space 0x25 % 2
 
 -- The edges of one store, from one data space to the next: a sync edge is a change of the sync level, a pixel each
 -- store to PORTC or PINC, with PORTC's value after it, and a sound each store to OCR2A
-abbrev pub edge_kinds : {P : Type 0} → Call → Space P → Space P → List EdgeKind
-edge_kinds call old new =
+abbrev pub edge_kinds : {P : Type 0} → HeldStore → Space P → Space P → List EdgeKind
+edge_kinds store old new =
     (if sync_level old == sync_level new then [] else Sync (sync_level new) ∷ []) ++
-    (if is_store call && (address_of call == 0x28 || address_of call == 0x26) then Pixel (plain_byte new 0x28) ∷ [] else []) ++
-    (if is_store call && address_of call == 0xB3 then Sound (plain_byte new 0xB3) ∷ [] else [])
+    (if is_store store && (address_of store == 0x28 || address_of store == 0x26) then Pixel (plain_byte new 0x28) ∷ [] else []) ++
+    (if is_store store && address_of store == 0xB3 then Sound (plain_byte new 0xB3) ∷ [] else [])
 
 -- Stores in order, and their edges
 
-abbrev pub after_stores : {P : Type 0} → PadWiring P → List Call → Space P → Space P
+abbrev pub after_stores : {P : Type 0} → PadWiring P → List HeldStore → Space P → Space P
 after_stores wiring [] space = space
-after_stores wiring (call ∷ calls) space = after_stores wiring calls (after_store wiring call space)
+after_stores wiring (store ∷ stores) space = after_stores wiring stores (after_store wiring store space)
 
-abbrev pub all_edge_kinds : {P : Type 0} → PadWiring P → List Call → Space P → List EdgeKind
+abbrev pub all_edge_kinds : {P : Type 0} → PadWiring P → List HeldStore → Space P → List EdgeKind
 all_edge_kinds wiring [] space = []
-all_edge_kinds wiring (call ∷ calls) space =
-    edge_kinds call space (after_store wiring call space) ++ all_edge_kinds wiring calls (after_store wiring call space)
+all_edge_kinds wiring (store ∷ stores) space =
+    edge_kinds store space (after_store wiring store space) ++ all_edge_kinds wiring stores (after_store wiring store space)
 
 -- edges of one clock
 abbrev pub edges_at : ℕ → List EdgeKind → List Edge
@@ -78,9 +78,9 @@ edges_at clock [] = []
 edges_at clock (kind ∷ kinds) = record { clock = clock; kind = kind } ∷ edges_at clock kinds
 
 -- A turn's end: so many clocks pass, then the stores act, in order
-abbrev pub state_after : {P : Type 0} → PadWiring P → State P → Core → Space P → List Call → ℕ → Bool → State P
-state_after wiring s core space calls clocks is_owed =
-    record s { core = core; space = after_stores wiring calls (space_after clocks space); is_owed = is_owed; clock = s.clock + clocks }
+abbrev pub state_after : {P : Type 0} → PadWiring P → State P → Core → Space P → List HeldStore → ℕ → Bool → State P
+state_after wiring s core space stores clocks is_owed =
+    record s { core = core; space = after_stores wiring stores (space_after clocks space); is_owed = is_owed; clock = s.clock + clocks }
 
 -- Interrupt entry
 
@@ -89,17 +89,17 @@ abbrev pub is_entry : {P : Type 0} → State P → Bool
 is_entry s = is_due s.space.timer && bit_is_set s.core.sreg 7 && not s.is_owed
 
 -- the stores of an entry: the pc is pushed. Those to the core's own addresses are made by the core
-abbrev pub entry_calls : {P : Type 0} → State P → List Call
-entry_calls s = filter leaves_core (pc_stores s.core.pc s.core)
+abbrev pub entry_stores : {P : Type 0} → State P → List HeldStore
+entry_stores s = filter leaves_core (pc_stores s.core.pc s.core)
 
 abbrev pub after_entry : {P : Type 0} → PadWiring P → State P → State P
-after_entry wiring s = state_after wiring s (interrupted_core s.core) (space_taken s.space) (entry_calls s) s.response false
+after_entry wiring s = state_after wiring s (interrupted_core s.core) (space_taken s.space) (entry_stores s) s.response false
 
 -- an entry is noted at the clock when it is taken, with TCNT1 then
 abbrev pub entry_edges : {P : Type 0} → PadWiring P → State P → List Edge
 entry_edges wiring s =
     record { clock = s.clock; kind = Enter s.space.timer.count } ∷
-    edges_at (s.clock + s.response) (all_edge_kinds wiring (entry_calls s) (space_after s.response (space_taken s.space)))
+    edges_at (s.clock + s.response) (all_edge_kinds wiring (entry_stores s) (space_after s.response (space_taken s.space)))
 
 -- One instruction
 
@@ -107,13 +107,13 @@ abbrev pub instruction_result : {P : Type 0} → PadWiring P → Instr → State
 instruction_result wiring i s = step_result (space_loads wiring) s.image i s.core s.space
 
 abbrev pub after_instruction : {P : Type 0} → PadWiring P → Instr → State P → State P
-after_instruction wiring i s = let d = instruction_result wiring i s in state_after wiring s d.core d.content d.calls d.clocks d.owed
+after_instruction wiring i s = let d = instruction_result wiring i s in state_after wiring s d.core d.content d.stores d.clocks d.owed
 
 -- a leave is the end of a RETI
 abbrev pub instruction_edges : {P : Type 0} → PadWiring P → Instr → State P → List Edge
 instruction_edges wiring i s =
     let d = instruction_result wiring i s in
-    edges_at (s.clock + d.clocks) (all_edge_kinds wiring d.calls (space_after d.clocks d.content) ++ (if d.returned then Leave ∷ [] else []))
+    edges_at (s.clock + d.clocks) (all_edge_kinds wiring d.stores (space_after d.clocks d.content) ++ (if d.returned then Leave ∷ [] else []))
 
 -- The turn
 

@@ -186,14 +186,14 @@ pub struct Flags {
 
 /// A store that is held for the end clock of its turn: of a byte (ST, STD, STS, OUT, PUSH, a call), or of one bit (SBI, CBI).
 #[derive(Clone, Copy, Debug, PartialEq, Eq)]
-pub enum Call {
+pub enum HeldStore {
     Byte { at: u16, value: u8 },
     Bit { at: u16, bit: u8, set: bool },
 }
 
-impl Default for Call {
-    fn default() -> Call {
-        Call::Byte { at: 0, value: 0 }
+impl Default for HeldStore {
+    fn default() -> HeldStore {
+        HeldStore::Byte { at: 0, value: 0 }
     }
 }
 

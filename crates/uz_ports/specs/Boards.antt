@@ -1,6 +1,6 @@
 -- The parts of a board.
 use Rattle.std.specs.Prelude.{ℕ, List, [], ◌∷◌, Option, Some, None}
-use Rattle.uz_machine.specs.declared.Call.{Call}
+use Rattle.uz_machine.specs.declared.HeldStore.{HeldStore}
 use Rattle.uz_machine.specs.declared.Edge.{Edge}
 use Rattle.uz_machine.specs.declared.EdgeKind.TheVariants.{Enter}
 use Rattle.uz_machine.specs.Core.{LoadModel}
@@ -33,7 +33,7 @@ abbrev pub clock_of : Board → ℕ
 clock_of board = (content_of board).clock
 
 -- the stores that are held for the turn's end, in order
-abbrev pub held_of : Board → List Call
+abbrev pub held_of : Board → List HeldStore
 held_of board = board.held.items
 
 -- loads are the data space's, and leave the rest

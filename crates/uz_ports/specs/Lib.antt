@@ -1,2 +1,2 @@
 pub mod Boards
-pub mod CallFits
+pub mod HeldStoreFits

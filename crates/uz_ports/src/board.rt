@@ -4,13 +4,13 @@ ghost use Rattle.std.specs.Prelude.{◌≡◌, ◌<◌, ◌+◌, ◌^◌, [], le
 ghost use Rattle.uz_machine.specs.Core.{is_core_address};
 ghost use Rattle.uz_machine.specs.Space.{space_at_reset, byte_at};
 ghost use Rattle.uz_pads.specs.Pads.{pads_wiring};
-ghost use Rattle.uz_ports.specs.CallFits.{CallFits};
+ghost use Rattle.uz_ports.specs.HeldStoreFits.{HeldStoreFits};
 
 use crate::address::{LAST, PINA, PINB, PINC, PIND, PORTA};
 use arrayvec::ArrayVec;
 use std::alloc::{AllocError, Global};
 use uz_core::Data;
-use uz_machine::Call;
+use uz_machine::HeldStore;
 use uz_pads::Pads;
 use uz_timer::Timer1;
 
@@ -21,12 +21,12 @@ pub struct Board {
     pub(crate) bytes: Vec<u8>,
     pub(crate) timer: Timer1,
     pub(crate) pads: Pads,
-    pub(crate) held: ArrayVec<Call, 2>,
+    pub(crate) held: ArrayVec<HeldStore, 2>,
     /// TCNT1 as an interrupt was taken in this turn.
     pub(crate) entered: Option<u16>,
     pub(crate) clock: u64,
     ghost sized: { length bytes.items ≡ 4352 },
-    ghost fit: { All CallFits held.items },
+    ghost fit: { All HeldStoreFits held.items },
 }
 
 impl Board {
@@ -123,10 +123,10 @@ impl Data for Board {
     }
 
     fn store(&mut self, at: u16, value: u8) {
-        self.held.push(Call::Byte { at, value });
+        self.held.push(HeldStore::Byte { at, value });
     }
 
     fn bit(&mut self, at: u16, bit: u8, set: bool) {
-        self.held.push(Call::Bit { at, bit, set });
+        self.held.push(HeldStore::Bit { at, bit, set });
     }
 }

@@ -1,18 +1,18 @@
 //! A turn's end: time moves on, the held stores act, and their edges are noted.
 
 ghost use Rattle.std.specs.Prelude.{◌≡◌, ◌<◌, ◌+◌, ◌^◌, length, slice_index, option_to_list, ◌++◌, ◌∷◌, [], IfSome, IsTrue, None, Some, false, if◌then◌else◌};
-ghost use Rattle.uz_machine.specs.declared.Call.TheVariants.{Bit};
+ghost use Rattle.uz_machine.specs.declared.HeldStore.TheVariants.{Bit};
 ghost use Rattle.uz_machine.specs.declared.EdgeKind.TheVariants.{Leave};
 ghost use Rattle.uz_machine.specs.Space.{with_plain_byte, with_port_a, plain_byte, space_after, after_store, after_byte, is_store, is_pin, takes_one_bit, space_taken};
 ghost use Rattle.uz_machine.specs.Turn.{edge_kinds, address_of, after_stores, all_edge_kinds, edges_at};
 ghost use Rattle.uz_pads.specs.Pads.{pads_wiring};
 ghost use Rattle.uz_ports.specs.Boards.{space_of, held_of, entered_of, clock_of, entry_edge};
-ghost use Rattle.uz_ports.specs.CallFits.{CallFits};
+ghost use Rattle.uz_ports.specs.HeldStoreFits.{HeldStoreFits};
 
 use crate::Board;
 use crate::address::{LAST, OCR2A, PINA, PINB, PINC, PIND, PORTA, PORTB, PORTC, TIFR1};
 use arrayvec::ArrayVec;
-use uz_machine::{Call, Edge, EdgeKind};
+use uz_machine::{Edge, EdgeKind, HeldStore};
 use uz_timer::Timer1;
 
 impl Board {
@@ -87,32 +87,32 @@ impl Board {
         }
     }
 
-    fn make(&mut self, call: Call)
-        requires { CallFits call }
+    fn make(&mut self, store: HeldStore)
+        requires { HeldStoreFits store }
         ensures held { held_of self.new ≡ held_of self.old }
         ensures entered { entered_of self.new ≡ entered_of self.old }
         ensures clock { clock_of self.new ≡ clock_of self.old }
-        ensures space { space_of self.new ≡ after_store pads_wiring call (space_of self.old) }
+        ensures space { space_of self.new ≡ after_store pads_wiring store (space_of self.old) }
     {
-        match call {
-            Call::Byte { at, value } => self.store_byte(at, value),
-            Call::Bit { at, bit, set } => self.store_bit(at, bit, set),
+        match store {
+            HeldStore::Byte { at, value } => self.store_byte(at, value),
+            HeldStore::Bit { at, bit, set } => self.store_bit(at, bit, set),
         }
     }
 
     /// Makes a store, and answers the edge that it gives.
-    fn make_noted(&mut self, call: Call) -> Option<EdgeKind>
-        requires { CallFits call }
+    fn make_noted(&mut self, store: HeldStore) -> Option<EdgeKind>
+        requires { HeldStoreFits store }
         ensures held { held_of self.new ≡ held_of self.old }
         ensures entered { entered_of self.new ≡ entered_of self.old }
         ensures clock { clock_of self.new ≡ clock_of self.old }
-        ensures space { space_of self.new ≡ after_store pads_wiring call (space_of self.old) }
-        ensures kinds { option_to_list result ≡ edge_kinds call (space_of self.old) (after_store pads_wiring call (space_of self.old)) }
+        ensures space { space_of self.new ≡ after_store pads_wiring store (space_of self.old) }
+        ensures kinds { option_to_list result ≡ edge_kinds store (space_of self.old) (after_store pads_wiring store (space_of self.old)) }
     {
-        let at = address_of(call);
-        let is_store = is_store(call);
+        let at = address_of(store);
+        let is_store = is_store(store);
         let before = self.plain_byte(PORTB) % 2;
-        self.make(call);
+        self.make(store);
         let after = self.plain_byte(PORTB) % 2;
         if before != after {
             Some(EdgeKind::Sync(after))
@@ -126,25 +126,25 @@ impl Board {
     }
 
     /// Makes a store, if there is one.
-    fn note(&mut self, call: Option<Call>) -> Option<EdgeKind>
-        requires { IfSome call CallFits }
+    fn note(&mut self, store: Option<HeldStore>) -> Option<EdgeKind>
+        requires { IfSome store HeldStoreFits }
         ensures held { held_of self.new ≡ held_of self.old }
         ensures entered { entered_of self.new ≡ entered_of self.old }
         ensures clock { clock_of self.new ≡ clock_of self.old }
-        ensures space { space_of self.new ≡ after_stores pads_wiring (option_to_list call) (space_of self.old) }
-        ensures kinds { option_to_list result ≡ all_edge_kinds pads_wiring (option_to_list call) (space_of self.old) }
+        ensures space { space_of self.new ≡ after_stores pads_wiring (option_to_list store) (space_of self.old) }
+        ensures kinds { option_to_list result ≡ all_edge_kinds pads_wiring (option_to_list store) (space_of self.old) }
     {
-        match call {
+        match store {
             None => None,
-            Some(call) => self.make_noted(call),
+            Some(store) => self.make_noted(store),
         }
     }
 
-    /// The held calls, in order.
-    fn held_calls(&self) -> (Option<Call>, Option<Call>)
+    /// The held stores, in order.
+    fn held_stores(&self) -> (Option<HeldStore>, Option<HeldStore>)
         ensures items { held_of self.now ≡ option_to_list result.0 ++ option_to_list result.1 }
-        ensures first { IfSome result.0 CallFits }
-        ensures second { IfSome result.1 CallFits }
+        ensures first { IfSome result.0 HeldStoreFits }
+        ensures second { IfSome result.1 HeldStoreFits }
     {
         match self.held.as_slice() {
             [a, b, ..] => (Some(*a), Some(*b)),
@@ -208,7 +208,7 @@ impl Board {
         ensures clock { clock_of self.new ≡ clock_of self.old + clocks }
         ensures edges { result.items ≡ entry_edge (clock_of self.old) (entered_of self.old) ++ edges_at (clock_of self.old + clocks) (all_edge_kinds pads_wiring (held_of self.old) (space_after clocks (space_of self.old)) ++ (if returned then Leave ∷ [] else [])) }
     {
-        let (first, second) = self.held_calls();
+        let (first, second) = self.held_stores();
         let entered = self.entered;
         let start = self.clock;
         self.held = ArrayVec::new();
@@ -226,21 +226,21 @@ fn takes_one_bit(at: u16) -> bool
     at == PINA || at == PINB || at == PINC || at == PIND || at == TIFR1
 }
 
-fn address_of(call: Call) -> u16
-    ensures { result ≡ address_of call }
+fn address_of(store: HeldStore) -> u16
+    ensures { result ≡ address_of store }
 {
-    match call {
-        Call::Byte { at, value: _ } => at,
-        Call::Bit { at, bit: _, set: _ } => at,
+    match store {
+        HeldStore::Byte { at, value: _ } => at,
+        HeldStore::Bit { at, bit: _, set: _ } => at,
     }
 }
 
-fn is_store(call: Call) -> bool
-    ensures { result ≡ is_store call }
+fn is_store(store: HeldStore) -> bool
+    ensures { result ≡ is_store store }
 {
-    match call {
-        Call::Byte { at: _, value: _ } => true,
-        Call::Bit { at, bit: _, set } => set || !takes_one_bit(at),
+    match store {
+        HeldStore::Byte { at: _, value: _ } => true,
+        HeldStore::Bit { at, bit: _, set } => set || !takes_one_bit(at),
     }
 }
 

@@ -1,0 +1,34 @@
+//! Events beside edges: what of an edge of the machine a certificate's schedule speaks of.
+#![tactic(auto)]
+
+ghost use Rattle.std.specs.Prelude.{◌≡◌};
+ghost use Rattle.uz_events.specs.Events.{event_of};
+
+use uz_cert::EventKind;
+use uz_machine::EdgeKind;
+
+/// The event that an edge is: sync with its level, a pixel, a sound or a leave without its value. An interrupt that is
+/// entered is no event.
+pub fn event_of(edge: EdgeKind) -> Option<EventKind>
+    ensures { result ≡ event_of edge }
+{
+    match edge {
+        EdgeKind::Sync(level) => Some(EventKind::Sync(level)),
+        EdgeKind::Pixel(_) => Some(EventKind::Pixel),
+        EdgeKind::Sound(_) => Some(EventKind::Sound),
+        EdgeKind::Enter(_) => None,
+        EdgeKind::Leave => Some(EventKind::Leave),
+    }
+}
+
+#[cfg(test)]
+mod tests {
+    use super::*;
+
+    #[test]
+    fn entries_are_no_events(rt: HostRuntime) {
+        assert_eq!(rt; event_of(EdgeKind::Sync(1)), Some(EventKind::Sync(1)));
+        assert_eq!(rt; event_of(EdgeKind::Enter(2)), None);
+        assert_eq!(rt; event_of(EdgeKind::Leave), Some(EventKind::Leave));
+    }
+}

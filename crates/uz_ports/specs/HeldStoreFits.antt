@@ -1,0 +1,12 @@
+-- The arguments of held stores.
+use Rattle.std.specs.Prelude.{ℕ, ◌<◌}
+use Rattle.uz_machine.specs.declared.HeldStore.{HeldStore}
+use Rattle.uz_machine.specs.declared.HeldStore.TheVariants.{Byte, Bit}
+
+-- the bit that a store changes
+abbrev pub bit_number : HeldStore → ℕ
+bit_number (Byte at value) = 0
+bit_number (Bit at bit set) = bit
+
+abbrev pub HeldStoreFits : HeldStore → Type 0
+HeldStoreFits store = bit_number store < 8
