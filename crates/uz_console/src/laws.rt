@@ -21,7 +21,6 @@ pub fn run_is_unique()
 {}
 
 /// The law that a run keeps the parts of a state in range, and so does a part of the run of so many clocks. Does nothing.
-#[tactic(auto, using(uz_machine::proofs::StateKept::run_kept, uz_machine::proofs::StateKept::run_part_kept))]
 pub fn run_keeps_states()
     ensures run { (n : ℕ) (s last : State PadHistory) (edges : List Edge) → Run MachineTurn n s edges last → IsState s → IsState last }
     ensures part { (limit : ℕ) (s last : State PadHistory) (edges : List Edge) → IsRunPart limit s edges last → IsState s → IsState last }
