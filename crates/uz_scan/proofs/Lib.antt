@@ -1,0 +1,5 @@
+pub mod FrameCounts
+pub mod PictureLaws
+pub mod SampleLaws
+pub mod ScannerLaws
+pub mod TrackerLaws

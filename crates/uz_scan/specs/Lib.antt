@@ -1,0 +1,4 @@
+pub mod Lines
+pub mod Pictures
+pub mod Places
+pub mod Scanning
