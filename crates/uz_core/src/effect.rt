@@ -425,3 +425,11 @@ pub(crate) fn effect(i: &Instr) -> Effect
 {
     rows!(effects(*i))
 }
+
+/// What an instruction does, for those who look at instructions without running them.
+pub fn instruction_effect(i: &Instr) -> Effect
+    ensures value { result ≡ effect_of i.now }
+    ensures fits { EffectFits result }
+{
+    effect(i)
+}

@@ -16,5 +16,6 @@ pub use arithmetic::{
 };
 pub use cpu::Cpu;
 pub use data::Data;
+pub use effect::instruction_effect;
 pub use step::{Step, Why};
 pub use uz_machine::Flags;

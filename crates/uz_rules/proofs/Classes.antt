@@ -1,0 +1,183 @@
+-- What an instruction makes of core, memory and what is seen, by class of effect.
+use Rattle.std.proofs.Common.{◌≡◌, ℕ, suc, ◌+◌, ◌<◌, ◌≤◌, Bool, true, false, not, if◌then◌else◌, nat_eq, nat_lt, Option, Some, None, List, [], ◌∷◌, length, refl, ◌∙◌, ap, arith}
+use Rattle.std.specs.Prelude.{slice_index_or, ◌&&◌, ◌||◌}
+use Rattle.std.proofs.lemmas.Bool.Decides.{nat_tests}
+use Rattle.std.proofs.lemmas.List.{length-set}
+use Rattle.uz_machine.specs.declared.AddressMode.{AddressMode}
+use Rattle.uz_machine.specs.declared.AddressMode.TheVariants.{Direct, Displacement, PostIncrement, PreDecrement}
+use Rattle.uz_machine.specs.declared.BinaryOp.{BinaryOp}
+use Rattle.uz_machine.specs.declared.BinaryOp.TheVariants as binary
+use Rattle.uz_machine.specs.declared.UnaryOp.{UnaryOp}
+use Rattle.uz_machine.specs.declared.UnaryOp.TheVariants as unary
+use Rattle.uz_machine.specs.declared.Effect.TheVariants.{Store}
+use Rattle.uz_machine.specs.declared.HeldStore.{HeldStore}
+use Rattle.uz_machine.specs.Arithmetic.{AluResult, bit_is_set, with_bit, chained_result, with_z_cleared, difference_of}
+use Rattle.uz_machine.specs.Core.{Core, with_pointer_after, binary_result, unary_result, add_to_pair_result}
+use Rattle.uz_machine.specs.CoreRange.{IsCore}
+use Rattle.uz_machine.specs.Timer.{is_timer_address}
+use Rattle.uz_machine.specs.Space.{PadWiring, Space, is_pin, after_byte}
+use Rattle.uz_cert.specs.declared.header.Head.{Head}
+use Rattle.uz_cert.specs.declared.lines.EventKind.{EventKind}
+use Rattle.uz_cert.specs.declared.states.Instance.{Instance}
+use Rattle.uz_transfer.specs.declared.fail.Fail.{Fail}
+use Rattle.uz_transfer.specs.declared.fail.Fail.TheVariants.{Mask}
+use Rattle.uz_transfer.specs.Values.{value_at}
+use Rattle.uz_rules.specs.CoreMeets.{CoreMeets}
+use Rattle.uz_rules.specs.MemoryMeets.{MemoryMeets, HeadFits}
+use Rattle.uz_transfer.specs.Kinds.{is_main}
+use Rattle.uz_transfer.specs.Memory.{address_range, with_pointer_range, depth_of}
+use Rattle.uz_transfer.specs.Emission.{emission_at}
+use Rattle.uz_transfer.specs.Refusals.{refuse_if, fail_of}
+use Rattle.uz_rules.specs.Meets.{InstanceFits}
+use Rattle.uz_rules.proofs.Bits.{bit_of_with_bit}
+use Rattle.uz_rules.proofs.SpaceStores.{choose_if}
+use Rattle.uz_rules.proofs.StoreClasses.{Leads, MayStore, none_shows, room_left}
+
+-- What is known before the instruction
+pub record Before {P : Type 0} (head : Head) (inst : Instance) (o : Core) (d : ℕ) (core : Core) (s : Space P) : Type 0 where
+  pub fits : HeadFits head
+  pub few : d ≤ head.main
+  pub limits : InstanceFits head inst
+  pub is_core : IsCore core
+  pub size : length s.bytes ≡ 4352
+  pub enabled : bit_is_set core.sreg 7 ≡ is_main inst.kind
+  pub meets : CoreMeets inst o core
+  pub memory : MemoryMeets head inst o d core.sp s.bytes
+  pub pc : core.pc ≡ inst.pc
+
+-- and after it: the draft holds of the core, and of memory once the stores are made
+pub record Parts {P : Type 0} (w : PadWiring P) (head : Head) (inst r : Instance) (o : Core) (d : ℕ) (core : Core) (calls : List HeldStore) (s : Space P) (emitted : Option EventKind) : Type 0 where
+  pub core_meets : CoreMeets r o core
+  pub enabled : bit_is_set core.sreg 7 ≡ is_main inst.kind
+  pub leads : Leads w head r o d core.sp calls s emitted
+
+pub low_room : {P : Type 0} (head : Head) (inst : Instance) (o : Core) (d : ℕ) (core : Core) (s : Space P) → Before head inst o d core s → head.lo ≤ suc core.sp
+low_room head inst o d core s b = omega (arith, room_left head inst.kind d core.sp (depth_of inst) 0 b.fits b.few b.memory.depth (omega (arith, b.limits.depth)))
+
+-- memory of another instance with the same stack and cells
+pub memory_same : (head : Head) (a b : Instance) (o : Core) (d sp tp : ℕ) (xs ys : List ℕ) → a.kind ≡ b.kind → a.stack ≡ b.stack → a.cells ≡ b.cells → sp ≡ tp → xs ≡ ys → MemoryMeets head a o d sp xs → MemoryMeets head b o d tp ys
+memory_same head a b o d sp tp xs ys k p c q e h = record {
+  slots = λ i w. rw (← p, ← q, ← e) (h.slots i (rw p w));
+  cells = λ at j i. rw (← c, ← e) (h.cells at j (rw k i));
+  ranges = λ at r i. rw (← e) (h.ranges at r i);
+  depth = rw (← q, ← p, ← k) h.depth;
+}
+
+-- no store, no push
+pub quiet : {P : Type 0} (w : PadWiring P) (head : Head) (inst r : Instance) (o : Core) (d : ℕ) (old core : Core) (s t : Space P) → CoreMeets r o core → bit_is_set core.sreg 7 ≡ is_main inst.kind → MemoryMeets head inst o d old.sp s.bytes
+    → inst.kind ≡ r.kind → inst.stack ≡ r.stack → inst.cells ≡ r.cells → old.sp ≡ core.sp → s.bytes ≡ t.bytes → Parts w head inst r o d core [] t None
+quiet w head inst r o d old core s t h en m k p c q e = record {
+  core_meets = h;
+  enabled = en;
+  leads = record { memory = memory_same head inst r o d old.sp core.sp s.bytes t.bytes k p c q e m; shows = none_shows w t };
+}
+
+-- Pointers leave all but registers and pairs
+
+pub pointer_sp : (mode : AddressMode) (at : ℕ) (core : Core) → (with_pointer_after mode at core).sp ≡ core.sp
+pointer_sp (Direct k) at core = refl
+pointer_sp (Displacement p q) at core = refl
+pointer_sp (PostIncrement p) at core = refl
+pointer_sp (PreDecrement p) at core = refl
+
+pub pointer_sreg : (mode : AddressMode) (at : ℕ) (core : Core) → (with_pointer_after mode at core).sreg ≡ core.sreg
+pointer_sreg (Direct k) at core = refl
+pointer_sreg (Displacement p q) at core = refl
+pointer_sreg (PostIncrement p) at core = refl
+pointer_sreg (PreDecrement p) at core = refl
+
+pub pointer_stack : (mode : AddressMode) (old now : Instance) → now.stack ≡ (with_pointer_range mode old now).stack
+pointer_stack (Direct k) old now = refl
+pointer_stack (Displacement p q) old now = refl
+pointer_stack (PostIncrement p) old now = refl
+pointer_stack (PreDecrement p) old now = refl
+
+pub pointer_cells : (mode : AddressMode) (old now : Instance) → now.cells ≡ (with_pointer_range mode old now).cells
+pointer_cells (Direct k) old now = refl
+pointer_cells (Displacement p q) old now = refl
+pointer_cells (PostIncrement p) old now = refl
+pointer_cells (PreDecrement p) old now = refl
+
+pub pointer_kind : (mode : AddressMode) (old now : Instance) → now.kind ≡ (with_pointer_range mode old now).kind
+pointer_kind (Direct k) old now = refl
+pointer_kind (Displacement p q) old now = refl
+pointer_kind (PostIncrement p) old now = refl
+pointer_kind (PreDecrement p) old now = refl
+
+-- I after an operation
+
+chained_seven : (r : AluResult) (c z n v s h t : Option Bool) → r.flags ≡ c ∷ z ∷ n ∷ v ∷ s ∷ h ∷ t ∷ [] → (b : Bool) → slice_index_or (chained_result r b).flags 7 None ≡ None
+chained_seven r c z n v s h t e true = ap (λ fs. slice_index_or fs 7 None) e
+chained_seven r c z n v s h t e false = ap (λ fs. slice_index_or (with_z_cleared fs) 7 None) e
+
+pub binary_seven : (op : BinaryOp) (a b sreg : ℕ) → slice_index_or (binary_result op a b sreg).flags 7 None ≡ None
+binary_seven (binary.Add false) a b sreg = refl
+binary_seven (binary.Add true) a b sreg = refl
+binary_seven (binary.Subtract false) a b sreg = refl
+binary_seven (binary.Subtract true) a b sreg = chained_seven (difference_of a b (bit_is_set sreg 0)) _ _ _ _ _ _ _ refl (bit_is_set sreg 1)
+binary_seven binary.And a b sreg = refl
+binary_seven binary.Or a b sreg = refl
+binary_seven binary.Xor a b sreg = refl
+
+pub unary_seven : (op : UnaryOp) (a sreg : ℕ) → slice_index_or (unary_result op a sreg).flags 7 None ≡ None
+unary_seven unary.Complement a sreg = refl
+unary_seven unary.Negate a sreg = refl
+unary_seven unary.Swap a sreg = refl
+unary_seven unary.Increment a sreg = refl
+unary_seven unary.Decrement a sreg = refl
+unary_seven unary.ArithmeticShiftRight a sreg = refl
+unary_seven unary.LogicalShiftRight a sreg = refl
+unary_seven unary.RotateRight a sreg = refl
+
+pub pair_seven : (subtract : Bool) (p k : ℕ) → slice_index_or (add_to_pair_result subtract p k).flags 7 None ≡ None
+pair_seven false p k = refl
+pair_seven true p k = refl
+
+-- a flag of SREG, which may be I where the kind has it clear
+pub flag_enabled : (flag : ℕ) (set main : Bool) (sreg : ℕ) → flag < 8 → refuse_if (nat_eq flag 7 && (set || main)) Mask None ≡ None → bit_is_set sreg 7 ≡ main → bit_is_set (with_bit flag set sreg) 7 ≡ main
+flag_enabled flag set main sreg h e enabled = by_case (nat_eq flag 7) set main refl e enabled (bit_of_with_bit flag 7 sreg set h (omega arith))
+  where
+    by_case : (t u m : Bool) → nat_eq flag 7 ≡ t → refuse_if (t && (u || m)) Mask None ≡ None → bit_is_set sreg 7 ≡ m → bit_is_set (with_bit flag u sreg) 7 ≡ (if nat_eq 7 flag then u else bit_is_set sreg 7) → bit_is_set (with_bit flag u sreg) 7 ≡ m
+    by_case true true m p e en is = absurd cc
+    by_case true false true p e en is = absurd cc
+    by_case true false false p e en is = let q : nat_eq 7 flag ≡ true = grind (arith, nat_tests) in rw q at is
+    by_case false u m p e en is = let q : nat_eq 7 flag ≡ false = grind (arith, nat_tests) in (rw q at is) ∙ en
+
+-- Refusals that don't stand
+
+pub unless_none : (b : Bool) (why : Fail) (later : Option Fail) → refuse_if b why later ≡ None → (b ≡ false) × (later ≡ None)
+unless_none true why later e = absurd cc
+unless_none false why later e = (refl, e)
+
+pub none_is : (emitted : Option EventKind) → Some None ≡ Some emitted → emitted ≡ None
+none_is emitted e = cc
+
+pub single_fails : (t b : Bool) → (t && b) ≡ false → t ≡ true → b ≡ false
+single_fails true b e q = e
+single_fails false b e q = absurd cc
+
+pub not_false : (t : Bool) → not t ≡ false → t ≡ true
+not_false true e = refl
+not_false false e = absurd cc
+
+pub may_be_stored : (head : Head) (inst : Instance) (level : ℕ) (to : AddressMode) (r : ℕ) (emitted : Option EventKind) → fail_of head (Store to r) inst ≡ None → emission_at level (Store to r) inst ≡ Some emitted → MayStore head inst level (address_range to inst) (value_at inst.regs r) emitted
+may_be_stored head inst level to r emitted e f =
+    let one = unless_none _ _ _ e in
+    let two = unless_none _ _ _ one.1 in
+    let three = unless_none _ _ _ two.1 in
+    let four = unless_none _ _ _ three.1 in
+    record {
+      mask = λ t. single_fails _ _ two.0 t;
+      may = not_false _ three.0;
+      io = λ t. single_fails _ _ four.0 t;
+      emits = f;
+    }
+
+pub size_stored : {P : Type 0} (w : PadWiring P) (s : Space P) (at v : ℕ) → length (after_byte w at v s).bytes ≡ length s.bytes
+size_stored {P} w s at v =
+    let Same : Space P → Type 0 = λ t. length t.bytes ≡ length s.bytes in
+    choose_if Same (nat_eq at 0x20) _ _ (λ t. length-set s.bytes 0x22 _)
+    (λ t. choose_if Same (nat_eq at 0x22) _ _ (λ t. length-set s.bytes 0x22 _)
+    (λ t. choose_if Same (is_pin at) _ _ (λ t. length-set s.bytes (at + 2) _)
+    (λ t. choose_if Same (is_timer_address at) _ _ (λ t. refl)
+    (λ t. choose_if Same (nat_lt 0x10FF at) _ _ (λ t. refl) (λ t. length-set s.bytes at v)))))

@@ -1,0 +1,138 @@
+-- A state that meets an instance meets each in which it lies.
+use Rattle.std.proofs.Common.{◌≡◌, ◌⊎◌, inl, inr, ℕ, zero, suc, ◌+◌, ◌-◌, ◌<◌, ◌≤◌, Bool, true, false, nat_eq, nat_le, Some, List, [], ◌∷◌, length, refl, ◌∙◌, ap, subst, arith}
+use Rattle.std.specs.Prelude.{◌&&◌}
+use Rattle.std.specs.List.{AllByRecursion}
+use Rattle.std.proofs.lemmas.Bool.Decides.{eqb_tells, nat_tests}
+use Rattle.uz_machine.specs.Core.{Core, register}
+use Rattle.uz_machine.specs.CoreRange.{IsByte, IsCore}
+use Rattle.uz_machine.proofs.ByteLists.{byte_at}
+use Rattle.uz_cert.specs.Ends.{Ends}
+use Rattle.uz_cert.specs.declared.kinds.Kind.{Kind}
+use Rattle.uz_cert.specs.declared.kinds.Kind.TheVariants.{Main, Handler, Alone}
+use Rattle.uz_cert.specs.declared.facts.Bit.{Bit}
+use Rattle.uz_cert.specs.declared.facts.Bit.TheVariants.{Zero, One, Free, Old as OldBit}
+use Rattle.uz_cert.specs.declared.facts.Val.{Val}
+use Rattle.uz_cert.specs.declared.facts.Val.TheVariants.{Range, Old, OldFlags}
+use Rattle.uz_cert.specs.declared.header.Head.{Head}
+use Rattle.uz_cert.specs.declared.states.Instance.{Instance}
+use Rattle.uz_range.specs.Answers.{ends}
+use Rattle.uz_range.specs.Containment.{IsWithin}
+use Rattle.uz_transfer.specs.Values.{value_at, flag_at, pair_at, span_at}
+use Rattle.uz_rules.specs.CoreMeets.{ValueHolds, FlagHolds, CoreMeets}
+use Rattle.uz_transfer.specs.Kinds.{cell_place}
+use Rattle.uz_rules.specs.MemoryMeets.{MemoryMeets}
+use Rattle.uz_transfer.specs.Refusals.{range_inside}
+use Rattle.uz_rules.specs.Inside.{value_inside, flag_inside, all_below, same_kind, same_bool, same_place, inside, InsideKeeps}
+use Rattle.uz_rules.proofs.CoreKeeps.{whole, register_byte}
+
+and_true : (a b : Bool) → (a && b) ≡ true → (a ≡ true) × (b ≡ true)
+and_true true b e = (refl, e)
+and_true false b e = absurd cc
+
+pub below_tells : (n : ℕ) (test : ℕ → Bool) → all_below n test ≡ true → (k : ℕ) → k < n → test k ≡ true
+unfolding all_below
+below_tells zero test e k h = absurd (omega arith)
+below_tells (suc n) test e k h =
+    let both = and_true (all_below n test) (test n) e in
+    elim (eqb_tells k n) [
+      | inl t ↦ ap test t.1 ∙ both.1
+      | inr t ↦ below_tells n test both.0 k (omega (arith, t.1, h))
+    ]
+
+within_both : (a b : Ends) (x : ℕ) → range_inside a b ≡ true → IsWithin x a → IsWithin x b
+within_both a b x e h =
+    let both = and_true (nat_le b.lo a.lo) (nat_le a.hi b.hi) e in
+    let low : b.lo ≤ a.lo = (let t = both.0 in grind (arith, nat_tests)) in
+    let high : a.hi ≤ b.hi = (let t = both.1 in grind (arith, nat_tests)) in
+    record { above = omega (arith, low, h.above); below = omega (arith, high, h.below) }
+
+val_widens : (a b : Val) (o : Core) (x : ℕ) → x < 256 → value_inside a b ≡ true → ValueHolds a o x → ValueHolds b o x
+val_widens (Range a) (Range b) o x w e h = within_both a b x e h
+val_widens (Old r) (Range b) o x w e h = within_both (ends 0 255) b x e (whole x w)
+val_widens OldFlags (Range b) o x w e h = within_both (ends 0 255) b x e (whole x w)
+val_widens (Old r) (Old s) o x w e h = let i : r ≡ s = grind (arith, nat_tests) in subst (λ q. x ≡ register o q) i h
+val_widens OldFlags OldFlags o x w e h = h
+val_widens (Range a) (Old s) o x w e h = absurd cc
+val_widens (Range a) OldFlags o x w e h = absurd cc
+val_widens (Old r) OldFlags o x w e h = absurd cc
+val_widens OldFlags (Old s) o x w e h = absurd cc
+
+bit_widens : (a b : Bit) (before t : Bool) → flag_inside a b ≡ true → FlagHolds a before t → FlagHolds b before t
+bit_widens a Free before t e h = tt
+bit_widens Zero Zero before t e h = h
+bit_widens One One before t e h = h
+bit_widens OldBit OldBit before t e h = h
+bit_widens Zero One before t e h = absurd cc
+bit_widens Zero OldBit before t e h = absurd cc
+bit_widens One Zero before t e h = absurd cc
+bit_widens One OldBit before t e h = absurd cc
+bit_widens Free Zero before t e h = absurd cc
+bit_widens Free One before t e h = absurd cc
+bit_widens Free OldBit before t e h = absurd cc
+bit_widens OldBit Zero before t e h = absurd cc
+bit_widens OldBit One before t e h = absurd cc
+
+kind_tells : (a b : Kind) → same_kind a b ≡ true → a ≡ b
+kind_tells Main Main e = refl
+kind_tells Handler Handler e = refl
+kind_tells Alone Alone e = refl
+kind_tells Main Handler e = absurd cc
+kind_tells Main Alone e = absurd cc
+kind_tells Handler Main e = absurd cc
+kind_tells Handler Alone e = absurd cc
+kind_tells Alone Main e = absurd cc
+kind_tells Alone Handler e = absurd cc
+
+lt_or : (j n : ℕ) → (j < n) ⊎ (n ≤ j)
+lt_or j zero = inr (omega arith)
+lt_or zero (suc n) = inl (omega arith)
+lt_or (suc j) (suc n) = elim (lt_or j n) [ inl t ↦ inl (omega arith) | inr t ↦ inr (omega arith) ]
+
+-- cells past the end of a list are any byte
+past_end : (spans : List Ends) (j : ℕ) → length spans ≤ j → span_at spans j ≡ ends 0 255
+past_end [] j h = refl
+past_end (x ∷ spans) zero h = absurd (omega arith)
+past_end (x ∷ spans) (suc j) h = past_end spans j (omega arith)
+
+pub core_widens : (a b : Instance) (o core : Core) → IsCore core → inside a b ≡ true → CoreMeets a o core → CoreMeets b o core
+core_widens a b o core c e h =
+    let one = and_true (same_place a b) _ e in
+    let two = and_true (all_below 32 (λ r. value_inside (value_at a.regs r) (value_at b.regs r))) _ one.1 in
+    let three = and_true (all_below 3 (λ k. range_inside (pair_at a.pairs k) (pair_at b.pairs k))) _ two.1 in
+    let four = and_true (all_below 7 (λ k. flag_inside (flag_at a.flags k) (flag_at b.flags k))) _ three.1 in
+    record {
+      regs = λ r w. val_widens _ _ o _ (register_byte core r c) (below_tells 32 (λ r. value_inside (value_at a.regs r) (value_at b.regs r)) two.0 r w) (h.regs r w);
+      pairs = λ k w. within_both _ _ _ (below_tells 3 (λ k. range_inside (pair_at a.pairs k) (pair_at b.pairs k)) three.0 k w) (h.pairs k w);
+      flags = λ k w. bit_widens _ _ _ _ (below_tells 7 (λ k. flag_inside (flag_at a.flags k) (flag_at b.flags k)) four.0 k w) (h.flags k w);
+    }
+
+pub memory_widens : (head : Head) (a b : Instance) (o : Core) (d sp : ℕ) (bytes : List ℕ) → AllByRecursion IsByte bytes → inside a b ≡ true → MemoryMeets head a o d sp bytes → MemoryMeets head b o d sp bytes
+memory_widens head a b o d sp bytes all e h =
+    let one = and_true (same_place a b) _ e in
+    let two = and_true (all_below 32 (λ r. value_inside (value_at a.regs r) (value_at b.regs r))) _ one.1 in
+    let three = and_true (all_below 3 (λ k. range_inside (pair_at a.pairs k) (pair_at b.pairs k))) _ two.1 in
+    let four = and_true (all_below 7 (λ k. flag_inside (flag_at a.flags k) (flag_at b.flags k))) _ three.1 in
+    let five = and_true (all_below (length a.stack.items) (λ i. value_inside (value_at a.stack.items i) (value_at b.stack.items i))) _ four.1 in
+    let p1 = and_true (same_kind a.kind b.kind) _ one.0 in
+    let p2 = and_true (nat_eq a.pc b.pc) _ p1.1 in
+    let p3 = and_true (nat_eq a.line b.line) _ p2.1 in
+    let p4 = and_true (nat_eq a.clock b.clock) _ p3.1 in
+    let p5 = and_true (same_bool a.pending b.pending) _ p4.1 in
+    let kind = kind_tells a.kind b.kind p1.0 in
+    let size : length a.stack.items ≡ length b.stack.items = (let t = p5.1 in grind (arith, nat_tests)) in
+    record {
+      slots = λ i w.
+          let w' : i < length a.stack.items = omega (arith, size, w) in
+          rw (← size) (val_widens _ _ o _ (byte_at bytes (sp + length a.stack.items - i) all) (below_tells (length a.stack.items) (λ i. value_inside (value_at a.stack.items i) (value_at b.stack.items i)) five.0 i w') (h.slots i w'));
+      cells = λ at j p.
+          let q : cell_place head a.kind at ≡ Some j = rw kind p in
+          elim (lt_or j (length b.cells.items)) [
+            | inl t ↦ within_both _ _ _ (below_tells (length b.cells.items) (λ j. range_inside (span_at a.cells.items j) (span_at b.cells.items j)) five.1 j t) (h.cells at j q)
+            | inr t ↦ rw (past_end b.cells.items j t) (whole _ (byte_at bytes at all))
+          ];
+      ranges = h.ranges;
+      depth = rw (← size, ← kind) h.depth;
+    }
+
+pub inside_keeps : InsideKeeps
+inside_keeps head a b o core d sp bytes c all e h m = (core_widens a b o core c e h, memory_widens head a b o d sp bytes all e m)

@@ -1,0 +1,17 @@
+pub mod CoreKeeps
+pub mod MemoryKeeps
+pub mod SpaceStores
+pub mod Bits
+pub mod StoreShows
+pub mod CoreSteps
+pub mod RegisterClasses
+pub mod LoadClasses
+pub mod StoreClasses
+pub mod Classes
+pub mod ClassParts
+pub mod ExitsHold
+pub mod Containment
+pub mod InsideMeets
+pub mod SomeStand
+pub mod LeavesHold
+pub mod Timing

@@ -1,0 +1,102 @@
+-- What one turn of the machine makes of a state that meets an instance: the law of containment.
+use Rattle.avr_table.specs.Rows.{Reads}
+use Rattle.avr_table.specs.declared.Instr.{Instr}
+use Rattle.std.specs.FinMap.{FinMap}
+use Rattle.std.specs.List.{AllByRecursion}
+use Rattle.std.specs.Ordering.{nat_cmp}
+use Rattle.std.specs.Prelude.{Bool, Contains, List, Ok, false, nat_eq, suc, ℕ, ⊤, ◌%◌, ◌&&◌, ◌+◌, ◌<◌, ◌||◌, ◌≡◌, ◌≤◌}
+use Rattle.uz_cert.specs.declared.header.Head.{Head}
+use Rattle.uz_cert.specs.declared.kinds.Kind.{Kind}
+use Rattle.uz_cert.specs.declared.kinds.Kind.TheVariants.{Alone, Handler, Main}
+use Rattle.uz_cert.specs.declared.states.Instance.{Instance}
+use Rattle.uz_hex.specs.Cells.{word_of}
+use Rattle.uz_machine.specs.Core.{Core}
+use Rattle.uz_machine.specs.Effects.{effect_of}
+use Rattle.uz_machine.specs.PadLine.{PadHistory}
+use Rattle.uz_machine.specs.Space.{history_wiring}
+use Rattle.uz_machine.specs.StateRange.{IsState}
+use Rattle.uz_machine.specs.Timer.{count_after, matches_within}
+use Rattle.uz_machine.specs.Turn.{State, Turn, is_entry, sync_level}
+use Rattle.uz_machine.specs.declared.Edge.{Edge}
+use Rattle.uz_machine.specs.declared.Effect.{Effect}
+use Rattle.uz_machine.specs.declared.Effect.TheVariants.{Store, WriteIoBit}
+use Rattle.uz_range.specs.Answers.{is_single}
+use Rattle.uz_transfer.specs.declared.step.Exit.{Exit}
+use Rattle.uz_transfer.specs.declared.step.Step.{Step}
+use Rattle.uz_transfer.specs.Memory.{address_range, depth_of}
+use Rattle.uz_transfer.specs.Step.{Lines, successor, IsStep}
+use Rattle.uz_rules.specs.MemoryMeets.{Untouched, HeadFits}
+use Rattle.uz_events.specs.Events.{shown_at, shown, listed}
+use Rattle.uz_machine.specs.declared.EdgeKind.{EdgeKind}
+use Rattle.uz_machine.specs.declared.EdgeKind.TheVariants.{Sync, Pixel, Sound, Enter, Leave}
+use Rattle.uz_rules.specs.Meets.{top_of, Meets, InstanceFits}
+
+-- in main sync and OCR1A stay, and TCNT1 and OCF1A go on by the clocks alone
+abbrev pub MainTimer : Kind → ℕ → State PadHistory → State PadHistory → Type 0
+MainTimer Main clocks old new =
+    (sync_level new.space ≡ sync_level old.space) × (new.space.timer.top ≡ old.space.timer.top) × (new.space.timer.count ≡ count_after old.space.timer.count old.space.timer.top clocks)
+    × (new.space.timer.matched ≡ (old.space.timer.matched || matches_within old.space.timer.count old.space.timer.top clocks))
+MainTimer Handler clocks old new = ⊤
+MainTimer Alone clocks old new = ⊤
+
+-- whether main's instruction shows an event, which it may not
+abbrev pub main_emits : Effect → Instance → Bool
+main_emits (Store to r) inst =
+    is_single (address_range to inst) && (nat_eq (address_range to inst).lo 0x23 || (nat_eq (address_range to inst).lo 0x25 || (nat_eq (address_range to inst).lo 0x26 || (nat_eq (address_range to inst).lo 0x28 || nat_eq (address_range to inst).lo 0xB3))))
+main_emits (WriteIoBit at b set) inst = nat_eq at 0x28 || ((nat_eq at 0x26 && set) || (nat_eq b 0 && ((nat_eq at 0x23 && set) || nat_eq at 0x25)))
+main_emits e inst = false
+
+-- no interrupt is entered
+abbrev pub IsNoEntry : EdgeKind → Type 0
+IsNoEntry (Sync level) = ⊤
+IsNoEntry (Pixel value) = ⊤
+IsNoEntry (Sound value) = ⊤
+IsNoEntry (Enter count) = ⊥
+IsNoEntry Leave = ⊤
+
+-- The state after an instruction meets the instance at one of the step's exits
+pub record OneStep (head : Head) (lines : Lines) (inst : Instance) (o : Core) (d : ℕ) (step : Step) (old : State PadHistory) (edges : List Edge) (new : State PadHistory) : Type 0 where
+  pub exit : Exit
+  pub is_exit : Contains step.exits.items exit
+  pub meets : Meets head (successor lines inst step exit) o d new
+  pub events : shown edges ≡ listed (shown_at step.emit (old.clock + exit.clocks))
+  pub no_entry : AllByRecursion (λ e. IsNoEntry e.kind) edges
+  pub clock : new.clock ≡ old.clock + exit.clocks
+  pub at_least_one : 1 ≤ exit.clocks
+  pub at_most_four : exit.clocks ≤ 4
+  pub settled : new.is_owed ≡ false
+  pub untouched : Untouched head inst.kind (old.core.sp + depth_of inst) old.space.bytes new.space.bytes
+  pub main_timer : MainTimer inst.kind exit.clocks old new
+
+-- What containment takes of an instance and a state
+pub record InstructionBegins (head : Head) (lines : Lines) (image : FinMap nat_cmp ℕ) (inst : Instance) (o : Core) (d : ℕ) (step : Step) (s : State PadHistory) : Type 0 where
+  pub is_state : IsState s
+  pub flash : s.image ≡ image
+  pub head_fits : HeadFits head
+  pub fits : InstanceFits head inst
+  pub depth : d ≤ head.main
+  pub meets : Meets head inst o d s
+  pub step_is : IsStep head (lines.length inst.line) image inst (Ok step)
+  pub no_return : step.back ≡ false
+
+-- Containment: the state has a turn, and each of its turns is one of the step's
+pub record Contained (head : Head) (lines : Lines) (inst : Instance) (o : Core) (d : ℕ) (step : Step) (s : State PadHistory) : Type 0 where
+  pub has_turn : (edges : List Edge) × (new : State PadHistory) × Turn history_wiring s edges new
+  pub each_turn : (edges : List Edge) (new : State PadHistory) → Turn history_wiring s edges new → OneStep head lines inst o d step s edges new
+
+abbrev pub AloneContained : Type 0
+AloneContained =
+    (head : Head) (lines : Lines) (image : FinMap nat_cmp ℕ) (inst : Instance) (o : Core) (d : ℕ) (step : Step) (s : State PadHistory) → inst.kind ≡ Alone → InstructionBegins head lines image inst o d step s → Contained head lines inst o d step s
+
+-- in a handler OCR1A is the last clock of the instance's line
+abbrev pub HandlerContained : Type 0
+HandlerContained =
+    (head : Head) (lines : Lines) (image : FinMap nat_cmp ℕ) (inst : Instance) (o : Core) (d : ℕ) (step : Step) (s : State PadHistory) → inst.kind ≡ Handler → suc (top_of inst) ≡ lines.length inst.line → inst.clock < lines.length inst.line → 4 ≤ lines.length inst.line
+    → InstructionBegins head lines image inst o d step s → Contained head lines inst o d step s
+
+-- in main, where no interrupt is taken now
+abbrev pub MainContained : Type 0
+MainContained =
+    (head : Head) (lines : Lines) (image : FinMap nat_cmp ℕ) (inst : Instance) (o : Core) (d : ℕ) (step : Step) (s : State PadHistory) → inst.kind ≡ Main → is_entry s ≡ false
+    → ((i : Instr) → Reads (word_of image (inst.pc % 32768)) (word_of image ((inst.pc + 1) % 32768)) i → main_emits (effect_of i) inst ≡ false)
+    → InstructionBegins head lines image inst o d step s → Contained head lines inst o d step s

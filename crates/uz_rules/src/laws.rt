@@ -1,0 +1,30 @@
+//! Laws of the abstract step, as functions that do nothing.
+
+ghost use Rattle.uz_rules.specs.Example.{SomeInstructionBegins};
+ghost use Rattle.uz_rules.specs.Inside.{InsideKeeps};
+ghost use Rattle.uz_rules.specs.OneStep.{AloneContained, HandlerContained, MainContained};
+
+/// The law that the machine's step from a state that meets an instance which is alone lies in the abstract step. Does nothing.
+pub fn alone_contained()
+    ensures { AloneContained }
+{}
+
+/// The same of a handler's instance. Does nothing.
+pub fn handler_contained()
+    ensures { HandlerContained }
+{}
+
+/// The same of an instance of main, where no interrupt is taken now. Does nothing.
+pub fn main_contained()
+    ensures { MainContained }
+{}
+
+/// The law that containment isn't about nothing: of a flash that begins with NOP the state at reset meets an instance. Does nothing.
+pub fn some_stand()
+    ensures { SomeInstructionBegins }
+{}
+
+/// The law that a core and a memory that meet an instance meet each in which it lies. Does nothing.
+pub fn inside_keeps()
+    ensures { InsideKeeps }
+{}

@@ -1,0 +1,9 @@
+pub mod Values
+pub mod Kinds
+pub mod Arithmetic
+pub mod Memory
+pub mod Transfer
+pub mod Exits
+pub mod Emission
+pub mod Refusals
+pub mod Step

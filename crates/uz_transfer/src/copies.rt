@@ -1,0 +1,62 @@
+//! A copy of an instance.
+
+ghost use Rattle.std.specs.Prelude.{◌≡◌, ◌<◌, ◌≤◌, ◌-◌, length, ◌*◌};
+
+use arrayvec::ArrayVec;
+use uz_cert::{Instance, Span, Val};
+
+/// A copy of values.
+fn copied_vals(from: &[Val]) -> ArrayVec<Val, 32>
+    requires { length from.now ≤ 32 }
+    ensures { result.items ≡ from.now }
+{
+    let mut copy = ArrayVec::new();
+    for v in from {
+        copy.push(*v);
+    }
+    copy
+}
+
+/// A copy of ranges.
+fn copied_spans(from: &[Span]) -> ArrayVec<Span, 16>
+    requires { length from.now ≤ 16 }
+    ensures { result.items ≡ from.now }
+{
+    let mut copy = ArrayVec::new();
+    for v in from {
+        copy.push(*v);
+    }
+    copy
+}
+
+/// A copy of the registers' values.
+fn copied_regs(from: &[Val; 32]) -> [Val; 32]
+    ensures { result ≡ from.now }
+{
+    let mut copy = [Val::OldFlags; 32];
+    for r in 0..32usize {
+        copy[r] = from[r];
+    }
+    copy
+}
+
+/// A copy of an instance.
+pub(crate) fn copied(at: &Instance) -> Instance
+    requires slots { length at.now.stack.items ≤ 32 }
+    requires cells { length at.now.cells.items ≤ 16 }
+    ensures { result ≡ at.now }
+{
+    Instance {
+        kind: at.kind,
+        pc: at.pc,
+        line: at.line,
+        clock: at.clock,
+        level: at.level,
+        pending: at.pending,
+        regs: copied_regs(&at.regs),
+        pairs: at.pairs,
+        flags: at.flags,
+        stack: copied_vals(at.stack.as_slice()),
+        cells: copied_spans(at.cells.as_slice()),
+    }
+}

@@ -1,0 +1,20 @@
+//! The transfer function: what one instruction makes of what is known of a machine at a point, and where it leads.
+#![tactic(auto)]
+
+mod arithmetic;
+mod copies;
+mod emission;
+mod exits;
+mod fail;
+mod loads;
+mod memory;
+mod one_step;
+mod refusals;
+mod step;
+mod stores;
+mod transfer;
+mod values;
+
+pub use fail::Fail;
+pub use one_step::abstract_step;
+pub use step::{Exit, Step};

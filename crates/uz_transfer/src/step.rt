@@ -1,0 +1,28 @@
+//! The abstract step of an instance.
+
+use arrayvec::ArrayVec;
+use uz_cert::{EventKind, Instance};
+
+/// A pc, and the clocks that it takes to come there.
+#[derive(Clone, Copy, Debug, Default, PartialEq, Eq)]
+pub struct Exit {
+    /// A word address.
+    pub pc: u16,
+    /// 1 to 4.
+    pub clocks: u8,
+}
+
+/// What an instruction makes of an instance. Registers, pairs, flags, stack and cells are the same wherever it goes.
+#[derive(Debug, Drop)]
+pub struct Step {
+    /// Its registers, pairs, flags, stack and cells are those of all_flags result; the rest is the instance's own.
+    pub draft: Instance,
+    /// Where it goes.
+    pub exits: ArrayVec<Exit, 16>,
+    /// What is emitted, at the end clock.
+    pub emit: Option<EventKind>,
+    /// Whether it is RETI.
+    pub back: bool,
+    /// Whether TIFR1 is stored with bit 1 set.
+    pub clears: bool,
+}
