@@ -1,3 +1,4 @@
 pub mod Consoles
+pub mod Entry
 pub mod Runs
 pub mod Turns
