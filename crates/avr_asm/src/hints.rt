@@ -9,7 +9,7 @@ use crate::first_pass::is_word;
 use crate::output::Hint;
 use avr_operands::{AsmWhy, Pointer, both, find_pointer, name_of, number, register_number};
 use avr_text::{Symbols, Token};
-use uz_cert::Kind;
+use uz_schedule::Kind;
 
 /// A number of 16 bits.
 fn short(line: &[u8], symbols: &Symbols, tokens: &[Token]) -> Result<u16, AsmWhy>

@@ -1,8 +1,8 @@
 //! What a source gives.
 
 use avr_table::Instr;
-use uz_cert::Kind;
 use uz_hex::Image;
+use uz_schedule::Kind;
 
 /// An instruction with its place.
 #[derive(Clone, Copy)]

@@ -6,10 +6,10 @@ use Rattle.std.proofs.lemmas.Bool.Decides.{nat_tests}
 use Rattle.std.proofs.lemmas.Bool.{eqb-true}
 use Rattle.uz_text.specs.Numbers.{number_below, number_within}
 use Rattle.uz_text.proofs.NumberWords.{number_read, number_again, within_read, within_again}
-use Rattle.uz_cert.specs.declared.kinds.Response.{Response}
-use Rattle.uz_cert.specs.declared.kinds.Response.TheVariants.{Four, Five}
+use Rattle.uz_schedule.specs.declared.kinds.Response.{Response}
+use Rattle.uz_schedule.specs.declared.kinds.Response.TheVariants.{Four, Five}
 use Rattle.uz_cert.specs.declared.read_head.StackLine.{StackLine}
-use Rattle.uz_cert.specs.Schedule.{response_clocks}
+use Rattle.uz_schedule.specs.Schedule.{response_clocks}
 use Rattle.uz_cert.specs.Reading.{if_so, is_one, is_zero, size_in, response_of, irq_in, has_room, stack_of, limits_in, stack_in}
 use Rattle.uz_cert.proofs.WordTests.{so_some, so_true, and_true, both_true, word_is, same_word, zero_is, one_is, zero_again, one_again}
 

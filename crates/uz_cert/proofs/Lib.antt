@@ -3,9 +3,7 @@ pub mod EachLaws
 pub mod HeadLaws
 pub mod ItemLaws
 pub mod ItemSteps
-pub mod LastLevel
 pub mod ScheduleLaws
-pub mod Starts
 pub mod StateLaws
 pub mod TextAgain
 pub mod TextGives

@@ -4,7 +4,7 @@ use Rattle.std.specs.Prelude.{Option, Some, None}
 use Rattle.std.specs.Option.{option_and_then}
 use Rattle.uz_text.specs.Numbers.{number_below, number_within}
 use Rattle.uz_text.proofs.NumberWords.{number_read, number_again, within_read, within_again}
-use Rattle.uz_cert.specs.declared.lines.Event.{Event}
+use Rattle.uz_schedule.specs.declared.lines.Event.{Event}
 use Rattle.uz_cert.specs.Reading.{kind_in, sync_event, event_in, fall_in}
 use Rattle.uz_cert.proofs.WordTests.{so_some, so_true, word_is, same_word}
 

@@ -8,15 +8,15 @@ use Rattle.std.proofs.lemmas.List.Elements.{All-nil, All-cons, All-head, All-tai
 use Rattle.uz_text.specs.Numbers.{number_below}
 use Rattle.uz_text.proofs.NumberWords.{number_read, number_again}
 use Rattle.uz_text.proofs.Plain.{EachPlain, plain, plain_decimal, plain_append, each_plain_append}
-use Rattle.uz_cert.specs.Ends.{Ends}
-use Rattle.uz_cert.specs.WellFormed.{IsKnownOrAny, IsByteOrAll, EntryPlaceFits, EntryFactsFit, EntryFits, PlaceFits, FactsFit, SuccessorsFit, PointFits}
-use Rattle.uz_cert.specs.declared.kinds.Kind.TheVariants.{Alone}
-use Rattle.uz_cert.specs.declared.facts.Fact.{Fact}
-use Rattle.uz_cert.specs.declared.facts.Fact.TheVariants.{Any, Between, Line, Loop, Old, OldFlags}
-use Rattle.uz_cert.specs.declared.facts.PairFact.TheVariants.{Any as AnyPair}
-use Rattle.uz_cert.specs.declared.facts.Bit.TheVariants.{Free}
-use Rattle.uz_cert.specs.declared.states.Entry.{Entry}
-use Rattle.uz_cert.specs.declared.states.Point.{Point}
+use Rattle.uz_schedule.specs.Ends.{Ends}
+use Rattle.uz_schedule.specs.WellFormed.{IsKnownOrAny, IsByteOrAll, EntryPlaceFits, EntryFactsFit, EntryFits, PlaceFits, FactsFit, SuccessorsFit, PointFits}
+use Rattle.uz_schedule.specs.declared.kinds.Kind.TheVariants.{Alone}
+use Rattle.uz_schedule.specs.declared.facts.Fact.{Fact}
+use Rattle.uz_schedule.specs.declared.facts.Fact.TheVariants.{Any, Between, Line, Loop, Old, OldFlags}
+use Rattle.uz_schedule.specs.declared.facts.PairFact.TheVariants.{Any as AnyPair}
+use Rattle.uz_schedule.specs.declared.facts.Bit.TheVariants.{Free}
+use Rattle.uz_schedule.specs.declared.states.Entry.{Entry}
+use Rattle.uz_schedule.specs.declared.states.Point.{Point}
 use Rattle.uz_cert.specs.Reading.{is_zero, single, all_bytes, fact_of, span_of, values_from, rest_from, successors_in, free_flags, entry_of, no_words, entry_in, point_of, are_zero, are_both_zero, is_alone, point_with, point_from, point_at, point_in}
 use Rattle.uz_cert.specs.Spelling.{ends_word, range_word, range_fact, range_facts, register_items, successor_items, entry_words, point_words}
 use Rattle.uz_cert.proofs.WordTests.{so_some, so_true, and_true, both_true, word_is, same_word, zero_is, zero_again}

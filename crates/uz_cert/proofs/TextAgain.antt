@@ -8,19 +8,19 @@ use Rattle.std.proofs.lemmas.Bool.Decides.{nat_tests}
 use Rattle.std.proofs.lemmas.List.{length-map}
 use Rattle.std.proofs.lemmas.List.Elements.{All-nil, All-cons, All-head, All-tail}
 use Rattle.uz_text.proofs.Plain.{Lacks, EachLacks, lacks_nil, split_join, join_lacks, EachPlain, each_lacks, plain, plain_lacks, plain_decimal}
-use Rattle.uz_cert.specs.declared.kinds.Response.{Response}
-use Rattle.uz_cert.specs.declared.kinds.Response.TheVariants.{Four, Five}
+use Rattle.uz_schedule.specs.declared.kinds.Response.{Response}
+use Rattle.uz_schedule.specs.declared.kinds.Response.TheVariants.{Four, Five}
 use Rattle.uz_cert.specs.declared.read_head.StackLine.{StackLine}
-use Rattle.uz_cert.specs.declared.header.Head.{Head}
-use Rattle.uz_cert.specs.declared.lines.Event.{Event}
-use Rattle.uz_cert.specs.declared.lines.EventKind.{EventKind}
-use Rattle.uz_cert.specs.declared.lines.EventKind.TheVariants.{Sync, Pixel, Sound, Leave}
-use Rattle.uz_cert.specs.declared.lines.Schedule.{Schedule}
-use Rattle.uz_cert.specs.declared.states.Entry.{Entry}
-use Rattle.uz_cert.specs.declared.states.Point.{Point}
-use Rattle.uz_cert.specs.declared.certificate.Cert.{Cert}
-use Rattle.uz_cert.specs.Limits.{rises, KindFits, EventFits, EventsFit}
-use Rattle.uz_cert.specs.WellFormed.{HeadFits, IsSync, EntryFits, PointFits, WellFormed}
+use Rattle.uz_schedule.specs.declared.header.Head.{Head}
+use Rattle.uz_schedule.specs.declared.lines.Event.{Event}
+use Rattle.uz_schedule.specs.declared.lines.EventKind.{EventKind}
+use Rattle.uz_schedule.specs.declared.lines.EventKind.TheVariants.{Sync, Pixel, Sound, Leave}
+use Rattle.uz_schedule.specs.declared.lines.Schedule.{Schedule}
+use Rattle.uz_schedule.specs.declared.states.Entry.{Entry}
+use Rattle.uz_schedule.specs.declared.states.Point.{Point}
+use Rattle.uz_schedule.specs.declared.certificate.Cert.{Cert}
+use Rattle.uz_schedule.specs.Limits.{rises, KindFits, EventFits, EventsFit}
+use Rattle.uz_schedule.specs.WellFormed.{HeadFits, IsSync, EntryFits, PointFits, WellFormed}
 use Rattle.uz_cert.specs.Reading.{if_so, words_of, each, size_in, irq_in, stack_of, stack_in, head_of, has_room, kind_in, event_in, fall_in, events_in, entry_in, point_in, is_end, schedule_of, cert_with, points_until_end, cert_after_fall, cert_after_events, cert_of_events, cert_after_stack, cert_after_irq, cert_of_lines, cert_of_text}
 use Rattle.uz_cert.specs.Spelling.{line_of, event_words, point_words, entry_words, last_lines, state_lines, spelling}
 use Rattle.uz_cert.proofs.WordTests.{so_true, both_true, same_word}

@@ -1,12 +1,12 @@
 -- What reading a text answers, in terms of the texts of certificates.
 use Rattle.std.proofs.Common.{◌≡◌, ℕ, List, sym, ◌∙◌, ap, subst}
 use Rattle.std.specs.Prelude.{Some, Result}
-use Rattle.uz_cert.specs.declared.certificate.Cert.{Cert}
+use Rattle.uz_schedule.specs.declared.certificate.Cert.{Cert}
 use Rattle.uz_cert.specs.declared.errors.CertError.{CertError}
 use Rattle.uz_cert.specs.Outcome.{Gives}
 use Rattle.uz_cert.specs.Reading.{cert_of_text}
 use Rattle.uz_cert.specs.Spelling.{spelling}
-use Rattle.uz_cert.specs.WellFormed.{WellFormed}
+use Rattle.uz_schedule.specs.WellFormed.{WellFormed}
 use Rattle.uz_cert.proofs.TextAgain.{text_again}
 
 pub gives_only : (r : Result Cert CertError) (text : List ℕ) (c : Cert) → Gives r (cert_of_text text) → WellFormed c → text ≡ spelling c → Gives r (Some c)

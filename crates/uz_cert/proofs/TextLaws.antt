@@ -9,16 +9,16 @@ use Rattle.std.proofs.lemmas.List.{length-map, length-drop, length-take-le, take
 use Rattle.std.proofs.lemmas.List.Splits.{join_with_byte-slice_split}
 use Rattle.std.proofs.lemmas.List.Elements.{All-nil, All-cons, All-head, All-tail}
 use Rattle.uz_text.proofs.Plain.{split_join, EachPlain, each_lacks}
-use Rattle.uz_cert.specs.declared.kinds.Response.{Response}
+use Rattle.uz_schedule.specs.declared.kinds.Response.{Response}
 use Rattle.uz_cert.specs.declared.read_head.StackLine.{StackLine}
-use Rattle.uz_cert.specs.declared.header.Head.{Head}
-use Rattle.uz_cert.specs.declared.lines.Event.{Event}
-use Rattle.uz_cert.specs.declared.lines.Schedule.{Schedule}
-use Rattle.uz_cert.specs.declared.states.Entry.{Entry}
-use Rattle.uz_cert.specs.declared.states.Point.{Point}
-use Rattle.uz_cert.specs.declared.certificate.Cert.{Cert}
-use Rattle.uz_cert.specs.Limits.{rises, KindFits, EventFits, EventsFit, ScheduleFits}
-use Rattle.uz_cert.specs.WellFormed.{HeadFits, IsOneLine, IsSync, EntryFits, PointFits, WellFormed}
+use Rattle.uz_schedule.specs.declared.header.Head.{Head}
+use Rattle.uz_schedule.specs.declared.lines.Event.{Event}
+use Rattle.uz_schedule.specs.declared.lines.Schedule.{Schedule}
+use Rattle.uz_schedule.specs.declared.states.Entry.{Entry}
+use Rattle.uz_schedule.specs.declared.states.Point.{Point}
+use Rattle.uz_schedule.specs.declared.certificate.Cert.{Cert}
+use Rattle.uz_schedule.specs.Limits.{rises, KindFits, EventFits, EventsFit, ScheduleFits}
+use Rattle.uz_schedule.specs.WellFormed.{HeadFits, IsOneLine, IsSync, EntryFits, PointFits, WellFormed}
 use Rattle.uz_cert.specs.Reading.{if_so, words_of, each, size_in, irq_in, stack_in, head_of, has_room, kind_in, event_in, fall_in, events_in, entry_in, point_in, is_end, schedule_of, cert_with, points_until_end, cert_after_fall, cert_after_events, cert_of_events, cert_after_stack, cert_after_irq, cert_of_lines, cert_of_text}
 use Rattle.uz_cert.specs.Spelling.{line_of, event_words, point_words, entry_words, last_lines, state_lines, lines_of, spelling, run_words}
 use Rattle.uz_cert.proofs.WordTests.{so_some, then_some, and_true, word_is, zero_word, one_word}

@@ -1,6 +1,6 @@
 -- What reading a text answers.
 use Rattle.std.specs.Prelude.{◌≡◌, ◌⊎◌, Option, Some, None, Result, Ok, Err}
-use Rattle.uz_cert.specs.declared.certificate.Cert.{Cert}
+use Rattle.uz_schedule.specs.declared.certificate.Cert.{Cert}
 use Rattle.uz_cert.specs.declared.errors.CertError.{CertError}
 use Rattle.uz_cert.specs.declared.errors.CertWhy.TheVariants.{Memory, Later}
 

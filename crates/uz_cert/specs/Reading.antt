@@ -5,24 +5,24 @@ use Rattle.std.specs.List.{slice_split}
 use Rattle.std.specs.Option.{option_and_then, option_map}
 use Rattle.uz_text.specs.Cutting.{cut_at}
 use Rattle.uz_text.specs.Numbers.{number_below, number_within}
-use Rattle.uz_cert.specs.Ends.{Ends}
-use Rattle.uz_cert.specs.Limits.{rises}
-use Rattle.uz_cert.specs.declared.kinds.Response.{Response}
-use Rattle.uz_cert.specs.declared.kinds.Response.TheVariants.{Four, Five}
-use Rattle.uz_cert.specs.declared.kinds.Kind.TheVariants.{Alone}
-use Rattle.uz_cert.specs.declared.facts.Fact.{Fact}
-use Rattle.uz_cert.specs.declared.facts.Fact.TheVariants.{Any, Between}
-use Rattle.uz_cert.specs.declared.facts.PairFact.TheVariants.{Any as AnyPair}
-use Rattle.uz_cert.specs.declared.facts.Bit.{Bit}
-use Rattle.uz_cert.specs.declared.facts.Bit.TheVariants.{Free}
-use Rattle.uz_cert.specs.declared.header.Head.{Head}
-use Rattle.uz_cert.specs.declared.lines.Event.{Event}
-use Rattle.uz_cert.specs.declared.lines.EventKind.TheVariants.{Sync}
-use Rattle.uz_cert.specs.declared.lines.Schedule.{Schedule}
+use Rattle.uz_schedule.specs.Ends.{Ends}
+use Rattle.uz_schedule.specs.Limits.{rises}
+use Rattle.uz_schedule.specs.declared.kinds.Response.{Response}
+use Rattle.uz_schedule.specs.declared.kinds.Response.TheVariants.{Four, Five}
+use Rattle.uz_schedule.specs.declared.kinds.Kind.TheVariants.{Alone}
+use Rattle.uz_schedule.specs.declared.facts.Fact.{Fact}
+use Rattle.uz_schedule.specs.declared.facts.Fact.TheVariants.{Any, Between}
+use Rattle.uz_schedule.specs.declared.facts.PairFact.TheVariants.{Any as AnyPair}
+use Rattle.uz_schedule.specs.declared.facts.Bit.{Bit}
+use Rattle.uz_schedule.specs.declared.facts.Bit.TheVariants.{Free}
+use Rattle.uz_schedule.specs.declared.header.Head.{Head}
+use Rattle.uz_schedule.specs.declared.lines.Event.{Event}
+use Rattle.uz_schedule.specs.declared.lines.EventKind.TheVariants.{Sync}
+use Rattle.uz_schedule.specs.declared.lines.Schedule.{Schedule}
 use Rattle.uz_cert.specs.declared.read_head.StackLine.{StackLine}
-use Rattle.uz_cert.specs.declared.states.Entry.{Entry}
-use Rattle.uz_cert.specs.declared.states.Point.{Point}
-use Rattle.uz_cert.specs.declared.certificate.Cert.{Cert}
+use Rattle.uz_schedule.specs.declared.states.Entry.{Entry}
+use Rattle.uz_schedule.specs.declared.states.Point.{Point}
+use Rattle.uz_schedule.specs.declared.certificate.Cert.{Cert}
 
 abbrev pub words_of : List ℕ → List (List ℕ)
 words_of line = slice_split (λ b. b == 32) line

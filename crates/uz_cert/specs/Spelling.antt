@@ -1,28 +1,28 @@
 -- The text of a certificate. Its lines end in LF (10), words stand apart by one space (32), numbers are decimal.
 use Rattle.std.specs.Prelude.{ℕ, suc, ◌+◌, ◌==◌, ◌&&◌, Bool, true, false, ℤ, pos, negsuc, List, [], ◌∷◌, ◌++◌, map, length, codes, decimal, if◌then◌else◌}
 use Rattle.std.specs.List.{join_with_byte}
-use Rattle.uz_cert.specs.Ends.{Ends}
-use Rattle.uz_cert.specs.Schedule.{response_clocks}
-use Rattle.uz_cert.specs.declared.kinds.Kind.{Kind}
-use Rattle.uz_cert.specs.declared.kinds.Kind.TheVariants.{Main, Handler, Alone}
-use Rattle.uz_cert.specs.declared.kinds.Owner.{Owner}
-use Rattle.uz_cert.specs.declared.kinds.Owner.TheVariants.{Main as MainCell, Handler as HandlerCell}
-use Rattle.uz_cert.specs.declared.facts.Fact.{Fact}
-use Rattle.uz_cert.specs.declared.facts.Fact.TheVariants.{Any, Between, Line, Loop, Old, OldFlags}
-use Rattle.uz_cert.specs.declared.facts.PairFact.{PairFact}
-use Rattle.uz_cert.specs.declared.facts.PairFact.TheVariants.{Any as AnyPair, Between as BetweenPair, Line as LinePair, Loop as LoopPair}
-use Rattle.uz_cert.specs.declared.facts.Bit.{Bit}
-use Rattle.uz_cert.specs.declared.facts.Bit.TheVariants.{Zero, One, Free, Old as OldBit}
-use Rattle.uz_cert.specs.declared.header.Cell.{Cell}
-use Rattle.uz_cert.specs.declared.header.Head.{Head}
-use Rattle.uz_cert.specs.declared.lines.Event.{Event}
-use Rattle.uz_cert.specs.declared.lines.EventKind.{EventKind}
-use Rattle.uz_cert.specs.declared.lines.EventKind.TheVariants.{Sync, Pixel, Sound, Leave}
-use Rattle.uz_cert.specs.declared.lines.Schedule.{Schedule}
-use Rattle.uz_cert.specs.declared.states.Entry.{Entry}
-use Rattle.uz_cert.specs.declared.states.Point.{Point}
-use Rattle.uz_cert.specs.declared.states.Rest.{Rest}
-use Rattle.uz_cert.specs.declared.certificate.Cert.{Cert}
+use Rattle.uz_schedule.specs.Ends.{Ends}
+use Rattle.uz_schedule.specs.Schedule.{response_clocks}
+use Rattle.uz_schedule.specs.declared.kinds.Kind.{Kind}
+use Rattle.uz_schedule.specs.declared.kinds.Kind.TheVariants.{Main, Handler, Alone}
+use Rattle.uz_schedule.specs.declared.kinds.Owner.{Owner}
+use Rattle.uz_schedule.specs.declared.kinds.Owner.TheVariants.{Main as MainCell, Handler as HandlerCell}
+use Rattle.uz_schedule.specs.declared.facts.Fact.{Fact}
+use Rattle.uz_schedule.specs.declared.facts.Fact.TheVariants.{Any, Between, Line, Loop, Old, OldFlags}
+use Rattle.uz_schedule.specs.declared.facts.PairFact.{PairFact}
+use Rattle.uz_schedule.specs.declared.facts.PairFact.TheVariants.{Any as AnyPair, Between as BetweenPair, Line as LinePair, Loop as LoopPair}
+use Rattle.uz_schedule.specs.declared.facts.Bit.{Bit}
+use Rattle.uz_schedule.specs.declared.facts.Bit.TheVariants.{Zero, One, Free, Old as OldBit}
+use Rattle.uz_schedule.specs.declared.header.Cell.{Cell}
+use Rattle.uz_schedule.specs.declared.header.Head.{Head}
+use Rattle.uz_schedule.specs.declared.lines.Event.{Event}
+use Rattle.uz_schedule.specs.declared.lines.EventKind.{EventKind}
+use Rattle.uz_schedule.specs.declared.lines.EventKind.TheVariants.{Sync, Pixel, Sound, Leave}
+use Rattle.uz_schedule.specs.declared.lines.Schedule.{Schedule}
+use Rattle.uz_schedule.specs.declared.states.Entry.{Entry}
+use Rattle.uz_schedule.specs.declared.states.Point.{Point}
+use Rattle.uz_schedule.specs.declared.states.Rest.{Rest}
+use Rattle.uz_schedule.specs.declared.certificate.Cert.{Cert}
 
 abbrev pub line_of : List (List ℕ) → List ℕ
 line_of words = join_with_byte 32 words

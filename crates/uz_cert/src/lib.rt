@@ -1,33 +1,20 @@
-//! The certificate of a program's scanline timing: its types, what its schedule says of a position, and its text.
+//! The text of the certificate of a program's scanline timing. The certificate itself, as a value, is uz_schedule's; its
+//! public items are passed on here.
 #![tactic(auto)]
 
-mod certificate;
 mod errors;
-mod facts;
-mod header;
-mod kinds;
-mod limits;
-mod lines;
-mod ranges;
 mod read_head;
 mod read_items;
 mod read_schedule;
 mod read_states;
 mod reading;
-mod sequence;
-mod states;
 
-pub use certificate::Cert;
 pub use errors::{CertError, CertWhy};
-pub use facts::{Bit, Fact, PairFact, Val};
-pub use header::{Cell, Head};
-pub use kinds::{Kind, Owner, Response};
-pub use limits::well_formed;
-pub use lines::{Event, EventKind, Schedule};
-pub use ranges::{Span, Wide};
 pub use reading::{one_text, read_cert};
-pub use sequence::Sequence;
-pub use states::{Entry, Instance, Point, Rest};
+pub use uz_schedule::{
+    Bit, Cell, Cert, Entry, Event, EventKind, Fact, Head, Instance, Kind, Owner, PairFact, Point,
+    Response, Rest, Schedule, Sequence, Span, Val, Wide, well_formed,
+};
 
 #[cfg(test)]
 mod tests;

@@ -4,10 +4,9 @@ ghost use Rattle.std.specs.Prelude.{◌≡◌, ◌<◌, ◌≤◌, map, IfOk, If
 ghost use Rattle.uz_text.specs.Numbers.{number_below as number_below_limit};
 ghost use Rattle.uz_cert.specs.Reading.{is_one as spells_one, is_zero as spells_zero, size_in as size_of_words, irq_in as irq_of_words, stack_in as stack_of_words, limits_in as limits_of_words, head_of as head_of_stack, has_room as stack_has_room, words_of};
 
-use crate::header::Head;
-use crate::kinds::Response;
 use arrayvec::ArrayVec;
 use std::alloc::{AllocError, Global};
+use uz_schedule::{Head, Response};
 use uz_text::{number, number_within, parts, short_number};
 
 fn is_one(word: &[u8]) -> bool

@@ -4,10 +4,8 @@ ghost use Rattle.std.specs.Prelude.{◌≡◌, ◌≤◌, ◌<◌, map, length, 
 ghost use Rattle.uz_text.specs.Numbers.{number_below as number_below_limit};
 ghost use Rattle.uz_cert.specs.Reading.{register_in as register_of_key, both as both_numbers, value_in as value_of_word, first_in, left_after, of_register as value_of_register, values_from, rest_from, fact_of, span_of, successor_in as successor_of_word, successors_in as successors_of_words, each};
 
-use crate::facts::Fact;
-use crate::limits::rises;
-use crate::ranges::Span;
 use arrayvec::ArrayVec;
+use uz_schedule::{Fact, Span, rises};
 use uz_text::{cut, number};
 
 /// The number of a register in `rN`.

@@ -3,10 +3,8 @@
 ghost use Rattle.std.specs.Prelude.{◌≡◌, ◌≤◌, map, IfOk, IfSome, option_map};
 ghost use Rattle.uz_cert.specs.Reading.{kind_in as kind_of_words, event_in as event_of_words, fall_in as fall_of_words, events_in as events_of_lines, each, words_of};
 
-use crate::limits::clocks_rise;
-use crate::lines::{Event, EventKind};
-use crate::sequence::Sequence;
 use std::alloc::{AllocError, Global};
+use uz_schedule::{Event, EventKind, Sequence, clocks_rise};
 use uz_text::{number, number_within, parts, short_number};
 
 /// The number of events in `kind EVENTS`.

@@ -4,13 +4,11 @@ ghost use Rattle.std.specs.Prelude.{◌≡◌, ◌≤◌, map, IfOk, option_map}
 ghost use Rattle.uz_text.specs.Numbers.{number_below as number_below_limit};
 ghost use Rattle.uz_cert.specs.Reading.{are_zero as spell_zero, are_both_zero as spell_both_zero, is_alone as begins_alone, no_words as no_words_left, entry_in as entry_of_words, point_in as point_of_words, entry_of as entry_of_values, point_of as point_of_values, point_with as point_of_items, point_at as point_of_place, point_level as point_of_level, point_from as point_of_clock, each, words_of};
 
-use crate::facts::{Bit, PairFact};
-use crate::kinds::Kind;
 use crate::read_head::is_zero;
 use crate::read_items::{facts_of, read_values, spans_of, successors_in};
-use crate::states::{Entry, Point};
 use arrayvec::ArrayVec;
 use std::alloc::{AllocError, Global};
+use uz_schedule::{Bit, Entry, Kind, PairFact, Point};
 use uz_text::{number, parts};
 
 /// A clock of a line of 1820 clocks.

@@ -3,20 +3,15 @@
 ghost use Rattle.std.specs.Prelude.{◌≡◌, ◌<◌, ◌-◌, ◌^◌, ℕ, List, map, length, IfOk, Some, option_map};
 ghost use Rattle.uz_cert.specs.Reading.{is_end as is_end_of, schedule_of as schedule_of_parts, cert_with, points_until_end as points_of_lines, cert_after_fall as cert_from_run, cert_after_events as cert_from_fall, cert_of_events as cert_from_events, cert_after_stack as cert_from_kind, cert_after_irq as cert_from_stack, cert_of_lines as cert_of_all, cert_of_text, words_of};
 ghost use Rattle.uz_cert.specs.Spelling.{spelling};
-ghost use Rattle.uz_cert.specs.WellFormed.{WellFormed};
+ghost use Rattle.uz_schedule.specs.WellFormed.{WellFormed};
 ghost use Rattle.uz_cert.specs.Outcome.{Gives};
 
-use crate::certificate::Cert;
 use crate::errors::{CertError, CertWhy};
-use crate::header::Head;
-use crate::kinds::Response;
-use crate::lines::{Event, Schedule};
 use crate::read_head::{head_of, irq_of_line, size_of_line, stack_of_line};
 use crate::read_schedule::{events_in, fall_of_line, kind_of_line};
 use crate::read_states::{entry_of_line, points_in};
-use crate::sequence::Sequence;
-use crate::states::{Entry, Point};
 use std::alloc::{AllocError, Global};
+use uz_schedule::{Cert, Entry, Event, Head, Point, Response, Schedule, Sequence};
 use uz_text::parts;
 
 /// The answer to each text that isn't a thin certificate.

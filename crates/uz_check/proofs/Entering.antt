@@ -8,16 +8,16 @@ use Rattle.std.proofs.lemmas.Bool.Decides.{nat_tests, eqb_tells, leb_tells}
 use Rattle.std.proofs.lemmas.Option.{slice_get-get_or, get_or_from_slice_get, slice_get_within}
 use Rattle.std.proofs.lemmas.List.{get_or-map, length-map}
 use Rattle.std.proofs.lemmas.List.Elements.{All-get_or, All-from_get_or, All-tail}
-use Rattle.uz_cert.specs.Ends.{Ends}
-use Rattle.uz_cert.specs.Limits.{KindFits, EventFits, ScheduleFits}
-use Rattle.uz_cert.specs.WellFormed.{IsByteOrAll, WellFormed}
-use Rattle.uz_cert.specs.declared.lines.Event.{Event}
-use Rattle.uz_cert.specs.declared.lines.EventKind.{EventKind}
-use Rattle.uz_cert.specs.declared.lines.EventKind.TheVariants.{Sync, Pixel, Sound, Leave}
-use Rattle.uz_cert.specs.declared.lines.Schedule.{Schedule}
-use Rattle.uz_cert.specs.declared.certificate.Cert.{Cert}
-use Rattle.uz_cert.specs.Schedule.{start_of, frame_of, event_in, event_in_kind, events_of, event_at, sync_of, sync_at, or_else, last_level, level_at}
-use Rattle.uz_cert.proofs.Starts.{start_is, event_is}
+use Rattle.uz_schedule.specs.Ends.{Ends}
+use Rattle.uz_schedule.specs.Limits.{KindFits, EventFits, ScheduleFits}
+use Rattle.uz_schedule.specs.WellFormed.{IsByteOrAll, WellFormed}
+use Rattle.uz_schedule.specs.declared.lines.Event.{Event}
+use Rattle.uz_schedule.specs.declared.lines.EventKind.{EventKind}
+use Rattle.uz_schedule.specs.declared.lines.EventKind.TheVariants.{Sync, Pixel, Sound, Leave}
+use Rattle.uz_schedule.specs.declared.lines.Schedule.{Schedule}
+use Rattle.uz_schedule.specs.declared.certificate.Cert.{Cert}
+use Rattle.uz_schedule.specs.Schedule.{start_of, frame_of, event_in, event_in_kind, events_of, event_at, sync_of, sync_at, or_else, last_level, level_at}
+use Rattle.uz_schedule.proofs.Starts.{start_is, event_is}
 use Rattle.uz_check.specs.Machine.{State, IsState}
 use Rattle.uz_check.specs.Instances.{whole, range_at}
 use Rattle.uz_check.specs.FrameRules.{IsSteadyLine, IsSteady}

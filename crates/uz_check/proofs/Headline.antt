@@ -3,10 +3,10 @@ use Rattle.std.proofs.Common.{◌≡◌, ℕ, suc, Bool, true, false, cond, List
 use Rattle.std.specs.Prelude.{Option, Some, None, slice_get}
 use Rattle.std.specs.Ordering.{nat_cmp}
 use Rattle.std.specs.FinMap.{FinMap}
-use Rattle.uz_cert.specs.Limits.{ScheduleFits}
-use Rattle.uz_cert.specs.declared.states.Point.{Point}
-use Rattle.uz_cert.specs.declared.certificate.Cert.{Cert}
-use Rattle.uz_cert.specs.Schedule.{event_at}
+use Rattle.uz_schedule.specs.Limits.{ScheduleFits}
+use Rattle.uz_schedule.specs.declared.states.Point.{Point}
+use Rattle.uz_schedule.specs.declared.certificate.Cert.{Cert}
+use Rattle.uz_schedule.specs.Schedule.{event_at}
 use Rattle.uz_check.specs.declared.fail.Fail.{Fail}
 use Rattle.uz_check.specs.declared.refusal.RefusedWhy.{RefusedWhy}
 use Rattle.uz_check.specs.declared.refusal.RefusedWhy.TheVariants.{Entry as EntryWhy}

@@ -2,8 +2,8 @@
 use Rattle.std.proofs.Common.{◌≡◌, ℕ, zero, suc, ◌+◌, ◌-◌, ◌%◌, ◌<◌, refl, sym, ◌∙◌, ap, length, arith}
 use Rattle.std.proofs.Math.Nat.{mod-add-mod, add-mod_right, mod-mod}
 use Rattle.std.specs.Prelude.{Option, Some, None}
-use Rattle.uz_cert.specs.declared.lines.Schedule.{Schedule}
-use Rattle.uz_cert.specs.Schedule.{frame_of, event_from, event_at, sync_of, sync_at, or_else, last_level, level_at}
+use Rattle.uz_schedule.specs.declared.lines.Schedule.{Schedule}
+use Rattle.uz_schedule.specs.Schedule.{frame_of, event_from, event_at, sync_of, sync_at, or_else, last_level, level_at}
 
 or_else_none : (o : Option ℕ) → or_else o None ≡ o
 or_else_none None = refl

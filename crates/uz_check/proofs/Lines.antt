@@ -2,8 +2,8 @@
 use Rattle.std.proofs.Common.{◌≡◌, inl, inr, ℕ, suc, ◌+◌, ◌-◌, ◌%◌, sym, ◌∙◌, ap, length, arith}
 use Rattle.std.proofs.Math.Nat.{add-mod_right}
 use Rattle.std.proofs.lemmas.Bool.Decides.{eqb_tells, leb_tells}
-use Rattle.uz_cert.specs.declared.lines.Schedule.{Schedule}
-use Rattle.uz_cert.specs.Schedule.{length_of, start_of, frame_of, next_line, At, event_at, level_at}
+use Rattle.uz_schedule.specs.declared.lines.Schedule.{Schedule}
+use Rattle.uz_schedule.specs.Schedule.{length_of, start_of, frame_of, next_line, At, event_at, level_at}
 use Rattle.uz_check.specs.Instances.{line_after, clock_after}
 use Rattle.uz_check.proofs.Level.{event_at_mod, mod_shift, level_mod}
 

@@ -9,15 +9,15 @@ use Rattle.std.proofs.lemmas.Bool.Decides.{eqb_tells}
 use Rattle.std.proofs.lemmas.Bool.{eqb-true, leb-true}
 use Rattle.std.proofs.lemmas.List.{append-nil}
 use Rattle.uz_hex.specs.Cells.{word_of}
-use Rattle.uz_cert.specs.Ends.{Ends}
-use Rattle.uz_cert.specs.Limits.{ScheduleFits}
-use Rattle.uz_cert.specs.declared.lines.Schedule.{Schedule}
-use Rattle.uz_cert.specs.declared.lines.EventKind.{EventKind}
-use Rattle.uz_cert.specs.declared.lines.EventKind.TheVariants.{Sync, Pixel, Sound, Leave}
-use Rattle.uz_cert.specs.declared.states.Point.{Point}
-use Rattle.uz_cert.specs.declared.certificate.Cert.{Cert}
-use Rattle.uz_cert.specs.Schedule.{At, frame_of, event_at, level_at, sync_at, sync_of, or_else}
-use Rattle.uz_cert.proofs.Starts.{start_is}
+use Rattle.uz_schedule.specs.Ends.{Ends}
+use Rattle.uz_schedule.specs.Limits.{ScheduleFits}
+use Rattle.uz_schedule.specs.declared.lines.Schedule.{Schedule}
+use Rattle.uz_schedule.specs.declared.lines.EventKind.{EventKind}
+use Rattle.uz_schedule.specs.declared.lines.EventKind.TheVariants.{Sync, Pixel, Sound, Leave}
+use Rattle.uz_schedule.specs.declared.states.Point.{Point}
+use Rattle.uz_schedule.specs.declared.certificate.Cert.{Cert}
+use Rattle.uz_schedule.specs.Schedule.{At, frame_of, event_at, level_at, sync_at, sync_of, or_else}
+use Rattle.uz_schedule.proofs.Starts.{start_is}
 use Rattle.uz_check.specs.declared.fail.Fail.TheVariants.{Edge as EdgeWhy, Successor}
 use Rattle.uz_check.specs.declared.instance.Instance.{Instance}
 use Rattle.uz_check.specs.declared.instruction.Instruction.{Instruction}

@@ -1,8 +1,8 @@
 -- The tests over a range of numbers, one number at a time.
 use Rattle.std.proofs.Common.{◌≡◌, ℕ, ◌+◌, true, refl, List, add-one}
 use Rattle.std.specs.Prelude.{◌&&◌, Option, is_none}
-use Rattle.uz_cert.specs.Ends.{Ends}
-use Rattle.uz_cert.specs.declared.lines.EventKind.{EventKind}
+use Rattle.uz_schedule.specs.Ends.{Ends}
+use Rattle.uz_schedule.specs.declared.lines.EventKind.{EventKind}
 use Rattle.uz_check.specs.Instances.{range_at, is_within, are_within}
 use Rattle.uz_check.specs.LocalRule.{is_quiet}
 

@@ -7,14 +7,14 @@ use Rattle.std.proofs.lemmas.Bool.{eqb-true}
 use Rattle.std.proofs.lemmas.Bool.Decides.{nat_tests, eqb_tells}
 use Rattle.std.proofs.lemmas.Option.{get_or_from_slice_get, slice_get_within}
 use Rattle.std.proofs.lemmas.List.Elements.{All-get_or, All-tail, All-cons}
-use Rattle.uz_cert.specs.Limits.{EventsFit, ScheduleFits}
-use Rattle.uz_cert.specs.declared.lines.Event.{Event}
-use Rattle.uz_cert.specs.declared.lines.EventKind.{EventKind}
-use Rattle.uz_cert.specs.declared.lines.EventKind.TheVariants.{Sync, Pixel, Sound, Leave}
-use Rattle.uz_cert.specs.declared.lines.Schedule.{Schedule}
-use Rattle.uz_cert.specs.declared.states.Point.{Point}
-use Rattle.uz_cert.specs.declared.certificate.Cert.{Cert}
-use Rattle.uz_cert.specs.Schedule.{events_of}
+use Rattle.uz_schedule.specs.Limits.{EventsFit, ScheduleFits}
+use Rattle.uz_schedule.specs.declared.lines.Event.{Event}
+use Rattle.uz_schedule.specs.declared.lines.EventKind.{EventKind}
+use Rattle.uz_schedule.specs.declared.lines.EventKind.TheVariants.{Sync, Pixel, Sound, Leave}
+use Rattle.uz_schedule.specs.declared.lines.Schedule.{Schedule}
+use Rattle.uz_schedule.specs.declared.states.Point.{Point}
+use Rattle.uz_schedule.specs.declared.certificate.Cert.{Cert}
+use Rattle.uz_schedule.specs.Schedule.{events_of}
 use Rattle.uz_check.specs.declared.fail.Fail.{Fail}
 use Rattle.uz_check.specs.declared.refusal.RefusedWhy.{RefusedWhy}
 use Rattle.uz_check.specs.declared.refusal.RefusedWhy.TheVariants.{Schedule as ScheduleWhy, Entry as EntryWhy, Point as PointWhy}

@@ -2,8 +2,8 @@
 use Rattle.std.specs.Prelude.{◌≡◌, ℕ, Some}
 use Rattle.std.specs.Ordering.{nat_cmp}
 use Rattle.std.specs.FinMap.{FinMap}
-use Rattle.uz_cert.specs.declared.certificate.Cert.{Cert}
-use Rattle.uz_cert.specs.Schedule.{At, event_at, level_at}
+use Rattle.uz_schedule.specs.declared.certificate.Cert.{Cert}
+use Rattle.uz_schedule.specs.Schedule.{At, event_at, level_at}
 use Rattle.uz_check.specs.Machine.{State, IsState, Turn, level_of, clock_of}
 use Rattle.uz_check.specs.Instances.{Meets, entry_instance}
 use Rattle.uz_check.specs.Claim.{Follows}

@@ -1,6 +1,6 @@
 -- What it is for a run to keep to a schedule. Nothing here knows what a machine's turn is.
 use Rattle.std.specs.Prelude.{◌≡◌, All, ⊤, ℕ, zero, suc, ◌+◌, ◌<◌, ◌≤◌, nat_le, List, [], ◌++◌, filter, Option}
-use Rattle.uz_cert.specs.declared.lines.EventKind.{EventKind}
+use Rattle.uz_schedule.specs.declared.lines.EventKind.{EventKind}
 use Rattle.uz_machine.specs.declared.Edge.{Edge}
 use Rattle.uz_machine.specs.declared.EdgeKind.{EdgeKind}
 use Rattle.uz_machine.specs.declared.EdgeKind.TheVariants.{Sync as SyncEdge, Pixel as PixelEdge, Sound as SoundEdge, Enter as EnterEdge, Leave as LeaveEdge}

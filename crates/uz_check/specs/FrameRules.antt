@@ -1,11 +1,11 @@
 -- The rules of a certificate's frame: each line begins with the fall of sync, and the entry lies in its point.
 use Rattle.std.specs.Prelude.{◌≡◌, ◌≢◌, All, ℕ, zero, suc, ◌<◌, ◌==◌, Bool, false, ◌&&◌, List, [], ◌∷◌, Option, Some, None, slice_get, length, if◌then◌else◌}
-use Rattle.uz_cert.specs.declared.lines.Event.{Event}
-use Rattle.uz_cert.specs.declared.lines.EventKind.{EventKind}
-use Rattle.uz_cert.specs.declared.lines.EventKind.TheVariants.{Sync, Pixel, Sound, Leave}
-use Rattle.uz_cert.specs.declared.lines.Schedule.{Schedule}
-use Rattle.uz_cert.specs.declared.certificate.Cert.{Cert}
-use Rattle.uz_cert.specs.Schedule.{events_of}
+use Rattle.uz_schedule.specs.declared.lines.Event.{Event}
+use Rattle.uz_schedule.specs.declared.lines.EventKind.{EventKind}
+use Rattle.uz_schedule.specs.declared.lines.EventKind.TheVariants.{Sync, Pixel, Sound, Leave}
+use Rattle.uz_schedule.specs.declared.lines.Schedule.{Schedule}
+use Rattle.uz_schedule.specs.declared.certificate.Cert.{Cert}
+use Rattle.uz_schedule.specs.Schedule.{events_of}
 use Rattle.uz_check.specs.Instances.{entry_instance}
 use Rattle.uz_check.specs.LocalRule.{lies_at}
 

@@ -1,13 +1,13 @@
 -- Instances: what is known of the machine where a point of a certificate stands, and what an instruction makes of it.
 -- A thin certificate's points have one line, no counts and no interrupts, so each point has one instance.
 use Rattle.std.specs.Prelude.{◌≡◌, ℕ, zero, suc, ◌+◌, ◌-◌, ◌<◌, ◌≤◌, ◌==◌, nat_le, nat_lt, Bool, true, ◌&&◌, List, length, map, slice_index_or, slice_set, if◌then◌else◌}
-use Rattle.uz_cert.specs.Ends.{Ends}
-use Rattle.uz_cert.specs.declared.lines.Schedule.{Schedule}
-use Rattle.uz_cert.specs.declared.states.Point.{Point}
-use Rattle.uz_cert.specs.declared.states.Entry.{Entry}
-use Rattle.uz_cert.specs.declared.facts.Fact.{Fact}
-use Rattle.uz_cert.specs.declared.facts.Fact.TheVariants.{Any, Between, Line, Loop, Old, OldFlags}
-use Rattle.uz_cert.specs.Schedule.{length_of, start_of, next_line}
+use Rattle.uz_schedule.specs.Ends.{Ends}
+use Rattle.uz_schedule.specs.declared.lines.Schedule.{Schedule}
+use Rattle.uz_schedule.specs.declared.states.Point.{Point}
+use Rattle.uz_schedule.specs.declared.states.Entry.{Entry}
+use Rattle.uz_schedule.specs.declared.facts.Fact.{Fact}
+use Rattle.uz_schedule.specs.declared.facts.Fact.TheVariants.{Any, Between, Line, Loop, Old, OldFlags}
+use Rattle.uz_schedule.specs.Schedule.{length_of, start_of, next_line}
 use Rattle.uz_check.specs.declared.instance.Instance.{Instance}
 use Rattle.uz_check.specs.declared.instruction.Instruction.{Instruction}
 use Rattle.uz_check.specs.declared.instruction.Instruction.TheVariants.{Nop, Ldi, OutPortB, Rjmp}

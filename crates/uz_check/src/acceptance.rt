@@ -1,7 +1,7 @@
 //! The whole check.
 
 ghost use Rattle.std.specs.Prelude.{◌≡◌, ◌<◌, ◌↔◌, ℕ, true, Some, None, length, IsNone, IfSome, IsOk, IfOk, IfErr};
-ghost use Rattle.uz_cert.specs.WellFormed.{WellFormed};
+ghost use Rattle.uz_schedule.specs.WellFormed.{WellFormed};
 ghost use Rattle.uz_check.specs.Acceptance.{Accepts, IsThere, accepts, first_failing as first_failing_of, first_refusal};
 ghost use Rattle.uz_check.specs.Certified.{Certified};
 
@@ -9,7 +9,7 @@ use crate::fail::Fail;
 use crate::frame_rules::{entry_passes, first_unsteady};
 use crate::local_rule::local;
 use crate::refusal::RefusedWhy;
-use uz_cert::Cert;
+use uz_schedule::Cert;
 use uz_hex::Image;
 
 /// An image and a certificate that meet all rules. Only `check` makes one.
@@ -89,7 +89,7 @@ fn first_refused(image: &Image, cert: &Cert) -> Option<RefusedWhy>
 }
 
 /// Why a pair is refused: the first failing item, and None exactly where `check` accepts the pair. Its condition is that
-/// the certificate is well formed (`uz_cert::well_formed`). Takes no memory, and a time linear in the points' successors
+/// the certificate is well formed (`uz_schedule::well_formed`). Takes no memory, and a time linear in the points' successors
 /// and the schedule's events.
 pub fn verdict(image: &Image, cert: &Cert) -> Option<RefusedWhy>
     requires { WellFormed cert.now }

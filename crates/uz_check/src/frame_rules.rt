@@ -1,13 +1,13 @@
 //! The rules of a certificate's frame.
 
 ghost use Rattle.std.specs.Prelude.{◌≡◌, ◌<◌, ℕ, length};
-ghost use Rattle.uz_cert.specs.Limits.{ScheduleFits};
-ghost use Rattle.uz_cert.specs.Schedule.{events_of};
+ghost use Rattle.uz_schedule.specs.Limits.{ScheduleFits};
+ghost use Rattle.uz_schedule.specs.Schedule.{events_of};
 ghost use Rattle.uz_check.specs.FrameRules.{is_fall as falls, second_fall as second, unsteady_clock as unsteady, unsteady_in, first_unsteady as unsteady_place, entry_passes as entry_rule};
 
 use crate::instance::Instance;
 use crate::local_rule::lies_at;
-use uz_cert::{Cert, Event, EventKind, Schedule};
+use uz_schedule::{Cert, Event, EventKind, Schedule};
 
 /// Whether an event is the fall of sync.
 fn is_fall(kind: EventKind) -> bool

@@ -3,11 +3,11 @@
 ghost use Rattle.std.specs.Prelude.{◌≡◌, ◌<◌, ◌≤◌, ℕ, length, map, slice_index_or};
 ghost use Rattle.uz_check.specs.Machine.{HasWidths};
 ghost use Rattle.uz_check.specs.Instances.{range_of as range_of_fact, range_at, is_within as within, are_within as within_by, IsPlaced};
-ghost use Rattle.uz_cert.specs.Schedule.{next_line as line_following};
-ghost use Rattle.uz_cert.specs.Limits.{ScheduleFits};
+ghost use Rattle.uz_schedule.specs.Schedule.{next_line as line_following};
+ghost use Rattle.uz_schedule.specs.Limits.{ScheduleFits};
 
 use crate::instruction::Instruction;
-use uz_cert::{Entry, Fact, Point, Schedule, Span};
+use uz_schedule::{Entry, Fact, Point, Schedule, Span};
 
 /// How many registers the core has.
 const REGISTERS: usize = 32;
@@ -98,7 +98,7 @@ impl Instance {
     }
 
     /// The position at which it stands.
-    #[tactic(auto, using(uz_cert::proofs::Starts::start_is))]
+    #[tactic(auto, using(uz_schedule::proofs::Starts::start_is))]
     pub(crate) fn position(&self, schedule: &Schedule) -> u32
         requires schedule { ScheduleFits schedule.now }
         requires place { IsPlaced schedule.now self.now }

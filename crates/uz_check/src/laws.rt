@@ -3,8 +3,8 @@
 ghost use Rattle.std.specs.Prelude.{◌≡◌, ◌↔◌, ℕ, None, true};
 ghost use Rattle.std.specs.Ordering.{nat_cmp};
 ghost use Rattle.std.specs.FinMap.{FinMap};
-ghost use Rattle.uz_cert.specs.WellFormed.{WellFormed};
-ghost use Rattle.uz_cert.specs.declared.certificate.Cert.{Cert};
+ghost use Rattle.uz_schedule.specs.WellFormed.{WellFormed};
+ghost use Rattle.uz_schedule.specs.declared.certificate.Cert.{Cert};
 ghost use Rattle.uz_check.specs.Machine.{State, IsState};
 ghost use Rattle.uz_check.specs.FrameRules.{IsSteady};
 ghost use Rattle.uz_check.specs.Acceptance.{Accepts, accepts, first_refusal};

@@ -1,8 +1,8 @@
 //! The rule that each instance has to meet by itself.
 
 ghost use Rattle.std.specs.Prelude.{◌≡◌, ◌<◌, ◌≤◌, ◌+◌, ◌-◌, ◌^◌, ℕ, length, slice_get};
-ghost use Rattle.uz_cert.specs.Schedule.{event_at};
-ghost use Rattle.uz_cert.specs.Limits.{ScheduleFits};
+ghost use Rattle.uz_schedule.specs.Schedule.{event_at};
+ghost use Rattle.uz_schedule.specs.Limits.{ScheduleFits};
 ghost use Rattle.uz_check.specs.Machine.{HasWidths};
 ghost use Rattle.uz_check.specs.Instances.{position_of, instance_of, IsPlaced};
 ghost use Rattle.uz_check.specs.LocalRule.{emitted_level as level_emitted, emission as emission_of, is_decided as decided, is_quiet as quiet, edge_passes as edge_rule, lies_at as lies_at_of, has_successor as successor_rule, fail_of};
@@ -10,7 +10,7 @@ ghost use Rattle.uz_check.specs.LocalRule.{emitted_level as level_emitted, emiss
 use crate::fail::Fail;
 use crate::instance::Instance;
 use crate::instruction::{FLASH_WORDS, Instruction, instruction_at};
-use uz_cert::{Cert, EventKind, Point, Schedule};
+use uz_schedule::{Cert, EventKind, Point, Schedule};
 use uz_hex::Image;
 
 /// The event that storing a level emits, where this level holds before: none where it holds already.

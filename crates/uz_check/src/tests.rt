@@ -6,7 +6,7 @@ use crate::{Fail, RefusedWhy, check, verdict};
 use arrayvec::ArrayVec;
 use std::alloc::{AllocError, Global};
 use std::test::Fail as TestFail;
-use uz_cert::{
+use uz_schedule::{
     Bit, Cert, Entry, Event, EventKind, Fact, Head, Kind, PairFact, Point, Response, Schedule,
     Sequence, Span, well_formed,
 };

@@ -8,9 +8,9 @@ use Rattle.avr_table.specs.declared.Outcome.{Outcome}
 use Rattle.avr_table.specs.Rows.{words_of, clocks_of}
 use Rattle.uz_machine.specs.declared.HeldStore.{HeldStore}
 use Rattle.uz_machine.specs.declared.Edge.{Edge}
-use Rattle.uz_cert.specs.declared.kinds.Response.{Response}
-use Rattle.uz_cert.specs.declared.kinds.Response.TheVariants.{Four, Five}
-use Rattle.uz_cert.specs.Schedule.{response_clocks}
+use Rattle.uz_schedule.specs.declared.kinds.Response.{Response}
+use Rattle.uz_schedule.specs.declared.kinds.Response.TheVariants.{Four, Five}
+use Rattle.uz_schedule.specs.Schedule.{response_clocks}
 use Rattle.uz_machine.specs.declared.Effect.{Effect}
 use Rattle.uz_machine.specs.declared.Effect.TheVariants.{Stop}
 use Rattle.uz_machine.specs.Arithmetic.{bit_is_set}

@@ -1,7 +1,7 @@
 //! The console's parts and readings.
 
 ghost use Rattle.std.specs.Prelude.{◌≡◌, ◌<◌, [], ℕ, IfOk, None};
-ghost use Rattle.uz_cert.specs.Schedule.{response_clocks};
+ghost use Rattle.uz_schedule.specs.Schedule.{response_clocks};
 ghost use Rattle.uz_hex.specs.Cells.{word_of};
 ghost use Rattle.uz_machine.specs.PadLine.{PadHistory};
 ghost use Rattle.uz_machine.specs.Core.{register};
@@ -11,11 +11,11 @@ ghost use Rattle.uz_pads.specs.Pads.{pairs_of, pads_wiring};
 ghost use Rattle.uz_ports.specs.Boards.{held_of, entered_of};
 
 use std::alloc::{AllocError, Global};
-use uz_cert::Response;
 use uz_core::Cpu;
 use uz_hex::Image;
 use uz_pads::{Pad, Pads};
 use uz_ports::Board;
+use uz_schedule::Response;
 
 /// A Uzebox console: the flash, the core, and the board with the clock. Between turns nothing is held or noted.
 #[derive(Drop)]

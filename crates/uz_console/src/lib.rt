@@ -12,4 +12,4 @@ pub use console::Console;
 pub use laws::{run_is_unique, run_keeps_states, turn_is_unique};
 pub use running::Progress;
 pub use turn::Turn;
-pub use uz_cert::Response;
+pub use uz_schedule::Response;

@@ -2,8 +2,8 @@
 use Rattle.std.proofs.Common.{◌≡◌, ℕ, Bool, true, false, List, [], ◌∷◌, Option, Some, refl, sym, subst}
 use Rattle.std.specs.Prelude.{slice_set, slice_index_or}
 use Rattle.uz_machine.specs.Arithmetic.{AluResult, chained_result}
-use Rattle.uz_cert.specs.declared.facts.Bit.{Bit}
-use Rattle.uz_cert.specs.declared.facts.Bit.TheVariants.{Zero, One, Free, Old}
+use Rattle.uz_schedule.specs.declared.facts.Bit.{Bit}
+use Rattle.uz_schedule.specs.declared.facts.Bit.TheVariants.{Zero, One, Free, Old}
 use Rattle.uz_range.specs.declared.answer.Ranged.{Ranged}
 use Rattle.uz_range.specs.Containment.{IsWithin, MayBe, Admits, AdmitsAll, Covers}
 use Rattle.uz_range.specs.Rules.{chained_zero, chained_answer}

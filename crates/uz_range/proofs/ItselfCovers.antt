@@ -5,8 +5,8 @@ use Rattle.std.specs.Int.Bits.{and_self, xor_self}
 use Rattle.std.proofs.lemmas.Bool.Decides.{nat_tests}
 use Rattle.std.proofs.lemmas.Int.{ints}
 use Rattle.uz_machine.specs.Arithmetic.{and_of, xor_of, difference_of, logic_result, signed}
-use Rattle.uz_cert.specs.Ends.{Ends}
-use Rattle.uz_cert.specs.declared.facts.Bit.TheVariants.{Free}
+use Rattle.uz_schedule.specs.Ends.{Ends}
+use Rattle.uz_schedule.specs.declared.facts.Bit.TheVariants.{Free}
 use Rattle.uz_range.specs.Containment.{IsWithin, Covers}
 use Rattle.uz_range.specs.Answers.{is_single}
 use Rattle.uz_range.specs.Rules.{same_and_answer, same_xor_answer, same_sub_answer}

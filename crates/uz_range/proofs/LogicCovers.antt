@@ -4,9 +4,9 @@ use Rattle.std.specs.Prelude.{bit_xor}
 use Rattle.std.proofs.lemmas.Nat.{and_le_l, and_le_r, le_or_l, le_or_r, or_lt, xor_lt}
 use Rattle.std.proofs.lemmas.Bool.Decides.{nat_tests}
 use Rattle.uz_machine.specs.Arithmetic.{and_of, or_of, xor_of, complement_of, increment_of, decrement_of, logical_shift_of, arithmetic_shift_of, rotation_of, bit_value}
-use Rattle.uz_cert.specs.Ends.{Ends}
-use Rattle.uz_cert.specs.declared.facts.Bit.{Bit}
-use Rattle.uz_cert.specs.declared.facts.Bit.TheVariants.{One, Free}
+use Rattle.uz_schedule.specs.Ends.{Ends}
+use Rattle.uz_schedule.specs.declared.facts.Bit.{Bit}
+use Rattle.uz_schedule.specs.declared.facts.Bit.TheVariants.{One, Free}
 use Rattle.uz_range.specs.Containment.{IsWithin, MayBe, Covers}
 use Rattle.uz_range.specs.Answers.{is_single, is_known, least_carry}
 use Rattle.uz_range.specs.Rules.{and_answer, or_answer, xor_answer, com_answer, step_up_answer, step_down_answer, lsr_answer, asr_answer, ror_answer}

@@ -5,9 +5,9 @@ use Rattle.std.proofs.lemmas.Nat.{or_lt, and_le_l}
 use Rattle.std.proofs.Math.Pow.{shr_mono, pow-lt}
 use Rattle.std.proofs.lemmas.Bool.Decides.{nat_tests}
 use Rattle.uz_machine.specs.Arithmetic.{AluResult, pair_sum_of, pair_difference_of, swap_of, with_bit, bit_is_set}
-use Rattle.uz_cert.specs.Ends.{Ends}
-use Rattle.uz_cert.specs.declared.facts.Bit.{Bit}
-use Rattle.uz_cert.specs.declared.facts.Bit.TheVariants.{Zero, One, Free}
+use Rattle.uz_schedule.specs.Ends.{Ends}
+use Rattle.uz_schedule.specs.declared.facts.Bit.{Bit}
+use Rattle.uz_schedule.specs.declared.facts.Bit.TheVariants.{Zero, One, Free}
 use Rattle.uz_range.specs.declared.answer.WideRanged.{WideRanged}
 use Rattle.uz_range.specs.Containment.{IsWithin, MayBe, Admits, CoversWide}
 use Rattle.uz_range.specs.Answers.{is_single, exact_wide_answer, wide_answer, is_known}

@@ -2,8 +2,8 @@
 use Rattle.std.proofs.Common.{◌≡◌, ℕ, ◌<◌, Bool, true, false, ◌&&◌, [], ◌∷◌, arith}
 use Rattle.std.specs.Prelude.{ℤ, pos, negsuc, ◌*ℤ◌}
 use Rattle.uz_machine.specs.Arithmetic.{low_word, left_shift_of, factor, product_of}
-use Rattle.uz_cert.specs.Ends.{Ends}
-use Rattle.uz_cert.specs.declared.facts.Bit.TheVariants.{Free}
+use Rattle.uz_schedule.specs.Ends.{Ends}
+use Rattle.uz_schedule.specs.declared.facts.Bit.TheVariants.{Free}
 use Rattle.uz_range.specs.declared.products.Form.{Form}
 use Rattle.uz_range.specs.declared.products.Form.TheVariants.{Mul, Muls, Mulsu, Fmul, Fmuls, Fmulsu}
 use Rattle.uz_range.specs.Containment.{IsWithin, CoversWide}

@@ -2,9 +2,9 @@
 use Rattle.std.proofs.Common.{◌≡◌, ℕ, ◌+◌, ◌-◌, ◌%◌, ◌<◌, ◌≤◌, Bool, true, ◌&&◌, Some, nat_lt, nat_le, ap, arith}
 use Rattle.std.proofs.lemmas.Bool.Decides.{nat_tests}
 use Rattle.uz_machine.specs.Arithmetic.{sum_of, difference_of, negation_of, byte_result, bit_value}
-use Rattle.uz_cert.specs.Ends.{Ends}
-use Rattle.uz_cert.specs.declared.facts.Bit.{Bit}
-use Rattle.uz_cert.specs.declared.facts.Bit.TheVariants.{Zero, One, Free}
+use Rattle.uz_schedule.specs.Ends.{Ends}
+use Rattle.uz_schedule.specs.declared.facts.Bit.{Bit}
+use Rattle.uz_schedule.specs.declared.facts.Bit.TheVariants.{Zero, One, Free}
 use Rattle.uz_range.specs.Containment.{IsWithin, MayBe, Covers}
 use Rattle.uz_range.specs.Answers.{is_single, is_known, least_carry, most_carry}
 use Rattle.uz_range.specs.Rules.{wrapped_sum, sum_answer, wrapped_difference, difference_answer, negate_answer}

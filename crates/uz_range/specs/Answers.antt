@@ -2,9 +2,9 @@
 -- Of a range's flags Z is 0 where 0 is below it, and else open; N is its top bit where that is known, and else open.
 use Rattle.std.specs.Prelude.{ℕ, Bool, true, false, Option, Some, None, [], ◌∷◌, map, nat_lt, nat_le, nat_eq, if◌then◌else◌}
 use Rattle.uz_machine.specs.Arithmetic.{AluResult}
-use Rattle.uz_cert.specs.Ends.{Ends}
-use Rattle.uz_cert.specs.declared.facts.Bit.{Bit}
-use Rattle.uz_cert.specs.declared.facts.Bit.TheVariants.{Zero, One, Free, Old}
+use Rattle.uz_schedule.specs.Ends.{Ends}
+use Rattle.uz_schedule.specs.declared.facts.Bit.{Bit}
+use Rattle.uz_schedule.specs.declared.facts.Bit.TheVariants.{Zero, One, Free, Old}
 use Rattle.uz_range.specs.declared.answer.Ranged.{Ranged}
 use Rattle.uz_range.specs.declared.answer.WideRanged.{WideRanged}
 

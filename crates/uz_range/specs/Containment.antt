@@ -1,9 +1,9 @@
 -- When a byte, a pair or a flag lies in what is known of it.
 use Rattle.std.specs.Prelude.{◌≡◌, ℕ, ◌≤◌, Bool, true, false, Option, Some, List, [], ◌∷◌, ⊤}
 use Rattle.uz_machine.specs.Arithmetic.{AluResult}
-use Rattle.uz_cert.specs.Ends.{Ends}
-use Rattle.uz_cert.specs.declared.facts.Bit.{Bit}
-use Rattle.uz_cert.specs.declared.facts.Bit.TheVariants.{Zero, One, Free, Old}
+use Rattle.uz_schedule.specs.Ends.{Ends}
+use Rattle.uz_schedule.specs.declared.facts.Bit.{Bit}
+use Rattle.uz_schedule.specs.declared.facts.Bit.TheVariants.{Zero, One, Free, Old}
 use Rattle.uz_range.specs.declared.answer.Ranged.{Ranged}
 use Rattle.uz_range.specs.declared.answer.WideRanged.{WideRanged}
 

@@ -3,9 +3,9 @@
 -- Set Manual). Else it is the range that the rule names.
 use Rattle.std.specs.Prelude.{ℕ, ◌+◌, ◌-◌, ◌*◌, ◌/◌, ◌%◌, ◌^◌, Bool, false, true, ◌&&◌, min, max, slice_set, slice_index_or, nat_lt, nat_le, nat_eq, if◌then◌else◌}
 use Rattle.uz_machine.specs.Arithmetic.{AluResult, sum_of, difference_of, negation_of, and_of, or_of, xor_of, complement_of, increment_of, decrement_of, logical_shift_of, arithmetic_shift_of, rotation_of, swap_of, product_of, pair_sum_of, pair_difference_of, with_bit, bit_is_set}
-use Rattle.uz_cert.specs.Ends.{Ends}
-use Rattle.uz_cert.specs.declared.facts.Bit.{Bit}
-use Rattle.uz_cert.specs.declared.facts.Bit.TheVariants.{Zero, One, Free}
+use Rattle.uz_schedule.specs.Ends.{Ends}
+use Rattle.uz_schedule.specs.declared.facts.Bit.{Bit}
+use Rattle.uz_schedule.specs.declared.facts.Bit.TheVariants.{Zero, One, Free}
 use Rattle.uz_range.specs.declared.answer.Ranged.{Ranged}
 use Rattle.uz_range.specs.declared.answer.WideRanged.{WideRanged}
 use Rattle.uz_range.specs.declared.products.Form.{Form}

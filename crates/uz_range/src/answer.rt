@@ -4,8 +4,8 @@ ghost use Rattle.std.specs.Prelude.{◌≡◌, ◌≤◌, ◌<◌};
 ghost use Rattle.uz_machine.specs.Arithmetic.{alu_result, flag_at};
 ghost use Rattle.uz_range.specs.Answers.{is_single as is_single_range, is_known as is_known_flag, least_carry, most_carry, is_one, flag_of, exact_answer, zero_flag, negative_flag, arithmetic_answer, logic_answer, exact_wide_answer, negative_wide_flag, wide_answer};
 
-use uz_cert::{Bit, Span, Wide};
 use uz_core::Flags;
+use uz_schedule::{Bit, Span, Wide};
 
 /// The range of a byte after an instruction, and of each flag C, Z, N, V, S, H, T what is known. A flag that the instruction keeps is
 /// [`Bit::Free`] here.

@@ -6,7 +6,7 @@ ghost use Rattle.uz_range.specs.Containment.{IsWithin, MayBe, Admits};
 ghost use Rattle.uz_range.specs.Rules.{bld_answer, bst_answer};
 
 use crate::answer::{is_fixed, is_set, is_single};
-use uz_cert::{Bit, Span};
+use uz_schedule::{Bit, Span};
 
 /// A byte with one bit (0 to 7) set to T (BLD; AVR Instruction Set Manual): every byte, unless the byte and T are known.
 pub fn bld(a: Span, bit: u8, t: Bit) -> Span

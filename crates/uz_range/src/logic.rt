@@ -6,8 +6,8 @@ ghost use Rattle.uz_range.specs.Containment.{IsWithin, Covers};
 ghost use Rattle.uz_range.specs.Rules.{and_answer, or_answer, xor_answer, com_answer, same_and_answer, same_xor_answer, same_sub_answer};
 
 use crate::answer::{Ranged, exactly, is_single, logical};
-use uz_cert::{Bit, Span};
 use uz_core::{and8, com8, or8, sub8, xor8};
+use uz_schedule::{Bit, Span};
 
 /// The bits that two bytes share (AND, ANDI; AVR Instruction Set Manual): from 0 to the lesser upper end.
 pub fn and(a: Span, b: Span) -> Ranged

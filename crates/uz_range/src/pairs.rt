@@ -6,8 +6,8 @@ ghost use Rattle.uz_range.specs.Containment.{IsWithin, CoversWide};
 ghost use Rattle.uz_range.specs.Rules.{pair_add_answer, pair_sub_answer, hull_answer, low_answer, high_answer};
 
 use crate::answer::{WideRanged, exactly_wide, is_single_wide, wide_arithmetic};
-use uz_cert::{Bit, Span, Wide};
 use uz_core::{add16, sub16};
+use uz_schedule::{Bit, Span, Wide};
 
 /// A pair and a constant (ADIW, and the step of a pointer; AVR Instruction Set Manual). Where no sum of the range reaches 65,536, or every one
 /// does, the answer is the range of the sums with the carry known.

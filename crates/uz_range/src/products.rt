@@ -6,8 +6,8 @@ ghost use Rattle.uz_range.specs.Containment.{IsWithin, CoversWide};
 ghost use Rattle.uz_range.specs.Rules.{product_by, product_answer};
 
 use crate::answer::{WideRanged, exactly_wide, is_single};
-use uz_cert::{Bit, Span, Wide};
 use uz_core::{Flags, mul16};
+use uz_schedule::{Bit, Span, Wide};
 
 /// The six products of the AVR Instruction Set Manual.
 #[derive(Clone, Copy, Debug, PartialEq, Eq)]

@@ -6,8 +6,8 @@ ghost use Rattle.uz_range.specs.Containment.{IsWithin, MayBe, Covers};
 ghost use Rattle.uz_range.specs.Rules.{lsr_answer, asr_answer, ror_answer, swap_answer};
 
 use crate::answer::{Ranged, arithmetic, exactly, is_fixed, is_set, is_single, least_of};
-use uz_cert::{Bit, Span};
 use uz_core::{asr8, lsr8, ror8};
+use uz_schedule::{Bit, Span};
 
 /// A byte shifted right (LSR; AVR Instruction Set Manual): half of each end.
 pub fn lsr(a: Span) -> Ranged

@@ -6,8 +6,8 @@ ghost use Rattle.uz_range.specs.Containment.{IsWithin, MayBe, Covers};
 ghost use Rattle.uz_range.specs.Rules.{wrapped_sum, sum_answer, wrapped_difference, difference_answer, chained_zero, chained_answer, negate_answer, step_up_answer, step_down_answer};
 
 use crate::answer::{Ranged, arithmetic, exactly, is_fixed, is_set, is_single, least_of, most_of};
-use uz_cert::{Bit, Span};
 use uz_core::{add8, dec8, inc8, neg8, sub8};
+use uz_schedule::{Bit, Span};
 
 /// The sum of two bytes and a carry (ADD and ADC; AVR Instruction Set Manual). Where no sum of the ranges reaches 256, or every one does, the
 /// answer is the range of the sums (less 256) with the carry known; where only a part wraps, it is every byte.

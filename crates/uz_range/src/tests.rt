@@ -1,7 +1,7 @@
 //! Answers worked by hand from the rules. Flags stand in the order C Z N V S H T: known to be 0 or 1, or open.
 
 use super::*;
-use uz_cert::{Bit, Span, Wide};
+use uz_schedule::{Bit, Span, Wide};
 
 /// Whether flags are those of a text such as `1?0????`.
 fn flags_are(flags: &[Bit; 7], text: &[u8; 7]) -> bool {

@@ -18,9 +18,9 @@ use Rattle.uz_machine.specs.CoreRange.{IsByte, IsCore}
 use Rattle.uz_machine.specs.OperandRanges.{AddressModeFits, EffectFits}
 use Rattle.uz_machine.specs.Space.{PadWiring, Space, byte_at, space_after, space_loads}
 use Rattle.uz_machine.specs.Turn.{sync_level}
-use Rattle.uz_cert.specs.declared.header.Head.{Head}
-use Rattle.uz_cert.specs.declared.lines.EventKind.{EventKind}
-use Rattle.uz_cert.specs.declared.states.Instance.{Instance}
+use Rattle.uz_schedule.specs.declared.header.Head.{Head}
+use Rattle.uz_schedule.specs.declared.lines.EventKind.{EventKind}
+use Rattle.uz_schedule.specs.declared.states.Instance.{Instance}
 use Rattle.uz_transfer.specs.Values.{value_at}
 use Rattle.uz_transfer.specs.Kinds.{depth_limit, is_main, is_handler}
 use Rattle.uz_transfer.specs.Memory.{address_range, with_pointer_range, stored_in, with_slots, without_slots, depth_of}

@@ -16,9 +16,9 @@ use Rattle.uz_machine.specs.Core.{Core, with_pointer_after, binary_result, unary
 use Rattle.uz_machine.specs.CoreRange.{IsCore}
 use Rattle.uz_machine.specs.Timer.{is_timer_address}
 use Rattle.uz_machine.specs.Space.{PadWiring, Space, is_pin, after_byte}
-use Rattle.uz_cert.specs.declared.header.Head.{Head}
-use Rattle.uz_cert.specs.declared.lines.EventKind.{EventKind}
-use Rattle.uz_cert.specs.declared.states.Instance.{Instance}
+use Rattle.uz_schedule.specs.declared.header.Head.{Head}
+use Rattle.uz_schedule.specs.declared.lines.EventKind.{EventKind}
+use Rattle.uz_schedule.specs.declared.states.Instance.{Instance}
 use Rattle.uz_transfer.specs.declared.fail.Fail.{Fail}
 use Rattle.uz_transfer.specs.declared.fail.Fail.TheVariants.{Mask}
 use Rattle.uz_transfer.specs.Values.{value_at}

@@ -30,15 +30,15 @@ use Rattle.uz_machine.specs.OperandRanges.{EffectFits}
 use Rattle.uz_machine.proofs.EffectRanges.{effect_fits}
 use Rattle.uz_machine.proofs.RowClocks.{clocks_within, stops}
 use Rattle.uz_machine.proofs.StateKept.{state_kept}
-use Rattle.uz_cert.specs.Ends.{Ends}
-use Rattle.uz_cert.specs.declared.facts.Val.{Val}
+use Rattle.uz_schedule.specs.Ends.{Ends}
+use Rattle.uz_schedule.specs.declared.facts.Val.{Val}
 use Rattle.uz_range.specs.Answers.{is_single}
-use Rattle.uz_cert.specs.declared.kinds.Kind.{Kind}
-use Rattle.uz_cert.specs.declared.kinds.Kind.TheVariants.{Main, Handler, Alone}
-use Rattle.uz_cert.specs.declared.header.Head.{Head}
-use Rattle.uz_cert.specs.declared.lines.EventKind.{EventKind}
-use Rattle.uz_cert.specs.declared.lines.EventKind.TheVariants.{Sync, Pixel, Sound, Leave}
-use Rattle.uz_cert.specs.declared.states.Instance.{Instance}
+use Rattle.uz_schedule.specs.declared.kinds.Kind.{Kind}
+use Rattle.uz_schedule.specs.declared.kinds.Kind.TheVariants.{Main, Handler, Alone}
+use Rattle.uz_schedule.specs.declared.header.Head.{Head}
+use Rattle.uz_schedule.specs.declared.lines.EventKind.{EventKind}
+use Rattle.uz_schedule.specs.declared.lines.EventKind.TheVariants.{Sync, Pixel, Sound, Leave}
+use Rattle.uz_schedule.specs.declared.states.Instance.{Instance}
 use Rattle.uz_transfer.specs.declared.fail.Fail.{Fail}
 use Rattle.uz_transfer.specs.declared.fail.Fail.TheVariants.{Mask}
 use Rattle.uz_transfer.specs.Kinds.{cell_place, is_main, is_handler}

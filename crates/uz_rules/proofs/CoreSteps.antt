@@ -10,12 +10,12 @@ use Rattle.uz_machine.specs.Arithmetic.{AluResult, bit_value, bit_is_set, merged
 use Rattle.uz_machine.specs.Core.{Core, register, pair, with_register, with_pair, with_flags, effective_address, with_pointer_after}
 use Rattle.uz_machine.specs.CoreRange.{IsCore}
 use Rattle.uz_machine.specs.OperandRanges.{AddressModeFits}
-use Rattle.uz_cert.specs.Ends.{Ends}
-use Rattle.uz_cert.specs.declared.facts.Bit.{Bit}
-use Rattle.uz_cert.specs.declared.facts.Bit.TheVariants.{Zero, One, Free, Old as OldBit}
-use Rattle.uz_cert.specs.declared.facts.Val.{Val}
-use Rattle.uz_cert.specs.declared.facts.Val.TheVariants.{Range, Old, OldFlags}
-use Rattle.uz_cert.specs.declared.states.Instance.{Instance}
+use Rattle.uz_schedule.specs.Ends.{Ends}
+use Rattle.uz_schedule.specs.declared.facts.Bit.{Bit}
+use Rattle.uz_schedule.specs.declared.facts.Bit.TheVariants.{Zero, One, Free, Old as OldBit}
+use Rattle.uz_schedule.specs.declared.facts.Val.{Val}
+use Rattle.uz_schedule.specs.declared.facts.Val.TheVariants.{Range, Old, OldFlags}
+use Rattle.uz_schedule.specs.declared.states.Instance.{Instance}
 use Rattle.uz_range.specs.Answers.{ends, is_single, is_known, is_one}
 use Rattle.uz_range.specs.Containment.{IsWithin, MayBe, Admits, AdmitsAll}
 use Rattle.uz_range.specs.Rules.{low_answer, high_answer, bst_answer, pair_add_answer, pair_sub_answer}

@@ -6,15 +6,15 @@ use Rattle.std.proofs.lemmas.Bool.Decides.{eqb_tells, nat_tests}
 use Rattle.uz_machine.specs.Core.{Core, register}
 use Rattle.uz_machine.specs.CoreRange.{IsByte, IsCore}
 use Rattle.uz_machine.proofs.ByteLists.{byte_at}
-use Rattle.uz_cert.specs.Ends.{Ends}
-use Rattle.uz_cert.specs.declared.kinds.Kind.{Kind}
-use Rattle.uz_cert.specs.declared.kinds.Kind.TheVariants.{Main, Handler, Alone}
-use Rattle.uz_cert.specs.declared.facts.Bit.{Bit}
-use Rattle.uz_cert.specs.declared.facts.Bit.TheVariants.{Zero, One, Free, Old as OldBit}
-use Rattle.uz_cert.specs.declared.facts.Val.{Val}
-use Rattle.uz_cert.specs.declared.facts.Val.TheVariants.{Range, Old, OldFlags}
-use Rattle.uz_cert.specs.declared.header.Head.{Head}
-use Rattle.uz_cert.specs.declared.states.Instance.{Instance}
+use Rattle.uz_schedule.specs.Ends.{Ends}
+use Rattle.uz_schedule.specs.declared.kinds.Kind.{Kind}
+use Rattle.uz_schedule.specs.declared.kinds.Kind.TheVariants.{Main, Handler, Alone}
+use Rattle.uz_schedule.specs.declared.facts.Bit.{Bit}
+use Rattle.uz_schedule.specs.declared.facts.Bit.TheVariants.{Zero, One, Free, Old as OldBit}
+use Rattle.uz_schedule.specs.declared.facts.Val.{Val}
+use Rattle.uz_schedule.specs.declared.facts.Val.TheVariants.{Range, Old, OldFlags}
+use Rattle.uz_schedule.specs.declared.header.Head.{Head}
+use Rattle.uz_schedule.specs.declared.states.Instance.{Instance}
 use Rattle.uz_range.specs.Answers.{ends}
 use Rattle.uz_range.specs.Containment.{IsWithin}
 use Rattle.uz_transfer.specs.Values.{value_at, flag_at, pair_at, span_at}

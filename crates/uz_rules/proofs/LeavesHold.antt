@@ -10,11 +10,11 @@ use Rattle.uz_machine.specs.Core.{Core, register, is_core_address, effective_add
 use Rattle.uz_machine.specs.OperandRanges.{EffectFits}
 use Rattle.uz_machine.specs.Space.{PadWiring, Space, after_byte}
 use Rattle.uz_machine.specs.Turn.{after_stores}
-use Rattle.uz_cert.specs.Ends.{Ends}
-use Rattle.uz_cert.specs.declared.kinds.Kind.{Kind}
-use Rattle.uz_cert.specs.declared.facts.Val.{Val}
-use Rattle.uz_cert.specs.declared.header.Head.{Head}
-use Rattle.uz_cert.specs.declared.states.Instance.{Instance}
+use Rattle.uz_schedule.specs.Ends.{Ends}
+use Rattle.uz_schedule.specs.declared.kinds.Kind.{Kind}
+use Rattle.uz_schedule.specs.declared.facts.Val.{Val}
+use Rattle.uz_schedule.specs.declared.header.Head.{Head}
+use Rattle.uz_schedule.specs.declared.states.Instance.{Instance}
 use Rattle.uz_range.specs.Answers.{is_single}
 use Rattle.uz_range.specs.Containment.{IsWithin}
 use Rattle.uz_range.proofs.ShapesCover.{only}

@@ -14,10 +14,10 @@ use Rattle.uz_machine.specs.CoreRange.{IsByte, IsCore}
 use Rattle.uz_machine.specs.OperandRanges.{EffectFits}
 use Rattle.uz_machine.specs.Timer.{is_timer_address}
 use Rattle.uz_machine.specs.Space.{PadWiring, Space, is_pin, plain_byte, byte_at, space_after, space_loads}
-use Rattle.uz_cert.specs.Ends.{Ends}
-use Rattle.uz_cert.specs.declared.facts.Val.TheVariants.{Range}
-use Rattle.uz_cert.specs.declared.header.Head.{Head}
-use Rattle.uz_cert.specs.declared.states.Instance.{Instance}
+use Rattle.uz_schedule.specs.Ends.{Ends}
+use Rattle.uz_schedule.specs.declared.facts.Val.TheVariants.{Range}
+use Rattle.uz_schedule.specs.declared.header.Head.{Head}
+use Rattle.uz_schedule.specs.declared.states.Instance.{Instance}
 use Rattle.uz_range.specs.Answers.{ends, is_single}
 use Rattle.uz_range.specs.Containment.{IsWithin}
 use Rattle.uz_range.specs.Rules.{pair_add_answer}

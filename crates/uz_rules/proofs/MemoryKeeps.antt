@@ -4,12 +4,12 @@ use Rattle.std.specs.Prelude.{slice_index, slice_set, take, ◌||◌, ◌&&◌}
 use Rattle.std.proofs.lemmas.Bool.Decides.{eqb_tells, nat_tests}
 use Rattle.std.proofs.lemmas.List.{length-append}
 use Rattle.uz_machine.specs.Core.{Core}
-use Rattle.uz_cert.specs.Ends.{Ends}
-use Rattle.uz_cert.specs.declared.kinds.Kind.{Kind}
-use Rattle.uz_cert.specs.declared.header.Cell.{Cell}
-use Rattle.uz_cert.specs.declared.header.Head.{Head}
-use Rattle.uz_cert.specs.declared.facts.Val.{Val}
-use Rattle.uz_cert.specs.declared.states.Instance.{Instance}
+use Rattle.uz_schedule.specs.Ends.{Ends}
+use Rattle.uz_schedule.specs.declared.kinds.Kind.{Kind}
+use Rattle.uz_schedule.specs.declared.header.Cell.{Cell}
+use Rattle.uz_schedule.specs.declared.header.Head.{Head}
+use Rattle.uz_schedule.specs.declared.facts.Val.{Val}
+use Rattle.uz_schedule.specs.declared.states.Instance.{Instance}
 use Rattle.uz_range.specs.Containment.{IsWithin}
 use Rattle.uz_range.specs.Answers.{ends}
 use Rattle.uz_transfer.specs.Values.{value_at, span_at}

@@ -19,13 +19,13 @@ use Rattle.uz_machine.specs.Core.{Core, register, pair, with_register, with_pair
 use Rattle.uz_machine.specs.CoreRange.{IsByte, IsCore}
 use Rattle.uz_machine.specs.OperandRanges.{OperandFits, EffectFits}
 use Rattle.uz_machine.proofs.ByteLists.{byte_at}
-use Rattle.uz_cert.specs.Ends.{Ends}
-use Rattle.uz_cert.specs.declared.facts.Bit.{Bit}
-use Rattle.uz_cert.specs.declared.facts.Bit.TheVariants.{Zero, Free}
-use Rattle.uz_cert.specs.declared.facts.Val.{Val}
-use Rattle.uz_cert.specs.declared.facts.Val.TheVariants.{Range}
-use Rattle.uz_cert.specs.declared.header.Head.{Head}
-use Rattle.uz_cert.specs.declared.states.Instance.{Instance}
+use Rattle.uz_schedule.specs.Ends.{Ends}
+use Rattle.uz_schedule.specs.declared.facts.Bit.{Bit}
+use Rattle.uz_schedule.specs.declared.facts.Bit.TheVariants.{Zero, Free}
+use Rattle.uz_schedule.specs.declared.facts.Val.{Val}
+use Rattle.uz_schedule.specs.declared.facts.Val.TheVariants.{Range}
+use Rattle.uz_schedule.specs.declared.header.Head.{Head}
+use Rattle.uz_schedule.specs.declared.states.Instance.{Instance}
 use Rattle.uz_range.specs.declared.products.Form.TheVariants.{Mul, Muls, Mulsu, Fmul, Fmuls, Fmulsu}
 use Rattle.uz_range.specs.Containment.{IsWithin, MayBe, AdmitsAll, Covers, CoversWide}
 use Rattle.uz_range.specs.Rules.{difference_answer, bld_answer, bst_answer}

@@ -7,8 +7,8 @@ use Rattle.avr_table.specs.Pattern.{stands}
 use Rattle.avr_table.specs.Rows.{Reads, words_of, clocks_of}
 use Rattle.uz_machine.specs.Effects.{effect_of}
 use Rattle.uz_machine.proofs.StateKept.{reset_is_state}
-use Rattle.uz_cert.specs.declared.facts.Bit.TheVariants.{Free}
-use Rattle.uz_cert.specs.declared.facts.Val.TheVariants.{Range}
+use Rattle.uz_schedule.specs.declared.facts.Bit.TheVariants.{Free}
+use Rattle.uz_schedule.specs.declared.facts.Val.TheVariants.{Range}
 use Rattle.uz_range.specs.Answers.{ends}
 use Rattle.uz_transfer.specs.Values.{value_at}
 use Rattle.uz_rules.specs.Example.{example_head, example_instance, SomeInstructionBegins}

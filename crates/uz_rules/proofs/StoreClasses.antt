@@ -15,16 +15,16 @@ use Rattle.uz_machine.specs.Core.{Core, is_core_address, with_store, leaves_core
 use Rattle.uz_machine.specs.CoreRange.{IsCore}
 use Rattle.uz_machine.specs.Space.{PadWiring, Space, after_byte, after_store}
 use Rattle.uz_machine.specs.Turn.{sync_level, edge_kinds, after_stores, all_edge_kinds}
-use Rattle.uz_cert.specs.Ends.{Ends}
-use Rattle.uz_cert.specs.declared.kinds.Kind.{Kind}
-use Rattle.uz_cert.specs.declared.kinds.Kind.TheVariants.{Main, Handler, Alone}
-use Rattle.uz_cert.specs.declared.facts.Bit.{Bit}
-use Rattle.uz_cert.specs.declared.facts.Bit.TheVariants.{Zero, One, Free, Old as OldBit}
-use Rattle.uz_cert.specs.declared.facts.Val.{Val}
-use Rattle.uz_cert.specs.declared.facts.Val.TheVariants.{Range, Old, OldFlags}
-use Rattle.uz_cert.specs.declared.header.Head.{Head}
-use Rattle.uz_cert.specs.declared.lines.EventKind.{EventKind}
-use Rattle.uz_cert.specs.declared.states.Instance.{Instance}
+use Rattle.uz_schedule.specs.Ends.{Ends}
+use Rattle.uz_schedule.specs.declared.kinds.Kind.{Kind}
+use Rattle.uz_schedule.specs.declared.kinds.Kind.TheVariants.{Main, Handler, Alone}
+use Rattle.uz_schedule.specs.declared.facts.Bit.{Bit}
+use Rattle.uz_schedule.specs.declared.facts.Bit.TheVariants.{Zero, One, Free, Old as OldBit}
+use Rattle.uz_schedule.specs.declared.facts.Val.{Val}
+use Rattle.uz_schedule.specs.declared.facts.Val.TheVariants.{Range, Old, OldFlags}
+use Rattle.uz_schedule.specs.declared.header.Head.{Head}
+use Rattle.uz_schedule.specs.declared.lines.EventKind.{EventKind}
+use Rattle.uz_schedule.specs.declared.states.Instance.{Instance}
 use Rattle.uz_range.specs.Answers.{ends, is_single}
 use Rattle.uz_range.specs.Containment.{IsWithin, Admits}
 use Rattle.uz_range.proofs.ShapesCover.{only}

@@ -10,11 +10,11 @@ use Rattle.uz_machine.specs.declared.EdgeKind.TheVariants.{Sync as SyncEdge, Pix
 use Rattle.uz_machine.specs.Arithmetic.{bit_is_set, with_bit}
 use Rattle.uz_machine.specs.Space.{PadWiring, Space, plain_byte, byte_at, after_byte, after_store, takes_one_bit, is_store}
 use Rattle.uz_machine.specs.Turn.{sync_level, edge_kinds}
-use Rattle.uz_cert.specs.declared.facts.Bit.{Bit}
-use Rattle.uz_cert.specs.declared.facts.Bit.TheVariants.{Zero, One, Free, Old as OldBit}
-use Rattle.uz_cert.specs.declared.facts.Val.{Val}
-use Rattle.uz_cert.specs.declared.lines.EventKind.{EventKind}
-use Rattle.uz_cert.specs.declared.lines.EventKind.TheVariants.{Sync, Pixel, Sound}
+use Rattle.uz_schedule.specs.declared.facts.Bit.{Bit}
+use Rattle.uz_schedule.specs.declared.facts.Bit.TheVariants.{Zero, One, Free, Old as OldBit}
+use Rattle.uz_schedule.specs.declared.facts.Val.{Val}
+use Rattle.uz_schedule.specs.declared.lines.EventKind.{EventKind}
+use Rattle.uz_schedule.specs.declared.lines.EventKind.TheVariants.{Sync, Pixel, Sound}
 use Rattle.uz_range.specs.Containment.{IsWithin, Admits}
 use Rattle.uz_range.specs.Rules.{bst_answer}
 use Rattle.uz_range.proofs.PairsCover.{bst_covers}

@@ -14,14 +14,14 @@ use Rattle.uz_machine.specs.OperandRanges.{EffectFits}
 use Rattle.uz_machine.specs.Timer.{Timer, is_counting, count_after, matches_within, timer_after, is_timer_address}
 use Rattle.uz_machine.specs.Space.{PadWiring, Space, is_pin, byte_at, after_byte, after_store, takes_one_bit, space_loads}
 use Rattle.uz_machine.specs.Turn.{after_stores}
-use Rattle.uz_cert.specs.Ends.{Ends}
-use Rattle.uz_cert.specs.declared.kinds.Kind.{Kind}
-use Rattle.uz_cert.specs.declared.facts.Bit.{Bit}
-use Rattle.uz_cert.specs.declared.facts.Bit.TheVariants.{Zero, One, Free, Old as OldBit}
-use Rattle.uz_cert.specs.declared.facts.Val.{Val}
-use Rattle.uz_cert.specs.declared.facts.Val.TheVariants.{Range, Old, OldFlags}
-use Rattle.uz_cert.specs.declared.header.Head.{Head}
-use Rattle.uz_cert.specs.declared.states.Instance.{Instance}
+use Rattle.uz_schedule.specs.Ends.{Ends}
+use Rattle.uz_schedule.specs.declared.kinds.Kind.{Kind}
+use Rattle.uz_schedule.specs.declared.facts.Bit.{Bit}
+use Rattle.uz_schedule.specs.declared.facts.Bit.TheVariants.{Zero, One, Free, Old as OldBit}
+use Rattle.uz_schedule.specs.declared.facts.Val.{Val}
+use Rattle.uz_schedule.specs.declared.facts.Val.TheVariants.{Range, Old, OldFlags}
+use Rattle.uz_schedule.specs.declared.header.Head.{Head}
+use Rattle.uz_schedule.specs.declared.states.Instance.{Instance}
 use Rattle.uz_range.specs.Answers.{is_single, is_known}
 use Rattle.uz_range.specs.Containment.{IsWithin, Admits}
 use Rattle.uz_range.specs.Rules.{bst_answer}

@@ -2,12 +2,12 @@
 use Rattle.std.specs.FinMap.{FinMap}
 use Rattle.std.specs.Ordering.{nat_cmp}
 use Rattle.std.specs.Prelude.{[], false, replicate, ℕ, ◌∷◌, ◌≡◌}
-use Rattle.uz_cert.specs.declared.facts.Bit.TheVariants.{Free}
-use Rattle.uz_cert.specs.declared.facts.Val.TheVariants.{Range}
-use Rattle.uz_cert.specs.declared.header.Head.{Head}
-use Rattle.uz_cert.specs.declared.kinds.Kind.TheVariants.{Alone}
-use Rattle.uz_cert.specs.declared.kinds.Response.TheVariants.{Four}
-use Rattle.uz_cert.specs.declared.states.Instance.{Instance}
+use Rattle.uz_schedule.specs.declared.facts.Bit.TheVariants.{Free}
+use Rattle.uz_schedule.specs.declared.facts.Val.TheVariants.{Range}
+use Rattle.uz_schedule.specs.declared.header.Head.{Head}
+use Rattle.uz_schedule.specs.declared.kinds.Kind.TheVariants.{Alone}
+use Rattle.uz_schedule.specs.declared.kinds.Response.TheVariants.{Four}
+use Rattle.uz_schedule.specs.declared.states.Instance.{Instance}
 use Rattle.uz_hex.specs.Cells.{IsFlash, word_of}
 use Rattle.uz_machine.specs.Core.{reset_core}
 use Rattle.uz_machine.specs.Turn.{history_at_reset, state_at_reset}

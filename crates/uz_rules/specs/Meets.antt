@@ -1,10 +1,10 @@
 -- When a state of the machine meets an instance.
 use Rattle.std.specs.Prelude.{length, true, false, ℕ, ⊤, ◌≡◌, ◌≤◌}
-use Rattle.uz_cert.specs.Schedule.{response_clocks}
-use Rattle.uz_cert.specs.declared.header.Head.{Head}
-use Rattle.uz_cert.specs.declared.kinds.Kind.{Kind}
-use Rattle.uz_cert.specs.declared.kinds.Kind.TheVariants.{Alone, Handler, Main}
-use Rattle.uz_cert.specs.declared.states.Instance.{Instance}
+use Rattle.uz_schedule.specs.Schedule.{response_clocks}
+use Rattle.uz_schedule.specs.declared.header.Head.{Head}
+use Rattle.uz_schedule.specs.declared.kinds.Kind.{Kind}
+use Rattle.uz_schedule.specs.declared.kinds.Kind.TheVariants.{Alone, Handler, Main}
+use Rattle.uz_schedule.specs.declared.states.Instance.{Instance}
 use Rattle.uz_machine.specs.Arithmetic.{bit_is_set}
 use Rattle.uz_machine.specs.Core.{Core}
 use Rattle.uz_machine.specs.PadLine.{PadHistory}

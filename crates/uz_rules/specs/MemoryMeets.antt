@@ -1,11 +1,11 @@
 -- When the bytes of a data space meet what is known of the stack and the cells.
 use Rattle.std.specs.Prelude.{List, None, Some, length, slice_index, ℕ, ◌+◌, ◌-◌, ◌<◌, ◌≡◌, ◌≤◌, ◌⊎◌}
-use Rattle.uz_cert.specs.Ends.{Ends}
-use Rattle.uz_cert.specs.declared.facts.Val.{Val}
-use Rattle.uz_cert.specs.declared.header.Head.{Head}
-use Rattle.uz_cert.specs.declared.kinds.Kind.{Kind}
-use Rattle.uz_cert.specs.declared.kinds.Kind.TheVariants.{Alone, Handler, Main}
-use Rattle.uz_cert.specs.declared.states.Instance.{Instance}
+use Rattle.uz_schedule.specs.Ends.{Ends}
+use Rattle.uz_schedule.specs.declared.facts.Val.{Val}
+use Rattle.uz_schedule.specs.declared.header.Head.{Head}
+use Rattle.uz_schedule.specs.declared.kinds.Kind.{Kind}
+use Rattle.uz_schedule.specs.declared.kinds.Kind.TheVariants.{Alone, Handler, Main}
+use Rattle.uz_schedule.specs.declared.states.Instance.{Instance}
 use Rattle.uz_machine.specs.Core.{Core}
 use Rattle.uz_range.specs.Containment.{IsWithin}
 use Rattle.uz_transfer.specs.Values.{value_at, span_at}

@@ -5,10 +5,10 @@ use Rattle.std.specs.FinMap.{FinMap}
 use Rattle.std.specs.List.{AllByRecursion}
 use Rattle.std.specs.Ordering.{nat_cmp}
 use Rattle.std.specs.Prelude.{Bool, Contains, List, Ok, false, nat_eq, suc, ℕ, ⊤, ◌%◌, ◌&&◌, ◌+◌, ◌<◌, ◌||◌, ◌≡◌, ◌≤◌}
-use Rattle.uz_cert.specs.declared.header.Head.{Head}
-use Rattle.uz_cert.specs.declared.kinds.Kind.{Kind}
-use Rattle.uz_cert.specs.declared.kinds.Kind.TheVariants.{Alone, Handler, Main}
-use Rattle.uz_cert.specs.declared.states.Instance.{Instance}
+use Rattle.uz_schedule.specs.declared.header.Head.{Head}
+use Rattle.uz_schedule.specs.declared.kinds.Kind.{Kind}
+use Rattle.uz_schedule.specs.declared.kinds.Kind.TheVariants.{Alone, Handler, Main}
+use Rattle.uz_schedule.specs.declared.states.Instance.{Instance}
 use Rattle.uz_hex.specs.Cells.{word_of}
 use Rattle.uz_machine.specs.Core.{Core}
 use Rattle.uz_machine.specs.Effects.{effect_of}

@@ -5,7 +5,7 @@ use Rattle.uz_shelf.specs.Files.{FileMap}
 use Rattle.uz_hex.specs.Reading.{Flash}
 use Rattle.uz_top.specs.declared.ending.Failure.{Failure}
 use Rattle.uz_top.specs.Endings.{EndsBy}
-use Rattle.uz_cert.specs.declared.certificate.Cert.{Cert}
+use Rattle.uz_schedule.specs.declared.certificate.Cert.{Cert}
 use Rattle.uz_check.specs.Acceptance.{first_refusal}
 use Rattle.uz_check.specs.Certified.{Certified}
 use Rattle.uz_check.specs.declared.refusal.RefusedWhy.{RefusedWhy}

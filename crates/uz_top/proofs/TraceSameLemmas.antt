@@ -2,7 +2,7 @@
 use Rattle.std.proofs.Common.{◌≡◌, ◌⊎◌, inl, inr, ℕ, List, refl, sym, ap, ◌∙◌, subst}
 use Rattle.std.specs.Prelude.{Some}
 use Rattle.uz_shelf.specs.Files.{FileMap}
-use Rattle.uz_cert.specs.declared.kinds.Response.{Response}
+use Rattle.uz_schedule.specs.declared.kinds.Response.{Response}
 use Rattle.uz_core.specs.declared.step.Why.{Why}
 use Rattle.uz_core.specs.declared.step.Why.TheVariants.{Opcode, Spm}
 use Rattle.uz_machine.specs.PadLine.{PadHistory}

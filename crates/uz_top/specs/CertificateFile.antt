@@ -1,7 +1,7 @@
 -- What a certificate file says: a certificate, or its first faulty line and why.
 use Rattle.std.specs.Prelude.{◌≡◌, ◌≢◌, ℕ, List, codes, Option, Some, None, Result, Ok, Err}
 use Rattle.uz_cert.specs.Reading.{cert_of_text}
-use Rattle.uz_cert.specs.declared.certificate.Cert.{Cert}
+use Rattle.uz_schedule.specs.declared.certificate.Cert.{Cert}
 use Rattle.uz_cert.specs.declared.errors.CertError.{CertError}
 use Rattle.uz_cert.specs.declared.errors.CertWhy.{CertWhy}
 use Rattle.uz_cert.specs.declared.errors.CertWhy.TheVariants.{Head, Word, Number, Order, Limit, Unknown, NoEnd, Memory, Later}

@@ -3,8 +3,8 @@ use Rattle.std.specs.Prelude.{◌≡◌, ◌⊎◌, ℕ, List, ◌++◌, length,
 use Rattle.std.specs.Option.{option_map}
 use Rattle.uz_shelf.specs.Files.{FileMap, LacksFile}
 use Rattle.uz_hex.specs.Reading.{Flash}
-use Rattle.uz_cert.specs.Schedule.{frame_of}
-use Rattle.uz_cert.specs.declared.certificate.Cert.{Cert}
+use Rattle.uz_schedule.specs.Schedule.{frame_of}
+use Rattle.uz_schedule.specs.declared.certificate.Cert.{Cert}
 use Rattle.uz_check.specs.Acceptance.{first_refusal}
 use Rattle.uz_check.specs.Certified.{Certified}
 use Rattle.uz_check.specs.declared.refusal.RefusedWhy.{RefusedWhy}

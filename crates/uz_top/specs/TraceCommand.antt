@@ -3,8 +3,8 @@
 use Rattle.std.specs.Prelude.{◌≡◌, ◌⊎◌, ℕ, List, [], ◌∷◌, ◌++◌, codes, decimal, Option}
 use Rattle.uz_shelf.specs.Files.{FileMap, LacksFile}
 use Rattle.uz_hex.specs.Reading.{Flash}
-use Rattle.uz_cert.specs.Schedule.{response_clocks}
-use Rattle.uz_cert.specs.declared.kinds.Response.{Response}
+use Rattle.uz_schedule.specs.Schedule.{response_clocks}
+use Rattle.uz_schedule.specs.declared.kinds.Response.{Response}
 use Rattle.uz_pads.specs.Pads.{pairs_of}
 use Rattle.uz_pads.specs.declared.pads.Pad.{Pad}
 use Rattle.uz_core.specs.declared.step.Why.{Why}

@@ -1,8 +1,8 @@
 -- Which words are which command.
 use Rattle.std.specs.Prelude.{ℕ, List, [], ◌∷◌, codes, bytes_eq, Option, Some, None, if◌then◌else◌}
 use Rattle.uz_text.specs.Numbers.{number_within}
-use Rattle.uz_cert.specs.declared.kinds.Response.{Response}
-use Rattle.uz_cert.specs.declared.kinds.Response.TheVariants.{Four, Five}
+use Rattle.uz_schedule.specs.declared.kinds.Response.{Response}
+use Rattle.uz_schedule.specs.declared.kinds.Response.TheVariants.{Four, Five}
 
 -- a command, with the names of its files
 pub data Command : Type 0 where

@@ -1,7 +1,7 @@
 //! Loading and reading a certificate file.
 
 ghost use Rattle.std.specs.Prelude.{◌≡◌, ◌≤◌, IfErr, IfOk};
-ghost use Rattle.uz_cert.specs.WellFormed.{WellFormed};
+ghost use Rattle.uz_schedule.specs.WellFormed.{WellFormed};
 ghost use Rattle.uz_shelf.specs.Faults.{Rose};
 ghost use Rattle.uz_top.specs.Endings.{EndsBy};
 ghost use Rattle.uz_top.specs.CertificateFile.{TellsCertFault, cert_why_name, certificate_of};

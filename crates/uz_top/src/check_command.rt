@@ -1,7 +1,7 @@
 //! `check HEX CERT`.
 
 ghost use Rattle.std.specs.Prelude.{◌≡◌, ◌≤◌, IfOk};
-ghost use Rattle.uz_cert.specs.WellFormed.{WellFormed};
+ghost use Rattle.uz_schedule.specs.WellFormed.{WellFormed};
 ghost use Rattle.uz_check.specs.Certified.{Certified};
 ghost use Rattle.uz_shelf.specs.Faults.{Rose};
 ghost use Rattle.uz_top.specs.CheckCommand.{CheckAnswers, FilesCertified, check_answer};

@@ -1,7 +1,7 @@
 //! The lines of a verdict.
 
 ghost use Rattle.std.specs.Prelude.{◌≡◌, ◌<◌, IfOk};
-ghost use Rattle.uz_cert.specs.Limits.{ScheduleFits};
+ghost use Rattle.uz_schedule.specs.Limits.{ScheduleFits};
 ghost use Rattle.uz_top.specs.CheckCommand.{accepted_line, fail_name, point_pc, refused_line};
 ghost use Rattle.uz_top.specs.Lines.{hex_digit, hex_word};
 

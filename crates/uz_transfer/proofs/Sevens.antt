@@ -2,7 +2,7 @@
 use Rattle.std.proofs.Common.{◌≡◌, ℕ, ◌+◌, ◌*◌, List, [], ◌∷◌, length, arith}
 use Rattle.std.specs.Prelude.{slice_index_or}
 use Rattle.uz_machine.specs.Arithmetic.{bit_value}
-use Rattle.uz_cert.specs.declared.facts.Bit.{Bit}
+use Rattle.uz_schedule.specs.declared.facts.Bit.{Bit}
 use Rattle.uz_range.specs.Answers.{is_one}
 use Rattle.uz_transfer.specs.Memory.{flags_number}
 

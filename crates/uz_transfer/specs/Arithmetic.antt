@@ -1,10 +1,10 @@
 -- What the classes of arithmetic make of what is known: operands, answers by the range rules, and the flags that each class keeps.
 use Rattle.std.specs.Prelude.{Bool, false, if◌then◌else◌, nat_eq, nat_le, not, true, ℕ, ◌&&◌, ◌||◌}
-use Rattle.uz_cert.specs.Ends.{Ends}
-use Rattle.uz_cert.specs.declared.facts.Bit.TheVariants.{Free, Zero}
-use Rattle.uz_cert.specs.declared.facts.Val.{Val}
-use Rattle.uz_cert.specs.declared.facts.Val.TheVariants.{Range}
-use Rattle.uz_cert.specs.declared.states.Instance.{Instance}
+use Rattle.uz_schedule.specs.Ends.{Ends}
+use Rattle.uz_schedule.specs.declared.facts.Bit.TheVariants.{Free, Zero}
+use Rattle.uz_schedule.specs.declared.facts.Val.{Val}
+use Rattle.uz_schedule.specs.declared.facts.Val.TheVariants.{Range}
+use Rattle.uz_schedule.specs.declared.states.Instance.{Instance}
 use Rattle.uz_machine.specs.declared.BinaryOp.{BinaryOp}
 use Rattle.uz_machine.specs.declared.BinaryOp.TheVariants as binary
 use Rattle.uz_machine.specs.declared.Operand.{Operand}

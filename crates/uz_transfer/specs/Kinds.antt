@@ -1,12 +1,12 @@
 -- What the kind of an instance decided: I, the cells that are tracked, and how deep the stack may be.
 use Rattle.std.specs.Prelude.{Bool, List, None, Option, Some, [], false, if◌then◌else◌, nat_eq, nat_lt, suc, true, ℕ, ◌&&◌, ◌||◌, ◌∷◌}
-use Rattle.uz_cert.specs.Ends.{Ends}
-use Rattle.uz_cert.specs.declared.header.Cell.{Cell}
-use Rattle.uz_cert.specs.declared.header.Head.{Head}
-use Rattle.uz_cert.specs.declared.kinds.Kind.{Kind}
-use Rattle.uz_cert.specs.declared.kinds.Kind.TheVariants.{Alone, Handler, Main}
-use Rattle.uz_cert.specs.declared.kinds.Owner.{Owner}
-use Rattle.uz_cert.specs.declared.kinds.Owner.TheVariants.{Handler as HandlerOwner, Main as MainOwner}
+use Rattle.uz_schedule.specs.Ends.{Ends}
+use Rattle.uz_schedule.specs.declared.header.Cell.{Cell}
+use Rattle.uz_schedule.specs.declared.header.Head.{Head}
+use Rattle.uz_schedule.specs.declared.kinds.Kind.{Kind}
+use Rattle.uz_schedule.specs.declared.kinds.Kind.TheVariants.{Alone, Handler, Main}
+use Rattle.uz_schedule.specs.declared.kinds.Owner.{Owner}
+use Rattle.uz_schedule.specs.declared.kinds.Owner.TheVariants.{Handler as HandlerOwner, Main as MainOwner}
 
 -- Cells
 

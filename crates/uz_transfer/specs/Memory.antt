@@ -2,13 +2,13 @@
 use Rattle.std.specs.FinMap.{FinMap}
 use Rattle.std.specs.Ordering.{nat_cmp}
 use Rattle.std.specs.Prelude.{Bool, List, None, Option, Some, [], false, if◌then◌else◌, length, nat_eq, nat_lt, slice_set, take, true, ℕ, ◌%◌, ◌&&◌, ◌*◌, ◌+◌, ◌-◌, ◌∷◌}
-use Rattle.uz_cert.specs.Ends.{Ends}
-use Rattle.uz_cert.specs.declared.facts.Bit.{Bit}
-use Rattle.uz_cert.specs.declared.facts.Bit.TheVariants.{Free, Old as OldBit, One, Zero}
-use Rattle.uz_cert.specs.declared.facts.Val.{Val}
-use Rattle.uz_cert.specs.declared.facts.Val.TheVariants.{Old, OldFlags, Range}
-use Rattle.uz_cert.specs.declared.header.Head.{Head}
-use Rattle.uz_cert.specs.declared.states.Instance.{Instance}
+use Rattle.uz_schedule.specs.Ends.{Ends}
+use Rattle.uz_schedule.specs.declared.facts.Bit.{Bit}
+use Rattle.uz_schedule.specs.declared.facts.Bit.TheVariants.{Free, Old as OldBit, One, Zero}
+use Rattle.uz_schedule.specs.declared.facts.Val.{Val}
+use Rattle.uz_schedule.specs.declared.facts.Val.TheVariants.{Old, OldFlags, Range}
+use Rattle.uz_schedule.specs.declared.header.Head.{Head}
+use Rattle.uz_schedule.specs.declared.states.Instance.{Instance}
 use Rattle.uz_hex.specs.Cells.{byte_or_255}
 use Rattle.uz_machine.specs.Arithmetic.{bit_value}
 use Rattle.uz_machine.specs.declared.AddressMode.{AddressMode}

@@ -1,11 +1,11 @@
 -- What is known of registers, pairs and flags in an instance, and how it changes where one of them is written.
 use Rattle.std.specs.Prelude.{Bool, List, [], if◌then◌else◌, nat_eq, nat_le, slice_index_or, slice_set, ℕ, ◌*◌, ◌+◌, ◌-◌, ◌/◌, ◌||◌, ◌∷◌}
-use Rattle.uz_cert.specs.Ends.{Ends}
-use Rattle.uz_cert.specs.declared.facts.Bit.{Bit}
-use Rattle.uz_cert.specs.declared.facts.Bit.TheVariants.{Free}
-use Rattle.uz_cert.specs.declared.facts.Val.{Val}
-use Rattle.uz_cert.specs.declared.facts.Val.TheVariants.{Old, OldFlags, Range}
-use Rattle.uz_cert.specs.declared.states.Instance.{Instance}
+use Rattle.uz_schedule.specs.Ends.{Ends}
+use Rattle.uz_schedule.specs.declared.facts.Bit.{Bit}
+use Rattle.uz_schedule.specs.declared.facts.Bit.TheVariants.{Free}
+use Rattle.uz_schedule.specs.declared.facts.Val.{Val}
+use Rattle.uz_schedule.specs.declared.facts.Val.TheVariants.{Old, OldFlags, Range}
+use Rattle.uz_schedule.specs.declared.states.Instance.{Instance}
 use Rattle.uz_range.specs.Answers.{is_single, ends}
 use Rattle.uz_range.specs.Rules.{high_answer, hull_answer, low_answer}
 

@@ -3,7 +3,7 @@
 ghost use Rattle.std.specs.Prelude.{◌≡◌, ◌<◌, ◌+◌, ◌&&◌, not, false, true, if◌then◌else◌, slice_set, nat_lt};
 ghost use Rattle.uz_machine.specs.OperandRanges.{OperandFits, EffectFits};
 ghost use Rattle.uz_machine.specs.declared.Effect.TheVariants.{CopyByte, CopyPair, Binary, AddToPair};
-ghost use Rattle.uz_cert.specs.declared.facts.Val.TheVariants.{Range};
+ghost use Rattle.uz_schedule.specs.declared.facts.Val.TheVariants.{Range};
 ghost use Rattle.uz_range.specs.Rules.{bld_answer, bst_answer};
 ghost use Rattle.uz_transfer.specs.Values.{exact_pair as exact_range, span_of as span_of_val, value_at, flag_at, pair_range as range_of_pair, with_value, with_pair_range, with_pair_value, with_flag_list, merged_flags};
 ghost use Rattle.uz_transfer.specs.Arithmetic.{known_operand, binary_answer as answer_of_binary, same_register_answer, is_same_register as names_itself, operation_answer, is_self_copy as copies, operation_value, binary_keeps, unary_answer as answer_of_unary, unary_keeps, add_to_pair_answer, pair_keeps, factors_answer, product_keeps};
@@ -13,7 +13,7 @@ use crate::values::{
     exact_pair, flag, is_single_wide, merge_flags, pair_range, set_pair_range, set_pair_val,
     set_val, span, span_of, val,
 };
-use uz_cert::{Bit, Instance, Span, Val, Wide};
+use uz_schedule::{Bit, Instance, Span, Val, Wide};
 use uz_machine::{BinaryOp, Operand, UnaryOp};
 use uz_range::{
     Form, Ranged, WideRanged, and, asr, bld, bst, chained, com, difference, lsr, negate, or,

@@ -3,7 +3,7 @@
 ghost use Rattle.std.specs.Prelude.{◌≡◌, ◌<◌, ◌≤◌, ◌-◌, length, ◌*◌};
 
 use arrayvec::ArrayVec;
-use uz_cert::{Instance, Span, Val};
+use uz_schedule::{Instance, Span, Val};
 
 /// A copy of values.
 fn copied_vals(from: &[Val]) -> ArrayVec<Val, 32>

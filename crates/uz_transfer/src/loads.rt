@@ -9,13 +9,13 @@ ghost use Rattle.uz_transfer.specs.Values.{exact_pair as exact_range, pair_range
 ghost use Rattle.uz_transfer.specs.Kinds.{cell_place as place_of_cell, cell_range as range_of_cell, is_main as is_main_kind, is_handler as is_handler_kind};
 ghost use Rattle.uz_transfer.specs.Memory.{all_flags, is_old as is_old_bit, flags_number, sreg_value as val_of_sreg, cell_value as val_of_cell, value_at_address as val_of_address, loaded_value, address_range as range_of_address, with_pointer_range, flash_value, slot_value, without_slots, depth_of};
 ghost use Rattle.uz_range.specs.Rules.{pair_add_answer};
-ghost use Rattle.uz_cert.specs.declared.facts.Val.TheVariants.{OldFlags};
+ghost use Rattle.uz_schedule.specs.declared.facts.Val.TheVariants.{OldFlags};
 
 use crate::memory::{
     address_range, cell_place, cell_range, drop_slots, is_handler, is_main, slot, step_pointer,
 };
 use crate::values::{exact_pair, is_single_wide, pair_range, set_pair_val, set_val};
-use uz_cert::{Bit, Head, Instance, Kind, Span, Val};
+use uz_schedule::{Bit, Head, Instance, Kind, Span, Val};
 use uz_hex::Image;
 use uz_machine::AddressMode;
 use uz_range::pair_add;

@@ -10,7 +10,7 @@ ghost use Rattle.uz_range.specs.Answers.{ends};
 
 use crate::values::{exact_pair, pair_range, set_pair_val, set_val, val};
 use arrayvec::ArrayVec;
-use uz_cert::{Cell, Head, Instance, Kind, Owner, Span, Val, Wide};
+use uz_schedule::{Cell, Head, Instance, Kind, Owner, Span, Val, Wide};
 use uz_machine::AddressMode;
 use uz_range::{pair_add, pair_sub};
 

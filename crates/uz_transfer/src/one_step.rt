@@ -20,7 +20,7 @@ use crate::step::Step;
 use crate::transfer::transfer;
 use avr_decode::decode;
 use avr_table::{Instr, Outcome, clocks, words};
-use uz_cert::{Head, Instance};
+use uz_schedule::{Head, Instance};
 use uz_core::instruction_effect;
 use uz_hex::Image;
 use uz_machine::Effect;

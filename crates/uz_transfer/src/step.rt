@@ -1,7 +1,7 @@
 //! The abstract step of an instance.
 
 use arrayvec::ArrayVec;
-use uz_cert::{EventKind, Instance};
+use uz_schedule::{EventKind, Instance};
 
 /// A pc, and the clocks that it takes to come there.
 #[derive(Clone, Copy, Debug, Default, PartialEq, Eq)]

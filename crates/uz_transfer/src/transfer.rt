@@ -16,7 +16,7 @@ use crate::loads::{known_byte, load, load_program, pop_byte};
 use crate::memory::{drop_slots, push};
 use crate::stores::store;
 use crate::values::val;
-use uz_cert::{Head, Instance};
+use uz_schedule::{Head, Instance};
 use uz_hex::Image;
 use uz_machine::{Effect, JumpTarget};
 

@@ -1,7 +1,7 @@
 use Rattle.std.proofs.Common.{◌≡◌, ℕ, suc, ◌+◌, ◌-◌, ◌∙◌, sym, ap, length, arith}
 use Rattle.std.specs.Prelude.{None}
-use Rattle.uz_cert.specs.declared.lines.Schedule.{Schedule}
-use Rattle.uz_cert.specs.Schedule.{events_of}
+use Rattle.uz_schedule.specs.declared.lines.Schedule.{Schedule}
+use Rattle.uz_schedule.specs.Schedule.{events_of}
 use Rattle.uz_check.specs.FrameRules.{at_line, unsteady_in, unsteady_from}
 use Rattle.uz_check.proofs.frame_rules.first_unsteady.Goals as goal
 

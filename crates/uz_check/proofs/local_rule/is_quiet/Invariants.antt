@@ -1,5 +1,5 @@
 use Rattle.std.proofs.Common.{◌≡◌}
-use Rattle.uz_cert.specs.Schedule.{event_at}
+use Rattle.uz_schedule.specs.Schedule.{event_at}
 use Rattle.uz_check.specs.LocalRule.{is_quiet}
 use Rattle.uz_check.proofs.local_rule.is_quiet.Given as goal
 

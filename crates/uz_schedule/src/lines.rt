@@ -1,8 +1,8 @@
 //! The schedule of a frame's lines, and what it has at a position.
 
 ghost use Rattle.std.specs.Prelude.{◌≡◌, ◌<◌, ◌≤◌, ◌*◌, length};
-ghost use Rattle.uz_cert.specs.Schedule.{event_in as event_of_list, event_in_kind, or_else};
-ghost use Rattle.uz_cert.specs.Levels.{set_by, last_set, last_of_kind};
+ghost use Rattle.uz_schedule.specs.Schedule.{event_in as event_of_list, event_in_kind, or_else};
+ghost use Rattle.uz_schedule.specs.Levels.{set_by, last_set, last_of_kind};
 
 use crate::sequence::Sequence;
 
@@ -78,9 +78,9 @@ fn level_before(events: &[Event], clock: u16) -> Option<u8>
 impl Schedule {
     ghost use Rattle.std.specs.Prelude.{◌%◌, ◌/◌, ◌+◌};
     ghost use Rattle.std.specs.Prelude.{◌-◌};
-    ghost use Rattle.uz_cert.specs.Schedule.{event_at, frame_of, events_of, level_at};
-    ghost use Rattle.uz_cert.specs.Levels.{line_round};
-    ghost use Rattle.uz_cert.specs.Limits.{ScheduleFits};
+    ghost use Rattle.uz_schedule.specs.Schedule.{event_at, frame_of, events_of, level_at};
+    ghost use Rattle.uz_schedule.specs.Levels.{line_round};
+    ghost use Rattle.uz_schedule.specs.Limits.{ScheduleFits};
 
     /// The clocks of the frame.
     #[tactic(auto, using(crate::proofs::Starts::start_is))]

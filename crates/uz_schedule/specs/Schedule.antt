@@ -1,12 +1,12 @@
 -- The lines of a frame, the event at a position of it, and the level of sync there.
 -- A position is a number of clocks from the frame's begin, taken modulo the frame.
 use Rattle.std.specs.Prelude.{◌≡◌, ℕ, zero, suc, ◌+◌, ◌-◌, ◌%◌, ◌==◌, nat_lt, List, [], ◌∷◌, length, Option, Some, None, slice_get, slice_index, if◌then◌else◌}
-use Rattle.uz_cert.specs.declared.kinds.Response.{Response}
-use Rattle.uz_cert.specs.declared.kinds.Response.TheVariants.{Four, Five}
-use Rattle.uz_cert.specs.declared.lines.Schedule.{Schedule}
-use Rattle.uz_cert.specs.declared.lines.Event.{Event}
-use Rattle.uz_cert.specs.declared.lines.EventKind.{EventKind}
-use Rattle.uz_cert.specs.declared.lines.EventKind.TheVariants.{Sync, Pixel, Sound, Leave}
+use Rattle.uz_schedule.specs.declared.kinds.Response.{Response}
+use Rattle.uz_schedule.specs.declared.kinds.Response.TheVariants.{Four, Five}
+use Rattle.uz_schedule.specs.declared.lines.Schedule.{Schedule}
+use Rattle.uz_schedule.specs.declared.lines.Event.{Event}
+use Rattle.uz_schedule.specs.declared.lines.EventKind.{EventKind}
+use Rattle.uz_schedule.specs.declared.lines.EventKind.TheVariants.{Sync, Pixel, Sound, Leave}
 
 -- the clocks of an interrupt entry
 abbrev pub response_clocks : Response → ℕ

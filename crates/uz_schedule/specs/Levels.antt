@@ -1,8 +1,8 @@
 -- The level of sync by lines: what the events of a list set before a clock.
 use Rattle.std.specs.Prelude.{ℕ, ◌-◌, nat_lt, List, [], ◌∷◌, length, Option, Some, None, if◌then◌else◌}
-use Rattle.uz_cert.specs.declared.lines.Event.{Event}
-use Rattle.uz_cert.specs.declared.lines.Schedule.{Schedule}
-use Rattle.uz_cert.specs.Schedule.{level_set, or_else}
+use Rattle.uz_schedule.specs.declared.lines.Event.{Event}
+use Rattle.uz_schedule.specs.declared.lines.Schedule.{Schedule}
+use Rattle.uz_schedule.specs.Schedule.{level_set, or_else}
 
 -- the level that an event sets, where its clock is before this one
 abbrev pub set_by : Event → ℕ → Option ℕ

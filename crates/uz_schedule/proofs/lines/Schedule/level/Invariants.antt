@@ -1,6 +1,6 @@
 use Rattle.std.proofs.Common.{◌≡◌, ◌+◌, ◌-◌, ◌*◌}
-use Rattle.uz_cert.specs.Schedule.{sync_at, level_at, last_level}
-use Rattle.uz_cert.proofs.lines.Schedule.level.Given as goal
+use Rattle.uz_schedule.specs.Schedule.{sync_at, level_at, last_level}
+use Rattle.uz_schedule.proofs.lines.Schedule.level.Given as goal
 
 -- the lines that are left answer for the frame
 abbrev pub invariant-loop-back : goal.invariant-loop-back

@@ -1,6 +1,6 @@
 use Rattle.std.proofs.Common.{◌≡◌, drop}
-use Rattle.uz_cert.specs.Schedule.{event_in as event_of_list}
-use Rattle.uz_cert.proofs.lines.event_in.Given as goal
+use Rattle.uz_schedule.specs.Schedule.{event_in as event_of_list}
+use Rattle.uz_schedule.proofs.lines.event_in.Given as goal
 
 -- what is left answers for all
 abbrev pub invariant-loop-e : goal.invariant-loop-e

@@ -3,20 +3,20 @@
 -- entry and points that are alone, without a stack, at one line and one count, where a register is known or is any
 -- byte and nothing else is known.
 use Rattle.std.specs.Prelude.{◌≡◌, ◌⊎◌, ℕ, ◌+◌, ◌-◌, ◌<◌, ◌≤◌, ⊤, false, IsTrue, pos, List, [], All, length}
-use Rattle.uz_cert.specs.Ends.{Ends}
-use Rattle.uz_cert.specs.Limits.{rises, ScheduleFits}
-use Rattle.uz_cert.specs.declared.kinds.Kind.TheVariants.{Alone}
-use Rattle.uz_cert.specs.declared.facts.Fact.{Fact}
-use Rattle.uz_cert.specs.declared.facts.Fact.TheVariants.{Any, Between, Line, Loop, Old, OldFlags}
-use Rattle.uz_cert.specs.declared.facts.PairFact.TheVariants.{Any as AnyPair}
-use Rattle.uz_cert.specs.declared.facts.Bit.TheVariants.{Free}
-use Rattle.uz_cert.specs.declared.header.Head.{Head}
-use Rattle.uz_cert.specs.declared.lines.EventKind.{EventKind}
-use Rattle.uz_cert.specs.declared.lines.EventKind.TheVariants.{Sync, Pixel, Sound, Leave}
-use Rattle.uz_cert.specs.declared.lines.Schedule.{Schedule}
-use Rattle.uz_cert.specs.declared.states.Entry.{Entry}
-use Rattle.uz_cert.specs.declared.states.Point.{Point}
-use Rattle.uz_cert.specs.declared.certificate.Cert.{Cert}
+use Rattle.uz_schedule.specs.Ends.{Ends}
+use Rattle.uz_schedule.specs.Limits.{rises, ScheduleFits}
+use Rattle.uz_schedule.specs.declared.kinds.Kind.TheVariants.{Alone}
+use Rattle.uz_schedule.specs.declared.facts.Fact.{Fact}
+use Rattle.uz_schedule.specs.declared.facts.Fact.TheVariants.{Any, Between, Line, Loop, Old, OldFlags}
+use Rattle.uz_schedule.specs.declared.facts.PairFact.TheVariants.{Any as AnyPair}
+use Rattle.uz_schedule.specs.declared.facts.Bit.TheVariants.{Free}
+use Rattle.uz_schedule.specs.declared.header.Head.{Head}
+use Rattle.uz_schedule.specs.declared.lines.EventKind.{EventKind}
+use Rattle.uz_schedule.specs.declared.lines.EventKind.TheVariants.{Sync, Pixel, Sound, Leave}
+use Rattle.uz_schedule.specs.declared.lines.Schedule.{Schedule}
+use Rattle.uz_schedule.specs.declared.states.Entry.{Entry}
+use Rattle.uz_schedule.specs.declared.states.Point.{Point}
+use Rattle.uz_schedule.specs.declared.certificate.Cert.{Cert}
 
 -- the stack lies in RAM, and holds what main and handler push and a return address
 pub record HeadFits (h : Head) : Type 0 where

@@ -1,8 +1,8 @@
 -- Where lines begin, while each line has 1820 clocks.
 use Rattle.std.proofs.Common.{◌≡◌, ℕ, zero, suc, ◌+◌, ◌-◌, ◌*◌, ◌/◌, ◌%◌, ◌<◌, ◌≤◌, Bool, true, false, cond, ltb, length, refl, ◌∙◌, ap, arith}
 use Rattle.std.proofs.lemmas.Bool.Decides.{nat_tests}
-use Rattle.uz_cert.specs.declared.lines.Schedule.{Schedule}
-use Rattle.uz_cert.specs.Schedule.{start_of, frame_of, event_in_kind, events_of, event_from, event_at}
+use Rattle.uz_schedule.specs.declared.lines.Schedule.{Schedule}
+use Rattle.uz_schedule.specs.Schedule.{start_of, frame_of, event_in_kind, events_of, event_from, event_at}
 
 pub start_is : (s : Schedule) (l : ℕ) → start_of s l ≡ 1820 * l
 start_is s zero = refl

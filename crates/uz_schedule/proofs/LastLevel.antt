@@ -1,16 +1,16 @@
 -- The search for the last level, a line at a time.
-use Rattle.std.proofs.Common.{◌≡◌, ◌≢◌, ℕ, zero, suc, ◌+◌, ◌-◌, ◌*◌, ◌/◌, ◌%◌, ◌<◌, ◌≤◌, Bool, true, false, ◌&&◌, cond, eqb, leb, ltb, List, [], ◌∷◌, length, map, All, lit≤, refl, sym, ◌∙◌, ap, arith}
+use Rattle.std.proofs.Common.{◌≡◌, ℕ, zero, suc, ◌+◌, ◌-◌, ◌*◌, ◌/◌, ◌%◌, ◌<◌, ◌≤◌, Bool, true, false, ◌&&◌, cond, eqb, leb, ltb, List, [], ◌∷◌, length, map, All, lit≤, refl, sym, ◌∙◌, ap, arith}
 use Rattle.std.specs.Prelude.{Option, Some, None, is_some, slice_get, slice_index}
 use Rattle.std.proofs.Math.Nat.{add-mod_left, mod-eq_of_lt}
 use Rattle.std.proofs.lemmas.Bool.{eqb-true}
 use Rattle.std.proofs.lemmas.Bool.Decides.{nat_tests}
 use Rattle.std.proofs.lemmas.List.Elements.{All-head, All-tail}
-use Rattle.uz_cert.specs.declared.lines.Schedule.{Schedule}
-use Rattle.uz_cert.specs.declared.lines.Event.{Event}
-use Rattle.uz_cert.specs.Limits.{rises_from, rises, EventsFit, ScheduleFits}
-use Rattle.uz_cert.specs.Schedule.{frame_of, event_from, event_in, event_in_kind, events_of, event_at, level_set, sync_of, sync_at, or_else, last_level, level_at}
-use Rattle.uz_cert.specs.Levels.{set_by, last_set, last_of_kind, line_round}
-use Rattle.uz_cert.proofs.Starts.{start_is, event_is}
+use Rattle.uz_schedule.specs.declared.lines.Schedule.{Schedule}
+use Rattle.uz_schedule.specs.declared.lines.Event.{Event}
+use Rattle.uz_schedule.specs.Limits.{rises_from, rises, EventsFit, ScheduleFits}
+use Rattle.uz_schedule.specs.Schedule.{frame_of, event_from, event_in, event_in_kind, events_of, level_set, sync_of, sync_at, or_else, last_level, level_at}
+use Rattle.uz_schedule.specs.Levels.{set_by, last_set, last_of_kind, line_round}
+use Rattle.uz_schedule.proofs.Starts.{start_is, event_is}
 
 -- choices
 

@@ -1,8 +1,8 @@
 //! Whether a certificate is within the limits and orders of its text.
 
 ghost use Rattle.std.specs.Prelude.{◌≡◌, ◌<◌, ◌≤◌, ◌↔◌, [], ◌∷◌, All, IsTrue, length, map};
-ghost use Rattle.uz_cert.specs.Limits.{rises as rising, rises_from, EventFits, EventsFit, KindsFit, LinesFit, ScheduleFits};
-ghost use Rattle.uz_cert.specs.WellFormed.{HeadFits, IsOneLine, PointsFit, EntryPlaceFits, EntryFactsFit, EntryFits, IsSingle, PlaceFits, FactsFit, SuccessorsFit, PointFits, WellFormed, IsSync, IsKnownOrAny, IsByteOrAll};
+ghost use Rattle.uz_schedule.specs.Limits.{rises as rising, rises_from, EventFits, EventsFit, KindsFit, LinesFit, ScheduleFits};
+ghost use Rattle.uz_schedule.specs.WellFormed.{HeadFits, IsOneLine, PointsFit, EntryPlaceFits, EntryFactsFit, EntryFits, IsSingle, PlaceFits, FactsFit, SuccessorsFit, PointFits, WellFormed, IsSync, IsKnownOrAny, IsByteOrAll};
 
 use crate::certificate::Cert;
 use crate::facts::{Bit, Fact, PairFact};
@@ -14,7 +14,7 @@ use crate::sequence::Sequence;
 use crate::states::{Entry, Point};
 
 /// Whether each number is above the one before it.
-pub(crate) fn rises(numbers: &[u32]) -> bool
+pub fn rises(numbers: &[u32]) -> bool
     ensures { result ≡ rising numbers.now }
 {
     let mut least: u64 = 0;
@@ -153,7 +153,7 @@ fn point_fits(point: &Point, points: u32) -> bool
 }
 
 /// Whether each clock is above the one of the event before it.
-pub(crate) fn clocks_rise(events: &[Event]) -> bool
+pub fn clocks_rise(events: &[Event]) -> bool
     ensures { result ≡ rising (map (λ e. e.clock) events.now) }
 {
     let mut least: u32 = 0;

@@ -1,7 +1,7 @@
 use Rattle.std.proofs.Common.{◌≡◌, drop}
-use Rattle.uz_cert.specs.Schedule.{or_else}
-use Rattle.uz_cert.specs.Levels.{last_set}
-use Rattle.uz_cert.proofs.lines.level_before.Given as goal
+use Rattle.uz_schedule.specs.Schedule.{or_else}
+use Rattle.uz_schedule.specs.Levels.{last_set}
+use Rattle.uz_schedule.proofs.lines.level_before.Given as goal
 
 -- what is left, and else what was set so far, is what all events set
 abbrev pub invariant-loop-e : goal.invariant-loop-e

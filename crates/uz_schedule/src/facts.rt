@@ -57,7 +57,7 @@ pub enum Val {
 
 impl Default for Val {
     ghost use Rattle.std.specs.Prelude.{◌≡◌};
-    ghost use Rattle.uz_cert.specs.declared.facts.Val.TheVariants.{OldFlags};
+    ghost use Rattle.uz_schedule.specs.declared.facts.Val.TheVariants.{OldFlags};
 
     ghost is_default = { λ v. v ≡ OldFlags };
 

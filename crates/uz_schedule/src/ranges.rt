@@ -13,7 +13,7 @@ pub struct Span {
 
 impl Model for Span {
     ghost use Rattle.std.specs.Prelude.{◌≤◌};
-    ghost use Rattle.uz_cert.specs.Ends.{Ends, ends_code};
+    ghost use Rattle.uz_schedule.specs.Ends.{Ends, ends_code};
 
     ghost Value = { Ends };
 
@@ -94,7 +94,7 @@ pub struct Wide {
 
 impl Model for Wide {
     ghost use Rattle.std.specs.Prelude.{◌≤◌};
-    ghost use Rattle.uz_cert.specs.Ends.{Ends, ends_code};
+    ghost use Rattle.uz_schedule.specs.Ends.{Ends, ends_code};
 
     ghost Value = { Ends };
 

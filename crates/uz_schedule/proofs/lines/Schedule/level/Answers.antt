@@ -1,6 +1,6 @@
-use Rattle.std.proofs.Common.{◌≡◌, ◌+◌, ◌-◌, ◌*◌, ◌<◌, ◌≤◌, length, rules, arith}
-use Rattle.uz_cert.proofs.LastLevel.{level_first, level_before_line, level_of_line, level_passed}
-use Rattle.uz_cert.proofs.lines.Schedule.level.Goals as goal
+use Rattle.std.proofs.Common.{◌-◌, ◌*◌, rules, arith}
+use Rattle.uz_schedule.proofs.LastLevel.{level_first, level_before_line, level_of_line, level_passed}
+use Rattle.uz_schedule.proofs.lines.Schedule.level.Goals as goal
 
 pub returns-then-is_some : goal.returns-then-is_some
 returns-then-is_some c =

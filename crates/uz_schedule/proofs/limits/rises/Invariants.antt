@@ -1,6 +1,6 @@
 use Rattle.std.proofs.Common.{◌≡◌, ◌≤◌, ◌^◌, drop}
-use Rattle.uz_cert.specs.Limits.{rises_from}
-use Rattle.uz_cert.proofs.limits.rises.Given as goal
+use Rattle.uz_schedule.specs.Limits.{rises_from}
+use Rattle.uz_schedule.proofs.limits.rises.Given as goal
 
 -- what is left answers for all
 abbrev pub invariant-loop-n : goal.invariant-loop-n

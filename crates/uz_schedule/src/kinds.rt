@@ -10,7 +10,7 @@ pub enum Response {
 
 impl Response {
     ghost use Rattle.std.specs.Prelude.{◌≡◌};
-    ghost use Rattle.uz_cert.specs.Schedule.{response_clocks};
+    ghost use Rattle.uz_schedule.specs.Schedule.{response_clocks};
 
     /// The number of clocks: 4 or 5.
     pub fn clocks(self) -> u16

@@ -1,0 +1,2 @@
+pub mod LastLevel
+pub mod Starts
