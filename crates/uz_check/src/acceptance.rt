@@ -9,8 +9,8 @@ use crate::fail::Fail;
 use crate::frame_rules::{entry_passes, first_unsteady};
 use crate::local_rule::local;
 use crate::refusal::RefusedWhy;
-use uz_schedule::Cert;
 use uz_hex::Image;
+use uz_schedule::Cert;
 
 /// An image and a certificate that meet all rules. Only `check` makes one.
 #[derive(Debug, Drop)]

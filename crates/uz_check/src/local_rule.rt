@@ -10,8 +10,8 @@ ghost use Rattle.uz_check.specs.LocalRule.{emitted_level as level_emitted, emiss
 use crate::fail::Fail;
 use crate::instance::Instance;
 use crate::instruction::{FLASH_WORDS, Instruction, instruction_at};
-use uz_schedule::{Cert, EventKind, Point, Schedule};
 use uz_hex::Image;
+use uz_schedule::{Cert, EventKind, Point, Schedule};
 
 /// The event that storing a level emits, where this level holds before: none where it holds already.
 fn emitted_level(held: Option<u8>, level: u8) -> Option<EventKind>

@@ -6,11 +6,11 @@ use crate::{Fail, RefusedWhy, check, verdict};
 use arrayvec::ArrayVec;
 use std::alloc::{AllocError, Global};
 use std::test::Fail as TestFail;
+use uz_hex::Image;
 use uz_schedule::{
     Bit, Cert, Entry, Event, EventKind, Fact, Head, Kind, PairFact, Point, Response, Schedule,
     Sequence, Span, well_formed,
 };
-use uz_hex::Image;
 
 fn set_word(image: &mut Image, at: u16, word: u16)
     requires { at < 32768 }
