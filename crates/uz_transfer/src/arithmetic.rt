@@ -13,13 +13,13 @@ use crate::values::{
     exact_pair, flag, is_single_wide, merge_flags, pair_range, set_pair_range, set_pair_val,
     set_val, span, span_of, val,
 };
-use uz_schedule::{Bit, Instance, Span, Val, Wide};
 use uz_machine::{BinaryOp, Operand, UnaryOp};
 use uz_range::{
     Form, Ranged, WideRanged, and, asr, bld, bst, chained, com, difference, lsr, negate, or,
     pair_add, pair_sub, product, ror, same_and, same_sub, same_xor, step_down, step_up, sum, swap,
     xor,
 };
+use uz_schedule::{Bit, Instance, Span, Val, Wide};
 
 /// What is known of an operand.
 fn operand(at: &Instance, source: Operand) -> Val

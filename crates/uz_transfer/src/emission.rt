@@ -12,9 +12,9 @@ use crate::arithmetic::known;
 use crate::memory::address_range;
 use crate::refusals::{flag_is, stored_bit};
 use crate::values::{is_single_wide, span_of, val};
-use uz_schedule::{Bit, EventKind, Instance, Val, Wide};
 use uz_machine::Effect;
 use uz_range::bst;
+use uz_schedule::{Bit, EventKind, Instance, Val, Wide};
 
 /// What a new level shows.
 fn level_event(level: u8, b: Bit) -> Option<Option<EventKind>>

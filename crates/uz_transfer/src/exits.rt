@@ -17,10 +17,10 @@ use crate::values::{flag, is_single, pair_range, span, span_of};
 use arrayvec::ArrayVec;
 use avr_decode::length as words_by_first;
 use avr_table::{Instr, Outcome, clocks};
-use uz_schedule::{Bit, Head, Instance, Span, Wide};
 use uz_hex::Image;
 use uz_machine::{Effect, JumpTarget, SkipTest};
 use uz_range::bst;
+use uz_schedule::{Bit, Head, Instance, Span, Wide};
 
 /// What a flag that must have this value decided.
 fn decided(b: Bit, set: bool) -> Option<bool>

@@ -15,10 +15,10 @@ use crate::memory::{
     address_range, cell_place, cell_range, drop_slots, is_handler, is_main, slot, step_pointer,
 };
 use crate::values::{exact_pair, is_single_wide, pair_range, set_pair_val, set_val};
-use uz_schedule::{Bit, Head, Instance, Kind, Span, Val};
 use uz_hex::Image;
 use uz_machine::AddressMode;
 use uz_range::pair_add;
+use uz_schedule::{Bit, Head, Instance, Kind, Span, Val};
 
 /// A byte that is known.
 pub(crate) fn known_byte(value: u8) -> Val

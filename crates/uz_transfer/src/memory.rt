@@ -10,9 +10,9 @@ ghost use Rattle.uz_range.specs.Answers.{ends};
 
 use crate::values::{exact_pair, pair_range, set_pair_val, set_val, val};
 use arrayvec::ArrayVec;
-use uz_schedule::{Cell, Head, Instance, Kind, Owner, Span, Val, Wide};
 use uz_machine::AddressMode;
 use uz_range::{pair_add, pair_sub};
+use uz_schedule::{Cell, Head, Instance, Kind, Owner, Span, Val, Wide};
 
 /// Whether a kind tracks an owner's cells.
 pub(crate) fn tracks(kind: Kind, owner: Owner) -> bool

@@ -20,10 +20,10 @@ use crate::step::Step;
 use crate::transfer::transfer;
 use avr_decode::decode;
 use avr_table::{Instr, Outcome, clocks, words};
-use uz_schedule::{Head, Instance};
 use uz_core::instruction_effect;
 use uz_hex::Image;
 use uz_machine::Effect;
+use uz_schedule::{Head, Instance};
 
 /// Whether an effect is RETI's.
 fn is_return(e: Effect) -> bool

@@ -14,9 +14,9 @@ use crate::emission::{bit_event, emission, sync_level};
 use crate::fail::Fail;
 use crate::memory::{address_range, cell_place, cell_range, is_handler, is_main, misses, slot};
 use crate::values::{is_single, is_single_wide, pair_range, span_of, val};
-use uz_schedule::{Bit, EventKind, Head, Instance, Kind, Span, Val, Wide};
 use uz_machine::{Effect, JumpTarget};
 use uz_range::bst;
+use uz_schedule::{Bit, EventKind, Head, Instance, Kind, Span, Val, Wide};
 
 /// The reason, where it stands, else the later one.
 pub(crate) fn refuse_if(stands: bool, why: Fail, later: Option<Fail>) -> Option<Fail>

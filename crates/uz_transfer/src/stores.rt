@@ -8,9 +8,9 @@ ghost use Rattle.uz_transfer.specs.Memory.{flags_from as flags_from_val, with_ce
 
 use crate::memory::{address_range, cell_place, step_pointer};
 use crate::values::{is_single_wide, span_of, val};
-use uz_schedule::{Bit, Head, Instance, Span, Val, Wide};
 use uz_machine::AddressMode;
 use uz_range::bst;
+use uz_schedule::{Bit, Head, Instance, Span, Val, Wide};
 
 /// The flags after a value is stored to SREG.
 fn flags_from(v: &Val) -> [Bit; 7]

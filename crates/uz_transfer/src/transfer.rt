@@ -16,9 +16,9 @@ use crate::loads::{known_byte, load, load_program, pop_byte};
 use crate::memory::{drop_slots, push};
 use crate::stores::store;
 use crate::values::val;
-use uz_schedule::{Head, Instance};
 use uz_hex::Image;
 use uz_machine::{Effect, JumpTarget};
+use uz_schedule::{Head, Instance};
 
 /// What becomes known. The effect isn't refused. `following` is the pc of the following instruction, and `sampled` the clock
 /// of the line at which a load samples.
