@@ -154,7 +154,7 @@ core_with_pointer (PreDecrement p) at core b c = core_with_pair p at core b c
 
 -- SREG
 
-low_seven : (n k : ℕ) → k < 7 → bit_at (n % 128) k ≡ bit_at n k
+pub low_seven : (n k : ℕ) → k < 7 → bit_at (n % 128) k ≡ bit_at n k
 low_seven n k h = let e : n ≡ n / 128 * 2 ^ 7 + n % 128 = omega arith in sym (ap (λ x. bit_at x k) e ∙ bit_at_cat_low (n / 128) 7 (n % 128) k h)
 
 -- a value that is stored to SREG
@@ -203,7 +203,7 @@ all_old (OldBit ∷ fs) zero e w = refl
 all_old (OldBit ∷ fs) (suc k) e w = all_old fs k e (omega arith)
 all_old (f ∷ fs) k e w = absurd cc
 
-same_bit : (a b k : ℕ) → bit_is_set a k ≡ bit_is_set b k → bit_at a k ≡ bit_at b k
+pub same_bit : (a b k : ℕ) → bit_is_set a k ≡ bit_is_set b k → bit_at a k ≡ bit_at b k
 same_bit a b k e = let p = bit_at-lt a k in let q = bit_at-lt b k in by_case (bit_is_set a k) (bit_is_set b k) refl refl e
   where
     by_case : (t u : Bool) → nat_eq (bit_at a k) 1 ≡ t → nat_eq (bit_at b k) 1 ≡ u → t ≡ u → bit_at a k ≡ bit_at b k

@@ -1,5 +1,5 @@
 -- A state that meets an instance meets each in which it lies.
-use Rattle.std.proofs.Common.{◌≡◌, ◌⊎◌, inl, inr, ℕ, zero, suc, ◌+◌, ◌-◌, ◌<◌, ◌≤◌, Bool, true, false, nat_eq, nat_le, Some, List, [], ◌∷◌, length, refl, ◌∙◌, ap, subst, arith}
+use Rattle.std.proofs.Common.{◌%◌, sym, not, ◌≡◌, ◌⊎◌, inl, inr, ℕ, zero, suc, ◌+◌, ◌-◌, ◌<◌, ◌≤◌, Bool, true, false, nat_eq, nat_le, Some, List, [], ◌∷◌, length, refl, ◌∙◌, ap, subst, arith}
 use Rattle.std.specs.Prelude.{◌&&◌}
 use Rattle.std.specs.List.{AllByRecursion}
 use Rattle.std.proofs.lemmas.Bool.Decides.{eqb_tells, nat_tests}
@@ -22,7 +22,17 @@ use Rattle.uz_rules.specs.CoreMeets.{ValueHolds, FlagHolds, CoreMeets}
 use Rattle.uz_transfer.specs.Kinds.{cell_place}
 use Rattle.uz_rules.specs.MemoryMeets.{MemoryMeets}
 use Rattle.uz_transfer.specs.Refusals.{range_inside}
-use Rattle.uz_rules.specs.Inside.{value_inside, flag_inside, all_below, same_kind, same_bool, same_place, inside, InsideKeeps}
+use Rattle.uz_rules.specs.Inside.{value_inside, flag_inside, all_below, same_kind, same_bool, same_place, registers_inside, pairs_inside, flags_inside, slots_inside, cells_inside, inside, InsideKeeps, StateInside, is_old_register, restored, RestoredGives}
+use Rattle.uz_rules.specs.Meets.{TimerMeets, TimerCounts, LevelMeets, Meets}
+use Rattle.uz_machine.specs.PadLine.{PadHistory}
+use Rattle.uz_machine.specs.Turn.{State, sync_level}
+use Rattle.uz_machine.specs.StateRange.{IsState}
+use Rattle.uz_transfer.specs.Memory.{is_old}
+use Rattle.uz_machine.specs.Arithmetic.{bit_is_set}
+use Rattle.uz_transfer.specs.Kinds.{is_main}
+use Rattle.uz_rules.proofs.CoreSteps.{low_seven, same_bit}
+use Rattle.std.proofs.lemmas.Nat.Bits.{same_from_bits_below}
+use Rattle.std.proofs.lemmas.List.{ext_get_or}
 use Rattle.uz_rules.proofs.CoreKeeps.{whole, register_byte}
 
 and_true : (a b : Bool) → (a && b) ≡ true → (a ≡ true) × (b ≡ true)
@@ -94,40 +104,82 @@ past_end [] j h = refl
 past_end (x ∷ spans) zero h = absurd (omega arith)
 past_end (x ∷ spans) (suc j) h = past_end spans j (omega arith)
 
-pub core_widens : (a b : Instance) (o core : Core) → IsCore core → inside a b ≡ true → CoreMeets a o core → CoreMeets b o core
-core_widens a b o core c e h =
-    let one = and_true (same_place a b) _ e in
-    let two = and_true (all_below 32 (λ r. value_inside (value_at a.regs r) (value_at b.regs r))) _ one.1 in
-    let three = and_true (all_below 3 (λ k. range_inside (pair_at a.pairs k) (pair_at b.pairs k))) _ two.1 in
-    let four = and_true (all_below 7 (λ k. flag_inside (flag_at a.flags k) (flag_at b.flags k))) _ three.1 in
-    record {
-      regs = λ r w. val_widens _ _ o _ (register_byte core r c) (below_tells 32 (λ r. value_inside (value_at a.regs r) (value_at b.regs r)) two.0 r w) (h.regs r w);
-      pairs = λ k w. within_both _ _ _ (below_tells 3 (λ k. range_inside (pair_at a.pairs k) (pair_at b.pairs k)) three.0 k w) (h.pairs k w);
-      flags = λ k w. bit_widens _ _ _ _ (below_tells 7 (λ k. flag_inside (flag_at a.flags k) (flag_at b.flags k)) four.0 k w) (h.flags k w);
-    }
+-- what stands at one place
 
-pub memory_widens : (head : Head) (a b : Instance) (o : Core) (d sp : ℕ) (bytes : List ℕ) → AllByRecursion IsByte bytes → inside a b ≡ true → MemoryMeets head a o d sp bytes → MemoryMeets head b o d sp bytes
-memory_widens head a b o d sp bytes all e h =
+pub record SamePlace (a b : Instance) : Type 0 where
+  pub kind : a.kind ≡ b.kind
+  pub pc : a.pc ≡ b.pc
+  pub line : a.line ≡ b.line
+  pub clock : a.clock ≡ b.clock
+  pub pending : a.pending ≡ b.pending
+
+same_bits : (a b : Bool) → same_bool a b ≡ true → a ≡ b
+same_bits true true e = refl
+same_bits true false e = absurd cc
+same_bits false true e = absurd cc
+same_bits false false e = refl
+
+same_number : (a b : ℕ) → nat_eq a b ≡ true → a ≡ b
+same_number a b e = grind (arith, nat_tests)
+
+pub place_tells : (a b : Instance) → inside a b ≡ true → SamePlace a b
+place_tells a b e =
     let one = and_true (same_place a b) _ e in
-    let two = and_true (all_below 32 (λ r. value_inside (value_at a.regs r) (value_at b.regs r))) _ one.1 in
-    let three = and_true (all_below 3 (λ k. range_inside (pair_at a.pairs k) (pair_at b.pairs k))) _ two.1 in
-    let four = and_true (all_below 7 (λ k. flag_inside (flag_at a.flags k) (flag_at b.flags k))) _ three.1 in
-    let five = and_true (all_below (length a.stack.items) (λ i. value_inside (value_at a.stack.items i) (value_at b.stack.items i))) _ four.1 in
     let p1 = and_true (same_kind a.kind b.kind) _ one.0 in
     let p2 = and_true (nat_eq a.pc b.pc) _ p1.1 in
     let p3 = and_true (nat_eq a.line b.line) _ p2.1 in
     let p4 = and_true (nat_eq a.clock b.clock) _ p3.1 in
-    let p5 = and_true (same_bool a.pending b.pending) _ p4.1 in
-    let kind = kind_tells a.kind b.kind p1.0 in
-    let size : length a.stack.items ≡ length b.stack.items = (let t = p5.1 in grind (arith, nat_tests)) in
+    record {
+      kind = kind_tells a.kind b.kind p1.0;
+      pc = same_number a.pc b.pc p2.0;
+      line = same_number a.line b.line p3.0;
+      clock = same_number a.clock b.clock p4.0;
+      pending = same_bits a.pending b.pending p4.1;
+    }
+
+-- what is known of one lies in what is known of the other
+
+pub record PartsInside (a b : Instance) : Type 0 where
+  pub slots : slots_inside a.stack.items b.stack.items ≡ true
+  pub cells : cells_inside a.cells.items b.cells.items ≡ true
+  pub flags : flags_inside a.flags b.flags ≡ true
+  pub pairs : pairs_inside a.pairs b.pairs ≡ true
+  pub registers : registers_inside a.regs b.regs ≡ true
+
+pub parts_tell : (a b : Instance) → inside a b ≡ true → PartsInside a b
+parts_tell a b e =
+    let one = and_true (same_place a b) _ e in
+    let two = and_true (slots_inside a.stack.items b.stack.items) _ one.1 in
+    let three = and_true (cells_inside a.cells.items b.cells.items) _ two.1 in
+    let four = and_true (flags_inside a.flags b.flags) _ three.1 in
+    let five = and_true (pairs_inside a.pairs b.pairs) _ four.1 in
+    record { slots = two.0; cells = three.0; flags = four.0; pairs = five.0; registers = five.1 }
+
+pub core_widens : (a b : Instance) (o core : Core) → IsCore core → inside a b ≡ true → CoreMeets a o core → CoreMeets b o core
+core_widens a b o core c e h =
+    let parts = parts_tell a b e in
+    record {
+      regs = λ r w. val_widens _ _ o _ (register_byte core r c) (below_tells 32 (λ r. value_inside (value_at a.regs r) (value_at b.regs r)) parts.registers r w) (h.regs r w);
+      pairs = λ k w. within_both _ _ _ (below_tells 3 (λ k. range_inside (pair_at a.pairs k) (pair_at b.pairs k)) parts.pairs k w) (h.pairs k w);
+      flags = λ k w. bit_widens _ _ _ _ (below_tells 7 (λ k. flag_inside (flag_at a.flags k) (flag_at b.flags k)) parts.flags k w) (h.flags k w);
+    }
+
+pub memory_widens : (head : Head) (a b : Instance) (o : Core) (d sp : ℕ) (bytes : List ℕ) → AllByRecursion IsByte bytes → inside a b ≡ true → MemoryMeets head a o d sp bytes → MemoryMeets head b o d sp bytes
+memory_widens head a b o d sp bytes all e h =
+    let parts = parts_tell a b e in
+    let slots = and_true (nat_eq (length a.stack.items) (length b.stack.items)) _ parts.slots in
+    let cells = and_true (nat_eq (length a.cells.items) (length b.cells.items)) _ parts.cells in
+    let kind = (place_tells a b e).kind in
+    let size : length a.stack.items ≡ length b.stack.items = same_number (length a.stack.items) (length b.stack.items) slots.0 in
+    let count : length a.cells.items ≡ length b.cells.items = same_number (length a.cells.items) (length b.cells.items) cells.0 in
     record {
       slots = λ i w.
           let w' : i < length a.stack.items = omega (arith, size, w) in
-          rw (← size) (val_widens _ _ o _ (byte_at bytes (sp + length a.stack.items - i) all) (below_tells (length a.stack.items) (λ i. value_inside (value_at a.stack.items i) (value_at b.stack.items i)) five.0 i w') (h.slots i w'));
+          rw (← size) (val_widens _ _ o _ (byte_at bytes (sp + length a.stack.items - i) all) (below_tells (length a.stack.items) (λ i. value_inside (value_at a.stack.items i) (value_at b.stack.items i)) slots.1 i w') (h.slots i w'));
       cells = λ at j p.
           let q : cell_place head a.kind at ≡ Some j = rw kind p in
           elim (lt_or j (length b.cells.items)) [
-            | inl t ↦ within_both _ _ _ (below_tells (length b.cells.items) (λ j. range_inside (span_at a.cells.items j) (span_at b.cells.items j)) five.1 j t) (h.cells at j q)
+            | inl t ↦ within_both _ _ _ (below_tells (length a.cells.items) (λ j. range_inside (span_at a.cells.items j) (span_at b.cells.items j)) cells.1 j (omega (arith, count, t))) (h.cells at j q)
             | inr t ↦ rw (past_end b.cells.items j t) (whole _ (byte_at bytes at all))
           ];
       ranges = h.ranges;
@@ -136,3 +188,54 @@ memory_widens head a b o d sp bytes all e h =
 
 pub inside_keeps : InsideKeeps
 inside_keeps head a b o core d sp bytes c all e h m = (core_widens a b o core c e h, memory_widens head a b o d sp bytes all e m)
+
+-- A state
+
+pub state_inside : StateInside
+state_inside head a b o d s state e level m =
+    let place = place_tells a b e in
+    record {
+      pc = m.pc ∙ place.pc;
+      enabled = m.enabled ∙ ap is_main place.kind;
+      core = core_widens a b o s.core state.core e m.core;
+      memory = memory_widens head a b o d s.core.sp s.space.bytes state.space.bytes e m.memory;
+      timer = timer_widens a.kind b.kind place.kind m.timer;
+      ticks = subst (λ k. TimerCounts k s.space.timer) place.kind m.ticks;
+      level = level;
+      response = m.response;
+    }
+  where
+    timer_widens : (k l : Kind) → k ≡ l → TimerMeets k a s.space.timer → TimerMeets l b s.space.timer
+    timer_widens k l same h = subst (λ x. TimerMeets x b s.space.timer) same (widens k (place_tells a b e) h)
+      where
+        widens : (k : Kind) → SamePlace a b → TimerMeets k a s.space.timer → TimerMeets k b s.space.timer
+        widens Main p h = tt
+        widens Handler p h = (h.0 ∙ p.clock, h.1 ∙ p.pending, h.2)
+        widens Alone p h = tt
+
+-- Restored
+
+old_gives : (r : ℕ) (v : Val) (o : Core) (x : ℕ) → is_old_register r v ≡ true → ValueHolds v o x → x ≡ register o r
+old_gives r (Range e) o x t h = absurd cc
+old_gives r (Old q) o x t h = h ∙ ap (register o) (sym (same_number r q t))
+old_gives r OldFlags o x t h = absurd cc
+
+flag_gives : (f : Bit) (before now : Bool) → is_old f ≡ true → FlagHolds f before now → now ≡ before
+flag_gives Zero before now t h = absurd cc
+flag_gives One before now t h = absurd cc
+flag_gives Free before now t h = absurd cc
+flag_gives OldBit before now t h = h
+
+pub restored_gives : RestoredGives
+restored_gives inst o core c old e h =
+    let one = and_true (nat_eq (length inst.stack.items) 0) _ e in
+    let two = and_true (not inst.pending) _ one.1 in
+    let three = and_true (all_below 7 (λ k. is_old (flag_at inst.flags k))) _ two.1 in
+    let sreg : core.sreg % 128 ≡ o.sreg % 128 = same_from_bits_below 7 (core.sreg % 128) (o.sreg % 128) (omega arith) (omega arith) (λ k w.
+    let is = flag_gives (flag_at inst.flags k) (bit_is_set o.sreg k) (bit_is_set core.sreg k) (below_tells 7 (λ k. is_old (flag_at inst.flags k)) three.0 k w) (h.flags k w) in
+    low_seven core.sreg k w ∙ (same_bit core.sreg o.sreg k is ∙ sym (low_seven o.sreg k w))) in (
+      ext_get_or 0 core.registers o.registers (c.count ∙ sym old.count) (λ r w.
+          let w' : r < 32 = omega (arith, w, c.count) in
+          old_gives r (value_at inst.regs r) o (register core r) (below_tells 32 (λ r. is_old_register r (value_at inst.regs r)) three.1 r w') (h.regs r w')),
+      sreg,
+    )

@@ -15,3 +15,4 @@ pub mod InsideMeets
 pub mod SomeStand
 pub mod LeavesHold
 pub mod Timing
+pub mod Below

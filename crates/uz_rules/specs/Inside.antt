@@ -1,6 +1,6 @@
--- When one instance lies in another.
+-- When one instance lies in another, and when a handler has restored what it interrupted.
 use Rattle.std.specs.List.{AllByRecursion}
-use Rattle.std.specs.Prelude.{Bool, List, false, length, nat_eq, not, suc, true, zero, ℕ, ◌&&◌, ◌≡◌}
+use Rattle.std.specs.Prelude.{Bool, List, false, length, nat_eq, not, suc, true, zero, ℕ, ◌&&◌, ◌≡◌, ◌%◌}
 use Rattle.uz_schedule.specs.declared.facts.Bit.{Bit}
 use Rattle.uz_schedule.specs.declared.facts.Bit.TheVariants.{Free, Old as OldBit, One, Zero}
 use Rattle.uz_schedule.specs.declared.facts.Val.{Val}
@@ -16,6 +16,12 @@ use Rattle.uz_transfer.specs.Values.{value_at, flag_at, pair_at, span_at}
 use Rattle.uz_transfer.specs.Refusals.{range_inside}
 use Rattle.uz_rules.specs.CoreMeets.{CoreMeets}
 use Rattle.uz_rules.specs.MemoryMeets.{MemoryMeets}
+use Rattle.uz_rules.specs.Meets.{LevelMeets, Meets}
+use Rattle.uz_machine.specs.PadLine.{PadHistory}
+use Rattle.uz_machine.specs.Turn.{State, sync_level}
+use Rattle.uz_machine.specs.StateRange.{IsState}
+use Rattle.uz_schedule.specs.Ends.{Ends}
+use Rattle.uz_transfer.specs.Memory.{is_old}
 
 -- an interrupted value lies in 0..255, and in itself
 abbrev pub value_inside : Val → Val → Bool
@@ -50,15 +56,57 @@ same_bool false b = not b
 
 abbrev pub same_place : Instance → Instance → Bool
 same_place a b =
-    same_kind a.kind b.kind && (nat_eq a.pc b.pc && (nat_eq a.line b.line && (nat_eq a.clock b.clock && (same_bool a.pending b.pending && nat_eq (length a.stack.items) (length b.stack.items)))))
+    same_kind a.kind b.kind && (nat_eq a.pc b.pc && (nat_eq a.line b.line && (nat_eq a.clock b.clock && same_bool a.pending b.pending)))
 
+abbrev pub registers_inside : List Val → List Val → Bool
+registers_inside a b = all_below 32 (λ r. value_inside (value_at a r) (value_at b r))
+
+abbrev pub pairs_inside : List Ends → List Ends → Bool
+pairs_inside a b = all_below 3 (λ k. range_inside (pair_at a k) (pair_at b k))
+
+abbrev pub flags_inside : List Bit → List Bit → Bool
+flags_inside a b = all_below 7 (λ k. flag_inside (flag_at a k) (flag_at b k))
+
+abbrev pub slots_inside : List Val → List Val → Bool
+slots_inside a b = nat_eq (length a) (length b) && all_below (length a) (λ i. value_inside (value_at a i) (value_at b i))
+
+abbrev pub cells_inside : List Ends → List Ends → Bool
+cells_inside a b = nat_eq (length a) (length b) && all_below (length a) (λ j. range_inside (span_at a j) (span_at b j))
+
+-- instance a lies in b: they stand at one place, and what is known in a lies in what is known in b
 abbrev pub inside : Instance → Instance → Bool
 inside a b =
-    same_place a b && (all_below 32 (λ r. value_inside (value_at a.regs r) (value_at b.regs r)) && (all_below 3 (λ k. range_inside (pair_at a.pairs k) (pair_at b.pairs k)) && (all_below 7 (λ k. flag_inside (flag_at a.flags k) (flag_at b.flags k))
-    && (all_below (length a.stack.items) (λ i. value_inside (value_at a.stack.items i) (value_at b.stack.items i)) && all_below (length b.cells.items) (λ j. range_inside (span_at a.cells.items j) (span_at b.cells.items j))))))
+    same_place a b
+    && (slots_inside a.stack.items b.stack.items
+    && (cells_inside a.cells.items b.cells.items && (flags_inside a.flags b.flags && (pairs_inside a.pairs b.pairs && registers_inside a.regs b.regs))))
 
--- a state that meets an instance meets each in which it lies
+-- a core and the bytes of a data space that meet an instance meet each in which it lies
 abbrev pub InsideKeeps : Type 0
 InsideKeeps =
-    (head : Head) (a b : Instance) (o core : Core) (d sp : ℕ) (bytes : List ℕ) → IsCore core → AllByRecursion IsByte bytes → inside a b ≡ true → CoreMeets a o core → MemoryMeets head a o d sp bytes
-    → CoreMeets b o core × MemoryMeets head b o d sp bytes
+    (head : Head) (a b : Instance) (o core : Core) (d sp : ℕ) (bytes : List ℕ) → IsCore core → AllByRecursion IsByte bytes → inside a b ≡ true
+    → CoreMeets a o core → MemoryMeets head a o d sp bytes → CoreMeets b o core × MemoryMeets head b o d sp bytes
+
+-- and so does a state, where its level is that instance's: levels aren't compared
+abbrev pub StateInside : Type 0
+StateInside =
+    (head : Head) (a b : Instance) (o : Core) (d : ℕ) (s : State PadHistory) → IsState s → inside a b ≡ true
+    → LevelMeets b.kind b.level (sync_level s.space) → Meets head a o d s → Meets head b o d s
+
+-- What a handler restores
+
+abbrev pub is_old_register : ℕ → Val → Bool
+is_old_register r (Range e) = false
+is_old_register r (Old q) = nat_eq r q
+is_old_register r OldFlags = false
+
+-- each register holds its interrupted value, the flags are the interrupted ones, nothing is left on the stack, and no match is pending
+abbrev pub restored : Instance → Bool
+restored inst =
+    nat_eq (length inst.stack.items) 0
+    && (not inst.pending && (all_below 7 (λ k. is_old (flag_at inst.flags k)) && all_below 32 (λ r. is_old_register r (value_at inst.regs r))))
+
+-- a core that meets a restored instance has the interrupted registers and flags
+abbrev pub RestoredGives : Type 0
+RestoredGives =
+    (inst : Instance) (o core : Core) → IsCore core → IsCore o → restored inst ≡ true → CoreMeets inst o core
+    → (core.registers ≡ o.registers) × (core.sreg % 128 ≡ o.sreg % 128)

@@ -1,7 +1,7 @@
 //! Laws of the abstract step, as functions that do nothing.
 
 ghost use Rattle.uz_rules.specs.Example.{SomeInstructionBegins};
-ghost use Rattle.uz_rules.specs.Inside.{InsideKeeps};
+ghost use Rattle.uz_rules.specs.Inside.{InsideKeeps, StateInside, RestoredGives};
 ghost use Rattle.uz_rules.specs.OneStep.{AloneContained, HandlerContained, MainContained};
 
 /// The law that the machine's step from a state that meets an instance which is alone lies in the abstract step. Does nothing.
@@ -27,4 +27,14 @@ pub fn some_stand()
 /// The law that a core and a memory that meet an instance meet each in which it lies. Does nothing.
 pub fn inside_keeps()
     ensures { InsideKeeps }
+{}
+
+/// The law that a state which meets an instance meets each in which it lies, but for the level of sync. Does nothing.
+pub fn state_inside()
+    ensures { StateInside }
+{}
+
+/// The law that a core which meets a restored instance has the interrupted registers and flags. Does nothing.
+pub fn restored_gives()
+    ensures { RestoredGives }
 {}

@@ -1,0 +1,219 @@
+//! When one instance lies in another, and when a handler has restored what it interrupted.
+
+ghost use Rattle.std.specs.Prelude.{◌≡◌, ◌<◌, ◌&&◌, not, length, nat_eq};
+ghost use Rattle.uz_transfer.specs.Values.{value_at, flag_at, pair_at, span_at};
+ghost use Rattle.uz_transfer.specs.Memory.{is_old as is_old_flag};
+ghost use Rattle.uz_transfer.specs.Refusals.{range_inside};
+ghost use Rattle.uz_rules.specs.Inside.{value_inside as lies_in_value, flag_inside as lies_in_flag, all_below, same_kind as same_kinds, same_place as stand_together, registers_inside as registers_lie, pairs_inside as pairs_lie, flags_inside as flags_lie, slots_inside as slots_lie, cells_inside as cells_lie, inside as lies_inside, is_old_register as holds_old, restored as is_restored};
+
+use uz_schedule::{Bit, Instance, Kind, Span, Val, Wide};
+
+/// Whether a range of bytes lies in another.
+fn span_inside(a: &Span, b: &Span) -> bool
+    ensures { result ≡ range_inside a.now b.now }
+{
+    b.lo() <= a.lo() && a.hi() <= b.hi()
+}
+
+/// Whether a range of pairs lies in another.
+fn wide_inside(a: &Wide, b: &Wide) -> bool
+    ensures { result ≡ range_inside a.now b.now }
+{
+    b.lo() <= a.lo() && a.hi() <= b.hi()
+}
+
+/// Whether what is known of a byte lies in what is known elsewhere.
+fn value_inside(a: &Val, b: &Val) -> bool
+    ensures { result ≡ lies_in_value a.now b.now }
+{
+    match (a, b) {
+        (Val::Range(a), Val::Range(b)) => span_inside(a, b),
+        (Val::Old(_) | Val::OldFlags, Val::Range(b)) => span_inside(&Span::between(0, 255), b),
+        (Val::Old(r), Val::Old(s)) => r == s,
+        (Val::OldFlags, Val::OldFlags) => true,
+        _ => false,
+    }
+}
+
+/// Whether what is known of a flag lies in what is known elsewhere.
+fn flag_inside(a: Bit, b: Bit) -> bool
+    ensures { result ≡ lies_in_flag a b }
+{
+    match (a, b) {
+        (_, Bit::Free) | (Bit::Zero, Bit::Zero) | (Bit::One, Bit::One) | (Bit::Old, Bit::Old) =>
+            true,
+        _ => false,
+    }
+}
+
+/// Whether two instances have one kind.
+fn same_kind(a: Kind, b: Kind) -> bool
+    ensures { result ≡ same_kinds a b }
+{
+    match (a, b) {
+        (Kind::Main, Kind::Main) | (Kind::Handler, Kind::Handler) | (Kind::Alone, Kind::Alone) =>
+            true,
+        _ => false,
+    }
+}
+
+/// Whether two instances stand at one place: kind, pc, line, clock and pending.
+fn same_place(a: &Instance, b: &Instance) -> bool
+    ensures { result ≡ stand_together a.now b.now }
+{
+    same_kind(a.kind, b.kind)
+        && (a.pc == b.pc && (a.line == b.line && (a.clock == b.clock && a.pending == b.pending)))
+}
+
+/// Whether the registers lie in others.
+#[tactic(auto, using(crate::proofs::Below::below_none, crate::proofs::Below::below_more))]
+fn registers_inside(a: &[Val; 32], b: &[Val; 32]) -> bool
+    ensures { result ≡ registers_lie a.now b.now }
+{
+    let mut within = true;
+    for r in 0..32usize {
+        let lies = value_inside(&a[r], &b[r]);
+        within = within && lies;
+    }
+    within
+}
+
+/// Whether the pairs X, Y and Z lie in others.
+#[tactic(auto, using(crate::proofs::Below::below_none, crate::proofs::Below::below_more))]
+fn pairs_inside(a: &[Wide; 3], b: &[Wide; 3]) -> bool
+    ensures { result ≡ pairs_lie a.now b.now }
+{
+    let mut within = true;
+    for k in 0..3usize {
+        let lies = wide_inside(&a[k], &b[k]);
+        within = within && lies;
+    }
+    within
+}
+
+/// What is known of a flag, 0 to 6.
+fn flag(flags: &[Bit; 7], k: usize) -> Bit
+    requires { k < 7 }
+    ensures { result ≡ flag_at flags.now k }
+{
+    flags[k]
+}
+
+/// Whether the flags lie in others.
+#[tactic(auto, using(crate::proofs::Below::below_none, crate::proofs::Below::below_more))]
+fn flags_inside(a: &[Bit; 7], b: &[Bit; 7]) -> bool
+    ensures { result ≡ flags_lie a.now b.now }
+{
+    let mut within = true;
+    for k in 0..7usize {
+        let lies = flag_inside(flag(a, k), flag(b, k));
+        within = within && lies;
+    }
+    within
+}
+
+/// Whether the first bytes of a stack lie in those of another, as deep.
+#[tactic(auto, using(crate::proofs::Below::below_none, crate::proofs::Below::below_more))]
+fn values_inside(a: &[Val], b: &[Val]) -> bool
+    requires { length a.now ≡ length b.now }
+    ensures { result ≡ all_below (length a.now) (λ i. lies_in_value (value_at a.now i) (value_at b.now i)) }
+{
+    let mut within = true;
+    for i in 0..a.len() {
+        let lies = value_inside(&a[i], &b[i]);
+        within = within && lies;
+    }
+    within
+}
+
+/// Whether the bytes of a stack lie in those of another, which is as deep.
+fn slots_inside(a: &[Val], b: &[Val]) -> bool
+    ensures { result ≡ slots_lie a.now b.now }
+{
+    a.len() == b.len() && values_inside(a, b)
+}
+
+/// Whether the ranges of cells lie in others, as many.
+#[tactic(auto, using(crate::proofs::Below::below_none, crate::proofs::Below::below_more))]
+fn spans_inside(a: &[Span], b: &[Span]) -> bool
+    requires { length a.now ≡ length b.now }
+    ensures { result ≡ all_below (length a.now) (λ j. range_inside (span_at a.now j) (span_at b.now j)) }
+{
+    let mut within = true;
+    for j in 0..a.len() {
+        let lies = span_inside(&a[j], &b[j]);
+        within = within && lies;
+    }
+    within
+}
+
+/// Whether the ranges of cells lie in others, which are as many.
+fn cells_inside(a: &[Span], b: &[Span]) -> bool
+    ensures { result ≡ cells_lie a.now b.now }
+{
+    a.len() == b.len() && spans_inside(a, b)
+}
+
+/// Whether instance `a` lies in `b`: kind, pc, line, clock, pending and the depth of the stack are equal, each range of `a`
+/// lies in that of `b`, and what `b` has of interrupted values is the same in `a`. Levels aren't compared.
+pub fn inside(a: &Instance, b: &Instance) -> bool
+    ensures { result ≡ lies_inside a.now b.now }
+{
+    same_place(a, b)
+        && (slots_inside(a.stack.as_slice(), b.stack.as_slice())
+            && (cells_inside(a.cells.as_slice(), b.cells.as_slice())
+                && (flags_inside(&a.flags, &b.flags)
+                    && (pairs_inside(&a.pairs, &b.pairs) && registers_inside(&a.regs, &b.regs)))))
+}
+
+/// Whether a register has the value with which it was interrupted.
+fn is_old_register(r: u8, v: &Val) -> bool
+    ensures { result ≡ holds_old r v.now }
+{
+    match v {
+        Val::Old(q) => r == *q,
+        _ => false,
+    }
+}
+
+/// Whether a flag is the interrupted one.
+fn is_old(b: Bit) -> bool
+    ensures { result ≡ is_old_flag b }
+{
+    matches!(b, Bit::Old)
+}
+
+/// Whether all registers have the values with which they were interrupted.
+#[tactic(auto, using(crate::proofs::Below::below_none, crate::proofs::Below::below_more))]
+fn registers_restored(regs: &[Val; 32]) -> bool
+    ensures { result ≡ all_below 32 (λ r. holds_old r (value_at regs.now r)) }
+{
+    let mut all = true;
+    for r in 0..32u8 {
+        let old = is_old_register(r, &regs[r as usize]);
+        all = all && old;
+    }
+    all
+}
+
+/// Whether all flags are the interrupted ones.
+#[tactic(auto, using(crate::proofs::Below::below_none, crate::proofs::Below::below_more))]
+fn flags_restored(flags: &[Bit; 7]) -> bool
+    ensures { result ≡ all_below 7 (λ k. is_old_flag (flag_at flags.now k)) }
+{
+    let mut all = true;
+    for k in 0..7usize {
+        let old = is_old(flag(flags, k));
+        all = all && old;
+    }
+    all
+}
+
+/// Whether a handler has restored what it interrupted: each register has its interrupted value, all seven flags are the
+/// interrupted ones, nothing is left on the stack, and no match is pending.
+pub fn restored(at: &Instance) -> bool
+    ensures { result ≡ is_restored at.now }
+{
+    at.stack.is_empty()
+        && (!at.pending && (flags_restored(&at.flags) && registers_restored(&at.regs)))
+}
