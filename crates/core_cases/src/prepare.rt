@@ -1,18 +1,12 @@
 //! Brings a core into the state of a case, by its own instructions.
 
-ghost use Rattle.std.specs.Prelude.{◌≡◌, ◌<◌, []};
+ghost use Rattle.std.specs.Prelude.{◌≡◌, ◌<◌, ◌≤◌, []};
 
 use crate::case::Case;
 use crate::echo::Echo;
 use uz_core::Cpu;
 use uz_hex::Image;
-
-/// The I/O addresses of SPL, SPH and SREG.
-const SPL: u16 = 0x3D;
-
-const SPH: u16 = 0x3E;
-
-const SREG: u16 = 0x3F;
+use uz_machine::address::{IO_BASE, SPH, SPL, SREG};
 
 /// Writes a word into the flash, at a word address.
 pub fn put(flash: &mut Image, at: u16, word: u16) {
@@ -44,12 +38,14 @@ fn load_upper(cpu: &mut Cpu, flash: &mut Image, space: &mut Echo, d: u16, value:
     instruct(cpu, flash, space, word, 0);
 }
 
-/// `out` from r16.
-fn out(cpu: &mut Cpu, flash: &mut Image, space: &mut Echo, io: u16, value: u8)
+/// `out` from r16, to the I/O register at a data address.
+fn out(cpu: &mut Cpu, flash: &mut Image, space: &mut Echo, at: u16, value: u8)
     requires held { space.old.held.items ≡ [] }
-    requires io { io < 64 }
+    requires first { 32 ≤ at }
+    requires last { at < 96 }
     ensures { space.new.held.items ≡ [] }
 {
+    let io = at - IO_BASE;
     load_upper(cpu, flash, space, 16, value);
     instruct(cpu, flash, space, 0xB900 + io / 16 * 512 + io % 16, 0);
 }

@@ -24,7 +24,7 @@ use Rattle.uz_machine.specs.Space.{Space, history_wiring, space_loads, byte_at}
 use Rattle.uz_machine.specs.Turn.{State, state_byte, is_entry, after_entry, entry_edges, after_instruction, instruction_edges, IsEntryTurn, IsInstructionTurn}
 use Rattle.uz_machine.specs.Turn as machine
 use Rattle.uz_machine.proofs.LoadModels.{LoadAlike, ResultAlike, same_effect_result}
-use Rattle.uz_machine.proofs.Wirings.{Alike, SpaceAlike, TurnAlike, same_byte, turn_alike, with_space}
+use Rattle.uz_machine.proofs.Wirings.{SpaceAlike, TurnAlike, same_byte, turn_alike, with_space}
 use Rattle.uz_core.specs.Steps.{IsStep}
 use Rattle.uz_core.specs.declared.step.Why.{Why}
 use Rattle.uz_core.specs.declared.step.Why.TheVariants.{Opcode, Spm}
@@ -32,7 +32,7 @@ use Rattle.uz_core.specs.declared.step.Step.{Step}
 use Rattle.uz_core.specs.declared.step.Step.TheVariants as step
 use Rattle.uz_pads.specs.declared.pads.Pads.{Pads}
 use Rattle.uz_pads.specs.Pads.{pads_wiring, StandsFor}
-use Rattle.uz_pads.proofs.History.{stands_after, lines_stand}
+use Rattle.uz_ports.proofs.PadBytes.{pads_alike}
 use Rattle.uz_ports.specs.Boards.{BoardContent, board_loads}
 use Rattle.uz_console.specs.declared.console.Console.{Console}
 use Rattle.uz_console.specs.Consoles as console
@@ -84,9 +84,6 @@ board_step image s c s' c' stores (step.Stopped Spm) h = ((h.0, h.1, h.2), h.3, 
 
 -- The console's turn, over the board's pads, is the machine's
 
-pads_alike : Alike pads_wiring history_wiring StandsFor
-pads_alike = record { lines = lines_stand; with_level = λ n p history r. stands_after p history n r }
-
 -- the state that a console stands for, over the console's parts
 state_is : (c : Console) (s : State PadHistory) → console.StandsFor c s → s ≡ with_space (state_of c) s.space
 state_is c s h =
@@ -137,6 +134,10 @@ entry_is c s h =
 pub entered : (old new : Console) (edges : List Edge) → is_entry (state_of old) ≡ true → state_of new ≡ after_entry pads_wiring (state_of old) → edges ≡ entry_edges pads_wiring (state_of old) →
     (s : State PadHistory) → console.StandsFor old s → (next : State PadHistory) × machine.Turn history_wiring s edges next × console.StandsFor new next
 entered old new edges e goes emits = carried old new edges (inl (record { enters = e; goes_to = goes; emits = emits }))
+
+-- an entry is an edge itself
+pub entry_shows : (old : Console) (edges : List Edge) → edges ≡ entry_edges pads_wiring (state_of old) → edges ≢ []
+entry_shows old edges emits none = absurd cc
 
 four_or_five : (irq : Response) → (0 < response_clocks irq) × (response_clocks irq ≤ 5)
 four_or_five Four = (lit< tt, lit≤ tt)

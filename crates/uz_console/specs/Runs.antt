@@ -1,9 +1,9 @@
 -- Runs of so many clocks, by the console's turns.
-use Rattle.std.specs.Prelude.{ℕ, ◌<◌, ◌≤◌, List, ◌++◌}
+use Rattle.std.specs.Prelude.{◌≡◌, ◌≢◌, ℕ, ◌<◌, ◌≤◌, List, [], ◌++◌}
 use Rattle.uz_machine.specs.declared.Edge.{Edge}
 use Rattle.uz_machine.specs.PadLine.{PadHistory}
 use Rattle.uz_machine.specs.Turn.{State}
-use Rattle.uz_machine.specs.Run.{IsRunPart, IsClockRun, IsStoppedRun}
+use Rattle.uz_machine.specs.Run.{Run, TurnBefore, edges_until, IsRunPart, IsClockRun, IsStoppedRun}
 use Rattle.uz_console.specs.declared.console.Console.{Console}
 use Rattle.uz_console.specs.declared.running.Progress.{Progress}
 use Rattle.uz_console.specs.declared.running.Progress.TheVariants.{Took, Over, Stopped}
@@ -29,6 +29,22 @@ IsProgress limit old new Over = (start : State PadHistory) (edges : List Edge) �
 IsProgress limit old new (Stopped why) =
     (start : State PadHistory) (edges : List Edge) → RunsTo limit start edges old →
     (last : State PadHistory) × IsStoppedRun limit start edges last × Halts last why × StandsFor new last
+
+-- any number of turns without edges, each of which begins before the limit
+abbrev pub GoesQuietly : ℕ → State PadHistory → State PadHistory → Type 0
+GoesQuietly limit s last = (n : ℕ) × Run (TurnBefore limit) n s [] last
+
+-- From each state that the old console stands for, turns without edges; then, Took: one with edges, of which these are in
+-- time; Over: no turn, since the limit is reached; Stopped: none, since there is none
+abbrev pub IsNextTurn : ℕ → Console → Console → Progress → Type 0
+IsNextTurn limit old new (Took more) =
+    (s : State PadHistory) → StandsFor old s →
+    (mid : State PadHistory) × (all : List Edge) × (next : State PadHistory) ×
+    GoesQuietly limit s mid × TurnBefore limit mid all next × (all ≢ []) × (more.items ≡ edges_until limit all) × StandsFor new next
+IsNextTurn limit old new Over =
+    (s : State PadHistory) → StandsFor old s → (last : State PadHistory) × GoesQuietly limit s last × (limit ≤ last.clock) × StandsFor new last
+IsNextTurn limit old new (Stopped why) =
+    (s : State PadHistory) → StandsFor old s → (last : State PadHistory) × GoesQuietly limit s last × (last.clock < limit) × Halts last why × StandsFor new last
 
 -- an answer with edges brings the clock nearer to the limit, and the clock never goes back
 abbrev pub MovesOn : ℕ → Console → Console → Progress → Type 0

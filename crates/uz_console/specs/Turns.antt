@@ -79,6 +79,12 @@ IsMade old new edges made.Edges =
     (s : State PadHistory) → StandsFor old s → (next : State PadHistory) × machine.Turn history_wiring s edges next × StandsFor new next
 IsMade old new edges (made.Stopped why) = (state_of new ≡ state_of old) × ((s : State PadHistory) → StandsFor old s → Halts s why)
 
+-- an answer with edges has some
+abbrev pub HasSome : List Edge → Made → Type 0
+HasSome edges made.Quiet = Unit {0}
+HasSome edges made.Edges = edges ≢ []
+HasSome edges (made.Stopped why) = Unit {0}
+
 abbrev pub TakesTime : Console → Console → Made → Type 0
 TakesTime old new made.Quiet = (clock_of old < clock_of new) × (clock_of new ≤ clock_of old + 5)
 TakesTime old new made.Edges = (clock_of old < clock_of new) × (clock_of new ≤ clock_of old + 5)

@@ -13,6 +13,7 @@ ghost use Rattle.uz_ports.specs.Boards.{held_of, entered_of};
 use std::alloc::{AllocError, Global};
 use uz_core::Cpu;
 use uz_hex::Image;
+use uz_machine::address::{IO_BASE, SPH, SPL, SREG};
 use uz_pads::{Pad, Pads};
 use uz_ports::Board;
 use uz_schedule::Response;
@@ -77,6 +78,7 @@ impl Console {
 
     /// The program counter, a word address below 32,768.
     pub fn pc(&self) -> u16
+        ensures own { result ≡ (state_of self.now).core.pc }
         ensures stands { (s : State PadHistory) → StandsFor self.now s → result ≡ s.core.pc }
         ensures below { result < 32768 }
     {
@@ -85,7 +87,8 @@ impl Console {
 
     /// The word at the program counter.
     pub fn word(&self) -> u16
-        ensures { (s : State PadHistory) → StandsFor self.now s → result ≡ word_of s.image s.core.pc }
+        ensures own { result ≡ word_of (state_of self.now).image (state_of self.now).core.pc }
+        ensures stands { (s : State PadHistory) → StandsFor self.now s → result ≡ word_of s.image s.core.pc }
     {
         self.image.word(self.cpu.pc())
     }
@@ -93,6 +96,7 @@ impl Console {
     /// A register.
     pub fn reg(&self, n: u8) -> u8
         requires { n < 32 }
+        ensures own { result ≡ register (state_of self.now).core n }
         ensures stands { (s : State PadHistory) → StandsFor self.now s → result ≡ register s.core n }
     {
         self.cpu.reg(n)
@@ -100,6 +104,7 @@ impl Console {
 
     /// The byte that a read of a data address would give, without its effect; the core's own addresses too.
     pub fn byte(&self, at: u16) -> u8
+        ensures own { result ≡ state_byte pads_wiring (state_of self.now) at }
         ensures stands { (s : State PadHistory) → StandsFor self.now s → result ≡ state_byte history_wiring s at }
     {
         self.own_byte(at)
@@ -108,11 +113,13 @@ impl Console {
     fn own_byte(&self, at: u16) -> u8
         ensures { result ≡ state_byte pads_wiring (state_of self.now) at }
     {
+        if at < IO_BASE {
+            return self.cpu.reg(at as u8);
+        }
         match at {
-            0..=0x1F => self.cpu.reg(at as u8),
-            0x5D => (self.cpu.sp() % 256) as u8,
-            0x5E => (self.cpu.sp() / 256) as u8,
-            0x5F => self.cpu.sreg(),
+            SPL => (self.cpu.sp() % 256) as u8,
+            SPH => (self.cpu.sp() / 256) as u8,
+            SREG => self.cpu.sreg(),
             _ => self.board.byte(at),
         }
     }

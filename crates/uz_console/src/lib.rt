@@ -9,7 +9,7 @@ mod tests;
 mod turn;
 
 pub use console::Console;
-pub use laws::{run_is_unique, run_keeps_states, turn_is_unique};
+pub use laws::{reset_is_in_range, run_is_unique, run_keeps_states, turn_is_unique};
 pub use running::Progress;
 pub use turn::Turn;
 pub use uz_schedule::Response;

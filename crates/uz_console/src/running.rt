@@ -2,7 +2,7 @@
 
 ghost use Rattle.std.specs.Prelude.{◌≡◌, ◌≤◌, ◌^◌};
 ghost use Rattle.uz_machine.specs.Run.{edges_until};
-ghost use Rattle.uz_console.specs.Runs.{IsProgress, MovesOn};
+ghost use Rattle.uz_console.specs.Runs.{IsProgress, IsNextTurn, MovesOn};
 
 use crate::Console;
 use crate::turn::Made;
@@ -13,7 +13,8 @@ use uz_machine::Edge;
 /// How a run of so many clocks goes on.
 #[derive(Drop)]
 pub enum Progress {
-    /// More turns, each of which began before the limit. These are their edges of clock at most the limit.
+    /// More turns, each of which began before the limit: any number without edges, then one with some. These are its
+    /// edges of clock at most the limit.
     Took { edges: ArrayVec<Edge, 4> },
     /// Every turn that begins before the limit is made.
     Over,
@@ -43,6 +44,7 @@ impl Console {
     pub fn advance(&mut self, limit: u64) -> Progress
         requires { limit ≤ 2 ^ 62 }
         ensures run { IsProgress limit self.old self.new result }
+        ensures next { IsNextTurn limit self.old self.new result }
         ensures time { MovesOn limit self.old self.new result }
     {
         let mut edges = ArrayVec::new();

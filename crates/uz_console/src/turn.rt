@@ -7,7 +7,7 @@ ghost use Rattle.uz_machine.specs.declared.EdgeKind.TheVariants.{Leave};
 ghost use Rattle.uz_pads.specs.Pads.{pads_wiring};
 ghost use Rattle.uz_ports.specs.Boards.{held_of, content_of, space_of, entered_of, entry_edge, clock_of as board_clock};
 ghost use Rattle.uz_console.specs.Consoles.{clock_of, state_of};
-ghost use Rattle.uz_console.specs.Turns.{IsTurn, TurnTakesTime, IsMade, TakesTime, IsBoardStep, IsInstructed};
+ghost use Rattle.uz_console.specs.Turns.{IsTurn, TurnTakesTime, IsMade, HasSome, TakesTime, IsBoardStep, IsInstructed};
 
 use crate::Console;
 use arrayvec::ArrayVec;
@@ -30,7 +30,7 @@ pub enum Turn {
 pub(crate) enum Made {
     /// A turn without edges.
     Quiet,
-    /// A turn whose edges the caller's list now has.
+    /// A turn with edges, which the caller's list now has.
     Edges,
     /// Nothing.
     Stopped(Why),
@@ -80,7 +80,8 @@ impl Console {
 
     fn instruct(&mut self, edges: &mut ArrayVec<Edge, 4>) -> Made
         requires { clock_of self.old < 2 ^ 62 }
-        ensures { IsInstructed (state_of self.old) (state_of self.new) edges.new.items result }
+        ensures instructed { IsInstructed (state_of self.old) (state_of self.new) edges.new.items result }
+        ensures some { HasSome edges.new.items result }
     {
         match step(&mut self.cpu, &self.image, &mut self.board) {
             Step::Took {
@@ -94,7 +95,11 @@ impl Console {
                     Made::Quiet
                 } else {
                     finish(&mut self.board, clocks, returned, edges);
-                    Made::Edges
+                    if edges.is_empty() {
+                        Made::Quiet
+                    } else {
+                        Made::Edges
+                    }
                 }
             }
             Step::Stopped(why) => Made::Stopped(why),
@@ -102,10 +107,11 @@ impl Console {
     }
 
     /// One turn, whose edges the list has afterwards where the answer says so.
-    #[tactic(auto, using(crate::proofs::TurnLemmas::entered_time, crate::proofs::TurnLemmas::instructed, crate::proofs::TurnLemmas::instructed_time))]
+    #[tactic(auto, using(crate::proofs::TurnLemmas::entry_shows, crate::proofs::TurnLemmas::entered_time, crate::proofs::TurnLemmas::instructed, crate::proofs::TurnLemmas::instructed_time))]
     pub(crate) fn make(&mut self, edges: &mut ArrayVec<Edge, 4>) -> Made
         requires { clock_of self.old < 2 ^ 62 }
         ensures turn { IsMade self.old self.new edges.new.items result }
+        ensures some { HasSome edges.new.items result }
         ensures time { TakesTime self.old self.new result }
     {
         if self.enters() {

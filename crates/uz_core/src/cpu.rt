@@ -6,12 +6,8 @@ ghost use Rattle.uz_machine.specs.Arithmetic.{FitsMask, flags_of, merged_sreg};
 ghost use Rattle.uz_machine.specs.OperandRanges.{OperandFits, AddressModeFits};
 
 use std::marker::Model;
+use uz_machine::address::{IO_BASE, RAM_END, SPH, SPL};
 use uz_machine::{AddressMode, Flags, Operand};
-
-/// The data addresses of SPL and SPH; SREG follows.
-const SPL: u16 = 0x5D;
-
-const SPH: u16 = 0x5E;
 
 /// The core's registers: pc (a word address below 32,768), R0 to R31, SREG and SP.
 #[derive(Drop)]
@@ -34,7 +30,7 @@ impl Model for Cpu {
 }
 
 impl Cpu {
-    /// The core after a reset: all 0, but SP is 0x10FF, the last address of the memory.
+    /// The core after a reset: all 0, but SP is 0x10FF, the last address of the RAM.
     pub fn reset() -> Cpu
         ensures { result ≡ reset_core }
     {
@@ -42,7 +38,7 @@ impl Cpu {
             pc: 0,
             registers: [0; 32],
             sreg: 0,
-            sp: 0x10FF,
+            sp: RAM_END,
         }
     }
 
@@ -154,7 +150,7 @@ impl Cpu {
     pub(crate) fn set_core_byte(&mut self, at: u16, value: u8)
         ensures { self.new ≡ with_core_byte at value self.old }
     {
-        if at < 32 {
+        if at < IO_BASE {
             self.set_reg(at as u8, value);
         } else if at == SPL {
             self.sp = self.sp / 256 * 256 + u16::from(value);

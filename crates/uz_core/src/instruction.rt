@@ -11,6 +11,7 @@ use crate::arithmetic::mul16;
 use crate::operation::{I, T, add_to_pair, binary, bit_is_set, unary, with_bit};
 use crate::{Cpu, Data};
 use uz_hex::Image;
+use uz_machine::address::is_core_address;
 use uz_machine::{AddressMode, BinaryOp, JumpTarget, Operand, SkipTest, UnaryOp};
 
 /// What LPM reads where the flash holds no byte.
@@ -23,7 +24,7 @@ impl Cpu {
         ensures after { D.content space.new ≡ content_after_loads D.model late (D.content space.old) (at ∷ []) }
         ensures held { D.held space.new ≡ D.held space.old }
     {
-        if at < 0x20 || 0x5D <= at && at <= 0x5F {
+        if is_core_address(at) {
             self.core_byte(at)
         } else {
             space.load(at, late)
@@ -37,7 +38,7 @@ impl Cpu {
         ensures held { D.held space.new ≡ D.held space.old ++ filter leaves_core (Byte at value ∷ []) }
         ensures content { D.content space.new ≡ D.content space.old }
     {
-        if at < 0x20 || 0x5D <= at && at <= 0x5F {
+        if is_core_address(at) {
             self.set_core_byte(at, value);
         } else {
             space.store(at, value);

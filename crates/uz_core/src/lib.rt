@@ -6,7 +6,7 @@
 mod arithmetic;
 mod cpu;
 mod data;
-mod effect;
+mod effects;
 mod instruction;
 mod operation;
 mod step;
@@ -16,6 +16,6 @@ pub use arithmetic::{
 };
 pub use cpu::Cpu;
 pub use data::Data;
-pub use effect::instruction_effect;
+pub use effects::effect;
 pub use step::{Step, Why};
 pub use uz_machine::Flags;

@@ -9,7 +9,7 @@ ghost use Rattle.uz_machine.specs.OperandRanges.{EffectFits};
 ghost use Rattle.uz_core.specs.Steps.{IsStep};
 ghost use Rattle.uz_core.specs.declared.step.Step.TheVariants.{Took};
 
-use crate::effect::effect;
+use crate::effects::effect;
 use crate::instruction::bit_equals;
 use crate::operation::{I, with_bit};
 use crate::{Cpu, Data};
@@ -17,6 +17,7 @@ use avr_decode::{decode, length};
 use avr_table::{Instr, Outcome, clocks, words};
 use uz_hex::Image;
 use uz_machine::Effect;
+use uz_machine::address::TIMER1_COMPA;
 
 /// Why a step stopped.
 #[derive(Clone, Copy, Debug, PartialEq, Eq)]
@@ -40,9 +41,6 @@ pub enum Step {
     /// Nothing: core and data space are unchanged.
     Stopped(Why),
 }
-
-/// The first address of an interrupt's service: the vector of TIMER1_COMPA (ATmega644 data sheet).
-const VECTOR: u16 = 0x001A;
 
 impl Cpu {
     /// Makes an effect of a row with these words, its loads sampled at this clock. Answers the outcome.
@@ -189,7 +187,7 @@ impl Cpu {
         self.push_pc(space, pc);
         let sreg = with_bit(I, false, self.sreg());
         self.set_sreg(sreg);
-        self.set_pc(VECTOR);
+        self.set_pc(TIMER1_COMPA);
     }
 }
 

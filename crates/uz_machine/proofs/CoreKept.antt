@@ -186,7 +186,7 @@ pc_stores_fit pc s b h = ((h.sp, omega arith), ((omega arith, omega arith), tt))
 stores_fit : (e : Effect) (words : ℕ) (s : Core) → EffectFits e → IsCore s → AllByRecursion IsHeldStore (stores_of e words s)
 stores_fit (Store to r) words s fits h = ((address_below to s fits.0 h, register_byte s r h), tt)
 stores_fit (PushByte r) words s fits h = ((h.sp, register_byte s r h), tt)
-stores_fit (WriteIoBit at b set) words s fits h = ((omega (arith, fits.0), fits.1), tt)
+stores_fit (WriteIoBit at b set) words s fits h = ((omega (arith, fits.0.1), fits.1), tt)
 stores_fit (Jump target true) words s fits h = pc_stores_fit (following_pc words s) s (omega arith) h
 stores_fit e words s fits h = tt
 

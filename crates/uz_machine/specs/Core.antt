@@ -25,6 +25,7 @@ use Rattle.uz_machine.specs.declared.Effect.{Effect}
 use Rattle.uz_machine.specs.declared.Effect.TheVariants.{CopyByte, CopyPair, Binary, Unary, AddToPair, Multiply, Load, Store, PushByte, PopByte, LoadProgram, WriteIoBit, WriteFlag, LoadBit, StoreBit, Branch, SkipIf, Jump, Return}
 use Rattle.uz_machine.specs.declared.HeldStore.{HeldStore}
 use Rattle.uz_machine.specs.declared.HeldStore.TheVariants.{Byte, Bit}
+use Rattle.uz_machine.specs.Addresses.{IO_BASE, SPL, SPH, SREG, RAM_END, TIMER1_COMPA}
 use Rattle.uz_machine.specs.Arithmetic.{AluResult, bit_is_set, with_bit, sum_of, difference_of, chained_result, and_of, or_of, xor_of, complement_of, negation_of, swap_of, increment_of, decrement_of, arithmetic_shift_of, logical_shift_of, rotation_of, pair_sum_of, pair_difference_of, product_of, merged_sreg}
 use Rattle.uz_machine.specs.Effects.{effect_of}
 
@@ -34,9 +35,9 @@ pub record Core : Type 0 where
   pub sreg : ℕ  -- bits C Z N V S H T I
   pub sp : ℕ
 
--- all 0, but SP at the end of the memory
+-- all 0, but SP at the end of the RAM
 abbrev pub reset_core : Core
-reset_core = record { pc = 0; registers = replicate 32 0; sreg = 0; sp = 0x10FF }
+reset_core = record { pc = 0; registers = replicate 32 0; sreg = 0; sp = RAM_END }
 
 -- Registers and pairs; a pair is named by its low register
 
@@ -94,19 +95,19 @@ add_to_pair_result true p k = pair_difference_of p k
 -- The core's own data addresses: registers, SPL, SPH, SREG
 
 abbrev pub is_core_address : ℕ → Bool
-is_core_address at = nat_lt at 0x20 || (nat_le 0x5D at && nat_le at 0x5F)
+is_core_address at = nat_lt at IO_BASE || (nat_le SPL at && nat_le at SREG)
 
 abbrev pub core_byte : Core → ℕ → ℕ
 core_byte s at =
-    if nat_lt at 0x20 then register s at else
-    if nat_eq at 0x5D then s.sp % 256 else
-    if nat_eq at 0x5E then s.sp / 256 else s.sreg
+    if nat_lt at IO_BASE then register s at else
+    if nat_eq at SPL then s.sp % 256 else
+    if nat_eq at SPH then s.sp / 256 else s.sreg
 
 abbrev pub with_core_byte : ℕ → ℕ → Core → Core
 with_core_byte at v s =
-    if nat_lt at 0x20 then with_register at v s else
-    if nat_eq at 0x5D then with_sp (s.sp / 256 * 256 + v) s else
-    if nat_eq at 0x5E then with_sp (v * 256 + s.sp % 256) s else with_sreg v s
+    if nat_lt at IO_BASE then with_register at v s else
+    if nat_eq at SPL then with_sp (s.sp / 256 * 256 + v) s else
+    if nat_eq at SPH then with_sp (v * 256 + s.sp % 256) s else with_sreg v s
 
 -- Addresses, and the pointer after one was used; pointers go round at 65,536
 
@@ -293,4 +294,4 @@ step_result model image i s c = effect_result model image (effect_of i) (words_o
 abbrev pub interrupted_core : Core → Core
 interrupted_core s =
     let t = with_sp ((s.sp + 65534) % 65536) (fold with_store s (pc_stores s.pc s)) in
-    record t { sreg = with_bit 7 false t.sreg; pc = 0x001A }
+    record t { sreg = with_bit 7 false t.sreg; pc = TIMER1_COMPA }

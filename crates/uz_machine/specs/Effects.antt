@@ -3,6 +3,7 @@
 use Rattle.std.specs.Prelude.{ℕ, ◌+◌, ◌-◌, ◌*◌, true, false, if◌then◌else◌, nat_eq, nat_lt}
 use Rattle.avr_table.specs.declared.Instr.{Instr}
 use Rattle.avr_table.specs.declared.Instr.TheVariants.{Add, Adc, Adiw, Sub, Subi, Sbc, Sbci, Sbiw, And, Andi, Or, Ori, Eor, Com, Neg, Inc, Dec, Mul, Muls, Mulsu, Fmul, Fmuls, Fmulsu, Rjmp, Ijmp, Jmp, Rcall, Icall, Call, Ret, Reti, Cpse, Cp, Cpc, Cpi, Sbrc, Sbrs, Sbic, Sbis, Brbs, Brbc, Mov, Movw, Ldi, LdX, LdXInc, LdXDec, LdYInc, LdYDec, LdZInc, LdZDec, Ldd, Lds, StX, StXInc, StXDec, StYInc, StYDec, StZInc, StZDec, Std, Sts, Lpm, LpmZ, LpmZInc, Spm, In, Out, Push, Pop, Lsr, Ror, Asr, Swap, Bset, Bclr, Sbi, Cbi, Bst, Bld, Break, Nop, Sleep, Wdr}
+use Rattle.uz_machine.specs.Addresses.{IO_BASE}
 use Rattle.uz_machine.specs.declared.Operand.TheVariants.{Register, Constant}
 use Rattle.uz_machine.specs.declared.BinaryOp.TheVariants as binary
 use Rattle.uz_machine.specs.declared.UnaryOp.TheVariants as unary
@@ -56,8 +57,8 @@ effect_of (Cpc d r) = Binary (binary.Subtract true) d.value (Register r.value) t
 effect_of (Cpi d k) = Binary (binary.Subtract false) (16 + d.value) (Constant k.value) true
 effect_of (Sbrc r b) = SkipIf (RegisterBit r.value b.value false)
 effect_of (Sbrs r b) = SkipIf (RegisterBit r.value b.value true)
-effect_of (Sbic a b) = SkipIf (IoBit (32 + a.value) b.value false)
-effect_of (Sbis a b) = SkipIf (IoBit (32 + a.value) b.value true)
+effect_of (Sbic a b) = SkipIf (IoBit (IO_BASE + a.value) b.value false)
+effect_of (Sbis a b) = SkipIf (IoBit (IO_BASE + a.value) b.value true)
 effect_of (Brbs s k) = Branch s.value true (signed_offset 64 k.value)
 effect_of (Brbc s k) = Branch s.value false (signed_offset 64 k.value)
 -- Data transfer
@@ -86,8 +87,8 @@ effect_of Lpm = LoadProgram 0 false
 effect_of (LpmZ d) = LoadProgram d.value false
 effect_of (LpmZInc d) = LoadProgram d.value true
 effect_of Spm = Stop
-effect_of (In d a) = Load d.value (Direct (32 + a.value))
-effect_of (Out a r) = Store (Direct (32 + a.value)) r.value
+effect_of (In d a) = Load d.value (Direct (IO_BASE + a.value))
+effect_of (Out a r) = Store (Direct (IO_BASE + a.value)) r.value
 effect_of (Push r) = PushByte r.value
 effect_of (Pop d) = PopByte d.value
 -- Bits and bit tests
@@ -97,8 +98,8 @@ effect_of (Asr d) = Unary unary.ArithmeticShiftRight d.value
 effect_of (Swap d) = Unary unary.Swap d.value
 effect_of (Bset s) = WriteFlag s.value true
 effect_of (Bclr s) = WriteFlag s.value false
-effect_of (Sbi a b) = WriteIoBit (32 + a.value) b.value true
-effect_of (Cbi a b) = WriteIoBit (32 + a.value) b.value false
+effect_of (Sbi a b) = WriteIoBit (IO_BASE + a.value) b.value true
+effect_of (Cbi a b) = WriteIoBit (IO_BASE + a.value) b.value false
 effect_of (Bst d b) = StoreBit d.value b.value
 effect_of (Bld d b) = LoadBit d.value b.value
 -- Control

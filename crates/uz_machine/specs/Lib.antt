@@ -1,3 +1,4 @@
+pub mod Addresses
 pub mod Arithmetic
 pub mod Effects
 pub mod Core

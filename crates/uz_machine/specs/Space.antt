@@ -2,11 +2,12 @@
 -- addresses, and the pads that hang on PORTA.
 --
 -- This project's profile: PINB, PINC and PIND read the port whatever its direction is, TIFR1 has bit 1 alone,
--- other devices keep what was written, and above 0x10FF there is nothing.
+-- other devices keep what was written, and above the RAM there is nothing.
 use Rattle.std.specs.Prelude.{◌≡◌, ℕ, ◌+◌, ◌*◌, ◌/◌, ◌^◌, Bool, true, not, ◌||◌, ◌==◌, if◌then◌else◌, nat_eq, nat_lt, List, length, slice_index, slice_set, replicate, bit_xor}
 use Rattle.std.specs.List.{AllByRecursion}
 use Rattle.uz_machine.specs.declared.HeldStore.{HeldStore}
 use Rattle.uz_machine.specs.declared.HeldStore.TheVariants.{Byte, Bit}
+use Rattle.uz_machine.specs.Addresses.{PINA, PORTA, PINB, PINC, PIND, TIFR1, RAM_END}
 use Rattle.uz_machine.specs.Arithmetic.{with_bit}
 use Rattle.uz_machine.specs.Core.{LoadModel}
 use Rattle.uz_machine.specs.CoreRange.{IsByte}
@@ -23,7 +24,7 @@ pub record PadWiring (P : Type 0) : Type 0 where
 abbrev pub history_wiring : PadWiring PadHistory
 history_wiring = record { lines = pad_lines; with_level = with_level }
 
--- The data space: a byte for each address from 0 to 0x10FF, the timer, and the pads. The bytes at the core's own
+-- The data space: a byte for each address up to the end of the RAM, the timer, and the pads. The bytes at the core's own
 -- addresses and at the timer's aren't used
 pub record Space (P : Type 0) : Type 0 where
   pub bytes : List ℕ
@@ -38,7 +39,7 @@ with_plain_byte at value space = record space { bytes = slice_set space.bytes at
 
 -- 4,352 bytes, and registers in their widths
 pub record IsSpace {P : Type 0} (space : Space P) : Type 0 where
-  pub size : length space.bytes ≡ 4352
+  pub size : length space.bytes ≡ RAM_END + 1
   pub bytes : AllByRecursion IsByte space.bytes
   pub timer : IsTimer space.timer
 
@@ -46,15 +47,15 @@ pub record IsSpace {P : Type 0} (space : Space P) : Type 0 where
 
 -- PINB, PINC and PIND, each two addresses below its port
 abbrev pub is_pin : ℕ → Bool
-is_pin at = at == 0x23 || at == 0x26 || at == 0x29
+is_pin at = at == PINB || at == PINC || at == PIND
 
 -- The byte that a read gives. PINA has the pad lines in bits 0 and 1 and PORTA's bits in the others
 abbrev pub byte_at : {P : Type 0} → PadWiring P → Space P → ℕ → ℕ
 byte_at wiring space at =
-    if nat_eq at 0x20 then plain_byte space 0x22 / 4 * 4 + wiring.lines space.pads else
+    if nat_eq at PINA then plain_byte space PORTA / 4 * 4 + wiring.lines space.pads else
     if is_pin at then plain_byte space (at + 2) else
     if is_timer_address at then timer_byte space.timer at else
-    if nat_lt 0x10FF at then 0 else plain_byte space at
+    if nat_lt RAM_END at then 0 else plain_byte space at
 
 -- of a data space the clock moves the timer alone
 abbrev pub space_after : {P : Type 0} → ℕ → Space P → Space P
@@ -71,20 +72,20 @@ space_loads wiring = record {
 
 -- PORTA takes a value, and the pads see it
 abbrev pub with_port_a : {P : Type 0} → PadWiring P → ℕ → Space P → Space P
-with_port_a wiring value space = record space { bytes = slice_set space.bytes 0x22 value; pads = wiring.with_level value space.pads }
+with_port_a wiring value space = record space { bytes = slice_set space.bytes PORTA value; pads = wiring.with_level value space.pads }
 
 -- A store of a byte. A 1 written to PINx toggles the port's bit
 abbrev pub after_byte : {P : Type 0} → PadWiring P → ℕ → ℕ → Space P → Space P
 after_byte wiring at value space =
-    if nat_eq at 0x20 then with_port_a wiring (bit_xor (plain_byte space 0x22) value) space else
-    if nat_eq at 0x22 then with_port_a wiring value space else
+    if nat_eq at PINA then with_port_a wiring (bit_xor (plain_byte space PORTA) value) space else
+    if nat_eq at PORTA then with_port_a wiring value space else
     if is_pin at then with_plain_byte (at + 2) (bit_xor (plain_byte space (at + 2)) value) space else
     if is_timer_address at then record space { timer = timer_after_write at value space.timer } else
-    if nat_lt 0x10FF at then space else with_plain_byte at value space
+    if nat_lt RAM_END at then space else with_plain_byte at value space
 
 -- PINA to PIND and TIFR1, where SBI writes the one bit alone, and CBI is no store
 abbrev pub takes_one_bit : ℕ → Bool
-takes_one_bit at = at == 0x20 || is_pin at || at == 0x36
+takes_one_bit at = at == PINA || is_pin at || at == TIFR1
 
 abbrev pub is_store : HeldStore → Bool
 is_store (Byte at value) = true
@@ -104,4 +105,4 @@ space_taken space = record space { timer = timer_taken space.timer }
 
 -- at reset all bytes are 0
 abbrev pub space_at_reset : {P : Type 0} → P → Space P
-space_at_reset pads = record { bytes = replicate 0x1100 0; timer = timer_at_reset; pads = pads }
+space_at_reset pads = record { bytes = replicate (RAM_END + 1) 0; timer = timer_at_reset; pads = pads }

@@ -3,6 +3,7 @@
 --
 -- This project's profile: a write to TCNT1 blocks no compare match, and TIFR1 reads bit 1 alone.
 use Rattle.std.specs.Prelude.{ℕ, ◌+◌, ◌-◌, ◌*◌, ◌/◌, ◌%◌, ◌<◌, Bool, false, ◌&&◌, ◌||◌, ◌==◌, if◌then◌else◌, nat_eq, nat_lt, nat_le}
+use Rattle.uz_machine.specs.Addresses.{TIFR1, TIMSK1, TCCR1A, TCCR1B, TCNT1L, TCNT1H, OCR1AL, OCR1AH}
 use Rattle.uz_machine.specs.Arithmetic.{bit_value, bit_is_set}
 
 pub record Timer : Type 0 where
@@ -51,34 +52,33 @@ timer_taken t = record t { matched = false }
 
 -- Registers
 
--- TIFR1 0x36, TIMSK1 0x6F, TCCR1A 0x80, TCCR1B 0x81, TCNT1L 0x84, TCNT1H 0x85, OCR1AL 0x88, OCR1AH 0x89
 abbrev pub is_timer_address : ℕ → Bool
-is_timer_address at = at == 0x36 || at == 0x6F || at == 0x80 || at == 0x81 || at == 0x84 || at == 0x85 || at == 0x88 || at == 0x89
+is_timer_address at = at == TIFR1 || at == TIMSK1 || at == TCCR1A || at == TCCR1B || at == TCNT1L || at == TCNT1H || at == OCR1AL || at == OCR1AH
 
 -- what reading a register of the timer gives. The high byte of TCNT1 is read from TEMP, that of OCR1A directly
 abbrev pub timer_byte : Timer → ℕ → ℕ
 timer_byte t at =
-    if nat_eq at 0x36 then bit_value t.matched * 2 else
-    if nat_eq at 0x6F then t.interrupt_mask else
-    if nat_eq at 0x80 then t.control_a else
-    if nat_eq at 0x81 then t.control_b else
-    if nat_eq at 0x84 then t.count % 256 else
-    if nat_eq at 0x85 then t.temp else
-    if nat_eq at 0x88 then t.top % 256 else t.top / 256
+    if nat_eq at TIFR1 then bit_value t.matched * 2 else
+    if nat_eq at TIMSK1 then t.interrupt_mask else
+    if nat_eq at TCCR1A then t.control_a else
+    if nat_eq at TCCR1B then t.control_b else
+    if nat_eq at TCNT1L then t.count % 256 else
+    if nat_eq at TCNT1H then t.temp else
+    if nat_eq at OCR1AL then t.top % 256 else t.top / 256
 
 -- The timer after a read that samples some clocks on: reading TCNT1L keeps in TEMP the high byte of the count as it then is
 abbrev pub timer_after_read : ℕ → ℕ → Timer → Timer
-timer_after_read at late t = if nat_eq at 0x84 then record t { temp = (timer_after late t).count / 256 } else t
+timer_after_read at late t = if nat_eq at TCNT1L then record t { temp = (timer_after late t).count / 256 } else t
 
 -- The timer after a write. A 1 in bit 1 of TIFR1 clears OCF1A. Writing a low byte writes the whole word, with its high byte from TEMP
 abbrev pub timer_after_write : ℕ → ℕ → Timer → Timer
 timer_after_write at value t =
-    if nat_eq at 0x36 then (if bit_is_set value 1 then record t { matched = false } else t) else
-    if nat_eq at 0x6F then record t { interrupt_mask = value } else
-    if nat_eq at 0x80 then record t { control_a = value } else
-    if nat_eq at 0x81 then record t { control_b = value } else
-    if nat_eq at 0x84 then record t { count = t.temp * 256 + value } else
-    if nat_eq at 0x88 then record t { top = t.temp * 256 + value } else record t { temp = value }
+    if nat_eq at TIFR1 then (if bit_is_set value 1 then record t { matched = false } else t) else
+    if nat_eq at TIMSK1 then record t { interrupt_mask = value } else
+    if nat_eq at TCCR1A then record t { control_a = value } else
+    if nat_eq at TCCR1B then record t { control_b = value } else
+    if nat_eq at TCNT1L then record t { count = t.temp * 256 + value } else
+    if nat_eq at OCR1AL then record t { top = t.temp * 256 + value } else record t { temp = value }
 
 -- the widths of the registers
 pub record IsTimer (t : Timer) : Type 0 where

@@ -14,6 +14,7 @@ use Rattle.uz_machine.specs.declared.Edge.{Edge}
 use Rattle.uz_machine.specs.declared.EdgeKind.{EdgeKind}
 use Rattle.uz_machine.specs.declared.EdgeKind.TheVariants.{Sync, Pixel, Sound, Enter, Leave}
 use Rattle.uz_machine.specs.declared.Effect.TheVariants.{Stop}
+use Rattle.uz_machine.specs.Addresses.{PORTB, PINC, PORTC, OCR2A}
 use Rattle.uz_machine.specs.Arithmetic.{bit_is_set}
 use Rattle.uz_machine.specs.Effects.{effect_of}
 use Rattle.uz_machine.specs.Core.{Core, reset_core, is_core_address, core_byte, StepResult, step_result, interrupted_core, pc_stores, leaves_core}
@@ -51,15 +52,15 @@ address_of (Bit at bit set) = at
 
 -- the sync level is PORTB bit 0
 abbrev pub sync_level : {P : Type 0} → Space P → ℕ
-sync_level space = plain_byte space 0x25 % 2
+sync_level space = plain_byte space PORTB % 2
 
 -- The edges of one store, from one data space to the next: a sync edge is a change of the sync level, a pixel each
 -- store to PORTC or PINC, with PORTC's value after it, and a sound each store to OCR2A
 abbrev pub edge_kinds : {P : Type 0} → HeldStore → Space P → Space P → List EdgeKind
 edge_kinds store old new =
     (if sync_level old == sync_level new then [] else Sync (sync_level new) ∷ []) ++
-    (if is_store store && (address_of store == 0x28 || address_of store == 0x26) then Pixel (plain_byte new 0x28) ∷ [] else []) ++
-    (if is_store store && address_of store == 0xB3 then Sound (plain_byte new 0xB3) ∷ [] else [])
+    (if is_store store && (address_of store == PORTC || address_of store == PINC) then Pixel (plain_byte new PORTC) ∷ [] else []) ++
+    (if is_store store && address_of store == OCR2A then Sound (plain_byte new OCR2A) ∷ [] else [])
 
 -- Stores in order, and their edges
 

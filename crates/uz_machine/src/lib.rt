@@ -5,6 +5,8 @@
 //! Uzebox kernel wiring (which stores are seen outside).
 #![tactic(auto)]
 
+pub mod address;
+
 /// The second operand of an instruction with two: a register's number, or a constant byte.
 #[derive(Clone, Copy)]
 pub enum Operand {

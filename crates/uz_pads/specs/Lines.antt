@@ -1,5 +1,6 @@
 -- The text of a pad file: lines that end in LF or CRLF, each blank or a pair of words.
 use Rattle.std.specs.Prelude.{◌≡◌, ℕ, ◌+◌, ◌-◌, ◌*◌, ◌≤◌, Bool, true, false, ◌&&◌, ◌||◌, ◌==◌, if◌then◌else◌, nat_le, nat_lt, List, [], ◌∷◌, ◌++◌, length, slice_index, take, Option, Some, None}
+use Prim.Native.Char.{code}
 use Rattle.std.specs.List.{slice_split, All}
 use Rattle.std.specs.Prelude.{slice_index_or}
 use Rattle.uz_pads.specs.declared.pads.Pad.{Pad}
@@ -10,12 +11,12 @@ use Rattle.uz_pads.specs.declared.errors.PadWhy.TheVariants.{Digits, Count}
 
 -- One line
 
--- what a hexadecimal digit of either case stands for: 0 to 9 are the bytes 48 to 57, A to F 65 to 70, a to f 97 to 102
+-- what a hexadecimal digit of either case stands for: 0 to 9, A to F and a to f (ASCII)
 abbrev pub digit_of : ℕ → Option ℕ
 digit_of byte =
-    if nat_le 48 byte && nat_le byte 57 then Some (byte - 48) else
-    if nat_le 65 byte && nat_le byte 70 then Some (byte - 65 + 10) else
-    if nat_le 97 byte && nat_le byte 102 then Some (byte - 97 + 10) else None
+    if nat_le (code "0") byte && nat_le byte (code "9") then Some (byte - code "0") else
+    if nat_le (code "A") byte && nat_le byte (code "F") then Some (byte - code "A" + 10) else
+    if nat_le (code "a") byte && nat_le byte (code "f") then Some (byte - code "a" + 10) else None
 
 abbrev pub of_digits : Option ℕ → Option ℕ → Option ℕ → Option ℕ → Option ℕ
 of_digits (Some a) (Some b) (Some c) (Some d) = Some ((a * 16 + b) * 256 + (c * 16 + d))
@@ -30,13 +31,13 @@ pad_of one two = None
 
 -- four hexadecimal digits, one space, four hexadecimal digits
 abbrev pub pair_in : List ℕ → Option Pad
-pair_in (a ∷ b ∷ c ∷ d ∷ space ∷ e ∷ f ∷ g ∷ h ∷ []) = if space == 32 then pad_of (word_of a b c d) (word_of e f g h) else None
+pair_in (a ∷ b ∷ c ∷ d ∷ space ∷ e ∷ f ∷ g ∷ h ∷ []) = if space == code " " then pad_of (word_of a b c d) (word_of e f g h) else None
 pair_in line = None
 
 -- nothing but spaces and tabs
 abbrev pub is_blank : List ℕ → Bool
 is_blank [] = true
-is_blank (byte ∷ bytes) = (byte == 32 || byte == 9) && is_blank bytes
+is_blank (byte ∷ bytes) = (byte == code " " || byte == code "\t") && is_blank bytes
 
 abbrev pub line_of_pair : Option Pad → Line
 line_of_pair (Some pad) = Pair pad
@@ -49,7 +50,7 @@ kind_of line = if is_blank line then Blank else line_of_pair (pair_in line)
 
 -- a line that LF ends, without its CR
 abbrev pub without_cr : List ℕ → List ℕ
-without_cr line = if nat_lt 0 (length line) && slice_index line (length line - 1) == 13 then take (length line - 1) line else line
+without_cr line = if nat_lt 0 (length line) && slice_index line (length line - 1) == code "\r" then take (length line - 1) line else line
 
 -- a CR belongs to a line's end only where LF follows; the last line has no LF
 abbrev pub lines_of_pieces : List (List ℕ) → List (List ℕ)
@@ -58,7 +59,7 @@ lines_of_pieces (last ∷ []) = last ∷ []
 lines_of_pieces (piece ∷ next ∷ more) = without_cr piece ∷ lines_of_pieces (next ∷ more)
 
 abbrev pub lines_of : List ℕ → List (List ℕ)
-lines_of text = lines_of_pieces (slice_split (λ byte. byte == 10) text)
+lines_of text = lines_of_pieces (slice_split (λ byte. byte == code "\n") text)
 
 -- Many lines
 

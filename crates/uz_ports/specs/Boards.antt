@@ -26,6 +26,10 @@ content_of board = record {
 abbrev pub space_of : Board → Space Pads
 space_of board = (content_of board).space
 
+-- the same data space over other pads
+abbrev pub with_pads : {P Q : Type 0} → Q → Space P → Space Q
+with_pads pads space = record { bytes = space.bytes; timer = space.timer; pads = pads }
+
 abbrev pub entered_of : Board → Option ℕ
 entered_of board = (content_of board).entered
 

@@ -2,15 +2,16 @@
 
 ghost use Rattle.std.specs.Prelude.{◌≡◌, ◌<◌, ◌+◌, ◌^◌, [], length, All, IfOk, if◌then◌else◌, None, Some};
 ghost use Rattle.uz_machine.specs.Core.{is_core_address};
-ghost use Rattle.uz_machine.specs.Space.{space_at_reset, byte_at};
-ghost use Rattle.uz_pads.specs.Pads.{pads_wiring};
+ghost use Rattle.uz_machine.specs.Space.{space_at_reset, byte_at, history_wiring};
+ghost use Rattle.uz_machine.specs.PadLine.{PadHistory};
+ghost use Rattle.uz_pads.specs.Pads.{pads_wiring, StandsFor};
 ghost use Rattle.uz_ports.specs.HeldStoreFits.{HeldStoreFits};
 
-use crate::address::{LAST, PINA, PINB, PINC, PIND, PORTA};
 use arrayvec::ArrayVec;
 use std::alloc::{AllocError, Global};
 use uz_core::Data;
 use uz_machine::HeldStore;
+use uz_machine::address::{PINA, PINB, PINC, PIND, PORTA, RAM_END, is_core_address};
 use uz_pads::Pads;
 use uz_timer::Timer1;
 
@@ -30,7 +31,7 @@ pub struct Board {
 }
 
 impl Board {
-    ghost use Rattle.uz_ports.specs.Boards.{space_of, held_of, entered_of, clock_of};
+    ghost use Rattle.uz_ports.specs.Boards.{space_of, held_of, entered_of, clock_of, with_pads};
 
     /// The board at reset: RAM, ports and timer are 0, with nothing held or noted, at clock 0.
     pub fn reset(alloc: Global, pads: Pads) -> Result<Board, AllocError>
@@ -39,7 +40,7 @@ impl Board {
         ensures clock { IfOk result (λ board. clock_of board ≡ 0) }
     {
         Ok(Board {
-            bytes: vec![in alloc; 0; LAST as usize + 1]?,
+            bytes: vec![in alloc; 0; RAM_END as usize + 1]?,
             timer: Timer1::reset(),
             pads,
             held: ArrayVec::new(),
@@ -64,9 +65,16 @@ impl Board {
 
     /// The byte that a read of a data address would give, without its effect. The core's own addresses answer 0.
     pub fn byte(&self, at: u16) -> u8
+        ensures own { result ≡ (if is_core_address at then 0 else byte_at pads_wiring (space_of self.now) at) }
+        ensures stands { (history : PadHistory) → StandsFor (space_of self.now).pads history → result ≡ (if is_core_address at then 0 else byte_at history_wiring (with_pads history (space_of self.now)) at) }
+    {
+        self.own_byte(at)
+    }
+
+    fn own_byte(&self, at: u16) -> u8
         ensures { result ≡ (if is_core_address at then 0 else byte_at pads_wiring (space_of self.now) at) }
     {
-        if at < 0x20 || (at >= 0x5D && at <= 0x5F) {
+        if is_core_address(at) {
             0
         } else {
             self.peek(at)
@@ -84,7 +92,7 @@ impl Board {
             _ => {
                 if Timer1::owns(at) {
                     self.timer.peek(at)
-                } else if at > LAST {
+                } else if at > RAM_END {
                     0
                 } else {
                     bytes[at as usize]
@@ -113,7 +121,7 @@ impl Data for Board {
             _ => {
                 if Timer1::owns(at) {
                     self.timer.read(at, late)
-                } else if at > LAST {
+                } else if at > RAM_END {
                     0
                 } else {
                     bytes[at as usize]

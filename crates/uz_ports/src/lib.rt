@@ -1,7 +1,6 @@
 //! The board: the data space behind the core, with timer 1 and the pads, and the edges that are seen outside.
 #![tactic(auto)]
 
-mod address;
 mod board;
 mod stores;
 

@@ -1,6 +1,6 @@
 //! A turn's end: time moves on, the held stores act, and their edges are noted.
 
-ghost use Rattle.std.specs.Prelude.{◌≡◌, ◌<◌, ◌+◌, ◌^◌, length, slice_index, option_to_list, ◌++◌, ◌∷◌, [], IfSome, IsTrue, None, Some, false, if◌then◌else◌};
+ghost use Rattle.std.specs.Prelude.{◌≡◌, ◌↔◌, ◌<◌, ◌+◌, ◌^◌, length, slice_index, option_to_list, ◌++◌, ◌∷◌, [], IfSome, IsTrue, None, Some, false, if◌then◌else◌};
 ghost use Rattle.uz_machine.specs.declared.HeldStore.TheVariants.{Bit};
 ghost use Rattle.uz_machine.specs.declared.EdgeKind.TheVariants.{Leave};
 ghost use Rattle.uz_machine.specs.Space.{with_plain_byte, with_port_a, plain_byte, space_after, after_store, after_byte, is_store, is_pin, takes_one_bit, space_taken};
@@ -10,8 +10,8 @@ ghost use Rattle.uz_ports.specs.Boards.{space_of, held_of, entered_of, clock_of,
 ghost use Rattle.uz_ports.specs.HeldStoreFits.{HeldStoreFits};
 
 use crate::Board;
-use crate::address::{LAST, OCR2A, PINA, PINB, PINC, PIND, PORTA, PORTB, PORTC, TIFR1};
 use arrayvec::ArrayVec;
+use uz_machine::address::{OCR2A, PINA, PINB, PINC, PIND, PORTA, PORTB, PORTC, RAM_END, TIFR1};
 use uz_machine::{Edge, EdgeKind, HeldStore};
 use uz_timer::Timer1;
 
@@ -60,7 +60,7 @@ impl Board {
             self.set_plain_byte(at + 2, new);
         } else if Timer1::owns(at) {
             self.timer.write(at, value);
-        } else if at <= LAST {
+        } else if at <= RAM_END {
             self.set_plain_byte(at, value);
         }
     }
@@ -153,9 +153,10 @@ impl Board {
         }
     }
 
-    /// Moves the timer and the clock on: the end of a turn that has neither stores nor edges.
+    /// Moves the timer and the clock on: the end of a turn that has neither stores nor edges. Nothing may be held or noted.
     pub fn pass(&mut self, clocks: u8)
-        requires { clock_of self.old < 2 ^ 62 }
+        requires idle { (held_of self.old ≡ []) × (entered_of self.old ≡ None) }
+        requires clock { clock_of self.old < 2 ^ 62 }
         ensures held { held_of self.new ≡ held_of self.old }
         ensures entered { entered_of self.new ≡ entered_of self.old }
         ensures clock { clock_of self.new ≡ clock_of self.old + clocks }
@@ -179,7 +180,7 @@ impl Board {
 
     /// Whether a turn that ends now has neither stores nor edges: nothing is held or noted, and it is no RETI.
     pub fn is_quiet(&self, returned: bool) -> bool
-        ensures { IsTrue result → (held_of self.now ≡ []) × (entered_of self.now ≡ None) × (returned ≡ false) }
+        ensures { IsTrue result ↔ (held_of self.now ≡ []) × (entered_of self.now ≡ None) × (returned ≡ false) }
     {
         self.held.is_empty() && self.entered.is_none() && !returned
     }

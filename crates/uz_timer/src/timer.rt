@@ -4,6 +4,7 @@ ghost use Rattle.std.specs.Prelude.{◌≡◌, ◌<◌, ◌↔◌, IsTrue};
 ghost use Rattle.uz_machine.specs.Timer.{timer_at_reset, is_counting, count_after, matches_within, timer_after, timer_taken, is_due, is_timer_address, timer_byte, timer_after_read, timer_after_write};
 
 use std::marker::Model;
+use uz_machine::address::{OCR1AH, OCR1AL, TCCR1A, TCCR1B, TCNT1H, TCNT1L, TIFR1, TIMSK1};
 
 /// Timer 1 of the ATmega644 with TEMP: the count, one compare register and one flag. Contracts see the registers.
 #[derive(Drop)]
@@ -62,12 +63,15 @@ impl Timer1 {
         }
     }
 
-    /// Whether a data address is one of the timer's registers: TIFR1 0x36, TIMSK1 0x6F, TCCR1A 0x80, TCCR1B 0x81,
-    /// TCNT1L 0x84, TCNT1H 0x85, OCR1AL 0x88, OCR1AH 0x89.
+    /// Whether a data address is one of the timer's registers: TIFR1, TIMSK1, TCCR1A, TCCR1B, TCNT1L, TCNT1H,
+    /// OCR1AL, OCR1AH.
     pub fn owns(at: u16) -> bool
         ensures { result ≡ is_timer_address at }
     {
-        matches!(at, 0x36 | 0x6F | 0x80 | 0x81 | 0x84 | 0x85 | 0x88 | 0x89)
+        matches!(
+            at,
+            TIFR1 | TIMSK1 | TCCR1A | TCCR1B | TCNT1L | TCNT1H | OCR1AL | OCR1AH
+        )
     }
 
     /// Whether the timer counts: CTC mode at the processor's clock, that is TCCR1B bits 0 to 4 are 01001 and TCCR1A
@@ -138,16 +142,16 @@ impl Timer1 {
     {
         let (count, matched) = self.sampled(late);
         match at {
-            0x36 => if matched { 2 } else { 0 },
-            0x6F => self.interrupt_mask,
-            0x80 => self.control_a,
-            0x81 => self.control_b,
-            0x84 => {
+            TIFR1 => if matched { 2 } else { 0 },
+            TIMSK1 => self.interrupt_mask,
+            TCCR1A => self.control_a,
+            TCCR1B => self.control_b,
+            TCNT1L => {
                 self.temp = (count / 256) as u8;
                 (count % 256) as u8
             }
-            0x85 => self.temp,
-            0x88 => (self.top % 256) as u8,
+            TCNT1H => self.temp,
+            OCR1AL => (self.top % 256) as u8,
             _ => (self.top / 256) as u8,
         }
     }
@@ -158,13 +162,13 @@ impl Timer1 {
         ensures { result ≡ timer_byte self.now at }
     {
         match at {
-            0x36 => if self.matched { 2 } else { 0 },
-            0x6F => self.interrupt_mask,
-            0x80 => self.control_a,
-            0x81 => self.control_b,
-            0x84 => (self.count % 256) as u8,
-            0x85 => self.temp,
-            0x88 => (self.top % 256) as u8,
+            TIFR1 => if self.matched { 2 } else { 0 },
+            TIMSK1 => self.interrupt_mask,
+            TCCR1A => self.control_a,
+            TCCR1B => self.control_b,
+            TCNT1L => (self.count % 256) as u8,
+            TCNT1H => self.temp,
+            OCR1AL => (self.top % 256) as u8,
             _ => (self.top / 256) as u8,
         }
     }
@@ -176,16 +180,16 @@ impl Timer1 {
         ensures { self.new ≡ timer_after_write at value self.old }
     {
         match at {
-            0x36 => {
+            TIFR1 => {
                 if value >> 1 & 1 == 1 {
                     self.matched = false;
                 }
             }
-            0x6F => self.interrupt_mask = value,
-            0x80 => self.control_a = value,
-            0x81 => self.control_b = value,
-            0x84 => self.count = u16::from(self.temp) * 256 + u16::from(value),
-            0x88 => self.top = u16::from(self.temp) * 256 + u16::from(value),
+            TIMSK1 => self.interrupt_mask = value,
+            TCCR1A => self.control_a = value,
+            TCCR1B => self.control_b = value,
+            TCNT1L => self.count = u16::from(self.temp) * 256 + u16::from(value),
+            OCR1AL => self.top = u16::from(self.temp) * 256 + u16::from(value),
             _ => self.temp = value,
         }
     }

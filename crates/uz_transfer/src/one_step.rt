@@ -20,7 +20,7 @@ use crate::step::Step;
 use crate::transfer::transfer;
 use avr_decode::decode;
 use avr_table::{Instr, Outcome, clocks, words};
-use uz_core::instruction_effect;
+use uz_core::effect;
 use uz_hex::Image;
 use uz_machine::Effect;
 use uz_schedule::{Head, Instance};
@@ -127,7 +127,7 @@ pub fn abstract_step(
         image.word(word_after(at.pc, 0)),
         image.word(word_after(at.pc, 1)),
     ) {
-        Some(i) => step_of(image, head, at, &i, instruction_effect(&i), line_length),
+        Some(i) => step_of(image, head, at, &i, effect(&i), line_length),
         None => Err(Fail::Opcode),
     }
 }

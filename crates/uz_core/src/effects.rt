@@ -417,19 +417,20 @@ macro_rules! effects {
     };
 }
 
-/// What an instruction does.
 #[inline(always)]
-pub(crate) fn effect(i: &Instr) -> Effect
-    ensures value { result ≡ effect_of i.now }
-    ensures fits { EffectFits result }
+fn effect_of_row(i: &Instr) -> Effect
+    ensures { result ≡ effect_of i.now }
 {
     rows!(effects(*i))
 }
 
-/// What an instruction does, for those who look at instructions without running them.
-pub fn instruction_effect(i: &Instr) -> Effect
+/// What an instruction does, without running it: its row's effect (AVR Instruction Set Manual). Its operands are in the
+/// ranges and forms that instructions have: a pointer is X, Y or Z, a pair begins at an even register, a product is one of
+/// six.
+#[inline(always)]
+pub fn effect(i: &Instr) -> Effect
     ensures value { result ≡ effect_of i.now }
     ensures fits { EffectFits result }
 {
-    effect(i)
+    effect_of_row(i)
 }
