@@ -129,7 +129,7 @@ pub parts_of : {P : Type 0} (w : PadWiring P) (e : Effect) (head : Head) (image 
 parts_of w (CopyByte to source) head image following sampled words late c d inst o core s emitted fits b new f ticks back fail em =
     silent w head inst _ o d _ [] _ emitted em (quiet w head inst _ o d core _ s (space_after c s) (copy_byte to source inst o core fits b.is_core b.meets) b.enabled b.memory refl refl refl refl refl)
 parts_of w (CopyPair to r) head image following sampled words late c d inst o core s emitted fits b new f ticks back fail em =
-    silent w head inst _ o d _ [] _ emitted em (quiet w head inst _ o d core _ s (space_after c s) (copy_pair to r inst o core fits.0 fits.1 b.is_core b.meets) b.enabled b.memory refl refl refl refl refl)
+    silent w head inst _ o d _ [] _ emitted em (quiet w head inst _ o d core _ s (space_after c s) (copy_pair to r inst o core fits.0.0 fits.1.0 b.is_core b.meets) b.enabled b.memory refl refl refl refl refl)
 parts_of w (Binary op to source true) head image following sampled words late c d inst o core s emitted fits b new f ticks back fail em =
     silent w head inst _ o d _ [] _ emitted em (quiet w head inst _ o d core _ s (space_after c s) (binary_meets op to source true head image following sampled words [] inst o core fits b.is_core new b.meets)
     (enabled_kept (binary_result op (register core to) (operand_value source core) core.sreg) core.sreg (binary_seven op _ _ core.sreg) ∙ b.enabled) b.memory refl refl refl refl refl)
@@ -173,7 +173,7 @@ parts_of w (LoadProgram to false) head image following sampled words late c d in
 parts_of w (WriteIoBit at bit set) head image following sampled words late c d inst o core s emitted fits b new f ticks back fail em = record {
   core_meets = b.meets;
   enabled = b.enabled;
-  leads = bit_leads w head inst o d core.sp at bit set (space_after c s) emitted b.fits b.size b.memory (low_room head inst o d core s b) fits.0 fits.1 em;
+  leads = bit_leads w head inst o d core.sp at bit set (space_after c s) emitted b.fits b.size b.memory (low_room head inst o d core s b) fits.0.1 fits.1 em;
 }
 parts_of w (WriteFlag flag set) head image following sampled words late c d inst o core s emitted fits b new f ticks back fail em =
     silent w head inst _ o d _ [] _ emitted em (quiet w head inst _ o d core _ s (space_after c s) (write_flag_meets flag set inst o core fits b.meets) (flag_enabled flag set (is_main inst.kind) core.sreg fits fail b.enabled) b.memory refl refl refl refl refl)

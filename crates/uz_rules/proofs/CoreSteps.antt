@@ -132,9 +132,9 @@ displaced p x q h = by_case (nat_lt (p.hi + q) 65536) refl
 
 pub address_holds : (mode : AddressMode) (inst : Instance) (o core : Core) → IsCore core → AddressModeFits mode → CoreMeets inst o core → IsWithin (effective_address mode core) (address_range mode inst)
 address_holds (Direct k) inst o core c fits h = record { above = omega arith; below = omega arith }
-address_holds (Displacement p q) inst o core c fits h = displaced (pair_range inst p) (pair core p) q (pair_holds inst o core p c h fits.0)
-address_holds (PostIncrement p) inst o core c fits h = pair_holds inst o core p c h fits
-address_holds (PreDecrement p) inst o core c fits h = stepped_down (exact_pair inst p) (pair core p) (pair_word core p c) (exact_holds inst o core p c h fits)
+address_holds (Displacement p q) inst o core c fits h = displaced (pair_range inst p) (pair core p) q (pair_holds inst o core p c h fits.0.1.0)
+address_holds (PostIncrement p) inst o core c fits h = pair_holds inst o core p c h fits.1.0
+address_holds (PreDecrement p) inst o core c fits h = stepped_down (exact_pair inst p) (pair core p) (pair_word core p c) (exact_holds inst o core p c h fits.1.0)
 
 -- `old` and `core` are before the instruction; a store may have changed what `now` and `new` have of flags
 pub pointer_meets : (mode : AddressMode) (old now : Instance) (o core new : Core) → IsCore core → IsCore new → AddressModeFits mode → CoreMeets old o core → CoreMeets now o new
@@ -142,9 +142,9 @@ pub pointer_meets : (mode : AddressMode) (old now : Instance) (o core new : Core
 pointer_meets (Direct k) old now o core new c n fits h g = g
 pointer_meets (Displacement p q) old now o core new c n fits h g = g
 pointer_meets (PostIncrement p) old now o core new c n fits h g =
-    pair_val_meets now o new p ((pair core p + 1) % 65536) (pair_add_answer (exact_pair old p) 1).span n fits (omega arith) (stepped_up (exact_pair old p) (pair core p) (pair_word core p c) (exact_holds old o core p c h fits)) g
+    pair_val_meets now o new p ((pair core p + 1) % 65536) (pair_add_answer (exact_pair old p) 1).span n fits.1.0 (omega arith) (stepped_up (exact_pair old p) (pair core p) (pair_word core p c) (exact_holds old o core p c h fits.1.0)) g
 pointer_meets (PreDecrement p) old now o core new c n fits h g =
-    pair_val_meets now o new p ((pair core p + 65535) % 65536) (pair_sub_answer (exact_pair old p) 1).span n fits (omega arith) (stepped_down (exact_pair old p) (pair core p) (pair_word core p c) (exact_holds old o core p c h fits)) g
+    pair_val_meets now o new p ((pair core p + 65535) % 65536) (pair_sub_answer (exact_pair old p) 1).span n fits.1.0 (omega arith) (stepped_down (exact_pair old p) (pair core p) (pair_word core p c) (exact_holds old o core p c h fits.1.0)) g
 
 pub core_with_pointer : (mode : AddressMode) (at : ℕ) (core : Core) → at < 65536 → IsCore core → IsCore (with_pointer_after mode at core)
 core_with_pointer (Direct k) at core b c = c

@@ -133,8 +133,8 @@ stores_leave w (PushByte r) head words d inst o core before s size fits b fail =
     held_leaves w head inst.kind (core.sp + depth_of inst) core.sp (register core r) s
     (push_leaves w head inst.kind (core.sp + depth_of inst) core.sp (register core r) s b.fits size (omega (arith, room)) (omega (arith, room)) (omega arith) (omega (arith, b.memory.depth)))
 stores_leave w (WriteIoBit at bit set) head words d inst o core before s size fits b fail = record {
-  above = λ a h k. bit_kept w s at bit a set fits.0 (omega (arith, h, low_room head inst o d core before b, b.fits.low));
-  cells = λ a r h k. bit_kept w s at bit a set fits.0 (b.fits.cells_ram a r h).0;
+  above = λ a h k. bit_kept w s at bit a set fits.0.1 (omega (arith, h, low_room head inst o d core before b, b.fits.low));
+  cells = λ a r h k. bit_kept w s at bit a set fits.0.1 (b.fits.cells_ram a r h).0;
 }
 stores_leave w (Jump target true) head words d inst o core before s size fits b fail =
     let free : nat_lt (depth_limit head inst.kind) (depth_of inst + 2) ≡ false = (unless_none _ _ _ fail).0 in

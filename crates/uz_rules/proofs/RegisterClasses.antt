@@ -222,11 +222,11 @@ wide_meets d e r keeps flags inst o core b c word k a hv h =
 pub add_to_pair_meets : (d k : ℕ) (subtract : Bool) (head : Head) (image : FinMap nat_cmp ℕ) (following sampled words : ℕ) (loaded : List ℕ) (inst : Instance) (o core : Core) → EffectFits (AddToPair d k subtract) → IsCore core → CoreMeets inst o core
     → CoreMeets (transfer head image following sampled (AddToPair d k subtract) inst) o (changed_core (AddToPair d k subtract) image words loaded core)
 add_to_pair_meets d k false head image following sampled words loaded inst o core fits c h =
-    let covers = pair_add_covers (exact_pair inst d) k (pair core d) (pair_word core d c) (omega (arith, fits.1)) (exact_holds inst o core d c h fits.0) in
-    wide_meets d _ (add_to_pair_result false (pair core d) k) pair_keeps _ inst o core fits.0 c (omega arith) refl covers.flags covers.value h
+    let covers = pair_add_covers (exact_pair inst d) k (pair core d) (pair_word core d c) (omega (arith, fits.1)) (exact_holds inst o core d c h fits.0.1.0) in
+    wide_meets d _ (add_to_pair_result false (pair core d) k) pair_keeps _ inst o core fits.0.1.0 c (omega arith) refl covers.flags covers.value h
 add_to_pair_meets d k true head image following sampled words loaded inst o core fits c h =
-    let covers = pair_sub_covers (exact_pair inst d) k (pair core d) (pair_word core d c) (omega (arith, fits.1)) (exact_holds inst o core d c h fits.0) in
-    wide_meets d _ (add_to_pair_result true (pair core d) k) pair_keeps _ inst o core fits.0 c (omega arith) refl covers.flags covers.value h
+    let covers = pair_sub_covers (exact_pair inst d) k (pair core d) (pair_word core d c) (omega (arith, fits.1)) (exact_holds inst o core d c h fits.0.1.0) in
+    wide_meets d _ (add_to_pair_result true (pair core d) k) pair_keeps _ inst o core fits.0.1.0 c (omega arith) refl covers.flags covers.value h
 
 factors_cover : (d_signed r_signed shifted : Bool) (a b : Ends) (x y : ℕ) → IsWithin x a → IsWithin y b → (product_of x y d_signed r_signed shifted).value < 65536
     → CoversWide (factors_answer d_signed r_signed shifted a b) (product_of x y d_signed r_signed shifted)

@@ -234,7 +234,7 @@ stores_beside w (PushByte r) head words d inst o core before s fits beside b fai
     held_byte w s core.sp (register core r) false (beside_same s.timer _ (timer_kept w s core.sp (register core r) (timer_high core.sp ram))) (λ t. refl)
 stores_beside w (WriteIoBit at bit set) head words d inst o core before s fits beside b fail =
     let io = (unless_none _ _ _ (unless_none _ _ _ fail).1).0 in
-    bit_at_port w s at bit set fits.0 io
+    bit_at_port w s at bit set fits.0.1 io
 stores_beside w (Jump target true) head words d inst o core before s fits beside b fail =
     let free : nat_lt (depth_limit head inst.kind) (depth_of inst + 2) ≡ false = (unless_none _ _ _ fail).0 in
     let few : depth_of inst + 2 ≤ depth_limit head inst.kind = grind (arith, nat_tests) in
