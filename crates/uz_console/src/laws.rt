@@ -3,8 +3,8 @@
 ghost use Rattle.std.specs.Prelude.{◌≡◌, ℕ, List};
 ghost use Rattle.std.specs.Ordering.{nat_cmp};
 ghost use Rattle.std.specs.FinMap.{FinMap};
-ghost use Rattle.uz_cert.specs.Schedule.{response_clocks};
-ghost use Rattle.uz_cert.specs.declared.kinds.Response.{Response};
+ghost use Rattle.uz_schedule.specs.Schedule.{response_clocks};
+ghost use Rattle.uz_schedule.specs.declared.kinds.Response.{Response};
 ghost use Rattle.uz_hex.specs.Cells.{IsFlash};
 ghost use Rattle.uz_machine.specs.declared.Edge.{Edge};
 ghost use Rattle.uz_machine.specs.PadLine.{PadHistory};
