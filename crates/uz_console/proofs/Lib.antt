@@ -1,3 +1,4 @@
 pub mod RunLaws
 pub mod RunLemmas
+pub mod SaveLemmas
 pub mod TurnLemmas

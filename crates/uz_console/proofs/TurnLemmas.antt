@@ -39,7 +39,7 @@ use Rattle.uz_console.specs.Consoles as console
 use Rattle.uz_console.specs.Consoles.{state_of}
 use Rattle.uz_console.specs.declared.turn.Made.{Made}
 use Rattle.uz_console.specs.declared.turn.Made.TheVariants as made
-use Rattle.uz_console.specs.Turns.{IsBoardStep, StopsAt, Halts, IsMade, TakesTime, IsInstructed}
+use Rattle.uz_console.specs.Turns.{IsBoardStep, StopsAt, Halts, IsMade, TakesTime, IsInstructed, IsPassed, PassedTakesTime, stop_in}
 
 -- A step over the board is a step over its data space
 
@@ -195,3 +195,15 @@ pub quiet_turn : (old new : Console) (edges : List Edge) → edges ≡ [] →
     ((s : State PadHistory) → console.StandsFor old s → (next : State PadHistory) × machine.Turn history_wiring s [] next × console.StandsFor new next) →
     (s : State PadHistory) → console.StandsFor old s → (next : State PadHistory) × machine.Turn history_wiring s edges next × console.StandsFor new next
 quiet_turn old new edges e turn s h = let t = turn s h in (t.0, subst (λ es. machine.Turn history_wiring s es t.0) (sym e) t.1, t.2)
+
+-- a turn whose edges aren't told
+
+pub passed : (old new : Console) (edges : List Edge) (answer : Made) → IsMade old new edges answer → IsPassed old new (stop_in answer)
+passed old new edges made.Quiet h = λ s stands. let t = h s stands in ([], t.0, t.1, t.2)
+passed old new edges made.Edges h = λ s stands. let t = h s stands in (edges, t.0, t.1, t.2)
+passed old new edges (made.Stopped why) h = h
+
+pub passed_time : (old new : Console) (answer : Made) → TakesTime old new answer → PassedTakesTime old new (stop_in answer)
+passed_time old new made.Quiet h = h
+passed_time old new made.Edges h = h
+passed_time old new (made.Stopped why) h = h

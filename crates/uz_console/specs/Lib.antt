@@ -1,4 +1,5 @@
 pub mod Consoles
 pub mod Entry
 pub mod Runs
+pub mod SaveStates
 pub mod Turns

@@ -1,5 +1,5 @@
 -- What a console's turn does.
-use Rattle.std.specs.Prelude.{◌≡◌, ◌≢◌, ℕ, ◌+◌, ◌<◌, ◌≤◌, List, [], IsFalse}
+use Rattle.std.specs.Prelude.{◌≡◌, ◌≢◌, ℕ, ◌+◌, ◌<◌, ◌≤◌, List, [], IsFalse, Option, None, Some}
 use Rattle.std.specs.Ordering.{nat_cmp}
 use Rattle.std.specs.FinMap.{FinMap}
 use Rattle.uz_hex.specs.Cells.{word_of}
@@ -52,6 +52,16 @@ abbrev pub TurnTakesTime : Console → Console → Turn → Type 0
 TurnTakesTime old new (Took edges) = (clock_of old < clock_of new) × (clock_of new ≤ clock_of old + 5)
 TurnTakesTime old new (Stopped why) = clock_of new ≡ clock_of old
 
+-- The same of a turn whose edges aren't told. None: it is made. Some: there is none
+abbrev pub IsPassed : Console → Console → Option Why → Type 0
+IsPassed old new None =
+    (s : State PadHistory) → StandsFor old s → (edges : List Edge) × (next : State PadHistory) × machine.Turn history_wiring s edges next × StandsFor new next
+IsPassed old new (Some why) = (state_of new ≡ state_of old) × ((s : State PadHistory) → StandsFor old s → Halts s why)
+
+abbrev pub PassedTakesTime : Console → Console → Option Why → Type 0
+PassedTakesTime old new None = (clock_of old < clock_of new) × (clock_of new ≤ clock_of old + 5)
+PassedTakesTime old new (Some why) = clock_of new ≡ clock_of old
+
 -- Steps by the code, over the board's own pads. The edges are those of the caller's list, and count where the answer says so
 
 -- core and board after a step, with the stores that it holds
@@ -89,3 +99,9 @@ abbrev pub TakesTime : Console → Console → Made → Type 0
 TakesTime old new made.Quiet = (clock_of old < clock_of new) × (clock_of new ≤ clock_of old + 5)
 TakesTime old new made.Edges = (clock_of old < clock_of new) × (clock_of new ≤ clock_of old + 5)
 TakesTime old new (made.Stopped why) = clock_of new ≡ clock_of old
+
+-- why there is no turn, where there is none
+abbrev pub stop_in : Made → Option Why
+stop_in made.Quiet = None
+stop_in made.Edges = None
+stop_in (made.Stopped why) = Some why

@@ -2,13 +2,16 @@
 #![tactic(auto)]
 
 mod console;
+mod copying;
 mod laws;
+mod passing;
 mod running;
 #[cfg(test)]
 mod tests;
 mod turn;
 
 pub use console::Console;
+pub use copying::{SaveState, run_keeps_console};
 pub use laws::{reset_is_in_range, run_is_unique, run_keeps_states, turn_is_unique};
 pub use running::Progress;
 pub use turn::Turn;

@@ -42,6 +42,18 @@ impl Cpu {
         }
     }
 
+    /// A core with the same registers.
+    pub fn copy(&self) -> Cpu
+        ensures { result ≡ self.now }
+    {
+        Cpu {
+            pc: self.pc,
+            registers: self.registers,
+            sreg: self.sreg,
+            sp: self.sp,
+        }
+    }
+
     /// The program counter: the word address of the next instruction, below 32,768.
     pub fn pc(&self) -> u16
         ensures value { result ≡ self.now.pc }

@@ -49,6 +49,16 @@ impl Image {
         })
     }
 
+    /// An image with the same bytes.
+    #[tactic(auto, using(crate::proofs::CellsLemmas::cells))]
+    pub fn copy(&self, alloc: Global) -> Result<Image, AllocError>
+        ensures { IfOk result (λ image. image ≡ self.now) }
+    {
+        Ok(Image {
+            cells: Vec::from_slice(alloc, self.cells.as_slice())?,
+        })
+    }
+
     /// Sets the byte at a byte address and leaves the others.
     #[tactic(auto, using(crate::proofs::CellsLemmas::cells))]
     pub fn set(&mut self, at: u16, value: u8)

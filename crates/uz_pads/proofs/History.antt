@@ -9,7 +9,8 @@ use Rattle.uz_machine.specs.Arithmetic.{bit_value, bit_is_set}
 use Rattle.uz_machine.specs.PadLine.{PadHistory, changes_of, changes_since_latch, is_fall, is_rise, latches, moves, pad_lines, with_level}
 use Rattle.uz_pads.specs.declared.pads.Pad.{Pad}
 use Rattle.uz_pads.specs.declared.pads.Pads.{Pads}
-use Rattle.uz_pads.specs.Pads.{StandsFor, pairs_of, latched_pad, no_pad, pads_loaded, pads_after, pads_lines, lines_of}
+use Rattle.uz_pads.specs.declared.pads.PadState.{PadState}
+use Rattle.uz_pads.specs.Pads.{StandsFor, StateStandsFor, pairs_of, list_of, with_pad_state, latched_pad, no_pad, pads_loaded, pads_after, pads_lines, lines_of}
 
 -- A latch by its parts
 
@@ -181,3 +182,23 @@ lines_stand p history h =
     (ap (λ k. lines_of (latched_pad (latches history.levels) p.list.items) k) h.moves ∙
     (line_of_list p.list.items (latches history.levels) (moves history.levels) ∙
     ap (λ pairs. pad_lines (record { pairs = pairs; levels = history.levels })) (sym h.pairs)))
+
+-- A state of pads, with another list of the same pairs
+
+-- pads are told apart by their pairs
+same_list : (a b : List Pad) → pairs_of a ≡ pairs_of b → a ≡ b
+same_list [] [] e = refl
+same_list [] (y ∷ b) e = absurd cc
+same_list (x ∷ a) [] e = absurd cc
+same_list (x ∷ a) (y ∷ b) e =
+    let mine : ℕ × ℕ = (x.one, x.two) in
+    let other : ℕ × ℕ = (y.one, y.two) in
+    let heads : mine ≡ other = cc in
+    let one : x.one ≡ y.one = ap (λ (p : ℕ × ℕ). p.0) heads in
+    let two : x.two ≡ y.two = ap (λ (p : ℕ × ℕ). p.1) heads in
+    let rest : pairs_of a ≡ pairs_of b = cc in
+    let pad : x ≡ y = ap (λ n. let p : Pad = record { one = n; two = x.two } in p) one ∙ ap (λ n. let p : Pad = record { one = y.one; two = n } in p) two in
+    ap (λ p. p ∷ a) pad ∙ ap (λ ps. y ∷ ps) (same_list a b rest)
+
+pub stands_again : (p : Pads) (state : PadState) (list : List Pad) (history : PadHistory) → StateStandsFor list state history → pairs_of (list_of p) ≡ pairs_of list → StandsFor (with_pad_state state p) history
+stands_again p state list history h e = subst (λ l. StateStandsFor l state history) (same_list list (list_of p) (sym e)) h

@@ -5,6 +5,7 @@ use Rattle.uz_machine.specs.PadLine.{PadHistory, is_fall, is_rise, latches, move
 use Rattle.uz_machine.specs.Space.{PadWiring}
 use Rattle.uz_pads.specs.declared.pads.Pad.{Pad}
 use Rattle.uz_pads.specs.declared.pads.Pads.{Pads}
+use Rattle.uz_pads.specs.declared.pads.PadState.{PadState}
 
 -- a list of pads as the machine's list of pairs
 abbrev pub pairs_of : List Pad → List (ℕ × ℕ)
@@ -27,15 +28,30 @@ no_pad = record { one = 0; two = 0 }
 abbrev pub latched_pad : ℕ → List Pad → Option Pad
 latched_pad n list = if nat_le 1 n then (if nat_le n (length list) then Some (slice_index_or list (n - 1) no_pad) else None) else None
 
--- The pads stand for a list of pairs and the whole list of PORTA's values: they keep the pair that was latched last,
--- and count latches up to the list's length and moves up to 12
-pub record StandsFor (p : Pads) (history : PadHistory) : Type 0 where
-  pub pairs : history.pairs ≡ pairs_of p.list.items
+-- what changes of pads, beside their list
+abbrev pub pad_state_of : Pads → PadState
+pad_state_of p = record { level = p.level; next = p.next; current = p.current; moves = p.moves }
+
+abbrev pub list_of : Pads → List Pad
+list_of p = p.list.items
+
+-- the pads with the same list in another state
+abbrev pub with_pad_state : PadState → Pads → Pads
+with_pad_state state p = record p { level = state.level; next = state.next; current = state.current; moves = state.moves }
+
+-- A list of pads in a state stands for a list of pairs and the whole list of PORTA's values: the state has the pair that
+-- was latched last, and counts latches up to the list's length and moves up to 12
+pub record StateStandsFor (list : List Pad) (state : PadState) (history : PadHistory) : Type 0 where
+  pub pairs : history.pairs ≡ pairs_of list
   pub begun : IsBegun history.levels
-  pub level : p.level ≡ latest history.levels
-  pub next : p.next ≡ min (latches history.levels) (length p.list.items)
-  pub current : p.current ≡ latched_pad (latches history.levels) p.list.items
-  pub moves : p.moves ≡ min (moves history.levels) 12
+  pub level : state.level ≡ latest history.levels
+  pub next : state.next ≡ min (latches history.levels) (length list)
+  pub current : state.current ≡ latched_pad (latches history.levels) list
+  pub moves : state.moves ≡ min (moves history.levels) 12
+
+-- pads stand for what their list in their state stands for
+abbrev pub StandsFor : Pads → PadHistory → Type 0
+StandsFor p history = StateStandsFor (list_of p) (pad_state_of p) history
 
 -- The pads by themselves
 

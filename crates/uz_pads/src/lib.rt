@@ -11,5 +11,5 @@ mod tests;
 
 pub use errors::{PadError, PadWhy};
 pub use laws::reading_is_unique;
-pub use pads::{Pad, Pads};
+pub use pads::{Pad, PadState, Pads};
 pub use reading::read_pads;

@@ -1,9 +1,11 @@
 //! The pads, and the lines that they drive.
 
-ghost use Rattle.std.specs.Prelude.{◌≡◌, ◌<◌, ◌+◌, ◌∷◌, [], not};
+ghost use Rattle.std.specs.Prelude.{◌≡◌, ◌<◌, ◌+◌, ◌∷◌, [], not, List, IfOk};
 ghost use Rattle.uz_machine.specs.Arithmetic.{bit_value, bit_is_set};
 ghost use Rattle.uz_machine.specs.PadLine.{PadHistory, pad_lines, with_level, is_fall, is_rise};
 ghost use Rattle.uz_machine.specs.Turn.{history_at_reset};
+
+use std::alloc::{AllocError, Global};
 
 /// The two players' words of one latch. Bits 0 to 11 are B, Y, Select, Start, Up, Down, Left, Right, A, X, L and R
 /// (Uzebox kernel documentation). A set bit means pressed. Bits 12 to 15 are ignored.
@@ -11,6 +13,15 @@ ghost use Rattle.uz_machine.specs.Turn.{history_at_reset};
 pub struct Pad {
     pub one: u16,
     pub two: u16,
+}
+
+/// What changes of pads, beside their list: PORTA's value, how far the list is used, and what the lines show.
+#[derive(Clone, Copy, Debug)]
+pub struct PadState {
+    level: u8,
+    next: usize,
+    current: Option<Pad>,
+    moves: u8,
 }
 
 /// Two game pads on PORTA, answering from a list of pairs, one pair a latch.
@@ -58,7 +69,8 @@ fn shown(word: u16, at: u8) -> u8
 }
 
 impl Pads {
-    ghost use Rattle.uz_pads.specs.Pads.{StandsFor, pairs_of, pads_after, pads_loaded, pads_lines};
+    ghost use Rattle.uz_pads.specs.Pads.{StandsFor, StateStandsFor, pairs_of, list_of, pad_state_of, with_pad_state, pads_after, pads_loaded, pads_lines};
+    ghost use Rattle.uz_pads.specs.declared.pads.Pad.{Pad};
 
     /// Pads that answer from a list. Before the first latch both lines read 1 (this project's profile).
     pub fn new(list: Vec<Pad>) -> Pads
@@ -71,6 +83,49 @@ impl Pads {
             current: None,
             moves: 0,
         }
+    }
+
+    /// Pads with the same list in the same state.
+    pub fn copy(&self, alloc: Global) -> Result<Pads, AllocError>
+        ensures list { IfOk result (λ pads. list_of pads ≡ list_of self.now) }
+        ensures state { IfOk result (λ pads. pad_state_of pads ≡ pad_state_of self.now) }
+    {
+        Ok(Pads {
+            list: Vec::from_slice(alloc, self.list.as_slice())?,
+            level: self.level,
+            next: self.next,
+            current: self.current,
+            moves: self.moves,
+        })
+    }
+
+    /// What changes of the pads.
+    pub fn state(&self) -> PadState
+        ensures { result ≡ pad_state_of self.now }
+    {
+        PadState {
+            level: self.level,
+            next: self.next,
+            current: self.current,
+            moves: self.moves,
+        }
+    }
+
+    /// Goes to a state of pads with the same list.
+    pub fn set_state(&mut self, state: PadState)
+        ensures exact { self.new ≡ with_pad_state state self.old }
+        ensures stands { (list : List Pad) (history : PadHistory) → StateStandsFor list state history → pairs_of (list_of self.old) ≡ pairs_of list → StandsFor self.new history }
+    {
+        self.take_state(state);
+    }
+
+    fn take_state(&mut self, state: PadState)
+        ensures { self.new ≡ with_pad_state state self.old }
+    {
+        self.level = state.level;
+        self.next = state.next;
+        self.current = state.current;
+        self.moves = state.moves;
     }
 
     /// PORTA takes a value. A fall of bit 2 loads the next pair, and a rise of bit 3 moves to the next bit. Where

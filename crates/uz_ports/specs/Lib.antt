@@ -1,2 +1,3 @@
+pub mod BoardStates
 pub mod Boards
 pub mod HeldStoreFits

@@ -2,7 +2,9 @@
 #![tactic(auto)]
 
 mod board;
+mod copying;
 mod stores;
 
 pub use board::Board;
+pub use copying::BoardState;
 pub use uz_machine::{Edge, EdgeKind};

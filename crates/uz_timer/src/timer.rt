@@ -63,6 +63,21 @@ impl Timer1 {
         }
     }
 
+    /// A timer with the same registers, TEMP too.
+    pub fn copy(&self) -> Timer1
+        ensures { result ≡ self.now }
+    {
+        Timer1 {
+            count: self.count,
+            top: self.top,
+            matched: self.matched,
+            temp: self.temp,
+            interrupt_mask: self.interrupt_mask,
+            control_a: self.control_a,
+            control_b: self.control_b,
+        }
+    }
+
     /// Whether a data address is one of the timer's registers: TIFR1, TIMSK1, TCCR1A, TCCR1B, TCNT1L, TCNT1H,
     /// OCR1AL, OCR1AH.
     pub fn owns(at: u16) -> bool
