@@ -1,13 +1,16 @@
-//! The shelf of real files. It tells nothing of their content.
+//! The shelf of real files. To its callers it tells nothing of their content; what it reads and writes of a file
+//! is told here, by the bytes that the kit's readers have left and its writers hold.
 
-ghost use Rattle.std.specs.Prelude.{◌≡◌, ◌≤◌, ◌<◌, ◌+◌, ◌^◌, IfOk, IsSome, None, option_map, string_bytes, vec_len};
+ghost use Rattle.std.specs.Prelude.{◌≡◌, ◌≤◌, ◌<◌, ◌+◌, ◌^◌, ◌++◌, ℕ, List, IfOk, IfSome, IsErrOf, OnErr, OnOk, IsSome, None, option_map, length, string_bytes, take, vec_len};
+ghost use Rattle.std.specs.Io.KnownBytes.{Appends, Consumes, IsAtEnd};
 
 use crate::errors::{LoadError, WriteError};
 use crate::shelf::Shelf;
+use crate::transfers;
 use crate::writing::write_piece;
 use std::alloc::Global;
 use std::fs;
-use std::io::Read;
+use std::io::{Read, Write};
 use std::rt::Files;
 
 /// Real files, with the counts of the faults that they have met.
@@ -44,25 +47,27 @@ impl<R: Files + Drop> DiskShelf<R> {
 
 /// Reads more bytes, at most that many, and says how many came.
 fn read_some<F: Read>(file: &mut F, bytes: &mut Vec<u8>, room: usize) -> Result<usize, LoadError>
+    requires { 0 < room }
     ensures added { IfOk result (λ count. vec_len bytes.new ≡ vec_len bytes.old + count) }
     ensures room { IfOk result (λ count. count ≤ room) }
+    ensures read { IfOk result (λ count. (piece : List ℕ) × (bytes.new.items ≡ bytes.old.items ++ piece) × Consumes (F.remaining file.old) (F.remaining file.new) piece) }
+    ensures end { IfOk result (λ count. count ≡ 0 → IsAtEnd (F.remaining file.new)) }
+    ensures unlimited { IsErrOf result LoadError.TooLong → ⊥ }
 {
     let mut buffer = [0u8; 4096];
     let want = room.min(4096);
-    match file.read(&mut buffer[..want]) {
-        Ok(count) => {
-            bytes.extend_from_slice(&buffer[..count])?;
-            Ok(count)
-        }
-        Err(_) => Err(LoadError::Failed),
-    }
+    let count = transfers::read(file, &mut buffer[..want])?;
+    bytes.extend_from_slice(&buffer[..count])?;
+    Ok(count)
 }
 
 /// All bytes of the file, unless there are more than `limit`. Reads at most `limit + 1` bytes, in turns
 /// each of which takes at least one byte or is the last.
 fn read_all<F: Read>(alloc: Global, file: &mut F, limit: usize) -> Result<Vec<u8>, LoadError>
     requires { limit < 2 ^ 32 }
-    ensures { IfOk result (λ bytes. vec_len bytes ≤ limit) }
+    ensures limit { IfOk result (λ bytes. vec_len bytes ≤ limit) }
+    ensures whole { IfOk result (λ bytes. IfSome (F.remaining file.old) (λ left. bytes.items ≡ left)) }
+    ensures too_long { IsErrOf result LoadError.TooLong → IfSome (F.remaining file.old) (λ left. limit < length left) }
 {
     let mut bytes = Vec::new(alloc);
     while bytes.len() <= limit {
@@ -103,7 +108,9 @@ fn append_to<R: Files + Drop>(
     piece: &[u8],
 ) -> Result<(), WriteError>
     requires { IsSome target.old }
-    ensures { option_map (λ opened. string_bytes opened.name) target.new ≡ option_map (λ opened. string_bytes opened.name) target.old }
+    ensures names { option_map (λ opened. string_bytes opened.name) target.new ≡ option_map (λ opened. string_bytes opened.name) target.old }
+    ensures ok { OnOk result (IfSome target.old (λ a. IfSome target.new (λ b. Appends (⟦<R::File as Write>⟧.contents a.file) (⟦<R::File as Write>⟧.contents b.file) piece.now))) }
+    ensures err { OnErr result (IfSome target.old (λ a. IfSome target.new (λ b. (count : ℕ) × Appends (⟦<R::File as Write>⟧.contents a.file) (⟦<R::File as Write>⟧.contents b.file) (take count piece.now)))) }
 {
     match target {
         Some(opened) => write_piece(&mut opened.file, piece),

@@ -13,6 +13,7 @@ mod memory_sink;
 mod out_sink;
 mod shelf;
 mod sink;
+mod transfers;
 mod writing;
 
 pub use disk_shelf::DiskShelf;

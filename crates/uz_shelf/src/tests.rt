@@ -28,6 +28,32 @@ fn disk_shelf_reads_and_writes_real_files(rt: HostRuntime) -> Result<(), TestFai
 }
 
 #[test]
+fn disk_shelf_keeps_files_of_many_pieces(rt: HostRuntime) -> Result<(), TestFail> {
+    let mut shelf = DiskShelf::new(rt);
+    for size in [4_095u32, 4_096, 4_097, 100_000] {
+        let mut text = Vec::new(rt.alloc());
+        for place in 0..size {
+            text.push((place % 251) as u8)?;
+        }
+        shelf.create(rt.alloc(), "a.hex")?;
+        for piece in text.as_slice().chunks(1_500) {
+            shelf.append(rt.alloc(), piece)?;
+        }
+        assert_eq!(rt;
+            shelf.load(rt.alloc(), "a.hex", size)?.as_slice(),
+            text.as_slice()
+        );
+        assert!(rt;
+            matches!(
+                shelf.load(rt.alloc(), "a.hex", size - 1),
+                Err(LoadError::TooLong)
+            )
+        );
+    }
+    Ok(())
+}
+
+#[test]
 fn out_sink_writes_to_a_real_output(rt: HostRuntime) -> Result<(), TestFail> {
     let mut out = OutSink::new(fs::create(&rt, "out.txt")?);
     out.put(rt.alloc(), b"one\n")?;

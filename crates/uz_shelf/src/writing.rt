@@ -4,6 +4,7 @@ ghost use Rattle.std.specs.Prelude.{ℕ, OnErr, OnOk, take};
 ghost use Rattle.std.specs.Io.KnownBytes.{Appends};
 
 use crate::errors::WriteError;
+use crate::transfers;
 use std::io::Write;
 
 /// Writes the piece in as many steps as the output takes for it. An `Err` of the output, and a step that
@@ -15,7 +16,7 @@ pub(crate) fn write_piece<W: Write>(out: &mut W, piece: &[u8]) -> Result<(), Wri
 {
     let mut done = 0;
     while done < piece.len() {
-        match out.write(&piece[done..]) {
+        match transfers::write(out, &piece[done..]) {
             Ok(0) | Err(_) => return Err(WriteError::Failed),
             Ok(count) => done += count,
         }
