@@ -1,3 +1,6 @@
+pub mod ApproachLemmas
+pub mod EdgeTimes
+pub mod EntryLaws
 pub mod RunLaws
 pub mod RunLemmas
 pub mod SaveLemmas

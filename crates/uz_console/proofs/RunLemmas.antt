@@ -19,7 +19,7 @@ pub begins : (console : Console) (start : State PadHistory) (limit : ℕ) → St
 begins console start limit h = (start, record { turns = 0; all_edges = []; run = (refl, refl); in_time = refl }, h)
 
 -- one more turn
-run_more : (limit n : ℕ) (start last next : State PadHistory) (edges more : List Edge) → Run (TurnBefore limit) n start edges last → TurnBefore limit last more next →
+pub run_more : (limit n : ℕ) (start last next : State PadHistory) (edges more : List Edge) → Run (TurnBefore limit) n start edges last → TurnBefore limit last more next →
     Run (TurnBefore limit) (suc n) start (edges ++ more) next
 run_more limit zero start last next edges more run turn = (
   more,

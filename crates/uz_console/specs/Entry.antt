@@ -101,3 +101,7 @@ pub record EntryCondition {P : Type 0} (cert : Cert) (s : State P) (p : ℕ) : T
   pub level : level_at cert.schedule p ≡ Some (sync_level s.space)
   pub response : s.response ≡ response_clocks cert.head.irq
   pub begins : Begins cert.entry.kind cert s p
+
+-- the state meets it at no position
+abbrev pub NotEntered : {P : Type 0} → Cert → State P → Type 0
+NotEntered cert s = (p : ℕ) → EntryCondition cert s p → ⊥

@@ -1,4 +1,6 @@
+pub mod Approaches
 pub mod Consoles
+pub mod Entering
 pub mod Entry
 pub mod Runs
 pub mod SaveStates

@@ -1,5 +1,5 @@
 -- Runs of so many clocks, by the console's turns.
-use Rattle.std.specs.Prelude.{◌≡◌, ◌≢◌, ℕ, ◌<◌, ◌≤◌, List, [], ◌++◌}
+use Rattle.std.specs.Prelude.{◌≡◌, ◌≢◌, ℕ, ◌<◌, ◌≤◌, List, [], ◌∷◌, ◌++◌}
 use Rattle.uz_machine.specs.declared.Edge.{Edge}
 use Rattle.uz_machine.specs.PadLine.{PadHistory}
 use Rattle.uz_machine.specs.Turn.{State}
@@ -51,3 +51,14 @@ abbrev pub MovesOn : ℕ → Console → Console → Progress → Type 0
 MovesOn limit old new (Took more) = (clock_of old < clock_of new) × (clock_of old < limit)
 MovesOn limit old new Over = clock_of old ≤ clock_of new
 MovesOn limit old new (Stopped why) = clock_of old ≤ clock_of new
+
+-- the clocks of edges never fall, and lie between two clocks
+abbrev pub AreTimed : ℕ → ℕ → List Edge → Type 0
+AreTimed from to [] = from ≤ to
+AreTimed from to (e ∷ later) = (from ≤ e.clock) × AreTimed e.clock to later
+
+-- the edges of an answer lie between the clocks before it and after it
+abbrev pub HasTimedEdges : Console → Console → Progress → Type 0
+HasTimedEdges old new (Took more) = (s : State PadHistory) → StandsFor old s → AreTimed (clock_of old) (clock_of new) more.items
+HasTimedEdges old new Over = Unit {0}
+HasTimedEdges old new (Stopped why) = Unit {0}

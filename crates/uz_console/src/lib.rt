@@ -1,8 +1,10 @@
 //! The console: its turns, and runs of so many clocks.
 #![tactic(auto)]
 
+mod approach;
 mod console;
 mod copying;
+mod entry;
 mod laws;
 mod passing;
 mod running;
@@ -10,6 +12,7 @@ mod running;
 mod tests;
 mod turn;
 
+pub use approach::Approach;
 pub use console::Console;
 pub use copying::{SaveState, run_keeps_console};
 pub use laws::{reset_is_in_range, run_is_unique, run_keeps_states, turn_is_unique};

@@ -2,7 +2,7 @@
 
 ghost use Rattle.std.specs.Prelude.{◌≡◌, ◌≤◌, ◌^◌};
 ghost use Rattle.uz_machine.specs.Run.{edges_until};
-ghost use Rattle.uz_console.specs.Runs.{IsProgress, IsNextTurn, MovesOn};
+ghost use Rattle.uz_console.specs.Runs.{HasTimedEdges, IsProgress, IsNextTurn, MovesOn};
 
 use crate::Console;
 use crate::turn::Made;
@@ -23,7 +23,7 @@ pub enum Progress {
 }
 
 /// The edges of clock at most the limit.
-fn in_time(edges: ArrayVec<Edge, 4>, limit: u64) -> ArrayVec<Edge, 4>
+pub(crate) fn in_time(edges: ArrayVec<Edge, 4>, limit: u64) -> ArrayVec<Edge, 4>
     ensures { result.items ≡ edges_until limit edges.items }
 {
     if edges.is_empty() {
@@ -46,6 +46,7 @@ impl Console {
         ensures run { IsProgress limit self.old self.new result }
         ensures next { IsNextTurn limit self.old self.new result }
         ensures time { MovesOn limit self.old self.new result }
+        ensures edges { HasTimedEdges self.old self.new result }
     {
         let mut edges = ArrayVec::new();
         while self.clock() < limit {

@@ -2,7 +2,7 @@
 
 ghost use Rattle.std.specs.Prelude.{◌≡◌, ◌<◌, ◌+◌, ◌^◌, [], length, All, IfOk, if◌then◌else◌, None, Some};
 ghost use Rattle.uz_machine.specs.Core.{is_core_address};
-ghost use Rattle.uz_machine.specs.Space.{space_at_reset, byte_at, history_wiring};
+ghost use Rattle.uz_machine.specs.Space.{space_at_reset, byte_at, history_wiring, plain_byte};
 ghost use Rattle.uz_machine.specs.PadLine.{PadHistory};
 ghost use Rattle.uz_pads.specs.Pads.{pads_wiring, StandsFor};
 ghost use Rattle.uz_ports.specs.HeldStoreFits.{HeldStoreFits};
@@ -79,6 +79,14 @@ impl Board {
         } else {
             self.peek(at)
         }
+    }
+
+    /// The byte that the data space holds at an address: what was stored there, where RAM, a port or a device that isn't
+    /// modelled keeps it. 0 above 0x10FF.
+    pub fn stored(&self, at: u16) -> u8
+        ensures { result ≡ plain_byte (space_of self.now) at }
+    {
+        self.bytes.get(at as usize).copied().unwrap_or(0)
     }
 
     /// The byte of the data space.

@@ -1,5 +1,6 @@
 use Rattle.std.proofs.Common.{◌<◌, ◌≤◌, arith}
 use Rattle.uz_console.specs.Consoles.{clock_of}
+use Rattle.uz_console.proofs.EdgeTimes.{timed_on}
 use Rattle.uz_console.proofs.RunLemmas.{ends, goes_on, goes_on_quietly, stops, quietly_begins, quietly_more, next_shows, next_over, next_stops}
 use Rattle.uz_console.proofs.console.Console.advance.Goals as goal
 
@@ -49,3 +50,7 @@ loop-edges-init c = record {
   quiet = quietly_begins c.args.limit c.args.self.now;
   time = omega arith;
 }
+
+pub returns-in-Edges-clause-edges : goal.returns-in-Edges-clause-edges
+returns-in-Edges-clause-edges c =
+    timed_on c.args.self.now c.loop-edges.self c.make.new.self c.args.limit c.make.new.edges.items c.in_time.result.items c.loop-edges.invariant.run c.loop-edges.invariant.time c.in-Edges.ensures.turn c.in_time.ensures

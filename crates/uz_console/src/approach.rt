@@ -1,0 +1,56 @@
+//! Runs of so many clocks up to the first state that meets the entry condition of a certificate.
+
+ghost use Rattle.std.specs.Prelude.{◌≤◌, ◌^◌};
+ghost use Rattle.uz_schedule.specs.WellFormed.{WellFormed};
+ghost use Rattle.uz_console.specs.Approaches.{ApproachIsTimed, ApproachMovesOn, IsApproach};
+
+use crate::Console;
+use crate::running::in_time;
+use crate::turn::Made;
+use arrayvec::ArrayVec;
+use uz_core::Why;
+use uz_machine::Edge;
+use uz_schedule::Cert;
+
+/// How a run goes on to the first state that meets an entry condition.
+#[derive(Drop)]
+pub enum Approach {
+    /// More turns, none of whose states meets it. These are their edges of clock at most the limit.
+    Took { edges: ArrayVec<Edge, 4> },
+    /// The console's state is the first that meets it, at this position of the frame first.
+    Entered { position: u32 },
+    /// Every turn that begins before the limit is made, and no state meets it.
+    Over,
+    /// The next turn begins before the limit, and there is none; no state meets it.
+    Stopped(Why),
+}
+
+impl Console {
+    /// Goes on with a run of `limit` clocks from reset, of which no state before the console's own has met the
+    /// certificate's entry condition: up to the first that meets it, or to the next turn with edges. The condition is
+    /// asked only of states at the entry's pc.
+    pub fn approach(&mut self, limit: u64, cert: &Cert) -> Approach
+        requires few { limit ≤ 2 ^ 62 }
+        requires fits { WellFormed cert.now }
+        ensures run { IsApproach cert.now limit self.old self.new result }
+        ensures time { ApproachMovesOn limit self.old self.new result }
+        ensures edges { ApproachIsTimed self.old self.new result }
+    {
+        let mut edges = ArrayVec::new();
+        while self.clock() < limit {
+            if let Some(position) = self.enters_at(cert) {
+                return Approach::Entered { position };
+            }
+            match self.make(&mut edges) {
+                Made::Quiet => {}
+                Made::Edges => {
+                    return Approach::Took {
+                        edges: in_time(edges, limit),
+                    };
+                }
+                Made::Stopped(why) => return Approach::Stopped(why),
+            }
+        }
+        Approach::Over
+    }
+}
