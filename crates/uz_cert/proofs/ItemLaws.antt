@@ -11,7 +11,7 @@ use Rattle.uz_text.proofs.NumberWords.{number_read, number_again}
 use Rattle.uz_text.proofs.Cuts.{cut_read, cut_again}
 use Rattle.uz_text.proofs.Plain.{Lacks, lacks_cons, decimal_lacks_above}
 use Rattle.uz_schedule.specs.Limits.{rises}
-use Rattle.uz_schedule.specs.WellFormed.{SuccessorsFit}
+use Rattle.uz_schedule.specs.Thin.{SuccessorsFit}
 use Rattle.uz_cert.specs.Reading.{if_so, register_in, both, value_of_cut, value_in, first_in, of_register, first_value, left_after, rest_after, values_from, rest_from, each, successor_in, successors_in}
 use Rattle.uz_cert.specs.Spelling.{successor_items}
 use Rattle.uz_cert.proofs.WordTests.{so_some, so_true, then_some}

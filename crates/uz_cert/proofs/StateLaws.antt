@@ -9,7 +9,7 @@ use Rattle.uz_text.specs.Numbers.{number_below}
 use Rattle.uz_text.proofs.NumberWords.{number_read, number_again}
 use Rattle.uz_text.proofs.Plain.{EachPlain, plain, plain_decimal, plain_append, each_plain_append}
 use Rattle.uz_schedule.specs.Ends.{Ends}
-use Rattle.uz_schedule.specs.WellFormed.{IsKnownOrAny, IsByteOrAll, EntryPlaceFits, EntryFactsFit, EntryFits, PlaceFits, FactsFit, SuccessorsFit, PointFits}
+use Rattle.uz_schedule.specs.Thin.{IsKnownOrAny, IsByteOrAll, EntryPlaceFits, EntryFactsFit, EntryFits, PlaceFits, FactsFit, SuccessorsFit, PointFits}
 use Rattle.uz_schedule.specs.declared.kinds.Kind.TheVariants.{Alone}
 use Rattle.uz_schedule.specs.declared.facts.Fact.{Fact}
 use Rattle.uz_schedule.specs.declared.facts.Fact.TheVariants.{Any, Between, Line, Loop, Old, OldFlags}

@@ -20,7 +20,7 @@ use Rattle.uz_schedule.specs.declared.states.Entry.{Entry}
 use Rattle.uz_schedule.specs.declared.states.Point.{Point}
 use Rattle.uz_schedule.specs.declared.certificate.Cert.{Cert}
 use Rattle.uz_schedule.specs.Limits.{rises, KindFits, EventFits, EventsFit}
-use Rattle.uz_schedule.specs.WellFormed.{HeadFits, IsSync, EntryFits, PointFits, WellFormed}
+use Rattle.uz_schedule.specs.Thin.{HeadFits, IsSync, EntryFits, PointFits, IsThin}
 use Rattle.uz_cert.specs.Reading.{if_so, words_of, each, size_in, irq_in, stack_of, stack_in, head_of, has_room, kind_in, event_in, fall_in, events_in, entry_in, point_in, is_end, schedule_of, cert_with, points_until_end, cert_after_fall, cert_after_events, cert_of_events, cert_after_stack, cert_after_irq, cert_of_lines, cert_of_text}
 use Rattle.uz_cert.specs.Spelling.{line_of, event_words, point_words, entry_words, last_lines, state_lines, spelling}
 use Rattle.uz_cert.proofs.WordTests.{so_true, both_true, same_word}
@@ -269,7 +269,7 @@ same_schedule s events e f = λ i. record { kinds = e i; lines = f i; fall = s.f
 same_cert : (c : Cert) (head : Head) (schedule : Schedule) → c.head ≡ head → c.schedule ≡ schedule → c.rests ≡ [] → c ≡ cert_with head schedule c.entry c.points
 same_cert c head schedule e f g = λ i. record { head = e i; schedule = f i; rests = g i; entry = c.entry; points = c.points }
 
-pub text_again : (c : Cert) → WellFormed c → cert_of_text (spelling c) ≡ Some c
+pub text_again : (c : Cert) → IsThin c → cert_of_text (spelling c) ≡ Some c
 text_again c fits =
     let one = one_of c.schedule.kinds fits.one_line.kinds in
     let lines = zero_line c.schedule.lines fits.one_line.lines fits.one_line.first in

@@ -18,7 +18,7 @@ use Rattle.uz_schedule.specs.declared.states.Entry.{Entry}
 use Rattle.uz_schedule.specs.declared.states.Point.{Point}
 use Rattle.uz_schedule.specs.declared.certificate.Cert.{Cert}
 use Rattle.uz_schedule.specs.Limits.{rises, KindFits, EventFits, EventsFit, ScheduleFits}
-use Rattle.uz_schedule.specs.WellFormed.{HeadFits, IsOneLine, IsSync, EntryFits, PointFits, WellFormed}
+use Rattle.uz_schedule.specs.Thin.{HeadFits, IsOneLine, IsSync, EntryFits, PointFits, IsThin}
 use Rattle.uz_cert.specs.Reading.{if_so, words_of, each, size_in, irq_in, stack_in, head_of, has_room, kind_in, event_in, fall_in, events_in, entry_in, point_in, is_end, schedule_of, cert_with, points_until_end, cert_after_fall, cert_after_events, cert_of_events, cert_after_stack, cert_after_irq, cert_of_lines, cert_of_text}
 use Rattle.uz_cert.specs.Spelling.{line_of, event_words, point_words, entry_words, last_lines, state_lines, lines_of, spelling, run_words}
 use Rattle.uz_cert.proofs.WordTests.{so_some, then_some, and_true, word_is, zero_word, one_word}
@@ -336,7 +336,7 @@ head_fits irq s fits =
     let room = room_is s.lo s.hi s.main s.handler fits.room in
     record { low = fits.low; order = room.0; high = omega (arith, fits.high); main = omega (arith, fits.main); handler = omega (arith, fits.handler); room = room.1; cells = refl }
 
-fitting : (irq : Response) (s : StackLine) (events : List Event) (fall : ℕ) (entry : Entry) (points : List Point) (count n : ℕ) → StackFits s → length events ≡ n → 1 ≤ n → n < 1821 → All IsSyncEvent events → rises (map (λ e. e.clock) events) ≡ true → 1 ≤ fall → fall < 1820 → EntryFits count entry → All (PointFits count) points → length points ≡ count → 1 ≤ count → count < 524289 → WellFormed (cert_with (head_of irq s) (schedule_of events fall) entry points)
+fitting : (irq : Response) (s : StackLine) (events : List Event) (fall : ℕ) (entry : Entry) (points : List Point) (count n : ℕ) → StackFits s → length events ≡ n → 1 ≤ n → n < 1821 → All IsSyncEvent events → rises (map (λ e. e.clock) events) ≡ true → 1 ≤ fall → fall < 1820 → EntryFits count entry → All (PointFits count) points → length points ≡ count → 1 ≤ count → count < 524289 → IsThin (cert_with (head_of irq s) (schedule_of events fall) entry points)
 fitting irq s events fall entry points count n stack l h k syncs rise f g entry_fits points_fit long some few = record {
   head = head_fits irq s stack;
   schedule = schedule_fits events fall (events_fit events n l h k syncs rise) f g;
@@ -357,7 +357,7 @@ all_lines : (lines rest more last : List (List ℕ)) (irq : Response) (s : Stack
 all_lines lines rest more last irq s events fall entry points count n e f g h k l =
     e ∙ (rw (f, g, h, sym k, sym l) refl ∙ sym (spelled irq s events fall entry points))
 
-lines_read : (lines : List (List ℕ)) (c : Cert) → cert_of_lines lines ≡ Some c → WellFormed c × (lines ≡ lines_of c)
+lines_read : (lines : List (List ℕ)) (c : Cert) → cert_of_lines lines ≡ Some c → IsThin c × (lines ≡ lines_of c)
 lines_read lines c e =
     let all = all_read lines c e in
     let events = all.events in
@@ -365,9 +365,9 @@ lines_read lines c e =
     let run = fall.run in
     let fits = fitting all.irq all.stack events.events fall.fall run.entry run.points all.count all.n all.stack_fits events.long all.n_some all.n_few events.syncs events.rise fall.some fall.few run.entry_fits run.points_fit run.long all.some all.few in
     let are = all_lines lines all.rest events.rest fall.rest all.irq all.stack events.events fall.fall run.entry run.points all.count all.n all.are events.are fall.are run.are run.long events.long in
-    (subst WellFormed run.is fits, are ∙ ap lines_of run.is)
+    (subst IsThin run.is fits, are ∙ ap lines_of run.is)
 
-pub text_read : (text : List ℕ) (c : Cert) → cert_of_text text ≡ Some c → WellFormed c × (text ≡ spelling c)
+pub text_read : (text : List ℕ) (c : Cert) → cert_of_text text ≡ Some c → IsThin c × (text ≡ spelling c)
 text_read text c e =
     let read = lines_read (slice_split (λ b. eqb b 10) text) c e in
     (read.0, sym (join_with_byte-slice_split 10 text) ∙ ap (join_with_byte 10) read.1)

@@ -12,8 +12,8 @@ mod reading;
 pub use errors::{CertError, CertWhy};
 pub use reading::{one_text, read_cert};
 pub use uz_schedule::{
-    Bit, Cell, Cert, Entry, Event, EventKind, Fact, Head, Instance, Kind, Owner, PairFact, Point,
-    Response, Rest, Schedule, Sequence, Span, Val, Wide, well_formed,
+    Bit, Cell, Cert, Entry, Event, EventKind, Fact, Head, Instance, Kind, LineEvents, LineOrder,
+    Owner, PairFact, Point, Response, Rest, Schedule, Sequence, Span, Val, Wide, hull, well_formed,
 };
 
 #[cfg(test)]

@@ -1,10 +1,10 @@
 //! Reading the lines of the schedule: `kind` with its events, and `fall`.
 
-ghost use Rattle.std.specs.Prelude.{◌≡◌, ◌≤◌, map, IfOk, IfSome, option_map};
+ghost use Rattle.std.specs.Prelude.{◌≡◌, ◌≤◌, map, IfOk, IfSome};
 ghost use Rattle.uz_cert.specs.Reading.{kind_in as kind_of_words, event_in as event_of_words, fall_in as fall_of_words, events_in as events_of_lines, each, words_of};
 
 use std::alloc::{AllocError, Global};
-use uz_schedule::{Event, EventKind, Sequence, clocks_rise};
+use uz_schedule::{Event, EventKind, LineEvents, clocks_rise};
 use uz_text::{number, number_within, parts, short_number};
 
 /// The number of events in `kind EVENTS`.
@@ -51,10 +51,10 @@ fn event_of_line(alloc: Global, line: &[u8]) -> Result<Option<Event>, AllocError
 }
 
 /// The events of these lines, in whatever order their clocks are.
-fn any_events_in(alloc: Global, lines: &[&[u8]]) -> Result<Option<Vec<Event>>, AllocError>
-    ensures { IfOk result (λ o. option_map (λ v. v.items) o ≡ each (λ line. event_of_words (words_of line)) (map (λ w. w.now) lines.now)) }
+fn any_events_in(alloc: Global, lines: &[&[u8]]) -> Result<Option<LineEvents>, AllocError>
+    ensures { IfOk result (λ o. o ≡ each (λ line. event_of_words (words_of line)) (map (λ w. w.now) lines.now)) }
 {
-    let mut events = Vec::new(alloc);
+    let mut events = LineEvents::new(alloc);
     for line in lines {
         match event_of_line(alloc, line)? {
             Some(event) => events.push(event)?,
@@ -65,16 +65,13 @@ fn any_events_in(alloc: Global, lines: &[&[u8]]) -> Result<Option<Vec<Event>>, A
 }
 
 /// The events of these lines, clocks rising.
-pub(crate) fn events_in(
-    alloc: Global,
-    lines: &[&[u8]],
-) -> Result<Option<Sequence<Event>>, AllocError>
+pub(crate) fn events_in(alloc: Global, lines: &[&[u8]]) -> Result<Option<LineEvents>, AllocError>
     ensures { IfOk result (λ o. o ≡ events_of_lines (map (λ w. w.now) lines.now)) }
 {
     match any_events_in(alloc, lines)? {
         Some(events) => {
             if clocks_rise(events.as_slice()) {
-                Ok(Some(Sequence::from_vec(events)))
+                Ok(Some(events))
             } else {
                 Ok(None)
             }

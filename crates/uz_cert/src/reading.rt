@@ -3,7 +3,7 @@
 ghost use Rattle.std.specs.Prelude.{◌≡◌, ◌<◌, ◌-◌, ◌^◌, ℕ, List, map, length, IfOk, Some, option_map};
 ghost use Rattle.uz_cert.specs.Reading.{is_end as is_end_of, schedule_of as schedule_of_parts, cert_with, points_until_end as points_of_lines, cert_after_fall as cert_from_run, cert_after_events as cert_from_fall, cert_of_events as cert_from_events, cert_after_stack as cert_from_kind, cert_after_irq as cert_from_stack, cert_of_lines as cert_of_all, cert_of_text, words_of};
 ghost use Rattle.uz_cert.specs.Spelling.{spelling};
-ghost use Rattle.uz_schedule.specs.WellFormed.{WellFormed};
+ghost use Rattle.uz_schedule.specs.Thin.{IsThin};
 ghost use Rattle.uz_cert.specs.Outcome.{Gives};
 
 use crate::errors::{CertError, CertWhy};
@@ -11,7 +11,7 @@ use crate::read_head::{head_of, irq_of_line, size_of_line, stack_of_line};
 use crate::read_schedule::{events_in, fall_of_line, kind_of_line};
 use crate::read_states::{entry_of_line, points_in};
 use std::alloc::{AllocError, Global};
-use uz_schedule::{Cert, Entry, Event, Head, Point, Response, Schedule, Sequence};
+use uz_schedule::{Cert, Entry, Head, LineEvents, Point, Response, Schedule, Sequence};
 use uz_text::parts;
 
 /// The answer to each text that isn't a thin certificate.
@@ -31,7 +31,7 @@ fn is_end(lines: &[&[u8]]) -> bool
 }
 
 /// The schedule of one line of the one kind.
-fn schedule_of(alloc: Global, events: Sequence<Event>, fall: u16) -> Result<Schedule, AllocError>
+fn schedule_of(alloc: Global, events: LineEvents, fall: u16) -> Result<Schedule, AllocError>
     ensures { IfOk result (λ s. s ≡ schedule_of_parts events fall) }
 {
     let mut kinds = Sequence::new(alloc);
@@ -103,7 +103,7 @@ fn cert_after_events(
     alloc: Global,
     count: u32,
     head: Head,
-    events: Sequence<Event>,
+    events: LineEvents,
     lines: &[&[u8]],
 ) -> Result<Option<Cert>, AllocError>
     ensures { IfOk result (λ o. o ≡ cert_from_fall count head events (map (λ w. w.now) lines.now)) }
@@ -214,8 +214,8 @@ fn cert_in(alloc: Global, text: &[u8]) -> Result<Cert, CertError>
 pub fn read_cert(alloc: Global, text: &[u8]) -> Result<Cert, CertError>
     requires { length text.now < 2 ^ 32 - 1 }
     ensures exact { Gives result (cert_of_text text.now) }
-    ensures found { IfOk result (λ c. WellFormed c × (text.now ≡ spelling c)) }
-    ensures only { (c : Cert) → WellFormed c → text.now ≡ spelling c → Gives result (Some c) }
+    ensures found { IfOk result (λ c. IsThin c × (text.now ≡ spelling c)) }
+    ensures only { (c : Cert) → IsThin c → text.now ≡ spelling c → Gives result (Some c) }
 {
     cert_in(alloc, text)
 }
@@ -224,7 +224,7 @@ pub fn read_cert(alloc: Global, text: &[u8]) -> Result<Cert, CertError>
 /// and no two well formed certificates have one text.
 #[tactic(auto, using(crate::proofs::TextAgain::text_again, crate::proofs::TextGives::one_text))]
 pub fn one_text()
-    ensures read { (text : List ℕ) (c : Cert) → cert_of_text text ≡ Some c → WellFormed c × (text ≡ spelling c) }
-    ensures again { (c : Cert) → WellFormed c → cert_of_text (spelling c) ≡ Some c }
-    ensures once { (c d : Cert) → WellFormed c → WellFormed d → spelling c ≡ spelling d → c ≡ d }
+    ensures read { (text : List ℕ) (c : Cert) → cert_of_text text ≡ Some c → IsThin c × (text ≡ spelling c) }
+    ensures again { (c : Cert) → IsThin c → cert_of_text (spelling c) ≡ Some c }
+    ensures once { (c d : Cert) → IsThin c → IsThin d → spelling c ≡ spelling d → c ≡ d }
 {}

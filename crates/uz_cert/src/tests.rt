@@ -1,9 +1,10 @@
 //! The certificate of a ring of 1,819 points, and texts that are refused.
 
-use crate::{CertError, CertWhy, read_cert, well_formed};
+use crate::{CertError, CertWhy, read_cert};
 use itoa::Buffer;
 use std::alloc::{AllocError, Global};
 use std::test::Fail as TestFail;
+use uz_schedule::is_thin;
 
 /// Appends `point alone PC 0 0 0 0 CLOCK 0 0 r16=0 r17=1 >NEXT` for point `k`, whose pc is `2 + k` and whose clock is `k`.
 fn append_point(text: &mut Vec<u8>, k: u16, next: u16) -> Result<(), AllocError> {
@@ -37,7 +38,7 @@ fn the_ring_of_1819_points_is_read(rt: HostRuntime) -> Result<(), TestFail> {
     assert!(rt; text.len() < 100000);
     match read_cert(rt.alloc(), text.as_slice()) {
         Ok(cert) => {
-            assert!(rt; well_formed(&cert));
+            assert!(rt; is_thin(&cert));
             assert_eq!(rt; cert.points.len(), 1819);
             assert_eq!(rt; cert.entry.pc, 2);
             match cert.points.as_slice() {

@@ -10,14 +10,14 @@ use Rattle.std.proofs.lemmas.List.{get_or-map, length-map}
 use Rattle.std.proofs.lemmas.List.Elements.{All-get_or, All-from_get_or, All-tail}
 use Rattle.uz_schedule.specs.Ends.{Ends}
 use Rattle.uz_schedule.specs.Limits.{KindFits, EventFits, ScheduleFits}
-use Rattle.uz_schedule.specs.WellFormed.{IsByteOrAll, WellFormed}
+use Rattle.uz_schedule.specs.Thin.{IsByteOrAll, IsThin}
 use Rattle.uz_schedule.specs.declared.lines.Event.{Event}
 use Rattle.uz_schedule.specs.declared.lines.EventKind.{EventKind}
 use Rattle.uz_schedule.specs.declared.lines.EventKind.TheVariants.{Sync, Pixel, Sound, Leave}
 use Rattle.uz_schedule.specs.declared.lines.Schedule.{Schedule}
 use Rattle.uz_schedule.specs.declared.certificate.Cert.{Cert}
 use Rattle.uz_schedule.specs.Schedule.{start_of, frame_of, event_in, event_in_kind, events_of, event_at, sync_of, sync_at, or_else, last_level, level_at}
-use Rattle.uz_schedule.proofs.Starts.{start_is, event_is}
+use Rattle.uz_schedule.proofs.Starts.{start_is, event_there}
 use Rattle.uz_check.specs.Machine.{State, IsState}
 use Rattle.uz_check.specs.Instances.{whole, range_at}
 use Rattle.uz_check.specs.FrameRules.{IsSteadyLine, IsSteady}
@@ -28,6 +28,11 @@ use Rattle.uz_check.proofs.Level.{event_at_mod}
 
 frame_is : (s : Schedule) → frame_of s ≡ 1820 * length s.lines
 frame_is s = start_is s (length s.lines)
+
+event_is : (s : Schedule) (p : ℕ) → p % frame_of s < 1820 * length s.lines → event_at s p ≡ event_in_kind (events_of s ((p % frame_of s) / 1820)) ((p % frame_of s) % 1820)
+event_is s p h =
+    let begin = start_is s ((p % frame_of s) / 1820) in
+    event_there s p ((p % frame_of s) / 1820) ((p % frame_of s) % 1820) (omega (arith, h)) (omega arith) (omega (arith, begin))
 
 -- a list whose first event is a fall at this clock has it there
 first_event : (fall : ℕ) (events : List Event) → IsSteadyLine fall events → event_in events fall ≡ Some (Sync 0)
@@ -150,7 +155,7 @@ lows_within ranges r n h b =
     let fits = low_fits (range_at ranges r) (All-get_or IsByteOrAll ranges r whole within h) in
     (omega (arith, is), omega (arith, is, fits.0))
 
-pub some_state : (image : FinMap nat_cmp ℕ) (cert : Cert) → WellFormed cert → IsSteady cert.schedule → (s : State) × (p : ℕ) × IsState s × (s.image ≡ image) × IsEntry cert s p
+pub some_state : (image : FinMap nat_cmp ℕ) (cert : Cert) → IsThin cert → IsSteady cert.schedule → (s : State) × (p : ℕ) × IsState s × (s.image ≡ image) × IsEntry cert s p
 some_state image cert fits steady =
     let entry = cert.entry in
     let p = start_of cert.schedule entry.line + entry.clock in

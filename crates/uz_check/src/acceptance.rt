@@ -1,7 +1,7 @@
 //! The whole check.
 
 ghost use Rattle.std.specs.Prelude.{◌≡◌, ◌<◌, ◌↔◌, ℕ, true, Some, None, length, IsNone, IfSome, IsOk, IfOk, IfErr};
-ghost use Rattle.uz_schedule.specs.WellFormed.{WellFormed};
+ghost use Rattle.uz_schedule.specs.Thin.{IsThin};
 ghost use Rattle.uz_check.specs.Acceptance.{Accepts, IsThere, accepts, first_failing as first_failing_of, first_refusal};
 ghost use Rattle.uz_check.specs.Certified.{Certified};
 
@@ -58,7 +58,7 @@ pub struct Refused {
 
 /// The first point that breaks the local rule, and why.
 fn first_failing(image: &Image, cert: &Cert) -> Option<RefusedWhy>
-    requires { WellFormed cert.now }
+    requires { IsThin cert.now }
     ensures { result ≡ first_failing_of image.now cert.now 0 cert.now.points }
 {
     for (id, point) in cert.points.as_slice().iter().enumerate() {
@@ -76,7 +76,7 @@ fn first_failing(image: &Image, cert: &Cert) -> Option<RefusedWhy>
 
 /// The first item that fails, in the order of `RefusedWhy`.
 fn first_refused(image: &Image, cert: &Cert) -> Option<RefusedWhy>
-    requires { WellFormed cert.now }
+    requires { IsThin cert.now }
     ensures { result ≡ first_refusal image.now cert.now }
 {
     if let Some((line, clock)) = first_unsteady(&cert.schedule) {
@@ -92,7 +92,7 @@ fn first_refused(image: &Image, cert: &Cert) -> Option<RefusedWhy>
 /// the certificate is well formed (`uz_schedule::well_formed`). Takes no memory, and a time linear in the points' successors
 /// and the schedule's events.
 pub fn verdict(image: &Image, cert: &Cert) -> Option<RefusedWhy>
-    requires { WellFormed cert.now }
+    requires { IsThin cert.now }
     ensures exact { result ≡ first_refusal image.now cert.now }
     ensures accepted { IsNone result ↔ Accepts image.now cert.now }
     ensures there { IfSome result (IsThere cert.now) }
@@ -105,7 +105,7 @@ pub fn verdict(image: &Image, cert: &Cert) -> Option<RefusedWhy>
 /// Where it accepts them, then from every state that meets the certificate's entry condition and for every number of
 /// clocks the machine never stops, and its events are exactly those of the schedule, each at its clock.
 pub fn check(image: Image, cert: Cert) -> Result<Accepted, Refused>
-    requires { WellFormed cert }
+    requires { IsThin cert }
     ensures certified { IfOk result (λ a. Certified a.image a.cert) }
     ensures accepted { IsOk result ↔ Accepts image cert }
     ensures exact { IsOk result ↔ (first_refusal image cert ≡ None) }

@@ -8,8 +8,8 @@ use std::alloc::{AllocError, Global};
 use std::test::Fail as TestFail;
 use uz_hex::Image;
 use uz_schedule::{
-    Bit, Cert, Entry, Event, EventKind, Fact, Head, Kind, PairFact, Point, Response, Schedule,
-    Sequence, Span, well_formed,
+    Bit, Cert, Entry, Event, EventKind, Fact, Head, Kind, LineEvents, PairFact, Point, Response,
+    Schedule, Sequence, Span, is_thin,
 };
 
 fn set_word(image: &mut Image, at: u16, word: u16)
@@ -75,7 +75,7 @@ fn points(alloc: Global, count: u16) -> Result<Sequence<Point>, AllocError>
 
 /// One line, on which sync falls and then rises at these clocks.
 fn schedule(alloc: Global, fall: u16, rise: u16) -> Result<Schedule, AllocError> {
-    let mut events = Sequence::new(alloc);
+    let mut events = LineEvents::new(alloc);
     events.push(Event {
         clock: 1,
         kind: EventKind::Sync(0),
@@ -199,7 +199,7 @@ fn rings_are_accepted_or_refused_at_the_first_failing_item(
         let mut image = ring(rt.alloc(), case.jump)?;
         set_word(&mut image, 3, case.third);
         let cert = cert(rt.alloc(), case)?;
-        let well_formed = well_formed(&cert);
+        let well_formed = is_thin(&cert);
         assert!(rt; well_formed);
         assert_eq!(rt; verdict(&image, &cert), case.refused);
         match check(image, cert) {

@@ -5,13 +5,13 @@ use Rattle.std.proofs.lemmas.Nat.{or_lt, and_le_l}
 use Rattle.std.proofs.Math.Pow.{shr_mono, pow-lt}
 use Rattle.std.proofs.lemmas.Bool.Decides.{nat_tests}
 use Rattle.uz_machine.specs.Arithmetic.{AluResult, pair_sum_of, pair_difference_of, swap_of, with_bit, bit_is_set}
-use Rattle.uz_schedule.specs.Ends.{Ends}
+use Rattle.uz_schedule.specs.Ends.{Ends, hull}
 use Rattle.uz_schedule.specs.declared.facts.Bit.{Bit}
 use Rattle.uz_schedule.specs.declared.facts.Bit.TheVariants.{Zero, One, Free}
 use Rattle.uz_range.specs.declared.answer.WideRanged.{WideRanged}
 use Rattle.uz_range.specs.Containment.{IsWithin, MayBe, Admits, CoversWide}
 use Rattle.uz_range.specs.Answers.{is_single, exact_wide_answer, wide_answer, is_known}
-use Rattle.uz_range.specs.Rules.{pair_add_answer, pair_sub_answer, hull_answer, low_answer, high_answer, swap_answer, bst_answer, bld_answer}
+use Rattle.uz_range.specs.Rules.{pair_add_answer, pair_sub_answer, low_answer, high_answer, swap_answer, bst_answer, bld_answer}
 use Rattle.uz_range.proofs.ShapesCover.{only, zero_allows, top_by, allow_themselves, both_true, only_flag}
 
 pub choose_wide : (t : Bool) (x y : WideRanged) (o : AluResult) → (t ≡ true → CoversWide x o) → (t ≡ false → CoversWide y o) → CoversWide (if t then x else y) o
@@ -44,7 +44,7 @@ pair_add_covers p k x w wk h =
     wide_covers (p.lo + k - 65536) (p.hi + k - 65536) One ((x + k) % 65536) _ _ _ _ _ (omega (arith, h.above, h.below)) (omega (arith, h.above, h.below)) (ap Some (carried (nat_le 32768 ((x + k) % 65536)) (nat_le 32768 x) (let g' : (x + k) % 65536 < 32768 = omega arith in grind (arith, nat_tests)) (let g : 32768 ≤ x = omega arith in grind (arith, nat_tests)))))
     (λ t''. wide_covers 0 65535 Free ((x + k) % 65536) _ _ _ _ _ (omega arith) (omega arith) tt)))
 
-pub hull_covers : (low high : Ends) (x y : ℕ) → IsWithin x low → IsWithin y high → IsWithin (y * 256 + x) (hull_answer low high)
+pub hull_covers : (low high : Ends) (x y : ℕ) → IsWithin x low → IsWithin y high → IsWithin (y * 256 + x) (hull low high)
 hull_covers low high x y hx hy = record { above = omega (arith, hx.above, hy.above); below = omega (arith, hx.below, hy.below) }
 
 pub choose_ends : (t : Bool) (x y : Ends) (v : ℕ) → (t ≡ true → IsWithin v x) → (t ≡ false → IsWithin v y) → IsWithin v (if t then x else y)

@@ -1,7 +1,7 @@
 -- The range rules, by class of instruction (this project's profile).
 -- Where every byte and flag that the result reads is single, the answer is the instruction's own result (AVR Instruction
 -- Set Manual). Else it is the range that the rule names.
-use Rattle.std.specs.Prelude.{ℕ, ◌+◌, ◌-◌, ◌*◌, ◌/◌, ◌%◌, ◌^◌, Bool, false, true, ◌&&◌, min, max, slice_set, slice_index_or, nat_lt, nat_le, nat_eq, if◌then◌else◌}
+use Rattle.std.specs.Prelude.{ℕ, ◌+◌, ◌-◌, ◌*◌, ◌/◌, ◌%◌, ◌^◌, false, true, ◌&&◌, min, max, slice_set, slice_index_or, nat_lt, nat_le, nat_eq, if◌then◌else◌}
 use Rattle.uz_machine.specs.Arithmetic.{AluResult, sum_of, difference_of, negation_of, and_of, or_of, xor_of, complement_of, increment_of, decrement_of, logical_shift_of, arithmetic_shift_of, rotation_of, swap_of, product_of, pair_sum_of, pair_difference_of, with_bit, bit_is_set}
 use Rattle.uz_schedule.specs.Ends.{Ends}
 use Rattle.uz_schedule.specs.declared.facts.Bit.{Bit}
@@ -141,10 +141,6 @@ abbrev pub pair_sub_answer : Ends → ℕ → WideRanged
 pair_sub_answer p k =
     if is_single p then exact_wide_answer (pair_difference_of p.lo k)
     else wrapped_pair_difference (p.lo + 65536 - k) (p.hi + 65536 - k)
-
--- the least range that holds every pair of two ranges of bytes
-abbrev pub hull_answer : Ends → Ends → Ends
-hull_answer low high = ends (high.lo * 256 + low.lo) (high.hi * 256 + low.hi)
 
 abbrev pub low_answer : Ends → Ends
 low_answer p = if nat_eq (p.lo / 256) (p.hi / 256) then ends (p.lo % 256) (p.hi % 256) else ends 0 255

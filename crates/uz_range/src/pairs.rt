@@ -2,8 +2,9 @@
 
 ghost use Rattle.std.specs.Prelude.{◌≡◌, ◌<◌, ◌≤◌, ◌+◌, ◌*◌, ◌/◌, ◌%◌, ℕ};
 ghost use Rattle.uz_machine.specs.Arithmetic.{pair_sum_of, pair_difference_of};
+ghost use Rattle.uz_schedule.specs.Ends.{hull as hull_of};
 ghost use Rattle.uz_range.specs.Containment.{IsWithin, CoversWide};
-ghost use Rattle.uz_range.specs.Rules.{pair_add_answer, pair_sub_answer, hull_answer, low_answer, high_answer};
+ghost use Rattle.uz_range.specs.Rules.{pair_add_answer, pair_sub_answer, low_answer, high_answer};
 
 use crate::answer::{WideRanged, exactly_wide, is_single_wide, wide_arithmetic};
 use uz_core::{add16, sub16};
@@ -28,10 +29,10 @@ pub fn pair_sub(a: Wide, k: u8) -> WideRanged
 
 /// The pairs whose bytes lie in two ranges: the least range that holds them all.
 pub fn hull(low: Span, high: Span) -> Wide
-    ensures row { result ≡ hull_answer low high }
+    ensures row { result ≡ hull_of low high }
     ensures holds { (x y : ℕ) → IsWithin x low → IsWithin y high → IsWithin (y * 256 + x) result }
 {
-    hull_by_rule(low, high)
+    uz_schedule::hull(low, high)
 }
 
 /// The low bytes of a range of pairs. They have the ends' low bytes where all pairs share one high byte, and else are every byte.
@@ -86,16 +87,6 @@ fn pair_sub_by_rule(a: Wide, k: u8) -> WideRanged
     } else {
         wide_arithmetic(0, 65535, Bit::Free)
     }
-}
-
-/// What [`hull`] answers.
-fn hull_by_rule(low: Span, high: Span) -> Wide
-    ensures { result ≡ hull_answer low high }
-{
-    Wide::between(
-        high.lo() as u16 * 256 + low.lo() as u16,
-        high.hi() as u16 * 256 + low.hi() as u16,
-    )
 }
 
 /// What [`low`] answers.

@@ -51,7 +51,7 @@ use Rattle.uz_transfer.specs.Values.{span_of, value_at, with_flag_list}
 use Rattle.uz_transfer.specs.Refusals.{fail_of}
 use Rattle.uz_events.specs.Events.{event_of, shown_at, shown, listed}
 use Rattle.uz_rules.proofs.StoreShows.{kinds_listed}
-use Rattle.uz_transfer.specs.Step.{Lines, exits_of, clears_flag, clock_at, ends_line, following_of, sampled_of, step_unless, step_of_row, successor, IsReadAt}
+use Rattle.uz_transfer.specs.Step.{Lines, exits_of, clears_flag, clock_after, ends_line, following_of, sampled_of, step_unless, step_of_row, successor, IsReadAt}
 use Rattle.uz_rules.specs.Meets.{top_of, TimerMeets, TimerCounts, LevelMeets, Meets, InstanceFits}
 use Rattle.uz_rules.specs.OneStep.{IsNoEntry, MainTimer, OneStep, InstructionBegins, Contained, AloneContained, HandlerContained, MainContained, main_emits}
 use Rattle.uz_transfer.specs.declared.step.Exit.{Exit}
@@ -394,7 +394,7 @@ time_step head lines inst o d s e words clocks event kind fits b m full low long
   where
     placed_as : Kind → Instance
     placed_as k = record (successor lines inst (plan_of head (lines.length inst.line) s.image e words clocks inst event) (exit_at e words clocks s)) {
-      clock = if is_main k then inst.clock else clock_at lines inst.line (inst.clock + clocks (outcome_at e words clocks s));
+      clock = if is_main k then inst.clock else clock_after lines inst.line (inst.clock + clocks (outcome_at e words clocks s));
       pending = if is_handler k then not (clears_flag e inst) && (inst.pending || ends_line lines inst.line (inst.clock + clocks (outcome_at e words clocks s))) else inst.pending;
     }
 

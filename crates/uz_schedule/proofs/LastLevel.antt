@@ -1,16 +1,16 @@
--- The search for the last level, a line at a time.
-use Rattle.std.proofs.Common.{◌≡◌, ℕ, zero, suc, ◌+◌, ◌-◌, ◌*◌, ◌/◌, ◌%◌, ◌<◌, ◌≤◌, Bool, true, false, ◌&&◌, cond, eqb, leb, ltb, List, [], ◌∷◌, length, map, All, lit≤, refl, sym, ◌∙◌, ap, arith}
+-- The search for the last level goes round the frame, and goes on a line at a time.
+use Rattle.std.proofs.Common.{◌≡◌, ℕ, zero, suc, ◌+◌, ◌-◌, ◌*◌, ◌%◌, ◌<◌, ◌≤◌, Bool, true, false, ◌&&◌, cond, eqb, leb, ltb, List, [], ◌∷◌, length, map, All, lit≤, refl, sym, subst, ◌∙◌, ap, arith}
 use Rattle.std.specs.Prelude.{Option, Some, None, is_some, slice_get, slice_index}
-use Rattle.std.proofs.Math.Nat.{add-mod_left, mod-eq_of_lt}
+use Rattle.std.proofs.Math.Nat.{add-mod_left}
 use Rattle.std.proofs.lemmas.Bool.{eqb-true}
 use Rattle.std.proofs.lemmas.Bool.Decides.{nat_tests}
 use Rattle.std.proofs.lemmas.List.Elements.{All-head, All-tail}
 use Rattle.uz_schedule.specs.declared.lines.Schedule.{Schedule}
 use Rattle.uz_schedule.specs.declared.lines.Event.{Event}
 use Rattle.uz_schedule.specs.Limits.{rises_from, rises, EventsFit, ScheduleFits}
-use Rattle.uz_schedule.specs.Schedule.{frame_of, event_from, event_in, event_in_kind, events_of, level_set, sync_of, sync_at, or_else, last_level, level_at}
+use Rattle.uz_schedule.specs.Schedule.{length_of, start_of, frame_of, event_from, event_in, event_in_kind, events_of, level_set, sync_of, sync_at, or_else, last_level, level_at}
 use Rattle.uz_schedule.specs.Levels.{set_by, last_set, last_of_kind, line_round}
-use Rattle.uz_schedule.proofs.Starts.{start_is, event_is}
+use Rattle.uz_schedule.proofs.Starts.{place_below, event_of_place}
 
 -- choices
 
@@ -115,69 +115,6 @@ kind_step : (o : Option (List Event)) (n : ℕ) → Rises o → last_of_kind o (
 kind_step None n h = refl
 kind_step (Some events) n h = set_step 0 n events h
 
--- the positions of a line
-
-frame_is : (s : Schedule) → frame_of s ≡ 1820 * length s.lines
-frame_is s = start_is s (length s.lines)
-
-small_mod : (p m : ℕ) → p < m → p % m ≡ p
-small_mod p m h = mod-eq_of_lt h
-
-next_mod : (p q m : ℕ) → p ≡ m + q → q < m → p % m ≡ q
-next_mod p q m e h = ap (λ k. k % m) e ∙ (add-mod_left m q ∙ mod-eq_of_lt h)
-
-round_is : (L q n m : ℕ) → m ≡ 1820 * L → n < 1820 → q < 2 * L → (1820 * q + n) % m ≡ 1820 * (cond (ltb q L) q (q - L)) + n
-round_is L q n m e h k = by_test (ltb q L) refl
-  where
-    below : (a b : ℕ) → ltb a b ≡ true → a < b
-    below a b f = grind (arith, nat_tests)
-
-    not_below : (a b : ℕ) → ltb a b ≡ false → b ≤ a
-    not_below a b f = grind (arith, nat_tests)
-
-    by_test : (t : Bool) → ltb q L ≡ t → (1820 * q + n) % m ≡ 1820 * (cond t q (q - L)) + n
-    by_test true f =
-        let less = below q L f in
-        small_mod (1820 * q + n) m (omega arith)
-    by_test false f =
-        let more = not_below q L f in
-        next_mod (1820 * q + n) (1820 * (q - L) + n) m (omega arith) (omega arith)
-
-round_below : (L q : ℕ) → q < 2 * L → cond (ltb q L) q (q - L) < L
-round_below L q h = by_test (ltb q L) refl
-  where
-    below : (a b : ℕ) → ltb a b ≡ true → a < b
-    below a b f = grind (arith, nat_tests)
-
-    by_test : (t : Bool) → ltb q L ≡ t → cond t q (q - L) < L
-    by_test true f = below q L f
-    by_test false f = omega arith
-
--- what is set at a clock of a line, lines counted on round the frame
-set_at : (s : Schedule) (q n : ℕ) → n < 1820 → q < 2 * length s.lines → sync_at s (1820 * q + n) ≡ sync_of (event_in_kind (events_of s (line_round s q)) n)
-set_at s q n h k =
-    let place = round_is (length s.lines) q n (frame_of s) (frame_is s) h k in
-    let small = round_below (length s.lines) q k in
-    let l = line_round s q in
-    let here : (1820 * q + n) % frame_of s < 1820 * length s.lines = omega arith in
-    let line : ((1820 * q + n) % frame_of s) / 1820 ≡ l = omega arith in
-    let clock : ((1820 * q + n) % frame_of s) % 1820 ≡ n = omega arith in
-    ap sync_of (event_is s (1820 * q + n) here ∙ line_clock s ((1820 * q + n) % frame_of s / 1820) l ((1820 * q + n) % frame_of s % 1820) n line clock)
-  where
-    line_clock : (s : Schedule) (a b c d : ℕ) → a ≡ b → c ≡ d → event_in_kind (events_of s a) c ≡ event_in_kind (events_of s b) d
-    line_clock s a b c d e f = rw (e, f) refl
-
--- a search of the first n clocks of a line
-pub line_search : (s : Schedule) (q n : ℕ) → ScheduleFits s → n ≤ 1820 → q < 2 * length s.lines → last_level (sync_at s) n (1820 * q + n - 1) ≡ last_of_kind (events_of s (line_round s q)) n
-line_search s q zero fits h k = sym (kind_none (events_of s (line_round s q)) (kind_rises s.kinds (slice_index s.lines (line_round s q)) fits.kinds.each))
-line_search s q (suc n) fits h k =
-    let here : 1820 * q + suc n - 1 ≡ 1820 * q + n = omega arith in
-    let rest = line_search s q n fits (omega arith) k in
-    same_search (sync_at s) (suc n) (1820 * q + suc n - 1) (1820 * q + n) here
-    ∙ (ap (λ o. or_else o (last_level (sync_at s) n (1820 * q + n - 1))) (set_at s q n (omega arith) k)
-    ∙ (ap (or_else (sync_of (event_in_kind (events_of s (line_round s q)) n))) rest
-    ∙ sym (kind_step (events_of s (line_round s q)) n (kind_rises s.kinds (slice_index s.lines (line_round s q)) fits.kinds.each))))
-
 -- a search goes round the frame
 
 same_round : (s : Schedule) (p : ℕ) → sync_at s (p + frame_of s) ≡ sync_at s p
@@ -220,63 +157,223 @@ search_passed s n m p h e =
     let whole : m ≡ n + (m - n) = omega arith in
     ap (λ k. last_level (sync_at s) k p) whole ∙ (search_more (sync_at s) n (m - n) p ∙ none_first (last_level (sync_at s) n p) (last_level (sync_at s) (m - n) (p - n)) e)
 
+-- lines, counted on round the frame
+
+-- where line q begins, lines counted on round the frame once
+unfoldable pub start_round : Schedule → ℕ → ℕ
+start_round s q = cond (ltb q (length s.lines)) (start_of s q) (frame_of s + start_of s (q - length s.lines))
+
+below : (a b : ℕ) → ltb a b ≡ true → a < b
+below a b f = grind (arith, nat_tests)
+
+not_below : (a b : ℕ) → ltb a b ≡ false → b ≤ a
+not_below a b f = grind (arith, nat_tests)
+
+ltb_true : (a b : ℕ) → a < b → ltb a b ≡ true
+ltb_true a b h = grind (arith, nat_tests)
+
+ltb_false : (a b : ℕ) → b ≤ a → ltb a b ≡ false
+ltb_false a b h = grind (arith, nat_tests)
+
+round_is : (s : Schedule) (q : ℕ) → start_round s q ≡ cond (ltb q (length s.lines)) (start_of s q) (frame_of s + start_of s (q - length s.lines))
+unfolding start_round
+round_is s q = refl
+
+chosen : {A : Type 0} (b : Bool) (x y : A) → b ≡ true → cond b x y ≡ x
+chosen true x y e = refl
+chosen false x y e = absurd cc
+
+passed : {A : Type 0} (b : Bool) (x y : A) → b ≡ false → cond b x y ≡ y
+passed true x y e = absurd cc
+passed false x y e = refl
+
+first_round : (s : Schedule) (q : ℕ) → q < length s.lines → start_round s q ≡ start_of s q
+first_round s q h = round_is s q ∙ chosen (ltb q (length s.lines)) _ _ (ltb_true q (length s.lines) h)
+
+next_round : (s : Schedule) (q : ℕ) → length s.lines ≤ q → start_round s q ≡ frame_of s + start_of s (q - length s.lines)
+next_round s q h = round_is s q ∙ passed (ltb q (length s.lines)) _ _ (ltb_false q (length s.lines) h)
+
+-- the line after q begins where q ends
+round_step : (s : Schedule) (q : ℕ) → start_round s (suc q) ≡ start_round s q + length_of s (line_round s q)
+round_step s q = by_tests (ltb (suc q) (length s.lines)) (ltb q (length s.lines)) refl refl
+  where
+    by_tests : (t u : Bool) → ltb (suc q) (length s.lines) ≡ t → ltb q (length s.lines) ≡ u → start_round s (suc q) ≡ start_round s q + length_of s (line_round s q)
+    by_tests true u e f =
+        let less = below (suc q) (length s.lines) e in
+        first_round s (suc q) less ∙ sym (ap (λ n. n + length_of s (line_round s q)) (first_round s q (omega (arith, less))))
+    by_tests false true e f =
+        let less = below q (length s.lines) f in
+        let more = not_below (suc q) (length s.lines) e in
+        let none : suc q - length s.lines ≡ 0 = omega (arith, less, more) in
+        let last : suc q ≡ length s.lines = omega (arith, less, more) in
+        let one = next_round s (suc q) more in
+        let two = first_round s q less in
+        let zero_begin = ap (start_of s) none in
+        let frame = ap (start_of s) last in
+        let step : start_of s (suc q) ≡ start_of s q + length_of s q = refl in
+        omega (arith, one, two, zero_begin, frame, step)
+    by_tests false false e f =
+        let more = not_below q (length s.lines) f in
+        let one = next_round s (suc q) (omega (arith, more)) in
+        let two = next_round s q more in
+        let next : suc q - length s.lines ≡ suc (q - length s.lines) = omega (arith, more) in
+        let begin = ap (start_of s) next in
+        let step : start_of s (suc (q - length s.lines)) ≡ start_of s (q - length s.lines) + length_of s (q - length s.lines) = refl in
+        omega (arith, one, two, begin, step)
+
+round_more : (s : Schedule) (q d : ℕ) → start_round s q ≤ start_round s (q + d)
+round_more s q zero =
+    let same = ap (start_round s) (line_zero q) in
+    omega (arith, same)
+  where
+    line_zero : (l : ℕ) → l + 0 ≡ l
+    line_zero l = omega arith
+round_more s q (suc d) =
+    let next = ap (start_round s) (line_suc q d) in
+    let before = round_more s q d in
+    let step = round_step s (q + d) in
+    omega (arith, next, before, step)
+  where
+    line_suc : (l d : ℕ) → l + suc d ≡ suc (l + d)
+    line_suc l d = omega arith
+
+-- what is set at a clock of a line, lines counted on round the frame
+set_at : (s : Schedule) (q n : ℕ) → n < length_of s (line_round s q) → q < 2 * length s.lines → sync_at s (start_round s q + n) ≡ sync_of (event_in_kind (events_of s (line_round s q)) n)
+set_at s q n h k = by_test (ltb q (length s.lines)) refl
+  where
+    line_is : (l m : ℕ) → l ≡ m → sync_of (event_in_kind (events_of s l) n) ≡ sync_of (event_in_kind (events_of s m) n)
+    line_is l m e = ap (λ i. sync_of (event_in_kind (events_of s i) n)) e
+
+    by_test : (t : Bool) → ltb q (length s.lines) ≡ t → sync_at s (start_round s q + n) ≡ sync_of (event_in_kind (events_of s (line_round s q)) n)
+    by_test true e =
+        let less = below q (length s.lines) e in
+        let line : line_round s q ≡ q = chosen (ltb q (length s.lines)) q (q - length s.lines) e in
+        ap (λ i. sync_at s (i + n)) (first_round s q less)
+        ∙ (ap sync_of (event_of_place s q n less (omega (arith, h))) ∙ line_is q (line_round s q) (sym line))
+    by_test false e =
+        let more = not_below q (length s.lines) e in
+        let line : line_round s q ≡ q - length s.lines = passed (ltb q (length s.lines)) q (q - length s.lines) e in
+        let begin = next_round s q more in
+        let place : start_round s q + n ≡ (start_of s (q - length s.lines) + n) + frame_of s = omega (arith, begin) in
+        ap (sync_at s) place
+        ∙ (same_round s (start_of s (q - length s.lines) + n)
+        ∙ (ap sync_of (event_of_place s (q - length s.lines) n (omega (arith, more, k)) (omega (arith, h))) ∙ line_is (q - length s.lines) (line_round s q) (sym line)))
+
+kind_rises_at : (s : Schedule) (l : ℕ) → ScheduleFits s → Rises (events_of s l)
+kind_rises_at s l fits = kind_rises s.kinds (slice_index s.lines l) fits.kinds.each
+
+-- a search of the first n clocks of a line
+line_search : (s : Schedule) (q n : ℕ) → ScheduleFits s → n ≤ length_of s (line_round s q) → q < 2 * length s.lines → last_level (sync_at s) n (start_round s q + n - 1) ≡ last_of_kind (events_of s (line_round s q)) n
+line_search s q zero fits h k = sym (kind_none (events_of s (line_round s q)) (kind_rises_at s (line_round s q) fits))
+line_search s q (suc n) fits h k =
+    let here : start_round s q + suc n - 1 ≡ start_round s q + n = omega arith in
+    let rest = line_search s q n fits (omega (arith, h)) k in
+    same_search (sync_at s) (suc n) (start_round s q + suc n - 1) (start_round s q + n) here
+    ∙ (ap (λ o. or_else o (last_level (sync_at s) n (start_round s q + n - 1))) (set_at s q n (omega (arith, h)) k)
+    ∙ (ap (or_else (sync_of (event_in_kind (events_of s (line_round s q)) n))) rest
+    ∙ sym (kind_step (events_of s (line_round s q)) n (kind_rises_at s (line_round s q) fits))))
+
 -- the level, by lines
 
 none_is : (o : Option ℕ) → is_some o ≡ false → o ≡ None
 none_is None e = refl
 none_is (Some v) e = absurd cc
 
-round_again : (L l : ℕ) → l < L → cond (ltb (l + L) L) (l + L) (l + L - L) ≡ l
-round_again L l h = grind (arith, nat_tests)
+-- from clock k of line l back to the line's begin
+first_search : (s : Schedule) (l k : ℕ) → ScheduleFits s → l < length s.lines → k < length_of s l → last_level (sync_at s) (k + 1) (start_of s l + k + frame_of s) ≡ last_of_kind (events_of s l) (k + 1)
+first_search s l k fits h j =
+    let more : length s.lines ≤ l + length s.lines = omega arith in
+    let back : l + length s.lines - length s.lines ≡ l = omega arith in
+    let begin = next_round s (l + length s.lines) more in
+    let begin_of = ap (start_of s) back in
+    let at : start_of s l + k + frame_of s ≡ start_round s (l + length s.lines) + (k + 1) - 1 = omega (arith, begin, begin_of) in
+    let line : line_round s (l + length s.lines) ≡ l = passed (ltb (l + length s.lines) (length s.lines)) (l + length s.lines) (l + length s.lines - length s.lines) (ltb_false (l + length s.lines) (length s.lines) more) ∙ back in
+    same_search (sync_at s) (k + 1) (start_of s l + k + frame_of s) (start_round s (l + length s.lines) + (k + 1) - 1) at
+    ∙ (line_search s (l + length s.lines) (k + 1) fits (omega (arith, j)) (omega (arith, h)) ∙ ap (λ i. last_of_kind (events_of s i) (k + 1)) line)
 
--- from a place back to its line's begin
-first_search : (s : Schedule) (place : ℕ) → ScheduleFits s → place < 1820 * length s.lines → last_level (sync_at s) (place % 1820 + 1) (place + frame_of s) ≡ last_of_kind (events_of s (place / 1820)) (place % 1820 + 1)
-first_search s place fits h =
-    let L = length s.lines in
-    let frame = frame_is s in
-    let at : place + frame_of s ≡ 1820 * (place / 1820 + L) + (place % 1820 + 1) - 1 = omega arith in
-    let found = line_search s (place / 1820 + L) (place % 1820 + 1) fits (omega arith) (omega arith) in
-    let line = round_again L (place / 1820) (omega arith) in
-    same_search (sync_at s) (place % 1820 + 1) (place + frame_of s) (1820 * (place / 1820 + L) + (place % 1820 + 1) - 1) at
-    ∙ (found ∙ ap (λ l. last_of_kind (events_of s l) (place % 1820 + 1)) line)
+level_place : (s : Schedule) (p l k : ℕ) → start_of s l + k ≡ p % frame_of s → level_at s p ≡ last_level (sync_at s) (frame_of s) (start_of s l + k + frame_of s)
+level_place s p l k e = ap (λ i. last_level (sync_at s) (frame_of s) (i + frame_of s)) (sym e)
 
-first_found : (s : Schedule) (place : ℕ) (o : Option ℕ) → ScheduleFits s → place < 1820 * length s.lines → o ≡ last_of_kind (events_of s (place / 1820)) (place % 1820 + 1) → is_some o ≡ true → o ≡ last_level (sync_at s) (frame_of s) (place + frame_of s)
-first_found s place None fits h e some = absurd cc
-first_found s place (Some v) fits h e some =
-    let frame = frame_is s in
-    sym (search_found s (place % 1820 + 1) (frame_of s) (place + frame_of s) v (omega arith) (first_search s place fits h ∙ sym e))
+-- the line itself has the level
+pub level_first : (s : Schedule) (p l k : ℕ) (o : Option ℕ) → ScheduleFits s → l < length s.lines → k < length_of s l → start_of s l + k ≡ p % frame_of s → o ≡ last_of_kind (events_of s l) (k + 1) → is_some o ≡ true → o ≡ level_at s p
+level_first s p l k None fits h j e f some = absurd cc
+level_first s p l k (Some v) fits h j e f some =
+    let small = place_below s l k h j in
+    sym (level_place s p l k e ∙ search_found s (k + 1) (frame_of s) (start_of s l + k + frame_of s) v (omega (arith, small)) (first_search s l k fits h j ∙ sym f))
 
-pub level_first : (s : Schedule) (p f : ℕ) (o : Option ℕ) → ScheduleFits s → f ≡ frame_of s → 0 < f → o ≡ last_of_kind (events_of s (p % f / 1820)) (p % f % 1820 + 1) → is_some o ≡ true → o ≡ level_at s p
-level_first s p f o fits frame some e is =
-    let long = frame_is s in
-    let small : p % f < 1820 * length s.lines = omega arith in
-    first_found s (p % f) o fits small e is ∙ ap (λ k. last_level (sync_at s) (frame_of s) (p % k + frame_of s)) frame
-
-pub level_before_line : (s : Schedule) (p f m q : ℕ) (o : Option ℕ) → ScheduleFits s → f ≡ frame_of s → 0 < f → o ≡ last_of_kind (events_of s (p % f / 1820)) (p % f % 1820 + 1) → is_some o ≡ false → m ≡ f → q ≡ p % f + f - (p % f % 1820 + 1) → level_at s p ≡ last_level (sync_at s) m q
-level_before_line s p f m q o fits frame some e none a b =
-    let long = frame_is s in
-    let place = p % f in
-    let n = place % 1820 + 1 in
-    let small : place < 1820 * length s.lines = omega arith in
-    let empty = first_search s place fits small ∙ (sym e ∙ none_is o none) in
-    let back : q ≡ place + frame_of s - n = omega arith in
-    let count : frame_of s ≡ m = omega arith in
-    ap (λ k. last_level (sync_at s) (frame_of s) (p % k + frame_of s)) (sym frame)
-    ∙ (sym (search_before s place n (place + frame_of s) refl (omega arith) empty)
-    ∙ (ap (λ k. last_level (sync_at s) k (place + frame_of s - n)) count ∙ same_search (sync_at s) m (place + frame_of s - n) q (sym back)))
+-- it has none, so lines are searched from the one before it, all round the frame
+level_before : (s : Schedule) (p l k : ℕ) (o : Option ℕ) → ScheduleFits s → l < length s.lines → k < length_of s l → start_of s l + k ≡ p % frame_of s → o ≡ last_of_kind (events_of s l) (k + 1) → is_some o ≡ false → level_at s p ≡ last_level (sync_at s) (start_round s (l + length s.lines) - start_of s l) (start_round s (l + length s.lines) - 1)
+level_before s p l k o fits h j e f none =
+    let small = place_below s l k h j in
+    let empty = first_search s l k fits h j ∙ (sym f ∙ none_is o none) in
+    let begin = next_round s (l + length s.lines) (omega arith) in
+    let begin_of = ap (start_of s) (line_back l (length s.lines)) in
+    let count : frame_of s ≡ start_round s (l + length s.lines) - start_of s l = omega (arith, begin, begin_of) in
+    let back : start_of s l + k + frame_of s - (k + 1) ≡ start_round s (l + length s.lines) - 1 = omega (arith, begin, begin_of) in
+    level_place s p l k e
+    ∙ (sym (search_before s (start_of s l + k) (k + 1) (start_of s l + k + frame_of s) refl (omega arith) empty)
+    ∙ (ap (λ i. last_level (sync_at s) i (start_of s l + k + frame_of s - (k + 1))) count ∙ same_search (sync_at s) (start_round s (l + length s.lines) - start_of s l) (start_of s l + k + frame_of s - (k + 1)) (start_round s (l + length s.lines) - 1) back))
+  where
+    line_back : (l n : ℕ) → l + n - n ≡ l
+    line_back l n = omega arith
 
 -- the whole line before the count-th
-whole_line : (s : Schedule) (count : ℕ) → ScheduleFits s → 0 < count → count ≤ 2 * length s.lines → last_level (sync_at s) 1820 (1820 * count - 1) ≡ last_of_kind (events_of s (line_round s (count - 1))) 1820
+whole_line : (s : Schedule) (count : ℕ) → ScheduleFits s → 0 < count → count ≤ 2 * length s.lines → last_level (sync_at s) (length_of s (line_round s (count - 1))) (start_round s count - 1) ≡ last_of_kind (events_of s (line_round s (count - 1))) (length_of s (line_round s (count - 1)))
 whole_line s count fits h k =
-    let at : 1820 * count - 1 ≡ 1820 * (count - 1) + 1820 - 1 = omega arith in
-    same_search (sync_at s) 1820 (1820 * count - 1) (1820 * (count - 1) + 1820 - 1) at ∙ line_search s (count - 1) 1820 fits (lit≤ tt) (omega arith)
+    let is : suc (count - 1) ≡ count = omega (arith, h) in
+    let begin = round_step s (count - 1) in
+    let same = ap (start_round s) is in
+    let at : start_round s count - 1 ≡ start_round s (count - 1) + length_of s (line_round s (count - 1)) - 1 = omega (arith, begin, same) in
+    same_search (sync_at s) (length_of s (line_round s (count - 1))) (start_round s count - 1) (start_round s (count - 1) + length_of s (line_round s (count - 1)) - 1) at
+    ∙ line_search s (count - 1) (length_of s (line_round s (count - 1))) fits (omega arith) (omega (arith, h, k))
 
-pub level_of_line : (s : Schedule) (p m count : ℕ) (o : Option ℕ) → ScheduleFits s → 0 < count → count ≤ 2 * length s.lines → 1820 ≤ m → o ≡ last_of_kind (events_of s (line_round s (count - 1))) 1820 → is_some o ≡ true → level_at s p ≡ last_level (sync_at s) m (1820 * count - 1) → o ≡ level_at s p
-level_of_line s p m count None fits h k l e some now = absurd cc
-level_of_line s p m count (Some v) fits h k l e some now =
-    sym (now ∙ search_found s 1820 m (1820 * count - 1) v l (whole_line s count fits h k ∙ sym e))
+-- the lines that are left to search are as long as those from l on
+whole_fits : (s : Schedule) (l count : ℕ) → l < length s.lines → l < count → start_of s l + length_of s (line_round s (count - 1)) ≤ start_round s count
+whole_fits s l count h k =
+    let is : suc (count - 1) ≡ count = omega (arith, k) in
+    let begin = round_step s (count - 1) in
+    let same = ap (start_round s) is in
+    let whole : l + (count - 1 - l) ≡ count - 1 = omega (arith, k) in
+    let later = round_more s l (count - 1 - l) in
+    let at = ap (start_round s) whole in
+    let first = first_round s l h in
+    omega (arith, begin, same, later, at, first)
 
-pub level_passed : (s : Schedule) (p m count n q : ℕ) (o : Option ℕ) → ScheduleFits s → 0 < count → count ≤ 2 * length s.lines → 1820 ≤ m → o ≡ last_of_kind (events_of s (line_round s (count - 1))) 1820 → is_some o ≡ false → n ≡ m - 1820 → q ≡ 1820 * count - 1 - 1820 → level_at s p ≡ last_level (sync_at s) m (1820 * count - 1) → level_at s p ≡ last_level (sync_at s) n q
-level_passed s p m count n q o fits h k l e none a b now =
-    now ∙ (search_passed s 1820 m (1820 * count - 1) l (whole_line s count fits h k ∙ (sym e ∙ none_is o none))
-    ∙ (ap (λ i. last_level (sync_at s) i (1820 * count - 1 - 1820)) (sym a) ∙ same_search (sync_at s) n (1820 * count - 1 - 1820) q (sym b)))
+pub level_of_line : (s : Schedule) (p l count : ℕ) (o : Option ℕ) → ScheduleFits s → l < length s.lines → l < count → count ≤ 2 * length s.lines → o ≡ last_of_kind (events_of s (line_round s (count - 1))) (length_of s (line_round s (count - 1))) → is_some o ≡ true → level_at s p ≡ last_level (sync_at s) (start_round s count - start_of s l) (start_round s count - 1) → o ≡ level_at s p
+level_of_line s p l count None fits h k j e some now = absurd cc
+level_of_line s p l count (Some v) fits h k j e some now =
+    let long = whole_fits s l count h k in
+    sym (now ∙ search_found s (length_of s (line_round s (count - 1))) (start_round s count - start_of s l) (start_round s count - 1) v (omega (arith, long)) (whole_line s count fits (omega (arith, k)) j ∙ sym e))
+
+passed_line : (s : Schedule) (p l count : ℕ) (o : Option ℕ) → ScheduleFits s → l < length s.lines → l < count → count ≤ 2 * length s.lines → o ≡ last_of_kind (events_of s (line_round s (count - 1))) (length_of s (line_round s (count - 1))) → is_some o ≡ false → level_at s p ≡ last_level (sync_at s) (start_round s count - start_of s l) (start_round s count - 1) → level_at s p ≡ last_level (sync_at s) (start_round s (count - 1) - start_of s l) (start_round s (count - 1) - 1)
+passed_line s p l count o fits h k j e none now =
+    let long = whole_fits s l count h k in
+    let is : suc (count - 1) ≡ count = omega (arith, k) in
+    let begin = round_step s (count - 1) in
+    let same = ap (start_round s) is in
+    let n = length_of s (line_round s (count - 1)) in
+    let left : start_round s count - start_of s l - n ≡ start_round s (count - 1) - start_of s l = omega (arith, begin, same, long) in
+    let at : start_round s count - 1 - n ≡ start_round s (count - 1) - 1 = omega (arith, begin, same) in
+    now ∙ (search_passed s n (start_round s count - start_of s l) (start_round s count - 1) (omega (arith, long)) (whole_line s count fits (omega (arith, k)) j ∙ (sym e ∙ none_is o none))
+    ∙ (ap (λ i. last_level (sync_at s) i (start_round s count - 1 - n)) left ∙ same_search (sync_at s) (start_round s (count - 1) - start_of s l) (start_round s count - 1 - n) (start_round s (count - 1) - 1) at))
+
+-- no line has it
+no_line_left : (s : Schedule) (p l : ℕ) → l < length s.lines → level_at s p ≡ last_level (sync_at s) (start_round s l - start_of s l) (start_round s l - 1) → level_at s p ≡ None
+no_line_left s p l h now =
+    let first = first_round s l h in
+    let none : start_round s l - start_of s l ≡ 0 = omega (arith, first) in
+    now ∙ ap (λ i. last_level (sync_at s) i (start_round s l - 1)) none
+
+-- the same with the count of lines by another name, as the code has it
+
+abbrev pub LevelLeft : Schedule → ℕ → ℕ → ℕ → Type 0
+LevelLeft s p l count = level_at s p ≡ last_level (sync_at s) (start_round s count - start_of s l) (start_round s count - 1)
+
+pub level_before_line : (s : Schedule) (p l k count : ℕ) (o : Option ℕ) → ScheduleFits s → l < length s.lines → k < length_of s l → start_of s l + k ≡ p % frame_of s → o ≡ last_of_kind (events_of s l) (k + 1) → is_some o ≡ false → l + length s.lines ≡ count → LevelLeft s p l count
+level_before_line s p l k count o fits h j e f none is = subst (λ n. LevelLeft s p l n) is (level_before s p l k o fits h j e f none)
+
+pub level_passed : (s : Schedule) (p l count next : ℕ) (o : Option ℕ) → ScheduleFits s → l < length s.lines → l < count → count ≤ 2 * length s.lines → o ≡ last_of_kind (events_of s (line_round s (count - 1))) (length_of s (line_round s (count - 1))) → is_some o ≡ false → count - 1 ≡ next → LevelLeft s p l count → LevelLeft s p l next
+level_passed s p l count next o fits h k j e none is now = subst (λ n. LevelLeft s p l n) is (passed_line s p l count o fits h k j e none now)
+
+pub level_none : (s : Schedule) (p l count : ℕ) → l < length s.lines → count ≡ l → LevelLeft s p l count → level_at s p ≡ None
+level_none s p l count h is now = no_line_left s p l h (subst (λ n. LevelLeft s p l n) is now)

@@ -1,2 +1,7 @@
+pub mod Amounts
 pub mod LastLevel
+pub mod Modulo
+pub mod Places
+pub mod Searched
+pub mod SomeLevel
 pub mod Starts

@@ -1,5 +1,11 @@
+pub mod Blank
 pub mod Ends
+pub mod Instances
 pub mod Levels
 pub mod Limits
+pub mod LineEvents
+pub mod Lines
 pub mod Schedule
+pub mod Thin
+pub mod Tracked
 pub mod WellFormed

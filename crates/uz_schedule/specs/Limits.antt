@@ -1,9 +1,22 @@
--- The limits and orders that the parts of a certificate keep.
+-- The limits and orders that the parts of a schedule keep. The numbers are this project's profile: those of the
+-- certificate's text.
 use Rattle.std.specs.Prelude.{ℕ, ◌<◌, ◌≤◌, ◌+◌, ◌&&◌, nat_le, Bool, true, IsTrue, List, [], ◌∷◌, All, map, length, ⊤}
 use Rattle.uz_schedule.specs.declared.lines.Schedule.{Schedule}
 use Rattle.uz_schedule.specs.declared.lines.Event.{Event}
 use Rattle.uz_schedule.specs.declared.lines.EventKind.{EventKind}
 use Rattle.uz_schedule.specs.declared.lines.EventKind.TheVariants.{Sync, Pixel, Sound, Leave}
+
+-- each clock of a text is below this: a line has the clocks 0 to 1819
+abbrev pub clock_limit : ℕ
+clock_limit = 1820
+
+-- at most this many events stand in a line
+abbrev pub most_events : ℕ
+most_events = 1820
+
+-- at most this many kinds of line, and this many lines
+abbrev pub most_lines : ℕ
+most_lines = 525
 
 -- the first number is at least this, and each later one is above the one before it
 abbrev pub rises_from : ℕ → List ℕ → Bool
@@ -21,32 +34,32 @@ KindFits Pixel = ⊤
 KindFits Sound = ⊤
 KindFits Leave = ⊤
 
--- a line has the clocks 0 to 1819
 pub record EventFits (e : Event) : Type 0 where
-  pub clock : e.clock < 1820
+  pub clock : e.clock < clock_limit
   pub kind : KindFits e.kind
 
 -- the events of a kind of line, clocks rising
 pub record EventsFit (events : List Event) : Type 0 where
   pub some : 1 ≤ length events
-  pub few : length events ≤ 1820
+  pub few : length events ≤ most_events
   pub each : All EventFits events
   pub rise : IsTrue (rises (map (λ e. e.clock) events))
 
 -- the kinds of line
 pub record KindsFit (kinds : List (List Event)) : Type 0 where
   pub some : 1 ≤ length kinds
-  pub few : length kinds ≤ 525
+  pub few : length kinds ≤ most_lines
   pub each : All EventsFit kinds
 
 -- the lines of a frame, each of one of this many kinds
 pub record LinesFit (kinds : ℕ) (lines : List ℕ) : Type 0 where
   pub some : 1 ≤ length lines
-  pub few : length lines ≤ 525
+  pub few : length lines ≤ most_lines
   pub there : All (λ kind. kind < kinds) lines
 
+-- the fall of sync isn't at clock 0
 pub record ScheduleFits (s : Schedule) : Type 0 where
   pub kinds : KindsFit s.kinds
   pub lines : LinesFit (length s.kinds) s.lines
   pub fall_some : 1 ≤ s.fall
-  pub fall_in_line : s.fall < 1820
+  pub fall_in_line : s.fall < clock_limit

@@ -13,9 +13,13 @@ abbrev pub response_clocks : Response → ℕ
 response_clocks Four = 4
 response_clocks Five = 5
 
--- the length of a line, in clocks: 1820 clocks of 28.63636 MHz are one scanline of NTSC
+-- the clocks of a scanline of NTSC, at 28.63636 MHz
+abbrev pub scanline : ℕ
+scanline = 1820
+
+-- the length of line l, in clocks
 abbrev pub length_of : Schedule → ℕ → ℕ
-length_of s l = 1820
+length_of s l = scanline
 
 -- the position at which line l begins
 abbrev pub start_of : Schedule → ℕ → ℕ

@@ -1,23 +1,41 @@
-//! The certificate of a program's scanline timing as a value: its types, their limits and orders, and what its schedule
-//! says of a position.
+//! The certificate of a program's scanline timing as a value: its types, their limits and orders, what its schedule
+//! says of a position, and what its points say at a line and a count.
 #![tactic(auto)]
 
 mod certificate;
+mod certificate_limits;
 mod facts;
+mod frame;
 mod header;
+mod instances;
 mod kinds;
+mod laws;
 mod limits;
+mod line_events;
+mod line_order;
 mod lines;
+mod positions;
 mod ranges;
 mod sequence;
 mod states;
+mod thin;
+mod tracked;
 
 pub use certificate::Cert;
+pub use certificate_limits::well_formed;
 pub use facts::{Bit, Fact, PairFact, Val};
 pub use header::{Cell, Head};
 pub use kinds::{Kind, Owner, Response};
-pub use limits::{clocks_rise, rises, well_formed};
+pub use laws::{event_by_line, level_exists, level_goes_on, places_go_on, positions_go_round};
+pub use limits::{CLOCK_LIMIT, MOST_EVENTS, MOST_LINES, clocks_rise, rises, schedule_fits};
+pub use line_events::LineEvents;
+pub use line_order::LineOrder;
 pub use lines::{Event, EventKind, Schedule};
-pub use ranges::{Span, Wide};
+pub use ranges::{Span, Wide, hull};
 pub use sequence::Sequence;
 pub use states::{Entry, Instance, Point, Rest};
+pub use thin::is_thin;
+pub use tracked::tracks;
+
+#[cfg(test)]
+mod tests;

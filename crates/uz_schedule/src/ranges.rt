@@ -1,5 +1,6 @@
 //! Ranges of bytes and of 16-bit numbers. Both ends belong to the range, and the lower end is never above the upper one.
 
+ghost use Rattle.uz_schedule.specs.Ends.{hull as hull_of};
 ghost use Rattle.std.specs.Prelude.{◌≡◌, ◌≤◌, ◌↔◌, IsSome, IfSome};
 
 use std::marker::Model;
@@ -152,5 +153,16 @@ impl Wide {
         ensures ordered { self.now.lo ≤ self.now.hi }
     {
         self.hi
+    }
+}
+
+/// The hull of two bytes: the range from the least to the greatest number whose low byte lies in one range, and whose
+/// high byte lies in the other.
+pub fn hull(low: Span, high: Span) -> Wide
+    ensures { result ≡ hull_of low high }
+{
+    Wide {
+        lo: u16::from(high.lo()) * 256 + u16::from(low.lo()),
+        hi: u16::from(high.hi()) * 256 + u16::from(low.hi()),
     }
 }

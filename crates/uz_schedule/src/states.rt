@@ -102,3 +102,27 @@ pub struct Instance {
     /// The values that each cell may have that its kind tracks.
     pub cells: ArrayVec<Span, 16>,
 }
+
+impl Default for Instance {
+    ghost use Rattle.std.specs.Prelude.{◌≡◌};
+    ghost use Rattle.uz_schedule.specs.Blank.{blank_instance};
+
+    ghost is_default = { λ i. i ≡ blank_instance };
+
+    /// An instance that says nothing: alone, all numbers 0, no slot and no cell, and each register any byte.
+    fn default() -> Self {
+        Instance {
+            kind: Kind::Alone,
+            pc: 0,
+            line: 0,
+            clock: 0,
+            level: 0,
+            pending: false,
+            regs: [Val::Range(Span::between(0, 255)); 32],
+            pairs: [Wide::between(0, 65535); 3],
+            flags: [Bit::Free; 7],
+            stack: ArrayVec::new(),
+            cells: ArrayVec::new(),
+        }
+    }
+}

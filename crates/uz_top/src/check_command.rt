@@ -1,7 +1,7 @@
 //! `check HEX CERT`.
 
 ghost use Rattle.std.specs.Prelude.{◌≡◌, ◌≤◌, IfOk};
-ghost use Rattle.uz_schedule.specs.WellFormed.{WellFormed};
+ghost use Rattle.uz_schedule.specs.Thin.{IsThin};
 ghost use Rattle.uz_check.specs.Certified.{Certified};
 ghost use Rattle.uz_shelf.specs.Faults.{Rose};
 ghost use Rattle.uz_top.specs.CheckCommand.{CheckAnswers, FilesCertified, check_answer};
@@ -20,7 +20,7 @@ use uz_shelf::Shelf;
 
 /// Checks a pair, and says what is printed of it.
 fn check_pair(alloc: Global, image: Image, cert: Cert) -> Result<Ending, AllocError>
-    requires { WellFormed cert }
+    requires { IsThin cert }
     ensures answer { IfOk result (λ e. answer_of e ≡ check_answer image cert) }
     ensures certified { IfOk result (λ e. e.status ≡ Status.Done → Certified image cert) }
 {

@@ -5,7 +5,8 @@ use Rattle.avr_table.specs.declared.Instr.{Instr}
 use Rattle.avr_table.specs.declared.Outcome.{Outcome}
 use Rattle.std.specs.FinMap.{FinMap}
 use Rattle.std.specs.Ordering.{nat_cmp}
-use Rattle.std.specs.Prelude.{Bool, Err, List, None, Ok, Option, Result, Some, [], false, if◌then◌else◌, length, map, nat_eq, nat_le, nat_lt, not, true, ℕ, ◌%◌, ◌&&◌, ◌++◌, ◌+◌, ◌-◌, ◌||◌, ◌∷◌, ◌≡◌}
+use Rattle.std.specs.Prelude.{Bool, Err, List, None, Ok, Option, Result, Some, [], false, if◌then◌else◌, length, map, nat_eq, nat_le, not, true, ℕ, ◌%◌, ◌&&◌, ◌++◌, ◌+◌, ◌||◌, ◌∷◌, ◌≡◌}
+pub use Rattle.uz_schedule.specs.Lines.{Lines, uniform, line_after, clock_after}
 use Rattle.uz_schedule.specs.declared.header.Head.{Head}
 use Rattle.uz_schedule.specs.declared.lines.EventKind.{EventKind}
 use Rattle.uz_schedule.specs.declared.states.Instance.{Instance}
@@ -26,15 +27,6 @@ use Rattle.uz_transfer.specs.Transfer.{transfer}
 use Rattle.uz_transfer.specs.Exits.{outcomes, targets}
 use Rattle.uz_transfer.specs.Emission.{emission, level_after}
 use Rattle.uz_transfer.specs.Refusals.{stored_bit, flag_is, fail_of}
-
--- The lines of a frame: how long each is, and which one follows
-pub record Lines : Type 0 where
-  pub length : ℕ → ℕ
-  pub next : ℕ → ℕ
-
--- so many lines of 1820 clocks, one after another
-abbrev pub uniform : ℕ → Lines
-uniform lines = record { length = λ l. 1820; next = λ l. if nat_eq (l + 1) lines then 0 else l + 1 }
 
 abbrev pub exits_of : Effect → (Outcome → ℕ) → ℕ → Instance → List Outcome → List Exit
 exits_of e clocks following inst [] = []
@@ -70,13 +62,7 @@ step_of head length image e words clocks inst =
 
 -- Places
 
--- clock k of line l, which may lie past its end
-abbrev pub line_at : Lines → ℕ → ℕ → ℕ
-line_at lines l k = if nat_lt k (lines.length l) then l else lines.next l
-
-abbrev pub clock_at : Lines → ℕ → ℕ → ℕ
-clock_at lines l k = if nat_lt k (lines.length l) then k else k - lines.length l
-
+-- a line ends where the clock reaches its length
 abbrev pub ends_line : Lines → ℕ → ℕ → Bool
 ends_line lines l k = nat_le (lines.length l) k
 
@@ -85,8 +71,8 @@ abbrev pub successor : Lines → Instance → Step → Exit → Instance
 successor lines inst step exit = record {
   kind = inst.kind;
   pc = exit.pc;
-  line = if is_main inst.kind then inst.line else line_at lines inst.line (inst.clock + exit.clocks);
-  clock = if is_main inst.kind then inst.clock else clock_at lines inst.line (inst.clock + exit.clocks);
+  line = if is_main inst.kind then inst.line else line_after lines inst.line (inst.clock + exit.clocks);
+  clock = if is_main inst.kind then inst.clock else clock_after lines inst.line (inst.clock + exit.clocks);
   level = if is_main inst.kind then inst.level else level_after step.emit (inst.level % 2);
   pending = if is_handler inst.kind then not step.clears && (inst.pending || ends_line lines inst.line (inst.clock + exit.clocks)) else inst.pending;
   regs = step.draft.regs;

@@ -1,13 +1,13 @@
 -- What is known of registers, pairs and flags in an instance, and how it changes where one of them is written.
 use Rattle.std.specs.Prelude.{Bool, List, [], if◌then◌else◌, nat_eq, nat_le, slice_index_or, slice_set, ℕ, ◌*◌, ◌+◌, ◌-◌, ◌/◌, ◌||◌, ◌∷◌}
-use Rattle.uz_schedule.specs.Ends.{Ends}
+use Rattle.uz_schedule.specs.Ends.{Ends, hull}
 use Rattle.uz_schedule.specs.declared.facts.Bit.{Bit}
 use Rattle.uz_schedule.specs.declared.facts.Bit.TheVariants.{Free}
 use Rattle.uz_schedule.specs.declared.facts.Val.{Val}
 use Rattle.uz_schedule.specs.declared.facts.Val.TheVariants.{Old, OldFlags, Range}
 use Rattle.uz_schedule.specs.declared.states.Instance.{Instance}
 use Rattle.uz_range.specs.Answers.{is_single, ends}
-use Rattle.uz_range.specs.Rules.{high_answer, hull_answer, low_answer}
+use Rattle.uz_range.specs.Rules.{high_answer, low_answer}
 
 -- the range of a byte; an interrupted value may be any byte
 abbrev pub span_of : Val → Ends
@@ -37,7 +37,7 @@ each_flag f = f 0 ∷ f 1 ∷ f 2 ∷ f 3 ∷ f 4 ∷ f 5 ∷ f 6 ∷ []
 
 -- the hull of a pair's bytes
 abbrev pub byte_hull : List Val → ℕ → Ends
-byte_hull regs d = hull_answer (span_of (value_at regs d)) (span_of (value_at regs (d + 1)))
+byte_hull regs d = hull (span_of (value_at regs d)) (span_of (value_at regs (d + 1)))
 
 -- X, Y and Z have a range of their own
 abbrev pub is_pointer : ℕ → Bool

@@ -1,0 +1,24 @@
+-- The instance that says nothing.
+use Rattle.std.specs.Prelude.{false, [], replicate}
+use Rattle.uz_schedule.specs.Ends.{whole_byte, whole_pair}
+use Rattle.uz_schedule.specs.declared.facts.Val.TheVariants.{Range}
+use Rattle.uz_schedule.specs.declared.facts.Bit.TheVariants.{Free}
+use Rattle.uz_schedule.specs.declared.kinds.Kind.TheVariants.{Alone}
+use Rattle.uz_schedule.specs.declared.states.Instance.{Instance}
+
+-- alone, all numbers 0, no slot and no cell, each register any byte and each flag free
+abbrev pub blank_instance : Instance
+blank_instance =
+    record {
+      kind = Alone;
+      pc = 0;
+      line = 0;
+      clock = 0;
+      level = 0;
+      pending = false;
+      regs = replicate 32 (Range whole_byte);
+      pairs = replicate 3 whole_pair;
+      flags = replicate 7 Free;
+      stack = record { items = [] };
+      cells = record { items = [] };
+    }

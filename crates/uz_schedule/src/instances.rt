@@ -1,0 +1,329 @@
+//! What is known of the machine where a point stands, at one line and one count of its box; where runs enter; and where
+//! the handler's next run begins. Instances are made here alone.
+
+ghost use Rattle.std.specs.Prelude.{◌≡◌, ◌<◌, ◌≤◌, ◌+◌, ◌*◌, ◌%◌, ◌+ℤ◌, ◌*ℤ◌, pos, length, map};
+ghost use Rattle.uz_schedule.specs.Ends.{hull as hull_of};
+ghost use Rattle.uz_schedule.specs.Instances.{val_of as val_of_fact, span_of_val, cell_span, hull_at, pair_of, pairs_of, is_in_box as box_holds, clock_below as below, clock_at as clock_at_count, instance_of as instance_of_point, instance_in, instance_at, level_or_zero as level_of_place, entry_instance, entry_instance_at, old_from, rest_instance, rest_instance_at};
+ghost use Rattle.uz_schedule.specs.declared.facts.Val.TheVariants.{Range};
+ghost use Rattle.uz_schedule.specs.Limits.{ScheduleFits};
+ghost use Rattle.uz_schedule.specs.WellFormed.{WellFormed};
+
+use crate::certificate::Cert;
+use crate::facts::{Bit, Fact, PairFact, Val};
+use crate::kinds::Kind;
+use crate::lines::Schedule;
+use crate::ranges::{Span, Wide, hull};
+use crate::states::{Entry, Instance, Point, Rest};
+use arrayvec::ArrayVec;
+
+/// The word address of the vector of timer 1's compare match A (ATmega644 data sheet).
+const VECTOR: u16 = 26;
+
+/// Every byte.
+fn whole_byte() -> Span
+    ensures { result ≡ record { lo = 0; hi = 255 } }
+{
+    Span::between(0, 255)
+}
+
+/// `factor * n + offset`, modulo 256.
+fn byte_at(factor: u8, n: u16, offset: u8) -> u8
+    ensures { result ≡ (factor * n + offset) % 256 }
+{
+    ((u32::from(factor) * u32::from(n) + u32::from(offset)) % 256) as u8
+}
+
+/// `factor * n + offset`, modulo 65,536.
+fn word_at(factor: u16, n: u16, offset: u16) -> u16
+    ensures { result ≡ (factor * n + offset) % 65536 }
+{
+    ((u32::from(factor) * u32::from(n) + u32::from(offset)) % 65536) as u16
+}
+
+/// What a fact says of a byte at a line and a count.
+fn val_of(fact: &Fact, line: u16, count: u8) -> Val
+    ensures { result ≡ val_of_fact line count fact.now }
+{
+    match *fact {
+        Fact::Any => Val::Range(whole_byte()),
+        Fact::Between(span) => Val::Range(span),
+        Fact::Line(a, b) => Val::Range(Span::single(byte_at(a, line, b))),
+        Fact::Loop(a, b) => Val::Range(Span::single(byte_at(a, u16::from(count), b))),
+        Fact::Old(r) => Val::Old(r),
+        Fact::OldFlags => Val::OldFlags,
+    }
+}
+
+/// The values that a byte may have.
+fn span_of(val: &Val) -> Span
+    ensures { result ≡ span_of_val val.now }
+{
+    match *val {
+        Val::Range(span) => span,
+        _ => whole_byte(),
+    }
+}
+
+/// What facts say of the registers.
+fn registers_of(facts: &[Fact; 32], line: u16, count: u8) -> [Val; 32]
+    ensures { result ≡ map (val_of_fact line count) facts.now }
+{
+    let mut vals = [Val::OldFlags; 32];
+    for r in 0..32 {
+        vals[r] = val_of(&facts[r], line, count);
+    }
+    vals
+}
+
+/// What facts say of the bytes of the stack.
+fn slots_of(facts: &ArrayVec<Fact, 32>, line: u16, count: u8) -> ArrayVec<Val, 32>
+    ensures { result.items ≡ map (val_of_fact line count) facts.now.items }
+{
+    let mut slots = ArrayVec::new();
+    for fact in facts.as_slice() {
+        slots.push(val_of(fact, line, count));
+    }
+    slots
+}
+
+/// The values that cells may have by their facts.
+fn cells_of(facts: &ArrayVec<Fact, 16>, line: u16, count: u8) -> ArrayVec<Span, 16>
+    ensures { result.items ≡ map (cell_span line count) facts.now.items }
+{
+    let mut cells = ArrayVec::new();
+    for fact in facts.as_slice() {
+        cells.push(span_of(&val_of(fact, line, count)));
+    }
+    cells
+}
+
+/// What the bytes of the pair say whose low register is `low`.
+fn hull_of_bytes(regs: &[Val; 32], low: usize) -> Wide
+    requires { low < 31 }
+    ensures { result ≡ hull_at regs.now low }
+{
+    hull(span_of(&regs[low]), span_of(&regs[low + 1]))
+}
+
+/// The values of the pair whose low register is `low`.
+fn pair_by(fact: &PairFact, line: u16, count: u8, regs: &[Val; 32], low: usize) -> Wide
+    requires { low < 31 }
+    ensures { result ≡ pair_of line count regs.now low fact.now }
+{
+    match *fact {
+        PairFact::Any => hull_of_bytes(regs, low),
+        PairFact::Between(wide) => wide,
+        PairFact::Line(a, b) => Wide::single(word_at(a, line, b)),
+        PairFact::Loop(a, b) => Wide::single(word_at(a, u16::from(count), b)),
+    }
+}
+
+/// The values of the pairs X, Y and Z.
+fn pairs_by(facts: &[PairFact; 3], line: u16, count: u8, regs: &[Val; 32]) -> [Wide; 3]
+    ensures { result ≡ pairs_of line count regs.now facts.now }
+{
+    [
+        pair_by(&facts[0], line, count, regs, 26),
+        pair_by(&facts[1], line, count, regs, 28),
+        pair_by(&facts[2], line, count, regs, 30),
+    ]
+}
+
+/// Whether a line and a count are those of a point's box.
+fn is_in_box(point: &Point, line: u16, count: u8) -> bool
+    ensures { result ≡ box_holds point.now line count }
+{
+    (point.l0 <= line && line <= point.l1) && (point.c0 <= count && count <= point.c1)
+}
+
+/// A clock, where it is one of a line of this length.
+fn clock_below(length: u16, clock: i32) -> Option<u16>
+    ensures { result ≡ below length clock }
+{
+    match u16::try_from(clock) {
+        Ok(clock) if clock < length => Some(clock),
+        _ => None,
+    }
+}
+
+/// The clock of a point at a count.
+fn clock_of(point: &Point, count: u8) -> i32
+    ensures { result ≡ pos point.now.clock +ℤ point.now.slope *ℤ pos count }
+{
+    i32::from(point.clock) + i32::from(point.slope) * i32::from(count)
+}
+
+/// The instance of a point at a line and a count, with its clock and level.
+fn instance_of(point: &Point, line: u16, count: u8, clock: u16, level: u8) -> Instance
+    ensures { result ≡ instance_of_point point.now line count clock level }
+{
+    let regs = registers_of(&point.regs, line, count);
+    let pairs = pairs_by(&point.pairs, line, count, &regs);
+    Instance {
+        kind: point.kind,
+        pc: point.pc,
+        line,
+        clock,
+        level,
+        pending: point.pending,
+        regs,
+        pairs,
+        flags: point.flags,
+        stack: slots_of(&point.stack, line, count),
+        cells: cells_of(&point.cells, line, count),
+    }
+}
+
+/// The instance of a point at a line and a count, if it has one there.
+fn instance_of_box(schedule: &Schedule, point: &Point, line: u16, count: u8) -> Option<Instance>
+    requires { ScheduleFits schedule.now }
+    ensures { result ≡ instance_in schedule.now point.now line count }
+{
+    if !is_in_box(point, line, count) {
+        return None;
+    }
+    let clock = clock_below(schedule.length(line), clock_of(point, count))?;
+    let level = schedule.level(schedule.start(line) + u32::from(clock))?;
+    Some(instance_of(point, line, count, clock, level))
+}
+
+/// What the entry's ranges say of the registers.
+fn vals_of(ranges: &[Span; 32]) -> [Val; 32]
+    ensures { result ≡ map Range ranges.now }
+{
+    let mut vals = [Val::OldFlags; 32];
+    for r in 0..32 {
+        vals[r] = Val::Range(ranges[r]);
+    }
+    vals
+}
+
+/// What the entry's ranges say of the bytes of the stack.
+fn slots_in(ranges: &ArrayVec<Span, 32>) -> ArrayVec<Val, 32>
+    ensures { result.items ≡ map Range ranges.now.items }
+{
+    let mut slots = ArrayVec::new();
+    for range in ranges.as_slice() {
+        slots.push(Val::Range(*range));
+    }
+    slots
+}
+
+/// A copy of the ranges of cells.
+fn spans_in(ranges: &ArrayVec<Span, 16>) -> ArrayVec<Span, 16>
+    ensures { result.items ≡ ranges.now.items }
+{
+    let mut spans = ArrayVec::new();
+    for range in ranges.as_slice() {
+        spans.push(*range);
+    }
+    spans
+}
+
+/// The interrupted registers.
+fn old_registers() -> [Val; 32]
+    ensures { result ≡ old_from 0 32 }
+{
+    let mut vals = [Val::OldFlags; 32];
+    for r in 0..32 {
+        vals[r] = Val::Old(r as u8);
+    }
+    vals
+}
+
+/// The schedule's level at a clock of a line, 0 where it has none.
+fn level_or_zero(schedule: &Schedule, line: u16, clock: u16) -> u8
+    requires { ScheduleFits schedule.now }
+    ensures { result ≡ level_of_place schedule.now line clock }
+{
+    match schedule.level(schedule.start(line) + u32::from(clock)) {
+        Some(level) => level,
+        None => 0,
+    }
+}
+
+/// The instance of an entry, with its level.
+fn instance_of_entry(entry: &Entry, level: u8) -> Instance
+    ensures { result ≡ entry_instance_at entry.now level }
+{
+    let regs = vals_of(&entry.regs);
+    let pairs = [
+        hull_of_bytes(&regs, 26),
+        hull_of_bytes(&regs, 28),
+        hull_of_bytes(&regs, 30),
+    ];
+    Instance {
+        kind: entry.kind,
+        pc: entry.pc,
+        line: entry.line,
+        clock: entry.clock,
+        level,
+        pending: false,
+        regs,
+        pairs,
+        flags: entry.flags,
+        stack: slots_in(&entry.stack),
+        cells: spans_in(&entry.cells),
+    }
+}
+
+/// The instance of a handler's first state, with its place and level.
+fn instance_of_rest(rest: &Rest, line: u16, clock: u16, level: u8) -> Instance
+    ensures { result ≡ rest_instance_at rest.now line clock level }
+{
+    Instance {
+        kind: Kind::Handler,
+        pc: VECTOR,
+        line,
+        clock,
+        level,
+        pending: false,
+        regs: old_registers(),
+        pairs: [Wide::between(0, 65535); 3],
+        flags: [Bit::Old; 7],
+        stack: ArrayVec::new(),
+        cells: spans_in(&rest.cells),
+    }
+}
+
+impl Cert {
+    /// What is known at a point, at line `l` and count `c` of its box, with the schedule's level there. None exactly where
+    /// no point has the number, `l` or `c` is outside its box, the clock isn't one of the line, or the schedule has no
+    /// level. Takes no memory.
+    pub fn instance(&self, id: u32, l: u16, c: u8) -> Option<Instance>
+        requires { WellFormed self.now }
+        ensures { result ≡ instance_at self.now id l c }
+    {
+        let point = self.points.as_slice().get(id as usize)?;
+        instance_of_box(&self.schedule, point, l, c)
+    }
+
+    /// The state in which runs enter: what the entry says, with the schedule's level at its place (0 where the schedule has
+    /// none), and for each pair the hull of its bytes. Takes no memory.
+    pub fn entry_instance(&self) -> Instance
+        requires { ScheduleFits self.now.schedule }
+        ensures { result ≡ entry_instance self.now }
+    {
+        instance_of_entry(
+            &self.entry,
+            level_or_zero(&self.schedule, self.entry.line, self.entry.clock),
+        )
+    }
+
+    /// The handler's first state after a rest, where its interrupt is taken at clock `c` of the next line: no register and
+    /// flag has changed, the stack of the handler is empty, and its cells are as the rest says. Takes no memory.
+    pub fn rest_instance(&self, rest: &Rest, c: u8) -> Instance
+        requires fits { ScheduleFits self.now.schedule }
+        requires line { rest.now.line < length self.now.schedule.lines }
+        ensures { result ≡ rest_instance self.now rest.now c }
+    {
+        let line = self.schedule.order().next(rest.line);
+        let clock = u16::from(c) + self.head.irq.clocks();
+        instance_of_rest(
+            rest,
+            line,
+            clock,
+            level_or_zero(&self.schedule, line, clock),
+        )
+    }
+}

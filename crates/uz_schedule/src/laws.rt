@@ -1,0 +1,46 @@
+//! Laws of the definitions of a schedule. Each function does nothing: its clauses are the law.
+
+ghost use Rattle.std.specs.Prelude.{◌≡◌, ℕ, suc, ◌+◌, ◌%◌, ◌<◌, ◌≤◌, length, Some};
+ghost use Rattle.uz_schedule.specs.declared.lines.Schedule.{Schedule};
+ghost use Rattle.uz_schedule.specs.Schedule.{length_of, start_of, frame_of, next_line, At, event_at, event_in_kind, events_of, sync_at, or_else, level_at};
+ghost use Rattle.uz_schedule.specs.Limits.{ScheduleFits};
+ghost use Rattle.uz_schedule.specs.Lines.{Lines, lines_of, uniform, line_after, clock_after};
+
+/// The event at clock k of line l is that of the line's kind at this clock.
+#[tactic(auto, using(crate::proofs::Starts::event_of_place))]
+pub fn event_by_line()
+    ensures { (s : Schedule) (l k : ℕ) → l < length s.lines → k < length_of s l → event_at s (start_of s l + k) ≡ event_in_kind (events_of s l) k }
+{}
+
+/// Positions are taken modulo the frame.
+#[tactic(auto, using(crate::proofs::Modulo::event_at_mod, crate::proofs::Modulo::level_mod))]
+pub fn positions_go_round()
+    ensures events { (s : Schedule) (p q : ℕ) → p % frame_of s ≡ q % frame_of s → event_at s p ≡ event_at s q }
+    ensures levels { (s : Schedule) (p q : ℕ) → p % frame_of s ≡ q % frame_of s → level_at s p ≡ level_at s q }
+{}
+
+/// A place goes on with its position: clocks count on, also past the line's end, and where they reach it, the next line
+/// begins.
+#[tactic(auto, using(crate::proofs::Places::at_more, crate::proofs::Places::at_next, crate::proofs::Places::at_after, crate::proofs::Places::event_here, crate::proofs::Places::level_here, crate::proofs::Places::place_inside))]
+pub fn places_go_on()
+    ensures more { (s : Schedule) (p l k c : ℕ) → At s p l k → At s (p + c) l (k + c) }
+    ensures next { (s : Schedule) (p l k : ℕ) → At s p l (length_of s l + k) → At s p (next_line s l) k }
+    ensures after { (s : Schedule) (p l k : ℕ) → At s p l k → At s p (line_after (lines_of s) l k) (clock_after (lines_of s) l k) }
+    ensures events { (s : Schedule) (p l k : ℕ) → At s p l k → event_at s p ≡ event_at s (start_of s l + k) }
+    ensures levels { (s : Schedule) (p l k : ℕ) → At s p l k → level_at s p ≡ level_at s (start_of s l + k) }
+    ensures inside { (s : Schedule) (l k : ℕ) → l < length s.lines → k < length_of s l → start_of s l + k < frame_of s }
+    ensures order { (s : Schedule) → lines_of s ≡ uniform (length s.lines) }
+{}
+
+/// From one position to the next the level is what is set there, and else stays.
+#[tactic(auto, using(crate::proofs::Modulo::level_step))]
+pub fn level_goes_on()
+    ensures { (s : Schedule) (p : ℕ) → 0 < frame_of s → level_at s (suc p) ≡ or_else (sync_at s (suc p)) (level_at s p) }
+{}
+
+/// Where the level is set anywhere in the frame, there is one everywhere; and each level is 0 or 1.
+#[tactic(auto, using(crate::proofs::SomeLevel::level_somewhere, crate::proofs::SomeLevel::level_bit))]
+pub fn level_exists()
+    ensures some { (s : Schedule) (p q v : ℕ) → 0 < frame_of s → sync_at s q ≡ Some v → (u : ℕ) × (level_at s p ≡ Some u) }
+    ensures bit { (s : Schedule) (p v : ℕ) → ScheduleFits s → level_at s p ≡ Some v → v ≤ 1 }
+{}
