@@ -1,4 +1,5 @@
 pub mod Amounts
+pub mod Fitting
 pub mod LastLevel
 pub mod Modulo
 pub mod Places

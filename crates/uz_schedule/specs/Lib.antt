@@ -1,5 +1,6 @@
 pub mod Blank
 pub mod Ends
+pub mod InstanceLimits
 pub mod Instances
 pub mod Levels
 pub mod Limits

@@ -1,8 +1,8 @@
 //! The lengths and begins of a schedule's lines, and the line and clock at a position.
 
-ghost use Rattle.std.specs.Prelude.{◌≡◌, ◌<◌, ◌≤◌, ◌+◌, ◌%◌, length};
-ghost use Rattle.uz_schedule.specs.Schedule.{length_of, start_of, frame_of};
-ghost use Rattle.uz_schedule.specs.Limits.{ScheduleFits};
+ghost use Rattle.std.specs.Prelude.{◌≡◌, ◌<◌, ◌≤◌, ◌+◌, ◌*◌, ◌%◌, length};
+ghost use Rattle.uz_schedule.specs.Schedule.{scanline, length_of, start_of, frame_of};
+ghost use Rattle.uz_schedule.specs.Limits.{most_lines, ScheduleFits};
 
 use crate::line_order::{LineOrder, SCANLINE};
 use crate::lines::Schedule;
@@ -31,7 +31,7 @@ impl Schedule {
     #[tactic(auto, using(crate::proofs::Starts::start_is))]
     pub fn start(&self, line: u16) -> u32
         ensures value { result ≡ start_of self.now line }
-        ensures few { result ≤ 119273700 }
+        ensures few { result ≤ 65535 * scanline }
     {
         u32::from(SCANLINE) * u32::from(line)
     }
@@ -42,7 +42,7 @@ impl Schedule {
         requires { ScheduleFits self.now }
         ensures clocks { result ≡ frame_of self.now }
         ensures some { 0 < result }
-        ensures few { result ≤ 955500 }
+        ensures few { result ≤ most_lines * scanline }
     {
         self.start(self.lines.len() as u16)
     }

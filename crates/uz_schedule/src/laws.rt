@@ -4,6 +4,11 @@ ghost use Rattle.std.specs.Prelude.{◌≡◌, ℕ, suc, ◌+◌, ◌%◌, ◌<�
 ghost use Rattle.uz_schedule.specs.declared.lines.Schedule.{Schedule};
 ghost use Rattle.uz_schedule.specs.Schedule.{length_of, start_of, frame_of, next_line, At, event_at, event_in_kind, events_of, sync_at, or_else, level_at};
 ghost use Rattle.uz_schedule.specs.Limits.{ScheduleFits};
+ghost use Rattle.uz_schedule.specs.declared.states.Instance.{Instance};
+ghost use Rattle.uz_schedule.specs.declared.certificate.Cert.{Cert};
+ghost use Rattle.uz_schedule.specs.WellFormed.{WellFormed};
+ghost use Rattle.uz_schedule.specs.Instances.{instance_at};
+ghost use Rattle.uz_schedule.specs.InstanceLimits.{InstanceFits};
 ghost use Rattle.uz_schedule.specs.Lines.{Lines, lines_of, uniform, line_after, clock_after};
 
 /// The event at clock k of line l is that of the line's kind at this clock.
@@ -43,4 +48,10 @@ pub fn level_goes_on()
 pub fn level_exists()
     ensures some { (s : Schedule) (p q v : ℕ) → 0 < frame_of s → sync_at s q ≡ Some v → (u : ℕ) × (level_at s p ≡ Some u) }
     ensures bit { (s : Schedule) (p v : ℕ) → ScheduleFits s → level_at s p ≡ Some v → v ≤ 1 }
+{}
+
+/// An instance of a well formed certificate is within limits: its place is one of the frame, it has all registers and flags, no
+/// more slots than its kind may push, a range for each cell that its kind tracks, and interrupted values in handlers alone.
+pub fn instance_is_within_limits()
+    ensures { (cert : Cert) (id l c : ℕ) (inst : Instance) → WellFormed cert → instance_at cert id l c ≡ Some inst → InstanceFits cert inst }
 {}

@@ -26,7 +26,10 @@ pub use certificate_limits::well_formed;
 pub use facts::{Bit, Fact, PairFact, Val};
 pub use header::{Cell, Head};
 pub use kinds::{Kind, Owner, Response};
-pub use laws::{event_by_line, level_exists, level_goes_on, places_go_on, positions_go_round};
+pub use laws::{
+    event_by_line, instance_is_within_limits, level_exists, level_goes_on, places_go_on,
+    positions_go_round,
+};
 pub use limits::{CLOCK_LIMIT, MOST_EVENTS, MOST_LINES, clocks_rise, rises, schedule_fits};
 pub use line_events::LineEvents;
 pub use line_order::LineOrder;
