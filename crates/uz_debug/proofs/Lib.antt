@@ -1,0 +1,4 @@
+pub mod DebuggerLemmas
+pub mod KeptLemmas
+pub mod MarkLemmas
+pub mod RunLemmas
