@@ -2,3 +2,5 @@ pub mod DebuggerLemmas
 pub mod KeptLemmas
 pub mod MarkLemmas
 pub mod RunLemmas
+pub mod ScriptLaws
+pub mod ScriptLemmas

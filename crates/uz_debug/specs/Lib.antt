@@ -1,6 +1,7 @@
 pub mod Debuggers
 pub mod Kept
 pub mod Marks
+pub mod Scripts
 pub mod Sessions
 pub mod SlotTurns
 pub mod Timelines

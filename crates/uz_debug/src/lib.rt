@@ -4,10 +4,15 @@
 mod breakpoints;
 mod command;
 mod debugger;
+mod errors;
 mod keeping;
 mod run;
+mod script;
+mod script_lines;
 mod slots;
 mod timeline;
 
 pub use command::{Command, DebugWhy, Reply};
 pub use debugger::Debugger;
+pub use errors::{ScriptError, ScriptWhy};
+pub use script::{read_script, reading_is_unique};

@@ -22,5 +22,5 @@ returns-in-Stuck c = λ start k.
       at.1,
       no_turn_there start (turn_of c.args.self.now.timeline) at.0 at.1 stuck,
       c.pc.ensures.stands at.0 at.2,
-      c.word.ensures at.0 at.2,
+      c.word.ensures.stands at.0 at.2,
     ))

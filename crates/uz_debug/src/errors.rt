@@ -1,0 +1,51 @@
+//! Why a script is refused.
+
+use std::alloc::{AllocError, AllocFailed};
+
+/// Why a line is refused, in the order of the numbers, from 1.
+#[derive(Clone, Copy, Debug, PartialEq, Eq)]
+pub enum ScriptWhy {
+    /// No such command, or another count of words.
+    Word,
+    /// A number that isn't decimal without leading zeros, or is out of range.
+    Number,
+    /// The line holds command number 65,537.
+    Count,
+    /// Memory ran out. This says nothing of the text.
+    Memory,
+}
+
+/// The first faulty line, counted from 1, and why it is refused. With `Memory` the line is 0.
+#[derive(Clone, Copy, Debug, PartialEq, Eq)]
+pub struct ScriptError {
+    pub line: u32,
+    pub why: ScriptWhy,
+}
+
+impl From<AllocError> for ScriptError {
+    ghost use Rattle.std.specs.Prelude.{◌≡◌};
+    ghost use Rattle.uz_debug.specs.declared.errors.ScriptWhy.TheVariants.{Memory};
+
+    ghost from_gives = { λ _ e. (e.line ≡ 0) × (e.why ≡ Memory) };
+
+    fn from(_e: AllocError) -> ScriptError {
+        ScriptError {
+            line: 0,
+            why: ScriptWhy::Memory,
+        }
+    }
+}
+
+impl<T: Drop> From<AllocFailed<T>> for ScriptError {
+    ghost use Rattle.std.specs.Prelude.{◌≡◌};
+    ghost use Rattle.uz_debug.specs.declared.errors.ScriptWhy.TheVariants.{Memory};
+
+    ghost from_gives = { λ _ e. (e.line ≡ 0) × (e.why ≡ Memory) };
+
+    fn from(_e: AllocFailed<T>) -> ScriptError {
+        ScriptError {
+            line: 0,
+            why: ScriptWhy::Memory,
+        }
+    }
+}
