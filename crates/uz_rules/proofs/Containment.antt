@@ -51,9 +51,11 @@ use Rattle.uz_transfer.specs.Values.{span_of, value_at, with_flag_list}
 use Rattle.uz_transfer.specs.Refusals.{fail_of}
 use Rattle.uz_events.specs.Events.{event_of, shown_at, shown, listed}
 use Rattle.uz_rules.proofs.StoreShows.{kinds_listed}
-use Rattle.uz_transfer.specs.Step.{Lines, exits_of, clears_flag, clock_after, ends_line, following_of, sampled_of, step_unless, step_of_row, successor, IsReadAt}
+use Rattle.uz_schedule.specs.Lines.{Lines, clock_after}
+use Rattle.uz_transfer.specs.Step.{exits_of, clears_flag, ends_line, following_of, sampled_of, step_unless, step_of_row, successor, IsReadAt}
 use Rattle.uz_rules.specs.Meets.{top_of, TimerMeets, TimerCounts, LevelMeets, Meets, InstanceFits}
-use Rattle.uz_rules.specs.OneStep.{IsNoEntry, MainTimer, OneStep, InstructionBegins, Contained, AloneContained, HandlerContained, MainContained, main_emits}
+use Rattle.uz_rules.specs.OneStep.{IsNoEntry, MainTimer, OneStep, InstructionBegins, Contained, AloneContained, HandlerContained, MainContained}
+use Rattle.uz_transfer.specs.Emission.{main_emits}
 use Rattle.uz_transfer.specs.declared.step.Exit.{Exit}
 use Rattle.uz_transfer.specs.declared.step.Step.{Step}
 use Rattle.uz_rules.proofs.LeavesHold.{stores_leave, facts_of}
@@ -198,9 +200,10 @@ effect_step : (head : Head) (lines : Lines) (inst : Instance) (o : Core) (d : �
     → TimerMeets inst.kind (successor lines inst (plan_of head (lines.length inst.line) s.image e words clocks inst event) (exit_at e words clocks s)) (state_of e words clocks s).space.timer → TimerCounts inst.kind (state_of e words clocks s).space.timer
     → ((n : ℕ) → n ≡ level_after event (sync_level s.space) → LevelMeets inst.kind (if is_main inst.kind then inst.level else level_after event (inst.level % 2)) n)
     → ((n : ℕ) → n ≡ level_after event (sync_level s.space) → n ≡ sync_level (state_of e words clocks s).space → MainTimer inst.kind (clocks (outcome_at e words clocks s)) s (state_of e words clocks s))
+    → (is_main inst.kind ≡ true → event ≡ None)
     → AllByRecursion IsByte (state_of e words clocks s).core.registers → returns_from_interrupt e ≡ false → fail_of head e inst ≡ None → emission_at (sync_level s.space) e inst ≡ Some event → (1 ≤ clocks (outcome_at e words clocks s)) × (clocks (outcome_at e words clocks s) ≤ 4)
     → OneStep head lines inst o d (plan_of head (lines.length inst.line) s.image e words clocks inst event) s (edges_of e words clocks s) (state_of e words clocks s)
-effect_step head lines inst o d s e words clocks event fits b m tcnt timer ticks level runs bytes stays fine emits time =
+effect_step head lines inst o d s e words clocks event fits b m tcnt timer ticks level runs silent bytes stays fine emits time =
     let following : following_of words inst ≡ following_pc words s.core = ap (λ n. (n + words) % 32768) (sym m.pc) in
     let plan : Step = plan_of head (lines.length inst.line) s.image e words clocks inst event in
     let parts = parts_of history_wiring e head s.image (following_of words inst) (sampled_of (lines.length inst.line) e clocks inst) words (sample_clock e clocks) (clocks (outcome_at e words clocks s)) d inst o s.core s.space event fits b bytes following tcnt stays fine emits in
@@ -231,6 +234,7 @@ effect_step head lines inst o d s e words clocks event fits b m tcnt timer ticks
       settled = owes_none head inst e fine stays;
       untouched = subst (λ xs. Untouched head inst.kind (s.core.sp + depth_of inst) xs (state_of e words clocks s).space.bytes) content
           (stores_leave history_wiring e head words d inst o s.core s.space (space_after (clocks (outcome_at e words clocks s)) (content_after_loads (space_loads history_wiring) (sample_clock e clocks) s.space (load_addresses e s.core))) (ap length content ∙ b.size) fits b fine);
+      silent = silent;
       main_timer = runs (sync_level (state_of e words clocks s).space) (parts.leads.shows.level ∙ ap (level_after event) before) refl;
     }
 
@@ -269,6 +273,7 @@ pub record KindPart (lines : Lines) (head : Head) (inst : Instance) (s : State P
   pub ticks : TimerCounts inst.kind (state_of e words clocks s).space.timer
   pub level : (n : ℕ) → n ≡ level_after event (sync_level s.space) → LevelMeets inst.kind (if is_main inst.kind then inst.level else level_after event (inst.level % 2)) n
   pub runs : (n : ℕ) → n ≡ level_after event (sync_level s.space) → n ≡ sync_level (state_of e words clocks s).space → MainTimer inst.kind (clocks (outcome_at e words clocks s)) s (state_of e words clocks s)
+  pub silent : is_main inst.kind ≡ true → event ≡ None
   pub emits : emission_at (sync_level s.space) e inst ≡ Some event
 
 runs_outside : (k : Kind) (c : ℕ) (old new : State PadHistory) → is_main k ≡ false → MainTimer k c old new
@@ -320,7 +325,7 @@ any_contained head lines image inst o d step s enters h part =
         let time = in_four (stops (effect_of r.row)) _ (goes_on_stop head inst (effect_of r.row) r.fine) (clocks_within r.row (outcome_at (effect_of r.row) (words_of r.row) (clocks_of r.row) s)) in
         let one : OneStep head lines inst o d (plan_of head (lines.length inst.line) s.image (effect_of r.row) (words_of r.row) (clocks_of r.row) inst r.event) s (instruction_edges history_wiring r.row s) (after_instruction history_wiring r.row s) =
         let k = part r.row r.event r.reads r.fine r.emits stays time.1 in
-        effect_step head lines inst o d s (effect_of r.row) (words_of r.row) (clocks_of r.row) r.event (effect_fits r.row) b h.meets k.tcnt k.timer k.ticks k.level k.runs after.core.registers stays r.fine k.emits time in
+        effect_step head lines inst o d s (effect_of r.row) (words_of r.row) (clocks_of r.row) r.event (effect_fits r.row) b h.meets k.tcnt k.timer k.ticks k.level k.runs k.silent after.core.registers stays r.fine k.emits time in
         let flash : s.image ≡ image = h.flash in
         let plan : plan_of head (lines.length inst.line) s.image (effect_of r.row) (words_of r.row) (clocks_of r.row) inst r.event ≡ step = ap (λ (m : FinMap nat_cmp ℕ). plan_of head (lines.length inst.line) m (effect_of r.row) (words_of r.row) (clocks_of r.row) inst r.event) flash ∙ sym r.is in
         subst (λ x. OneStep head lines inst o d x s edges new) plan
@@ -342,6 +347,7 @@ outside_contained head lines image inst o d step s out h part =
       ticks = p.ticks;
       level = λ n q. level_meets inst.kind inst.level (level_after event (inst.level % 2)) n out (q ∙ ap (level_after event) level);
       runs = λ n q r. runs_outside inst.kind _ s _ out;
+      silent = λ m. absurd cc;
       emits = ap (λ l. emission_at l (effect_of i) inst) level ∙ emits;
     })
 
@@ -509,6 +515,7 @@ main_part head lines inst o d s e words clocks event kind fits b m fine emits ba
             ∙ (ap (λ n. s.space.timer.matched || matches_within n (content_after_loads (space_loads history_wiring) (sample_clock e clocks) s.space (load_addresses e s.core)).timer.top (clocks (outcome_at e words clocks s))) loaded.count
             ∙ ap (λ n. s.space.timer.matched || matches_within s.space.timer.count n (clocks (outcome_at e words clocks s))) loaded.top)))),
       );
+      silent = λ m. nothing;
       emits = silent_emission (sync_level s.space) e inst back silent ∙ ap (λ x. Some x) (sym nothing);
     }
 

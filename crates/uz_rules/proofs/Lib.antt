@@ -16,3 +16,5 @@ pub mod SomeStand
 pub mod LeavesHold
 pub mod Timing
 pub mod Below
+pub mod LocalLaws
+pub mod LimitsHold

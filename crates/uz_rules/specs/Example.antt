@@ -14,7 +14,7 @@ use Rattle.uz_machine.specs.Turn.{history_at_reset, state_at_reset}
 use Rattle.uz_range.specs.Answers.{ends}
 use Rattle.uz_transfer.specs.declared.step.Step.{Step}
 use Rattle.uz_transfer.specs.Values.{each_flag}
-use Rattle.uz_transfer.specs.Step.{uniform}
+use Rattle.uz_schedule.specs.Lines.{uniform}
 use Rattle.uz_rules.specs.OneStep.{InstructionBegins}
 
 abbrev pub example_head : Head

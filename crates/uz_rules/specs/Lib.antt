@@ -4,3 +4,7 @@ pub mod Meets
 pub mod OneStep
 pub mod Inside
 pub mod Example
+pub mod EdgeRule
+pub mod Successors
+pub mod Local
+pub mod Limits

@@ -4,7 +4,7 @@ use Rattle.avr_table.specs.declared.Instr.{Instr}
 use Rattle.std.specs.FinMap.{FinMap}
 use Rattle.std.specs.List.{AllByRecursion}
 use Rattle.std.specs.Ordering.{nat_cmp}
-use Rattle.std.specs.Prelude.{Bool, Contains, List, Ok, false, nat_eq, suc, ℕ, ⊤, ◌%◌, ◌&&◌, ◌+◌, ◌<◌, ◌||◌, ◌≡◌, ◌≤◌}
+use Rattle.std.specs.Prelude.{Bool, true, None, Contains, List, Ok, false, nat_eq, suc, ℕ, ⊤, ◌%◌, ◌&&◌, ◌+◌, ◌<◌, ◌||◌, ◌≡◌, ◌≤◌}
 use Rattle.uz_schedule.specs.declared.header.Head.{Head}
 use Rattle.uz_schedule.specs.declared.kinds.Kind.{Kind}
 use Rattle.uz_schedule.specs.declared.kinds.Kind.TheVariants.{Alone, Handler, Main}
@@ -24,7 +24,10 @@ use Rattle.uz_range.specs.Answers.{is_single}
 use Rattle.uz_transfer.specs.declared.step.Exit.{Exit}
 use Rattle.uz_transfer.specs.declared.step.Step.{Step}
 use Rattle.uz_transfer.specs.Memory.{address_range, depth_of}
-use Rattle.uz_transfer.specs.Step.{Lines, successor, IsStep}
+use Rattle.uz_transfer.specs.Emission.{main_emits}
+use Rattle.uz_transfer.specs.Kinds.{is_main}
+use Rattle.uz_schedule.specs.Lines.{Lines}
+use Rattle.uz_transfer.specs.Step.{successor, IsStep}
 use Rattle.uz_rules.specs.MemoryMeets.{Untouched, HeadFits}
 use Rattle.uz_events.specs.Events.{shown_at, shown, listed}
 use Rattle.uz_machine.specs.declared.EdgeKind.{EdgeKind}
@@ -38,13 +41,6 @@ MainTimer Main clocks old new =
     × (new.space.timer.matched ≡ (old.space.timer.matched || matches_within old.space.timer.count old.space.timer.top clocks))
 MainTimer Handler clocks old new = ⊤
 MainTimer Alone clocks old new = ⊤
-
--- whether main's instruction shows an event, which it may not
-abbrev pub main_emits : Effect → Instance → Bool
-main_emits (Store to r) inst =
-    is_single (address_range to inst) && (nat_eq (address_range to inst).lo 0x23 || (nat_eq (address_range to inst).lo 0x25 || (nat_eq (address_range to inst).lo 0x26 || (nat_eq (address_range to inst).lo 0x28 || nat_eq (address_range to inst).lo 0xB3))))
-main_emits (WriteIoBit at b set) inst = nat_eq at 0x28 || ((nat_eq at 0x26 && set) || (nat_eq b 0 && ((nat_eq at 0x23 && set) || nat_eq at 0x25)))
-main_emits e inst = false
 
 -- no interrupt is entered
 abbrev pub IsNoEntry : EdgeKind → Type 0
@@ -66,6 +62,7 @@ pub record OneStep (head : Head) (lines : Lines) (inst : Instance) (o : Core) (d
   pub at_most_four : exit.clocks ≤ 4
   pub settled : new.is_owed ≡ false
   pub untouched : Untouched head inst.kind (old.core.sp + depth_of inst) old.space.bytes new.space.bytes
+  pub silent : is_main inst.kind ≡ true → step.emit ≡ None
   pub main_timer : MainTimer inst.kind exit.clocks old new
 
 -- What containment takes of an instance and a state

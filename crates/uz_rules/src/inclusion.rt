@@ -148,7 +148,7 @@ fn spans_inside(a: &[Span], b: &[Span]) -> bool
 }
 
 /// Whether the ranges of cells lie in others, which are as many.
-fn cells_inside(a: &[Span], b: &[Span]) -> bool
+pub(crate) fn cells_inside(a: &[Span], b: &[Span]) -> bool
     ensures { result ≡ cells_lie a.now b.now }
 {
     a.len() == b.len() && spans_inside(a, b)

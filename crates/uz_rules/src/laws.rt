@@ -2,6 +2,9 @@
 
 ghost use Rattle.uz_rules.specs.Example.{SomeInstructionBegins};
 ghost use Rattle.uz_rules.specs.Inside.{InsideKeeps, StateInside, RestoredGives};
+ghost use Rattle.uz_rules.specs.Limits.{LimitsGive};
+ghost use Rattle.uz_rules.specs.Local.{OneLocal};
+ghost use Rattle.uz_rules.specs.Successors.{LiesInPoint};
 ghost use Rattle.uz_rules.specs.OneStep.{AloneContained, HandlerContained, MainContained};
 
 /// The law that the machine's step from a state that meets an instance which is alone lies in the abstract step. Does nothing.
@@ -37,4 +40,19 @@ pub fn state_inside()
 /// The law that a core which meets a restored instance has the interrupted registers and flags. Does nothing.
 pub fn restored_gives()
     ensures { RestoredGives }
+{}
+
+/// The law that the local rule has one answer. Does nothing.
+pub fn one_local()
+    ensures { OneLocal }
+{}
+
+/// The law that an instance which the test finds in a point lies in an instance of it. Does nothing.
+pub fn lies_in_point_tells()
+    ensures { LiesInPoint }
+{}
+
+/// The law that a certificate's limits and orders give what containment takes of its header and instances. Does nothing.
+pub fn limits_give()
+    ensures { LimitsGive }
 {}

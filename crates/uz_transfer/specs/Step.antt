@@ -62,25 +62,29 @@ step_of head length image e words clocks inst =
 
 -- Places
 
--- a line ends where the clock reaches its length
+-- whether clock k of line l lies past its end
 abbrev pub ends_line : Lines → ℕ → ℕ → Bool
 ends_line lines l k = nat_le (lines.length l) k
 
--- The instance at an exit. Main keeps its line, clock and level, and a handler alone has a pending match
-abbrev pub successor : Lines → Instance → Step → Exit → Instance
-successor lines inst step exit = record {
+-- The instance at an exit, by what is known after the instruction, what it emits and whether it clears the match. Main keeps its line, clock and level,
+-- and a handler alone has a pending match
+abbrev pub placed : Lines → Instance → Instance → Option EventKind → Bool → Exit → Instance
+placed lines inst draft emitted clears exit = record {
   kind = inst.kind;
   pc = exit.pc;
   line = if is_main inst.kind then inst.line else line_after lines inst.line (inst.clock + exit.clocks);
   clock = if is_main inst.kind then inst.clock else clock_after lines inst.line (inst.clock + exit.clocks);
-  level = if is_main inst.kind then inst.level else level_after step.emit (inst.level % 2);
-  pending = if is_handler inst.kind then not step.clears && (inst.pending || ends_line lines inst.line (inst.clock + exit.clocks)) else inst.pending;
-  regs = step.draft.regs;
-  pairs = step.draft.pairs;
-  flags = step.draft.flags;
-  stack = step.draft.stack;
-  cells = step.draft.cells;
+  level = if is_main inst.kind then inst.level else level_after emitted (inst.level % 2);
+  pending = if is_handler inst.kind then not clears && (inst.pending || ends_line lines inst.line (inst.clock + exit.clocks)) else inst.pending;
+  regs = draft.regs;
+  pairs = draft.pairs;
+  flags = draft.flags;
+  stack = draft.stack;
+  cells = draft.cells;
 }
+
+abbrev pub successor : Lines → Instance → Step → Exit → Instance
+successor lines inst step exit = placed lines inst step.draft step.emit step.clears exit
 
 -- Which words are read at a pc
 

@@ -1,9 +1,9 @@
 //! What an instruction emits, and whether it clears the compare match.
 
-ghost use Rattle.std.specs.Prelude.{◌%◌, ◌≡◌, ◌<◌, ◌≤◌, ◌-◌, false, true, Option, None, Some, ◌&&◌, nat_eq, if◌then◌else◌};
+ghost use Rattle.std.specs.Prelude.{◌||◌, ◌%◌, ◌≡◌, ◌<◌, ◌≤◌, ◌-◌, false, true, Option, None, Some, ◌&&◌, nat_eq, if◌then◌else◌};
 ghost use Rattle.uz_machine.specs.OperandRanges.{EffectFits};
 ghost use Rattle.uz_machine.specs.declared.Effect.TheVariants.{Return, Store, WriteIoBit};
-ghost use Rattle.uz_transfer.specs.Emission.{emission as emitted, bit_event as event_of_bit, level_event as event_of_level, toggle_event as event_of_toggle, byte_event as event_of_byte};
+ghost use Rattle.uz_transfer.specs.Emission.{main_emits as emits_in_main, emission as emitted, bit_event as event_of_bit, level_event as event_of_level, toggle_event as event_of_toggle, byte_event as event_of_byte};
 ghost use Rattle.uz_transfer.specs.Refusals.{stored_bit as bit_of_stored, flag_is as is_bit};
 ghost use Rattle.uz_transfer.specs.Step.{clears_flag};
 ghost use Rattle.uz_range.specs.Answers.{is_single as is_single_range};
@@ -137,6 +137,40 @@ pub(crate) fn clears(e: Effect, at: &Instance) -> bool
     match e {
         Effect::Store { to, r } => store_clears(&address_range(at, to), &val(at, r)),
         Effect::WriteIoBit { address, bit, set } => address == 0x36 && bit == 1 && set,
+        _ => false,
+    }
+}
+
+/// Whether an address is PINB, PORTB, PINC, PORTC or OCR2A.
+fn is_seen(at: u16) -> bool
+    ensures { result ≡ (nat_eq at 0x23 || (nat_eq at 0x25 || (nat_eq at 0x26 || (nat_eq at 0x28 || nat_eq at 0xB3)))) }
+{
+    matches!(at, 0x23 | 0x25 | 0x26 | 0x28 | 0xB3)
+}
+
+/// Whether a store of a byte is to one of them.
+fn store_is_seen(a: &Wide) -> bool
+    ensures { result ≡ (is_single_range a.now && (nat_eq a.now.lo 0x23 || (nat_eq a.now.lo 0x25 || (nat_eq a.now.lo 0x26 || (nat_eq a.now.lo 0x28 || nat_eq a.now.lo 0xB3))))) }
+{
+    is_single_wide(a) && is_seen(a.lo())
+}
+
+/// Whether SBI or CBI may emit: on PORTC, SBI on PINC, SBI on bit 0 of PINB, and on bit 0 of PORTB.
+fn bit_is_seen(at: u8, bit: u8, set: bool) -> bool
+    ensures { result ≡ (nat_eq at 0x28 || ((nat_eq at 0x26 && set) || (nat_eq bit 0 && ((nat_eq at 0x23 && set) || nat_eq at 0x25)))) }
+{
+    at == 0x28 || ((at == 0x26 && set) || (bit == 0 && ((at == 0x23 && set) || at == 0x25)))
+}
+
+/// Whether main's instruction stores what is seen outside, which it may not: PORTC, PINC, OCR2A, and PORTB and PINB but by SBI or CBI of
+/// bits 1 to 7.
+pub fn main_emits(e: Effect, at: &Instance) -> bool
+    requires { EffectFits e }
+    ensures { result ≡ emits_in_main e at.now }
+{
+    match e {
+        Effect::Store { to, .. } => store_is_seen(&address_range(at, to)),
+        Effect::WriteIoBit { address, bit, set } => bit_is_seen(address, bit, set),
         _ => false,
     }
 }

@@ -9,12 +9,16 @@ mod fail;
 mod loads;
 mod memory;
 mod one_step;
+mod place;
 mod refusals;
 mod step;
 mod stores;
 mod transfer;
 mod values;
 
+pub use copies::copied;
+pub use emission::main_emits;
 pub use fail::Fail;
-pub use one_step::abstract_step;
+pub use one_step::{abstract_step, step_of_instruction, word_after};
+pub use place::put_at;
 pub use step::{Exit, Step};

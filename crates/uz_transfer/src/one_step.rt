@@ -1,6 +1,6 @@
 //! The abstract step of an instance under its instruction.
 
-ghost use Rattle.std.specs.Prelude.{◌≡◌, ◌<◌, ◌≤◌, ◌+◌, ◌-◌, ◌%◌, true, None, length};
+ghost use Rattle.std.specs.Prelude.{Some, ◌≡◌, ◌<◌, ◌≤◌, ◌+◌, ◌-◌, ◌%◌, true, None, length};
 ghost use Rattle.avr_table.specs.Rows.{words_of, clocks_of};
 ghost use Rattle.uz_machine.specs.Core.{sample_clock, returns_from_interrupt};
 ghost use Rattle.uz_machine.specs.OperandRanges.{EffectFits};
@@ -8,7 +8,8 @@ ghost use Rattle.avr_table.specs.declared.Outcome.TheVariants.{Next};
 ghost use Rattle.uz_machine.specs.declared.Effect.TheVariants.{Return, SkipIf};
 ghost use Rattle.uz_transfer.specs.Kinds.{depth_limit as limit_of_depth};
 ghost use Rattle.uz_transfer.specs.Memory.{depth_of};
-ghost use Rattle.uz_transfer.specs.Step.{uniform, step_of as step_of_effect, IsStep};
+ghost use Rattle.uz_schedule.specs.Lines.{uniform};
+ghost use Rattle.uz_transfer.specs.Step.{step_of_row, step_of as step_of_effect, IsStep};
 ghost use Rattle.uz_transfer.specs.declared.fail.Fail.TheVariants.{Edge};
 
 use crate::copies::copied;
@@ -56,8 +57,8 @@ fn sampled(clock: u16, line_length: u16, late: u8) -> u16
     (clock + late as u16) % line_length
 }
 
-/// The word address so many words on, round the flash.
-fn word_after(pc: u16, words: u8) -> u16
+/// The word address so many words on, round the flash of 32,768 words.
+pub fn word_after(pc: u16, words: u8) -> u16
     ensures { result ≡ (pc + words) % 32768 }
 {
     ((pc as u32 + words as u32) % 32768) as u16
@@ -130,4 +131,24 @@ pub fn abstract_step(
         Some(i) => step_of(image, head, at, &i, effect(&i), line_length),
         None => Err(Fail::Opcode),
     }
+}
+
+/// The abstract step of an instance under an instruction. The head and the instance are within the limits of a certificate, and `line_length`
+/// is the length in clocks of the instance's line. Takes no memory.
+pub fn step_of_instruction(
+    image: &Image,
+    head: &Head,
+    line_length: u16,
+    at: &Instance,
+    i: &Instr,
+) -> Result<Step, Fail>
+    requires head { length head.now.cells.items ≤ 16 }
+    requires limits { limit_of_depth head.now at.now.kind ≤ 32 }
+    requires clock { at.now.clock < line_length }
+    requires line { line_length ≤ 1820 }
+    requires slots { depth_of at.now ≤ 32 }
+    requires cells { length at.now.cells.items ≤ 16 }
+    ensures { result ≡ step_of_row head.now line_length image.now (Some i.now) at.now }
+{
+    step_of(image, head, at, i, effect(i), line_length)
 }

@@ -1,0 +1,270 @@
+//! The local rule: why an instance of a point is refused.
+
+ghost use Rattle.std.specs.Prelude.{◌≡◌, ◌<◌, Ok, Some, length, slice_get};
+ghost use Rattle.uz_schedule.specs.Instances.{instance_at};
+ghost use Rattle.uz_schedule.specs.WellFormed.{WellFormed};
+ghost use Rattle.uz_schedule.specs.Lines.{lines_of};
+ghost use Rattle.uz_transfer.specs.Step.{IsReadAt, placed};
+ghost use Rattle.uz_rules.specs.EdgeRule.{each_exit};
+ghost use Rattle.uz_rules.specs.Successors.{lies_in_any as lies_in_one};
+ghost use Rattle.uz_transfer.specs.Kinds.{is_main as is_main_kind};
+ghost use Rattle.uz_transfer.specs.Refusals.{refuse_if as refused_if};
+ghost use Rattle.uz_rules.specs.Limits.{InstanceLimits};
+ghost use Rattle.uz_rules.specs.Local.{is_stop as stops, rest_in as rest_of_line, return_fail as fail_of_return, first_exit as exit_of_return, end_of as end_of_return, has_successors as all_have_successors, result_fail as fail_of_result, compares_edges as edges_compare, step_fail as fail_of_step, instance_fail as fail_of_instance, local_fail as fail_of_row, IsLocal, reason};
+
+use crate::edge_rule::{edges_fit, position_of};
+use crate::inclusion::{cells_inside, restored};
+use crate::successors::lies_in_any;
+use avr_decode::decode;
+use avr_table::Instr;
+use uz_core::effect;
+use uz_hex::Image;
+use uz_machine::Effect;
+use uz_schedule::{Cert, EventKind, Instance, Kind, Point, Rest};
+use uz_transfer::{Exit, Fail, Step, main_emits, put_at, step_of_instruction, word_after};
+
+/// The reason, where it stands, else the later one.
+fn refuse_if(stands: bool, why: Fail, later: Option<Fail>) -> Option<Fail>
+    ensures { result ≡ refused_if stands why later }
+{
+    if stands { Some(why) } else { later }
+}
+
+/// Whether an effect is that of SPM, which stops the machine.
+fn is_stop(e: Effect) -> bool
+    ensures { result ≡ stops e }
+{
+    matches!(e, Effect::Stop)
+}
+
+/// Whether an instance is of main.
+fn is_main(at: &Instance) -> bool
+    ensures { result ≡ is_main_kind at.now.kind }
+{
+    matches!(at.kind, Kind::Main)
+}
+
+/// Why a return that ends in this state is refused, where its line has this rest.
+fn rest_fail(rest: &Rest, end: &Instance) -> Option<Fail>
+    ensures { result ≡ fail_of_return (Some rest.now) end.now }
+{
+    let kept = restored(end) && cells_inside(end.cells.as_slice(), rest.cells.as_slice());
+    let restore = refuse_if(!kept, Fail::Restore, None);
+    refuse_if(end.clock != rest.clock, Fail::Clock, restore)
+}
+
+/// Why a return that ends in this state is refused.
+fn return_fail(rests: &[Rest], end: &Instance) -> Option<Fail>
+    ensures { result ≡ fail_of_return (rest_of_line rests.now end.now.line) end.now }
+{
+    for rest in rests {
+        if rest.line == end.line {
+            return rest_fail(rest, end);
+        }
+    }
+    Some(Fail::Clock)
+}
+
+/// A return's one exit.
+fn first_exit(exits: &[Exit]) -> Exit
+    ensures { result ≡ exit_of_return exits.now }
+{
+    match exits.first() {
+        Some(exit) => *exit,
+        None => Exit { pc: 0, clocks: 0 },
+    }
+}
+
+/// Why RETI is refused. Its draft is put to where it ends.
+fn end_fail(cert: &Cert, at: &Instance, step: Step) -> Option<Fail>
+    requires fits { WellFormed cert.now }
+    requires limits { InstanceLimits cert.now at.now }
+    ensures { result ≡ fail_of_return (rest_of_line cert.now.rests (end_of_return cert.now at.now step).line) (end_of_return cert.now at.now step) }
+{
+    let exit = first_exit(step.exits.as_slice());
+    let mut end = step.draft;
+    put_at(
+        &mut end,
+        cert.schedule.order(),
+        at,
+        step.emit,
+        step.clears,
+        exit,
+    );
+    return_fail(cert.rests.as_slice(), &end)
+}
+
+/// Whether what is known after an instruction lies, at each of these exits, in an instance of a named successor. `draft` is put to one exit
+/// after another, so that no list of results is made.
+fn lie_in_successors(
+    cert: &Cert,
+    next: &[u32],
+    at: &Instance,
+    draft: &mut Instance,
+    emitted: Option<EventKind>,
+    clears: bool,
+    exits: &[Exit],
+) -> bool
+    requires fits { WellFormed cert.now }
+    requires limits { InstanceLimits cert.now at.now }
+    ensures { result ≡ each_exit (λ exit. lies_in_one cert.now next.now (placed (lines_of cert.now.schedule) at.now draft.old emitted clears exit)) exits.now }
+{
+    for exit in exits {
+        put_at(draft, cert.schedule.order(), at, emitted, clears, *exit);
+        if !lies_in_any(cert, next, draft) {
+            return false;
+        }
+    }
+    true
+}
+
+/// Whether each result lies in an instance of a named successor.
+fn has_successors(cert: &Cert, next: &[u32], at: &Instance, step: Step) -> bool
+    requires fits { WellFormed cert.now }
+    requires limits { InstanceLimits cert.now at.now }
+    ensures { result ≡ all_have_successors cert.now next.now at.now step }
+{
+    let mut draft = step.draft;
+    lie_in_successors(
+        cert,
+        next,
+        at,
+        &mut draft,
+        step.emit,
+        step.clears,
+        step.exits.as_slice(),
+    )
+}
+
+/// Why the results of an instance are refused.
+fn result_fail(cert: &Cert, next: &[u32], at: &Instance, step: Step) -> Option<Fail>
+    requires fits { WellFormed cert.now }
+    requires limits { InstanceLimits cert.now at.now }
+    ensures { result ≡ fail_of_result cert.now next.now at.now step }
+{
+    if step.back {
+        end_fail(cert, at, step)
+    } else {
+        refuse_if(!has_successors(cert, next, at, step), Fail::Successor, None)
+    }
+}
+
+/// Whether what is emitted is the schedule's, which isn't asked of main.
+fn compares_edges(cert: &Cert, at: &Instance, step: &Step) -> bool
+    requires fits { WellFormed cert.now }
+    requires limits { InstanceLimits cert.now at.now }
+    ensures { result ≡ edges_compare cert.now at.now step.now }
+{
+    is_main(at)
+        || edges_fit(
+            &cert.schedule,
+            position_of(&cert.schedule, at),
+            step.emit,
+            step.exits.as_slice(),
+        )
+}
+
+/// Why an instance is refused, whose instruction has this step.
+fn step_fail(cert: &Cert, next: &[u32], at: &Instance, emits: bool, step: Step) -> Option<Fail>
+    requires fits { WellFormed cert.now }
+    requires limits { InstanceLimits cert.now at.now }
+    ensures { result ≡ fail_of_step cert.now next.now at.now emits (Ok step) }
+{
+    if emits || !compares_edges(cert, at, &step) {
+        return Some(Fail::Edge);
+    }
+    result_fail(cert, next, at, step)
+}
+
+/// Why an instance is refused, under its instruction.
+fn instance_fail(image: &Image, cert: &Cert, next: &[u32], i: &Instr, at: &Instance) -> Option<Fail>
+    requires fits { WellFormed cert.now }
+    requires limits { InstanceLimits cert.now at.now }
+    ensures { result ≡ fail_of_instance image.now cert.now next.now (Some i.now) (Some at.now) }
+{
+    let emits = is_main(at) && main_emits(effect(i), at);
+    match step_of_instruction(image, &cert.head, cert.schedule.length(at.line), at, i) {
+        Ok(step) => step_fail(cert, next, at, emits, step),
+        Err(why) => Some(why),
+    }
+}
+
+/// Why a line and a count of a point are refused, under the point's instruction.
+#[tactic(auto, using(crate::proofs::LimitsHold::instance_limits))]
+fn row_fail(
+    image: &Image,
+    cert: &Cert,
+    id: u32,
+    l: u16,
+    c: u8,
+    next: &[u32],
+    i: &Instr,
+) -> Option<Fail>
+    requires fits { WellFormed cert.now }
+    ensures { result ≡ fail_of_row image.now cert.now next.now (Some i.now) (instance_at cert.now id l c) }
+{
+    if is_stop(effect(i)) {
+        return Some(Fail::Opcode);
+    }
+    match cert.instance(id, l, c) {
+        Some(at) => instance_fail(image, cert, next, i, &at),
+        None => Some(Fail::Box),
+    }
+}
+
+/// The answer where this is the reason.
+fn answer(why: Option<Fail>) -> Result<(), Fail>
+    ensures { reason result ≡ why }
+{
+    match why {
+        Some(why) => Err(why),
+        None => Ok(()),
+    }
+}
+
+/// A point of the certificate.
+fn point_of(cert: &Cert, id: u32) -> &Point
+    requires { id < length cert.now.points }
+    ensures { slice_get cert.now.points id ≡ Some result.now }
+{
+    &cert.points.as_slice()[id as usize]
+}
+
+/// The instruction at a pc, where there is one.
+fn read_at(image: &Image, pc: u16) -> Option<Instr>
+    ensures { IsReadAt image.now pc result }
+{
+    decode(image.word(word_after(pc, 0)), image.word(word_after(pc, 1)))
+}
+
+/// Why a line and a count of a point are refused, under the instruction that is read.
+fn read_fail(
+    image: &Image,
+    cert: &Cert,
+    id: u32,
+    l: u16,
+    c: u8,
+    next: &[u32],
+    row: Option<Instr>,
+) -> Option<Fail>
+    requires fits { WellFormed cert.now }
+    ensures { result ≡ fail_of_row image.now cert.now next.now row (instance_at cert.now id l c) }
+{
+    match row {
+        Some(i) => row_fail(image, cert, id, l, c, next, &i),
+        None => Some(Fail::Opcode),
+    }
+}
+
+/// The local rule of point `id` at line `l` and count `c`: the least reason that stands, or none. The instruction is that at the point's pc.
+/// Box where the point has no instance there. Takes no memory.
+#[tactic(auto, using(crate::proofs::LocalLaws::is_local))]
+pub fn local(image: &Image, cert: &Cert, id: u32, l: u16, c: u8) -> Result<(), Fail>
+    requires fits { WellFormed cert.now }
+    requires point { id < length cert.now.points }
+    ensures { IsLocal image.now cert.now id l c (reason result) }
+{
+    let point = point_of(cert, id);
+    let row = read_at(image, point.pc);
+    answer(read_fail(image, cert, id, l, c, point.next.as_slice(), row))
+}
