@@ -4,3 +4,5 @@ pub mod MarkLemmas
 pub mod RunLemmas
 pub mod ScriptLaws
 pub mod ScriptLemmas
+pub mod SessionLaws
+pub mod TextLemmas

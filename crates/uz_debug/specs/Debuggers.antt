@@ -3,6 +3,10 @@ use Rattle.std.specs.Prelude.{◌≡◌, ℕ, List, Some}
 use Rattle.std.specs.FinMap as map
 use Rattle.uz_machine.specs.PadLine.{PadHistory}
 use Rattle.uz_machine.specs.Turn.{State}
+use Rattle.uz_machine.specs.Turn.{state_byte}
+use Rattle.uz_pads.specs.Pads.{pads_wiring}
+use Rattle.uz_console.specs.declared.console.Console.{Console}
+use Rattle.uz_console.specs.Consoles.{state_of}
 use Rattle.uz_debug.specs.declared.command.Command.{Command}
 use Rattle.uz_debug.specs.declared.command.Reply.{Reply}
 use Rattle.uz_debug.specs.declared.debugger.Debugger.{Debugger}
@@ -33,3 +37,7 @@ abbrev pub TellsHalt : State PadHistory → ℕ → Halt → Reply → Type 0
 TellsHalt start turn halt.Goal answer = TellsPlace start turn answer
 TellsHalt start turn halt.Breakpoint answer = TellsPlace start turn answer
 TellsHalt start turn halt.Stuck answer = IsStuck start turn → TellsStop start turn answer
+
+-- the bytes that reads of a console's data space give, without their effects
+abbrev pub read_of : Console → ℕ → ℕ
+read_of console at = state_byte pads_wiring (state_of console) at

@@ -7,7 +7,7 @@ ghost use Rattle.uz_machine.specs.PadLine.{PadHistory};
 ghost use Rattle.uz_machine.specs.Turn.{State, state_at_reset, history_at_reset};
 ghost use Rattle.uz_pads.specs.Pads.{pairs_of};
 ghost use Rattle.uz_debug.specs.Debuggers.{Debugs, DoesAct, Keeps, TellsHalt, session_of};
-ghost use Rattle.uz_debug.specs.Sessions.{IsInRange, TellsPlace};
+ghost use Rattle.uz_debug.specs.Sessions.{Acts, IsInRange, TellsPlace};
 ghost use Rattle.uz_debug.specs.Timelines.{IsAt};
 ghost use Rattle.uz_debug.specs.declared.command.Command.{Command};
 ghost use Rattle.uz_debug.specs.declared.command.Reply.{Reply};
@@ -70,7 +70,8 @@ impl Debugger {
     pub fn act(&mut self, alloc: Global, command: Command) -> Result<Reply, AllocError>
         requires { IsInRange command }
         ensures ok { IsOk result }
-        ensures acts { IfOk result (λ reply. (start : State PadHistory) (done : List (Command × Reply)) → Debugs start done self.old → Debugs start (done ++ (command, reply) ∷ []) self.new) }
+        ensures acts { IfOk result (λ reply. (start : State PadHistory) (done : List (Command × Reply)) → Debugs start done self.old → Acts start (session_of self.old) command reply (session_of self.new)) }
+        ensures session { IfOk result (λ reply. (start : State PadHistory) (done : List (Command × Reply)) → Debugs start done self.old → Debugs start (done ++ (command, reply) ∷ []) self.new) }
     {
         Ok(self.reply(alloc, command))
     }

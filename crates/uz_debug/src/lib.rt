@@ -6,13 +6,17 @@ mod command;
 mod debugger;
 mod errors;
 mod keeping;
+mod laws;
 mod run;
 mod script;
 mod script_lines;
+mod session_lines;
 mod slots;
 mod timeline;
 
 pub use command::{Command, DebugWhy, Reply};
 pub use debugger::Debugger;
 pub use errors::{ScriptError, ScriptWhy};
+pub use laws::session_is_unique;
 pub use script::{read_script, reading_is_unique};
+pub use session_lines::session_text;
