@@ -80,8 +80,9 @@ fn predefine_data(alloc: Global, symbols: &mut Symbols) -> Result<(), AllocError
     predefine(alloc, symbols, b"OCR2A", 0xB3)
 }
 
-/// The predefined names: I/O addresses, and data addresses from TIMSK1 on.
-fn predefined(alloc: Global) -> Result<Symbols, AllocError>
+/// The predefined names with their values: I/O addresses, and data addresses from TIMSK1 on (ATmega644 data sheet,
+/// "Register Summary").
+pub fn predefined(alloc: Global) -> Result<Symbols, AllocError>
     ensures { IfOk result (λ symbols. symbols ≡ predefined_names) }
 {
     let mut symbols = Symbols::new(alloc)?;

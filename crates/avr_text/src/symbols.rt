@@ -1,6 +1,6 @@
 //! The values of names.
 
-ghost use Rattle.std.specs.Prelude.{◌≡◌, IfOk, OnErr, is_none, if◌then◌else◌};
+ghost use Rattle.std.specs.Prelude.{◌≡◌, IfOk, OnErr, OnOk, is_none, if◌then◌else◌};
 ghost use Rattle.std.specs.FinMap as map;
 
 use std::alloc::{AllocError, Global};
@@ -53,6 +53,16 @@ impl Symbols {
         let key = Vec::from_slice(alloc, name)?;
         self.values.insert(key, value)?;
         Ok(true)
+    }
+
+    /// Gives a name this value, whether it has one already or not. After want of memory nothing is changed.
+    pub fn set(&mut self, alloc: Global, name: &[u8], value: i64) -> Result<(), AllocError>
+        ensures ok { OnOk result (self.new ≡ map.insert self.old name.now value) }
+        ensures err { OnErr result (self.new ≡ self.old) }
+    {
+        let key = Vec::from_slice(alloc, name)?;
+        self.values.insert(key, value)?;
+        Ok(())
     }
 
     /// The value of a name, and None exactly where the name isn't there.

@@ -1,0 +1,9 @@
+pub mod Fronts
+pub mod MacroMaps
+pub mod Slices
+pub mod Levels
+pub mod LineMoves
+pub mod Paths
+pub mod Runs
+pub mod Reasons
+pub mod Whole

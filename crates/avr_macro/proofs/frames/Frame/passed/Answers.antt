@@ -1,0 +1,7 @@
+use Rattle.std.proofs.Common.{refl}
+use Rattle.avr_macro.proofs.Slices.{after_some}
+use Rattle.avr_macro.proofs.Levels.{same_level}
+use Rattle.avr_macro.proofs.frames.Frame.passed.Goals as goal
+
+pub returns : goal.returns
+returns c = same_level _ _ _ _ _ _ _ _ _ _ _ (after_some c.args.self.body.value.items c.args.self.at c.args.self.end c.args.n c.requires) refl c.place_after.ensures

@@ -1,0 +1,12 @@
+pub mod Lines
+pub mod Directives
+pub mod Arguments
+pub mod Bodies
+pub mod Blocks
+pub mod Values
+pub mod States
+pub mod Moves
+pub mod Expansion
+pub mod Views
+pub mod Steps
+pub mod Answers

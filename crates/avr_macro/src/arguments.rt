@@ -1,0 +1,225 @@
+//! The arguments of a call, and the body of a macro with them in their places.
+
+ghost use Rattle.std.specs.Prelude.{◌≡◌, ◌-◌, ◌++◌, ◌&&◌, ◌||◌, ◌≤◌, nat_le, nat_lt, decimal, length, IfOk, OnOk, map, List, ℕ};
+ghost use Rattle.std.specs.List.{slice_split};
+ghost use Rattle.avr_text.specs.Characters.{is_digit as is_digit_byte};
+ghost use Rattle.avr_macro.specs.Lines.{trimmed as trimmed_text};
+ghost use Rattle.avr_macro.specs.Arguments.{any_lacks as any_lacks_in, argument as argument_of, arguments_of as arguments_of_text, at_named as at_named_of, before_comment as before_comment_in, is_comma as is_comma_byte, is_empty as is_empty_text, lacks_argument as lacks_argument_line, put_byte as put_byte_of, put_end as put_end_of, replaced as replaced_line};
+ghost use Rattle.avr_macro.specs.Bodies.{texts};
+ghost use Rattle.avr_macro.specs.Views.{lent};
+
+use crate::lines::{after_blanks, is_digit, trimmed};
+use itoa::Buffer;
+use std::alloc::{AllocError, Global};
+
+/// A replaced body of more bytes is given up as want of memory: arguments that double at each level would fill all of it.
+const BODY_LIMIT: usize = 16_777_216;
+
+/// How many bytes stand before a comment.
+fn comment_at(text: &[u8]) -> usize
+    ensures len { result ≡ length (before_comment_in text.now) }
+    ensures within { result ≤ length text.now }
+{
+    for (n, byte) in text.iter().enumerate() {
+        if *byte == b';' {
+            return n;
+        }
+    }
+    text.len()
+}
+
+/// What comes before a comment.
+#[tactic(auto, using(crate::proofs::Fronts::comment_front))]
+fn before_comment(text: &[u8]) -> &[u8]
+    ensures { result.now ≡ before_comment_in text.now }
+{
+    let (front, _) = text.split_at(comment_at(text));
+    front
+}
+
+fn is_comma(byte: u8) -> bool
+    ensures { result ≡ is_comma_byte byte }
+{
+    byte == b','
+}
+
+/// The parts between the commas.
+fn split_at_commas(alloc: Global, text: &[u8]) -> Result<Vec<&[u8]>, AllocError>
+    ensures { IfOk result (λ v. lent v ≡ slice_split is_comma_byte text.now) }
+{
+    text.split(|byte| is_comma(*byte)).collect(alloc)
+}
+
+/// Each part without the blanks at its ends.
+fn trim_each<'a>(alloc: Global, parts: &[&'a [u8]]) -> Result<Vec<&'a [u8]>, AllocError>
+    ensures { IfOk result (λ v. lent v ≡ map trimmed_text (map (λ part. part.now) parts.now)) }
+{
+    let mut arguments = Vec::with_capacity(alloc, parts.len())?;
+    for part in parts {
+        arguments.push(trimmed(part))?;
+    }
+    Ok(arguments)
+}
+
+/// The arguments that come after a macro's name.
+#[tactic(auto, unfolding(crate::specs::Arguments::arguments_of))]
+pub(crate) fn arguments_of(alloc: Global, text: &[u8]) -> Result<Vec<&[u8]>, AllocError>
+    ensures { IfOk result (λ v. lent v ≡ arguments_of_text text.now) }
+{
+    let text = before_comment(text);
+    if after_blanks(text).len() == 0 {
+        return Ok(Vec::new(alloc));
+    }
+    let parts = split_at_commas(alloc, text)?;
+    trim_each(alloc, parts.as_slice())
+}
+
+/// Whether a byte names an argument that a call with so many hasn't.
+fn is_lacking(count: usize, named: bool, byte: u8) -> bool
+    ensures { result ≡ (named && (is_digit_byte byte && nat_le count (byte - 48))) }
+{
+    named && is_digit(byte) && count <= usize::from(byte - b'0')
+}
+
+/// Whether a line names an argument that a call with so many hasn't.
+pub(crate) fn lacks_argument(count: usize, line: &[u8]) -> bool
+    ensures { result ≡ lacks_argument_line count line.now }
+{
+    let mut named = false;
+    for byte in line {
+        if is_lacking(count, named, *byte) {
+            return true;
+        }
+        named = !named && *byte == b'@';
+    }
+    false
+}
+
+/// The argument of a number.
+fn argument<'a>(arguments: &[&'a [u8]], k: usize) -> &'a [u8]
+    ensures { result.now ≡ argument_of (map (λ a. a.now) arguments.now) k }
+{
+    match arguments.get(k) {
+        Some(argument) => argument,
+        None => b"",
+    }
+}
+
+/// Adds bytes to a body.
+fn put(body: &mut Vec<u8>, bytes: &[u8]) -> Result<(), AllocError>
+    ensures { OnOk result (body.new.items ≡ body.old.items ++ bytes.now) }
+{
+    if body.len() + bytes.len() > BODY_LIMIT {
+        return Err(AllocError);
+    }
+    body.extend_from_slice(bytes)
+}
+
+/// What `@` and the byte after it stand for.
+fn put_named(
+    line: &mut Vec<u8>,
+    arguments: &[&[u8]],
+    number: &[u8],
+    byte: u8,
+) -> Result<(), AllocError>
+    ensures { (call : ℕ) → number.now ≡ decimal call → OnOk result (line.new.items ≡ line.old.items ++ at_named_of (map (λ a. a.now) arguments.now) call byte) }
+{
+    if byte == b'@' {
+        put(line, number)
+    } else if is_digit(byte) {
+        put(line, argument(arguments, usize::from(byte - b'0')))
+    } else {
+        put(line, &[b'@', byte])
+    }
+}
+
+/// A byte of a body, after a `@` that waits for it or not.
+fn put_byte(
+    line: &mut Vec<u8>,
+    arguments: &[&[u8]],
+    number: &[u8],
+    named: bool,
+    byte: u8,
+) -> Result<(), AllocError>
+    ensures { (call : ℕ) → number.now ≡ decimal call → OnOk result (line.new.items ≡ line.old.items ++ put_byte_of (map (λ a. a.now) arguments.now) call named byte) }
+{
+    if named {
+        put_named(line, arguments, number, byte)
+    } else if byte == b'@' {
+        Ok(())
+    } else {
+        put(line, &[byte])
+    }
+}
+
+/// The end of a line, after a `@` or not.
+fn put_end(line: &mut Vec<u8>, named: bool) -> Result<(), AllocError>
+    ensures { OnOk result (line.new.items ≡ line.old.items ++ put_end_of named) }
+{
+    if named { put(line, b"@") } else { Ok(()) }
+}
+
+/// A line of a body in a call.
+fn replaced(
+    alloc: Global,
+    arguments: &[&[u8]],
+    number: &[u8],
+    text: &[u8],
+) -> Result<Vec<u8>, AllocError>
+    ensures { (call : ℕ) → number.now ≡ decimal call → IfOk result (λ line. line.items ≡ replaced_line (map (λ a. a.now) arguments.now) call text.now) }
+{
+    let mut line = Vec::with_capacity(alloc, text.len())?;
+    let mut named = false;
+    for byte in text {
+        put_byte(&mut line, arguments, number, named, *byte)?;
+        named = !named && *byte == b'@';
+    }
+    put_end(&mut line, named)?;
+    Ok(line)
+}
+
+/// A macro's body in the call of a number.
+pub(crate) fn replaced_body(
+    alloc: Global,
+    arguments: &[&[u8]],
+    call: u32,
+    body: &[Vec<u8>],
+) -> Result<Vec<Vec<u8>>, AllocError>
+    ensures lines { IfOk result (λ lines. texts lines ≡ map (replaced_line (map (λ a. a.now) arguments.now) call) (map (λ line. line.items) body.now)) }
+    ensures few { IfOk result (λ lines. length lines.items ≡ length body.now) }
+{
+    let mut buffer = Buffer::new();
+    let number = buffer.format(call).as_bytes();
+    let mut lines = Vec::with_capacity(alloc, body.len())?;
+    let mut size = 0;
+    for text in body {
+        let line = replaced(alloc, arguments, number, text.as_slice())?;
+        size += line.len();
+        if size > BODY_LIMIT {
+            return Err(AllocError);
+        }
+        lines.push(line)?;
+    }
+    Ok(lines)
+}
+
+/// Whether a line of a body names an argument that a call with so many hasn't.
+fn any_lacks(count: usize, body: &[Vec<u8>]) -> bool
+    ensures { result ≡ any_lacks_in count (map (λ line. line.items) body.now) }
+{
+    let mut rest = body;
+    while let [line, tail @ ..] = rest {
+        if lacks_argument(count, line.as_slice()) {
+            return true;
+        }
+        rest = tail;
+    }
+    false
+}
+
+/// Whether a call has more than ten arguments, or a body names one that it hasn't.
+pub(crate) fn lacks_one(count: usize, body: &[Vec<u8>]) -> bool
+    ensures { result ≡ (nat_lt 10 count || any_lacks_in count (map (λ line. line.items) body.now)) }
+{
+    count > 10 || any_lacks(count, body)
+}

@@ -1,0 +1,621 @@
+//! Expansion, a line at a time.
+
+ghost use Rattle.std.specs.Prelude.{◌≡◌, ◌<◌, ◌≤◌, ◌+◌, [], ◌∷◌, ◌++◌, true, false, Some, IfOk, IfErr, IfNone, IfSome, IsSome, OnOk, length, map, nat_lt, string_bytes};
+ghost use Rattle.std.specs.Bool.{OnFalse};
+ghost use Rattle.std.specs.Option.{option_map};
+ghost use Rattle.avr_macro.specs.Arguments.{arguments_of as arguments_of_line};
+ghost use Rattle.avr_macro.specs.Blocks.{if_else as if_else_in};
+ghost use Rattle.avr_macro.specs.Bodies.{texts};
+ghost use Rattle.avr_macro.specs.Directives.{after_first_word as after_first_word_in, first_word as first_word_of, operands_of as operands_of_line};
+ghost use Rattle.avr_macro.specs.Moves.{body_of as body_of_word, call as call_state, chosen_part as chosen_part_of, closed_by as closed_by_line, enter as enter_move, file_name as file_name_of, goes, if_move as if_move_of, if_valued, include_move as include_move_of, included, is_full as is_full_state, is_include as is_include_word, is_null as is_null_value, later, line_move as line_move_of, macro_body as macro_body_move, macro_move as macro_move_of, move_of, one_part as one_part_of, other_move as other_move_of, part, plain_move as plain_move_of, repeat_move as repeat_move_of, repeat_times as repeat_times_move, repeated as repeated_level, turn_end as turn_end_move, turned, two_parts as two_parts_of, with_setting, word_move};
+ghost use Rattle.avr_macro.specs.States.{first_state, inside as inside_level, passed as passed_level};
+ghost use Rattle.avr_macro.specs.Values.{setting_of as setting_of_text};
+ghost use Rattle.avr_macro.specs.Views.{CallsBody, seen_frame, seen_frames, seen_setting};
+
+use crate::arguments::{arguments_of, lacks_one, replaced_body};
+use crate::blocks::{if_else, if_end, macro_end, repeat_end};
+use crate::directives::{
+    Word, after_first_word, closes_well, directive_of, first_word, macro_name, operands_of,
+};
+use crate::faults::MacroWhy;
+use crate::frames::{BLOCK_LIMIT, Frame, INCLUDE_LIMIT, share};
+use crate::lines::{is_bare, trimmed};
+use crate::macros::Macros;
+use crate::origin::Origin;
+use crate::values::{Setting, setting_of, text_value};
+use avr_asm::predefined;
+use avr_text::Symbols;
+use std::alloc::{AllocError, Global};
+
+/// The greatest number of lines that are reached.
+const LINE_LIMIT: u32 = 1_048_576;
+
+/// The greatest number of bytes of a file, and of the flat text.
+pub(crate) const TEXT_LIMIT: u32 = 1_048_576;
+
+/// A file that a line asks for, with the level of that line.
+#[derive(Drop)]
+pub(crate) struct Request {
+    pub name: String,
+    pub frame: Frame,
+}
+
+/// How far an expansion has come.
+#[derive(Drop)]
+pub(crate) struct Expander {
+    /// What is to be expanded, the innermost last.
+    pub frames: Vec<Frame>,
+    pub macros: Macros,
+    pub constants: Symbols,
+    /// How many calls there were, and how many lines were reached.
+    pub calls: u32,
+    pub reached: u32,
+    /// The flat text, with the origins of its lines.
+    pub text: Vec<u8>,
+    pub origins: Vec<Origin>,
+    ghost few_calls: { calls ≤ reached },
+    ghost few_lines: { reached ≤ 1048576 },
+}
+
+/// The lines after the next one of a level.
+fn later_lines(frame: &Frame) -> &[Vec<u8>]
+    requires { frame.now.at < frame.now.end }
+    ensures lines { map (λ line. line.items) result.now ≡ later (seen_frame frame.now) }
+    ensures count { length result.now + (frame.now.at + 1) ≡ frame.now.end }
+{
+    let body = frame.body.as_ref().as_slice();
+    &body[frame.at + 1..frame.end]
+}
+
+/// Some lines after the next one.
+fn first_lines(frame: &Frame, n: usize) -> &[Vec<u8>]
+    requires { frame.now.at + (n + 2) ≤ frame.now.end }
+    ensures lines { map (λ line. line.items) result.now ≡ part (seen_frame frame.now) 0 n }
+    ensures count { length result.now ≡ n }
+{
+    &later_lines(frame)[..n]
+}
+
+/// Whether the line after so many has no words that it may not have.
+#[tactic(auto, using(crate::proofs::Slices::line_at))]
+fn closed_by(lines: &[Vec<u8>], n: usize) -> bool
+    requires { n < length lines.now }
+    ensures { result ≡ closed_by_line (map (λ line. line.items) lines.now) n }
+{
+    closes_well(lines[n].as_slice())
+}
+
+fn is_null(value: i64) -> bool
+    ensures { result ≡ is_null_value value }
+{
+    value == 0
+}
+
+/// A copy of lines.
+fn copy_lines(alloc: Global, lines: &[Vec<u8>]) -> Result<Vec<Vec<u8>>, AllocError>
+    ensures { IfOk result (λ copy. texts copy ≡ map (λ line. line.items) lines.now) }
+{
+    let mut copy = Vec::with_capacity(alloc, lines.len())?;
+    for line in lines {
+        copy.push(Vec::from_slice(alloc, line.as_slice())?)?;
+    }
+    Ok(copy)
+}
+
+/// Adds a line to a text.
+fn put_text(text: &mut Vec<u8>, line: &[u8]) -> Result<(), AllocError>
+    ensures { OnOk result (text.new.items ≡ text.old.items ++ (line.now ++ 10 ∷ [])) }
+{
+    text.extend_from_slice(line)?;
+    text.push(b'\n')?;
+    Ok(())
+}
+
+/// The level of a block that is expanded some times, where its end comes after so many lines.
+fn repeated(frame: &Frame, times: u32, n: usize) -> Result<Frame, AllocError>
+    requires shallow { frame.now.blocks < 16 }
+    requires left { frame.now.at + (n + 2) ≤ frame.now.end }
+    ensures { IfOk result (λ inner. seen_frame inner ≡ repeated_level times n (seen_frame frame.now)) }
+{
+    if times == 0 {
+        frame.block(0, 0, 0, false, true)
+    } else {
+        let well = closed_by(later_lines(frame), n);
+        frame.block(0, n, times - 1, true, well)
+    }
+}
+
+/// The level of a conditional block without `.else`.
+fn one_part(frame: &Frame, chosen: bool, n: usize) -> Result<Frame, AllocError>
+    requires shallow { frame.now.blocks < 16 }
+    requires left { frame.now.at + (n + 2) ≤ frame.now.end }
+    ensures { IfOk result (λ inner. seen_frame inner ≡ one_part_of chosen n (seen_frame frame.now)) }
+{
+    let well = closed_by(later_lines(frame), n);
+    let to = if chosen { n } else { 0 };
+    frame.block(0, to, 0, false, well)
+}
+
+/// The level of a conditional block whose `.else` comes after so many lines.
+fn two_parts(frame: &Frame, chosen: bool, m: usize, n: usize) -> Result<Frame, AllocError>
+    requires shallow { frame.now.blocks < 16 }
+    requires left { frame.now.at + (n + 2) ≤ frame.now.end }
+    requires parted { m < n }
+    ensures { IfOk result (λ inner. seen_frame inner ≡ two_parts_of chosen m n (seen_frame frame.now)) }
+{
+    let parts_well = closed_by(later_lines(frame), m);
+    let well = parts_well && closed_by(later_lines(frame), n);
+    if chosen {
+        frame.block(0, m, 0, false, well)
+    } else if parts_well {
+        frame.block(m + 1, n, 0, false, well)
+    } else {
+        frame.block(0, 0, 0, false, well)
+    }
+}
+
+/// How many lines of a conditional block stand before its `.else`.
+fn else_of(frame: &Frame, n: usize) -> Option<usize>
+    requires left { frame.now.at + (n + 2) ≤ frame.now.end }
+    ensures place { result ≡ if_else_in (part (seen_frame frame.now) 0 n) }
+    ensures within { IfSome result (λ m. m < n) }
+{
+    if_else(first_lines(frame, n))
+}
+
+/// The level of the chosen part of a conditional block.
+fn chosen_part(frame: &Frame, chosen: bool, n: usize) -> Result<Frame, AllocError>
+    requires shallow { frame.now.blocks < 16 }
+    requires left { frame.now.at + (n + 2) ≤ frame.now.end }
+    ensures { IfOk result (λ inner. seen_frame inner ≡ chosen_part_of chosen (if_else_in (part (seen_frame frame.now) 0 n)) n (seen_frame frame.now)) }
+{
+    match else_of(frame, n) {
+        None => one_part(frame, chosen, n),
+        Some(m) => two_parts(frame, chosen, m, n),
+    }
+}
+
+/// Adds a level.
+#[tactic(auto, using(crate::proofs::Levels::last_frame))]
+fn push(frames: &mut Vec<Frame>, frame: Frame) -> Result<(), MacroWhy>
+    ensures pushed { OnOk result (seen_frames frames.new.items ≡ seen_frame frame ∷ seen_frames frames.old.items) }
+    ensures count { OnOk result (length frames.new.items ≡ length frames.old.items + 1) }
+    ensures err { IfErr result (λ why. why ≡ MacroWhy.Memory) }
+{
+    frames.push(frame)?;
+    Ok(())
+}
+
+/// Sets a constant.
+fn set(alloc: Global, constants: &mut Symbols, setting: Option<Setting>) -> Result<(), AllocError>
+    ensures { OnOk result (constants.new ≡ with_setting (option_map seen_setting setting) constants.old) }
+{
+    match setting {
+        Some(setting) => constants.set(alloc, setting.name.as_slice(), setting.value),
+        None => Ok(()),
+    }
+}
+
+/// The lines of a call, by the line that calls.
+fn called_lines(
+    alloc: Global,
+    line: &[u8],
+    call: u32,
+    body: &[Vec<u8>],
+) -> Result<Vec<Vec<u8>>, MacroWhy>
+    ensures { CallsBody result (arguments_of_line (after_first_word_in line.now)) call (map (λ line. line.items) body.now) }
+{
+    let arguments = arguments_of(alloc, after_first_word(line))?;
+    if lacks_one(arguments.len(), body) {
+        return Err(MacroWhy::Argument);
+    }
+    let lines = replaced_body(alloc, arguments.as_slice(), call, body)?;
+    Ok(lines)
+}
+
+/// The name of a file: some UTF-8.
+#[tactic(auto, using(crate::proofs::Levels::is_valid, crate::proofs::Levels::is_invalid))]
+fn file_name(alloc: Global, bytes: &[u8]) -> Result<Option<String>, AllocError>
+    ensures { IfOk result (λ name. option_map string_bytes name ≡ file_name_of bytes.now) }
+{
+    if bytes.len() == 0 {
+        return Ok(None);
+    }
+    match std::str::from_utf8(bytes) {
+        Ok(name) => Ok(Some(String::from_str(alloc, name)?)),
+        Err(_) => Ok(None),
+    }
+}
+
+fn is_include(word: Word) -> bool
+    ensures { result ≡ is_include_word word }
+{
+    match word {
+        Word::Include => true,
+        _ => false,
+    }
+}
+
+impl Expander {
+    ghost use Rattle.avr_macro.specs.Steps.{Gives, GivesStep, Nearer, seen_expander};
+
+    /// Nothing is reached yet: what is to be expanded is a file.
+    pub fn new(alloc: Global, bytes: &[u8]) -> Result<Expander, AllocError>
+        requires { length bytes.now ≤ 1048576 }
+        ensures { IfOk result (λ e. seen_expander e ≡ first_state bytes.now) }
+    {
+        let file = Frame::of_file(alloc, 0, 0, bytes)?;
+        let mut frames = Vec::new(alloc);
+        frames.push(file)?;
+        Ok(Expander {
+            frames,
+            macros: Macros::new(alloc),
+            constants: predefined(alloc)?,
+            calls: 0,
+            reached: 0,
+            text: Vec::new(alloc),
+            origins: Vec::new(alloc),
+        })
+    }
+
+    /// Whether no further line may be reached.
+    fn is_full(&self) -> bool
+        ensures full { result ≡ is_full_state (seen_expander self.now) }
+        ensures room { OnFalse result (self.now.reached < 1048576) }
+    {
+        self.reached >= LINE_LIMIT
+    }
+
+    /// A line is reached at which a block, a call or a file begins.
+    fn enter(&mut self, inner: Frame, after: Frame) -> Result<(), MacroWhy>
+        ensures gives { Gives result (seen_expander self.new) (enter_move (seen_frame inner) (seen_frame after) (seen_expander self.old)) }
+        ensures nearer { OnOk result (Nearer self.old self.new) }
+    {
+        if self.is_full() {
+            return Err(MacroWhy::Full);
+        }
+        push(&mut self.frames, after)?;
+        push(&mut self.frames, inner)?;
+        self.reached += 1;
+        Ok(())
+    }
+
+    /// The end of a counted turn is reached.
+    fn turn(&mut self, frame: Frame) -> Result<(), MacroWhy>
+        requires { self.old.reached < 1048576 }
+        ensures gives { Gives result (seen_expander self.new) (goes (turned frame.turns (seen_frame frame) (seen_expander self.old))) }
+        ensures nearer { OnOk result (Nearer self.old self.new) }
+    {
+        if frame.turns > 0 {
+            push(&mut self.frames, frame.next_turn())?;
+        }
+        self.reached += 1;
+        Ok(())
+    }
+
+    /// The end of a turn.
+    fn end_turn(&mut self, frame: Frame) -> Result<(), MacroWhy>
+        ensures gives { Gives result (seen_expander self.new) (turn_end_move (seen_frame frame) (seen_expander self.old)) }
+        ensures nearer { OnOk result (Nearer self.old self.new) }
+    {
+        if !frame.well {
+            return Err(MacroWhy::Form);
+        }
+        if !frame.counted {
+            return Ok(());
+        }
+        if self.is_full() {
+            return Err(MacroWhy::Full);
+        }
+        self.turn(frame)
+    }
+
+    /// Defines a macro, whose end comes after so many lines.
+    fn define(&mut self, alloc: Global, frame: Frame, name: &[u8], n: usize) -> Result<(), MacroWhy>
+        requires shallow { frame.blocks < 16 }
+        requires left { frame.at + (n + 2) ≤ frame.end }
+        ensures gives { Gives result (seen_expander self.new) (macro_body_move name.now (Some n) (seen_frame frame) (seen_expander self.old)) }
+        ensures nearer { OnOk result (Nearer self.old self.new) }
+    {
+        if self.macros.get(name).is_some() {
+            return Err(MacroWhy::Twice);
+        }
+        let well = closed_by(later_lines(&frame), n);
+        let inner = frame.block(0, 0, 0, false, well)?;
+        let body = copy_lines(alloc, first_lines(&frame, n))?;
+        self.macros.define(alloc, name, body)?;
+        self.enter(inner, frame.passed(n + 2))
+    }
+
+    /// `.macro NAME`
+    fn macro_line(&mut self, alloc: Global, frame: Frame, operands: &[u8]) -> Result<(), MacroWhy>
+        requires { frame.at < frame.end }
+        ensures gives { Gives result (seen_expander self.new) (macro_move_of operands.now (seen_frame frame) (seen_expander self.old)) }
+        ensures nearer { OnOk result (Nearer self.old self.new) }
+    {
+        if frame.blocks >= BLOCK_LIMIT {
+            return Err(MacroWhy::Depth);
+        }
+        match macro_name(operands) {
+            None => Err(MacroWhy::Form),
+            Some(name) => match macro_end(later_lines(&frame)) {
+                None => Err(MacroWhy::Unclosed),
+                Some(n) => self.define(alloc, frame, name, n),
+            },
+        }
+    }
+
+    /// A block is repeated, whose end comes after so many lines.
+    fn repeat(&mut self, frame: Frame, times: Option<i64>, n: usize) -> Result<(), MacroWhy>
+        requires shallow { frame.blocks < 16 }
+        requires left { frame.at + (n + 2) ≤ frame.end }
+        ensures gives { Gives result (seen_expander self.new) (repeat_times_move times n (seen_frame frame) (seen_expander self.old)) }
+        ensures nearer { OnOk result (Nearer self.old self.new) }
+    {
+        match times {
+            Some(times) if times >= 0 && times <= 65535 => {
+                let inner = repeated(&frame, times as u32, n)?;
+                self.enter(inner, frame.passed(n + 2))
+            }
+            _ => Err(MacroWhy::Value),
+        }
+    }
+
+    /// `.rept E`
+    fn repeat_line(&mut self, alloc: Global, frame: Frame, operands: &[u8]) -> Result<(), MacroWhy>
+        requires { frame.at < frame.end }
+        ensures gives { Gives result (seen_expander self.new) (repeat_move_of operands.now (seen_frame frame) (seen_expander self.old)) }
+        ensures nearer { OnOk result (Nearer self.old self.new) }
+    {
+        if frame.blocks >= BLOCK_LIMIT {
+            return Err(MacroWhy::Depth);
+        }
+        if is_bare(operands) {
+            return Err(MacroWhy::Form);
+        }
+        match repeat_end(later_lines(&frame)) {
+            None => Err(MacroWhy::Unclosed),
+            Some(n) => {
+                let times = text_value(alloc, &self.constants, operands)?;
+                self.repeat(frame, times, n)
+            }
+        }
+    }
+
+    /// A part of a conditional block is chosen, whose end comes after so many lines.
+    fn choose(&mut self, frame: Frame, value: Option<i64>, n: usize) -> Result<(), MacroWhy>
+        requires shallow { frame.blocks < 16 }
+        requires left { frame.at + (n + 2) ≤ frame.end }
+        ensures gives { Gives result (seen_expander self.new) (if_valued value n (seen_frame frame) (seen_expander self.old)) }
+        ensures nearer { OnOk result (Nearer self.old self.new) }
+    {
+        match value {
+            Some(value) => {
+                let inner = chosen_part(&frame, !is_null(value), n)?;
+                self.enter(inner, frame.passed(n + 2))
+            }
+            None => Err(MacroWhy::Value),
+        }
+    }
+
+    /// `.if E`
+    fn if_line(&mut self, alloc: Global, frame: Frame, operands: &[u8]) -> Result<(), MacroWhy>
+        requires { frame.at < frame.end }
+        ensures gives { Gives result (seen_expander self.new) (if_move_of operands.now (seen_frame frame) (seen_expander self.old)) }
+        ensures nearer { OnOk result (Nearer self.old self.new) }
+    {
+        if frame.blocks >= BLOCK_LIMIT {
+            return Err(MacroWhy::Depth);
+        }
+        if is_bare(operands) {
+            return Err(MacroWhy::Form);
+        }
+        match if_end(later_lines(&frame)) {
+            None => Err(MacroWhy::Unclosed),
+            Some(n) => {
+                let value = text_value(alloc, &self.constants, operands)?;
+                self.choose(frame, value, n)
+            }
+        }
+    }
+
+    /// A line gives itself, and perhaps sets a constant.
+    fn put_line(
+        &mut self,
+        alloc: Global,
+        frame: Frame,
+        line: &[u8],
+        setting: Option<Setting>,
+    ) -> Result<(), MacroWhy>
+        requires { frame.at < frame.end }
+        ensures gives { Gives result (seen_expander self.new) (plain_move_of line.now (option_map seen_setting setting) (seen_frame frame) (seen_expander self.old)) }
+        ensures nearer { OnOk result (Nearer self.old self.new) }
+    {
+        if self.is_full() || self.is_long(line) {
+            return Err(MacroWhy::Full);
+        }
+        set(alloc, &mut self.constants, setting)?;
+        put_text(&mut self.text, line)?;
+        self.origins.push(frame.origin)?;
+        push(&mut self.frames, frame.passed(1))?;
+        self.reached += 1;
+        Ok(())
+    }
+
+    /// Whether a line would make the flat text too long.
+    fn is_long(&self, line: &[u8]) -> bool
+        ensures { result ≡ nat_lt 1048576 (length (seen_expander self.now).text + (length line.now + 1)) }
+    {
+        self.text.len() + (line.len() + 1) > TEXT_LIMIT as usize
+    }
+
+    /// A macro is called, whose lines in this call are given.
+    fn call(&mut self, alloc: Global, frame: Frame, lines: Vec<Vec<u8>>) -> Result<(), MacroWhy>
+        requires shallow { frame.blocks < 16 }
+        requires left { frame.at < frame.end }
+        ensures gives { Gives result (seen_expander self.new) (enter_move (inside_level (seen_frame frame) (texts lines) 0 false true) (passed_level 1 (seen_frame frame)) (call_state (seen_expander self.old))) }
+        ensures nearer { OnOk result (Nearer self.old self.new) }
+    {
+        if self.is_full() {
+            return Err(MacroWhy::Full);
+        }
+        let inner = frame.call(alloc, lines)?;
+        push(&mut self.frames, frame.passed(1))?;
+        push(&mut self.frames, inner)?;
+        self.reached += 1;
+        self.calls += 1;
+        Ok(())
+    }
+
+    /// The body of the macro that a line calls.
+    fn called(&self, line: &[u8]) -> Option<&Vec<Vec<u8>>>
+        ensures { option_map (λ body. texts body.now) result ≡ body_of_word (first_word_of line.now) (seen_expander self.now) }
+    {
+        match first_word(line) {
+            Some(name) => self.macros.get(name),
+            None => None,
+        }
+    }
+
+    /// A line that is no directive of macros and blocks.
+    fn other_line(&mut self, alloc: Global, frame: Frame, line: &[u8]) -> Result<(), MacroWhy>
+        requires { frame.at < frame.end }
+        ensures gives { Gives result (seen_expander self.new) (other_move_of line.now (seen_frame frame) (seen_expander self.old)) }
+        ensures nearer { OnOk result (Nearer self.old self.new) }
+    {
+        let calls = self.calls;
+        match self.called(line) {
+            None => self.put_line(alloc, frame, line, None),
+            Some(body) => {
+                if frame.blocks >= BLOCK_LIMIT {
+                    return Err(MacroWhy::Depth);
+                }
+                match called_lines(alloc, line, calls, body.as_slice()) {
+                    Ok(lines) => self.call(alloc, frame, lines),
+                    Err(why) => Err(why),
+                }
+            }
+        }
+    }
+
+    /// `.equ NAME = E`
+    fn constant_line(&mut self, alloc: Global, frame: Frame, line: &[u8]) -> Result<(), MacroWhy>
+        requires { frame.at < frame.end }
+        ensures gives { Gives result (seen_expander self.new) (plain_move_of line.now (setting_of_text self.old.constants (operands_of_line line.now)) (seen_frame frame) (seen_expander self.old)) }
+        ensures nearer { OnOk result (Nearer self.old self.new) }
+    {
+        let setting = setting_of(alloc, &self.constants, operands_of(line))?;
+        self.put_line(alloc, frame, line, setting)
+    }
+
+    /// A line that isn't an include.
+    fn directive(
+        &mut self,
+        alloc: Global,
+        frame: Frame,
+        line: &[u8],
+        word: Word,
+    ) -> Result<(), MacroWhy>
+        requires { frame.at < frame.end }
+        ensures gives { is_include_word word ≡ false → Gives result (seen_expander self.new) (word_move word line.now (seen_frame frame) (seen_expander self.old)) }
+        ensures nearer { OnOk result (Nearer self.old self.new) }
+    {
+        match word {
+            Word::Macro => self.macro_line(alloc, frame, operands_of(line)),
+            Word::Repeat => self.repeat_line(alloc, frame, operands_of(line)),
+            Word::If => self.if_line(alloc, frame, operands_of(line)),
+            Word::Constant => self.constant_line(alloc, frame, line),
+            Word::Other => self.other_line(alloc, frame, line),
+            _ => Err(MacroWhy::Form),
+        }
+    }
+
+    /// `.include NAME`
+    fn request(
+        &mut self,
+        alloc: Global,
+        frame: Frame,
+        operands: &[u8],
+    ) -> Result<Option<Request>, MacroWhy>
+        requires { frame.at < frame.end }
+        ensures gives { GivesStep result (seen_expander self.old) (seen_expander self.new) (seen_frame frame) (include_move_of operands.now (seen_frame frame)) }
+        ensures some { IfOk result (λ request. IsSome request) }
+        ensures waits { IfOk result (λ request. IfSome request (λ q. q.frame.at < q.frame.end)) }
+        ensures same { self.new ≡ self.old }
+    {
+        match file_name(alloc, trimmed(operands))? {
+            Some(name) => Ok(Some(Request { name, frame })),
+            None => {
+                if frame.includes >= INCLUDE_LIMIT {
+                    Err(MacroWhy::Depth)
+                } else {
+                    Err(MacroWhy::Form)
+                }
+            }
+        }
+    }
+
+    /// The next line of a level.
+    fn line(
+        &mut self,
+        alloc: Global,
+        frame: Frame,
+        line: &[u8],
+    ) -> Result<Option<Request>, MacroWhy>
+        requires { frame.at < frame.end }
+        ensures gives { GivesStep result (seen_expander self.old) (seen_expander self.new) (seen_frame frame) (line_move_of line.now (seen_frame frame) (seen_expander self.old)) }
+        ensures nearer { IfOk result (λ request. IfNone request (Nearer self.old self.new)) }
+        ensures asked { IfOk result (λ request. IsSome request → self.new ≡ self.old) }
+        ensures waits { IfOk result (λ request. IfSome request (λ q. q.frame.at < q.frame.end)) }
+    {
+        let word = directive_of(line);
+        if is_include(word) {
+            return self.request(alloc, frame, operands_of(line));
+        }
+        match self.directive(alloc, frame, line, word) {
+            Ok(()) => Ok(None),
+            Err(why) => Err(why),
+        }
+    }
+
+    /// The next line of a level, or its end. The state has the levels around it.
+    pub fn step(&mut self, alloc: Global, frame: Frame) -> Result<Option<Request>, MacroWhy>
+        ensures gives { GivesStep result (seen_expander self.old) (seen_expander self.new) (seen_frame frame) (move_of (seen_frame frame) (seen_expander self.old)) }
+        ensures nearer { IfOk result (λ request. IfNone request (Nearer self.old self.new)) }
+        ensures asked { IfOk result (λ request. IsSome request → self.new ≡ self.old) }
+        ensures waits { IfOk result (λ request. IfSome request (λ q. q.frame.at < q.frame.end)) }
+    {
+        if frame.at == frame.end {
+            return match self.end_turn(frame) {
+                Ok(()) => Ok(None),
+                Err(why) => Err(why),
+            };
+        }
+        let body = share(&frame.body)?;
+        let line = body.as_ref().as_slice()[frame.at].as_slice();
+        self.line(alloc, frame, line)
+    }
+
+    /// A file that a line asked for, which is the file of a number.
+    pub fn include(
+        &mut self,
+        alloc: Global,
+        file: u32,
+        bytes: &[u8],
+        frame: Frame,
+    ) -> Result<(), MacroWhy>
+        requires short { length bytes.now ≤ 1048576 }
+        requires left { frame.at < frame.end }
+        ensures gives { Gives result (seen_expander self.new) (included file bytes.now (seen_frame frame) (seen_expander self.old)) }
+        ensures nearer { OnOk result (Nearer self.old self.new) }
+    {
+        if frame.includes >= INCLUDE_LIMIT {
+            return Err(MacroWhy::Depth);
+        }
+        if frame.blocks > 0 {
+            return Err(MacroWhy::Form);
+        }
+        let inner = Frame::of_file(alloc, file, frame.includes + 1, bytes)?;
+        self.enter(inner, frame.passed(1))
+    }
+}

@@ -1,0 +1,66 @@
+//! The macros that are defined.
+
+ghost use Rattle.std.specs.Prelude.{◌≡◌, OnErr, OnOk};
+ghost use Rattle.std.specs.Option.{option_map};
+ghost use Rattle.std.specs.FinMap as finmap;
+ghost use Rattle.avr_macro.specs.Bodies.{texts};
+
+use std::alloc::{AllocError, Global};
+use std::collections::BTreeMap;
+use std::marker::Model;
+
+/// Names of macros with their bodies, each name once. Case counts.
+///
+/// A clause sees a finite map from names to lines.
+#[derive(Drop)]
+pub(crate) struct Macros {
+    bodies: BTreeMap<Vec<u8>, Vec<Vec<u8>>>,
+}
+
+impl Model for Macros {
+    ghost use Rattle.std.specs.Prelude.{List, ℕ};
+    ghost use Rattle.std.specs.Ordering.{nat_cmp};
+    ghost use Rattle.std.specs.Cmp.Lexicographic.{slice_cmp};
+    ghost use Rattle.std.specs.Coded.{coded_ℕ, coded_list};
+    ghost use Rattle.std.specs.FinMap as map;
+    ghost use Rattle.avr_macro.specs.Bodies.{named};
+
+    ghost Value = { map.FinMap (slice_cmp nat_cmp) (List (List ℕ)) };
+
+    ghost coded = { map.code (coded_list coded_ℕ) (coded_list (coded_list coded_ℕ)) };
+
+    ghost view = { λ macros. map.from_entries (named macros.bodies.entries) };
+}
+
+impl Macros {
+    /// None.
+    pub fn new(alloc: Global) -> Macros
+        ensures { result ≡ finmap.empty }
+    {
+        Macros {
+            bodies: BTreeMap::new(alloc),
+        }
+    }
+
+    /// The body of a macro, and None exactly where none has that name.
+    pub fn get(&self, name: &[u8]) -> Option<&Vec<Vec<u8>>>
+        ensures { option_map (λ body. texts body.now) result ≡ finmap.get self.now name.now }
+    {
+        self.bodies.get(name)
+    }
+
+    /// Defines a macro. After want of memory nothing is changed.
+    pub fn define(
+        &mut self,
+        alloc: Global,
+        name: &[u8],
+        body: Vec<Vec<u8>>,
+    ) -> Result<(), AllocError>
+        ensures ok { OnOk result (self.new ≡ finmap.insert self.old name.now (texts body)) }
+        ensures err { OnErr result (self.new ≡ self.old) }
+    {
+        let name = Vec::from_slice(alloc, name)?;
+        self.bodies.insert(name, body)?;
+        Ok(())
+    }
+}

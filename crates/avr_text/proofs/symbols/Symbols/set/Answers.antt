@@ -1,0 +1,16 @@
+use Rattle.std.proofs.Common.{◌∙◌, ap}
+use Rattle.std.specs.FinMap as map
+use Rattle.std.specs.BTreeMap.{insert_entry}
+use Rattle.std.specs.Int.{w64}
+use Rattle.std.proofs.lemmas.Int.{to_z-of_z}
+use Rattle.avr_text.specs.Names.{named}
+use Rattle.avr_text.proofs.SymbolMaps.{by_bytes, put_name}
+use Rattle.avr_text.proofs.symbols.Symbols.set.Goals as goal
+
+pub returns-clause-ok : goal.returns-clause-ok
+returns-clause-ok c =
+    ap (λ es. map.from_entries (named es)) c.in_ok-insert.ensures.entries
+    ∙ ap (λ v. map.from_entries (named (insert_entry by_bytes c.self.inside.values.entries c.in_ok-key.key v))) (to_z-of_z w64 c.args.value c.ranges.value)
+    ∙ put_name c.self.inside.values.entries c.in_ok-key.key c.args.value
+    ∙ ap (λ n. map.insert (map.from_entries (named c.self.inside.values.entries)) n c.args.value) c.in_ok-key.ensures.items
+    ∙ ap (λ m. map.insert m c.args.name.now c.args.value) c.self.view_is
