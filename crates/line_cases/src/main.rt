@@ -1,0 +1,97 @@
+//! Reads the lines of a certificate's text alone. Each line of standard input is a case: a letter that says which line of
+//! a certificate is due, `+` or `-` as the line ends in LF or not, and the line. What is printed is `ok`, or why the line
+//! is refused. The expected answers are written by hand from the rules of the text, and are none of the reader's own.
+#![tactic(auto)]
+
+ghost use Rattle.std.specs.Prelude.{◌≡◌, length};
+
+use anyhow::Result;
+use arrayvec::ArrayVec;
+use uz_lines::{
+    CertWhy, Said, Words, cell_line, end_line, entry_line, event_line, fall_line, irq_line,
+    kind_line, point_line, rest_line, run_line, size_line, stack_line,
+};
+use uz_schedule::{Cell, Head, Owner, Response, Span};
+
+/// A head with a cell of main from 0 to 9 and one of the handler from 0 to 38.
+fn make_head() -> Head
+    ensures main { result.main ≡ 2 }
+    ensures handler { result.handler ≡ 3 }
+    ensures cells { length result.cells.items ≡ 2 }
+{
+    let mut cells = ArrayVec::new();
+    cells.push(Cell {
+        at: 256,
+        owner: Owner::Main,
+        range: Span::between(0, 9),
+    });
+    cells.push(Cell {
+        at: 257,
+        owner: Owner::Handler,
+        range: Span::between(0, 38),
+    });
+    Head {
+        irq: Response::Four,
+        lo: 4288,
+        hi: 4351,
+        main: 2,
+        handler: 3,
+        cells,
+    }
+}
+
+/// What the due line says: after a cell at 257, an event at 28, a run of kind 1 with 7 of 100 lines left, a rest of line
+/// 19; with 3 kinds of line and 50 points, and for `q` 300 instances that are left.
+fn read_line(words: &mut Words, due: u8) -> Result<Said, CertWhy> {
+    let head = make_head();
+    match due {
+        b's' => size_line(words),
+        b'i' => irq_line(words),
+        b't' => stack_line(words),
+        b'c' => cell_line(4288, 4351, 258, words),
+        b'k' => kind_line(words),
+        b'v' => event_line(29, words),
+        b'f' => fall_line(words),
+        b'r' => run_line(3, 7, 1, words),
+        b'R' => rest_line(100, 50, head.cells.as_slice(), 20, words),
+        b'e' => entry_line(&head, 100, 50, words),
+        b'p' => point_line(&head, 100, 50, 16777216, words),
+        b'q' => point_line(&head, 100, 50, 300, words),
+        _ => end_line(words),
+    }
+}
+
+fn name_of(why: CertWhy) -> &'static str {
+    match why {
+        CertWhy::Head => "Head",
+        CertWhy::Word => "Word",
+        CertWhy::Number => "Number",
+        CertWhy::Order => "Order",
+        CertWhy::Limit => "Limit",
+        CertWhy::Unknown => "Unknown",
+        CertWhy::NoEnd => "NoEnd",
+        CertWhy::Memory => "Memory",
+    }
+}
+
+/// The answer to a case.
+fn answer(case: &[u8]) -> &'static str {
+    match case {
+        [due, end, line @ ..] => {
+            let mut words = Words::new(line, *end == b'+');
+            match read_line(&mut words, *due) {
+                Ok(_) => "ok",
+                Err(why) => name_of(why),
+            }
+        }
+        _ => "no case",
+    }
+}
+
+fn main(rt: HostRuntime) -> Result<()> {
+    for line in rt.lines(rt.alloc()) {
+        let line = line?;
+        println!(rt; "{}", answer(line.as_bytes()))?;
+    }
+    Ok(())
+}

@@ -1,0 +1,18 @@
+//! The words, the items and the lines of a certificate's text.
+#![tactic(auto)]
+
+mod items;
+mod laws;
+mod lines;
+mod values;
+mod why;
+mod words;
+
+pub use items::{Facts, Shape};
+pub use laws::line_or_fault;
+pub use lines::{
+    Run, Said, Sizes, StackLine, cell_line, end_line, entry_line, event_line, fall_line, irq_line,
+    kind_line, point_line, rest_line, run_line, size_line, stack_line,
+};
+pub use why::CertWhy;
+pub use words::{Asked, Words};
