@@ -18,3 +18,4 @@ pub mod Timing
 pub mod Below
 pub mod LocalLaws
 pub mod LimitsHold
+pub mod AfterLaws

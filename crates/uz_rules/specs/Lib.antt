@@ -8,3 +8,4 @@ pub mod EdgeRule
 pub mod Successors
 pub mod Local
 pub mod Limits
+pub mod After

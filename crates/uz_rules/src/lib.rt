@@ -5,6 +5,8 @@ mod edge_rule;
 mod inclusion;
 mod laws;
 mod local_rule;
+mod next;
+mod results;
 mod successors;
 
 pub use inclusion::{inside, restored};
@@ -13,5 +15,7 @@ pub use laws::{
     main_contained, one_local, restored_gives, some_stand, state_inside,
 };
 pub use local_rule::local;
+pub use next::Next;
+pub use results::after;
 pub use successors::lies_in_point;
 pub use uz_transfer::Fail;

@@ -66,7 +66,7 @@ fn return_fail(rests: &[Rest], end: &Instance) -> Option<Fail>
 }
 
 /// A return's one exit.
-fn first_exit(exits: &[Exit]) -> Exit
+pub(crate) fn first_exit(exits: &[Exit]) -> Exit
     ensures { result ≡ exit_of_return exits.now }
 {
     match exits.first() {

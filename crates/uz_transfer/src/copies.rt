@@ -42,8 +42,6 @@ fn copied_regs(from: &[Val; 32]) -> [Val; 32]
 
 /// A copy of an instance.
 pub fn copied(at: &Instance) -> Instance
-    requires slots { length at.now.stack.items ≤ 32 }
-    requires cells { length at.now.cells.items ≤ 16 }
     ensures { result ≡ at.now }
 {
     Instance {

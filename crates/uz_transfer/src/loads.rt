@@ -114,7 +114,6 @@ pub(crate) fn sreg_value(at: &Instance) -> Val
 
 /// What is known of the byte at an address, but for SREG and the timer.
 fn cell_value(head: &Head, at: &Instance, address: u16) -> Val
-    requires cells { length head.now.cells.items ≤ 16 }
     ensures { result ≡ val_of_cell at.now.cells.items (place_of_cell head.now at.now.kind address) (range_of_cell head.now address) }
 {
     if let Some(place) = cell_place(head, at.kind, address) {
@@ -132,7 +131,6 @@ fn cell_value(head: &Head, at: &Instance, address: u16) -> Val
 
 /// What is known of the byte at an address. `sampled` is the clock of the line at which it is read.
 fn value_at_address(head: &Head, sampled: u16, at: &Instance, address: u16) -> Val
-    requires cells { length head.now.cells.items ≤ 16 }
     ensures { result ≡ val_of_address head.now sampled at.now address }
 {
     if address == 0x5F {
@@ -146,7 +144,6 @@ fn value_at_address(head: &Head, sampled: u16, at: &Instance, address: u16) -> V
 
 /// LD, LDD, LDS, IN.
 pub(crate) fn load(at: &mut Instance, head: &Head, sampled: u16, d: u8, from: AddressMode)
-    requires cells { length head.now.cells.items ≤ 16 }
     requires fits { EffectFits (Load d from) }
     ensures { at.new ≡ with_value d (loaded_value head.now sampled at.old (range_of_address from at.old)) (with_pointer_range from at.old at.old) }
 {

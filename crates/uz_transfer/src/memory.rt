@@ -40,7 +40,6 @@ pub(crate) fn is_handler(kind: Kind) -> bool
 
 /// The number, among the tracked ones, of the cell at an address, where it is tracked.
 pub(crate) fn cell_place(head: &Head, kind: Kind, at: u16) -> Option<u8>
-    requires { length head.now.cells.items ≤ 16 }
     ensures { result ≡ place_of_cell head.now kind at }
 {
     let mut number = 0u8;

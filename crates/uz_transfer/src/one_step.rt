@@ -73,12 +73,9 @@ pub(crate) fn step_of(
     e: Effect,
     line_length: u16,
 ) -> Result<Step, Fail>
-    requires head { length head.now.cells.items ≤ 16 }
     requires limits { limit_of_depth head.now at.now.kind ≤ 32 }
     requires clock { at.now.clock < line_length }
     requires line { line_length ≤ 1820 }
-    requires slots { depth_of at.now ≤ 32 }
-    requires cells { length at.now.cells.items ≤ 16 }
     requires fits { EffectFits e }
     ensures { result ≡ step_of_effect head.now line_length image.now e (words_of i.now) (clocks_of i.now) at.now }
 {
@@ -116,12 +113,9 @@ pub fn abstract_step(
     line_length: u16,
     at: &Instance,
 ) -> Result<Step, Fail>
-    requires head { length head.now.cells.items ≤ 16 }
     requires limits { limit_of_depth head.now at.now.kind ≤ 32 }
     requires clock { at.now.clock < line_length }
     requires line { line_length ≤ 1820 }
-    requires slots { depth_of at.now ≤ 32 }
-    requires cells { length at.now.cells.items ≤ 16 }
     ensures { IsStep head.now line_length image.now at.now result }
 {
     match decode(
@@ -142,12 +136,9 @@ pub fn step_of_instruction(
     at: &Instance,
     i: &Instr,
 ) -> Result<Step, Fail>
-    requires head { length head.now.cells.items ≤ 16 }
     requires limits { limit_of_depth head.now at.now.kind ≤ 32 }
     requires clock { at.now.clock < line_length }
     requires line { line_length ≤ 1820 }
-    requires slots { depth_of at.now ≤ 32 }
-    requires cells { length at.now.cells.items ≤ 16 }
     ensures { result ≡ step_of_row head.now line_length image.now (Some i.now) at.now }
 {
     step_of(image, head, at, i, effect(i), line_length)

@@ -100,7 +100,6 @@ fn is_free(head: &Head, a: &Wide) -> bool
 
 /// Whether a value may be stored at these addresses.
 fn may_store(head: &Head, kind: Kind, a: &Wide, v: &Val) -> bool
-    requires { length head.now.cells.items ≤ 16 }
     ensures { result ≡ may_be_stored head.now kind a.now v.now }
 {
     let single = is_single_wide(a);
@@ -147,7 +146,6 @@ pub(crate) fn store_fail(
     at: &Instance,
     emitted: Option<Option<EventKind>>,
 ) -> Option<Fail>
-    requires { length head.now.cells.items ≤ 16 }
     ensures { result ≡ fail_of_store head.now a.now v.now at.now emitted }
 {
     let single = is_single_wide(a);
@@ -213,8 +211,6 @@ pub(crate) fn target_fails(at: &Instance, target: JumpTarget) -> bool
 
 /// Why an instance has no abstract results, but for its words.
 pub(crate) fn fail_of(head: &Head, e: Effect, at: &Instance) -> Option<Fail>
-    requires cells { length head.now.cells.items ≤ 16 }
-    requires depth { depth_of at.now ≤ 32 }
     requires fits { EffectFits e }
     ensures { result ≡ fail_of_effect head.now e at.now }
 {

@@ -61,7 +61,6 @@ fn set_cell(at: &mut Instance, place: Option<u8>, range: Span)
 
 /// A value is stored at these addresses.
 fn store_in(at: &mut Instance, head: &Head, a: &Wide, v: &Val)
-    requires { length head.now.cells.items ≤ 16 }
     ensures { at.new ≡ stored_in head.now a.now v.now at.old }
 {
     if !is_single_wide(a) {
@@ -78,7 +77,6 @@ fn store_in(at: &mut Instance, head: &Head, a: &Wide, v: &Val)
 /// A value is stored at these addresses, and then the pointer takes its new value.
 #[tactic(auto, using(crate::proofs::StoredPointer::stored_pointer))]
 fn store_and_step(at: &mut Instance, head: &Head, to: AddressMode, a: &Wide, v: &Val)
-    requires cells { length head.now.cells.items ≤ 16 }
     requires fits { AddressModeFits to }
     ensures { at.new ≡ with_pointer_range to at.old (stored_in head.now a.now v.now at.old) }
 {
@@ -88,7 +86,6 @@ fn store_and_step(at: &mut Instance, head: &Head, to: AddressMode, a: &Wide, v: 
 
 /// ST, STD, STS, OUT.
 pub(crate) fn store(at: &mut Instance, head: &Head, to: AddressMode, r: u8)
-    requires cells { length head.now.cells.items ≤ 16 }
     requires fits { EffectFits (Store to r) }
     ensures { at.new ≡ with_pointer_range to at.old (stored_in head.now (range_of_address to at.old) (value_at at.old.regs r) at.old) }
 {

@@ -30,7 +30,6 @@ pub(crate) fn transfer(
     sampled: u16,
     e: Effect,
 )
-    requires cells { length head.now.cells.items ≤ 16 }
     requires limits { limit_of_depth head.now at.old.kind ≤ 32 }
     requires following { following < 32768 }
     requires fits { EffectFits e }
