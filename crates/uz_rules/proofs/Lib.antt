@@ -19,3 +19,4 @@ pub mod Below
 pub mod LocalLaws
 pub mod LimitsHold
 pub mod AfterLaws
+pub mod Elsewhere

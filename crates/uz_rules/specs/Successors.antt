@@ -1,10 +1,10 @@
 -- When an instance lies in an instance of a point of the certificate.
-use Rattle.std.specs.Prelude.{◌≡◌, ℕ, zero, suc, ◌-◌, Bool, true, false, ◌||◌, List, [], ◌∷◌, Option, Some, None, slice_get}
+use Rattle.std.specs.Prelude.{◌≡◌, ℕ, zero, suc, ◌-◌, Bool, true, false, ◌||◌, ◌&&◌, nat_eq, List, [], ◌∷◌, Option, Some, None, slice_get}
 use Rattle.uz_schedule.specs.declared.states.Instance.{Instance}
 use Rattle.uz_schedule.specs.declared.states.Point.{Point}
 use Rattle.uz_schedule.specs.declared.certificate.Cert.{Cert}
 use Rattle.uz_schedule.specs.Instances.{instance_at}
-use Rattle.uz_rules.specs.Inside.{inside}
+use Rattle.uz_rules.specs.Inside.{same_kind, inside}
 
 abbrev pub lies_at : Option Instance → Instance → Bool
 lies_at None inst = false
@@ -22,6 +22,10 @@ lies_in_box cert id (Some p) inst = any_from (λ c. lies_at (instance_at cert id
 
 abbrev pub lies_in_point : Cert → ℕ → Instance → Bool
 lies_in_point cert id inst = lies_in_box cert id (slice_get cert.points id) inst
+
+-- the point has the instance's kind and pc
+abbrev pub same_program_place : Point → Instance → Bool
+same_program_place p inst = same_kind inst.kind p.kind && nat_eq inst.pc p.pc
 
 -- and in one of these points
 abbrev pub lies_in_any : Cert → List ℕ → Instance → Bool

@@ -47,7 +47,7 @@ fn flag_inside(a: Bit, b: Bit) -> bool
 }
 
 /// Whether two instances have one kind.
-fn same_kind(a: Kind, b: Kind) -> bool
+pub(crate) fn same_kind(a: Kind, b: Kind) -> bool
     ensures { result ≡ same_kinds a b }
 {
     match (a, b) {
