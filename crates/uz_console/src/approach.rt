@@ -28,11 +28,10 @@ pub enum Approach {
 impl Console {
     /// Goes on with a run of `limit` clocks from reset, of which no state before the console's own has met the
     /// certificate's entry condition: up to the first that meets it, or to the next turn with edges. The condition is
-    /// asked only of states at the entry's pc.
+    /// asked only of states at the entry's pc. Nothing is promised of it where the certificate isn't well formed.
     pub fn approach(&mut self, limit: u64, cert: &Cert) -> Approach
-        requires few { limit ≤ 2 ^ 62 }
-        requires fits { WellFormed cert.now }
-        ensures run { IsApproach cert.now limit self.old self.new result }
+        requires { limit ≤ 2 ^ 62 }
+        ensures run { WellFormed cert.now → IsApproach cert.now limit self.old self.new result }
         ensures time { ApproachMovesOn limit self.old self.new result }
         ensures edges { ApproachIsTimed self.old self.new result }
     {

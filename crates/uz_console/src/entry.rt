@@ -14,7 +14,7 @@ ghost use Rattle.uz_console.specs.Entry.{NotEntered};
 ghost use Rattle.uz_console.specs.Entering.{EntersAlone, EntersAt, EntersAtOne, FlagsMatch, IsFirstEntry, IsLeast, LevelMatches, MatchesEntry, RegistersMatch, StackMatches, WaitsAt, lesser as lesser_position, position_of};
 
 use crate::Console;
-use uz_schedule::{Bit, Cert, Head, Kind, Owner, Rest, Schedule, Span};
+use uz_schedule::{Bit, Cert, Head, Kind, Owner, Rest, Schedule, Span, well_formed};
 
 /// PORTB, whose bit 0 is the sync level.
 const PORTB: u16 = 0x25;
@@ -260,13 +260,12 @@ impl Console {
         self.least_entry(cert)
     }
 
-    /// `meets`, asked only at the entry's pc.
+    /// `meets`, asked only at the entry's pc, and only of a certificate that is well formed.
     pub(crate) fn enters_at(&self, cert: &Cert) -> Option<u32>
-        requires { WellFormed cert.now }
-        ensures none { IfNone result ((s : State PadHistory) → StandsFor self.now s → NotEntered cert.now s) }
+        ensures none { WellFormed cert.now → IfNone result ((s : State PadHistory) → StandsFor self.now s → NotEntered cert.now s) }
         ensures first { IfSome result (λ p. (s : State PadHistory) → StandsFor self.now s → IsFirstEntry cert.now s p) }
     {
-        if self.cpu.pc() == cert.entry.pc {
+        if self.cpu.pc() == cert.entry.pc && self.matches_entry(cert) && well_formed(cert) {
             self.meets(cert)
         } else {
             None

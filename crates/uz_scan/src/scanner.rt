@@ -82,6 +82,13 @@ impl Scanner {
         shown
     }
 
+    /// The last edge's clock, or 0.
+    pub fn clock(&self) -> u64
+        ensures { result ≡ clock_of self.now }
+    {
+        self.clock
+    }
+
     /// The row of the last ended line, or zeros. Sample k is PORTC's value 4k clocks after the line's start, and 0 where
     /// the line is over.
     pub fn row(&self) -> &[u8; 455]

@@ -2,6 +2,7 @@ use Rattle.std.proofs.Common.{◌-◌, ◌≤◌, List}
 use Rattle.uz_machine.specs.declared.Edge.{Edge}
 use Rattle.uz_machine.specs.PadLine.{PadHistory}
 use Rattle.uz_machine.specs.Turn.{State}
+use Rattle.uz_schedule.specs.WellFormed.{WellFormed}
 use Rattle.uz_console.specs.Approaches.{RunsUnentered}
 use Rattle.uz_console.specs.Consoles.{clock_of}
 use Rattle.uz_console.specs.Runs.{RunsTo}
@@ -11,7 +12,7 @@ use Rattle.uz_console.proofs.console.Console.approach.Given as goal
 abbrev pub invariant-loop-edges : goal.invariant-loop-edges
 invariant-loop-edges l = record {
   run : (start : State PadHistory) (edges : List Edge) → RunsTo l.limit start edges l.initial.self → RunsTo l.limit start edges l.self;
-  unentered : (start : State PadHistory) (edges : List Edge) → RunsUnentered l.cert l.limit start edges l.initial.self → RunsUnentered l.cert l.limit start edges l.self;
+  unentered : WellFormed l.cert → (start : State PadHistory) (edges : List Edge) → RunsUnentered l.cert l.limit start edges l.initial.self → RunsUnentered l.cert l.limit start edges l.self;
   time : clock_of l.initial.self ≤ clock_of l.self;
 }
 
