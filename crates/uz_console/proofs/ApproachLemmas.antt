@@ -100,18 +100,19 @@ enters cert console limit p h first start edges run = record {
 }
 
 pub never_over : (cert : Cert) (console : Console) (limit : ℕ) → limit ≤ clock_of console →
-    (start : State PadHistory) (edges : List Edge) → RunsUnentered cert limit start edges console → (last : State PadHistory) × IsClockRun limit start edges last × StandsFor console last × NeverEnters cert limit start
+    (start : State PadHistory) (edges : List Edge) → RunsUnentered cert limit start edges console → (last : State PadHistory) × IsClockRun limit start edges last × StandsFor console last × NeverEnters cert limit start × RunsUnentered cert limit start edges console
 never_over cert console limit h start edges run =
     let over : limit ≤ (run.last).clock = subst (λ n. limit ≤ n) (sym (run.stands).clock) h in (
       run.last,
       record { part = run.part; over = over },
       run.stands,
       λ m e s to in_run. run.none_before m e s (before_over limit (run.part).turns m start run.last s (run.part).all_edges e (run.part).run over to in_run) to,
+      run,
     )
 
 pub never_stopped : (cert : Cert) (old new : Console) (limit : ℕ) (why : Why) → state_of new ≡ state_of old → ((s : State PadHistory) → StandsFor old s → Halts s why) → clock_of old < limit →
     ((s : State PadHistory) → StandsFor old s → NotEntered cert s) →
-    (start : State PadHistory) (edges : List Edge) → RunsUnentered cert limit start edges old → (last : State PadHistory) × IsStoppedRun limit start edges last × Halts last why × StandsFor new last × NeverEnters cert limit start
+    (start : State PadHistory) (edges : List Edge) → RunsUnentered cert limit start edges old → (last : State PadHistory) × IsStoppedRun limit start edges last × Halts last why × StandsFor new last × NeverEnters cert limit start × RunsUnentered cert limit start edges new
 never_stopped cert old new limit why same halts h not start edges run =
     let halt = halts run.last run.stands in
     let none = none_before_more cert limit (run.part).turns start run.last (run.part).all_edges (run.part).run (not run.last run.stands) run.none_before in (
@@ -120,4 +121,5 @@ never_stopped cert old new limit why same halts h not start edges run =
       halt,
       subst (λ (t : State Pads). StateStandsFor t run.last) (sym same) run.stands,
       λ m e s to in_run. none m e s (before_stop limit (run.part).turns m start run.last s (run.part).all_edges e (run.part).run halt.no_turn to) to,
+      record { last = run.last; part = run.part; stands = subst (λ (t : State Pads). StateStandsFor t run.last) (sym same) run.stands; none_before = run.none_before },
     )

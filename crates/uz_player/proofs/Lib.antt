@@ -1,0 +1,2 @@
+pub mod PlayerLaws
+pub mod RecorderLaws
