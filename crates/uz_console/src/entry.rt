@@ -2,9 +2,8 @@
 
 ghost use Rattle.std.specs.Prelude.{◌≡◌, ◌≤◌, ◌<◌, ◌+◌, ◌↔◌, ℕ, IsTrue, IfNone, IfSome, length};
 ghost use Rattle.uz_schedule.specs.Limits.{ScheduleFits};
-ghost use Rattle.uz_schedule.specs.Schedule.{frame_of, start_of};
+ghost use Rattle.uz_schedule.specs.Schedule.{frame_of};
 ghost use Rattle.uz_schedule.specs.WellFormed.{WellFormed};
-ghost use Rattle.uz_schedule.specs.declared.lines.Schedule.{Schedule};
 ghost use Rattle.uz_machine.specs.Arithmetic.{bit_is_set};
 ghost use Rattle.uz_machine.specs.PadLine.{PadHistory};
 ghost use Rattle.uz_machine.specs.Turn.{State};
@@ -57,23 +56,13 @@ fn tracks(kind: Kind, owner: Owner) -> bool
     }
 }
 
-/// The clocks of a line.
-const SCANLINE: u16 = 1820;
-
-fn line_start(line: u16) -> u32
-    ensures start { (schedule : Schedule) → result ≡ start_of schedule line }
-    ensures few { result ≤ 119273700 }
-{
-    u32::from(line) * 1820
-}
-
 /// The position of a clock of a line, round the frame.
 fn position(schedule: &Schedule, line: u16, clock: u16) -> u32
     requires { ScheduleFits schedule.now }
     ensures position { result ≡ position_of schedule.now line clock }
     ensures in_frame { result < frame_of schedule.now }
 {
-    (line_start(line) + u32::from(clock)) % schedule.frame()
+    (schedule.start(line) + u32::from(clock)) % schedule.frame()
 }
 
 fn lesser(a: Option<u32>, b: Option<u32>) -> Option<u32>
@@ -172,13 +161,15 @@ impl Console {
 
     /// Main is on the rest's line, between the rest's clock and the line's end, with interrupts enabled.
     fn waits_at(&self, cert: &Cert, rest: &Rest) -> bool
+        requires { ScheduleFits cert.now.schedule }
         ensures { IsTrue result ↔ WaitsAt cert.now (state_of self.now) rest.now }
     {
         let count = self.board.timer().phase();
+        let length = cert.schedule.length(rest.line);
         rest.clock <= count
-            && count < SCANLINE
+            && count < length
             && is_set(self.cpu.sreg(), 7)
-            && self.timer_waits(SCANLINE)
+            && self.timer_waits(length)
             && self.cells_hold(&cert.head, Kind::Handler, rest.cells.as_slice())
     }
 

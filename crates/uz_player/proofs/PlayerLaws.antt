@@ -1,6 +1,6 @@
 -- A player, edge by edge and turn by turn.
 use Rattle.std.proofs.Common.{◌≡◌, ℕ, ◌+◌, ◌*◌, ◌^◌, ◌<◌, ◌≤◌, List, [], ◌∷◌, ◌++◌, length, drop, Option, Some, None, refl, sym, ap, subst, ◌∙◌, append_assoc, append-nil, length-append, arith}
-use Rattle.std.specs.Prelude.{IsSome, zero, suc}
+use Rattle.std.specs.Prelude.{IsSome}
 use Rattle.std.proofs.lemmas.Bool.{false≢true}
 use Rattle.uz_hex.specs.Cells.{word_of}
 use Rattle.uz_machine.specs.declared.Edge.{Edge}
@@ -9,9 +9,7 @@ use Rattle.uz_machine.specs.Turn.{State}
 use Rattle.uz_machine.specs.Run.{IsClockRun, IsStoppedRun}
 use Rattle.uz_core.specs.declared.step.Why.{Why}
 use Rattle.uz_schedule.specs.WellFormed.{WellFormed}
-use Rattle.uz_schedule.specs.declared.certificate.Cert.{Cert}
-use Rattle.uz_schedule.specs.declared.lines.Schedule.{Schedule}
-use Rattle.uz_schedule.specs.Schedule.{frame_of, start_of}
+use Rattle.uz_schedule.specs.Schedule.{frame_of}
 use Rattle.uz_console.specs.declared.console.Console.{Console}
 use Rattle.uz_console.specs.Consoles.{StandsFor, clock_of}
 use Rattle.uz_console.specs.Runs.{AreTimed, RunsTo}
@@ -242,7 +240,7 @@ approach_turn old new more start none cert limit run timed seen h =
 pub approach_enters : (old new : Player) (start : State PadHistory) (handed : List ℕ) (clock line position : ℕ) → old.recorder.counts.entered ≡ None → left_of old ≡ [] → left_of new ≡ [] → new.cert ≡ old.cert → new.limit ≡ old.limit →
     new.recorder.scanner ≡ old.recorder.scanner → ((seen : List Edge) → HasSeen old.recorder seen → HasSeen new.recorder seen) → new.recorder.counts.entered ≡ Some (clock, line) → clock_of old.console ≤ clock_of new.console → clock ≡ clock_of new.console →
     ((start : State PadHistory) (edges : List Edge) → RunsUnentered old.cert old.limit start edges old.console → RunsUnentered old.cert old.limit start edges new.console × EntersFirst old.cert old.limit start (clock_of new.console) position) →
-    (position < 119275520 → IsInLine old.cert.schedule position line) → position < 119275520 →
+    (position < frame_of old.cert.schedule → IsInLine old.cert.schedule position line) → position < frame_of old.cert.schedule →
     Plays old start handed → Plays new start handed
 approach_enters old new start handed clock line position none empty still cert limit scan see entered on here enters in_line small plays =
     console_goes_on old new start handed empty still cert scan see on goes plays
@@ -304,14 +302,6 @@ approach_stopped old new start handed pc word why none empty still cert limit sa
       },
     )
 
--- the positions of a frame are few
-start_is : (s : Schedule) (l : ℕ) → start_of s l ≡ 1820 * l
-start_is s zero = refl
-start_is s (suc l) = omega (arith, start_is s l)
-
-pub small_position : (cert : Cert) (p : ℕ) → WellFormed cert → p < frame_of cert.schedule → p < 119275520
-small_position cert p fits h = (let few = ((fits.schedule).lines).few in let size = start_is cert.schedule (length cert.schedule.lines) in omega arith)
-
 -- the counts of edges don't speak of the entry
 pub entered_kept : (recorder : Recorder) (at : Option (ℕ × ℕ)) (seen : List Edge) → HasSeen recorder seen → HasSeen (record recorder { counts = record recorder.counts { entered = at } }) seen
 entered_kept recorder at seen h = record {
@@ -321,12 +311,12 @@ entered_kept recorder at seen h = record {
 
 pub position_found : (old : Player) (console : Console) (start : State PadHistory) (handed : List ℕ) (position : ℕ) → old.recorder.counts.entered ≡ None → left_of old ≡ [] →
     ((start : State PadHistory) (edges : List Edge) → RunsUnentered old.cert old.limit start edges old.console → RunsUnentered old.cert old.limit start edges console × EntersFirst old.cert old.limit start (clock_of console) position) →
-    Plays old start handed → position < 119275520
+    Plays old start handed → position < frame_of old.cert.schedule
 position_found old console start handed position none empty enters plays =
     let seen = plays.edges in
     let goes = subst (GoesOn old old.recorder.counts.entered start) (all_seen old seen empty) (plays.played).goes in
     let e = enters start seen (unentered_is old start seen none goes) in
-    small_position old.cert position (plays.played).fits ((e.1).meets).in_frame
+    ((e.1).meets).in_frame
 
 -- what comes next of a player that has only taken edges
 pub next_from : (a b c : Player) (played : Played) → ((start : State PadHistory) (handed : List ℕ) → Plays a start handed → Plays b start handed × (left_of b ≡ [])) → (left_of b ≡ [] → IsNext b c played) → IsNext a c played

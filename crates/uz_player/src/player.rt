@@ -4,6 +4,7 @@ ghost use Rattle.std.specs.Prelude.{◌≡◌, ◌≤◌, ◌<◌, [], None, IfN
 ghost use Rattle.uz_console.specs.Consoles.{StandsFor, clock_of as console_clock};
 ghost use Rattle.uz_machine.specs.PadLine.{PadHistory};
 ghost use Rattle.uz_machine.specs.Turn.{State};
+ghost use Rattle.uz_schedule.specs.Schedule.{frame_of};
 ghost use Rattle.uz_schedule.specs.WellFormed.{WellFormed};
 ghost use Rattle.uz_player.specs.Counting.{IsInLine};
 
@@ -12,7 +13,7 @@ use crate::recorder::{Record, Recorder};
 use arrayvec::ArrayVec;
 use uz_console::{Approach, Console, Progress};
 use uz_machine::Edge;
-use uz_schedule::{Cert, Schedule};
+use uz_schedule::{Cert, well_formed};
 
 /// A run's next record, or its end.
 pub enum Played {
@@ -41,10 +42,14 @@ pub struct Player {
 }
 
 /// The line of a position of the frame.
-fn line_of(_schedule: &Schedule, position: u32) -> u16
-    ensures { position < 119275520 → IsInLine _schedule.now position result }
+fn line_of(cert: &Cert, position: u32) -> u16
+    ensures { WellFormed cert.now → position < frame_of cert.now.schedule → IsInLine cert.now.schedule position result }
 {
-    (position / 1820 % 65536) as u16
+    if well_formed(cert) {
+        cert.schedule.place(position).0
+    } else {
+        0
+    }
 }
 
 impl Player {
@@ -140,7 +145,7 @@ impl Player {
                 None
             }
             Approach::Entered { position } => {
-                let line = line_of(&self.cert.schedule, position);
+                let line = line_of(&self.cert, position);
                 self.recorder.counts.entered = Some((self.console.clock(), line));
                 None
             }

@@ -25,7 +25,7 @@ pub returns-in-Entered-clause-further : goal.returns-in-Entered-clause-further
 returns-in-Entered-clause-further c =
     λ start handed none plays.
     let fits = (plays.played).fits in
-    approach_enters c.args.self.now _ start handed c.clock.result c.line_of-line.result c.in-Entered.position c.requires none none refl refl refl (entered_kept c.args.self.now.recorder _) refl (c.in-Entered.ensures.time).0 c.clock.ensures.clock (c.in-Entered.ensures.run fits) c.line_of-line.ensures
+    approach_enters c.args.self.now _ start handed c.clock.result c.line_of-line.result c.in-Entered.position c.requires none none refl refl refl (entered_kept c.args.self.now.recorder _) refl (c.in-Entered.ensures.time).0 c.clock.ensures.clock (c.in-Entered.ensures.run fits) (c.line_of-line.ensures fits)
     (position_found c.args.self.now c.approach.new.self start handed c.in-Entered.position c.requires none (c.in-Entered.ensures.run fits) plays) plays
 
 pub returns-in-Over-clause-further : goal.returns-in-Over-clause-further
