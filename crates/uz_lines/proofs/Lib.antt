@@ -1,3 +1,5 @@
 pub mod Cutting
+pub mod ItemLaws
 pub mod LineLaws
 pub mod Spans
+pub mod Steps

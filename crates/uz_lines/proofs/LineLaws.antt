@@ -7,6 +7,8 @@ use Rattle.uz_lines.specs.Grammar.{Words, rest_of, missing, first_as, next_as, f
 use Rattle.uz_lines.specs.Items.{read_items}
 use Rattle.uz_lines.specs.Forms.{Form, fixed, number, choice, slope, spans, items, finish, spans_of, reads}
 use Rattle.uz_lines.specs.FirstFault.{NextIs, NextHasFault, IsMissing, NextFails, Allows, HasFirstFault}
+use Rattle.uz_lines.proofs.ItemLaws.{items_say, say_items, items_fail, fail_items}
+use Rattle.uz_lines.proofs.Steps.{bind_ok, bind_err, refusal}
 use Rattle.uz_lines.specs.declared.items.Facts.{Facts}
 use Rattle.uz_lines.specs.declared.lines.Said.{Said}
 use Rattle.uz_lines.specs.declared.why.CertWhy.{CertWhy}
@@ -14,20 +16,6 @@ use Rattle.uz_lines.specs.declared.why.CertWhy.TheVariants as why
 
 abbrev answer : Said → Result Said CertWhy
 answer said = Ok said
-
-abbrev refusal : (A : Type 0) → CertWhy → Result A CertWhy
-refusal A w = Err w
-
--- steps
-
-bind_ok : {A B : Type 0} (m : Result A CertWhy) (f : A → Result B CertWhy) (b : B) → m >>= f ≡ Ok b → (a : A) × (m ≡ Ok a) × (f a ≡ Ok b)
-bind_ok (Ok a) f b e = (a, refl, e)
-bind_ok (Err w) f b e = absurd cc
-
-bind_err : {A B : Type 0} (m : Result A CertWhy) (f : A → Result B CertWhy) (w : CertWhy) → m >>= f ≡ Err w
-    → (m ≡ Err w) ⊎ ((a : A) × (m ≡ Ok a) × (f a ≡ Err w))
-bind_err (Ok a) f w e = inr (a, refl, e)
-bind_err {A} (Err v) f w e = let same : v ≡ w = cc in inl (ap (refusal A) same)
 
 -- the next word
 
@@ -86,7 +74,7 @@ read_allowed (spans cells form) words said e =
 read_allowed (items shape cells say) words said e =
     let m = bind_ok (read_items shape cells words) (λ facts. Ok (say facts)) said e in
     let same : say m.0 ≡ said = ok_same (say m.0) said m.2 in
-    (m.0, m.1, sym same)
+    (m.0, items_say shape cells words m.0 m.1, sym same)
   where
     ok_same : (a b : Said) → answer a ≡ answer b → a ≡ b
     ok_same a b e = cc
@@ -112,7 +100,7 @@ allowed_read (slope limit form) words said h =
 allowed_read (spans cells form) words said h =
     ap (λ m. m >>= (λ p. reads (form p.0) p.1)) h.1 ∙ allowed_read (form h.0.0) h.0.1 said h.2
 allowed_read (items shape cells say) words said h =
-    ap (λ m. m >>= (λ facts. Ok (say facts))) h.1 ∙ ap answer (sym h.2)
+    ap (λ m. m >>= (λ facts. Ok (say facts))) (say_items shape cells words h.0 h.1) ∙ ap answer (sym h.2)
 allowed_read (finish says) words said h =
     ap (λ m. m >>= (λ n. Ok says)) h.0 ∙ ap answer (sym h.1)
 
@@ -145,7 +133,10 @@ refused_faulty (spans cells form) words w e =
       | inr m ↦ inr (m.0, m.1, refused_faulty (form m.0.0) m.0.1 w m.2)
     ]
 refused_faulty (items shape cells say) words w e =
-    elim (bind_err (read_items shape cells words) (λ facts. Ok (say facts)) w e) [ inl m ↦ m | inr m ↦ absurd (ok_not_err (say m.0) w m.2) ]
+    elim (bind_err (read_items shape cells words) (λ facts. Ok (say facts)) w e) [
+      | inl m ↦ items_fail shape cells words w m
+      | inr m ↦ absurd (ok_not_err (say m.0) w m.2)
+    ]
   where
     ok_not_err : (a : Said) (v : CertWhy) → Ok a ≡ Err v → ⊥
     ok_not_err a v e = cc
@@ -185,7 +176,7 @@ faulty_refused (spans cells form) words w h =
       | inl f ↦ ap (λ m. m >>= (λ p. reads (form p.0) p.1)) f
       | inr m ↦ ap (λ m. m >>= (λ p. reads (form p.0) p.1)) m.1 ∙ faulty_refused (form m.0.0) m.0.1 w m.2
     ]
-faulty_refused (items shape cells say) words w h = ap (λ m. m >>= (λ facts. Ok (say facts))) h
+faulty_refused (items shape cells say) words w h = ap (λ m. m >>= (λ facts. Ok (say facts))) (fail_items shape cells words w h)
 faulty_refused (finish says) words w h = ap (λ m. m >>= (λ n. Ok says)) h
 
 -- each line is allowed or has a first fault
