@@ -1,5 +1,5 @@
 -- A command has one reply and leads to one state of the debugger.
-use Rattle.std.proofs.Common.{◌≡◌, ℕ, ◌+◌, ◌-◌, ◌<◌, ◌≤◌, nat_le, Bool, true, false, ◌⊎◌, inl, inr, refl, sym, ◌∙◌, ap, subst, arith}
+use Rattle.std.proofs.Common.{◌≡◌, ℕ, ◌+◌, ◌-◌, ◌<◌, ◌≤◌, nat_le, List, [], ◌∷◌, ◌++◌, Bool, true, false, ◌⊎◌, inl, inr, refl, sym, ◌∙◌, ap, subst, arith}
 use Rattle.std.proofs.lemmas.Bool.{cases_lt}
 use Rattle.std.specs.Prelude.{Option, Some, None, MatchBool}
 use Rattle.std.specs.Ordering.{nat_cmp}
@@ -7,13 +7,15 @@ use Rattle.std.specs.FinSet as set
 use Rattle.std.specs.FinMap as map
 use Rattle.uz_hex.specs.Cells.{word_of}
 use Rattle.uz_machine.specs.PadLine.{PadHistory}
-use Rattle.uz_machine.specs.Turn.{State}
+use Rattle.uz_machine.specs.Space.{history_wiring}
+use Rattle.uz_machine.specs.Turn.{State, state_byte}
 use Rattle.uz_debug.specs.declared.command.Command.{Command}
 use Rattle.uz_debug.specs.declared.command.Command.TheVariants as command
 use Rattle.uz_debug.specs.declared.command.DebugWhy.{DebugWhy}
 use Rattle.uz_debug.specs.declared.command.Reply.{Reply}
 use Rattle.uz_debug.specs.declared.command.Reply.TheVariants as reply
 use Rattle.uz_debug.specs.Sessions.{Session, IsEnd, TellsPlace, TellsStop, TellsEnd, IsRefused, Does, Runs, GoesTo, GoesToSlot, Acts, at_turn, last_turn}
+use Rattle.uz_debug.specs.SessionText.{IsLineOf, Prints, shown_text}
 use Rattle.uz_debug.proofs.RunLemmas.{one_state}
 
 place_same : (start : State PadHistory) (at : ℕ) (x y : Reply) → TellsPlace start at x → TellsPlace start at y → x ≡ y
@@ -84,3 +86,23 @@ acts_same start old a b (command.Save slot) x y p q = (p.0 ∙ sym q.0, p.1 ∙ 
 acts_same start old a b (command.Load slot) x y p q = slot_same start (map.get old.slots slot) old a b x y p q
 acts_same start old a b command.Show x y p q = (p.0 ∙ sym q.0, p.1 ∙ sym q.1)
 acts_same start old a b (command.Mem at count) x y p q = (p.0 ∙ sym q.0, p.1 ∙ sym q.1)
+
+-- The lines of commands are one text
+
+line_same : (start : State PadHistory) (turn : ℕ) (c : Command) (answer : Reply) (x y : List ℕ) → IsLineOf start turn c answer x → IsLineOf start turn c answer y → x ≡ y
+line_same start turn c (reply.At t k p) x y a b = a ∙ sym b
+line_same start turn c (reply.Stopped t p w) x y a b = a ∙ sym b
+line_same start turn c reply.Fine x y a b = a ∙ sym b
+line_same start turn c reply.Shown x y (s, here, is) (r, there, are) =
+    let same : s ≡ r = one_state start turn s r here there in
+    is ∙ (ap (λ (z : State PadHistory). shown_text c turn z.clock z.core.pc (state_byte history_wiring z)) same ∙ sym are)
+line_same start turn c (reply.Refused why) x y a b = a ∙ sym b
+
+pub prints_same : (start : State PadHistory) (old : Session) (cs : List Command) (x y : List ℕ) (m n : Session) → Prints start old cs x m → Prints start old cs y n → (x ≡ y) × (m ≡ n)
+prints_same start old [] x y m n p q = (p.0 ∙ sym q.0, p.1 ∙ sym q.1)
+prints_same start old (c ∷ cs) x y m n (answer, mid, line, rest, acts, is, prints, cut) (answer', mid', line', rest', acts', is', prints', cut') =
+    let same = acts_same start old mid mid' c answer answer' acts acts' in
+    let moved : IsLineOf start mid'.turn c answer' line = subst (λ (z : Session). IsLineOf start z.turn c answer' line) same.1 (subst (λ r. IsLineOf start mid.turn c r line) same.0 is) in
+    let lines : line ≡ line' = line_same start mid'.turn c answer' line line' moved is' in
+    let more = prints_same start mid' cs rest rest' m n (subst (λ z. Prints start z cs rest m) same.1 prints) prints' in
+    (cut ∙ (ap (λ l. l ++ rest) lines ∙ (ap (λ r. line' ++ r) more.0 ∙ sym cut')), more.1)

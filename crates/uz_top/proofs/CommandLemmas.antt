@@ -1,15 +1,16 @@
 -- What holds of every command.
-use Rattle.std.proofs.Common.{◌≡◌, ◌≢◌, ◌⊎◌, inl, inr, sym, subst}
+use Rattle.std.proofs.Common.{◌≡◌, ◌≢◌, ◌⊎◌, inl, inr, sym, subst, ap, ◌∙◌}
 use Rattle.std.specs.Prelude.{Option, Some, None, IfSome}
 use Rattle.uz_shelf.specs.Files.{FileMap}
 use Rattle.uz_top.specs.declared.status.Status.{Status}
 use Rattle.uz_top.specs.declared.status.Status.TheVariants as status
 use Rattle.uz_top.specs.Answers.{Answer, Outside, ComesTo, Outcome}
-use Rattle.uz_top.specs.Words.{Command, Asm, Check, Dis, Trace}
+use Rattle.uz_top.specs.Words.{Command, Asm, Check, Debug, Dis, Trace}
 use Rattle.uz_top.specs.Commands.{Answers, LacksRead, PartAnswers, Succeeds}
-use Rattle.uz_top.proofs.OutcomeLemmas.{from_answer, unwritten_by, exact_by, done_without_faults}
+use Rattle.uz_top.proofs.OutcomeLemmas.{came_from, from_answer, unwritten_by, exact_by}
 use Rattle.uz_top.proofs.TraceAnswerLemmas.{trace_status, trace_done}
 use Rattle.uz_top.proofs.TraceSameLemmas.{trace_same}
+use Rattle.uz_top.proofs.DebugLemmas.{debug_status, debug_same, debug_done}
 use Rattle.uz_top.proofs.AsmLemmas.{asm_done_answer, asm_same, asm_status}
 use Rattle.uz_top.proofs.DisLemmas.{dis_status, dis_same, dis_done}
 use Rattle.uz_top.proofs.CheckLemmas.{check_status, check_same, check_done}
@@ -41,6 +42,12 @@ never_usage files load_fault (Trace hex pads irq clocks) answer h is =
       | inr (inr (inl e)) ↦ absurd (cc (e, is))
       | inr (inr (inr e)) ↦ absurd (cc (e, is))
     ]
+never_usage files load_fault (Debug hex pads irq script) answer h is =
+    elim (debug_status files load_fault hex pads irq script answer h) [
+      | inl (e, cause) ↦ absurd (cc (e, is))
+      | inr (inl e) ↦ absurd (cc (e, is))
+      | inr (inr e) ↦ absurd (cc (e, is))
+    ]
 
 never_unwritten : (files : Option FileMap) (load_fault : Type 0) (c : Command) (answer : Answer) → Answers files load_fault c answer → answer.status ≢ status.Unwritten
 never_unwritten files load_fault (Check hex cert) answer h is =
@@ -68,6 +75,12 @@ never_unwritten files load_fault (Trace hex pads irq clocks) answer h is =
       | inr (inl e) ↦ absurd (cc (e, is))
       | inr (inr (inl e)) ↦ absurd (cc (e, is))
       | inr (inr (inr e)) ↦ absurd (cc (e, is))
+    ]
+never_unwritten files load_fault (Debug hex pads irq script) answer h is =
+    elim (debug_status files load_fault hex pads irq script answer h) [
+      | inl (e, cause) ↦ absurd (cc (e, is))
+      | inr (inl e) ↦ absurd (cc (e, is))
+      | inr (inr e) ↦ absurd (cc (e, is))
     ]
 
 unread_cause : (files : Option FileMap) (load_fault : Type 0) (c : Command) (answer : Answer) → Answers files load_fault c answer → answer.status ≡ status.Unread → load_fault ⊎ LacksRead files c
@@ -97,18 +110,33 @@ unread_cause files load_fault (Trace hex pads irq clocks) answer h is =
       | inr (inr (inl e)) ↦ absurd (cc (e, is))
       | inr (inr (inr e)) ↦ absurd (cc (e, is))
     ]
+unread_cause files load_fault (Debug hex pads irq script) answer h is =
+    elim (debug_status files load_fault hex pads irq script answer h) [
+      | inl (e, cause) ↦ cause
+      | inr (inl e) ↦ absurd (cc (e, is))
+      | inr (inr e) ↦ absurd (cc (e, is))
+    ]
 
 same_answers : (files : FileMap) (load_fault : Type 0) (c : Command) (a b : Answer) → Answers (Some files) load_fault c a → Answers (Some files) ⊥ c b → (a ≡ b) ⊎ load_fault
 same_answers files load_fault (Check hex cert) a b p q = check_same files load_fault hex cert a b p q
 same_answers files load_fault (Dis hex) a b p q = dis_same files load_fault hex a b p q
 same_answers files load_fault (Asm source hex) a b p q = asm_same files load_fault source hex a b p q
 same_answers files load_fault (Trace hex pads irq clocks) a b p q = trace_same files load_fault hex pads irq clocks a b p q
+same_answers files load_fault (Debug hex pads irq script) a b p q = debug_same files load_fault hex pads irq script a b p q
 
-done_answer : (files : Option FileMap) (c : Command) → Succeeds files c → (answer : Answer) × Answers files ⊥ c answer × (answer.status ≡ status.Done)
-done_answer files (Check hex cert) h = check_done files hex cert h
-done_answer files (Dis hex) h = dis_done files hex h
-done_answer files (Asm source hex) h = asm_done_answer files source hex h
-done_answer files (Trace hex pads irq clocks) h = trace_done files hex pads irq clocks h
+-- an answer that is this one, or loading met a fault
+done_as : (load_fault : Type 0) (answer wanted : Answer) → (answer ≡ wanted) ⊎ load_fault → wanted.status ≡ status.Done → (load_fault → ⊥) → answer.status ≡ status.Done
+done_as load_fault answer wanted (inl same) is loads = ap (λ a. a.status) same ∙ is
+done_as load_fault answer wanted (inr fault) is loads = absurd (loads fault)
+
+-- where all is well each answer is done, unless loading met a fault
+done_always : (told : FileMap) (load_fault : Type 0) (c : Command) → Succeeds (Some told) c → (load_fault → ⊥) → (answer : Answer) → Answers (Some told) load_fault c answer → answer.status ≡ status.Done
+done_always told load_fault (Check hex cert) h loads answer p = let d = check_done (Some told) hex cert h in done_as load_fault answer d.0 (check_same told load_fault hex cert answer d.0 p d.1) d.2 loads
+done_always told load_fault (Dis hex) h loads answer p = let d = dis_done (Some told) hex h in done_as load_fault answer d.0 (dis_same told load_fault hex answer d.0 p d.1) d.2 loads
+done_always told load_fault (Asm source hex) h loads answer p = let d = asm_done_answer (Some told) source hex h in done_as load_fault answer d.0 (asm_same told load_fault source hex answer d.0 p d.1) d.2 loads
+done_always told load_fault (Trace hex pads irq clocks) h loads answer p =
+    let d = trace_done (Some told) hex pads irq clocks h in done_as load_fault answer d.0 (trace_same told load_fault hex pads irq clocks answer d.0 p d.1) d.2 loads
+done_always told load_fault (Debug hex pads irq script) h loads answer p = debug_done told load_fault hex pads irq script h loads answer p
 
 usage_not_memory : status.Usage ≢ status.NoMemory
 usage_not_memory e = cc
@@ -142,8 +170,11 @@ module _ (told : FileMap) (load_fault write_fault : Type 0) (c : Command) (came 
 
   complete : Outcome (Answers (Some told) load_fault c) (PartAnswers (Some told) c) write_fault came old new → Succeeds (Some told) c → (load_fault → ⊥) → (write_fault → ⊥) → (came ≡ status.Done) ⊎ (came ≡ status.NoMemory)
   complete h well loads writes =
-      let wanted = done_answer (Some told) c well in
-      done_without_faults load_fault write_fault came old new wanted.0 wanted.2 loads writes (exact h wanted.0 wanted.1)
+      elim (came_from (Answers (Some told) load_fault c) (PartAnswers (Some told) c) write_fault came old new h) [
+        | inl none ↦ inr none
+        | inr (inl cut) ↦ absurd (writes cut.1)
+        | inr (inr given) ↦ inl (given.2.status ∙ done_always told load_fault c well loads given.0 given.1)
+      ]
 
 pub outcome_at : (k l : Command) (files : Option FileMap) (load_fault write_fault : Type 0) (came : Status) (old new : Outside) → k ≡ l → Outcome (Answers files load_fault l) (PartAnswers files l) write_fault came old new → Outcome (Answers files load_fault k) (PartAnswers files k) write_fault came old new
 outcome_at k l files load_fault write_fault came old new same h = subst (λ c. Outcome (Answers files load_fault c) (PartAnswers files c) write_fault came old new) (sym same) h

@@ -6,7 +6,7 @@ use Rattle.uz_top.specs.Answers.{Answer, Outside, ComesTo, Ends, Outcome}
 
 module _ (Whole Part : Answer → Type 0) (write_fault : Type 0) (came : Status) (old new : Outside) where
   -- where the status comes from
-  came_from : Outcome Whole Part write_fault came old new → (came ≡ status.NoMemory) ⊎ (((came ≡ status.Unwritten) × write_fault) ⊎ ((answer : Answer) × Whole answer × Ends answer came old new))
+  pub came_from : Outcome Whole Part write_fault came old new → (came ≡ status.NoMemory) ⊎ (((came ≡ status.Unwritten) × write_fault) ⊎ ((answer : Answer) × Whole answer × Ends answer came old new))
   came_from (inl starts) = inl starts.status
   came_from (inr (inl (answer, given, inl ends))) = inr (inr (answer, given, ends))
   came_from (inr (inl (answer, given, inr (inl (more, cut))))) = inr (inl (cut.0, cut.1))

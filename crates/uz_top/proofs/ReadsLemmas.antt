@@ -50,7 +50,7 @@ module _ {A : Type 0} (files : FileMap) (load_fault : Type 0) (name : List ℕ) 
       reader.one q.bytes x y (subst (λ b. spells b x) e p.reads) q.reads
 
   -- a file that says something fails by a fault alone
-  fails_says : (fault : Type 0) (a : Answer) (x : A) → Fails (Some files) fault name limit refuses a → Says (Some files) name limit spells x → fault
+  pub fails_says : (fault : Type 0) (a : Answer) (x : A) → Fails (Some files) fault name limit refuses a → Says (Some files) name limit spells x → fault
   fails_says fault a x (inl (inl (same, inl met))) q = met
   fails_says fault a x (inl (inl (same, inr lacks))) q = absurd (cc (lacks, q.held))
   fails_says fault a x (inl (inr (same, long))) q =

@@ -19,7 +19,7 @@ use Rattle.uz_top.specs.PadFile.{RefusesPads, SpellsPads, pad_why_name}
 use Rattle.uz_top.specs.TraceCommand.{IsTrace, IsTraceOf, TraceAnswers, TraceAnswersFor, edge_lines, end_line, start_of, stopped_line}
 use Rattle.uz_top.proofs.ReadsLemmas.{IsReader, is_reader, reads_same}
 
-same_fault : (x y : Fault) → x.0 ≡ y.0 → x.1 ≡ y.1 → x ≡ y
+pub same_fault : (x y : Fault) → x.0 ≡ y.0 → x.1 ≡ y.1 → x ≡ y
 same_fault x y p q = λ i. (p i, q i)
 
 one_pad_fault : (text : List ℕ) (x y : Fault) → RefusesPads text x → RefusesPads text y → x ≡ y
@@ -27,7 +27,7 @@ one_pad_fault text x y (v, first, named) (w, second, called) =
     let same = one_fault (lines_of text) x.0 y.0 v w first second in
     same_fault x y same.0 (named ∙ (ap pad_why_name same.1 ∙ sym called))
 
-pads_reader : IsReader SpellsPads RefusesPads
+pub pads_reader : IsReader SpellsPads RefusesPads
 pads_reader = record {
   one = λ text. one_list (lines_of text);
   first = one_pad_fault;

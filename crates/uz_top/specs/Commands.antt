@@ -2,8 +2,9 @@
 use Rattle.std.specs.Prelude.{Option}
 use Rattle.uz_shelf.specs.Files.{FileMap, LacksFile}
 use Rattle.uz_top.specs.Answers.{Answer, NoPart}
-use Rattle.uz_top.specs.Words.{Command, Asm, Check, Dis, Trace}
+use Rattle.uz_top.specs.Words.{Command, Asm, Check, Debug, Dis, Trace}
 use Rattle.uz_top.specs.TraceCommand.{TraceAnswers, TraceLacks, TraceParts, TraceSucceeds}
+use Rattle.uz_top.specs.DebugCommand.{DebugAnswers, DebugLacks, DebugSucceeds}
 use Rattle.uz_top.specs.AsmCommand.{AsmAnswers, AsmSucceeds}
 use Rattle.uz_top.specs.DisCommand.{DisAnswers, DisSucceeds}
 use Rattle.uz_top.specs.CheckCommand.{CheckAnswers, CheckLacks, CheckSucceeds, FilesCertified}
@@ -14,6 +15,7 @@ Answers files load_fault (Check hex cert) answer = CheckAnswers files load_fault
 Answers files load_fault (Dis hex) answer = DisAnswers files load_fault hex answer
 Answers files load_fault (Asm source hex) answer = AsmAnswers files load_fault source hex answer
 Answers files load_fault (Trace hex pads irq clocks) answer = TraceAnswers files load_fault hex pads irq clocks answer
+Answers files load_fault (Debug hex pads irq script) answer = DebugAnswers files load_fault hex pads irq script answer
 
 -- a file that the command reads isn't there, and all earlier ones are read
 abbrev pub LacksRead : Option FileMap → Command → Type 0
@@ -21,6 +23,7 @@ LacksRead files (Check hex cert) = CheckLacks files hex cert
 LacksRead files (Dis hex) = LacksFile files hex
 LacksRead files (Asm source hex) = LacksFile files source
 LacksRead files (Trace hex pads irq clocks) = TraceLacks files hex pads
+LacksRead files (Debug hex pads irq script) = DebugLacks files hex pads script
 
 -- all that the command reads is there and in its grammar, and what it asks of it holds
 abbrev pub Succeeds : Option FileMap → Command → Type 0
@@ -28,6 +31,7 @@ Succeeds files (Check hex cert) = CheckSucceeds files hex cert
 Succeeds files (Dis hex) = DisSucceeds files hex
 Succeeds files (Asm source hex) = AsmSucceeds files source
 Succeeds files (Trace hex pads irq clocks) = TraceSucceeds files hex pads irq clocks
+Succeeds files (Debug hex pads irq script) = DebugSucceeds files hex pads script
 
 -- the command creates no file
 abbrev pub CreatesNone : Command → Type 0
@@ -35,6 +39,7 @@ CreatesNone (Check hex cert) = Unit {0}
 CreatesNone (Dis hex) = Unit {0}
 CreatesNone (Asm source hex) = ⊥
 CreatesNone (Trace hex pads irq clocks) = Unit {0}
+CreatesNone (Debug hex pads irq script) = Unit {0}
 
 -- what a command is worth where it is done
 abbrev pub Certifies : Option FileMap → Command → Type 0
@@ -42,6 +47,7 @@ Certifies files (Check hex cert) = FilesCertified files hex cert
 Certifies files (Dis hex) = Unit {0}
 Certifies files (Asm source hex) = Unit {0}
 Certifies files (Trace hex pads irq clocks) = Unit {0}
+Certifies files (Debug hex pads irq script) = Unit {0}
 
 -- what a command has come to that is cut short in the midst of its work
 abbrev pub PartAnswers : Option FileMap → Command → Answer → Type 0
@@ -49,3 +55,4 @@ PartAnswers files (Check hex cert) = NoPart
 PartAnswers files (Dis hex) = NoPart
 PartAnswers files (Asm source hex) = NoPart
 PartAnswers files (Trace hex pads irq clocks) = TraceParts files hex pads irq clocks
+PartAnswers files (Debug hex pads irq script) = NoPart

@@ -2,7 +2,7 @@
 use Rattle.std.specs.Prelude.{ℕ, ◌+◌, ◌/◌, ◌%◌, nat_lt, if◌then◌else◌, List, [], ◌∷◌, ◌++◌, codes, decimal}
 
 abbrev pub usage_line : List ℕ
-usage_line = codes "usage: uzebox asm, dis, trace, certify, check, play, demo\n"
+usage_line = codes "usage: uzebox asm, dis, trace, certify, check, play, demo, migrate, expand, build, debug\n"
 
 abbrev pub no_memory_line : List ℕ
 no_memory_line = codes "no memory\n"

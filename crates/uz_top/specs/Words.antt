@@ -1,5 +1,5 @@
 -- Which words are which command.
-use Rattle.std.specs.Prelude.{ℕ, List, [], ◌∷◌, codes, bytes_eq, Option, Some, None, if◌then◌else◌}
+use Rattle.std.specs.Prelude.{ℕ, ◌||◌, List, [], ◌∷◌, codes, bytes_eq, Option, Some, None, if◌then◌else◌}
 use Rattle.uz_text.specs.Numbers.{number_within}
 use Rattle.uz_schedule.specs.declared.kinds.Response.{Response}
 use Rattle.uz_schedule.specs.declared.kinds.Response.TheVariants.{Four, Five}
@@ -10,6 +10,7 @@ pub data Command : Type 0 where
   Dis : (hex : List ℕ) → Command
   Asm : (source hex : List ℕ) → Command
   Trace : (hex pads : List ℕ) → (irq : Response) → (clocks : ℕ) → Command
+  Debug : (hex pads : List ℕ) → (irq : Response) → (script : List ℕ) → Command
 
 -- the file words of a command differ
 abbrev pub check_words : List (List ℕ) → Option Command
@@ -38,6 +39,15 @@ trace_words (hex ∷ pads ∷ irq ∷ clocks ∷ []) =
     if bytes_eq hex pads then None else trace_with hex pads (response_of irq) (number_within 1 1000000001 clocks)
 trace_words other = None
 
+abbrev pub debug_with : List ℕ → List ℕ → Option Response → List ℕ → Option Command
+debug_with hex pads (Some irq) script = Some (Debug hex pads irq script)
+debug_with hex pads None script = None
+
+abbrev pub debug_words : List (List ℕ) → Option Command
+debug_words (hex ∷ pads ∷ irq ∷ script ∷ []) =
+    if bytes_eq hex pads || (bytes_eq hex script || bytes_eq pads script) then None else debug_with hex pads (response_of irq) script
+debug_words other = None
+
 abbrev pub command_of : List (List ℕ) → Option Command
 command_of [] = None
 command_of (verb ∷ words) =
@@ -45,4 +55,5 @@ command_of (verb ∷ words) =
     else if bytes_eq verb (codes "dis") then dis_words words
     else if bytes_eq verb (codes "asm") then asm_words words
     else if bytes_eq verb (codes "trace") then trace_words words
+    else if bytes_eq verb (codes "debug") then debug_words words
     else None

@@ -2,7 +2,7 @@
 
 ghost use Rattle.std.specs.Prelude.{◌≡◌, map, option_map, string_bytes};
 ghost use Rattle.uz_top.specs.CommandValues.{value_of};
-ghost use Rattle.uz_top.specs.Words.{asm_words, check_words, command_of, dis_words, response_of, trace_words};
+ghost use Rattle.uz_top.specs.Words.{asm_words, check_words, command_of, debug_with as debug_with_response, debug_words, dis_words, response_of, trace_words};
 
 use uz_cert::Response;
 use uz_text::number_within;
@@ -27,6 +27,12 @@ pub(crate) enum Command<'a> {
         irq: Response,
         clocks: u32,
     },
+    Debug {
+        hex: &'a str,
+        pads: &'a str,
+        irq: Response,
+        script: &'a str,
+    },
 }
 
 /// The command of these words, without the program's name, or `None` where they are no command.
@@ -41,6 +47,7 @@ pub(crate) fn parse(words: &[String]) -> Option<Command<'_>>
         "dis" => dis(rest),
         "asm" => asm(rest),
         "trace" => trace(rest),
+        "debug" => debug(rest),
         _ => None,
     }
 }
@@ -96,6 +103,40 @@ fn trace(words: &[String]) -> Option<Command<'_>>
                     clocks,
                 }),
                 _ => None,
+            }
+        }
+        _ => None,
+    }
+}
+
+/// The command once its files are known to differ.
+fn debug_with<'a>(hex: &'a str, pads: &'a str, irq: &str, script: &'a str) -> Option<Command<'a>>
+    ensures { option_map value_of result ≡ debug_with_response hex.now pads.now (response_of irq.now) script.now }
+{
+    match response(irq) {
+        Some(irq) => Some(Command::Debug {
+            hex,
+            pads,
+            irq,
+            script,
+        }),
+        None => None,
+    }
+}
+
+/// `debug HEX PADS IRQ SCRIPT`, of three files.
+fn debug(words: &[String]) -> Option<Command<'_>>
+    ensures { option_map value_of result ≡ debug_words (map string_bytes words.now) }
+{
+    match words {
+        [hex, pads, irq, script] => {
+            if hex.as_str() == pads.as_str()
+                || hex.as_str() == script.as_str()
+                || pads.as_str() == script.as_str()
+            {
+                None
+            } else {
+                debug_with(hex.as_str(), pads.as_str(), irq.as_str(), script.as_str())
             }
         }
         _ => None,

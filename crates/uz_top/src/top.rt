@@ -7,6 +7,7 @@ ghost use Rattle.uz_top.specs.Answers.{Answer, ComesTo, NoPart, Outcome, outside
 ghost use Rattle.uz_top.specs.CheckCommand.{CheckAnswers, FilesCertified};
 ghost use Rattle.uz_top.specs.CommandValues.{value_of};
 ghost use Rattle.uz_top.specs.Commands.{Answers, Certifies, CreatesNone, LacksRead, PartAnswers, Succeeds};
+ghost use Rattle.uz_top.specs.DebugCommand.{DebugAnswers};
 ghost use Rattle.uz_top.specs.DisCommand.{DisAnswers};
 ghost use Rattle.uz_top.specs.Lines.{usage_line};
 ghost use Rattle.uz_top.specs.Words.{command_of};
@@ -14,11 +15,13 @@ ghost use Rattle.uz_top.specs.Words.{command_of};
 use crate::asm_command::run_asm;
 use crate::check_command::check_files;
 use crate::command::{Command, parse};
+use crate::debug_command::debug_files;
 use crate::dis_command::list_file;
 use crate::ending::{finish, put_last};
 use crate::status::Status;
 use crate::trace_run::run_trace;
 use std::alloc::Global;
+use uz_schedule::Response;
 use uz_shelf::{Shelf, Sink};
 
 /// `check HEX CERT`.
@@ -50,6 +53,25 @@ fn run_dis<H: Shelf, K: Sink>(alloc: Global, hex: &str, shelf: &mut H, out: &mut
     finish(alloc, out, listed)
 }
 
+/// `debug HEX PADS IRQ SCRIPT`.
+fn run_debug<H: Shelf, K: Sink>(
+    alloc: Global,
+    hex: &str,
+    pads: &str,
+    irq: Response,
+    script: &str,
+    shelf: &mut H,
+    out: &mut K,
+) -> Status
+    ensures outcome { Outcome (DebugAnswers (H.files shelf.old) (Rose (H.load_faults shelf.old) (H.load_faults shelf.new)) hex.now pads.now irq script.now) NoPart
+        (Rose (H.write_faults shelf.old) (H.write_faults shelf.new) ⊎ Rose (K.faults out.old) (K.faults out.new))
+        result (outside (H.files shelf.old) (K.text out.old)) (outside (H.files shelf.new) (K.text out.new)) }
+    ensures files { H.files shelf.new ≡ H.files shelf.old }
+{
+    let debugged = debug_files(alloc, shelf, hex, pads, irq, script);
+    finish(alloc, out, debugged)
+}
+
 /// Runs a command.
 fn run<H: Shelf, K: Sink>(
     alloc: Global,
@@ -73,6 +95,12 @@ fn run<H: Shelf, K: Sink>(
             irq,
             clocks,
         } => run_trace(alloc, hex, pads, *irq, *clocks, shelf, out),
+        Command::Debug {
+            hex,
+            pads,
+            irq,
+            script,
+        } => run_debug(alloc, hex, pads, *irq, script, shelf, out),
     }
 }
 
@@ -127,7 +155,7 @@ pub fn uzebox<H: Shelf, K: Sink>(
             put_last(
                 alloc,
                 out,
-                b"usage: uzebox asm, dis, trace, certify, check, play, demo\n",
+                b"usage: uzebox asm, dis, trace, certify, check, play, demo, migrate, expand, build, debug\n",
             );
             Status::Usage
         }

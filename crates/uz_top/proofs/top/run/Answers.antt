@@ -13,6 +13,9 @@ returns-in-Dis-clause-outcome g c = outcome_at (value_of c.args.command.now) _ _
 pub returns-in-Trace-clause-outcome : goal.returns-in-Trace-clause-outcome
 returns-in-Trace-clause-outcome g c = outcome_at (value_of c.args.command.now) _ _ _ _ _ _ _ (ap value_of c.in-Trace.is) c.run_trace.ensures.outcome
 
+pub returns-in-Debug-clause-outcome : goal.returns-in-Debug-clause-outcome
+returns-in-Debug-clause-outcome g c = outcome_at (value_of c.args.command.now) _ _ _ _ _ _ _ (ap value_of c.in-Debug.is) c.run_debug.ensures.outcome
+
 pub returns-in-Asm-clause-outcome : goal.returns-in-Asm-clause-outcome
 returns-in-Asm-clause-outcome g c = outcome_at (value_of c.args.command.now) _ _ _ _ _ _ _ (ap value_of c.in-Asm.is) c.run_asm.ensures
 

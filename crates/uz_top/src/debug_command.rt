@@ -1,0 +1,68 @@
+//! `debug HEX PADS IRQ SCRIPT`.
+
+ghost use Rattle.std.specs.Prelude.{◌≡◌, ◌≤◌, IfErr, IfOk};
+ghost use Rattle.uz_shelf.specs.Faults.{Rose};
+ghost use Rattle.uz_top.specs.DebugCommand.{DebugAnswers, StartsDebug};
+ghost use Rattle.uz_top.specs.Endings.{EndsBy, Gives};
+ghost use Rattle.uz_top.specs.TraceValues.{TracePreface};
+
+use crate::ending::{Ending, Failure};
+use crate::image_file::read_image;
+use crate::pad_file::read_pad_file;
+use crate::script_file::read_script_file;
+use crate::status::Status;
+use std::alloc::Global;
+use uz_debug::{Debugger, session_text};
+use uz_schedule::Response;
+use uz_shelf::Shelf;
+
+/// Reads the image and the pads in their order, and resets a debugger with what they say.
+fn reset_debugger<H: Shelf>(
+    alloc: Global,
+    shelf: &mut H,
+    hex: &str,
+    pads: &str,
+    irq: Response,
+) -> Result<Debugger, Failure>
+    ensures starts { IfOk result (StartsDebug (H.files shelf.old) hex.now pads.now irq) }
+    ensures fails { IfErr result (EndsBy (TracePreface (H.files shelf.old) (Rose (H.load_faults shelf.old) (H.load_faults shelf.new)) hex.now pads.now)) }
+    ensures files { H.files shelf.new ≡ H.files shelf.old }
+    ensures load_faults { H.load_faults shelf.old ≤ H.load_faults shelf.new }
+    ensures write_faults { H.write_faults shelf.new ≡ H.write_faults shelf.old }
+{
+    let image = read_image(alloc, shelf, hex)?;
+    let list = match read_pad_file(alloc, shelf, pads) {
+        Ok(list) => list,
+        Err(failure) => return Err(failure),
+    };
+    Ok(Debugger::new(alloc, image, list, irq)?)
+}
+
+/// Reads the three files in their order, and does the script's commands. Their lines are gathered first: a script has at most
+/// 65,536 commands.
+pub(crate) fn debug_files<H: Shelf>(
+    alloc: Global,
+    shelf: &mut H,
+    hex: &str,
+    pads: &str,
+    irq: Response,
+    script: &str,
+) -> Result<Ending, Failure>
+    ensures gives { Gives (DebugAnswers (H.files shelf.old) (Rose (H.load_faults shelf.old) (H.load_faults shelf.new)) hex.now pads.now irq script.now) result }
+    ensures files { H.files shelf.new ≡ H.files shelf.old }
+    ensures load_faults { H.load_faults shelf.old ≤ H.load_faults shelf.new }
+    ensures write_faults { H.write_faults shelf.new ≡ H.write_faults shelf.old }
+{
+    let mut debugger = match reset_debugger(alloc, shelf, hex, pads, irq) {
+        Ok(debugger) => debugger,
+        Err(failure) => return Err(failure),
+    };
+    let commands = match read_script_file(alloc, shelf, script) {
+        Ok(commands) => commands,
+        Err(failure) => return Err(failure),
+    };
+    Ok(Ending {
+        status: Status::Done,
+        line: session_text(alloc, &mut debugger, commands.as_slice())?,
+    })
+}
