@@ -5,6 +5,8 @@
 mod counts;
 mod player;
 mod recorder;
+#[cfg(test)]
+mod tests;
 
 pub use counts::Counts;
 pub use player::{Played, Player};

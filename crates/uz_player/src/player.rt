@@ -16,6 +16,7 @@ use uz_machine::Edge;
 use uz_schedule::{Cert, well_formed};
 
 /// A run's next record, or its end.
+#[derive(Drop)]
 pub enum Played {
     /// The record of a row, at the end of its line.
     Row([u8; 461]),

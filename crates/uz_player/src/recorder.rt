@@ -17,6 +17,7 @@ pub(crate) struct Recorder {
 }
 
 /// A record.
+#[derive(Drop)]
 pub(crate) enum Record {
     Row([u8; 461]),
     End([u8; 5]),
