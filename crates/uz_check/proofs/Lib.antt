@@ -1,10 +1,5 @@
-mod Ranges
-mod Words
-mod Level
-mod Lines
-mod Steps
-mod Instructions
-mod OneTurn
-mod Headline
-mod Entering
-mod Rules
+mod SteadyTold
+mod Loops
+mod Accepting
+mod FrameTold
+pub mod OneVerdict

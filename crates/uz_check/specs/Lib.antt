@@ -1,8 +1,4 @@
-pub mod Claim
-pub mod Opcodes
-pub mod Machine
-pub mod Instances
-pub mod LocalRule
-pub mod FrameRules
-pub mod Acceptance
-pub mod Certified
+pub mod Unsteady
+pub mod Refusal
+pub mod Pair
+pub mod FrameTests

@@ -1,43 +1,67 @@
 //! The whole check.
 
-ghost use Rattle.std.specs.Prelude.{◌≡◌, ◌<◌, ◌↔◌, ℕ, true, Some, None, length, IsNone, IfSome, IsOk, IfOk, IfErr};
-ghost use Rattle.uz_schedule.specs.Thin.{IsThin};
-ghost use Rattle.uz_check.specs.Acceptance.{Accepts, IsThere, accepts, first_failing as first_failing_of, first_refusal};
-ghost use Rattle.uz_check.specs.Certified.{Certified};
+ghost use Rattle.std.specs.Prelude.{◌≡◌, ◌<◌, ◌↔◌, ℕ, Some, None, IsNone, IfSome, IsOk, IfOk, IfErr};
+ghost use Rattle.uz_schedule.specs.WellFormed.{WellFormed};
+ghost use Rattle.uz_soundness.specs.Acceptance.{Accepts};
+ghost use Rattle.uz_soundness.specs.Certified.{Certified};
+ghost use Rattle.uz_check.specs.Refusal.{FirstRefusal, IsThere};
 
-use crate::fail::Fail;
-use crate::frame_rules::{entry_passes, first_unsteady};
-use crate::local_rule::local;
+use crate::entering::entry_refusal;
+use crate::points::points_refusal;
 use crate::refusal::RefusedWhy;
+use crate::rests::rests_refusal;
+use crate::unsteady::schedule_refusal;
+use std::marker::Model;
 use uz_hex::Image;
+use uz_rules::one_local;
 use uz_schedule::Cert;
+use uz_soundness::soundness;
 
 /// An image and a certificate that meet all rules. Only `check` makes one.
 #[derive(Debug, Drop)]
 pub struct Accepted {
     image: Image,
     cert: Cert,
-    pub ghost accepted: { accepts image cert ≡ true },
+}
+
+impl Model for Accepted {
+    ghost use Rattle.std.specs.Prelude.{ℕ};
+    ghost use Rattle.std.specs.Ordering.{nat_cmp};
+    ghost use Rattle.uz_check.specs.Pair.{Pair};
+    ghost use Rattle.uz_soundness.specs.Acceptance.{Accepts};
+    ghost use Rattle.uz_schedule.specs.WellFormed.{WellFormed};
+    ghost use Rattle.std.specs.Coded.{codes, coded_ℕ};
+    ghost use Rattle.std.specs.FinMap as map;
+
+    ghost Value = { Pair };
+
+    ghost coded = { Prim.hlevel (codes, map.code {R = nat_cmp} coded_ℕ coded_ℕ) };
+
+    ghost view = { λ a. record { image = a.image; cert = a.cert } };
+
+    ghost invariant = { λ a. WellFormed a.cert × Accepts a.image a.cert };
 }
 
 impl Accepted {
     /// The image. No memory.
     pub fn image(&self) -> &Image
-        ensures { result.now ≡ self.now.image }
+        ensures same { result.now ≡ self.now.image }
+        ensures accepted { Accepts self.now.image self.now.cert }
     {
         &self.image
     }
 
     /// The certificate. No memory.
     pub fn cert(&self) -> &Cert
-        ensures { result.now ≡ self.now.cert }
+        ensures same { result.now ≡ self.now.cert }
+        ensures accepted { Accepts self.now.image self.now.cert }
     {
         &self.cert
     }
 
     /// Both, given back. No memory.
     pub fn into_parts(self) -> (Image, Cert)
-        ensures accepted { accepts result.0 result.1 ≡ true }
+        ensures accepted { Accepts result.0 result.1 }
         ensures parts { (result.0 ≡ self.image) × (result.1 ≡ self.cert) }
     {
         let Accepted { image, cert } = self;
@@ -56,63 +80,50 @@ pub struct Refused {
     pub cert: Cert,
 }
 
-/// The first point that breaks the local rule, and why.
-fn first_failing(image: &Image, cert: &Cert) -> Option<RefusedWhy>
-    requires { IsThin cert.now }
-    ensures { result ≡ first_failing_of image.now cert.now 0 cert.now.points }
-{
-    for (id, point) in cert.points.as_slice().iter().enumerate() {
-        if let Some(why) = local(image, cert, point) {
-            return Some(RefusedWhy::Point {
-                id: id as u32,
-                l: point.l0,
-                c: point.c0,
-                why,
-            });
-        }
-    }
-    None
-}
-
 /// The first item that fails, in the order of `RefusedWhy`.
-fn first_refused(image: &Image, cert: &Cert) -> Option<RefusedWhy>
-    requires { IsThin cert.now }
-    ensures { result ≡ first_refusal image.now cert.now }
+fn first_refusal(image: &Image, cert: &Cert) -> Option<RefusedWhy>
+    requires { WellFormed cert.now }
+    ensures { FirstRefusal image.now cert.now result }
 {
-    if let Some((line, clock)) = first_unsteady(&cert.schedule) {
-        return Some(RefusedWhy::Schedule { line, clock });
+    if let Some(why) = schedule_refusal(&cert.schedule) {
+        return Some(why);
     }
-    if !entry_passes(cert) {
-        return Some(RefusedWhy::Entry);
+    if let Some(why) = rests_refusal(cert) {
+        return Some(why);
     }
-    first_failing(image, cert)
+    if let Some(why) = entry_refusal(cert) {
+        return Some(why);
+    }
+    points_refusal(image, cert)
 }
 
 /// Why a pair is refused: the first failing item, and None exactly where `check` accepts the pair. Its condition is that
-/// the certificate is well formed (`uz_schedule::well_formed`). Takes no memory, and a time linear in the points' successors
-/// and the schedule's events.
+/// the certificate is well formed (`uz_cert::well_formed`). Takes no memory.
 pub fn verdict(image: &Image, cert: &Cert) -> Option<RefusedWhy>
-    requires { IsThin cert.now }
-    ensures exact { result ≡ first_refusal image.now cert.now }
+    requires { WellFormed cert.now }
+    ensures exact { FirstRefusal image.now cert.now result }
     ensures accepted { IsNone result ↔ Accepts image.now cert.now }
     ensures there { IfSome result (IsThere cert.now) }
 {
-    first_refused(image, cert)
+    one_local();
+    first_refusal(image, cert)
 }
 
-/// Checks an image against a certificate, and hands both back either way. Takes no memory.
+/// Checks an image against a certificate, and hands both back either way. Takes no memory, and a time linear in the
+/// instances of the points and their successors.
 ///
-/// Where it accepts them, then from every state that meets the certificate's entry condition and for every number of
-/// clocks the machine never stops, and its events are exactly those of the schedule, each at its clock.
+/// Where it accepts them, then from every state that meets the certificate's entry condition, for every list of pad words and
+/// every number of clocks, the machine never stops, its sync edges, pixels, sounds and returns are exactly those of the
+/// schedule, each at its clock, and each interrupt is taken with TCNT1 0 to 3.
 pub fn check(image: Image, cert: Cert) -> Result<Accepted, Refused>
-    requires { IsThin cert }
+    requires { WellFormed cert }
     ensures certified { IfOk result (λ a. Certified a.image a.cert) }
     ensures accepted { IsOk result ↔ Accepts image cert }
-    ensures exact { IsOk result ↔ (first_refusal image cert ≡ None) }
     ensures same { IfOk result (λ a. (a.image ≡ image) × (a.cert ≡ cert)) }
-    ensures refused { IfErr result (λ r. (first_refusal image cert ≡ Some r.why) × (r.image ≡ image) × (r.cert ≡ cert)) }
+    ensures refused { IfErr result (λ r. FirstRefusal image cert (Some r.why) × (r.image ≡ image) × (r.cert ≡ cert)) }
     ensures there { IfErr result (λ r. IsThere r.cert r.why) }
 {
+    soundness();
     match verdict(&image, &cert) {
         None => Ok(Accepted { image, cert }),
         Some(why) => Err(Refused { why, image, cert }),

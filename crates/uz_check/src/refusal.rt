@@ -1,9 +1,9 @@
 //! Which item of a certificate refuses it.
 
-use crate::fail::Fail;
+use uz_transfer::Fail;
 
 /// The first failing item of a pair of an image and a certificate: the schedule by line and clock, rests by line, the
-/// entry, then points by number, line and count. Of a thin certificate `Rest` never comes.
+/// entry, then points by number, line and count.
 #[derive(Clone, Copy, Debug, PartialEq, Eq)]
 pub enum RefusedWhy {
     /// The first event of the line isn't sync 0 at the schedule's fall (`clock` is that event's), or a later event of it
@@ -14,12 +14,13 @@ pub enum RefusedWhy {
         /// The clock of the line, 0 to 1819.
         clock: u16,
     },
-    /// The rules of a line's rest are broken.
+    /// The handler's return doesn't stand at the rest's clock, an event stands after it on its line or on the next line where
+    /// an interrupt may come, or the handler's first state doesn't lie in the vector's point.
     Rest {
         /// The line, counted from 0.
         line: u16,
     },
-    /// The entry's state lies in no instance of its point.
+    /// The entry is main's and there is no rest, or its state lies in no instance of its point.
     Entry,
     /// An instance of a point breaks the local rule.
     Point {

@@ -9,7 +9,7 @@ use std::test::Fail as TestFail;
 use uz_hex::Image;
 use uz_schedule::{
     Bit, Cert, Entry, Event, EventKind, Fact, Head, Kind, LineEvents, PairFact, Point, Response,
-    Schedule, Sequence, Span, is_thin,
+    Schedule, Sequence, Span, well_formed,
 };
 
 fn set_word(image: &mut Image, at: u16, word: u16)
@@ -199,8 +199,8 @@ fn rings_are_accepted_or_refused_at_the_first_failing_item(
         let mut image = ring(rt.alloc(), case.jump)?;
         set_word(&mut image, 3, case.third);
         let cert = cert(rt.alloc(), case)?;
-        let well_formed = is_thin(&cert);
-        assert!(rt; well_formed);
+        let fits = well_formed(&cert);
+        assert!(rt; fits);
         assert_eq!(rt; verdict(&image, &cert), case.refused);
         match check(image, cert) {
             Ok(accepted) => {

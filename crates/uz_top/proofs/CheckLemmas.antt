@@ -6,15 +6,16 @@ use Rattle.uz_hex.specs.Reading.{Flash}
 use Rattle.uz_top.specs.declared.ending.Failure.{Failure}
 use Rattle.uz_top.specs.Endings.{EndsBy}
 use Rattle.uz_schedule.specs.declared.certificate.Cert.{Cert}
-use Rattle.uz_check.specs.Acceptance.{first_refusal}
-use Rattle.uz_check.specs.Certified.{Certified}
+use Rattle.uz_soundness.specs.Certified.{Certified}
+use Rattle.uz_check.proofs.OneVerdict.{verdict_is_one, accepted_none}
+use Rattle.uz_check.specs.Refusal.{FirstRefusal}
 use Rattle.uz_check.specs.declared.refusal.RefusedWhy.{RefusedWhy}
 use Rattle.uz_top.specs.declared.status.Status.TheVariants.{Done, Unread, BadInput, Refused}
 use Rattle.uz_top.specs.Answers.{Answer}
 use Rattle.uz_top.specs.Reading.{Fails, Refuses, Says, Spells, certificate_limit, text_limit}
 use Rattle.uz_top.specs.ImageFile.{image_of}
 use Rattle.uz_top.specs.CertificateFile.{certificate_of}
-use Rattle.uz_top.specs.CheckCommand.{CheckAnswers, CheckAnswersFor, CheckLacks, FilesCertified, IsVerdict, CheckSucceeds, check_answer, verdict_answer}
+use Rattle.uz_top.specs.CheckCommand.{CheckAnswers, CheckAnswersFor, CheckLacks, FilesCertified, IsVerdict, CheckSucceeds, verdict_answer}
 use Rattle.uz_top.proofs.ReadsLemmas.{fails_status, is_reader, reads_same}
 use Rattle.uz_shelf.specs.Faults.{Rose}
 use Rattle.uz_top.proofs.FaultLemmas.{rose_later}
@@ -49,32 +50,33 @@ check_status files load_fault hex cert answer (inr (image, says, inl fails)) =
       | inl (is, inr lacks) ↦ inl (is, inr (inr (image, says, lacks)))
       | inr bad ↦ inr (inl bad)
     ]
-check_status files load_fault hex cert answer (inr (image, says, inr (certificate, spelled, same))) =
-    inr (inr (verdict_status certificate (first_refusal image certificate) answer same))
+check_status files load_fault hex cert answer (inr (image, says, inr (certificate, spelled, (why, refuses, same)))) =
+    inr (inr (verdict_status certificate why answer same))
 
 -- a shelf that tells its files gives one answer, unless loading met a fault
 pub check_same : (files : FileMap) (load_fault : Type 0) (hex cert : List ℕ) (a b : Answer) → CheckAnswers (Some files) load_fault hex cert a → CheckAnswers (Some files) ⊥ hex cert b → (a ≡ b) ⊎ load_fault
 check_same files load_fault hex cert a b =
     reads_same files load_fault hex text_limit (Spells image_of) (Refuses image_of) (is_reader image_of) (CheckAnswersFor (Some files) load_fault cert) (CheckAnswersFor (Some files) ⊥ cert) a b (λ image.
     reads_same files load_fault cert certificate_limit (Spells certificate_of) (Refuses certificate_of) (is_reader certificate_of) (IsVerdict image) (IsVerdict image) a b (λ certificate.
-    same_verdict a b (check_answer image certificate)))
+    same_verdict image certificate))
   where
-    same_verdict : (x y z : Answer) → x ≡ z → y ≡ z → (x ≡ y) ⊎ load_fault
-    same_verdict x y z p q = inl (p ∙ sym q)
+    same_verdict : (image : Flash) (certificate : Cert) → IsVerdict image certificate a → IsVerdict image certificate b → (a ≡ b) ⊎ load_fault
+    same_verdict image certificate (why, refuses, is) (other, refused, same) =
+        inl (is ∙ (ap (verdict_answer certificate) (verdict_is_one image certificate why other refuses refused) ∙ sym same))
 
 -- where all is well the answer is one that is done
 pub check_done : (files : Option FileMap) (hex cert : List ℕ) → CheckSucceeds files hex cert → (answer : Answer) × CheckAnswers files ⊥ hex cert answer × (answer.status ≡ Done)
 check_done files hex cert h = (
-  check_answer h.image h.certificate,
-  inr (h.image, h.spelled_image, inr (h.certificate, h.spelled_certificate, refl)),
-  ap (λ o. (verdict_answer h.certificate o).status) h.accepted,
+  verdict_answer h.certificate None,
+  inr (h.image, h.spelled_image, inr (h.certificate, h.spelled_certificate, (None, accepted_none h.image h.certificate h.accepted, refl))),
+  refl,
 )
 
 later_says : (files after : Option FileMap) (cert : List ℕ) (certificate : Cert) → after ≡ files → Says after cert certificate_limit (Spells certificate_of) certificate → Says files cert certificate_limit (Spells certificate_of) certificate
 later_says files after cert certificate same says = subst (λ f. Says f cert certificate_limit (Spells certificate_of) certificate) same says
 
 -- both files are read, and this is the verdict
-pub check_read : (files after : Option FileMap) (load_fault : Type 0) (hex cert : List ℕ) (image : Flash) (certificate : Cert) (answer : Answer) → after ≡ files → Says files hex text_limit (Spells image_of) image → Says after cert certificate_limit (Spells certificate_of) certificate → answer ≡ check_answer image certificate → CheckAnswers files load_fault hex cert answer
+pub check_read : (files after : Option FileMap) (load_fault : Type 0) (hex cert : List ℕ) (image : Flash) (certificate : Cert) (answer : Answer) → after ≡ files → Says files hex text_limit (Spells image_of) image → Says after cert certificate_limit (Spells certificate_of) certificate → IsVerdict image certificate answer → CheckAnswers files load_fault hex cert answer
 check_read files after load_fault hex cert image certificate answer same says spelled verdict =
     inr (image, says, inr (certificate, later_says files after cert certificate same spelled, verdict))
 

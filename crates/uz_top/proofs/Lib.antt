@@ -12,3 +12,4 @@ pub mod TextLemmas
 pub mod TraceAnswerLemmas
 pub mod TraceLemmas
 pub mod TraceSameLemmas
+pub mod ThinFits

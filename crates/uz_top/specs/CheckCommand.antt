@@ -5,12 +5,13 @@ use Rattle.uz_shelf.specs.Files.{FileMap, LacksFile}
 use Rattle.uz_hex.specs.Reading.{Flash}
 use Rattle.uz_schedule.specs.Schedule.{frame_of}
 use Rattle.uz_schedule.specs.declared.certificate.Cert.{Cert}
-use Rattle.uz_check.specs.Acceptance.{first_refusal}
-use Rattle.uz_check.specs.Certified.{Certified}
+use Rattle.uz_soundness.specs.Acceptance.{Accepts}
+use Rattle.uz_soundness.specs.Certified.{Certified}
+use Rattle.uz_check.specs.Refusal.{FirstRefusal}
 use Rattle.uz_check.specs.declared.refusal.RefusedWhy.{RefusedWhy}
 use Rattle.uz_check.specs.declared.refusal.RefusedWhy.TheVariants.{Schedule, Rest, Entry, Point}
-use Rattle.uz_check.specs.declared.fail.Fail.{Fail}
-use Rattle.uz_check.specs.declared.fail.Fail.TheVariants as fail
+use Rattle.uz_transfer.specs.declared.fail.Fail.{Fail}
+use Rattle.uz_transfer.specs.declared.fail.Fail.TheVariants as fail
 use Rattle.uz_top.specs.declared.status.Status.TheVariants.{Done, Refused}
 use Rattle.uz_top.specs.Answers.{Answer, one_line}
 use Rattle.uz_top.specs.Lines.{hex_word}
@@ -54,12 +55,9 @@ abbrev pub verdict_answer : Cert → Option RefusedWhy → Answer
 verdict_answer cert None = one_line Done (accepted_line cert)
 verdict_answer cert (Some why) = one_line Refused (refused_line cert why)
 
-abbrev pub check_answer : Flash → Cert → Answer
-check_answer image cert = verdict_answer cert (first_refusal image cert)
-
--- once both files are read
+-- once both files are read: the pair is accepted, or this is the first item that refuses it
 abbrev pub IsVerdict : Flash → Cert → Answer → Type 0
-IsVerdict image certificate answer = answer ≡ check_answer image certificate
+IsVerdict image certificate answer = (why : Option RefusedWhy) × FirstRefusal image certificate why × (answer ≡ verdict_answer certificate why)
 
 -- once the image is read
 abbrev pub CheckAnswersFor : Option FileMap → Type 0 → List ℕ → Flash → Answer → Type 0
@@ -69,7 +67,7 @@ abbrev pub CheckAnswers : Option FileMap → Type 0 → List ℕ → List ℕ �
 CheckAnswers files load_fault hex cert = Reads files load_fault hex text_limit (Spells image_of) (Refuses image_of) (CheckAnswersFor files load_fault cert)
 
 -- the two files spell an image and a certificate, and from every state that meets the certificate's entry condition, for
--- every number of clocks, the machine with that image keeps to the certificate's schedule
+-- every list of pads and every number of clocks, the machine with that image keeps to the certificate's schedule
 pub record FilesCertified (files : Option FileMap) (hex cert : List ℕ) : Type 0 where
   pub image : Flash
   pub certificate : Cert
@@ -88,4 +86,4 @@ pub record CheckSucceeds (files : Option FileMap) (hex cert : List ℕ) : Type 0
   pub certificate : Cert
   pub spelled_image : Says files hex text_limit (Spells image_of) image
   pub spelled_certificate : Says files cert certificate_limit (Spells certificate_of) certificate
-  pub accepted : first_refusal image certificate ≡ None
+  pub accepted : Accepts image certificate

@@ -2,9 +2,9 @@
 
 ghost use Rattle.std.specs.Prelude.{◌≡◌, ◌≤◌, IfOk};
 ghost use Rattle.uz_schedule.specs.Thin.{IsThin};
-ghost use Rattle.uz_check.specs.Certified.{Certified};
+ghost use Rattle.uz_soundness.specs.Certified.{Certified};
 ghost use Rattle.uz_shelf.specs.Faults.{Rose};
-ghost use Rattle.uz_top.specs.CheckCommand.{CheckAnswers, FilesCertified, check_answer};
+ghost use Rattle.uz_top.specs.CheckCommand.{CheckAnswers, FilesCertified, IsVerdict};
 ghost use Rattle.uz_top.specs.Endings.{Gives, answer_of};
 
 use crate::certificate_file::read_certificate;
@@ -19,9 +19,10 @@ use uz_hex::Image;
 use uz_shelf::Shelf;
 
 /// Checks a pair, and says what is printed of it.
+#[tactic(auto, using(crate::proofs::ThinFits::thin_fits))]
 fn check_pair(alloc: Global, image: Image, cert: Cert) -> Result<Ending, AllocError>
     requires { IsThin cert }
-    ensures answer { IfOk result (λ e. answer_of e ≡ check_answer image cert) }
+    ensures answer { IfOk result (λ e. IsVerdict image cert (answer_of e)) }
     ensures certified { IfOk result (λ e. e.status ≡ Status.Done → Certified image cert) }
 {
     match check(image, cert) {

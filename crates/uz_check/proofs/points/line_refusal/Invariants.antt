@@ -1,0 +1,8 @@
+use Rattle.std.proofs.Common.{ℕ, ◌≤◌, ◌<◌}
+use Rattle.std.specs.Prelude.{None}
+use Rattle.uz_check.specs.Refusal.{InstanceRefusal}
+use Rattle.uz_check.proofs.points.line_refusal.Given as goal
+
+-- none so far is refused
+abbrev pub invariant-loop-c : goal.invariant-loop-c
+invariant-loop-c l = (j : ℕ) → l.point.c0 ≤ j → j < l.c → InstanceRefusal l.image l.cert l.id l.l j None
