@@ -55,7 +55,7 @@ cut_written : (name bytes line further : List ℕ) (files after : Option FileMap
 cut_written name bytes line further files after old new written (inl (same, text)) = inl (inr (inr (after, written, refl)), text)
 cut_written name bytes line further files after old new written (inr (same, text)) = inr ((after, written, refl), text)
 
-comes_written : (name bytes line : List ℕ) (write_fault : Type 0) (came : Status) (files after : Option FileMap) (old new : Option (List ℕ)) → WritesFile files name bytes after → ComesOf (one_line Done line) write_fault came (outside after old) (outside after new) → ComesOf (written_then (record { name = name; bytes = bytes }) line) write_fault came (outside files old) (outside after new)
+pub comes_written : (name bytes line : List ℕ) (write_fault : Type 0) (came : Status) (files after : Option FileMap) (old new : Option (List ℕ)) → WritesFile files name bytes after → ComesOf (one_line Done line) write_fault came (outside after old) (outside after new) → ComesOf (written_then (record { name = name; bytes = bytes }) line) write_fault came (outside files old) (outside after new)
 comes_written name bytes line write_fault came files after old new written (inl ends) = inl (record {
   status = ends.status;
   files = (after, written, refl);
@@ -65,7 +65,7 @@ comes_written name bytes line write_fault came files after old new written (inl 
 comes_written name bytes line write_fault came files after old new written (inr (inl (more, cut))) = inr (inl (inl refl, (cut.0, cut.1, cut_written name bytes line [] files after old new written cut.2)))
 comes_written name bytes line write_fault came files after old new written (inr (inr lacks)) = inr (inr (lacks.0, (lacks.1.0, cut_written name bytes line (take lacks.1.0 no_memory_line) files after old new written lacks.1.1)))
 
-part_written : (name bytes line : List ℕ) (files after : Option FileMap) → WritesSome files name bytes after → WritesPart files (written_then (record { name = name; bytes = bytes }) line).writes after
+pub part_written : (name bytes line : List ℕ) (files after : Option FileMap) → WritesSome files name bytes after → WritesPart files (written_then (record { name = name; bytes = bytes }) line).writes after
 part_written name bytes line files after (inl same) = inl same
 part_written name bytes line files after (inr part) = inr (inl part)
 

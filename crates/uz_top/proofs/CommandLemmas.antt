@@ -5,11 +5,13 @@ use Rattle.uz_shelf.specs.Files.{FileMap}
 use Rattle.uz_top.specs.declared.status.Status.{Status}
 use Rattle.uz_top.specs.declared.status.Status.TheVariants as status
 use Rattle.uz_top.specs.Answers.{Answer, Outside, ComesTo, Outcome}
-use Rattle.uz_top.specs.Words.{Command, Asm, Check, Debug, Dis, Trace}
+use Rattle.uz_top.specs.Words.{Command, Asm, Build, Check, Debug, Dis, Expand, Trace}
 use Rattle.uz_top.specs.Commands.{Answers, LacksRead, PartAnswers, Succeeds}
 use Rattle.uz_top.proofs.OutcomeLemmas.{came_from, from_answer, unwritten_by, exact_by}
 use Rattle.uz_top.proofs.TraceAnswerLemmas.{trace_status, trace_done}
 use Rattle.uz_top.proofs.TraceSameLemmas.{trace_same}
+use Rattle.uz_top.proofs.MacroLemmas.{OneEnd, build_done, build_status, expand_done, expand_status, flat_same}
+use Rattle.uz_top.specs.MacroCommands.{build_answer, expand_answer}
 use Rattle.uz_top.proofs.DebugLemmas.{debug_status, debug_same, debug_done}
 use Rattle.uz_top.proofs.AsmLemmas.{asm_done_answer, asm_same, asm_status}
 use Rattle.uz_top.proofs.DisLemmas.{dis_status, dis_same, dis_done}
@@ -31,6 +33,18 @@ never_usage files load_fault (Dis hex) answer h is =
     ]
 never_usage files load_fault (Asm source hex) answer h is =
     elim (asm_status files load_fault source hex answer h) [
+      | inl (e, cause) ↦ absurd (cc (e, is))
+      | inr (inl e) ↦ absurd (cc (e, is))
+      | inr (inr e) ↦ absurd (cc (e, is))
+    ]
+never_usage files load_fault (Expand source flat) answer h is =
+    elim (expand_status files load_fault source flat answer h) [
+      | inl (e, cause) ↦ absurd (cc (e, is))
+      | inr (inl e) ↦ absurd (cc (e, is))
+      | inr (inr e) ↦ absurd (cc (e, is))
+    ]
+never_usage files load_fault (Build source hex) answer h is =
+    elim (build_status files load_fault source hex answer h) [
       | inl (e, cause) ↦ absurd (cc (e, is))
       | inr (inl e) ↦ absurd (cc (e, is))
       | inr (inr e) ↦ absurd (cc (e, is))
@@ -69,6 +83,18 @@ never_unwritten files load_fault (Asm source hex) answer h is =
       | inr (inl e) ↦ absurd (cc (e, is))
       | inr (inr e) ↦ absurd (cc (e, is))
     ]
+never_unwritten files load_fault (Expand source flat) answer h is =
+    elim (expand_status files load_fault source flat answer h) [
+      | inl (e, cause) ↦ absurd (cc (e, is))
+      | inr (inl e) ↦ absurd (cc (e, is))
+      | inr (inr e) ↦ absurd (cc (e, is))
+    ]
+never_unwritten files load_fault (Build source hex) answer h is =
+    elim (build_status files load_fault source hex answer h) [
+      | inl (e, cause) ↦ absurd (cc (e, is))
+      | inr (inl e) ↦ absurd (cc (e, is))
+      | inr (inr e) ↦ absurd (cc (e, is))
+    ]
 never_unwritten files load_fault (Trace hex pads irq clocks) answer h is =
     elim (trace_status files load_fault hex pads irq clocks answer h) [
       | inl (e, cause) ↦ absurd (cc (e, is))
@@ -103,6 +129,18 @@ unread_cause files load_fault (Asm source hex) answer h is =
       | inr (inl e) ↦ absurd (cc (e, is))
       | inr (inr e) ↦ absurd (cc (e, is))
     ]
+unread_cause files load_fault (Expand source flat) answer h is =
+    elim (expand_status files load_fault source flat answer h) [
+      | inl (e, cause) ↦ cause
+      | inr (inl e) ↦ absurd (cc (e, is))
+      | inr (inr e) ↦ absurd (cc (e, is))
+    ]
+unread_cause files load_fault (Build source hex) answer h is =
+    elim (build_status files load_fault source hex answer h) [
+      | inl (e, cause) ↦ cause
+      | inr (inl e) ↦ absurd (cc (e, is))
+      | inr (inr e) ↦ absurd (cc (e, is))
+    ]
 unread_cause files load_fault (Trace hex pads irq clocks) answer h is =
     elim (trace_status files load_fault hex pads irq clocks answer h) [
       | inl (e, cause) ↦ cause
@@ -117,12 +155,14 @@ unread_cause files load_fault (Debug hex pads irq script) answer h is =
       | inr (inr e) ↦ absurd (cc (e, is))
     ]
 
-same_answers : (files : FileMap) (load_fault : Type 0) (c : Command) (a b : Answer) → Answers (Some files) load_fault c a → Answers (Some files) ⊥ c b → (a ≡ b) ⊎ load_fault
-same_answers files load_fault (Check hex cert) a b p q = check_same files load_fault hex cert a b p q
-same_answers files load_fault (Dis hex) a b p q = dis_same files load_fault hex a b p q
-same_answers files load_fault (Asm source hex) a b p q = asm_same files load_fault source hex a b p q
-same_answers files load_fault (Trace hex pads irq clocks) a b p q = trace_same files load_fault hex pads irq clocks a b p q
-same_answers files load_fault (Debug hex pads irq script) a b p q = debug_same files load_fault hex pads irq script a b p q
+same_answers : (one : OneEnd) (files : FileMap) (load_fault : Type 0) (c : Command) (a b : Answer) → Answers (Some files) load_fault c a → Answers (Some files) ⊥ c b → (a ≡ b) ⊎ load_fault
+same_answers one files load_fault (Check hex cert) a b p q = check_same files load_fault hex cert a b p q
+same_answers one files load_fault (Dis hex) a b p q = dis_same files load_fault hex a b p q
+same_answers one files load_fault (Asm source hex) a b p q = asm_same files load_fault source hex a b p q
+same_answers one files load_fault (Expand source flat) a b p q = flat_same one files load_fault source (expand_answer flat) a b p q
+same_answers one files load_fault (Build source hex) a b p q = flat_same one files load_fault source (build_answer hex) a b p q
+same_answers one files load_fault (Trace hex pads irq clocks) a b p q = trace_same files load_fault hex pads irq clocks a b p q
+same_answers one files load_fault (Debug hex pads irq script) a b p q = debug_same files load_fault hex pads irq script a b p q
 
 -- an answer that is this one, or loading met a fault
 done_as : (load_fault : Type 0) (answer wanted : Answer) → (answer ≡ wanted) ⊎ load_fault → wanted.status ≡ status.Done → (load_fault → ⊥) → answer.status ≡ status.Done
@@ -130,13 +170,17 @@ done_as load_fault answer wanted (inl same) is loads = ap (λ a. a.status) same 
 done_as load_fault answer wanted (inr fault) is loads = absurd (loads fault)
 
 -- where all is well each answer is done, unless loading met a fault
-done_always : (told : FileMap) (load_fault : Type 0) (c : Command) → Succeeds (Some told) c → (load_fault → ⊥) → (answer : Answer) → Answers (Some told) load_fault c answer → answer.status ≡ status.Done
-done_always told load_fault (Check hex cert) h loads answer p = let d = check_done (Some told) hex cert h in done_as load_fault answer d.0 (check_same told load_fault hex cert answer d.0 p d.1) d.2 loads
-done_always told load_fault (Dis hex) h loads answer p = let d = dis_done (Some told) hex h in done_as load_fault answer d.0 (dis_same told load_fault hex answer d.0 p d.1) d.2 loads
-done_always told load_fault (Asm source hex) h loads answer p = let d = asm_done_answer (Some told) source hex h in done_as load_fault answer d.0 (asm_same told load_fault source hex answer d.0 p d.1) d.2 loads
-done_always told load_fault (Trace hex pads irq clocks) h loads answer p =
+done_always : (one : OneEnd) (told : FileMap) (load_fault : Type 0) (c : Command) → Succeeds (Some told) c → (load_fault → ⊥) → (answer : Answer) → Answers (Some told) load_fault c answer → answer.status ≡ status.Done
+done_always one told load_fault (Check hex cert) h loads answer p = let d = check_done (Some told) hex cert h in done_as load_fault answer d.0 (check_same told load_fault hex cert answer d.0 p d.1) d.2 loads
+done_always one told load_fault (Dis hex) h loads answer p = let d = dis_done (Some told) hex h in done_as load_fault answer d.0 (dis_same told load_fault hex answer d.0 p d.1) d.2 loads
+done_always one told load_fault (Asm source hex) h loads answer p = let d = asm_done_answer (Some told) source hex h in done_as load_fault answer d.0 (asm_same told load_fault source hex answer d.0 p d.1) d.2 loads
+done_always one told load_fault (Expand source flat) h loads answer p =
+    let d = expand_done (Some told) source flat h in done_as load_fault answer d.0 (flat_same one told load_fault source (expand_answer flat) answer d.0 p d.1) d.2 loads
+done_always one told load_fault (Build source hex) h loads answer p =
+    let d = build_done (Some told) source hex h in done_as load_fault answer d.0 (flat_same one told load_fault source (build_answer hex) answer d.0 p d.1) d.2 loads
+done_always one told load_fault (Trace hex pads irq clocks) h loads answer p =
     let d = trace_done (Some told) hex pads irq clocks h in done_as load_fault answer d.0 (trace_same told load_fault hex pads irq clocks answer d.0 p d.1) d.2 loads
-done_always told load_fault (Debug hex pads irq script) h loads answer p = debug_done told load_fault hex pads irq script h loads answer p
+done_always one told load_fault (Debug hex pads irq script) h loads answer p = debug_done told load_fault hex pads irq script h loads answer p
 
 usage_not_memory : status.Usage ≢ status.NoMemory
 usage_not_memory e = cc
@@ -164,42 +208,42 @@ module _ (files : Option FileMap) (load_fault write_fault : Type 0) (c : Command
   pub unwritten : Outcome (Answers files load_fault c) (PartAnswers files c) write_fault came old new → came ≡ status.Unwritten → write_fault
   unwritten = unwritten_by (Answers files load_fault c) (PartAnswers files c) write_fault came old new (never_unwritten files load_fault c)
 
-module _ (told : FileMap) (load_fault write_fault : Type 0) (c : Command) (came : Status) (old new : Outside) where
+module _ (one : OneEnd) (told : FileMap) (load_fault write_fault : Type 0) (c : Command) (came : Status) (old new : Outside) where
   exact : Outcome (Answers (Some told) load_fault c) (PartAnswers (Some told) c) write_fault came old new → (wanted : Answer) → Answers (Some told) ⊥ c wanted → ComesTo wanted load_fault write_fault came old new
-  exact h wanted q = exact_by (Answers (Some told) load_fault c) (PartAnswers (Some told) c) write_fault came old new load_fault wanted (λ answer p. same_answers told load_fault c answer wanted p q) h
+  exact h wanted q = exact_by (Answers (Some told) load_fault c) (PartAnswers (Some told) c) write_fault came old new load_fault wanted (λ answer p. same_answers one told load_fault c answer wanted p q) h
 
   complete : Outcome (Answers (Some told) load_fault c) (PartAnswers (Some told) c) write_fault came old new → Succeeds (Some told) c → (load_fault → ⊥) → (write_fault → ⊥) → (came ≡ status.Done) ⊎ (came ≡ status.NoMemory)
   complete h well loads writes =
       elim (came_from (Answers (Some told) load_fault c) (PartAnswers (Some told) c) write_fault came old new h) [
         | inl none ↦ inr none
         | inr (inl cut) ↦ absurd (writes cut.1)
-        | inr (inr given) ↦ inl (given.2.status ∙ done_always told load_fault c well loads given.0 given.1)
+        | inr (inr given) ↦ inl (given.2.status ∙ done_always one told load_fault c well loads given.0 given.1)
       ]
 
 pub outcome_at : (k l : Command) (files : Option FileMap) (load_fault write_fault : Type 0) (came : Status) (old new : Outside) → k ≡ l → Outcome (Answers files load_fault l) (PartAnswers files l) write_fault came old new → Outcome (Answers files load_fault k) (PartAnswers files k) write_fault came old new
 outcome_at k l files load_fault write_fault came old new same h = subst (λ c. Outcome (Answers files load_fault c) (PartAnswers files c) write_fault came old new) (sym same) h
 
-exact_told : (files : Option FileMap) (load_fault write_fault : Type 0) (c : Command) (came : Status) (old new : Outside) → Outcome (Answers files load_fault c) (PartAnswers files c) write_fault came old new → IfSome files (λ told. (wanted : Answer) → Answers files ⊥ c wanted → ComesTo wanted load_fault write_fault came old new)
-exact_told None load_fault write_fault c came old new h = tt
-exact_told (Some told) load_fault write_fault c came old new h = exact told load_fault write_fault c came old new h
+exact_told : (one : OneEnd) (files : Option FileMap) (load_fault write_fault : Type 0) (c : Command) (came : Status) (old new : Outside) → Outcome (Answers files load_fault c) (PartAnswers files c) write_fault came old new → IfSome files (λ told. (wanted : Answer) → Answers files ⊥ c wanted → ComesTo wanted load_fault write_fault came old new)
+exact_told one None load_fault write_fault c came old new h = tt
+exact_told one (Some told) load_fault write_fault c came old new h = exact one told load_fault write_fault c came old new h
 
-pub exact_in : (o : Option Command) (c : Command) (files : Option FileMap) (load_fault write_fault : Type 0) (came : Status) (old new : Outside) → Some c ≡ o → Outcome (Answers files load_fault c) (PartAnswers files c) write_fault came old new → IfSome o (λ k. IfSome files (λ told. (wanted : Answer) → Answers files ⊥ k wanted → ComesTo wanted load_fault write_fault came old new))
-exact_in o c files load_fault write_fault came old new is h =
+pub exact_in : (one : OneEnd) (o : Option Command) (c : Command) (files : Option FileMap) (load_fault write_fault : Type 0) (came : Status) (old new : Outside) → Some c ≡ o → Outcome (Answers files load_fault c) (PartAnswers files c) write_fault came old new → IfSome o (λ k. IfSome files (λ told. (wanted : Answer) → Answers files ⊥ k wanted → ComesTo wanted load_fault write_fault came old new))
+exact_in one o c files load_fault write_fault came old new is h =
     subst (λ p. IfSome p (λ k. IfSome files (λ told. (wanted : Answer) → Answers files ⊥ k wanted → ComesTo wanted load_fault write_fault came old new))) is
-    (exact_told files load_fault write_fault c came old new h)
+    (exact_told one files load_fault write_fault c came old new h)
 
 pub unread_in : (o : Option Command) (c : Command) (files : Option FileMap) (load_fault write_fault : Type 0) (came : Status) (old new : Outside) → Some c ≡ o → Outcome (Answers files load_fault c) (PartAnswers files c) write_fault came old new → came ≡ status.Unread → IfSome o (λ k. load_fault ⊎ LacksRead files k)
 unread_in o c files load_fault write_fault came old new is h unread =
     subst (λ p. IfSome p (λ k. load_fault ⊎ LacksRead files k)) is (unread_by files load_fault write_fault c came old new h unread)
 
-complete_told : (files : Option FileMap) (load_fault write_fault : Type 0) (c : Command) (came : Status) (old new : Outside) → Outcome (Answers files load_fault c) (PartAnswers files c) write_fault came old new → IfSome files (λ told. Succeeds files c → (load_fault → ⊥) → (write_fault → ⊥) → (came ≡ status.Done) ⊎ (came ≡ status.NoMemory))
-complete_told None load_fault write_fault c came old new h = tt
-complete_told (Some told) load_fault write_fault c came old new h = complete told load_fault write_fault c came old new h
+complete_told : (one : OneEnd) (files : Option FileMap) (load_fault write_fault : Type 0) (c : Command) (came : Status) (old new : Outside) → Outcome (Answers files load_fault c) (PartAnswers files c) write_fault came old new → IfSome files (λ told. Succeeds files c → (load_fault → ⊥) → (write_fault → ⊥) → (came ≡ status.Done) ⊎ (came ≡ status.NoMemory))
+complete_told one None load_fault write_fault c came old new h = tt
+complete_told one (Some told) load_fault write_fault c came old new h = complete one told load_fault write_fault c came old new h
 
-pub complete_in : (o : Option Command) (c : Command) (files : Option FileMap) (load_fault write_fault : Type 0) (came : Status) (old new : Outside) → Some c ≡ o → Outcome (Answers files load_fault c) (PartAnswers files c) write_fault came old new → IfSome o (λ k. IfSome files (λ told. Succeeds files k → (load_fault → ⊥) → (write_fault → ⊥) → (came ≡ status.Done) ⊎ (came ≡ status.NoMemory)))
-complete_in o c files load_fault write_fault came old new is h =
+pub complete_in : (one : OneEnd) (o : Option Command) (c : Command) (files : Option FileMap) (load_fault write_fault : Type 0) (came : Status) (old new : Outside) → Some c ≡ o → Outcome (Answers files load_fault c) (PartAnswers files c) write_fault came old new → IfSome o (λ k. IfSome files (λ told. Succeeds files k → (load_fault → ⊥) → (write_fault → ⊥) → (came ≡ status.Done) ⊎ (came ≡ status.NoMemory)))
+complete_in one o c files load_fault write_fault came old new is h =
     subst (λ p. IfSome p (λ k. IfSome files (λ told. Succeeds files k → (load_fault → ⊥) → (write_fault → ⊥) → (came ≡ status.Done) ⊎ (came ≡ status.NoMemory)))) is
-    (complete_told files load_fault write_fault c came old new h)
+    (complete_told one files load_fault write_fault c came old new h)
 
 pub usage_in : (o : Option Command) (c : Command) (files : Option FileMap) (load_fault write_fault : Type 0) (came : Status) (old new : Outside) → Some c ≡ o → Outcome (Answers files load_fault c) (PartAnswers files c) write_fault came old new → (came ≡ status.Usage → o ≡ None) × (o ≡ None → came ≡ status.Usage)
 usage_in o c files load_fault write_fault came old new is h =

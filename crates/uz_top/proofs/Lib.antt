@@ -5,6 +5,8 @@ pub mod DebugLemmas
 pub mod DisLemmas
 pub mod EndingLemmas
 pub mod FaultLemmas
+pub mod MacroLemmas
+pub mod MacroNames
 pub mod OutcomeLemmas
 pub mod ReadingLemmas
 pub mod ReadsLemmas

@@ -2,8 +2,10 @@
 use Rattle.std.specs.Prelude.{Option}
 use Rattle.uz_shelf.specs.Files.{FileMap, LacksFile}
 use Rattle.uz_top.specs.Answers.{Answer, NoPart}
-use Rattle.uz_top.specs.Words.{Command, Asm, Check, Debug, Dis, Trace}
+use Rattle.uz_top.specs.Words.{Command, Asm, Build, Check, Debug, Dis, Expand, Trace}
 use Rattle.uz_top.specs.TraceCommand.{TraceAnswers, TraceLacks, TraceParts, TraceSucceeds}
+use Rattle.uz_top.specs.MacroCommands.{BuildAnswers, BuildSucceeds, ExpandAnswers, ExpandSucceeds}
+use Rattle.uz_top.specs.MacroSource.{MacroLacks}
 use Rattle.uz_top.specs.DebugCommand.{DebugAnswers, DebugLacks, DebugSucceeds}
 use Rattle.uz_top.specs.AsmCommand.{AsmAnswers, AsmSucceeds}
 use Rattle.uz_top.specs.DisCommand.{DisAnswers, DisSucceeds}
@@ -15,6 +17,8 @@ Answers files load_fault (Check hex cert) answer = CheckAnswers files load_fault
 Answers files load_fault (Dis hex) answer = DisAnswers files load_fault hex answer
 Answers files load_fault (Asm source hex) answer = AsmAnswers files load_fault source hex answer
 Answers files load_fault (Trace hex pads irq clocks) answer = TraceAnswers files load_fault hex pads irq clocks answer
+Answers files load_fault (Expand source flat) answer = ExpandAnswers files load_fault source flat answer
+Answers files load_fault (Build source hex) answer = BuildAnswers files load_fault source hex answer
 Answers files load_fault (Debug hex pads irq script) answer = DebugAnswers files load_fault hex pads irq script answer
 
 -- a file that the command reads isn't there, and all earlier ones are read
@@ -23,6 +27,8 @@ LacksRead files (Check hex cert) = CheckLacks files hex cert
 LacksRead files (Dis hex) = LacksFile files hex
 LacksRead files (Asm source hex) = LacksFile files source
 LacksRead files (Trace hex pads irq clocks) = TraceLacks files hex pads
+LacksRead files (Expand source flat) = MacroLacks files source
+LacksRead files (Build source hex) = MacroLacks files source
 LacksRead files (Debug hex pads irq script) = DebugLacks files hex pads script
 
 -- all that the command reads is there and in its grammar, and what it asks of it holds
@@ -31,6 +37,8 @@ Succeeds files (Check hex cert) = CheckSucceeds files hex cert
 Succeeds files (Dis hex) = DisSucceeds files hex
 Succeeds files (Asm source hex) = AsmSucceeds files source
 Succeeds files (Trace hex pads irq clocks) = TraceSucceeds files hex pads irq clocks
+Succeeds files (Expand source flat) = ExpandSucceeds files source
+Succeeds files (Build source hex) = BuildSucceeds files source
 Succeeds files (Debug hex pads irq script) = DebugSucceeds files hex pads script
 
 -- the command creates no file
@@ -39,6 +47,8 @@ CreatesNone (Check hex cert) = Unit {0}
 CreatesNone (Dis hex) = Unit {0}
 CreatesNone (Asm source hex) = ⊥
 CreatesNone (Trace hex pads irq clocks) = Unit {0}
+CreatesNone (Expand source flat) = ⊥
+CreatesNone (Build source hex) = ⊥
 CreatesNone (Debug hex pads irq script) = Unit {0}
 
 -- what a command is worth where it is done
@@ -47,6 +57,8 @@ Certifies files (Check hex cert) = FilesCertified files hex cert
 Certifies files (Dis hex) = Unit {0}
 Certifies files (Asm source hex) = Unit {0}
 Certifies files (Trace hex pads irq clocks) = Unit {0}
+Certifies files (Expand source flat) = Unit {0}
+Certifies files (Build source hex) = Unit {0}
 Certifies files (Debug hex pads irq script) = Unit {0}
 
 -- what a command has come to that is cut short in the midst of its work
@@ -55,4 +67,6 @@ PartAnswers files (Check hex cert) = NoPart
 PartAnswers files (Dis hex) = NoPart
 PartAnswers files (Asm source hex) = NoPart
 PartAnswers files (Trace hex pads irq clocks) = TraceParts files hex pads irq clocks
+PartAnswers files (Expand source flat) = NoPart
+PartAnswers files (Build source hex) = NoPart
 PartAnswers files (Debug hex pads irq script) = NoPart

@@ -10,6 +10,9 @@ pub mod DisCommand
 pub mod Endings
 pub mod ImageFile
 pub mod Lines
+pub mod MacroCommands
+pub mod MacroSource
+pub mod MacroValues
 pub mod PadFile
 pub mod Reading
 pub mod ScriptFile

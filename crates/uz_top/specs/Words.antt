@@ -10,6 +10,8 @@ pub data Command : Type 0 where
   Dis : (hex : List ℕ) → Command
   Asm : (source hex : List ℕ) → Command
   Trace : (hex pads : List ℕ) → (irq : Response) → (clocks : ℕ) → Command
+  Expand : (source flat : List ℕ) → Command
+  Build : (source hex : List ℕ) → Command
   Debug : (hex pads : List ℕ) → (irq : Response) → (script : List ℕ) → Command
 
 -- the file words of a command differ
@@ -20,6 +22,14 @@ check_words other = None
 abbrev pub asm_words : List (List ℕ) → Option Command
 asm_words (source ∷ hex ∷ []) = if bytes_eq source hex then None else Some (Asm source hex)
 asm_words other = None
+
+abbrev pub expand_words : List (List ℕ) → Option Command
+expand_words (source ∷ flat ∷ []) = if bytes_eq source flat then None else Some (Expand source flat)
+expand_words other = None
+
+abbrev pub build_words : List (List ℕ) → Option Command
+build_words (source ∷ hex ∷ []) = if bytes_eq source hex then None else Some (Build source hex)
+build_words other = None
 
 abbrev pub dis_words : List (List ℕ) → Option Command
 dis_words (hex ∷ []) = Some (Dis hex)
@@ -56,4 +66,6 @@ command_of (verb ∷ words) =
     else if bytes_eq verb (codes "asm") then asm_words words
     else if bytes_eq verb (codes "trace") then trace_words words
     else if bytes_eq verb (codes "debug") then debug_words words
+    else if bytes_eq verb (codes "expand") then expand_words words
+    else if bytes_eq verb (codes "build") then build_words words
     else None

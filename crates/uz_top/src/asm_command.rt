@@ -21,12 +21,12 @@ use uz_shelf::{Shelf, Sink, WriteError};
 /// What is written to the HEX file, and the line that is printed then.
 #[derive(Debug, Drop)]
 pub(crate) struct Work {
-    text: Vec<u8>,
-    line: Vec<u8>,
+    pub text: Vec<u8>,
+    pub line: Vec<u8>,
 }
 
 /// The line of an assembled image.
-fn assembled(alloc: Global, image: &Image) -> Result<Vec<u8>, AllocError>
+pub(crate) fn assembled(alloc: Global, image: &Image) -> Result<Vec<u8>, AllocError>
     ensures { IfOk result (λ line. line.items ≡ assembled_line image.now) }
 {
     let mut line = Vec::new(alloc);
@@ -51,7 +51,7 @@ fn prepare<H: Shelf>(alloc: Global, shelf: &mut H, source: &str) -> Result<Work,
 }
 
 /// Writes a whole file.
-fn write_file<H: Shelf>(
+pub(crate) fn write_file<H: Shelf>(
     alloc: Global,
     shelf: &mut H,
     name: &str,

@@ -2,7 +2,7 @@
 
 ghost use Rattle.std.specs.Prelude.{◌≡◌, map, option_map, string_bytes};
 ghost use Rattle.uz_top.specs.CommandValues.{value_of};
-ghost use Rattle.uz_top.specs.Words.{asm_words, check_words, command_of, debug_with as debug_with_response, debug_words, dis_words, response_of, trace_words};
+ghost use Rattle.uz_top.specs.Words.{asm_words, build_words, check_words, command_of, debug_with as debug_with_response, debug_words, dis_words, expand_words, response_of, trace_words};
 
 use uz_cert::Response;
 use uz_text::number_within;
@@ -27,6 +27,14 @@ pub(crate) enum Command<'a> {
         irq: Response,
         clocks: u32,
     },
+    Expand {
+        source: &'a str,
+        flat: &'a str,
+    },
+    Build {
+        source: &'a str,
+        hex: &'a str,
+    },
     Debug {
         hex: &'a str,
         pads: &'a str,
@@ -48,6 +56,8 @@ pub(crate) fn parse(words: &[String]) -> Option<Command<'_>>
         "asm" => asm(rest),
         "trace" => trace(rest),
         "debug" => debug(rest),
+        "expand" => expand(rest),
+        "build" => build(rest),
         _ => None,
     }
 }
@@ -149,6 +159,32 @@ fn asm(words: &[String]) -> Option<Command<'_>>
 {
     match words {
         [source, hex] if source.as_str() != hex.as_str() => Some(Command::Asm {
+            source: source.as_str(),
+            hex: hex.as_str(),
+        }),
+        _ => None,
+    }
+}
+
+/// `expand SRC FLAT`, of two files.
+fn expand(words: &[String]) -> Option<Command<'_>>
+    ensures { option_map value_of result ≡ expand_words (map string_bytes words.now) }
+{
+    match words {
+        [source, flat] if source.as_str() != flat.as_str() => Some(Command::Expand {
+            source: source.as_str(),
+            flat: flat.as_str(),
+        }),
+        _ => None,
+    }
+}
+
+/// `build SRC HEX`, of two files.
+fn build(words: &[String]) -> Option<Command<'_>>
+    ensures { option_map value_of result ≡ build_words (map string_bytes words.now) }
+{
+    match words {
+        [source, hex] if source.as_str() != hex.as_str() => Some(Command::Build {
             source: source.as_str(),
             hex: hex.as_str(),
         }),

@@ -11,6 +11,8 @@ mod dis_command;
 mod ending;
 mod image_file;
 mod loading;
+mod macro_commands;
+mod macro_source;
 mod pad_file;
 mod script_file;
 mod source_file;

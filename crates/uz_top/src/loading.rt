@@ -19,7 +19,7 @@ pub(crate) const TEXT_LIMIT: u32 = 1_048_576;
 pub(crate) const CERTIFICATE_LIMIT: u32 = 1_073_741_824;
 
 /// The line of a file that couldn't be read.
-fn unread(alloc: Global, name: &str) -> Result<Vec<u8>, AllocError>
+pub(crate) fn unread(alloc: Global, name: &str) -> Result<Vec<u8>, AllocError>
     ensures { IfOk result (λ line. line.items ≡ unread_line name.now) }
 {
     let mut line = Vec::new(alloc);

@@ -14,7 +14,7 @@ use std::alloc::{AllocError, Global};
 use uz_shelf::Shelf;
 
 /// The name of a why, as it is printed.
-fn why_name(why: AsmWhy) -> &'static str
+pub(crate) fn why_name(why: AsmWhy) -> &'static str
     ensures { result.now ≡ asm_why_name why }
 {
     match why {

@@ -18,8 +18,10 @@ use crate::command::{Command, parse};
 use crate::debug_command::debug_files;
 use crate::dis_command::list_file;
 use crate::ending::{finish, put_last};
+use crate::macro_commands::{run_build, run_expand};
 use crate::status::Status;
 use crate::trace_run::run_trace;
+use avr_macro::expansion_is_unique;
 use std::alloc::Global;
 use uz_schedule::Response;
 use uz_shelf::{Shelf, Sink};
@@ -95,6 +97,8 @@ fn run<H: Shelf, K: Sink>(
             irq,
             clocks,
         } => run_trace(alloc, hex, pads, *irq, *clocks, shelf, out),
+        Command::Expand { source, flat } => run_expand(alloc, source, flat, shelf, out),
+        Command::Build { source, hex } => run_build(alloc, source, hex, shelf, out),
         Command::Debug {
             hex,
             pads,
@@ -149,6 +153,7 @@ pub fn uzebox<H: Shelf, K: Sink>(
     ensures certified { result ≡ Status.Done → IfSome (command_of (map string_bytes words.now)) (Certifies (H.files shelf.old)) }
     ensures untouched { IfSome (command_of (map string_bytes words.now)) (λ c. CreatesNone c → H.files shelf.new ≡ H.files shelf.old) }
 {
+    expansion_is_unique();
     match parse(words) {
         Some(command) => run(alloc, &command, shelf, out),
         None => {

@@ -21,3 +21,15 @@ returns-in-Asm-clause-outcome g c = outcome_at (value_of c.args.command.now) _ _
 
 pub returns-in-Asm-clause-untouched : goal.returns-in-Asm-clause-untouched
 returns-in-Asm-clause-untouched g c = λ none. absurd (subst CreatesNone (ap value_of c.in-Asm.is) none)
+
+pub returns-in-Expand-clause-outcome : goal.returns-in-Expand-clause-outcome
+returns-in-Expand-clause-outcome g c = outcome_at (value_of c.args.command.now) _ _ _ _ _ _ _ (ap value_of c.in-Expand.is) c.run_expand.ensures
+
+pub returns-in-Expand-clause-untouched : goal.returns-in-Expand-clause-untouched
+returns-in-Expand-clause-untouched g c = λ none. absurd (subst CreatesNone (ap value_of c.in-Expand.is) none)
+
+pub returns-in-Build-clause-outcome : goal.returns-in-Build-clause-outcome
+returns-in-Build-clause-outcome g c = outcome_at (value_of c.args.command.now) _ _ _ _ _ _ _ (ap value_of c.in-Build.is) c.run_build.ensures
+
+pub returns-in-Build-clause-untouched : goal.returns-in-Build-clause-untouched
+returns-in-Build-clause-untouched g c = λ none. absurd (subst CreatesNone (ap value_of c.in-Build.is) none)

@@ -6,7 +6,7 @@ pub returns-in-Some-clause-usage : goal.returns-in-Some-clause-usage
 returns-in-Some-clause-usage g c = usage_in _ (value_of c.in-Some.command) _ _ _ _ _ _ c.in-Some.ensures c.run.ensures.outcome
 
 pub returns-in-Some-clause-exact : goal.returns-in-Some-clause-exact
-returns-in-Some-clause-exact g c = exact_in _ (value_of c.in-Some.command) _ _ _ _ _ _ c.in-Some.ensures c.run.ensures.outcome
+returns-in-Some-clause-exact g c = exact_in c.expansion_is_unique.ensures _ (value_of c.in-Some.command) _ _ _ _ _ _ c.in-Some.ensures c.run.ensures.outcome
 
 pub returns-in-Some-clause-unread : goal.returns-in-Some-clause-unread
 returns-in-Some-clause-unread g c = unread_in _ (value_of c.in-Some.command) _ _ _ _ _ _ c.in-Some.ensures c.run.ensures.outcome
@@ -15,4 +15,4 @@ pub returns-in-Some-clause-unwritten : goal.returns-in-Some-clause-unwritten
 returns-in-Some-clause-unwritten g c = unwritten _ _ _ (value_of c.in-Some.command) _ _ _ c.run.ensures.outcome
 
 pub returns-in-Some-clause-complete : goal.returns-in-Some-clause-complete
-returns-in-Some-clause-complete g c = complete_in _ (value_of c.in-Some.command) _ _ _ _ _ _ c.in-Some.ensures c.run.ensures.outcome
+returns-in-Some-clause-complete g c = complete_in c.expansion_is_unique.ensures _ (value_of c.in-Some.command) _ _ _ _ _ _ c.in-Some.ensures c.run.ensures.outcome
