@@ -1,0 +1,75 @@
+//! Draws 100,000 instances and the words at their pcs, the same in every run, and sums up the whole answers of `uz_rules::after`. After each
+//! 5,000 it prints the sum so far. The expected sums come from a second implementation of the rules, written apart from their tables.
+#![tactic(auto)]
+
+ghost use Rattle.std.specs.Prelude.{◌≡◌, ◌<◌};
+
+mod draw;
+mod random;
+mod sum;
+
+use anyhow::Result;
+use random::Random;
+use sum::Sum;
+use uz_hex::Image;
+use uz_rules::{Fail, Next, after};
+use uz_schedule::{Head, Instance, Kind};
+
+/// How many instances are drawn.
+const DRAWS: u32 = 100_000;
+
+/// Writes the words of a case at its pc, and clears them again after its answer.
+fn put(flash: &mut Image, pc: u16, words: &[u16; 3]) {
+    for k in 0..3u16 {
+        let at = 2 * (pc.wrapping_add(k) % 32768);
+        flash.set(at, (words[k as usize] % 256) as u8);
+        flash.set(at + 1, (words[k as usize] / 256) as u8);
+    }
+}
+
+/// A kind.
+fn kind(random: &mut Random) -> Kind {
+    match random.below(3) {
+        0 => Kind::Main,
+        1 => Kind::Handler,
+        _ => Kind::Alone,
+    }
+}
+
+/// The answer of an instance, in a frame of three lines.
+#[tactic(auto, using(crate::proofs::Depth::depth_few))]
+fn answer(flash: &Image, head: &Head, at: &Instance) -> std::result::Result<Next, Fail>
+    requires main { head.now.main ≡ 4 }
+    requires handler { head.now.handler ≡ 6 }
+    requires line { at.now.line < 3 }
+    requires clock { at.now.clock < 1820 }
+{
+    after(flash, head, 3, at)
+}
+
+/// Draws one instance, and adds its answer.
+fn add_one(flash: &mut Image, head: &Head, random: &mut Random, sum: &mut Sum)
+    requires main { head.now.main ≡ 4 }
+    requires handler { head.now.handler ≡ 6 }
+{
+    let kind = kind(random);
+    let words = draw::words(random);
+    let at = draw::instance(random, head, kind);
+    put(flash, at.pc, &words);
+    sum.add_answer(&answer(flash, head, &at));
+    put(flash, at.pc, &[0xFFFF; 3]);
+}
+
+fn main(rt: HostRuntime) -> Result<()> {
+    let mut flash = Image::empty(rt.alloc())?;
+    let head = draw::header();
+    let mut random = Random::new(1);
+    let mut sum = Sum { total: 0 };
+    for drawn in 1..DRAWS + 1 {
+        add_one(&mut flash, &head, &mut random, &mut sum);
+        if drawn % 5000 == 0 {
+            println!(rt; "{} {}", drawn, sum.total)?;
+        }
+    }
+    Ok(())
+}
