@@ -39,12 +39,12 @@ fn keeps_a_file(rt: HostRuntime, length: u32) -> Result<bool, TestFail>
     for place in 0..length {
         text.push((place % 251) as u8)?;
     }
-    shelf.create(rt.alloc(), "a.hex")?;
+    shelf.create(rt.alloc(), "long.hex")?;
     shelf.append(rt.alloc(), text.as_slice())?;
     shelf.append(rt.alloc(), b"end")?;
     text.extend_from_slice(b"end")?;
-    let kept = shelf.load(rt.alloc(), "a.hex", length + 3)?;
-    let refused = shelf.load(rt.alloc(), "a.hex", length + 2);
+    let kept = shelf.load(rt.alloc(), "long.hex", length + 3)?;
+    let refused = shelf.load(rt.alloc(), "long.hex", length + 2);
     Ok(kept.as_slice() == text.as_slice() && matches!(&refused, Err(LoadError::TooLong)))
 }
 
