@@ -15,6 +15,6 @@ mod output;
 pub use assembler::assemble;
 pub use avr_operands::AsmWhy;
 pub use faults::AsmError;
-pub use layout::predefined;
 pub use laws::{address_is_origin_and_lengths, assembly_is_exact, assembly_is_unique};
+pub use layout::predefined;
 pub use output::{Built, Hint, Placed};
