@@ -206,7 +206,7 @@ included file bytes level s =
 
 abbrev pub is_include : Word → Bool
 is_include Include = true
-is_include other = false
+is_include _ = false
 
 abbrev pub word_move : Word → List ℕ → Level → State → Move
 word_move Macro line level s = macro_move (operands_of line) level s
