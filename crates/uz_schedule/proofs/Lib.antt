@@ -1,4 +1,5 @@
 pub mod Amounts
+pub mod Exact
 pub mod Fitting
 pub mod LastLevel
 pub mod Modulo

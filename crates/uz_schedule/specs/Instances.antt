@@ -129,8 +129,9 @@ abbrev pub old_from : ℕ → ℕ → List Val
 old_from k zero = []
 old_from k (suc n) = Old k ∷ old_from (suc k) n
 
-abbrev pub rest_instance_at : Rest → ℕ → ℕ → ℕ → Instance
-rest_instance_at rest line clock level =
+-- the handler's first state where its interrupt is taken: nothing of what is interrupted has changed, and its stack is empty
+abbrev pub handler_entry : List Ends → ℕ → ℕ → ℕ → Instance
+handler_entry cells line clock level =
     record {
       kind = Handler;
       pc = 26;
@@ -142,10 +143,10 @@ rest_instance_at rest line clock level =
       pairs = whole_pair ∷ whole_pair ∷ whole_pair ∷ [];
       flags = replicate 7 OldBit;
       stack = record { items = [] };
-      cells = record { items = rest.cells.items };
+      cells = record { items = cells };
     }
 
 -- the handler's first state after a rest, where its interrupt is taken at clock c of the next line
 abbrev pub rest_instance : Cert → Rest → ℕ → Instance
 rest_instance cert rest c =
-    rest_instance_at rest (next_line cert.schedule rest.line) (c + response_clocks cert.head.irq) (level_or_zero cert.schedule (next_line cert.schedule rest.line) (c + response_clocks cert.head.irq))
+    handler_entry rest.cells.items (next_line cert.schedule rest.line) (c + response_clocks cert.head.irq) (level_or_zero cert.schedule (next_line cert.schedule rest.line) (c + response_clocks cert.head.irq))

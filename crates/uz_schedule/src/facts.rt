@@ -34,7 +34,7 @@ pub enum PairFact {
 }
 
 /// What is known of a flag of the status register.
-#[derive(Clone, Copy, Debug, PartialEq, Eq)]
+#[derive(Clone, Copy, Debug, PartialEq, Eq, Hash)]
 pub enum Bit {
     Zero,
     One,
@@ -45,7 +45,7 @@ pub enum Bit {
 }
 
 /// What is known of a byte in one instance.
-#[derive(Clone, Copy, Debug, PartialEq, Eq)]
+#[derive(Clone, Copy, Debug, PartialEq, Eq, Hash)]
 pub enum Val {
     /// A byte in a range.
     Range(Span),

@@ -3,7 +3,7 @@
 
 ghost use Rattle.std.specs.Prelude.{◌≡◌, ◌<◌, ◌≤◌, ◌+◌, ◌*◌, ◌%◌, ◌+ℤ◌, ◌*ℤ◌, pos, length, map};
 ghost use Rattle.uz_schedule.specs.Ends.{hull as hull_of};
-ghost use Rattle.uz_schedule.specs.Instances.{val_of as val_of_fact, span_of_val, cell_span, hull_at, pair_of, pairs_of, is_in_box as box_holds, clock_below as below, clock_at as clock_at_count, instance_of as instance_of_point, instance_in, instance_at, level_or_zero as level_of_place, entry_instance, entry_instance_at, old_from, rest_instance, rest_instance_at};
+ghost use Rattle.uz_schedule.specs.Instances.{val_of as val_of_fact, span_of_val, cell_span, hull_at, pair_of, pairs_of, is_in_box as box_holds, clock_below as below, clock_at as clock_at_count, instance_of as instance_of_point, instance_in, instance_at, level_or_zero as level_of_place, entry_instance, entry_instance_at, old_from, rest_instance, handler_entry as entry_of_handler};
 ghost use Rattle.uz_schedule.specs.declared.facts.Val.TheVariants.{Range};
 ghost use Rattle.uz_schedule.specs.Limits.{ScheduleFits};
 ghost use Rattle.uz_schedule.specs.WellFormed.{WellFormed};
@@ -267,9 +267,10 @@ fn instance_of_entry(entry: &Entry, level: u8) -> Instance
     }
 }
 
-/// The instance of a handler's first state, with its place and level.
-fn instance_of_rest(rest: &Rest, line: u16, clock: u16, level: u8) -> Instance
-    ensures { result ≡ rest_instance_at rest.now line clock level }
+/// The handler's first state, where its interrupt is taken at this clock of a line and these ranges hold of its cells: no
+/// register and flag has changed, and its stack is empty. Takes no memory.
+pub fn handler_entry(cells: &ArrayVec<Span, 16>, line: u16, clock: u16, level: u8) -> Instance
+    ensures { result ≡ entry_of_handler cells.now.items line clock level }
 {
     Instance {
         kind: Kind::Handler,
@@ -282,7 +283,7 @@ fn instance_of_rest(rest: &Rest, line: u16, clock: u16, level: u8) -> Instance
         pairs: [Wide::between(0, 65535); 3],
         flags: [Bit::Old; 7],
         stack: ArrayVec::new(),
-        cells: spans_in(&rest.cells),
+        cells: spans_in(cells),
     }
 }
 
@@ -319,8 +320,8 @@ impl Cert {
     {
         let line = self.schedule.order().next(rest.line);
         let clock = u16::from(c) + self.head.irq.clocks();
-        instance_of_rest(
-            rest,
+        handler_entry(
+            &rest.cells,
             line,
             clock,
             level_or_zero(&self.schedule, line, clock),

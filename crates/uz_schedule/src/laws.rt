@@ -1,6 +1,6 @@
 //! Laws of the definitions of a schedule. Each function does nothing: its clauses are the law.
 
-ghost use Rattle.std.specs.Prelude.{◌≡◌, ℕ, suc, ◌+◌, ◌%◌, ◌<◌, ◌≤◌, length, Some};
+ghost use Rattle.std.specs.Prelude.{◌≡◌, true, ℕ, suc, ◌+◌, ◌%◌, ◌<◌, ◌≤◌, length, Some};
 ghost use Rattle.uz_schedule.specs.declared.lines.Schedule.{Schedule};
 ghost use Rattle.uz_schedule.specs.Schedule.{length_of, start_of, frame_of, next_line, At, event_at, event_in_kind, events_of, sync_at, or_else, level_at};
 ghost use Rattle.uz_schedule.specs.Limits.{ScheduleFits};
@@ -10,6 +10,8 @@ ghost use Rattle.uz_schedule.specs.WellFormed.{WellFormed};
 ghost use Rattle.uz_schedule.specs.Instances.{instance_at};
 ghost use Rattle.uz_schedule.specs.InstanceLimits.{InstanceFits};
 ghost use Rattle.uz_schedule.specs.Lines.{Lines, lines_of, uniform, line_after, clock_after};
+
+use crate::states::Instance;
 
 /// The event at clock k of line l is that of the line's kind at this clock.
 #[tactic(auto, using(crate::proofs::Starts::event_of_place))]
@@ -54,4 +56,9 @@ pub fn level_exists()
 /// more slots than its kind may push, a range for each cell that its kind tracks, and interrupted values in handlers alone.
 pub fn instance_is_within_limits()
     ensures { (cert : Cert) (id l c : ℕ) (inst : Instance) → WellFormed cert → instance_at cert id l c ≡ Some inst → InstanceFits cert inst }
+{}
+
+/// Instances that compare equal are one. Does nothing.
+pub fn equal_instances_are_one()
+    ensures { (a b : Instance) → ⟦<Instance as PartialEq>⟧.eq a b ≡ true → a ≡ b }
 {}

@@ -25,10 +25,11 @@ pub use certificate::Cert;
 pub use certificate_limits::well_formed;
 pub use facts::{Bit, Fact, PairFact, Val};
 pub use header::{Cell, Head};
+pub use instances::handler_entry;
 pub use kinds::{Kind, Owner, Response};
 pub use laws::{
-    event_by_line, instance_is_within_limits, level_exists, level_goes_on, places_go_on,
-    positions_go_round,
+    equal_instances_are_one, event_by_line, instance_is_within_limits, level_exists, level_goes_on,
+    places_go_on, positions_go_round,
 };
 pub use limits::{CLOCK_LIMIT, MOST_EVENTS, MOST_LINES, clocks_rise, rises, schedule_fits};
 pub use line_events::LineEvents;

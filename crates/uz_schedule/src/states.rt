@@ -77,7 +77,7 @@ pub struct Point {
 }
 
 /// A point at one line and one count of its box.
-#[derive(Debug, Drop)]
+#[derive(Debug, Drop, PartialEq, Eq, Hash)]
 pub struct Instance {
     /// What it belongs to.
     pub kind: Kind,

@@ -1,0 +1,109 @@
+-- Values that compare equal by the derived `==` are one.
+use Rattle.std.proofs.Common.{◌≡◌, true, false, Bool, refl, sym, ap, subst, ◌&&◌, List, [], ◌∷◌, nat_eq, true≢false, rules}
+use Rattle.std.proofs.lemmas.Bool.{eqb-true, eq-eqb}
+use Rattle.std.specs.Bool.{beq}
+use lib.Pointwise.{pointwise}
+use Rattle.uz_schedule.specs.declared.kinds.Kind.{Kind}
+use Rattle.uz_schedule.specs.declared.facts.Bit.{Bit}
+use Rattle.uz_schedule.specs.declared.facts.Val.{Val}
+use Rattle.uz_schedule.specs.declared.facts.Val.TheVariants.{Range, Old, OldFlags}
+use Rattle.uz_schedule.specs.Ends.{Ends}
+use Rattle.uz_schedule.specs.declared.ranges.Span.{Span}
+use Rattle.uz_schedule.specs.declared.ranges.Wide.{Wide}
+use Rattle.uz_schedule.specs.declared.states.Instance.{Instance}
+use Rattle.uz_schedule.specs.contracts.kinds.Kind.{the_type as kind_type}
+use Rattle.uz_schedule.specs.contracts.facts.Bit.{the_type as bit_type}
+use Rattle.uz_schedule.specs.contracts.facts.ValPartialEq as vals
+use Rattle.uz_schedule.specs.contracts.facts.BitPartialEq as bits
+use Rattle.uz_schedule.specs.contracts.kinds.KindPartialEq as kinds
+use Rattle.uz_schedule.specs.contracts.ranges.SpanPartialEq as spans
+use Rattle.uz_schedule.specs.contracts.ranges.WidePartialEq as wides
+use Rattle.uz_schedule.specs.contracts.states.InstancePartialEq as instances
+use denote.Enum.Bare.{same_true}
+
+pub left : (a b : Bool) → (a && b) ≡ true → a ≡ true
+left true b h = refl
+left false b h = h
+
+pub right : (a b : Bool) → (a && b) ≡ true → b ≡ true
+right true b h = h
+right false b h = absurd (true≢false (sym h))
+
+pub beq_true : (a b : Bool) → beq a b ≡ true → a ≡ b
+beq_true true true h = refl
+beq_true false false h = refl
+beq_true true false h = absurd (true≢false (sym h))
+beq_true false true h = absurd (true≢false (sym h))
+
+module _ {K : Type 0} (E : K → K → Bool) (exact : (x y : K) → E x y ≡ true → x ≡ y) where
+  pub exact_list : (xs ys : List K) → pointwise E xs ys ≡ true → xs ≡ ys
+  exact_list [] [] h = refl
+  exact_list [] (y ∷ ys) h = absurd (true≢false (sym h))
+  exact_list (x ∷ xs) [] h = absurd (true≢false (sym h))
+  exact_list (x ∷ xs) (y ∷ ys) h = λ i. exact x y (left (E x y) (pointwise E xs ys) h) i ∷ exact_list xs ys (right (E x y) (pointwise E xs ys) h) i
+
+pub exact_ends : (a b : Ends) → (nat_eq a.lo b.lo && nat_eq a.hi b.hi) ≡ true → a ≡ b
+exact_ends a b h =
+    let lo : a.lo ≡ b.lo = eqb-true a.lo b.lo (left (nat_eq a.lo b.lo) (nat_eq a.hi b.hi) h) in
+    let hi : a.hi ≡ b.hi = eqb-true a.hi b.hi (right (nat_eq a.lo b.lo) (nat_eq a.hi b.hi) h) in
+    λ i. record { lo = lo i; hi = hi i }
+
+pub exact_span : (a b : Span) → (spans.TheImpl.eq-value).it a b ≡ true → a ≡ b
+exact_span a b h = exact_ends a b h
+
+pub exact_wide : (a b : Wide) → (wides.TheImpl.eq-value).it a b ≡ true → a ≡ b
+exact_wide a b h = exact_ends a b h
+
+pub exact_bit : (a b : Bit) → (bits.TheImpl.eq-value).it a b ≡ true → a ≡ b
+exact_bit a b h = same_true bit_type (search rules) a b h
+
+pub exact_kind : (a b : Kind) → (kinds.TheImpl.eq-value).it a b ≡ true → a ≡ b
+exact_kind a b h = same_true kind_type (search rules) a b h
+
+pub exact_val : (a b : Val) → (vals.TheImpl.eq-value).it a b ≡ true → a ≡ b
+exact_val (Range a) (Range b) h = ap Range (exact_span a b h)
+exact_val (Old a) (Old b) h = ap Old (eqb-true a b h)
+exact_val OldFlags OldFlags h = refl
+exact_val (Range a) (Old b) h = absurd (true≢false (sym h))
+exact_val (Range a) OldFlags h = absurd (true≢false (sym h))
+exact_val (Old a) (Range b) h = absurd (true≢false (sym h))
+exact_val (Old a) OldFlags h = absurd (true≢false (sym h))
+exact_val OldFlags (Range b) h = absurd (true≢false (sym h))
+exact_val OldFlags (Old b) h = absurd (true≢false (sym h))
+
+pub exact_instance : (a b : Instance) → (instances.TheImpl.ghosts).eq a b ≡ true → a ≡ b
+exact_instance a b h0 =
+    let kind = exact_kind a.kind b.kind (left _ _ h0) in
+    let h1 = right _ _ h0 in
+    let pc = eqb-true a.pc b.pc (left _ _ h1) in
+    let h2 = right _ _ h1 in
+    let line = eqb-true a.line b.line (left _ _ h2) in
+    let h3 = right _ _ h2 in
+    let clock = eqb-true a.clock b.clock (left _ _ h3) in
+    let h4 = right _ _ h3 in
+    let level = eqb-true a.level b.level (left _ _ h4) in
+    let h5 = right _ _ h4 in
+    let pending = beq_true a.pending b.pending (left _ _ h5) in
+    let h6 = right _ _ h5 in
+    let regs = exact_list _ exact_val a.regs b.regs (left _ _ h6) in
+    let h7 = right _ _ h6 in
+    let pairs = exact_list _ exact_wide a.pairs b.pairs (left _ _ h7) in
+    let h8 = right _ _ h7 in
+    let flags = exact_list _ exact_bit a.flags b.flags (left _ _ h8) in
+    let h9 = right _ _ h8 in
+    let stack = exact_list _ exact_val a.stack.items b.stack.items (left _ _ h9) in
+    let h10 = right _ _ h9 in
+    let cells = exact_list _ exact_span a.cells.items b.cells.items h10 in
+    λ i. record {
+      kind = kind i;
+      pc = pc i;
+      line = line i;
+      clock = clock i;
+      level = level i;
+      pending = pending i;
+      regs = regs i;
+      pairs = pairs i;
+      flags = flags i;
+      stack = record { items = stack i };
+      cells = record { items = cells i };
+    }
