@@ -1,0 +1,7 @@
+pub mod LineEvents
+pub mod StepMoves
+pub mod InstanceMoves
+pub mod LinesFold
+pub mod Spans
+pub mod NotedLines
+pub mod Covered
