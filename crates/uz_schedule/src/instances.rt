@@ -242,8 +242,9 @@ fn level_or_zero(schedule: &Schedule, line: u16, clock: u16) -> u8
     }
 }
 
-/// The instance of an entry, with its level.
-fn instance_of_entry(entry: &Entry, level: u8) -> Instance
+/// What is known of the machine where runs enter, at this level of sync: what the entry says, and for each pair the hull of
+/// its bytes. Takes no memory.
+pub fn entry_state(entry: &Entry, level: u8) -> Instance
     ensures { result ≡ entry_instance_at entry.now level }
 {
     let regs = vals_of(&entry.regs);
@@ -305,7 +306,7 @@ impl Cert {
         requires { ScheduleFits self.now.schedule }
         ensures { result ≡ entry_instance self.now }
     {
-        instance_of_entry(
+        entry_state(
             &self.entry,
             level_or_zero(&self.schedule, self.entry.line, self.entry.clock),
         )

@@ -25,7 +25,7 @@ pub use certificate::Cert;
 pub use certificate_limits::well_formed;
 pub use facts::{Bit, Fact, PairFact, Val};
 pub use header::{Cell, Head};
-pub use instances::handler_entry;
+pub use instances::{entry_state, handler_entry};
 pub use kinds::{Kind, Owner, Response};
 pub use laws::{
     equal_instances_are_one, event_by_line, instance_is_within_limits, level_exists, level_goes_on,
