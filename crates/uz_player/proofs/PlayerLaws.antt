@@ -2,11 +2,12 @@
 use Rattle.std.proofs.Common.{◌≡◌, ℕ, ◌+◌, ◌*◌, ◌^◌, ◌<◌, ◌≤◌, List, [], ◌∷◌, ◌++◌, length, drop, Option, Some, None, refl, sym, ap, subst, ◌∙◌, append_assoc, append-nil, length-append, arith}
 use Rattle.std.specs.Prelude.{IsSome}
 use Rattle.std.proofs.lemmas.Bool.{false≢true}
+use Rattle.std.proofs.lemmas.List.{reverse-append}
 use Rattle.uz_hex.specs.Cells.{word_of}
 use Rattle.uz_machine.specs.declared.Edge.{Edge}
 use Rattle.uz_machine.specs.PadLine.{PadHistory}
 use Rattle.uz_machine.specs.Turn.{State}
-use Rattle.uz_machine.specs.Run.{IsClockRun, IsStoppedRun}
+use Rattle.uz_machine.specs.Run.{IsClockRun, IsRunPart, IsStoppedRun}
 use Rattle.uz_core.specs.declared.step.Why.{Why}
 use Rattle.uz_schedule.specs.WellFormed.{WellFormed}
 use Rattle.uz_schedule.specs.Schedule.{frame_of}
@@ -15,6 +16,7 @@ use Rattle.uz_console.specs.Consoles.{StandsFor, clock_of}
 use Rattle.uz_console.specs.Runs.{AreTimed, RunsTo}
 use Rattle.uz_console.specs.Turns.{Halts}
 use Rattle.uz_console.specs.Approaches.{EntersFirst, NeverEnters, RunsUnentered}
+use Rattle.uz_scan.specs.Pictures.{last_row, newest_first, record_of, records, shown_by}
 use Rattle.uz_scan.specs.Scanning as scanning
 use Rattle.uz_player.specs.declared.recorder.Record.{Record}
 use Rattle.uz_player.specs.declared.recorder.Recorder.{Recorder}
@@ -23,7 +25,7 @@ use Rattle.uz_player.specs.declared.player.Played.{Played}
 use Rattle.uz_player.specs.declared.player.Played.TheVariants.{Row, End, Over, Stopped}
 use Rattle.uz_player.specs.Counting.{EntersAt, IsEntered, IsInLine}
 use Rattle.uz_player.specs.Seen.{HasSeen, Takes, record_bytes}
-use Rattle.uz_player.specs.Playing.{GoesOn, IsNext, IsPlayed, Plays, left_of}
+use Rattle.uz_player.specs.Playing.{GoesOn, IsEnding, IsNearer, IsNext, IsPlayed, Plays, StartsRecords, ahead_of, left_of}
 
 -- a console that has made no turn
 unentered_at_first : (player : Player) (start : State PadHistory) → StandsFor player.console start → RunsUnentered player.cert player.limit start [] player.console
@@ -324,3 +326,48 @@ next_from a b c (Row bytes) f g = λ start handed plays. (let r = f start handed
 next_from a b c (End bytes) f g = λ start handed plays. (let r = f start handed plays in g r.1 start handed r.0)
 next_from a b c Over f g = λ start handed plays. (let r = f start handed plays in g r.1 start handed r.0)
 next_from a b c (Stopped pc word) f g = λ start handed plays. (let r = f start handed plays in g r.1 start handed r.0)
+
+-- what is ahead
+
+pub turn_is_nearer : (old new : Player) (more : List Edge) → left_of new ≡ more → length more ≤ 4 → new.limit ≡ old.limit → clock_of old.console < clock_of new.console → clock_of old.console < old.limit → ahead_of new ≤ ahead_of old
+turn_is_nearer old new more left few limit on within =
+    let size : length (left_of new) ≡ length more = ap (λ (es : List Edge). length es) left in
+    omega arith
+
+pub console_is_nearer : (old new : Player) → left_of new ≡ left_of old → new.limit ≡ old.limit → clock_of old.console ≤ clock_of new.console → ahead_of new ≤ ahead_of old
+console_is_nearer old new left limit on =
+    let size : length (left_of new) ≡ length (left_of old) = ap (λ (es : List Edge). length es) left in
+    omega arith
+
+pub ends_near : (old new : Player) (played : Played) → IsEnding played → IsNearer old new played
+ends_near old new (Row bytes) ends = absurd ends
+ends_near old new (End bytes) ends = absurd ends
+ends_near old new Over ends = ends
+ends_near old new (Stopped pc word) ends = ends
+
+-- what is handed out so far
+
+records_more : (later before : List Edge) → (more : List ℕ) × (records (later ++ before) ≡ records before ++ more)
+records_more [] before = ([], sym (append-nil (records before)))
+records_more (e ∷ later) before =
+    let h = records_more later before in
+    let piece = record_of (shown_by e (later ++ before)) (last_row (e ∷ later ++ before)) in
+    (h.0 ++ piece, ap (λ x. x ++ piece) h.1 ∙ append_assoc (records before) h.0 piece)
+
+part_of : (player : Player) (start : State PadHistory) (o : Option (ℕ × ℕ)) (edges : List Edge) → GoesOn player o start edges → (last : State PadHistory) × IsRunPart player.limit start edges last
+part_of player start None edges h = (h.last, h.part)
+part_of player start (Some at) edges h = ((h.0).0, (h.0).1)
+
+pub starts_records : (player : Player) (start : State PadHistory) (handed : List ℕ) → Plays player start handed → StartsRecords player.limit start handed
+starts_records player start handed plays =
+    let left = left_of player in
+    let all = plays.edges ++ left in
+    let part = part_of player start player.recorder.counts.entered all (plays.played).goes in
+    let more = records_more (newest_first left) (newest_first plays.edges) in
+    record {
+      edges = all;
+      last = part.0;
+      part = part.1;
+      more = more.0;
+      whole = ap records (reverse-append plays.edges left) ∙ (more.1 ∙ ap (λ x. x ++ more.0) (sym plays.records));
+    }

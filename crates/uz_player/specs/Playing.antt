@@ -1,10 +1,10 @@
 -- What a player stands for: the run of so many clocks from a state, of which some records are handed out.
-use Rattle.std.specs.Prelude.{◌≡◌, ℕ, ◌+◌, ◌-◌, ◌*◌, ◌≤◌, List, [], ◌++◌, drop, length, Option, Some, None}
+use Rattle.std.specs.Prelude.{◌≡◌, ℕ, ◌+◌, ◌-◌, ◌*◌, ◌<◌, ◌≤◌, List, [], ◌++◌, drop, length, Option, Some, None}
 use Rattle.uz_hex.specs.Cells.{word_of}
 use Rattle.uz_machine.specs.declared.Edge.{Edge}
 use Rattle.uz_machine.specs.PadLine.{PadHistory}
 use Rattle.uz_machine.specs.Turn.{State}
-use Rattle.uz_machine.specs.Run.{IsClockRun, IsStoppedRun}
+use Rattle.uz_machine.specs.Run.{IsClockRun, IsRunPart, IsStoppedRun}
 use Rattle.uz_schedule.specs.declared.certificate.Cert.{Cert}
 use Rattle.uz_core.specs.declared.step.Why.{Why}
 use Rattle.uz_console.specs.Consoles.{clock_of}
@@ -55,6 +55,14 @@ pub record Plays (player : Player) (start : State PadHistory) (handed : List ℕ
   pub played : HasPlayed player start edges
   pub records : handed ≡ records (newest_first edges)
 
+-- these are the first records of a part of the run from a state
+pub record StartsRecords (limit : ℕ) (start : State PadHistory) (handed : List ℕ) : Type 0 where
+  pub edges : List Edge
+  pub last : State PadHistory
+  pub part : IsRunPart limit start edges last
+  pub more : List ℕ
+  pub whole : records (newest_first edges) ≡ handed ++ more
+
 -- the whole run is played: all its records are handed out, and its numbers are counted
 pub record IsPlayed (player : Player) (start : State PadHistory) (handed : List ℕ) (edges : List Edge) : Type 0 where
   pub records : handed ≡ records (newest_first edges)
@@ -98,3 +106,26 @@ left_to_enter (Some at) = 0
 
 abbrev pub distance_of : Player → ℕ
 distance_of player = 2 * (player.limit - clock_of player.console) + left_to_enter player.recorder.counts.entered
+
+-- how much of the run is ahead: a turn, which has at most four edges, takes a clock and more, and each edge is taken once
+abbrev pub ahead_of : Player → ℕ
+ahead_of player = 5 * (player.limit - clock_of player.console) + length (left_of player)
+
+-- the run is at its end
+abbrev pub IsEnding : Played → Type 0
+IsEnding (Row bytes) = ⊥
+IsEnding (End bytes) = ⊥
+IsEnding Over = Unit {0}
+IsEnding (Stopped pc word) = Unit {0}
+
+-- Row, End: there is less ahead than before, so that records come to an end
+abbrev pub IsNearer : Player → Player → Played → Type 0
+IsNearer old new (Row bytes) = ahead_of new < ahead_of old
+IsNearer old new (End bytes) = ahead_of new < ahead_of old
+IsNearer old new Over = Unit {0}
+IsNearer old new (Stopped pc word) = Unit {0}
+
+-- Some: an edge was taken. None: there is no more ahead than before
+abbrev pub IsNearerBy : Player → Player → Option Record → Type 0
+IsNearerBy old new None = (ahead_of new ≤ ahead_of old) × (left_of new ≡ [])
+IsNearerBy old new (Some given) = ahead_of new < ahead_of old

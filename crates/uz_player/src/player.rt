@@ -1,6 +1,6 @@
 //! The run of so many clocks, record by record.
 
-ghost use Rattle.std.specs.Prelude.{◌≡◌, ◌≤◌, ◌<◌, [], None, IfNone, IsSome};
+ghost use Rattle.std.specs.Prelude.{◌≡◌, ◌≤◌, ◌<◌, [], List, ℕ, None, IfNone, IfSome, IsSome};
 ghost use Rattle.uz_console.specs.Consoles.{StandsFor, clock_of as console_clock};
 ghost use Rattle.uz_machine.specs.PadLine.{PadHistory};
 ghost use Rattle.uz_machine.specs.Turn.{State};
@@ -54,7 +54,7 @@ fn line_of(cert: &Cert, position: u32) -> u16
 }
 
 impl Player {
-    ghost use Rattle.uz_player.specs.Playing.{GoesFurther, HasTurn, IsNext, IsRecordOf, Plays, cert_of, counts_of, distance_of, limit_of};
+    ghost use Rattle.uz_player.specs.Playing.{GoesFurther, HasTurn, IsEnding, IsNearer, IsNearerBy, IsNext, IsRecordOf, Plays, StartsRecords, ahead_of, cert_of, counts_of, distance_of, left_of, limit_of};
 
     /// The player of the run of `clocks` clocks from the console's state, with no record handed out. The console's clock
     /// is 0.
@@ -80,6 +80,7 @@ impl Player {
     /// Takes the edges that are left, up to the next record.
     fn next_record(&mut self) -> Option<Record>
         ensures record { IsRecordOf self.old self.new result }
+        ensures nearer { IsNearerBy self.old self.new result }
         ensures clock { console_clock self.new.console ≡ console_clock self.old.console }
         ensures same { (self.new.limit ≡ self.old.limit) × (self.new.cert ≡ self.old.cert) × (self.new.recorder.counts.entered ≡ self.old.recorder.counts.entered) }
     {
@@ -97,6 +98,8 @@ impl Player {
     fn go_on(&mut self) -> Option<Played>
         ensures further { GoesFurther self.old self.new result }
         ensures time { IfNone result (distance_of self.new < distance_of self.old) }
+        ensures end { IfSome result IsEnding }
+        ensures nearer { left_of self.old ≡ [] → IfNone result (ahead_of self.new ≤ ahead_of self.old) }
         ensures same { (self.new.limit ≡ self.old.limit) × (self.new.cert ≡ self.old.cert) }
     {
         match self.recorder.counts.entered {
@@ -118,6 +121,8 @@ impl Player {
         requires { IsSome self.old.recorder.counts.entered }
         ensures further { GoesFurther self.old self.new result }
         ensures time { IfNone result (distance_of self.new < distance_of self.old) }
+        ensures end { IfSome result IsEnding }
+        ensures nearer { left_of self.old ≡ [] → IfNone result (ahead_of self.new ≤ ahead_of self.old) }
         ensures same { (self.new.limit ≡ self.old.limit) × (self.new.cert ≡ self.old.cert) }
     {
         match self.console.advance(self.limit) {
@@ -138,6 +143,8 @@ impl Player {
         requires { self.old.recorder.counts.entered ≡ None }
         ensures further { GoesFurther self.old self.new result }
         ensures time { IfNone result (distance_of self.new < distance_of self.old) }
+        ensures end { IfSome result IsEnding }
+        ensures nearer { left_of self.old ≡ [] → IfNone result (ahead_of self.new ≤ ahead_of self.old) }
         ensures same { (self.new.limit ≡ self.old.limit) × (self.new.cert ≡ self.old.cert) }
     {
         match self.console.approach(self.limit, &self.cert) {
@@ -161,6 +168,8 @@ impl Player {
     /// The next record of the run; and where all are handed out, how it ended, again and again.
     pub fn advance(&mut self) -> Played
         ensures next { IsNext self.old self.new result }
+        ensures part { (start : State PadHistory) (handed : List ℕ) → Plays self.new start handed → StartsRecords (limit_of self.new) start handed }
+        ensures nearer { IsNearer self.old self.new result }
         ensures same { (cert_of self.new ≡ cert_of self.old) × (limit_of self.new ≡ limit_of self.old) }
     {
         'turns: loop {

@@ -46,3 +46,8 @@ AppendsAll (Some old) (Some name) piece new = new ≡ Some (insert old name (byt
 -- the open file goes on by a prefix of the piece, and all others are as they were
 abbrev pub AppendsPrefix : Option FileMap → Option (List ℕ) → List ℕ → Option FileMap → Type 0
 AppendsPrefix old name piece new = (count : ℕ) × AppendsAll old name (take count piece) new
+
+-- the file has just these bytes, and all others are as they were
+abbrev pub WritesFile : Option FileMap → List ℕ → List ℕ → Option FileMap → Type 0
+WritesFile None name bytes new = new ≡ None
+WritesFile (Some old) name bytes new = new ≡ Some (insert old name bytes)

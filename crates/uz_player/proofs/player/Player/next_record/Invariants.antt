@@ -1,12 +1,13 @@
-use Rattle.std.proofs.Common.{◌≡◌, ◌-◌, length, List, ℕ}
+use Rattle.std.proofs.Common.{◌≡◌, ◌≤◌, ◌-◌, length, List, ℕ}
 use Rattle.uz_machine.specs.PadLine.{PadHistory}
 use Rattle.uz_machine.specs.Turn.{State}
-use Rattle.uz_player.specs.Playing.{Plays}
+use Rattle.uz_player.specs.Playing.{Plays, ahead_of}
 use Rattle.uz_player.proofs.player.Player.next_record.Given as goal
 
 abbrev pub invariant-loop-self : goal.invariant-loop-self
 invariant-loop-self l = record {
   plays : (start : State PadHistory) (handed : List ℕ) → Plays l.initial.self start handed → Plays l.self start handed;
+  nearer : ahead_of l.self ≤ ahead_of l.initial.self;
   console : l.self.console ≡ l.initial.self.console;
   limit : l.self.limit ≡ l.initial.self.limit;
   cert : l.self.cert ≡ l.initial.self.cert;
