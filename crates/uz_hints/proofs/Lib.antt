@@ -1,1 +1,4 @@
 pub mod HintLemmas
+pub mod CellLemmas
+pub mod HeadLemmas
+pub mod OneRefusal

@@ -61,6 +61,7 @@ OffStack at (Some s) = (at < s.lo) ⊎ (s.hi < at)
 -- a cell of main or of the handler, whose first value lies in its range
 pub record CellRangeFine (owner : Kind) (lo hi first : ℕ) : Type 0 where
   pub order : lo ≤ hi
+  pub byte : hi ≤ 255
   pub owned : owner ≢ Alone
   pub within : owner ≡ Handler → (lo ≤ first) × (first ≤ hi)
 

@@ -1,9 +1,15 @@
 -- What hints say that aren't at fault.
-use Rattle.std.specs.Prelude.{◌≡◌, ℕ, zero, suc, List, [], ◌∷◌, map, length, Option, Some, None}
+use Rattle.std.specs.Prelude.{◌≡◌, ◌≢◌, ◌+◌, ◌<◌, ◌≤◌, true, ℕ, zero, suc, List, [], ◌∷◌, map, length, Option, Some, None}
 use Rattle.std.specs.Ordering.{nat_cmp}
 use Rattle.std.specs.FinMap.{FinMap}
 use Rattle.avr_asm.specs.declared.output.Hint.{Hint}
 use Rattle.uz_schedule.specs.Ends.{Ends, whole_byte}
+use Rattle.uz_schedule.specs.Limits.{clock_limit, most_lines}
+use Rattle.uz_schedule.specs.Schedule.{response_clocks}
+use Rattle.uz_schedule.specs.Tracked.{tracked}
+use Rattle.uz_schedule.specs.WellFormed.{HeadFits, SpansFit}
+use Rattle.uz_schedule.specs.declared.kinds.Kind.TheVariants.{Handler}
+use Rattle.uz_transfer.specs.Kinds.{is_main}
 use Rattle.uz_schedule.specs.declared.kinds.Response.{Response}
 use Rattle.uz_schedule.specs.declared.header.Head.{Head}
 use Rattle.uz_hints.specs.declared.words.PlaceRange.{PlaceRange}
@@ -39,3 +45,15 @@ pub record IsReading (image : FinMap nat_cmp ℕ) (irq : Response) (hints : List
   pub start : first_start hints ≡ Some r.start
   pub registers : r.registers ≡ start_registers hints r.start.pc
   pub firsts : r.firsts.items ≡ first_values (cells_of hints)
+
+-- within the limits of a certificate's text; main is entered only where each entry of the handler comes before the fall
+pub record ReadingFits (r : Reading) : Type 0 where
+  pub head : HeadFits r.head
+  pub some : 1 ≤ r.size.lines
+  pub few : r.size.lines ≤ most_lines
+  pub fall_some : 1 ≤ r.size.fall
+  pub fall_in_line : r.size.fall < clock_limit
+  pub above : is_main r.start.kind ≡ true → response_clocks r.head.irq + 3 < r.size.fall
+  pub enters : r.start.kind ≢ Handler
+  pub pc : r.start.pc < 32768
+  pub firsts : SpansFit (tracked r.head Handler) r.firsts.items

@@ -96,7 +96,8 @@ pub(crate) fn cells_of(hints: &[Hint]) -> ArrayVec<Tracked, 16>
 /// The cells without their first values.
 pub(crate) fn head_cells(tracked: &[Tracked]) -> ArrayVec<Cell, 16>
     requires { length tracked.now ≤ 16 }
-    ensures { result.items ≡ map (λ t. t.cell) tracked.now }
+    ensures cells { result.items ≡ map (λ t. t.cell) tracked.now }
+    ensures few { length result.items ≤ 16 }
 {
     let mut cells = ArrayVec::new();
     for t in tracked {

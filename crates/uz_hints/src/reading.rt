@@ -3,7 +3,7 @@
 ghost use Rattle.std.specs.Prelude.{◌≡◌, ◌<◌, ◌≤◌, ◌^◌, ℕ, List, IfOk, IfErr, IfSome, Some, length};
 ghost use Rattle.uz_hints.specs.Words.{first_fact as fact_in, first_stack as first_stack_in};
 ghost use Rattle.uz_hints.specs.Faults.{FineBefore, HintRefusal, FactsFine, CellsFine};
-ghost use Rattle.uz_hints.specs.Reading.{byte_range as range_of, start_registers as registers_at, IsHeader, IsReading};
+ghost use Rattle.uz_hints.specs.Reading.{byte_range as range_of, start_registers as registers_at, IsHeader, IsReading, ReadingFits};
 ghost use Rattle.uz_hints.specs.Cells.{cells_of as cells_of_hints, first_values as values_of};
 
 use crate::cells::{cells_of, first_values, head_cells};
@@ -91,6 +91,7 @@ fn read_fine(
     requires facts { FactsFine hints.now }
     requires stack { first_stack_in hints.now ≡ Some stack }
     ensures head { IsHeader irq hints.now result.head }
+    ensures few { length result.head.cells.items ≤ 16 }
     ensures size { result.size ≡ size }
     ensures start { result.start ≡ start }
     ensures registers { result.registers ≡ registers_at hints.now start.pc }
@@ -106,12 +107,12 @@ fn read_fine(
     }
 }
 
-/// Reads hints for the image that they stand beside. Where one of them is at fault the error is the index of the first such, counted
-/// from 0; where none is, but start, lines or stack are missing, it is the number of hints. Takes no memory.
+/// Reads hints: what they say, or where they are refused.
 #[tactic(auto, using(crate::proofs::HintLemmas::cells_fine, crate::proofs::HintLemmas::facts_fine))]
-pub fn read_hints(image: &Image, irq: Response, hints: &[Hint]) -> Result<Reading, u32>
+fn read(image: &Image, irq: Response, hints: &[Hint]) -> Result<Reading, u32>
     requires { length hints.now < 2 ^ 32 }
     ensures read { IfOk result (IsReading image.now irq hints.now) }
+    ensures limits { IfOk result ReadingFits }
     ensures refused { IfErr result (HintRefusal image.now irq hints.now) }
 {
     if let Some(index) = first_fault(image, irq, hints) {
@@ -121,4 +122,17 @@ pub fn read_hints(image: &Image, irq: Response, hints: &[Hint]) -> Result<Readin
         (Some(start), Some(size), Some(stack)) => Ok(read_fine(irq, hints, size, start, stack)),
         _ => Err(hints.len() as u32),
     }
+}
+
+/// Reads hints for the image that they stand beside. Where one of them is at fault the error is the index of the first such, counted
+/// from 0; where none is, but start, lines or stack are missing, it is the number of hints. Takes no memory.
+#[tactic(auto, using(crate::proofs::OneRefusal::exact_answer))]
+pub fn read_hints(image: &Image, irq: Response, hints: &[Hint]) -> Result<Reading, u32>
+    requires { length hints.now < 2 ^ 32 }
+    ensures read { IfOk result (IsReading image.now irq hints.now) }
+    ensures limits { IfOk result ReadingFits }
+    ensures refused { IfErr result (HintRefusal image.now irq hints.now) }
+    ensures exact { (index : ℕ) → HintRefusal image.now irq hints.now index → result ≡ Err index }
+{
+    read(image, irq, hints)
 }

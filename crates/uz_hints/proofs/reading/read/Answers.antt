@@ -1,0 +1,16 @@
+use Rattle.std.proofs.Common.{rules}
+use Rattle.uz_hints.specs.Reading.{IsReading}
+use Rattle.uz_hints.proofs.HintLemmas.{cells_fine, facts_fine}
+use Rattle.uz_hints.proofs.HeadLemmas.{reading_fits}
+use Rattle.uz_hints.proofs.reading.read.Goals as goal
+
+pub read_fine-requires-clause-cells : goal.read_fine-requires-clause-cells
+read_fine-requires-clause-cells c = cells_fine c.args.image.now c.args.irq c.args.hints.now c.in_default.ensures
+
+pub read_fine-requires-clause-facts : goal.read_fine-requires-clause-facts
+read_fine-requires-clause-facts c = facts_fine c.args.image.now c.args.irq c.args.hints.now c.in_default.ensures
+
+pub returns-in-Some-Some-Some-clause-limits : goal.returns-in-Some-Some-Some-clause-limits
+returns-in-Some-Some-Some-clause-limits c =
+    let is : IsReading c.args.image.now c.args.irq c.args.hints.now c.read_fine.result = search rules in
+    reading_fits c.args.image.now c.args.irq c.args.hints.now c.read_fine.result is c.read_fine.ensures.few
