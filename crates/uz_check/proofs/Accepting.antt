@@ -1,5 +1,5 @@
 -- Nothing is refused exactly where the rules hold.
-use Rattle.std.proofs.Common.{◌≡◌, ◌⊎◌, inl, inr, All, Contains, ℕ, suc, ◌+◌, ◌-◌, ◌<◌, ◌≤◌, Bool, true, false, leb, List, length, get_or, refl, sym, ◌∙◌, ap, subst, arith}
+use Rattle.std.proofs.Common.{◌≡◌, inl, inr, Contains, ℕ, ◌+◌, ◌<◌, ◌≤◌, true, leb, List, length, refl, sym, ◌∙◌, ap, subst, arith}
 use Rattle.std.specs.Prelude.{Option, Some, None, IsNone, IfSome, ◌↔◌, ◌&&◌, slice_get}
 use Rattle.std.specs.Option.{option_map}
 use Rattle.std.specs.Ordering.{nat_cmp}
@@ -19,9 +19,9 @@ use Rattle.uz_soundness.specs.FrameRules.{RestPasses, EntryPasses}
 use Rattle.uz_rules.specs.Local.{IsLocal, OneLocal}
 use Rattle.uz_soundness.specs.Acceptance.{Accepts}
 use Rattle.uz_check.specs.declared.refusal.RefusedWhy.{RefusedWhy}
-use Rattle.uz_check.specs.declared.refusal.RefusedWhy.TheVariants.{Schedule, Rest as RestWhy, Entry as EntryWhy, Point as PointWhy}
+use Rattle.uz_check.specs.declared.refusal.RefusedWhy.TheVariants.{Schedule, Rest as RestWhy, Entry as EntryWhy}
 use Rattle.uz_check.specs.Unsteady.{first_unsteady}
-use Rattle.uz_check.specs.Refusal.{Why, FirstOf, InTurn, ScheduleRefusal, RestRefusal, RestsRefusal, EntryRefusal, InstanceRefusal, LineRefusal, PointRefusal, PointsRefusal, FirstRefusal, IsThere}
+use Rattle.uz_check.specs.Refusal.{Why, ScheduleRefusal, RestRefusal, RestsRefusal, EntryRefusal, InstanceRefusal, LineRefusal, PointRefusal, PointsRefusal, FirstRefusal, IsThere}
 use Rattle.uz_check.proofs.SteadyTold.{and_true, steady_tells, steady_told, unsteady_there}
 
 -- an element of a list has a place

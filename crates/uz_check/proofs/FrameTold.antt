@@ -1,12 +1,12 @@
 -- The tests of a rest and of the entry hold exactly where their rules do.
-use Rattle.std.proofs.Common.{◌≡◌, ◌⊎◌, inl, inr, All, Contains, ℕ, zero, suc, ◌+◌, ◌-◌, ◌<◌, ◌≤◌, Bool, true, false, cond, eqb, leb, ltb, List, [], ◌∷◌, length, get_or, refl, sym, ◌∙◌, ap, subst, arith}
-use Rattle.std.specs.Prelude.{Option, Some, None, ◌&&◌, ◌||◌, slice_get, slice_index}
-use Rattle.std.proofs.lemmas.Bool.{le-leb, leb-true, lt-leb}
+use Rattle.std.proofs.Common.{◌≡◌, inl, inr, All, Contains, ℕ, zero, suc, ◌+◌, ◌<◌, ◌≤◌, Bool, true, false, eqb, leb, ltb, List, [], ◌∷◌, length, refl, sym, ◌∙◌, ap, subst, arith}
+use Rattle.std.specs.Prelude.{Option, Some, None, ◌||◌, slice_index}
+use Rattle.std.proofs.lemmas.Bool.{le-leb, leb-true}
 use Rattle.std.proofs.lemmas.Bool.Decides.{nat_tests, eqb_tells, leb_tells}
-use Rattle.std.proofs.lemmas.Option.{slice_get-get_or, get_or_from_slice_get, slice_get_within}
+use Rattle.std.proofs.lemmas.Option.{get_or_from_slice_get, slice_get_within}
 use Rattle.std.proofs.lemmas.List.Elements.{All-get_or, All-tail}
 use Rattle.uz_schedule.proofs.Starts.{event_of_place}
-use Rattle.uz_schedule.specs.Limits.{EventFits, EventsFit, ScheduleFits}
+use Rattle.uz_schedule.specs.Limits.{EventsFit, ScheduleFits}
 use Rattle.uz_schedule.specs.Schedule.{length_of, start_of, next_line, event_in, event_in_kind, events_of, event_at, response_clocks}
 use Rattle.uz_schedule.specs.declared.kinds.Kind.{Kind}
 use Rattle.uz_schedule.specs.declared.kinds.Kind.TheVariants.{Main, Handler, Alone}

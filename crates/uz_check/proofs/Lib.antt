@@ -1,5 +1,7 @@
 mod SteadyTold
 mod Loops
+mod Looked
+mod Totals
 mod Accepting
 mod FrameTold
 pub mod OneVerdict

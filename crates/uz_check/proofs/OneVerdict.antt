@@ -1,10 +1,10 @@
 -- A pair has one first refusal, and none where the rules hold.
-use Rattle.std.proofs.Common.{◌≡◌, ◌⊎◌, inl, inr, Contains, ℕ, zero, suc, ◌+◌, ◌<◌, ◌≤◌, true, List, [], ◌∷◌, length, refl, sym, ◌∙◌, ap, subst, arith}
+use Rattle.std.proofs.Common.{◌≡◌, inl, inr, ℕ, zero, suc, ◌<◌, ◌≤◌, List, [], ◌∷◌, length, refl, sym, ◌∙◌, ap, subst, arith}
 use Rattle.std.specs.Prelude.{Option, Some, None, slice_get}
 use Rattle.std.specs.Option.{option_map}
 use Rattle.std.specs.Ordering.{nat_cmp}
 use Rattle.std.specs.FinMap.{FinMap}
-use Rattle.std.proofs.lemmas.Bool.Decides.{eqb_tells, leb_tells}
+use Rattle.std.proofs.lemmas.Bool.Decides.{leb_tells}
 use Rattle.uz_rules.proofs.LocalLaws.{one_local}
 use Rattle.uz_rules.specs.Local.{IsLocal, OneLocal}
 use Rattle.uz_schedule.specs.declared.lines.Schedule.{Schedule as Frame}
@@ -12,13 +12,12 @@ use Rattle.uz_schedule.specs.declared.states.Rest.{Rest}
 use Rattle.uz_schedule.specs.declared.states.Point.{Point}
 use Rattle.uz_schedule.specs.declared.certificate.Cert.{Cert}
 use Rattle.uz_soundness.specs.Acceptance.{Accepts}
-use Rattle.uz_soundness.specs.FrameRules.{RestPasses, EntryPasses}
+use Rattle.uz_soundness.specs.FrameRules.{RestPasses}
 use Rattle.uz_check.specs.declared.refusal.RefusedWhy.{RefusedWhy}
-use Rattle.uz_check.specs.declared.refusal.RefusedWhy.TheVariants.{Schedule, Rest as RestWhy, Entry as EntryWhy, Point as PointWhy}
-use Rattle.uz_check.specs.Unsteady.{first_unsteady}
+use Rattle.uz_check.specs.declared.refusal.RefusedWhy.TheVariants.{Schedule, Point as PointWhy}
 use Rattle.uz_check.specs.Refusal.{Why, FirstOf, InTurn, ScheduleRefusal, RestRefusal, RestsRefusal, EntryRefusal, InstanceRefusal, LineRefusal, PointRefusal, PointsRefusal, FirstRefusal}
 use Rattle.uz_check.proofs.SteadyTold.{steady_told}
-use Rattle.uz_check.proofs.Accepting.{InBox, box_told, in_list}
+use Rattle.uz_check.proofs.Accepting.{box_told, in_list}
 
 -- a relation has one answer
 abbrev One : (Why → Type 0) → Type 0

@@ -1,5 +1,5 @@
 -- The rules of a rest and of the entry as tests.
-use Rattle.std.specs.Prelude.{ℕ, ◌+◌, ◌&&◌, ◌||◌, not, nat_le, nat_lt, Bool, true, false, List, [], ◌∷◌, length, Option, Some, None}
+use Rattle.std.specs.Prelude.{ℕ, ◌+◌, ◌&&◌, ◌||◌, nat_le, nat_lt, Bool, true, false, List, [], ◌∷◌, length, Option, Some, None}
 use Rattle.uz_rules.specs.Successors.{lies_in_point}
 use Rattle.uz_schedule.specs.Instances.{entry_instance, rest_instance}
 use Rattle.uz_schedule.specs.Schedule.{start_of, next_line, events_of, event_at, response_clocks}

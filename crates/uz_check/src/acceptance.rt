@@ -1,9 +1,10 @@
 //! The whole check.
 
-ghost use Rattle.std.specs.Prelude.{◌≡◌, ◌<◌, ◌↔◌, ℕ, Some, None, IsNone, IfSome, IsOk, IfOk, IfErr};
+ghost use Rattle.std.specs.Prelude.{◌≡◌, ◌≤◌, ◌<◌, ◌+◌, ◌↔◌, ℕ, Some, None, IsNone, IfSome, IsOk, IfOk, IfErr};
 ghost use Rattle.uz_schedule.specs.WellFormed.{WellFormed};
 ghost use Rattle.uz_soundness.specs.Acceptance.{Accepts};
 ghost use Rattle.uz_soundness.specs.Certified.{Certified};
+ghost use Rattle.uz_fold.specs.Untold.{untold};
 ghost use Rattle.uz_check.specs.Refusal.{FirstRefusal, IsThere};
 
 use crate::entering::entry_refusal;
@@ -80,10 +81,11 @@ pub struct Refused {
     pub cert: Cert,
 }
 
-/// The first item that fails, in the order of `RefusedWhy`.
-fn first_refusal(image: &Image, cert: &Cert) -> Option<RefusedWhy>
+/// The first item that fails, in the order of `RefusedWhy`. Only points count as looked at.
+fn first_refusal(image: &Image, cert: &Cert, looked: &mut u64) -> Option<RefusedWhy>
     requires { WellFormed cert.now }
-    ensures { FirstRefusal image.now cert.now result }
+    ensures first { FirstRefusal image.now cert.now result }
+    ensures few { looked.new ≤ looked.old + untold cert.now }
 {
     if let Some(why) = schedule_refusal(&cert.schedule) {
         return Some(why);
@@ -94,7 +96,19 @@ fn first_refusal(image: &Image, cert: &Cert) -> Option<RefusedWhy>
     if let Some(why) = entry_refusal(cert) {
         return Some(why);
     }
-    points_refusal(image, cert)
+    points_refusal(image, cert, looked)
+}
+
+/// Why a pair is refused, and what was looked at.
+fn counted_verdict(image: &Image, cert: &Cert, looked: &mut u64) -> Option<RefusedWhy>
+    requires { WellFormed cert.now }
+    ensures exact { FirstRefusal image.now cert.now result }
+    ensures accepted { IsNone result ↔ Accepts image.now cert.now }
+    ensures there { IfSome result (IsThere cert.now) }
+    ensures few { looked.new ≤ looked.old + untold cert.now }
+{
+    one_local();
+    first_refusal(image, cert, looked)
 }
 
 /// Why a pair is refused: the first failing item, and None exactly where `check` accepts the pair. Its condition is that
@@ -105,12 +119,12 @@ pub fn verdict(image: &Image, cert: &Cert) -> Option<RefusedWhy>
     ensures accepted { IsNone result ↔ Accepts image.now cert.now }
     ensures there { IfSome result (IsThere cert.now) }
 {
-    one_local();
-    first_refusal(image, cert)
+    let mut looked = 0;
+    counted_verdict(image, cert, &mut looked)
 }
 
 /// Checks an image against a certificate, and hands both back either way. Takes no memory, and a time linear in the
-/// instances of the points and their successors.
+/// instances that are looked at with their successors, and in the lines of the boxes.
 ///
 /// Where it accepts them, then from every state that meets the certificate's entry condition, for every list of pad words and
 /// every number of clocks, the machine never stops, its sync edges, pixels, sounds and returns are exactly those of the
@@ -123,8 +137,23 @@ pub fn check(image: Image, cert: Cert) -> Result<Accepted, Refused>
     ensures refused { IfErr result (λ r. FirstRefusal image cert (Some r.why) × (r.image ≡ image) × (r.cert ≡ cert)) }
     ensures there { IfErr result (λ r. IsThere r.cert r.why) }
 {
+    let mut looked = 0;
+    check_counted(image, cert, &mut looked)
+}
+
+/// Checks an image against a certificate as `check` does, and counts the instances that the local rule is asked of. `looked` rises by at most
+/// the number of instances on lines of which the line before doesn't tell, and stays at the greatest u64. Takes no memory.
+pub fn check_counted(image: Image, cert: Cert, looked: &mut u64) -> Result<Accepted, Refused>
+    requires { WellFormed cert }
+    ensures certified { IfOk result (λ a. Certified a.image a.cert) }
+    ensures accepted { IsOk result ↔ Accepts image cert }
+    ensures same { IfOk result (λ a. (a.image ≡ image) × (a.cert ≡ cert)) }
+    ensures refused { IfErr result (λ r. FirstRefusal image cert (Some r.why) × (r.image ≡ image) × (r.cert ≡ cert)) }
+    ensures there { IfErr result (λ r. IsThere r.cert r.why) }
+    ensures few { looked.new ≤ looked.old + untold cert }
+{
     soundness();
-    match verdict(&image, &cert) {
+    match counted_verdict(&image, &cert, looked) {
         None => Ok(Accepted { image, cert }),
         Some(why) => Err(Refused { why, image, cert }),
     }

@@ -10,7 +10,7 @@ mod refusal;
 mod rests;
 mod unsteady;
 
-pub use acceptance::{Accepted, Refused, check, verdict};
+pub use acceptance::{Accepted, Refused, check, check_counted, verdict};
 pub use laws::one_verdict;
 pub use refusal::RefusedWhy;
 pub use uz_transfer::Fail;

@@ -1,68 +1,113 @@
-//! The local rule of all instances, in order.
+//! The local rule of all instances, in order. A line of which the line before tells isn't looked at.
 
-ghost use Rattle.std.specs.Prelude.{◌≡◌, ◌<◌, ◌≤◌, ◌-◌, ℕ, suc, length, slice_get, Some, All};
-ghost use Rattle.uz_schedule.specs.WellFormed.{WellFormed};
+ghost use Rattle.std.specs.Prelude.{◌≡◌, ◌<◌, ◌≤◌, ◌+◌, ◌-◌, suc, length, slice_get, Some};
+ghost use Rattle.uz_schedule.specs.WellFormed.{WellFormed, BoxFits};
+ghost use Rattle.uz_fold.specs.Untold.{AlikeTo, untold_of, untold};
 ghost use Rattle.uz_check.specs.Refusal.{InstanceRefusal, LineRefusal, PointRefusal, PointsRefusal};
 
 use crate::refusal::RefusedWhy;
+use uz_fold::{all_lines_alike, lines_fold, next_untold, reach_of};
 use uz_hex::Image;
 use uz_rules::local;
 use uz_schedule::{Cert, Point};
 
-/// Why an instance is refused.
+/// Why an instance is refused. It is looked at once.
 #[tactic(auto, unfolding(crate::specs::Refusal::InstanceRefusal))]
-fn instance_refusal(image: &Image, cert: &Cert, id: u32, l: u16, c: u8) -> Option<RefusedWhy>
+fn instance_refusal(
+    image: &Image,
+    cert: &Cert,
+    id: u32,
+    l: u16,
+    c: u8,
+    looked: &mut u64,
+) -> Option<RefusedWhy>
     requires fits { WellFormed cert.now }
     requires point { id < length cert.now.points }
-    ensures { InstanceRefusal image.now cert.now id l c result }
+    ensures why { InstanceRefusal image.now cert.now id l c result }
+    ensures one { looked.new ≤ looked.old + 1 }
 {
-    match local(image, cert, id, l, c) {
+    match local(image, cert, id, l, c, looked) {
         Ok(()) => None,
         Err(why) => Some(RefusedWhy::Point { id, l, c, why }),
     }
 }
 
-/// The first refusal among a point's instances on a line.
+/// The first refusal among a point's instances on a line. Each is looked at once.
 #[tactic(auto, unfolding(crate::specs::Refusal::LineRefusal))]
-fn line_refusal(image: &Image, cert: &Cert, id: u32, point: &Point, l: u16) -> Option<RefusedWhy>
+fn line_refusal(
+    image: &Image,
+    cert: &Cert,
+    id: u32,
+    point: &Point,
+    l: u16,
+    looked: &mut u64,
+) -> Option<RefusedWhy>
     requires fits { WellFormed cert.now }
     requires point { id < length cert.now.points }
     requires counts { point.now.c1 ≤ 255 }
-    ensures { LineRefusal image.now cert.now id point.now l result }
+    requires order { point.now.c0 ≤ point.now.c1 }
+    ensures first { LineRefusal image.now cert.now id point.now l result }
+    ensures few { looked.new ≤ looked.old + (suc point.now.c1 - point.now.c0) }
 {
     for c in u16::from(point.c0)..u16::from(point.c1) + 1 {
-        if let Some(why) = instance_refusal(image, cert, id, l, c as u8) {
+        if let Some(why) = instance_refusal(image, cert, id, l, c as u8, looked) {
             return Some(why);
         }
     }
     None
 }
 
-/// The first refusal among a point's instances.
+/// The first refusal among a point's instances. Those on lines of which the line before tells aren't looked at.
 #[tactic(auto, unfolding(crate::specs::Refusal::PointRefusal))]
-fn point_refusal(image: &Image, cert: &Cert, id: u32, point: &Point) -> Option<RefusedWhy>
+fn point_refusal(
+    image: &Image,
+    cert: &Cert,
+    lines: &[bool; 525],
+    id: u32,
+    point: &Point,
+    looked: &mut u64,
+) -> Option<RefusedWhy>
     requires fits { WellFormed cert.now }
-    requires point { id < length cert.now.points }
-    requires counts { point.now.c1 ≤ 255 }
-    requires lines { point.now.l1 < 525 }
-    ensures { PointRefusal image.now cert.now id point.now result }
+    requires point { slice_get cert.now.points id ≡ Some point.now }
+    requires box_fits { BoxFits (length cert.now.schedule.lines) point.now }
+    requires noted { AlikeTo cert.now lines.now (length cert.now.schedule.lines) }
+    ensures first { PointRefusal image.now cert.now id point.now result }
+    ensures few { looked.new ≤ looked.old + untold_of cert.now point.now }
 {
-    for l in point.l0..point.l1 + 1 {
-        if let Some(why) = line_refusal(image, cert, id, point, l) {
+    lines_fold();
+    let reach = reach_of(cert, point);
+    let mut l = point.l0;
+    'lines: while l <= point.l1 {
+        if let Some(why) = line_refusal(image, cert, id, point, l, looked) {
             return Some(why);
         }
+        l = next_untold(cert, lines, reach, point, l + 1);
     }
     None
+}
+
+/// A point of the certificate.
+#[tactic(auto, using(crate::proofs::Totals::box_of))]
+fn point_of(cert: &Cert, id: u32) -> &Point
+    requires fits { WellFormed cert.now }
+    requires there { id < length cert.now.points }
+    ensures is { slice_get cert.now.points id ≡ Some result.now }
+    ensures box_fits { BoxFits (length cert.now.schedule.lines) result.now }
+{
+    &cert.points.as_slice()[id as usize]
 }
 
 /// The first refusal among all points.
 #[tactic(auto, unfolding(crate::specs::Refusal::PointsRefusal))]
-pub(crate) fn points_refusal(image: &Image, cert: &Cert) -> Option<RefusedWhy>
+pub(crate) fn points_refusal(image: &Image, cert: &Cert, looked: &mut u64) -> Option<RefusedWhy>
     requires { WellFormed cert.now }
-    ensures { PointsRefusal image.now cert.now result }
+    ensures first { PointsRefusal image.now cert.now result }
+    ensures few { looked.new ≤ looked.old + untold cert.now }
 {
-    for (id, point) in cert.points.as_slice().iter().enumerate() {
-        if let Some(why) = point_refusal(image, cert, id as u32, point) {
+    let lines = all_lines_alike(cert);
+    'points: for id in 0..cert.points.len() as u32 {
+        let point = point_of(cert, id);
+        if let Some(why) = point_refusal(image, cert, &lines, id, point, looked) {
             return Some(why);
         }
     }

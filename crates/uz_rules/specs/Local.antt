@@ -1,5 +1,5 @@
 -- The local rule: why an instance of a point is refused; the least reason that stands is named (this project's profile).
-use Rattle.std.specs.Prelude.{◌≡◌, ℕ, ◌+◌, Bool, true, false, not, ◌&&◌, ◌||◌, List, [], ◌∷◌, Option, Some, None, Result, Ok, Err, slice_get, nat_eq, if◌then◌else◌}
+use Rattle.std.specs.Prelude.{◌≡◌, ℕ, ◌+◌, ◌-◌, ◌^◌, min, Bool, true, false, not, ◌&&◌, ◌||◌, List, [], ◌∷◌, Option, Some, None, Result, Ok, Err, slice_get, nat_eq, if◌then◌else◌}
 use Rattle.std.specs.Ordering.{nat_cmp}
 use Rattle.std.specs.FinMap.{FinMap}
 use Rattle.avr_table.specs.declared.Instr.{Instr}
@@ -112,3 +112,7 @@ OneLocal = (image : FinMap nat_cmp ℕ) (cert : Cert) (id l c : ℕ) (a b : Opti
 abbrev pub reason : {A : Type 0} → Result A Fail → Option Fail
 reason (Ok x) = None
 reason (Err why) = Some why
+
+-- a count of calls, one more. It stays at the greatest number of 64 bits
+abbrev pub counted : ℕ → ℕ
+counted n = min (n + 1) (2 ^ 64 - 1)

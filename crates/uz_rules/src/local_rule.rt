@@ -10,7 +10,7 @@ ghost use Rattle.uz_rules.specs.Successors.{lies_in_any as lies_in_one};
 ghost use Rattle.uz_transfer.specs.Kinds.{is_main as is_main_kind};
 ghost use Rattle.uz_transfer.specs.Refusals.{refuse_if as refused_if};
 ghost use Rattle.uz_rules.specs.Limits.{InstanceLimits};
-ghost use Rattle.uz_rules.specs.Local.{is_stop as stops, rest_in as rest_of_line, return_fail as fail_of_return, first_exit as exit_of_return, end_of as end_of_return, has_successors as all_have_successors, result_fail as fail_of_result, compares_edges as edges_compare, step_fail as fail_of_step, instance_fail as fail_of_instance, local_fail as fail_of_row, IsLocal, reason};
+ghost use Rattle.uz_rules.specs.Local.{is_stop as stops, rest_in as rest_of_line, return_fail as fail_of_return, first_exit as exit_of_return, end_of as end_of_return, has_successors as all_have_successors, result_fail as fail_of_result, compares_edges as edges_compare, step_fail as fail_of_step, instance_fail as fail_of_instance, local_fail as fail_of_row, IsLocal, reason, counted};
 
 use crate::edge_rule::{edges_fit, position_of};
 use crate::inclusion::{cells_inside, restored};
@@ -256,14 +256,30 @@ fn read_fail(
     }
 }
 
+/// One more call is counted.
+fn count(looked: &mut u64)
+    ensures { looked.new ≡ counted looked.old }
+{
+    *looked = looked.saturating_add(1);
+}
+
 /// The local rule of point `id` at line `l` and count `c`: the least reason that stands, or none. The instruction is that at the point's pc.
-/// Box where the point has no instance there. Takes no memory.
+/// Box where the point has no instance there. Adds one to `looked`, which stays at the greatest u64. Takes no memory.
 #[tactic(auto, using(crate::proofs::LocalLaws::is_local))]
-pub fn local(image: &Image, cert: &Cert, id: u32, l: u16, c: u8) -> Result<(), Fail>
+pub fn local(
+    image: &Image,
+    cert: &Cert,
+    id: u32,
+    l: u16,
+    c: u8,
+    looked: &mut u64,
+) -> Result<(), Fail>
     requires fits { WellFormed cert.now }
     requires point { id < length cert.now.points }
-    ensures { IsLocal image.now cert.now id l c (reason result) }
+    ensures answer { IsLocal image.now cert.now id l c (reason result) }
+    ensures counted { looked.new ≡ counted looked.old }
 {
+    count(looked);
     let point = point_of(cert, id);
     let row = read_at(image, point.pc);
     answer(read_fail(image, cert, id, l, c, point.next.as_slice(), row))

@@ -1,19 +1,35 @@
-use Rattle.std.proofs.Common.{◌≡◌, inl, inr, ℕ, List, length, ◌<◌, sym, ◌∙◌, ap, subst, get_or, arith}
+use Rattle.std.proofs.Common.{◌≡◌, inl, inr, ◌+◌, suc, sym, ap, subst, take, arith}
 use Rattle.std.specs.Prelude.{Some, None, slice_get}
 use Rattle.std.proofs.lemmas.Bool.Decides.{eqb_tells}
-use Rattle.std.proofs.lemmas.Option.{slice_get-get_or}
+use Rattle.uz_fold.specs.Untold.{untold_in}
 use Rattle.uz_schedule.specs.declared.states.Point.{Point}
 use Rattle.uz_check.specs.Refusal.{PointRefusal}
+use Rattle.uz_check.proofs.Totals.{one_more_point, some_points}
 use Rattle.uz_check.proofs.points.points_refusal.Goals as goal
 
-found : (points lent : List Point) (id : ℕ) (point : Point) → lent ≡ points → id < length lent → point ≡ get_or lent id point → slice_get points id ≡ Some point
-found points lent id point same few is = ap (λ xs. slice_get xs id) (sym same) ∙ (slice_get-get_or lent id point few ∙ ap (λ p. Some p) (sym is))
+pub returns-in-Some-clause-few : goal.returns-in-Some-clause-few
+returns-in-Some-clause-few c =
+    let cert = c.args.cert.now in
+    let one = one_more_point cert cert.points c.points.id c.point_of-point.result.now c.point_of-point.ensures.is in
+    let all = some_points cert cert.points (suc c.points.id) in
+    let seen = c.point_refusal.ensures.few in
+    omega (arith, one, all, seen, c.points.invariant.few)
 
-pub loop-id-preserved : goal.loop-id-preserved
-loop-id-preserved c j few =
-    elim (eqb_tells j c.loop-id.id) [
-      | inl t ↦
-          let here = found c.args.cert.now.points c.as_slice-point-items.result.now c.loop-id.id c.point-item.result c.as_slice-point-items.ensures c.loop-id-test.true c.point-item.is in
-          subst (λ i. (point : Point) × (slice_get c.args.cert.now.points i ≡ Some point) × PointRefusal c.args.image.now c.args.cert.now i point None) (sym t.1) (c.point-item.result, here, c.in_default.ensures)
-      | inr t ↦ c.loop-id.invariant j (omega (arith, few, t.1))
-    ]
+pub points-preserved : goal.points-preserved
+points-preserved c =
+    let cert = c.args.cert.now in
+    let image = c.args.image.now in
+    let n = c.points.id in
+    let point = c.point_of-point.result.now in
+    let on : suc n ≡ n + 1 = omega arith in
+    let one = one_more_point cert cert.points n point c.point_of-point.ensures.is in
+    let same = ap (λ k. untold_in cert (take k cert.points)) on in
+    let seen = c.point_refusal.ensures.few in
+    record {
+      none = λ j few.
+          elim (eqb_tells j n) [
+            | inl t ↦ subst (λ i. (q : Point) × (slice_get cert.points i ≡ Some q) × PointRefusal image cert i q None) (sym t.1) (point, c.point_of-point.ensures.is, c.in_default.ensures.first)
+            | inr t ↦ c.points.invariant.none j (omega (arith, few, t.1))
+          ];
+      few = omega (arith, one, same, seen, c.points.invariant.few);
+    }

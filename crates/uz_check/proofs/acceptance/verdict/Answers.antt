@@ -1,8 +1,0 @@
-use Rattle.uz_check.proofs.Accepting.{none_accepts, verdict_there}
-use Rattle.uz_check.proofs.acceptance.verdict.Goals as goal
-
-pub returns-clause-accepted : goal.returns-clause-accepted
-returns-clause-accepted c = none_accepts c.one_local.ensures c.args.image.now c.args.cert.now c.first_refusal.result c.requires.schedule c.first_refusal.ensures
-
-pub returns-clause-there : goal.returns-clause-there
-returns-clause-there c = verdict_there c.args.image.now c.args.cert.now c.first_refusal.result c.requires c.first_refusal.ensures

@@ -1,0 +1,28 @@
+use Rattle.std.proofs.Common.{◌-◌, suc, arith}
+use Rattle.uz_check.proofs.Looked.{lines_more, one_more_line, line_of_box}
+use Rattle.uz_check.proofs.points.point_refusal.Goals as goal
+
+pub returns-in-Some-clause-few : goal.returns-in-Some-clause-few
+returns-in-Some-clause-few c =
+    let p = c.args.point.now in
+    let inv = c.lines.invariant in
+    let part = line_of_box c.args.cert.now p c.lines.l (suc p.c1 - p.c0) inv.begun c.lines-test.true (inv.untold c.lines-test.true) in
+    let seen = c.line_refusal.ensures.few in
+    omega (arith, part, inv.few, seen)
+
+pub lines-preserved : goal.lines-preserved
+lines-preserved c =
+    let cert = c.args.cert.now in
+    let p = c.args.point.now in
+    let l = c.lines.l in
+    let inv = c.lines.invariant in
+    let next = c.next_untold-l.ensures in
+    let one = one_more_line cert p l c.next_untold-l.result (suc p.c1 - p.c0) inv.begun next.onward (inv.untold c.lines-test.true) next.told in
+    let seen = c.line_refusal.ensures.few in
+    record {
+      begun = omega (arith, inv.begun, next.onward);
+      within = next.within;
+      none = lines_more c.lines_fold.ensures c.args.image.now cert c.args.id l c.next_untold-l.result p c.requires.point c.requires.box_fits.line next.within next.told inv.none c.in_default.ensures.first;
+      few = omega (arith, one, inv.few, seen);
+      untold = next.untold;
+    }
