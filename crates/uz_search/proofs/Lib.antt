@@ -1,0 +1,16 @@
+pub mod ClearWay
+pub mod Events
+pub mod Exits
+pub mod FramePlaces
+pub mod Lists
+pub mod MarkingLemmas
+pub mod OneResult
+pub mod Results
+pub mod SearchingLemmas
+pub mod SpanLists
+pub mod Standing
+pub mod StepLemmas
+pub mod TrailLaws
+pub mod TrailLemmas
+pub mod VisitingLemmas
+pub mod WidenedLaws

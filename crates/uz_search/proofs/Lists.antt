@@ -1,0 +1,61 @@
+-- Lists that are mapped, joined and chosen from, element by element.
+use Rattle.std.proofs.Common.{◌≡◌, ◌≢◌, ℕ, zero, suc, ◌⊎◌, List, [], ◌∷◌, ◌++◌, map, Some, Bool, true, false, refl, sym, ap, ◌∙◌, subst, inl, inr, ⊎_elim, slice_get, drop, append_assoc, if◌then◌else◌}
+use Rattle.std.specs.List.{flat_map}
+use Rattle.uz_schedule.specs.declared.kinds.Kind.{Kind}
+use Rattle.uz_schedule.specs.declared.kinds.Kind.TheVariants.{Main, Handler, Alone}
+use Rattle.uz_search.specs.Following.{Among}
+use Rattle.uz_search.proofs.VisitingLemmas.{some_is, get_front}
+
+pub kind_cases : (k : Kind) → (k ≡ Main) ⊎ (k ≢ Main)
+kind_cases Main = inl refl
+kind_cases Handler = inr (λ h. cc)
+kind_cases Alone = inr (λ h. cc)
+
+pub bool_cases : (b : Bool) → (b ≡ true) ⊎ (b ≡ false)
+bool_cases true = inl refl
+bool_cases false = inr refl
+
+-- what holds of both sides of a choice
+pub choose : {A : Type 0} → (P : A → Type 0) (b : Bool) (x y : A) → P x → P y → P (if b then x else y)
+choose P true x y p q = p
+choose P false x y p q = q
+
+module _ {A B : Type 0} where
+  pub in_map : (f : A → B) (xs : List A) (i : ℕ) (x : A) → slice_get xs i ≡ Some x → slice_get (map f xs) i ≡ Some (f x)
+  in_map f [] i x h = cc
+  in_map f (z ∷ zs) zero x h = ap (λ v. Some (f v)) (some_is z x h)
+  in_map f (z ∷ zs) (suc i) x h = in_map f zs i x h
+
+  pub of_map : (f : A → B) (xs : List A) (i : ℕ) (y : B) → slice_get (map f xs) i ≡ Some y → (x : A) × (slice_get xs i ≡ Some x) × (f x ≡ y)
+  of_map f [] i y h = cc
+  of_map f (z ∷ zs) zero y h = (z, refl, some_is (f z) y h)
+  of_map f (z ∷ zs) (suc i) y h = of_map f zs i y h
+
+module _ {A : Type 0} where
+  pub append_cases : (xs ys : List A) (i : ℕ) (y : A) → slice_get (xs ++ ys) i ≡ Some y → Among xs y ⊎ Among ys y
+  append_cases [] ys i y h = inr (i, h)
+  append_cases (z ∷ xs) ys zero y h = inl (0, h)
+  append_cases (z ∷ xs) ys (suc i) y h = ⊎_elim (λ a. inl (suc a.0, a.1)) (λ b. inr b) (append_cases xs ys i y h)
+
+  pub in_first : (f : A → List A) (xs : List A) (x y : A) → slice_get xs 0 ≡ Some x → Among (f x) y → Among (flat_map f xs) y
+  in_first f [] x y h a = cc
+  in_first f (z ∷ zs) x y h a =
+      let same : x ≡ z = sym (some_is z x h) in
+      let b : Among (f z) y = subst (λ v. Among (f v) y) same a in
+      (b.0, get_front (f z) (flat_map f zs) b.0 y b.1)
+
+  pub of_flat : (f : A → List A) (xs : List A) (y : A) → Among (flat_map f xs) y → (x : A) × Among xs x × Among (f x) y
+  of_flat f [] y h = absurd (nothing h.0 h.1)
+    where
+      nothing : (i : ℕ) → slice_get {X = A} [] i ≡ Some y → ⊥
+      nothing i e = cc
+  of_flat f (z ∷ zs) y h = ⊎_elim
+      (λ a. (z, (0, refl), a))
+      (λ b. let r = of_flat f zs y b in (r.0, (suc r.1.0, r.1.1), r.2))
+      (append_cases (f z) (flat_map f zs) h.0 y h.1)
+
+  -- one more of a list is done
+  pub flat_next : (f : A → List A) (xs done whole : List A) (i : ℕ) (x : A) → slice_get xs i ≡ Some x → done ++ flat_map f (drop i xs) ≡ whole → (done ++ f x) ++ flat_map f (drop (suc i) xs) ≡ whole
+  flat_next f [] done whole i x h e = cc
+  flat_next f (z ∷ zs) done whole zero x h e = ap (λ v. (done ++ f v) ++ flat_map f zs) (sym (some_is z x h)) ∙ append_assoc done (f z) (flat_map f zs) ∙ e
+  flat_next f (z ∷ zs) done whole (suc i) x h e = flat_next f zs done whole i x h e

@@ -1,0 +1,279 @@
+-- Where the results of an instance stand, and what is shown on the way to them.
+use Rattle.std.proofs.Common.{◌≡◌, ◌≢◌, ℕ, zero, suc, ◌<◌, ◌≤◌, ◌+◌, ◌%◌, [], ◌∷◌, map, Option, Some, None, true, false, not, ◌&&◌, ◌||◌, refl, sym, ap, ◌∙◌, subst, inl, inr, ⊎_elim, slice_get, if◌then◌else◌, arith}
+use Rattle.std.proofs.Math.Nat.{mod-eq_of_lt}
+use Rattle.uz_machine.specs.Core.{returns_from_interrupt}
+use Rattle.uz_machine.specs.Effects.{effect_of}
+use Rattle.avr_table.specs.Rows.{clocks_of, words_of}
+use Rattle.uz_schedule.specs.Lines.{line_after, clock_after}
+use Rattle.uz_schedule.specs.declared.kinds.Kind.{Kind}
+use Rattle.uz_schedule.specs.declared.kinds.Kind.TheVariants.{Main, Handler, Alone}
+use Rattle.uz_schedule.specs.declared.lines.EventKind.{EventKind}
+use Rattle.uz_schedule.specs.declared.lines.EventKind.TheVariants.{Sync, Pixel, Sound, Leave}
+use Rattle.uz_schedule.specs.declared.states.Instance.{Instance}
+use Rattle.uz_transfer.specs.declared.step.Exit.{Exit}
+use Rattle.uz_transfer.specs.Emission.{emission, emission_at, level_after}
+use Rattle.uz_transfer.specs.Exits.{outcomes}
+use Rattle.uz_transfer.specs.Kinds.{is_main, is_handler}
+use Rattle.uz_transfer.specs.Step.{clears_flag, ends_line, following_of, placed}
+use Rattle.uz_transfer.specs.Values.{pair_range}
+use Rattle.uz_rules.specs.declared.next.Next.{Next}
+use Rattle.uz_rules.specs.After.{timed}
+use Rattle.uz_rules.specs.Local.{first_exit}
+use Rattle.uz_search.specs.declared.program.Program.{Program}
+use Rattle.uz_search.specs.Fitting.{Stands}
+use Rattle.uz_search.specs.Following.{Among, Flash, lines_of, clocks_between}
+use Rattle.uz_search.proofs.OneResult.{Steps, exits_at, draft_at}
+use Rattle.uz_search.proofs.Lists.{in_map, of_map, kind_cases, bool_cases}
+use Rattle.uz_search.proofs.Exits.{exit_clocks, first_exit_of, emits_one, returns_one, OneExit}
+use Rattle.uz_search.proofs.Events.{Turns, Emits, emits, back_handler, level_turned}
+use Rattle.uz_search.proofs.FramePlaces.{Reaches, reach_after, between_of, next_below}
+use Rattle.uz_search.proofs.VisitingLemmas.{some_is}
+
+apart_main : (k : Kind) → k ≢ Main → is_main k ≡ false
+apart_main Main h = absurd (h refl)
+apart_main Handler h = refl
+apart_main Alone h = refl
+
+-- a result, at its exit
+pub record AtExit (image : Flash) (program : Program) (x : Instance) (next : Next) (s : Steps image program x next) (y : Instance) : Type 0 where
+  pub exit : Exit
+  pub there : Among (exits_at image x s.row) exit
+  pub is : placed (lines_of program) x (draft_at image program x s.row) s.emitted (clears_flag (effect_of s.row) x) exit ≡ y
+  pub some : 1 ≤ exit.clocks
+  pub few : exit.clocks ≤ 4
+
+module _ (image : Flash) (program : Program) (x : Instance) (next : Next) (s : Steps image program x next) where
+  pub result : (y : Instance) → Among next.out.items y → AtExit image program x next s y
+  result y h =
+      let at = of_map (placed (lines_of program) x (draft_at image program x s.row) s.emitted (clears_flag (effect_of s.row) x)) (exits_at image x s.row) h.0 y
+      (ap (λ l. slice_get l h.0) (sym s.out) ∙ h.1) in
+      let clocks = exit_clocks image program.head s.row x (following_of (words_of s.row) x) (outcomes image (following_of (words_of s.row) x) (effect_of s.row) x) at.0 s.fails (h.0, at.1) in
+      record { exit = at.0; there = (h.0, at.1); is = at.2; some = clocks.0; few = clocks.1 }
+
+  -- there is one, where Z's ends are in order
+  pub some_result : (pair_range x 30).lo ≤ (pair_range x 30).hi → (y : Instance) × (slice_get next.out.items 0 ≡ Some y)
+  some_result order =
+      let exit = first_exit_of image (effect_of s.row) (clocks_of s.row) (following_of (words_of s.row) x) x order in (
+        placed (lines_of program) x (draft_at image program x s.row) s.emitted (clears_flag (effect_of s.row) x) exit.0,
+        ap (λ l. slice_get l 0) s.out ∙ in_map (placed (lines_of program) x (draft_at image program x s.row) s.emitted (clears_flag (effect_of s.row) x)) (exits_at image x s.row) 0 exit.0 exit.1,
+      )
+
+  pub same_kind : (y : Instance) → Among next.out.items y → y.kind ≡ x.kind
+  same_kind y h = ap (λ (z : Instance). z.kind) (sym (result y h).is)
+
+  -- a return is the handler's
+  pub back_is_handler : next.back ≡ true → x.kind ≡ Handler
+  back_is_handler back = back_handler program.head (effect_of s.row) x s.fails (sym s.back ∙ back)
+
+  -- where one exit is there, one result is
+  only_one : OneExit image (effect_of s.row) (clocks_of s.row) (following_of (words_of s.row) x) x → (y : Instance) → Among next.out.items y → slice_get next.out.items 0 ≡ Some y
+  only_one one y (i, h) =
+      let out : next.out.items ≡ f one.exit ∷ [] = s.out ∙ ap (map f) one.is in
+      let here : slice_get (f one.exit ∷ []) i ≡ Some y = ap (λ l. slice_get l i) (sym out) ∙ h in
+      ap (λ l. slice_get l 0) out ∙ at_zero (f one.exit) i here
+    where
+      f : Exit → Instance
+      f = placed (lines_of program) x (draft_at image program x s.row) s.emitted (clears_flag (effect_of s.row) x)
+
+      at_zero : (z : Instance) (i : ℕ) → slice_get (z ∷ []) i ≡ Some y → Some z ≡ Some y
+      at_zero z zero e = e
+      at_zero z (suc i) e = cc
+
+  -- a return has one result
+  pub one_return : next.back ≡ true → (y : Instance) → Among next.out.items y → slice_get next.out.items 0 ≡ Some y
+  one_return back = only_one (returns_one image (effect_of s.row) (clocks_of s.row) (following_of (words_of s.row) x) x (sym s.back ∙ back))
+
+  -- what is emitted is a return's leave, or turns the level
+  emits_so : Stands program x → Emits x.level next.back (Some s.emitted)
+  emits_so stands =
+      let even : x.level % 2 ≡ x.level = mod-eq_of_lt (let l = stands.level in omega (arith, l)) in
+      let at : Emits x.level (returns_from_interrupt (effect_of s.row)) (emission (effect_of s.row) x) =
+      subst (λ n. Emits x.level (returns_from_interrupt (effect_of s.row)) (emission_at n (effect_of s.row) x)) (sym even) (emits x.level (effect_of s.row) x stands.level) in
+      subst (λ b. Emits x.level b (Some s.emitted)) (sym s.back) (subst (Emits x.level (returns_from_interrupt (effect_of s.row))) s.emits at)
+
+-- a result outside main: it stands 1 to 4 clocks on
+pub record Moves (program : Program) (x y : Instance) : Type 0 where
+  pub apart : y.kind ≢ Main
+  pub some : 1 ≤ clocks_between x y
+  pub few : clocks_between x y ≤ 4
+  pub goes : Reaches program.lines x.line x.clock (clocks_between x y) y.line y.clock
+
+-- the level of a result: a sync event turns it, and nothing else does
+abbrev pub LevelOf : Instance → Option EventKind → Instance → Type 0
+LevelOf x emitted y = y.level ≡ level_after emitted x.level
+
+module _ (image : Flash) (program : Program) (x : Instance) (stands : Stands program x) (apart : x.kind ≢ Main) (next : Next) (s : Steps image program x next) where
+  main_not : is_main x.kind ≡ false
+  main_not = apart_main x.kind apart
+
+  -- the clocks to a result are its exit's
+  at_exit : (y : Instance) (h : Among next.out.items y) → (clocks_between x y ≡ (result image program x next s y h).exit.clocks) × Reaches program.lines x.line x.clock (result image program x next s y h).exit.clocks y.line y.clock
+  at_exit y h =
+      let r = result image program x next s y h in
+      let k : ℕ = r.exit.clocks in
+      let some = r.some in
+      let few = r.few in
+      let line : line_after (lines_of program) x.line (x.clock + k) ≡ y.line =
+      sym (ap (λ b. if b then x.line else line_after (lines_of program) x.line (x.clock + k)) main_not) ∙ ap (λ (z : Instance). z.line) r.is in
+      let clock : clock_after (lines_of program) x.line (x.clock + k) ≡ y.clock =
+      sym (ap (λ b. if b then x.clock else clock_after (lines_of program) x.line (x.clock + k)) main_not) ∙ ap (λ (z : Instance). z.clock) r.is in
+      let reach : Reaches program.lines x.line x.clock k y.line y.clock =
+      subst (λ q. Reaches program.lines x.line x.clock k y.line q) clock
+      (subst (λ l. Reaches program.lines x.line x.clock k l (clock_after (lines_of program) x.line (x.clock + k))) line
+      (reach_after program.lines x.line x.clock k stands.line stands.clock (omega (arith, few)))) in
+      (between_of program.lines x.line x.clock k y.line y.clock reach stands.clock some (omega (arith, few)), reach)
+
+  pub moves : (y : Instance) → Among next.out.items y → Moves program x y
+  moves y h =
+      let r = result image program x next s y h in
+      let e = at_exit y h in
+      record {
+        apart = λ main. apart (sym (same_kind image program x next s y h) ∙ main);
+        some = subst (λ n. 1 ≤ n) (sym e.0) r.some;
+        few = subst (λ n. n ≤ 4) (sym e.0) r.few;
+        goes = subst (λ n. Reaches program.lines x.line x.clock n y.line y.clock) (sym e.0) e.1;
+      }
+
+  pub level_of : (y : Instance) → Among next.out.items y → LevelOf x s.emitted y
+  level_of y h =
+      let r = result image program x next s y h in
+      let even : x.level % 2 ≡ x.level = mod-eq_of_lt (let l = stands.level in omega (arith, l)) in
+      ap (λ (z : Instance). z.level) (sym r.is) ∙ ap (λ b. if b then x.level else level_after s.emitted (x.level % 2)) main_not ∙ ap (level_after s.emitted) even
+
+  -- what is emitted is emitted at the end of the one result
+  pub at_end : (t : ℕ) (e : EventKind) (y : Instance) → next.emit ≡ Some (t, e) → Among next.out.items y → t ≡ clocks_between x y
+  at_end t e y emit h = by s.emitted refl
+    where
+      only : (a b : Exit) (i : ℕ) → slice_get (b ∷ []) i ≡ Some a → a ≡ b
+      only a b zero g = sym (some_is b a g)
+      only a b (suc i) g = cc
+
+      by : (emitted : Option EventKind) → s.emitted ≡ emitted → t ≡ clocks_between x y
+      by None is =
+          let none : Some (t, e) ≡ None = sym emit ∙ s.emit ∙ ap (λ o. timed o (first_exit (exits_at image x s.row)).clocks) is in
+          cc
+      by (Some event) is =
+          let one = emits_one image (effect_of s.row) (clocks_of s.row) (following_of (words_of s.row) x) x event (s.emits ∙ ap Some is) in
+          let r = result image program x next s y h in
+          let mine : r.exit ≡ one.exit = only (r.exit) one.exit r.there.0 (ap (λ l. slice_get l r.there.0) (sym one.is) ∙ r.there.1) in
+          let first : first_exit (exits_at image x s.row) ≡ one.exit = ap first_exit one.is in
+          let timed_so : Some (t, e) ≡ Some ((first_exit (exits_at image x s.row)).clocks, event) =
+          sym emit ∙ s.emit ∙ ap (λ o. timed o (first_exit (exits_at image x s.row)).clocks) is in
+          let pair : (t, e) ≡ ((first_exit (exits_at image x s.row)).clocks, event) = some_is (t, e) _ timed_so in
+          ap (λ (q : ℕ × EventKind). q.0) pair ∙ ap (λ (z : Exit). z.clocks) (first ∙ sym mine) ∙ sym (at_exit y h).0
+
+  -- what an event is: a leave of a return, and else a turn of the level
+  emitted_is : (t : ℕ) (e : EventKind) → next.emit ≡ Some (t, e) → s.emitted ≡ Some e
+  emitted_is t e emit = by s.emitted refl
+    where
+      by : (emitted : Option EventKind) → s.emitted ≡ emitted → s.emitted ≡ Some e
+      by None is =
+          let none : Some (t, e) ≡ None = sym emit ∙ s.emit ∙ ap (λ o. timed o (first_exit (exits_at image x s.row)).clocks) is in
+          cc
+      by (Some event) is =
+          let pair : (t, e) ≡ ((first_exit (exits_at image x s.row)).clocks, event) = some_is (t, e) _ (sym emit ∙ s.emit ∙ ap (λ o. timed o (first_exit (exits_at image x s.row)).clocks) is) in
+          is ∙ ap Some (ap (λ (q : ℕ × EventKind). q.1) (sym pair))
+
+  pub leaves : next.back ≡ true → (t : ℕ) × (next.emit ≡ Some (t, Leave))
+  leaves back =
+      let e : s.emitted ≡ Some Leave = some_is s.emitted (Some Leave) (subst (λ b. Emits x.level b (Some s.emitted)) back (emits_so image program x next s stands)) in
+      ((first_exit (exits_at image x s.row)).clocks, s.emit ∙ ap (λ o. timed o (first_exit (exits_at image x s.row)).clocks) e)
+
+  pub returns : (t : ℕ) → next.emit ≡ Some (t, Leave) → next.back ≡ true
+  returns t emit = ⊎_elim (λ h. h)
+      (λ h. absurd (subst (λ o. Turns x.level (Some o)) (emitted_is t Leave emit) (subst (λ b. Emits x.level b (Some s.emitted)) h (emits_so image program x next s stands))))
+      (bool_cases next.back)
+
+  pub syncs : (t v : ℕ) (y : Instance) → next.emit ≡ Some (t, Sync v) → Among next.out.items y → (y.level ≡ v) × (x.level + v ≡ 1)
+  syncs t v y emit h =
+      let e = emitted_is t (Sync v) emit in (
+        level_of y h ∙ ap (λ o. level_after o x.level) e,
+        ⊎_elim
+            (λ back. let leave : s.emitted ≡ Some Leave = some_is s.emitted (Some Leave) (subst (λ b. Emits x.level b (Some s.emitted)) back (emits_so image program x next s stands)) in
+            let one : Sync v ≡ Leave = some_is (Sync v) Leave (sym e ∙ leave) in absurd cc)
+            (λ back. subst (λ o. Turns x.level (Some o)) e (subst (λ b. Emits x.level b (Some s.emitted)) back (emits_so image program x next s stands)))
+            (bool_cases next.back),
+      )
+
+  pub keeps : ((t v : ℕ) → next.emit ≡ Some (t, Sync v) → ⊥) → (y : Instance) → Among next.out.items y → y.level ≡ x.level
+  keeps no_sync y h = level_of y h ∙ by s.emitted refl
+    where
+      k : ℕ
+      k = (first_exit (exits_at image x s.row)).clocks
+
+      by : (emitted : Option EventKind) → s.emitted ≡ emitted → level_after emitted x.level ≡ x.level
+      by None is = refl
+      by (Some (Sync v)) is = absurd (no_sync k v (s.emit ∙ ap (λ o. timed o k) is))
+      by (Some Pixel) is = refl
+      by (Some Sound) is = refl
+      by (Some Leave) is = refl
+
+-- Where results stand
+
+handler_not : (k : Kind) → k ≢ Handler → is_handler k ≡ false
+handler_not Handler h = absurd (h refl)
+handler_not Main h = refl
+handler_not Alone h = refl
+
+main_is : (k : Kind) → k ≡ Main → is_main k ≡ true
+main_is k h = ap is_main h
+
+module _ (image : Flash) (program : Program) (x : Instance) (stands : Stands program x) (next : Next) (s : Steps image program x next) where
+  pub main_line : x.kind ≡ Main → (y : Instance) → Among next.out.items y → (y.line ≡ x.line) × (y.clock ≡ x.clock) × (y.level ≡ x.level)
+  main_line main y h =
+      let r = result image program x next s y h in
+      let k : ℕ = x.clock + r.exit.clocks in (
+        ap (λ (z : Instance). z.line) (sym r.is) ∙ ap (λ b. if b then x.line else line_after (lines_of program) x.line k) (main_is x.kind main),
+        ap (λ (z : Instance). z.clock) (sym r.is) ∙ ap (λ b. if b then x.clock else clock_after (lines_of program) x.line k) (main_is x.kind main),
+        ap (λ (z : Instance). z.level) (sym r.is) ∙ ap (λ b. if b then x.level else level_after s.emitted (x.level % 2)) (main_is x.kind main),
+      )
+
+  level_bound : x.kind ≢ Main → (y : Instance) → Among next.out.items y → y.level ≤ 1
+  level_bound apart y h = ⊎_elim
+      (λ back. let leave : s.emitted ≡ Some Leave = some_is s.emitted (Some Leave) (subst (λ b. Emits x.level b (Some s.emitted)) back (emits_so image program x next s stands)) in
+      subst (λ n. n ≤ 1) (sym (level_of image program x stands apart next s y h ∙ ap (λ o. level_after o x.level) leave)) stands.level)
+      (λ back. subst (λ n. n ≤ 1) (sym (level_of image program x stands apart next s y h))
+      (level_turned x.level s.emitted stands.level (subst (λ b. Emits x.level b (Some s.emitted)) back (emits_so image program x next s stands))))
+      (bool_cases next.back)
+
+  line_bound : (y : Instance) → Moves program x y → y.line < program.lines
+  line_bound y m = by m.goes
+    where
+      by : Reaches program.lines x.line x.clock (clocks_between x y) y.line y.clock → y.line < program.lines
+      by (h, inl a) = subst (λ n. n < program.lines) (sym a.0) stands.line
+      by (h, inr a) = next_below program.lines x.line y.line stands.line a.0
+
+  -- a result stands in the frame
+  pub stands_next : (y : Instance) → Among next.out.items y → Stands program y
+  stands_next y h = ⊎_elim of_main apart (kind_cases x.kind)
+    where
+      kind : y.kind ≡ x.kind
+      kind = same_kind image program x next s y h
+
+      r : AtExit image program x next s y
+      r = result image program x next s y h
+
+      pending : y.kind ≢ Handler → y.pending ≡ false
+      pending other =
+          let not_handler : x.kind ≢ Handler = λ e. other (kind ∙ e) in
+          ap (λ (z : Instance). z.pending) (sym r.is) ∙ ap (λ b. if b then not (clears_flag (effect_of s.row) x) && (x.pending || ends_line (lines_of program) x.line (x.clock + r.exit.clocks)) else x.pending) (handler_not x.kind not_handler) ∙ stands.pending not_handler
+
+      of_main : x.kind ≡ Main → Stands program y
+      of_main main = let m = main_line main y h in record {
+        line = subst (λ n. n < program.lines) (sym m.0) stands.line;
+        clock = subst (λ n. n < 1820) (sym m.1) stands.clock;
+        level = subst (λ n. n ≤ 1) (sym m.2) stands.level;
+        main = λ e. (m.0 ∙ (stands.main main).0, m.1 ∙ (stands.main main).1);
+        entered = λ handler. stands.entered (sym kind ∙ handler);
+        pending = pending;
+      }
+
+      apart : x.kind ≢ Main → Stands program y
+      apart other = let m = moves image program x stands other next s y h in record {
+        line = line_bound y m;
+        clock = m.goes.0;
+        level = level_bound other y h;
+        main = λ e. absurd (m.apart e);
+        entered = λ handler. stands.entered (sym kind ∙ handler);
+        pending = pending;
+      }

@@ -1,0 +1,86 @@
+-- What follows an instance stands in the frame as it does.
+use Rattle.std.proofs.Common.{◌≡◌, ℕ, zero, suc, ◌<◌, ◌≤◌, List, map, Option, true, false, refl, sym, ap, ◌∙◌, subst, ⊎_elim, if◌then◌else◌, arith}
+use Rattle.std.specs.List.{flat_map}
+use Rattle.uz_schedule.specs.Schedule.{response_clocks}
+use Rattle.uz_schedule.specs.declared.kinds.Kind.TheVariants.{Handler}
+use Rattle.uz_schedule.specs.declared.kinds.Response.{Response}
+use Rattle.uz_schedule.specs.declared.kinds.Response.TheVariants.{Four, Five}
+use Rattle.uz_schedule.specs.declared.states.Instance.{Instance}
+use Rattle.uz_rules.specs.declared.next.Next.{Next}
+use Rattle.uz_search.specs.declared.program.Program.{Program}
+use Rattle.uz_search.specs.Fitting.{Stands, ProgramFits}
+use Rattle.uz_search.specs.Following.{Among, Flash, Follows, entries, entry_at}
+use Rattle.uz_search.specs.Visiting.{IsTree}
+use Rattle.uz_search.specs.Widenings.{widened}
+use Rattle.uz_search.proofs.FramePlaces.{next_is, next_below}
+use Rattle.uz_search.proofs.Lists.{of_map, of_flat, bool_cases}
+use Rattle.uz_search.proofs.OneResult.{Steps, steps}
+use Rattle.uz_search.proofs.Results.{same_kind, stands_next, back_is_handler}
+use Rattle.uz_search.proofs.SearchingLemmas.{tree_all}
+use Rattle.uz_search.proofs.VisitingLemmas.{some_is}
+use Rattle.uz_search.proofs.WidenedLaws.{widened_place, SamePlace}
+
+-- a place of another instance
+pub stands_so : (program : Program) (a b : Instance) → SamePlace a b → Stands program b → Stands program a
+stands_so program a b same h = record {
+  line = subst (λ n. n < program.lines) (sym same.line) h.line;
+  clock = subst (λ n. n < 1820) (sym same.clock) h.clock;
+  level = subst (λ n. n ≤ 1) (sym same.level) h.level;
+  main = λ main. let m = h.main (sym same.kind ∙ main) in (same.line ∙ m.0, same.clock ∙ m.1);
+  entered = λ handler. h.entered (sym same.kind ∙ handler);
+  pending = λ apart. same.pending ∙ h.pending (λ e. apart (same.kind ∙ e));
+}
+
+few_response : (irq : Response) → response_clocks irq ≤ 5
+few_response Four = omega arith
+few_response Five = omega arith
+
+-- the handler's entry after a return
+pub record EntryOf (program : Program) (end e : Instance) : Type 0 where
+  pub c : ℕ
+  pub few : c ≤ 3
+  pub is : entry_at program end c ≡ e
+
+pub entry_of : (program : Program) (end e : Instance) → Among (entries program end) e → EntryOf program end e
+entry_of program end e (zero, h) = record { c = 0; few = omega arith; is = some_is _ e h }
+entry_of program end e (suc zero, h) = record { c = 1; few = omega arith; is = some_is _ e h }
+entry_of program end e (suc (suc zero), h) = record { c = 2; few = omega arith; is = some_is _ e h }
+entry_of program end e (suc (suc (suc zero)), h) = record { c = 3; few = omega arith; is = some_is _ e h }
+entry_of program end e (suc (suc (suc (suc i))), h) = cc
+
+pub stands_entry : (program : Program) (end e : Instance) → Stands program end → end.kind ≡ Handler → Among (entries program end) e → Stands program e
+stands_entry program end e stands handler h =
+    let it = entry_of program end e h in
+    let few = it.few in
+    let response = few_response program.head.irq in
+    subst (Stands program) it.is (record {
+      line = next_below program.lines end.line _ stands.line (next_is program.lines end.line stands.line);
+      clock = omega (arith, few, response);
+      level = stands.level;
+      main = λ main. cc;
+      entered = λ _. stands.entered handler;
+      pending = λ other. absurd (other refl);
+    })
+
+-- what follows an instance that stands in the frame stands in it
+pub stands_more : (image : Flash) (program : Program) (x y : Instance) → Stands program x → Follows image program x y → Stands program y
+stands_more image program x y stands follows = ⊎_elim
+    (λ (back : next.back ≡ true).
+    let flat : Among (flat_map (entries program) next.out.items) y = subst (λ l. Among l y) (ap (λ b. if b then flat_map (entries program) next.out.items else map (widened program) next.out.items) back) follows.is in
+    let from = of_flat (entries program) next.out.items y flat in
+    let handler = back_is_handler image program x next s back in
+    stands_entry program from.0 y (stands_next image program x stands next s from.0 from.1) (same_kind image program x next s from.0 from.1 ∙ handler) from.2)
+    (λ (back : next.back ≡ false).
+    let mapped : Among (map (widened program) next.out.items) y = subst (λ l. Among l y) (ap (λ b. if b then flat_map (entries program) next.out.items else map (widened program) next.out.items) back) follows.is in
+    let from = of_map (widened program) next.out.items mapped.0 y mapped.1 in
+    subst (Stands program) from.2 (stands_so program (widened program from.0) from.0 (widened_place program from.0) (stands_next image program x stands next s from.0 (mapped.0, from.1))))
+    (bool_cases next.back)
+  where
+    next : Next
+    next = follows.next
+
+    s : Steps image program x next
+    s = steps image program x next follows.after
+
+pub stands_all : (image : Flash) (program : Program) (nodes : List Instance) (parents : List (Option ℕ)) → ProgramFits program → IsTree image program nodes parents → (x : Instance) → Among nodes x → Stands program x
+stands_all image program nodes parents fits tree = tree_all image program (Stands program) (λ y h. (fits.starts y h).stands) (stands_more image program) nodes parents tree

@@ -1,0 +1,9 @@
+use Rattle.std.proofs.Common.{◌≡◌, ◌<◌, max, drop}
+use Rattle.uz_search.specs.Following.{most_clocks}
+use Rattle.uz_search.proofs.passing.most_clocks.Given as goal
+
+abbrev pub invariant-each : goal.invariant-each
+invariant-each l = record {
+  left : max l.most (most_clocks l.at (drop l.to-index l.out)) ≡ most_clocks l.at l.out;
+  few : l.most < 70000;
+}

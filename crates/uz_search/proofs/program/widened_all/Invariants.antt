@@ -1,0 +1,6 @@
+use Rattle.std.proofs.Common.{◌≡◌, map, take}
+use Rattle.uz_search.specs.Widenings.{widened}
+use Rattle.uz_search.proofs.program.widened_all.Given as goal
+
+abbrev pub invariant-each : goal.invariant-each
+invariant-each l = l.follow.items ≡ map (widened l.program) (take l.at-index l.results)

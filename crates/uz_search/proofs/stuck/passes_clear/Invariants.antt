@@ -1,0 +1,6 @@
+use Rattle.std.proofs.Common.{◌≡◌}
+use Rattle.uz_search.specs.Tests.{is_clear_way}
+use Rattle.uz_search.proofs.stuck.passes_clear.Given as goal
+
+abbrev pub invariant-each : goal.invariant-each
+invariant-each l = l.clear ≡ is_clear_way l.program l.at l.next.emit l.step

@@ -1,0 +1,11 @@
+pub mod Fitting
+pub mod Following
+pub mod Marking
+pub mod Refusing
+pub mod Returning
+pub mod Searching
+pub mod Stuck
+pub mod Tests
+pub mod Trails
+pub mod Visiting
+pub mod Widenings

@@ -1,0 +1,113 @@
+//! What is asked of one instance.
+
+ghost use Rattle.std.specs.Prelude.{◌≡◌, ◌<◌, ◌≤◌, ◌+◌, true, ℕ, IfOk, Ok, Err, Some, length, slice_get};
+ghost use Rattle.uz_schedule.specs.declared.states.Instance.{Instance};
+ghost use Rattle.uz_transfer.specs.declared.fail.Fail.{Fail};
+ghost use Rattle.uz_transfer.specs.Values.{pair_range};
+ghost use Rattle.uz_search.specs.Fitting.{ProgramFits, Stands};
+ghost use Rattle.uz_search.specs.Following.{frame_of};
+ghost use Rattle.uz_search.specs.Stuck.{IsStuck};
+ghost use Rattle.uz_search.specs.Searching.{Treats, SplitsFrom, MarksWay, NotesEnd};
+
+use crate::marks::{Mark, mark_all};
+use crate::passing::{most_clocks, place};
+use crate::program::{Program, results};
+use crate::returns::{Return, note_return};
+use crate::stuck::stuck;
+use std::alloc::AllocError;
+use uz_hex::Image;
+use uz_rules::{Fail, Next};
+use uz_schedule::{Instance, Kind};
+
+/// Why an instance ends the search.
+#[derive(Debug, Drop)]
+pub(crate) enum Stop {
+    /// A trail that ends in it is refused, for this reason.
+    Stuck(Fail),
+    /// The instance of this number shows or returns otherwise.
+    Split(u32),
+    /// Memory ran out.
+    Memory,
+}
+
+impl From<AllocError> for Stop {
+    ghost use Rattle.std.specs.Prelude.{◌≡◌};
+    ghost use Rattle.uz_search.specs.declared.asking.Stop.TheVariants.{Memory};
+
+    ghost from_gives = { λ _ e. e ≡ Memory };
+
+    fn from(_: AllocError) -> Self {
+        Stop::Memory
+    }
+}
+
+/// Notes what the instance shows on its way, or answers the number of one that shows otherwise.
+fn mark_way(at: &Instance, next: &Next, by: u32, marks: &mut [Option<Mark>]) -> Option<u32>
+    requires { 0 < length marks.old }
+    ensures { MarksWay at.now next.now by marks.old result marks.new }
+{
+    match at.kind {
+        Kind::Main => None,
+        Kind::Handler | Kind::Alone => {
+            let most = most_clocks(at, next.out.as_slice());
+            mark_all(marks, place(at), most, next.emit, by)
+        }
+    }
+}
+
+/// Notes where the handler returns, or answers the number of an instance that returns otherwise.
+fn note_end(next: &Next, by: u32, returns: &mut [Option<Return>]) -> Result<Option<u32>, AllocError>
+    requires { next.now.back ≡ true → (end : Instance) → slice_get next.now.out.items 0 ≡ Some end → end.line < length returns.old }
+    ensures { IfOk result (λ other. NotesEnd next.now by returns.old other returns.new) }
+{
+    if next.back {
+        match next.out.as_slice().first() {
+            Some(end) => note_return(returns, end, by),
+            None => Ok(None),
+        }
+    } else {
+        Ok(None)
+    }
+}
+
+/// The ends of Z's range are in order, so that an indirect jump leads somewhere. Does nothing.
+fn is_ordered(at: &Instance)
+    ensures { (pair_range at.now 30).lo ≤ (pair_range at.now 30).hi }
+{
+    let z = at.pairs[2];
+    let _ = z.lo();
+}
+
+/// Asks the instance of this number for its results, and notes what it shows and where it returns.
+pub(crate) fn examine(
+    image: &Image,
+    program: &Program,
+    at: &Instance,
+    by: u32,
+    marks: &mut [Option<Mark>],
+    returns: &mut [Option<Return>],
+) -> Result<Next, Stop>
+    requires fits { ProgramFits program.now }
+    requires stands { Stands program.now at.now }
+    requires frame { length marks.old ≡ frame_of program.now }
+    requires lines { length returns.old ≡ program.now.lines }
+    ensures ok { IfOk result (λ next. Treats image.now program.now at.now by marks.old marks.new returns.old returns.new next) }
+    ensures stuck { (why : Fail) → result ≡ Err (Stop.Stuck why) → IsStuck image.now program.now at.now why }
+    ensures split { (other : ℕ) → result ≡ Err (Stop.Split other) → SplitsFrom image.now program.now at.now by other marks.old returns.old }
+{
+    let next = match results(image, program, at) {
+        Ok(next) => next,
+        Err(why) => return Err(Stop::Stuck(why)),
+    };
+    is_ordered(at);
+    if let Some(why) = stuck(image, program, at, &next) {
+        return Err(Stop::Stuck(why));
+    }
+    if let Some(other) = mark_way(at, &next, by, marks) {
+        return Err(Stop::Split(other));
+    }
+    if let Some(other) = note_end(&next, by, returns)? {
+        return Err(Stop::Split(other));
+    }
+    Ok(next)
+}

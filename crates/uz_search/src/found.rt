@@ -1,0 +1,62 @@
+//! What a search finds, and why it finds nothing.
+
+use crate::marks::Mark;
+use crate::returns::Return;
+use indexmap::IndexSet;
+use std::alloc::AllocError;
+use uz_rules::Fail;
+use uz_schedule::{Instance, Sequence};
+
+/// Why no certificate is found.
+#[derive(Debug, Drop)]
+pub enum NotFound {
+    /// The trail's last instance can't be certified, for this reason.
+    Stuck {
+        trail: Sequence<Instance>,
+        why: Fail,
+    },
+    /// The last instances of two trails return on one line at different clocks or with different cells, or pass one position of
+    /// the frame and show otherwise there.
+    Split {
+        first: Sequence<Instance>,
+        second: Sequence<Instance>,
+    },
+    /// So many distinct instances lie on trails: the search's limit.
+    Full {
+        count: u32,
+    },
+    /// The hint of this index, counted from 0, is at fault; or with the number of hints one is missing. Never an answer of `search`.
+    Hint {
+        index: u32,
+    },
+    /// So many instances lie on trails from a start in main, and the handler never returns.
+    NoRest {
+        count: u32,
+    },
+    /// Memory ran out.
+    Memory,
+}
+
+impl From<AllocError> for NotFound {
+    ghost use Rattle.std.specs.Prelude.{◌≡◌};
+    ghost use Rattle.uz_search.specs.declared.found.NotFound.TheVariants.{Memory};
+
+    ghost from_gives = { λ _ e. e ≡ Memory };
+
+    fn from(_: AllocError) -> Self {
+        NotFound::Memory
+    }
+}
+
+/// What a search has found so far.
+#[derive(Drop)]
+pub struct Found {
+    /// The instances that lie on trails, each once, in the order in which they came.
+    pub nodes: IndexSet<Instance>,
+    /// Of each instance the number of the one that it follows, None of a start.
+    pub parents: Vec<Option<u32>>,
+    /// By position, a number of clocks from the frame's begin, what is shown there; None where no instance has passed.
+    pub marks: Vec<Option<Mark>>,
+    /// By line where the handler returns.
+    pub returns: Vec<Option<Return>>,
+}

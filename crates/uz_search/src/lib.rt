@@ -1,0 +1,23 @@
+//! The search for the instances that a program reaches: a worklist over abstract results, with trails for what is refused.
+#![tactic(auto)]
+
+mod asking;
+mod found;
+mod laws;
+mod marks;
+mod passing;
+mod program;
+mod returns;
+mod searching;
+mod stuck;
+mod trail;
+mod visited;
+mod widening;
+
+pub use found::{Found, NotFound};
+pub use laws::nodes_are_reached;
+pub use marks::Mark;
+pub use program::{Program, widened_copy};
+pub use returns::Return;
+pub use searching::search;
+pub use widening::Widening;

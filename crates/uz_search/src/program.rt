@@ -1,0 +1,159 @@
+//! What a search is told of a program.
+
+ghost use Rattle.std.specs.Prelude.{◌≡◌, ◌<◌, ◌≤◌, ◌++◌, map, true, IfOk, OnOk, IsTrue};
+ghost use Rattle.std.specs.List.{flat_map};
+ghost use Rattle.uz_schedule.specs.declared.kinds.Kind.TheVariants.{Main};
+ghost use Rattle.uz_schedule.specs.declared.states.Instance.{Instance};
+ghost use Rattle.uz_search.specs.Widenings.{widened};
+ghost use Rattle.uz_search.specs.Following.{Among, After, entry_at, entries, followers_of};
+ghost use Rattle.uz_search.specs.Fitting.{ProgramFits, Stands};
+
+use crate::widening::{Widening, widen};
+use std::alloc::{AllocError, Global};
+use std::collections::BTreeMap;
+use uz_hex::Image;
+use uz_rules::{Fail, Next, after};
+use uz_schedule::{Head, Instance, Kind, LineOrder, Sequence, handler_entry};
+use uz_transfer::copied;
+
+/// What a search is told of a program, beside its image.
+#[derive(Debug, Drop)]
+pub struct Program {
+    /// The header: response, stack and cells.
+    pub head: Head,
+    /// The lines of a frame, 1 to 525.
+    pub lines: u16,
+    /// The clock of each line at which the level of sync falls, 1 to 1819.
+    pub fall: u16,
+    /// By program counter the facts of registers and pointers there, in the order of their hints.
+    pub facts: BTreeMap<u16, Vec<Widening>>,
+    /// The instances at which trails begin.
+    pub starts: Sequence<Instance>,
+}
+
+impl Program {
+    /// The lines as they follow each other.
+    pub(crate) fn order(&self) -> LineOrder
+        ensures { result.count ≡ self.now.lines }
+    {
+        LineOrder { count: self.lines }
+    }
+}
+
+/// The abstract results of an instance.
+pub(crate) fn results(image: &Image, program: &Program, at: &Instance) -> Result<Next, Fail>
+    requires fits { ProgramFits program.now }
+    requires stands { Stands program.now at.now }
+    ensures { After image.now program.now at.now result }
+{
+    after(image, &program.head, program.lines, at)
+}
+
+/// The handler's first state after a return that ends so, where its interrupt is taken at clock `c` of the next line.
+fn entry_after(program: &Program, end: &Instance, c: u16) -> Instance
+    requires line { end.now.line < program.now.lines }
+    requires clock { c ≤ 3 }
+    ensures { result ≡ entry_at program.now end.now c }
+{
+    handler_entry(
+        &end.cells,
+        program.order().next(end.line),
+        c + program.head.irq.clocks(),
+        end.level,
+    )
+}
+
+/// Puts the handler's first states after a return at the end of a list.
+fn push_entries(
+    program: &Program,
+    end: &Instance,
+    follow: &mut Vec<Instance>,
+) -> Result<(), AllocError>
+    requires line { end.now.line < program.now.lines }
+    ensures { OnOk result (follow.new.items ≡ follow.old.items ++ entries program.now end.now) }
+{
+    follow.push(entry_after(program, end, 0))?;
+    follow.push(entry_after(program, end, 1))?;
+    follow.push(entry_after(program, end, 2))?;
+    follow.push(entry_after(program, end, 3))?;
+    Ok(())
+}
+
+/// A copy of an instance that comes to its program counter, widened by the facts there. Takes no memory.
+pub fn widened_copy(program: &Program, at: &Instance) -> Instance
+    ensures { result ≡ widened program.now at.now }
+{
+    let mut copy = copied(at);
+    widen(program, &mut copy);
+    copy
+}
+
+/// The handler's first states after each of these returns.
+fn entries_after(
+    alloc: Global,
+    program: &Program,
+    ends: &[Instance],
+) -> Result<Vec<Instance>, AllocError>
+    requires { (x : Instance) → Among ends.now x → x.line < program.now.lines }
+    ensures { IfOk result (λ v. v.items ≡ flat_map (entries program.now) ends.now) }
+{
+    let mut follow = Vec::new(alloc);
+    'each: for end in ends {
+        push_entries(program, end, &mut follow)?;
+    }
+    Ok(follow)
+}
+
+/// Results, each widened by the facts of its program counter.
+fn widened_all(
+    alloc: Global,
+    program: &Program,
+    results: &[Instance],
+) -> Result<Vec<Instance>, AllocError>
+    ensures { IfOk result (λ v. v.items ≡ map (widened program.now) results.now) }
+{
+    let mut follow = Vec::new(alloc);
+    'each: for at in results {
+        follow.push(widened_copy(program, at))?;
+    }
+    Ok(follow)
+}
+
+/// The instances that follow on a trail.
+pub(crate) fn followers(
+    alloc: Global,
+    program: &Program,
+    next: &Next,
+) -> Result<Vec<Instance>, AllocError>
+    requires { next.now.back ≡ true → (x : Instance) → Among next.now.out.items x → x.line < program.now.lines }
+    ensures { IfOk result (λ v. v.items ≡ followers_of program.now next.now) }
+{
+    if next.back {
+        entries_after(alloc, program, next.out.as_slice())
+    } else {
+        widened_all(alloc, program, next.out.as_slice())
+    }
+}
+
+/// Whether some start is of main.
+pub(crate) fn starts_in_main(starts: &[Instance]) -> bool
+    ensures { IsTrue result → (s : Instance) × Among starts.now s × (s.kind ≡ Main) }
+{
+    'each: for start in starts {
+        if matches!(start.kind, Kind::Main) {
+            return true;
+        }
+    }
+    false
+}
+
+/// A copy of the starts.
+pub(crate) fn copied_starts(alloc: Global, starts: &[Instance]) -> Result<Vec<Instance>, AllocError>
+    ensures { IfOk result (λ v. v.items ≡ starts.now) }
+{
+    let mut copy = Vec::new(alloc);
+    'each: for start in starts {
+        copy.push(copied(start))?;
+    }
+    Ok(copy)
+}

@@ -1,0 +1,173 @@
+//! The search.
+
+ghost use Rattle.std.specs.Prelude.{◌≡◌, ◌<◌, ◌+◌, ℕ, None, Some, IfOk, IfErr, OnOk, length, slice_get, replicate};
+ghost use Rattle.uz_schedule.specs.declared.states.Instance.{Instance};
+ghost use Rattle.uz_search.specs.declared.program.Program.{Program};
+ghost use Rattle.uz_search.specs.Fitting.{ProgramFits};
+ghost use Rattle.uz_search.specs.Following.{Flash};
+ghost use Rattle.uz_search.specs.Refusing.{Refusal};
+ghost use Rattle.uz_search.specs.Searching.{IsSearchOf, IsEnded, StopHolds};
+ghost use Rattle.uz_search.specs.Trails.{ComeEarlier};
+ghost use Rattle.uz_search.specs.Visiting.{IsTree};
+
+use crate::asking::{Stop, examine};
+use crate::found::{Found, NotFound};
+use crate::passing::line_start;
+use crate::program::{Program, copied_starts, followers, starts_in_main};
+use crate::returns::is_without_return;
+use crate::trail::{copy_at, trail_to};
+use crate::visited::add_all;
+use indexmap::IndexSet;
+use std::alloc::{AllocError, Global};
+use uz_hex::Image;
+use uz_schedule::Instance;
+
+/// The refusal of a search that stops at the instance of this number.
+fn refused(
+    alloc: Global,
+    nodes: &[Instance],
+    parents: &[Option<u32>],
+    done: u32,
+    stop: Stop,
+) -> NotFound
+    requires lengths { length parents.now ≡ length nodes.now }
+    requires earlier { ComeEarlier parents.now }
+    requires within { done < length nodes.now }
+    requires other { (other : ℕ) → stop ≡ Stop.Split other → other < length nodes.now }
+    ensures { (image : Flash) (p : Program) (limit : ℕ) (x : Instance) → IsTree image p nodes.now parents.now →
+        slice_get nodes.now done ≡ Some x → StopHolds image p nodes.now x stop → Refusal image p limit result }
+{
+    match stop {
+        Stop::Memory => NotFound::Memory,
+        Stop::Stuck(why) => match trail_to(alloc, nodes, parents, done) {
+            Ok(trail) => NotFound::Stuck { trail, why },
+            Err(_) => NotFound::Memory,
+        },
+        Stop::Split(other) => match (
+            trail_to(alloc, nodes, parents, other),
+            trail_to(alloc, nodes, parents, done),
+        ) {
+            (Ok(first), Ok(second)) => NotFound::Split { first, second },
+            _ => NotFound::Memory,
+        },
+    }
+}
+
+/// Treats the instance of this number: asks it, and adds what follows it.
+fn step(
+    alloc: Global,
+    image: &Image,
+    program: &Program,
+    found: &mut Found,
+    done: u32,
+) -> Result<(), NotFound>
+    requires fits { ProgramFits program.now }
+    requires so_far { IsSearchOf image.now program.now found.old done }
+    requires within { done < length found.old.nodes.keys }
+    ensures ok { OnOk result (IsSearchOf image.now program.now found.new (done + 1)) }
+    ensures refusal { IfErr result (λ e. (limit : ℕ) → Refusal image.now program.now limit e) }
+{
+    let at = copy_at(found.nodes.as_slice(), done as usize);
+    match examine(
+        image,
+        program,
+        &at,
+        done,
+        found.marks.as_mut_slice(),
+        found.returns.as_mut_slice(),
+    ) {
+        Err(stop) => Err(refused(
+            alloc,
+            found.nodes.as_slice(),
+            found.parents.as_slice(),
+            done,
+            stop,
+        )),
+        Ok(next) => {
+            let follow = followers(alloc, program, &next)?;
+            add_all(&mut found.nodes, &mut found.parents, follow, Some(done))?;
+            Ok(())
+        }
+    }
+}
+
+/// A list with nothing at each of this many places.
+fn blank<T: Drop>(alloc: Global, count: u32) -> Result<Vec<Option<T>>, AllocError>
+    ensures { IfOk result (λ v. v.items ≡ replicate count None) }
+{
+    let mut places = Vec::new(alloc);
+    'fill: for _ in 0..count {
+        places.push(None)?;
+    }
+    Ok(places)
+}
+
+/// The search before any instance is treated: it has the starts.
+fn begin(alloc: Global, program: &Program) -> Result<Found, AllocError>
+    ensures { IfOk result (λ s. (image : Flash) → IsSearchOf image program.now s 0) }
+{
+    let mut nodes = IndexSet::new(alloc);
+    let mut parents = Vec::new(alloc);
+    let starts = copied_starts(alloc, program.starts.as_slice())?;
+    add_all(&mut nodes, &mut parents, starts, None)?;
+    let marks = blank(alloc, line_start(program.lines))?;
+    let returns = blank(alloc, u32::from(program.lines))?;
+    Ok(Found {
+        nodes,
+        parents,
+        marks,
+        returns,
+    })
+}
+
+/// Searches until every instance found is treated, or the search is refused.
+fn explore(alloc: Global, image: &Image, program: &Program, limit: u32) -> Result<Found, NotFound>
+    requires fits { ProgramFits program.now }
+    requires some { 0 < limit }
+    ensures ended { IfOk result (IsEnded image.now program.now) }
+    ensures few { IfOk result (λ s. length s.nodes.keys < limit) }
+    ensures refusal { IfErr result (Refusal image.now program.now limit) }
+{
+    let mut found = begin(alloc, program)?;
+    let mut done = 0;
+    'work: while (done as usize) < found.nodes.len() {
+        if found.nodes.len() >= limit as usize {
+            return Err(NotFound::Full { count: limit });
+        }
+        if let Err(refusal) = step(alloc, image, program, &mut found, done) {
+            return Err(refusal);
+        }
+        done += 1;
+    }
+    Ok(found)
+}
+
+/// Searches for the instances that a program reaches: from the starts it goes on to what follows each instance, until nothing new comes.
+///
+/// Ok has all instances that lie on trails, fewer than `limit`. Stuck and Split come only with trails that show
+/// them, Full only where `limit` distinct instances lie on trails, NoRest only where some start is of main and the instances on trails hold
+/// no return. Hint never comes. Time is linear in the instances and their results.
+pub fn search(
+    alloc: Global,
+    image: &Image,
+    program: &Program,
+    limit: u32,
+) -> Result<Found, NotFound>
+    requires fits { ProgramFits program.now }
+    requires some { 0 < limit }
+    ensures ended { IfOk result (IsEnded image.now program.now) }
+    ensures few { IfOk result (λ s. length s.nodes.keys < limit) }
+    ensures refusal { IfErr result (Refusal image.now program.now limit) }
+{
+    let found = match explore(alloc, image, program, limit) {
+        Ok(found) => found,
+        Err(refusal) => return Err(refusal),
+    };
+    if starts_in_main(program.starts.as_slice()) && is_without_return(found.returns.as_slice()) {
+        let count = found.nodes.len();
+        return Err(NotFound::NoRest {
+            count: count as u32,
+        });
+    }
+    Ok(found)
+}
