@@ -1,0 +1,65 @@
+-- What is marked at a position, and places some clocks apart.
+use Rattle.std.proofs.Common.{◌≡◌, ℕ, zero, suc, ◌<◌, ◌≤◌, ◌-◌, List, [], ◌∷◌, max, Option, Some, None, Bool, true, false, refl, sym, ap, ◌∙◌, subst, inl, inr, slice_get, nat_eq, if◌then◌else◌, arith}
+use Rattle.std.proofs.lemmas.Bool.{eqb-true, eq-eqb}
+use Rattle.uz_schedule.specs.declared.states.Instance.{Instance}
+use Rattle.uz_schedule.specs.declared.lines.EventKind.{EventKind}
+use Rattle.uz_search.specs.declared.marks.Mark.{Mark}
+use Rattle.uz_search.specs.Following.{most_clocks, clocks_between, shown_at}
+use Rattle.uz_search.specs.Marking.{Seen}
+use Rattle.uz_search.proofs.FramePlaces.{IsNext, Reaches, one_next}
+use Rattle.uz_search.proofs.VisitingLemmas.{some_is}
+
+-- one position is marked once
+pub seen_once : (marks : List (Option Mark)) (p : ℕ) (d e : Option EventKind) → Seen marks p d → Seen marks p e → d ≡ e
+seen_once marks p d e a b =
+    let same : a.0 ≡ b.0 = some_is a.0 b.0 (some_is (Some a.0) (Some b.0) (sym a.1 ∙ b.1)) in
+    sym a.2 ∙ ap (λ m. m.event) same ∙ b.2
+
+shown_choice : (b : Bool) (d e : EventKind) → (if b then Some d else None) ≡ Some e → (b ≡ true) × (d ≡ e)
+shown_choice true d e h = (refl, some_is d e h)
+shown_choice false d e h = cc
+
+-- what is shown at a clock is the one event
+pub shown_is : (emit : Option (ℕ × EventKind)) (k : ℕ) (e : EventKind) → shown_at emit k ≡ Some e → emit ≡ Some (k, e)
+shown_is None k e h = cc
+shown_is (Some d) k e h =
+    let c = shown_choice (nat_eq d.0 k) d.1 e h in
+    let one : d.0 ≡ k = eqb-true d.0 k c.0 in
+    λ i. Some (one i, c.1 i)
+
+pub shown_here : (emit : Option (ℕ × EventKind)) (k : ℕ) (e : EventKind) → emit ≡ Some (k, e) → shown_at emit k ≡ Some e
+shown_here emit k e h = ap (λ m. shown_at m k) h ∙ ap (λ b. if b then Some e else None) (eq-eqb k k refl)
+
+pub one_emit : (emit : Option (ℕ × EventKind)) (j k : ℕ) (d e : EventKind) → emit ≡ Some (j, d) → emit ≡ Some (k, e) → (j ≡ k) × (d ≡ e)
+one_emit emit j k d e a b =
+    let p : (j, d) ≡ (k, e) = some_is (j, d) (k, e) (sym a ∙ b) in
+    (ap (λ (x : ℕ × EventKind). x.0) p, ap (λ (x : ℕ × EventKind). x.1) p)
+
+pub clocks_few : (x : Instance) (out : List Instance) (i : ℕ) (y : Instance) → slice_get out i ≡ Some y → clocks_between x y ≤ most_clocks x out
+clocks_few x [] i y h = cc
+clocks_few x (z ∷ zs) zero y h = subst (λ v. clocks_between x v ≤ max (clocks_between x z) (most_clocks x zs)) (some_is z y h) (omega arith)
+clocks_few x (z ∷ zs) (suc i) y h = let r = clocks_few x zs i y h in omega (arith, r)
+
+-- from one place that is passed to a later one
+pub reaches_less : (lines line clock c l1 q1 d l q : ℕ) → Reaches lines line clock c l1 q1 → Reaches lines line clock d l q → c < d → Reaches lines l1 q1 (d - c) l q
+reaches_less lines line clock c l1 q1 d l q (h1, inl a) (h, inl b) lt = (h, inl (b.0 ∙ sym a.0, omega (arith, a.1, b.1)))
+reaches_less lines line clock c l1 q1 d l q (h1, inl a) (h, inr b) lt =
+    (h, inr (subst (λ (m : ℕ). IsNext lines m l) (sym a.0) b.0, omega (arith, a.1, b.1)))
+reaches_less lines line clock c l1 q1 d l q (h1, inr a) (h, inl b) lt = absurd (omega (arith, a.1, b.1))
+reaches_less lines line clock c l1 q1 d l q (h1, inr a) (h, inr b) lt =
+    (h, inl (one_next lines line l l1 b.0 a.0, omega (arith, a.1, b.1)))
+
+pub reaches_one : (lines line clock k l q l' q' : ℕ) → Reaches lines line clock k l q → Reaches lines line clock k l' q' → (l ≡ l') × (q ≡ q')
+reaches_one lines line clock k l q l' q' (h, inl a) (h', inl b) = (a.0 ∙ sym b.0, a.1 ∙ sym b.1)
+reaches_one lines line clock k l q l' q' (h, inl a) (h', inr b) = absurd (omega (arith, a.1, b.1))
+reaches_one lines line clock k l q l' q' (h, inr a) (h', inl b) = absurd (omega (arith, a.1, b.1))
+reaches_one lines line clock k l q l' q' (h, inr a) (h', inr b) = (one_next lines line l l' a.0 b.0, omega (arith, a.1, b.1))
+
+-- a place on the same line before one that is passed
+pub reaches_back : (lines line clock c l q r : ℕ) → Reaches lines line clock c l q → r ≤ q → line < lines → clock < 1820 → ((l ≡ line) → clock < r)
+    → (1 ≤ c - (q - r)) × (c - (q - r) ≤ c) × Reaches lines line clock (c - (q - r)) l r
+reaches_back lines line clock c l q r (h, inl a) le below in_line after =
+    let lt : clock < r = after a.0 in
+    (omega (arith, a.1), omega arith, (omega arith, inl (a.0, omega (arith, a.1))))
+reaches_back lines line clock c l q r (h, inr a) le below in_line after =
+    (omega (arith, a.1), omega arith, (omega arith, inr (a.0, omega (arith, a.1))))

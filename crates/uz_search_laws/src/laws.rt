@@ -1,0 +1,33 @@
+//! Laws of an ended search. Each function does nothing: its clause is the law.
+
+ghost use Rattle.uz_search_laws.specs.Complete.{EndedFallsOnce, EndedLevelsFit, EndedRestsAreQuiet, EndedLevels, EndedRestsEnter, EndedPassesLocal};
+
+/// Each line of the schedule falls: sync 0 stands at the fall, nothing before it, and no other sync 0.
+pub fn ended_falls_once()
+    ensures { EndedFallsOnce }
+{}
+
+/// The levels that are marked are 0 and 1.
+pub fn ended_levels_fit()
+    ensures { EndedLevelsFit }
+{}
+
+/// The handler's returns stand in the schedule, and nothing after them until its next entry is over.
+pub fn ended_rests_are_quiet()
+    ensures { EndedRestsAreQuiet }
+{}
+
+/// The level of each instance is the schedule's at its position.
+pub fn ended_levels()
+    ensures { EndedLevels }
+{}
+
+/// After each return the handler's first state is an instance of the search, whatever the interrupt's latency.
+pub fn ended_rests_enter()
+    ensures { EndedRestsEnter }
+{}
+
+/// Each instance passes the local rule, where its results lie in the successors that are named.
+pub fn ended_passes_local()
+    ensures { EndedPassesLocal }
+{}

@@ -1,0 +1,9 @@
+//! Laws of an ended search: the certificate that is made of it passes the frame rules and the local rules.
+#![tactic(auto)]
+
+mod laws;
+
+pub use laws::{
+    ended_falls_once, ended_levels, ended_levels_fit, ended_passes_local, ended_rests_are_quiet,
+    ended_rests_enter,
+};
