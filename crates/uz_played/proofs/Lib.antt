@@ -1,0 +1,7 @@
+mod Changes
+mod RunParts
+mod EventLists
+mod Falls
+mod LinesKept
+mod Order
+mod Keeps
