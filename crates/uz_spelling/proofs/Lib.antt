@@ -1,0 +1,4 @@
+pub mod Joining
+pub mod Runs
+pub mod Steps
+pub mod WholeLines

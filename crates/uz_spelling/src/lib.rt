@@ -1,0 +1,12 @@
+//! The text of a certificate.
+#![tactic(auto)]
+
+mod facts;
+mod head_lines;
+mod items;
+mod schedule_lines;
+mod state_lines;
+mod words;
+mod writing;
+
+pub use writing::write_cert;
