@@ -1,0 +1,88 @@
+//! Rests and entries with other numbers of points.
+
+ghost use Rattle.std.specs.Prelude.{◌≡◌, ◌≤◌, IfOk, length, map};
+ghost use Rattle.uz_join.specs.Joined.{rest_unnumbered, entry_unnumbered};
+
+use crate::boxes::renumbered;
+use arrayvec::ArrayVec;
+use std::alloc::{AllocError, Global};
+use uz_schedule::{Entry, Rest, Sequence, Span};
+
+/// A copy of ranges of cells.
+fn copied_cells(from: &[Span]) -> ArrayVec<Span, 16>
+    requires { length from.now ≤ 16 }
+    ensures { result.items ≡ from.now }
+{
+    let mut copy = ArrayVec::new();
+    for span in from {
+        copy.push(*span);
+    }
+    copy
+}
+
+/// A copy of ranges of slots.
+fn copied_slots(from: &[Span]) -> ArrayVec<Span, 32>
+    requires { length from.now ≤ 32 }
+    ensures { result.items ≡ from.now }
+{
+    let mut copy = ArrayVec::new();
+    for span in from {
+        copy.push(*span);
+    }
+    copy
+}
+
+/// A copy of ranges of registers.
+fn copied_registers(from: &[Span; 32]) -> [Span; 32]
+    ensures { result ≡ from.now }
+{
+    let mut copy = [Span::single(0); 32];
+    for r in 0..32usize {
+        copy[r] = from[r];
+    }
+    copy
+}
+
+/// A rest with another vector.
+fn with_vector(rest: &Rest, vector: u32) -> Rest
+    ensures { rest_unnumbered result ≡ rest_unnumbered rest.now }
+{
+    Rest {
+        line: rest.line,
+        clock: rest.clock,
+        vector,
+        cells: copied_cells(rest.cells.as_slice()),
+    }
+}
+
+/// The rests with the numbers of their vectors' chains.
+pub(crate) fn rests_of(
+    alloc: Global,
+    rests: &[Rest],
+    numbers: &[u32],
+) -> Result<Sequence<Rest>, AllocError>
+    ensures { IfOk result (λ r. map rest_unnumbered r ≡ map rest_unnumbered rests.now) }
+{
+    let mut all = Sequence::new(alloc);
+    for rest in rests {
+        all.push(with_vector(rest, renumbered(numbers, rest.vector)))?;
+    }
+    Ok(all)
+}
+
+/// The entry with the number of its point's chain.
+pub(crate) fn entry_of(entry: &Entry, numbers: &[u32]) -> Entry
+    ensures { entry_unnumbered result ≡ entry_unnumbered entry.now }
+{
+    Entry {
+        kind: entry.kind,
+        id: renumbered(numbers, entry.id),
+        pc: entry.pc,
+        line: entry.line,
+        clock: entry.clock,
+        regs: copied_registers(&entry.regs),
+        flags: entry.flags,
+        stack: copied_slots(entry.stack.as_slice()),
+        cells: copied_cells(entry.cells.as_slice()),
+    }
+}

@@ -1,0 +1,99 @@
+//! What points of one chain have in common: all but their lines, their successors and the bytes that their facts tell.
+
+use crate::facts::{code, differences, grow_alike, same_but_bytes};
+use uz_schedule::{Bit, Fact, Kind, Point};
+
+/// Whether a point may be joined with others: it stands at one line, and isn't of main.
+pub(crate) fn is_joinable(point: &Point) -> bool {
+    point.l0 == point.l1
+        && match point.kind {
+            Kind::Main => false,
+            Kind::Handler | Kind::Alone => true,
+        }
+}
+
+/// Whether two points stand at the same place of the program and of the line.
+fn same_place(a: &Point, b: &Point) -> bool {
+    a.kind == b.kind
+        && a.pc == b.pc
+        && a.clock == b.clock
+        && a.slope == b.slope
+        && a.c0 == b.c0
+        && a.c1 == b.c1
+        && a.pending == b.pending
+}
+
+/// Whether two points have one shape.
+pub(crate) fn same_shape(a: &Point, b: &Point) -> bool {
+    same_place(a, b)
+        && a.flags == b.flags
+        && a.pairs == b.pairs
+        && same_but_bytes(&a.regs, &b.regs)
+        && same_but_bytes(a.stack.as_slice(), b.stack.as_slice())
+        && same_but_bytes(a.cells.as_slice(), b.cells.as_slice())
+}
+
+/// Whether each byte grows from `last` to `new` as it does from `first` to `second`.
+pub(crate) fn goes_on(first: &Point, second: &Point, last: &Point, new: &Point) -> bool {
+    grow_alike(&first.regs, &second.regs, &last.regs, &new.regs)
+        && grow_alike(
+            first.stack.as_slice(),
+            second.stack.as_slice(),
+            last.stack.as_slice(),
+            new.stack.as_slice(),
+        )
+        && grow_alike(
+            first.cells.as_slice(),
+            second.cells.as_slice(),
+            last.cells.as_slice(),
+            new.cells.as_slice(),
+        )
+}
+
+/// How many bytes differ in two points.
+pub(crate) fn distance(a: &Point, b: &Point) -> u32 {
+    differences(&a.regs, &b.regs)
+        .saturating_add(differences(a.stack.as_slice(), b.stack.as_slice()))
+        .saturating_add(differences(a.cells.as_slice(), b.cells.as_slice()))
+}
+
+/// The key of no number, and the factor for each: those of the hash FNV-1a of 64 bits.
+const SEED: u64 = 0xcbf2_9ce4_8422_2325;
+
+const FACTOR: u64 = 0x0000_0100_0000_01b3;
+
+/// One more number in a key.
+fn mixed(key: u64, number: u64) -> u64 {
+    (key ^ number).wrapping_mul(FACTOR)
+}
+
+fn mixed_facts(key: u64, facts: &[Fact]) -> u64 {
+    let mut key = mixed(key, facts.len() as u64);
+    for fact in facts {
+        key = mixed(key, code(fact));
+    }
+    key
+}
+
+fn flag_code(flag: Bit) -> u64 {
+    match flag {
+        Bit::Zero => 0,
+        Bit::One => 1,
+        Bit::Free => 2,
+        Bit::Old => 3,
+    }
+}
+
+/// A number that points of one shape have alike. Few others have it.
+pub(crate) fn key(point: &Point) -> u64 {
+    let place = mixed(mixed(SEED, u64::from(point.pc)), u64::from(point.clock));
+    let mut key = mixed(place, u64::from(point.c1));
+    for flag in &point.flags {
+        key = mixed(key, flag_code(*flag));
+    }
+    let regs = mixed_facts(key, &point.regs);
+    mixed_facts(
+        mixed_facts(regs, point.stack.as_slice()),
+        point.cells.as_slice(),
+    )
+}
