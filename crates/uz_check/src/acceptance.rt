@@ -141,8 +141,9 @@ pub fn check(image: Image, cert: Cert) -> Result<Accepted, Refused>
     check_counted(image, cert, &mut looked)
 }
 
-/// Checks an image against a certificate as `check` does, and counts the instances that the local rule is asked of. `looked` rises by at most
-/// the number of instances on lines of which the line before doesn't tell, and stays at the greatest u64. Takes no memory.
+/// Checks an image against a certificate as `check` does, and counts the instances that the local rule is asked of. `looked`
+/// rises by at most the number of instances on lines of which the line before doesn't tell, and stays at the greatest u64.
+/// Takes no memory.
 pub fn check_counted(image: Image, cert: Cert, looked: &mut u64) -> Result<Accepted, Refused>
     requires { WellFormed cert }
     ensures certified { IfOk result (λ a. Certified a.image a.cert) }

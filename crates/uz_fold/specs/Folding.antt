@@ -38,7 +38,8 @@ pair_keeps_by_lines (LoopPair a b) = true
 -- no fact of the point is `Line`
 abbrev pub has_no_line : Point → Bool
 has_no_line p =
-    list_all keeps_by_lines p.regs && (list_all pair_keeps_by_lines p.pairs && (list_all keeps_by_lines p.stack.items && list_all keeps_by_lines p.cells.items))
+    list_all keeps_by_lines p.regs
+    && (list_all pair_keeps_by_lines p.pairs && (list_all keeps_by_lines p.stack.items && list_all keeps_by_lines p.cells.items))
 
 -- a named successor has no fact that is `Line`
 abbrev pub has_no_line_there : Option Point → Bool
@@ -97,7 +98,8 @@ is_on_line p l = nat_le p.l0 l && nat_le l p.l1
 -- its box holds line l and the two that follow it, or none of them
 abbrev pub is_even : Schedule → ℕ → Option Point → Bool
 is_even s l None = true
-is_even s l (Some q) = same_bool (is_on_line q l) (is_on_line q (next_line s l)) && same_bool (is_on_line q l) (is_on_line q (next_line s (next_line s l)))
+is_even s l (Some q) =
+    same_bool (is_on_line q l) (is_on_line q (next_line s l)) && same_bool (is_on_line q l) (is_on_line q (next_line s (next_line s l)))
 
 -- so does that of each named successor
 abbrev pub boxes_even : Cert → Point → ℕ → Bool
@@ -112,6 +114,7 @@ folds cert p l = lines_alike cert l && (is_plain cert p && boxes_even cert p l)
 -- where both lines are in the point's box and that holds, the local rule has one answer at the two, whatever the count
 abbrev pub FoldingLaw : Type 0
 FoldingLaw =
-    (image : FinMap nat_cmp ℕ) (cert : Cert) (id l c : ℕ) (p : Point) (why : Option Fail) → slice_get cert.points id ≡ Some p → l < length cert.schedule.lines
+    (image : FinMap nat_cmp ℕ) (cert : Cert) (id l c : ℕ) (p : Point) (why : Option Fail)
+    → slice_get cert.points id ≡ Some p → l < length cert.schedule.lines
     → is_on_line p l ≡ true → is_on_line p (next_line cert.schedule l) ≡ true → folds cert p l ≡ true
     → IsLocal image cert id l c why ↔ IsLocal image cert id (next_line cert.schedule l) c why

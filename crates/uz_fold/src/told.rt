@@ -55,8 +55,8 @@ fn is_told(cert: &Cert, lines: &[bool; 525], reach: Reach, point: &Point, line: 
             && (reach.plain && are_even(cert, reach, point, line - 1)))
 }
 
-/// The first line of a point's box, from this one on, of which the line before doesn't tell; the one past the box's last where there is none.
-/// `lines` is what `all_lines_alike` answers, and `reach` what `reach_of` answers of the point. No memory.
+/// The first line of a point's box, from this one on, of which the line before doesn't tell; the one past the box's last where
+/// there is none. `lines` is what `all_lines_alike` answers, and `reach` what `reach_of` answers of the point. No memory.
 pub fn next_untold(cert: &Cert, lines: &[bool; 525], reach: Reach, point: &Point, line: u16) -> u16
     requires fits { WellFormed cert.now }
     requires box_fits { point.now.l1 < length cert.now.schedule.lines }
