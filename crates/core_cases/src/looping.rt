@@ -6,12 +6,12 @@ use crate::memory::Memory;
 use crate::prepare::put;
 use anyhow::Result;
 use std::alloc::Global;
-use uz_core::{Cpu, Step};
+use uz_core::{Cpu, Program, Step};
 use uz_hex::Image;
 
 /// `ldi r26,0`, `ldi r27,2`, then the loop `ld r17,X`, `add r16,r17`, `eor r18,r19`, `inc r19`, `st X,r18`, `brne` and
 /// `rjmp` to its first instruction.
-const PROGRAM: [u16; 9] = [
+const LOOP: [u16; 9] = [
     0xE0A0, 0xE0B2, 0x911C, 0x0F01, 0x2723, 0x9533, 0x932C, 0xF7D1, 0xCFF9,
 ];
 
@@ -23,7 +23,7 @@ struct Count {
 }
 
 /// Runs until so many clocks have passed. Each step takes one clock at least.
-fn run(cpu: &mut Cpu, flash: &Image, memory: &mut Memory, clocks: u32) -> Count
+fn run(cpu: &mut Cpu, program: &Program, memory: &mut Memory, clocks: u32) -> Count
     requires { memory.old.held.items ≡ [] }
 {
     let mut count = Count {
@@ -34,7 +34,7 @@ fn run(cpu: &mut Cpu, flash: &Image, memory: &mut Memory, clocks: u32) -> Count
         if count.clocks >= u64::from(clocks) {
             break;
         }
-        match cpu.step(flash, memory) {
+        match cpu.step_in(program, memory) {
             Step::Took { clocks, .. } => {
                 memory.finish();
                 count.clocks = count.clocks.wrapping_add(u64::from(clocks));
@@ -50,13 +50,14 @@ fn run(cpu: &mut Cpu, flash: &Image, memory: &mut Memory, clocks: u32) -> Count
 pub fn measure(rt: &impl Print, alloc: Global, clocks: u32) -> Result<()> {
     let mut flash = Image::empty(alloc)?;
     let mut at = 0u16;
-    for word in PROGRAM {
+    for word in LOOP {
         put(&mut flash, at, word);
         at = at.wrapping_add(1);
     }
+    let program = Program::new(alloc, flash)?;
     let mut memory = Memory::new(alloc)?;
     let mut cpu = Cpu::reset();
-    let count = run(&mut cpu, &flash, &mut memory, clocks);
+    let count = run(&mut cpu, &program, &mut memory, clocks);
     println!(rt;
         "clocks {} steps {} r16 {} r18 {} r19 {}",
         count.clocks,

@@ -11,7 +11,7 @@ use Rattle.uz_console.specs.declared.console.Console.{Console}
 -- a console is a state over its board's own pads
 abbrev pub state_of : Console → State Pads
 state_of console = record {
-  image = console.image;
+  image = console.program;
   core = console.cpu;
   space = board.space_of console.board;
   response = response_clocks console.irq;

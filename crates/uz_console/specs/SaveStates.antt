@@ -13,7 +13,7 @@ use Rattle.uz_console.specs.declared.copying.SaveState.{SaveState}
 
 -- two consoles with the same parts
 pub record SameConsole (a b : Console) : Type 0 where
-  pub image : b.image ≡ a.image
+  pub image : b.program ≡ a.program
   pub core : b.cpu ≡ a.cpu
   pub board : SameBoard a.board b.board
   pub response : b.irq ≡ a.irq

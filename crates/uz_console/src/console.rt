@@ -11,17 +11,18 @@ ghost use Rattle.uz_pads.specs.Pads.{pairs_of, pads_wiring};
 ghost use Rattle.uz_ports.specs.Boards.{held_of, entered_of};
 
 use std::alloc::{AllocError, Global};
-use uz_core::Cpu;
+use uz_core::{Cpu, Program};
 use uz_hex::Image;
 use uz_machine::address::{IO_BASE, SPH, SPL, SREG};
 use uz_pads::{Pad, Pads};
 use uz_ports::Board;
 use uz_schedule::Response;
 
-/// A Uzebox console: the flash, the core, and the board with the clock. Between turns nothing is held or noted.
+/// A Uzebox console: the flash with its words decoded, the core, and the board with the clock. Between turns nothing is held or
+/// noted.
 #[derive(Drop)]
 pub struct Console {
-    pub(crate) image: Image,
+    pub(crate) program: Program,
     pub(crate) cpu: Cpu,
     pub(crate) board: Board,
     pub(crate) irq: Response,
@@ -60,7 +61,7 @@ impl Console {
         ensures { IfOk result (λ console. StandsFor console (state_at_reset image (history_at_reset (pairs_of pads.items)) (response_clocks irq))) }
     {
         Ok(Console {
-            image,
+            program: Program::new(alloc, image)?,
             cpu: Cpu::reset(),
             board: Board::reset(alloc, Pads::new(pads))?,
             irq,
@@ -90,7 +91,7 @@ impl Console {
         ensures own { result ≡ word_of (state_of self.now).image (state_of self.now).core.pc }
         ensures stands { (s : State PadHistory) → StandsFor self.now s → result ≡ word_of s.image s.core.pc }
     {
-        self.image.word(self.cpu.pc())
+        self.program.image().word(self.cpu.pc())
     }
 
     /// A register.

@@ -47,7 +47,7 @@ impl Console {
         ensures { IfOk result (SameConsole self.now) }
     {
         Ok(Console {
-            image: self.image.copy(alloc)?,
+            program: self.program.copy(alloc)?,
             cpu: self.cpu.copy(),
             board: self.board.copy(alloc)?,
             irq: self.irq,

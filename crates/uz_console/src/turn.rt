@@ -11,8 +11,7 @@ ghost use Rattle.uz_console.specs.Turns.{IsTurn, TurnTakesTime, IsMade, HasSome,
 
 use crate::Console;
 use arrayvec::ArrayVec;
-use uz_core::{Cpu, Step, Why};
-use uz_hex::Image;
+use uz_core::{Cpu, Program, Step, Why};
 use uz_machine::Edge;
 use uz_ports::Board;
 
@@ -45,16 +44,16 @@ fn finish(board: &mut Board, clocks: u8, returned: bool, edges: &mut ArrayVec<Ed
     ensures clock { board_clock board.new ≡ board_clock board.old + clocks }
     ensures edges { edges.new.items ≡ entry_edge (board_clock board.old) (entered_of board.old) ++ edges_at (board_clock board.old + clocks) (all_edge_kinds pads_wiring (held_of board.old) (space_after clocks (space_of board.old)) ++ (if returned then Leave ∷ [] else [])) }
 {
-    *edges = board.finish(clocks, returned);
+    board.finish_into(clocks, returned, edges);
 }
 
 /// One instruction, whose stores the board holds.
 #[tactic(auto, using(crate::proofs::TurnLemmas::board_step))]
-fn step(cpu: &mut Cpu, image: &Image, board: &mut Board) -> Step
+fn step(cpu: &mut Cpu, program: &Program, board: &mut Board) -> Step
     requires { held_of board.old ≡ [] }
-    ensures { IsBoardStep image.now cpu.old (content_of board.old) cpu.new (content_of board.new) (held_of board.new) result }
+    ensures { IsBoardStep program.now cpu.old (content_of board.old) cpu.new (content_of board.new) (held_of board.new) result }
 {
-    cpu.step(image, board)
+    cpu.step_in(program, board)
 }
 
 impl Console {
@@ -83,14 +82,14 @@ impl Console {
         ensures instructed { IsInstructed (state_of self.old) (state_of self.new) edges.new.items result }
         ensures some { HasSome edges.new.items result }
     {
-        match step(&mut self.cpu, &self.image, &mut self.board) {
+        match step(&mut self.cpu, &self.program, &mut self.board) {
             Step::Took {
                 clocks,
                 owed,
                 returned,
             } => {
                 self.owed = owed;
-                if self.board.is_quiet(returned) {
+                if self.board.holds_nothing() && !returned {
                     self.board.pass(clocks);
                     Made::Quiet
                 } else {

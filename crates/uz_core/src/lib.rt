@@ -6,9 +6,11 @@
 mod arithmetic;
 mod cpu;
 mod data;
+mod decoded;
 mod effects;
 mod instruction;
 mod operation;
+mod program;
 mod step;
 
 pub use arithmetic::{
@@ -17,5 +19,6 @@ pub use arithmetic::{
 pub use cpu::Cpu;
 pub use data::Data;
 pub use effects::effect;
+pub use program::Program;
 pub use step::{Step, Why};
 pub use uz_machine::Flags;

@@ -1,20 +1,20 @@
 //! One instruction, and an interrupt's entry.
 
-ghost use Rattle.std.specs.Prelude.{◌≡◌, ◌≢◌, ◌<◌, ◌≤◌, ◌+◌, ◌-◌, [], filter, IsTrue, ◌↔◌};
+ghost use Rattle.std.specs.Prelude.{◌≡◌, ◌≢◌, ◌<◌, ◌≤◌, ◌+◌, ◌-◌, [], filter};
 ghost use Rattle.uz_machine.specs.declared.Effect.TheVariants.{Stop};
-ghost use Rattle.uz_machine.specs.Effects.{effect_of};
-ghost use Rattle.uz_machine.specs.Core.{Core, LoadModel, changed_core, loaded_bytes, content_after_loads, load_addresses, stores_of, pc_stores, leaves_core, next_pc, outcome_of, sample_clock, step_result, owes_instruction, returns_from_interrupt, interrupted_core};
-ghost use Rattle.avr_table.specs.Rows.{clocks_of};
+ghost use Rattle.uz_machine.specs.Core.{Core, LoadModel, changed_core, loaded_bytes, content_after_loads, load_addresses, stores_of, pc_stores, leaves_core, next_pc, outcome_of, interrupted_core};
 ghost use Rattle.uz_machine.specs.OperandRanges.{EffectFits};
+ghost use Rattle.uz_core.specs.Programs.{IsReading, decoded_result};
 ghost use Rattle.uz_core.specs.Steps.{IsStep};
 ghost use Rattle.uz_core.specs.declared.step.Step.TheVariants.{Took};
 
-use crate::effects::effect;
+use crate::decoded::{Decoded, Reading};
 use crate::instruction::bit_equals;
 use crate::operation::{I, with_bit};
+use crate::program::{Program, read_at};
 use crate::{Cpu, Data};
-use avr_decode::{decode, length};
-use avr_table::{Instr, Outcome, clocks, words};
+use avr_decode::length;
+use avr_table::Outcome;
 use uz_hex::Image;
 use uz_machine::Effect;
 use uz_machine::address::TIMER1_COMPA;
@@ -46,24 +46,24 @@ impl Cpu {
     /// Makes an effect of a row with these words, its loads sampled at this clock. Answers the outcome.
     fn perform<D: Data>(
         &mut self,
-        e: Effect,
+        e: &Effect,
         flash: &Image,
         words: u8,
         late: u8,
         space: &mut D,
     ) -> Outcome
-        requires fits { EffectFits e }
+        requires fits { EffectFits e.now }
         requires words { words < 3 }
         requires free { D.held space.old ≡ [] }
-        requires runs { e ≢ Stop }
-        ensures core { let loaded = loaded_bytes D.model self.old late (D.content space.old) (load_addresses e self.old) in self.new ≡ record (changed_core e flash.now words loaded self.old) { pc = next_pc e result words loaded self.old } }
-        ensures content { D.content space.new ≡ content_after_loads D.model late (D.content space.old) (load_addresses e self.old) }
-        ensures held { D.held space.new ≡ filter leaves_core (stores_of e words self.old) }
-        ensures outcome { let loaded = loaded_bytes D.model self.old late (D.content space.old) (load_addresses e self.old) in result ≡ outcome_of e flash.now words loaded self.old }
+        requires runs { e.now ≢ Stop }
+        ensures core { let loaded = loaded_bytes D.model self.old late (D.content space.old) (load_addresses e.now self.old) in self.new ≡ record (changed_core e.now flash.now words loaded self.old) { pc = next_pc e.now result words loaded self.old } }
+        ensures content { D.content space.new ≡ content_after_loads D.model late (D.content space.old) (load_addresses e.now self.old) }
+        ensures held { D.held space.new ≡ filter leaves_core (stores_of e.now words self.old) }
+        ensures outcome { let loaded = loaded_bytes D.model self.old late (D.content space.old) (load_addresses e.now self.old) in result ≡ outcome_of e.now flash.now words loaded self.old }
     {
         let following = self.following_pc(words);
         let _same = following;
-        match e {
+        match *e {
             Effect::NoOperation => {}
             Effect::CopyByte { d, source } => self.copy_byte(d, source),
             Effect::CopyPair { d, r } => self.copy_pair(d, r),
@@ -130,23 +130,35 @@ impl Cpu {
         Outcome::Next
     }
 
-    /// Runs the instruction that was read.
-    fn execute<D: Data>(&mut self, i: &Instr, e: Effect, flash: &Image, space: &mut D) -> Step
+    /// Runs an instruction that was decoded.
+    fn execute<D: Data>(&mut self, decoded: &Decoded, flash: &Image, space: &mut D) -> Step
         requires free { D.held space.old ≡ [] }
-        requires effect { effect_of i.now ≡ e }
-        requires fits { EffectFits e }
-        requires runs { e ≢ Stop }
-        ensures core { self.new ≡ (step_result D.model flash.now i.now self.old (D.content space.old)).core }
-        ensures content { D.content space.new ≡ (step_result D.model flash.now i.now self.old (D.content space.old)).content }
-        ensures held { D.held space.new ≡ (step_result D.model flash.now i.now self.old (D.content space.old)).stores }
-        ensures took { let r = step_result D.model flash.now i.now self.old (D.content space.old) in result ≡ Took r.clocks r.owed r.returned }
+        requires fits { EffectFits decoded.now.effect }
+        requires runs { decoded.now.effect ≢ Stop }
+        ensures core { self.new ≡ (decoded_result D.model flash.now decoded.now self.old (D.content space.old)).core }
+        ensures content { D.content space.new ≡ (decoded_result D.model flash.now decoded.now self.old (D.content space.old)).content }
+        ensures held { D.held space.new ≡ (decoded_result D.model flash.now decoded.now self.old (D.content space.old)).stores }
+        ensures took { let r = decoded_result D.model flash.now decoded.now self.old (D.content space.old) in result ≡ Took r.clocks r.owed r.returned }
     {
-        let late = sample_clock(i, e);
-        let outcome = self.perform(e, flash, words(i), late, space);
+        let outcome = self.perform(&decoded.effect, flash, decoded.words, decoded.late, space);
         Step::Took {
-            clocks: clocks(i, outcome),
-            owed: owes_instruction(e),
-            returned: returns_from_interrupt(e),
+            clocks: decoded.clocks.at(outcome),
+            owed: decoded.owed,
+            returned: decoded.returned,
+        }
+    }
+
+    /// Runs what is read at pc.
+    #[inline(always)]
+    fn run<D: Data>(&mut self, reading: &Reading, flash: &Image, space: &mut D) -> Step
+        requires free { D.held space.old ≡ [] }
+        requires reading { IsReading flash.now self.old.pc reading.now }
+        ensures { IsStep D.model flash.now self.old (D.content space.old) self.new (D.content space.new) (D.held space.new) result }
+    {
+        match reading {
+            Reading::Runs(decoded) => self.execute(decoded, flash, space),
+            Reading::Spm => Step::Stopped(Why::Spm),
+            Reading::NoRow => Step::Stopped(Why::Opcode(flash.word(self.pc()))),
         }
     }
 
@@ -154,25 +166,21 @@ impl Cpu {
     /// loads, sampled as the table of phases says, and by the stores that it then holds, at most two and in order.
     ///
     /// Stopped comes exactly where no row reads the words at pc, or where the row is SPM; all is then unchanged.
-    #[tactic(auto, using(crate::proofs::StepMade::step_made))]
     pub fn step<D: Data>(&mut self, flash: &Image, space: &mut D) -> Step
         requires { D.held space.old ≡ [] }
         ensures { IsStep D.model flash.now self.old (D.content space.old) self.new (D.content space.new) (D.held space.new) result }
     {
-        let pc = self.pc();
-        let first = flash.word(pc);
-        let second = flash.word((pc + 1) % 32768);
-        match &decode(first, second) {
-            None => Step::Stopped(Why::Opcode(first)),
-            Some(i) => {
-                let e = effect(i);
-                if stops(e) {
-                    Step::Stopped(Why::Spm)
-                } else {
-                    self.execute(i, e, flash, space)
-                }
-            }
-        }
+        let reading = read_at(flash, self.pc());
+        self.run(&reading, flash, space)
+    }
+
+    /// Runs one instruction, as `step` does over the program's image, without decoding its words again.
+    #[inline(always)]
+    pub fn step_in<D: Data>(&mut self, program: &Program, space: &mut D) -> Step
+        requires { D.held space.old ≡ [] }
+        ensures { IsStep D.model program.now self.old (D.content space.old) self.new (D.content space.new) (D.held space.new) result }
+    {
+        self.run(program.reading(self.pc()), program.image(), space)
     }
 
     /// Makes the core's part of an interrupt's entry: pushes pc as a call does, then clears I, then sets pc to 0x001A,
@@ -188,46 +196,5 @@ impl Cpu {
         let sreg = with_bit(I, false, self.sreg());
         self.set_sreg(sreg);
         self.set_pc(TIMER1_COMPA);
-    }
-}
-
-/// How many clocks after the start a load is sampled: a skip's test at the start, all else one clock before the end.
-fn sample_clock(i: &Instr, e: Effect) -> u8
-    requires { effect_of i.now ≡ e }
-    ensures { result ≡ sample_clock e (clocks_of i.now) }
-{
-    match e {
-        Effect::SkipIf { .. } => 0,
-        _ => clocks(i, Outcome::Next).saturating_sub(1),
-    }
-}
-
-fn owes_instruction(e: Effect) -> bool
-    ensures { result ≡ owes_instruction e }
-{
-    match e {
-        Effect::WriteFlag { flag, set } => set && flag == I,
-        Effect::Return { from_interrupt } => from_interrupt,
-        _ => false,
-    }
-}
-
-fn returns_from_interrupt(e: Effect) -> bool
-    ensures { result ≡ returns_from_interrupt e }
-{
-    match e {
-        Effect::Return {
-            from_interrupt: true,
-        } => true,
-        _ => false,
-    }
-}
-
-fn stops(e: Effect) -> bool
-    ensures { IsTrue result ↔ (e ≡ Stop) }
-{
-    match e {
-        Effect::Stop => true,
-        _ => false,
     }
 }

@@ -44,6 +44,7 @@ impl Board {
         self.pads.levels(value);
     }
 
+    #[inline(always)]
     fn store_byte(&mut self, at: u16, value: u8)
         ensures held { held_of self.new ≡ held_of self.old }
         ensures entered { entered_of self.new ≡ entered_of self.old }
@@ -65,6 +66,7 @@ impl Board {
         }
     }
 
+    #[inline(always)]
     fn store_bit(&mut self, at: u16, bit: u8, set: bool)
         requires { bit < 8 }
         ensures held { held_of self.new ≡ held_of self.old }
@@ -87,6 +89,7 @@ impl Board {
         }
     }
 
+    #[inline(always)]
     fn make(&mut self, store: HeldStore)
         requires { HeldStoreFits store }
         ensures held { held_of self.new ≡ held_of self.old }
@@ -101,6 +104,7 @@ impl Board {
     }
 
     /// Makes a store, and answers the edge that it gives.
+    #[inline(always)]
     fn make_noted(&mut self, store: HeldStore) -> Option<EdgeKind>
         requires { HeldStoreFits store }
         ensures held { held_of self.new ≡ held_of self.old }
@@ -126,6 +130,7 @@ impl Board {
     }
 
     /// Makes a store, if there is one.
+    #[inline(always)]
     fn note(&mut self, store: Option<HeldStore>) -> Option<EdgeKind>
         requires { IfSome store HeldStoreFits }
         ensures held { held_of self.new ≡ held_of self.old }
@@ -178,6 +183,13 @@ impl Board {
         self.timer.take();
     }
 
+    /// Whether no store is held.
+    pub fn holds_nothing(&self) -> bool
+        ensures { IsTrue result ↔ (held_of self.now ≡ []) }
+    {
+        self.held.is_empty()
+    }
+
     /// Whether a turn that ends now has neither stores nor edges: nothing is held or noted, and it is no RETI.
     pub fn is_quiet(&self, returned: bool) -> bool
         ensures { IsTrue result ↔ (held_of self.now ≡ []) × (entered_of self.now ≡ None) × (returned ≡ false) }
@@ -199,6 +211,58 @@ impl Board {
             return ArrayVec::new();
         }
         self.finish_stores(clocks, returned)
+    }
+
+    /// The store that is held, where it is the only one.
+    fn one_store(&self) -> Option<HeldStore>
+        ensures { IfSome result (λ store. (held_of self.now ≡ store ∷ []) × HeldStoreFits store) }
+    {
+        match self.held.as_slice() {
+            [store] => Some(*store),
+            _ => None,
+        }
+    }
+
+    /// The end of a turn that holds one store.
+    #[inline(always)]
+    fn finish_one(&mut self, clocks: u8, store: HeldStore) -> Option<EdgeKind>
+        requires one { held_of self.old ≡ store ∷ [] }
+        requires fits { HeldStoreFits store }
+        requires entered { entered_of self.old ≡ None }
+        requires clock { clock_of self.old < 2 ^ 62 }
+        ensures space { space_of self.new ≡ after_stores pads_wiring (store ∷ []) (space_after clocks (space_of self.old)) }
+        ensures idle { (held_of self.new ≡ []) × (entered_of self.new ≡ None) }
+        ensures clock { clock_of self.new ≡ clock_of self.old + clocks }
+        ensures kinds { option_to_list result ≡ all_edge_kinds pads_wiring (store ∷ []) (space_after clocks (space_of self.old)) }
+    {
+        self.held = ArrayVec::new();
+        self.pass(clocks);
+        self.note(Some(store))
+    }
+
+    /// Ends a turn as `finish` does, with its edges in the caller's list in place of what is there. Most turns that aren't quiet have
+    /// one store, and no list is moved for them.
+    pub fn finish_into(&mut self, clocks: u8, returned: bool, edges: &mut ArrayVec<Edge, 4>)
+        requires { clock_of self.old < 2 ^ 62 }
+        ensures space { space_of self.new ≡ after_stores pads_wiring (held_of self.old) (space_after clocks (space_of self.old)) }
+        ensures idle { (held_of self.new ≡ []) × (entered_of self.new ≡ None) }
+        ensures clock { clock_of self.new ≡ clock_of self.old + clocks }
+        ensures edges { edges.new.items ≡ entry_edge (clock_of self.old) (entered_of self.old) ++ edges_at (clock_of self.old + clocks) (all_edge_kinds pads_wiring (held_of self.old) (space_after clocks (space_of self.old)) ++ (if returned then Leave ∷ [] else [])) }
+    {
+        if !returned && self.entered.is_none() {
+            if let Some(store) = self.one_store() {
+                let kind = self.finish_one(clocks, store);
+                edges.clear();
+                if let Some(kind) = kind {
+                    edges.push(Edge {
+                        clock: self.clock,
+                        kind,
+                    });
+                }
+                return;
+            }
+        }
+        *edges = self.finish(clocks, returned);
     }
 
     #[tactic(auto, using(crate::proofs::Appended::appended))]

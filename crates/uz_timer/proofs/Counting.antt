@@ -7,19 +7,19 @@ use Rattle.uz_timer.specs.OneClock.{count_up, one_clock}
 
 -- The three cases of the division
 
-low_count : (count top clocks : ℕ) → count ≤ top → count_after count top clocks ≡ (count + clocks) % (top + 1)
+pub low_count : (count top clocks : ℕ) → count ≤ top → count_after count top clocks ≡ (count + clocks) % (top + 1)
 low_count count top clocks h = grind (arith, nat_tests)
 
-mid_count : (count top clocks : ℕ) → top < count → count + clocks < 65536 → count_after count top clocks ≡ count + clocks
+pub mid_count : (count top clocks : ℕ) → top < count → count + clocks < 65536 → count_after count top clocks ≡ count + clocks
 mid_count count top clocks h k = grind (arith, nat_tests)
 
 high_count : (count top clocks : ℕ) → top < count → 65536 ≤ count + clocks → count_after count top clocks ≡ (count + clocks - 65536) % (top + 1)
 high_count count top clocks h k = grind (arith, nat_tests)
 
-low_match : (count top clocks : ℕ) → count ≤ top → matches_within count top clocks ≡ nat_le (top + 1) (count + clocks)
+pub low_match : (count top clocks : ℕ) → count ≤ top → matches_within count top clocks ≡ nat_le (top + 1) (count + clocks)
 low_match count top clocks h = grind (arith, nat_tests)
 
-mid_match : (count top clocks : ℕ) → top < count → count + clocks < 65536 → matches_within count top clocks ≡ false
+pub mid_match : (count top clocks : ℕ) → top < count → count + clocks < 65536 → matches_within count top clocks ≡ false
 mid_match count top clocks h k = grind (arith, nat_tests)
 
 high_match : (count top clocks : ℕ) → top < count → 65536 ≤ count + clocks → matches_within count top clocks ≡ nat_le (top + 1) (count + clocks - 65536)
@@ -136,7 +136,7 @@ or_true : (x : Bool) → (x || true) ≡ true
 or_true true = refl
 or_true false = refl
 
-or_false : (x : Bool) → (x || false) ≡ x
+pub or_false : (x : Bool) → (x || false) ≡ x
 or_false true = refl
 or_false false = refl
 

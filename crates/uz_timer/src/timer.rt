@@ -1,15 +1,23 @@
 //! Timer 1.
 
-ghost use Rattle.std.specs.Prelude.{◌≡◌, ◌<◌, ◌↔◌, IsTrue};
+ghost use Rattle.std.specs.Prelude.{◌≡◌, ◌+◌, ◌*◌, ◌<◌, ◌↔◌, IsTrue};
 ghost use Rattle.uz_machine.specs.Timer.{timer_at_reset, is_counting, count_after, matches_within, timer_after, timer_taken, is_due, is_timer_address, timer_byte, timer_after_read, timer_after_write};
+ghost use Rattle.uz_timer.specs.Counts.{EndsAt};
 
 use std::marker::Model;
 use uz_machine::address::{OCR1AH, OCR1AL, TCCR1A, TCCR1B, TCNT1H, TCNT1L, TIFR1, TIMSK1};
 
 /// Timer 1 of the ATmega644 with TEMP: the count, one compare register and one flag. Contracts see the registers.
+///
+/// While it counts, the count is kept as the clocks that are left until it goes to 0, so that most turns only count them down.
 #[derive(Drop)]
 pub struct Timer1 {
-    count: u16,
+    /// The count while the timer stands still.
+    still: u16,
+    /// Where the count goes to 0: past the top, or past 65,535 from above the top.
+    end: u32,
+    /// The clocks until the count goes to 0, while the timer counts.
+    left: u32,
     top: u16,
     matched: bool,
     temp: u8,
@@ -19,11 +27,29 @@ pub struct Timer1 {
 }
 
 impl Model for Timer1 {
+    ghost use Rattle.std.specs.Prelude.{IsTrue};
     ghost use Rattle.uz_machine.specs.Timer.{Timer};
+    ghost use Rattle.uz_timer.specs.Counts.{counts, count_of, GoesRound};
 
     ghost Value = { Timer };
 
-    ghost view = { λ t. record { count = t.count; top = t.top; matched = t.matched; temp = t.temp; interrupt_mask = t.interrupt_mask; control_a = t.control_a; control_b = t.control_b } };
+    ghost view = { λ t. record { count = count_of t.control_a t.control_b t.still t.end t.left; top = t.top; matched = t.matched; temp = t.temp; interrupt_mask = t.interrupt_mask; control_a = t.control_a; control_b = t.control_b } };
+
+    ghost invariant = { λ t. IsTrue (counts t.control_a t.control_b) → GoesRound t.end t.left t.top };
+}
+
+/// A timer that stands still is looked at again after so many clocks.
+const STANDSTILL: u32 = 0x4000_0000;
+
+/// Where a count goes to 0: past the top, or past 65,535 from above the top.
+fn end_from(count: u16, top: u16) -> u32
+    ensures end { EndsAt result top count }
+{
+    if count <= top {
+        u32::from(top) + 1
+    } else {
+        65536
+    }
 }
 
 /// The count some clocks on, and whether it went from the top to 0 on the way.
@@ -53,7 +79,9 @@ impl Timer1 {
         ensures { result ≡ timer_at_reset }
     {
         Timer1 {
-            count: 0,
+            still: 0,
+            end: 1,
+            left: STANDSTILL,
             top: 0,
             matched: false,
             temp: 0,
@@ -68,7 +96,9 @@ impl Timer1 {
         ensures { result ≡ self.now }
     {
         Timer1 {
-            count: self.count,
+            still: self.still,
+            end: self.end,
+            left: self.left,
             top: self.top,
             matched: self.matched,
             temp: self.temp,
@@ -97,14 +127,52 @@ impl Timer1 {
         self.control_b % 32 == 9 && self.control_a % 4 == 0
     }
 
-    /// Moves on by some clocks. OCF1A is set when TCNT1 goes from OCR1A to 0.
-    pub fn pass(&mut self, clocks: u8)
+    fn count(&self) -> u16
+        ensures { result ≡ self.now.count }
+    {
+        if self.counting() {
+            (self.end - self.left) as u16
+        } else {
+            self.still
+        }
+    }
+
+    /// Sets the count and the registers that it goes by.
+    fn restart(&mut self, count: u16, top: u16, control_a: u8, control_b: u8)
+        ensures { self.new ≡ record self.old { count = count; top = top; control_a = control_a; control_b = control_b } }
+    {
+        let end = end_from(count, top);
+        self.still = count;
+        self.end = end;
+        self.left = end - u32::from(count);
+        self.top = top;
+        self.control_a = control_a;
+        self.control_b = control_b;
+    }
+
+    /// Moves on by clocks within which the count may go to 0. Kept apart, so that `pass` is short.
+    #[inline(never)]
+    fn go_round(&mut self, clocks: u8)
         ensures { self.new ≡ timer_after clocks self.old }
     {
         if self.counting() {
-            let (count, matched) = advanced(self.count, self.top, clocks);
-            self.count = count;
+            let (count, matched) = advanced(self.count(), self.top, clocks);
             self.matched = self.matched || matched;
+            self.restart(count, self.top, self.control_a, self.control_b);
+        } else {
+            self.left = STANDSTILL;
+        }
+    }
+
+    /// Moves on by some clocks. OCF1A is set when TCNT1 goes from OCR1A to 0.
+    #[inline(always)]
+    pub fn pass(&mut self, clocks: u8)
+        ensures { self.new ≡ timer_after clocks self.old }
+    {
+        if u32::from(clocks) < self.left {
+            self.left -= u32::from(clocks);
+        } else {
+            self.go_round(clocks);
         }
     }
 
@@ -126,7 +194,7 @@ impl Timer1 {
     pub fn phase(&self) -> u16
         ensures { result ≡ self.now.count }
     {
-        self.count
+        self.count()
     }
 
     /// OCR1A.
@@ -142,10 +210,10 @@ impl Timer1 {
         ensures matched { result.1 ≡ (timer_after late self.now).matched }
     {
         if self.counting() {
-            let (count, matched) = advanced(self.count, self.top, late);
+            let (count, matched) = advanced(self.count(), self.top, late);
             (count, self.matched || matched)
         } else {
-            (self.count, self.matched)
+            (self.count(), self.matched)
         }
     }
 
@@ -181,11 +249,18 @@ impl Timer1 {
             TIMSK1 => self.interrupt_mask,
             TCCR1A => self.control_a,
             TCCR1B => self.control_b,
-            TCNT1L => (self.count % 256) as u8,
+            TCNT1L => (self.count() % 256) as u8,
             TCNT1H => self.temp,
             OCR1AL => (self.top % 256) as u8,
             _ => (self.top / 256) as u8,
         }
+    }
+
+    /// The word of a low byte, with its high byte from TEMP.
+    fn with_temp(&self, low: u8) -> u16
+        ensures { result ≡ self.now.temp * 256 + low }
+    {
+        u16::from(self.temp) * 256 + u16::from(low)
     }
 
     /// Writes a register. A 1 in bit 1 of TIFR1 clears OCF1A. TCNT1H and OCR1AH are kept in TEMP, and TCNT1L and
@@ -201,10 +276,16 @@ impl Timer1 {
                 }
             }
             TIMSK1 => self.interrupt_mask = value,
-            TCCR1A => self.control_a = value,
-            TCCR1B => self.control_b = value,
-            TCNT1L => self.count = u16::from(self.temp) * 256 + u16::from(value),
-            OCR1AL => self.top = u16::from(self.temp) * 256 + u16::from(value),
+            TCCR1A => self.restart(self.count(), self.top, value, self.control_b),
+            TCCR1B => self.restart(self.count(), self.top, self.control_a, value),
+            TCNT1L => {
+                let count = self.with_temp(value);
+                self.restart(count, self.top, self.control_a, self.control_b);
+            }
+            OCR1AL => {
+                let top = self.with_temp(value);
+                self.restart(self.count(), top, self.control_a, self.control_b);
+            }
             _ => self.temp = value,
         }
     }
