@@ -1,6 +1,6 @@
 //! Runs of so many clocks.
 
-ghost use Rattle.std.specs.Prelude.{◌≡◌, ◌≤◌, ◌^◌};
+ghost use Rattle.std.specs.Prelude.{◌≡◌, ◌≤◌, ◌^◌, IsTrue};
 ghost use Rattle.uz_machine.specs.Run.{edges_until};
 ghost use Rattle.uz_console.specs.Runs.{HasTimedEdges, IsProgress, IsNextTurn, MovesOn};
 
@@ -22,11 +22,23 @@ pub enum Progress {
     Stopped(Why),
 }
 
+/// Whether every edge is of clock at most the limit.
+fn all_in_time(edges: &[Edge], limit: u64) -> bool
+    ensures { IsTrue result → edges_until limit edges.now ≡ edges.now }
+{
+    for edge in edges {
+        if edge.clock > limit {
+            return false;
+        }
+    }
+    true
+}
+
 /// The edges of clock at most the limit.
 pub(crate) fn in_time(edges: ArrayVec<Edge, 4>, limit: u64) -> ArrayVec<Edge, 4>
     ensures { result.items ≡ edges_until limit edges.items }
 {
-    if edges.is_empty() {
+    if all_in_time(edges.as_slice(), limit) {
         return edges;
     }
     let mut kept = ArrayVec::new();

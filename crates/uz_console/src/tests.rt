@@ -44,14 +44,18 @@ fn edges_of(console: &mut Console, limit: u64) -> ArrayVec<Edge, 16> {
 }
 
 /// A turn of the ring is 1 + 135 + 1 + 1681 + 2 = 1820 clocks.
-#[test]
-fn a_ring_repeats_its_line(rt: HostRuntime) -> Result<(), AllocError> {
-    let mut image = image_of(rt.alloc(), 1820, &[0xC8E5])?;
+fn ring(alloc: Global) -> Result<Console, AllocError> {
+    let mut image = image_of(alloc, 1820, &[0xC8E5])?;
     set_word(&mut image, 0, 0xE000);
     set_word(&mut image, 1, 0xE011);
     set_word(&mut image, 2, 0xB905);
     set_word(&mut image, 138, 0xB915);
-    let mut console = Console::reset(rt.alloc(), image, Vec::new(rt.alloc()), Response::Four)?;
+    Console::reset(alloc, image, Vec::new(alloc), Response::Four)
+}
+
+#[test]
+fn a_ring_repeats_its_line(rt: HostRuntime) -> Result<(), AllocError> {
+    let mut console = ring(rt.alloc())?;
     let edges = edges_of(&mut console, 4000);
     let want = [(139, 1), (1823, 0), (1959, 1), (3643, 0), (3779, 1)].map(|(clock, level)| Edge {
         clock,
@@ -59,6 +63,22 @@ fn a_ring_repeats_its_line(rt: HostRuntime) -> Result<(), AllocError> {
     });
     assert_eq!(rt; edges.as_slice(), want.as_slice());
     assert_eq!(rt; console.clock() >= 4000, true);
+    Ok(())
+}
+
+#[test]
+fn a_copy_goes_on_by_itself(rt: HostRuntime) -> Result<(), AllocError> {
+    let mut console = ring(rt.alloc())?;
+    let _ = edges_of(&mut console, 1000);
+    let mut copy = console.copy(rt.alloc())?;
+    let clock = console.clock();
+    let edges = edges_of(&mut copy, 4000);
+    let want = [(1823, 0), (1959, 1), (3643, 0), (3779, 1)].map(|(clock, level)| Edge {
+        clock,
+        kind: EdgeKind::Sync(level),
+    });
+    assert_eq!(rt; edges.as_slice(), want.as_slice());
+    assert_eq!(rt; console.clock(), clock);
     Ok(())
 }
 

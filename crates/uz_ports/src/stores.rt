@@ -262,6 +262,18 @@ impl Board {
                 return;
             }
         }
+        self.finish_any(clocks, returned, edges);
+    }
+
+    /// Kept apart, so that turns with one store make no list.
+    #[inline(never)]
+    fn finish_any(&mut self, clocks: u8, returned: bool, edges: &mut ArrayVec<Edge, 4>)
+        requires { clock_of self.old < 2 ^ 62 }
+        ensures space { space_of self.new ≡ after_stores pads_wiring (held_of self.old) (space_after clocks (space_of self.old)) }
+        ensures idle { (held_of self.new ≡ []) × (entered_of self.new ≡ None) }
+        ensures clock { clock_of self.new ≡ clock_of self.old + clocks }
+        ensures edges { edges.new.items ≡ entry_edge (clock_of self.old) (entered_of self.old) ++ edges_at (clock_of self.old + clocks) (all_edge_kinds pads_wiring (held_of self.old) (space_after clocks (space_of self.old)) ++ (if returned then Leave ∷ [] else [])) }
+    {
         *edges = self.finish(clocks, returned);
     }
 
