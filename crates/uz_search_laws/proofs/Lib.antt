@@ -1,7 +1,13 @@
 pub mod Closing
 pub mod Coverage
 pub mod Frame
+pub mod InsideWidened
+pub mod Known
+pub mod KnownCells
+pub mod KnownStep
 pub mod Levels
 pub mod LocalHolds
+pub mod NewFlags
 pub mod NodeLaws
 pub mod ScheduleOf
+pub mod WithinLimits

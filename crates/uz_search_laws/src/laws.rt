@@ -1,6 +1,7 @@
 //! Laws of an ended search. Each function does nothing: its clause is the law.
 
 ghost use Rattle.uz_search_laws.specs.Complete.{EndedFallsOnce, EndedLevelsFit, EndedRestsAreQuiet, EndedLevels, EndedRestsEnter, EndedPassesLocal};
+ghost use Rattle.uz_search_laws.specs.Limits.{EndedWithinLimits, LiesInWidened};
 
 /// Each line of the schedule falls: sync 0 stands at the fall, nothing before it, and no other sync 0.
 pub fn ended_falls_once()
@@ -30,4 +31,14 @@ pub fn ended_rests_enter()
 /// Each instance passes the local rule, where its results lie in the successors that are named.
 pub fn ended_passes_local()
     ensures { EndedPassesLocal }
+{}
+
+/// What is known of each instance is within a certificate's limits, where it is so of the starts.
+pub fn ended_within_limits()
+    ensures { EndedWithinLimits }
+{}
+
+/// An instance lies in what widening makes of it.
+pub fn lies_in_widened()
+    ensures { LiesInWidened }
 {}

@@ -5,5 +5,5 @@ mod laws;
 
 pub use laws::{
     ended_falls_once, ended_levels, ended_levels_fit, ended_passes_local, ended_rests_are_quiet,
-    ended_rests_enter,
+    ended_rests_enter, ended_within_limits, lies_in_widened,
 };

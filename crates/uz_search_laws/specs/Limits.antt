@@ -1,0 +1,55 @@
+-- What is known of an instance on a trail stays within a certificate's limits, so that a point can say it.
+use Rattle.std.specs.Prelude.{◌≡◌, ℕ, ◌+◌, ◌*◌, ◌<◌, ◌≤◌, ⊤, true, List, Some, length, slice_get}
+use Rattle.uz_schedule.specs.Ends.{Ends, whole_pair}
+use Rattle.uz_schedule.specs.Instances.{hull_at}
+use Rattle.uz_schedule.specs.Tracked.{tracked, depth_of}
+use Rattle.uz_schedule.specs.WellFormed.{BitFits, spans_fit}
+use Rattle.uz_schedule.specs.declared.facts.Val.{Val}
+use Rattle.uz_schedule.specs.declared.facts.Val.TheVariants.{Range, Old, OldFlags}
+use Rattle.uz_schedule.specs.declared.kinds.Kind.{Kind}
+use Rattle.uz_schedule.specs.declared.kinds.Kind.TheVariants.{Handler}
+use Rattle.uz_schedule.specs.declared.states.Instance.{Instance}
+use Rattle.uz_search.specs.declared.found.Found.{Found}
+use Rattle.uz_search.specs.declared.program.Program.{Program}
+use Rattle.uz_search.specs.Fitting.{ProgramFits}
+use Rattle.uz_search.specs.Following.{Among, Flash}
+use Rattle.uz_search.specs.Searching.{IsEnded}
+use Rattle.uz_search.specs.Widenings.{widened}
+use Rattle.uz_rules.specs.Inside.{inside}
+
+-- it holds of each element
+abbrev pub Each : {A : Type 0} → (A → Type 0) → List A → Type 0
+Each P xs = (i : ℕ) (x : _) → slice_get xs i ≡ Some x → P x
+
+-- interrupted values are known in handlers alone
+abbrev pub OldFits : Kind → Val → Type 0
+OldFits kind (Range e) = ⊤
+OldFits kind (Old r) = (kind ≡ Handler) × (r < 32)
+OldFits kind OldFlags = kind ≡ Handler
+
+-- every number of 16 bits lies in it
+abbrev pub IsOpen : Ends → Type 0
+IsOpen e = (e.lo ≡ 0) × (65535 ≤ e.hi)
+
+pub record IsWithinLimits (p : Program) (x : Instance) : Type 0 where
+  pub pc : x.pc < 32768
+  pub register_count : length x.regs ≡ 32
+  pub registers : Each (OldFits x.kind) x.regs
+  pub pair_count : length x.pairs ≡ 3
+  -- of a pair of which nothing is known nothing is known of its bytes
+  pub hulls : (k : ℕ) → k < 3 → slice_get x.pairs k ≡ Some whole_pair → IsOpen (hull_at x.regs (26 + 2 * k))
+  pub flag_count : length x.flags ≡ 7
+  pub flags : Each (BitFits x.kind) x.flags
+  pub slots : length x.stack.items ≤ depth_of p.head x.kind
+  pub stack : Each (OldFits x.kind) x.stack.items
+  -- a range for each cell that its kind tracks, within the header's
+  pub cells : spans_fit (tracked p.head x.kind) x.cells.items ≡ true
+
+-- where the starts are within the limits each instance is
+abbrev pub EndedWithinLimits : Type 0
+EndedWithinLimits = (image : Flash) (p : Program) (found : Found) (x : Instance) → ProgramFits p → ((s : Instance) → Among p.starts s → IsWithinLimits p s)
+    → IsEnded image p found → Among found.nodes.keys x → IsWithinLimits p x
+
+-- an instance lies in what widening makes of it
+abbrev pub LiesInWidened : Type 0
+LiesInWidened = (p : Program) (x : Instance) → inside x (widened p x) ≡ true
