@@ -1,3 +1,4 @@
-pub mod Outcome
+pub mod Drafts
+pub mod Kept
 pub mod Reading
 pub mod Spelling

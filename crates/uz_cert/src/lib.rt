@@ -2,19 +2,17 @@
 //! public items are passed on here.
 #![tactic(auto)]
 
+mod draft;
+mod due;
 mod errors;
-mod read_head;
-mod read_items;
-mod read_schedule;
-mod read_states;
 mod reading;
 
-pub use errors::{CertError, CertWhy};
-pub use reading::{one_text, read_cert};
+pub use draft::Draft;
+pub use due::Due;
+pub use errors::CertError;
+pub use reading::read_cert;
+pub use uz_lines::CertWhy;
 pub use uz_schedule::{
     Bit, Cell, Cert, Entry, Event, EventKind, Fact, Head, Instance, Kind, LineEvents, LineOrder,
     Owner, PairFact, Point, Response, Rest, Schedule, Sequence, Span, Val, Wide, hull, well_formed,
 };
-
-#[cfg(test)]
-mod tests;

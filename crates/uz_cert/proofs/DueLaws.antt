@@ -1,0 +1,91 @@
+-- What holds of a draft where a kind of line is due, and where none is.
+use Rattle.std.proofs.Common.{◌≡◌, ◌≢◌, ℕ, suc, ◌+◌, ◌<◌, ◌≤◌, Bool, true, false, not, cond, eqb, ltb, List, length, refl, sym, ◌∙◌, ap, subst, arith}
+use Rattle.std.specs.Prelude.{Option, Some, None}
+use Rattle.std.proofs.lemmas.Bool.{ltb-true, ltb-false, eqb-true, eqb-false}
+use Rattle.uz_schedule.specs.declared.states.Entry.{Entry}
+use Rattle.uz_cert.specs.Drafts.{lacks, due_of, due_of_schedule, due_of_states}
+use Rattle.uz_cert.specs.Kept.{IsBody, IsAfterCells}
+use Rattle.uz_cert.specs.declared.due.Due.{Due}
+use Rattle.uz_cert.specs.declared.due.Due.TheVariants as due
+use Rattle.uz_cert.specs.declared.draft.Draft.{Draft}
+
+-- after all runs
+pub record InStates (d : Draft) : Type 0 where
+  pub after : IsAfterCells d
+  pub none_owed : d.owed ≡ 0
+  pub kinds : d.sizes.kinds ≤ length d.kinds
+  pub fall : d.fall ≢ 0
+  pub lines : d.sizes.lines ≤ length d.lines
+
+-- what holds where this is due
+abbrev pub IsDue : Draft → Due → Type 0
+IsDue d due.Size = d.read ≡ 1
+IsDue d due.Irq = d.read ≡ 2
+IsDue d due.Stack = d.read ≡ 3
+IsDue d due.Cell = IsBody d × (length d.head.cells.items < d.sizes.cells)
+IsDue d due.Event = IsBody d × (1 ≤ d.owed)
+IsDue d due.Kind = IsBody d × (d.owed ≡ 0) × (length d.kinds < d.sizes.kinds)
+IsDue d due.Fall = IsBody d
+IsDue d due.Run = IsBody d × (length d.lines < d.sizes.lines)
+IsDue d due.Rest = IsAfterCells d × (length d.rests < d.sizes.rests)
+IsDue d due.Entry = IsAfterCells d
+IsDue d due.Point = IsAfterCells d × (length d.points < d.sizes.points)
+IsDue d due.End = IsBody d
+
+pub record IsWhole (d : Draft) : Type 0 where
+  pub states : InStates d
+  pub rests : d.sizes.rests ≤ length d.rests
+  pub entry : lacks d.entry ≡ false
+  pub points : d.sizes.points ≤ length d.points
+
+abbrev DueIs : Draft → Option Due → Type 0
+DueIs d None = IsWhole d
+DueIs d (Some due) = IsDue d due
+
+-- a test leads to one of two
+choose : {A : Type 0} (P : A → Type 0) (t : Bool) (x y : A) → (t ≡ true → P x) → (t ≡ false → P y) → P (cond t x y)
+choose P true x y h k = h refl
+choose P false x y h k = k refl
+
+states_due : (d : Draft) → InStates d → DueIs d (due_of_states d)
+states_due d h =
+    choose (DueIs d) (ltb (length d.rests) d.sizes.rests) _ _ (λ t. (h.after, ltb-true (length d.rests) d.sizes.rests t))
+    (λ r. choose (DueIs d) (lacks d.entry) _ _ (λ t. h.after)
+    (λ e. choose (DueIs d) (ltb (length d.points) d.sizes.points) _ _ (λ t. (h.after, ltb-true (length d.points) d.sizes.points t))
+    (λ p. choose (DueIs d) d.ended _ _
+    (λ t. record { states = h; rests = ltb-false (length d.rests) d.sizes.rests r; entry = e; points = ltb-false (length d.points) d.sizes.points p })
+    (λ f. h.after.body))))
+
+none_owed : (n : ℕ) → ltb 0 n ≡ false → n ≡ 0
+none_owed n e = let few = ltb-false 0 n e in omega (arith, few)
+
+schedule_due : (d : Draft) → IsAfterCells d → DueIs d (due_of_schedule d)
+schedule_due d h =
+    choose (DueIs d) (ltb 0 d.owed) _ _ (λ t. (h.body, ltb-true 0 d.owed t))
+    (λ o. choose (DueIs d) (ltb (length d.kinds) d.sizes.kinds) _ _ (λ t. (h.body, none_owed d.owed o, ltb-true (length d.kinds) d.sizes.kinds t))
+    (λ k. choose (DueIs d) (eqb d.fall 0) _ _ (λ t. h.body)
+    (λ f. choose (DueIs d) (ltb (length d.lines) d.sizes.lines) _ _ (λ t. (h.body, ltb-true (length d.lines) d.sizes.lines t))
+    (λ l. states_due d (record {
+      after = h;
+      none_owed = none_owed d.owed o;
+      kinds = ltb-false (length d.kinds) d.sizes.kinds k;
+      fall = eqb-false d.fall 0 f;
+      lines = ltb-false (length d.lines) d.sizes.lines l;
+    })))))
+
+all_due : (d : Draft) → 1 ≤ d.read → DueIs d (due_of d)
+unfolding due_of
+all_due d some =
+    choose (DueIs d) (eqb d.read 1) _ _ (λ t. eqb-true d.read 1 t)
+    (λ a. choose (DueIs d) (eqb d.read 2) _ _ (λ t. eqb-true d.read 2 t)
+    (λ b. choose (DueIs d) (eqb d.read 3) _ _ (λ t. eqb-true d.read 3 t)
+    (λ c.
+    let body : 4 ≤ d.read = omega (arith, some, eqb-false d.read 1 a, eqb-false d.read 2 b, eqb-false d.read 3 c) in
+    choose (DueIs d) (ltb (length d.head.cells.items) d.sizes.cells) _ _ (λ t. (body, ltb-true (length d.head.cells.items) d.sizes.cells t))
+    (λ m. schedule_due d (record { body = body; cells = ltb-false (length d.head.cells.items) d.sizes.cells m })))))
+
+pub is_due : (d : Draft) (due : Due) → 1 ≤ d.read → due_of d ≡ Some due → IsDue d due
+is_due d due some e = subst (DueIs d) e (all_due d some)
+
+pub is_whole : (d : Draft) → 1 ≤ d.read → due_of d ≡ None → IsWhole d
+is_whole d some e = subst (DueIs d) e (all_due d some)

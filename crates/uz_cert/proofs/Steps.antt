@@ -1,0 +1,43 @@
+-- One piece more is read.
+use Rattle.std.proofs.Common.{◌≡◌, ℕ, ◌+◌, Bool, true, List, [], ◌∷◌, refl, sym, ◌∙◌, ap}
+use Rattle.std.specs.Prelude.{Option, Some, None, Result, Ok, Err}
+use Rattle.uz_schedule.specs.declared.certificate.Cert.{Cert}
+use Rattle.uz_lines.specs.declared.why.CertWhy.{CertWhy}
+use Rattle.uz_lines.specs.declared.why.CertWhy.TheVariants as why
+use Rattle.uz_cert.specs.Drafts.{due_of}
+use Rattle.uz_cert.specs.Reading.{Fault, is_more, pieces_of, line_says, or_fault, cert_before, read_by, read_from}
+use Rattle.uz_cert.specs.declared.due.Due.{Due}
+use Rattle.uz_cert.specs.declared.draft.Draft.{Draft}
+use Rattle.uz_cert.proofs.Pieces.{some_piece}
+
+read_due : (d : Draft) (due : Due) (line : List ℕ) (rest : List (List ℕ)) → due_of d ≡ Some due
+    → read_from d (line ∷ rest) ≡ or_fault (d.read + 1) (line_says d due line (is_more rest)) (λ more. read_from more rest)
+read_due d due line rest e = ap (λ o. read_by o d line rest (λ more. read_from more rest)) e
+
+pub step_on : (d e : Draft) (due : Due) (line : List ℕ) (pieces rest : List (List ℕ)) (ended : Bool) → pieces ≡ line ∷ rest → due_of d ≡ Some due
+    → ended ≡ is_more rest → line_says d due line ended ≡ Ok e → read_from e rest ≡ read_from d pieces
+step_on d e due line pieces rest ended p is more says =
+    sym (ap (read_from d) p ∙ (read_due d due line rest is
+    ∙ ap (λ r. or_fault (d.read + 1) r (λ m. read_from m rest)) (ap (line_says d due line) (sym more) ∙ says)))
+
+pub step_fault : (d : Draft) (due : Due) (line : List ℕ) (pieces rest : List (List ℕ)) (ended : Bool) (w : CertWhy) → pieces ≡ line ∷ rest
+    → due_of d ≡ Some due → ended ≡ is_more rest → line_says d due line ended ≡ Err w → read_from d pieces ≡ Err (d.read + 1, w)
+step_fault d due line pieces rest ended w p is more says =
+    ap (read_from d) p ∙ (read_due d due line rest is
+    ∙ ap (λ r. or_fault (d.read + 1) r (λ m. read_from m rest)) (ap (line_says d due line) (sym more) ∙ says))
+
+pub step_end : (d : Draft) (line : List ℕ) (pieces rest : List (List ℕ)) → pieces ≡ line ∷ rest → due_of d ≡ None → read_from d pieces ≡ cert_before d line rest
+step_end d line pieces rest p is = ap (read_from d) p ∙ ap (λ o. read_by o d line rest (λ more. read_from more rest)) is
+
+abbrev late : Draft → Result Cert Fault
+late d = Err (d.read + 1, why.NoEnd)
+
+late_by : (d : Draft) (line : List ℕ) (rest : List (List ℕ)) → is_more rest ≡ true → cert_before d line rest ≡ late d
+unfolding cert_before
+late_by d [] [] h = absurd cc
+late_by d [] (piece ∷ rest) h = refl
+late_by d (b ∷ bs) rest h = refl
+
+-- where more follows the last line, it is too late
+pub late_piece : (d : Draft) (line text : List ℕ) → cert_before d line (pieces_of text) ≡ Err (d.read + 1, why.NoEnd)
+late_piece d line text = late_by d line (pieces_of text) (some_piece text)

@@ -1,0 +1,90 @@
+-- What is read to its end is a well formed certificate.
+use Rattle.std.proofs.Common.{◌≡◌, ◌≢◌, ℕ, ◌+◌, ◌<◌, ◌≤◌, List, [], ◌∷◌, length, All, refl, sym, ◌∙◌, ap, subst, arith}
+use Rattle.std.specs.Prelude.{Option, Some, None, Result, Ok, Err, IfOk, IfSome, sum_by}
+use Rattle.uz_schedule.specs.Limits.{clock_limit, ScheduleFits}
+use Rattle.uz_schedule.specs.WellFormed.{RestFits, EntryFits, PointFits, WellFormed, instances_of}
+use Rattle.uz_schedule.specs.declared.header.Head.{Head}
+use Rattle.uz_schedule.specs.declared.states.Rest.{Rest}
+use Rattle.uz_schedule.specs.declared.states.Entry.{Entry}
+use Rattle.uz_schedule.specs.declared.states.Point.{Point}
+use Rattle.uz_schedule.specs.declared.certificate.Cert.{Cert}
+use Rattle.uz_cert.specs.Drafts.{due_of}
+use Rattle.uz_cert.specs.Kept.{Kept}
+use Rattle.uz_cert.specs.Reading.{Fault, Gives, cert_from, cert_with, cert_before}
+use Rattle.uz_cert.specs.declared.errors.CertError.{CertError}
+use Rattle.uz_cert.specs.declared.draft.Draft.{Draft}
+use Rattle.uz_cert.proofs.DueLaws.{IsWhole, is_whole}
+
+schedule_fits : (d : Draft) → Kept d → IsWhole d → ScheduleFits (record { kinds = d.kinds; lines = d.lines; fall = d.fall })
+schedule_fits d k w =
+    let s = k.sizes in
+    let enough = w.states.kinds in
+    let same : d.sizes.kinds ≡ length d.kinds = omega (arith, k.kinds.few, enough) in
+    record {
+      kinds = record { some = omega (arith, s.kinds_some, enough); few = omega (arith, s.kinds_few, k.kinds.few); each = k.kinds.each };
+      lines = record {
+        some = omega (arith, s.lines_some, w.states.lines);
+        few = omega (arith, s.lines_few, k.lines.few);
+        there = subst (λ n. All (λ kind. kind < n) d.lines) same k.lines.there;
+      };
+      fall_some = some_fall d.fall w.states.fall;
+      fall_in_line = k.fall;
+    }
+  where
+    some_fall : (n : ℕ) → n ≢ 0 → 1 ≤ n
+    some_fall n h = omega (arith, h)
+
+pub whole_fits : (d : Draft) (e : Entry) → Kept d → due_of d ≡ None → d.entry ≡ Some e → WellFormed (cert_from d e)
+whole_fits d e k due is =
+    let w = is_whole d k.begun due in
+    let s = k.sizes in
+    let lines : d.sizes.lines ≡ length d.lines = omega (arith, k.lines.few, w.states.lines) in
+    let points : d.sizes.points ≡ length d.points = omega (arith, k.points.few, w.points) in
+    let sum = k.points.instances in
+    record {
+      head = record {
+        stack = k.stack;
+        few = omega (arith, k.cells.few, s.cells_few);
+        cells = k.cells.each;
+        rise = k.cells.rise;
+      };
+      schedule = schedule_fits d k w;
+      rests = record {
+        few = omega (arith, k.rests.few, s.rests_few, lines);
+        each = subst (λ n. All (RestFits d.head (length d.lines) n) d.rests) points (subst (λ n. All (RestFits d.head n d.sizes.points) d.rests) lines k.rests.each);
+        rise = k.rests.rise;
+      };
+      entry = subst (λ n. EntryFits d.head (length d.lines) n e) points (subst (λ n. EntryFits d.head n d.sizes.points e) lines
+          (subst (λ o. IfSome o (EntryFits d.head d.sizes.lines d.sizes.points)) is k.entry));
+      points = record {
+        some = omega (arith, s.points_some, points);
+        few = omega (arith, s.points_few, points);
+        each = subst (λ n. All (PointFits d.head (length d.lines) n) d.points) points (subst (λ n. All (PointFits d.head n d.sizes.points) d.points) lines k.points.each);
+        instances = few_instances d.left (sum_by instances_of d.points) sum;
+      };
+    }
+  where
+    few_instances : (left sum : ℕ) → left + sum ≡ 16777216 → sum ≤ 16777216
+    few_instances left sum h = omega (arith, h)
+
+by_entry : (d : Draft) (o : Option Entry) (c : Cert) → Kept d → due_of d ≡ None → d.entry ≡ o → cert_with d o ≡ Ok c → WellFormed c
+by_entry d None c k due is e = absurd cc
+by_entry d (Some x) c k due is e = subst WellFormed (ok_cert (cert_from d x) c e) (whole_fits d x k due is)
+  where
+    answer : Cert → Result Cert Fault
+    answer x = Ok x
+
+    ok_cert : (a b : Cert) → answer a ≡ answer b → a ≡ b
+    ok_cert a b h = cc
+
+pub read_fits : (d : Draft) (line : List ℕ) (rest : List (List ℕ)) (c : Cert) → Kept d → due_of d ≡ None → cert_before d line rest ≡ Ok c → WellFormed c
+unfolding cert_before
+read_fits d [] [] c k due e = by_entry d d.entry c k due refl e
+read_fits d [] (piece ∷ rest) c k due e = absurd cc
+read_fits d (b ∷ bs) rest c k due e = absurd cc
+
+-- what is answered is well formed
+pub gives_fits : (d : Draft) (line : List ℕ) (rest : List (List ℕ)) (result : Result Cert CertError) → Kept d → due_of d ≡ None
+    → Gives result (cert_before d line rest) → IfOk result WellFormed
+gives_fits d line rest (Ok c) k due e = read_fits d line rest c k due e
+gives_fits d line rest (Err e) k due h = tt

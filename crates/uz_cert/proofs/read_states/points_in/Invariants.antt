@@ -1,8 +1,0 @@
-use Rattle.std.proofs.Common.{◌≡◌, drop, map}
-use Rattle.uz_cert.specs.Reading.{each, point_in, words_of}
-use Rattle.uz_cert.proofs.Each.{behind}
-use Rattle.uz_cert.proofs.read_states.points_in.Given as goal
-
--- the points so far, and those of the lines that are left, are those of all lines
-abbrev pub invariant-loop-line : goal.invariant-loop-line
-invariant-loop-line l = behind l.list.items (each (λ line. point_in l.points (words_of line)) (map (λ w. w.now) (drop l.line-index l.lines))) ≡ each (λ line. point_in l.points (words_of line)) (map (λ w. w.now) l.lines)

@@ -1,0 +1,8 @@
+use Rattle.std.proofs.Common.{inr, ◌≡◌, ◌+◌, Err, ap, sym, ◌∙◌}
+use Rattle.uz_cert.specs.Reading.{cert_before, pieces_left}
+use Rattle.uz_cert.proofs.Steps.{late_piece}
+use Rattle.uz_cert.proofs.reading.finish.Goals as goal
+
+pub returns-in-Some : goal.returns-in-Some
+returns-in-Some c =
+    inr (ap (λ o. cert_before c.args.draft c.args.line.now (pieces_left o)) c.in-Some.is ∙ late_piece c.args.draft c.args.line.now c.in-Some.field-0.now)

@@ -1,0 +1,166 @@
+-- What holds of what the lines of a text say, as long as none has a fault: it is within the limits and orders of a well
+-- formed certificate.
+use Rattle.std.specs.Prelude.{◌≡◌, ◌⊎◌, ℕ, suc, ◌+◌, ◌<◌, ◌≤◌, ⊤, IsTrue, List, [], ◌∷◌, All, length, map, sum_by, IfSome, Option, None, Some}
+use Rattle.uz_schedule.specs.Limits.{clock_limit, most_events, most_lines, rises, EventFits, EventsFit}
+use Rattle.uz_schedule.specs.WellFormed.{StackFits, CellFits, RestFits, EntryFits, PointFits, instances_of}
+use Rattle.uz_schedule.specs.declared.header.Cell.{Cell}
+use Rattle.uz_schedule.specs.declared.header.Head.{Head}
+use Rattle.uz_schedule.specs.declared.lines.Event.{Event}
+use Rattle.uz_schedule.specs.declared.states.Rest.{Rest}
+use Rattle.uz_schedule.specs.declared.states.Entry.{Entry}
+use Rattle.uz_schedule.specs.declared.states.Point.{Point}
+use Rattle.uz_lines.specs.declared.lines.Sizes.{Sizes}
+use Rattle.uz_lines.specs.declared.lines.Said.{Said}
+use Rattle.uz_lines.specs.declared.lines.Said.TheVariants as said
+use Rattle.uz_cert.specs.declared.draft.Draft.{Draft}
+
+pub record SizesFit (s : Sizes) : Type 0 where
+  pub kinds_some : 1 ≤ s.kinds
+  pub kinds_few : s.kinds ≤ most_lines
+  pub lines_some : 1 ≤ s.lines
+  pub lines_few : s.lines ≤ most_lines
+  pub rests_few : s.rests ≤ s.lines
+  pub points_some : 1 ≤ s.points
+  pub points_few : s.points ≤ 524288
+  pub cells_few : s.cells ≤ 16
+
+-- the least number that keeps the order after these, which rise from this one
+abbrev pub least_after : ℕ → List ℕ → ℕ
+least_after least [] = least
+least_after least (x ∷ xs) = least_after (x + 1) xs
+
+-- the cells so far, of this many
+pub record CellsKept (h : Head) (count least : ℕ) : Type 0 where
+  pub few : length h.cells.items ≤ count
+  pub each : All (CellFits h) h.cells.items
+  pub rise : IsTrue (rises (map (λ c. c.at) h.cells.items))
+  pub least_is : least ≡ least_after 0 (map (λ c. c.at) h.cells.items)
+
+-- the events so far of the present kind of line, and how many are owed
+pub record EventsKept (events : List Event) (owed least : ℕ) : Type 0 where
+  pub few : length events + owed ≤ most_events
+  pub each : All EventFits events
+  pub rise : IsTrue (rises (map (λ e. e.clock) events))
+  pub least_is : least ≡ least_after 0 (map (λ e. e.clock) events)
+  pub present : owed ≡ 0 → events ≡ []
+
+-- the kinds of line so far, of this many
+pub record KindsKept (kinds : List (List Event)) (count owed : ℕ) : Type 0 where
+  pub few : length kinds ≤ count
+  pub owing : 1 ≤ owed → length kinds < count
+  pub each : All EventsFit kinds
+
+-- the lines so far, of this many, each of one of so many kinds
+pub record LinesKept (lines : List ℕ) (kinds count : ℕ) : Type 0 where
+  pub few : length lines ≤ count
+  pub there : All (λ kind. kind < kinds) lines
+
+pub record RestsKept (h : Head) (s : Sizes) (rests : List Rest) (least : ℕ) : Type 0 where
+  pub few : length rests ≤ s.rests
+  pub each : All (RestFits h s.lines s.points) rests
+  pub rise : IsTrue (rises (map (λ r. r.line) rests))
+  pub least_is : least ≡ least_after 0 (map (λ r. r.line) rests)
+
+-- the points so far, and the instances that are left
+pub record PointsKept (h : Head) (s : Sizes) (points : List Point) (left : ℕ) : Type 0 where
+  pub few : length points ≤ s.points
+  pub each : All (PointFits h s.lines s.points) points
+  pub instances : left + sum_by instances_of points ≡ 16777216
+
+-- no rest, entry and point so far
+pub record NoStates (d : Draft) : Type 0 where
+  pub rests : d.rests ≡ []
+  pub entry : d.entry ≡ None
+  pub points : d.points ≡ []
+
+-- no cell, kind and line so far
+pub record NoSchedule (d : Draft) : Type 0 where
+  pub cells : d.head.cells.items ≡ []
+  pub owed : d.owed ≡ 0
+  pub kinds : d.kinds ≡ []
+  pub lines : d.lines ≡ []
+
+pub record Kept (d : Draft) : Type 0 where
+  pub begun : 1 ≤ d.read
+  pub sizes : SizesFit d.sizes
+  pub stack : StackFits d.head
+  pub cells : CellsKept d.head d.sizes.cells d.cell_least
+  pub events : EventsKept d.events d.owed d.event_least
+  pub kinds : KindsKept d.kinds d.sizes.kinds d.owed
+  pub fall : d.fall < clock_limit
+  pub lines : LinesKept d.lines d.sizes.kinds d.sizes.lines
+  pub rests : RestsKept d.head d.sizes d.rests d.rest_least
+  pub entry : IfSome d.entry (EntryFits d.head d.sizes.lines d.sizes.points)
+  pub points : PointsKept d.head d.sizes d.points d.left
+  pub opening : d.read ≤ 3 → NoSchedule d
+  pub early : (d.read ≤ 3) ⊎ (length d.head.cells.items < d.sizes.cells) → NoStates d
+
+-- What a line may say where it is due
+
+-- one of the first lines after the head, or one after them
+abbrev pub IsOpening : Draft → Type 0
+IsOpening d = d.read ≤ 3
+
+abbrev pub IsBody : Draft → Type 0
+IsBody d = 4 ≤ d.read
+
+-- the lines of states come after all cells
+pub record IsAfterCells (d : Draft) : Type 0 where
+  pub body : IsBody d
+  pub cells : d.sizes.cells ≤ length d.head.cells.items
+
+pub record CellSaid (d : Draft) (c : Cell) : Type 0 where
+  pub body : IsBody d
+  pub room : length d.head.cells.items < d.sizes.cells
+  pub fits : CellFits d.head c
+  pub order : d.cell_least ≤ c.at
+
+pub record KindSaid (d : Draft) (events : ℕ) : Type 0 where
+  pub body : IsBody d
+  pub none_owed : d.owed ≡ 0
+  pub room : length d.kinds < d.sizes.kinds
+  pub some : 1 ≤ events
+  pub few : events ≤ most_events
+
+pub record EventSaid (d : Draft) (e : Event) : Type 0 where
+  pub body : IsBody d
+  pub owed : 1 ≤ d.owed
+  pub fits : EventFits e
+  pub order : d.event_least ≤ e.clock
+
+-- a kind of line that there is, and no line too many
+pub record RunSaid (d : Draft) (count kind : ℕ) : Type 0 where
+  pub body : IsBody d
+  pub few : length d.lines + count ≤ d.sizes.lines
+  pub there : kind < d.sizes.kinds
+
+pub record RestSaid (d : Draft) (r : Rest) : Type 0 where
+  pub after : IsAfterCells d
+  pub room : length d.rests < d.sizes.rests
+  pub fits : RestFits d.head d.sizes.lines d.sizes.points r
+  pub order : d.rest_least ≤ r.line
+
+pub record EntrySaid (d : Draft) (e : Entry) : Type 0 where
+  pub after : IsAfterCells d
+  pub fits : EntryFits d.head d.sizes.lines d.sizes.points e
+
+-- a point whose instances are left
+pub record PointSaid (d : Draft) (p : Point) : Type 0 where
+  pub after : IsAfterCells d
+  pub room : length d.points < d.sizes.points
+  pub fits : PointFits d.head d.sizes.lines d.sizes.points p
+  pub instances : instances_of p ≤ d.left
+
+abbrev pub SaidFits : Draft → Said → Type 0
+SaidFits d (said.Size s) = IsOpening d × SizesFit s
+SaidFits d (said.Irq r) = IsOpening d
+SaidFits d (said.Stack s) = IsOpening d × StackFits (record d.head { lo = s.lo; hi = s.hi; main = s.main; handler = s.handler })
+SaidFits d (said.Cell c) = CellSaid d c
+SaidFits d (said.Kind events) = KindSaid d events
+SaidFits d (said.Event e) = EventSaid d e
+SaidFits d (said.Fall clock) = IsBody d × (clock < clock_limit)
+SaidFits d (said.Run r) = RunSaid d r.count r.kind
+SaidFits d (said.Rest r) = RestSaid d r
+SaidFits d (said.Entry e) = EntrySaid d e
+SaidFits d (said.Point p) = PointSaid d p
+SaidFits d said.End = IsBody d
