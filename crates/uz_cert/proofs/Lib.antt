@@ -3,9 +3,11 @@ pub mod FormLaws
 pub mod ItemLimits
 pub mod ItemSteps
 pub mod KeptLaws
+pub mod LineEnds
 pub mod Numbers
 pub mod Pieces
 pub mod SaidLaws
 pub mod Steps
+pub mod TextLaws
 pub mod Values
 pub mod Whole

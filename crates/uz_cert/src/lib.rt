@@ -10,7 +10,7 @@ mod reading;
 pub use draft::Draft;
 pub use due::Due;
 pub use errors::CertError;
-pub use reading::read_cert;
+pub use reading::{read_cert, text_or_fault};
 pub use uz_lines::CertWhy;
 pub use uz_schedule::{
     Bit, Cell, Cert, Entry, Event, EventKind, Fact, Head, Instance, Kind, LineEvents, LineOrder,

@@ -4,11 +4,14 @@ ghost use Rattle.std.specs.Prelude.{◌≡◌, ◌⊎◌, ◌<◌, ◌≤◌, �
 ghost use Rattle.uz_schedule.specs.WellFormed.{WellFormed};
 ghost use Rattle.uz_cert.specs.Reading.{Gives, IsMemory, bytes_left, cert_before, cert_of_text, cert_with as cert_with_entry, head_says, is_more, pieces_left, pieces_of, read_from};
 ghost use Rattle.uz_cert.specs.Drafts.{first_draft};
+ghost use Rattle.uz_cert.specs.Texts.{IsCertificateText, IsFirstFault};
+ghost use Rattle.uz_schedule.specs.declared.certificate.Cert.{Cert as TheCert};
+ghost use Rattle.uz_lines.specs.declared.why.CertWhy.{CertWhy};
 
 use crate::draft::Draft;
 use crate::errors::CertError;
 use std::alloc::Global;
-use uz_lines::CertWhy;
+use uz_lines::{CertWhy, line_or_fault};
 use uz_schedule::{Cert, Schedule};
 
 /// The first piece of a text, and what follows its LF.
@@ -103,10 +106,10 @@ fn read_pieces(alloc: Global, text: Option<&[u8]>) -> Result<Cert, CertError>
     })
 }
 
-/// Reads the text of a certificate.
-pub fn read_cert(alloc: Global, text: &[u8]) -> Result<Cert, CertError>
+/// Reads a text piece by piece.
+fn read_text(alloc: Global, text: &[u8]) -> Result<Cert, CertError>
     requires { length text.now < 2 ^ 32 - 1 }
-    ensures exact { Gives result (cert_of_text text.now) }
+    ensures gives { Gives result (cert_of_text text.now) }
     ensures well_formed { IfOk result WellFormed }
 {
     let (line, rest) = cut_line(text);
@@ -123,4 +126,44 @@ pub fn read_cert(alloc: Global, text: &[u8]) -> Result<Cert, CertError>
         });
     }
     read_pieces(alloc, rest)
+}
+
+/// Reads the text of a certificate, or tells its first fault.
+///
+/// The lines end in LF, and each is read as the one that is due after the lines before it (this project's profile). The
+/// error names the first line that isn't as is due, counted from 1, and the fault of its first faulty word. A text that
+/// goes on after `end`, or ends before it, is `NoEnd` at that line. `Memory`, at line 0, may come at any point. One pass is
+/// made over the text, and no memory is taken but for what the certificate keeps.
+pub fn read_cert(alloc: Global, text: &[u8]) -> Result<Cert, CertError>
+    requires { length text.now < 2 ^ 32 - 1 }
+
+    // Ok with exactly the certificate whose text this is.
+    ensures found { IfOk result (λ c. IsCertificateText text.now c) }
+    ensures only { (c : TheCert) → IsCertificateText text.now c → Gives result (Ok c) }
+    ensures well_formed { IfOk result WellFormed }
+
+    // Refused exactly with the first fault.
+    ensures first { IfErr result (λ e. IsMemory e ⊎ IsFirstFault text.now e.line e.why) }
+    ensures faulty { (line : ℕ) (why : CertWhy) → IsFirstFault text.now line why → Gives result (Err (line, why)) }
+
+    // The same, as a function of the text.
+    ensures exact { Gives result (cert_of_text text.now) }
+{
+    line_or_fault();
+    read_text(alloc, text)
+}
+
+/// Each text is one certificate's or has one first fault, and never both; and the plain reader answers just that. Does
+/// nothing.
+pub fn text_or_fault()
+    ensures either { (text : List ℕ) → ((c : TheCert) × IsCertificateText text c) ⊎ ((line : ℕ) × (why : CertWhy) × IsFirstFault text line why) }
+    ensures one_certificate { (text : List ℕ) (a b : TheCert) → IsCertificateText text a → IsCertificateText text b → a ≡ b }
+    ensures one_fault { (text : List ℕ) (m n : ℕ) (v w : CertWhy) → IsFirstFault text m v → IsFirstFault text n w → (m ≡ n) × (v ≡ w) }
+    ensures not_both { (text : List ℕ) (c : TheCert) (line : ℕ) (why : CertWhy) → IsCertificateText text c → IsFirstFault text line why → ⊥ }
+    ensures read { (text : List ℕ) (c : TheCert) → cert_of_text text ≡ Ok c → IsCertificateText text c }
+    ensures again { (text : List ℕ) (c : TheCert) → IsCertificateText text c → cert_of_text text ≡ Ok c }
+    ensures refused { (text : List ℕ) (line : ℕ) (why : CertWhy) → cert_of_text text ≡ Err (line, why) → IsFirstFault text line why }
+    ensures faulty { (text : List ℕ) (line : ℕ) (why : CertWhy) → IsFirstFault text line why → cert_of_text text ≡ Err (line, why) }
+{
+    line_or_fault();
 }

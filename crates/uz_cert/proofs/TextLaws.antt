@@ -1,0 +1,431 @@
+-- What reading gives is what the relation over all lines says, both ways.
+use Rattle.std.proofs.Common.{◌≡◌, ◌≢◌, ◌⊎◌, inl, inr, ℕ, suc, ◌+◌, ◌≤◌, Bool, true, false, cond, List, [], ◌∷◌, ◌++◌, length, bytes_eq, refl, sym, ◌∙◌, ap, subst, arith}
+use Rattle.std.specs.Prelude.{Option, Some, None, Result, Ok, Err, IfOk, IfErr}
+use Rattle.std.proofs.lemmas.Slice.Eq.{bytes_eq-Decides}
+use Rattle.uz_schedule.specs.declared.states.Entry.{Entry}
+use Rattle.uz_schedule.specs.declared.certificate.Cert.{Cert}
+use Rattle.uz_lines.specs.Why.{◌>>=◌}
+use Rattle.uz_lines.specs.Grammar.{Words}
+use Rattle.uz_lines.specs.Forms.{Form, reads}
+use Rattle.uz_lines.specs.FirstFault.{Allows, HasFirstFault}
+use Rattle.uz_lines.specs.declared.lines.Said.{Said}
+use Rattle.uz_lines.specs.declared.why.CertWhy.{CertWhy}
+use Rattle.uz_lines.specs.declared.why.CertWhy.TheVariants as why
+use Rattle.uz_cert.specs.Drafts.{first_draft, lacks, due_of, form_of, draft_after}
+use Rattle.uz_cert.specs.Reading.{Fault, Gives, IsMemory, pieces_of, is_more, words_in, head_line, head_says, line_says, or_fault, cert_from, cert_with, cert_before, read_by, read_from, read_pieces, cert_of_text}
+use Rattle.uz_cert.specs.Texts.{Adds, Reaches, SpellsCertificate, IsCertificateText, HeadFails, LineFails, FailsAtHead, FailsLater, IsFirstFault}
+use Rattle.uz_cert.specs.declared.due.Due.{Due}
+use Rattle.uz_cert.specs.declared.draft.Draft.{Draft}
+use Rattle.uz_cert.specs.declared.errors.CertError.{CertError}
+use Rattle.uz_cert.proofs.DueLaws.{is_whole}
+use Rattle.uz_cert.proofs.LineEnds.{line_ended}
+use Rattle.uz_cert.proofs.Numbers.{bind_ok, accepted, ok_same}
+use Rattle.uz_cert.proofs.Pieces.{some_piece}
+
+-- what is known of one line
+pub record LineLaw : Type 0 where
+  pub read : (form : Form) (words : Words) (s : Said) → reads form words ≡ Ok s → Allows form words s
+  pub allowed : (form : Form) (words : Words) (s : Said) → Allows form words s → reads form words ≡ Ok s
+  pub refused : (form : Form) (words : Words) (w : CertWhy) → reads form words ≡ Err w → HasFirstFault form words w
+  pub faulty : (form : Form) (words : Words) (w : CertWhy) → HasFirstFault form words w → reads form words ≡ Err w
+
+abbrev told : Cert → Result Cert Fault
+told c = Ok c
+
+abbrev fault : ℕ → CertWhy → Result Cert Fault
+fault n w = Err (n, w)
+
+same_cert : (a b : Cert) → told a ≡ told b → a ≡ b
+same_cert a b e = cc
+
+abbrev fault_of : ℕ → CertWhy → Fault
+fault_of n w = (n, w)
+
+same_fault : (m n : ℕ) (v w : CertWhy) → fault m v ≡ fault n w → (m ≡ n) × (v ≡ w)
+same_fault m n v w e =
+    let pair : fault_of m v ≡ fault_of n w = cc in
+    (ap (λ p. p.0) pair, ap (λ p. p.1) pair)
+
+-- one line
+
+abbrev refusal : CertWhy → Result Draft CertWhy
+refusal w = Err w
+
+abbrev unsaid : CertWhy → Result Said CertWhy
+unsaid w = Err w
+
+bind_err : (m : Result Said CertWhy) (f : Said → Draft) (w : CertWhy) → m >>= (λ s. accepted Draft (f s)) ≡ Err w → m ≡ Err w
+bind_err (Ok s) f w e = absurd cc
+bind_err (Err v) f w e =
+    let same : v ≡ w = cc in
+    ap unsaid same
+
+says_ok : (d m : Draft) (due : Due) (line : List ℕ) (ended : Bool) → line_says d due line ended ≡ Ok m
+    → (s : Said) × (reads (form_of d due) (words_in line ended) ≡ Ok s) × (m ≡ draft_after d s)
+unfolding line_says
+says_ok d m due line ended e =
+    let b = bind_ok (reads (form_of d due) (words_in line ended)) (λ s. accepted Draft (draft_after d s)) m e in
+    (b.0, b.1, sym (ok_same (draft_after d b.0) m b.2))
+
+says_err : (d : Draft) (due : Due) (line : List ℕ) (ended : Bool) (w : CertWhy) → line_says d due line ended ≡ Err w
+    → reads (form_of d due) (words_in line ended) ≡ Err w
+unfolding line_says
+says_err d due line ended w e = bind_err (reads (form_of d due) (words_in line ended)) (draft_after d) w e
+
+ok_says : (d : Draft) (due : Due) (line : List ℕ) (ended : Bool) (s : Said) → reads (form_of d due) (words_in line ended) ≡ Ok s
+    → line_says d due line ended ≡ Ok (draft_after d s)
+unfolding line_says
+ok_says d due line ended s e = ap (λ m. m >>= (λ s. accepted Draft (draft_after d s))) e
+
+err_says : (d : Draft) (due : Due) (line : List ℕ) (ended : Bool) (w : CertWhy) → reads (form_of d due) (words_in line ended) ≡ Err w
+    → line_says d due line ended ≡ Err w
+unfolding line_says
+err_says d due line ended w e = ap (λ m. m >>= (λ s. accepted Draft (draft_after d s))) e
+
+-- a step, or its fault
+fault_ok : (n : ℕ) (r : Result Draft CertWhy) (more : Draft → Result Cert Fault) (c : Cert) → or_fault n r more ≡ told c
+    → (m : Draft) × (r ≡ Ok m) × (more m ≡ told c)
+fault_ok n (Ok m) more c e = (m, refl, e)
+fault_ok n (Err w) more c e = absurd cc
+
+fault_err : (n k : ℕ) (r : Result Draft CertWhy) (more : Draft → Result Cert Fault) (w : CertWhy) → or_fault n r more ≡ fault k w
+    → ((r ≡ Err w) × (k ≡ n)) ⊎ ((m : Draft) × (r ≡ Ok m) × (more m ≡ fault k w))
+fault_err n k (Ok m) more w e = inr (m, refl, e)
+fault_err n k (Err v) more w e = let same = same_fault n k v w e in inl (ap refusal same.1, sym same.0)
+
+-- a piece that another follows is ended
+more_true : (rest : List (List ℕ)) → is_more rest ≡ true → (piece : List ℕ) × (others : List (List ℕ)) × (rest ≡ piece ∷ others)
+more_true [] e = absurd cc
+more_true (piece ∷ others) e = (piece, others, refl)
+
+pub read_next : (d : Draft) (s : Said) → (draft_after d s).read ≡ d.read + 1
+unfolding draft_after
+read_next d s = refl
+
+adds : (l : LineLaw) (d m : Draft) (due : Due) (line : List ℕ) (rest : List (List ℕ)) → due_of d ≡ Some due → line_says d due line (is_more rest) ≡ Ok m
+    → Adds d line m × (is_more rest ≡ true) × (m.read ≡ d.read + 1)
+adds l d m due line rest is e =
+    let s = says_ok d m due line (is_more rest) e in
+    let more = line_ended (form_of d due) (words_in line (is_more rest)) s.0 s.1 in (
+      record {
+        due = due;
+        is_due = is;
+        said = s.0;
+        allowed = subst (λ t. Allows (form_of d due) (words_in line t) s.0) more (l.read (form_of d due) (words_in line (is_more rest)) s.0 s.1);
+        leads = s.2;
+      },
+      more,
+      ap (λ x. x.read) s.2 ∙ read_next d s.0,
+    )
+
+-- all pieces after the head
+
+record Ends (d : Draft) (pieces : List (List ℕ)) (c : Cert) : Type 0 where
+  lines : List (List ℕ)
+  parts : pieces ≡ lines ++ [] ∷ []
+  draft : Draft
+  reaches : Reaches d lines draft
+  whole : due_of draft ≡ None
+  entry : Entry
+  has_entry : draft.entry ≡ Some entry
+  is : c ≡ cert_from draft entry
+
+record Fails (d : Draft) (pieces : List (List ℕ)) (n : ℕ) (w : CertWhy) : Type 0 where
+  before : List (List ℕ)
+  line : List ℕ
+  rest : List (List ℕ)
+  parts : pieces ≡ before ++ line ∷ rest
+  draft : Draft
+  reaches : Reaches d before draft
+  number : n ≡ draft.read + 1
+  fails : LineFails (due_of draft) draft line rest w
+
+with_ok : (d : Draft) (o : Option Entry) (c : Cert) → cert_with d o ≡ told c → (e : Entry) × (o ≡ Some e) × (c ≡ cert_from d e)
+with_ok d None c e = absurd cc
+with_ok d (Some x) c e = (x, refl, sym (same_cert (cert_from d x) c e))
+
+end_ok : (d : Draft) (line : List ℕ) (rest : List (List ℕ)) (c : Cert) → due_of d ≡ None → cert_before d line rest ≡ told c → Ends d (line ∷ rest) c
+unfolding cert_before
+end_ok d [] [] c due e =
+    let x = with_ok d d.entry c e in
+    record { lines = []; parts = refl; draft = d; reaches = refl; whole = due; entry = x.0; has_entry = x.1; is = x.2 }
+end_ok d [] (piece ∷ rest) c due e = absurd cc
+end_ok d (b ∷ bs) rest c due e = absurd cc
+
+has_entry : (o : Option Entry) → lacks o ≡ false → (e : Entry) × (o ≡ Some e)
+has_entry None h = absurd cc
+has_entry (Some e) h = (e, refl)
+
+not_told : (d : Draft) (e : Entry) (n : ℕ) (w : CertWhy) → told (cert_from d e) ≡ fault n w → ⊥
+not_told d e n w h = cc
+
+end_err : (d : Draft) (line : List ℕ) (rest : List (List ℕ)) (n : ℕ) (w : CertWhy) → 1 ≤ d.read → due_of d ≡ None → cert_before d line rest ≡ fault n w
+    → ((line ≢ []) ⊎ (rest ≢ [])) × (w ≡ why.NoEnd) × (n ≡ d.read + 1)
+unfolding cert_before
+end_err d [] [] n w some due e =
+    let x = has_entry d.entry (is_whole d some due).entry in
+    absurd (not_told d x.0 n w (sym (ap (cert_with d) x.1) ∙ e))
+end_err d [] (piece ∷ rest) n w some due e = let s = same_fault (d.read + 1) n why.NoEnd w e in (inr (λ h. cc h), sym s.1, sym s.0)
+end_err d (b ∷ bs) rest n w some due e = let s = same_fault (d.read + 1) n why.NoEnd w e in (inl (λ h. cc h), sym s.1, sym s.0)
+
+from_ok : (l : LineLaw) (d : Draft) (pieces : List (List ℕ)) (c : Cert) → read_from d pieces ≡ told c → Ends d pieces c
+from_ok l d [] c e = absurd cc
+from_ok l d (line ∷ rest) c e = by (due_of d) refl e (λ m h. from_ok l m rest c h)
+  where
+    by : (o : Option Due) → due_of d ≡ o → read_by o d line rest (λ more. read_from more rest) ≡ told c
+        → ((m : Draft) → read_from m rest ≡ told c → Ends m rest c) → Ends d (line ∷ rest) c
+    by None is h later = end_ok d line rest c is h
+    by (Some due) is h later =
+        let m = fault_ok (d.read + 1) (line_says d due line (is_more rest)) (λ more. read_from more rest) c h in
+        let a = adds l d m.0 due line rest is m.1 in
+        let x = later m.0 m.2 in
+        record {
+          lines = line ∷ x.lines;
+          parts = ap (λ ps. line ∷ ps) x.parts;
+          draft = x.draft;
+          reaches = (m.0, a.0, x.reaches);
+          whole = x.whole;
+          entry = x.entry;
+          has_entry = x.has_entry;
+          is = x.is;
+        }
+
+from_err : (l : LineLaw) (d : Draft) (pieces : List (List ℕ)) (n : ℕ) (w : CertWhy) → 1 ≤ d.read → is_more pieces ≡ true → read_from d pieces ≡ fault n w → Fails d pieces n w
+from_err l d [] n w some more e = absurd cc
+from_err l d (line ∷ rest) n w some more e = by (due_of d) refl e (λ m r k h. from_err l m rest n w r k h)
+  where
+    by : (o : Option Due) → due_of d ≡ o → read_by o d line rest (λ more. read_from more rest) ≡ fault n w
+        → ((m : Draft) → 1 ≤ m.read → is_more rest ≡ true → read_from m rest ≡ fault n w → Fails m rest n w) → Fails d (line ∷ rest) n w
+    by None is h later =
+        let x = end_err d line rest n w some is h in
+        record {
+          before = [];
+          line = line;
+          rest = rest;
+          parts = refl;
+          draft = d;
+          reaches = refl;
+          number = x.2;
+          fails = subst (λ o. LineFails o d line rest w) (sym is) (x.0, x.1);
+        }
+    by (Some due) is h later =
+        elim (fault_err (d.read + 1) n (line_says d due line (is_more rest)) (λ more. read_from more rest) w h) [
+          | inl x ↦ record {
+            before = [];
+            line = line;
+            rest = rest;
+            parts = refl;
+            draft = d;
+            reaches = refl;
+            number = x.1;
+            fails = subst (λ o. LineFails o d line rest w) (sym is)
+                (l.refused (form_of d due) (words_in line (is_more rest)) w (says_err d due line (is_more rest) w x.0));
+          }
+          | inr m ↦
+              let a = adds l d m.0 due line rest is m.1 in
+              let read = a.2 in
+              let x = later m.0 (omega (arith, read)) a.1 m.2 in
+              record {
+                before = line ∷ x.before;
+                line = x.line;
+                rest = x.rest;
+                parts = ap (λ ps. line ∷ ps) x.parts;
+                draft = x.draft;
+                reaches = (m.0, a.0, x.reaches);
+                number = x.number;
+                fails = x.fails;
+              }
+        ]
+
+-- and back
+
+add_read : (l : LineLaw) (d m : Draft) (line : List ℕ) (rest : List (List ℕ)) → Adds d line m → is_more rest ≡ true
+    → read_from d (line ∷ rest) ≡ read_from m rest
+add_read l d m line rest a more =
+    ap (λ o. read_by o d line rest (λ x. read_from x rest)) a.is_due
+    ∙ (ap (λ r. or_fault (d.read + 1) r (λ x. read_from x rest))
+    (ap (line_says d a.due line) more ∙ ok_says d a.due line true a.said (l.allowed (form_of d a.due) (words_in line true) a.said a.allowed))
+    ∙ ap (λ x. read_from x rest) (sym a.leads))
+
+more_after : (lines : List (List ℕ)) (piece : List ℕ) (rest : List (List ℕ)) → is_more (lines ++ piece ∷ rest) ≡ true
+more_after [] piece rest = refl
+more_after (line ∷ lines) piece rest = refl
+
+reach_read : (l : LineLaw) (d e : Draft) (lines : List (List ℕ)) (piece : List ℕ) (rest : List (List ℕ)) → Reaches d lines e
+    → read_from d (lines ++ piece ∷ rest) ≡ read_from e (piece ∷ rest)
+reach_read l d e [] piece rest r = ap (λ x. read_from x (piece ∷ rest)) (sym r)
+reach_read l d e (line ∷ lines) piece rest r =
+    add_read l d r.0 line (lines ++ piece ∷ rest) r.1 (more_after lines piece rest) ∙ reach_read l r.0 e lines piece rest r.2
+
+reach_number : (d e : Draft) (lines : List (List ℕ)) → Reaches d lines e → e.read ≡ d.read + length lines
+reach_number d e [] r = ap (λ x. x.read) r ∙ no_more d.read
+  where
+    no_more : (n : ℕ) → n ≡ n + 0
+    no_more n = omega arith
+reach_number d e (line ∷ lines) r =
+    let a = r.1 in
+    one_more d.read r.0.read e.read (length lines) (ap (λ x. x.read) a.leads ∙ read_next d a.said) (reach_number r.0 e lines r.2)
+  where
+    one_more : (n m k rest : ℕ) → m ≡ n + 1 → k ≡ m + rest → k ≡ n + suc rest
+    one_more n m k rest h g = omega (arith, h, g)
+
+whole_read : (d : Draft) (e : Entry) → due_of d ≡ None → d.entry ≡ Some e → read_from d ([] ∷ []) ≡ told (cert_from d e)
+unfolding cert_before
+whole_read d e due is = ap (λ o. read_by o d [] [] (λ more. read_from more [])) due ∙ ap (cert_with d) is
+
+late_fault : (d : Draft) (line : List ℕ) (rest : List (List ℕ)) → (line ≢ []) ⊎ (rest ≢ []) → cert_before d line rest ≡ fault (d.read + 1) why.NoEnd
+unfolding cert_before
+late_fault d [] [] h = absurd (elim h [ inl a ↦ a refl | inr b ↦ b refl ])
+late_fault d [] (piece ∷ rest) h = refl
+late_fault d (b ∷ bs) rest h = refl
+
+line_fault : (l : LineLaw) (d : Draft) (line : List ℕ) (rest : List (List ℕ)) (w : CertWhy) (o : Option Due) → due_of d ≡ o → LineFails o d line rest w
+    → read_from d (line ∷ rest) ≡ fault (d.read + 1) w
+line_fault l d line rest w None is h =
+    ap (λ o. read_by o d line rest (λ more. read_from more rest)) is ∙ (late_fault d line rest h.0 ∙ ap (fault (d.read + 1)) (sym h.1))
+line_fault l d line rest w (Some due) is h =
+    ap (λ o. read_by o d line rest (λ more. read_from more rest)) is
+    ∙ ap (λ r. or_fault (d.read + 1) r (λ more. read_from more rest))
+    (err_says d due line (is_more rest) w (l.faulty (form_of d due) (words_in line (is_more rest)) w h))
+
+-- the head
+
+test_head : (line : List ℕ) → (bytes_eq line head_line ≡ true → line ≡ head_line) × (bytes_eq line head_line ≡ false → line ≢ head_line)
+test_head line = ((bytes_eq-Decides line head_line).0, λ e h. not_true (sym (ap (λ x. bytes_eq x head_line) h) ∙ e))
+  where
+    not_true : true ≡ false → ⊥
+    not_true h = cc
+
+pub head_read : (rest : List (List ℕ)) → is_more rest ≡ true → read_pieces (head_line ∷ rest) ≡ read_from first_draft rest
+head_read rest more = ap (λ t. or_fault 1 (cond t (Ok first_draft) (Err why.NoEnd)) (λ d. read_from d rest)) more
+
+pub text_certificate : (l : LineLaw) (text : List ℕ) (c : Cert) → cert_of_text text ≡ told c → IsCertificateText text c
+text_certificate l text c e = by (pieces_of text) e
+  where
+    of_rest : (rest : List (List ℕ)) → Ends first_draft rest c → SpellsCertificate (head_line ∷ rest) c
+    of_rest rest x = record {
+      lines = x.lines;
+      parts = ap (λ ps. head_line ∷ ps) x.parts;
+      draft = x.draft;
+      reaches = x.reaches;
+      whole = x.whole;
+      entry = x.entry;
+      has_entry = x.has_entry;
+      is = x.is;
+    }
+
+    of_head : (line : List ℕ) (rest : List (List ℕ)) (t : Bool) → bytes_eq line head_line ≡ t
+        → or_fault 1 (cond t (cond (is_more rest) (Ok first_draft) (Err why.NoEnd)) (Err why.Head)) (λ d. read_from d rest) ≡ told c
+        → SpellsCertificate (line ∷ rest) c
+    of_head line [] true is h = absurd cc
+    of_head line (piece ∷ rest) true is h =
+        subst (λ x. SpellsCertificate (x ∷ piece ∷ rest) c) (sym ((test_head line).0 is)) (of_rest (piece ∷ rest) (from_ok l first_draft (piece ∷ rest) c h))
+    of_head line rest false is h = absurd cc
+
+    by : (pieces : List (List ℕ)) → read_pieces pieces ≡ told c → SpellsCertificate pieces c
+    by [] h = absurd cc
+    by (line ∷ rest) h = of_head line rest (bytes_eq line head_line) refl h
+
+pub certificate_text : (l : LineLaw) (text : List ℕ) (c : Cert) → IsCertificateText text c → cert_of_text text ≡ told c
+certificate_text l text c s =
+    ap read_pieces s.parts
+    ∙ (head_read (s.lines ++ [] ∷ []) (more_after s.lines [] [])
+    ∙ (reach_read l first_draft s.draft s.lines [] [] s.reaches
+    ∙ (whole_read s.draft s.entry s.whole s.has_entry ∙ ap told (sym s.is))))
+
+pub text_fault : (l : LineLaw) (text : List ℕ) (n : ℕ) (w : CertWhy) → cert_of_text text ≡ fault n w → IsFirstFault text n w
+text_fault l text n w e = by (pieces_of text) (some_piece text) e
+  where
+    later : (rest : List (List ℕ)) → Fails first_draft rest n w → FailsLater (head_line ∷ rest) n w
+    later rest x =
+        let number = x.number in
+        let count = reach_number first_draft x.draft x.before x.reaches in
+        record {
+          before = x.before;
+          line = x.line;
+          rest = x.rest;
+          parts = ap (λ ps. head_line ∷ ps) x.parts;
+          draft = x.draft;
+          reaches = x.reaches;
+          number = omega (arith, number, count);
+          fails = x.fails;
+        }
+
+    of_head : (line : List ℕ) (rest : List (List ℕ)) (t : Bool) → bytes_eq line head_line ≡ t
+        → or_fault 1 (cond t (cond (is_more rest) (Ok first_draft) (Err why.NoEnd)) (Err why.Head)) (λ d. read_from d rest) ≡ fault n w
+        → FailsAtHead (line ∷ rest) n w ⊎ FailsLater (line ∷ rest) n w
+    of_head line [] true is h =
+        let s = same_fault 1 n why.NoEnd w h in
+        inl (record { line = line; rest = []; parts = refl; number = sym s.0; fails = inr ((test_head line).0 is, refl, sym s.1) })
+    of_head line (piece ∷ rest) true is h =
+        inr (subst (λ x. FailsLater (x ∷ piece ∷ rest) n w) (sym ((test_head line).0 is))
+        (later (piece ∷ rest) (from_err l first_draft (piece ∷ rest) n w (omega arith) refl h)))
+    of_head line rest false is h =
+        let s = same_fault 1 n why.Head w h in
+        inl (record { line = line; rest = rest; parts = refl; number = sym s.0; fails = inl ((test_head line).1 is, sym s.1) })
+
+    by : (pieces : List (List ℕ)) → is_more pieces ≡ true → read_pieces pieces ≡ fault n w → FailsAtHead pieces n w ⊎ FailsLater pieces n w
+    by [] more h = absurd cc
+    by (line ∷ rest) more h = of_head line rest (bytes_eq line head_line) refl h
+
+not_head : (line : List ℕ) (rest : List (List ℕ)) (t : Bool) → bytes_eq line head_line ≡ t → line ≢ head_line
+    → or_fault 1 (cond t (cond (is_more rest) (Ok first_draft) (Err why.NoEnd)) (Err why.Head)) (λ d. read_from d rest) ≡ fault 1 why.Head
+not_head line rest true is h = absurd (h ((test_head line).0 is))
+not_head line rest false is h = refl
+
+head_fault : (line : List ℕ) (rest : List (List ℕ)) (w : CertWhy) → HeadFails line rest w → read_pieces (line ∷ rest) ≡ fault 1 w
+head_fault line rest w (inl h) = not_head line rest (bytes_eq line head_line) refl h.0 ∙ ap (fault 1) (sym h.1)
+head_fault line rest w (inr h) =
+    ap (λ x. read_pieces (x ∷ rest)) h.0 ∙ (ap (λ r. read_pieces (head_line ∷ r)) h.1 ∙ ap (fault 1) (sym h.2))
+
+pub fault_text : (l : LineLaw) (text : List ℕ) (n : ℕ) (w : CertWhy) → IsFirstFault text n w → cert_of_text text ≡ fault n w
+fault_text l text n w (inl h) =
+    ap read_pieces h.parts ∙ (head_fault h.line h.rest w h.fails ∙ ap (λ k. fault k w) (sym h.number))
+fault_text l text n w (inr h) =
+    let count = reach_number first_draft h.draft h.before h.reaches in
+    let number = h.number in
+    let same : h.draft.read + 1 ≡ n = omega (arith, count, number) in
+    ap read_pieces h.parts
+    ∙ (head_read (h.before ++ h.line ∷ h.rest) (more_after h.before h.line h.rest)
+    ∙ (reach_read l first_draft h.draft h.before h.line h.rest h.reaches
+    ∙ (line_fault l h.draft h.line h.rest w (due_of h.draft) refl h.fails ∙ ap (λ k. fault k w) same)))
+
+-- what is answered, by the relation
+
+pub found_text : (l : LineLaw) (text : List ℕ) (result : Result Cert CertError) → Gives result (cert_of_text text) → IfOk result (λ c. IsCertificateText text c)
+found_text l text (Ok c) g = text_certificate l text c g
+found_text l text (Err e) g = tt
+
+pub only_text : (l : LineLaw) (text : List ℕ) (result : Result Cert CertError) → Gives result (cert_of_text text)
+    → (c : Cert) → IsCertificateText text c → Gives result (Ok c)
+only_text l text result g c s = subst (Gives result) (certificate_text l text c s) g
+
+pub first_fault : (l : LineLaw) (text : List ℕ) (result : Result Cert CertError) → Gives result (cert_of_text text)
+    → IfErr result (λ e. IsMemory e ⊎ IsFirstFault text e.line e.why)
+first_fault l text (Ok c) g = tt
+first_fault l text (Err e) g = elim g [ inl m ↦ inl m | inr f ↦ inr (text_fault l text e.line e.why f) ]
+
+pub faulty_text : (l : LineLaw) (text : List ℕ) (result : Result Cert CertError) → Gives result (cert_of_text text)
+    → (n : ℕ) (w : CertWhy) → IsFirstFault text n w → Gives result (Err (n, w))
+faulty_text l text result g n w s = subst (Gives result) (fault_text l text n w s) g
+
+-- each text is one certificate's or has one first fault, and never both
+
+pub decided : (l : LineLaw) (text : List ℕ) → ((c : Cert) × IsCertificateText text c) ⊎ ((n : ℕ) × (w : CertWhy) × IsFirstFault text n w)
+decided l text = by (cert_of_text text) refl
+  where
+    by : (r : Result Cert Fault) → cert_of_text text ≡ r → ((c : Cert) × IsCertificateText text c) ⊎ ((n : ℕ) × (w : CertWhy) × IsFirstFault text n w)
+    by (Ok c) e = inl (c, text_certificate l text c e)
+    by (Err f) e = inr (f.0, f.1, text_fault l text f.0 f.1 e)
+
+pub one_certificate : (l : LineLaw) (text : List ℕ) (a b : Cert) → IsCertificateText text a → IsCertificateText text b → a ≡ b
+one_certificate l text a b p q = same_cert a b (sym (certificate_text l text a p) ∙ certificate_text l text b q)
+
+pub one_fault : (l : LineLaw) (text : List ℕ) (m n : ℕ) (v w : CertWhy) → IsFirstFault text m v → IsFirstFault text n w → (m ≡ n) × (v ≡ w)
+one_fault l text m n v w p q = same_fault m n v w (sym (fault_text l text m v p) ∙ fault_text l text n w q)
+
+pub not_both : (l : LineLaw) (text : List ℕ) (c : Cert) (n : ℕ) (w : CertWhy) → IsCertificateText text c → IsFirstFault text n w → ⊥
+not_both l text c n w p q = differ (sym (certificate_text l text c p) ∙ fault_text l text n w q)
+  where
+    differ : told c ≡ fault n w → ⊥
+    differ h = cc

@@ -1,0 +1,73 @@
+-- Which texts are a certificate's, and what the first fault of another is: a relation over all lines. Each line is read as
+-- the one that is due after the lines before it, and the first that isn't as is due is the faulty one.
+use Rattle.std.specs.Prelude.{◌≡◌, ◌≢◌, ◌⊎◌, ℕ, ◌+◌, Bool, true, List, [], ◌∷◌, ◌++◌, length, Option, Some, None}
+use Rattle.uz_schedule.specs.declared.states.Entry.{Entry}
+use Rattle.uz_schedule.specs.declared.certificate.Cert.{Cert}
+use Rattle.uz_lines.specs.FirstFault.{Allows, HasFirstFault}
+use Rattle.uz_lines.specs.declared.lines.Said.{Said}
+use Rattle.uz_lines.specs.declared.why.CertWhy.{CertWhy}
+use Rattle.uz_lines.specs.declared.why.CertWhy.TheVariants as why
+use Rattle.uz_cert.specs.Drafts.{first_draft, due_of, form_of, draft_after}
+use Rattle.uz_cert.specs.Reading.{pieces_of, is_more, words_in, head_line, cert_from}
+use Rattle.uz_cert.specs.declared.due.Due.{Due}
+use Rattle.uz_cert.specs.declared.draft.Draft.{Draft}
+
+-- a line that is as is due after what was read, and what is read with it
+pub record Adds (d : Draft) (line : List ℕ) (e : Draft) : Type 0 where
+  pub due : Due
+  pub is_due : due_of d ≡ Some due
+  pub said : Said
+  pub allowed : Allows (form_of d due) (words_in line true) said
+  pub leads : e ≡ draft_after d said
+
+-- lines that are as is due, each ended by LF, lead from one draft to another
+abbrev pub Reaches : Draft → List (List ℕ) → Draft → Type 0
+Reaches d [] e = e ≡ d
+Reaches d (line ∷ lines) e = (next : Draft) × Adds d line next × Reaches next lines e
+
+-- the head and lines that are as is due, up to `end` and its LF, and nothing after them
+pub record SpellsCertificate (pieces : List (List ℕ)) (c : Cert) : Type 0 where
+  pub lines : List (List ℕ)
+  pub parts : pieces ≡ head_line ∷ lines ++ [] ∷ []
+  pub draft : Draft
+  pub reaches : Reaches first_draft lines draft
+  pub whole : due_of draft ≡ None
+  pub entry : Entry
+  pub has_entry : draft.entry ≡ Some entry
+  pub is : c ≡ cert_from draft entry
+
+-- a text is this certificate's
+abbrev pub IsCertificateText : List ℕ → Cert → Type 0
+IsCertificateText text c = SpellsCertificate (pieces_of text) c
+
+-- what is wrong with a first line: it isn't the head, or it is and doesn't end in LF
+abbrev pub HeadFails : List ℕ → List (List ℕ) → CertWhy → Type 0
+HeadFails line rest w = ((line ≢ head_line) × (w ≡ why.Head)) ⊎ ((line ≡ head_line) × (rest ≡ []) × (w ≡ why.NoEnd))
+
+-- what is wrong with a later line: it has a first fault as the line that is due, or none is due any more
+abbrev pub LineFails : Option Due → Draft → List ℕ → List (List ℕ) → CertWhy → Type 0
+LineFails None d line rest w = ((line ≢ []) ⊎ (rest ≢ [])) × (w ≡ why.NoEnd)
+LineFails (Some due) d line rest w = HasFirstFault (form_of d due) (words_in line (is_more rest)) w
+
+-- the first line has this fault
+pub record FailsAtHead (pieces : List (List ℕ)) (n : ℕ) (w : CertWhy) : Type 0 where
+  pub line : List ℕ
+  pub rest : List (List ℕ)
+  pub parts : pieces ≡ line ∷ rest
+  pub number : n ≡ 1
+  pub fails : HeadFails line rest w
+
+-- the head and the lines after it are as is due, and the next one has this fault
+pub record FailsLater (pieces : List (List ℕ)) (n : ℕ) (w : CertWhy) : Type 0 where
+  pub before : List (List ℕ)
+  pub line : List ℕ
+  pub rest : List (List ℕ)
+  pub parts : pieces ≡ head_line ∷ before ++ line ∷ rest
+  pub draft : Draft
+  pub reaches : Reaches first_draft before draft
+  pub number : n ≡ length before + 2
+  pub fails : LineFails (due_of draft) draft line rest w
+
+-- the first fault of a text, and the number of its line, counted from 1
+abbrev pub IsFirstFault : List ℕ → ℕ → CertWhy → Type 0
+IsFirstFault text n w = FailsAtHead (pieces_of text) n w ⊎ FailsLater (pieces_of text) n w
