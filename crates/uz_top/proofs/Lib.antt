@@ -14,4 +14,3 @@ pub mod TextLemmas
 pub mod TraceAnswerLemmas
 pub mod TraceLemmas
 pub mod TraceSameLemmas
-pub mod ThinFits

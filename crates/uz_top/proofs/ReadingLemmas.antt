@@ -19,10 +19,9 @@ use Rattle.avr_asm.specs.Layout.{GivesLayout}
 use Rattle.avr_asm.specs.declared.faults.AsmError.{AsmError}
 use Rattle.uz_top.specs.SourceFile.{TellsAsmFault, asm_why_name, output_of, with_asm_name}
 use Rattle.uz_top.specs.Lines.{bad_line}
-use Rattle.uz_cert.specs.Outcome.{Gives as GivesCert}
-use Rattle.uz_cert.specs.Reading.{cert_of_text}
+use Rattle.uz_cert.specs.Reading.{Gives as GivesCert, cert_of_text}
 use Rattle.uz_cert.specs.declared.errors.CertError.{CertError}
-use Rattle.uz_top.specs.CertificateFile.{TellsCertFault, cert_why_name, certificate_of, or_later}
+use Rattle.uz_top.specs.CertificateFile.{TellsCertFault, cert_why_name, certificate_of, with_cert_name}
 use Rattle.uz_top.specs.ImageFile.{TellsHexFault, hex_why_name, image_of, with_why_name}
 
 pub ends_by : (P Q : Answer → Type 0) (failure : Failure) → ((answer : Answer) → P answer → Q answer) → EndsBy P failure → EndsBy Q failure
@@ -86,14 +85,14 @@ fails_by files narrow wide name limit refuses answer widen (inl (inr long)) = in
 fails_by files narrow wide name limit refuses answer widen (inr faulty) = inr faulty
 
 certificate_faulty : (files : Option FileMap) (name bytes : List ℕ) (error : CertError) (answer : Answer) → HoldsFile files name bytes → length bytes ≤ certificate_limit → GivesCert (Err error) (cert_of_text bytes) → TellsCertFault name error answer → IsFaulty files name certificate_limit (Refuses certificate_of) answer
-certificate_faulty files name bytes error answer held short (line, inl memory) tells = absurd (tells.0 memory)
-certificate_faulty files name bytes error answer held short (line, inr later) tells = record {
+certificate_faulty files name bytes error answer held short (inl memory) tells = absurd (tells.0 memory.1)
+certificate_faulty files name bytes error answer held short (inr reads) tells = record {
   bytes = bytes;
   held = held;
   short = short;
-  fault = (0, codes "Later");
-  reads = ap or_later later.1;
-  answer = tells.1 ∙ (ap (λ n. one_line BadInput (bad_line name n (cert_why_name error.why))) line ∙ ap (λ w. one_line BadInput (bad_line name 0 (cert_why_name w))) later.0);
+  fault = (error.line, cert_why_name error.why);
+  reads = ap with_cert_name reads;
+  answer = tells.1;
 }
 
 pub certificate_fails : (files : Option FileMap) (load_fault : Type 0) (name bytes : List ℕ) (error : CertError) (failure : Failure) → HoldsFile files name bytes → length bytes ≤ certificate_limit → GivesCert (Err error) (cert_of_text bytes) → EndsBy (TellsCertFault name error) failure → EndsBy (Fails files load_fault name certificate_limit (Refuses certificate_of)) failure

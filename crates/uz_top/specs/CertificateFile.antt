@@ -1,10 +1,10 @@
 -- What a certificate file says: a certificate, or its first faulty line and why.
-use Rattle.std.specs.Prelude.{◌≡◌, ◌≢◌, ℕ, List, codes, Option, Some, None, Result, Ok, Err}
+use Rattle.std.specs.Prelude.{◌≡◌, ◌≢◌, ℕ, List, codes, Result, Ok, Err}
 use Rattle.uz_cert.specs.Reading.{cert_of_text}
 use Rattle.uz_schedule.specs.declared.certificate.Cert.{Cert}
 use Rattle.uz_cert.specs.declared.errors.CertError.{CertError}
-use Rattle.uz_cert.specs.declared.errors.CertWhy.{CertWhy}
-use Rattle.uz_cert.specs.declared.errors.CertWhy.TheVariants.{Head, Word, Number, Order, Limit, Unknown, NoEnd, Memory, Later}
+use Rattle.uz_lines.specs.declared.why.CertWhy.{CertWhy}
+use Rattle.uz_lines.specs.declared.why.CertWhy.TheVariants.{Head, Word, Number, Order, Limit, Unknown, NoEnd, Memory}
 use Rattle.uz_top.specs.declared.status.Status.TheVariants.{BadInput}
 use Rattle.uz_top.specs.Answers.{Answer, one_line}
 use Rattle.uz_top.specs.Lines.{bad_line}
@@ -20,16 +20,14 @@ cert_why_name Limit = codes "Limit"
 cert_why_name Unknown = codes "Unknown"
 cert_why_name NoEnd = codes "NoEnd"
 cert_why_name Memory = codes "Memory"
-cert_why_name Later = codes "Later"
 
--- a text that spells no certificate that is read so far is refused at line 0, with the why Later
-abbrev pub or_later : Option Cert → Result Cert Fault
-or_later None = Err (0, codes "Later")
-or_later (Some certificate) = Ok certificate
+abbrev pub with_cert_name : Result Cert (ℕ × CertWhy) → Result Cert Fault
+with_cert_name (Ok certificate) = Ok certificate
+with_cert_name (Err fault) = Err (fault.0, cert_why_name fault.1)
 
 -- the certificate that the text spells
 abbrev pub certificate_of : List ℕ → Result Cert Fault
-certificate_of text = or_later (cert_of_text text)
+certificate_of text = with_cert_name (cert_of_text text)
 
 -- the answer tells the fault, which isn't want of memory
 abbrev pub TellsCertFault : List ℕ → CertError → Answer → Type 0

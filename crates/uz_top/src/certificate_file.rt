@@ -1,7 +1,7 @@
 //! Loading and reading a certificate file.
 
 ghost use Rattle.std.specs.Prelude.{◌≡◌, ◌≤◌, IfErr, IfOk};
-ghost use Rattle.uz_schedule.specs.Thin.{IsThin};
+ghost use Rattle.uz_schedule.specs.WellFormed.{WellFormed};
 ghost use Rattle.uz_shelf.specs.Faults.{Rose};
 ghost use Rattle.uz_top.specs.Endings.{EndsBy};
 ghost use Rattle.uz_top.specs.CertificateFile.{TellsCertFault, cert_why_name, certificate_of};
@@ -26,7 +26,6 @@ fn why_name(why: CertWhy) -> &'static str
         CertWhy::Unknown => "Unknown",
         CertWhy::NoEnd => "NoEnd",
         CertWhy::Memory => "Memory",
-        CertWhy::Later => "Later",
     }
 }
 
@@ -47,7 +46,7 @@ pub(crate) fn read_certificate<H: Shelf>(
     name: &str,
 ) -> Result<Cert, Failure>
     ensures said { IfOk result (Says (H.files shelf.old) name.now certificate_limit (Spells certificate_of)) }
-    ensures well_formed { IfOk result IsThin }
+    ensures well_formed { IfOk result WellFormed }
     ensures fails { IfErr result (EndsBy (Fails (H.files shelf.old) (Rose (H.load_faults shelf.old) (H.load_faults shelf.new)) name.now certificate_limit (Refuses certificate_of))) }
     ensures files { H.files shelf.new ≡ H.files shelf.old }
     ensures load_faults { H.load_faults shelf.old ≤ H.load_faults shelf.new }

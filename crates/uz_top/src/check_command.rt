@@ -1,7 +1,7 @@
 //! `check HEX CERT`.
 
 ghost use Rattle.std.specs.Prelude.{◌≡◌, ◌≤◌, IfOk};
-ghost use Rattle.uz_schedule.specs.Thin.{IsThin};
+ghost use Rattle.uz_schedule.specs.WellFormed.{WellFormed};
 ghost use Rattle.uz_soundness.specs.Certified.{Certified};
 ghost use Rattle.uz_shelf.specs.Faults.{Rose};
 ghost use Rattle.uz_top.specs.CheckCommand.{CheckAnswers, FilesCertified, IsVerdict};
@@ -19,9 +19,8 @@ use uz_hex::Image;
 use uz_shelf::Shelf;
 
 /// Checks a pair, and says what is printed of it.
-#[tactic(auto, using(crate::proofs::ThinFits::thin_fits))]
 fn check_pair(alloc: Global, image: Image, cert: Cert) -> Result<Ending, AllocError>
-    requires { IsThin cert }
+    requires { WellFormed cert }
     ensures answer { IfOk result (λ e. IsVerdict image cert (answer_of e)) }
     ensures certified { IfOk result (λ e. e.status ≡ Status.Done → Certified image cert) }
 {

@@ -1,6 +1,5 @@
 use Rattle.std.proofs.Common.{◌≤◌, length, subst, arith}
-use Rattle.uz_cert.specs.Outcome.{Gives}
-use Rattle.uz_cert.specs.Reading.{cert_of_text}
+use Rattle.uz_cert.specs.Reading.{Gives, cert_of_text}
 use Rattle.std.specs.Prelude.{Err}
 use Rattle.uz_top.specs.Reading.{certificate_limit}
 use Rattle.uz_top.proofs.ReadingLemmas.{certificate_fails}
