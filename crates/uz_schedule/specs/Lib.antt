@@ -7,6 +7,5 @@ pub mod Limits
 pub mod LineEvents
 pub mod Lines
 pub mod Schedule
-pub mod Thin
 pub mod Tracked
 pub mod WellFormed

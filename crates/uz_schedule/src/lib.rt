@@ -18,7 +18,6 @@ mod positions;
 mod ranges;
 mod sequence;
 mod states;
-mod thin;
 mod tracked;
 
 pub use certificate::Cert;
@@ -38,7 +37,6 @@ pub use lines::{Event, EventKind, Schedule};
 pub use ranges::{Span, Wide, hull};
 pub use sequence::Sequence;
 pub use states::{Entry, Instance, Point, Rest};
-pub use thin::is_thin;
 pub use tracked::tracks;
 
 #[cfg(test)]
