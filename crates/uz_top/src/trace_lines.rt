@@ -1,6 +1,6 @@
 //! The lines of a trace.
 
-ghost use Rattle.std.specs.Prelude.{◌≡◌, ◌++◌, IfOk, OnOk, decimal};
+ghost use Rattle.std.specs.Prelude.{◌≡◌, ◌++◌, IfOk, OnOk, codes, decimal};
 ghost use Rattle.uz_top.specs.TraceCommand.{edge_line, edge_lines, end_line, kind_text, stopped_line, stopping_word};
 
 use crate::check_lines::word_digits;
@@ -10,6 +10,7 @@ use uz_core::Why;
 use uz_machine::{Edge, EdgeKind};
 
 /// Adds a name and a number at the end of a line.
+#[inline(always)]
 fn push_value(line: &mut Vec<u8>, name: &[u8], value: u16) -> Result<(), AllocError>
     ensures { OnOk result (line.new.items ≡ line.old.items ++ (name.now ++ decimal value)) }
 {
@@ -18,16 +19,17 @@ fn push_value(line: &mut Vec<u8>, name: &[u8], value: u16) -> Result<(), AllocEr
     Ok(())
 }
 
+/// Adds a space and what an edge is.
 fn push_kind(line: &mut Vec<u8>, kind: EdgeKind) -> Result<(), AllocError>
-    ensures { OnOk result (line.new.items ≡ line.old.items ++ kind_text kind) }
+    ensures { OnOk result (line.new.items ≡ line.old.items ++ (codes " " ++ kind_text kind)) }
 {
     match kind {
-        EdgeKind::Sync(level) => push_value(line, b"sync ", u16::from(level)),
-        EdgeKind::Pixel(value) => push_value(line, b"pixel ", u16::from(value)),
-        EdgeKind::Sound(value) => push_value(line, b"sound ", u16::from(value)),
-        EdgeKind::Enter(phase) => push_value(line, b"enter ", phase),
+        EdgeKind::Sync(level) => push_value(line, b" sync ", u16::from(level)),
+        EdgeKind::Pixel(value) => push_value(line, b" pixel ", u16::from(value)),
+        EdgeKind::Sound(value) => push_value(line, b" sound ", u16::from(value)),
+        EdgeKind::Enter(phase) => push_value(line, b" enter ", phase),
         EdgeKind::Leave => {
-            line.extend_from_slice(b"leave")?;
+            line.extend_from_slice(b" leave")?;
             Ok(())
         }
     }
@@ -37,7 +39,6 @@ fn push_edge(line: &mut Vec<u8>, edge: Edge) -> Result<(), AllocError>
     ensures { OnOk result (line.new.items ≡ line.old.items ++ edge_line edge) }
 {
     line.extend_from_slice(Buffer::new().format(edge.clock).as_bytes())?;
-    line.extend_from_slice(b" ")?;
     push_kind(line, edge.kind)?;
     line.extend_from_slice(b"\n")?;
     Ok(())
