@@ -1,5 +1,4 @@
 pub mod Drafts
 pub mod Kept
 pub mod Reading
-pub mod Spelling
 pub mod Texts

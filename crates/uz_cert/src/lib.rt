@@ -16,3 +16,4 @@ pub use uz_schedule::{
     Bit, Cell, Cert, Entry, Event, EventKind, Fact, Head, Instance, Kind, LineEvents, LineOrder,
     Owner, PairFact, Point, Response, Rest, Schedule, Sequence, Span, Val, Wide, hull, well_formed,
 };
+pub use uz_spelling::write_cert;
