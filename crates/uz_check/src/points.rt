@@ -2,11 +2,11 @@
 
 ghost use Rattle.std.specs.Prelude.{◌≡◌, ◌<◌, ◌≤◌, ◌+◌, ◌-◌, suc, length, slice_get, Some};
 ghost use Rattle.uz_schedule.specs.WellFormed.{WellFormed, BoxFits};
-ghost use Rattle.uz_fold.specs.Untold.{AlikeTo, untold_of, untold};
+ghost use Rattle.uz_fold.specs.Untold.{RunsFrom, untold_of, untold};
 ghost use Rattle.uz_check.specs.Refusal.{InstanceRefusal, LineRefusal, PointRefusal, PointsRefusal};
 
 use crate::refusal::RefusedWhy;
-use uz_fold::{all_lines_alike, lines_fold, next_untold, reach_of};
+use uz_fold::{alike_runs, lines_fold, next_untold, reach_of};
 use uz_hex::Image;
 use uz_rules::local;
 use uz_schedule::{Cert, Point};
@@ -62,7 +62,7 @@ fn line_refusal(
 fn point_refusal(
     image: &Image,
     cert: &Cert,
-    lines: &[bool; 525],
+    runs: &[u16; 525],
     id: u32,
     point: &Point,
     looked: &mut u64,
@@ -70,7 +70,7 @@ fn point_refusal(
     requires fits { WellFormed cert.now }
     requires point { slice_get cert.now.points id ≡ Some point.now }
     requires box_fits { BoxFits (length cert.now.schedule.lines) point.now }
-    requires noted { AlikeTo cert.now lines.now (length cert.now.schedule.lines) }
+    requires noted { RunsFrom cert.now runs.now 0 }
     ensures first { PointRefusal image.now cert.now id point.now result }
     ensures few { looked.new ≤ looked.old + untold_of cert.now point.now }
 {
@@ -81,7 +81,7 @@ fn point_refusal(
         if let Some(why) = line_refusal(image, cert, id, point, l, looked) {
             return Some(why);
         }
-        l = next_untold(cert, lines, reach, point, l + 1);
+        l = next_untold(cert, runs, reach, point, l + 1);
     }
     None
 }
@@ -104,10 +104,10 @@ pub(crate) fn points_refusal(image: &Image, cert: &Cert, looked: &mut u64) -> Op
     ensures first { PointsRefusal image.now cert.now result }
     ensures few { looked.new ≤ looked.old + untold cert.now }
 {
-    let lines = all_lines_alike(cert);
+    let runs = alike_runs(cert);
     'points: for id in 0..cert.points.len() as u32 {
         let point = point_of(cert, id);
-        if let Some(why) = point_refusal(image, cert, &lines, id, point, looked) {
+        if let Some(why) = point_refusal(image, cert, &runs, id, point, looked) {
             return Some(why);
         }
     }

@@ -3,5 +3,5 @@ pub mod StepMoves
 pub mod InstanceMoves
 pub mod LinesFold
 pub mod Spans
-pub mod NotedLines
+pub mod Runs
 pub mod Covered

@@ -26,9 +26,17 @@ untold_in cert (p ∷ points) = untold_of cert p + untold_in cert points
 abbrev pub untold : Cert → ℕ
 untold cert = untold_in cert cert.points
 
--- each of the first n lines is noted with whether it and those about it are alike
-abbrev pub AlikeTo : Cert → List Bool → ℕ → Type 0
-AlikeTo cert lines n = (l : ℕ) → l < n → slice_get lines l ≡ Some (lines_alike cert l)
+-- from line l on the conditions on lines hold up to line e, of a frame of n lines, and no further
+pub record IsRun (cert : Cert) (n l e : ℕ) : Type 0 where
+  pub onward : l ≤ e
+  pub within : e ≤ n
+  pub alike : (k : ℕ) → l ≤ k → k < e → lines_alike cert k ≡ true
+  pub ended : e < n → lines_alike cert e ≡ false
+
+-- each line from one on is noted with the line up to which they hold
+abbrev pub RunsFrom : Cert → List ℕ → ℕ → Type 0
+RunsFrom cert runs from =
+    (l : ℕ) → from ≤ l → l < length cert.schedule.lines → (e : ℕ) × (slice_get runs l ≡ Some e) × IsRun cert (length cert.schedule.lines) l e
 
 -- the first line from one on that isn't told, or the one past the box's last
 pub record IsNextUntold (cert : Cert) (p : Point) (from to : ℕ) : Type 0 where

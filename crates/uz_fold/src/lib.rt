@@ -9,6 +9,6 @@ mod reach;
 mod told;
 
 pub use laws::lines_fold;
-pub use lines::all_lines_alike;
+pub use lines::alike_runs;
 pub use reach::{Reach, reach_of};
 pub use told::next_untold;

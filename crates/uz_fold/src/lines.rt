@@ -1,12 +1,12 @@
 //! Which lines are of one kind with the lines about them, and have the same rests.
 
-ghost use Rattle.std.specs.Prelude.{◌≡◌, ◌<◌, ◌≤◌, length};
+ghost use Rattle.std.specs.Prelude.{◌≡◌, ◌<◌, ◌≤◌, ◌+◌, length};
 ghost use Rattle.std.specs.Option.{option_map};
 ghost use Rattle.uz_schedule.specs.Limits.{ScheduleFits};
 ghost use Rattle.uz_schedule.specs.WellFormed.{WellFormed};
 ghost use Rattle.uz_rules.specs.Local.{rest_in};
 ghost use Rattle.uz_fold.specs.Folding.{kind_of as line_kind, line_before as line_ahead, kinds_alike as kinds_same, same_spans as spans_same, same_rest as rest_same, rests_alike as rests_same, lines_alike as alike};
-ghost use Rattle.uz_fold.specs.Untold.{AlikeTo};
+ghost use Rattle.uz_fold.specs.Untold.{IsRun, RunsFrom};
 
 use uz_schedule::{Cert, Rest, Schedule, Span};
 
@@ -107,16 +107,31 @@ fn lines_alike(cert: &Cert, line: u16) -> bool
     kinds_alike(&cert.schedule, line) && rests_alike(cert, line)
 }
 
-/// Of each line of the frame whether it, the one before it and the two that follow it are of one kind, and it and the two that follow it
-/// have the same rest or none. What stands past the frame's lines is false. No memory.
-pub fn all_lines_alike(cert: &Cert) -> [bool; 525]
+/// The line up to which the conditions on lines hold from this one on, where that of the line after it is known.
+#[tactic(auto, using(crate::proofs::Runs::run_goes_on, crate::proofs::Runs::run_ends))]
+fn run_end(cert: &Cert, line: u16, after: u16) -> u16
+    requires fits { ScheduleFits cert.now.schedule }
+    requires line { line < length cert.now.schedule.lines }
+    requires after { IsRun cert.now (length cert.now.schedule.lines) (line + 1) after }
+    ensures { IsRun cert.now (length cert.now.schedule.lines) line result }
+{
+    if lines_alike(cert, line) { after } else { line }
+}
+
+/// Of each line of the frame the line up to which, from this one on, each line, the one before it and the two that follow it are of one
+/// kind, and the three have the same rest or none; the number of lines where no line is otherwise. No memory.
+pub fn alike_runs(cert: &Cert) -> [u16; 525]
     requires { WellFormed cert.now }
     ensures length { length result ≡ 525 }
-    ensures each { AlikeTo cert.now result (length cert.now.schedule.lines) }
+    ensures each { RunsFrom cert.now result 0 }
 {
-    let mut lines = [false; 525];
-    'each: for line in 0..cert.schedule.lines.len() as u16 {
-        lines[usize::from(line)] = lines_alike(cert, line);
+    let count = cert.schedule.lines.len() as u16;
+    let mut runs = [0; 525];
+    let mut end = count;
+    'each: for back in 0..count {
+        let line = count - 1 - back;
+        end = run_end(cert, line, end);
+        runs[usize::from(line)] = end;
     }
-    lines
+    runs
 }
