@@ -1,0 +1,80 @@
+-- What the parts of a certificate give, and what a refusal of the search is licensed by.
+use Rattle.std.proofs.Common.{◌≡◌, ◌∙◌, sym, ap, refl, ℕ, ◌<◌, ◌≤◌, List, length, subst}
+use Rattle.std.specs.Prelude.{Option, Some, Result, Ok, Err, IfOk, IfErr, slice_get, ⊤}
+use Rattle.std.specs.Ordering.{nat_cmp}
+use Rattle.std.specs.FinMap.{FinMap}
+use Rattle.std.proofs.lemmas.Option.{slice_get_within}
+use Rattle.avr_asm.specs.declared.output.Hint.{Hint as SourceHint}
+use Rattle.avr_asm.specs.declared.output.Hint.TheVariants.{Start, Lines, Stack, Cell, Fact}
+use Rattle.uz_schedule.specs.declared.kinds.Response.{Response}
+use Rattle.uz_schedule.specs.declared.certificate.Cert.{Cert}
+use Rattle.uz_schedule.specs.declared.states.Entry.{Entry}
+use Rattle.uz_schedule.specs.declared.states.Instance.{Instance}
+use Rattle.uz_search.specs.declared.found.Found.{Found}
+use Rattle.uz_search.specs.declared.found.NotFound.{NotFound}
+use Rattle.uz_search.specs.declared.found.NotFound.TheVariants.{Stuck, Split, Full, Hint, NoRest, Memory}
+use Rattle.uz_search.specs.declared.program.Program.{Program}
+use Rattle.uz_search.specs.Following.{Among}
+use Rattle.uz_search.specs.Refusing.{Refusal}
+use Rattle.uz_search.specs.Searching.{IsEnded}
+use Rattle.uz_search.specs.Trails.{OnTrail}
+use Rattle.uz_hints.specs.declared.reading.Reading.{Reading}
+use Rattle.uz_hints.specs.Faults.{IsFine, FineBefore, FactPart, FactsFine}
+use Rattle.uz_hints.specs.Reading.{IsReading}
+use Rattle.uz_paths.specs.declared.certificate.Parts.{Parts}
+use Rattle.uz_paths.specs.Certificate.{ArePartsOf, cert_of}
+use Rattle.uz_paths.specs.Finding.{instance_limit, Cause, Licensed, IsFoundBy, IsAsked}
+use Rattle.uz_paths.specs.ProgramOf.{IsProgramOf, start_entry, entry_with}
+use Rattle.uz_paths.proofs.RestLemmas.{is_return}
+
+pub found_by : (image : FinMap nat_cmp ℕ) (p : Program) (entry : Entry) (found : Found) (parts : Parts) (cert : Cert) → cert ≡ cert_of p parts → ArePartsOf p entry found parts → IsEnded image p found
+    → ((x : Instance) → Among found.nodes.keys x → OnTrail image p x) → IsFoundBy image p entry cert
+found_by image p entry found parts cert is a ended trails = subst (IsFoundBy image p entry) (sym is) (record {
+  head = refl;
+  lines = a.schedule.count;
+  fall = a.schedule.falls;
+  enters = a.enters;
+  rests = is_return image p found parts.rests.items a.rests ended trails;
+})
+
+fact_part : (image : FinMap nat_cmp ℕ) (irq : Response) (hints : List SourceHint) (i : ℕ) (h : SourceHint) → IsFine image irq hints i h → FactPart h
+fact_part image irq hints i (Start kind at) f = tt
+fact_part image irq hints i (Lines lines fall) f = tt
+fact_part image irq hints i (Stack lo hi main handler) f = tt
+fact_part image irq hints i (Cell at owner lo hi first) f = tt
+fact_part image irq hints i (Fact at place lo hi) f = (f.order, f.there, f.byte)
+
+pub facts_fine : (image : FinMap nat_cmp ℕ) (irq : Response) (hints : List SourceHint) (r : Reading) → IsReading image irq hints r → FactsFine hints
+facts_fine image irq hints r is i h there = fact_part image irq hints i h (is.fine i h (slice_get_within hints i h there) there)
+
+pub licensed : (image : FinMap nat_cmp ℕ) (irq : Response) (hints : List SourceHint) (p : Program) (e : NotFound) → IsProgramOf irq hints p → Refusal image p instance_limit e → Cause image irq hints e
+licensed image irq hints p (Stuck trail why) of shows = record { program = p; of = of; shows = shows }
+licensed image irq hints p (Split first second) of shows = record { program = p; of = of; shows = shows }
+licensed image irq hints p (Full count) of shows = record { program = p; of = of; shows = shows }
+licensed image irq hints p (Hint index) of shows = absurd shows
+licensed image irq hints p (NoRest count) of shows = record { program = p; of = of; shows = shows }
+licensed image irq hints p Memory of shows = tt
+
+some_is : {A : Type 0} (a b : A) → Some a ≡ Some b → a ≡ b
+some_is a b e = cc
+
+pub asked : (image : FinMap nat_cmp ℕ) (irq : Response) (hints : List SourceHint) (r : Reading) (p : Program) (entry : Entry) (cert : Cert) → IsReading image irq hints r → IsProgramOf irq hints p → p.head ≡ r.head
+    → entry ≡ entry_with r.registers r.head r.start 0 → IsFoundBy image p entry cert → IsAsked image irq hints cert
+asked image irq hints r p entry cert is of head e found =
+    let start : r.start ≡ of.start = some_is r.start of.start (sym is.start ∙ of.starts_at) in
+    let same : entry ≡ start_entry hints p.head of.start 0 =
+    e ∙ (ap (λ rs. entry_with rs r.head r.start 0) is.registers ∙ (ap (λ h. start_entry hints h r.start 0) (sym head) ∙ ap (λ s. start_entry hints p.head s 0) start)) in
+    record { program = p; of = of; found = subst (λ x. IsFoundBy image p x cert) same found }
+
+pub ok_asked : (image : FinMap nat_cmp ℕ) (irq : Response) (hints : List SourceHint) (r : Reading) (p : Program) (entry : Entry) (answer : Result Cert NotFound) → IsReading image irq hints r → IsProgramOf irq hints p → p.head ≡ r.head
+    → entry ≡ entry_with r.registers r.head r.start 0 → IfOk answer (IsFoundBy image p entry) → IfOk answer (IsAsked image irq hints)
+ok_asked image irq hints r p entry (Ok cert) is of head e found = asked image irq hints r p entry cert is of head e found
+ok_asked image irq hints r p entry (Err why) is of head e found = tt
+
+pub err_cause : (image : FinMap nat_cmp ℕ) (irq : Response) (hints : List SourceHint) (p : Program) (answer : Result Cert NotFound) → IsProgramOf irq hints p
+    → IfErr answer (Refusal image p instance_limit) → IfErr answer (Cause image irq hints)
+err_cause image irq hints p (Ok cert) of shows = tt
+err_cause image irq hints p (Err e) of shows = licensed image irq hints p e of shows
+
+pub no_hint : (r : Reading) (index : ℕ) → Ok r ≡ Err index → ⊥
+no_hint r index e = cc

@@ -1,0 +1,10 @@
+use Rattle.std.proofs.Common.{refl, arith}
+use Rattle.std.proofs.lemmas.List.{same_lists}
+use Rattle.uz_paths.proofs.kinds.are_same_each.Goals as goal
+
+pub returns : goal.returns
+returns c =
+    let past = c.loop-i-test.false in (
+      λ t. same_lists c.args.a.now c.args.b.now c.requires (λ k d within. c.loop-i.invariant k d (omega arith)),
+      λ same. refl,
+    )

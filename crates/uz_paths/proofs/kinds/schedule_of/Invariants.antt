@@ -1,0 +1,13 @@
+use Rattle.std.proofs.Common.{◌≡◌, ◌<◌, ◌≤◌, ℕ, length}
+use Rattle.std.specs.Prelude.{slice_get, Some}
+use Rattle.uz_paths.specs.Kinds.{line_events, AreApart}
+use Rattle.uz_paths.proofs.kinds.schedule_of.Given as goal
+
+-- each line so far has its kind
+abbrev pub invariant-loop-line : goal.invariant-loop-line
+invariant-loop-line l = record {
+  count : length l.numbers.items ≡ l.line;
+  few : length l.kinds.items ≤ l.line;
+  apart : AreApart l.kinds.items;
+  kind : (j : ℕ) → j < l.line → (n : ℕ) × (slice_get l.numbers.items j ≡ Some n) × (slice_get l.kinds.items n ≡ Some (line_events l.marks j));
+}

@@ -1,0 +1,61 @@
+-- What is found, and why nothing is.
+use Rattle.std.specs.Prelude.{◌≡◌, ⊤, ℕ, Contains, List, length}
+use Rattle.std.specs.Ordering.{nat_cmp}
+use Rattle.std.specs.FinMap.{FinMap}
+use Rattle.avr_asm.specs.declared.output.Hint.{Hint as SourceHint}
+use Rattle.uz_schedule.specs.declared.kinds.Response.{Response}
+use Rattle.uz_schedule.specs.declared.states.Instance.{Instance}
+use Rattle.uz_schedule.specs.declared.states.Entry.{Entry}
+use Rattle.uz_schedule.specs.declared.states.Rest.{Rest}
+use Rattle.uz_schedule.specs.declared.certificate.Cert.{Cert}
+use Rattle.uz_search.specs.declared.found.NotFound.{NotFound}
+use Rattle.uz_search.specs.declared.found.NotFound.TheVariants.{Stuck, Split, Full, Hint, NoRest, Memory}
+use Rattle.uz_search.specs.declared.program.Program.{Program}
+use Rattle.uz_search.specs.Following.{ReturnsTo}
+use Rattle.uz_search.specs.Trails.{OnTrail}
+use Rattle.uz_search.specs.Refusing.{Refusal}
+use Rattle.uz_hints.specs.Faults.{HintRefusal}
+use Rattle.uz_paths.specs.ProgramOf.{IsProgramOf, start_entry}
+
+-- the most distinct instances of a search
+abbrev pub instance_limit : ℕ
+instance_limit = 524288
+
+-- what is told of the program by the hints, and the refusal of a search over it
+pub record Licensed (image : FinMap nat_cmp ℕ) (irq : Response) (hints : List SourceHint) (e : NotFound) : Type 0 where
+  pub program : Program
+  pub of : IsProgramOf irq hints program
+  pub shows : Refusal image program instance_limit e
+
+-- the cause of each answer without a certificate
+abbrev pub Cause : FinMap nat_cmp ℕ → Response → List SourceHint → NotFound → Type 0
+Cause image irq hints (Stuck trail why) = Licensed image irq hints (Stuck trail why)
+Cause image irq hints (Split first second) = Licensed image irq hints (Split first second)
+Cause image irq hints (Full count) = Licensed image irq hints (Full count)
+Cause image irq hints (Hint index) = HintRefusal image irq hints index
+Cause image irq hints (NoRest count) = Licensed image irq hints (NoRest count)
+Cause image irq hints Memory = ⊤
+
+-- the handler returns so with an instance that lies on a trail
+pub record IsReturn (image : FinMap nat_cmp ℕ) (p : Program) (rest : Rest) : Type 0 where
+  pub at : Instance
+  pub on_trail : OnTrail image p at
+  pub end : Instance
+  pub returns : ReturnsTo image p at end
+  pub line : rest.line ≡ end.line
+  pub clock : rest.clock ≡ end.clock
+  pub cells : rest.cells ≡ end.cells
+
+-- the certificate has the header, the lines and the fall of the program, and this entry; and each rest is a return of some trail
+pub record IsFoundBy (image : FinMap nat_cmp ℕ) (p : Program) (entry : Entry) (cert : Cert) : Type 0 where
+  pub head : cert.head ≡ p.head
+  pub lines : length cert.schedule.lines ≡ p.lines
+  pub fall : cert.schedule.fall ≡ p.fall
+  pub enters : cert.entry ≡ record entry { id = cert.entry.id }
+  pub rests : (rest : Rest) → Contains cert.rests rest → IsReturn image p rest
+
+-- the certificate has the header, the lines, the fall and the entry that the hints ask for, and each rest is a return of some trail
+pub record IsAsked (image : FinMap nat_cmp ℕ) (irq : Response) (hints : List SourceHint) (cert : Cert) : Type 0 where
+  pub program : Program
+  pub of : IsProgramOf irq hints program
+  pub found : IsFoundBy image program (start_entry hints program.head of.start 0) cert

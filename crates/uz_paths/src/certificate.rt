@@ -1,0 +1,159 @@
+//! The certificate that an ended search makes.
+
+ghost use Rattle.std.specs.Prelude.{◌≡◌, ◌<◌, ◌≤◌, ◌^◌, ℕ, IfOk, length, slice_get, Some};
+ghost use Rattle.uz_schedule.specs.Lines.{uniform};
+ghost use Rattle.uz_schedule.specs.Schedule.{response_clocks};
+ghost use Rattle.uz_schedule.specs.declared.states.Instance.{Instance};
+ghost use Rattle.uz_schedule.specs.declared.states.Rest.{Rest};
+ghost use Rattle.uz_search.specs.Fitting.{ProgramFits, Stands};
+ghost use Rattle.uz_search.specs.Following.{Among};
+ghost use Rattle.uz_paths.specs.Linked.{ArePoints};
+ghost use Rattle.uz_paths.specs.Numbers.{AreNumbers};
+ghost use Rattle.uz_paths.specs.Certificate.{ArePartsOf, cert_of};
+
+use crate::kinds::schedule_of;
+use crate::linking::{link_all, number_at};
+use crate::numbers::{Numbered, number_points};
+use crate::rests::rests_of;
+use indexmap::IndexSet;
+use std::alloc::{AllocError, Global};
+use uz_hex::Image;
+use uz_schedule::{Cert, Entry, Instance, LineOrder, Point, Rest, Schedule, Sequence, entry_state};
+use uz_search::{Found, Program};
+
+/// What a search makes of a certificate.
+#[derive(Drop)]
+pub(crate) struct Parts {
+    /// The events of each line.
+    pub schedule: Schedule,
+    /// Where the handler returns.
+    pub rests: Vec<Rest>,
+    /// Where runs enter.
+    pub entry: Entry,
+    /// The points.
+    pub points: Vec<Point>,
+}
+
+/// The number of the point of an instance.
+fn number_of(nodes: &IndexSet<Instance>, numbers: &[u32], at: &Instance) -> u32
+    requires { length numbers.now ≡ length nodes.now.keys }
+{
+    match nodes.get_index_of(at) {
+        Some(i) => number_at(numbers, i),
+        None => 0,
+    }
+}
+
+/// Points that name their successors.
+fn linked(
+    image: &Image,
+    program: &Program,
+    rests: &[Rest],
+    nodes: &IndexSet<Instance>,
+    bare: Numbered,
+) -> Numbered
+    requires fits { ProgramFits program.now }
+    requires stand { (x : Instance) → Among nodes.now.keys x → Stands program.now x }
+    requires few { length bare.points.items < 2 ^ 32 }
+    requires numbers { AreNumbers (response_clocks program.now.head.irq) (uniform program.now.lines) rests.now nodes.now.keys bare.numbers.items (length bare.points.items) }
+    requires points { ArePoints (response_clocks program.now.head.irq) (uniform program.now.lines) rests.now nodes.now.keys bare.numbers.items (length bare.points.items) bare.points.items }
+    ensures numbers { AreNumbers (response_clocks program.now.head.irq) (uniform program.now.lines) rests.now nodes.now.keys result.numbers.items (length result.points.items) }
+    ensures points { ArePoints (response_clocks program.now.head.irq) (uniform program.now.lines) rests.now nodes.now.keys result.numbers.items (length result.points.items) result.points.items }
+{
+    let Numbered {
+        numbers,
+        mut points,
+    } = bare;
+    link_all(
+        image,
+        program,
+        rests,
+        nodes,
+        numbers.as_slice(),
+        points.as_mut_slice(),
+    );
+    Numbered { numbers, points }
+}
+
+/// The points of all instances.
+fn points_of(
+    alloc: Global,
+    image: &Image,
+    program: &Program,
+    rests: &[Rest],
+    nodes: &IndexSet<Instance>,
+) -> Result<Numbered, AllocError>
+    requires fits { ProgramFits program.now }
+    requires stand { (x : Instance) → Among nodes.now.keys x → Stands program.now x }
+    requires rests { length rests.now ≤ 525 }
+    requires few { length nodes.now.keys < 524288 }
+    requires lines { (k : ℕ) (rest : Rest) → slice_get rests.now k ≡ Some rest → rest.line < program.now.lines }
+    ensures numbers { IfOk result (λ r. AreNumbers (response_clocks program.now.head.irq) (uniform program.now.lines) rests.now nodes.now.keys r.numbers.items (length r.points.items)) }
+    ensures points { IfOk result (λ r. ArePoints (response_clocks program.now.head.irq) (uniform program.now.lines) rests.now nodes.now.keys r.numbers.items (length r.points.items) r.points.items) }
+{
+    let order = LineOrder {
+        count: program.lines,
+    };
+    let bare = number_points(alloc, program.head.irq, order, rests, nodes.as_slice())?;
+    Ok(linked(image, program, rests, nodes, bare))
+}
+
+/// An entry at the point of this number.
+fn with_id(entry: Entry, id: u32) -> Entry
+    ensures { result ≡ record entry { id = id } }
+{
+    let mut entry = entry;
+    entry.id = id;
+    entry
+}
+
+/// The parts of the certificate of what a search has found, whose runs enter where the search starts.
+#[tactic(auto, using(crate::proofs::RestLemmas::few_of, crate::proofs::RestLemmas::lines_of_rests))]
+pub(crate) fn parts_of(
+    alloc: Global,
+    image: &Image,
+    program: &Program,
+    entry: Entry,
+    found: &Found,
+) -> Result<Parts, AllocError>
+    requires fits { ProgramFits program.now }
+    requires stand { (x : Instance) → Among found.now.nodes.keys x → Stands program.now x }
+    requires lines { length found.now.returns.items ≡ program.now.lines }
+    requires few { length found.now.nodes.keys < 524288 }
+    ensures { IfOk result (ArePartsOf program.now entry found.now) }
+{
+    let schedule = schedule_of(alloc, found.marks.as_slice(), program.lines, program.fall)?;
+    let rests = rests_of(alloc, found.returns.as_slice())?;
+    let made = points_of(alloc, image, program, rests.as_slice(), &found.nodes)?;
+    let id = number_of(
+        &found.nodes,
+        made.numbers.as_slice(),
+        &entry_state(&entry, 1),
+    );
+    Ok(Parts {
+        schedule,
+        rests,
+        entry: with_id(entry, id),
+        points: made.points,
+    })
+}
+
+/// The certificate of these parts.
+pub(crate) fn certificate_of(program: Program, parts: Parts) -> Cert
+    ensures { result ≡ cert_of program parts }
+{
+    let Program { head, .. } = program;
+    let Parts {
+        schedule,
+        rests,
+        entry,
+        points,
+    } = parts;
+    Cert {
+        head,
+        schedule,
+        rests: Sequence::from_vec(rests),
+        entry,
+        points: Sequence::from_vec(points),
+    }
+}

@@ -1,0 +1,92 @@
+//! From hints to a certificate.
+
+ghost use Rattle.std.specs.Prelude.{◌≡◌, ◌<◌, ◌^◌, ◌⊎◌, ℕ, Err, IfOk, IfErr, IfSome, length};
+ghost use Rattle.uz_schedule.specs.WellFormed.{WellFormed};
+ghost use Rattle.uz_soundness.specs.Acceptance.{Accepts};
+ghost use Rattle.uz_hints.specs.Faults.{HintRefusal};
+ghost use Rattle.uz_search.specs.Fitting.{ProgramFits};
+ghost use Rattle.uz_search.specs.Refusing.{Refusal};
+ghost use Rattle.uz_search.specs.Searching.{IsEnded};
+ghost use Rattle.uz_paths.specs.Finding.{instance_limit, Cause, IsFoundBy, IsAsked};
+
+use crate::certificate::{certificate_of, parts_of};
+use crate::program::program_of;
+use avr_asm::Hint;
+use std::alloc::{AllocError, Global};
+use uz_check::verdict;
+use uz_hex::Image;
+use uz_hints::read_hints;
+use uz_schedule::{Cert, Entry, Response, well_formed};
+use uz_search::{Found, NotFound, Program, nodes_are_reached, search};
+
+/// The most distinct instances of a search.
+const INSTANCE_LIMIT: u32 = 524288;
+
+/// The certificate of an ended search.
+fn certificate(
+    alloc: Global,
+    image: &Image,
+    program: Program,
+    entry: Entry,
+    found: &Found,
+) -> Result<Cert, AllocError>
+    requires fits { ProgramFits program }
+    requires ended { IsEnded image.now program found.now }
+    requires few { length found.now.nodes.keys < instance_limit }
+    ensures { IfOk result (IsFoundBy image.now program entry) }
+{
+    nodes_are_reached();
+    let parts = parts_of(alloc, image, &program, entry, found)?;
+    Ok(certificate_of(program, parts))
+}
+
+/// A certificate with what the check says of it: one that it refuses isn't handed out.
+fn accepted(image: &Image, cert: Cert) -> Option<Cert>
+    ensures accepted { IfSome result (λ c. WellFormed c × Accepts image.now c) }
+    ensures same { IfSome result (λ c. c ≡ cert) }
+{
+    if well_formed(&cert) && verdict(image, &cert).is_none() {
+        Some(cert)
+    } else {
+        None
+    }
+}
+
+/// Searches a program, and makes a certificate of what is found.
+fn find_by(alloc: Global, image: &Image, program: Program, entry: Entry) -> Result<Cert, NotFound>
+    requires { ProgramFits program }
+    ensures accepted { IfOk result (λ cert. WellFormed cert × Accepts image.now cert) }
+    ensures found { IfOk result (IsFoundBy image.now program entry) }
+    ensures cause { IfErr result (Refusal image.now program instance_limit) }
+{
+    let found = match search(alloc, image, &program, INSTANCE_LIMIT) {
+        Ok(found) => found,
+        Err(refusal) => return Err(refusal),
+    };
+    let cert = certificate(alloc, image, program, entry, &found)?;
+    match accepted(image, cert) {
+        Some(cert) => Ok(cert),
+        None => Err(NotFound::Memory),
+    }
+}
+
+/// Finds a certificate of an image by the hints of its source: one that `check` accepts with it, with the header, the lines, the fall and the
+/// entry that the hints ask for, where each rest is a return of some trail.
+///
+/// Hint comes exactly where a hint is at fault or start, lines or stack are missing, before all other refusals; Stuck and Split only with trails
+/// that show them; Full only where 524,288 distinct instances lie on trails; NoRest only where runs enter main, and the instances on trails hold
+/// no return. Time is linear in the instances and their results.
+pub fn find(alloc: Global, image: &Image, hints: &[Hint], irq: Response) -> Result<Cert, NotFound>
+    requires { length hints.now < 2 ^ 32 }
+    ensures accepted { IfOk result (λ cert. WellFormed cert × Accepts image.now cert) }
+    ensures asked { IfOk result (IsAsked image.now irq hints.now) }
+    ensures cause { IfErr result (Cause image.now irq hints.now) }
+    ensures hint { (index : ℕ) → HintRefusal image.now irq hints.now index → (result ≡ Err (NotFound.Hint index)) ⊎ (result ≡ Err NotFound.Memory) }
+{
+    let reading = match read_hints(image, irq, hints) {
+        Ok(reading) => reading,
+        Err(index) => return Err(NotFound::Hint { index }),
+    };
+    let (program, entry) = program_of(alloc, hints, reading)?;
+    find_by(alloc, image, program, entry)
+}

@@ -1,0 +1,16 @@
+//! The path analyser: from a program's image and the hints of its source to a certificate of its scanline timing.
+#![tactic(auto)]
+
+mod certificate;
+mod finding;
+mod kinds;
+mod linking;
+mod numbers;
+mod points;
+mod program;
+mod rests;
+mod successors;
+mod vectors;
+
+pub use finding::find;
+pub use uz_search::NotFound;

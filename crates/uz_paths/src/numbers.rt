@@ -1,0 +1,89 @@
+//! The points of instances and their numbers: first the vectors', one for each rest, then one for each other instance in the order in which
+//! it was found.
+
+ghost use Rattle.std.specs.Prelude.{◌≡◌, ◌<◌, ◌≤◌, ◌+◌, ◌^◌, [], ℕ, IfOk, length, slice_get, Some};
+ghost use Rattle.uz_schedule.specs.Lines.{uniform};
+ghost use Rattle.uz_schedule.specs.Schedule.{response_clocks};
+ghost use Rattle.uz_schedule.specs.declared.states.Rest.{Rest};
+ghost use Rattle.uz_paths.specs.Linked.{ArePoints};
+ghost use Rattle.uz_paths.specs.Numbers.{AreNumbers};
+ghost use Rattle.uz_paths.specs.Points.{point_of as point_for, vector_point as vector_for};
+
+use crate::points::{point_of, vector_point};
+use crate::vectors::vector_of;
+use arrayvec::ArrayVec;
+use std::alloc::{AllocError, Global};
+use uz_schedule::{Instance, LineOrder, Point, Response, Rest};
+
+/// The points, and the number of each instance's point.
+#[derive(Drop)]
+pub(crate) struct Numbered {
+    /// By the place of an instance.
+    pub numbers: Vec<u32>,
+    /// By number, without successors.
+    pub points: Vec<Point>,
+}
+
+/// The vector's point of a rest, without successors.
+fn bare_vector(response: Response, order: LineOrder, rest: &Rest) -> Point
+    requires { rest.now.line < order.count }
+    ensures { result ≡ vector_for rest.now.cells.items ((uniform order.count).next rest.now.line) (response_clocks response) [] }
+{
+    vector_point(
+        &rest.cells,
+        order.next(rest.line),
+        response.clocks(),
+        ArrayVec::new(),
+    )
+}
+
+/// The point of an instance, without successors.
+fn bare_point(at: &Instance) -> Point
+    ensures { result ≡ point_for at.now [] }
+{
+    point_of(at, ArrayVec::new())
+}
+
+/// The points of the rests' vectors.
+fn vectors_of(
+    alloc: Global,
+    response: Response,
+    order: LineOrder,
+    rests: &[Rest],
+) -> Result<Vec<Point>, AllocError>
+    requires { (k : ℕ) (rest : Rest) → slice_get rests.now k ≡ Some rest → rest.line < order.count }
+    ensures { IfOk result (λ points. ArePoints (response_clocks response) (uniform order.count) rests.now [] [] (length rests.now) points.items) }
+{
+    let mut points = Vec::new(alloc);
+    for rest in rests {
+        points.push(bare_vector(response, order, rest))?;
+    }
+    Ok(points)
+}
+
+/// The points of instances with their numbers.
+pub(crate) fn number_points(
+    alloc: Global,
+    response: Response,
+    order: LineOrder,
+    rests: &[Rest],
+    nodes: &[Instance],
+) -> Result<Numbered, AllocError>
+    requires few { length rests.now + length nodes.now < 2 ^ 32 }
+    requires lines { (k : ℕ) (rest : Rest) → slice_get rests.now k ≡ Some rest → rest.line < order.count }
+    ensures numbers { IfOk result (λ r. AreNumbers (response_clocks response) (uniform order.count) rests.now nodes.now r.numbers.items (length r.points.items)) }
+    ensures points { IfOk result (λ r. ArePoints (response_clocks response) (uniform order.count) rests.now nodes.now r.numbers.items (length r.points.items) r.points.items) }
+{
+    let mut points = vectors_of(alloc, response, order, rests)?;
+    let mut numbers = Vec::new(alloc);
+    for at in nodes {
+        match vector_of(response, order, rests, at) {
+            Some(k) => numbers.push(k)?,
+            None => {
+                numbers.push(points.len() as u32)?;
+                points.push(bare_point(at))?;
+            }
+        }
+    }
+    Ok(Numbered { numbers, points })
+}

@@ -1,0 +1,200 @@
+//! The program that a search is told of by hints.
+
+ghost use Rattle.std.specs.Prelude.{◌≡◌, ◌<◌, ◌≤◌, ◌==◌, ◌++◌, [], ◌∷◌, ℕ, IfOk, OnOk, length, map, filter, if◌then◌else◌};
+ghost use Rattle.std.specs.BTreeMap.{get};
+ghost use Rattle.std.specs.FinMap.{FinMap};
+ghost use Rattle.std.specs.Ordering.{nat_cmp};
+ghost use Rattle.uz_schedule.specs.Instances.{entry_instance_at};
+ghost use Rattle.uz_schedule.specs.Tracked.{tracks as tracks_of};
+ghost use Rattle.uz_schedule.specs.declared.kinds.Response.{Response as ResponseKind};
+ghost use Rattle.uz_search.specs.Widenings.{facts_in};
+ghost use Rattle.uz_search.specs.Fitting.{ProgramFits};
+ghost use Rattle.uz_hints.specs.Faults.{FactPart, FactsFine};
+ghost use Rattle.uz_hints.specs.Reading.{IsReading, ReadingFits};
+ghost use Rattle.uz_paths.specs.ProgramOf.{widening_of as fact_of_place, hint_facts, facts_for, entry_with, first_state as state_at_first, first_states as states_at_first, IsProgramOf};
+
+use arrayvec::ArrayVec;
+use avr_asm::Hint;
+use std::alloc::{AllocError, Global};
+use std::collections::BTreeMap;
+use uz_hints::{Beginning, Reading};
+use uz_schedule::{
+    Bit, Cell, Entry, Head, Instance, Kind, Response, Sequence, Span, Wide, entry_state,
+    handler_entry, tracks,
+};
+use uz_search::{Program, Widening};
+
+/// What a fact says of its place.
+fn widening_of(place: u8, lo: u16, hi: u16) -> Widening
+    requires order { lo ≤ hi }
+    requires byte { place < 32 → hi ≤ 255 }
+    ensures { result ≡ fact_of_place place lo hi }
+{
+    if place < 32 {
+        Widening::Register {
+            register: place,
+            range: Span::between(lo as u8, hi as u8),
+        }
+    } else {
+        Widening::Pair {
+            pair: place - 32,
+            range: Wide::between(lo, hi),
+        }
+    }
+}
+
+/// Puts a fact at the end of those of its program counter.
+fn put_fact(
+    alloc: Global,
+    facts: &mut BTreeMap<u16, Vec<Widening>>,
+    at: u16,
+    fact: Widening,
+) -> Result<(), AllocError>
+    ensures { OnOk result ((pc : ℕ) → facts_in (get nat_cmp facts.new pc) ≡ facts_in (get nat_cmp facts.old pc) ++ (if at == pc then fact ∷ [] else [])) }
+{
+    let mut here = match facts.remove(&at) {
+        Some(here) => here,
+        None => Vec::new(alloc),
+    };
+    here.push(fact)?;
+    facts.insert(at, here)?;
+    Ok(())
+}
+
+/// Puts the fact that a hint is, where it is one, at the end of those of its program counter.
+fn put_hint(
+    alloc: Global,
+    facts: &mut BTreeMap<u16, Vec<Widening>>,
+    hint: &Hint,
+) -> Result<(), AllocError>
+    requires { FactPart hint.now }
+    ensures { OnOk result ((pc : ℕ) → facts_in (get nat_cmp facts.new pc) ≡ facts_in (get nat_cmp facts.old pc) ++ hint_facts pc hint.now) }
+{
+    if let Hint::Fact { at, place, lo, hi } = hint {
+        put_fact(alloc, facts, *at, widening_of(*place, *lo, *hi))?;
+    }
+    Ok(())
+}
+
+/// The facts of the hints by their program counters.
+fn facts_of(alloc: Global, hints: &[Hint]) -> Result<BTreeMap<u16, Vec<Widening>>, AllocError>
+    requires { FactsFine hints.now }
+    ensures { IfOk result (λ facts. (pc : ℕ) → facts_in (get nat_cmp facts pc) ≡ facts_for pc hints.now) }
+{
+    let mut facts = BTreeMap::new(alloc);
+    for hint in hints {
+        put_hint(alloc, &mut facts, hint)?;
+    }
+    Ok(facts)
+}
+
+/// The ranges of the cells that a kind tracks.
+fn tracked_ranges(cells: &[Cell], kind: Kind) -> ArrayVec<Span, 16>
+    requires { length cells.now ≤ 16 }
+    ensures { result.items ≡ map (λ c. c.range) (filter (λ c. tracks_of kind c.owner) cells.now) }
+{
+    let mut ranges = ArrayVec::new();
+    for cell in cells {
+        if tracks(kind, cell.owner) {
+            ranges.push(cell.range);
+        }
+    }
+    ranges
+}
+
+/// The entry of a program that starts so; the number of its point isn't known yet.
+fn start_entry(head: &Head, start: Beginning, registers: &[Span; 32]) -> Entry
+    requires { length head.now.cells.items ≤ 16 }
+    ensures { result ≡ entry_with registers.now head.now start 0 }
+{
+    Entry {
+        kind: start.kind,
+        id: 0,
+        pc: start.pc,
+        line: 0,
+        clock: 0,
+        regs: *registers,
+        flags: [Bit::Free; 7],
+        stack: ArrayVec::new(),
+        cells: tracked_ranges(head.cells.as_slice(), start.kind),
+    }
+}
+
+/// The handler's first state on line 0, where its interrupt is taken at clock `c`.
+fn first_state(irq: Response, firsts: &ArrayVec<Span, 16>, c: u16) -> Instance
+    requires { c ≤ 3 }
+    ensures { result ≡ state_at_first irq firsts.now.items c }
+{
+    handler_entry(firsts, 0, c + irq.clocks(), 1)
+}
+
+/// Puts the handler's first states on line 0 at the end of the starts, where runs enter main.
+fn put_first_states(
+    starts: &mut Vec<Instance>,
+    kind: Kind,
+    irq: Response,
+    firsts: &ArrayVec<Span, 16>,
+) -> Result<(), AllocError>
+    ensures { OnOk result (starts.new.items ≡ starts.old.items ++ states_at_first kind irq firsts.now.items) }
+{
+    match kind {
+        Kind::Main => {
+            starts.push(first_state(irq, firsts, 0))?;
+            starts.push(first_state(irq, firsts, 1))?;
+            starts.push(first_state(irq, firsts, 2))?;
+            starts.push(first_state(irq, firsts, 3))?;
+            Ok(())
+        }
+        Kind::Handler | Kind::Alone => Ok(()),
+    }
+}
+
+/// The instances at which trails begin.
+fn starts_of(
+    alloc: Global,
+    entry: &Entry,
+    irq: Response,
+    firsts: &ArrayVec<Span, 16>,
+) -> Result<Vec<Instance>, AllocError>
+    ensures { IfOk result (λ starts. starts.items ≡ entry_instance_at entry.now 1 ∷ states_at_first entry.now.kind irq firsts.now.items) }
+{
+    let mut starts = Vec::new(alloc);
+    starts.push(entry_state(entry, 1))?;
+    put_first_states(&mut starts, entry.kind, irq, firsts)?;
+    Ok(starts)
+}
+
+/// The program that hints tell of, with the entry of its certificate.
+pub(crate) fn program_of(
+    alloc: Global,
+    hints: &[Hint],
+    reading: Reading,
+) -> Result<(Program, Entry), AllocError>
+    requires facts { FactsFine hints.now }
+    requires fits { ReadingFits reading }
+    ensures fits { IfOk result (λ r. ProgramFits r.0) }
+    ensures program { IfOk result (λ r. (image : FinMap nat_cmp ℕ) (irq : ResponseKind) → IsReading image irq hints.now reading → IsProgramOf irq hints.now r.0) }
+    ensures head { IfOk result (λ r. r.0.head ≡ reading.head) }
+    ensures entry { IfOk result (λ r. r.1 ≡ entry_with reading.registers reading.head reading.start 0) }
+{
+    let Reading {
+        head,
+        size,
+        start,
+        registers,
+        firsts,
+    } = reading;
+    let facts = facts_of(alloc, hints)?;
+    let entry = start_entry(&head, start, &registers);
+    let starts = starts_of(alloc, &entry, head.irq, &firsts)?;
+    Ok((
+        Program {
+            head,
+            lines: size.lines,
+            fall: size.fall,
+            facts,
+            starts: Sequence::from_vec(starts),
+        },
+        entry,
+    ))
+}
