@@ -1,0 +1,14 @@
+pub mod AgainItems
+pub mod Facts
+pub mod HeadLines
+pub mod Numbers
+pub mod OneMore
+pub mod OnlyItems
+pub mod Options
+pub mod Raws
+pub mod ScheduleLines
+pub mod Spelled
+pub mod Steps
+pub mod Taken
+pub mod Takes
+pub mod Tests

@@ -1,0 +1,87 @@
+//! Of each kind of line two laws. `again`: within the limits that stand where the line is due, the words of what is spelled
+//! are read as just that. `only`: what is read is within these limits, and the words are those that it is spelled with; so
+//! no default is written, items stand in their order, and numbers are spelled in one way. Each function does nothing.
+
+ghost use Rattle.std.specs.Prelude.{◌≡◌, ◌<◌, ◌≤◌, ◌^◌, ◌∷◌, [], ℕ, Ok, codes, decimal};
+ghost use Rattle.uz_schedule.specs.Limits.{clock_limit, most_events, EventFits};
+ghost use Rattle.uz_schedule.specs.WellFormed.{CellFits, StackFits};
+ghost use Rattle.uz_schedule.specs.declared.kinds.Response.{Response};
+ghost use Rattle.uz_schedule.specs.declared.header.Cell.{Cell};
+ghost use Rattle.uz_schedule.specs.declared.header.Head.{Head};
+ghost use Rattle.uz_schedule.specs.declared.lines.Event.{Event};
+ghost use Rattle.uz_lines.specs.Grammar.{Words};
+ghost use Rattle.uz_lines.specs.Forms.{reads};
+ghost use Rattle.uz_lines.specs.Lines.{size_form, irq_form, stack_form, cell_form, kind_form, event_form, fall_form, run_form, end_form};
+ghost use Rattle.uz_lines.specs.declared.lines.Run.{Run};
+ghost use Rattle.uz_lines.specs.declared.lines.Said.{Said};
+ghost use Rattle.uz_lines.specs.declared.lines.Said.TheVariants as said;
+ghost use Rattle.uz_lines.specs.declared.lines.Sizes.{Sizes};
+ghost use Rattle.uz_lines.specs.declared.lines.StackLine.{StackLine};
+ghost use Rattle.uz_spelling.specs.Spelling.{cell_words, event_words, run_words};
+ghost use Rattle.uz_line_laws.specs.Said.{line, sizes_words, SizesFit, response_words, stack_line_words, with_stack, RunFits};
+
+/// `size KINDS LINES RESTS POINTS CELLS`
+pub fn size_line()
+    ensures again { (s : Sizes) → SizesFit s → reads size_form (line (sizes_words s)) ≡ Ok (said.Size s) }
+    ensures only { (words : Words) (says : Said) → reads size_form words ≡ Ok says
+        → (s : Sizes) × (says ≡ said.Size s) × (words ≡ line (sizes_words s)) × SizesFit s }
+{}
+
+/// `irq R`
+pub fn irq_line()
+    ensures again { (r : Response) → reads irq_form (line (response_words r)) ≡ Ok (said.Irq r) }
+    ensures only { (words : Words) (says : Said) → reads irq_form words ≡ Ok says
+        → (r : Response) × (says ≡ said.Irq r) × (words ≡ line (response_words r)) }
+{}
+
+/// `stack LO HI MAIN HANDLER`
+pub fn stack_line()
+    ensures again { (h : Head) (s : StackLine) → StackFits (with_stack h s) → reads stack_form (line (stack_line_words s)) ≡ Ok (said.Stack s) }
+    ensures only { (words : Words) (says : Said) → reads stack_form words ≡ Ok says
+        → (s : StackLine) × (says ≡ said.Stack s) × (words ≡ line (stack_line_words s)) × ((h : Head) → StackFits (with_stack h s)) }
+{}
+
+/// `cell ADDRESS OWNER LO HI`, at an address that keeps the order
+pub fn cell_line()
+    ensures again { (h : Head) (least : ℕ) (c : Cell) → CellFits h c → least ≤ c.at
+        → reads (cell_form h.lo h.hi least) (line (cell_words c)) ≡ Ok (said.Cell c) }
+    ensures only { (h : Head) (least : ℕ) (words : Words) (says : Said) → reads (cell_form h.lo h.hi least) words ≡ Ok says
+        → (c : Cell) × (says ≡ said.Cell c) × (words ≡ line (cell_words c)) × CellFits h c × (least ≤ c.at) }
+{}
+
+/// `kind EVENTS`
+pub fn kind_line()
+    ensures again { (events : ℕ) → 1 ≤ events → events ≤ most_events
+        → reads kind_form (line (codes "kind" ∷ decimal events ∷ [])) ≡ Ok (said.Kind events) }
+    ensures only { (words : Words) (says : Said) → reads kind_form words ≡ Ok says
+        → (events : ℕ) × (says ≡ said.Kind events) × (words ≡ line (codes "kind" ∷ decimal events ∷ [])) × (1 ≤ events) × (events ≤ most_events) }
+{}
+
+/// `CLOCK sync V`, `CLOCK pixel`, `CLOCK sound` and `CLOCK leave`, at a clock that keeps the order
+pub fn event_line()
+    ensures again { (least : ℕ) (e : Event) → EventFits e → least ≤ e.clock → reads (event_form least) (line (event_words e)) ≡ Ok (said.Event e) }
+    ensures only { (least : ℕ) (words : Words) (says : Said) → reads (event_form least) words ≡ Ok says
+        → (e : Event) × (says ≡ said.Event e) × (words ≡ line (event_words e)) × EventFits e × (least ≤ e.clock) }
+{}
+
+/// `fall CLOCK`
+pub fn fall_line()
+    ensures again { (clock : ℕ) → 1 ≤ clock → clock < clock_limit
+        → reads fall_form (line (codes "fall" ∷ decimal clock ∷ [])) ≡ Ok (said.Fall clock) }
+    ensures only { (words : Words) (says : Said) → reads fall_form words ≡ Ok says
+        → (clock : ℕ) × (says ≡ said.Fall clock) × (words ≡ line (codes "fall" ∷ decimal clock ∷ [])) × (1 ≤ clock) × (clock < clock_limit) }
+{}
+
+/// `run COUNT KIND`, where so many lines are left, and not of the kind before
+pub fn run_line()
+    ensures again { (kinds left before count kind : ℕ) → kinds ≤ 2 ^ 31 → left < 2 ^ 31 → RunFits kinds left before count kind
+        → reads (run_form kinds left before) (line (run_words (count, kind))) ≡ Ok (said.Run (record { count = count; kind = kind })) }
+    ensures only { (kinds left before : ℕ) (words : Words) (says : Said) → kinds ≤ 2 ^ 31 → left < 2 ^ 31 → reads (run_form kinds left before) words ≡ Ok says
+        → (r : Run) × (says ≡ said.Run r) × (words ≡ line (run_words (r.count, r.kind))) × RunFits kinds left before r.count r.kind }
+{}
+
+/// `end`
+pub fn end_line()
+    ensures again { reads end_form (line (codes "end" ∷ [])) ≡ Ok said.End }
+    ensures only { (words : Words) (says : Said) → reads end_form words ≡ Ok says → (says ≡ said.End) × (words ≡ line (codes "end" ∷ [])) }
+{}
