@@ -5,13 +5,15 @@ use Rattle.uz_shelf.specs.Files.{FileMap}
 use Rattle.uz_top.specs.declared.status.Status.{Status}
 use Rattle.uz_top.specs.declared.status.Status.TheVariants as status
 use Rattle.uz_top.specs.Answers.{Answer, Outside, ComesTo, Outcome}
-use Rattle.uz_top.specs.Words.{Command, Asm, Build, Check, Debug, Dis, Expand, Trace}
+use Rattle.uz_top.specs.Words.{Command, Asm, Build, Check, Debug, Dis, Expand, Play, Trace}
 use Rattle.uz_top.specs.Commands.{Answers, LacksRead, PartAnswers, Succeeds}
 use Rattle.uz_top.proofs.OutcomeLemmas.{came_from, from_answer, unwritten_by, exact_by}
 use Rattle.uz_top.proofs.TraceAnswerLemmas.{trace_status, trace_done}
 use Rattle.uz_top.proofs.TraceSameLemmas.{trace_same}
 use Rattle.uz_top.proofs.MacroLemmas.{OneEnd, build_done, build_status, expand_done, expand_status, flat_same}
 use Rattle.uz_top.specs.MacroCommands.{build_answer, expand_answer}
+use Rattle.uz_top.proofs.PlayLemmas.{play_status}
+use Rattle.uz_top.proofs.PlaySameLemmas.{play_done, play_same}
 use Rattle.uz_top.proofs.DebugLemmas.{debug_status, debug_same, debug_done}
 use Rattle.uz_top.proofs.AsmLemmas.{asm_done_answer, asm_same, asm_status}
 use Rattle.uz_top.proofs.DisLemmas.{dis_status, dis_same, dis_done}
@@ -55,6 +57,15 @@ never_usage files load_fault (Trace hex pads irq clocks) answer h is =
       | inr (inl e) ↦ absurd (cc (e, is))
       | inr (inr (inl e)) ↦ absurd (cc (e, is))
       | inr (inr (inr e)) ↦ absurd (cc (e, is))
+    ]
+never_usage files load_fault (Play hex cert pads clocks frames) answer h is =
+    elim (play_status files load_fault hex cert pads clocks frames answer h) [
+      | inl (e, cause) ↦ absurd (cc (e, is))
+      | inr (inl e) ↦ absurd (cc (e, is))
+      | inr (inr (inl e)) ↦ absurd (cc (e, is))
+      | inr (inr (inr (inl e))) ↦ absurd (cc (e, is))
+      | inr (inr (inr (inr (inl e)))) ↦ absurd (cc (e, is))
+      | inr (inr (inr (inr (inr e)))) ↦ absurd (cc (e, is))
     ]
 never_usage files load_fault (Debug hex pads irq script) answer h is =
     elim (debug_status files load_fault hex pads irq script answer h) [
@@ -102,6 +113,15 @@ never_unwritten files load_fault (Trace hex pads irq clocks) answer h is =
       | inr (inr (inl e)) ↦ absurd (cc (e, is))
       | inr (inr (inr e)) ↦ absurd (cc (e, is))
     ]
+never_unwritten files load_fault (Play hex cert pads clocks frames) answer h is =
+    elim (play_status files load_fault hex cert pads clocks frames answer h) [
+      | inl (e, cause) ↦ absurd (cc (e, is))
+      | inr (inl e) ↦ absurd (cc (e, is))
+      | inr (inr (inl e)) ↦ absurd (cc (e, is))
+      | inr (inr (inr (inl e))) ↦ absurd (cc (e, is))
+      | inr (inr (inr (inr (inl e)))) ↦ absurd (cc (e, is))
+      | inr (inr (inr (inr (inr e)))) ↦ absurd (cc (e, is))
+    ]
 never_unwritten files load_fault (Debug hex pads irq script) answer h is =
     elim (debug_status files load_fault hex pads irq script answer h) [
       | inl (e, cause) ↦ absurd (cc (e, is))
@@ -148,6 +168,15 @@ unread_cause files load_fault (Trace hex pads irq clocks) answer h is =
       | inr (inr (inl e)) ↦ absurd (cc (e, is))
       | inr (inr (inr e)) ↦ absurd (cc (e, is))
     ]
+unread_cause files load_fault (Play hex cert pads clocks frames) answer h is =
+    elim (play_status files load_fault hex cert pads clocks frames answer h) [
+      | inl (e, cause) ↦ cause
+      | inr (inl e) ↦ absurd (cc (e, is))
+      | inr (inr (inl e)) ↦ absurd (cc (e, is))
+      | inr (inr (inr (inl e))) ↦ absurd (cc (e, is))
+      | inr (inr (inr (inr (inl e)))) ↦ absurd (cc (e, is))
+      | inr (inr (inr (inr (inr e)))) ↦ absurd (cc (e, is))
+    ]
 unread_cause files load_fault (Debug hex pads irq script) answer h is =
     elim (debug_status files load_fault hex pads irq script answer h) [
       | inl (e, cause) ↦ cause
@@ -162,6 +191,7 @@ same_answers one files load_fault (Asm source hex) a b p q = asm_same files load
 same_answers one files load_fault (Expand source flat) a b p q = flat_same one files load_fault source (expand_answer flat) a b p q
 same_answers one files load_fault (Build source hex) a b p q = flat_same one files load_fault source (build_answer hex) a b p q
 same_answers one files load_fault (Trace hex pads irq clocks) a b p q = trace_same files load_fault hex pads irq clocks a b p q
+same_answers one files load_fault (Play hex cert pads clocks frames) a b p q = play_same files load_fault hex cert pads clocks frames a b p q
 same_answers one files load_fault (Debug hex pads irq script) a b p q = debug_same files load_fault hex pads irq script a b p q
 
 -- an answer that is this one, or loading met a fault
@@ -180,6 +210,7 @@ done_always one told load_fault (Build source hex) h loads answer p =
     let d = build_done (Some told) source hex h in done_as load_fault answer d.0 (flat_same one told load_fault source (build_answer hex) answer d.0 p d.1) d.2 loads
 done_always one told load_fault (Trace hex pads irq clocks) h loads answer p =
     let d = trace_done (Some told) hex pads irq clocks h in done_as load_fault answer d.0 (trace_same told load_fault hex pads irq clocks answer d.0 p d.1) d.2 loads
+done_always one told load_fault (Play hex cert pads clocks frames) h loads answer p = play_done told load_fault hex cert pads clocks frames h loads answer p
 done_always one told load_fault (Debug hex pads irq script) h loads answer p = debug_done told load_fault hex pads irq script h loads answer p
 
 usage_not_memory : status.Usage ≢ status.NoMemory

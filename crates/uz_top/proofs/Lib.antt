@@ -8,6 +8,10 @@ pub mod FaultLemmas
 pub mod MacroLemmas
 pub mod MacroNames
 pub mod OutcomeLemmas
+pub mod PlayLemmas
+pub mod PlayRunLemmas
+pub mod PlaySameLemmas
+pub mod PlayWorthLemmas
 pub mod ReadingLemmas
 pub mod ReadsLemmas
 pub mod TextLemmas

@@ -44,7 +44,7 @@ too_long : (x y : List ℕ) (limit : ℕ) → x ≡ y → limit < length x → l
 too_long x y limit e long short = omega (arith, ap length e)
 
 module _ {A : Type 0} (files : FileMap) (load_fault : Type 0) (name : List ℕ) (limit : ℕ) (spells : List ℕ → A → Type 0) (refuses : List ℕ → Fault → Type 0) (reader : IsReader spells refuses) where
-  says_same : (x y : A) → Says (Some files) name limit spells x → Says (Some files) name limit spells y → x ≡ y
+  pub says_same : (x y : A) → Says (Some files) name limit spells x → Says (Some files) name limit spells y → x ≡ y
   says_same x y p q =
       let e : p.bytes ≡ q.bytes = same_bytes files name p.bytes q.bytes p.held q.held in
       reader.one q.bytes x y (subst (λ b. spells b x) e p.reads) q.reads

@@ -14,6 +14,8 @@ pub mod MacroCommands
 pub mod MacroSource
 pub mod MacroValues
 pub mod PadFile
+pub mod PlayCommand
+pub mod PlayValues
 pub mod Reading
 pub mod ScriptFile
 pub mod SourceFile

@@ -46,8 +46,11 @@ abbrev pub stopping_word : Why → ℕ
 stopping_word (Opcode word) = word
 stopping_word Spm = 0x95E8
 
+abbrev pub stopped_at_line : ℕ → ℕ → List ℕ
+stopped_at_line pc word = codes "stopped pc 0x" ++ hex_word pc ++ codes " word 0x" ++ hex_word word ++ codes "\n"
+
 abbrev pub stopped_line : ℕ → Why → List ℕ
-stopped_line pc why = codes "stopped pc 0x" ++ hex_word pc ++ codes " word 0x" ++ hex_word (stopping_word why) ++ codes "\n"
+stopped_line pc why = stopped_at_line pc (stopping_word why)
 
 -- the machine at reset, with these pairs of pad words and this response
 abbrev pub start_of : Flash → List Pad → Response → State PadHistory

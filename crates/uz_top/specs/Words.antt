@@ -12,6 +12,7 @@ pub data Command : Type 0 where
   Trace : (hex pads : List ℕ) → (irq : Response) → (clocks : ℕ) → Command
   Expand : (source flat : List ℕ) → Command
   Build : (source hex : List ℕ) → Command
+  Play : (hex cert pads : List ℕ) → (clocks : ℕ) → (frames : List ℕ) → Command
   Debug : (hex pads : List ℕ) → (irq : Response) → (script : List ℕ) → Command
 
 -- the file words of a command differ
@@ -49,6 +50,18 @@ trace_words (hex ∷ pads ∷ irq ∷ clocks ∷ []) =
     if bytes_eq hex pads then None else trace_with hex pads (response_of irq) (number_within 1 1000000001 clocks)
 trace_words other = None
 
+abbrev pub play_with : List ℕ → List ℕ → List ℕ → Option ℕ → List ℕ → Option Command
+play_with hex cert pads (Some clocks) frames = Some (Play hex cert pads clocks frames)
+play_with hex cert pads None frames = None
+
+-- the clocks are 1 to 1,000,000,000
+abbrev pub play_words : List (List ℕ) → Option Command
+play_words (hex ∷ cert ∷ pads ∷ clocks ∷ frames ∷ []) =
+    if bytes_eq hex cert || (bytes_eq hex pads || bytes_eq hex frames) then None
+    else if bytes_eq cert pads || (bytes_eq cert frames || bytes_eq pads frames) then None
+    else play_with hex cert pads (number_within 1 1000000001 clocks) frames
+play_words other = None
+
 abbrev pub debug_with : List ℕ → List ℕ → Option Response → List ℕ → Option Command
 debug_with hex pads (Some irq) script = Some (Debug hex pads irq script)
 debug_with hex pads None script = None
@@ -65,6 +78,7 @@ command_of (verb ∷ words) =
     else if bytes_eq verb (codes "dis") then dis_words words
     else if bytes_eq verb (codes "asm") then asm_words words
     else if bytes_eq verb (codes "trace") then trace_words words
+    else if bytes_eq verb (codes "play") then play_words words
     else if bytes_eq verb (codes "debug") then debug_words words
     else if bytes_eq verb (codes "expand") then expand_words words
     else if bytes_eq verb (codes "build") then build_words words

@@ -2,8 +2,10 @@
 
 ghost use Rattle.std.specs.Prelude.{◌≡◌, map, option_map, string_bytes};
 ghost use Rattle.uz_top.specs.CommandValues.{value_of};
-ghost use Rattle.uz_top.specs.Words.{asm_words, build_words, check_words, command_of, debug_with as debug_with_response, debug_words, dis_words, expand_words, response_of, trace_words};
+ghost use Rattle.uz_text.specs.Numbers.{number_within as number_from_low};
+ghost use Rattle.uz_top.specs.Words.{asm_words, build_words, check_words, command_of, debug_with as debug_with_response, debug_words, dis_words, expand_words, play_with as play_with_clocks, play_words, response_of, trace_words};
 
+use crate::clocks::{Clocks, number_of_clocks};
 use uz_cert::Response;
 use uz_text::number_within;
 
@@ -35,6 +37,13 @@ pub(crate) enum Command<'a> {
         source: &'a str,
         hex: &'a str,
     },
+    Play {
+        hex: &'a str,
+        cert: &'a str,
+        pads: &'a str,
+        clocks: Clocks,
+        frames: &'a str,
+    },
     Debug {
         hex: &'a str,
         pads: &'a str,
@@ -55,6 +64,7 @@ pub(crate) fn parse(words: &[String]) -> Option<Command<'_>>
         "dis" => dis(rest),
         "asm" => asm(rest),
         "trace" => trace(rest),
+        "play" => play(rest),
         "debug" => debug(rest),
         "expand" => expand(rest),
         "build" => build(rest),
@@ -113,6 +123,58 @@ fn trace(words: &[String]) -> Option<Command<'_>>
                     clocks,
                 }),
                 _ => None,
+            }
+        }
+        _ => None,
+    }
+}
+
+/// The command once its files are known to differ.
+fn play_with<'a>(
+    hex: &'a str,
+    cert: &'a str,
+    pads: &'a str,
+    clocks: &str,
+    frames: &'a str,
+) -> Option<Command<'a>>
+    ensures { option_map value_of result ≡ play_with_clocks hex.now cert.now pads.now (number_from_low 1 1000000001 clocks.now) frames.now }
+{
+    match number_of_clocks(clocks) {
+        Some(clocks) => Some(Command::Play {
+            hex,
+            cert,
+            pads,
+            clocks,
+            frames,
+        }),
+        None => None,
+    }
+}
+
+/// `play HEX CERT PADS CLOCKS FRAMES`, of four files, for 1 to 1,000,000,000 clocks.
+fn play(words: &[String]) -> Option<Command<'_>>
+    ensures { option_map value_of result ≡ play_words (map string_bytes words.now) }
+{
+    match words {
+        [hex, cert, pads, clocks, frames] => {
+            if hex.as_str() == cert.as_str()
+                || hex.as_str() == pads.as_str()
+                || hex.as_str() == frames.as_str()
+            {
+                None
+            } else if cert.as_str() == pads.as_str()
+                || cert.as_str() == frames.as_str()
+                || pads.as_str() == frames.as_str()
+            {
+                None
+            } else {
+                play_with(
+                    hex.as_str(),
+                    cert.as_str(),
+                    pads.as_str(),
+                    clocks.as_str(),
+                    frames.as_str(),
+                )
             }
         }
         _ => None,

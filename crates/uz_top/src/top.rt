@@ -6,7 +6,7 @@ ghost use Rattle.uz_shelf.specs.Text.{TakesPrefix};
 ghost use Rattle.uz_top.specs.Answers.{Answer, ComesTo, NoPart, Outcome, outside};
 ghost use Rattle.uz_top.specs.CheckCommand.{CheckAnswers, FilesCertified};
 ghost use Rattle.uz_top.specs.CommandValues.{value_of};
-ghost use Rattle.uz_top.specs.Commands.{Answers, Certifies, CreatesNone, LacksRead, PartAnswers, Succeeds};
+ghost use Rattle.uz_top.specs.Commands.{Answers, Certifies, CreatesNone, LacksRead, PartAnswers, StopTells, Succeeds};
 ghost use Rattle.uz_top.specs.DebugCommand.{DebugAnswers};
 ghost use Rattle.uz_top.specs.DisCommand.{DisAnswers};
 ghost use Rattle.uz_top.specs.Lines.{usage_line};
@@ -19,6 +19,7 @@ use crate::debug_command::debug_files;
 use crate::dis_command::list_file;
 use crate::ending::{finish, put_last};
 use crate::macro_commands::{run_build, run_expand};
+use crate::play_run::run_play;
 use crate::status::Status;
 use crate::trace_run::run_trace;
 use avr_macro::expansion_is_unique;
@@ -85,6 +86,7 @@ fn run<H: Shelf, K: Sink>(
         (Rose (H.write_faults shelf.old) (H.write_faults shelf.new) ⊎ Rose (K.faults out.old) (K.faults out.new))
         result (outside (H.files shelf.old) (K.text out.old)) (outside (H.files shelf.new) (K.text out.new)) }
     ensures certified { result ≡ Status.Done → Certifies (H.files shelf.old) (value_of command.now) }
+    ensures halted { result ≡ Status.Stopped → StopTells (H.files shelf.old) (value_of command.now) }
     ensures untouched { CreatesNone (value_of command.now) → H.files shelf.new ≡ H.files shelf.old }
 {
     match command {
@@ -99,6 +101,13 @@ fn run<H: Shelf, K: Sink>(
         } => run_trace(alloc, hex, pads, *irq, *clocks, shelf, out),
         Command::Expand { source, flat } => run_expand(alloc, source, flat, shelf, out),
         Command::Build { source, hex } => run_build(alloc, source, hex, shelf, out),
+        Command::Play {
+            hex,
+            cert,
+            pads,
+            clocks,
+            frames,
+        } => run_play(alloc, hex, cert, pads, *clocks, frames, shelf, out),
         Command::Debug {
             hex,
             pads,
@@ -149,8 +158,10 @@ pub fn uzebox<H: Shelf, K: Sink>(
         → (Rose (H.write_faults shelf.old) (H.write_faults shelf.new) ⊎ Rose (K.faults out.old) (K.faults out.new) → ⊥)
         → (result ≡ Status.Done) ⊎ (result ≡ Status.NoMemory))) }
 
-    // What a command that is done is worth: `check` certifies the image and the certificate that its files spell.
+    // What a command that is done is worth: `check` certifies the image and the certificate that its files spell, and a run that
+    // is played keeps to the schedule once a state of it has entered. One that is stopped never entered.
     ensures certified { result ≡ Status.Done → IfSome (command_of (map string_bytes words.now)) (Certifies (H.files shelf.old)) }
+    ensures halted { result ≡ Status.Stopped → IfSome (command_of (map string_bytes words.now)) (StopTells (H.files shelf.old)) }
     ensures untouched { IfSome (command_of (map string_bytes words.now)) (λ c. CreatesNone c → H.files shelf.new ≡ H.files shelf.old) }
 {
     expansion_is_unique();

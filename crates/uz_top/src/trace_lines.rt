@@ -1,7 +1,7 @@
 //! The lines of a trace.
 
 ghost use Rattle.std.specs.Prelude.{◌≡◌, ◌++◌, IfOk, OnOk, codes, decimal};
-ghost use Rattle.uz_top.specs.TraceCommand.{edge_line, edge_lines, end_line, kind_text, stopped_line, stopping_word};
+ghost use Rattle.uz_top.specs.TraceCommand.{edge_line, edge_lines, end_line, kind_text, stopped_at_line, stopped_line, stopping_word};
 
 use crate::check_lines::word_digits;
 use itoa::Buffer;
@@ -74,15 +74,22 @@ fn word_of(why: Why) -> u16
     }
 }
 
-/// The line of a run that is stopped.
-pub(crate) fn stopped(alloc: Global, pc: u16, why: Why) -> Result<Vec<u8>, AllocError>
-    ensures { IfOk result (λ line. line.items ≡ stopped_line pc why) }
+/// The line of a run that is stopped at a word address, with the word there.
+pub(crate) fn stopped_at(alloc: Global, pc: u16, word: u16) -> Result<Vec<u8>, AllocError>
+    ensures { IfOk result (λ line. line.items ≡ stopped_at_line pc word) }
 {
     let mut line = Vec::new(alloc);
     line.extend_from_slice(b"stopped pc 0x")?;
     line.extend_from_slice(&word_digits(pc))?;
     line.extend_from_slice(b" word 0x")?;
-    line.extend_from_slice(&word_digits(word_of(why)))?;
+    line.extend_from_slice(&word_digits(word))?;
     line.extend_from_slice(b"\n")?;
     Ok(line)
+}
+
+/// The line of a run that is stopped, by the reason.
+pub(crate) fn stopped(alloc: Global, pc: u16, why: Why) -> Result<Vec<u8>, AllocError>
+    ensures { IfOk result (λ line. line.items ≡ stopped_line pc why) }
+{
+    stopped_at(alloc, pc, word_of(why))
 }

@@ -33,3 +33,9 @@ returns-in-Build-clause-outcome g c = outcome_at (value_of c.args.command.now) _
 
 pub returns-in-Build-clause-untouched : goal.returns-in-Build-clause-untouched
 returns-in-Build-clause-untouched g c = λ none. absurd (subst CreatesNone (ap value_of c.in-Build.is) none)
+
+pub returns-in-Play-clause-outcome : goal.returns-in-Play-clause-outcome
+returns-in-Play-clause-outcome g c = outcome_at (value_of c.args.command.now) _ _ _ _ _ _ _ (ap value_of c.in-Play.is) c.run_play.ensures.outcome
+
+pub returns-in-Play-clause-untouched : goal.returns-in-Play-clause-untouched
+returns-in-Play-clause-untouched g c = λ none. absurd (subst CreatesNone (ap value_of c.in-Play.is) none)
