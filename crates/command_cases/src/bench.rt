@@ -1,5 +1,6 @@
 //! Where commands run: a shelf, the plan of the sinks, and the file that is being written down.
 
+use crate::script::Swap;
 use anyhow::Result;
 use std::alloc::Global;
 use std::io::{self, Write};
@@ -65,6 +66,25 @@ impl Bench {
     pub fn fill(&mut self, alloc: Global, name: &str, count: usize) -> Result<()> {
         let text = vec![in alloc; b'\n'; count]?;
         self.shelf.add(alloc, name, text.as_slice())?;
+        Ok(())
+    }
+
+    /// A file as another with one line changed.
+    pub fn swap(&mut self, alloc: Global, swap: Swap) -> Result<()> {
+        let mut text = Vec::new(alloc);
+        if let Some(from) = self.shelf.file(swap.from) {
+            let mut number = 0usize;
+            for line in from.split_inclusive(|byte| *byte == b'\n') {
+                number = number.saturating_add(1);
+                if number != swap.number {
+                    text.extend_from_slice(line)?;
+                } else if !swap.text.is_empty() {
+                    text.extend_from_slice(swap.text.as_bytes())?;
+                    text.push(b'\n')?;
+                }
+            }
+        }
+        self.shelf.add(alloc, swap.to, text.as_slice())?;
         Ok(())
     }
 

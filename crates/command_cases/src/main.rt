@@ -6,6 +6,8 @@
 //! - `shelf CALL KEEP`, `sink CALL KEEP`: an empty shelf, or the sinks from now on, of which that call fails and keeps so many bytes.
 //! - `file NAME`: a file, whose text are the lines that follow and begin with `|`, each without it and with LF after it.
 //! - `fill NAME COUNT`: a file of so many LF bytes.
+//! - `swap FROM TO NUMBER TEXT`: a file as another, with a text in place of the line of this number, counted from 1, or without
+//!   that line where the text is empty.
 //! - `run WORD..`: runs the words, and prints them, what the sink took, and the status.
 //! - `show NAME`: prints a file of the shelf.
 //!
@@ -39,6 +41,7 @@ fn main(rt: HostRuntime) -> Result<()> {
             Line::Sink(fail) => bench.plan_sink(fail),
             Line::File(name) => bench.begin_file(alloc, name)?,
             Line::Fill(name, count) => bench.fill(alloc, name, count)?,
+            Line::Swap(swap) => bench.swap(alloc, swap)?,
             Line::Run(words) => bench.run(&rt, alloc, words)?,
             Line::Show(name) => bench.show(&rt, alloc, name)?,
             Line::Text(_) | Line::Other => {}

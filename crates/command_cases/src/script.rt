@@ -2,6 +2,15 @@
 
 use uz_shelf::Fail;
 
+/// A file as another with one line in place of that with this number, counted from 1, or without it where the text is empty.
+#[derive(Clone, Copy)]
+pub struct Swap<'a> {
+    pub from: &'a str,
+    pub to: &'a str,
+    pub number: usize,
+    pub text: &'a str,
+}
+
 /// A line of a script, as the program's page tells them.
 #[derive(Clone, Copy)]
 pub enum Line<'a> {
@@ -10,6 +19,7 @@ pub enum Line<'a> {
     Sink(Fail),
     File(&'a str),
     Fill(&'a str, usize),
+    Swap(Swap<'a>),
     Run(&'a str),
     Show(&'a str),
     Text(&'a str),
@@ -44,6 +54,10 @@ impl<'a> Line<'a> {
                 Some((name, count)) => Line::Fill(name, count),
                 None => Line::Other,
             },
+            "swap" => match swapped(rest) {
+                Some(swap) => Line::Swap(swap),
+                None => Line::Other,
+            },
             "run" => Line::Run(rest),
             "show" => Line::Show(rest),
             _ => Line::Other,
@@ -62,4 +76,19 @@ fn planned(text: &str) -> Option<Fail> {
 fn filled(text: &str) -> Option<(&str, usize)> {
     let (name, count) = text.split_once(" ")?;
     Some((name, count.parse().ok()?))
+}
+
+fn swapped(text: &str) -> Option<Swap<'_>> {
+    let (from, text) = text.split_once(" ")?;
+    let (to, text) = text.split_once(" ")?;
+    let (number, text) = match text.split_once(" ") {
+        Some(parts) => parts,
+        None => (text, ""),
+    };
+    Some(Swap {
+        from,
+        to,
+        number: number.parse().ok()?,
+        text,
+    })
 }
