@@ -106,7 +106,6 @@ impl Console {
     }
 
     /// One turn, whose edges the list has afterwards where the answer says so.
-    #[inline(always)]
     #[tactic(auto, using(crate::proofs::TurnLemmas::entry_shows, crate::proofs::TurnLemmas::entered_time, crate::proofs::TurnLemmas::instructed, crate::proofs::TurnLemmas::instructed_time))]
     pub(crate) fn make(&mut self, edges: &mut ArrayVec<Edge, 4>) -> Made
         requires { clock_of self.old < 2 ^ 62 }
