@@ -1,6 +1,6 @@
 -- What `play` answers.
-use Rattle.std.proofs.Common.{◌≡◌, ◌⊎◌, ◌≤◌, inl, inr, ℕ, List, refl, sym, ap, subst, ◌∙◌}
-use Rattle.std.specs.Prelude.{Option, Some, None, Err}
+use Rattle.std.proofs.Common.{◌≡◌, ◌⊎◌, ◌≤◌, inl, inr, ℕ, List, sym, ap, subst, ◌∙◌}
+use Rattle.std.specs.Prelude.{Option, Err}
 use Rattle.uz_shelf.specs.Faults.{Rose}
 use Rattle.uz_shelf.specs.Files.{FileMap}
 use Rattle.uz_hex.specs.Reading.{Flash}
@@ -26,7 +26,7 @@ use Rattle.uz_top.specs.PadFile.{RefusesPads, SpellsPads}
 use Rattle.uz_top.specs.PlayCommand.{IsFramedPart, IsFramedRun, IsPlay, PlayAnswers, PlayLacks, PlayParts, SpellsPlay}
 use Rattle.uz_top.specs.PlayValues.{IsChecked, IsReady, IsRefusedPlay, IsStart, PlayPreface}
 use Rattle.uz_top.specs.TraceCommand.{start_of}
-use Rattle.uz_top.proofs.FaultLemmas.{rose_earlier, rose_later}
+use Rattle.uz_top.proofs.FaultLemmas.{rose_later}
 use Rattle.uz_top.proofs.ReadingLemmas.{ends_by, fails_by}
 use Rattle.uz_top.proofs.ReadsLemmas.{fails_status}
 use Rattle.uz_top.proofs.EndingLemmas.{comes_by, run_outcome}

@@ -1,5 +1,5 @@
 -- What comes of a run whose records are written to a file.
-use Rattle.std.proofs.Common.{◌≡◌, ◌⊎◌, inl, inr, ℕ, List, [], ◌∷◌, ◌++◌, take, refl, sym, ap, subst, ◌∙◌}
+use Rattle.std.proofs.Common.{◌≡◌, inl, inr, ℕ, List, [], ◌∷◌, ◌++◌, take, refl, sym, ap, subst, ◌∙◌}
 use Rattle.std.specs.Prelude.{Option, Some, None}
 use Rattle.uz_shelf.specs.Files.{FileMap, WritesFile}
 use Rattle.uz_shelf.specs.Text.{TakesAll, TakesPrefix}
@@ -17,8 +17,8 @@ use Rattle.uz_capture.specs.declared.recording.RunEnd.TheVariants as end
 use Rattle.uz_capture.specs.Captures.{IsCapturePart, IsCaptured, IsPlayedInto}
 use Rattle.uz_top.specs.declared.ending.Ending.{Ending}
 use Rattle.uz_top.specs.declared.status.Status.{Status}
-use Rattle.uz_top.specs.declared.status.Status.TheVariants.{Done, NotEntered, Stopped, Unwritten, NoMemory}
-use Rattle.uz_top.specs.Answers.{Answer, ComesOf, IsCut, Outcome, WritesPart, one_line, outside}
+use Rattle.uz_top.specs.declared.status.Status.TheVariants.{Done, Stopped, Unwritten, NoMemory}
+use Rattle.uz_top.specs.Answers.{ComesOf, IsCut, Outcome, WritesPart, one_line, outside}
 use Rattle.uz_top.specs.Endings.{answer_of}
 use Rattle.uz_top.specs.Lines.{no_memory_line}
 use Rattle.uz_top.specs.PlayCommand.{IsFramedPart, IsFramedRun, entered_line, framed, frames_file, numbers_line, numbers_of}

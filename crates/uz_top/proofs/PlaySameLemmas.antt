@@ -1,5 +1,5 @@
 -- A shelf that tells its files gives one play, unless loading met a fault.
-use Rattle.std.proofs.Common.{◌≡◌, ◌⊎◌, inl, inr, ℕ, zero, suc, ◌+◌, ◌<◌, ◌≤◌, List, ◌++◌, refl, sym, ap, ◌∙◌, subst, arith}
+use Rattle.std.proofs.Common.{◌≡◌, ◌⊎◌, inl, inr, ℕ, zero, suc, ◌+◌, ◌<◌, ◌≤◌, List, ◌++◌, sym, ap, ◌∙◌, subst, arith}
 use Rattle.std.specs.Prelude.{Some, None}
 use Rattle.std.proofs.lemmas.Bool.{cases_lt}
 use Rattle.uz_shelf.specs.Files.{FileMap}
@@ -26,7 +26,7 @@ use Rattle.uz_top.specs.ImageFile.{image_of}
 use Rattle.uz_top.specs.CertificateFile.{certificate_of}
 use Rattle.uz_top.specs.PadFile.{RefusesPads, SpellsPads}
 use Rattle.uz_top.specs.CheckCommand.{refused_line}
-use Rattle.uz_top.specs.PlayCommand.{Enters, IsFramedRun, IsPlay, PlayAnswers, PlayAnswersFor, PlayAnswersWith, PlaySucceeds, entered_line, framed, not_entered_line, numbers_of}
+use Rattle.uz_top.specs.PlayCommand.{IsFramedRun, IsPlay, PlayAnswers, PlayAnswersFor, PlayAnswersWith, PlaySucceeds, entered_line, framed, not_entered_line, numbers_of}
 use Rattle.uz_top.specs.TraceCommand.{start_of, stopped_at_line}
 use Rattle.uz_top.proofs.ReadsLemmas.{fails_says, is_reader, reads_same, says_same}
 use Rattle.uz_top.proofs.TraceSameLemmas.{pads_reader}

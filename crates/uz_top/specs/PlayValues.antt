@@ -11,7 +11,6 @@ use Rattle.uz_player.specs.declared.counts.Counts.{Counts}
 use Rattle.uz_machine.specs.StateRange.{IsState}
 use Rattle.uz_soundness.specs.Acceptance.{Accepts}
 use Rattle.uz_soundness.specs.Certified.{Certified}
-use Rattle.uz_capture.specs.declared.recording.Captured.{Captured}
 use Rattle.uz_capture.specs.declared.recording.RunEnd.{RunEnd}
 use Rattle.uz_capture.specs.declared.recording.RunEnd.TheVariants as end
 use Rattle.uz_top.specs.declared.play_command.Start.{Start}
@@ -23,7 +22,7 @@ use Rattle.uz_top.specs.Endings.{answer_of}
 use Rattle.uz_top.specs.Reading.{Fails, Refuses, Says, Spells, certificate_limit, text_limit}
 use Rattle.uz_top.specs.ImageFile.{image_of}
 use Rattle.uz_top.specs.CertificateFile.{certificate_of}
-use Rattle.uz_top.specs.PadFile.{RefusesPads, SpellsPads}
+use Rattle.uz_top.specs.PadFile.{RefusesPads}
 use Rattle.uz_top.specs.PlayCommand.{IsPlay, SpellsPlay, edge_numbers, entered_line, not_entered_line, numbers_line}
 use Rattle.uz_top.specs.TraceCommand.{start_of, stopped_at_line}
 

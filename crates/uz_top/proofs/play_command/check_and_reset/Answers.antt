@@ -1,4 +1,4 @@
-use Rattle.std.proofs.Common.{refl, inl, ap, subst, sym, ◌∙◌}
+use Rattle.std.proofs.Common.{refl, inl, ap, subst, ◌∙◌}
 use Rattle.uz_pads.specs.Pads.{pairs_of}
 use Rattle.uz_console.specs.Consoles.{StandsFor}
 use Rattle.uz_soundness.specs.Certified.{Certified}

@@ -1,6 +1,5 @@
 use Rattle.std.proofs.Common.{◌⊎◌, inl, inr, subst}
 use Rattle.uz_shelf.specs.Faults.{Rose}
-use Rattle.uz_top.specs.PlayCommand.{FilesHalted, FilesPlayed}
 use Rattle.uz_top.specs.PlayValues.{IsStart}
 use Rattle.uz_top.specs.TraceCommand.{start_of}
 use Rattle.uz_top.proofs.FaultLemmas.{rose_same}
