@@ -314,7 +314,7 @@ span_only range w e h g =
     let is = span_by range w m.0 e h two.0 two.1 m.2 in
     (is.word, is.fits, both_true (leb range.lo e.lo) (leb e.hi range.hi) (is_le range.lo e.lo is.low) (is_le e.hi range.hi is.high))
 
-whole_ends : (e : Ends) → (eqb e.lo 0 && eqb e.hi 255) ≡ true → ends 0 255 ≡ e
+pub whole_ends : (e : Ends) → (eqb e.lo 0 && eqb e.hi 255) ≡ true → ends 0 255 ≡ e
 whole_ends e t =
     let two = and_true (eqb e.lo 0) (eqb e.hi 255) t in
     ends_same 0 255 e.lo e.hi (sym (number_is e.lo 0 two.0)) (sym (number_is e.hi 255 two.1))

@@ -1,11 +1,15 @@
 pub mod AgainItems
+pub mod EntryLine
 pub mod Facts
+pub mod Fitting
 pub mod HeadLines
 pub mod Numbers
 pub mod OneMore
 pub mod OnlyItems
 pub mod Options
+pub mod PointLine
 pub mod Raws
+pub mod RestLine
 pub mod ScheduleLines
 pub mod Spelled
 pub mod Steps

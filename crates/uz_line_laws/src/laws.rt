@@ -4,21 +4,24 @@
 
 ghost use Rattle.std.specs.Prelude.{◌≡◌, ◌<◌, ◌≤◌, ◌^◌, ◌∷◌, [], ℕ, Ok, codes, decimal};
 ghost use Rattle.uz_schedule.specs.Limits.{clock_limit, most_events, EventFits};
-ghost use Rattle.uz_schedule.specs.WellFormed.{CellFits, StackFits};
+ghost use Rattle.uz_schedule.specs.WellFormed.{CellFits, StackFits, RestFits, EntryFits, PointFits, instances_of};
 ghost use Rattle.uz_schedule.specs.declared.kinds.Response.{Response};
 ghost use Rattle.uz_schedule.specs.declared.header.Cell.{Cell};
 ghost use Rattle.uz_schedule.specs.declared.header.Head.{Head};
 ghost use Rattle.uz_schedule.specs.declared.lines.Event.{Event};
+ghost use Rattle.uz_schedule.specs.declared.states.Rest.{Rest};
+ghost use Rattle.uz_schedule.specs.declared.states.Entry.{Entry};
+ghost use Rattle.uz_schedule.specs.declared.states.Point.{Point};
 ghost use Rattle.uz_lines.specs.Grammar.{Words};
 ghost use Rattle.uz_lines.specs.Forms.{reads};
-ghost use Rattle.uz_lines.specs.Lines.{size_form, irq_form, stack_form, cell_form, kind_form, event_form, fall_form, run_form, end_form};
+ghost use Rattle.uz_lines.specs.Lines.{size_form, irq_form, stack_form, cell_form, kind_form, event_form, fall_form, run_form, rest_form, entry_form, point_form, end_form};
 ghost use Rattle.uz_lines.specs.declared.lines.Run.{Run};
 ghost use Rattle.uz_lines.specs.declared.lines.Said.{Said};
 ghost use Rattle.uz_lines.specs.declared.lines.Said.TheVariants as said;
 ghost use Rattle.uz_lines.specs.declared.lines.Sizes.{Sizes};
 ghost use Rattle.uz_lines.specs.declared.lines.StackLine.{StackLine};
-ghost use Rattle.uz_spelling.specs.Spelling.{cell_words, event_words, run_words};
-ghost use Rattle.uz_line_laws.specs.Said.{line, sizes_words, SizesFit, response_words, stack_line_words, with_stack, RunFits};
+ghost use Rattle.uz_spelling.specs.Spelling.{cell_words, event_words, run_words, rest_words, entry_words, point_words};
+ghost use Rattle.uz_line_laws.specs.Said.{line, sizes_words, SizesFit, response_words, stack_line_words, with_stack, RunFits, PlacesAre};
 
 /// `size KINDS LINES RESTS POINTS CELLS`
 pub fn size_line()
@@ -78,6 +81,33 @@ pub fn run_line()
         → reads (run_form kinds left before) (line (run_words (count, kind))) ≡ Ok (said.Run (record { count = count; kind = kind })) }
     ensures only { (kinds left before : ℕ) (words : Words) (says : Said) → kinds ≤ 2 ^ 31 → left < 2 ^ 31 → reads (run_form kinds left before) words ≡ Ok says
         → (r : Run) × (says ≡ said.Run r) × (words ≡ line (run_words (r.count, r.kind))) × RunFits kinds left before r.count r.kind }
+{}
+
+/// `rest LINE CLOCK VECTOR SPANS`, on a line that keeps the order
+pub fn rest_line()
+    ensures again { (h : Head) (lines points least : ℕ) (r : Rest) → PlacesAre h lines points → RestFits h lines points r → least ≤ r.line
+        → reads (rest_form lines points h.cells.items least) (line (rest_words r)) ≡ Ok (said.Rest r) }
+    ensures only { (h : Head) (lines points least : ℕ) (words : Words) (says : Said) → PlacesAre h lines points
+        → reads (rest_form lines points h.cells.items least) words ≡ Ok says
+        → (r : Rest) × (says ≡ said.Rest r) × (words ≡ line (rest_words r)) × RestFits h lines points r × (least ≤ r.line) }
+{}
+
+/// `entry KIND ID PC LINE CLOCK ITEMS`
+pub fn entry_line()
+    ensures again { (h : Head) (lines points : ℕ) (e : Entry) → PlacesAre h lines points → EntryFits h lines points e
+        → reads (entry_form h lines points) (line (entry_words h.cells.items e)) ≡ Ok (said.Entry e) }
+    ensures only { (h : Head) (lines points : ℕ) (words : Words) (says : Said) → PlacesAre h lines points → 1 ≤ lines
+        → reads (entry_form h lines points) words ≡ Ok says
+        → (e : Entry) × (says ≡ said.Entry e) × (words ≡ line (entry_words h.cells.items e)) × EntryFits h lines points e }
+{}
+
+/// `point KIND PC L0 L1 C0 C1 CLOCK SLOPE PENDING ITEMS`, where so many instances are left
+pub fn point_line()
+    ensures again { (h : Head) (lines points left : ℕ) (p : Point) → PlacesAre h lines points → left ≤ 2 ^ 30 → PointFits h lines points p → instances_of p ≤ left
+        → reads (point_form h lines points left) (line (point_words h.cells.items p)) ≡ Ok (said.Point p) }
+    ensures only { (h : Head) (lines points left : ℕ) (words : Words) (says : Said) → PlacesAre h lines points → 1 ≤ lines → left ≤ 2 ^ 30
+        → reads (point_form h lines points left) words ≡ Ok says
+        → (p : Point) × (says ≡ said.Point p) × (words ≡ line (point_words h.cells.items p)) × PointFits h lines points p × (instances_of p ≤ left) }
 {}
 
 /// `end`
