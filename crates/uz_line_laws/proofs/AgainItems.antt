@@ -1,7 +1,6 @@
 -- All items of a line: what is spelled of facts is read as these facts.
-use Rattle.std.proofs.Common.{◌≡◌, ◌⊎◌, inl, inr, ℕ, zero, suc, ◌+◌, ◌-◌, ◌<◌, ◌≤◌, ◌≢◌, Bool, true, false, cond, not, ◌&&◌, ◌||◌, eqb, leb, ltb, List, [], ◌∷◌, ◌++◌, map, length, take, drop, get_or, decimal, codes, bytes_eq, lit<, lit≤, refl, sym, ◌∙◌, ap, subst, append_assoc, append-nil, add-one, length-append, arith}
-use Rattle.std.specs.Prelude.{⊤, Option, Some, None, Result, Ok, Err, All, slice_get, slice_set}
-use Rattle.std.proofs.lemmas.Bool.Decides.{nat_tests}
+use Rattle.std.proofs.Common.{◌≡◌, ℕ, zero, suc, ◌+◌, ◌<◌, ◌≤◌, Bool, true, false, cond, not, ◌&&◌, ◌||◌, eqb, leb, ltb, List, [], ◌∷◌, ◌++◌, map, length, take, get_or, decimal, codes, bytes_eq, lit<, lit≤, refl, sym, ◌∙◌, ap, subst, append_assoc, append-nil, add-one, length-append, arith}
+use Rattle.std.specs.Prelude.{Some, Ok, Err, All, slice_get, slice_set}
 use Rattle.std.proofs.lemmas.List.Elements.{All-head, All-tail}
 use Rattle.std.proofs.lemmas.Fmt.{decimal_digit}
 use Rattle.uz_schedule.specs.Limits.{rises_from, rises}
@@ -14,24 +13,21 @@ use Rattle.uz_schedule.specs.declared.facts.PairFact.{PairFact}
 use Rattle.uz_schedule.specs.declared.facts.PairFact.TheVariants.{Any as AnyPair, Between as BetweenPair, Line as LinePair, Loop as LoopPair}
 use Rattle.uz_schedule.specs.declared.facts.Bit.{Bit}
 use Rattle.uz_schedule.specs.declared.facts.Bit.TheVariants.{Zero, One, Free, Old as OldBit}
-use Rattle.uz_lines.specs.Why.{◌>>=◌}
 use Rattle.uz_lines.specs.Values.{raw_of, range, one_number}
-use Rattle.uz_lines.specs.Grammar.{Words}
-use Rattle.uz_lines.specs.Defaults.{is_default, is_any_pair, is_range}
-use Rattle.uz_lines.specs.Items.{first_facts, default_regs, default_flag, default_cells, is_handler, bytes_forms, pair_forms, tracked_count, tracked_before, names_c_or_z, any_names, is_flag_z, take_item, items_end, items_from, read_items}
+use Rattle.uz_lines.specs.Defaults.{is_default, is_any_pair}
+use Rattle.uz_lines.specs.Items.{first_facts, default_flag, default_cells, is_handler, bytes_forms, pair_forms, tracked_count, tracked_before, names_c_or_z, any_names, is_flag_z, take_item, items_from, read_items}
 use Rattle.uz_lines.specs.declared.values.Raw.{Raw}
 use Rattle.uz_lines.specs.declared.values.Raw.TheVariants as raw
 use Rattle.uz_lines.specs.declared.items.Shape.{Shape}
 use Rattle.uz_lines.specs.declared.items.Facts.{Facts}
-use Rattle.uz_lines.specs.declared.why.CertWhy.{CertWhy}
 use Rattle.uz_lines.specs.declared.why.CertWhy.TheVariants as why
 use Rattle.uz_spelling.specs.Spelling.{item, unless, fact_word, pair_word, flag_word, register_items, pair_items, flag_items, slot_items, cell_items, successor_items}
-use Rattle.uz_line_laws.proofs.Tests.{and_true, both_true, or_false, fine, fine_is, fault_not, true_not, then, le_is, number_is, word_is, lt_is, is_lt, is_not_lt, same_number}
+use Rattle.uz_line_laws.proofs.Tests.{and_true, or_false, fine, fault_not, true_not, then, le_is, number_is, word_is, is_lt, is_not_lt}
 use Rattle.uz_line_laws.proofs.Facts.{FactIn, PairIn, BitIn, raw_by, pair_raw, pair_so}
 use Rattle.uz_line_laws.proofs.Raws.{one_raw}
 use Rattle.uz_line_laws.proofs.Options.{options, Each, each_length, Ordered, section}
-use Rattle.uz_line_laws.proofs.Spelled.{count_from, pair_usual_only, registers, numbered_cells, register_word, usual_flag, flag_item, in_range, cell_word, usual_fact, usual_pair, usual_bit, usual_cell, registers_are, registers_usual, flags_are, cells_are, cells_usual, register_only, flag_usual_only, range_only_usual}
-use Rattle.uz_line_laws.proofs.Taken.{with_register, with_pair, with_flag, with_slot, with_cell, with_successor, TakesRegister, TakesPair, TakesFlag, TakesSlot, TakesCell, TakesSuccessor, cell_form, pair_letter, flag_letter}
+use Rattle.uz_line_laws.proofs.Spelled.{count_from, pair_usual_only, registers, numbered_cells, register_word, flag_item, in_range, cell_word, usual_fact, usual_cell, registers_are, registers_usual, cells_are, cells_usual, register_only, flag_usual_only, range_only_usual}
+use Rattle.uz_line_laws.proofs.Taken.{with_register, with_pair, with_flag, with_slot, with_cell, cell_form, pair_letter, flag_letter}
 use Rattle.uz_line_laws.proofs.Takes.{register_takes, pair_takes, flag_takes, slot_takes, cell_takes, successor_takes}
 use Rattle.uz_line_laws.proofs.OneMore.{letters_of_pairs, letters_of_flags}
 use Rattle.uz_line_laws.proofs.OnlyItems.{ShapeFits, IsMeant, names_letter}

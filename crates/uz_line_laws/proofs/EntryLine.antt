@@ -1,10 +1,10 @@
 -- The line of an entry.
-use Rattle.std.proofs.Common.{◌≡◌, ◌⊎◌, inl, inr, ◌≢◌, ℕ, zero, suc, ◌+◌, ◌<◌, ◌≤◌, ◌^◌, Bool, true, false, cond, ◌&&◌, eqb, List, [], ◌∷◌, ◌++◌, map, length, filter, decimal, codes, lit<, lit≤, refl, sym, ◌∙◌, ap, subst, append-nil, arith}
-use Rattle.std.specs.Prelude.{⊤, All, Option, Some, None, Result, Ok, Err, slice_get}
+use Rattle.std.proofs.Common.{◌≡◌, ℕ, zero, suc, ◌<◌, ◌≤◌, Bool, true, false, cond, ◌&&◌, eqb, List, [], ◌∷◌, ◌++◌, map, length, decimal, codes, lit<, lit≤, refl, sym, ◌∙◌, ap, subst, append-nil, arith}
+use Rattle.std.specs.Prelude.{All, Some, Result, Ok, slice_get}
 use Rattle.std.proofs.lemmas.List.{length-map}
 use Rattle.std.proofs.lemmas.List.Elements.{All-nil, All-cons, All-head, All-tail}
 use Rattle.uz_schedule.specs.Ends.{Ends}
-use Rattle.uz_schedule.specs.Tracked.{tracks, tracked, depth_of}
+use Rattle.uz_schedule.specs.Tracked.{tracked, depth_of}
 use Rattle.uz_schedule.specs.WellFormed.{RangeFits, CellFits, SpansFit, BitFits, EntryKindFits, EntryFactsFit, EntryFits}
 use Rattle.uz_schedule.specs.declared.kinds.Kind.{Kind}
 use Rattle.uz_schedule.specs.declared.kinds.Kind.TheVariants.{Main, Handler, Alone}
@@ -13,33 +13,31 @@ use Rattle.uz_schedule.specs.declared.header.Head.{Head}
 use Rattle.uz_schedule.specs.declared.facts.Fact.{Fact}
 use Rattle.uz_schedule.specs.declared.facts.PairFact.{PairFact}
 use Rattle.uz_schedule.specs.declared.facts.PairFact.TheVariants.{Any as AnyPair}
-use Rattle.uz_schedule.specs.declared.facts.Bit.{Bit}
 use Rattle.uz_schedule.specs.declared.states.Entry.{Entry}
 use Rattle.uz_lines.specs.Why.{◌>>=◌}
 use Rattle.uz_lines.specs.Grammar.{Words, choice_of}
 use Rattle.uz_lines.specs.Defaults.{is_any_pair, range_fact}
 use Rattle.uz_lines.specs.Items.{is_handler, bytes_forms, read_items}
-use Rattle.uz_lines.specs.Forms.{Form, fixed, number, choice, items, reads}
-use Rattle.uz_lines.specs.Lines.{within, one_of, none_in_main, shape_of, span_of_fact, spans_of_facts, entry_of, entry_kind, entry_form}
+use Rattle.uz_lines.specs.Forms.{Form, number, items, reads}
+use Rattle.uz_lines.specs.Lines.{within, one_of, none_in_main, shape_of, span_of_fact, entry_of, entry_kind, entry_form}
 use Rattle.uz_lines.specs.declared.values.Forms.{Forms}
-use Rattle.uz_lines.specs.declared.items.Shape.{Shape}
 use Rattle.uz_lines.specs.declared.items.Facts.{Facts}
 use Rattle.uz_lines.specs.declared.lines.Said.{Said}
 use Rattle.uz_lines.specs.declared.lines.Said.TheVariants as said
 use Rattle.uz_lines.specs.declared.why.CertWhy.{CertWhy}
 use Rattle.uz_spelling.specs.Spelling.{kind_word, range_facts, register_items, pair_items, flag_items, slot_items, cell_items, successor_items, entry_items, entry_words}
 use Rattle.uz_line_laws.specs.Said.{line, PlacesAre}
-use Rattle.uz_line_laws.proofs.Tests.{fine, fine_is, true_not, bind_ok, then}
-use Rattle.uz_line_laws.proofs.Numbers.{IsAsked, number_so, number_only}
-use Rattle.uz_line_laws.proofs.Facts.{FactIn, PairIn, BitIn}
-use Rattle.uz_line_laws.proofs.Options.{Each, each_length, each_other}
-use Rattle.uz_line_laws.proofs.Spelled.{registers, numbered_cells, usual_pair}
-use Rattle.uz_line_laws.proofs.Taken.{PlacesFit, cell_form}
+use Rattle.uz_line_laws.proofs.Tests.{fine, fine_is, true_not, bind_ok}
+use Rattle.uz_line_laws.proofs.Numbers.{number_so, number_only}
+use Rattle.uz_line_laws.proofs.Facts.{FactIn, BitIn}
+use Rattle.uz_line_laws.proofs.Options.{each_length, each_other}
+use Rattle.uz_line_laws.proofs.Spelled.{registers, numbered_cells}
+use Rattle.uz_line_laws.proofs.Taken.{cell_form}
 use Rattle.uz_line_laws.proofs.OneMore.{letters_of_pairs, letters_of_flags, spelled, Regular}
-use Rattle.uz_line_laws.proofs.OnlyItems.{ShapeFits, ItemsSpelled, items_only}
-use Rattle.uz_line_laws.proofs.AgainItems.{Sayable, ReadsAs, items_of, items_again, facts_with}
-use Rattle.uz_line_laws.proofs.Fitting.{each_of_all, all_of_each, all_other, all_map, map_back, bit_in, bit_out, range_in, SaysRange, says_range, span_back, entry_cell, entry_form_is, spans_in, spans_out, under_none, none_under, none_small, none_some}
-use Rattle.uz_line_laws.proofs.Steps.{words_in, line_same, form_rest, advance, fixed_word, retreat, fixed_is, choice_is, finish_only, with_front, is_within as within_so}
+use Rattle.uz_line_laws.proofs.OnlyItems.{ShapeFits, items_only}
+use Rattle.uz_line_laws.proofs.AgainItems.{Sayable, items_of, items_again, facts_with}
+use Rattle.uz_line_laws.proofs.Fitting.{each_of_all, all_of_each, all_other, all_map, map_back, bit_in, bit_out, range_in, SaysRange, says_range, span_back, entry_cell, entry_form_is, spans_in, spans_out, under_none, none_under, none_small}
+use Rattle.uz_line_laws.proofs.Steps.{words_in, line_same, form_rest, advance, fixed_word, retreat, fixed_is, choice_is, with_front, is_within as within_so}
 use Rattle.uz_line_laws.proofs.RestLine.{bytes_of, one_so}
 
 -- an entry after the word for its kind

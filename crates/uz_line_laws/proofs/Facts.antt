@@ -1,11 +1,9 @@
 -- The words of ranges, facts, pairs and flags: read as they are spelled, and only so.
-use Rattle.std.proofs.Common.{◌≡◌, ◌⊎◌, inl, inr, ℕ, zero, suc, ◌+◌, ◌<◌, ◌≤◌, ◌≢◌, ◌^◌, Bool, true, false, cond, not, ◌&&◌, eqb, leb, ltb, List, [], ◌∷◌, ◌++◌, length, decimal, codes, bytes_eq, lit<, lit≤, refl, sym, ◌∙◌, ap, subst, arith}
-use Rattle.std.specs.Prelude.{⊤, Option, Some, None, Result, Ok, Err}
+use Rattle.std.proofs.Common.{◌≡◌, ◌⊎◌, inl, inr, ℕ, zero, suc, ◌<◌, ◌≤◌, ◌≢◌, Bool, true, false, cond, not, ◌&&◌, eqb, leb, ltb, List, ◌++◌, decimal, codes, bytes_eq, lit<, lit≤, refl, sym, ◌∙◌, ap, subst, arith}
+use Rattle.std.specs.Prelude.{⊤, Ok, Err}
 use Rattle.std.proofs.lemmas.Bool.Decides.{nat_tests}
 use Rattle.uz_schedule.specs.Ends.{Ends, is_within}
-use Rattle.uz_schedule.specs.WellFormed.{RangeFits, PartFits, SlopeFits, FactFits, CellFactFits, PairFits, BitFits}
-use Rattle.uz_schedule.specs.declared.kinds.Kind.{Kind}
-use Rattle.uz_schedule.specs.declared.kinds.Kind.TheVariants.{Main, Handler, Alone}
+use Rattle.uz_schedule.specs.WellFormed.{RangeFits, PartFits}
 use Rattle.uz_schedule.specs.declared.facts.Fact.{Fact}
 use Rattle.uz_schedule.specs.declared.facts.Fact.TheVariants.{Any, Between, Line, Loop, Old, OldFlags}
 use Rattle.uz_schedule.specs.declared.facts.PairFact.{PairFact}
@@ -18,11 +16,10 @@ use Rattle.uz_lines.specs.Forms.{span_forms, span_of}
 use Rattle.uz_lines.specs.declared.values.Forms.{Forms}
 use Rattle.uz_lines.specs.declared.values.Raw.{Raw}
 use Rattle.uz_lines.specs.declared.values.Raw.TheVariants as raw
-use Rattle.uz_lines.specs.declared.why.CertWhy.{CertWhy}
 use Rattle.uz_lines.specs.declared.why.CertWhy.TheVariants as why
 use Rattle.uz_spelling.specs.Spelling.{range_word, ends_word, fact_word, pair_word, flag_word}
-use Rattle.uz_line_laws.proofs.Tests.{and_true, both_true, and_false, not_true, true_not, fine, fine_is, fault_not, passed, so, else_so, bind_ok, then, le_is, is_le, lt_is, is_lt, number_is, number_not, same_number, not_number, word_is, same_word}
-use Rattle.uz_line_laws.proofs.Raws.{raw_word, InForms, RawFits, raw_only, raw_so}
+use Rattle.uz_line_laws.proofs.Tests.{and_true, both_true, and_false, not_true, fine, fine_is, fault_not, passed, so, else_so, bind_ok, then, le_is, is_le, lt_is, is_lt, number_is, number_not, same_number, word_is}
+use Rattle.uz_line_laws.proofs.Raws.{raw_word, RawFits, raw_only, raw_so}
 
 -- ranges
 

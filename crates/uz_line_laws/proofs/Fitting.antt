@@ -1,12 +1,11 @@
 -- What a well formed certificate lets be said of states is what the forms of their lines let in, and the other way round.
-use Rattle.std.proofs.Common.{◌≡◌, ◌⊎◌, inl, inr, ◌≢◌, ℕ, zero, suc, ◌+◌, ◌-◌, ◌*◌, ◌/◌, ◌<◌, ◌≤◌, ◌^◌, Bool, true, false, cond, not, ◌&&◌, eqb, leb, List, [], ◌∷◌, map, length, filter, lit<, lit≤, refl, sym, ◌∙◌, ap, subst, mul_comm, arith}
-use Rattle.std.specs.Prelude.{⊤, All, Option, Some, None}
-use Rattle.std.proofs.lemmas.Bool.Decides.{nat_tests}
+use Rattle.std.proofs.Common.{◌≡◌, ℕ, suc, ◌+◌, ◌-◌, ◌*◌, ◌/◌, ◌<◌, ◌≤◌, ◌^◌, Bool, true, false, cond, not, ◌&&◌, eqb, leb, List, [], ◌∷◌, map, length, filter, lit<, lit≤, refl, sym, ◌∙◌, ap, subst, mul_comm, arith}
+use Rattle.std.specs.Prelude.{All}
 use Rattle.std.proofs.lemmas.Nat.{div_below, le-div}
 use Rattle.std.proofs.lemmas.List.Elements.{All-nil, All-cons, All-head, All-tail}
 use Rattle.uz_schedule.specs.Ends.{Ends, is_within}
-use Rattle.uz_schedule.specs.Tracked.{tracks, tracked}
-use Rattle.uz_schedule.specs.WellFormed.{RangeFits, PartFits, SlopeFits, FactFits, CellFactFits, PairFits, BitFits, spans_fit}
+use Rattle.uz_schedule.specs.Tracked.{tracks}
+use Rattle.uz_schedule.specs.WellFormed.{RangeFits, FactFits, CellFactFits, PairFits, BitFits, spans_fit}
 use Rattle.uz_schedule.specs.declared.kinds.Kind.{Kind}
 use Rattle.uz_schedule.specs.declared.kinds.Kind.TheVariants.{Main, Handler, Alone}
 use Rattle.uz_schedule.specs.declared.header.Cell.{Cell}
@@ -16,13 +15,12 @@ use Rattle.uz_schedule.specs.declared.facts.PairFact.{PairFact}
 use Rattle.uz_schedule.specs.declared.facts.PairFact.TheVariants.{Any as AnyPair, Between as BetweenPair, Line as LinePair, Loop as LoopPair}
 use Rattle.uz_schedule.specs.declared.facts.Bit.{Bit}
 use Rattle.uz_schedule.specs.declared.facts.Bit.TheVariants.{Zero, One, Free, Old as OldBit}
-use Rattle.uz_lines.specs.Values.{ends}
 use Rattle.uz_lines.specs.Defaults.{range_fact}
-use Rattle.uz_lines.specs.Items.{is_handler, bytes_forms, pair_forms, cell_forms}
+use Rattle.uz_lines.specs.Items.{is_handler, bytes_forms, pair_forms}
 use Rattle.uz_lines.specs.Lines.{none_in_main, span_of_fact}
 use Rattle.uz_lines.specs.declared.values.Forms.{Forms}
 use Rattle.uz_lines.specs.declared.items.Shape.{Shape}
-use Rattle.uz_line_laws.proofs.Tests.{and_true, both_true, true_not, le_is, is_le, so, else_so, number_is, not_le}
+use Rattle.uz_line_laws.proofs.Tests.{and_true, both_true, true_not, le_is, is_le, else_so, number_is, not_le}
 use Rattle.uz_line_laws.proofs.Facts.{FactIn, PairIn, BitIn, part_from, part_not_whole, whole_ends}
 use Rattle.uz_line_laws.proofs.Options.{Each, each_length, each_other}
 use Rattle.uz_line_laws.proofs.Spelled.{numbered_cells}

@@ -1,9 +1,8 @@
 -- The lines of sizes, response, stack and cells.
-use Rattle.std.proofs.Common.{◌≡◌, ◌⊎◌, inl, inr, ℕ, zero, suc, ◌+◌, ◌-◌, ◌<◌, ◌≤◌, ◌≢◌, ◌^◌, eqb, Bool, true, false, cond, List, [], ◌∷◌, length, decimal, codes, lit<, lit≤, refl, sym, ◌∙◌, ap, subst, arith}
-use Rattle.std.specs.Prelude.{Option, Some, None, Result, Ok, Err, slice_get}
-use Rattle.uz_schedule.specs.Ends.{Ends}
+use Rattle.std.proofs.Common.{◌≡◌, ◌⊎◌, inl, inr, ℕ, zero, suc, ◌+◌, ◌-◌, ◌<◌, ◌≤◌, ◌≢◌, ◌^◌, eqb, Bool, true, false, cond, List, [], ◌∷◌, decimal, codes, lit<, lit≤, refl, sym, ◌∙◌, ap, arith}
+use Rattle.std.specs.Prelude.{Some, Ok, slice_get}
 use Rattle.uz_schedule.specs.Schedule.{response_clocks}
-use Rattle.uz_schedule.specs.WellFormed.{RangeFits, CellFits, StackFits}
+use Rattle.uz_schedule.specs.WellFormed.{CellFits, StackFits}
 use Rattle.uz_schedule.specs.declared.kinds.Response.{Response}
 use Rattle.uz_schedule.specs.declared.kinds.Response.TheVariants.{Four, Five}
 use Rattle.uz_schedule.specs.declared.kinds.Owner.{Owner}
@@ -12,13 +11,13 @@ use Rattle.uz_schedule.specs.declared.header.Head.{Head}
 use Rattle.uz_schedule.specs.declared.header.Cell.{Cell}
 use Rattle.uz_lines.specs.Grammar.{Words, choice_of}
 use Rattle.uz_lines.specs.Values.{ends}
-use Rattle.uz_lines.specs.Forms.{Form, fixed, number, choice, finish, reads}
+use Rattle.uz_lines.specs.Forms.{reads}
 use Rattle.uz_lines.specs.Lines.{within, least_of, size_form, irq_form, response_of, stack_form, owner_of, off_stack, cell_form}
 use Rattle.uz_lines.specs.declared.lines.Sizes.{Sizes}
 use Rattle.uz_lines.specs.declared.lines.StackLine.{StackLine}
 use Rattle.uz_lines.specs.declared.lines.Said.{Said}
 use Rattle.uz_lines.specs.declared.lines.Said.TheVariants as said
-use Rattle.uz_spelling.specs.Spelling.{irq_words, stack_words, owner_word, cell_words}
+use Rattle.uz_spelling.specs.Spelling.{owner_word, cell_words}
 use Rattle.uz_line_laws.specs.Said.{line, sizes_words, SizesFit, response_words, stack_line_words, with_stack}
 use Rattle.uz_line_laws.proofs.Numbers.{IsAsked, number_so, number_only}
 use Rattle.uz_line_laws.proofs.Tests.{fine, number_is, number_not}

@@ -16,3 +16,4 @@ pub mod Steps
 pub mod Taken
 pub mod Takes
 pub mod Tests
+pub mod WordsOfLines

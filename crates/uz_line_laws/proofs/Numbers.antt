@@ -1,22 +1,20 @@
 -- Numbers as words of a line: read as they are written, and only so.
-use Rattle.std.proofs.Common.{◌≡◌, ◌⊎◌, inl, inr, ℕ, zero, suc, ◌+◌, ◌<◌, ◌≤◌, ◌≢◌, ◌^◌, ℤ, pos, negsuc, Bool, true, false, cond, not, ◌&&◌, eqb, leb, ltb, List, [], ◌∷◌, ◌++◌, length, decimal, lit<, lit≤, add-one, refl, sym, ◌∙◌, ap, subst, arith}
-use Rattle.std.specs.Prelude.{Option, Some, None, Result, Ok, Err}
+use Rattle.std.proofs.Common.{◌≡◌, ◌⊎◌, inl, inr, ℕ, zero, suc, ◌+◌, ◌<◌, ◌≤◌, ◌≢◌, ◌^◌, ℤ, pos, negsuc, Bool, true, false, cond, not, ◌&&◌, eqb, leb, ltb, List, [], ◌∷◌, length, decimal, lit≤, add-one, refl, sym, ◌∙◌, ap, subst, arith}
+use Rattle.std.specs.Prelude.{Option, Some, None, Ok, Err}
 use Rattle.std.proofs.lemmas.Bool.Decides.{nat_tests}
 use Rattle.std.proofs.lemmas.Fmt.{decimal_nonempty}
-use Rattle.uz_text.specs.Numbers.{all_digits, is_numeral, number_below, number_within, from_low}
+use Rattle.uz_text.specs.Numbers.{all_digits, is_numeral, number_below, number_within}
 use Rattle.uz_text.specs.Cutting.{cut_at, cut_behind}
 use Rattle.uz_text.proofs.NumberWords.{number_read, number_again, within_read, within_again, digits_of_decimal}
 use Rattle.uz_text.proofs.Plain.{Lacks, lacks_nil, lacks_cons}
 use Rattle.std.proofs.lemmas.List.Elements.{All-head, All-tail}
 use Rattle.uz_schedule.specs.WellFormed.{magnitude}
-use Rattle.uz_lines.specs.Why.{◌>>=◌}
 use Rattle.uz_lines.specs.Grammar.{asked, number_or, number_of, signed_or, unsigned_or, slope_of}
 use Rattle.uz_lines.specs.Values.{digits, one_or, one_number, both, two_numbers}
 use Rattle.uz_lines.specs.declared.words.Asked.{Asked}
-use Rattle.uz_lines.specs.declared.why.CertWhy.{CertWhy}
 use Rattle.uz_lines.specs.declared.why.CertWhy.TheVariants as why
 use Rattle.uz_spelling.specs.Spelling.{signed_word}
-use Rattle.uz_line_laws.proofs.Tests.{and_true, both_true, and_false, not_true, fine, fine_is, passed, failed, so, else_so, bind_ok, then, le_is, is_le, lt_is, is_lt, not_le, not_lt, is_not_le, is_not_lt, number_not, not_number, number_is, same_number}
+use Rattle.uz_line_laws.proofs.Tests.{and_true, both_true, and_false, not_true, fine_is, passed, failed, so, else_so, le_is, is_le, is_lt, not_le, not_lt, number_not, not_number, number_is}
 
 -- a number of a word, as it is asked
 

@@ -1,27 +1,22 @@
 -- Facts as they grow while items are read: what is spelled of them is what was read.
-use Rattle.std.proofs.Common.{◌≡◌, ◌⊎◌, inl, inr, ℕ, zero, suc, ◌+◌, ◌-◌, ◌<◌, ◌≤◌, ◌≢◌, Bool, true, false, cond, not, ◌&&◌, ◌||◌, eqb, leb, List, [], ◌∷◌, ◌++◌, map, length, drop, decimal, codes, lit<, lit≤, refl, sym, ◌∙◌, ap, subst, append_assoc, append-nil, add-one, length-append, arith}
+use Rattle.std.proofs.Common.{◌≡◌, ℕ, zero, suc, ◌+◌, ◌-◌, ◌<◌, ◌≤◌, true, false, leb, List, [], ◌∷◌, ◌++◌, map, length, drop, decimal, codes, lit≤, refl, sym, ◌∙◌, ap, subst, append_assoc, append-nil, add-one, length-append, arith}
 use Rattle.std.proofs.lemmas.List.{length-set}
 use Rattle.std.proofs.lemmas.List.{map-append}
 use Rattle.uz_schedule.specs.Tracked.{tracks}
-use Rattle.std.specs.Prelude.{⊤, IsTrue, Option, Some, None, Result, Ok, Err, All, slice_get, slice_set}
-use Rattle.std.proofs.lemmas.Bool.Decides.{nat_tests}
+use Rattle.std.specs.Prelude.{IsTrue, Some, All, slice_get, slice_set}
 use Rattle.std.proofs.lemmas.List.Elements.{All-nil, All-cons, All-append}
-use Rattle.uz_schedule.specs.Ends.{Ends}
 use Rattle.uz_schedule.specs.Limits.{rises_from, rises}
-use Rattle.uz_schedule.specs.WellFormed.{RangeFits}
 use Rattle.uz_schedule.specs.declared.kinds.Kind.{Kind}
-use Rattle.uz_schedule.specs.declared.kinds.Kind.TheVariants.{Main, Handler, Alone}
 use Rattle.uz_schedule.specs.declared.header.Cell.{Cell}
 use Rattle.uz_schedule.specs.declared.facts.Fact.{Fact}
 use Rattle.uz_schedule.specs.declared.facts.PairFact.{PairFact}
-use Rattle.uz_schedule.specs.declared.facts.PairFact.TheVariants.{Any as AnyPair}
 use Rattle.uz_schedule.specs.declared.facts.Bit.{Bit}
 use Rattle.uz_lines.specs.Defaults.{is_default, is_any_pair, is_range}
-use Rattle.uz_lines.specs.Items.{first_facts, is_handler, bytes_forms, pair_forms, tracked_before}
+use Rattle.uz_lines.specs.Items.{is_handler, bytes_forms, pair_forms, tracked_before}
 use Rattle.uz_lines.specs.declared.items.Shape.{Shape}
 use Rattle.uz_lines.specs.declared.items.Facts.{Facts}
 use Rattle.uz_spelling.specs.Spelling.{fact_word, register_items, pair_items, flag_items, slot_items, cell_items, successor_items}
-use Rattle.uz_line_laws.proofs.Tests.{and_true, both_true, is_le, le_is, true_not}
+use Rattle.uz_line_laws.proofs.Tests.{and_true, both_true, is_le, true_not}
 use Rattle.uz_line_laws.proofs.Facts.{FactIn, PairIn, BitIn}
 use Rattle.uz_line_laws.proofs.Options.{options, Each, IsUsual, each_length, each_map, each_set, no_options, option_set, drop_set, drop_later, drop_none}
 use Rattle.uz_line_laws.proofs.Spelled.{registers, numbered_cells, register_word, any_pair, pair_item, usual_flag, flag_item, in_range, cell_word, usual_fact, usual_pair, usual_bit, usual_cell, registers_are, pairs_are, flags_are, cells_are, register_default, flag_default, range_default, register_at, cell_number, cells_before_next, cells_before_rise}

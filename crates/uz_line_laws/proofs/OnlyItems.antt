@@ -1,37 +1,33 @@
 -- All items of a line: where they are read, they are what is spelled of the facts that they say.
-use Rattle.std.proofs.Common.{◌≡◌, ◌⊎◌, inl, inr, ℕ, zero, suc, ◌+◌, ◌-◌, ◌<◌, ◌≤◌, ◌≢◌, Bool, true, false, cond, not, ◌&&◌, ◌||◌, eqb, leb, ltb, List, [], ◌∷◌, ◌++◌, map, length, take, drop, get_or, decimal, codes, bytes_eq, lit<, lit≤, refl, sym, ◌∙◌, ap, subst, append_assoc, append-nil, arith}
-use Rattle.std.specs.Prelude.{⊤, Option, Some, None, Result, Ok, Err, All, slice_set}
-use Rattle.std.proofs.lemmas.Bool.Decides.{nat_tests}
+use Rattle.std.proofs.Common.{◌≡◌, ◌⊎◌, inl, inr, ℕ, zero, suc, ◌+◌, ◌<◌, ◌≤◌, Bool, true, false, cond, not, ◌&&◌, ◌||◌, eqb, ltb, List, [], ◌∷◌, ◌++◌, map, length, take, drop, get_or, decimal, codes, bytes_eq, lit<, lit≤, refl, sym, ◌∙◌, ap, subst, append_assoc, append-nil, arith}
+use Rattle.std.specs.Prelude.{Ok, All, slice_set}
 use Rattle.std.proofs.lemmas.List.Elements.{All-nil, All-head, All-tail}
 use Rattle.std.proofs.lemmas.List.{length-map}
 use Rattle.std.proofs.lemmas.Fmt.{decimal_digit}
 use Rattle.uz_schedule.specs.Ends.{Ends}
 use Rattle.uz_schedule.specs.Tracked.{tracks}
-use Rattle.uz_schedule.specs.WellFormed.{RangeFits, PartFits, is_zero_or_one, is_default_flag, is_carry_and_zero_default}
+use Rattle.uz_schedule.specs.WellFormed.{RangeFits, is_zero_or_one, is_default_flag, is_carry_and_zero_default}
 use Rattle.uz_schedule.specs.declared.kinds.Kind.{Kind}
 use Rattle.uz_schedule.specs.declared.kinds.Kind.TheVariants.{Main, Handler, Alone}
 use Rattle.uz_schedule.specs.declared.header.Cell.{Cell}
 use Rattle.uz_schedule.specs.declared.facts.Fact.{Fact}
-use Rattle.uz_schedule.specs.declared.facts.Fact.TheVariants.{Any, Between, Old}
+use Rattle.uz_schedule.specs.declared.facts.Fact.TheVariants.{Any, Between}
 use Rattle.uz_schedule.specs.declared.facts.PairFact.{PairFact}
 use Rattle.uz_schedule.specs.declared.facts.PairFact.TheVariants.{Any as AnyPair, Between as BetweenPair, Line as LinePair, Loop as LoopPair}
 use Rattle.uz_schedule.specs.declared.facts.Bit.{Bit}
-use Rattle.uz_schedule.specs.declared.facts.Bit.TheVariants.{Free}
-use Rattle.uz_lines.specs.Why.{◌>>=◌}
 use Rattle.uz_lines.specs.Grammar.{Words}
-use Rattle.uz_lines.specs.Defaults.{is_default, range_fact}
-use Rattle.uz_lines.specs.Items.{first_facts, default_regs, default_flag, default_cells, is_handler, bytes_forms, pair_forms, cell_forms, names_c_or_z, any_names, is_flag_z, tracked_count, take_item, items_end, items_from, read_items}
+use Rattle.uz_lines.specs.Defaults.{is_default}
+use Rattle.uz_lines.specs.Items.{first_facts, default_regs, default_flag, is_handler, bytes_forms, pair_forms, names_c_or_z, any_names, is_flag_z, tracked_count, take_item, items_from, read_items}
 use Rattle.uz_lines.specs.declared.values.Forms.{Forms}
 use Rattle.uz_lines.specs.declared.items.Shape.{Shape}
 use Rattle.uz_lines.specs.declared.items.Facts.{Facts}
-use Rattle.uz_lines.specs.declared.why.CertWhy.{CertWhy}
 use Rattle.uz_lines.specs.declared.why.CertWhy.TheVariants as why
 use Rattle.uz_spelling.specs.Spelling.{fact_word, pair_word, flag_word, register_items}
-use Rattle.uz_line_laws.proofs.Tests.{and_true, both_true, or_false, fine, fine_is, fault_not, true_not, bind_ok, number_is, word_is, same_word, lt_is, is_lt, so, else_so}
+use Rattle.uz_line_laws.proofs.Tests.{and_true, or_false, fine_is, fault_not, true_not, bind_ok, number_is, lt_is}
 use Rattle.uz_line_laws.proofs.Facts.{FactIn, PairIn, BitIn, part_from}
 use Rattle.uz_line_laws.proofs.Options.{Each, IsUsual, each_length, each_map, no_options}
-use Rattle.uz_line_laws.proofs.Spelled.{count_from, registers, numbered_cells, register_word, usual_fact, usual_pair, usual_bit, usual_cell, registers_are, registers_usual, cells_usual, register_default}
-use Rattle.uz_line_laws.proofs.Taken.{with_register, with_pair, with_flag, with_slot, with_cell, with_successor, TakesRegister, TakesPair, TakesFlag, TakesSlot, TakesCell, TakesSuccessor, Taken, register, pair, flag, slot, cell, successor, PlacesFit, cell_form, pair_letter, flag_letter, item_taken}
+use Rattle.uz_line_laws.proofs.Spelled.{count_from, registers, numbered_cells, register_word, usual_fact, usual_bit, usual_cell, registers_are, registers_usual, cells_usual, register_default}
+use Rattle.uz_line_laws.proofs.Taken.{with_pair, with_flag, TakesPair, TakesFlag, Taken, register, pair, flag, slot, cell, successor, PlacesFit, cell_form, flag_letter, item_taken}
 use Rattle.uz_line_laws.proofs.OneMore.{letters_of_pairs, letters_of_flags, spelled, Regular, from_pairs, one_more}
 
 -- the facts where nothing is said

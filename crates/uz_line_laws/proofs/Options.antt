@@ -1,7 +1,7 @@
 -- A list of optional items: for each key one value, whose item is left out where the value is the default. This is how
 -- registers, pairs, flags and cells are spelled.
-use Rattle.std.proofs.Common.{◌≡◌, ℕ, zero, suc, ◌+◌, ◌-◌, ◌<◌, ◌≤◌, Bool, true, false, cond, List, [], ◌∷◌, ◌++◌, map, length, drop, set, refl, sym, ◌∙◌, ap, subst, append_assoc, append-nil, add-one, length-append, arith}
-use Rattle.std.specs.Prelude.{⊤, Option, Some, None, slice_get, slice_set}
+use Rattle.std.proofs.Common.{◌≡◌, ℕ, zero, suc, ◌+◌, ◌-◌, ◌≤◌, Bool, true, false, cond, List, [], ◌∷◌, ◌++◌, map, length, drop, refl, sym, ◌∙◌, ap, subst, append_assoc, add-one, length-append, arith}
+use Rattle.std.specs.Prelude.{⊤, Some, slice_get, slice_set}
 use Rattle.std.proofs.lemmas.List.{drop-drop}
 use Rattle.uz_spelling.specs.Spelling.{unless}
 

@@ -1,36 +1,34 @@
 -- The line of a point.
-use Rattle.std.proofs.Common.{◌≡◌, ◌⊎◌, inl, inr, ◌≢◌, ℕ, zero, suc, ◌+◌, ◌-◌, ◌*◌, ◌/◌, ◌<◌, ◌≤◌, ◌^◌, ℤ, pos, negsuc, Bool, true, false, cond, ◌&&◌, eqb, List, [], ◌∷◌, ◌++◌, map, length, decimal, codes, get_or, lit<, lit≤, refl, sym, ◌∙◌, ap, subst, arith}
-use Rattle.std.specs.Prelude.{⊤, All, Option, Some, None, Result, Ok, Err, slice_get}
+use Rattle.std.proofs.Common.{◌≡◌, ℕ, zero, suc, ◌+◌, ◌-◌, ◌*◌, ◌/◌, ◌<◌, ◌≤◌, ◌^◌, ℤ, pos, negsuc, Bool, true, false, ◌&&◌, eqb, List, [], ◌∷◌, decimal, codes, get_or, lit<, lit≤, refl, sym, ◌∙◌, ap, subst, arith}
+use Rattle.std.specs.Prelude.{Some, Result, Ok, slice_get}
 use Rattle.std.proofs.lemmas.Fmt.{decimal_digit}
-use Rattle.uz_schedule.specs.Tracked.{tracks, tracked, depth_of}
-use Rattle.uz_schedule.specs.WellFormed.{FactFits, CellFactFits, PairFits, BitFits, BoxFits, CoreFits, MemoryFits, SuccessorsFit, PointFits, PointKindFits, IsAtBegin, magnitude, instances_of, is_zero_or_one, is_carry_and_zero_default}
+use Rattle.uz_schedule.specs.WellFormed.{FactFits, PairFits, BitFits, CoreFits, MemoryFits, PointFits, PointKindFits, IsAtBegin, magnitude, instances_of, is_zero_or_one, is_carry_and_zero_default}
 use Rattle.uz_schedule.specs.declared.kinds.Kind.{Kind}
 use Rattle.uz_schedule.specs.declared.kinds.Kind.TheVariants.{Main, Handler, Alone}
 use Rattle.uz_schedule.specs.declared.header.Head.{Head}
-use Rattle.uz_schedule.specs.declared.facts.Fact.{Fact}
 use Rattle.uz_schedule.specs.declared.facts.PairFact.TheVariants.{Any as AnyPair}
 use Rattle.uz_schedule.specs.declared.states.Point.{Point}
 use Rattle.uz_lines.specs.Why.{◌>>=◌}
 use Rattle.uz_lines.specs.Grammar.{Words, choice_of}
 use Rattle.uz_lines.specs.Items.{is_handler, bytes_forms, pair_forms, read_items}
-use Rattle.uz_lines.specs.Forms.{Form, fixed, number, choice, slope, items, reads}
-use Rattle.uz_lines.specs.Lines.{within, least_of, none_in_main, shape_of, point_kind, pending_limit, count_limit, point_of, point_after, point_form}
+use Rattle.uz_lines.specs.Forms.{Form, number, slope, items, reads}
+use Rattle.uz_lines.specs.Lines.{within, none_in_main, shape_of, point_kind, pending_limit, count_limit, point_of, point_after, point_form}
 use Rattle.uz_lines.specs.declared.items.Facts.{Facts}
 use Rattle.uz_lines.specs.declared.lines.Said.{Said}
 use Rattle.uz_lines.specs.declared.lines.Said.TheVariants as said
 use Rattle.uz_lines.specs.declared.why.CertWhy.{CertWhy}
 use Rattle.uz_spelling.specs.Spelling.{kind_word, signed_word, truth_word, point_items, point_words}
 use Rattle.uz_line_laws.specs.Said.{line, PlacesAre}
-use Rattle.uz_line_laws.proofs.Tests.{fine, fine_is, true_not, bind_ok, number_is}
-use Rattle.uz_line_laws.proofs.Numbers.{IsAsked, number_so, number_only}
+use Rattle.uz_line_laws.proofs.Tests.{fine, fine_is, true_not, bind_ok}
+use Rattle.uz_line_laws.proofs.Numbers.{number_so, number_only}
 use Rattle.uz_line_laws.proofs.Facts.{FactIn, PairIn, BitIn}
 use Rattle.uz_line_laws.proofs.Options.{each_length}
 use Rattle.uz_line_laws.proofs.Spelled.{registers}
 use Rattle.uz_line_laws.proofs.OneMore.{letters_of_pairs, letters_of_flags, spelled, Regular}
-use Rattle.uz_line_laws.proofs.OnlyItems.{ItemsSpelled, items_only}
-use Rattle.uz_line_laws.proofs.AgainItems.{Sayable, ReadsAs, items_again, facts_with}
+use Rattle.uz_line_laws.proofs.OnlyItems.{items_only}
+use Rattle.uz_line_laws.proofs.AgainItems.{Sayable, items_again, facts_with}
 use Rattle.uz_line_laws.proofs.Fitting.{each_of_all, all_of_each, all_other, fact_in, fact_out, cells_in, cells_out, pair_in, pair_out, bit_in, bit_out, under_none, none_under, none_small, box_under, under_box}
-use Rattle.uz_line_laws.proofs.Steps.{words_in, line_same, form_rest, advance, fixed_word, slope_again, retreat, fixed_is, choice_is, slope_step, finish_only, with_front, is_within as within_so, under_both, both_under, least_small}
+use Rattle.uz_line_laws.proofs.Steps.{words_in, line_same, form_rest, advance, fixed_word, slope_again, retreat, fixed_is, choice_is, slope_step, with_front, is_within as within_so, under_both, both_under, least_small}
 use Rattle.uz_line_laws.proofs.EntryLine.{shape_fits}
 
 -- again

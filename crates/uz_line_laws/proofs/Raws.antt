@@ -1,6 +1,6 @@
 -- The word of a fact before its order is asked: read as it is written, and only so.
-use Rattle.std.proofs.Common.{◌≡◌, ◌⊎◌, inl, inr, ℕ, zero, suc, ◌+◌, ◌<◌, ◌≤◌, ◌≢◌, ◌^◌, Bool, true, false, cond, ◌&&◌, eqb, leb, ltb, List, [], ◌∷◌, ◌++◌, length, decimal, codes, bytes_eq, lit<, lit≤, refl, sym, ◌∙◌, ap, subst, arith, append_assoc}
-use Rattle.std.specs.Prelude.{⊤, Option, Some, None, Result, Ok, Err}
+use Rattle.std.proofs.Common.{◌≡◌, ℕ, ◌<◌, ◌≤◌, ◌≢◌, ◌^◌, Bool, true, false, cond, ◌&&◌, eqb, ltb, List, [], ◌∷◌, ◌++◌, decimal, codes, bytes_eq, lit<, lit≤, refl, sym, ◌∙◌, ap, subst, arith, append_assoc}
+use Rattle.std.specs.Prelude.{Option, Some, None, Result, Ok, Err}
 use Rattle.uz_text.specs.Cutting.{cut_at}
 use Rattle.uz_text.proofs.Cuts.{cut_read, cut_again}
 use Rattle.uz_lines.specs.Why.{◌>>=◌}
@@ -11,7 +11,7 @@ use Rattle.uz_lines.specs.declared.values.Raw.TheVariants as raw
 use Rattle.uz_lines.specs.declared.why.CertWhy.{CertWhy}
 use Rattle.uz_lines.specs.declared.why.CertWhy.TheVariants as why
 use Rattle.uz_spelling.specs.Spelling.{slope_word}
-use Rattle.uz_line_laws.proofs.Tests.{and_true, both_true, fine, fine_is, passed, so, else_so, bind_ok, then, le_is, lt_is, is_lt, number_is, same_number, not_number, word_is, same_word}
+use Rattle.uz_line_laws.proofs.Tests.{and_true, both_true, fine_is, passed, so, else_so, bind_ok, then, lt_is, is_lt, number_is, not_number, word_is}
 use Rattle.uz_line_laws.proofs.Numbers.{one_only, one_so, two_only, two_so, first_digit, decimal_lacks_below, cut_none}
 
 abbrev pub raw_word : Raw → List ℕ

@@ -1,18 +1,17 @@
 -- The line of a rest.
-use Rattle.std.proofs.Common.{◌≡◌, ◌⊎◌, inl, inr, ◌≢◌, ℕ, zero, suc, ◌+◌, ◌<◌, ◌≤◌, ◌^◌, Bool, true, false, cond, ◌&&◌, List, [], ◌∷◌, ◌++◌, map, length, filter, decimal, codes, lit<, lit≤, refl, sym, ◌∙◌, ap, subst, append-nil, arith}
-use Rattle.std.specs.Prelude.{⊤, All, Option, Some, None, Result, Ok, Err}
+use Rattle.std.proofs.Common.{◌≡◌, inr, ℕ, ◌<◌, ◌≤◌, ◌^◌, Bool, true, false, cond, List, [], ◌∷◌, ◌++◌, map, filter, decimal, codes, lit≤, refl, sym, ◌∙◌, ap, subst, append-nil, arith}
+use Rattle.std.specs.Prelude.{All, Result, Ok}
 use Rattle.std.proofs.lemmas.List.Elements.{All-nil, All-cons, All-head, All-tail}
 use Rattle.uz_schedule.specs.Ends.{Ends, is_within}
-use Rattle.uz_schedule.specs.Limits.{clock_limit}
-use Rattle.uz_schedule.specs.Tracked.{tracks, tracked}
-use Rattle.uz_schedule.specs.WellFormed.{RangeFits, CellFits, SpansFit, RestFits, spans_fit}
+use Rattle.uz_schedule.specs.Tracked.{tracks}
+use Rattle.uz_schedule.specs.WellFormed.{RangeFits, CellFits, RestFits, spans_fit}
 use Rattle.uz_schedule.specs.declared.kinds.Kind.TheVariants.{Handler}
 use Rattle.uz_schedule.specs.declared.header.Cell.{Cell}
 use Rattle.uz_schedule.specs.declared.header.Head.{Head}
 use Rattle.uz_schedule.specs.declared.states.Rest.{Rest}
 use Rattle.uz_lines.specs.Why.{◌>>=◌}
-use Rattle.uz_lines.specs.Grammar.{Words, rest_of, first_as, next_as}
-use Rattle.uz_lines.specs.Forms.{Form, fixed, number, spans, finish, with_span, span_of, spans_of, reads}
+use Rattle.uz_lines.specs.Grammar.{Words, rest_of, next_as}
+use Rattle.uz_lines.specs.Forms.{finish, with_span, span_of, spans_of, reads}
 use Rattle.uz_lines.specs.Lines.{within, one_of, rising, rest_form}
 use Rattle.uz_lines.specs.declared.lines.Said.{Said}
 use Rattle.uz_lines.specs.declared.lines.Said.TheVariants as said
@@ -20,7 +19,7 @@ use Rattle.uz_lines.specs.declared.why.CertWhy.{CertWhy}
 use Rattle.uz_lines.specs.declared.why.CertWhy.TheVariants as why
 use Rattle.uz_spelling.specs.Spelling.{ends_word, rest_words}
 use Rattle.uz_line_laws.specs.Said.{line, PlacesAre}
-use Rattle.uz_line_laws.proofs.Tests.{fine, fine_is, fault_not, and_true, both_true, true_not, bind_ok, then}
+use Rattle.uz_line_laws.proofs.Tests.{fine, fault_not, and_true, both_true, bind_ok, then}
 use Rattle.uz_line_laws.proofs.Numbers.{IsAsked, number_so, number_only}
 use Rattle.uz_line_laws.proofs.Facts.{span_only, span_so}
 use Rattle.uz_line_laws.proofs.Steps.{words_in, line_same, form_rest, advance, fixed_word, retreat, fixed_is, finish_only, with_front, is_within as within_so}

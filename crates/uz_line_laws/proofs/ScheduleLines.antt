@@ -1,14 +1,13 @@
 -- The lines of kinds, events, the fall and runs, and the last line.
-use Rattle.std.proofs.Common.{◌≡◌, ◌⊎◌, inl, inr, ◌≢◌, ℕ, zero, suc, ◌+◌, ◌<◌, ◌≤◌, ◌^◌, Bool, true, false, List, [], ◌∷◌, decimal, codes, lit<, lit≤, refl, sym, ◌∙◌, ap, subst, arith}
-use Rattle.std.specs.Prelude.{⊤, Option, Some, None, Result, Ok, Err, slice_get}
+use Rattle.std.proofs.Common.{◌≡◌, inr, ◌≢◌, ℕ, zero, suc, ◌+◌, ◌<◌, ◌≤◌, ◌^◌, Bool, true, List, [], ◌∷◌, decimal, codes, lit≤, refl, sym, ◌∙◌, arith}
+use Rattle.std.specs.Prelude.{Some, Ok, slice_get}
 use Rattle.uz_schedule.specs.Limits.{clock_limit, most_events, KindFits, EventFits}
 use Rattle.uz_schedule.specs.declared.lines.Event.{Event}
 use Rattle.uz_schedule.specs.declared.lines.EventKind.{EventKind}
 use Rattle.uz_schedule.specs.declared.lines.EventKind.TheVariants.{Sync, Pixel, Sound, Leave}
 use Rattle.uz_lines.specs.Grammar.{Words, choice_of}
-use Rattle.uz_lines.specs.Forms.{Form, fixed, number, choice, finish, reads}
+use Rattle.uz_lines.specs.Forms.{Form, choice, reads}
 use Rattle.uz_lines.specs.Lines.{within, one_of, rising, kind_form, event_after, event_form, fall_form, run_form, end_form}
-use Rattle.uz_lines.specs.declared.words.Asked.{Asked}
 use Rattle.uz_lines.specs.declared.lines.Run.{Run}
 use Rattle.uz_lines.specs.declared.lines.Said.{Said}
 use Rattle.uz_lines.specs.declared.lines.Said.TheVariants as said

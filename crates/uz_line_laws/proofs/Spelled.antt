@@ -1,11 +1,9 @@
 -- The items that facts are spelled as: registers, pairs, flags and cells as lists of optional items.
-use Rattle.std.proofs.Common.{◌≡◌, ℕ, zero, suc, ◌+◌, ◌-◌, ◌<◌, ◌≤◌, Bool, true, false, cond, not, ◌&&◌, eqb, List, [], ◌∷◌, ◌++◌, map, length, take, drop, decimal, codes, lit<, lit≤, refl, sym, ◌∙◌, ap, subst, append_assoc, append-nil, add-one, arith}
-use Rattle.std.specs.Prelude.{⊤, Option, Some, None, All, slice_get, slice_set}
-use Rattle.std.proofs.lemmas.Bool.Decides.{nat_tests}
-use Rattle.std.proofs.lemmas.List.Elements.{All-head, All-tail}
+use Rattle.std.proofs.Common.{◌≡◌, ℕ, zero, suc, ◌+◌, ◌<◌, ◌≤◌, Bool, true, false, cond, ◌&&◌, eqb, List, [], ◌∷◌, map, length, decimal, lit≤, refl, sym, ◌∙◌, ap, subst, add-one, arith}
+use Rattle.std.specs.Prelude.{Option, Some, slice_get}
 use Rattle.uz_schedule.specs.Ends.{Ends}
 use Rattle.uz_schedule.specs.Tracked.{tracks}
-use Rattle.uz_schedule.specs.WellFormed.{RangeFits, PartFits, is_default_flag}
+use Rattle.uz_schedule.specs.WellFormed.{is_default_flag}
 use Rattle.uz_schedule.specs.declared.kinds.Kind.{Kind}
 use Rattle.uz_schedule.specs.declared.kinds.Kind.TheVariants.{Main, Handler, Alone}
 use Rattle.uz_schedule.specs.declared.header.Cell.{Cell}
@@ -16,13 +14,12 @@ use Rattle.uz_schedule.specs.declared.facts.PairFact.TheVariants.{Any as AnyPair
 use Rattle.uz_schedule.specs.declared.facts.Bit.{Bit}
 use Rattle.uz_schedule.specs.declared.facts.Bit.TheVariants.{Zero, One, Free, Old as OldBit}
 use Rattle.uz_lines.specs.Defaults.{is_default, is_any_pair, is_range, range_fact}
-use Rattle.uz_lines.specs.Items.{own_regs, any_regs, default_regs, default_flag, default_cells, is_handler, bytes_forms, pair_forms, tracked_count, tracked_before}
+use Rattle.uz_lines.specs.Items.{own_regs, any_regs, default_regs, default_flag, default_cells, tracked_before}
 use Rattle.uz_lines.specs.declared.items.Shape.{Shape}
-use Rattle.uz_lines.specs.declared.items.Facts.{Facts}
-use Rattle.uz_spelling.specs.Spelling.{item, unless, fact_word, pair_word, flag_word, register_items, pair_items, flag_items, slot_items, cell_items, successor_items}
+use Rattle.uz_spelling.specs.Spelling.{item, unless, fact_word, pair_word, flag_word, register_items, pair_items, flag_items, cell_items}
 use Rattle.uz_line_laws.proofs.Tests.{and_true, both_true, number_is, same_number, so, else_so}
-use Rattle.uz_line_laws.proofs.Facts.{FactIn, PairIn, BitIn, part_from, part_not_whole}
-use Rattle.uz_line_laws.proofs.Options.{options, Each, IsUsual, each_map}
+use Rattle.uz_line_laws.proofs.Facts.{FactIn, part_not_whole}
+use Rattle.uz_line_laws.proofs.Options.{options}
 use Rattle.uz_line_laws.proofs.Taken.{cell_form}
 
 -- the keys: registers by number, pairs and flags by letter, cells by number

@@ -1,20 +1,17 @@
 -- A line is read word by word: each step again, and each step back.
-use Rattle.std.proofs.Common.{◌≡◌, ◌⊎◌, inl, inr, ℕ, zero, suc, ◌+◌, ◌<◌, ◌≤◌, ◌^◌, ℤ, pos, Bool, true, false, cond, List, [], ◌∷◌, ◌++◌, length, decimal, bytes_eq, ltb, lit≤, refl, sym, ◌∙◌, ap, subst, arith}
-use Rattle.std.specs.Prelude.{⊤, Option, Some, None, Result, Ok, Err, slice_get}
-use Rattle.std.proofs.lemmas.Bool.Decides.{nat_tests}
+use Rattle.std.proofs.Common.{◌≡◌, inr, ℕ, suc, ◌+◌, ◌<◌, ◌≤◌, ◌^◌, ℤ, pos, Bool, true, false, cond, List, [], ◌∷◌, bytes_eq, ltb, refl, sym, ◌∙◌, ap, arith}
+use Rattle.std.specs.Prelude.{⊤, Some, Result, Ok, Err, slice_get}
 use Rattle.uz_schedule.specs.WellFormed.{magnitude}
-use Rattle.uz_lines.specs.Why.{◌>>=◌}
-use Rattle.uz_lines.specs.Grammar.{Words, rest_of, first_as, next_as, fixed_of, number_of, choice_from, choice_of, slope_of, end_of}
+use Rattle.uz_lines.specs.Grammar.{Words, rest_of, next_as, fixed_of, number_of, choice_from, choice_of, slope_of, end_of}
 use Rattle.uz_lines.specs.Forms.{Form, fixed, number, choice, slope, spans, items, finish, reads}
 use Rattle.uz_lines.specs.Lines.{within, least_of}
-use Rattle.uz_lines.specs.declared.words.Asked.{Asked}
 use Rattle.uz_lines.specs.declared.lines.Said.{Said}
 use Rattle.uz_lines.specs.declared.why.CertWhy.{CertWhy}
 use Rattle.uz_lines.specs.declared.why.CertWhy.TheVariants as why
 use Rattle.uz_spelling.specs.Spelling.{signed_word}
 use Rattle.uz_line_laws.specs.Said.{line}
-use Rattle.uz_line_laws.proofs.Tests.{fine, fine_is, fault_not, passed, so, bind_ok, then, word_is, same_word, lt_is, not_lt}
-use Rattle.uz_line_laws.proofs.Numbers.{IsAsked, number_only, number_so, slope_only, slope_so}
+use Rattle.uz_line_laws.proofs.Tests.{fine_is, fault_not, passed, so, bind_ok, then, word_is, same_word, lt_is, not_lt}
+use Rattle.uz_line_laws.proofs.Numbers.{IsAsked, slope_only, slope_so}
 
 abbrev pub words_in : List (List ℕ) → Bool → Words
 words_in list ended = record { list = list; ended = ended }

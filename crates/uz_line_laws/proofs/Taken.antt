@@ -1,16 +1,13 @@
 -- What it takes that an item is taken: its word is spelled as one of the six forms, and it sets one thing.
-use Rattle.std.proofs.Common.{◌≡◌, ◌⊎◌, inl, inr, ℕ, zero, suc, ◌+◌, ◌<◌, ◌≤◌, ◌≢◌, ◌^◌, Bool, true, false, cond, not, ◌&&◌, ◌||◌, eqb, leb, ltb, List, [], ◌∷◌, ◌++◌, length, decimal, codes, bytes_eq, lit<, lit≤, refl, sym, ◌∙◌, ap, subst, append_assoc, arith}
-use Rattle.std.specs.Prelude.{⊤, Option, Some, None, Result, Ok, Err, All, slice_get, slice_set, slice_index}
+use Rattle.std.proofs.Common.{◌≡◌, ℕ, zero, suc, ◌+◌, ◌<◌, ◌≤◌, ◌≢◌, ◌^◌, Bool, true, false, cond, not, ◌&&◌, ◌||◌, eqb, leb, ltb, List, [], ◌∷◌, ◌++◌, length, decimal, codes, lit<, lit≤, refl, sym, ◌∙◌, ap, subst, arith}
+use Rattle.std.specs.Prelude.{Option, Some, None, Result, Ok, Err, All, slice_get, slice_set, slice_index}
 use Rattle.std.proofs.lemmas.List.Elements.{All-head, All-tail}
 use Rattle.uz_text.specs.Cutting.{cut_at}
 use Rattle.uz_text.specs.Numbers.{is_numeral, number_below}
-use Rattle.uz_text.proofs.Cuts.{cut_read, cut_again}
-use Rattle.uz_text.proofs.NumberWords.{number_read, number_again}
-use Rattle.uz_text.proofs.Plain.{Lacks, lacks_nil, lacks_cons, decimal_lacks_above}
-use Rattle.uz_schedule.specs.Ends.{Ends}
+use Rattle.uz_text.proofs.Cuts.{cut_read}
+use Rattle.uz_text.proofs.NumberWords.{number_read}
 use Rattle.uz_schedule.specs.Tracked.{tracks}
 use Rattle.uz_schedule.specs.WellFormed.{is_default_flag}
-use Rattle.uz_schedule.specs.declared.kinds.Kind.{Kind}
 use Rattle.uz_schedule.specs.declared.header.Cell.{Cell}
 use Rattle.uz_schedule.specs.declared.facts.Fact.{Fact}
 use Rattle.uz_schedule.specs.declared.facts.PairFact.{PairFact}
@@ -29,9 +26,8 @@ use Rattle.uz_lines.specs.declared.items.Facts.{Facts}
 use Rattle.uz_lines.specs.declared.why.CertWhy.{CertWhy}
 use Rattle.uz_lines.specs.declared.why.CertWhy.TheVariants as why
 use Rattle.uz_spelling.specs.Spelling.{item, fact_word, pair_word, flag_word}
-use Rattle.uz_line_laws.proofs.Tests.{and_true, both_true, or_false, not_true, fine, fine_is, fault_not, passed, failed, so, else_so, chosen, bind_ok, then, le_is, is_le, lt_is, is_lt, number_is, same_number, not_number}
-use Rattle.uz_line_laws.proofs.Numbers.{first_digit, digits_so, numeral_so}
-use Rattle.uz_line_laws.proofs.Facts.{FactIn, fact_only, fact_raw, fact_so, PairIn, pair_only, pair_raw, pair_so, BitIn, bit_only, bit_so}
+use Rattle.uz_line_laws.proofs.Tests.{and_true, both_true, or_false, not_true, fine_is, fault_not, passed, failed, so, bind_ok, then, le_is, is_le, lt_is, number_is}
+use Rattle.uz_line_laws.proofs.Facts.{FactIn, fact_only, PairIn, pair_only, BitIn, bit_only}
 
 -- what items set
 

@@ -1,7 +1,6 @@
 -- An item that is spelled as one of the six forms is taken.
-use Rattle.std.proofs.Common.{◌≡◌, ◌⊎◌, inl, inr, ℕ, zero, suc, ◌+◌, ◌<◌, ◌≤◌, ◌≢◌, ◌^◌, Bool, true, false, cond, not, ◌&&◌, ◌||◌, eqb, leb, ltb, List, [], ◌∷◌, ◌++◌, length, decimal, codes, lit<, lit≤, refl, sym, ◌∙◌, ap, subst, arith}
-use Rattle.std.specs.Prelude.{Option, Some, None, Result, Ok, Err, slice_get}
-use Rattle.uz_text.specs.Cutting.{cut_at}
+use Rattle.std.proofs.Common.{◌≡◌, ℕ, zero, suc, ◌+◌, ◌<◌, ◌≤◌, ◌≢◌, ◌^◌, false, cond, not, ◌||◌, leb, ltb, List, ◌∷◌, ◌++◌, length, decimal, codes, lit<, lit≤, refl, ◌∙◌, ap, arith}
+use Rattle.std.specs.Prelude.{Some, Result, Ok, Err}
 use Rattle.uz_text.specs.Numbers.{is_numeral, number_below}
 use Rattle.uz_text.proofs.Cuts.{cut_again}
 use Rattle.uz_text.proofs.NumberWords.{number_again}
@@ -17,17 +16,16 @@ use Rattle.uz_lines.specs.Values.{digits, raw_of, fact_of, pair_of, bit_of}
 use Rattle.uz_lines.specs.Defaults.{is_default, is_any_pair, is_range}
 use Rattle.uz_lines.specs.Items.{is_handler, bytes_forms, register_set, register_key, take_register, pair_forms, pair_set, take_pair}
 use Rattle.uz_lines.specs.Items.{flag_set, take_flag, slot_set, slot_room, take_slot, with_number, cell_at, cell_forms, numbered}
-use Rattle.uz_lines.specs.Items.{cell_set, cell_value, take_cell, successor_set, take_successor, is_flag_z, take_letter, take_keyed, take_cut}
-use Rattle.uz_lines.specs.Items.{take_named, take_second, take_item}
-use Rattle.uz_lines.specs.declared.values.Raw.{Raw}
+use Rattle.uz_lines.specs.Items.{cell_set, cell_value, take_cell, successor_set, take_successor, is_flag_z, take_letter, take_cut}
+use Rattle.uz_lines.specs.Items.{take_named, take_item}
 use Rattle.uz_lines.specs.declared.items.Shape.{Shape}
 use Rattle.uz_lines.specs.declared.items.Facts.{Facts}
 use Rattle.uz_lines.specs.declared.why.CertWhy.{CertWhy}
 use Rattle.uz_lines.specs.declared.why.CertWhy.TheVariants as why
 use Rattle.uz_spelling.specs.Spelling.{item, fact_word, pair_word, flag_word}
-use Rattle.uz_line_laws.proofs.Tests.{both_true, so, else_so, then, is_le, is_lt}
+use Rattle.uz_line_laws.proofs.Tests.{so, else_so, then, is_le, is_lt}
 use Rattle.uz_line_laws.proofs.Numbers.{digits_so, numeral_so}
-use Rattle.uz_line_laws.proofs.Facts.{FactIn, fact_raw, fact_so, PairIn, pair_raw, pair_so, BitIn, bit_so}
+use Rattle.uz_line_laws.proofs.Facts.{fact_raw, fact_so, PairIn, pair_raw, pair_so, BitIn, bit_so}
 use Rattle.uz_line_laws.proofs.Taken.{with_register, with_pair, with_flag, with_slot, with_cell, with_successor, TakesRegister, TakesPair, TakesFlag, TakesSlot, TakesCell, TakesSuccessor, PlacesFit, cell_form, cell_limit, cell_range, order_so}
 
 key_lacks : (letter n : ℕ) → letter ≢ 61 → n < 2 ^ 64 → Lacks 61 (letter ∷ decimal n)

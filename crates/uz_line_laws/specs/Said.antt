@@ -1,5 +1,5 @@
 -- The words of a line that is spelled, and what may be said by a line where it is due.
-use Rattle.std.specs.Prelude.{◌≡◌, ◌≢◌, ℕ, ◌+◌, ◌<◌, ◌≤◌, true, Bool, List, [], ◌∷◌, All, length, codes, decimal}
+use Rattle.std.specs.Prelude.{◌≢◌, ℕ, ◌<◌, ◌≤◌, true, List, [], ◌∷◌, All, length, codes, decimal}
 use Rattle.uz_schedule.specs.Limits.{most_lines}
 use Rattle.uz_schedule.specs.Schedule.{response_clocks}
 use Rattle.uz_schedule.specs.WellFormed.{CellFits, StackFits}

@@ -2,7 +2,7 @@
 //! are read as just that. `only`: what is read is within these limits, and the words are those that it is spelled with; so
 //! no default is written, items stand in their order, and numbers are spelled in one way. Each function does nothing.
 
-ghost use Rattle.std.specs.Prelude.{◌≡◌, ◌<◌, ◌≤◌, ◌^◌, ◌∷◌, [], ℕ, Ok, codes, decimal};
+ghost use Rattle.std.specs.Prelude.{◌≡◌, ◌<◌, ◌≤◌, ◌==◌, ◌^◌, ◌∷◌, [], ℕ, List, All, Ok, codes, decimal, false, length};
 ghost use Rattle.uz_schedule.specs.Limits.{clock_limit, most_events, EventFits};
 ghost use Rattle.uz_schedule.specs.WellFormed.{CellFits, StackFits, RestFits, EntryFits, PointFits, instances_of};
 ghost use Rattle.uz_schedule.specs.declared.kinds.Response.{Response};
@@ -12,7 +12,7 @@ ghost use Rattle.uz_schedule.specs.declared.lines.Event.{Event};
 ghost use Rattle.uz_schedule.specs.declared.states.Rest.{Rest};
 ghost use Rattle.uz_schedule.specs.declared.states.Entry.{Entry};
 ghost use Rattle.uz_schedule.specs.declared.states.Point.{Point};
-ghost use Rattle.uz_lines.specs.Grammar.{Words};
+ghost use Rattle.uz_lines.specs.Grammar.{Words, words_of};
 ghost use Rattle.uz_lines.specs.Forms.{reads};
 ghost use Rattle.uz_lines.specs.Lines.{size_form, irq_form, stack_form, cell_form, kind_form, event_form, fall_form, run_form, rest_form, entry_form, point_form, end_form};
 ghost use Rattle.uz_lines.specs.declared.lines.Run.{Run};
@@ -20,7 +20,7 @@ ghost use Rattle.uz_lines.specs.declared.lines.Said.{Said};
 ghost use Rattle.uz_lines.specs.declared.lines.Said.TheVariants as said;
 ghost use Rattle.uz_lines.specs.declared.lines.Sizes.{Sizes};
 ghost use Rattle.uz_lines.specs.declared.lines.StackLine.{StackLine};
-ghost use Rattle.uz_spelling.specs.Spelling.{cell_words, event_words, run_words, rest_words, entry_words, point_words};
+ghost use Rattle.uz_spelling.specs.Spelling.{line_of, cell_words, event_words, run_words, rest_words, entry_words, point_words};
 ghost use Rattle.uz_line_laws.specs.Said.{line, sizes_words, SizesFit, response_words, stack_line_words, with_stack, RunFits, PlacesAre};
 
 /// `size KINDS LINES RESTS POINTS CELLS`
@@ -114,4 +114,11 @@ pub fn point_line()
 pub fn end_line()
     ensures again { reads end_form (line (codes "end" ∷ [])) ≡ Ok said.End }
     ensures only { (words : Words) (says : Said) → reads end_form words ≡ Ok says → (says ≡ said.End) × (words ≡ line (codes "end" ∷ [])) }
+{}
+
+/// Words that lack the space, of which the first isn't empty, are the words of the line that they make, cut at each space;
+/// and the words of any line make that line.
+pub fn words_line()
+    ensures again { (w : List ℕ) (ws : List (List ℕ)) → 0 < length w → All (λ v. All (λ b. (b == 32) ≡ false) v) (w ∷ ws) → words_of (line_of (w ∷ ws)) ≡ w ∷ ws }
+    ensures only { (text : List ℕ) → line_of (words_of text) ≡ text }
 {}

@@ -5,5 +5,5 @@ mod laws;
 
 pub use laws::{
     cell_line, end_line, entry_line, event_line, fall_line, irq_line, kind_line, point_line,
-    rest_line, run_line, size_line, stack_line,
+    rest_line, run_line, size_line, stack_line, words_line,
 };
