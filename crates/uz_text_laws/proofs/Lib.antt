@@ -1,0 +1,7 @@
+pub mod Backward
+pub mod Due
+pub mod Lines
+pub mod Onward
+pub mod Plains
+pub mod Runs
+pub mod Whole
