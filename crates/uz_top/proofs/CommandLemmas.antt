@@ -5,8 +5,8 @@ use Rattle.uz_shelf.specs.Files.{FileMap}
 use Rattle.uz_top.specs.declared.status.Status.{Status}
 use Rattle.uz_top.specs.declared.status.Status.TheVariants as status
 use Rattle.uz_top.specs.Answers.{Answer, Outside, ComesTo, Outcome}
-use Rattle.uz_top.specs.Words.{Command, Asm, Build, Check, Debug, Dis, Expand, Play, Trace}
-use Rattle.uz_top.specs.Commands.{Answers, LacksRead, PartAnswers, Succeeds}
+use Rattle.uz_top.specs.Words.{Command, Asm, Build, Certify, Check, Debug, Dis, Expand, Play, Trace}
+use Rattle.uz_top.specs.Commands.{Answers, IsDecided, LacksRead, PartAnswers, Succeeds}
 use Rattle.uz_top.proofs.OutcomeLemmas.{came_from, from_answer, unwritten_by, exact_by}
 use Rattle.uz_top.proofs.TraceAnswerLemmas.{trace_status, trace_done}
 use Rattle.uz_top.proofs.TraceSameLemmas.{trace_same}
@@ -17,6 +17,7 @@ use Rattle.uz_top.proofs.PlaySameLemmas.{play_done, play_same}
 use Rattle.uz_top.proofs.DebugLemmas.{debug_status, debug_same, debug_done}
 use Rattle.uz_top.proofs.AsmLemmas.{asm_done_answer, asm_same, asm_status}
 use Rattle.uz_top.proofs.DisLemmas.{dis_status, dis_same, dis_done}
+use Rattle.uz_top.proofs.CertifyLemmas.{certify_always, certify_status}
 use Rattle.uz_top.proofs.CheckLemmas.{check_status, check_same, check_done}
 
 never_usage : (files : Option FileMap) (load_fault : Type 0) (c : Command) (answer : Answer) → Answers files load_fault c answer → answer.status ≢ status.Usage
@@ -73,6 +74,13 @@ never_usage files load_fault (Debug hex pads irq script) answer h is =
       | inr (inl e) ↦ absurd (cc (e, is))
       | inr (inr e) ↦ absurd (cc (e, is))
     ]
+never_usage files load_fault (Certify source irq hex cert) answer h is =
+    elim (certify_status files load_fault source irq hex cert answer h) [
+      | inl (e, cause) ↦ absurd (cc (e, is))
+      | inr (inl e) ↦ absurd (cc (e, is))
+      | inr (inr (inl e)) ↦ absurd (cc (e, is))
+      | inr (inr (inr e)) ↦ absurd (cc (e, is))
+    ]
 
 never_unwritten : (files : Option FileMap) (load_fault : Type 0) (c : Command) (answer : Answer) → Answers files load_fault c answer → answer.status ≢ status.Unwritten
 never_unwritten files load_fault (Check hex cert) answer h is =
@@ -127,6 +135,13 @@ never_unwritten files load_fault (Debug hex pads irq script) answer h is =
       | inl (e, cause) ↦ absurd (cc (e, is))
       | inr (inl e) ↦ absurd (cc (e, is))
       | inr (inr e) ↦ absurd (cc (e, is))
+    ]
+never_unwritten files load_fault (Certify source irq hex cert) answer h is =
+    elim (certify_status files load_fault source irq hex cert answer h) [
+      | inl (e, cause) ↦ absurd (cc (e, is))
+      | inr (inl e) ↦ absurd (cc (e, is))
+      | inr (inr (inl e)) ↦ absurd (cc (e, is))
+      | inr (inr (inr e)) ↦ absurd (cc (e, is))
     ]
 
 unread_cause : (files : Option FileMap) (load_fault : Type 0) (c : Command) (answer : Answer) → Answers files load_fault c answer → answer.status ≡ status.Unread → load_fault ⊎ LacksRead files c
@@ -183,16 +198,24 @@ unread_cause files load_fault (Debug hex pads irq script) answer h is =
       | inr (inl e) ↦ absurd (cc (e, is))
       | inr (inr e) ↦ absurd (cc (e, is))
     ]
+unread_cause files load_fault (Certify source irq hex cert) answer h is =
+    elim (certify_status files load_fault source irq hex cert answer h) [
+      | inl (e, cause) ↦ cause
+      | inr (inl e) ↦ absurd (cc (e, is))
+      | inr (inr (inl e)) ↦ absurd (cc (e, is))
+      | inr (inr (inr e)) ↦ absurd (cc (e, is))
+    ]
 
-same_answers : (one : OneEnd) (files : FileMap) (load_fault : Type 0) (c : Command) (a b : Answer) → Answers (Some files) load_fault c a → Answers (Some files) ⊥ c b → (a ≡ b) ⊎ load_fault
-same_answers one files load_fault (Check hex cert) a b p q = check_same files load_fault hex cert a b p q
-same_answers one files load_fault (Dis hex) a b p q = dis_same files load_fault hex a b p q
-same_answers one files load_fault (Asm source hex) a b p q = asm_same files load_fault source hex a b p q
-same_answers one files load_fault (Expand source flat) a b p q = flat_same one files load_fault source (expand_answer flat) a b p q
-same_answers one files load_fault (Build source hex) a b p q = flat_same one files load_fault source (build_answer hex) a b p q
-same_answers one files load_fault (Trace hex pads irq clocks) a b p q = trace_same files load_fault hex pads irq clocks a b p q
-same_answers one files load_fault (Play hex cert pads clocks frames) a b p q = play_same files load_fault hex cert pads clocks frames a b p q
-same_answers one files load_fault (Debug hex pads irq script) a b p q = debug_same files load_fault hex pads irq script a b p q
+same_answers : (one : OneEnd) (files : FileMap) (load_fault : Type 0) (c : Command) (a b : Answer) → IsDecided c → Answers (Some files) load_fault c a → Answers (Some files) ⊥ c b → (a ≡ b) ⊎ load_fault
+same_answers one files load_fault (Check hex cert) a b decided p q = check_same files load_fault hex cert a b p q
+same_answers one files load_fault (Dis hex) a b decided p q = dis_same files load_fault hex a b p q
+same_answers one files load_fault (Asm source hex) a b decided p q = asm_same files load_fault source hex a b p q
+same_answers one files load_fault (Expand source flat) a b decided p q = flat_same one files load_fault source (expand_answer flat) a b p q
+same_answers one files load_fault (Build source hex) a b decided p q = flat_same one files load_fault source (build_answer hex) a b p q
+same_answers one files load_fault (Trace hex pads irq clocks) a b decided p q = trace_same files load_fault hex pads irq clocks a b p q
+same_answers one files load_fault (Play hex cert pads clocks frames) a b decided p q = play_same files load_fault hex cert pads clocks frames a b p q
+same_answers one files load_fault (Debug hex pads irq script) a b decided p q = debug_same files load_fault hex pads irq script a b p q
+same_answers one files load_fault (Certify source irq hex cert) a b decided p q = absurd decided
 
 -- an answer that is this one, or loading met a fault
 done_as : (load_fault : Type 0) (answer wanted : Answer) → (answer ≡ wanted) ⊎ load_fault → wanted.status ≡ status.Done → (load_fault → ⊥) → answer.status ≡ status.Done
@@ -212,6 +235,7 @@ done_always one told load_fault (Trace hex pads irq clocks) h loads answer p =
     let d = trace_done (Some told) hex pads irq clocks h in done_as load_fault answer d.0 (trace_same told load_fault hex pads irq clocks answer d.0 p d.1) d.2 loads
 done_always one told load_fault (Play hex cert pads clocks frames) h loads answer p = play_done told load_fault hex cert pads clocks frames h loads answer p
 done_always one told load_fault (Debug hex pads irq script) h loads answer p = debug_done told load_fault hex pads irq script h loads answer p
+done_always one told load_fault (Certify source irq hex cert) h loads answer p = certify_always told load_fault source irq hex cert h loads answer p
 
 usage_not_memory : status.Usage ≢ status.NoMemory
 usage_not_memory e = cc
@@ -240,8 +264,8 @@ module _ (files : Option FileMap) (load_fault write_fault : Type 0) (c : Command
   unwritten = unwritten_by (Answers files load_fault c) (PartAnswers files c) write_fault came old new (never_unwritten files load_fault c)
 
 module _ (one : OneEnd) (told : FileMap) (load_fault write_fault : Type 0) (c : Command) (came : Status) (old new : Outside) where
-  exact : Outcome (Answers (Some told) load_fault c) (PartAnswers (Some told) c) write_fault came old new → (wanted : Answer) → Answers (Some told) ⊥ c wanted → ComesTo wanted load_fault write_fault came old new
-  exact h wanted q = exact_by (Answers (Some told) load_fault c) (PartAnswers (Some told) c) write_fault came old new load_fault wanted (λ answer p. same_answers one told load_fault c answer wanted p q) h
+  exact : Outcome (Answers (Some told) load_fault c) (PartAnswers (Some told) c) write_fault came old new → IsDecided c → (wanted : Answer) → Answers (Some told) ⊥ c wanted → ComesTo wanted load_fault write_fault came old new
+  exact h decided wanted q = exact_by (Answers (Some told) load_fault c) (PartAnswers (Some told) c) write_fault came old new load_fault wanted (λ answer p. same_answers one told load_fault c answer wanted decided p q) h
 
   complete : Outcome (Answers (Some told) load_fault c) (PartAnswers (Some told) c) write_fault came old new → Succeeds (Some told) c → (load_fault → ⊥) → (write_fault → ⊥) → (came ≡ status.Done) ⊎ (came ≡ status.NoMemory)
   complete h well loads writes =
@@ -254,13 +278,13 @@ module _ (one : OneEnd) (told : FileMap) (load_fault write_fault : Type 0) (c : 
 pub outcome_at : (k l : Command) (files : Option FileMap) (load_fault write_fault : Type 0) (came : Status) (old new : Outside) → k ≡ l → Outcome (Answers files load_fault l) (PartAnswers files l) write_fault came old new → Outcome (Answers files load_fault k) (PartAnswers files k) write_fault came old new
 outcome_at k l files load_fault write_fault came old new same h = subst (λ c. Outcome (Answers files load_fault c) (PartAnswers files c) write_fault came old new) (sym same) h
 
-exact_told : (one : OneEnd) (files : Option FileMap) (load_fault write_fault : Type 0) (c : Command) (came : Status) (old new : Outside) → Outcome (Answers files load_fault c) (PartAnswers files c) write_fault came old new → IfSome files (λ told. (wanted : Answer) → Answers files ⊥ c wanted → ComesTo wanted load_fault write_fault came old new)
+exact_told : (one : OneEnd) (files : Option FileMap) (load_fault write_fault : Type 0) (c : Command) (came : Status) (old new : Outside) → Outcome (Answers files load_fault c) (PartAnswers files c) write_fault came old new → IfSome files (λ told. IsDecided c → (wanted : Answer) → Answers files ⊥ c wanted → ComesTo wanted load_fault write_fault came old new)
 exact_told one None load_fault write_fault c came old new h = tt
 exact_told one (Some told) load_fault write_fault c came old new h = exact one told load_fault write_fault c came old new h
 
-pub exact_in : (one : OneEnd) (o : Option Command) (c : Command) (files : Option FileMap) (load_fault write_fault : Type 0) (came : Status) (old new : Outside) → Some c ≡ o → Outcome (Answers files load_fault c) (PartAnswers files c) write_fault came old new → IfSome o (λ k. IfSome files (λ told. (wanted : Answer) → Answers files ⊥ k wanted → ComesTo wanted load_fault write_fault came old new))
+pub exact_in : (one : OneEnd) (o : Option Command) (c : Command) (files : Option FileMap) (load_fault write_fault : Type 0) (came : Status) (old new : Outside) → Some c ≡ o → Outcome (Answers files load_fault c) (PartAnswers files c) write_fault came old new → IfSome o (λ k. IfSome files (λ told. IsDecided k → (wanted : Answer) → Answers files ⊥ k wanted → ComesTo wanted load_fault write_fault came old new))
 exact_in one o c files load_fault write_fault came old new is h =
-    subst (λ p. IfSome p (λ k. IfSome files (λ told. (wanted : Answer) → Answers files ⊥ k wanted → ComesTo wanted load_fault write_fault came old new))) is
+    subst (λ p. IfSome p (λ k. IfSome files (λ told. IsDecided k → (wanted : Answer) → Answers files ⊥ k wanted → ComesTo wanted load_fault write_fault came old new))) is
     (exact_told one files load_fault write_fault c came old new h)
 
 pub unread_in : (o : Option Command) (c : Command) (files : Option FileMap) (load_fault write_fault : Type 0) (came : Status) (old new : Outside) → Some c ≡ o → Outcome (Answers files load_fault c) (PartAnswers files c) write_fault came old new → came ≡ status.Unread → IfSome o (λ k. load_fault ⊎ LacksRead files k)

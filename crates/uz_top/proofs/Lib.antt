@@ -1,10 +1,12 @@
 pub mod AsmLemmas
+pub mod CertifyLemmas
 pub mod CheckLemmas
 pub mod CommandLemmas
 pub mod DebugLemmas
 pub mod DisLemmas
 pub mod EndingLemmas
 pub mod FaultLemmas
+pub mod HintCount
 pub mod MacroLemmas
 pub mod MacroNames
 pub mod OutcomeLemmas

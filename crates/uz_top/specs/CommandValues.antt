@@ -1,5 +1,5 @@
 -- The command of the code as a command of the words.
-use Rattle.uz_top.specs.Words.{Command, Asm, Build, Check, Debug, Dis, Expand, Play, Trace}
+use Rattle.uz_top.specs.Words.{Command, Asm, Build, Certify, Check, Debug, Dis, Expand, Play, Trace}
 use Rattle.uz_top.specs.declared.command.Command.{Command as CommandValue}
 use Rattle.uz_top.specs.declared.command.Command.TheVariants as value
 
@@ -12,3 +12,4 @@ value_of (value.Build source hex) = Build source.now hex.now
 value_of (value.Play hex cert pads clocks frames) = Play hex.now cert.now pads.now clocks.count frames.now
 value_of (value.Debug hex pads irq script) = Debug hex.now pads.now irq script.now
 value_of (value.Asm source hex) = Asm source.now hex.now
+value_of (value.Certify source irq hex cert) = Certify source.now irq hex.now cert.now

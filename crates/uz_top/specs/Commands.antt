@@ -2,7 +2,7 @@
 use Rattle.std.specs.Prelude.{Option}
 use Rattle.uz_shelf.specs.Files.{FileMap, LacksFile}
 use Rattle.uz_top.specs.Answers.{Answer, NoPart}
-use Rattle.uz_top.specs.Words.{Command, Asm, Build, Check, Debug, Dis, Expand, Play, Trace}
+use Rattle.uz_top.specs.Words.{Command, Asm, Build, Certify, Check, Debug, Dis, Expand, Play, Trace}
 use Rattle.uz_top.specs.TraceCommand.{TraceAnswers, TraceLacks, TraceParts, TraceSucceeds}
 use Rattle.uz_top.specs.MacroCommands.{BuildAnswers, BuildSucceeds, ExpandAnswers, ExpandSucceeds}
 use Rattle.uz_top.specs.MacroSource.{MacroLacks}
@@ -10,6 +10,7 @@ use Rattle.uz_top.specs.PlayCommand.{FilesHalted, FilesPlayed, PlayAnswers, Play
 use Rattle.uz_top.specs.DebugCommand.{DebugAnswers, DebugLacks, DebugSucceeds}
 use Rattle.uz_top.specs.AsmCommand.{AsmAnswers, AsmSucceeds}
 use Rattle.uz_top.specs.DisCommand.{DisAnswers, DisSucceeds}
+use Rattle.uz_top.specs.CertifyCommand.{CertifyAnswers, CertifySucceeds}
 use Rattle.uz_top.specs.CheckCommand.{CheckAnswers, CheckLacks, CheckSucceeds, FilesCertified}
 
 -- the answer of a command, from what its files say
@@ -22,6 +23,7 @@ Answers files load_fault (Expand source flat) answer = ExpandAnswers files load_
 Answers files load_fault (Build source hex) answer = BuildAnswers files load_fault source hex answer
 Answers files load_fault (Play hex cert pads clocks frames) answer = PlayAnswers files load_fault hex cert pads clocks frames answer
 Answers files load_fault (Debug hex pads irq script) answer = DebugAnswers files load_fault hex pads irq script answer
+Answers files load_fault (Certify source irq hex cert) answer = CertifyAnswers files load_fault source irq hex cert answer
 
 -- a file that the command reads isn't there, and all earlier ones are read
 abbrev pub LacksRead : Option FileMap → Command → Type 0
@@ -33,6 +35,7 @@ LacksRead files (Expand source flat) = MacroLacks files source
 LacksRead files (Build source hex) = MacroLacks files source
 LacksRead files (Play hex cert pads clocks frames) = PlayLacks files hex cert pads
 LacksRead files (Debug hex pads irq script) = DebugLacks files hex pads script
+LacksRead files (Certify source irq hex cert) = LacksFile files source
 
 -- all that the command reads is there and in its grammar, and what it asks of it holds
 abbrev pub Succeeds : Option FileMap → Command → Type 0
@@ -44,6 +47,7 @@ Succeeds files (Expand source flat) = ExpandSucceeds files source
 Succeeds files (Build source hex) = BuildSucceeds files source
 Succeeds files (Play hex cert pads clocks frames) = PlaySucceeds files hex cert pads clocks
 Succeeds files (Debug hex pads irq script) = DebugSucceeds files hex pads script
+Succeeds files (Certify source irq hex cert) = CertifySucceeds files source irq
 
 -- the command creates no file
 abbrev pub CreatesNone : Command → Type 0
@@ -55,6 +59,7 @@ CreatesNone (Expand source flat) = ⊥
 CreatesNone (Build source hex) = ⊥
 CreatesNone (Play hex cert pads clocks frames) = ⊥
 CreatesNone (Debug hex pads irq script) = Unit {0}
+CreatesNone (Certify source irq hex cert) = ⊥
 
 -- what a command is worth where it is done
 abbrev pub Certifies : Option FileMap → Command → Type 0
@@ -66,6 +71,7 @@ Certifies files (Expand source flat) = Unit {0}
 Certifies files (Build source hex) = Unit {0}
 Certifies files (Play hex cert pads clocks frames) = FilesPlayed files hex cert pads clocks
 Certifies files (Debug hex pads irq script) = Unit {0}
+Certifies files (Certify source irq hex cert) = Unit {0}
 
 -- what a command tells where it is stopped
 abbrev pub StopTells : Option FileMap → Command → Type 0
@@ -77,6 +83,7 @@ StopTells files (Expand source flat) = Unit {0}
 StopTells files (Build source hex) = Unit {0}
 StopTells files (Play hex cert pads clocks frames) = FilesHalted files hex cert pads clocks
 StopTells files (Debug hex pads irq script) = Unit {0}
+StopTells files (Certify source irq hex cert) = Unit {0}
 
 -- what a command has come to that is cut short in the midst of its work
 abbrev pub PartAnswers : Option FileMap → Command → Answer → Type 0
@@ -88,3 +95,16 @@ PartAnswers files (Expand source flat) = NoPart
 PartAnswers files (Build source hex) = NoPart
 PartAnswers files (Play hex cert pads clocks frames) = PlayParts files hex cert pads clocks frames
 PartAnswers files (Debug hex pads irq script) = NoPart
+PartAnswers files (Certify source irq hex cert) = NoPart
+
+-- the files alone decide the answer; where a certificate is searched, the search's answer does besides
+abbrev pub IsDecided : Command → Type 0
+IsDecided (Check hex cert) = Unit {0}
+IsDecided (Dis hex) = Unit {0}
+IsDecided (Asm source hex) = Unit {0}
+IsDecided (Trace hex pads irq clocks) = Unit {0}
+IsDecided (Expand source flat) = Unit {0}
+IsDecided (Build source hex) = Unit {0}
+IsDecided (Play hex cert pads clocks frames) = Unit {0}
+IsDecided (Debug hex pads irq script) = Unit {0}
+IsDecided (Certify source irq hex cert) = ⊥

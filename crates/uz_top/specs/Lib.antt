@@ -2,6 +2,8 @@ pub mod Answers
 pub mod AsmCommand
 pub mod AsmValues
 pub mod CertificateFile
+pub mod CertifyCommand
+pub mod CertifyValues
 pub mod CheckCommand
 pub mod CommandValues
 pub mod Commands

@@ -14,6 +14,7 @@ pub data Command : Type 0 where
   Build : (source hex : List ℕ) → Command
   Play : (hex cert pads : List ℕ) → (clocks : ℕ) → (frames : List ℕ) → Command
   Debug : (hex pads : List ℕ) → (irq : Response) → (script : List ℕ) → Command
+  Certify : (source : List ℕ) → (irq : Response) → (hex cert : List ℕ) → Command
 
 -- the file words of a command differ
 abbrev pub check_words : List (List ℕ) → Option Command
@@ -71,6 +72,15 @@ debug_words (hex ∷ pads ∷ irq ∷ script ∷ []) =
     if bytes_eq hex pads || (bytes_eq hex script || bytes_eq pads script) then None else debug_with hex pads (response_of irq) script
 debug_words other = None
 
+abbrev pub certify_with : List ℕ → Option Response → List ℕ → List ℕ → Option Command
+certify_with source (Some irq) hex cert = Some (Certify source irq hex cert)
+certify_with source None hex cert = None
+
+abbrev pub certify_words : List (List ℕ) → Option Command
+certify_words (source ∷ irq ∷ hex ∷ cert ∷ []) =
+    if bytes_eq source hex || (bytes_eq source cert || bytes_eq hex cert) then None else certify_with source (response_of irq) hex cert
+certify_words other = None
+
 abbrev pub command_of : List (List ℕ) → Option Command
 command_of [] = None
 command_of (verb ∷ words) =
@@ -82,4 +92,5 @@ command_of (verb ∷ words) =
     else if bytes_eq verb (codes "debug") then debug_words words
     else if bytes_eq verb (codes "expand") then expand_words words
     else if bytes_eq verb (codes "build") then build_words words
+    else if bytes_eq verb (codes "certify") then certify_words words
     else None

@@ -11,7 +11,7 @@ use uz_cert::Cert;
 use uz_check::{Fail, RefusedWhy};
 
 /// The name of a reason, as it is printed.
-fn reason_name(why: Fail) -> &'static [u8]
+pub(crate) fn reason_name(why: Fail) -> &'static [u8]
     ensures { result.now ≡ fail_name why }
 {
     match why {

@@ -3,7 +3,7 @@
 ghost use Rattle.std.specs.Prelude.{◌≡◌, map, option_map, string_bytes};
 ghost use Rattle.uz_top.specs.CommandValues.{value_of};
 ghost use Rattle.uz_text.specs.Numbers.{number_within as number_from_low};
-ghost use Rattle.uz_top.specs.Words.{asm_words, build_words, check_words, command_of, debug_with as debug_with_response, debug_words, dis_words, expand_words, play_with as play_with_clocks, play_words, response_of, trace_words};
+ghost use Rattle.uz_top.specs.Words.{asm_words, build_words, certify_with as certify_with_response, certify_words, check_words, command_of, debug_with as debug_with_response, debug_words, dis_words, expand_words, play_with as play_with_clocks, play_words, response_of, trace_words};
 
 use crate::clocks::{Clocks, number_of_clocks};
 use uz_cert::Response;
@@ -50,6 +50,12 @@ pub(crate) enum Command<'a> {
         irq: Response,
         script: &'a str,
     },
+    Certify {
+        source: &'a str,
+        irq: Response,
+        hex: &'a str,
+        cert: &'a str,
+    },
 }
 
 /// The command of these words, without the program's name, or `None` where they are no command.
@@ -68,6 +74,7 @@ pub(crate) fn parse(words: &[String]) -> Option<Command<'_>>
         "debug" => debug(rest),
         "expand" => expand(rest),
         "build" => build(rest),
+        "certify" => certify(rest),
         _ => None,
     }
 }
@@ -209,6 +216,45 @@ fn debug(words: &[String]) -> Option<Command<'_>>
                 None
             } else {
                 debug_with(hex.as_str(), pads.as_str(), irq.as_str(), script.as_str())
+            }
+        }
+        _ => None,
+    }
+}
+
+/// The command once its files are known to differ.
+fn certify_with<'a>(
+    source: &'a str,
+    irq: &str,
+    hex: &'a str,
+    cert: &'a str,
+) -> Option<Command<'a>>
+    ensures { option_map value_of result ≡ certify_with_response source.now (response_of irq.now) hex.now cert.now }
+{
+    match response(irq) {
+        Some(irq) => Some(Command::Certify {
+            source,
+            irq,
+            hex,
+            cert,
+        }),
+        None => None,
+    }
+}
+
+/// `certify SRC IRQ HEX CERT`, of three files.
+fn certify(words: &[String]) -> Option<Command<'_>>
+    ensures { option_map value_of result ≡ certify_words (map string_bytes words.now) }
+{
+    match words {
+        [source, irq, hex, cert] => {
+            if source.as_str() == hex.as_str()
+                || source.as_str() == cert.as_str()
+                || hex.as_str() == cert.as_str()
+            {
+                None
+            } else {
+                certify_with(source.as_str(), irq.as_str(), hex.as_str(), cert.as_str())
             }
         }
         _ => None,

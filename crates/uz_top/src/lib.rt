@@ -3,6 +3,8 @@
 
 mod asm_command;
 mod certificate_file;
+mod certify_command;
+mod certify_lines;
 mod check_command;
 mod check_lines;
 mod clocks;

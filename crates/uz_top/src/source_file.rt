@@ -1,6 +1,6 @@
 //! Loading and assembling a source file.
 
-ghost use Rattle.std.specs.Prelude.{◌≡◌, ◌≤◌, IfErr, IfOk};
+ghost use Rattle.std.specs.Prelude.{◌≡◌, ◌<◌, ◌≤◌, ◌^◌, IfErr, IfOk, length};
 ghost use Rattle.avr_asm.specs.Assembly.{seen_built};
 ghost use Rattle.uz_shelf.specs.Faults.{Rose};
 ghost use Rattle.uz_top.specs.Endings.{EndsBy};
@@ -42,12 +42,14 @@ fn failure_of(alloc: Global, name: &str, error: AsmError) -> Result<Failure, All
 }
 
 /// What a source file assembles to.
+#[tactic(auto, using(crate::proofs::HintCount::few_hints))]
 pub(crate) fn assemble_file<H: Shelf>(
     alloc: Global,
     shelf: &mut H,
     name: &str,
 ) -> Result<Built, Failure>
     ensures said { IfOk result (λ built. Says (H.files shelf.old) name.now text_limit (Spells output_of) (seen_built built)) }
+    ensures few { IfOk result (λ built. length built.hints.items < 2 ^ 32) }
     ensures fails { IfErr result (EndsBy (Fails (H.files shelf.old) (Rose (H.load_faults shelf.old) (H.load_faults shelf.new)) name.now text_limit (Refuses output_of))) }
     ensures files { H.files shelf.new ≡ H.files shelf.old }
     ensures load_faults { H.load_faults shelf.old ≤ H.load_faults shelf.new }

@@ -6,13 +6,14 @@ ghost use Rattle.uz_shelf.specs.Text.{TakesPrefix};
 ghost use Rattle.uz_top.specs.Answers.{Answer, ComesTo, NoPart, Outcome, outside};
 ghost use Rattle.uz_top.specs.CheckCommand.{CheckAnswers, FilesCertified};
 ghost use Rattle.uz_top.specs.CommandValues.{value_of};
-ghost use Rattle.uz_top.specs.Commands.{Answers, Certifies, CreatesNone, LacksRead, PartAnswers, StopTells, Succeeds};
+ghost use Rattle.uz_top.specs.Commands.{Answers, Certifies, CreatesNone, IsDecided, LacksRead, PartAnswers, StopTells, Succeeds};
 ghost use Rattle.uz_top.specs.DebugCommand.{DebugAnswers};
 ghost use Rattle.uz_top.specs.DisCommand.{DisAnswers};
 ghost use Rattle.uz_top.specs.Lines.{usage_line};
 ghost use Rattle.uz_top.specs.Words.{command_of};
 
 use crate::asm_command::run_asm;
+use crate::certify_command::run_certify;
 use crate::check_command::check_files;
 use crate::command::{Command, parse};
 use crate::debug_command::debug_files;
@@ -114,6 +115,12 @@ fn run<H: Shelf, K: Sink>(
             irq,
             script,
         } => run_debug(alloc, hex, pads, *irq, script, shelf, out),
+        Command::Certify {
+            source,
+            irq,
+            hex,
+            cert,
+        } => run_certify(alloc, source, *irq, hex, cert, shelf, out),
     }
 }
 
@@ -139,8 +146,8 @@ pub fn uzebox<H: Shelf, K: Sink>(
         (Rose (H.write_faults shelf.old) (H.write_faults shelf.new) ⊎ Rose (K.faults out.old) (K.faults out.new))
         result (outside (H.files shelf.old) (K.text out.old)) (outside (H.files shelf.new) (K.text out.new))) }
 
-    // Where the shelf tells its files, they alone decide the answer, unless loading met a fault.
-    ensures exact { IfSome (command_of (map string_bytes words.now)) (λ c. IfSome (H.files shelf.old) (λ files.
+    // Where the shelf tells its files, they alone decide the answer, unless loading met a fault or a certificate is searched.
+    ensures exact { IfSome (command_of (map string_bytes words.now)) (λ c. IfSome (H.files shelf.old) (λ files. IsDecided c →
         (wanted : Answer) → Answers (H.files shelf.old) ⊥ c wanted →
         ComesTo wanted (Rose (H.load_faults shelf.old) (H.load_faults shelf.new)) (Rose (H.write_faults shelf.old) (H.write_faults shelf.new) ⊎ Rose (K.faults out.old) (K.faults out.new))
         result (outside (H.files shelf.old) (K.text out.old)) (outside (H.files shelf.new) (K.text out.new)))) }

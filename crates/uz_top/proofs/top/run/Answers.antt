@@ -39,3 +39,9 @@ returns-in-Play-clause-outcome g c = outcome_at (value_of c.args.command.now) _ 
 
 pub returns-in-Play-clause-untouched : goal.returns-in-Play-clause-untouched
 returns-in-Play-clause-untouched g c = λ none. absurd (subst CreatesNone (ap value_of c.in-Play.is) none)
+
+pub returns-in-Certify-clause-outcome : goal.returns-in-Certify-clause-outcome
+returns-in-Certify-clause-outcome g c = outcome_at (value_of c.args.command.now) _ _ _ _ _ _ _ (ap value_of c.in-Certify.is) c.run_certify.ensures
+
+pub returns-in-Certify-clause-untouched : goal.returns-in-Certify-clause-untouched
+returns-in-Certify-clause-untouched g c = λ none. absurd (subst CreatesNone (ap value_of c.in-Certify.is) none)
