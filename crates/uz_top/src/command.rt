@@ -223,12 +223,7 @@ fn debug(words: &[String]) -> Option<Command<'_>>
 }
 
 /// The command once its files are known to differ.
-fn certify_with<'a>(
-    source: &'a str,
-    irq: &str,
-    hex: &'a str,
-    cert: &'a str,
-) -> Option<Command<'a>>
+fn certify_with<'a>(source: &'a str, irq: &str, hex: &'a str, cert: &'a str) -> Option<Command<'a>>
     ensures { option_map value_of result ≡ certify_with_response source.now (response_of irq.now) hex.now cert.now }
 {
     match response(irq) {
