@@ -1,6 +1,6 @@
 //! The whole source.
 
-ghost use Rattle.std.specs.Prelude.{◌≡◌, ◌≤◌, ◌++◌, IfOk, OnOk, map};
+ghost use Rattle.std.specs.Prelude.{◌≡◌, ◌≤◌, ◌++◌, IfOk, OnOk, length, map};
 ghost use Rattle.uz_demo.specs.Pieces.{ended};
 ghost use Rattle.uz_demo.specs.Source.{closing, console, frame, gap, opening, picture, pixels, shown, source};
 
@@ -13,7 +13,7 @@ use std::alloc::{AllocError, Global};
 /// The lines before the picture.
 const BEFORE: u16 = 38;
 
-/// How many bytes a source has at most.
+/// The most bytes of a source.
 const LONGEST: usize = 2048;
 
 /// The lines of the picture, 64 to 224.
@@ -99,9 +99,11 @@ fn add_closing(text: &mut Vec<u8>, number: u16) -> Result<(), AllocError>
 }
 
 /// The source of a demo: the sample console with a picture of `64 + number mod 161` lines of `16 + number / 161 mod 65`
-/// pixels. The one error is want of memory.
+/// pixels, in at most 2,048 bytes. The one error is want of memory.
+#[tactic(auto, using(crate::proofs::Lengths::short_source))]
 pub fn demo_source(alloc: Global, number: u16) -> Result<Vec<u8>, AllocError>
-    ensures { IfOk result (λ text. text.items ≡ source number) }
+    ensures source { IfOk result (λ text. text.items ≡ source number) }
+    ensures short { IfOk result (λ text. length text.items ≤ 2048) }
 {
     let mut text = Vec::with_capacity(alloc, LONGEST)?;
     add_opening(&mut text, number)?;
