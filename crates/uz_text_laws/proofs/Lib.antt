@@ -1,4 +1,5 @@
 pub mod Backward
+pub mod BackwardStates
 pub mod Due
 pub mod Lines
 pub mod Onward
