@@ -12,7 +12,7 @@ use Rattle.uz_pads.specs.declared.pads.Pads.{Pads}
 use Rattle.uz_console.specs.declared.console.Console.{Console}
 use Rattle.uz_console.specs.Consoles.{StateStandsFor, StandsFor, state_of, clock_of}
 use Rattle.uz_console.specs.Turns.{Halts}
-use Rattle.uz_console.specs.Runs.{RunsTo, RunIsOver, GoesQuietly}
+use Rattle.uz_console.specs.Runs.{RunsTo, RunIsOver, GoesQuietly, Quietly}
 
 -- no turn yet
 pub begins : (console : Console) (start : State PadHistory) (limit : ℕ) → StandsFor console start → RunsTo limit start [] console
@@ -74,10 +74,6 @@ stops old new limit why same halts h start edges (last, part, stands) =
 
 quiet_more : (limit : ℕ) (s mid next : State PadHistory) → GoesQuietly limit s mid → TurnBefore limit mid [] next → GoesQuietly limit s next
 quiet_more limit s mid next (n, run) turn = (suc n, run_more limit n s mid next [] [] run turn)
-
--- from each state that the first console stands for, turns without edges lead to one that the other stands for
-abbrev pub Quietly : ℕ → Console → Console → Type 0
-Quietly limit first console = (s : State PadHistory) → StandsFor first s → (last : State PadHistory) × GoesQuietly limit s last × StandsFor console last
 
 pub quietly_begins : (limit : ℕ) (console : Console) → Quietly limit console console
 quietly_begins limit console s h = (s, (0, (refl, refl)), h)

@@ -34,6 +34,10 @@ IsProgress limit old new (Stopped why) =
 abbrev pub GoesQuietly : ℕ → State PadHistory → State PadHistory → Type 0
 GoesQuietly limit s last = (n : ℕ) × Run (TurnBefore limit) n s [] last
 
+-- from each state that the first console stands for, turns without edges lead to one that the other stands for
+abbrev pub Quietly : ℕ → Console → Console → Type 0
+Quietly limit first console = (s : State PadHistory) → StandsFor first s → (last : State PadHistory) × GoesQuietly limit s last × StandsFor console last
+
 -- From each state that the old console stands for, turns without edges; then, Took: one with edges, of which these are in
 -- time; Over: no turn, since the limit is reached; Stopped: none, since there is none
 abbrev pub IsNextTurn : ℕ → Console → Console → Progress → Type 0

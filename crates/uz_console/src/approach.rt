@@ -40,7 +40,7 @@ impl Console {
             if let Some(position) = self.enters_at(cert) {
                 return Approach::Entered { position };
             }
-            match self.make(&mut edges) {
+            match self.make_turns(limit, cert.entry.pc, &mut edges) {
                 Made::Quiet => {}
                 Made::Edges => {
                     return Approach::Took {

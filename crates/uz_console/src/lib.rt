@@ -8,8 +8,6 @@ mod entry;
 mod laws;
 mod passing;
 mod running;
-#[cfg(test)]
-mod tests;
 mod turn;
 
 pub use approach::Approach;

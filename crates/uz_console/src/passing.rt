@@ -29,6 +29,6 @@ impl Console {
         ensures time { PassedTakesTime self.old self.new result }
     {
         let mut edges = ArrayVec::new();
-        stop_of(self.make(&mut edges))
+        stop_of(self.make_one(&mut edges))
     }
 }

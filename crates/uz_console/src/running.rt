@@ -5,7 +5,7 @@ ghost use Rattle.uz_machine.specs.Run.{edges_until};
 ghost use Rattle.uz_console.specs.Runs.{HasTimedEdges, IsProgress, IsNextTurn, MovesOn};
 
 use crate::Console;
-use crate::turn::Made;
+use crate::turn::{Made, NOWHERE};
 use arrayvec::ArrayVec;
 use uz_core::Why;
 use uz_machine::Edge;
@@ -62,7 +62,7 @@ impl Console {
     {
         let mut edges = ArrayVec::new();
         while self.clock() < limit {
-            match self.make(&mut edges) {
+            match self.make_turns(limit, NOWHERE, &mut edges) {
                 Made::Quiet => {}
                 Made::Edges => {
                     return Progress::Took {

@@ -1,12 +1,13 @@
 //! One turn.
 
-ghost use Rattle.std.specs.Prelude.{◌≡◌, ◌<◌, ◌+◌, ◌^◌, [], ◌∷◌, ◌++◌, false, None, if◌then◌else◌};
+ghost use Rattle.std.specs.Prelude.{◌≡◌, ◌<◌, ◌≤◌, ◌+◌, ◌^◌, [], ◌∷◌, ◌++◌, false, None, if◌then◌else◌};
 ghost use Rattle.uz_machine.specs.Space.{space_after};
 ghost use Rattle.uz_machine.specs.Turn.{is_entry, after_entry, entry_edges, after_stores, edges_at, all_edge_kinds};
 ghost use Rattle.uz_machine.specs.declared.EdgeKind.TheVariants.{Leave};
 ghost use Rattle.uz_pads.specs.Pads.{pads_wiring};
 ghost use Rattle.uz_ports.specs.Boards.{held_of, content_of, space_of, entered_of, entry_edge, clock_of as board_clock};
 ghost use Rattle.uz_console.specs.Consoles.{clock_of, state_of};
+ghost use Rattle.uz_console.specs.ManyTurns.{AreMade};
 ghost use Rattle.uz_console.specs.Turns.{IsTurn, TurnTakesTime, IsMade, HasSome, TakesTime, IsBoardStep, IsInstructed};
 
 use crate::Console;
@@ -34,6 +35,9 @@ pub(crate) enum Made {
     /// Nothing.
     Stopped(Why),
 }
+
+/// A pc that no console has.
+pub(crate) const NOWHERE: u16 = 0xFFFF;
 
 /// The end of a turn that may have edges, which the list then has. Kept apart, so that the others pay nothing for it.
 #[inline(never)]
@@ -105,9 +109,9 @@ impl Console {
         }
     }
 
-    /// One turn, whose edges the list has afterwards where the answer says so.
+    /// One turn, whose edges the list has afterwards where the answer says so. The loop over turns alone calls it.
     #[tactic(auto, using(crate::proofs::TurnLemmas::entry_shows, crate::proofs::TurnLemmas::entered_time, crate::proofs::TurnLemmas::instructed, crate::proofs::TurnLemmas::instructed_time))]
-    pub(crate) fn make(&mut self, edges: &mut ArrayVec<Edge, 4>) -> Made
+    fn make(&mut self, edges: &mut ArrayVec<Edge, 4>) -> Made
         requires { clock_of self.old < 2 ^ 62 }
         ensures turn { IsMade self.old self.new edges.new.items result }
         ensures some { HasSome edges.new.items result }
@@ -121,6 +125,41 @@ impl Console {
         }
     }
 
+    /// Makes one turn, and then more while they have no edges, the clock is below the limit and pc isn't the watched one. The answer is
+    /// the last turn's. Everything that makes turns calls it, so that `make` has one caller, where the compiler puts it in line.
+    pub(crate) fn make_turns(
+        &mut self,
+        limit: u64,
+        watched: u16,
+        edges: &mut ArrayVec<Edge, 4>,
+    ) -> Made
+        requires limit { limit ≤ 2 ^ 62 }
+        requires clock { clock_of self.old < 2 ^ 62 }
+        ensures { AreMade limit watched self.old self.new edges.new.items result }
+    {
+        'turns: loop {
+            match self.make(edges) {
+                Made::Quiet => {}
+                Made::Edges => return Made::Edges,
+                Made::Stopped(why) => return Made::Stopped(why),
+            }
+            if self.clock() >= limit || self.pc() == watched {
+                return Made::Quiet;
+            }
+        }
+    }
+
+    /// One turn, whose edges the list has afterwards where the answer says so.
+    #[tactic(auto, using(crate::proofs::ManyTurns::one_made, crate::proofs::ManyTurns::one_shows, crate::proofs::ManyTurns::one_takes))]
+    pub(crate) fn make_one(&mut self, edges: &mut ArrayVec<Edge, 4>) -> Made
+        requires { clock_of self.old < 2 ^ 62 }
+        ensures turn { IsMade self.old self.new edges.new.items result }
+        ensures some { HasSome edges.new.items result }
+        ensures time { TakesTime self.old self.new result }
+    {
+        self.make_turns(0, NOWHERE, edges)
+    }
+
     /// Makes one turn: where OCF1A, OCIE1A and I are set and no instruction is owed, the entry of the interrupt, else
     /// one instruction. Stopped comes exactly where there is no such turn, and leaves all unchanged.
     pub fn turn(&mut self) -> Turn
@@ -129,7 +168,7 @@ impl Console {
         ensures time { TurnTakesTime self.old self.new result }
     {
         let mut edges = ArrayVec::new();
-        match self.make(&mut edges) {
+        match self.make_one(&mut edges) {
             Made::Quiet => Turn::Took {
                 edges: ArrayVec::new(),
             },

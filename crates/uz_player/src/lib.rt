@@ -5,8 +5,6 @@
 mod counts;
 mod player;
 mod recorder;
-#[cfg(test)]
-mod tests;
 
 pub use counts::Counts;
 pub use player::{Played, Player};

@@ -3,8 +3,7 @@ use Rattle.uz_machine.specs.declared.Edge.{Edge}
 use Rattle.uz_machine.specs.PadLine.{PadHistory}
 use Rattle.uz_machine.specs.Turn.{State}
 use Rattle.uz_console.specs.Consoles.{clock_of}
-use Rattle.uz_console.specs.Runs.{RunsTo}
-use Rattle.uz_console.proofs.RunLemmas.{Quietly}
+use Rattle.uz_console.specs.Runs.{Quietly, RunsTo}
 use Rattle.uz_console.proofs.console.Console.advance.Given as goal
 
 -- the turns so far had no edges, and the clock didn't go back

@@ -1,4 +1,4 @@
-use Rattle.std.proofs.Common.{◌<◌, ◌≤◌, arith}
+use Rattle.std.proofs.Common.{◌<◌, ◌≤◌, refl, arith}
 use Rattle.uz_console.specs.Consoles.{clock_of}
 use Rattle.uz_console.proofs.ApproachLemmas.{enters, never_over, never_stopped, unentered_more, unentered_quietly}
 use Rattle.uz_console.proofs.EdgeTimes.{timed_on}
@@ -14,27 +14,61 @@ returns-in-Some-clause-run c =
 
 pub loop-edges-preserved : goal.loop-edges-preserved
 loop-edges-preserved c =
+    let made = c.in-Quiet.ensures in
     let before : clock_of c.loop-edges.self < c.args.limit = omega arith in
-    let on : clock_of c.loop-edges.self < clock_of c.make.new.self = c.in-Quiet.ensures.time.0 in
+    let there : clock_of made.mid < c.args.limit = (made.quiet).before before in
+    let since : clock_of c.loop-edges.self ≤ clock_of made.mid = (made.quiet).time in
+    let on : clock_of made.mid < clock_of c.make_turns.new.self = made.time.0 in
     record {
-      run = λ start edges run. goes_on_quietly c.loop-edges.self c.make.new.self c.args.limit c.in-Quiet.ensures.turn before start edges (c.loop-edges.invariant.run start edges run);
-      unentered = λ fits start edges run. unentered_quietly c.args.cert.now c.loop-edges.self c.make.new.self c.args.limit c.in-Quiet.ensures.turn before (c.in_default.ensures.none fits) start edges (c.loop-edges.invariant.unentered fits start edges run);
+      run = λ start edges run. goes_on_quietly made.mid c.make_turns.new.self c.args.limit made.last there start edges ((made.quiet).run start edges (c.loop-edges.invariant.run start edges run));
+      unentered = λ fits start edges run.
+          let not = c.in_default.ensures.none fits in
+          unentered_quietly c.args.cert.now made.mid c.make_turns.new.self c.args.limit made.last there ((made.quiet).unmet c.args.cert.now refl not) start edges ((made.quiet).unentered c.args.cert.now refl not start edges (c.loop-edges.invariant.unentered fits start edges run));
       time = omega arith;
     }
 
+pub loop-edges-smaller : goal.loop-edges-smaller
+loop-edges-smaller c =
+    let made = c.in-Quiet.ensures in
+    let since : clock_of c.loop-edges.self ≤ clock_of made.mid = (made.quiet).time in
+    let on : clock_of made.mid < clock_of c.make_turns.new.self = made.time.0 in
+    omega arith
+
 pub returns-in-Edges-clause-run : goal.returns-in-Edges-clause-run
 returns-in-Edges-clause-run c =
+    let made = c.in-Edges.ensures in
     let before : clock_of c.loop-edges.self < c.args.limit = omega arith in
-    λ fits start edges run. unentered_more c.args.cert.now c.loop-edges.self c.make.new.self c.args.limit c.make.new.edges.items c.in_time.result.items c.in-Edges.ensures.turn c.in_time.ensures before (c.in_default.ensures.none fits) start edges (c.loop-edges.invariant.unentered fits start edges run)
+    λ fits start edges run.
+    let not = c.in_default.ensures.none fits in
+    unentered_more c.args.cert.now made.mid c.make_turns.new.self c.args.limit c.make_turns.new.edges.items c.in_time.result.items made.last c.in_time.ensures ((made.quiet).before before) ((made.quiet).unmet c.args.cert.now refl not) start edges ((made.quiet).unentered c.args.cert.now refl not start edges (c.loop-edges.invariant.unentered fits start edges run))
 
 pub returns-in-Edges-clause-edges : goal.returns-in-Edges-clause-edges
 returns-in-Edges-clause-edges c =
-    timed_on c.args.self.now c.loop-edges.self c.make.new.self c.args.limit c.make.new.edges.items c.in_time.result.items c.loop-edges.invariant.run c.loop-edges.invariant.time c.in-Edges.ensures.turn c.in_time.ensures
+    let made = c.in-Edges.ensures in
+    let since : clock_of c.loop-edges.self ≤ clock_of made.mid = (made.quiet).time in
+    timed_on c.args.self.now made.mid c.make_turns.new.self c.args.limit c.make_turns.new.edges.items c.in_time.result.items (λ start edges run. (made.quiet).run start edges (c.loop-edges.invariant.run start edges run)) (omega arith) made.last c.in_time.ensures
+
+pub returns-in-Edges-clause-time : goal.returns-in-Edges-clause-time
+returns-in-Edges-clause-time c =
+    let made = c.in-Edges.ensures in
+    let since : clock_of c.loop-edges.self ≤ clock_of made.mid = (made.quiet).time in
+    let on : clock_of made.mid < clock_of c.make_turns.new.self = made.time.0 in
+    (omega arith, omega arith)
 
 pub returns-in-Stopped-clause-run : goal.returns-in-Stopped-clause-run
 returns-in-Stopped-clause-run c =
+    let made = c.in-Stopped.ensures in
     let before : clock_of c.loop-edges.self < c.args.limit = omega arith in
-    λ fits start edges run. never_stopped c.args.cert.now c.loop-edges.self c.make.new.self c.args.limit c.in-Stopped.why c.in-Stopped.ensures.turn.0 c.in-Stopped.ensures.turn.1 before (c.in_default.ensures.none fits) start edges (c.loop-edges.invariant.unentered fits start edges run)
+    λ fits start edges run.
+    let not = c.in_default.ensures.none fits in
+    never_stopped c.args.cert.now made.mid c.make_turns.new.self c.args.limit c.in-Stopped.why made.last.0 made.last.1 ((made.quiet).before before) ((made.quiet).unmet c.args.cert.now refl not) start edges ((made.quiet).unentered c.args.cert.now refl not start edges (c.loop-edges.invariant.unentered fits start edges run))
+
+pub returns-in-Stopped-clause-time : goal.returns-in-Stopped-clause-time
+returns-in-Stopped-clause-time c =
+    let made = c.in-Stopped.ensures in
+    let since : clock_of c.loop-edges.self ≤ clock_of made.mid = (made.quiet).time in
+    let same = made.time in
+    omega arith
 
 pub returns-clause-run : goal.returns-clause-run
 returns-clause-run c =

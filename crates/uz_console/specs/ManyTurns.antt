@@ -1,0 +1,36 @@
+-- Turns one after another, up to one with edges.
+use Rattle.std.specs.Prelude.{◌≡◌, ℕ, ◌<◌, ◌≤◌, List}
+use Rattle.uz_schedule.specs.declared.certificate.Cert.{Cert}
+use Rattle.uz_machine.specs.declared.Edge.{Edge}
+use Rattle.uz_machine.specs.PadLine.{PadHistory}
+use Rattle.uz_machine.specs.Turn.{State}
+use Rattle.uz_console.specs.declared.console.Console.{Console}
+use Rattle.uz_console.specs.declared.turn.Made.{Made}
+use Rattle.uz_console.specs.Consoles.{StandsFor, clock_of}
+use Rattle.uz_console.specs.Entry.{NotEntered}
+use Rattle.uz_console.specs.Runs.{RunsTo, Quietly}
+use Rattle.uz_console.specs.Approaches.{RunsUnentered}
+use Rattle.uz_console.specs.Turns.{IsMade, HasSome, TakesTime}
+
+-- no state that a console stands for meets the entry condition
+abbrev pub IsUnmet : Cert → Console → Type 0
+IsUnmet cert console = (s : State PadHistory) → StandsFor console s → NotEntered cert s
+
+-- Any number of turns without edges lead from one console to another: whatever run the first was part of, the other is part of it. Each
+-- begins before the limit, and the pc after it isn't the watched one, so that no entry condition of that pc is met on the way
+pub record LeadsTo (limit watched : ℕ) (first mid : Console) : Type 0 where
+  pub run : (start : State PadHistory) (edges : List Edge) → RunsTo limit start edges first → RunsTo limit start edges mid
+  pub quiet : (origin : Console) → Quietly limit origin first → Quietly limit origin mid
+  pub unmet : (cert : Cert) → cert.entry.pc ≡ watched → IsUnmet cert first → IsUnmet cert mid
+  pub unentered : (cert : Cert) → cert.entry.pc ≡ watched → IsUnmet cert first → (start : State PadHistory) (edges : List Edge) → RunsUnentered cert limit start edges first → RunsUnentered cert limit start edges mid
+  pub time : clock_of first ≤ clock_of mid
+  pub before : clock_of first < limit → clock_of mid < limit
+  pub none : limit ≤ clock_of first → mid ≡ first
+
+-- such turns, and one more of any kind
+pub record AreMade (limit watched : ℕ) (old new : Console) (edges : List Edge) (answer : Made) : Type 0 where
+  pub mid : Console
+  pub quiet : LeadsTo limit watched old mid
+  pub last : IsMade mid new edges answer
+  pub some : HasSome edges answer
+  pub time : TakesTime mid new answer
