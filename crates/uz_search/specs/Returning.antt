@@ -10,6 +10,10 @@ IsReturnOf r end = (r.clock ≡ end.clock) × (r.cells ≡ end.cells)
 abbrev pub ReturnAt : List (Option Return) → ℕ → Return → Type 0
 ReturnAt returns line r = slice_get returns line ≡ Some (Some r)
 
+-- some line has a return
+abbrev pub SomeReturn : List (Option Return) → Type 0
+SomeReturn returns = (line : ℕ) × (r : Return) × ReturnAt returns line r
+
 -- the return is noted on its line
 abbrev pub Noted : List (Option Return) → Instance → Type 0
 Noted returns end = (r : Return) × ReturnAt returns end.line r × IsReturnOf r end

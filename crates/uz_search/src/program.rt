@@ -1,6 +1,6 @@
 //! What a search is told of a program.
 
-ghost use Rattle.std.specs.Prelude.{◌≡◌, ◌<◌, ◌≤◌, ◌++◌, map, true, IfOk, OnOk, IsTrue};
+ghost use Rattle.std.specs.Prelude.{◌≡◌, ◌<◌, ◌≤◌, ◌++◌, map, true, IfOk, OnOk, IsFalse, IsTrue};
 ghost use Rattle.std.specs.List.{flat_map};
 ghost use Rattle.uz_schedule.specs.declared.kinds.Kind.TheVariants.{Main};
 ghost use Rattle.uz_schedule.specs.declared.states.Instance.{Instance};
@@ -137,7 +137,8 @@ pub(crate) fn followers(
 
 /// Whether some start is of main.
 pub(crate) fn starts_in_main(starts: &[Instance]) -> bool
-    ensures { IsTrue result → (s : Instance) × Among starts.now s × (s.kind ≡ Main) }
+    ensures some { IsTrue result → (s : Instance) × Among starts.now s × (s.kind ≡ Main) }
+    ensures none { IsFalse result → (s : Instance) → Among starts.now s → s.kind ≡ Main → ⊥ }
 {
     'each: for start in starts {
         if matches!(start.kind, Kind::Main) {

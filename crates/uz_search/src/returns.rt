@@ -1,8 +1,8 @@
 //! Where the handler returns on each line, and with which cells.
 
-ghost use Rattle.std.specs.Prelude.{◌≡◌, ◌<◌, ◌↔◌, ℕ, IsTrue, IfOk, length, slice_get};
+ghost use Rattle.std.specs.Prelude.{◌≡◌, ◌<◌, ◌↔◌, ℕ, IsFalse, IsTrue, IfOk, length, slice_get};
 ghost use Rattle.uz_search.specs.declared.returns.Return.{Return};
-ghost use Rattle.uz_search.specs.Returning.{IsReturnOf, NotesReturn, ReturnAt};
+ghost use Rattle.uz_search.specs.Returning.{IsReturnOf, NotesReturn, ReturnAt, SomeReturn};
 
 use arrayvec::ArrayVec;
 use std::alloc::AllocError;
@@ -73,7 +73,8 @@ pub(crate) fn note_return(
 
 /// Whether no return is noted.
 pub(crate) fn is_without_return(returns: &[Option<Return>]) -> bool
-    ensures { IsTrue result → (line : ℕ) (r : Return) → ReturnAt returns.now line r → ⊥ }
+    ensures none { IsTrue result → (line : ℕ) (r : Return) → ReturnAt returns.now line r → ⊥ }
+    ensures some { IsFalse result → SomeReturn returns.now }
 {
     'each: for noted in returns {
         if noted.is_some() {

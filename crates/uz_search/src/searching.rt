@@ -1,11 +1,13 @@
 //! The search.
 
 ghost use Rattle.std.specs.Prelude.{◌≡◌, ◌<◌, ◌+◌, ℕ, None, Some, IfOk, IfErr, OnOk, length, slice_get, replicate};
+ghost use Rattle.uz_schedule.specs.declared.kinds.Kind.TheVariants.{Main};
 ghost use Rattle.uz_schedule.specs.declared.states.Instance.{Instance};
 ghost use Rattle.uz_search.specs.declared.program.Program.{Program};
 ghost use Rattle.uz_search.specs.Fitting.{ProgramFits};
-ghost use Rattle.uz_search.specs.Following.{Flash};
+ghost use Rattle.uz_search.specs.Following.{Among, Flash};
 ghost use Rattle.uz_search.specs.Refusing.{Refusal};
+ghost use Rattle.uz_search.specs.Returning.{SomeReturn};
 ghost use Rattle.uz_search.specs.Searching.{IsSearchOf, IsEnded, StopHolds};
 ghost use Rattle.uz_search.specs.Trails.{ComeEarlier};
 ghost use Rattle.uz_search.specs.Visiting.{IsTree};
@@ -144,7 +146,7 @@ fn explore(alloc: Global, image: &Image, program: &Program, limit: u32) -> Resul
 
 /// Searches for the instances that a program reaches: from the starts it goes on to what follows each instance, until nothing new comes.
 ///
-/// Ok has all instances that lie on trails, fewer than `limit`. Stuck and Split come only with trails that show
+/// Ok has all instances that lie on trails, fewer than `limit`, and a return where some start is of main. Stuck and Split come only with trails that show
 /// them, Full only where `limit` distinct instances lie on trails, NoRest only where some start is of main and the instances on trails hold
 /// no return. Hint never comes. Time is linear in the instances and their results.
 pub fn search(
@@ -157,6 +159,7 @@ pub fn search(
     requires some { 0 < limit }
     ensures ended { IfOk result (IsEnded image.now program.now) }
     ensures few { IfOk result (λ s. length s.nodes.keys < limit) }
+    ensures returns { IfOk result (λ s. (x : Instance) → Among program.now.starts x → x.kind ≡ Main → SomeReturn s.returns.items) }
     ensures refusal { IfErr result (Refusal image.now program.now limit) }
 {
     let found = match explore(alloc, image, program, limit) {
