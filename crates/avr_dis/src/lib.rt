@@ -12,6 +12,3 @@ mod print;
 pub use laws::one_listing;
 pub use lines::listing;
 pub use print::print_one;
-
-#[cfg(test)]
-mod tests;

@@ -21,6 +21,3 @@ pub use faults::{MacroError, MacroWhy};
 pub use flat::Flat;
 pub use laws::expansion_is_unique;
 pub use origin::Origin;
-
-#[cfg(test)]
-mod tests;

@@ -14,6 +14,3 @@ pub use acceptance::{Accepted, Refused, check, check_counted, verdict};
 pub use laws::one_verdict;
 pub use refusal::RefusedWhy;
 pub use uz_transfer::Fail;
-
-#[cfg(test)]
-mod tests;

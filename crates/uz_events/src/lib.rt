@@ -20,15 +20,3 @@ pub fn event_of(edge: EdgeKind) -> Option<EventKind>
         EdgeKind::Leave => Some(EventKind::Leave),
     }
 }
-
-#[cfg(test)]
-mod tests {
-    use super::*;
-
-    #[test]
-    fn entries_are_no_events(rt: HostRuntime) {
-        assert_eq!(rt; event_of(EdgeKind::Sync(1)), Some(EventKind::Sync(1)));
-        assert_eq!(rt; event_of(EdgeKind::Enter(2)), None);
-        assert_eq!(rt; event_of(EdgeKind::Leave), Some(EventKind::Leave));
-    }
-}

@@ -13,6 +13,3 @@ pub use image::Image;
 pub use reading::{hex_or_fault, read_hex};
 pub use records::{Progress, RecordType};
 pub use writing::write_hex;
-
-#[cfg(test)]
-mod tests;

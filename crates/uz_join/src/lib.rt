@@ -11,6 +11,3 @@ mod joining;
 mod shape;
 
 pub use choice::joined;
-
-#[cfg(test)]
-mod tests;

@@ -6,8 +6,6 @@ mod laws;
 mod lines;
 mod pads;
 mod reading;
-#[cfg(test)]
-mod tests;
 
 pub use errors::{PadError, PadWhy};
 pub use laws::reading_is_unique;

@@ -13,8 +13,6 @@ mod pairs;
 mod products;
 mod shifts;
 mod sums;
-#[cfg(test)]
-mod tests;
 
 pub use answer::{Ranged, WideRanged};
 pub use bits::{bld, bst};

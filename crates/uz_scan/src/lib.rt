@@ -7,8 +7,6 @@
 mod records;
 mod sampler;
 mod scanner;
-#[cfg(test)]
-mod tests;
 mod tracker;
 mod whole;
 

@@ -38,6 +38,3 @@ pub use ranges::{Span, Wide, hull};
 pub use sequence::Sequence;
 pub use states::{Entry, Instance, Point, Rest};
 pub use tracked::tracks;
-
-#[cfg(test)]
-mod tests;

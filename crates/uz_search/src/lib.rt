@@ -21,6 +21,3 @@ pub use program::{Program, widened_copy};
 pub use returns::Return;
 pub use searching::search;
 pub use widening::Widening;
-
-#[cfg(test)]
-mod tests;

@@ -24,6 +24,3 @@ pub use memory_sink::MemorySink;
 pub use out_sink::OutSink;
 pub use shelf::Shelf;
 pub use sink::Sink;
-
-#[cfg(test)]
-mod tests;
