@@ -1,12 +1,13 @@
 -- The numbers of a source text: decimal, `0x` hexadecimal and `0b` binary, at most 2 ^ 63 - 1.
 use Rattle.std.specs.Prelude.{ℕ, ◌+◌, ◌-◌, ◌*◌, ◌^◌, ◌==◌, ◌&&◌, nat_le, nat_lt, Bool, true, List, [], ◌∷◌, length, drop, slice_index, Option, Some, None, if◌then◌else◌}
+use Prim.Native.Char.{code}
 
 -- what a digit of either case is worth, from 0 to 15, and 16 for a byte that is no digit
 abbrev pub digit_worth : ℕ → ℕ
 digit_worth b =
-    if nat_le 48 b && nat_le b 57 then b - 48
-    else if nat_le 97 b && nat_le b 102 then b - 87
-    else if nat_le 65 b && nat_le b 70 then b - 55
+    if nat_le (code "0") b && nat_le b (code "9") then b - code "0"
+    else if nat_le (code "a") b && nat_le b (code "f") then b - code "a" + 10
+    else if nat_le (code "A") b && nat_le b (code "F") then b - code "A" + 10
     else 16
 
 -- each byte is a digit of the base
@@ -30,6 +31,6 @@ digits_of base bs = if length bs == 0 then None else goes_on_to base 0 bs
 -- the number that a word is: the prefixes are in lower case alone
 abbrev pub number_of : List ℕ → Option ℕ
 number_of word =
-    if slice_index word 0 == 48 && slice_index word 1 == 120 then digits_of 16 (drop 2 word)
-    else if slice_index word 0 == 48 && slice_index word 1 == 98 then digits_of 2 (drop 2 word)
+    if slice_index word 0 == code "0" && slice_index word 1 == code "x" then digits_of 16 (drop 2 word)
+    else if slice_index word 0 == code "0" && slice_index word 1 == code "b" then digits_of 2 (drop 2 word)
     else digits_of 10 word

@@ -1,5 +1,6 @@
 -- The operators of expressions: how tightly they bind, and what they do.
 use Rattle.std.specs.Prelude.{ℕ, ◌==◌, ◌||◌, Bool, false, ℤ, Option, Some, None, Ok, Err, if◌then◌else◌}
+use Prim.Native.Char.{code}
 use Rattle.avr_text.specs.declared.operators.Binary.{Binary}
 use Rattle.avr_text.specs.declared.operators.Binary.TheVariants.{Or, Xor, And, Add, Subtract, Multiply, Divide, Remainder}
 use Rattle.avr_text.specs.declared.operators.Binary.TheVariants as binary
@@ -43,14 +44,14 @@ combined operator (Ok x) (Ok y) = applied_to operator x y
 -- the operator that a mark is between operands
 abbrev pub binary_mark : ℕ → Option Binary
 binary_mark b =
-    if b == 124 then Some Or
-    else if b == 94 then Some Xor
-    else if b == 38 then Some And
-    else if b == 43 then Some Add
-    else if b == 45 then Some Subtract
-    else if b == 42 then Some Multiply
-    else if b == 47 then Some Divide
-    else if b == 37 then Some Remainder
+    if b == code "|" then Some Or
+    else if b == code "^" then Some Xor
+    else if b == code "&" then Some And
+    else if b == code "+" then Some Add
+    else if b == code "-" then Some Subtract
+    else if b == code "*" then Some Multiply
+    else if b == code "/" then Some Divide
+    else if b == code "%" then Some Remainder
     else None
 
 abbrev pub binary_of : TokenKind → Option Binary
@@ -61,11 +62,11 @@ binary_of other = None
 
 -- - and ~ before an operand
 abbrev pub is_sign : TokenKind → Bool
-is_sign (Mark b) = b == 45 || b == 126
+is_sign (Mark b) = b == code "-" || b == code "~"
 is_sign other = false
 
 abbrev pub sign_value : TokenKind → ℤ → Outcome
-sign_value (Mark b) x = if b == 45 then negated_of x else if b == 126 then Ok (complement_of x) else Ok x
+sign_value (Mark b) x = if b == code "-" then negated_of x else if b == code "~" then Ok (complement_of x) else Ok x
 sign_value other x = Ok x
 
 abbrev pub sign_applied : TokenKind → Outcome → Outcome

@@ -1,5 +1,6 @@
 -- The piece that stands at the front of a text: blanks and comments, a token, or a fault.
 use Rattle.std.specs.Prelude.{ℕ, ◌+◌, ◌==◌, ◌&&◌, List, length, drop, take_while, slice_index, pos, Option, Some, None, if◌then◌else◌}
+use Prim.Native.Char.{code}
 use Rattle.std.specs.List.{prefix_len}
 use Rattle.avr_text.specs.declared.pieces.Piece.{Piece}
 use Rattle.avr_text.specs.declared.pieces.Piece.TheVariants as piece
@@ -25,12 +26,12 @@ abbrev pub other_piece : List ℕ → Piece
 other_piece text =
     let b = slice_index text 0 in
     if is_blank b then piece.Gap 1
-    else if b == 10 then piece.Token token.LineEnd 1
+    else if b == code "\n" then piece.Token token.LineEnd 1
     else if is_mark b then piece.Token (token.Mark b) 1
-    else if b == 59 then piece.Gap (1 + prefix_len goes_on_line (drop 1 text))
-    else if b == 13 && second text == 10 then piece.Gap 1
-    else if b == 60 && second text == 60 then piece.Token token.ShiftLeft 2
-    else if b == 62 && second text == 62 then piece.Token token.ShiftRight 2
+    else if b == code ";" then piece.Gap (1 + prefix_len goes_on_line (drop 1 text))
+    else if b == code "\r" && second text == code "\n" then piece.Gap 1
+    else if b == code "<" && second text == code "<" then piece.Token token.ShiftLeft 2
+    else if b == code ">" && second text == code ">" then piece.Token token.ShiftRight 2
     else piece.Fault lex_why.Byte
 
 -- the piece at the front of a text that has a byte: the longest word, the whole comment

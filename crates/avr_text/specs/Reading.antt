@@ -3,6 +3,7 @@
 -- Two stacks of the trade in one: operators wait with their left operand until one comes that binds no tighter, and
 -- parentheses until they are closed. The signs before an operand are named by the places of their tokens.
 use Rattle.std.specs.Prelude.{ℕ, ◌+◌, ◌-◌, ◌==◌, ◌||◌, nat_le, Bool, false, ℤ, List, [], ◌∷◌, length, Option, Some, None, Ok, Err, if◌then◌else◌}
+use Prim.Native.Char.{code}
 use Rattle.std.specs.List.{slice_range}
 use Rattle.std.specs.FinMap as map
 use Rattle.avr_text.specs.declared.operators.Binary.{Binary}
@@ -53,7 +54,7 @@ dot_operand (Some x) = Value (Ok x)
 
 abbrev pub mark_operand : ℕ → Option ℤ → Operand
 mark_operand b dot =
-    if b == 40 then operand.Parenthesis else if b == 46 then dot_operand dot else if is_sign (Mark b) then Sign else Nothing
+    if b == code "(" then operand.Parenthesis else if b == code "." then dot_operand dot else if is_sign (Mark b) then Sign else Nothing
 
 -- what a token is where an operand may begin
 abbrev pub kind_operand : List ℕ → TokenKind → NameMap → Option ℤ → Operand
@@ -116,11 +117,11 @@ operator_or_none (Some operator) value next s = waiting operator value next s
 
 -- a token after an operand
 abbrev pub operator_step : TokenKind → List Token → ℕ → Outcome → Reader → Reader
-operator_step kind tokens at value s = if is_mark_of 41 kind then closed tokens value s else operator_or_none (binary_of kind) value (at + 1) s
+operator_step kind tokens at value s = if is_mark_of (code ")") kind then closed tokens value s else operator_or_none (binary_of kind) value (at + 1) s
 
 -- the token after lo8 or hi8
 abbrev pub bracket_step : TokenKind → Bracket → ℕ → ℕ → ℕ → Reader → Reader
-bracket_step kind bracket from at next s = if is_mark_of 40 kind then opened bracket from at next s else in_mode mode.Refused s
+bracket_step kind bracket from at next s = if is_mark_of (code "(") kind then opened bracket from at next s else in_mode mode.Refused s
 
 abbrev pub step_in : Mode → List ℕ → List Token → NameMap → Option ℤ → ℕ → Token → Reader → Reader
 step_in (mode.Operand from) text tokens symbols dot at token s = operand_step (operand_of text token symbols dot) tokens from at s

@@ -1,5 +1,6 @@
 -- How tokens lie in a text: each is its slice, by its kind, and only gaps stand before, between and after them.
 use Rattle.std.specs.Prelude.{◌≡◌, ◌⊎◌, ℕ, ◌+◌, ◌<◌, ◌≤◌, ◌==◌, Bool, true, false, List, [], ◌∷◌, ◌++◌, length, take, drop, slice_index, count_by, pos, None, Some}
+use Prim.Native.Char.{code}
 use Rattle.std.specs.List.{slice_range}
 use Rattle.avr_text.specs.declared.tokens.TokenKind.{TokenKind}
 use Rattle.avr_text.specs.declared.tokens.TokenKind.TheVariants.{Name, Number, Mark, ShiftLeft, ShiftRight, LineEnd}
@@ -25,8 +26,8 @@ Stops test (b ∷ bs) = test b ≡ false
 pub data IsGap : List ℕ → List ℕ → Type 0 where
   gap_none : {after : List ℕ} → IsGap [] after
   gap_blank : {b : ℕ} {gap after : List ℕ} → is_blank b ≡ true → IsGap gap after → IsGap (b ∷ gap) after
-  gap_return : {gap after : List ℕ} (rest : List ℕ) → gap ++ after ≡ 10 ∷ rest → IsGap gap after → IsGap (13 ∷ gap) after
-  gap_comment : {gap after : List ℕ} (comment : List ℕ) → Each goes_on_line comment → Stops goes_on_line (gap ++ after) → IsGap gap after → IsGap (59 ∷ (comment ++ gap)) after
+  gap_return : {gap after : List ℕ} (rest : List ℕ) → gap ++ after ≡ code "\n" ∷ rest → IsGap gap after → IsGap (code "\r" ∷ gap) after
+  gap_comment : {gap after : List ℕ} (comment : List ℕ) → Each goes_on_line comment → Stops goes_on_line (gap ++ after) → IsGap gap after → IsGap (code ";" ∷ (comment ++ gap)) after
 
 -- a longest word: letters, digits and _, with none after them
 pub record IsWord (word after : List ℕ) : Type 0 where
@@ -39,13 +40,13 @@ abbrev pub IsSpelling : TokenKind → List ℕ → List ℕ → Type 0
 IsSpelling Name word after = IsWord word after × (is_digit (slice_index word 0) ≡ false)
 IsSpelling (Number n) word after = IsWord word after × (is_digit (slice_index word 0) ≡ true) × (m : ℕ) × (number_of word ≡ Some m) × (n ≡ pos m)
 IsSpelling (Mark b) word after = (is_mark b ≡ true) × (word ≡ b ∷ [])
-IsSpelling ShiftLeft word after = word ≡ 60 ∷ 60 ∷ []
-IsSpelling ShiftRight word after = word ≡ 62 ∷ 62 ∷ []
-IsSpelling LineEnd word after = word ≡ 10 ∷ []
+IsSpelling ShiftLeft word after = word ≡ code "<" ∷ code "<" ∷ []
+IsSpelling ShiftRight word after = word ≡ code ">" ∷ code ">" ∷ []
+IsSpelling LineEnd word after = word ≡ code "\n" ∷ []
 
 -- the line of a byte: 1, and one more for each LF before it
 abbrev pub line_of : List ℕ → ℕ → ℕ
-line_of text at = 1 + count_by (λ b. b == 10) (take at text)
+line_of text at = 1 + count_by (λ b. b == code "\n") (take at text)
 
 -- a token is the next one after a byte's place
 pub record IsNext (text : List ℕ) (at : ℕ) (token : Token) : Type 0 where
