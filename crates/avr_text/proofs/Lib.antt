@@ -13,3 +13,4 @@ pub mod PiecesFound
 pub mod SpansFound
 pub mod SpelledCut
 pub mod TreesAlone
+pub mod FaultsCut

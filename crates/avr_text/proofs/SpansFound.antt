@@ -64,7 +64,7 @@ module _ (text : List ℕ) where
       (record { order = omega arith; some = h.0.some; within = h.0.within; gap = gap_before at t.from word after e h.0.order more h.0.gap; spelled = h.0.spelled; line = h.0.line }, h.1)
 
   -- what a cut from a place on says
-  abbrev CutSays : ℕ → Cut → Type 0
+  abbrev pub CutSays : ℕ → Cut → Type 0
   CutSays at (Ok ts) = SpelledTo text (length text) at ts
   CutSays at (Err e) = HasFault text at e
 
@@ -142,7 +142,7 @@ module _ (text : List ℕ) where
     | inr ge ↦ ended at line ge le
   ]
 
-  cut_says : CutSays 0 (tokens_of text)
+  pub cut_says : CutSays 0 (tokens_of text)
   unfolding tokens_of
   cut_says = spans (length text) 0 1 (omega arith) (omega arith) refl
 

@@ -4,7 +4,7 @@ use Rattle.std.proofs.lemmas.Bool.Decides.{nat_tests}
 use Rattle.std.proofs.lemmas.List.{length-drop, length-take}
 use Rattle.std.proofs.lemmas.List.Sums.{take_while-cons}
 use Rattle.std.proofs.lemmas.List.Folds.{drop_split}
-use Rattle.std.specs.Prelude.{Result, Ok, ◌==◌}
+use Rattle.std.specs.Prelude.{Result, Ok, Err, ◌==◌}
 use Rattle.std.specs.List.{prefix_len, take_while, slice_range}
 use Rattle.avr_text.specs.declared.pieces.Piece.{Piece}
 use Rattle.avr_text.specs.declared.pieces.Piece.TheVariants as piece
@@ -15,9 +15,9 @@ use Rattle.avr_text.specs.declared.tokens.LexError.{LexError}
 use Rattle.avr_text.specs.Characters.{is_blank, is_word, is_mark, goes_on_line}
 use Rattle.avr_text.specs.Numbers.{number_of}
 use Rattle.avr_text.specs.Pieces.{number_piece, word_piece, other_piece, piece_at}
-use Rattle.avr_text.specs.Tokens.{with_first, line_after, cut_from, tokens_of, text_of, GivesTokens}
+use Rattle.avr_text.specs.Tokens.{Cut, with_first, line_after, cut_from, tokens_of, text_of, GivesTokens}
 use Rattle.avr_text.specs.Spans.{Each, Stops, IsGap, gap_none, gap_blank, gap_return, gap_comment, IsWord, IsSpelling, line_of, SpelledTo, IsSpelled}
-use Rattle.avr_text.proofs.Cuts.{cut_gap, cut_token, cut_end}
+use Rattle.avr_text.proofs.Cuts.{with_front, with_front_none, cut_gap, cut_token, whole}
 use Rattle.avr_text.proofs.PiecesFound.{ends, ends_append, quiet_byte, quiet, word_is_quiet, line_is_quiet, blank_is_quiet, same_line}
 use Rattle.avr_text.proofs.SpansFound.{past_bytes, line_past}
 
@@ -49,7 +49,7 @@ comment_piece : (us : List ℕ) → piece_at (59 ∷ us) ≡ piece.Gap (1 + pref
 comment_piece us = refl
 
 -- the pieces of tokens
-word_first : (word after : List ℕ) (p : Piece) → IsWord word after → word_piece word ≡ p → piece_at (word ++ after) ≡ p
+pub word_first : (word after : List ℕ) (p : Piece) → IsWord word after → word_piece word ≡ p → piece_at (word ++ after) ≡ p
 word_first [] after p w e = absurd (let some : 0 < 0 = w.some in omega arith)
 word_first (b ∷ bs) after p w e =
     ap (λ t. cond t (word_piece (take_while is_word (b ∷ (bs ++ after)))) (other_piece (b ∷ (bs ++ after)))) w.letters.0
@@ -104,6 +104,10 @@ gap_quiet _ after (gap_return {gap = gap} rest e g) = quiet_byte 13 gap refl (ga
 gap_quiet _ after (gap_comment {gap = gap} comment h s g) =
     quiet_byte 59 (comment ++ gap) refl (let a = quiet goes_on_line line_is_quiet comment h in let b = gap_quiet gap after g in let c = ends_append comment gap in let e : ends (comment ++ gap) ≡ 0 = omega arith in e)
 
+first_front : (t : Token) (ts : List Token) (c : Cut) → with_first t (with_front ts c) ≡ with_front (t ∷ ts) c
+first_front t ts (Ok more) = refl
+first_front t ts (Err fault) = refl
+
 module _ (text : List ℕ) where
   piece_gone : (at line : ℕ) (word after : List ℕ) → drop at text ≡ word ++ after → 0 < length word → piece_at (word ++ after) ≡ piece.Gap (length word) → cut_from 0 at line (drop at text) ≡ cut_from 0 (at + length word) line (drop (at + length word) text)
   piece_gone at line word after e some p = cut_gap text at line (length word) (there at word after e some) some (ap piece_at e ∙ p)
@@ -145,9 +149,13 @@ module _ (text : List ℕ) where
         is ∙ same_line (line_of text at) (ends (slice_range text at end)) q ∙ sym (line_past text at (slice_range text at end) (drop end text) parts) ∙ ap (line_of text) n,
       )
 
-  spelled_cut : (ts : List Token) (at line : ℕ) → at ≤ length text → line ≡ line_of text at → SpelledTo text (length text) at ts → cut_from 0 at line (drop at text) ≡ Ok ts
-  spelled_cut [] at line le is h = (gap_crossed at (length text) line h.0 (omega arith) h.1 is).0 ∙ cut_end text (length text) line (omega arith)
-  spelled_cut (t ∷ ts) at line le is h =
+  -- tokens and gaps up to an end are cut off, and the rest is cut from there
+  pub spelled_to : (end : ℕ) → end ≤ length text → (ts : List Token) (at line : ℕ) → line ≡ line_of text at → SpelledTo text end at ts
+      → cut_from 0 at line (drop at text) ≡ with_front ts (cut_from 0 end (line_of text end) (drop end text))
+  spelled_to end fits [] at line is h =
+      let crossed = gap_crossed at end line h.0 fits h.1 is in
+      crossed.0 ∙ ap (λ l. cut_from 0 end l (drop end text)) crossed.1 ∙ sym (with_front_none (cut_from 0 end (line_of text end) (drop end text)))
+  spelled_to end fits (t ∷ ts) at line is h =
       let next = h.0 in
       let some = next.some in
       let within = next.within in
@@ -160,15 +168,17 @@ module _ (text : List ℕ) where
       let past : line_after t.kind line ≡ line_of text t.to =
       spelled_line t.kind (text_of text t) (drop t.to text) line next.spelled ∙ ap (λ l. l + ends (text_of text t)) crossed.1
       ∙ sym (line_past text t.from (text_of text t) (drop t.to text) parts) ∙ ap (line_of text) (ap (λ k. t.from + k) len ∙ n) in
+      let rest = cut_from 0 end (line_of text end) (drop end text) in
       crossed.0
       ∙ cut_token text t.from line t.kind (t.to - t.from) (omega arith) (omega arith) front
       ∙ ap (λ m. with_first (record { kind = t.kind; line = line; from = t.from; to = m }) (cut_from 0 m (line_after t.kind line) (drop m text))) n
-      ∙ ap (with_first (record { kind = t.kind; line = line; from = t.from; to = t.to })) (spelled_cut ts t.to (line_after t.kind line) within past h.1)
-      ∙ ap (λ l. Ok (record { kind = t.kind; line = l; from = t.from; to = t.to } ∷ ts)) line_is
+      ∙ ap (with_first (record { kind = t.kind; line = line; from = t.from; to = t.to })) (spelled_to end fits ts t.to (line_after t.kind line) past h.1)
+      ∙ ap (λ l. with_first (record { kind = t.kind; line = l; from = t.from; to = t.to }) (with_front ts rest)) line_is
+      ∙ first_front t ts rest
 
-  all_cut : (ts : List Token) → IsSpelled text ts → tokens_of text ≡ Ok ts
+  pub all_cut : (ts : List Token) → IsSpelled text ts → tokens_of text ≡ Ok ts
   unfolding tokens_of
-  all_cut ts h = spelled_cut ts 0 1 (omega arith) refl h
+  all_cut ts h = spelled_to (length text) (omega arith) ts 0 1 refl h ∙ whole ts text (length text) (line_of text (length text)) (omega arith)
 
 -- no other tokens are given
 pub given_only : (text : List ℕ) (r : Result (Vec Token Global) LexError) → GivesTokens r (tokens_of text) → (ts : List Token) → IsSpelled text ts → GivesTokens r (Ok ts)

@@ -1,10 +1,11 @@
 //! Cutting a text into tokens.
 
-ghost use Rattle.std.specs.Prelude.{◌≡◌, ◌<◌, ◌-◌, ◌^◌, List, Ok, All, IfOk, IfErr, length};
+ghost use Rattle.std.specs.Prelude.{◌≡◌, ◌<◌, ◌-◌, ◌^◌, List, Ok, Err, All, IfOk, IfErr, length};
 ghost use Rattle.avr_text.specs.Tokens.{line_after as line_after_token, tokens_of, GivesTokens, Lies};
+ghost use Rattle.avr_text.specs.declared.tokens.LexError.{LexError};
 ghost use Rattle.avr_text.specs.declared.tokens.Token.{Token};
 ghost use Rattle.avr_text.specs.declared.tokens.LexWhy.TheVariants.{Memory};
-ghost use Rattle.avr_text.specs.Spans.{IsSpelled, IsFaultOf};
+ghost use Rattle.avr_text.specs.Spans.{HasFault, IsSpelled, IsFaultOf};
 
 use crate::pieces::{Piece, piece_at};
 use crate::tokens::{LexError, Token, TokenKind};
@@ -64,6 +65,7 @@ pub fn lex(alloc: Global, text: &[u8]) -> Result<Vec<Token>, LexError>
     ensures spelled { IfOk result (λ v. IsSpelled text.now v.items) }
     ensures only { (tokens : List Token) → IsSpelled text.now tokens → GivesTokens result (Ok tokens) }
     ensures fault { IfErr result (IsFaultOf text.now) }
+    ensures faulty { (fault : LexError) → HasFault text.now 0 fault → GivesTokens result (Err fault) }
 {
     cut(alloc, text)
 }

@@ -1,4 +1,5 @@
 use Rattle.avr_text.proofs.SpansFound.{given_spelled, given_fault}
+use Rattle.avr_text.proofs.FaultsCut.{given_faulty}
 use Rattle.avr_text.proofs.SpelledCut.{given_only}
 use Rattle.avr_text.proofs.lexer.lex.Goals as goal
 
@@ -10,3 +11,6 @@ returns-clause-fault c = given_fault c.args.text.now c.cut.result c.cut.ensures.
 
 pub returns-clause-only : goal.returns-clause-only
 returns-clause-only c = given_only c.args.text.now c.cut.result c.cut.ensures.tokens
+
+pub returns-clause-faulty : goal.returns-clause-faulty
+returns-clause-faulty c = given_faulty c.args.text.now c.cut.result c.cut.ensures.tokens
