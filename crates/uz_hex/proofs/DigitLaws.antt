@@ -14,8 +14,8 @@ use Rattle.hex.specs.declared.error.FromHexError.{FromHexError}
 use Rattle.uz_hex.specs.Records.{Encodes}
 use Rattle.uz_hex.specs.HexText.{Stands, IsLeast}
 use Rattle.uz_hex.specs.Reading.{counted, bytes_of, bytes_of_digits}
-use Rattle.uz_hex.specs.declared.error.HexWhy.{HexWhy}
-use Rattle.uz_hex.specs.declared.error.HexWhy.TheVariants as why
+use Rattle.uz_hex.specs.declared.errors.HexWhy.{HexWhy}
+use Rattle.uz_hex.specs.declared.errors.HexWhy.TheVariants as why
 use Rattle.uz_hex.proofs.WhyLaws.{Clear, clear_none, clear_more, is_least}
 
 -- a line behind a colon has one list of digits

@@ -9,8 +9,8 @@ use Rattle.uz_hex.specs.declared.records.RecordType.{RecordType}
 use Rattle.uz_hex.specs.declared.records.RecordType.TheVariants.{Data, EndOfFile, ExtendedSegment, StartSegment, ExtendedLinear, StartLinear}
 use Rattle.uz_hex.specs.declared.records.Progress.{Progress}
 use Rattle.uz_hex.specs.declared.records.Progress.TheVariants.{More, Ended}
-use Rattle.uz_hex.specs.declared.error.HexWhy.{HexWhy}
-use Rattle.uz_hex.specs.declared.error.HexWhy.TheVariants as why
+use Rattle.uz_hex.specs.declared.errors.HexWhy.{HexWhy}
+use Rattle.uz_hex.specs.declared.errors.HexWhy.TheVariants as why
 use Rattle.uz_hex.proofs.WhyLaws.{Clear, clear_more, is_least, nothing_stands, same_least}
 use Rattle.uz_hex.proofs.DigitLaws.{encodes_same, bytes_ok, bytes_err}
 use Rattle.uz_hex.proofs.RecordLaws.{kind_ok, kind_err, length_clear, spelled_by, counts_record, spells_read}

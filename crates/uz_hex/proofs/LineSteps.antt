@@ -10,8 +10,8 @@ use Rattle.uz_hex.specs.HexText.{trimmed, cleaned, lines_of}
 use Rattle.uz_hex.specs.Reading.{Flash, Fault, after_line, go_on, read_lines}
 use Rattle.uz_hex.specs.declared.records.Progress.{Progress}
 use Rattle.uz_hex.specs.declared.records.Progress.TheVariants.{More, Ended}
-use Rattle.uz_hex.specs.declared.error.HexWhy.{HexWhy}
-use Rattle.uz_hex.specs.declared.error.HexWhy.TheVariants as why
+use Rattle.uz_hex.specs.declared.errors.HexWhy.{HexWhy}
+use Rattle.uz_hex.specs.declared.errors.HexWhy.TheVariants as why
 
 abbrev pub is_lf : ℕ → Bool
 is_lf c = c == 10

@@ -8,8 +8,8 @@ use Rattle.std.specs.FinMap.{get, insert}
 use Rattle.uz_hex.specs.Records.{numbered, Gives}
 use Rattle.uz_hex.specs.HexText.{InFlash, Agree, Holds}
 use Rattle.uz_hex.specs.Reading.{Flash, takes, with_bytes, place}
-use Rattle.uz_hex.specs.declared.error.HexWhy.{HexWhy}
-use Rattle.uz_hex.specs.declared.error.HexWhy.TheVariants as why
+use Rattle.uz_hex.specs.declared.errors.HexWhy.{HexWhy}
+use Rattle.uz_hex.specs.declared.errors.HexWhy.TheVariants as why
 use Rattle.uz_hex.proofs.CellsLemmas.{get-insert_same, get-insert_other}
 use Rattle.uz_hex.proofs.DigitLaws.{chosen}
 

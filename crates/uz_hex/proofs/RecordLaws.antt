@@ -11,8 +11,8 @@ use Rattle.uz_hex.specs.HexText.{IsLeast}
 use Rattle.uz_hex.specs.Reading.{bytes_of, type_of, has_length, with_length, kind_of, address_of, data_of}
 use Rattle.uz_hex.specs.declared.records.RecordType.{RecordType}
 use Rattle.uz_hex.specs.declared.records.RecordType.TheVariants.{Data, EndOfFile, ExtendedSegment, StartSegment, ExtendedLinear, StartLinear}
-use Rattle.uz_hex.specs.declared.error.HexWhy.{HexWhy}
-use Rattle.uz_hex.specs.declared.error.HexWhy.TheVariants as why
+use Rattle.uz_hex.specs.declared.errors.HexWhy.{HexWhy}
+use Rattle.uz_hex.specs.declared.errors.HexWhy.TheVariants as why
 use Rattle.uz_hex.proofs.WhyLaws.{Clear, clear_more, is_least}
 use Rattle.uz_hex.proofs.DigitLaws.{chosen, encodes_same, encoded_read, short_clear}
 

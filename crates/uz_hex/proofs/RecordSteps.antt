@@ -5,7 +5,7 @@ use Rattle.hex.specs.Hex.{decode_of}
 use Rattle.hex.proofs.HexLemmas.{decode_of-ok}
 use Rattle.hex.specs.declared.error.FromHexError.{FromHexError}
 use Rattle.uz_hex.specs.Reading.{counted}
-use Rattle.uz_hex.specs.declared.error.HexWhy.TheVariants as why
+use Rattle.uz_hex.specs.declared.errors.HexWhy.TheVariants as why
 
 -- more digits than a record can have
 pub counted_long : (digits : List ℕ) → 260 < length digits / 2 → counted (decode_of digits) ≡ Err why.Short

@@ -11,8 +11,8 @@ use Rattle.uz_hex.specs.Reading.{Flash, Fault, after_line, go_on, read_lines}
 use Rattle.uz_hex.specs.declared.records.RecordType.TheVariants.{EndOfFile}
 use Rattle.uz_hex.specs.declared.records.Progress.{Progress}
 use Rattle.uz_hex.specs.declared.records.Progress.TheVariants.{More, Ended}
-use Rattle.uz_hex.specs.declared.error.HexWhy.{HexWhy}
-use Rattle.uz_hex.specs.declared.error.HexWhy.TheVariants as why
+use Rattle.uz_hex.specs.declared.errors.HexWhy.{HexWhy}
+use Rattle.uz_hex.specs.declared.errors.HexWhy.TheVariants as why
 use Rattle.uz_hex.proofs.PlaceLaws.{gives_left, gives_right, gives_either, agree_held}
 use Rattle.uz_hex.proofs.LineLaws.{Outcome, outcome, goes_on, ends, fails}
 

@@ -1,11 +1,11 @@
 -- What the answer of the reader says of the text.
 use Rattle.std.proofs.Common.{◌≡◌, ℕ, List, Result, Ok, Err, ◌⊎◌, inl, inr, sym, ap, subst, ◌∙◌}
-use Rattle.std.specs.Prelude.{IfOk, IfErr}
+use Rattle.std.specs.Prelude.{IfOk, IfErr, ◌↔◌}
 use Rattle.uz_hex.specs.HexText.{lines_of, IsHexOf, IsFirstFault}
 use Rattle.uz_hex.specs.Reading.{Flash, Fault, read_text, GivesHex}
-use Rattle.uz_hex.specs.declared.error.HexError.{HexError}
-use Rattle.uz_hex.specs.declared.error.HexWhy.{HexWhy}
-use Rattle.uz_hex.specs.declared.error.HexWhy.TheVariants as why
+use Rattle.uz_hex.specs.declared.errors.HexError.{HexError}
+use Rattle.uz_hex.specs.declared.errors.HexWhy.{HexWhy}
+use Rattle.uz_hex.specs.declared.errors.HexWhy.TheVariants as why
 use Rattle.uz_hex.proofs.TextLaws.{IsAnswer, read_is, read_made, read_faulty}
 
 pub answer_found : (text : List ℕ) (r : Result Flash HexError) → GivesHex r (read_text text) → IfOk r (λ image. IsHexOf text image)
@@ -54,3 +54,10 @@ pub one_fault : (text : List ℕ) (m n : ℕ) (v w : HexWhy) → IsFirstFault te
 one_fault text m n v w a b =
     let e : Err (m, v) ≡ Err (n, w) = sym (read_faulty (lines_of text) m v a) ∙ read_faulty (lines_of text) n w b in
     (ap (λ r. (fault_or (m, v) r).0) e, ap (λ r. (fault_or (m, v) r).1) e)
+
+-- the plain reader gives an image exactly where the text is of it, and a fault exactly where it is the first
+pub image_exact : (text : List ℕ) (image : Flash) → (read_text text ≡ Ok image) ↔ IsHexOf text image
+image_exact text image = (λ is. subst (IsAnswer (lines_of text)) is (read_is (lines_of text)), read_made (lines_of text) image)
+
+pub fault_exact : (text : List ℕ) (line : ℕ) (w : HexWhy) → (read_text text ≡ Err (line, w)) ↔ IsFirstFault text line w
+fault_exact text line w = (λ is. subst (IsAnswer (lines_of text)) is (read_is (lines_of text)), read_faulty (lines_of text) line w)

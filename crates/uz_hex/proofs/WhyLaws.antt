@@ -2,8 +2,8 @@
 use Rattle.std.proofs.Common.{◌≡◌, ℕ, suc, ◌≤◌, ◌==◌, if◌then◌else◌, List, inl, inr, refl, sym, ap, subst, ◌∙◌, arith}
 use Rattle.std.proofs.lemmas.Bool.{cases_lt}
 use Rattle.uz_hex.specs.HexText.{Stands, IsLeast, number_of}
-use Rattle.uz_hex.specs.declared.error.HexWhy.{HexWhy}
-use Rattle.uz_hex.specs.declared.error.HexWhy.TheVariants as why
+use Rattle.uz_hex.specs.declared.errors.HexWhy.{HexWhy}
+use Rattle.uz_hex.specs.declared.errors.HexWhy.TheVariants as why
 
 abbrev why_of : ℕ → HexWhy
 why_of n =

@@ -2,6 +2,7 @@
 -- Intel, Hexadecimal Object File Format Specification, revision A (1988). Line ends, blanks and blank lines, an image of
 -- 65,536 bytes, no wrapping of segmented addresses, and that a byte may be given twice are this project's profile.
 use Rattle.std.specs.Prelude.{◌≡◌, ◌≢◌, ◌↔◌, ℕ, ◌+◌, ◌-◌, ◌*◌, ◌%◌, ◌<◌, ◌≤◌, ◌==◌, ◌||◌, ◌⊎◌, Bool, false, List, [], ◌∷◌, ◌++◌, length, take, sum, slice_index, Any, Some, Ok}
+use Prim.Native.Char.{code}
 use Rattle.std.specs.List.{slice_split, suffix_len}
 use Rattle.std.specs.Str.Lines.{strip_carriage_return}
 use Rattle.std.specs.Ordering.{nat_cmp}
@@ -10,12 +11,12 @@ use Rattle.hex.specs.Hex.{decode_of, is_hex_digit}
 use Rattle.uz_hex.specs.Records.{Record, HasLength, code_of, Encodes, Spells, given, base_of, placed, Gives}
 use Rattle.uz_hex.specs.declared.records.RecordType.{RecordType}
 use Rattle.uz_hex.specs.declared.records.RecordType.TheVariants.{EndOfFile}
-use Rattle.uz_hex.specs.declared.error.HexWhy.{HexWhy}
-use Rattle.uz_hex.specs.declared.error.HexWhy.TheVariants as why
+use Rattle.uz_hex.specs.declared.errors.HexWhy.{HexWhy}
+use Rattle.uz_hex.specs.declared.errors.HexWhy.TheVariants as why
 
 -- a space or a tab
 abbrev pub is_blank : ℕ → Bool
-is_blank c = (c == 32) || (c == 9)
+is_blank c = (c == code " ") || (c == code "\t")
 
 -- a line without the blanks at its end
 abbrev pub trimmed : List ℕ → List ℕ
@@ -29,7 +30,7 @@ cleaned (line ∷ next ∷ parts) = trimmed (strip_carriage_return line) ∷ cle
 
 -- the lines of a text, one more than it has LF bytes
 abbrev pub lines_of : List ℕ → List (List ℕ)
-lines_of text = cleaned (slice_split (λ c. c == 10) text)
+lines_of text = cleaned (slice_split (λ c. c == code "\n") text)
 
 -- the lines that aren't blank spell these records, one each, and none is an end record
 abbrev pub Spelled : List (List ℕ) → List Record → Type 0
@@ -76,9 +77,9 @@ IsHexOf text image = MakesImage (lines_of text) image
 
 -- a why stands of a line, at a base, where these bytes were given before it
 abbrev pub Stands : ℕ → List (ℕ × ℕ) → List ℕ → HexWhy → Type 0
-Stands base earlier line why.NoColon = (line ≢ []) × ((digits : List ℕ) → line ≢ 58 ∷ digits)
-Stands base earlier line why.BadDigit = (digits : List ℕ) × (line ≡ 58 ∷ digits) × Any (λ c. is_hex_digit c ≡ false) digits
-Stands base earlier line why.Short = (digits : List ℕ) × (line ≡ 58 ∷ digits)
+Stands base earlier line why.NoColon = (line ≢ []) × ((digits : List ℕ) → line ≢ code ":" ∷ digits)
+Stands base earlier line why.BadDigit = (digits : List ℕ) × (line ≡ code ":" ∷ digits) × Any (λ c. is_hex_digit c ≡ false) digits
+Stands base earlier line why.Short = (digits : List ℕ) × (line ≡ code ":" ∷ digits)
     × ((length digits < 10) ⊎ ((count : ℕ) × (decode_of (take 2 digits) ≡ Ok (count ∷ [])) × (length digits ≢ 2 * (count + 5))))
 Stands base earlier line why.Sum = (bytes : List ℕ) × Encodes line bytes × (sum bytes % 256 ≢ 0)
 Stands base earlier line why.Kind = (bytes : List ℕ) × Encodes line bytes × (5 < slice_index bytes 3)

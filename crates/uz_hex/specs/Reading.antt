@@ -1,5 +1,6 @@
 -- Reading a HEX text as a function on lists: the plain, slow reader.
 use Rattle.std.specs.Prelude.{◌≡◌, ℕ, suc, ◌+◌, ◌*◌, ◌%◌, ◌==◌, ◌||◌, ◌⊎◌, nat_le, Bool, true, if◌then◌else◌, List, [], ◌∷◌, length, take, drop, sum, slice_index, Option, Some, None, Result, Ok, Err}
+use Prim.Native.Char.{code}
 use Rattle.std.specs.List.{list_all}
 use Rattle.std.specs.Ordering.{nat_cmp}
 use Rattle.std.specs.FinMap.{FinMap, empty, get, insert}
@@ -11,9 +12,9 @@ use Rattle.uz_hex.specs.declared.records.RecordType.{RecordType}
 use Rattle.uz_hex.specs.declared.records.RecordType.TheVariants.{Data, EndOfFile, ExtendedSegment, StartSegment, ExtendedLinear, StartLinear}
 use Rattle.uz_hex.specs.declared.records.Progress.{Progress}
 use Rattle.uz_hex.specs.declared.records.Progress.TheVariants.{More, Ended}
-use Rattle.uz_hex.specs.declared.error.HexWhy.{HexWhy}
-use Rattle.uz_hex.specs.declared.error.HexWhy.TheVariants as why
-use Rattle.uz_hex.specs.declared.error.HexError.{HexError}
+use Rattle.uz_hex.specs.declared.errors.HexWhy.{HexWhy}
+use Rattle.uz_hex.specs.declared.errors.HexWhy.TheVariants as why
+use Rattle.uz_hex.specs.declared.errors.HexError.{HexError}
 
 abbrev pub Flash : Type 0
 Flash = FinMap nat_cmp ℕ
@@ -30,7 +31,7 @@ bytes_of_digits digits = if list_all is_hex_digit digits then counted (decode_of
 -- the bytes of a line
 abbrev pub bytes_of : List ℕ → Result (List ℕ) HexWhy
 bytes_of [] = Err why.NoColon
-bytes_of (mark ∷ digits) = if mark == 58 then bytes_of_digits digits else Err why.NoColon
+bytes_of (mark ∷ digits) = if mark == code ":" then bytes_of_digits digits else Err why.NoColon
 
 abbrev pub type_of : ℕ → Option RecordType
 type_of code =

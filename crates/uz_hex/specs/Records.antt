@@ -1,6 +1,7 @@
 -- The records of Intel HEX: how a line spells one, and which bytes records give.
 -- Intel, Hexadecimal Object File Format Specification, revision A (1988).
 use Rattle.std.specs.Prelude.{◌≡◌, ℕ, suc, ◌+◌, ◌*◌, ◌/◌, ◌%◌, ◌⊎◌, List, [], ◌∷◌, ◌++◌, length, sum, slice_index, Ok}
+use Prim.Native.Char.{code}
 use Rattle.hex.specs.Hex.{decode_of}
 use Rattle.uz_hex.specs.declared.records.RecordType.{RecordType}
 use Rattle.uz_hex.specs.declared.records.RecordType.TheVariants.{Data, EndOfFile, ExtendedSegment, StartSegment, ExtendedLinear, StartLinear}
@@ -34,7 +35,7 @@ record_bytes r checksum = length r.bytes ∷ r.address / 256 ∷ r.address % 256
 
 -- the record mark `:`, and each byte as a pair of hexadecimal digits of either case
 abbrev pub Encodes : List ℕ → List ℕ → Type 0
-Encodes line bytes = (digits : List ℕ) × (line ≡ 58 ∷ digits) × (decode_of digits ≡ Ok bytes)
+Encodes line bytes = (digits : List ℕ) × (line ≡ code ":" ∷ digits) × (decode_of digits ≡ Ok bytes)
 
 -- a line is this record: with a checksum its bytes sum to 0 modulo 256, and its length is one that its type may have
 pub record Spells (line : List ℕ) (r : Record) : Type 0 where

@@ -1,6 +1,7 @@
 -- The Intel HEX text of an image: each run of present bytes, from its first address, in data records of 16 bytes, and the end record.
 -- Intel, Hexadecimal Object File Format Specification, revision A (1988); records of 16, upper case and LF are this project's profile.
 use Rattle.std.specs.Prelude.{◌≡◌, ℕ, ◌+◌, ◌-◌, ◌%◌, ◌≤◌, ◌==◌, ◌&&◌, nat_lt, Bool, if◌then◌else◌, List, [], ◌∷◌, ◌++◌, length, sum, codes}
+use Prim.Native.Char.{code}
 use Rattle.std.specs.List.{flat_map, AllByRecursion}
 use Rattle.std.specs.Ordering.{nat_cmp}
 use Rattle.std.specs.FinMap.{FinMap, entries}
@@ -60,10 +61,10 @@ checksum_of r = (256 - sum (record_bytes r 0) % 256) % 256
 
 -- a record's line: the colon, and the digit pairs of its bytes in upper case
 abbrev pub line_of : Record → List ℕ
-line_of r = 58 ∷ encode_upper (record_bytes r (checksum_of r))
+line_of r = code ":" ∷ encode_upper (record_bytes r (checksum_of r))
 
 abbrev pub with_lf : List ℕ → List ℕ
-with_lf line = line ++ 10 ∷ []
+with_lf line = line ++ code "\n" ∷ []
 
 abbrev pub lines_text : List Record → List ℕ
 lines_text records = flat_map (λ r. with_lf (line_of r)) records

@@ -1,16 +1,18 @@
 //! The flash image of a Uzebox program, and Intel HEX, the text in which it is kept.
 #![tactic(auto)]
 
-mod error;
+mod errors;
 mod image;
+mod laws;
 mod lines;
 mod reading;
 mod records;
 mod writing;
 
-pub use error::{HexError, HexWhy};
+pub use errors::{HexError, HexWhy};
 pub use image::Image;
-pub use reading::{hex_or_fault, read_hex};
+pub use laws::{hex_or_fault, reader_is_exact};
+pub use reading::read_hex;
 pub use records::{Progress, RecordType};
 pub use writing::write_hex;
 

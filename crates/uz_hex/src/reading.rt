@@ -4,11 +4,11 @@ ghost use Rattle.std.specs.Prelude.{◌≡◌, ℕ, ◌⊎◌, Ok, Err, ◌<◌,
 ghost use Rattle.uz_hex.specs.Records.{value_of as value_of_bytes};
 ghost use Rattle.uz_hex.specs.Reading.{takes as cell_takes, has_length, with_bytes, place as placed_in, after_record, after_line as line_goes_on, read_text as text_read, GivesHex};
 ghost use Rattle.uz_hex.specs.HexText.{IsHexOf, IsFirstFault};
-ghost use Rattle.uz_hex.specs.declared.error.HexWhy.{HexWhy};
+ghost use Rattle.uz_hex.specs.declared.errors.HexWhy.{HexWhy};
 ghost use Rattle.std.specs.FinMap.{FinMap};
 ghost use Rattle.std.specs.Ordering.{nat_cmp};
 
-use crate::error::{HexError, HexWhy};
+use crate::errors::{HexError, HexWhy};
 use crate::image::Image;
 use crate::lines::{line_length, without_blanks, without_return};
 use crate::records::{Progress, RECORD_BYTES, RecordType, decode_line, kind_of};
@@ -162,15 +162,4 @@ pub fn read_hex(alloc: Global, text: &[u8]) -> Result<Image, HexError>
     ensures exact { GivesHex result (text_read text.now) }
 {
     read_text(alloc, text)
-}
-
-/// The law that each text is Intel HEX of one image or has one first fault, and never both. Does
-/// nothing.
-pub fn hex_or_fault(text: &[u8])
-    ensures either { ((image : FinMap nat_cmp ℕ) × IsHexOf text.now image) ⊎ ((line : ℕ) × (why : HexWhy) × IsFirstFault text.now line why) }
-    ensures one_image { (a b : FinMap nat_cmp ℕ) → IsHexOf text.now a → IsHexOf text.now b → a ≡ b }
-    ensures one_fault { (m n : ℕ) (v w : HexWhy) → IsFirstFault text.now m v → IsFirstFault text.now n w → (m ≡ n) × (v ≡ w) }
-    ensures not_both { (image : FinMap nat_cmp ℕ) (line : ℕ) (why : HexWhy) → IsHexOf text.now image → IsFirstFault text.now line why → ⊥ }
-{
-    let _ = text;
 }

@@ -5,7 +5,7 @@ ghost use Rattle.std.specs.List.{list_all};
 ghost use Rattle.hex.specs.Hex.{is_hex_digit, decode_of};
 ghost use Rattle.uz_hex.specs.Reading.{bytes_of, bytes_of_digits, counted, type_of as type_of_code, has_length as length_fits, kind_of as kind_of_bytes};
 
-use crate::error::HexWhy;
+use crate::errors::HexWhy;
 
 /// What a record is, by its record type, 00 to 05.
 #[derive(Clone, Copy, Debug, PartialEq, Eq)]

@@ -81,7 +81,7 @@ fn each_text_gives_its_image_or_first_fault(rt: HostRuntime) -> Result<(), Fail>
     for (text, wanted) in cases {
         let text = text.as_bytes();
         assert!(rt; text.len() < 1000);
-        hex_or_fault(text);
+        hex_or_fault();
         match (read_hex(rt.alloc(), text), wanted) {
             (Ok(image), Ok(bytes)) => {
                 assert_eq!(rt; image.count() as usize, bytes.len());

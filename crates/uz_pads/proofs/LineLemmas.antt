@@ -39,7 +39,7 @@ pads_in-append [] ys = refl
 pads_in-append (x ∷ xs) ys = ap (λ pads. pads_of (kind_of x) ++ pads) (pads_in-append xs ys) ∙ sym (append_assoc (pads_of (kind_of x)) (pads_in xs) (pads_in ys))
 
 -- one more line
-more_read : (earlier : List (List ℕ)) (line : List ℕ) (pads more : List Pad) → IsRead earlier pads → pads_of (kind_of line) ≡ more → is_well_formed (kind_of line) ≡ true →
+pub more_read : (earlier : List (List ℕ)) (line : List ℕ) (pads more : List Pad) → IsRead earlier pads → pads_of (kind_of line) ≡ more → is_well_formed (kind_of line) ≡ true →
     length (pads ++ more) ≤ 65536 → IsRead (earlier ++ line ∷ []) (pads ++ more)
 more_read earlier line pads more h e w few =
     let all : pads_in (earlier ++ line ∷ []) ≡ pads ++ more =

@@ -3,7 +3,7 @@ use Rattle.std.proofs.Common.{◌≡◌, ◌⊎◌, refl, inl, inr, ℕ, ◌≤�
 use Rattle.std.specs.Prelude.{Option, Err}
 use Rattle.uz_shelf.specs.Files.{FileMap, HoldsFile}
 use Rattle.uz_hex.specs.Reading.{GivesHex, read_text}
-use Rattle.uz_hex.specs.declared.error.HexError.{HexError}
+use Rattle.uz_hex.specs.declared.errors.HexError.{HexError}
 use Rattle.uz_top.specs.declared.ending.Failure.{Failure}
 use Rattle.uz_top.specs.declared.ending.Failure.TheVariants.{Unread as UnreadFile, BadInput as BadFile, Memory as NoRoom}
 use Rattle.uz_top.specs.declared.status.Status.TheVariants.{Unread, BadInput}

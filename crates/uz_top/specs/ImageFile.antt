@@ -1,9 +1,9 @@
 -- What a HEX file says: an image, or its first faulty line and why.
 use Rattle.std.specs.Prelude.{◌≡◌, ◌≢◌, ℕ, List, codes, Result, Ok, Err}
 use Rattle.uz_hex.specs.Reading.{Flash, read_text}
-use Rattle.uz_hex.specs.declared.error.HexWhy.{HexWhy}
-use Rattle.uz_hex.specs.declared.error.HexWhy.TheVariants.{NoColon, BadDigit, Short, Sum, Kind, Length, Range, Conflict, NoEnd, Memory}
-use Rattle.uz_hex.specs.declared.error.HexError.{HexError}
+use Rattle.uz_hex.specs.declared.errors.HexWhy.{HexWhy}
+use Rattle.uz_hex.specs.declared.errors.HexWhy.TheVariants.{NoColon, BadDigit, Short, Sum, Kind, Length, Range, Conflict, NoEnd, Memory}
+use Rattle.uz_hex.specs.declared.errors.HexError.{HexError}
 use Rattle.uz_top.specs.declared.status.Status.TheVariants.{BadInput}
 use Rattle.uz_top.specs.Answers.{Answer, one_line}
 use Rattle.uz_top.specs.Lines.{bad_line}

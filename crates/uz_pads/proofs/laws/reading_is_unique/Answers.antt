@@ -1,5 +1,8 @@
-use Rattle.uz_pads.proofs.ReadingLaws.{one_list, one_fault, read_or_faulty}
+use Rattle.uz_pads.proofs.ReadingLaws.{read_or_fault, one_list, one_fault, read_or_faulty}
 use Rattle.uz_pads.proofs.laws.reading_is_unique.Goals as goal
+
+pub returns-clause-either : goal.returns-clause-either
+returns-clause-either c = read_or_fault
 
 pub returns-clause-list : goal.returns-clause-list
 returns-clause-list c = one_list

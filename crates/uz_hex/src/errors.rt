@@ -36,7 +36,7 @@ pub struct HexError {
 
 impl From<AllocError> for HexError {
     ghost use Rattle.std.specs.Prelude.{◌≡◌};
-    ghost use Rattle.uz_hex.specs.declared.error.HexWhy.TheVariants.{Memory};
+    ghost use Rattle.uz_hex.specs.declared.errors.HexWhy.TheVariants.{Memory};
 
     ghost from_gives = { λ _ e. e.why ≡ Memory };
 
