@@ -37,11 +37,11 @@ with_symbols_keeps : (address : ℕ) (o : Outcome NameMap) (next : Place) → wi
 with_symbols_keeps address (Ok symbols) next e = let same : record { address = address; symbols = symbols } ≡ next = ok_same (record { address = address; symbols = symbols }) next e in sym (ap (λ (p : Place). p.address) same)
 with_symbols_keeps address (Err fault) next e = absurd cc
 
-label_keeps : (label : Option (List ℕ)) (place next : Place) → labelled label place ≡ Ok next → next.address ≡ place.address
+pub label_keeps : (label : Option (List ℕ)) (place next : Place) → labelled label place ≡ Ok next → next.address ≡ place.address
 label_keeps None place next e = let same : place ≡ next = ok_same place next e in sym (ap (λ (p : Place). p.address) same)
 label_keeps (Some name) place next e = with_symbols_keeps place.address (defined name (pos place.address) place.symbols) next e
 
-name_keeps : (effect : Effect) (name : List ℕ) (place next : Place) → named effect name place ≡ Ok next → next.address ≡ place.address
+pub name_keeps : (effect : Effect) (name : List ℕ) (place next : Place) → named effect name place ≡ Ok next → next.address ≡ place.address
 name_keeps (Define value) name place next e = with_symbols_keeps place.address (defined name value place.symbols) next e
 name_keeps Nothing name place next e = let same : place ≡ next = ok_same place next e in sym (ap (λ (p : Place). p.address) same)
 name_keeps (Move to) name place next e = let same : place ≡ next = ok_same place next e in sym (ap (λ (p : Place). p.address) same)

@@ -18,3 +18,7 @@ pub mod KeptEffects
 pub mod AddressLaws
 pub mod Statements
 pub mod ExactAssembly
+pub mod FirstPassFaults
+pub mod FirstPassRuns
+pub mod SecondPassFaults
+pub mod FirstFaults

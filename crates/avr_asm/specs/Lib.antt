@@ -2,6 +2,7 @@ pub mod Assembly
 pub mod Codes
 pub mod Directives
 pub mod Emission
+pub mod FirstFault
 pub mod Hints
 pub mod Items
 pub mod Layout

@@ -1,17 +1,39 @@
 //! Laws of what a source assembles to.
 
-ghost use Rattle.std.specs.Prelude.{◌≡◌, ℕ, ◌+◌, List, ◌∷◌, ◌++◌, Ok};
+ghost use Rattle.std.specs.Prelude.{◌≡◌, ◌↔◌, ◌⊎◌, ℕ, ◌+◌, List, ◌∷◌, ◌++◌, Ok, Err};
 ghost use Rattle.avr_asm.specs.Assembly.{Output, assembly};
+ghost use Rattle.avr_asm.specs.FirstFault.{IsFirstFault};
 ghost use Rattle.avr_asm.specs.Relation.{Statement, end_of, HaveNoOrigin, length_of, IsAssembly};
+ghost use Rattle.avr_asm.specs.declared.faults.AsmError.{AsmError};
 ghost use Rattle.avr_asm.specs.declared.first_pass.Effect.TheVariants.{Move};
+ghost use Rattle.avr_operands.specs.declared.faults.AsmWhy.{AsmWhy};
 
 use avr_operands::name_gives_word_count;
+use avr_text::value_is_kept;
 
-/// The law that what stands in the relation of a source is what the source assembles to. So `assemble` answers an image,
-/// items and hints exactly where some stand in the relation, unless memory runs out. Does nothing.
+/// The law that the plain definition in two passes gives an assembly exactly where it stands in the relation of the source.
+/// Does nothing.
 pub fn assembly_is_exact()
-    ensures { (text : List ℕ) (out : Output) → IsAssembly text out → assembly text ≡ Ok out }
+    ensures { (text : List ℕ) (out : Output) → (assembly text ≡ Ok out) ↔ IsAssembly text out }
 {
+    value_is_kept();
+    name_gives_word_count();
+}
+
+/// The law that the plain definition refuses a source exactly for its first fault. Does nothing.
+pub fn fault_is_exact()
+    ensures { (text : List ℕ) (fault : AsmError) → (assembly text ≡ Err fault) ↔ IsFirstFault text fault.line fault.why }
+{
+    name_gives_word_count();
+}
+
+/// The law that each source is assembled or has one first fault, and never both. Does nothing.
+pub fn source_or_fault()
+    ensures either { (text : List ℕ) → ((out : Output) × IsAssembly text out) ⊎ ((line : ℕ) × (why : AsmWhy) × IsFirstFault text line why) }
+    ensures one_fault { (text : List ℕ) (m n : ℕ) (v w : AsmWhy) → IsFirstFault text m v → IsFirstFault text n w → (m ≡ n) × (v ≡ w) }
+    ensures not_both { (text : List ℕ) (out : Output) (line : ℕ) (why : AsmWhy) → IsAssembly text out → IsFirstFault text line why → ⊥ }
+{
+    value_is_kept();
     name_gives_word_count();
 }
 

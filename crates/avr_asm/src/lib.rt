@@ -15,6 +15,9 @@ mod output;
 pub use assembler::assemble;
 pub use avr_operands::AsmWhy;
 pub use faults::AsmError;
-pub use laws::{address_is_origin_and_lengths, assembly_is_exact, assembly_is_unique};
+pub use laws::{
+    address_is_origin_and_lengths, assembly_is_exact, assembly_is_unique, fault_is_exact,
+    source_or_fault,
+};
 pub use layout::predefined;
 pub use output::{Built, Hint, Placed};

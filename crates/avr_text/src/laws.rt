@@ -22,6 +22,6 @@ pub fn value_is_kept()
 {}
 
 /// The law that tokens spell at most one expression. Does nothing.
-pub fn one_expression()
+pub fn expression_is_unique()
     ensures { (text : List ℕ) (tokens : List Token) (dot : Option ℤ) (x y : Tree) → IsExpressionOf text dot tokens x → IsExpressionOf text dot tokens y → x ≡ y }
 {}

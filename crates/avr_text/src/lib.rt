@@ -15,7 +15,7 @@ mod values;
 mod waiting;
 mod words;
 
-pub use laws::{one_expression, tokens_are_exact, value_is_kept};
+pub use laws::{expression_is_unique, tokens_are_exact, value_is_kept};
 pub use lexer::lex;
 pub use reader::text_of;
 pub use symbols::Symbols;

@@ -1,5 +1,5 @@
-use Rattle.avr_asm.proofs.ExactAssembly.{exact_assembly}
+use Rattle.avr_asm.proofs.FirstFaults.{assembly_exact}
 use Rattle.avr_asm.proofs.laws.assembly_is_exact.Goals as goal
 
 pub returns : goal.returns
-returns c = exact_assembly c.name_gives_word_count.ensures
+returns c = assembly_exact c.value_is_kept.ensures c.name_gives_word_count.ensures
