@@ -8,11 +8,10 @@ ghost use Rattle.uz_debug.specs.Sessions.{IsInRange};
 
 mod draw;
 mod plain;
-mod random;
 
 use anyhow::Result;
+use drawn_numbers::Random;
 use plain::{Plain, pads};
-use random::Random;
 use std::alloc::Global;
 use uz_console::Response;
 use uz_debug::{Command, Debugger, session_text};

@@ -1,0 +1,6 @@
+//! Numbers that tests draw.
+#![tactic(auto)]
+
+mod random;
+
+pub use random::Random;
