@@ -1,24 +1,27 @@
 -- What holds of every command.
 use Rattle.std.proofs.Common.{◌≡◌, ◌≢◌, ◌⊎◌, inl, inr, sym, subst, ap, ◌∙◌}
-use Rattle.std.specs.Prelude.{Option, Some, None, IfSome}
+use Rattle.std.specs.Prelude.{Option, Some, None, IfSome, Result, Err}
 use Rattle.uz_shelf.specs.Files.{FileMap}
-use Rattle.uz_top.specs.declared.status.Status.{Status}
-use Rattle.uz_top.specs.declared.status.Status.TheVariants as status
-use Rattle.uz_top.specs.Answers.{Answer, Outside, ComesTo, Outcome}
+use Rattle.uz_schedule.specs.declared.certificate.Cert.{Cert}
+use Rattle.uz_search.specs.declared.found.NotFound.{NotFound}
+use Rattle.uz_search.specs.declared.found.NotFound.TheVariants.{Memory as NoRoomToSearch}
+use Rattle.uz_files.specs.declared.status.Status.{Status}
+use Rattle.uz_files.specs.declared.status.Status.TheVariants as status
+use Rattle.uz_files.specs.Answers.{Answer, Ends, Outside, Outcome}
 use Rattle.uz_top.specs.Words.{Command, Asm, Build, Certify, Check, Debug, Dis, Expand, Play, Trace}
-use Rattle.uz_top.specs.Commands.{Answers, IsDecided, LacksRead, PartAnswers, Succeeds}
-use Rattle.uz_top.proofs.OutcomeLemmas.{came_from, from_answer, unwritten_by, exact_by}
-use Rattle.uz_top.proofs.TraceAnswerLemmas.{trace_status, trace_done}
-use Rattle.uz_top.proofs.TraceSameLemmas.{trace_same}
-use Rattle.uz_top.proofs.MacroLemmas.{OneEnd, build_done, build_status, expand_done, expand_status, flat_same}
-use Rattle.uz_top.specs.MacroCommands.{build_answer, expand_answer}
-use Rattle.uz_top.proofs.PlayLemmas.{play_status}
-use Rattle.uz_top.proofs.PlaySameLemmas.{play_done, play_same}
-use Rattle.uz_top.proofs.DebugLemmas.{debug_status, debug_same, debug_done}
-use Rattle.uz_top.proofs.AsmLemmas.{asm_done_answer, asm_same, asm_status}
-use Rattle.uz_top.proofs.DisLemmas.{dis_status, dis_same, dis_done}
-use Rattle.uz_top.proofs.CertifyLemmas.{certify_always, certify_status}
-use Rattle.uz_top.proofs.CheckLemmas.{check_status, check_same, check_done}
+use Rattle.uz_top.specs.Commands.{AllowedFor, Answers, AnswersBy, IsDecided, LacksRead, PartAnswers, Succeeds}
+use Rattle.uz_files.proofs.OutcomeLemmas.{came_from, from_answer, unwritten_by}
+use Rattle.uz_run_commands.proofs.TraceAnswerLemmas.{trace_status, trace_done}
+use Rattle.uz_run_commands.proofs.TraceSameLemmas.{trace_or_fault, trace_same}
+use Rattle.uz_source_commands.proofs.MacroLemmas.{OneEnd, build_done, build_status, expand_done, expand_status, flat_or_fault, flat_same}
+use Rattle.uz_source_commands.specs.MacroCommands.{build_answer, expand_answer}
+use Rattle.uz_play_command.proofs.PlayLemmas.{play_status}
+use Rattle.uz_play_command.proofs.PlaySameLemmas.{play_done, play_or_fault, play_same}
+use Rattle.uz_run_commands.proofs.DebugLemmas.{debug_status, debug_or_fault, debug_same, debug_done}
+use Rattle.uz_source_commands.proofs.AsmLemmas.{asm_done_answer, asm_or_fault, asm_same, asm_status}
+use Rattle.uz_source_commands.proofs.DisLemmas.{dis_status, dis_or_fault, dis_same, dis_done}
+use Rattle.uz_certify_command.proofs.CertifyLemmas.{certify_always, certify_decided, certify_or_fault, certify_status}
+use Rattle.uz_check_command.proofs.CheckLemmas.{check_status, check_or_fault, check_same, check_done}
 
 never_usage : (files : Option FileMap) (load_fault : Type 0) (c : Command) (answer : Answer) → Answers files load_fault c answer → answer.status ≢ status.Usage
 never_usage files load_fault (Check hex cert) answer h is =
@@ -206,16 +209,62 @@ unread_cause files load_fault (Certify source irq hex cert) answer h is =
       | inr (inr (inr e)) ↦ absurd (cc (e, is))
     ]
 
-same_answers : (one : OneEnd) (files : FileMap) (load_fault : Type 0) (c : Command) (a b : Answer) → IsDecided c → Answers (Some files) load_fault c a → Answers (Some files) ⊥ c b → (a ≡ b) ⊎ load_fault
-same_answers one files load_fault (Check hex cert) a b decided p q = check_same files load_fault hex cert a b p q
-same_answers one files load_fault (Dis hex) a b decided p q = dis_same files load_fault hex a b p q
-same_answers one files load_fault (Asm source hex) a b decided p q = asm_same files load_fault source hex a b p q
-same_answers one files load_fault (Expand source flat) a b decided p q = flat_same one files load_fault source (expand_answer flat) a b p q
-same_answers one files load_fault (Build source hex) a b decided p q = flat_same one files load_fault source (build_answer hex) a b p q
-same_answers one files load_fault (Trace hex pads irq clocks) a b decided p q = trace_same files load_fault hex pads irq clocks a b p q
-same_answers one files load_fault (Play hex cert pads clocks frames) a b decided p q = play_same files load_fault hex cert pads clocks frames a b p q
-same_answers one files load_fault (Debug hex pads irq script) a b decided p q = debug_same files load_fault hex pads irq script a b p q
-same_answers one files load_fault (Certify source irq hex cert) a b decided p q = absurd decided
+-- no certificate is searched
+abbrev NoSearch : Command → Type 0
+NoSearch (Certify source irq hex cert) = ⊥
+NoSearch other = Unit {0}
+
+same_answers : (one : OneEnd) (files : FileMap) (found : Result Cert NotFound) (c : Command) (a b : Answer) → NoSearch c → Answers (Some files) ⊥ c a → AnswersBy (Some files) found c b → (a ≡ b) ⊎ ⊥
+same_answers one files found (Check hex cert) a b none p q = check_same files ⊥ hex cert a b p q
+same_answers one files found (Dis hex) a b none p q = dis_same files ⊥ hex a b p q
+same_answers one files found (Asm source hex) a b none p q = asm_same files ⊥ source hex a b p q
+same_answers one files found (Expand source flat) a b none p q = flat_same one files ⊥ source (expand_answer flat) a b p q
+same_answers one files found (Build source hex) a b none p q = flat_same one files ⊥ source (build_answer hex) a b p q
+same_answers one files found (Trace hex pads irq clocks) a b none p q = trace_same files ⊥ hex pads irq clocks a b p q
+same_answers one files found (Play hex cert pads clocks frames) a b none p q = play_same files ⊥ hex cert pads clocks frames a b p q
+same_answers one files found (Debug hex pads irq script) a b none p q = debug_same files ⊥ hex pads irq script a b p q
+same_answers one files found (Certify source irq hex cert) a b none p q = absurd none
+
+-- loading met a fault, or none is needed for the answer
+answers_or_fault : (files : Option FileMap) (load_fault : Type 0) (c : Command) (answer : Answer) → Answers files load_fault c answer → load_fault ⊎ Answers files ⊥ c answer
+answers_or_fault files load_fault (Check hex cert) answer h = check_or_fault files load_fault hex cert answer h
+answers_or_fault files load_fault (Dis hex) answer h = dis_or_fault files load_fault hex answer h
+answers_or_fault files load_fault (Asm source hex) answer h = asm_or_fault files load_fault source hex answer h
+answers_or_fault files load_fault (Expand source flat) answer h = flat_or_fault files load_fault source (expand_answer flat) answer h
+answers_or_fault files load_fault (Build source hex) answer h = flat_or_fault files load_fault source (build_answer hex) answer h
+answers_or_fault files load_fault (Trace hex pads irq clocks) answer h = trace_or_fault files load_fault hex pads irq clocks answer h
+answers_or_fault files load_fault (Play hex cert pads clocks frames) answer h = play_or_fault files load_fault hex cert pads clocks frames answer h
+answers_or_fault files load_fault (Debug hex pads irq script) answer h = debug_or_fault files load_fault hex pads irq script answer h
+answers_or_fault files load_fault (Certify source irq hex cert) answer h = certify_or_fault files load_fault source irq hex cert answer h
+
+-- an answer without a fault of loading is the one that is decided
+
+no_search : (one : OneEnd) (files : FileMap) (c : Command) (answer : Answer) (came : Status) (old new : Outside) → NoSearch c → AllowedFor (Some files) c (Err NoRoomToSearch) → Answers (Some files) ⊥ c answer → Ends answer came old new → IsDecided (Some files) c came old new
+no_search one files c answer came old new none allowed h ends = record {
+  found = Err NoRoomToSearch;
+  allowed = allowed;
+  decided = λ wanted q. by_same wanted (same_answers one files (Err NoRoomToSearch) c answer wanted none h q);
+}
+  where
+    by_same : (wanted : Answer) → (answer ≡ wanted) ⊎ ⊥ → Ends wanted came old new
+    by_same wanted (inl same) = subst (λ a. Ends a came old new) same ends
+
+decided_by : (one : OneEnd) (files : FileMap) (c : Command) (answer : Answer) (came : Status) (old new : Outside) → Answers (Some files) ⊥ c answer → Ends answer came old new → IsDecided (Some files) c came old new
+decided_by one files (Check hex cert) answer came old new = no_search one files (Check hex cert) answer came old new tt tt
+decided_by one files (Dis hex) answer came old new = no_search one files (Dis hex) answer came old new tt tt
+decided_by one files (Asm source hex) answer came old new = no_search one files (Asm source hex) answer came old new tt tt
+decided_by one files (Expand source flat) answer came old new = no_search one files (Expand source flat) answer came old new tt tt
+decided_by one files (Build source hex) answer came old new = no_search one files (Build source hex) answer came old new tt tt
+decided_by one files (Trace hex pads irq clocks) answer came old new = no_search one files (Trace hex pads irq clocks) answer came old new tt tt
+decided_by one files (Play hex cert pads clocks frames) answer came old new = no_search one files (Play hex cert pads clocks frames) answer came old new tt tt
+decided_by one files (Debug hex pads irq script) answer came old new = no_search one files (Debug hex pads irq script) answer came old new tt tt
+decided_by one files (Certify source irq hex cert) answer came old new = λ h ends.
+    let d = certify_decided files source irq hex cert answer h in
+    record {
+      found = d.found;
+      allowed = d.allowed;
+      decided = λ wanted q. subst (λ a. Ends a came old new) (d.decided wanted q) ends;
+    }
 
 -- an answer that is this one, or loading met a fault
 done_as : (load_fault : Type 0) (answer wanted : Answer) → (answer ≡ wanted) ⊎ load_fault → wanted.status ≡ status.Done → (load_fault → ⊥) → answer.status ≡ status.Done
@@ -264,8 +313,17 @@ module _ (files : Option FileMap) (load_fault write_fault : Type 0) (c : Command
   unwritten = unwritten_by (Answers files load_fault c) (PartAnswers files c) write_fault came old new (never_unwritten files load_fault c)
 
 module _ (one : OneEnd) (told : FileMap) (load_fault write_fault : Type 0) (c : Command) (came : Status) (old new : Outside) where
-  exact : Outcome (Answers (Some told) load_fault c) (PartAnswers (Some told) c) write_fault came old new → IsDecided c → (wanted : Answer) → Answers (Some told) ⊥ c wanted → ComesTo wanted load_fault write_fault came old new
-  exact h decided wanted q = exact_by (Answers (Some told) load_fault c) (PartAnswers (Some told) c) write_fault came old new load_fault wanted (λ answer p. same_answers one told load_fault c answer wanted decided p q) h
+  exact : Outcome (Answers (Some told) load_fault c) (PartAnswers (Some told) c) write_fault came old new → (came ≡ status.NoMemory) ⊎ (load_fault ⊎ (((came ≡ status.Unwritten) × write_fault) ⊎ IsDecided (Some told) c came old new))
+  exact h =
+      elim (came_from (Answers (Some told) load_fault c) (PartAnswers (Some told) c) write_fault came old new h) [
+        | inl none ↦ inl none
+        | inr (inl cut) ↦ inr (inr (inl cut))
+        | inr (inr given) ↦ ended given.0 given.2 (answers_or_fault (Some told) load_fault c given.0 given.1)
+      ]
+    where
+      ended : (answer : Answer) → Ends answer came old new → load_fault ⊎ Answers (Some told) ⊥ c answer → (came ≡ status.NoMemory) ⊎ (load_fault ⊎ (((came ≡ status.Unwritten) × write_fault) ⊎ IsDecided (Some told) c came old new))
+      ended answer ends (inl fault) = inr (inl fault)
+      ended answer ends (inr free) = inr (inr (inr (decided_by one told c answer came old new free ends)))
 
   complete : Outcome (Answers (Some told) load_fault c) (PartAnswers (Some told) c) write_fault came old new → Succeeds (Some told) c → (load_fault → ⊥) → (write_fault → ⊥) → (came ≡ status.Done) ⊎ (came ≡ status.NoMemory)
   complete h well loads writes =
@@ -278,13 +336,17 @@ module _ (one : OneEnd) (told : FileMap) (load_fault write_fault : Type 0) (c : 
 pub outcome_at : (k l : Command) (files : Option FileMap) (load_fault write_fault : Type 0) (came : Status) (old new : Outside) → k ≡ l → Outcome (Answers files load_fault l) (PartAnswers files l) write_fault came old new → Outcome (Answers files load_fault k) (PartAnswers files k) write_fault came old new
 outcome_at k l files load_fault write_fault came old new same h = subst (λ c. Outcome (Answers files load_fault c) (PartAnswers files c) write_fault came old new) (sym same) h
 
-exact_told : (one : OneEnd) (files : Option FileMap) (load_fault write_fault : Type 0) (c : Command) (came : Status) (old new : Outside) → Outcome (Answers files load_fault c) (PartAnswers files c) write_fault came old new → IfSome files (λ told. IsDecided c → (wanted : Answer) → Answers files ⊥ c wanted → ComesTo wanted load_fault write_fault came old new)
+abbrev Exact : Command → Option FileMap → Type 0 → Type 0 → Status → Outside → Outside → Type 0
+Exact c files load_fault write_fault came old new =
+    IfSome files (λ told. (came ≡ status.NoMemory) ⊎ (load_fault ⊎ (((came ≡ status.Unwritten) × write_fault) ⊎ IsDecided files c came old new)))
+
+exact_told : (one : OneEnd) (files : Option FileMap) (load_fault write_fault : Type 0) (c : Command) (came : Status) (old new : Outside) → Outcome (Answers files load_fault c) (PartAnswers files c) write_fault came old new → Exact c files load_fault write_fault came old new
 exact_told one None load_fault write_fault c came old new h = tt
 exact_told one (Some told) load_fault write_fault c came old new h = exact one told load_fault write_fault c came old new h
 
-pub exact_in : (one : OneEnd) (o : Option Command) (c : Command) (files : Option FileMap) (load_fault write_fault : Type 0) (came : Status) (old new : Outside) → Some c ≡ o → Outcome (Answers files load_fault c) (PartAnswers files c) write_fault came old new → IfSome o (λ k. IfSome files (λ told. IsDecided k → (wanted : Answer) → Answers files ⊥ k wanted → ComesTo wanted load_fault write_fault came old new))
+pub exact_in : (one : OneEnd) (o : Option Command) (c : Command) (files : Option FileMap) (load_fault write_fault : Type 0) (came : Status) (old new : Outside) → Some c ≡ o → Outcome (Answers files load_fault c) (PartAnswers files c) write_fault came old new → IfSome o (λ k. Exact k files load_fault write_fault came old new)
 exact_in one o c files load_fault write_fault came old new is h =
-    subst (λ p. IfSome p (λ k. IfSome files (λ told. IsDecided k → (wanted : Answer) → Answers files ⊥ k wanted → ComesTo wanted load_fault write_fault came old new))) is
+    subst (λ p. IfSome p (λ k. Exact k files load_fault write_fault came old new)) is
     (exact_told one files load_fault write_fault c came old new h)
 
 pub unread_in : (o : Option Command) (c : Command) (files : Option FileMap) (load_fault write_fault : Type 0) (came : Status) (old new : Outside) → Some c ≡ o → Outcome (Answers files load_fault c) (PartAnswers files c) write_fault came old new → came ≡ status.Unread → IfSome o (λ k. load_fault ⊎ LacksRead files k)

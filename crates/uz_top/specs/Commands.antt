@@ -1,17 +1,20 @@
 -- What each command answers, and what is asked of its files.
-use Rattle.std.specs.Prelude.{Option}
+use Rattle.std.specs.Prelude.{Option, Result}
 use Rattle.uz_shelf.specs.Files.{FileMap, LacksFile}
-use Rattle.uz_top.specs.Answers.{Answer, NoPart}
+use Rattle.uz_schedule.specs.declared.certificate.Cert.{Cert}
+use Rattle.uz_search.specs.declared.found.NotFound.{NotFound}
+use Rattle.uz_files.specs.declared.status.Status.{Status}
+use Rattle.uz_files.specs.Answers.{Answer, Ends, NoPart, Outside}
 use Rattle.uz_top.specs.Words.{Command, Asm, Build, Certify, Check, Debug, Dis, Expand, Play, Trace}
-use Rattle.uz_top.specs.TraceCommand.{TraceAnswers, TraceLacks, TraceParts, TraceSucceeds}
-use Rattle.uz_top.specs.MacroCommands.{BuildAnswers, BuildSucceeds, ExpandAnswers, ExpandSucceeds}
-use Rattle.uz_top.specs.MacroSource.{MacroLacks}
-use Rattle.uz_top.specs.PlayCommand.{FilesHalted, FilesPlayed, PlayAnswers, PlayLacks, PlayParts, PlaySucceeds}
-use Rattle.uz_top.specs.DebugCommand.{DebugAnswers, DebugLacks, DebugSucceeds}
-use Rattle.uz_top.specs.AsmCommand.{AsmAnswers, AsmSucceeds}
-use Rattle.uz_top.specs.DisCommand.{DisAnswers, DisSucceeds}
-use Rattle.uz_top.specs.CertifyCommand.{CertifyAnswers, CertifySucceeds}
-use Rattle.uz_top.specs.CheckCommand.{CheckAnswers, CheckLacks, CheckSucceeds, FilesCertified}
+use Rattle.uz_run_commands.specs.TraceCommand.{TraceAnswers, TraceLacks, TraceParts, TraceSucceeds}
+use Rattle.uz_source_commands.specs.MacroCommands.{BuildAnswers, BuildSucceeds, ExpandAnswers, ExpandSucceeds}
+use Rattle.uz_source_commands.specs.MacroSource.{MacroLacks}
+use Rattle.uz_play_command.specs.PlayCommand.{FilesHalted, FilesPlayed, PlayAnswers, PlayLacks, PlayParts, PlaySucceeds}
+use Rattle.uz_run_commands.specs.DebugCommand.{DebugAnswers, DebugLacks, DebugSucceeds}
+use Rattle.uz_source_commands.specs.AsmCommand.{AsmAnswers, AsmSucceeds}
+use Rattle.uz_source_commands.specs.DisCommand.{DisAnswers, DisSucceeds}
+use Rattle.uz_certify_command.specs.CertifyCommand.{AllowedOf, CertifyAnswers, CertifyAnswersBy, CertifySucceeds, FilesCertify}
+use Rattle.uz_check_command.specs.CheckCommand.{CheckAnswers, CheckLacks, CheckSucceeds, FilesCertified}
 
 -- the answer of a command, from what its files say
 abbrev pub Answers : Option FileMap → Type 0 → Command → Answer → Type 0
@@ -61,17 +64,17 @@ CreatesNone (Play hex cert pads clocks frames) = ⊥
 CreatesNone (Debug hex pads irq script) = Unit {0}
 CreatesNone (Certify source irq hex cert) = ⊥
 
--- what a command is worth where it is done
-abbrev pub Certifies : Option FileMap → Command → Type 0
-Certifies files (Check hex cert) = FilesCertified files hex cert
-Certifies files (Dis hex) = Unit {0}
-Certifies files (Asm source hex) = Unit {0}
-Certifies files (Trace hex pads irq clocks) = Unit {0}
-Certifies files (Expand source flat) = Unit {0}
-Certifies files (Build source hex) = Unit {0}
-Certifies files (Play hex cert pads clocks frames) = FilesPlayed files hex cert pads clocks
-Certifies files (Debug hex pads irq script) = Unit {0}
-Certifies files (Certify source irq hex cert) = Unit {0}
+-- what a command is worth where it is done, with the files before it and after it
+abbrev pub Certifies : Option FileMap → Option FileMap → Command → Type 0
+Certifies files new (Check hex cert) = FilesCertified files hex cert
+Certifies files new (Dis hex) = Unit {0}
+Certifies files new (Asm source hex) = Unit {0}
+Certifies files new (Trace hex pads irq clocks) = Unit {0}
+Certifies files new (Expand source flat) = Unit {0}
+Certifies files new (Build source hex) = Unit {0}
+Certifies files new (Play hex cert pads clocks frames) = FilesPlayed files hex cert pads clocks
+Certifies files new (Debug hex pads irq script) = Unit {0}
+Certifies files new (Certify source irq hex cert) = FilesCertify files new source irq hex cert
 
 -- what a command tells where it is stopped
 abbrev pub StopTells : Option FileMap → Command → Type 0
@@ -97,14 +100,33 @@ PartAnswers files (Play hex cert pads clocks frames) = PlayParts files hex cert 
 PartAnswers files (Debug hex pads irq script) = NoPart
 PartAnswers files (Certify source irq hex cert) = NoPart
 
--- the files alone decide the answer; where a certificate is searched, the search's answer does besides
-abbrev pub IsDecided : Command → Type 0
-IsDecided (Check hex cert) = Unit {0}
-IsDecided (Dis hex) = Unit {0}
-IsDecided (Asm source hex) = Unit {0}
-IsDecided (Trace hex pads irq clocks) = Unit {0}
-IsDecided (Expand source flat) = Unit {0}
-IsDecided (Build source hex) = Unit {0}
-IsDecided (Play hex cert pads clocks frames) = Unit {0}
-IsDecided (Debug hex pads irq script) = Unit {0}
-IsDecided (Certify source irq hex cert) = ⊥
+-- Where the shelf tells its files, they decide the answer, and for `certify` an answer of the search does besides, as plain data
+
+abbrev pub AnswersBy : Option FileMap → Result Cert NotFound → Command → Answer → Type 0
+AnswersBy files found (Check hex cert) answer = CheckAnswers files ⊥ hex cert answer
+AnswersBy files found (Dis hex) answer = DisAnswers files ⊥ hex answer
+AnswersBy files found (Asm source hex) answer = AsmAnswers files ⊥ source hex answer
+AnswersBy files found (Trace hex pads irq clocks) answer = TraceAnswers files ⊥ hex pads irq clocks answer
+AnswersBy files found (Expand source flat) answer = ExpandAnswers files ⊥ source flat answer
+AnswersBy files found (Build source hex) answer = BuildAnswers files ⊥ source hex answer
+AnswersBy files found (Play hex cert pads clocks frames) answer = PlayAnswers files ⊥ hex cert pads clocks frames answer
+AnswersBy files found (Debug hex pads irq script) answer = DebugAnswers files ⊥ hex pads irq script answer
+AnswersBy files found (Certify source irq hex cert) answer = CertifyAnswersBy files source hex cert found answer
+
+-- what the search's promise allows: a certificate that is accepted and as the hints ask, or a refusal whose cause stands
+abbrev pub AllowedFor : Option FileMap → Command → Result Cert NotFound → Type 0
+AllowedFor files (Check hex cert) found = Unit {0}
+AllowedFor files (Dis hex) found = Unit {0}
+AllowedFor files (Asm source hex) found = Unit {0}
+AllowedFor files (Trace hex pads irq clocks) found = Unit {0}
+AllowedFor files (Expand source flat) found = Unit {0}
+AllowedFor files (Build source hex) found = Unit {0}
+AllowedFor files (Play hex cert pads clocks frames) found = Unit {0}
+AllowedFor files (Debug hex pads irq script) found = Unit {0}
+AllowedFor files (Certify source irq hex cert) found = AllowedOf files source irq found
+
+-- it ended with the one answer that they decide
+pub record IsDecided (files : Option FileMap) (c : Command) (came : Status) (old new : Outside) : Type 0 where
+  pub found : Result Cert NotFound
+  pub allowed : AllowedFor files c found
+  pub decided : (wanted : Answer) → AnswersBy files found c wanted → Ends wanted came old new

@@ -1,5 +1,7 @@
 -- Which words are which command.
-use Rattle.std.specs.Prelude.{ℕ, ◌||◌, List, [], ◌∷◌, codes, bytes_eq, Option, Some, None, if◌then◌else◌}
+use Rattle.std.specs.Prelude.{◌≡◌, ◌≢◌, ℕ, ◌||◌, List, [], ◌∷◌, map, codes, string_bytes, bytes_eq, Option, Some, None, IfSome, if◌then◌else◌}
+use Rattle.std.specs.declared.string.String.{String}
+use Rattle.std.specs.declared.alloc.Global.{Global}
 use Rattle.uz_text.specs.Numbers.{number_within}
 use Rattle.uz_schedule.specs.declared.kinds.Response.{Response}
 use Rattle.uz_schedule.specs.declared.kinds.Response.TheVariants.{Four, Five}
@@ -94,3 +96,16 @@ command_of (verb ∷ words) =
     else if bytes_eq verb (codes "build") then build_words words
     else if bytes_eq verb (codes "certify") then certify_words words
     else None
+
+-- the words are no command
+abbrev pub AreNoCommand : List (String Global) → Type 0
+AreNoCommand words = command_of (map string_bytes words) ≡ None
+
+-- what holds of the command that the words are, if they are one
+abbrev pub IfCommand : List (String Global) → (Command → Type 0) → Type 0
+IfCommand words holds = IfSome (command_of (map string_bytes words)) holds
+
+-- the two files that a command writes have different names
+abbrev pub WritesApart : Command → Type 0
+WritesApart (Certify source irq hex cert) = hex ≢ cert
+WritesApart other = Unit {0}

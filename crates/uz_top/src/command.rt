@@ -5,8 +5,8 @@ ghost use Rattle.uz_top.specs.CommandValues.{value_of};
 ghost use Rattle.uz_text.specs.Numbers.{number_within as number_from_low};
 ghost use Rattle.uz_top.specs.Words.{asm_words, build_words, certify_with as certify_with_response, certify_words, check_words, command_of, debug_with as debug_with_response, debug_words, dis_words, expand_words, play_with as play_with_clocks, play_words, response_of, trace_words};
 
-use crate::clocks::{Clocks, number_of_clocks};
 use uz_cert::Response;
+use uz_play_command::{Clocks, number_of_clocks};
 use uz_text::number_within;
 
 /// A command, with the names of its files.

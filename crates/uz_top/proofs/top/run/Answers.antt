@@ -1,6 +1,7 @@
-use Rattle.std.proofs.Common.{ap, subst}
+use Rattle.std.proofs.Common.{ap, subst, sym}
 use Rattle.uz_top.specs.CommandValues.{value_of}
-use Rattle.uz_top.specs.Commands.{CreatesNone}
+use Rattle.uz_top.specs.Commands.{Certifies, CreatesNone}
+use Rattle.uz_top.specs.Words.{WritesApart}
 use Rattle.uz_top.proofs.CommandLemmas.{outcome_at}
 use Rattle.uz_top.proofs.top.run.Goals as goal
 
@@ -41,7 +42,12 @@ pub returns-in-Play-clause-untouched : goal.returns-in-Play-clause-untouched
 returns-in-Play-clause-untouched g c = λ none. absurd (subst CreatesNone (ap value_of c.in-Play.is) none)
 
 pub returns-in-Certify-clause-outcome : goal.returns-in-Certify-clause-outcome
-returns-in-Certify-clause-outcome g c = outcome_at (value_of c.args.command.now) _ _ _ _ _ _ _ (ap value_of c.in-Certify.is) c.run_certify.ensures
+returns-in-Certify-clause-outcome g c = outcome_at (value_of c.args.command.now) _ _ _ _ _ _ _ (ap value_of c.in-Certify.is) c.run_certify.ensures.outcome
 
 pub returns-in-Certify-clause-untouched : goal.returns-in-Certify-clause-untouched
 returns-in-Certify-clause-untouched g c = λ none. absurd (subst CreatesNone (ap value_of c.in-Certify.is) none)
+
+pub returns-in-Certify-clause-certified : goal.returns-in-Certify-clause-certified
+returns-in-Certify-clause-certified g c = λ done apart.
+    let same = ap value_of c.in-Certify.is in
+    subst (Certifies (g.H.Shelf.files c.args.shelf.now) (g.H.Shelf.files c.run_certify.new.shelf)) (sym same) (c.run_certify.ensures.certified done (subst WritesApart same apart))

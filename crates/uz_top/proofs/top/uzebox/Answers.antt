@@ -1,4 +1,6 @@
 use Rattle.uz_top.specs.CommandValues.{value_of}
+use Rattle.uz_top.specs.Commands.{Certifies}
+use Rattle.uz_top.proofs.ApartLemmas.{holds_apart}
 use Rattle.uz_top.proofs.CommandLemmas.{complete_in, exact_in, unread_in, unwritten, usage_in}
 use Rattle.uz_top.proofs.top.uzebox.Goals as goal
 
@@ -16,3 +18,7 @@ returns-in-Some-clause-unwritten g c = unwritten _ _ _ (value_of c.in-Some.comma
 
 pub returns-in-Some-clause-complete : goal.returns-in-Some-clause-complete
 returns-in-Some-clause-complete g c = complete_in c.expansion_is_unique.ensures _ (value_of c.in-Some.command) _ _ _ _ _ _ c.in-Some.ensures c.run.ensures.outcome
+
+pub returns-in-Some-clause-certified : goal.returns-in-Some-clause-certified
+returns-in-Some-clause-certified g c = λ done.
+    holds_apart c.args.words.now (value_of c.in-Some.command) (Certifies (g.H.Shelf.files c.args.shelf.now) (g.H.Shelf.files c.run.new.shelf)) c.in-Some.ensures (c.run.ensures.certified done)

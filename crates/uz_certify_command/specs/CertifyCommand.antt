@@ -1,0 +1,123 @@
+-- `certify SRC IRQ HEX CERT`: the source is read and assembled, a certificate is searched by its hints, the HEX text of the image and then
+-- the certificate are written, and a line tells the lines and clocks of the frame. What the search answers is taken as it comes: no definition
+-- computes it, but it comes only as its promise allows.
+use Rattle.std.specs.Prelude.{◌≡◌, ◌≢◌, ℕ, ◌-◌, List, [], ◌∷◌, ◌++◌, length, codes, decimal, slice_get, Option, option_map, unwrap_or, Result, Ok, Err}
+use Rattle.uz_shelf.specs.Files.{FileMap, HoldsFile}
+use Rattle.uz_hex.specs.HexText.{IsHexOf}
+use Rattle.uz_cert.specs.Texts.{IsCertificateText}
+use Rattle.uz_hex.specs.Reading.{Flash}
+use Rattle.avr_asm.specs.Assembly.{Output}
+use Rattle.avr_asm.specs.declared.output.Hint.{Hint as SourceHint}
+use Rattle.uz_schedule.specs.declared.kinds.Response.{Response}
+use Rattle.uz_schedule.specs.declared.certificate.Cert.{Cert}
+use Rattle.uz_schedule.specs.declared.states.Instance.{Instance}
+use Rattle.uz_schedule.specs.WellFormed.{WellFormed}
+use Rattle.uz_spelling.specs.Spelling.{spelling}
+use Rattle.uz_soundness.specs.Acceptance.{Accepts}
+use Rattle.uz_soundness.specs.Certified.{Certified}
+use Rattle.uz_transfer.specs.declared.fail.Fail.{Fail}
+use Rattle.uz_search.specs.declared.found.NotFound.{NotFound}
+use Rattle.uz_search.specs.declared.found.NotFound.TheVariants.{Stuck, Split, Full, Hint, NoRest, Memory}
+use Rattle.uz_paths.specs.Finding.{Cause, IsAsked}
+use Rattle.uz_files.specs.declared.status.Status.TheVariants.{Done, Refused}
+use Rattle.uz_files.specs.Answers.{Answer, Write, one_line}
+use Rattle.uz_files.specs.Writing.{hex_file}
+use Rattle.uz_check_command.specs.CheckCommand.{accepted_line, fail_name}
+use Rattle.uz_files.specs.Lines.{hex_word}
+use Rattle.uz_files.specs.Reading.{Reads, Refuses, Says, Spells, text_limit}
+use Rattle.uz_files.specs.SourceFile.{output_of}
+
+-- Lines
+
+-- the last instance of a trail
+abbrev pub last_of : List Instance → Option Instance
+last_of trail = slice_get trail (length trail - 1)
+
+abbrev pub last_pc : List Instance → ℕ
+last_pc trail = unwrap_or (option_map (λ x. x.pc) (last_of trail)) 0
+
+abbrev pub last_line : List Instance → ℕ
+last_line trail = unwrap_or (option_map (λ x. x.line) (last_of trail)) 0
+
+abbrev pub last_clock : List Instance → ℕ
+last_clock trail = unwrap_or (option_map (λ x. x.clock) (last_of trail)) 0
+
+-- the places and start clocks are those of the trails' last instances
+abbrev pub stuck_line : List Instance → Fail → List ℕ
+stuck_line trail why =
+    codes "refused stuck pc 0x" ++ hex_word (last_pc trail) ++ codes " line " ++ decimal (last_line trail) ++ codes " clock " ++ decimal (last_clock trail) ++ codes " " ++ fail_name why ++ codes "\n"
+
+abbrev pub split_line : List Instance → List Instance → List ℕ
+split_line first second =
+    codes "refused split line " ++ decimal (last_line first) ++ codes " clock " ++ decimal (last_clock first) ++ codes " and clock " ++ decimal (last_clock second) ++ codes "\n"
+
+abbrev pub number_line : List ℕ → ℕ → List ℕ
+number_line begin number = begin ++ decimal number ++ codes "\n"
+
+-- why no certificate is found
+abbrev pub not_found_line : NotFound → List ℕ
+not_found_line (Stuck trail why) = stuck_line trail why
+not_found_line (Split first second) = split_line first second
+not_found_line (Full count) = number_line (codes "refused full ") count
+not_found_line (Hint index) = number_line (codes "refused hint ") index
+not_found_line (NoRest count) = codes "refused no rest\n"
+not_found_line Memory = []
+
+-- Answers
+
+-- what the search's promise allows of an image, a response and hints
+abbrev pub Allowed : Flash → Response → List SourceHint → Result Cert NotFound → Type 0
+Allowed image irq hints (Ok cert) = WellFormed cert × Accepts image cert × IsAsked image irq hints cert
+Allowed image irq hints (Err Memory) = ⊥
+Allowed image irq hints (Err e) = Cause image irq hints e
+
+abbrev pub cert_file : List ℕ → Cert → Write
+cert_file name cert = record { name = name; bytes = spelling cert }
+
+-- both files are written, HEX before CERT, and then one line is printed; or one line tells why no certificate is found
+abbrev pub certify_answer : List ℕ → List ℕ → Flash → Result Cert NotFound → Answer
+certify_answer hex name image (Ok cert) = record { writes = hex_file hex image ∷ cert_file name cert ∷ []; printed = []; status = Done; line = accepted_line cert }
+certify_answer hex name image (Err e) = one_line Refused (not_found_line e)
+
+-- once the source is read
+abbrev pub IsCertified : Response → List ℕ → List ℕ → Output → Answer → Type 0
+IsCertified irq hex name output answer =
+    (found : Result Cert NotFound) × Allowed output.image irq output.hints found × (answer ≡ certify_answer hex name output.image found)
+
+abbrev pub CertifyAnswers : Option FileMap → Type 0 → List ℕ → Response → List ℕ → List ℕ → Answer → Type 0
+CertifyAnswers files load_fault source irq hex name = Reads files load_fault source text_limit (Spells output_of) (Refuses output_of) (IsCertified irq hex name)
+
+-- The same with the search's answer as data: files and printed bytes are a function of the source and of what the search answers
+
+abbrev pub IsCertifiedBy : List ℕ → List ℕ → Result Cert NotFound → Output → Answer → Type 0
+IsCertifiedBy hex name found output answer = answer ≡ certify_answer hex name output.image found
+
+abbrev pub CertifyAnswersBy : Option FileMap → List ℕ → List ℕ → List ℕ → Result Cert NotFound → Answer → Type 0
+CertifyAnswersBy files source hex name found = Reads files ⊥ source text_limit (Spells output_of) (Refuses output_of) (IsCertifiedBy hex name found)
+
+-- where the source is read, this is what the search's promise allows of it
+abbrev pub AllowedOf : Option FileMap → List ℕ → Response → Result Cert NotFound → Type 0
+AllowedOf files source irq found = (output : Output) → Says files source text_limit (Spells output_of) output → Allowed output.image irq output.hints found
+
+-- What a `certify` that is done is worth. The source is assembled; HEX holds Intel HEX of its image, and CERT the text of a certificate with
+-- what the hints ask for; the pair is accepted, and from every state that meets the certificate's entry condition, for every list of pads and
+-- every number of clocks, the machine with that image keeps to the certificate's schedule
+pub record FilesCertify (old new : Option FileMap) (source : List ℕ) (irq : Response) (hex cert : List ℕ) : Type 0 where
+  pub output : Output
+  pub spelled : Says old source text_limit (Spells output_of) output
+  pub certificate : Cert
+  pub asked : IsAsked output.image irq output.hints certificate
+  pub image_text : List ℕ
+  pub holds_image : HoldsFile new hex image_text
+  pub is_hex : IsHexOf image_text output.image
+  pub certificate_text : List ℕ
+  pub holds_certificate : HoldsFile new cert certificate_text
+  pub is_certificate : IsCertificateText certificate_text certificate
+  pub accepted : Accepts output.image certificate
+  pub certified : Certified output.image certificate
+
+-- the source is within its limit, it has an assembly, and the cause of no refusal stands
+pub record CertifySucceeds (files : Option FileMap) (source : List ℕ) (irq : Response) : Type 0 where
+  pub output : Output
+  pub spelled : Says files source text_limit (Spells output_of) output
+  pub free : (e : NotFound) → e ≢ Memory → Cause output.image irq output.hints e → ⊥

@@ -1,0 +1,2 @@
+pub mod CertifyCommand
+pub mod CertifyValues

@@ -1,0 +1,99 @@
+//! The line that says why no certificate is found.
+
+ghost use Rattle.std.specs.Prelude.{◌≡◌, IfOk};
+ghost use Rattle.uz_certify_command.specs.CertifyCommand.{last_clock as clock_of_last, last_line as line_of_last, last_pc as pc_of_last, not_found_line, number_line, split_line, stuck_line};
+
+use itoa::Buffer;
+use std::alloc::{AllocError, Global};
+use uz_check::Fail;
+use uz_check_command::reason_name;
+use uz_files::word_digits;
+use uz_paths::NotFound;
+use uz_schedule::Instance;
+
+/// The word address of a trail's last instance.
+fn last_pc(trail: &[Instance]) -> u16
+    ensures { result ≡ pc_of_last trail.now }
+{
+    match trail.last() {
+        Some(at) => at.pc,
+        None => 0,
+    }
+}
+
+/// The line of a trail's last instance.
+fn last_line(trail: &[Instance]) -> u16
+    ensures { result ≡ line_of_last trail.now }
+{
+    match trail.last() {
+        Some(at) => at.line,
+        None => 0,
+    }
+}
+
+/// The clock at which a trail's last instance starts.
+fn last_clock(trail: &[Instance]) -> u16
+    ensures { result ≡ clock_of_last trail.now }
+{
+    match trail.last() {
+        Some(at) => at.clock,
+        None => 0,
+    }
+}
+
+/// The line of a trail whose last instance can't be certified.
+fn stuck(alloc: Global, trail: &[Instance], why: Fail) -> Result<Vec<u8>, AllocError>
+    ensures { IfOk result (λ line. line.items ≡ stuck_line trail.now why) }
+{
+    let mut line = Vec::new(alloc);
+    line.extend_from_slice(b"refused stuck pc 0x")?;
+    line.extend_from_slice(&word_digits(last_pc(trail)))?;
+    line.extend_from_slice(b" line ")?;
+    line.extend_from_slice(Buffer::new().format(last_line(trail)).as_bytes())?;
+    line.extend_from_slice(b" clock ")?;
+    line.extend_from_slice(Buffer::new().format(last_clock(trail)).as_bytes())?;
+    line.extend_from_slice(b" ")?;
+    line.extend_from_slice(reason_name(why))?;
+    line.extend_from_slice(b"\n")?;
+    Ok(line)
+}
+
+/// The line of two trails that differ.
+fn split(alloc: Global, first: &[Instance], second: &[Instance]) -> Result<Vec<u8>, AllocError>
+    ensures { IfOk result (λ line. line.items ≡ split_line first.now second.now) }
+{
+    let mut line = Vec::new(alloc);
+    line.extend_from_slice(b"refused split line ")?;
+    line.extend_from_slice(Buffer::new().format(last_line(first)).as_bytes())?;
+    line.extend_from_slice(b" clock ")?;
+    line.extend_from_slice(Buffer::new().format(last_clock(first)).as_bytes())?;
+    line.extend_from_slice(b" and clock ")?;
+    line.extend_from_slice(Buffer::new().format(last_clock(second)).as_bytes())?;
+    line.extend_from_slice(b"\n")?;
+    Ok(line)
+}
+
+/// A line that ends in a number.
+fn numbered(alloc: Global, begin: &[u8], number: u32) -> Result<Vec<u8>, AllocError>
+    ensures { IfOk result (λ line. line.items ≡ number_line begin.now number) }
+{
+    let mut line = Vec::new(alloc);
+    line.extend_from_slice(begin)?;
+    line.extend_from_slice(Buffer::new().format(number).as_bytes())?;
+    line.extend_from_slice(b"\n")?;
+    Ok(line)
+}
+
+/// The line that says why no certificate is found.
+pub(crate) fn not_found(alloc: Global, why: &NotFound) -> Result<Vec<u8>, AllocError>
+    ensures { IfOk result (λ line. line.items ≡ not_found_line why.now) }
+{
+    match why {
+        NotFound::Stuck { trail, why } => stuck(alloc, trail.as_slice(), *why),
+        NotFound::Split { first, second } => split(alloc, first.as_slice(), second.as_slice()),
+        NotFound::Full { count } => numbered(alloc, b"refused full ", *count),
+        NotFound::Hint { index } => numbered(alloc, b"refused hint ", *index),
+        NotFound::NoRest { .. } => Vec::from_slice(alloc, b"refused no rest\n"),
+        NotFound::Memory => Ok(Vec::new(alloc)),
+    }
+}

@@ -1,0 +1,7 @@
+//! The command `certify`.
+#![tactic(auto)]
+
+mod certify_command;
+mod certify_lines;
+
+pub use certify_command::run_certify;

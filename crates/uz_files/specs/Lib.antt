@@ -1,0 +1,9 @@
+pub mod Answers
+pub mod CertificateFile
+pub mod Endings
+pub mod ImageFile
+pub mod Lines
+pub mod PadFile
+pub mod Reading
+pub mod SourceFile
+pub mod Writing

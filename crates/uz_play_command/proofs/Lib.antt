@@ -1,0 +1,4 @@
+pub mod PlayLemmas
+pub mod PlayRunLemmas
+pub mod PlaySameLemmas
+pub mod PlayWorthLemmas

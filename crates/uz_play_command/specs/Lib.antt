@@ -1,0 +1,2 @@
+pub mod PlayCommand
+pub mod PlayValues

@@ -1,0 +1,98 @@
+-- The values of the code that make a play.
+use Rattle.std.specs.Prelude.{◌≡◌, ◌⊎◌, ℕ, List, ◌++◌, Option, Some, None}
+use Rattle.uz_shelf.specs.Files.{FileMap}
+use Rattle.uz_hex.specs.Reading.{Flash}
+use Rattle.uz_schedule.specs.declared.certificate.Cert.{Cert}
+use Rattle.uz_schedule.specs.WellFormed.{WellFormed}
+use Rattle.uz_pads.specs.declared.pads.Pad.{Pad}
+use Rattle.uz_console.specs.Consoles.{StandsFor}
+use Rattle.uz_console.specs.declared.console.Console.{Console}
+use Rattle.uz_player.specs.declared.counts.Counts.{Counts}
+use Rattle.uz_machine.specs.StateRange.{IsState}
+use Rattle.uz_soundness.specs.Acceptance.{Accepts}
+use Rattle.uz_soundness.specs.Certified.{Certified}
+use Rattle.uz_capture.specs.declared.recording.RunEnd.{RunEnd}
+use Rattle.uz_capture.specs.declared.recording.RunEnd.TheVariants as end
+use Rattle.uz_play_command.specs.declared.play_command.Start.{Start}
+use Rattle.uz_play_command.specs.declared.play_command.Start.TheVariants.{Ready, Refused as RefusedPair}
+use Rattle.uz_files.specs.declared.status.Status.{Status}
+use Rattle.uz_files.specs.declared.status.Status.TheVariants.{Done, NotEntered, Refused, Stopped}
+use Rattle.uz_files.specs.Answers.{Answer}
+use Rattle.uz_files.specs.Endings.{answer_of}
+use Rattle.uz_files.specs.Reading.{Fails, Refuses, Says, Spells, certificate_limit, text_limit}
+use Rattle.uz_files.specs.ImageFile.{image_of}
+use Rattle.uz_files.specs.CertificateFile.{certificate_of}
+use Rattle.uz_files.specs.PadFile.{RefusesPads}
+use Rattle.uz_play_command.specs.PlayCommand.{IsPlay, SpellsPlay, edge_numbers, entered_line, not_entered_line, numbers_line}
+use Rattle.uz_run_commands.specs.TraceCommand.{start_of, stopped_at_line}
+
+-- a file ends the command, and the ones before it are read
+abbrev pub PlayPreface : Option FileMap → Type 0 → List ℕ → List ℕ → List ℕ → Answer → Type 0
+PlayPreface files load_fault hex cert pads answer =
+    Fails files load_fault hex text_limit (Refuses image_of) answer
+    ⊎ (((image : Flash) × Says files hex text_limit (Spells image_of) image × Fails files load_fault cert certificate_limit (Refuses certificate_of) answer)
+    ⊎ ((image : Flash) × (certificate : Cert) × Says files hex text_limit (Spells image_of) image × Says files cert certificate_limit (Spells certificate_of) certificate × Fails files load_fault pads text_limit RefusesPads answer))
+
+-- the console is at reset with what the three files say, and the pair is accepted
+pub record IsReady (files : Option FileMap) (hex cert pads : List ℕ) (console : Console) (certificate : Cert) : Type 0 where
+  pub image : Flash
+  pub list : List Pad
+  pub spelled : SpellsPlay files hex cert pads image certificate list
+  pub accepted : Accepts image certificate
+  pub certified : Certified image certificate
+  pub formed : WellFormed certificate
+  pub in_range : IsState (start_of image list certificate.head.irq)
+  pub stands : StandsFor console (start_of image list certificate.head.irq)
+
+-- the pair is refused, and this is the answer
+pub record IsRefusedPlay (files : Option FileMap) (hex cert pads : List ℕ) (answer : Answer) : Type 0 where
+  pub image : Flash
+  pub certificate : Cert
+  pub list : List Pad
+  pub spelled : SpellsPlay files hex cert pads image certificate list
+  pub answers : (clocks : ℕ) (frames : List ℕ) → IsPlay clocks frames image certificate list answer
+  pub status : answer.status ≡ Refused
+
+-- the same of what the files said
+
+pub record IsAtReset (image : Flash) (cert : Cert) (list : List Pad) (console : Console) (certificate : Cert) : Type 0 where
+  pub same : certificate ≡ cert
+  pub accepted : Accepts image cert
+  pub certified : Certified image cert
+  pub in_range : IsState (start_of image list cert.head.irq)
+  pub stands : StandsFor console (start_of image list cert.head.irq)
+
+pub record IsRefusedPair (image : Flash) (cert : Cert) (list : List Pad) (answer : Answer) : Type 0 where
+  pub answers : (clocks : ℕ) (frames : List ℕ) → IsPlay clocks frames image cert list answer
+  pub status : answer.status ≡ Refused
+
+abbrev pub IsChecked : Flash → Cert → List Pad → Start → Type 0
+IsChecked image cert list (Ready console certificate) = IsAtReset image cert list console certificate
+IsChecked image cert list (RefusedPair ending) = IsRefusedPair image cert list (answer_of ending)
+
+abbrev pub IsStart : Option FileMap → List ℕ → List ℕ → List ℕ → Start → Type 0
+IsStart files hex cert pads (Ready console certificate) = IsReady files hex cert pads console certificate
+IsStart files hex cert pads (RefusedPair ending) = IsRefusedPlay files hex cert pads (answer_of ending)
+
+abbrev pub edge_counts : Counts → List ℕ
+edge_counts counts = edge_numbers counts.sync counts.pixels counts.sounds
+
+abbrev pub counts_text : Counts → List ℕ
+counts_text counts = numbers_line counts.frames counts.rows counts.sync counts.pixels counts.sounds
+
+-- the status and the lines of a run that is captured
+abbrev pub over_status : Option (ℕ × ℕ) → Status
+over_status None = NotEntered
+over_status (Some at) = Done
+
+abbrev pub over_text : Option (ℕ × ℕ) → Counts → List ℕ
+over_text None counts = not_entered_line
+over_text (Some at) counts = entered_line at.0 at.1 ++ counts_text counts
+
+abbrev pub end_status : RunEnd → Counts → Status
+end_status end.Over counts = over_status counts.entered
+end_status (end.Stopped pc word) counts = Stopped
+
+abbrev pub end_text : RunEnd → Counts → List ℕ
+end_text end.Over counts = over_text counts.entered counts
+end_text (end.Stopped pc word) counts = stopped_at_line pc word

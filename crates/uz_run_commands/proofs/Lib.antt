@@ -1,0 +1,4 @@
+pub mod DebugLemmas
+pub mod TraceAnswerLemmas
+pub mod TraceLemmas
+pub mod TraceSameLemmas

@@ -1,0 +1,4 @@
+pub mod DebugCommand
+pub mod ScriptFile
+pub mod TraceCommand
+pub mod TraceValues

@@ -1,0 +1,68 @@
+-- The values of the code that make a trace.
+use Rattle.std.specs.Prelude.{◌≡◌, ◌⊎◌, ℕ, List, [], ◌++◌, Option}
+use Rattle.uz_shelf.specs.Files.{FileMap}
+use Rattle.uz_shelf.specs.Text.{TakesAll, TakesPrefix}
+use Rattle.uz_hex.specs.Reading.{Flash}
+use Rattle.uz_schedule.specs.declared.kinds.Response.{Response}
+use Rattle.uz_pads.specs.declared.pads.Pad.{Pad}
+use Rattle.uz_machine.specs.declared.Edge.{Edge}
+use Rattle.uz_machine.specs.PadLine.{PadHistory}
+use Rattle.uz_machine.specs.Turn.{State}
+use Rattle.uz_machine.specs.Run.{IsClockRun, IsRunPart, IsStoppedRun}
+use Rattle.uz_console.specs.declared.console.Console.{Console}
+use Rattle.uz_console.specs.Runs.{RunsTo}
+use Rattle.uz_console.specs.Turns.{Halts}
+use Rattle.uz_run_commands.specs.declared.trace_command.RunEnd.{RunEnd}
+use Rattle.uz_run_commands.specs.declared.trace_command.RunEnd.TheVariants.{Over, Stopped}
+use Rattle.uz_files.specs.Answers.{Answer}
+use Rattle.uz_files.specs.Reading.{Fails, Refuses, Says, Spells, text_limit}
+use Rattle.uz_files.specs.ImageFile.{image_of}
+use Rattle.uz_files.specs.PadFile.{RefusesPads, SpellsPads}
+use Rattle.uz_files.specs.declared.status.Status.{Status}
+use Rattle.uz_files.specs.declared.status.Status.TheVariants as status
+use Rattle.uz_files.specs.declared.status.Status.TheVariants.{Done}
+use Rattle.uz_run_commands.specs.TraceCommand.{edge_lines, end_line, start_of, stopped_line}
+
+-- the console is at reset with what the two files say
+pub record StartsTrace (files : Option FileMap) (hex pads : List ℕ) (irq : Response) (console : Console) : Type 0 where
+  pub image : Flash
+  pub list : List Pad
+  pub spelled_image : Says files hex text_limit (Spells image_of) image
+  pub spelled_pads : Says files pads text_limit SpellsPads list
+  pub run : (limit : ℕ) → RunsTo limit (start_of image list irq) [] console
+
+-- a file ends the command, and the one before it is read
+abbrev pub TracePreface : Option FileMap → Type 0 → List ℕ → List ℕ → Answer → Type 0
+TracePreface files load_fault hex pads answer =
+    Fails files load_fault hex text_limit (Refuses image_of) answer
+    ⊎ ((image : Flash) × Says files hex text_limit (Spells image_of) image × Fails files load_fault pads text_limit RefusesPads answer)
+
+-- the lines of the whole run from this state are printed
+abbrev pub IsPrinted : ℕ → State PadHistory → RunEnd → Option (List ℕ) → Option (List ℕ) → Type 0
+IsPrinted limit start Over old new =
+    (edges : List Edge) × (last : State PadHistory) × IsClockRun limit start edges last × TakesAll old (edge_lines edges) new
+IsPrinted limit start (Stopped pc why) old new =
+    (edges : List Edge) × (last : State PadHistory) × IsStoppedRun limit start edges last × Halts last why × (pc ≡ last.core.pc) × TakesAll old (edge_lines edges) new
+
+-- a prefix of the lines of a part of the run is
+abbrev pub IsPrintedPart : ℕ → State PadHistory → Option (List ℕ) → Option (List ℕ) → Type 0
+IsPrintedPart limit start old new =
+    (edges : List Edge) × (last : State PadHistory) × IsRunPart limit start edges last × TakesPrefix old (edge_lines edges) new
+
+-- a whole text is printed but for its end, which waits
+abbrev pub TakesAllBut : List ℕ → Option (List ℕ) → List ℕ → Option (List ℕ) → Type 0
+TakesAllBut waiting old whole new = (printed : List ℕ) × (printed ++ waiting ≡ whole) × TakesAll old printed new
+
+-- the console has come so far, and the lines of that part are printed but for those that wait
+abbrev pub IsPrintedSoFar : ℕ → State PadHistory → Console → List ℕ → Option (List ℕ) → Option (List ℕ) → Type 0
+IsPrintedSoFar limit start console waiting old new =
+    (edges : List Edge) × RunsTo limit start edges console × TakesAllBut waiting old (edge_lines edges) new
+
+-- the status and the line of a run's end
+abbrev pub end_status : RunEnd → Status
+end_status Over = Done
+end_status (Stopped pc why) = status.Stopped
+
+abbrev pub last_line : ℕ → RunEnd → List ℕ
+last_line clocks Over = end_line clocks
+last_line clocks (Stopped pc why) = stopped_line pc why

@@ -1,0 +1,85 @@
+//! `debug HEX PADS IRQ SCRIPT`.
+
+ghost use Rattle.std.specs.Prelude.{◌≡◌, ◌≤◌, ◌⊎◌, IfErr, IfOk};
+ghost use Rattle.uz_shelf.specs.Faults.{Rose};
+ghost use Rattle.uz_files.specs.Answers.{NoPart, Outcome, outside};
+ghost use Rattle.uz_run_commands.specs.DebugCommand.{DebugAnswers, StartsDebug};
+ghost use Rattle.uz_files.specs.Endings.{EndsBy, Gives};
+ghost use Rattle.uz_run_commands.specs.TraceValues.{TracePreface};
+
+use crate::script_file::read_script_file;
+use std::alloc::Global;
+use uz_debug::{Debugger, session_text};
+use uz_files::{Ending, Failure, Status, finish, read_image, read_pad_file};
+use uz_schedule::Response;
+use uz_shelf::{Shelf, Sink};
+
+/// Reads the image and the pads in their order, and resets a debugger with what they say.
+fn reset_debugger<H: Shelf>(
+    alloc: Global,
+    shelf: &mut H,
+    hex: &str,
+    pads: &str,
+    irq: Response,
+) -> Result<Debugger, Failure>
+    ensures starts { IfOk result (StartsDebug (H.files shelf.old) hex.now pads.now irq) }
+    ensures fails { IfErr result (EndsBy (TracePreface (H.files shelf.old) (Rose (H.load_faults shelf.old) (H.load_faults shelf.new)) hex.now pads.now)) }
+    ensures files { H.files shelf.new ≡ H.files shelf.old }
+    ensures load_faults { H.load_faults shelf.old ≤ H.load_faults shelf.new }
+    ensures write_faults { H.write_faults shelf.new ≡ H.write_faults shelf.old }
+{
+    let image = read_image(alloc, shelf, hex)?;
+    let list = match read_pad_file(alloc, shelf, pads) {
+        Ok(list) => list,
+        Err(failure) => return Err(failure),
+    };
+    Ok(Debugger::new(alloc, image, list, irq)?)
+}
+
+/// Reads the three files in their order, and does the script's commands. Their lines are gathered first: a script has at most
+/// 65,536 commands.
+fn debug_files<H: Shelf>(
+    alloc: Global,
+    shelf: &mut H,
+    hex: &str,
+    pads: &str,
+    irq: Response,
+    script: &str,
+) -> Result<Ending, Failure>
+    ensures gives { Gives (DebugAnswers (H.files shelf.old) (Rose (H.load_faults shelf.old) (H.load_faults shelf.new)) hex.now pads.now irq script.now) result }
+    ensures files { H.files shelf.new ≡ H.files shelf.old }
+    ensures load_faults { H.load_faults shelf.old ≤ H.load_faults shelf.new }
+    ensures write_faults { H.write_faults shelf.new ≡ H.write_faults shelf.old }
+{
+    let mut debugger = match reset_debugger(alloc, shelf, hex, pads, irq) {
+        Ok(debugger) => debugger,
+        Err(failure) => return Err(failure),
+    };
+    let commands = match read_script_file(alloc, shelf, script) {
+        Ok(commands) => commands,
+        Err(failure) => return Err(failure),
+    };
+    Ok(Ending {
+        status: Status::Done,
+        line: session_text(alloc, &mut debugger, commands.as_slice())?,
+    })
+}
+
+/// `debug HEX PADS IRQ SCRIPT`.
+pub fn run_debug<H: Shelf, K: Sink>(
+    alloc: Global,
+    hex: &str,
+    pads: &str,
+    irq: Response,
+    script: &str,
+    shelf: &mut H,
+    out: &mut K,
+) -> Status
+    ensures outcome { Outcome (DebugAnswers (H.files shelf.old) (Rose (H.load_faults shelf.old) (H.load_faults shelf.new)) hex.now pads.now irq script.now) NoPart
+        (Rose (H.write_faults shelf.old) (H.write_faults shelf.new) ⊎ Rose (K.faults out.old) (K.faults out.new))
+        result (outside (H.files shelf.old) (K.text out.old)) (outside (H.files shelf.new) (K.text out.new)) }
+    ensures files { H.files shelf.new ≡ H.files shelf.old }
+{
+    let debugged = debug_files(alloc, shelf, hex, pads, irq, script);
+    finish(alloc, out, debugged)
+}

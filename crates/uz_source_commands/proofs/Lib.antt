@@ -1,0 +1,4 @@
+pub mod AsmLemmas
+pub mod DisLemmas
+pub mod MacroLemmas
+pub mod MacroNames

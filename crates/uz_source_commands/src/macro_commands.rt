@@ -1,0 +1,198 @@
+//! `expand SRC FLAT` and `build SRC HEX`.
+
+ghost use Rattle.std.specs.Prelude.{◌≡◌, ◌<◌, ◌≤◌, ◌-◌, ◌^◌, ◌⊎◌, IfErr, IfOk, Ok, length};
+ghost use Rattle.avr_asm.specs.Assembly.{assembly, seen_built};
+ghost use Rattle.avr_macro.specs.Answers.{names_of};
+ghost use Rattle.uz_hex.specs.Writing.{hex_text};
+ghost use Rattle.uz_shelf.specs.Faults.{Rose};
+ghost use Rattle.uz_files.specs.Answers.{NoPart, Outcome, outside};
+ghost use Rattle.uz_source_commands.specs.AsmCommand.{assembled_line};
+ghost use Rattle.uz_files.specs.Endings.{EndsBy};
+ghost use Rattle.uz_source_commands.specs.MacroCommands.{BuildAnswers, ExpandAnswers, build_answer, expand_answer, expanded_line, origin_of as origin_of_line};
+ghost use Rattle.uz_source_commands.specs.MacroSource.{ReadsFlat};
+ghost use Rattle.uz_source_commands.specs.MacroValues.{IsMacroWork, IsUnbuilt, IsWriting, TellsAt};
+
+use crate::asm_command::{Work, assembled};
+use crate::macro_source::{Expanded, bad_line_at, expand_file};
+use avr_asm::{AsmError, AsmWhy, Built, assemble};
+use avr_macro::Origin;
+use itoa::Buffer;
+use std::alloc::{AllocError, Global};
+use uz_files::{
+    Ending, Failure, Status, end_with, give_up, put_no_memory, source_why_name, write_file,
+};
+use uz_hex::{Image, write_hex};
+use uz_shelf::{Shelf, Sink, WriteError};
+
+/// The line of an expanded source.
+fn expanded(alloc: Global, origins: &[Origin]) -> Result<Vec<u8>, AllocError>
+    ensures { IfOk result (λ line. line.items ≡ expanded_line origins.now) }
+{
+    let mut line = Vec::new(alloc);
+    line.extend_from_slice(b"expanded lines ")?;
+    line.extend_from_slice(Buffer::new().format(origins.len()).as_bytes())?;
+    line.extend_from_slice(b"\n")?;
+    Ok(line)
+}
+
+/// The HEX text of an image, and the line that tells its bytes.
+fn image_work(alloc: Global, image: &Image) -> Result<Work, AllocError>
+    ensures text { IfOk result (λ work. work.text.items ≡ hex_text image.now) }
+    ensures line { IfOk result (λ work. work.line.items ≡ assembled_line image.now) }
+{
+    let text = write_hex(alloc, image)?;
+    let line = assembled(alloc, image)?;
+    Ok(Work { text, line })
+}
+
+/// Writes a whole file, and then prints a line.
+fn write_work<H: Shelf, K: Sink>(
+    alloc: Global,
+    name: &str,
+    work: Work,
+    shelf: &mut H,
+    out: &mut K,
+) -> Status
+    ensures { Outcome (IsWriting name.now work.text.items work.line.items) NoPart
+        (Rose (H.write_faults shelf.old) (H.write_faults shelf.new) ⊎ Rose (K.faults out.old) (K.faults out.new))
+        result (outside (H.files shelf.old) (K.text out.old)) (outside (H.files shelf.new) (K.text out.new)) }
+{
+    match write_file(alloc, shelf, name, work.text.as_slice()) {
+        Ok(()) => {
+            let ending = Ending {
+                status: Status::Done,
+                line: work.line,
+            };
+            end_with(alloc, out, &ending)
+        }
+        Err(WriteError::Failed) => Status::Unwritten,
+        Err(WriteError::Memory) => put_no_memory(alloc, out),
+    }
+}
+
+/// Expands the source.
+fn prepare_expansion<H: Shelf>(
+    alloc: Global,
+    shelf: &mut H,
+    source: &str,
+    file: &str,
+) -> Result<Work, Failure>
+    ensures work { IfOk result (IsMacroWork (H.files shelf.old) source.now file.now (expand_answer file.now)) }
+    ensures fails { IfErr result (EndsBy (ReadsFlat (H.files shelf.old) (Rose (H.load_faults shelf.old) (H.load_faults shelf.new)) source.now (expand_answer file.now))) }
+    ensures files { H.files shelf.new ≡ H.files shelf.old }
+    ensures load_faults { H.load_faults shelf.old ≤ H.load_faults shelf.new }
+    ensures write_faults { H.write_faults shelf.new ≡ H.write_faults shelf.old }
+{
+    let source = match expand_file(alloc, shelf, source) {
+        Ok(source) => source,
+        Err(failure) => return Err(failure),
+    };
+    let line = expanded(alloc, source.flat.origins.as_slice())?;
+    Ok(Work {
+        text: source.flat.text,
+        line,
+    })
+}
+
+/// The origin of a flat line.
+#[tactic(auto, using(crate::proofs::MacroNames::origin_past))]
+fn origin_of(origins: &[Origin], line: u32) -> Origin
+    ensures { result ≡ origin_of_line origins.now line }
+{
+    let at = line.saturating_sub(1) as usize;
+    if at < origins.len() {
+        origins[at]
+    } else {
+        Origin { file: 0, line: 0 }
+    }
+}
+
+/// The end of a command whose flat text the assembler refuses.
+fn fault_of(alloc: Global, source: &Expanded, error: AsmError) -> Result<Failure, AllocError>
+    ensures { IfOk result (EndsBy (TellsAt (names_of source.now.names) source.now.flat.origins.items error)) }
+{
+    match error.why {
+        AsmWhy::Memory => Ok(Failure::Memory),
+        why => {
+            let at = origin_of(source.flat.origins.as_slice(), error.line);
+            let line = bad_line_at(alloc, source.names.as_slice(), at, source_why_name(why))?;
+            Ok(Failure::BadInput(line))
+        }
+    }
+}
+
+/// Assembles the flat text of a source.
+fn assemble_flat(alloc: Global, source: &Expanded) -> Result<Built, Failure>
+    requires { length source.now.flat.text.items < 2 ^ 32 - 1 }
+    ensures built { IfOk result (λ built. assembly source.now.flat.text.items ≡ Ok (seen_built built)) }
+    ensures fails { IfErr result (EndsBy (IsUnbuilt (names_of source.now.names) source.now.flat.origins.items source.now.flat.text.items)) }
+{
+    match assemble(alloc, source.flat.text.as_slice()) {
+        Ok(built) => Ok(built),
+        Err(error) => match fault_of(alloc, source, error) {
+            Ok(failure) => Err(failure),
+            Err(_) => Err(Failure::Memory),
+        },
+    }
+}
+
+/// Expands the source and assembles its flat text.
+fn prepare_build<H: Shelf>(
+    alloc: Global,
+    shelf: &mut H,
+    source: &str,
+    hex: &str,
+) -> Result<Work, Failure>
+    ensures work { IfOk result (IsMacroWork (H.files shelf.old) source.now hex.now (build_answer hex.now)) }
+    ensures fails { IfErr result (EndsBy (ReadsFlat (H.files shelf.old) (Rose (H.load_faults shelf.old) (H.load_faults shelf.new)) source.now (build_answer hex.now))) }
+    ensures files { H.files shelf.new ≡ H.files shelf.old }
+    ensures load_faults { H.load_faults shelf.old ≤ H.load_faults shelf.new }
+    ensures write_faults { H.write_faults shelf.new ≡ H.write_faults shelf.old }
+{
+    let source = match expand_file(alloc, shelf, source) {
+        Ok(source) => source,
+        Err(failure) => return Err(failure),
+    };
+    let built = match assemble_flat(alloc, &source) {
+        Ok(built) => built,
+        Err(failure) => return Err(failure),
+    };
+    let work = image_work(alloc, &built.image)?;
+    Ok(work)
+}
+
+/// `expand SRC FLAT`.
+pub fn run_expand<H: Shelf, K: Sink>(
+    alloc: Global,
+    source: &str,
+    file: &str,
+    shelf: &mut H,
+    out: &mut K,
+) -> Status
+    ensures outcome { Outcome (ExpandAnswers (H.files shelf.old) (Rose (H.load_faults shelf.old) (H.load_faults shelf.new)) source.now file.now) NoPart
+        (Rose (H.write_faults shelf.old) (H.write_faults shelf.new) ⊎ Rose (K.faults out.old) (K.faults out.new))
+        result (outside (H.files shelf.old) (K.text out.old)) (outside (H.files shelf.new) (K.text out.new)) }
+{
+    match prepare_expansion(alloc, shelf, source, file) {
+        Ok(work) => write_work(alloc, file, work, shelf, out),
+        Err(failure) => give_up(alloc, out, &failure),
+    }
+}
+
+/// `build SRC HEX`.
+pub fn run_build<H: Shelf, K: Sink>(
+    alloc: Global,
+    source: &str,
+    hex: &str,
+    shelf: &mut H,
+    out: &mut K,
+) -> Status
+    ensures outcome { Outcome (BuildAnswers (H.files shelf.old) (Rose (H.load_faults shelf.old) (H.load_faults shelf.new)) source.now hex.now) NoPart
+        (Rose (H.write_faults shelf.old) (H.write_faults shelf.new) ⊎ Rose (K.faults out.old) (K.faults out.new))
+        result (outside (H.files shelf.old) (K.text out.old)) (outside (H.files shelf.new) (K.text out.new)) }
+{
+    match prepare_build(alloc, shelf, source, hex) {
+        Ok(work) => write_work(alloc, hex, work, shelf, out),
+        Err(failure) => give_up(alloc, out, &failure),
+    }
+}

@@ -1,0 +1,121 @@
+-- The two files that a command writes have different names.
+use Rattle.std.proofs.Common.{◌≡◌, ◌||◌, ℕ, Bool, true, false, List, [], ◌∷◌, map, bytes_eq, if◌then◌else◌, refl, sym, subst}
+use Rattle.std.specs.Prelude.{Option, Some, None, IfSome, string_bytes}
+use Rattle.std.proofs.lemmas.Slice.Eq.{bytes_eq-Decides}
+use Rattle.std.specs.declared.string.String.{String}
+use Rattle.std.specs.declared.alloc.Global.{Global}
+use Rattle.uz_text.specs.Numbers.{number_within}
+use Rattle.uz_schedule.specs.declared.kinds.Response.{Response}
+use Rattle.uz_top.specs.Words.{Command, Asm, Build, Check, Expand, WritesApart, asm_words, build_words, certify_with, certify_words, check_words, command_of, debug_with, debug_words, dis_words, expand_words, play_with, play_words, response_of, trace_with, trace_words}
+
+abbrev Apart : Option Command → Type 0
+Apart o = IfSome o WritesApart
+
+by_test : (b : Bool) (x y : Option Command) → Apart x → Apart y → Apart (if b then x else y)
+by_test true x y p q = p
+by_test false x y p q = q
+
+check_apart : (words : List (List ℕ)) → Apart (check_words words)
+check_apart [] = tt
+check_apart (a ∷ []) = tt
+check_apart (a ∷ b ∷ []) = by_test (bytes_eq a b) None (Some (Check a b)) tt tt
+check_apart (a ∷ b ∷ c ∷ words) = tt
+
+asm_apart : (words : List (List ℕ)) → Apart (asm_words words)
+asm_apart [] = tt
+asm_apart (a ∷ []) = tt
+asm_apart (a ∷ b ∷ []) = by_test (bytes_eq a b) None (Some (Asm a b)) tt tt
+asm_apart (a ∷ b ∷ c ∷ words) = tt
+
+expand_apart : (words : List (List ℕ)) → Apart (expand_words words)
+expand_apart [] = tt
+expand_apart (a ∷ []) = tt
+expand_apart (a ∷ b ∷ []) = by_test (bytes_eq a b) None (Some (Expand a b)) tt tt
+expand_apart (a ∷ b ∷ c ∷ words) = tt
+
+build_apart : (words : List (List ℕ)) → Apart (build_words words)
+build_apart [] = tt
+build_apart (a ∷ []) = tt
+build_apart (a ∷ b ∷ []) = by_test (bytes_eq a b) None (Some (Build a b)) tt tt
+build_apart (a ∷ b ∷ c ∷ words) = tt
+
+dis_apart : (words : List (List ℕ)) → Apart (dis_words words)
+dis_apart [] = tt
+dis_apart (a ∷ []) = tt
+dis_apart (a ∷ b ∷ words) = tt
+
+trace_with_apart : (hex pads : List ℕ) (irq : Option Response) (clocks : Option ℕ) → Apart (trace_with hex pads irq clocks)
+trace_with_apart hex pads (Some irq) (Some clocks) = tt
+trace_with_apart hex pads (Some irq) None = tt
+trace_with_apart hex pads None clocks = tt
+
+trace_apart : (words : List (List ℕ)) → Apart (trace_words words)
+trace_apart [] = tt
+trace_apart (a ∷ []) = tt
+trace_apart (a ∷ b ∷ []) = tt
+trace_apart (a ∷ b ∷ c ∷ []) = tt
+trace_apart (a ∷ b ∷ c ∷ d ∷ []) = by_test (bytes_eq a b) None (trace_with a b (response_of c) (number_within 1 1000000001 d)) tt (trace_with_apart a b (response_of c) (number_within 1 1000000001 d))
+trace_apart (a ∷ b ∷ c ∷ d ∷ e ∷ words) = tt
+
+play_with_apart : (hex cert pads : List ℕ) (clocks : Option ℕ) (frames : List ℕ) → Apart (play_with hex cert pads clocks frames)
+play_with_apart hex cert pads (Some clocks) frames = tt
+play_with_apart hex cert pads None frames = tt
+
+play_apart : (words : List (List ℕ)) → Apart (play_words words)
+play_apart [] = tt
+play_apart (a ∷ []) = tt
+play_apart (a ∷ b ∷ []) = tt
+play_apart (a ∷ b ∷ c ∷ []) = tt
+play_apart (a ∷ b ∷ c ∷ d ∷ []) = tt
+play_apart (a ∷ b ∷ c ∷ d ∷ e ∷ []) = by_test _ _ _ tt (by_test _ _ _ tt (play_with_apart a b c (number_within 1 1000000001 d) e))
+play_apart (a ∷ b ∷ c ∷ d ∷ e ∷ f ∷ words) = tt
+
+debug_with_apart : (hex pads : List ℕ) (irq : Option Response) (script : List ℕ) → Apart (debug_with hex pads irq script)
+debug_with_apart hex pads (Some irq) script = tt
+debug_with_apart hex pads None script = tt
+
+debug_apart : (words : List (List ℕ)) → Apart (debug_words words)
+debug_apart [] = tt
+debug_apart (a ∷ []) = tt
+debug_apart (a ∷ b ∷ []) = tt
+debug_apart (a ∷ b ∷ c ∷ []) = tt
+debug_apart (a ∷ b ∷ c ∷ d ∷ []) = by_test _ _ _ tt (debug_with_apart a b (response_of c) d)
+debug_apart (a ∷ b ∷ c ∷ d ∷ e ∷ words) = tt
+
+or_last : (a b c : Bool) → c ≡ true → (a || (b || c)) ≡ true
+or_last true b c is = refl
+or_last false true c is = refl
+or_last false false c is = is
+
+certify_with_apart : (same : Bool) (source : List ℕ) (irq : Option Response) (hex cert : List ℕ) → (hex ≡ cert → same ≡ true) → Apart (if same then None else certify_with source irq hex cert)
+certify_with_apart true source irq hex cert told = tt
+certify_with_apart false source (Some irq) hex cert told = λ e. absurd (cc (told e))
+certify_with_apart false source None hex cert told = tt
+
+certify_apart : (words : List (List ℕ)) → Apart (certify_words words)
+certify_apart [] = tt
+certify_apart (a ∷ []) = tt
+certify_apart (a ∷ b ∷ []) = tt
+certify_apart (a ∷ b ∷ c ∷ []) = tt
+certify_apart (a ∷ b ∷ c ∷ d ∷ []) =
+    certify_with_apart (bytes_eq a c || (bytes_eq a d || bytes_eq c d)) a (response_of b) c d
+    (λ e. or_last (bytes_eq a c) (bytes_eq a d) (bytes_eq c d) ((bytes_eq-Decides c d).1 e))
+certify_apart (a ∷ b ∷ c ∷ d ∷ e ∷ words) = tt
+
+command_apart : (words : List (List ℕ)) → Apart (command_of words)
+command_apart [] = tt
+command_apart (verb ∷ words) =
+    by_test _ _ _ (check_apart words)
+    (by_test _ _ _ (dis_apart words)
+    (by_test _ _ _ (asm_apart words)
+    (by_test _ _ _ (trace_apart words)
+    (by_test _ _ _ (play_apart words)
+    (by_test _ _ _ (debug_apart words)
+    (by_test _ _ _ (expand_apart words)
+    (by_test _ _ _ (build_apart words)
+    (by_test _ _ _ (certify_apart words) tt))))))))
+
+-- what holds of the command where the names of its files differ
+pub holds_apart : (words : List (String Global)) (c : Command) (holds : Command → Type 0) → Some c ≡ command_of (map string_bytes words) → (WritesApart c → holds c) → IfSome (command_of (map string_bytes words)) holds
+holds_apart words c holds is given =
+    subst (λ o. IfSome o holds) is (given (subst (λ o. IfSome o WritesApart) (sym is) (command_apart (map string_bytes words))))
