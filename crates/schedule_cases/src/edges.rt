@@ -1,0 +1,19 @@
+//! The event that an edge is.
+
+use crate::row::Row;
+use anyhow::Result;
+use uz_events::event_of;
+use uz_machine::EdgeKind;
+
+/// The event of an edge of this kind, if it is one.
+pub fn tell_event(rt: HostRuntime, row: &mut Row) -> Result<()> {
+    let edge = match row.word() {
+        "sync" => EdgeKind::Sync(row.byte()),
+        "pixel" => EdgeKind::Pixel(row.byte()),
+        "sound" => EdgeKind::Sound(row.byte()),
+        "enter" => EdgeKind::Enter(row.short()),
+        _ => EdgeKind::Leave,
+    };
+    println!(rt; "{:?}", event_of(edge))?;
+    Ok(())
+}
