@@ -269,8 +269,8 @@ past_label None place first name e taken = inl (subst (λ (p : Place). IsTaken p
 past_label (Some label) place first name e taken =
     let is = new_symbols label (pos place.address) place.symbols first.symbols (with_ok place.address (defined label (pos place.address) place.symbols) first e) in
     elim (taken_back place.symbols label name (pos place.address) (subst (λ m. IsTaken m name) (sym is) taken)) [
-    | inl before ↦ inl before
-    | inr same ↦ inr (ap (λ n. Some n) same)
+      | inl before ↦ inl before
+      | inr same ↦ inr (ap (λ n. Some n) same)
     ]
 
 onto_label : (label : Option (List ℕ)) (place first : Place) (name : List ℕ) → labelled label place ≡ Ok first → IsTaken place.symbols name ⊎ (label ≡ Some name) → IsTaken first.symbols name
@@ -331,8 +331,8 @@ pub refused_stands : (follows : Bool) (line : List ℕ) (place : Place) (w : Asm
 unfolding after_line applied
 refused_stands follows line place w e =
     elim (unbound (content_of line) (λ tokens. effect_in line place.symbols follows tokens >>= (λ effect. applied (label_of line tokens) (first_text line (arguments_in line tokens)) effect place)) w e) [
-    | inl lex ↦ subst (InFirstPass follows line place) (sym (content_err line w lex)) (lex ∙ ap (λ u. Err u) (content_err line w lex))
-    | inr t ↦ with_tokens t.0 t.1 t.2
+      | inl lex ↦ subst (InFirstPass follows line place) (sym (content_err line w lex)) (lex ∙ ap (λ u. Err u) (content_err line w lex))
+      | inr t ↦ with_tokens t.0 t.1 t.2
     ]
   where
     of_address : (tokens : List Token) (effect : Effect) → content_of line ≡ Ok tokens → effect_in line place.symbols follows tokens ≡ Ok effect → NoPlace effect place.address w → InFirstPass follows line place w
@@ -345,16 +345,16 @@ refused_stands follows line place w e =
     with_effect tokens effect is does e' =
         let name = first_text line (arguments_in line tokens) in
         elim (unbound (labelled (label_of line tokens) place) (λ first. named effect name first >>= (λ second. at_address second.symbols (placed effect second.address))) w e') [
-        | inl l ↦
-          let it = label_err (label_of line tokens) place w l in
-          subst (InFirstPass follows line place) (sym it.0) (tokens, is, inl (it.1, it.2, it.3))
-        | inr f ↦ elim (unbound (named effect name f.0) (λ second. at_address second.symbols (placed effect second.address)) w f.2) [
-          | inl n ↦
-            let it = name_err effect name f.0 w n in
-            subst (InFirstPass follows line place) (sym it.0) (tokens, is, inr (it.1, does ∙ ap (λ g. Ok g) it.2, past_label (label_of line tokens) place f.0 name f.1 it.3))
-          | inr s ↦
-            let at = name_keeps effect name f.0 s.0 s.1 ∙ label_keeps (label_of line tokens) place f.0 f.1 in
-            of_address tokens effect is does (subst (λ a. NoPlace effect a w) at (no_place effect s.0.address w (address_err s.0.symbols (placed effect s.0.address) w s.2)))
+          | inl l ↦
+              let it = label_err (label_of line tokens) place w l in
+              subst (InFirstPass follows line place) (sym it.0) (tokens, is, inl (it.1, it.2, it.3))
+          | inr f ↦ elim (unbound (named effect name f.0) (λ second. at_address second.symbols (placed effect second.address)) w f.2) [
+            | inl n ↦
+                let it = name_err effect name f.0 w n in
+                subst (InFirstPass follows line place) (sym it.0) (tokens, is, inr (it.1, does ∙ ap (λ g. Ok g) it.2, past_label (label_of line tokens) place f.0 name f.1 it.3))
+            | inr s ↦
+                let at = name_keeps effect name f.0 s.0 s.1 ∙ label_keeps (label_of line tokens) place f.0 f.1 in
+                of_address tokens effect is does (subst (λ a. NoPlace effect a w) at (no_place effect s.0.address w (address_err s.0.symbols (placed effect s.0.address) w s.2)))
           ]
         ]
 
@@ -362,11 +362,11 @@ refused_stands follows line place w e =
         → (effect_in line place.symbols follows tokens >>= (λ effect. applied (label_of line tokens) (first_text line (arguments_in line tokens)) effect place)) ≡ Err w → InFirstPass follows line place w
     with_tokens tokens is e' =
         elim (unbound (effect_in line place.symbols follows tokens) (λ effect. applied (label_of line tokens) (first_text line (arguments_in line tokens)) effect place) w e') [
-        | inl none ↦ elim (effect_err follows line place.symbols tokens w none) [
-          | inl unknown ↦ subst (InFirstPass follows line place) (sym unknown.1) (tokens, is, unknown.0)
-          | inr value ↦ value_stands follows line place w (fault_why (action_of line (body_of tokens)) line place.symbols (arguments_in line tokens) w value) (tokens, is, value)
+          | inl none ↦ elim (effect_err follows line place.symbols tokens w none) [
+            | inl unknown ↦ subst (InFirstPass follows line place) (sym unknown.1) (tokens, is, unknown.0)
+            | inr value ↦ value_stands follows line place w (fault_why (action_of line (body_of tokens)) line place.symbols (arguments_in line tokens) w value) (tokens, is, value)
           ]
-        | inr f ↦ with_effect tokens f.0 is f.1 f.2
+          | inr f ↦ with_effect tokens f.0 is f.1 f.2
         ]
 
 -- where a why stands the line is refused, for that one or one of a lesser number

@@ -1,12 +1,14 @@
 //! The second pass over the lines, and the whole.
 
-ghost use Rattle.std.specs.Prelude.{◌≡◌, ◌<◌, ◌≤◌, ◌-◌, ◌+◌, ◌^◌, All, IfErr, IfOk, OnOk, MatchResult, Ok, length, drop, map as mapped};
+ghost use Rattle.std.specs.Prelude.{◌≡◌, ◌<◌, ◌≤◌, ◌-◌, ◌+◌, ◌^◌, ◌⊎◌, ℕ, All, IfErr, IfOk, OnOk, MatchResult, Ok, Err, length, drop, map as mapped};
 ghost use Rattle.avr_operands.specs.Faults.{Gives};
 ghost use Rattle.avr_operands.specs.Operands.{AllLie, EachLies};
 ghost use Rattle.avr_asm.specs.Layout.{EachShort, GivesLayout};
 ghost use Rattle.uz_hex.specs.Cells.{IsFlash};
 ghost use Rattle.avr_asm.specs.Items.{IsDecoded, IsInFlash};
 ghost use Rattle.avr_asm.specs.Relation.{IsAssembly};
+ghost use Rattle.avr_asm.specs.FirstFault.{IsFirstFault};
+ghost use Rattle.avr_operands.specs.declared.faults.AsmWhy.{AsmWhy};
 ghost use Rattle.avr_asm.specs.Assembly.{Output, seen_built, with_instruction, with_data, with_hint, with_directive, with_action, with_line, following as following_address, output_from, nothing, assembly};
 
 use crate::directives::Directive;
@@ -275,6 +277,10 @@ pub fn assemble(alloc: Global, text: &[u8]) -> Result<Built, AsmError>
     // source's by this relation, it is what comes, unless memory runs out.
     ensures relation { IfOk result (λ built. IsAssembly text.now (seen_built built)) }
     ensures complete { (out : Output) → IsAssembly text.now out → GivesLayout seen_built result (Ok out) }
+
+    // Refused exactly with the first fault: one of the first pass before those of the second, of the least line and number.
+    ensures first { IfErr result (λ e. (e.why ≡ AsmWhy.Memory) ⊎ IsFirstFault text.now e.line e.why) }
+    ensures faulty { (line : ℕ) (why : AsmWhy) → IsFirstFault text.now line why → GivesLayout seen_built result (Err (record { line = line; why = why })) }
 {
     value_is_kept();
     name_gives_word_count();

@@ -102,31 +102,39 @@ one_line earlier line rest Blank e r more =
     let few : length (pads_in earlier ++ []) ≤ 65536 = subst (λ (xs : List Pad). length xs ≤ 65536) (sym (append-nil (pads_in earlier))) r.few in
     more (own (earlier ++ line ∷ []) (pads_in earlier ++ []) (more_read earlier line (pads_in earlier) [] r (ap pads_of e) (ap is_well_formed e) few))
 one_line earlier line rest Faulty e r more =
-    inr (length earlier + 1, Digits, record {
-      earlier = earlier;
-      line = line;
-      later = rest;
-      cut = refl;
-      number_is = refl;
-      read = r;
-      fault = subst (λ k. IsFault k (length (pads_in earlier)) Digits) (sym e) tt;
-    })
+    inr (
+      length earlier + 1,
+      Digits,
+      record {
+        earlier = earlier;
+        line = line;
+        later = rest;
+        cut = refl;
+        number_is = refl;
+        read = r;
+        fault = subst (λ k. IsFault k (length (pads_in earlier)) Digits) (sym e) tt;
+      },
+    )
 one_line earlier line rest (Pair pad) e r more = elim (cases_lt (length (pads_in earlier)) 65536) [
   | inl room ↦
-    let few : length (pads_in earlier ++ pad ∷ []) ≤ 65536 = omega (arith, length-append (pads_in earlier) (pad ∷ [])) in
-    more (own (earlier ++ line ∷ []) (pads_in earlier ++ pad ∷ []) (more_read earlier line (pads_in earlier) (pad ∷ []) r (ap pads_of e) (ap is_well_formed e) few))
+      let few : length (pads_in earlier ++ pad ∷ []) ≤ 65536 = omega (arith, length-append (pads_in earlier) (pad ∷ [])) in
+      more (own (earlier ++ line ∷ []) (pads_in earlier ++ pad ∷ []) (more_read earlier line (pads_in earlier) (pad ∷ []) r (ap pads_of e) (ap is_well_formed e) few))
   | inr full ↦
-    let most : length (pads_in earlier) ≤ 65536 = r.few in
-    let all : length (pads_in earlier) ≡ 65536 = omega arith in
-    inr (length earlier + 1, Count, record {
-      earlier = earlier;
-      line = line;
-      later = rest;
-      cut = refl;
-      number_is = refl;
-      read = r;
-      fault = subst (λ k. IsFault k (length (pads_in earlier)) Count) (sym e) all;
-    })
+      let most : length (pads_in earlier) ≤ 65536 = r.few in
+      let all : length (pads_in earlier) ≡ 65536 = omega arith in
+      inr (
+        length earlier + 1,
+        Count,
+        record {
+          earlier = earlier;
+          line = line;
+          later = rest;
+          cut = refl;
+          number_is = refl;
+          read = r;
+          fault = subst (λ k. IsFault k (length (pads_in earlier)) Count) (sym e) all;
+        },
+      )
 ]
 
 decided : (earlier rest : List (List ℕ)) → IsRead earlier (pads_in earlier) → Decided (earlier ++ rest)
