@@ -9,6 +9,3 @@ mod waits;
 
 pub use laws::{sizes_of_demos, waits_take_their_clocks};
 pub use source::demo_source;
-
-#[cfg(test)]
-mod tests;
