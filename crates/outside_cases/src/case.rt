@@ -1,0 +1,190 @@
+//! The files that are there, and what a command asks of the outside.
+
+use anyhow::Result;
+use std::alloc::Global;
+use uz_shelf::{Fail, MemoryShelf, MemorySink};
+use uz_top::{Status, uzebox};
+
+/// A file that is there before the command.
+#[derive(Drop)]
+struct Held {
+    name: String,
+    bytes: Vec<u8>,
+}
+
+/// A file that the command writes: after it is created, pieces of these lengths are appended. A piece is no longer than what
+/// is left of the file.
+#[derive(Drop)]
+pub struct Written {
+    pub name: String,
+    pub pieces: Vec<usize>,
+}
+
+/// What a run leaves.
+#[derive(Drop)]
+pub struct Outcome {
+    pub status: Status,
+    pub shelf: MemoryShelf,
+    pub sink: MemorySink,
+}
+
+/// The files that are there, and what the command asks of the outside.
+#[derive(Drop)]
+pub struct Case {
+    files: Vec<Held>,
+    pub loads: Vec<String>,
+    pub writes: Vec<Written>,
+    last: Option<Outcome>,
+}
+
+impl Case {
+    /// No file.
+    pub fn new(alloc: Global) -> Case {
+        Case {
+            files: Vec::new(alloc),
+            loads: Vec::new(alloc),
+            writes: Vec::new(alloc),
+            last: None,
+        }
+    }
+
+    /// A file begins, with no byte.
+    pub fn begin_file(&mut self, alloc: Global, name: &str) -> Result<()> {
+        let name = String::from_str(alloc, name)?;
+        let bytes = Vec::new(alloc);
+        self.files.push(Held { name, bytes })?;
+        Ok(())
+    }
+
+    /// The last file goes on by a line.
+    pub fn continue_file(&mut self, line: &str) -> Result<()> {
+        if let Some(held) = self.files.last_mut() {
+            held.bytes.extend_from_slice(line.as_bytes())?;
+            held.bytes.push(b'\n')?;
+        }
+        Ok(())
+    }
+
+    /// The files that the command loads.
+    pub fn set_loads(&mut self, alloc: Global, names: &str) -> Result<()> {
+        self.loads.clear();
+        for name in names.split_whitespace() {
+            self.loads.push(String::from_str(alloc, name)?)?;
+        }
+        Ok(())
+    }
+
+    /// One more file that the command writes.
+    pub fn add_write(&mut self, alloc: Global, words: &str) -> Result<()> {
+        let (name, lengths) = match words.split_once(" ") {
+            Some(parts) => parts,
+            None => (words, ""),
+        };
+        let mut pieces = Vec::new(alloc);
+        for length in lengths.split_whitespace() {
+            pieces.push(length.parse().unwrap_or(usize::MAX))?;
+        }
+        let name = String::from_str(alloc, name)?;
+        self.writes.push(Written { name, pieces })?;
+        Ok(())
+    }
+
+    /// The run that nothing disturbed.
+    pub fn remember(&mut self, outcome: Outcome) {
+        self.last = Some(outcome);
+    }
+
+    /// A file that the last run wrote is there.
+    pub fn take(&mut self, alloc: Global, name: &str) -> Result<()> {
+        if let Some(last) = &self.last
+            && let Some(bytes) = last.shelf.file(name)
+        {
+            let bytes = bytes.to_vec(alloc)?;
+            let name = String::from_str(alloc, name)?;
+            self.files.push(Held { name, bytes })?;
+        }
+        self.loads.clear();
+        self.writes.clear();
+        Ok(())
+    }
+
+    /// A file's bytes before the command: those of the last of that name.
+    pub fn before(&self, name: &str) -> Option<&[u8]> {
+        let mut found = None;
+        for held in self.files.as_slice() {
+            if held.name.as_str() == name {
+                found = Some(held.bytes.as_slice());
+            }
+        }
+        found
+    }
+
+    /// Whether all files that the command doesn't write are as they were.
+    pub fn others_stay(&self, shelf: &MemoryShelf) -> bool {
+        for held in self.files.as_slice() {
+            let name = held.name.as_str();
+            if !self.is_written(name) && shelf.file(name) != self.before(name) {
+                return false;
+            }
+        }
+        true
+    }
+
+    fn is_written(&self, name: &str) -> bool {
+        self.writes
+            .iter()
+            .any(|written| written.name.as_str() == name)
+    }
+
+    /// How many calls of the shelf the command makes.
+    pub fn shelf_calls(&self) -> usize {
+        let mut calls = self.loads.len();
+        for written in self.writes.as_slice() {
+            calls = calls.saturating_add(written.calls());
+        }
+        calls
+    }
+
+    /// Runs the words over the files, with those faults planned.
+    pub fn run(
+        &self,
+        alloc: Global,
+        words: &[String],
+        shelf_fails: &[Fail],
+        sink_fails: &[Fail],
+    ) -> Result<Outcome> {
+        let mut shelf = MemoryShelf::new(alloc, shelf_fails)?;
+        for held in self.files.as_slice() {
+            shelf.add(alloc, held.name.as_str(), held.bytes.as_slice())?;
+        }
+        let mut sink = MemorySink::new(alloc, sink_fails)?;
+        let status = uzebox(alloc, words, &mut shelf, &mut sink);
+        Ok(Outcome {
+            status,
+            shelf,
+            sink,
+        })
+    }
+}
+
+impl Written {
+    /// How many calls write the file: its `create` and an `append` for each piece.
+    pub fn calls(&self) -> usize {
+        self.pieces.len().saturating_add(1)
+    }
+
+    /// How many bytes the file has where the `append` of that number, counted from 0, keeps so many.
+    pub fn kept(&self, number: usize, keep: usize) -> usize {
+        let mut length = 0usize;
+        let mut place = 0usize;
+        for piece in self.pieces.as_slice() {
+            if place < number {
+                length = length.saturating_add(*piece);
+            } else if place == number {
+                length = length.saturating_add(keep.min(*piece));
+            }
+            place = place.saturating_add(1);
+        }
+        length
+    }
+}

@@ -1,0 +1,60 @@
+//! Makes the outside fail at each of its calls, and compares what each run leaves with what it is to leave. Standard input has
+//! for each case the files that are there, and what the command asks of the outside: in which order it loads files, and which
+//! it writes by how many pieces of which lengths. So what a run is to leave follows from the run that nothing disturbs.
+//!
+//! - A load that fails: `Unread`, the line `unread NAME`, and all files as they were.
+//! - A `create` that fails: `Unwritten`, nothing printed; files written before are whole, this one and later ones as they were.
+//! - An `append` that fails and keeps some bytes: so too, but this file has its earlier pieces and the bytes that were kept.
+//! - A `put` that fails and keeps some bytes: what was put before and those bytes are there, and all files are written. The
+//!   status is `Unwritten`, but where the piece is the line of a fault it stays.
+//! - A load that fails, and then the `put` of its line: `Unread`, and as much of the line as was kept.
+//!
+//! Each call fails in turn, keeping 0, 1 and 3 bytes, until a run ends as if nothing disturbed it.
+//!
+//! The lines of standard input:
+//!
+//! - `case TEXT`: no file is there. The line is printed.
+//! - `file NAME`: a file, whose text are the lines that follow and begin with `|`, each without it and with LF after it.
+//! - `loads NAME ..`: the files that the command loads, in order.
+//! - `writes NAME PIECE ..`: a file that it then writes, with the length of each piece, `whole` for all in one.
+//! - `run WORD ..`: runs the words in all these ways, prints them, what was printed, the status, and how many runs there were
+//!   of each kind. A run that left something else is printed with its number.
+//! - `make WORD ..`: runs the words undisturbed alone, and prints them, what was printed, and the status.
+//! - `take NAME`: a file that the last run has written is there from now on, and what the next command loads and writes is
+//!   told anew.
+//!
+//! Other lines are left out.
+#![tactic(auto)]
+
+mod case;
+mod ends;
+mod runs;
+mod script;
+
+use anyhow::Result;
+use case::Case;
+use script::Line;
+
+fn main(rt: HostRuntime) -> Result<()> {
+    let alloc = rt.alloc();
+    let mut case = Case::new(alloc);
+    for text in rt.lines(alloc) {
+        let text = text?;
+        let line = Line::read(text.as_str());
+        if let Line::Case(_) = line {
+            case = Case::new(alloc);
+            println!(rt; "{}", text.as_str())?;
+        }
+        match line {
+            Line::File(name) => case.begin_file(alloc, name)?,
+            Line::Text(text) => case.continue_file(text)?,
+            Line::Loads(names) => case.set_loads(alloc, names)?,
+            Line::Writes(words) => case.add_write(alloc, words)?,
+            Line::Run(words) => runs::run_all(&rt, alloc, &mut case, words)?,
+            Line::Make(words) => runs::run_once(&rt, alloc, &mut case, words)?,
+            Line::Take(name) => case.take(alloc, name)?,
+            Line::Case(_) | Line::Other => {}
+        }
+    }
+    Ok(())
+}

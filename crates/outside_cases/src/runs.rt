@@ -1,0 +1,181 @@
+//! A command, run in all ways.
+
+use crate::case::{Case, Outcome};
+use crate::ends::{Fault, front, has_all_files, is_undisturbed, is_unread, is_wanted, last_line};
+use anyhow::Result;
+use std::alloc::Global;
+use std::io::{self, Write};
+use uz_shelf::Fail;
+use uz_top::Status;
+
+/// How many bytes a call that fails keeps.
+const KEPT: [u32; 3] = [0, 1, 3];
+
+/// More calls than any case has.
+const MOST_CALLS: u32 = 1000;
+
+/// The words of a line.
+fn words_of(alloc: Global, words: &str) -> Result<Vec<String>> {
+    let mut list = Vec::new(alloc);
+    for word in words.split_whitespace() {
+        list.push(String::from_str(alloc, word)?)?;
+    }
+    Ok(list)
+}
+
+/// Runs the words undisturbed, and prints them, what was printed, and the status.
+fn run_whole(
+    rt: &HostRuntime,
+    alloc: Global,
+    case: &Case,
+    words: &str,
+    list: &[String],
+) -> Result<Outcome> {
+    let whole = case.run(alloc, list, &[], &[])?;
+    println!(rt; "run {}", words)?;
+    io::writer(rt).write_all(whole.sink.text())?;
+    println!(rt; "status {}", whole.status as u8)?;
+    Ok(whole)
+}
+
+/// Runs the words undisturbed alone.
+pub fn run_once(rt: &HostRuntime, alloc: Global, case: &mut Case, words: &str) -> Result<()> {
+    let list = words_of(alloc, words)?;
+    let whole = run_whole(rt, alloc, case, words, list.as_slice())?;
+    case.remember(whole);
+    Ok(())
+}
+
+/// Runs the words in all ways, and prints what came of it.
+pub fn run_all(rt: &HostRuntime, alloc: Global, case: &mut Case, words: &str) -> Result<()> {
+    let list = words_of(alloc, words)?;
+    let whole = run_whole(rt, alloc, case, words, list.as_slice())?;
+    try_shelf(rt, alloc, case, list.as_slice(), &whole)?;
+    try_sink(rt, alloc, case, list.as_slice(), &whole)?;
+    try_both(rt, alloc, case, list.as_slice(), &whole)?;
+    case.remember(whole);
+    Ok(())
+}
+
+/// Says which run left something else than it is to leave.
+fn tell(rt: &HostRuntime, right: bool, kind: &str, fail: Fail) -> Result<()> {
+    if !right {
+        println!(rt; "differs: {} {} keeps {}", kind, fail.call, fail.keep)?;
+    }
+    Ok(())
+}
+
+/// Each call of the shelf fails in turn, until a run ends as if nothing disturbed it.
+fn try_shelf(
+    rt: &HostRuntime,
+    alloc: Global,
+    case: &Case,
+    words: &[String],
+    whole: &Outcome,
+) -> Result<()> {
+    let mut failed = 0u32;
+    for call in 1..MOST_CALLS {
+        let mut ended = false;
+        for keep in KEPT {
+            let fail = Fail { call, keep };
+            let left = case.run(alloc, words, &[fail], &[])?;
+            let fault = Fault {
+                call: call as usize,
+                keep: keep as usize,
+            };
+            tell(rt, is_wanted(case, whole, &left, fault), "shelf", fail)?;
+            ended = is_undisturbed(case, whole, &left);
+        }
+        if ended {
+            break;
+        }
+        failed = call;
+    }
+    println!(rt; "shelf: calls {} loads {}", failed, case.loads.len())?;
+    Ok(())
+}
+
+/// The status where the piece of a `put` that begins there fails: the line of a fault changes none.
+fn status_without(whole: &Outcome, start: usize) -> Status {
+    if whole.status != Status::Done && start == last_line(whole.sink.text()) {
+        whole.status
+    } else {
+        Status::Unwritten
+    }
+}
+
+/// Whether a run in which the `put` of a piece failed leaves what it is to leave.
+fn is_cut(case: &Case, whole: &Outcome, left: &Outcome, start: usize, length: usize) -> bool {
+    left.status == status_without(whole, start)
+        && left.sink.text() == front(whole.sink.text(), length)
+        && has_all_files(case, whole, left)
+}
+
+/// Each `put` of the sink fails in turn, until a run ends as if nothing disturbed it. Where a piece begins is seen where it keeps
+/// no byte: the first begins at 0, each later one further on, and a piece ends where the next one begins.
+fn try_sink(
+    rt: &HostRuntime,
+    alloc: Global,
+    case: &Case,
+    words: &[String],
+    whole: &Outcome,
+) -> Result<()> {
+    let mut start = 0usize;
+    let mut puts = 0u32;
+    for call in 1..MOST_CALLS {
+        let end = piece_start(alloc, case, words, call.saturating_add(1))?;
+        let first = Fail { call, keep: 0 };
+        let left = case.run(alloc, words, &[], &[first])?;
+        if is_undisturbed(case, whole, &left) {
+            break;
+        }
+        tell(rt, start < end, "empty put", first)?;
+        for keep in KEPT {
+            let fail = Fail { call, keep };
+            let left = case.run(alloc, words, &[], &[fail])?;
+            let length = start.saturating_add(keep as usize).min(end);
+            tell(rt, is_cut(case, whole, &left, start, length), "sink", fail)?;
+        }
+        start = end;
+        puts = call;
+    }
+    tell(
+        rt,
+        start == whole.sink.text().len(),
+        "puts of",
+        Fail {
+            call: puts,
+            keep: 0,
+        },
+    )?;
+    println!(rt; "sink: puts {}", puts)?;
+    Ok(())
+}
+
+/// Where the piece of the `put` of that number begins: how much was put before. The whole length where there are fewer.
+fn piece_start(alloc: Global, case: &Case, words: &[String], call: u32) -> Result<usize> {
+    let left = case.run(alloc, words, &[], &[Fail { call, keep: 0 }])?;
+    Ok(left.sink.text().len())
+}
+
+/// Each load fails in turn, and then the `put` of its line.
+fn try_both(
+    rt: &HostRuntime,
+    alloc: Global,
+    case: &Case,
+    words: &[String],
+    whole: &Outcome,
+) -> Result<()> {
+    let mut call = 0u32;
+    for _ in case.loads.as_slice() {
+        call = call.saturating_add(1);
+        for keep in KEPT {
+            let load = Fail { call, keep };
+            let put = Fail { call: 1, keep };
+            let left = case.run(alloc, words, &[load], &[put])?;
+            let right = is_unread(case, whole, &left, call as usize, keep as usize);
+            tell(rt, right, "line of load", load)?;
+        }
+    }
+    Ok(())
+}
