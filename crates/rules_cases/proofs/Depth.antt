@@ -9,3 +9,8 @@ pub depth_few : (head : Head) (kind : Kind) → head.main ≡ 4 → head.handler
 depth_few head Main m h = omega (arith, m)
 depth_few head Handler m h = omega (arith, h)
 depth_few head Alone m h = omega (arith, m)
+
+pub depth_fits : (head : Head) (kind : Kind) → head.main ≤ 32 → head.handler ≤ 32 → depth_limit head kind ≤ 32
+depth_fits head Main m h = m
+depth_fits head Handler m h = h
+depth_fits head Alone m h = m

@@ -1,16 +1,21 @@
-//! Draws 100,000 instances and the words at their pcs, the same in every run, and sums up the whole answers of `uz_rules::after`. After each
-//! 5,000 it prints the sum so far. The expected sums come from a second implementation of the rules, written apart from their tables.
+//! First the answers of a table of instances on standard input, of `uz_rules::local` and `uz_rules::after`. Then it draws 100,000
+//! instances and the words at their pcs, the same in every run, and sums up the whole answers of `uz_rules::after`. After each 5,000 it
+//! prints the sum so far. The table's expected answers, and the sums, come from two further implementations of the rules, in another
+//! language, each written from the rules' tables.
 #![tactic(auto)]
 
 ghost use Rattle.std.specs.Prelude.{◌≡◌, ◌<◌};
 
 mod draw;
 mod random;
+mod report;
 mod sum;
+mod table;
 
 use anyhow::Result;
 use random::Random;
 use sum::Sum;
+use table::{Table, set_word};
 use uz_hex::Image;
 use uz_rules::{Fail, Next, after};
 use uz_schedule::{Head, Instance, Kind};
@@ -21,9 +26,7 @@ const DRAWS: u32 = 100_000;
 /// Writes the words of a case at its pc, and clears them again after its answer.
 fn put(flash: &mut Image, pc: u16, words: &[u16; 3]) {
     for k in 0..3u16 {
-        let at = 2 * (pc.wrapping_add(k) % 32768);
-        flash.set(at, (words[k as usize] % 256) as u8);
-        flash.set(at + 1, (words[k as usize] / 256) as u8);
+        set_word(flash, pc.wrapping_add(k), words[k as usize]);
     }
 }
 
@@ -60,7 +63,8 @@ fn add_one(flash: &mut Image, head: &Head, random: &mut Random, sum: &mut Sum)
     put(flash, at.pc, &[0xFFFF; 3]);
 }
 
-fn main(rt: HostRuntime) -> Result<()> {
+/// Draws and sums up.
+fn sum_up(rt: &HostRuntime) -> Result<()> {
     let mut flash = Image::empty(rt.alloc())?;
     let head = draw::header();
     let mut random = Random::new(1);
@@ -72,4 +76,13 @@ fn main(rt: HostRuntime) -> Result<()> {
         }
     }
     Ok(())
+}
+
+fn main(rt: HostRuntime) -> Result<()> {
+    let mut table = Table::new(rt.alloc())?;
+    for row in rt.lines(rt.alloc()) {
+        let row = row?;
+        table.row(&rt, row.as_str())?;
+    }
+    sum_up(&rt)
 }

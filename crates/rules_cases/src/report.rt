@@ -1,0 +1,172 @@
+//! Prints answers, each on one line.
+//!
+//! Abstract results: what is emitted, `back` of RETI, then for each result `-> PC LINE CLOCK LEVEL PENDING`, and at the end what
+//! is known otherwise than at the instance, in the words of a certificate's items. A stack that isn't the instance's is
+//! printed whole, after `stack`.
+
+use anyhow::Result;
+use uz_rules::{Fail, Next};
+use uz_schedule::{Bit, EventKind, Instance, Span, Val, Wide};
+
+/// Tells a reason, or that there is none.
+pub fn tell_reason(rt: &HostRuntime, answer: std::result::Result<(), Fail>) -> Result<()> {
+    match answer {
+        Ok(()) => print!(rt; "passes")?,
+        Err(why) => print!(rt; "{:?}", why)?,
+    }
+    Ok(())
+}
+
+/// Tells a range of bytes.
+fn tell_span(rt: &HostRuntime, span: &Span) -> Result<()> {
+    match (span.lo(), span.hi()) {
+        (0, 255) => print!(rt; "*")?,
+        (lo, hi) if lo == hi => print!(rt; "{}", lo)?,
+        (lo, hi) => print!(rt; "{}..{}", lo, hi)?,
+    }
+    Ok(())
+}
+
+/// Tells a range of numbers.
+fn tell_wide(rt: &HostRuntime, wide: &Wide) -> Result<()> {
+    match (wide.lo(), wide.hi()) {
+        (0, 65535) => print!(rt; "*")?,
+        (lo, hi) if lo == hi => print!(rt; "{}", lo)?,
+        (lo, hi) => print!(rt; "{}..{}", lo, hi)?,
+    }
+    Ok(())
+}
+
+/// Tells what is known of a byte.
+fn tell_value(rt: &HostRuntime, value: &Val) -> Result<()> {
+    match value {
+        Val::Range(span) => tell_span(rt, span)?,
+        Val::Old(r) => print!(rt; "o{}", r)?,
+        Val::OldFlags => print!(rt; "of")?,
+    }
+    Ok(())
+}
+
+/// The word of a flag.
+fn flag_word(bit: Bit) -> &'static str {
+    match bit {
+        Bit::Zero => "0",
+        Bit::One => "1",
+        Bit::Free => "?",
+        Bit::Old => "o",
+    }
+}
+
+/// Tells what is emitted.
+fn tell_emission(rt: &HostRuntime, emitted: Option<(u8, EventKind)>) -> Result<()> {
+    match emitted {
+        None => print!(rt; "nothing")?,
+        Some((clocks, EventKind::Sync(level))) => print!(rt; "sync {} after {}", level, clocks)?,
+        Some((clocks, EventKind::Pixel)) => print!(rt; "pixel after {}", clocks)?,
+        Some((clocks, EventKind::Sound)) => print!(rt; "sound after {}", clocks)?,
+        Some((clocks, EventKind::Leave)) => print!(rt; "leave after {}", clocks)?,
+    }
+    Ok(())
+}
+
+/// Tells where a result stands.
+fn tell_place(rt: &HostRuntime, at: &Instance) -> Result<()> {
+    let pending = if at.pending { 1 } else { 0 };
+    print!(rt;
+        " -> {} {} {} {} {}",
+        at.pc, at.line, at.clock, at.level, pending
+    )?;
+    Ok(())
+}
+
+/// Tells registers that are known otherwise than before.
+fn tell_registers(rt: &HostRuntime, old: &[Val; 32], new: &[Val; 32]) -> Result<()> {
+    for r in 0..32usize {
+        if old[r] != new[r] {
+            print!(rt; " r{}=", r)?;
+            tell_value(rt, &new[r])?;
+        }
+    }
+    Ok(())
+}
+
+/// Tells pairs that are known otherwise than before.
+fn tell_pairs(rt: &HostRuntime, old: &[Wide; 3], new: &[Wide; 3]) -> Result<()> {
+    for (k, name) in [(0usize, "x"), (1, "y"), (2, "z")] {
+        if old[k % 3] != new[k % 3] {
+            print!(rt; " {}=", name)?;
+            tell_wide(rt, &new[k % 3])?;
+        }
+    }
+    Ok(())
+}
+
+/// Tells flags that are known otherwise than before.
+fn tell_flags(rt: &HostRuntime, old: &[Bit; 7], new: &[Bit; 7]) -> Result<()> {
+    let names = ["c", "z", "n", "v", "s", "h", "t"];
+    for k in 0..7usize {
+        if old[k] != new[k] {
+            print!(rt; " {}={}", names[k], flag_word(new[k]))?;
+        }
+    }
+    Ok(())
+}
+
+/// Tells the stack, if it is another one than before.
+fn tell_stack(rt: &HostRuntime, old: &[Val], new: &[Val]) -> Result<()> {
+    if old == new {
+        return Ok(());
+    }
+    print!(rt; " stack")?;
+    for value in new {
+        print!(rt; " s:")?;
+        tell_value(rt, value)?;
+    }
+    Ok(())
+}
+
+/// Tells tracked cells that are known otherwise than before, by their place among those of the kind.
+fn tell_cells(rt: &HostRuntime, old: &[Span], new: &[Span]) -> Result<()> {
+    for (j, (before, after)) in old.iter().zip(new).enumerate() {
+        if before != after {
+            print!(rt; " m{}=", j)?;
+            tell_span(rt, after)?;
+        }
+    }
+    Ok(())
+}
+
+/// Tells what is known at a result otherwise than at the instance.
+fn tell_changes(rt: &HostRuntime, old: &Instance, new: &Instance) -> Result<()> {
+    tell_registers(rt, &old.regs, &new.regs)?;
+    tell_pairs(rt, &old.pairs, &new.pairs)?;
+    tell_flags(rt, &old.flags, &new.flags)?;
+    tell_stack(rt, old.stack.as_slice(), new.stack.as_slice())?;
+    tell_cells(rt, old.cells.as_slice(), new.cells.as_slice())
+}
+
+/// Tells the abstract results of an instance.
+pub fn tell_answer(
+    rt: &HostRuntime,
+    at: &Instance,
+    answer: &std::result::Result<Next, Fail>,
+) -> Result<()> {
+    match answer {
+        Ok(next) => {
+            tell_emission(rt, next.emit)?;
+            if next.back {
+                print!(rt; " back")?;
+            }
+            for result in next.out.as_slice() {
+                tell_place(rt, result)?;
+            }
+            print!(rt; ":")?;
+            if let Some(first) = next.out.as_slice().first() {
+                tell_changes(rt, at, first)?;
+            }
+            println!(rt; "")?;
+        }
+        Err(why) => println!(rt; "{:?}", why)?,
+    }
+    Ok(())
+}

@@ -1,0 +1,139 @@
+//! A table of instances on standard input.
+//!
+//! Its rows:
+//!
+//! - `|LINE`: a line of a certificate's text. The points of the certificate are the instances.
+//! - `read`: the certificate of the lines so far.
+//! - `word AT WORD`: a word of the flash, both as decimal numbers.
+//! - `ask N`: what `uz_rules::local` and `uz_rules::after` answer of point N at the first line and the first count of its box.
+//!
+//! Other rows are printed as they are.
+
+ghost use Rattle.std.specs.Prelude.{◌≡◌, ◌<◌, ◌≤◌};
+
+use crate::report::{tell_answer, tell_reason};
+use anyhow::Result;
+use std::alloc::Global;
+use uz_cert::read_cert;
+use uz_hex::Image;
+use uz_rules::{after, local};
+use uz_schedule::{Cert, Head, Instance, well_formed};
+
+/// What the table has said so far.
+#[derive(Drop)]
+pub struct Table {
+    text: Vec<u8>,
+    flash: Image,
+    cert: Option<Cert>,
+}
+
+/// Sets the word at a word address, round the flash.
+pub fn set_word(flash: &mut Image, at: u16, word: u16) {
+    let low = at % 32768 * 2;
+    flash.set(low, (word % 256) as u8);
+    flash.set(low + 1, (word / 256) as u8);
+}
+
+/// Two numbers with a space between.
+fn two_numbers(text: &str) -> Option<(u16, u16)> {
+    let (a, b) = text.split_once(" ")?;
+    Some((a.parse().ok()?, b.parse().ok()?))
+}
+
+/// Tells the abstract results of an instance, in a frame of so many lines.
+#[tactic(auto, using(crate::proofs::Depth::depth_fits))]
+fn tell_results(
+    rt: &HostRuntime,
+    flash: &Image,
+    head: &Head,
+    lines: usize,
+    at: &Instance,
+) -> Result<()> {
+    if head.main > 32 || head.handler > 32 || lines > 525 {
+        println!(rt; "beyond the limits")?;
+    } else if usize::from(at.line) >= lines || at.clock >= 1820 {
+        println!(rt; "off its line")?;
+    } else {
+        tell_answer(rt, at, &after(flash, head, lines as u16, at))?;
+    }
+    Ok(())
+}
+
+/// Tells the answers of a point at its box's first line and count.
+fn tell_point(rt: &HostRuntime, flash: &Image, cert: &Cert, id: u32) -> Result<()> {
+    if !well_formed(cert) {
+        println!(rt; "not well formed")?;
+        return Ok(());
+    }
+    let Some(point) = cert.points.as_slice().get(id as usize) else {
+        println!(rt; "{} is no point", id)?;
+        return Ok(());
+    };
+    let mut looked = 0;
+    let reason = local(flash, cert, id, point.l0, point.c0, &mut looked);
+    print!(rt; "{}: ", id)?;
+    tell_reason(rt, reason)?;
+    print!(rt; "; ")?;
+    match cert.instance(id, point.l0, point.c0) {
+        Some(at) => tell_results(rt, flash, &cert.head, cert.schedule.lines.len(), &at),
+        None => {
+            println!(rt; "no instance")?;
+            Ok(())
+        }
+    }
+}
+
+impl Table {
+    /// An empty table.
+    pub fn new(alloc: Global) -> Result<Table> {
+        Ok(Table {
+            text: Vec::new(alloc),
+            flash: Image::empty(alloc)?,
+            cert: None,
+        })
+    }
+
+    /// Reads the certificate of the lines so far.
+    fn read(&mut self, rt: &HostRuntime) -> Result<()> {
+        if self.text.len() >= u32::MAX as usize {
+            println!(rt; "too long")?;
+            return Ok(());
+        }
+        match read_cert(rt.alloc(), self.text.as_slice()) {
+            Ok(cert) => self.cert = Some(cert),
+            Err(error) => println!(rt; "line {} {:?}", error.line, error.why)?,
+        }
+        self.text.clear();
+        Ok(())
+    }
+
+    /// Does a row of two words or more.
+    fn act(&mut self, rt: &HostRuntime, row: &str) -> Result<()> {
+        if let Some(rest) = row.strip_prefix("word ") {
+            if let Some((at, word)) = two_numbers(rest) {
+                set_word(&mut self.flash, at, word);
+                return Ok(());
+            }
+        }
+        if let Some(rest) = row.strip_prefix("ask ") {
+            if let (Ok(id), Some(cert)) = (rest.parse::<u32>(), &self.cert) {
+                return tell_point(rt, &self.flash, cert, id);
+            }
+        }
+        println!(rt; "{}", row)?;
+        Ok(())
+    }
+
+    /// Does a row.
+    pub fn row(&mut self, rt: &HostRuntime, row: &str) -> Result<()> {
+        if let Some(line) = row.strip_prefix("|") {
+            self.text.extend_from_slice(line.as_bytes())?;
+            self.text.push(b'\n')?;
+            return Ok(());
+        }
+        if row == "read" {
+            return self.read(rt);
+        }
+        self.act(rt, row)
+    }
+}

@@ -1,0 +1,11 @@
+-- The depths of a header of small depths.
+use Rattle.std.proofs.Common.{◌≡◌, ◌≤◌, ℕ, arith}
+use Rattle.uz_schedule.specs.declared.kinds.Kind.{Kind}
+use Rattle.uz_schedule.specs.declared.kinds.Kind.TheVariants.{Main, Handler, Alone}
+use Rattle.uz_schedule.specs.declared.header.Head.{Head}
+use Rattle.uz_transfer.specs.Kinds.{depth_limit}
+
+pub depth_few : (head : Head) (kind : Kind) → head.main ≡ 4 → head.handler ≡ 6 → depth_limit head kind ≤ 32
+depth_few head Main m h = omega (arith, m)
+depth_few head Handler m h = omega (arith, h)
+depth_few head Alone m h = omega (arith, m)
