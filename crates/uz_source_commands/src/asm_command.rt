@@ -59,7 +59,7 @@ pub fn run_asm<H: Shelf, K: Sink>(
     shelf: &mut H,
     out: &mut K,
 ) -> Status
-    ensures outcome { Outcome (AsmAnswers (H.files shelf.old) (Rose (H.load_faults shelf.old) (H.load_faults shelf.new)) source.now hex.now) NoPart
+    ensures { Outcome (AsmAnswers (H.files shelf.old) (Rose (H.load_faults shelf.old) (H.load_faults shelf.new)) source.now hex.now) NoPart
         (Rose (H.write_faults shelf.old) (H.write_faults shelf.new) ⊎ Rose (K.faults out.old) (K.faults out.new))
         result (outside (H.files shelf.old) (K.text out.old)) (outside (H.files shelf.new) (K.text out.new)) }
 {
