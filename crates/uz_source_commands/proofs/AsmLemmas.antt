@@ -1,18 +1,13 @@
 -- What `asm` answers: a file that is written, and a line.
-use Rattle.std.proofs.Common.{◌≡◌, ◌⊎◌, inl, inr, ℕ, cond, List, [], ◌++◌, take, refl, sym, ap, subst, ◌∙◌}
-use Rattle.std.specs.Prelude.{Option, Some, None, unwrap_or, Result, Ok, Err, OnOk, OnErr}
-use Rattle.std.specs.Ordering.{is_eq}
-use Rattle.std.specs.Cmp.{tied_itself}
-use Rattle.std.specs.Cmp.Lexicographic.{nat_list_cmp_total}
-use Rattle.std.specs.FinMap.{get, insert, get-insert}
-use Rattle.uz_shelf.specs.Files.{FileMap, AppendsAll, AppendsPrefix, Creates, CreatesOrKeeps, LacksFile, bytes_so_far}
+use Rattle.std.proofs.Common.{◌≡◌, ◌⊎◌, inl, inr, ℕ, List, refl, sym, ap, subst, ◌∙◌}
+use Rattle.std.specs.Prelude.{Option, Some, Err}
+use Rattle.uz_shelf.specs.Files.{FileMap, LacksFile}
 use Rattle.uz_shelf.specs.Text.{TakesPrefix}
-use Rattle.uz_shelf.proofs.HeldLemmas.{insert_again}
 use Rattle.uz_source_commands.specs.declared.asm_command.Work.{Work}
 use Rattle.uz_files.specs.declared.ending.Failure.{Failure}
 use Rattle.uz_files.specs.declared.status.Status.{Status}
 use Rattle.uz_files.specs.declared.status.Status.TheVariants.{Done, Unread, BadInput, Unwritten, NoMemory}
-use Rattle.uz_files.specs.Answers.{Answer, ComesOf, IsCut, NoPart, Outcome, WritesFile, WritesPart, one_line, outside}
+use Rattle.uz_files.specs.Answers.{Answer, ComesOf, NoPart, Outcome, WritesFile, one_line, outside}
 use Rattle.uz_files.specs.Lines.{no_memory_line}
 use Rattle.uz_files.specs.Endings.{ComesOfFailure, EndsBy}
 use Rattle.uz_files.specs.Reading.{Fails, Refuses, Spells, text_limit}

@@ -1,6 +1,6 @@
 -- What `expand` and `build` answer.
-use Rattle.std.proofs.Common.{◌≡◌, ◌⊎◌, inl, inr, ℕ, List, [], ◌∷◌, take, refl, sym, ap, subst, ◌∙◌}
-use Rattle.std.specs.Prelude.{◌≢◌, Option, Some, None, Result, Ok, Err}
+use Rattle.std.proofs.Common.{◌≡◌, ◌⊎◌, inl, inr, ℕ, List, refl, sym, ap, subst, ◌∙◌}
+use Rattle.std.specs.Prelude.{Option, Some, Result, Ok, Err}
 use Rattle.uz_shelf.specs.Files.{FileMap}
 use Rattle.uz_shelf.specs.Text.{TakesPrefix}
 use Rattle.avr_asm.specs.Assembly.{Output, assembly}
@@ -12,21 +12,19 @@ use Rattle.avr_macro.specs.declared.faults.MacroWhy.TheVariants as why
 use Rattle.avr_macro.specs.declared.flat.Flat.{Flat}
 use Rattle.avr_macro.specs.declared.origin.Origin.{Origin}
 use Rattle.avr_macro.specs.Answers.{IsRefused, refused_seen}
-use Rattle.avr_macro.specs.Expansion.{End, Expands, FlatText, LacksLast, Refusal}
+use Rattle.avr_macro.specs.Expansion.{End, Expands, FlatText, Refusal}
 use Rattle.uz_source_commands.specs.declared.asm_command.Work.{Work}
 use Rattle.uz_files.specs.declared.ending.Failure.{Failure}
-use Rattle.uz_files.specs.declared.ending.Failure.TheVariants.{Unread as UnreadFile, BadInput as BadFile, Memory as NoRoom}
 use Rattle.uz_files.specs.declared.status.Status.{Status}
 use Rattle.uz_files.specs.declared.status.Status.TheVariants.{Done, Unread, BadInput, Unwritten, NoMemory}
 use Rattle.uz_files.specs.Answers.{Answer, ComesOf, NoPart, Outcome, Outside, WritesFile, one_line, outside}
-use Rattle.uz_files.specs.Lines.{no_memory_line, unread_line}
+use Rattle.uz_files.specs.Lines.{no_memory_line}
 use Rattle.uz_files.specs.Endings.{ComesOfFailure, EndsBy}
 use Rattle.uz_source_commands.specs.AsmCommand.{assembled_line}
 use Rattle.uz_files.specs.Writing.{hex_file, written_then}
 use Rattle.uz_files.specs.Writing.{WritesSome}
-use Rattle.uz_files.specs.SourceFile.{asm_why_name}
-use Rattle.uz_source_commands.specs.MacroSource.{ExpandFails, IsRefusedSource, MacroLacks, ReadsFlat, TellsRefusal, bad_at, flat_of, last_name, refusal_answer}
-use Rattle.uz_source_commands.specs.MacroCommands.{BuildAnswers, BuildSucceeds, ExpandAnswers, ExpandSucceeds, build_answer, built_answer, expand_answer, expanded_line, origin_of}
+use Rattle.uz_source_commands.specs.MacroSource.{ExpandFails, IsRefusedSource, MacroLacks, ReadsFlat, TellsRefusal, flat_of, last_name, refusal_answer}
+use Rattle.uz_source_commands.specs.MacroCommands.{BuildAnswers, BuildSucceeds, ExpandAnswers, ExpandSucceeds, build_answer, built_answer, expand_answer, expanded_line}
 use Rattle.uz_source_commands.specs.MacroValues.{IsMacroWork, IsUnbuilt, IsWriting, TellsAt}
 use Rattle.uz_files.proofs.WriteLemmas.{comes_written, part_written}
 use Rattle.uz_files.proofs.EndingLemmas.{comes_by, run_outcome}

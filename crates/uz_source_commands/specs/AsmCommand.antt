@@ -1,12 +1,10 @@
 -- `asm SRC HEX`: the source is read and assembled, the HEX text of its image is written, and then a line tells how many
 -- bytes are present.
-use Rattle.std.specs.Prelude.{◌≡◌, ℕ, List, [], ◌∷◌, ◌++◌, codes, decimal, Option}
+use Rattle.std.specs.Prelude.{◌≡◌, ℕ, List, ◌++◌, codes, decimal, Option}
 use Rattle.std.specs.FinMap.{len}
 use Rattle.uz_shelf.specs.Files.{FileMap}
 use Rattle.uz_hex.specs.Reading.{Flash}
-use Rattle.uz_hex.specs.Writing.{hex_text}
 use Rattle.avr_asm.specs.Assembly.{Output}
-use Rattle.uz_files.specs.declared.status.Status.TheVariants.{Done}
 use Rattle.uz_files.specs.Answers.{Answer}
 use Rattle.uz_files.specs.Writing.{hex_file, written_then}
 use Rattle.uz_files.specs.Reading.{Reads, Refuses, Says, Spells, text_limit}

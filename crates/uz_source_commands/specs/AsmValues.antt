@@ -1,10 +1,9 @@
 -- The values of the code that make an assembly.
-use Rattle.std.specs.Prelude.{◌≡◌, ◌⊎◌, ℕ, List, Option, take}
+use Rattle.std.specs.Prelude.{◌≡◌, ℕ, List, Option}
 use Rattle.uz_shelf.specs.Files.{FileMap}
 use Rattle.uz_hex.specs.Writing.{hex_text}
 use Rattle.avr_asm.specs.Assembly.{Output}
 use Rattle.uz_source_commands.specs.declared.asm_command.Work.{Work}
-use Rattle.uz_files.specs.Answers.{WritesFile}
 use Rattle.uz_files.specs.Reading.{Says, Spells, text_limit}
 use Rattle.uz_files.specs.SourceFile.{output_of}
 use Rattle.uz_source_commands.specs.AsmCommand.{assembled_line}

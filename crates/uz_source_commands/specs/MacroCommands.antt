@@ -1,6 +1,6 @@
 -- `expand SRC FLAT`: the flat text is written, and then a line tells how many lines it has. `build SRC HEX`: the flat text
 -- is assembled, and written and told as by `asm`; a refusal of the assembler is told at the origin of its flat line.
-use Rattle.std.specs.Prelude.{◌≡◌, ℕ, ◌-◌, List, [], ◌∷◌, ◌++◌, codes, decimal, length, slice_index_or, Option, Result, Ok, Err}
+use Rattle.std.specs.Prelude.{◌≡◌, ℕ, ◌-◌, List, ◌++◌, codes, decimal, length, slice_index_or, Option, Result, Ok, Err}
 use Rattle.uz_shelf.specs.Files.{FileMap}
 use Rattle.avr_asm.specs.Assembly.{Output, assembly}
 use Rattle.avr_asm.specs.declared.faults.AsmError.{AsmError}

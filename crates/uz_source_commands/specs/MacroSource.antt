@@ -1,5 +1,5 @@
 -- What the expansion of a source says: its flat text with the origins, or its first refusal.
-use Rattle.std.specs.Prelude.{◌≡◌, ◌≢◌, ℕ, ◌⊎◌, List, [], ◌∷◌, codes, slice_index_or, Option, Result, Ok, Err}
+use Rattle.std.specs.Prelude.{◌≡◌, ◌≢◌, ℕ, ◌⊎◌, List, [], ◌∷◌, codes, slice_index_or, Option, Ok, Err}
 use Rattle.uz_shelf.specs.Files.{FileMap}
 use Rattle.avr_macro.specs.declared.faults.MacroError.{MacroError}
 use Rattle.avr_macro.specs.declared.faults.MacroWhy.{MacroWhy}

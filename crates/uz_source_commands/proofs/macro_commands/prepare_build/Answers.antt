@@ -1,4 +1,3 @@
-use Rattle.std.proofs.Common.{◌∙◌, ap, refl}
 use Rattle.uz_shelf.specs.Faults.{Rose}
 use Rattle.avr_asm.specs.Assembly.{seen_built}
 use Rattle.avr_macro.specs.Answers.{names_of}

@@ -1,7 +1,6 @@
 use Rattle.std.proofs.Common.{◌∙◌, ap, refl}
 use Rattle.uz_shelf.specs.Faults.{Rose}
 use Rattle.avr_macro.specs.Answers.{names_of}
-use Rattle.avr_macro.specs.Expansion.{FlatText}
 use Rattle.uz_source_commands.specs.MacroCommands.{expand_answer, expanded_line}
 use Rattle.uz_source_commands.proofs.MacroLemmas.{expanded_work, fails_flat, text_of}
 use Rattle.uz_source_commands.proofs.macro_commands.prepare_expansion.Goals as goal

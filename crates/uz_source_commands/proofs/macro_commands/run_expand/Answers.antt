@@ -1,4 +1,4 @@
-use Rattle.std.proofs.Common.{◌⊎◌, inl, inr}
+use Rattle.std.proofs.Common.{◌⊎◌, inr}
 use Rattle.uz_shelf.specs.Faults.{Rose}
 use Rattle.uz_source_commands.specs.MacroCommands.{expand_answer}
 use Rattle.uz_files.proofs.FaultLemmas.{rose_same}
