@@ -1,6 +1,6 @@
 -- What is read of hints that aren't at fault is within the limits of a certificate's text.
-use Rattle.std.proofs.Common.{◌≡◌, ◌∙◌, sym, ap, refl, arith, ℕ, suc, ◌+◌, ◌<◌, ◌≤◌, Bool, true, false, List, [], ◌∷◌, map, length, drop, cond, subst}
-use Rattle.std.specs.Prelude.{Some, option_map, slice_get, ◌⊎◌, filter, All}
+use Rattle.std.proofs.Common.{◌≡◌, ◌∙◌, sym, ap, refl, arith, ℕ, zero, suc, ◌+◌, ◌<◌, ◌≤◌, Bool, true, false, List, [], ◌∷◌, map, length, drop, cond, subst}
+use Rattle.std.specs.Prelude.{IfSome, None, Option, Some, option_map, slice_get, ◌⊎◌, filter, All}
 use Rattle.std.specs.List.{AllByRecursion}
 use Rattle.std.specs.Ordering.{nat_cmp}
 use Rattle.std.specs.FinMap.{FinMap}
@@ -20,13 +20,14 @@ use Rattle.uz_schedule.specs.declared.kinds.Response.{Response}
 use Rattle.uz_hints.specs.declared.cells.Tracked.{Tracked}
 use Rattle.uz_hints.specs.declared.words.Beginning.{Beginning}
 use Rattle.uz_hints.specs.declared.words.FrameSize.{FrameSize}
+use Rattle.uz_hints.specs.declared.words.PlaceRange.{PlaceRange}
 use Rattle.uz_hints.specs.declared.words.StackRegion.{StackRegion}
 use Rattle.uz_hints.specs.declared.reading.Reading.{Reading}
-use Rattle.uz_hints.specs.Words.{first_start, first_lines, first_stack}
+use Rattle.uz_hints.specs.Words.{first_fact, first_start, first_lines, first_stack}
 use Rattle.uz_hints.specs.Cells.{owner_of, cells_of, first_values}
-use Rattle.uz_hints.specs.Faults.{OffStack, StartFine, LinesFine, StackFine, IsFine, FineBefore, CellsFine, CellPart, starts_main}
-use Rattle.uz_hints.specs.Reading.{IsHeader, IsReading, ReadingFits}
-use Rattle.uz_hints.proofs.HintLemmas.{cells_fine}
+use Rattle.uz_hints.specs.Faults.{OffStack, StartFine, LinesFine, StackFine, IsFine, FineBefore, CellsFine, CellPart, FactsFine, starts_main}
+use Rattle.uz_hints.specs.Reading.{byte_range, ranges_from, IsHeader, IsReading, ReadingFits}
+use Rattle.uz_hints.proofs.HintLemmas.{InBytes, cells_fine, facts_fine, first_fits}
 use Rattle.uz_hints.proofs.CellLemmas.{addresses, each_there, each_cell, OfCell, LoneHead, lone, rises_all}
 
 -- Where a first hint stands
@@ -148,6 +149,21 @@ head_fits image irq hints head fine is few =
       rise = ap (λ cs. rises (map (λ c. c.at) cs)) is.cells ∙ (ap (rises_from 0) (same_addresses (cells_of hints)) ∙ cells_rise hints (cells_fine image irq hints fine));
     }
 
+-- the registers at a start
+
+count_ranges : (hints : List Hint) (pc k n : ℕ) → length (ranges_from hints pc k n) ≡ n
+count_ranges hints pc k zero = refl
+count_ranges hints pc k (suc n) = ap suc (count_ranges hints pc (suc k) n)
+
+byte_fits : (o : Option PlaceRange) → IfSome o InBytes → RangeFits 255 (byte_range o)
+byte_fits None h = record { order = omega arith; high = omega arith }
+byte_fits (Some r) h = record { order = h.0; high = h.1 }
+
+ranges_fit : (hints : List Hint) (pc k n : ℕ) → FactsFine hints → k + n ≤ 32 → All (RangeFits 255) (ranges_from hints pc k n)
+ranges_fit hints pc k zero fine few = All-nil (RangeFits 255)
+ranges_fit hints pc k (suc n) fine few =
+    All-cons (RangeFits 255) (byte_range (first_fact pc k hints)) (ranges_from hints pc (suc k) n) (byte_fits (first_fact pc k hints) (first_fits pc k hints (omega arith) fine)) (ranges_fit hints pc (suc k) n fine (omega arith))
+
 pub reading_fits : (image : FinMap nat_cmp ℕ) (irq : Response) (hints : List Hint) (r : Reading) → IsReading image irq hints r → length r.head.cells.items ≤ 16 → ReadingFits r
 reading_fits image irq hints r is few =
     let s = start_there hints r.start is.start in
@@ -164,6 +180,8 @@ reading_fits image irq hints r is few =
       above = λ main. rw is.head.response (size.above (ap starts_main is.start ∙ main));
       enters = start.enters;
       pc = start.reads.within;
+      register_count = ap length is.registers ∙ count_ranges hints r.start.pc 0 32;
+      registers = subst (All (RangeFits 255)) (sym is.registers) (ranges_fit hints r.start.pc 0 32 (facts_fine image irq hints is.fine) (omega arith));
       firsts = record {
         ranges = subst (All (RangeFits 255)) (sym is.firsts) (all_firsts r.head (cells_of hints) hold);
         within = ap (λ cs. spans_fit (filter (λ c. tracks Handler c.owner) cs) r.firsts.items) is.head.cells ∙ (ap (spans_fit (filter (λ c. tracks Handler c.owner) (map (λ t. t.cell) (cells_of hints)))) is.firsts ∙ firsts_within r.head (cells_of hints) hold);

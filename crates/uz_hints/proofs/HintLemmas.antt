@@ -39,7 +39,7 @@ facts_fine image irq hints fine i h there = fact_part image irq hints i h (fine 
 
 -- The range that a fine fact gives a register
 
-abbrev InBytes : PlaceRange → Type 0
+abbrev pub InBytes : PlaceRange → Type 0
 InBytes r = (r.lo ≤ r.hi) × (r.hi ≤ 255)
 
 range_fits : (pc place : ℕ) (h : Hint) → place < 32 → FactPart h → IfSome (range_at pc place h) InBytes

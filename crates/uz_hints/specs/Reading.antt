@@ -1,5 +1,5 @@
 -- What hints say that aren't at fault.
-use Rattle.std.specs.Prelude.{◌≡◌, ◌≢◌, ◌+◌, ◌<◌, ◌≤◌, true, ℕ, zero, suc, List, [], ◌∷◌, map, length, Option, Some, None}
+use Rattle.std.specs.Prelude.{◌≡◌, ◌≢◌, ◌+◌, ◌<◌, ◌≤◌, true, ℕ, zero, suc, All, List, [], ◌∷◌, map, length, Option, Some, None}
 use Rattle.std.specs.Ordering.{nat_cmp}
 use Rattle.std.specs.FinMap.{FinMap}
 use Rattle.avr_asm.specs.declared.output.Hint.{Hint}
@@ -7,7 +7,7 @@ use Rattle.uz_schedule.specs.Ends.{Ends, whole_byte}
 use Rattle.uz_schedule.specs.Limits.{clock_limit, most_lines}
 use Rattle.uz_schedule.specs.Schedule.{response_clocks}
 use Rattle.uz_schedule.specs.Tracked.{tracked}
-use Rattle.uz_schedule.specs.WellFormed.{HeadFits, SpansFit}
+use Rattle.uz_schedule.specs.WellFormed.{HeadFits, RangeFits, SpansFit}
 use Rattle.uz_schedule.specs.declared.kinds.Kind.TheVariants.{Handler}
 use Rattle.uz_transfer.specs.Kinds.{is_main}
 use Rattle.uz_schedule.specs.declared.kinds.Response.{Response}
@@ -56,4 +56,6 @@ pub record ReadingFits (r : Reading) : Type 0 where
   pub above : is_main r.start.kind ≡ true → response_clocks r.head.irq + 3 < r.size.fall
   pub enters : r.start.kind ≢ Handler
   pub pc : r.start.pc < 32768
+  pub register_count : length r.registers ≡ 32
+  pub registers : All (RangeFits 255) r.registers
   pub firsts : SpansFit (tracked r.head Handler) r.firsts.items

@@ -1,6 +1,6 @@
 -- What the parts of a certificate give, and what a refusal of the search is licensed by.
-use Rattle.std.proofs.Common.{◌≡◌, ◌∙◌, sym, ap, refl, ℕ, ◌<◌, ◌≤◌, List, length, subst}
-use Rattle.std.specs.Prelude.{Option, Some, Result, Ok, Err, IfOk, IfErr, slice_get, ⊤}
+use Rattle.std.proofs.Common.{◌≡◌, ◌≢◌, ◌⊎◌, ◌∙◌, inl, inr, sym, ap, refl, ℕ, ◌<◌, ◌≤◌, List, length, subst}
+use Rattle.std.specs.Prelude.{Option, Some, Result, Ok, Err, IfOk, IfErr, IsOk, slice_get, ⊤}
 use Rattle.std.specs.Ordering.{nat_cmp}
 use Rattle.std.specs.FinMap.{FinMap}
 use Rattle.std.proofs.lemmas.Option.{slice_get_within}
@@ -23,11 +23,11 @@ use Rattle.uz_hints.specs.Faults.{IsFine, FineBefore, FactPart, FactsFine}
 use Rattle.uz_hints.specs.Reading.{IsReading}
 use Rattle.uz_paths.specs.declared.certificate.Parts.{Parts}
 use Rattle.uz_paths.specs.Certificate.{ArePartsOf, cert_of}
-use Rattle.uz_paths.specs.Finding.{instance_limit, Cause, Licensed, IsFoundBy, IsAsked}
+use Rattle.uz_paths.specs.Finding.{instance_limit, Cause, NoCause, Licensed, IsFoundBy, IsAsked}
 use Rattle.uz_paths.specs.ProgramOf.{IsProgramOf, start_entry, entry_with}
 use Rattle.uz_paths.proofs.RestLemmas.{is_return}
 
-pub found_by : (image : FinMap nat_cmp ℕ) (p : Program) (entry : Entry) (found : Found) (parts : Parts) (cert : Cert) → cert ≡ cert_of p parts → ArePartsOf p entry found parts → IsEnded image p found
+pub found_by : (image : FinMap nat_cmp ℕ) (p : Program) (entry : Entry) (found : Found) (parts : Parts) (cert : Cert) → cert ≡ cert_of p parts → ArePartsOf image p entry found parts → IsEnded image p found
     → ((x : Instance) → Among found.nodes.keys x → OnTrail image p x) → IsFoundBy image p entry cert
 found_by image p entry found parts cert is a ended trails = subst (IsFoundBy image p entry) (sym is) (record {
   head = refl;
@@ -78,3 +78,13 @@ err_cause image irq hints p (Err e) of shows = licensed image irq hints p e of s
 
 pub no_hint : (r : Reading) (index : ℕ) → Ok r ≡ Err index → ⊥
 no_hint r index e = cc
+
+-- without a cause there is a certificate, or memory lacks
+pub complete_answer : (image : FinMap nat_cmp ℕ) (irq : Response) (hints : List SourceHint) (answer : Result Cert NotFound) → IfErr answer (Cause image irq hints) → NoCause image irq hints → IsOk answer ⊎ (answer ≡ Err Memory)
+complete_answer image irq hints (Ok cert) cause none = inl refl
+complete_answer image irq hints (Err (Stuck trail why)) cause none = absurd (none (Stuck trail why) (λ h. cc) cause)
+complete_answer image irq hints (Err (Split first second)) cause none = absurd (none (Split first second) (λ h. cc) cause)
+complete_answer image irq hints (Err (Full count)) cause none = absurd (none (Full count) (λ h. cc) cause)
+complete_answer image irq hints (Err (Hint index)) cause none = absurd (none (Hint index) (λ h. cc) cause)
+complete_answer image irq hints (Err (NoRest count)) cause none = absurd (none (NoRest count) (λ h. cc) cause)
+complete_answer image irq hints (Err Memory) cause none = inr refl

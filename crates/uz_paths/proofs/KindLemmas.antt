@@ -1,6 +1,6 @@
 -- One more clock of a line, and one more line of a schedule.
 use Rattle.std.proofs.Common.{◌≡◌, ◌∙◌, sym, ap, refl, arith, inl, inr, ⊎_elim, ℕ, zero, suc, ◌+◌, ◌*◌, ◌<◌, ◌≤◌, List, [], ◌∷◌, ◌++◌, append_assoc, append-nil, length, subst}
-use Rattle.std.specs.Prelude.{Option, Some, None, slice_get, slice_index}
+use Rattle.std.specs.Prelude.{Option, Some, None, slice_get, slice_index, ◌⊎◌}
 use borrow.Author.Count.{below_more}
 use Rattle.std.proofs.lemmas.Option.{get_or_from_slice_get}
 use Rattle.uz_schedule.specs.Schedule.{events_of}
@@ -52,14 +52,25 @@ line_more marks n k numbers numbers' kinds kinds' events count have e kept there
     (λ j less. ((have j less).0, ap (λ ns. slice_get ns j) e ∙ keeps numbers k (have j less).0 j (have j less).1, kept (have j less).0 (line_events marks j) (have j less).2))
     (k, ap (λ ns. slice_get ns n) e ∙ (ap (slice_get (numbers ++ k ∷ [])) (sym count) ∙ last_there numbers k), there ∙ ap Some is)
 
+-- each kind is of some line
+abbrev pub AreUsed : List (Option Mark) → ℕ → List (List Event) → Type 0
+AreUsed marks n kinds = (i : ℕ) (kind : List Event) → slice_get kinds i ≡ Some kind → (l : ℕ) × (l < n) × (kind ≡ line_events marks l)
+
+pub used_more : (marks : List (Option Mark)) (n : ℕ) (kinds kinds' : List (List Event)) (events : List Event) → AreUsed marks n kinds
+    → ((i : ℕ) (kind : List Event) → slice_get kinds' i ≡ Some kind → (slice_get kinds i ≡ Some kind) ⊎ (events ≡ kind)) → events ≡ line_events marks n → AreUsed marks (n + 1) kinds'
+used_more marks n kinds kinds' events used own is i kind at = ⊎_elim
+    (λ old. let l = used i kind old in (l.0, (let less = l.1 in omega arith), l.2))
+    (λ new. (n, omega arith, sym new ∙ is))
+    (own i kind at)
+
 pub events_there : (marks : List (Option Mark)) (n : ℕ) (s : Schedule) → HaveKinds marks n s.lines s.kinds → (l : ℕ) → l < n → events_of s l ≡ Some (line_events marks l)
 events_there marks n s have l less =
     let k = have l less in
     ap (slice_get s.kinds) (get_or_from_slice_get s.lines l k.0 0 k.1) ∙ k.2
 
 pub schedule_is : (marks : List (Option Mark)) (lines fall n : ℕ) (numbers : List ℕ) (kinds : List (List Event)) (s : Schedule)
-    → s.lines ≡ numbers → s.kinds ≡ kinds → s.fall ≡ fall → n ≡ lines → length numbers ≡ n → length kinds ≤ n → AreApart kinds → HaveKinds marks n numbers kinds → IsScheduleOf marks lines fall s
-schedule_is marks lines fall n numbers kinds s e f g all count few apart have =
+    → s.lines ≡ numbers → s.kinds ≡ kinds → s.fall ≡ fall → n ≡ lines → length numbers ≡ n → length kinds ≤ n → AreApart kinds → AreUsed marks n kinds → HaveKinds marks n numbers kinds → IsScheduleOf marks lines fall s
+schedule_is marks lines fall n numbers kinds s e f g all count few apart used have =
     let there : HaveKinds marks n s.lines s.kinds = subst (λ ns. HaveKinds marks n ns s.kinds) (sym e) (subst (HaveKinds marks n numbers) (sym f) have) in
     let size : length s.kinds ≡ length kinds = ap length f in
     record {
@@ -68,4 +79,5 @@ schedule_is marks lines fall n numbers kinds s e f g all count few apart have =
       events = λ l less. events_there marks n s there l (omega arith);
       shared = subst AreApart (sym f) apart;
       few = omega arith;
+      used = λ i kind at. (let l = used i kind (ap (λ ks. slice_get ks i) (sym f) ∙ at) in (l.0, (let less = l.1 in omega arith), l.2));
     }

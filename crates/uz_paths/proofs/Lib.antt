@@ -1,6 +1,14 @@
+pub mod EachLemmas
 pub mod NumberLemmas
 pub mod KindLemmas
 pub mod ProgramLemmas
 pub mod LinkLemmas
 pub mod RestLemmas
 pub mod FindLemmas
+pub mod FewResults
+pub mod MadeSchedule
+pub mod SameInstance
+pub mod WithinPoints
+pub mod Starts
+pub mod Counting
+pub mod Complete

@@ -84,7 +84,7 @@ first_fits p start cells c s main few =
       before = λ e. omega arith;
     }
 
-first_of_five : {A : Type 0} (P : A → Type 0) (a b c d e x : A) (i : ℕ) → P a → P b → P c → P d → P e → slice_get (a ∷ b ∷ c ∷ d ∷ e ∷ []) i ≡ Some x → P x
+pub first_of_five : {A : Type 0} (P : A → Type 0) (a b c d e x : A) (i : ℕ) → P a → P b → P c → P d → P e → slice_get (a ∷ b ∷ c ∷ d ∷ e ∷ []) i ≡ Some x → P x
 first_of_five P a b c d e x zero pa pb pc pd pe h = subst P (some_is a x h) pa
 first_of_five P a b c d e x (suc zero) pa pb pc pd pe h = subst P (some_is b x h) pb
 first_of_five P a b c d e x (suc (suc zero)) pa pb pc pd pe h = subst P (some_is c x h) pc
@@ -92,7 +92,7 @@ first_of_five P a b c d e x (suc (suc (suc zero))) pa pb pc pd pe h = subst P (s
 first_of_five P a b c d e x (suc (suc (suc (suc zero)))) pa pb pc pd pe h = subst P (some_is e x h) pe
 first_of_five P a b c d e x (suc (suc (suc (suc (suc i))))) pa pb pc pd pe h = absurd (cc)
 
-first_of_one : {A : Type 0} (P : A → Type 0) (a x : A) (i : ℕ) → P a → slice_get (a ∷ []) i ≡ Some x → P x
+pub first_of_one : {A : Type 0} (P : A → Type 0) (a x : A) (i : ℕ) → P a → slice_get (a ∷ []) i ≡ Some x → P x
 first_of_one P a x zero pa h = subst P (some_is a x h) pa
 first_of_one P a x (suc i) pa h = absurd (cc)
 

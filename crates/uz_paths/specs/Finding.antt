@@ -1,5 +1,5 @@
 -- What is found, and why nothing is.
-use Rattle.std.specs.Prelude.{◌≡◌, ⊤, ℕ, Contains, List, length}
+use Rattle.std.specs.Prelude.{◌≡◌, ◌≢◌, ⊤, ℕ, Contains, List, length}
 use Rattle.std.specs.Ordering.{nat_cmp}
 use Rattle.std.specs.FinMap.{FinMap}
 use Rattle.avr_asm.specs.declared.output.Hint.{Hint as SourceHint}
@@ -35,6 +35,10 @@ Cause image irq hints (Full count) = Licensed image irq hints (Full count)
 Cause image irq hints (Hint index) = HintRefusal image irq hints index
 Cause image irq hints (NoRest count) = Licensed image irq hints (NoRest count)
 Cause image irq hints Memory = ⊤
+
+-- nothing stands that refuses these hints or the program that they tell of
+abbrev pub NoCause : FinMap nat_cmp ℕ → Response → List SourceHint → Type 0
+NoCause image irq hints = (e : NotFound) → e ≢ Memory → Cause image irq hints e → ⊥
 
 -- the handler returns so with an instance that lies on a trail
 pub record IsReturn (image : FinMap nat_cmp ℕ) (p : Program) (rest : Rest) : Type 0 where

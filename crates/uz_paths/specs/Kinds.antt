@@ -30,10 +30,12 @@ line_events marks l = events_from marks (line_start l) 0 scanline
 abbrev pub AreApart : List (List Event) → Type 0
 AreApart kinds = (i j : ℕ) (events : List Event) → slice_get kinds i ≡ Some events → slice_get kinds j ≡ Some events → i ≡ j
 
--- each line has the events of the marks on it, and equal lines share a kind
+-- each line has the events of the marks on it, equal lines share a kind, and each kind is of some line
 pub record IsScheduleOf (marks : List (Option Mark)) (lines fall : ℕ) (s : Schedule) : Type 0 where
   pub count : length s.lines ≡ lines
   pub falls : s.fall ≡ fall
   pub events : (l : ℕ) → l < lines → events_of s l ≡ Some (line_events marks l)
   pub shared : AreApart s.kinds
   pub few : length s.kinds ≤ lines
+  -- each kind is some line's
+  pub used : (i : ℕ) (kind : List Event) → slice_get s.kinds i ≡ Some kind → (l : ℕ) × (l < lines) × (kind ≡ line_events marks l)

@@ -1,21 +1,30 @@
--- The points of instances.
-use Rattle.std.specs.Prelude.{◌≡◌, ℕ, ◌<◌, ◌≤◌, List, Some, length, slice_get, IsTrue, All}
+-- The points of instances, and the numbers of the points where they lead.
+use Rattle.std.specs.Prelude.{◌≡◌, ℕ, ◌+◌, ◌<◌, ◌≤◌, false, List, Ok, Some, length, slice_get, IsTrue, All}
+use Rattle.uz_schedule.specs.Instances.{handler_entry, level_or_zero}
 use Rattle.uz_schedule.specs.Lines.{Lines}
 use Rattle.uz_schedule.specs.Limits.{rises}
+use Rattle.uz_schedule.specs.Schedule.{next_line, response_clocks}
+use Rattle.uz_schedule.specs.declared.lines.Schedule.{Schedule}
 use Rattle.uz_schedule.specs.declared.states.Instance.{Instance}
 use Rattle.uz_schedule.specs.declared.states.Point.{Point}
 use Rattle.uz_schedule.specs.declared.states.Rest.{Rest}
-use Rattle.uz_paths.specs.Points.{point_of, vector_point}
+use Rattle.uz_rules.specs.declared.next.Next.{Next}
+use Rattle.uz_search.specs.declared.program.Program.{Program}
+use Rattle.uz_search.specs.Following.{Among, After, Flash}
+use Rattle.uz_search.specs.Widenings.{widened}
+use Rattle.uz_paths.specs.Points.{AreOrdered, IsOrdered, point_of, vector_point}
 
--- the point of number k is the vector of this rest
+-- the point of number k is the vector of this rest, the ranges of whose cells are in order
 pub record IsVectorAt (response : ℕ) (lines : Lines) (points : List Point) (k : ℕ) (rest : Rest) : Type 0 where
   pub next : List ℕ
   pub is : slice_get points k ≡ Some (vector_point rest.cells.items (lines.next rest.line) response next)
+  pub ordered : AreOrdered 255 rest.cells.items
 
--- the point of number n says what this instance says
+-- the point of number n says what this instance says, whose ranges are in order
 pub record IsPointAt (points : List Point) (n : ℕ) (x : Instance) : Type 0 where
   pub next : List ℕ
   pub is : slice_get points n ≡ Some (point_of x next)
+  pub ordered : IsOrdered x
 
 -- the numbers of successors rise, and are of points that are there
 pub record NamesFit (count : ℕ) (next : List ℕ) : Type 0 where
@@ -30,8 +39,63 @@ pub record ArePoints (response : ℕ) (lines : Lines) (rests : List Rest) (nodes
   pub own : (i n : ℕ) (x : Instance) → slice_get nodes i ≡ Some x → slice_get numbers i ≡ Some n → length rests ≤ n → IsPointAt points n x
   pub names : (n : ℕ) (point : Point) → slice_get points n ≡ Some point → NamesFit count point.next.items
 
--- a point names further successors, and says what it said
-pub record Renamed (count : ℕ) (old new : Point) : Type 0 where
-  pub next : List ℕ
+-- a point has these successors, and says what it said
+pub record Renamed (count : ℕ) (next : List ℕ) (old new : Point) : Type 0 where
   pub is : new ≡ record old { next = record { items = next } }
-  pub fits : NamesFit count old.next.items → NamesFit count next
+  pub fits : NamesFit count next
+
+-- Names
+
+-- the number of an instance is among these
+pub record HasName (nodes : List Instance) (numbers : List ℕ) (y : Instance) (next : List ℕ) : Type 0 where
+  pub place : ℕ
+  pub number : ℕ
+  pub node : slice_get nodes place ≡ Some y
+  pub is : slice_get numbers place ≡ Some number
+  pub named : Among next number
+
+-- up to so many further numbers: those that were there stay
+pub record NamesMore (count most : ℕ) (old new : List ℕ) : Type 0 where
+  pub kept : (n : ℕ) → Among old n → Among new n
+  pub few : length new ≤ length old + most
+  pub fits : NamesFit count old → NamesFit count new
+
+-- the instance's results, each widened by the facts of its program counter, have their numbers among these
+abbrev pub NamesResults : Flash → Program → List Instance → List ℕ → Instance → List ℕ → Type 0
+NamesResults image p nodes numbers x next = (result : Next) (y : Instance) → After image p x (Ok result) → result.back ≡ false → Among result.out.items y → HasName nodes numbers (widened p y) next
+
+-- results of instances are instances, where they are widened
+abbrev pub IsClosed : Flash → Program → List Instance → Type 0
+IsClosed image p nodes = (x y : Instance) (result : Next) → Among nodes x → After image p x (Ok result) → result.back ≡ false → Among result.out.items y → Among nodes (widened p y)
+
+-- an instance has at most so many results
+abbrev pub HasFew : Flash → Program → Instance → ℕ → Type 0
+HasFew image p x most = (result : Next) → After image p x (Ok result) → length result.out.items ≤ most
+
+-- the handler's first state after a rest, where its interrupt is taken at clock c of the next line, with the schedule's level there
+abbrev pub first_after : Program → Schedule → Rest → ℕ → Instance
+first_after p s rest c =
+    handler_entry rest.cells.items (next_line s rest.line) (c + response_clocks p.head.irq) (level_or_zero s (next_line s rest.line) (c + response_clocks p.head.irq))
+
+-- the results of a rest's first states are named
+abbrev pub NamesEntries : Flash → Program → Schedule → List Instance → List ℕ → Rest → List ℕ → Type 0
+NamesEntries image p s nodes numbers rest next = (c : ℕ) → c ≤ 3 → NamesResults image p nodes numbers (first_after p s rest c) next
+
+-- the first states after each rest are instances
+abbrev pub AreEntered : Program → Schedule → List Rest → List Instance → Type 0
+AreEntered p s rests nodes = (k c : ℕ) (rest : Rest) → slice_get rests k ≡ Some rest → c ≤ 3 → Among nodes (first_after p s rest c)
+
+-- so many vectors name what follows them
+abbrev pub NamesVectors : Flash → Program → Schedule → List Rest → List Instance → List ℕ → ℕ → List Point → Type 0
+NamesVectors image p s rests nodes numbers done points =
+    (k : ℕ) (rest : Rest) (point : Point) → k < done → slice_get rests k ≡ Some rest → slice_get points k ≡ Some point → NamesEntries image p s nodes numbers rest point.next.items
+
+-- of so many instances those with a point of their own name their results
+abbrev pub NamesOwn : Flash → Program → ℕ → List Instance → List ℕ → ℕ → List Point → Type 0
+NamesOwn image p vectors nodes numbers done points =
+    (i n : ℕ) (x : Instance) (point : Point) → i < done → slice_get nodes i ≡ Some x → slice_get numbers i ≡ Some n → vectors ≤ n → slice_get points n ≡ Some point → NamesResults image p nodes numbers x point.next.items
+
+-- all points name what follows them
+pub record AreNamed (image : Flash) (p : Program) (s : Schedule) (rests : List Rest) (nodes : List Instance) (numbers : List ℕ) (points : List Point) : Type 0 where
+  pub vectors : NamesVectors image p s rests nodes numbers (length rests) points
+  pub own : NamesOwn image p (length rests) nodes numbers (length nodes) points

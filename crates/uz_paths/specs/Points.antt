@@ -1,8 +1,8 @@
 -- The point that says what an instance says, and the point of a handler's first states.
-use Rattle.std.specs.Prelude.{ℕ, zero, suc, ◌+◌, ◌==◌, ◌&&◌, nat_eq, nat_lt, pos, Bool, false, List, [], ◌∷◌, map, slice_index_or, replicate, if◌then◌else◌}
+use Rattle.std.specs.Prelude.{◌≡◌, ⊤, ℕ, zero, suc, ◌+◌, ◌==◌, ◌&&◌, nat_eq, nat_lt, pos, Bool, false, List, [], ◌∷◌, Some, map, slice_get, slice_index_or, replicate, if◌then◌else◌}
 use Rattle.uz_schedule.specs.Ends.{Ends, whole_pair}
 use Rattle.uz_schedule.specs.Instances.{hull_at}
-use Rattle.uz_schedule.specs.WellFormed.{is_carry_and_zero_default}
+use Rattle.uz_schedule.specs.WellFormed.{is_carry_and_zero_default, RangeFits}
 use Rattle.uz_schedule.specs.declared.facts.Fact.{Fact}
 use Rattle.uz_schedule.specs.declared.facts.Fact.TheVariants.{Any, Between, Old as OldFact, OldFlags as OldFlagsFact}
 use Rattle.uz_schedule.specs.declared.facts.PairFact.{PairFact}
@@ -92,3 +92,25 @@ vector_point cells line response next = record {
   cells = record { items = map byte_fact cells };
   next = record { items = next };
 }
+
+-- Ranges
+
+-- the ends of a byte's range are in order, and bytes
+abbrev pub IsOrderedVal : Val → Type 0
+IsOrderedVal (Range e) = RangeFits 255 e
+IsOrderedVal (Old r) = ⊤
+IsOrderedVal OldFlags = ⊤
+
+abbrev pub AreOrderedVals : List Val → Type 0
+AreOrderedVals vals = (i : ℕ) (v : Val) → slice_get vals i ≡ Some v → IsOrderedVal v
+
+-- these are ranges of numbers from 0 to top
+abbrev pub AreOrdered : ℕ → List Ends → Type 0
+AreOrdered top ranges = (i : ℕ) (e : Ends) → slice_get ranges i ≡ Some e → RangeFits top e
+
+-- all ranges of an instance are in order
+pub record IsOrdered (x : Instance) : Type 0 where
+  pub registers : AreOrderedVals x.regs
+  pub pairs : AreOrdered 65535 x.pairs
+  pub stack : AreOrderedVals x.stack.items
+  pub cells : AreOrdered 255 x.cells.items

@@ -1,25 +1,33 @@
 //! The certificate that an ended search makes.
 
 ghost use Rattle.std.specs.Prelude.{◌≡◌, ◌<◌, ◌≤◌, ◌^◌, ℕ, IfOk, length, slice_get, Some};
+ghost use Rattle.uz_schedule.specs.Instances.{entry_instance_at};
+ghost use Rattle.uz_schedule.specs.Limits.{ScheduleFits};
 ghost use Rattle.uz_schedule.specs.Lines.{uniform};
 ghost use Rattle.uz_schedule.specs.Schedule.{response_clocks};
 ghost use Rattle.uz_schedule.specs.declared.states.Instance.{Instance};
 ghost use Rattle.uz_schedule.specs.declared.states.Rest.{Rest};
 ghost use Rattle.uz_search.specs.Fitting.{ProgramFits, Stands};
 ghost use Rattle.uz_search.specs.Following.{Among};
-ghost use Rattle.uz_paths.specs.Linked.{ArePoints};
+ghost use Rattle.uz_search.specs.Searching.{IsEnded};
+ghost use Rattle.uz_paths.specs.Kinds.{IsScheduleOf};
+ghost use Rattle.uz_paths.specs.Linked.{AreEntered, AreNamed, ArePoints, IsClosed};
 ghost use Rattle.uz_paths.specs.Numbers.{AreNumbers};
-ghost use Rattle.uz_paths.specs.Certificate.{ArePartsOf, cert_of};
+ghost use Rattle.uz_paths.specs.Rests.{rests_of as rests_of_returns};
+ghost use Rattle.uz_paths.specs.Certificate.{ArePartsOf, IsNumberOf, cert_of};
 
 use crate::kinds::schedule_of;
-use crate::linking::{link_all, number_at};
+use crate::linking::{link_all, number_at, place_of};
 use crate::numbers::{Numbered, number_points};
 use crate::rests::rests_of;
 use indexmap::IndexSet;
 use std::alloc::{AllocError, Global};
 use uz_hex::Image;
-use uz_schedule::{Cert, Entry, Instance, LineOrder, Point, Rest, Schedule, Sequence, entry_state};
-use uz_search::{Found, Program};
+use uz_schedule::{
+    Cert, Entry, Instance, LineOrder, Point, Rest, Schedule, Sequence, entry_state, event_by_line,
+};
+use uz_search::{Found, Program, nodes_are_reached};
+use uz_search_laws::{ended_falls_once, ended_levels_fit, ended_rests_enter};
 
 /// What a search makes of a certificate.
 #[derive(Drop)]
@@ -34,31 +42,37 @@ pub(crate) struct Parts {
     pub points: Vec<Point>,
 }
 
-/// The number of the point of an instance.
+/// The number of the point of an instance of the search.
 fn number_of(nodes: &IndexSet<Instance>, numbers: &[u32], at: &Instance) -> u32
-    requires { length numbers.now ≡ length nodes.now.keys }
+    requires lengths { length numbers.now ≡ length nodes.now.keys }
+    requires node { Among nodes.now.keys at.now }
+    ensures { IsNumberOf nodes.now.keys numbers.now at.now result }
 {
-    match nodes.get_index_of(at) {
-        Some(i) => number_at(numbers, i),
-        None => 0,
-    }
+    number_at(numbers, place_of(nodes, at))
 }
 
 /// Points that name their successors.
 fn linked(
     image: &Image,
     program: &Program,
+    schedule: &Schedule,
     rests: &[Rest],
     nodes: &IndexSet<Instance>,
     bare: Numbered,
 ) -> Numbered
     requires fits { ProgramFits program.now }
+    requires schedule { ScheduleFits schedule.now }
+    requires lines { length schedule.now.lines ≡ program.now.lines }
+    requires line { (k : ℕ) (rest : Rest) → slice_get rests.now k ≡ Some rest → rest.line < program.now.lines }
     requires stand { (x : Instance) → Among nodes.now.keys x → Stands program.now x }
+    requires closed { IsClosed image.now program.now nodes.now.keys }
+    requires entered { AreEntered program.now schedule.now rests.now nodes.now.keys }
     requires few { length bare.points.items < 2 ^ 32 }
     requires numbers { AreNumbers (response_clocks program.now.head.irq) (uniform program.now.lines) rests.now nodes.now.keys bare.numbers.items (length bare.points.items) }
     requires points { ArePoints (response_clocks program.now.head.irq) (uniform program.now.lines) rests.now nodes.now.keys bare.numbers.items (length bare.points.items) bare.points.items }
     ensures numbers { AreNumbers (response_clocks program.now.head.irq) (uniform program.now.lines) rests.now nodes.now.keys result.numbers.items (length result.points.items) }
     ensures points { ArePoints (response_clocks program.now.head.irq) (uniform program.now.lines) rests.now nodes.now.keys result.numbers.items (length result.points.items) result.points.items }
+    ensures named { AreNamed image.now program.now schedule.now rests.now nodes.now.keys result.numbers.items result.points.items }
 {
     let Numbered {
         numbers,
@@ -67,6 +81,7 @@ fn linked(
     link_all(
         image,
         program,
+        schedule,
         rests,
         nodes,
         numbers.as_slice(),
@@ -80,22 +95,28 @@ fn points_of(
     alloc: Global,
     image: &Image,
     program: &Program,
+    schedule: &Schedule,
     rests: &[Rest],
     nodes: &IndexSet<Instance>,
 ) -> Result<Numbered, AllocError>
     requires fits { ProgramFits program.now }
+    requires schedule { ScheduleFits schedule.now }
+    requires lines { length schedule.now.lines ≡ program.now.lines }
+    requires line { (k : ℕ) (rest : Rest) → slice_get rests.now k ≡ Some rest → rest.line < program.now.lines }
     requires stand { (x : Instance) → Among nodes.now.keys x → Stands program.now x }
+    requires closed { IsClosed image.now program.now nodes.now.keys }
+    requires entered { AreEntered program.now schedule.now rests.now nodes.now.keys }
     requires rests { length rests.now ≤ 525 }
     requires few { length nodes.now.keys < 524288 }
-    requires lines { (k : ℕ) (rest : Rest) → slice_get rests.now k ≡ Some rest → rest.line < program.now.lines }
     ensures numbers { IfOk result (λ r. AreNumbers (response_clocks program.now.head.irq) (uniform program.now.lines) rests.now nodes.now.keys r.numbers.items (length r.points.items)) }
     ensures points { IfOk result (λ r. ArePoints (response_clocks program.now.head.irq) (uniform program.now.lines) rests.now nodes.now.keys r.numbers.items (length r.points.items) r.points.items) }
+    ensures named { IfOk result (λ r. AreNamed image.now program.now schedule.now rests.now nodes.now.keys r.numbers.items r.points.items) }
 {
     let order = LineOrder {
         count: program.lines,
     };
     let bare = number_points(alloc, program.head.irq, order, rests, nodes.as_slice())?;
-    Ok(linked(image, program, rests, nodes, bare))
+    Ok(linked(image, program, schedule, rests, nodes, bare))
 }
 
 /// An entry at the point of this number.
@@ -105,6 +126,59 @@ fn with_id(entry: Entry, id: u32) -> Entry
     let mut entry = entry;
     entry.id = id;
     entry
+}
+
+/// The schedule of an ended search is one of a certificate.
+fn made_schedule(
+    alloc: Global,
+    image: &Image,
+    program: &Program,
+    found: &Found,
+) -> Result<Schedule, AllocError>
+    requires fits { ProgramFits program.now }
+    requires ended { IsEnded image.now program.now found.now }
+    ensures made { IfOk result (IsScheduleOf found.now.marks.items program.now.lines program.now.fall) }
+    ensures fits { IfOk result ScheduleFits }
+{
+    event_by_line();
+    ended_falls_once();
+    ended_levels_fit();
+    schedule_of(alloc, found.marks.as_slice(), program.lines, program.fall)
+}
+
+/// The handler's first states after each rest of an ended search are its instances. Does nothing.
+fn rests_are_entered(
+    image: &Image,
+    program: &Program,
+    entry: &Entry,
+    schedule: &Schedule,
+    found: &Found,
+)
+    requires fits { ProgramFits program.now }
+    requires ended { IsEnded image.now program.now found.now }
+    requires schedule { IsScheduleOf found.now.marks.items program.now.lines program.now.fall schedule.now }
+    ensures { AreEntered program.now schedule.now (rests_of_returns found.now.returns.items) found.now.nodes.keys }
+{
+    let _ = image;
+    let _ = program;
+    let _ = entry;
+    let _ = schedule;
+    let _ = found;
+    event_by_line();
+    ended_rests_enter();
+}
+
+/// The instances of an ended search are closed. Does nothing.
+fn nodes_are_closed(image: &Image, program: &Program, found: &Found)
+    requires fits { ProgramFits program.now }
+    requires ended { IsEnded image.now program.now found.now }
+    ensures stand { (x : Instance) → Among found.now.nodes.keys x → Stands program.now x }
+    ensures closed { IsClosed image.now program.now found.now.nodes.keys }
+{
+    let _ = image;
+    let _ = program;
+    let _ = found;
+    nodes_are_reached();
 }
 
 /// The parts of the certificate of what a search has found, whose runs enter where the search starts.
@@ -117,14 +191,23 @@ pub(crate) fn parts_of(
     found: &Found,
 ) -> Result<Parts, AllocError>
     requires fits { ProgramFits program.now }
-    requires stand { (x : Instance) → Among found.now.nodes.keys x → Stands program.now x }
-    requires lines { length found.now.returns.items ≡ program.now.lines }
+    requires ended { IsEnded image.now program.now found.now }
     requires few { length found.now.nodes.keys < 524288 }
-    ensures { IfOk result (ArePartsOf program.now entry found.now) }
+    requires start { Among program.now.starts (entry_instance_at entry 1) }
+    ensures { IfOk result (ArePartsOf image.now program.now entry found.now) }
 {
-    let schedule = schedule_of(alloc, found.marks.as_slice(), program.lines, program.fall)?;
+    let schedule = made_schedule(alloc, image, program, found)?;
     let rests = rests_of(alloc, found.returns.as_slice())?;
-    let made = points_of(alloc, image, program, rests.as_slice(), &found.nodes)?;
+    nodes_are_closed(image, program, found);
+    rests_are_entered(image, program, &entry, &schedule, found);
+    let made = points_of(
+        alloc,
+        image,
+        program,
+        &schedule,
+        rests.as_slice(),
+        &found.nodes,
+    )?;
     let id = number_of(
         &found.nodes,
         made.numbers.as_slice(),

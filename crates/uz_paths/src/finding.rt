@@ -1,23 +1,28 @@
 //! From hints to a certificate.
 
-ghost use Rattle.std.specs.Prelude.{◌≡◌, ◌<◌, ◌^◌, ◌⊎◌, ℕ, Err, IfOk, IfErr, IfSome, length};
+ghost use Rattle.std.specs.Prelude.{◌≡◌, ◌<◌, ◌^◌, ◌⊎◌, ℕ, Err, IfOk, IfErr, IsOk, length};
 ghost use Rattle.uz_schedule.specs.WellFormed.{WellFormed};
 ghost use Rattle.uz_soundness.specs.Acceptance.{Accepts};
 ghost use Rattle.uz_hints.specs.Faults.{HintRefusal};
 ghost use Rattle.uz_search.specs.Fitting.{ProgramFits};
 ghost use Rattle.uz_search.specs.Refusing.{Refusal};
 ghost use Rattle.uz_search.specs.Searching.{IsEnded};
-ghost use Rattle.uz_paths.specs.Finding.{instance_limit, Cause, IsFoundBy, IsAsked};
+ghost use Rattle.uz_paths.specs.Certificate.{IsEntry, ReturnsFromMain};
+ghost use Rattle.uz_paths.specs.Finding.{instance_limit, Cause, NoCause, IsFoundBy, IsAsked};
 
 use crate::certificate::{certificate_of, parts_of};
 use crate::program::program_of;
 use avr_asm::Hint;
 use std::alloc::{AllocError, Global};
-use uz_check::verdict;
 use uz_hex::Image;
 use uz_hints::read_hints;
-use uz_schedule::{Cert, Entry, Response, well_formed};
+use uz_schedule::{Cert, Entry, Response, event_by_line};
 use uz_search::{Found, NotFound, Program, nodes_are_reached, search};
+use uz_search_accepted::ended_accepts;
+use uz_search_laws::{
+    ended_falls_once, ended_levels, ended_levels_fit, ended_rests_are_quiet, ended_rests_enter,
+    ended_within_limits, lies_in_widened,
+};
 
 /// The most distinct instances of a search.
 const INSTANCE_LIMIT: u32 = 524288;
@@ -31,30 +36,32 @@ fn certificate(
     found: &Found,
 ) -> Result<Cert, AllocError>
     requires fits { ProgramFits program }
+    requires start { IsEntry program entry }
     requires ended { IsEnded image.now program found.now }
     requires few { length found.now.nodes.keys < instance_limit }
-    ensures { IfOk result (IsFoundBy image.now program entry) }
+    requires returns { ReturnsFromMain program found.now }
+    ensures fits { IfOk result WellFormed }
+    ensures accepted { IfOk result (Accepts image.now) }
+    ensures found { IfOk result (IsFoundBy image.now program entry) }
 {
+    event_by_line();
     nodes_are_reached();
+    ended_falls_once();
+    ended_levels_fit();
+    ended_rests_are_quiet();
+    ended_levels();
+    ended_rests_enter();
+    ended_within_limits();
+    lies_in_widened();
+    ended_accepts();
     let parts = parts_of(alloc, image, &program, entry, found)?;
     Ok(certificate_of(program, parts))
 }
 
-/// A certificate with what the check says of it: one that it refuses isn't handed out.
-fn accepted(image: &Image, cert: Cert) -> Option<Cert>
-    ensures accepted { IfSome result (λ c. WellFormed c × Accepts image.now c) }
-    ensures same { IfSome result (λ c. c ≡ cert) }
-{
-    if well_formed(&cert) && verdict(image, &cert).is_none() {
-        Some(cert)
-    } else {
-        None
-    }
-}
-
 /// Searches a program, and makes a certificate of what is found.
 fn find_by(alloc: Global, image: &Image, program: Program, entry: Entry) -> Result<Cert, NotFound>
-    requires { ProgramFits program }
+    requires fits { ProgramFits program }
+    requires start { IsEntry program entry }
     ensures accepted { IfOk result (λ cert. WellFormed cert × Accepts image.now cert) }
     ensures found { IfOk result (IsFoundBy image.now program entry) }
     ensures cause { IfErr result (Refusal image.now program instance_limit) }
@@ -63,24 +70,22 @@ fn find_by(alloc: Global, image: &Image, program: Program, entry: Entry) -> Resu
         Ok(found) => found,
         Err(refusal) => return Err(refusal),
     };
-    let cert = certificate(alloc, image, program, entry, &found)?;
-    match accepted(image, cert) {
-        Some(cert) => Ok(cert),
-        None => Err(NotFound::Memory),
-    }
+    Ok(certificate(alloc, image, program, entry, &found)?)
 }
 
 /// Finds a certificate of an image by the hints of its source: one that `check` accepts with it, with the header, the lines, the fall and the
-/// entry that the hints ask for, where each rest is a return of some trail.
+/// entry that the hints ask for, where each rest is a return of some trail. Where none of the causes stands, only want of memory leaves it without one.
 ///
 /// Hint comes exactly where a hint is at fault or start, lines or stack are missing, before all other refusals; Stuck and Split only with trails
 /// that show them; Full only where 524,288 distinct instances lie on trails; NoRest only where runs enter main, and the instances on trails hold
 /// no return. Time is linear in the instances and their results.
+#[tactic(auto, using(crate::proofs::FindLemmas::complete_answer))]
 pub fn find(alloc: Global, image: &Image, hints: &[Hint], irq: Response) -> Result<Cert, NotFound>
     requires { length hints.now < 2 ^ 32 }
     ensures accepted { IfOk result (λ cert. WellFormed cert × Accepts image.now cert) }
     ensures asked { IfOk result (IsAsked image.now irq hints.now) }
     ensures cause { IfErr result (Cause image.now irq hints.now) }
+    ensures complete { NoCause image.now irq hints.now → IsOk result ⊎ (result ≡ Err NotFound.Memory) }
     ensures hint { (index : ℕ) → HintRefusal image.now irq hints.now index → (result ≡ Err (NotFound.Hint index)) ⊎ (result ≡ Err NotFound.Memory) }
 {
     let reading = match read_hints(image, irq, hints) {

@@ -1,6 +1,6 @@
 //! The schedule that a search's marks make: equal lines share a kind.
 
-ghost use Rattle.std.specs.Prelude.{◌≡◌, ◌<◌, ◌≤◌, ◌+◌, ◌-◌, ◌++◌, ℕ, List, [], ◌∷◌, IfOk, OnOk, IsTrue, ◌↔◌, MatchOption, length, slice_get, Some};
+ghost use Rattle.std.specs.Prelude.{◌≡◌, ◌⊎◌, ◌<◌, ◌≤◌, ◌+◌, ◌-◌, ◌++◌, ℕ, List, [], ◌∷◌, IfOk, OnOk, IsTrue, ◌↔◌, MatchOption, length, slice_get, Some};
 ghost use Rattle.uz_schedule.specs.declared.lines.Event.{Event};
 ghost use Rattle.uz_search.specs.Following.{line_start};
 ghost use Rattle.uz_paths.specs.Kinds.{noted as noted_event, event_here, line_events as events_of_marks, AreApart, IsScheduleOf};
@@ -94,6 +94,7 @@ fn number_of(kinds: &mut Vec<LineEvents>, events: LineEvents) -> Result<u16, All
     ensures there { IfOk result (λ n. slice_get kinds.new.items n ≡ Some events) }
     ensures few { IfOk result (λ n. length kinds.new.items ≤ length kinds.old.items + 1) }
     ensures shared { IfOk result (λ n. AreApart kinds.old.items → AreApart kinds.new.items) }
+    ensures own { IfOk result (λ n. (i : ℕ) (kind : List Event) → slice_get kinds.new.items i ≡ Some kind → (slice_get kinds.old.items i ≡ Some kind) ⊎ (events ≡ kind)) }
 {
     match kind_with(kinds.as_slice(), events.as_slice()) {
         Some(i) => Ok(i as u16),

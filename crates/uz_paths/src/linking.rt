@@ -1,19 +1,24 @@
 //! Where instances lead: the names of successors.
 
-ghost use Rattle.std.specs.Prelude.{◌≡◌, ◌<◌, ◌^◌, ℕ, Some, length, slice_get};
+ghost use Rattle.std.specs.Prelude.{◌≡◌, ◌<◌, ◌≤◌, ◌+◌, ◌^◌, ℕ, Some, false, length, slice_get};
+ghost use Rattle.uz_schedule.specs.Limits.{ScheduleFits};
 ghost use Rattle.uz_schedule.specs.Lines.{uniform};
 ghost use Rattle.uz_schedule.specs.Schedule.{response_clocks};
 ghost use Rattle.uz_schedule.specs.declared.states.Instance.{Instance};
+ghost use Rattle.uz_schedule.specs.declared.states.Rest.{Rest};
 ghost use Rattle.uz_search.specs.Fitting.{ProgramFits, Stands};
 ghost use Rattle.uz_search.specs.Following.{Among};
+ghost use Rattle.uz_search.specs.Widenings.{widened};
 ghost use Rattle.uz_paths.specs.Numbers.{AreNumbers};
-ghost use Rattle.uz_paths.specs.Linked.{ArePoints, Renamed};
+ghost use Rattle.uz_paths.specs.Linked.{AreEntered, AreNamed, ArePoints, HasFew, HasName, IsClosed, NamesEntries, NamesFit, NamesMore, NamesOwn, NamesResults, NamesVectors, Renamed, first_after as first_state_after};
 
+use crate::rests::first_after;
 use crate::successors::put_number;
+use arrayvec::ArrayVec;
 use indexmap::IndexSet;
 use uz_hex::Image;
-use uz_rules::after;
-use uz_schedule::{Instance, Point, Rest};
+use uz_rules::{Next, after};
+use uz_schedule::{Instance, Point, Rest, Schedule, equal_instances_are_one};
 use uz_search::{Program, widened_copy};
 
 /// The number at a place.
@@ -24,58 +29,230 @@ pub(crate) fn number_at(numbers: &[u32], i: usize) -> u32
     numbers[i]
 }
 
-/// Names the point of an instance among the successors of a point.
-#[tactic(auto, using(crate::proofs::LinkLemmas::same_names))]
-fn name(nodes: &IndexSet<Instance>, numbers: &[u32], count: u32, to: &Instance, from: &mut Point)
-    requires lengths { length numbers.now ≡ length nodes.now.keys }
-    requires within { (i n : ℕ) → slice_get numbers.now i ≡ Some n → n < count }
-    ensures { Renamed count from.old from.new }
+/// The place of an instance of the search.
+pub(crate) fn place_of(nodes: &IndexSet<Instance>, at: &Instance) -> usize
+    requires { Among nodes.now.keys at.now }
+    ensures { slice_get nodes.now.keys result ≡ Some at.now }
 {
-    let _ = count;
-    if let Some(i) = nodes.get_index_of(to) {
-        put_number(&mut from.next, number_at(numbers, i));
+    equal_instances_are_one();
+    match nodes.get_index_of(at) {
+        Some(i) => i,
+        None => 0,
     }
 }
 
-/// Names the points of results, widened by the facts of their program counters, among the successors of a point.
-#[tactic(auto, using(crate::proofs::LinkLemmas::same_names))]
+/// Puts the number of an instance's point among others.
+fn name(
+    nodes: &IndexSet<Instance>,
+    numbers: &[u32],
+    count: u32,
+    to: &Instance,
+    names: &mut ArrayVec<u32, 16>,
+)
+    requires node { Among nodes.now.keys to.now }
+    requires lengths { length numbers.now ≡ length nodes.now.keys }
+    requires within { (i n : ℕ) → slice_get numbers.now i ≡ Some n → n < count }
+    requires room { length names.old.items < 16 }
+    ensures more { NamesMore count 1 names.old.items names.new.items }
+    ensures named { HasName nodes.now.keys numbers.now to.now names.new.items }
+{
+    let _ = count;
+    let place = place_of(nodes, to);
+    put_number(names, number_at(numbers, place));
+}
+
+/// Puts the numbers of the points of results, widened by the facts of their program counters, among others.
 fn name_all(
     program: &Program,
     nodes: &IndexSet<Instance>,
     numbers: &[u32],
     count: u32,
     results: &[Instance],
-    from: &mut Point,
+    names: &mut ArrayVec<u32, 16>,
 )
+    requires nodes { (y : Instance) → Among results.now y → Among nodes.now.keys (widened program.now y) }
     requires lengths { length numbers.now ≡ length nodes.now.keys }
     requires within { (i n : ℕ) → slice_get numbers.now i ≡ Some n → n < count }
-    ensures { Renamed count from.old from.new }
+    requires room { length names.old.items + length results.now ≤ 16 }
+    ensures more { NamesMore count (length results.now) names.old.items names.new.items }
+    ensures named { (y : Instance) → Among results.now y → HasName nodes.now.keys numbers.now (widened program.now y) names.new.items }
 {
     for to in results {
-        name(nodes, numbers, count, &widened_copy(program, to), from);
+        name(nodes, numbers, count, &widened_copy(program, to), names);
     }
 }
 
-/// Names the points where an instance leads among the successors of its point. A return names none.
-#[tactic(auto, using(crate::proofs::LinkLemmas::same_names))]
-fn link(
+/// Puts the numbers of the points of what an instruction makes of an instance among others. A return names none.
+fn name_next(
+    program: &Program,
+    nodes: &IndexSet<Instance>,
+    numbers: &[u32],
+    count: u32,
+    next: &Next,
+    names: &mut ArrayVec<u32, 16>,
+)
+    requires nodes { next.now.back ≡ false → (y : Instance) → Among next.now.out.items y → Among nodes.now.keys (widened program.now y) }
+    requires lengths { length numbers.now ≡ length nodes.now.keys }
+    requires within { (i n : ℕ) → slice_get numbers.now i ≡ Some n → n < count }
+    requires room { length names.old.items + length next.now.out.items ≤ 16 }
+    ensures more { NamesMore count (length next.now.out.items) names.old.items names.new.items }
+    ensures named { next.now.back ≡ false → (y : Instance) → Among next.now.out.items y → HasName nodes.now.keys numbers.now (widened program.now y) names.new.items }
+{
+    if next.back {
+        return;
+    }
+    name_all(program, nodes, numbers, count, next.out.as_slice(), names);
+}
+
+/// Puts the numbers of the points where an instance leads among others, of which there are at most `most`.
+fn name_results(
     image: &Image,
     program: &Program,
     nodes: &IndexSet<Instance>,
     numbers: &[u32],
     count: u32,
     at: &Instance,
-    from: &mut Point,
+    most: u32,
+    names: &mut ArrayVec<u32, 16>,
 )
     requires fits { ProgramFits program.now }
     requires stands { Stands program.now at.now }
+    requires node { Among nodes.now.keys at.now }
+    requires closed { IsClosed image.now program.now nodes.now.keys }
     requires lengths { length numbers.now ≡ length nodes.now.keys }
     requires within { (i n : ℕ) → slice_get numbers.now i ≡ Some n → n < count }
-    ensures { Renamed count from.old from.new }
+    requires few { HasFew image.now program.now at.now most }
+    requires room { length names.old.items + most ≤ 16 }
+    ensures more { NamesMore count most names.old.items names.new.items }
+    ensures named { NamesResults image.now program.now nodes.now.keys numbers.now at.now names.new.items }
 {
-    if let Ok(next) = after(image, &program.head, program.lines, at) {
-        if !next.back {
-            name_all(program, nodes, numbers, count, next.out.as_slice(), from);
+    let _ = most;
+    match after(image, &program.head, program.lines, at) {
+        Ok(next) => name_next(program, nodes, numbers, count, &next, names),
+        Err(_) => {}
+    }
+}
+
+/// The numbers of the points where an instance leads.
+fn own_names(
+    image: &Image,
+    program: &Program,
+    nodes: &IndexSet<Instance>,
+    numbers: &[u32],
+    count: u32,
+    at: &Instance,
+) -> ArrayVec<u32, 16>
+    requires fits { ProgramFits program.now }
+    requires stands { Stands program.now at.now }
+    requires node { Among nodes.now.keys at.now }
+    requires closed { IsClosed image.now program.now nodes.now.keys }
+    requires lengths { length numbers.now ≡ length nodes.now.keys }
+    requires within { (i n : ℕ) → slice_get numbers.now i ≡ Some n → n < count }
+    ensures fits { NamesFit count result.items }
+    ensures named { NamesResults image.now program.now nodes.now.keys numbers.now at.now result.items }
+{
+    let mut names = ArrayVec::new();
+    name_results(image, program, nodes, numbers, count, at, 16, &mut names);
+    names
+}
+
+/// The numbers of the points where the handler's first states after a rest lead.
+fn vector_names(
+    image: &Image,
+    program: &Program,
+    schedule: &Schedule,
+    nodes: &IndexSet<Instance>,
+    numbers: &[u32],
+    count: u32,
+    rest: &Rest,
+) -> ArrayVec<u32, 16>
+    requires fits { ProgramFits program.now }
+    requires schedule { ScheduleFits schedule.now }
+    requires lines { length schedule.now.lines ≡ program.now.lines }
+    requires line { rest.now.line < program.now.lines }
+    requires stand { (x : Instance) → Among nodes.now.keys x → Stands program.now x }
+    requires closed { IsClosed image.now program.now nodes.now.keys }
+    requires entered { (c : ℕ) → c ≤ 3 → Among nodes.now.keys (first_state_after program.now schedule.now rest.now c) }
+    requires lengths { length numbers.now ≡ length nodes.now.keys }
+    requires within { (i n : ℕ) → slice_get numbers.now i ≡ Some n → n < count }
+    ensures fits { NamesFit count result.items }
+    ensures named { NamesEntries image.now program.now schedule.now nodes.now.keys numbers.now rest.now result.items }
+{
+    let mut names = ArrayVec::new();
+    for c in 0..4u16 {
+        let at = first_after(program, schedule, rest, c);
+        name_results(image, program, nodes, numbers, count, &at, 2, &mut names);
+    }
+    names
+}
+
+/// Gives a point its successors.
+fn put_names(point: &mut Point, count: u32, names: ArrayVec<u32, 16>)
+    requires { NamesFit count names.items }
+    ensures { Renamed count names.items point.old point.new }
+{
+    let _ = count;
+    point.next = names;
+}
+
+/// Names the points where the handler's first states after each rest lead among the successors of their vector.
+fn link_vectors(
+    image: &Image,
+    program: &Program,
+    schedule: &Schedule,
+    rests: &[Rest],
+    nodes: &IndexSet<Instance>,
+    numbers: &[u32],
+    points: &mut [Point],
+)
+    requires fits { ProgramFits program.now }
+    requires schedule { ScheduleFits schedule.now }
+    requires lines { length schedule.now.lines ≡ program.now.lines }
+    requires line { (k : ℕ) (rest : Rest) → slice_get rests.now k ≡ Some rest → rest.line < program.now.lines }
+    requires stand { (x : Instance) → Among nodes.now.keys x → Stands program.now x }
+    requires closed { IsClosed image.now program.now nodes.now.keys }
+    requires entered { AreEntered program.now schedule.now rests.now nodes.now.keys }
+    requires few { length points.old < 2 ^ 32 }
+    requires numbered { AreNumbers (response_clocks program.now.head.irq) (uniform program.now.lines) rests.now nodes.now.keys numbers.now (length points.old) }
+    requires made { ArePoints (response_clocks program.now.head.irq) (uniform program.now.lines) rests.now nodes.now.keys numbers.now (length points.old) points.old }
+    ensures made { ArePoints (response_clocks program.now.head.irq) (uniform program.now.lines) rests.now nodes.now.keys numbers.now (length points.old) points.new }
+    ensures named { NamesVectors image.now program.now schedule.now rests.now nodes.now.keys numbers.now (length rests.now) points.new }
+{
+    let count = points.len() as u32;
+    for (k, rest) in rests.iter().enumerate() {
+        let names = vector_names(image, program, schedule, nodes, numbers, count, rest);
+        put_names(&mut points[k], count, names);
+    }
+}
+
+/// Names the points where each instance leads among the successors of its point, where that is its own.
+fn link_own(
+    image: &Image,
+    program: &Program,
+    schedule: &Schedule,
+    rests: &[Rest],
+    nodes: &IndexSet<Instance>,
+    numbers: &[u32],
+    points: &mut [Point],
+)
+    requires fits { ProgramFits program.now }
+    requires stand { (x : Instance) → Among nodes.now.keys x → Stands program.now x }
+    requires closed { IsClosed image.now program.now nodes.now.keys }
+    requires few { length points.old < 2 ^ 32 }
+    requires numbered { AreNumbers (response_clocks program.now.head.irq) (uniform program.now.lines) rests.now nodes.now.keys numbers.now (length points.old) }
+    requires made { ArePoints (response_clocks program.now.head.irq) (uniform program.now.lines) rests.now nodes.now.keys numbers.now (length points.old) points.old }
+    requires vectors { NamesVectors image.now program.now schedule.now rests.now nodes.now.keys numbers.now (length rests.now) points.old }
+    ensures made { ArePoints (response_clocks program.now.head.irq) (uniform program.now.lines) rests.now nodes.now.keys numbers.now (length points.old) points.new }
+    ensures vectors { NamesVectors image.now program.now schedule.now rests.now nodes.now.keys numbers.now (length rests.now) points.new }
+    ensures own { NamesOwn image.now program.now (length rests.now) nodes.now.keys numbers.now (length nodes.now.keys) points.new }
+{
+    let _ = schedule;
+    let count = points.len() as u32;
+    for (i, at) in nodes.as_slice().iter().enumerate() {
+        let number = number_at(numbers, i) as usize;
+        if number >= rests.len() {
+            let names = own_names(image, program, nodes, numbers, count, at);
+            put_names(&mut points[number], count, names);
         }
     }
 }
@@ -84,29 +261,25 @@ fn link(
 pub(crate) fn link_all(
     image: &Image,
     program: &Program,
+    schedule: &Schedule,
     rests: &[Rest],
     nodes: &IndexSet<Instance>,
     numbers: &[u32],
     points: &mut [Point],
 )
     requires fits { ProgramFits program.now }
+    requires schedule { ScheduleFits schedule.now }
+    requires lines { length schedule.now.lines ≡ program.now.lines }
+    requires line { (k : ℕ) (rest : Rest) → slice_get rests.now k ≡ Some rest → rest.line < program.now.lines }
     requires stand { (x : Instance) → Among nodes.now.keys x → Stands program.now x }
+    requires closed { IsClosed image.now program.now nodes.now.keys }
+    requires entered { AreEntered program.now schedule.now rests.now nodes.now.keys }
     requires few { length points.old < 2 ^ 32 }
     requires numbered { AreNumbers (response_clocks program.now.head.irq) (uniform program.now.lines) rests.now nodes.now.keys numbers.now (length points.old) }
     requires made { ArePoints (response_clocks program.now.head.irq) (uniform program.now.lines) rests.now nodes.now.keys numbers.now (length points.old) points.old }
-    ensures { ArePoints (response_clocks program.now.head.irq) (uniform program.now.lines) rests.now nodes.now.keys numbers.now (length points.old) points.new }
+    ensures made { ArePoints (response_clocks program.now.head.irq) (uniform program.now.lines) rests.now nodes.now.keys numbers.now (length points.old) points.new }
+    ensures named { AreNamed image.now program.now schedule.now rests.now nodes.now.keys numbers.now points.new }
 {
-    let count = points.len() as u32;
-    for (i, at) in nodes.as_slice().iter().enumerate() {
-        let number = number_at(numbers, i) as usize;
-        link(
-            image,
-            program,
-            nodes,
-            numbers,
-            count,
-            at,
-            &mut points[number],
-        );
-    }
+    link_vectors(image, program, schedule, rests, nodes, numbers, points);
+    link_own(image, program, schedule, rests, nodes, numbers, points);
 }

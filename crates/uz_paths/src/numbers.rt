@@ -7,7 +7,7 @@ ghost use Rattle.uz_schedule.specs.Schedule.{response_clocks};
 ghost use Rattle.uz_schedule.specs.declared.states.Rest.{Rest};
 ghost use Rattle.uz_paths.specs.Linked.{ArePoints};
 ghost use Rattle.uz_paths.specs.Numbers.{AreNumbers};
-ghost use Rattle.uz_paths.specs.Points.{point_of as point_for, vector_point as vector_for};
+ghost use Rattle.uz_paths.specs.Points.{AreOrdered, IsOrdered, point_of as point_for, vector_point as vector_for};
 
 use crate::points::{point_of, vector_point};
 use crate::vectors::vector_of;
@@ -27,7 +27,8 @@ pub(crate) struct Numbered {
 /// The vector's point of a rest, without successors.
 fn bare_vector(response: Response, order: LineOrder, rest: &Rest) -> Point
     requires { rest.now.line < order.count }
-    ensures { result ≡ vector_for rest.now.cells.items ((uniform order.count).next rest.now.line) (response_clocks response) [] }
+    ensures is { result ≡ vector_for rest.now.cells.items ((uniform order.count).next rest.now.line) (response_clocks response) [] }
+    ensures ordered { AreOrdered 255 rest.now.cells.items }
 {
     vector_point(
         &rest.cells,
@@ -39,7 +40,8 @@ fn bare_vector(response: Response, order: LineOrder, rest: &Rest) -> Point
 
 /// The point of an instance, without successors.
 fn bare_point(at: &Instance) -> Point
-    ensures { result ≡ point_for at.now [] }
+    ensures is { result ≡ point_for at.now [] }
+    ensures ordered { IsOrdered at.now }
 {
     point_of(at, ArrayVec::new())
 }

@@ -2,8 +2,8 @@
 
 ghost use Rattle.std.specs.Prelude.{◌≡◌, ◌<◌, ◌≤◌, ◌&&◌, length, map};
 ghost use Rattle.uz_schedule.specs.Instances.{hull_at, span_of_val};
-ghost use Rattle.uz_schedule.specs.WellFormed.{is_default_flag as default_flag, is_carry_and_zero_default as both_default};
-ghost use Rattle.uz_paths.specs.Points.{byte_fact as fact_of_byte, fact_of as fact_of_val, same_ends, range_fact as fact_of_range, pair_fact as fact_of_pair, pair_facts as facts_of_pairs, point_of as point_for, old_facts as facts_of_old, vector_point as vector_for};
+ghost use Rattle.uz_schedule.specs.WellFormed.{RangeFits, is_default_flag as default_flag, is_carry_and_zero_default as both_default};
+ghost use Rattle.uz_paths.specs.Points.{AreOrdered, AreOrderedVals, IsOrdered, IsOrderedVal, byte_fact as fact_of_byte, fact_of as fact_of_val, same_ends, range_fact as fact_of_range, pair_fact as fact_of_pair, pair_facts as facts_of_pairs, point_of as point_for, old_facts as facts_of_old, vector_point as vector_for};
 
 use arrayvec::ArrayVec;
 use uz_schedule::{Bit, Fact, Instance, Kind, PairFact, Point, Span, Val, Wide, hull};
@@ -13,7 +13,8 @@ const VECTOR: u16 = 26;
 
 /// The fact of a range of bytes.
 fn byte_fact(range: Span) -> Fact
-    ensures { result ≡ fact_of_byte range }
+    ensures is { result ≡ fact_of_byte range }
+    ensures ordered { RangeFits 255 range }
 {
     if range.lo() == 0 && range.hi() == 255 {
         Fact::Any
@@ -24,7 +25,8 @@ fn byte_fact(range: Span) -> Fact
 
 /// The fact of what is known of a byte.
 fn fact_of(val: &Val) -> Fact
-    ensures { result ≡ fact_of_val val.now }
+    ensures is { result ≡ fact_of_val val.now }
+    ensures ordered { IsOrderedVal val.now }
 {
     match *val {
         Val::Range(range) => byte_fact(range),
@@ -35,7 +37,8 @@ fn fact_of(val: &Val) -> Fact
 
 /// The facts of the registers.
 fn register_facts(regs: &[Val; 32]) -> [Fact; 32]
-    ensures { result ≡ map fact_of_val regs.now }
+    ensures is { result ≡ map fact_of_val regs.now }
+    ensures ordered { AreOrderedVals regs.now }
 {
     let mut facts = [Fact::Any; 32];
     for r in 0..32usize {
@@ -46,7 +49,8 @@ fn register_facts(regs: &[Val; 32]) -> [Fact; 32]
 
 /// The facts of the bytes of the stack.
 fn slot_facts(slots: &ArrayVec<Val, 32>) -> ArrayVec<Fact, 32>
-    ensures { result.items ≡ map fact_of_val slots.now.items }
+    ensures is { result.items ≡ map fact_of_val slots.now.items }
+    ensures ordered { AreOrderedVals slots.now.items }
 {
     let mut facts = ArrayVec::new();
     for slot in slots.as_slice() {
@@ -57,7 +61,8 @@ fn slot_facts(slots: &ArrayVec<Val, 32>) -> ArrayVec<Fact, 32>
 
 /// The facts of the cells.
 fn cell_facts(cells: &ArrayVec<Span, 16>) -> ArrayVec<Fact, 16>
-    ensures { result.items ≡ map fact_of_byte cells.now.items }
+    ensures is { result.items ≡ map fact_of_byte cells.now.items }
+    ensures ordered { AreOrdered 255 cells.now.items }
 {
     let mut facts = ArrayVec::new();
     for range in cells.as_slice() {
@@ -68,7 +73,8 @@ fn cell_facts(cells: &ArrayVec<Span, 16>) -> ArrayVec<Fact, 16>
 
 /// Whether two ranges are one.
 fn is_same(a: Wide, b: Wide) -> bool
-    ensures { result ≡ same_ends a b }
+    ensures is { result ≡ same_ends a b }
+    ensures ordered { RangeFits 65535 a }
 {
     a.lo() == b.lo() && a.hi() == b.hi()
 }
@@ -93,7 +99,8 @@ fn hull_of(regs: &[Val; 32], low: usize) -> Wide
 
 /// The fact of a pair's range; `ambiguous` says whether the text would take 0 and 1 for a flag.
 fn range_fact(ambiguous: bool, range: Wide) -> PairFact
-    ensures { result ≡ fact_of_range ambiguous range }
+    ensures is { result ≡ fact_of_range ambiguous range }
+    ensures ordered { RangeFits 65535 range }
 {
     if ambiguous && (range.lo() == range.hi() && range.hi() < 2) {
         PairFact::Loop(1, range.lo())
@@ -104,7 +111,8 @@ fn range_fact(ambiguous: bool, range: Wide) -> PairFact
 
 /// The fact of a pair whose bytes say `hull`.
 fn pair_fact(ambiguous: bool, hull: Wide, range: Wide) -> PairFact
-    ensures { result ≡ fact_of_pair ambiguous hull range }
+    ensures is { result ≡ fact_of_pair ambiguous hull range }
+    ensures ordered { RangeFits 65535 range }
 {
     if is_same(range, hull) {
         PairFact::Any
@@ -133,7 +141,8 @@ fn is_ambiguous(kind: Kind, flags: &[Bit; 7]) -> bool
 
 /// The facts of the pairs X, Y and Z.
 fn pair_facts(at: &Instance) -> [PairFact; 3]
-    ensures { result ≡ facts_of_pairs at.now.kind at.now.regs at.now.pairs at.now.flags }
+    ensures is { result ≡ facts_of_pairs at.now.kind at.now.regs at.now.pairs at.now.flags }
+    ensures ordered { AreOrdered 65535 at.now.pairs }
 {
     let ambiguous = is_ambiguous(at.kind, &at.flags);
     [
@@ -145,7 +154,8 @@ fn pair_facts(at: &Instance) -> [PairFact; 3]
 
 /// The point of an instance, with the numbers of the points where it leads.
 pub(crate) fn point_of(at: &Instance, next: ArrayVec<u32, 16>) -> Point
-    ensures { result ≡ point_for at.now next.items }
+    ensures is { result ≡ point_for at.now next.items }
+    ensures ordered { IsOrdered at.now }
 {
     Point {
         kind: at.kind,
@@ -184,7 +194,8 @@ pub(crate) fn vector_point(
     response: u16,
     next: ArrayVec<u32, 16>,
 ) -> Point
-    ensures { result ≡ vector_for cells.now.items line response next.items }
+    ensures is { result ≡ vector_for cells.now.items line response next.items }
+    ensures ordered { AreOrdered 255 cells.now.items }
 {
     Point {
         kind: Kind::Handler,

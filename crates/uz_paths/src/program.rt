@@ -11,6 +11,7 @@ ghost use Rattle.uz_search.specs.Widenings.{facts_in};
 ghost use Rattle.uz_search.specs.Fitting.{ProgramFits};
 ghost use Rattle.uz_hints.specs.Faults.{FactPart, FactsFine};
 ghost use Rattle.uz_hints.specs.Reading.{IsReading, ReadingFits};
+ghost use Rattle.uz_paths.specs.Certificate.{IsEntry};
 ghost use Rattle.uz_paths.specs.ProgramOf.{widening_of as fact_of_place, hint_facts, facts_for, entry_with, first_state as state_at_first, first_states as states_at_first, IsProgramOf};
 
 use arrayvec::ArrayVec;
@@ -176,6 +177,7 @@ pub(crate) fn program_of(
     ensures program { IfOk result (λ r. (image : FinMap nat_cmp ℕ) (irq : ResponseKind) → IsReading image irq hints.now reading → IsProgramOf irq hints.now r.0) }
     ensures head { IfOk result (λ r. r.0.head ≡ reading.head) }
     ensures entry { IfOk result (λ r. r.1 ≡ entry_with reading.registers reading.head reading.start 0) }
+    ensures start { IfOk result (λ r. IsEntry r.0 r.1) }
 {
     let Reading {
         head,

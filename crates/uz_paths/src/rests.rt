@@ -1,15 +1,18 @@
-//! The rests that noted returns make.
+//! The rests that noted returns make, and the handler's first states after them.
 
 ghost use Rattle.std.specs.Prelude.{◌≡◌, ◌<◌, ◌≤◌, ◌^◌, IfOk, length};
+ghost use Rattle.uz_schedule.specs.Instances.{level_or_zero};
+ghost use Rattle.uz_schedule.specs.Limits.{ScheduleFits};
+ghost use Rattle.uz_paths.specs.Linked.{first_after as first_state_after};
 ghost use Rattle.uz_paths.specs.Rests.{rests_of as rests_of_returns};
 
 use arrayvec::ArrayVec;
 use std::alloc::{AllocError, Global};
-use uz_schedule::{Rest, Span};
-use uz_search::Return;
+use uz_schedule::{Instance, Rest, Schedule, Span, handler_entry};
+use uz_search::{Program, Return};
 
 /// A copy of the ranges of cells.
-pub(crate) fn copied_cells(cells: &ArrayVec<Span, 16>) -> ArrayVec<Span, 16>
+fn copied_cells(cells: &ArrayVec<Span, 16>) -> ArrayVec<Span, 16>
     ensures { result.items ≡ cells.now.items }
 {
     let mut copy = ArrayVec::new();
@@ -44,4 +47,33 @@ pub(crate) fn rests_of(alloc: Global, returns: &[Option<Return>]) -> Result<Vec<
         }
     }
     Ok(rests)
+}
+
+/// The level of sync at a clock of a line, 0 where the schedule has none.
+fn level_at(schedule: &Schedule, line: u16, clock: u16) -> u8
+    requires { ScheduleFits schedule.now }
+    ensures { result ≡ level_or_zero schedule.now line clock }
+{
+    match schedule.level(schedule.start(line) + u32::from(clock)) {
+        Some(level) => level,
+        None => 0,
+    }
+}
+
+/// The handler's first state after a rest, where its interrupt is taken at clock `c` of the next line, with the schedule's level there.
+pub(crate) fn first_after(program: &Program, schedule: &Schedule, rest: &Rest, c: u16) -> Instance
+    requires schedule { ScheduleFits schedule.now }
+    requires lines { length schedule.now.lines ≡ program.now.lines }
+    requires line { rest.now.line < program.now.lines }
+    requires clock { c ≤ 3 }
+    ensures { result ≡ first_state_after program.now schedule.now rest.now c }
+{
+    let line = schedule.order().next(rest.line);
+    let clock = c + program.head.irq.clocks();
+    handler_entry(
+        &rest.cells,
+        line,
+        clock,
+        level_at(schedule, line, clock),
+    )
 }

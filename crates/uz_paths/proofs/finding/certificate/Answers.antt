@@ -1,10 +1,48 @@
+use Rattle.std.proofs.Common.{sym, subst}
+use Rattle.uz_schedule.specs.WellFormed.{WellFormed}
+use Rattle.uz_soundness.specs.Acceptance.{Accepts}
+use Rattle.uz_paths.proofs.Complete.{Laws, well_formed, accepted}
 use Rattle.uz_paths.proofs.FindLemmas.{found_by}
 use Rattle.uz_paths.proofs.finding.certificate.Goals as goal
 
-pub parts_of-requires-clause-stand : goal.parts_of-requires-clause-stand
-parts_of-requires-clause-stand c = λ x among. c.nodes_are_reached.ensures.stand c.args.image.now c.args.program c.args.found.now x c.requires.fits c.requires.ended among
+pub parts_of-requires-clause-start : goal.parts_of-requires-clause-start
+parts_of-requires-clause-start c = c.requires.start.start
 
-pub returns : goal.returns
-returns c =
+pub returns-clause-fits : goal.returns-clause-fits
+returns-clause-fits c =
+    let laws : Laws = record {
+      by_line = c.event_by_line.ensures;
+      falls = c.ended_falls_once.ensures;
+      levels_fit = c.ended_levels_fit.ensures;
+      quiet = c.ended_rests_are_quiet.ensures;
+      levels = c.ended_levels.ensures;
+      enter = c.ended_rests_enter.ensures;
+      within = c.ended_within_limits.ensures;
+      widens = c.lies_in_widened.ensures;
+      accepts = c.ended_accepts.ensures;
+      stand = c.nodes_are_reached.ensures.stand;
+    } in
+    subst WellFormed (sym c.certificate_of.ensures)
+    (well_formed c.args.image.now c.args.program c.args.entry c.args.found.now c.in_ok-parts.parts laws c.requires.fits c.requires.ended c.requires.few c.requires.start c.requires.returns c.in_ok-parts.ensures)
+
+pub returns-clause-accepted : goal.returns-clause-accepted
+returns-clause-accepted c =
+    let laws : Laws = record {
+      by_line = c.event_by_line.ensures;
+      falls = c.ended_falls_once.ensures;
+      levels_fit = c.ended_levels_fit.ensures;
+      quiet = c.ended_rests_are_quiet.ensures;
+      levels = c.ended_levels.ensures;
+      enter = c.ended_rests_enter.ensures;
+      within = c.ended_within_limits.ensures;
+      widens = c.lies_in_widened.ensures;
+      accepts = c.ended_accepts.ensures;
+      stand = c.nodes_are_reached.ensures.stand;
+    } in
+    subst (Accepts c.args.image.now) (sym c.certificate_of.ensures)
+    (accepted c.args.image.now c.args.program c.args.entry c.args.found.now c.in_ok-parts.parts laws c.requires.fits c.requires.ended c.requires.few c.requires.start c.requires.returns c.in_ok-parts.ensures)
+
+pub returns-clause-found : goal.returns-clause-found
+returns-clause-found c =
     found_by c.args.image.now c.args.program c.args.entry c.args.found.now c.in_ok-parts.parts c.certificate_of.result c.certificate_of.ensures c.in_ok-parts.ensures c.requires.ended
     (λ x among. c.nodes_are_reached.ensures.on_trail c.args.image.now c.args.program c.args.found.now x c.requires.ended among)

@@ -1,4 +1,4 @@
-use Rattle.uz_paths.proofs.FindLemmas.{facts_fine, ok_asked, err_cause, no_hint}
+use Rattle.uz_paths.proofs.FindLemmas.{complete_answer, facts_fine, ok_asked, err_cause, no_hint}
 use Rattle.uz_paths.proofs.finding.find.Goals as goal
 
 pub program_of-requires-clause-facts : goal.program_of-requires-clause-facts
@@ -15,3 +15,8 @@ returns-clause-cause c =
 
 pub returns-clause-hint : goal.returns-clause-hint
 returns-clause-hint c = λ index refused. absurd (no_hint c.in-Ok.reading index (c.in-Ok.ensures.exact index refused))
+
+pub returns-clause-complete : goal.returns-clause-complete
+returns-clause-complete c =
+    complete_answer c.args.image.now c.args.irq c.args.hints.now c.find_by.result
+    (err_cause c.args.image.now c.args.irq c.args.hints.now c.in_ok-program.program c.find_by.result (c.in_ok-program.ensures.program c.args.image.now c.args.irq c.in-Ok.ensures.read) c.find_by.ensures.cause)

@@ -24,7 +24,7 @@ loop-at-preserved c =
           let n : w.len.result ≡ length c.loop-at.points.items = omega (arith, w.len.ensures) in
           own_step (response_clocks c.args.response) (uniform c.args.order.count) c.args.rests.now c.args.nodes.now c.loop-at.at-index c.at-item.result c.loop-at.numbers.items c.match-vector_of.numbers.items c.loop-at.points.items c.match-vector_of.points.items
           c.loop-at-test.true c.at-item.is c.loop-at.invariant w.in-None.ensures (e ∙ (w.in_ok-push-in-None.ensures.items ∙ ap (λ k. c.loop-at.numbers.items ++ k ∷ []) n))
-          (f ∙ (w.in_ok-push-in-None-2.ensures.items ∙ ap (λ p. c.loop-at.points.items ++ p ∷ []) w.bare_point.ensures))
+          (f ∙ (w.in_ok-push-in-None-2.ensures.items ∙ ap (λ p. c.loop-at.points.items ++ p ∷ []) w.bare_point.ensures.is)) w.bare_point.ensures.ordered
     ]
 
 pub returns-clause-numbers : goal.returns-clause-numbers

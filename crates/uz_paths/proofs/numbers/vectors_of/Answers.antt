@@ -4,7 +4,7 @@ use Rattle.uz_schedule.specs.Lines.{uniform}
 use Rattle.uz_schedule.specs.Schedule.{response_clocks}
 use Rattle.uz_schedule.specs.declared.states.Rest.{Rest}
 use Rattle.uz_paths.specs.Linked.{ArePoints}
-use Rattle.uz_paths.specs.Points.{vector_point}
+use Rattle.uz_paths.specs.Points.{AreOrdered, vector_point}
 use Rattle.uz_paths.proofs.LinkLemmas.{no_points, vectors_next, vectors_end}
 use Rattle.uz_paths.proofs.numbers.vectors_of.Goals as goal
 
@@ -17,9 +17,10 @@ bare_vector-requires c = c.requires c.loop-rest.rest-index c.rest-item.result (s
 pub loop-rest-preserved : goal.loop-rest-preserved
 loop-rest-preserved c =
     let vector : c.bare_vector.result ≡ vector_point (get_or c.args.rests.now c.loop-rest.rest-index c.rest-item.result).cells.items ((uniform c.args.order.count).next (get_or c.args.rests.now c.loop-rest.rest-index c.rest-item.result).line) (response_clocks c.args.response) [] =
-    c.bare_vector.ensures ∙ ap (λ (r : Rest). vector_point r.cells.items ((uniform c.args.order.count).next r.line) (response_clocks c.args.response) []) c.rest-item.is in
+    c.bare_vector.ensures.is ∙ ap (λ (r : Rest). vector_point r.cells.items ((uniform c.args.order.count).next r.line) (response_clocks c.args.response) []) c.rest-item.is in
     vectors_next (response_clocks c.args.response) (uniform c.args.order.count) c.args.rests.now c.loop-rest.rest-index c.rest-item.result c.loop-rest.points.items c.push.new.self.items c.loop-rest-test.true c.loop-rest.invariant
     (c.in_ok-push.ensures.items ∙ ap (λ p. c.loop-rest.points.items ++ p ∷ []) vector)
+    (subst (λ (z : Rest). AreOrdered 255 z.cells.items) c.rest-item.is c.bare_vector.ensures.ordered)
 
 pub returns : goal.returns
 returns c = vectors_end (response_clocks c.args.response) (uniform c.args.order.count) c.args.rests.now c.loop-rest.rest-index c.loop-rest.points.items c.loop-rest-test.false c.loop-rest.auto.rest-index-end c.loop-rest.invariant

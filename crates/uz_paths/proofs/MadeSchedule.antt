@@ -1,0 +1,182 @@
+-- The schedule of an ended search's marks is one of a certificate: within its limits, with the events that are marked.
+use Rattle.std.proofs.Common.{◌≡◌, ◌≢◌, ◌∙◌, sym, ap, refl, arith, inl, inr, ⊎_elim, ℕ, zero, suc, ◌+◌, ◌*◌, ◌<◌, ◌≤◌, Bool, true, false, List, [], ◌∷◌, ◌++◌, map, All, length, get_or, subst, if◌then◌else◌}
+use Rattle.std.specs.Prelude.{Option, Some, None, Result, Ok, Err, IfOk, ◌&&◌, ◌==◌, nat_eq, nat_le, slice_get, slice_index}
+use Rattle.std.proofs.lemmas.Bool.{cases_eq, eq-eqb}
+use Rattle.std.proofs.lemmas.Bool.Decides.{nat_tests}
+use Rattle.std.proofs.lemmas.List.Elements.{All-cons, All-nil}
+use Rattle.std.proofs.lemmas.Option.{get_or_from_slice_get, slice_get-get_or, slice_get_within}
+use Rattle.uz_schedule.specs.Limits.{EventFits, EventsFit, KindFits, KindsFit, LinesFit, ScheduleFits, rises_from}
+use Rattle.uz_schedule.specs.Schedule.{event_at, event_in, event_in_kind, events_of, length_of, start_of}
+use Rattle.uz_schedule.specs.declared.lines.Event.{Event}
+use Rattle.uz_schedule.specs.declared.lines.EventKind.{EventKind}
+use Rattle.uz_schedule.specs.declared.lines.EventKind.TheVariants.{Sync, Pixel, Sound, Leave}
+use Rattle.uz_schedule.specs.declared.lines.Schedule.{Schedule}
+use Rattle.uz_search.specs.declared.found.Found.{Found}
+use Rattle.uz_search.specs.declared.marks.Mark.{Mark}
+use Rattle.uz_search.specs.declared.program.Program.{Program}
+use Rattle.uz_search.specs.Fitting.{ProgramFits}
+use Rattle.uz_search.specs.Following.{Flash}
+use Rattle.uz_search.specs.Marking.{MarkAt}
+use Rattle.uz_search.specs.Searching.{IsEnded}
+use Rattle.uz_search_laws.specs.Complete.{EndedFallsOnce, EndedLevelsFit}
+use Rattle.uz_search_laws.specs.Made.{event_of, marked_at}
+use Rattle.uz_search_laws.specs.Made as laws
+use Rattle.uz_paths.specs.Kinds.{event_here, events_from, line_events, noted, IsScheduleOf}
+
+-- the event at a clock of a line is that of the line's kind
+abbrev pub EventByLine : Type 0
+EventByLine = (s : Schedule) (l k : ℕ) → l < length s.lines → k < length_of s l → event_at s (start_of s l + k) ≡ event_in_kind (events_of s l) k
+
+-- The events of a line
+
+here_else : (k q : ℕ) (o : Option EventKind) (rest : List Event) → k ≢ q → event_in (event_here k o ++ rest) q ≡ event_in rest q
+here_else k q None rest other = refl
+here_else k q (Some kind) rest other = ap (λ b. if b then Some kind else event_in rest q) (differ k q other)
+  where
+    differ : (a b : ℕ) → a ≢ b → nat_eq a b ≡ false
+    differ a b h = grind (arith, nat_tests)
+
+here_at : (k : ℕ) (o : Option EventKind) (rest : List Event) → event_in rest k ≡ None → event_in (event_here k o ++ rest) k ≡ o
+here_at k None rest none = none
+here_at k (Some kind) rest none = ap (λ b. if b then Some kind else event_in rest k) (eq-eqb k k refl)
+
+none_before : (marks : List (Option Mark)) (start k n q : ℕ) → q < k → event_in (events_from marks start k n) q ≡ None
+unfolding events_from
+none_before marks start k zero q less = refl
+none_before marks start k (suc n) q less =
+    here_else k q (noted (slice_get marks (start + k))) (events_from marks start (suc k) n) (λ e. omega arith) ∙ none_before marks start (suc k) n q (omega arith)
+
+-- at each clock stands what is noted there
+at_clock : (marks : List (Option Mark)) (start k n q : ℕ) → k ≤ q → q < k + n → event_in (events_from marks start k n) q ≡ noted (slice_get marks (start + q))
+unfolding events_from
+at_clock marks start k zero q le less = absurd (omega arith)
+at_clock marks start k (suc n) q le less = ⊎_elim
+    (λ (same : k ≡ q). subst (λ j. event_in (event_here k (noted (slice_get marks (start + k))) ++ events_from marks start (suc k) n) j ≡ noted (slice_get marks (start + j))) same
+    (here_at k (noted (slice_get marks (start + k))) (events_from marks start (suc k) n) (none_before marks start (suc k) n k (omega arith))))
+    (λ (other : k ≢ q). here_else k q (noted (slice_get marks (start + k))) (events_from marks start (suc k) n) other ∙ at_clock marks start (suc k) n q (omega arith) (omega arith))
+    (cases_eq k q)
+
+pub line_at : (marks : List (Option Mark)) (l k : ℕ) → k < 1820 → event_in (line_events marks l) k ≡ noted (slice_get marks (1820 * l + k))
+unfolding line_events
+line_at marks l k less = at_clock marks (1820 * l) 0 1820 k (omega arith) (omega arith)
+
+few_here : (k n : ℕ) (o : Option EventKind) (rest : List Event) → length rest ≤ n → length (event_here k o ++ rest) ≤ suc n
+few_here k n None rest h = omega arith
+few_here k n (Some kind) rest h = omega arith
+
+few_events : (marks : List (Option Mark)) (start k n : ℕ) → length (events_from marks start k n) ≤ n
+unfolding events_from
+few_events marks start k zero = omega arith
+few_events marks start k (suc n) = few_here k n (noted (slice_get marks (start + k))) (events_from marks start (suc k) n) (few_events marks start (suc k) n)
+
+-- marked levels are 0 and 1
+abbrev LevelsFit : List (Option Mark) → Type 0
+LevelsFit marks = (y v : ℕ) (m : Mark) → MarkAt marks y m → m.event ≡ Some (Sync v) → v ≤ 1
+
+noted_fits : (marks : List (Option Mark)) (y : ℕ) (kind : EventKind) → LevelsFit marks → noted (slice_get marks y) ≡ Some kind → KindFits kind
+noted_fits marks y Pixel levels is = tt
+noted_fits marks y Sound levels is = tt
+noted_fits marks y Leave levels is = tt
+noted_fits marks y (Sync v) levels is = by (slice_get marks y) refl is
+  where
+    by : (o : Option (Option Mark)) → slice_get marks y ≡ o → noted o ≡ Some (Sync v) → v ≤ 1
+    by None at e = absurd (cc)
+    by (Some None) at e = absurd (cc)
+    by (Some (Some m)) at e = levels y v m at e
+
+here_fits : (k : ℕ) (o : Option EventKind) (rest : List Event) → k < 1820 → ((kind : EventKind) → o ≡ Some kind → KindFits kind) → All EventFits rest → All EventFits (event_here k o ++ rest)
+here_fits k None rest less fits all = all
+here_fits k (Some kind) rest less fits all = All-cons EventFits (record { clock = k; kind = kind }) rest (record { clock = less; kind = fits kind refl }) all
+
+all_fit : (marks : List (Option Mark)) (start k n : ℕ) → k + n ≤ 1820 → LevelsFit marks → All EventFits (events_from marks start k n)
+unfolding events_from
+all_fit marks start k zero le levels = All-nil EventFits
+all_fit marks start k (suc n) le levels =
+    here_fits k (noted (slice_get marks (start + k))) (events_from marks start (suc k) n) (omega arith) (λ kind is. noted_fits marks (start + k) kind levels is) (all_fit marks start (suc k) n (omega arith) levels)
+
+le_true : (a b : ℕ) → a ≤ b → nat_le a b ≡ true
+le_true a b h = grind (arith, nat_tests)
+
+here_rises : (least k : ℕ) (o : Option EventKind) (rest : List Event) → least ≤ k → ((low : ℕ) → low ≤ suc k → rises_from low (map (λ e. e.clock) rest) ≡ true)
+    → rises_from least (map (λ e. e.clock) (event_here k o ++ rest)) ≡ true
+here_rises least k None rest le later = later least (omega arith)
+here_rises least k (Some kind) rest le later = λ i. le_true least k le i && later (k + 1) (omega arith) i
+
+all_rise : (marks : List (Option Mark)) (start k n least : ℕ) → least ≤ k → rises_from least (map (λ e. e.clock) (events_from marks start k n)) ≡ true
+unfolding events_from
+all_rise marks start k zero least le = refl
+all_rise marks start k (suc n) least le =
+    here_rises least k (noted (slice_get marks (start + k))) (events_from marks start (suc k) n) le (λ low few. all_rise marks start (suc k) n low few)
+
+some_event : (events : List Event) (k : ℕ) (e : EventKind) → event_in events k ≡ Some e → 1 ≤ length events
+some_event [] k e is = absurd (cc)
+some_event (d ∷ ds) k e is = omega arith
+
+line_fits : (marks : List (Option Mark)) (l k : ℕ) (e : EventKind) → LevelsFit marks → event_in (line_events marks l) k ≡ Some e → EventsFit (line_events marks l)
+unfolding line_events
+line_fits marks l k e levels is = record {
+  some = some_event (line_events marks l) k e is;
+  few = few_events marks (1820 * l) 0 1820;
+  each = all_fit marks (1820 * l) 0 1820 (omega arith) levels;
+  rise = all_rise marks (1820 * l) 0 1820 0 (omega arith);
+}
+
+-- The schedule
+
+same_event : (o : Option (Option Mark)) → noted o ≡ event_of o
+same_event None = refl
+same_event (Some None) = refl
+same_event (Some (Some m)) = refl
+
+pub is_made : (p : Program) (marks : List (Option Mark)) (s : Schedule) → EventByLine → IsScheduleOf marks p.lines p.fall s → laws.IsScheduleOf p marks s
+is_made p marks s by_line of = record {
+  lines = of.count;
+  fall = of.falls;
+  events = λ l k below in_line.
+      by_line s l k (subst (λ n. l < n) (sym of.count) below) in_line
+      ∙ (ap (λ o. event_in_kind o k) (of.events l below) ∙ (line_at marks l k in_line ∙ same_event (slice_get marks (1820 * l + k))));
+}
+
+pub is_fit : (image : Flash) (p : Program) (found : Found) (s : Schedule) → EventByLine → EndedFallsOnce → EndedLevelsFit → ProgramFits p → IsEnded image p found → IsScheduleOf found.marks.items p.lines p.fall s → ScheduleFits s
+is_fit image p found s by_line falls levels fits ended of = record {
+  kinds = record { some = some_kind; few = (let few = of.few in let lines = fits.few in omega arith); each = each_kind };
+  lines = record {
+    some = (let count = of.count in let some = fits.some in omega arith);
+    few = (let count = of.count in let few = fits.few in omega arith);
+    there = λ l d within. kind_there l d within;
+  };
+  fall_some = subst (λ n. 1 ≤ n) (sym of.falls) fits.fall_some;
+  fall_in_line = subst (λ n. n < 1820) (sym of.falls) fits.fall_in_line;
+}
+  where
+    made : laws.IsScheduleOf p found.marks.items s
+    made = is_made p found.marks.items s by_line of
+
+    marked : LevelsFit found.marks.items
+    marked y v m at is = levels image p found y v m fits ended at is
+
+    fall_at : (l : ℕ) → l < p.lines → event_in (line_events found.marks.items l) p.fall ≡ Some (Sync 0)
+    fall_at l below =
+        let first = (falls image p found s fits ended made).first l below in
+        line_at found.marks.items l p.fall fits.fall_in_line ∙ (same_event (slice_get found.marks.items (1820 * l + p.fall)) ∙ (sym (made.events l p.fall below fits.fall_in_line) ∙ first))
+
+    each_kind : All EventsFit s.kinds
+    each_kind i d within =
+        let l = of.used i (get_or s.kinds i d) (slice_get-get_or s.kinds i d within) in
+        subst EventsFit (sym l.2) (line_fits found.marks.items l.0 p.fall (Sync 0) marked (fall_at l.0 l.1))
+
+    kind_of : (l : ℕ) → l < p.lines → slice_index s.lines l < length s.kinds
+    kind_of l below = slice_get_within s.kinds (slice_index s.lines l) (line_events found.marks.items l) (of.events l below)
+
+    some_kind : 1 ≤ length s.kinds
+    some_kind = let less = kind_of 0 (let some = fits.some in omega arith) in omega arith
+
+    kind_there : (l d : ℕ) → l < length s.lines → get_or s.lines l d < length s.kinds
+    kind_there l d within =
+        let same : get_or s.lines l 0 ≡ get_or s.lines l d = get_or_from_slice_get s.lines l (get_or s.lines l d) 0 (slice_get-get_or s.lines l d within) in
+        subst (λ n. n < length s.kinds) same (kind_of l (subst (λ n. l < n) of.count within))
+
+-- what follows from what is promised of Ok
+pub if_ok : {A E : Type 0} (r : Result A E) (P Q : A → Type 0) → ((a : A) → P a → Q a) → IfOk r P → IfOk r Q
+if_ok (Ok a) P Q f h = f a h
+if_ok (Err e) P Q f h = tt
