@@ -16,16 +16,20 @@ use Rattle.uz_console.specs.Consoles.{StandsFor, clock_of}
 use Rattle.uz_console.specs.Runs.{AreTimed, RunsTo}
 use Rattle.uz_console.specs.Turns.{Halts}
 use Rattle.uz_console.specs.Approaches.{EntersFirst, NeverEnters, RunsUnentered}
-use Rattle.uz_scan.specs.Pictures.{last_row, newest_first, record_of, records, shown_by}
+use Rattle.uz_scan.specs.Pictures.{last_row, newest_first, record_of, records, row_bytes, shown_by}
 use Rattle.uz_scan.specs.Scanning as scanning
 use Rattle.uz_player.specs.declared.recorder.Record.{Record}
+use Rattle.uz_player.specs.declared.recorder.Record.TheVariants as record_is
 use Rattle.uz_player.specs.declared.recorder.Recorder.{Recorder}
 use Rattle.uz_player.specs.declared.player.Player.{Player}
+use Rattle.uz_player.specs.declared.ending.Ending.{Ending}
+use Rattle.uz_player.specs.declared.ending.Ending.TheVariants as ending
+use Rattle.uz_player.specs.Endings.{played_of}
 use Rattle.uz_player.specs.declared.player.Played.{Played}
 use Rattle.uz_player.specs.declared.player.Played.TheVariants.{Row, End, Over, Stopped}
 use Rattle.uz_player.specs.Counting.{EntersAt, IsEntered, IsInLine}
 use Rattle.uz_player.specs.Seen.{HasSeen, Takes, record_bytes}
-use Rattle.uz_player.specs.Playing.{GoesOn, IsEnding, IsNearer, IsNext, IsPlayed, Plays, StartsRecords, ahead_of, left_of}
+use Rattle.uz_player.specs.Playing.{GoesOn, IsNearer, IsNext, IsPlayed, IsRecordOf, Plays, StartsRecords, ahead_of, left_of}
 
 -- a console that has made no turn
 unentered_at_first : (player : Player) (start : State PadHistory) → StandsFor player.console start → RunsUnentered player.cert player.limit start [] player.console
@@ -54,10 +58,11 @@ begins player start stands fits at_zero none next entered seen scan =
     }
 
 -- one more edge is taken
-pub takes_edge : (old new : Player) (edge : Edge) (given : Option Record) (start : State PadHistory) (handed : List ℕ) →
+pub takes_edge : (old new : Player) (edge : Edge) (given : Option Record) (start : State PadHistory) (handed row : List ℕ) →
     new.console ≡ old.console → new.cert ≡ old.cert → new.limit ≡ old.limit → new.recorder.counts.entered ≡ old.recorder.counts.entered → left_of old ≡ edge ∷ left_of new →
-    ((seen : List Edge) → Takes old.recorder new.recorder edge given seen) → Plays old start handed → Plays new start (handed ++ record_bytes given)
-takes_edge old new edge given start handed console cert limit entered left takes plays =
+    ((seen : List Edge) → Takes old.recorder new.recorder edge given seen) → ((edges : List Edge) → HasSeen new.recorder edges → record_bytes given row ≡ record_bytes given (last_row (newest_first edges))) →
+    Plays old start handed → Plays new start (handed ++ record_bytes given row)
+takes_edge old new edge given start handed row console cert limit entered left takes same plays =
     let played = plays.played in
     let seen = plays.edges in
     let all : seen ++ left_of old ≡ (seen ++ edge ∷ []) ++ left_of new = ap (λ x. seen ++ x) left ∙ sym (append_assoc seen (edge ∷ []) (left_of new)) in
@@ -76,7 +81,7 @@ takes_edge old new edge given start handed console cert limit entered left takes
         bounded = subst (λ (es : List Edge). length es ≤ 4000000000) all bound;
         fits = subst WellFormed (sym cert) played.fits;
       };
-      records = ap (λ x. x ++ record_bytes given) plays.records ∙ sym taken.records;
+      records = ap (λ x. x ++ record_bytes given row) plays.records ∙ (ap (λ x. records (newest_first seen) ++ x) (same (seen ++ edge ∷ []) taken.seen_more) ∙ sym taken.records);
     }
   where
     by_entered : (old new : Player) (start : State PadHistory) (edges : List Edge) (o : Option (ℕ × ℕ)) → new.console ≡ old.console → new.cert ≡ old.cert → new.limit ≡ old.limit → GoesOn old o start edges → GoesOn new o start edges
@@ -90,6 +95,13 @@ takes_edge old new edge given start handed console cert limit entered left takes
     goes_carried : (old new : Player) (start : State PadHistory) (edges : List Edge) → new.console ≡ old.console → new.cert ≡ old.cert → new.limit ≡ old.limit → new.recorder.counts.entered ≡ old.recorder.counts.entered →
         GoesOn old old.recorder.counts.entered start edges → GoesOn new new.recorder.counts.entered start edges
     goes_carried old new start edges console cert limit entered h = subst (λ o. GoesOn new o start edges) (sym entered) (by_entered old new start edges old.recorder.counts.entered console cert limit h)
+
+-- a record comes with an edge, whose row matters for that of a line alone
+pub record_comes : (old new : Player) (given : Record) →
+    ((start : State PadHistory) (handed row : List ℕ) → Plays old start handed → ((edges : List Edge) → HasSeen new.recorder edges → record_bytes (Some given) row ≡ record_bytes (Some given) (last_row (newest_first edges))) →
+    Plays new start (handed ++ record_bytes (Some given) row)) → IsRecordOf old new (Some given)
+record_comes old new (record_is.Row line) h = λ start handed row plays is_row. h start handed row plays (λ edges seen. ap (row_bytes line) (is_row edges seen))
+record_comes old new (record_is.End frame) h = λ start handed plays. h start handed [] plays (λ edges seen. refl)
 
 timed_earlier : (from earlier to : ℕ) (edges : List Edge) → earlier ≤ from → AreTimed from to edges → AreTimed earlier to edges
 timed_earlier from earlier to [] h t = omega arith
@@ -339,11 +351,9 @@ console_is_nearer old new left limit on =
     let size : length (left_of new) ≡ length (left_of old) = ap (λ (es : List Edge). length es) left in
     omega arith
 
-pub ends_near : (old new : Player) (played : Played) → IsEnding played → IsNearer old new played
-ends_near old new (Row bytes) ends = absurd ends
-ends_near old new (End bytes) ends = absurd ends
-ends_near old new Over ends = ends
-ends_near old new (Stopped pc word) ends = ends
+pub ends_near : (old new : Player) (at : Ending) → IsNearer old new (played_of at)
+ends_near old new ending.Over = tt
+ends_near old new (ending.Stopped pc word) = tt
 
 -- what is handed out so far
 

@@ -109,11 +109,11 @@ frames_stay (Sound value) c = refl
 frames_stay (Enter count) c = refl
 frames_stay Leave c = refl
 
-pub has_taken : (old new : Recorder) (edge : Edge) (given : Option Record) (shown : Scan) (row : List ℕ) (seen : List Edge) →
+pub has_taken : (old new : Recorder) (edge : Edge) (given : Option Record) (shown : Scan) (seen : List Edge) →
     CountsShown (with_kind edge.kind old.counts) new.counts shown → scanning.StandsFor new.scanner (edge ∷ newest_first seen) → scanning.clock_of new.scanner ≡ edge.clock →
-    shown ≡ shown_by edge (newest_first seen) → row ≡ last_row (edge ∷ newest_first seen) → record_bytes given ≡ record_of shown row →
+    shown ≡ shown_by edge (newest_first seen) → ((row : List ℕ) → record_bytes given row ≡ record_of shown row) →
     HasSeen old seen → length seen < 2 ^ 63 → HasTaken new seen edge given
-has_taken old new edge given shown row seen c stands clock told is_row bytes h few =
+has_taken old new edge given shown seen c stands clock told bytes h few =
     let before = newest_first seen in
     let more : newest_first (seen ++ edge ∷ []) ≡ edge ∷ newest_first seen = reverse-append seen (edge ∷ []) in
     let size : length before ≡ length seen = length-reverse seen in
@@ -137,5 +137,5 @@ has_taken old new edge given shown row seen c stands clock told is_row bytes h f
         };
       };
       clock = clock;
-      records = ap records more ∙ ap (λ x. records before ++ x) (sym (bytes ∙ (ap (λ s. record_of s row) told ∙ ap (record_of (shown_by edge before)) is_row)));
+      records = ap records more ∙ ap (λ x. records before ++ x) (sym (ap (λ es. record_bytes given (last_row es)) more ∙ (bytes (last_row (edge ∷ before)) ∙ ap (λ s. record_of s (last_row (edge ∷ before))) told)));
     }

@@ -1,3 +1,4 @@
 pub mod Counting
+pub mod Endings
 pub mod Playing
 pub mod Seen

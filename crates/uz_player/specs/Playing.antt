@@ -11,13 +11,16 @@ use Rattle.uz_console.specs.Consoles.{clock_of}
 use Rattle.uz_console.specs.Runs.{AreTimed, RunsTo}
 use Rattle.uz_console.specs.Turns.{Halts}
 use Rattle.uz_console.specs.Approaches.{RunsUnentered}
-use Rattle.uz_scan.specs.Pictures.{newest_first, records}
+use Rattle.uz_scan.specs.Pictures.{end_bytes, newest_first, records, row_bytes}
 use Rattle.uz_scan.specs.Scanning as scanning
 use Rattle.uz_player.specs.declared.counts.Counts.{Counts}
 use Rattle.uz_player.specs.declared.recorder.Record.{Record}
-use Rattle.uz_player.specs.Seen.{HasSeen, record_bytes}
+use Rattle.uz_player.specs.declared.recorder.Record.TheVariants as record_is
+use Rattle.uz_player.specs.Seen.{HasSeen, IsRowOf}
 use Rattle.uz_schedule.specs.WellFormed.{WellFormed}
 use Rattle.uz_player.specs.declared.player.Player.{Player}
+use Rattle.uz_player.specs.declared.ending.Ending.{Ending}
+use Rattle.uz_player.specs.Endings.{played_of}
 use Rattle.uz_player.specs.declared.player.Played.{Played}
 use Rattle.uz_player.specs.declared.player.Played.TheVariants.{Row, End, Over, Stopped}
 use Rattle.uz_player.specs.Counting.{CountsEdges, EntersAt, IsEntered}
@@ -85,13 +88,14 @@ IsNext old new (Stopped pc word) =
 -- Row, End: the next record. None: no edge is left
 abbrev pub IsRecordOf : Player → Player → Option Record → Type 0
 IsRecordOf old new None = (start : State PadHistory) (handed : List ℕ) → Plays old start handed → Plays new start handed × (left_of new ≡ [])
-IsRecordOf old new (Some given) =
-    (start : State PadHistory) (handed : List ℕ) → Plays old start handed → Plays new start (handed ++ record_bytes (Some given))
+IsRecordOf old new (Some (record_is.Row line)) =
+    (start : State PadHistory) (handed row : List ℕ) → Plays old start handed → IsRowOf new.recorder row → Plays new start (handed ++ row_bytes line row)
+IsRecordOf old new (Some (record_is.End frame)) = (start : State PadHistory) (handed : List ℕ) → Plays old start handed → Plays new start (handed ++ end_bytes frame)
 
 -- where no edge is left: None, the run goes on; else it is at its end
-abbrev pub GoesFurther : Player → Player → Option Played → Type 0
+abbrev pub GoesFurther : Player → Player → Option Ending → Type 0
 GoesFurther old new None = (start : State PadHistory) (handed : List ℕ) → left_of old ≡ [] → Plays old start handed → Plays new start handed
-GoesFurther old new (Some played) = left_of old ≡ [] → IsNext old new played
+GoesFurther old new (Some at) = left_of old ≡ [] → IsNext old new (played_of at)
 
 -- the player with the edges of a turn
 abbrev pub HasTurn : List Edge → Player → Player → Type 0
@@ -110,13 +114,6 @@ distance_of player = 2 * (player.limit - clock_of player.console) + left_to_ente
 -- how much of the run is ahead: a turn, which has at most four edges, takes a clock and more, and each edge is taken once
 abbrev pub ahead_of : Player → ℕ
 ahead_of player = 5 * (player.limit - clock_of player.console) + length (left_of player)
-
--- the run is at its end
-abbrev pub IsEnding : Played → Type 0
-IsEnding (Row bytes) = ⊥
-IsEnding (End bytes) = ⊥
-IsEnding Over = Unit {0}
-IsEnding (Stopped pc word) = Unit {0}
 
 -- Row, End: there is less ahead than before, so that records come to an end
 abbrev pub IsNearer : Player → Player → Played → Type 0

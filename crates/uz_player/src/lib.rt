@@ -3,6 +3,7 @@
 #![tactic(auto)]
 
 mod counts;
+mod ending;
 mod player;
 mod recorder;
 

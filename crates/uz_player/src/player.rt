@@ -9,10 +9,12 @@ ghost use Rattle.uz_schedule.specs.WellFormed.{WellFormed};
 ghost use Rattle.uz_player.specs.Counting.{IsInLine};
 
 use crate::counts::Counts;
+use crate::ending::{Ending, ended};
 use crate::recorder::{Record, Recorder};
 use arrayvec::ArrayVec;
 use uz_console::{Approach, Console, Progress};
 use uz_machine::Edge;
+use uz_scan::{end_record, row_record};
 use uz_schedule::{Cert, well_formed};
 
 /// A run's next record, or its end.
@@ -54,7 +56,7 @@ fn line_of(cert: &Cert, position: u32) -> u16
 }
 
 impl Player {
-    ghost use Rattle.uz_player.specs.Playing.{GoesFurther, HasTurn, IsEnding, IsNearer, IsNearerBy, IsNext, IsRecordOf, Plays, StartsRecords, ahead_of, cert_of, counts_of, distance_of, left_of, limit_of};
+    ghost use Rattle.uz_player.specs.Playing.{GoesFurther, HasTurn, IsNearer, IsNearerBy, IsNext, IsRecordOf, Plays, StartsRecords, ahead_of, cert_of, counts_of, distance_of, left_of, limit_of};
 
     /// The player of the run of `clocks` clocks from the console's state, with no record handed out. The console's clock
     /// is 0.
@@ -95,10 +97,9 @@ impl Player {
     }
 
     /// Where no edge is left: goes on with the run, or says how it ended.
-    fn go_on(&mut self) -> Option<Played>
+    fn go_on(&mut self) -> Option<Ending>
         ensures further { GoesFurther self.old self.new result }
         ensures time { IfNone result (distance_of self.new < distance_of self.old) }
-        ensures end { IfSome result IsEnding }
         ensures nearer { left_of self.old ≡ [] → IfNone result (ahead_of self.new ≤ ahead_of self.old) }
         ensures same { (self.new.limit ≡ self.old.limit) × (self.new.cert ≡ self.old.cert) }
     {
@@ -117,11 +118,10 @@ impl Player {
     }
 
     /// A state has entered.
-    fn go_on_entered(&mut self) -> Option<Played>
+    fn go_on_entered(&mut self) -> Option<Ending>
         requires { IsSome self.old.recorder.counts.entered }
         ensures further { GoesFurther self.old self.new result }
         ensures time { IfNone result (distance_of self.new < distance_of self.old) }
-        ensures end { IfSome result IsEnding }
         ensures nearer { left_of self.old ≡ [] → IfNone result (ahead_of self.new ≤ ahead_of self.old) }
         ensures same { (self.new.limit ≡ self.old.limit) × (self.new.cert ≡ self.old.cert) }
     {
@@ -130,8 +130,8 @@ impl Player {
                 self.take_turn(edges);
                 None
             }
-            Progress::Over => Some(Played::Over),
-            Progress::Stopped(_) => Some(Played::Stopped {
+            Progress::Over => Some(Ending::Over),
+            Progress::Stopped(_) => Some(Ending::Stopped {
                 pc: self.console.pc(),
                 word: self.console.word(),
             }),
@@ -139,11 +139,10 @@ impl Player {
     }
 
     /// No state has entered yet.
-    fn approach(&mut self) -> Option<Played>
+    fn approach(&mut self) -> Option<Ending>
         requires { self.old.recorder.counts.entered ≡ None }
         ensures further { GoesFurther self.old self.new result }
         ensures time { IfNone result (distance_of self.new < distance_of self.old) }
-        ensures end { IfSome result IsEnding }
         ensures nearer { left_of self.old ≡ [] → IfNone result (ahead_of self.new ≤ ahead_of self.old) }
         ensures same { (self.new.limit ≡ self.old.limit) × (self.new.cert ≡ self.old.cert) }
     {
@@ -157,8 +156,8 @@ impl Player {
                 self.recorder.counts.entered = Some((self.console.clock(), line));
                 None
             }
-            Approach::Over => Some(Played::Over),
-            Approach::Stopped(_) => Some(Played::Stopped {
+            Approach::Over => Some(Ending::Over),
+            Approach::Stopped(_) => Some(Ending::Stopped {
                 pc: self.console.pc(),
                 word: self.console.word(),
             }),
@@ -174,12 +173,15 @@ impl Player {
     {
         'turns: loop {
             match self.next_record() {
-                Some(Record::Row(bytes)) => return Played::Row(bytes),
-                Some(Record::End(bytes)) => return Played::End(bytes),
+                Some(Record::Row(line)) => {
+                    let row = self.recorder.scanner.row();
+                    return Played::Row(row_record(&line, row));
+                }
+                Some(Record::End(frame)) => return Played::End(end_record(&frame)),
                 None => {}
             }
-            if let Some(end) = self.go_on() {
-                return end;
+            if let Some(ending) = self.go_on() {
+                return ended(ending);
             }
         }
     }

@@ -7,7 +7,7 @@ ghost use Rattle.uz_player.specs.Counting.{with_kind};
 
 use crate::counts::Counts;
 use uz_machine::{Edge, EdgeKind};
-use uz_scan::{Scan, Scanner, end_record, row_record};
+use uz_scan::{FrameInfo, LineInfo, Scan, Scanner};
 
 /// Takes edges in the order of time.
 #[derive(Drop)]
@@ -16,11 +16,14 @@ pub(crate) struct Recorder {
     pub counts: Counts,
 }
 
-/// A record.
-#[derive(Drop)]
+/// What a record is of. Its bytes are made where it is handed out: most edges have none, and nothing of a row's size is moved
+/// for them.
+#[derive(Clone, Copy)]
 pub(crate) enum Record {
-    Row([u8; 461]),
-    End([u8; 5]),
+    /// A line that has ended: its samples are the scanner's row.
+    Row(LineInfo),
+    /// A frame that has ended.
+    End(FrameInfo),
 }
 
 impl Recorder {
@@ -73,11 +76,11 @@ impl Recorder {
             Scan::Line(line) if line.frame == 0 => None,
             Scan::Line(line) => {
                 self.counts.rows = self.counts.rows.wrapping_add(1);
-                Some(Record::Row(row_record(&line, self.scanner.row())))
+                Some(Record::Row(line))
             }
             Scan::Frame(frame) => {
                 self.counts.frames = self.counts.frames.wrapping_add(1);
-                Some(Record::End(end_record(&frame)))
+                Some(Record::End(frame))
             }
         }
     }
