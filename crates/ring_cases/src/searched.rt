@@ -1,0 +1,128 @@
+//! A ring of ten words: sync falls at clock 1 and rises at clock 2 of its one line, and three waits fill the rest of the
+//! 1820 clocks.
+
+ghost use Rattle.std.specs.Prelude.{◌≡◌, ◌<◌, ◌≤◌, IfOk, false};
+ghost use Rattle.uz_schedule.specs.declared.kinds.Kind.TheVariants.{Alone};
+ghost use Rattle.uz_search.specs.Fitting.{ProgramFits};
+
+use crate::row::Row;
+use arrayvec::ArrayVec;
+use std::alloc::{AllocError, Global};
+use std::collections::BTreeMap;
+use uz_hex::Image;
+use uz_rules::Fail;
+use uz_schedule::{Bit, EventKind, Head, Instance, Kind, Response, Sequence, Span, Val, Wide};
+use uz_search::{Found, NotFound, Program, search};
+
+/// OUT PORTB,r16; OUT PORTB,r17; DEC r18, BRNE to it, twice; LDI r18,94; DEC r18, BRNE to it; RJMP to the begin. So many
+/// clocks are 2 + 767 + 767 + 1 + 281 + 2.
+const WORDS: [u16; 10] = [
+    0xB905, 0xB915, 0x952A, 0xF7F1, 0x952A, 0xF7F1, 0xE52E, 0x952A, 0xF7F1, 0xCFF6,
+];
+
+fn image(alloc: Global) -> Result<Image, AllocError> {
+    let mut image = Image::empty(alloc)?;
+    for at in 0..10u16 {
+        let word = WORDS[at as usize];
+        image.set(2 * at, (word % 256) as u8);
+        image.set(2 * at + 1, (word / 256) as u8);
+    }
+    Ok(image)
+}
+
+/// At word 0 with r16, r17 and r18 equal to 0, 1 and 0.
+fn start() -> Instance
+    ensures kind { result.kind ≡ Alone }
+    ensures line { result.line ≡ 0 }
+    ensures clock { result.clock ≡ 0 }
+    ensures level { result.level ≡ 1 }
+    ensures pending { result.pending ≡ false }
+{
+    let mut regs = [Val::Range(Span::between(0, 255)); 32];
+    regs[16] = Val::Range(Span::single(0));
+    regs[17] = Val::Range(Span::single(1));
+    regs[18] = Val::Range(Span::single(0));
+    Instance {
+        kind: Kind::Alone,
+        pc: 0,
+        line: 0,
+        clock: 0,
+        level: 1,
+        pending: false,
+        regs,
+        pairs: [Wide::between(0, 65535); 3],
+        flags: [Bit::Free; 7],
+        stack: ArrayVec::new(),
+        cells: ArrayVec::new(),
+    }
+}
+
+fn program(alloc: Global, fall: u16) -> Result<Program, AllocError>
+    requires some { 1 ≤ fall }
+    requires in_line { fall < 1820 }
+    ensures { IfOk result ProgramFits }
+{
+    let mut starts = Sequence::new(alloc);
+    starts.push(start())?;
+    Ok(Program {
+        head: Head {
+            irq: Response::Four,
+            lo: 256,
+            hi: 257,
+            main: 0,
+            handler: 0,
+            cells: ArrayVec::new(),
+        },
+        lines: 1,
+        fall,
+        facts: BTreeMap::new(alloc),
+        starts,
+    })
+}
+
+/// What a search comes to.
+#[derive(Clone, Copy, Debug, PartialEq)]
+enum Answer {
+    /// So many instances, with what is shown at the clocks 1, 2 and 3.
+    Found(usize, Option<EventKind>, Option<EventKind>, Option<EventKind>),
+    /// A trail of so many instances.
+    Stuck(usize, Fail),
+    Full(u32),
+    Other,
+}
+
+/// The event that is shown at a clock.
+fn shown(found: &Found, at: usize) -> Option<EventKind> {
+    match found.marks.as_slice().get(at) {
+        Some(Some(mark)) => mark.event,
+        _ => None,
+    }
+}
+
+fn searched(alloc: Global, fall: u16, limit: u32) -> Result<Answer, AllocError> {
+    if fall == 0 || fall >= 1820 || limit == 0 {
+        return Ok(Answer::Other);
+    }
+    let image = image(alloc)?;
+    let program = program(alloc, fall)?;
+    match search(alloc, &image, &program, limit) {
+        Ok(found) => Ok(Answer::Found(
+            found.nodes.len(),
+            shown(&found, 1),
+            shown(&found, 2),
+            shown(&found, 3),
+        )),
+        Err(NotFound::Stuck { trail, why }) => Ok(Answer::Stuck(trail.len(), why)),
+        Err(NotFound::Full { count }) => Ok(Answer::Full(count)),
+        Err(_) => Ok(Answer::Other),
+    }
+}
+
+/// What a search with this fall and this limit comes to. Each instruction is met once a clock of the first turn; of the
+/// second turn three are new, until the flags are as they were.
+pub fn tell(rt: HostRuntime, row: &mut Row) -> anyhow::Result<()> {
+    let fall = row.short();
+    let limit = row.number();
+    println!(rt; "{:?}", searched(rt.alloc(), fall, limit)?)?;
+    Ok(())
+}
