@@ -401,7 +401,7 @@ module _ (image : Flash) (p : Program) (entry : Entry) (found : Found) (parts : 
         clock = o.is_clock;
         cells = ap (λ v. v.items) o.are_cells;
         vector = λ c le node. (let x = first_after p parts.schedule rest c in
-        lies cert rest.vector x x (subst (λ n. IsKnownAt cert n x) vector (vector_known has.0 c rest at le)) (inside_self x));
+            lies cert rest.vector x x (subst (λ n. IsKnownAt cert n x) vector (vector_known has.0 c rest at le)) (inside_self x));
       }
 
   -- The entry

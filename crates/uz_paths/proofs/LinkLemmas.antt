@@ -122,16 +122,18 @@ one_named count n ms less room = by_tests (is_number n (slice_get ms (count_belo
         (record { kept = λ m h. h; few = omega arith; fits = λ h. h }, (count_below n ms, is_number_there n (slice_get ms (count_below n ms)) e))
     by_tests false false e f = absurd (let no : 16 ≤ length ms = grind (arith, nat_tests, f) in omega arith)
     by_tests false true e f =
-        let longer = length-insert ms (count_below n ms) n (below_length n ms) in
-        (record {
-          kept = λ m h. inserted_kept ms (count_below n ms) n m h.0 h.1;
-          few = omega arith;
-          fits = λ h. record {
+        let longer = length-insert ms (count_below n ms) n (below_length n ms) in (
+          record {
+            kept = λ m h. inserted_kept ms (count_below n ms) n m h.0 h.1;
             few = omega arith;
-            there = all_inserted count n (count_below n ms) ms less h.there;
-            rise = rises_inserted 0 n ms h.rise (omega arith) e;
-          };
-        }, (count_below n ms, inserted_there ms (count_below n ms) n (below_length n ms)))
+            fits = λ h. record {
+              few = omega arith;
+              there = all_inserted count n (count_below n ms) ms less h.there;
+              rise = rises_inserted 0 n ms h.rise (omega arith) e;
+            };
+          },
+          (count_below n ms, inserted_there ms (count_below n ms) n (below_length n ms)),
+        )
 
 pub none_more : (count most : ℕ) (ms : List ℕ) → NamesMore count most ms ms
 none_more count most ms = record { kept = λ n h. h; few = omega arith; fits = λ h. h }

@@ -70,10 +70,5 @@ pub(crate) fn first_after(program: &Program, schedule: &Schedule, rest: &Rest, c
 {
     let line = schedule.order().next(rest.line);
     let clock = c + program.head.irq.clocks();
-    handler_entry(
-        &rest.cells,
-        line,
-        clock,
-        level_at(schedule, line, clock),
-    )
+    handler_entry(&rest.cells, line, clock, level_at(schedule, line, clock))
 }
