@@ -79,7 +79,6 @@ fn find_by(alloc: Global, image: &Image, program: Program, entry: Entry) -> Resu
 /// Hint comes exactly where a hint is at fault or start, lines or stack are missing, before all other refusals; Stuck and Split only with trails
 /// that show them; Full only where 524,288 distinct instances lie on trails; NoRest only where runs enter main, and the instances on trails hold
 /// no return. Time is linear in the instances and their results.
-#[tactic(auto, using(crate::proofs::FindLemmas::complete_answer))]
 pub fn find(alloc: Global, image: &Image, hints: &[Hint], irq: Response) -> Result<Cert, NotFound>
     requires { length hints.now < 2 ^ 32 }
     ensures accepted { IfOk result (λ cert. WellFormed cert × Accepts image.now cert) }

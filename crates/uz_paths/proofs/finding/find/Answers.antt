@@ -1,3 +1,5 @@
+use Rattle.std.specs.Prelude.{Err}
+use Rattle.uz_search.specs.declared.found.NotFound.TheVariants.{Hint}
 use Rattle.uz_paths.proofs.FindLemmas.{complete_answer, facts_fine, ok_asked, err_cause, no_hint}
 use Rattle.uz_paths.proofs.finding.find.Goals as goal
 
@@ -20,3 +22,6 @@ pub returns-clause-complete : goal.returns-clause-complete
 returns-clause-complete c =
     complete_answer c.args.image.now c.args.irq c.args.hints.now c.find_by.result
     (err_cause c.args.image.now c.args.irq c.args.hints.now c.in_ok-program.program c.find_by.result (c.in_ok-program.ensures.program c.args.image.now c.args.irq c.in-Ok.ensures.read) c.find_by.ensures.cause)
+
+pub returns-in-Err-clause-complete : goal.returns-in-Err-clause-complete
+returns-in-Err-clause-complete c = complete_answer c.args.image.now c.args.irq c.args.hints.now (Err (Hint c.in-Err.index)) c.in-Err.ensures.refused

@@ -29,3 +29,6 @@ loop-k-preserved c =
       named = vectors_named c.args.image.now c.args.program.now c.args.schedule.now c.args.rests.now c.args.nodes.now.keys c.args.numbers.now (length c.args.points.now) c.loop-k.k c.vector_names-names.result.items c.loop-k.points (get_or c.loop-k.points c.loop-k.k c.index-points-k.result) c.put_names.new.point c.index-rests-k.result
           within at c.loop-k.invariant.named c.put_names.ensures c.vector_names-names.ensures.named;
     }
+
+pub returns-clause-named : goal.returns-clause-named
+returns-clause-named c = λ k rest point less at there. let past = c.loop-k-test.false in c.loop-k.invariant.named k rest point (omega arith) at there

@@ -31,3 +31,6 @@ loop-c-preserved c = record {
       (λ j less. still_named_all c.args.image.now c.args.program.now c.args.nodes.now.keys c.args.numbers.now (first_after c.args.program.now c.args.schedule.now c.args.rest.now j) c.loop-c.names.items c.name_results.new.names.items c.name_results.ensures.more.kept (c.loop-c.invariant.named j less))
       (subst (λ (z : Instance). NamesResults c.args.image.now c.args.program.now c.args.nodes.now.keys c.args.numbers.now z c.name_results.new.names.items) c.first_after-at.ensures c.name_results.ensures.named);
 }
+
+pub returns-clause-named : goal.returns-clause-named
+returns-clause-named c = λ k le. let past = c.loop-c-test.false in c.loop-c.invariant.named k (omega arith)
