@@ -198,6 +198,7 @@ pub record CertifyDecided (files : FileMap) (source : List ℕ) (irq : Response)
 
 one_of : {A : Type 0} → A ⊎ ⊥ → A
 one_of (inl a) = a
+one_of (inr none) = absurd none
 
 module _ (files : FileMap) (source hex name : List ℕ) (answer wanted : Answer) (found : Result Cert NotFound) where
   same_by : CertifyAnswersBy (Some files) source hex name found answer → CertifyAnswersBy (Some files) source hex name found wanted → answer ≡ wanted

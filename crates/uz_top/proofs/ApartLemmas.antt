@@ -1,5 +1,5 @@
 -- The two files that a command writes have different names.
-use Rattle.std.proofs.Common.{◌≡◌, ◌||◌, ℕ, Bool, true, false, List, [], ◌∷◌, map, bytes_eq, if◌then◌else◌, refl, sym, subst}
+use Rattle.std.proofs.Common.{◌≡◌, ◌||◌, ℕ, Bool, true, false, List, [], ◌∷◌, map, codes, bytes_eq, if◌then◌else◌, refl, sym, subst}
 use Rattle.std.specs.Prelude.{Option, Some, None, IfSome, string_bytes}
 use Rattle.std.proofs.lemmas.Slice.Eq.{bytes_eq-Decides}
 use Rattle.std.specs.declared.string.String.{String}
@@ -61,13 +61,19 @@ play_with_apart : (hex cert pads : List ℕ) (clocks : Option ℕ) (frames : Lis
 play_with_apart hex cert pads (Some clocks) frames = tt
 play_with_apart hex cert pads None frames = tt
 
+-- once the first of the four names differs from the others
+abbrev play_names : (hex cert pads clocks frames : List ℕ) → Option Command
+play_names hex cert pads clocks frames = if bytes_eq cert pads || (bytes_eq cert frames || bytes_eq pads frames) then None else play_with hex cert pads (number_within 1 1000000001 clocks) frames
+
 play_apart : (words : List (List ℕ)) → Apart (play_words words)
 play_apart [] = tt
 play_apart (a ∷ []) = tt
 play_apart (a ∷ b ∷ []) = tt
 play_apart (a ∷ b ∷ c ∷ []) = tt
 play_apart (a ∷ b ∷ c ∷ d ∷ []) = tt
-play_apart (a ∷ b ∷ c ∷ d ∷ e ∷ []) = by_test _ _ _ tt (by_test _ _ _ tt (play_with_apart a b c (number_within 1 1000000001 d) e))
+play_apart (a ∷ b ∷ c ∷ d ∷ e ∷ []) =
+    by_test (bytes_eq a b || (bytes_eq a c || bytes_eq a e)) None (play_names a b c d e) tt
+    (by_test (bytes_eq b c || (bytes_eq b e || bytes_eq c e)) None (play_with a b c (number_within 1 1000000001 d) e) tt (play_with_apart a b c (number_within 1 1000000001 d) e))
 play_apart (a ∷ b ∷ c ∷ d ∷ e ∷ f ∷ words) = tt
 
 debug_with_apart : (hex pads : List ℕ) (irq : Option Response) (script : List ℕ) → Apart (debug_with hex pads irq script)
@@ -79,7 +85,7 @@ debug_apart [] = tt
 debug_apart (a ∷ []) = tt
 debug_apart (a ∷ b ∷ []) = tt
 debug_apart (a ∷ b ∷ c ∷ []) = tt
-debug_apart (a ∷ b ∷ c ∷ d ∷ []) = by_test _ _ _ tt (debug_with_apart a b (response_of c) d)
+debug_apart (a ∷ b ∷ c ∷ d ∷ []) = by_test (bytes_eq a b || (bytes_eq a d || bytes_eq b d)) None (debug_with a b (response_of c) d) tt (debug_with_apart a b (response_of c) d)
 debug_apart (a ∷ b ∷ c ∷ d ∷ e ∷ words) = tt
 
 or_last : (a b c : Bool) → c ≡ true → (a || (b || c)) ≡ true
@@ -102,18 +108,44 @@ certify_apart (a ∷ b ∷ c ∷ d ∷ []) =
     (λ e. or_last (bytes_eq a c) (bytes_eq a d) (bytes_eq c d) ((bytes_eq-Decides c d).1 e))
 certify_apart (a ∷ b ∷ c ∷ d ∷ e ∷ words) = tt
 
+-- the commands from one of them on, in the order in which the first word is compared
+
+abbrev from_certify : List ℕ → List (List ℕ) → Option Command
+from_certify verb words = if bytes_eq verb (codes "certify") then certify_words words else None
+
+abbrev from_build : List ℕ → List (List ℕ) → Option Command
+from_build verb words = if bytes_eq verb (codes "build") then build_words words else from_certify verb words
+
+abbrev from_expand : List ℕ → List (List ℕ) → Option Command
+from_expand verb words = if bytes_eq verb (codes "expand") then expand_words words else from_build verb words
+
+abbrev from_debug : List ℕ → List (List ℕ) → Option Command
+from_debug verb words = if bytes_eq verb (codes "debug") then debug_words words else from_expand verb words
+
+abbrev from_play : List ℕ → List (List ℕ) → Option Command
+from_play verb words = if bytes_eq verb (codes "play") then play_words words else from_debug verb words
+
+abbrev from_trace : List ℕ → List (List ℕ) → Option Command
+from_trace verb words = if bytes_eq verb (codes "trace") then trace_words words else from_play verb words
+
+abbrev from_asm : List ℕ → List (List ℕ) → Option Command
+from_asm verb words = if bytes_eq verb (codes "asm") then asm_words words else from_trace verb words
+
+abbrev from_dis : List ℕ → List (List ℕ) → Option Command
+from_dis verb words = if bytes_eq verb (codes "dis") then dis_words words else from_asm verb words
+
 command_apart : (words : List (List ℕ)) → Apart (command_of words)
 command_apart [] = tt
 command_apart (verb ∷ words) =
-    by_test _ _ _ (check_apart words)
-    (by_test _ _ _ (dis_apart words)
-    (by_test _ _ _ (asm_apart words)
-    (by_test _ _ _ (trace_apart words)
-    (by_test _ _ _ (play_apart words)
-    (by_test _ _ _ (debug_apart words)
-    (by_test _ _ _ (expand_apart words)
-    (by_test _ _ _ (build_apart words)
-    (by_test _ _ _ (certify_apart words) tt))))))))
+    by_test (bytes_eq verb (codes "check")) (check_words words) (from_dis verb words) (check_apart words)
+    (by_test (bytes_eq verb (codes "dis")) (dis_words words) (from_asm verb words) (dis_apart words)
+    (by_test (bytes_eq verb (codes "asm")) (asm_words words) (from_trace verb words) (asm_apart words)
+    (by_test (bytes_eq verb (codes "trace")) (trace_words words) (from_play verb words) (trace_apart words)
+    (by_test (bytes_eq verb (codes "play")) (play_words words) (from_debug verb words) (play_apart words)
+    (by_test (bytes_eq verb (codes "debug")) (debug_words words) (from_expand verb words) (debug_apart words)
+    (by_test (bytes_eq verb (codes "expand")) (expand_words words) (from_build verb words) (expand_apart words)
+    (by_test (bytes_eq verb (codes "build")) (build_words words) (from_certify verb words) (build_apart words)
+    (by_test (bytes_eq verb (codes "certify")) (certify_words words) None (certify_apart words) tt))))))))
 
 -- what holds of the command where the names of its files differ
 pub holds_apart : (words : List (String Global)) (c : Command) (holds : Command → Type 0) → Some c ≡ command_of (map string_bytes words) → (WritesApart c → holds c) → IfSome (command_of (map string_bytes words)) holds

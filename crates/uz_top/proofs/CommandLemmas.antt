@@ -248,6 +248,7 @@ no_search one files c answer came old new none allowed h ends = record {
   where
     by_same : (wanted : Answer) → (answer ≡ wanted) ⊎ ⊥ → Ends wanted came old new
     by_same wanted (inl same) = subst (λ a. Ends a came old new) same ends
+    by_same wanted (inr none) = absurd none
 
 decided_by : (one : OneEnd) (files : FileMap) (c : Command) (answer : Answer) (came : Status) (old new : Outside) → Answers (Some files) ⊥ c answer → Ends answer came old new → IsDecided (Some files) c came old new
 decided_by one files (Check hex cert) answer came old new = no_search one files (Check hex cert) answer came old new tt tt
