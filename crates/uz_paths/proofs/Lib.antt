@@ -12,3 +12,4 @@ pub mod WithinPoints
 pub mod Starts
 pub mod Counting
 pub mod Complete
+pub mod JoinedLemmas

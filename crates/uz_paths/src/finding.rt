@@ -16,6 +16,7 @@ use avr_asm::Hint;
 use std::alloc::{AllocError, Global};
 use uz_hex::Image;
 use uz_hints::read_hints;
+use uz_join::joined;
 use uz_schedule::{Cert, Entry, Response, event_by_line};
 use uz_search::{Found, NotFound, Program, nodes_are_reached, search};
 use uz_search_accepted::ended_accepts;
@@ -58,7 +59,7 @@ fn certificate(
     Ok(certificate_of(program, parts))
 }
 
-/// Searches a program, and makes a certificate of what is found.
+/// Searches a program, and makes a certificate of what is found, whose points are joined where the joined one is accepted too.
 fn find_by(alloc: Global, image: &Image, program: Program, entry: Entry) -> Result<Cert, NotFound>
     requires fits { ProgramFits program }
     requires start { IsEntry program entry }
@@ -70,11 +71,13 @@ fn find_by(alloc: Global, image: &Image, program: Program, entry: Entry) -> Resu
         Ok(found) => found,
         Err(refusal) => return Err(refusal),
     };
-    Ok(certificate(alloc, image, program, entry, &found)?)
+    let cert = certificate(alloc, image, program, entry, &found)?;
+    Ok(joined(alloc, image, cert))
 }
 
 /// Finds a certificate of an image by the hints of its source: one that `check` accepts with it, with the header, the lines, the fall and the
-/// entry that the hints ask for, where each rest is a return of some trail. Where none of the causes stands, only want of memory leaves it without one.
+/// entry that the hints ask for, where each rest is a return of some trail. Its points are joined line by line where the check accepts
+/// them so. Where none of the causes stands, only want of memory leaves it without one.
 ///
 /// Hint comes exactly where a hint is at fault or start, lines or stack are missing, before all other refusals; Stuck and Split only with trails
 /// that show them; Full only where 524,288 distinct instances lie on trails; NoRest only where runs enter main, and the instances on trails hold
