@@ -4,9 +4,9 @@ use Rattle.std.specs.Prelude.{Option, Some, None, IfSome, string_bytes}
 use Rattle.std.proofs.lemmas.Slice.Eq.{bytes_eq-Decides}
 use Rattle.std.specs.declared.string.String.{String}
 use Rattle.std.specs.declared.alloc.Global.{Global}
-use Rattle.uz_text.specs.Numbers.{number_within}
+use Rattle.uz_text.specs.Numbers.{number_below, number_within}
 use Rattle.uz_schedule.specs.declared.kinds.Response.{Response}
-use Rattle.uz_top.specs.Words.{Command, Asm, Build, Check, Expand, WritesApart, asm_words, build_words, certify_with, certify_words, check_words, command_of, debug_with, debug_words, dis_words, expand_words, play_with, play_words, response_of, trace_with, trace_words}
+use Rattle.uz_top.specs.Words.{Command, Asm, Build, Check, Expand, WritesApart, asm_words, build_words, certify_with, certify_words, check_words, command_of, debug_with, debug_words, demo_with, demo_words, dis_words, expand_words, play_with, play_words, response_of, trace_with, trace_words}
 
 abbrev Apart : Option Command → Type 0
 Apart o = IfSome o WritesApart
@@ -102,6 +102,15 @@ certify_apart (a ∷ b ∷ c ∷ d ∷ []) =
     (λ e. or_last (bytes_eq a c) (bytes_eq a d) (bytes_eq c d) ((bytes_eq-Decides c d).1 e))
 certify_apart (a ∷ b ∷ c ∷ d ∷ e ∷ words) = tt
 
+demo_with_apart : (number : Option ℕ) → Apart (demo_with number)
+demo_with_apart (Some number) = tt
+demo_with_apart None = tt
+
+demo_apart : (words : List (List ℕ)) → Apart (demo_words words)
+demo_apart [] = tt
+demo_apart (a ∷ []) = demo_with_apart (number_below 65536 a)
+demo_apart (a ∷ b ∷ words) = tt
+
 command_apart : (words : List (List ℕ)) → Apart (command_of words)
 command_apart [] = tt
 command_apart (verb ∷ words) =
@@ -113,7 +122,8 @@ command_apart (verb ∷ words) =
     (by_test _ _ _ (debug_apart words)
     (by_test _ _ _ (expand_apart words)
     (by_test _ _ _ (build_apart words)
-    (by_test _ _ _ (certify_apart words) tt))))))))
+    (by_test _ _ _ (certify_apart words)
+    (by_test _ _ _ (demo_apart words) tt)))))))))
 
 -- what holds of the command where the names of its files differ
 pub holds_apart : (words : List (String Global)) (c : Command) (holds : Command → Type 0) → Some c ≡ command_of (map string_bytes words) → (WritesApart c → holds c) → IfSome (command_of (map string_bytes words)) holds
