@@ -63,10 +63,10 @@ module _ (line : List ℕ) (cert : Cert) (start : State PadHistory) (wide : Type
 -- The whole command
 
 module _ (number : ℕ) (write_fault : Type 0) (came : Status) (old new : Outside) where
-  pub demo_runs : (start : Start) (console : Console) (cert : Cert) (line : List ℕ) (given : IsStart number start) → IsReady (given.output).image (given.output).hints console cert line →
-      Outcome (IsRunAfter line cert (demo_start (given.output).image)) (IsPutPart line) write_fault came old new → Outcome (DemoAnswers number) (DemoParts number) write_fault came old new
-  demo_runs start console cert line given ready (inl starts) = inl starts
-  demo_runs start console cert line given ready (inr (inl (answer, run, comes))) =
+  pub demo_runs : (start : Start) (console : Console) (cert : Cert) (line told : List ℕ) → told ≡ line → (given : IsStart number start) → IsReady (given.output).image (given.output).hints console cert line →
+      Outcome (IsRunAfter told cert (demo_start (given.output).image)) (IsPutPart told) write_fault came old new → Outcome (DemoAnswers number) (DemoParts number) write_fault came old new
+  demo_runs start console cert line told same given ready (inl starts) = inl starts
+  demo_runs start console cert line told same given ready (inr (inl (answer, run, comes))) =
       inr (inl (
         answer,
         record {
@@ -74,14 +74,14 @@ module _ (number : ℕ) (write_fault : Type 0) (came : Status) (old new : Outsid
           assembles = given.assembles;
           found = Ok cert;
           allowed = ready.allowed;
-          answers = record { played = run.played; run = run.run; told = run.told ∙ ap (λ l. ended l (run.played).status (run.played).line) ready.is_line };
+          answers = record { played = run.played; run = run.run; told = run.told ∙ ap (λ l. ended l (run.played).status (run.played).line) (same ∙ ready.is_line) };
         },
         comes,
       ))
-  demo_runs start console cert line given ready (inr (inr (answer, part, cut))) =
+  demo_runs start console cert line told same given ready (inr (inr (answer, part, cut))) =
       inr (inr (
         answer,
-        record { output = given.output; assembles = given.assembles; cert = cert; allowed = ready.allowed; told = part ∙ ap (λ l. ended l Unwritten []) ready.is_line },
+        record { output = given.output; assembles = given.assembles; cert = cert; allowed = ready.allowed; told = part ∙ ap (λ l. ended l Unwritten []) (same ∙ ready.is_line) },
         cut,
       ))
 

@@ -51,15 +51,15 @@ module _ (line : List ℕ) (cert : Cert) (start : State PadHistory) (write_fault
       by_run : (answer : Answer) × IsRunAfter line cert start answer × (answer.status ≡ status.Stopped) → (answer : Answer) × IsHaltedRun [] (demo_clocks cert) start answer
       by_run (answer, run, e) = by_played run.played (sym (ap (λ (a : Answer). a.status) run.told) ∙ e) run.run
 
-module _ (number : ℕ) (begin : Start) (console : Console) (cert : Cert) (line : List ℕ) (given : IsStart number begin) (ready : IsReady (given.output).image (given.output).hints console cert line) (write_fault : Type 0) (came : Status) (old new : Outside)
-    (outcome : Outcome (IsRunAfter line cert (demo_start (given.output).image)) (IsPutPart line) write_fault came old new) (accepted : AcceptedHold) where
+module _ (number : ℕ) (begin : Start) (console : Console) (cert : Cert) (line told : List ℕ) (given : IsStart number begin) (ready : IsReady (given.output).image (given.output).hints console cert line) (write_fault : Type 0) (came : Status) (old new : Outside)
+    (outcome : Outcome (IsRunAfter told cert (demo_start (given.output).image)) (IsPutPart told) write_fault came old new) (accepted : AcceptedHold) where
   holds : Certified (given.output).image cert
   holds = accepted (given.output).image cert (ready.allowed).0 (ready.allowed).1
 
   pub demo_played : RunsKeep → came ≡ status.Done → DemoPlayed number
   demo_played law is =
       let image = (given.output).image in
-      let entered = (done_run line cert (demo_start image) write_fault came old new outcome is).1 in
+      let entered = (done_run told cert (demo_start image) write_fault came old new outcome is).1 in
       record {
         output = given.output;
         assembles = given.assembles;
@@ -79,7 +79,7 @@ module _ (number : ℕ) (begin : Start) (console : Console) (cert : Cert) (line 
   pub demo_halted : NeverStops → came ≡ status.Stopped → DemoHalted number
   demo_halted law is =
       let image = (given.output).image in
-      let halted = (stopped_run line cert (demo_start image) write_fault came old new outcome is).1 in
+      let halted = (stopped_run told cert (demo_start image) write_fault came old new outcome is).1 in
       record {
         output = given.output;
         assembles = given.assembles;

@@ -62,9 +62,13 @@ pub record IsStart (number : ℕ) (start : Start) : Type 0 where
 abbrev pub IsPlayedOut : Cert → ℕ → State PadHistory → RunEnd → Counts → Type 0
 IsPlayedOut cert limit start end counts = IsPlayedInto cert limit start end counts None [] None
 
+-- some records of the run are handed out
+abbrev pub IsPlaying : Player → State PadHistory → Type 0
+IsPlaying player start = (handed : List ℕ) × Plays player start handed
+
 -- None: another record is handed out. Some: the run is played to its end
 abbrev pub GoesOn : Player → Player → Option RunEnd → Type 0
-GoesOn old new None = (start : State PadHistory) (handed : List ℕ) → Plays old start handed → (more : List ℕ) × Plays new start more
+GoesOn old new None = (start : State PadHistory) (handed : List ℕ) → Plays old start handed → IsPlaying new start
 GoesOn old new (Some end) = (start : State PadHistory) (handed : List ℕ) → Plays old start handed → IsPlayedOut (cert_of new) (limit_of new) start end (counts_of new)
 
 -- what `play` answers of the run of three frames, but that no file is written, below what is printed before

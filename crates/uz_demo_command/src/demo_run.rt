@@ -99,8 +99,9 @@ fn play_demo<K: Sink>(
 ) -> Status
     requires fits { WellFormed cert }
     requires clock { console_clock console ≡ 0 }
-    ensures { (start : State PadHistory) (files : Option FileMap) → StandsFor console start →
+    ensures outcome { (start : State PadHistory) (files : Option FileMap) → StandsFor console start →
         Outcome (IsRunAfter line.now cert start) (IsPutPart line.now) (Rose (K.faults out.old) (K.faults out.new)) result (outside files (K.text out.old)) (outside files (K.text out.new)) }
+    ensures faults { K.faults out.old ≤ K.faults out.new }
 {
     match out.put(alloc, line) {
         Ok(()) => {
@@ -123,21 +124,22 @@ pub fn run_demo<K: Sink>(alloc: Global, number: u16, out: &mut K) -> Status
 {
     soundness();
     played_runs_keep();
-    match start_demo(alloc, number) {
-        Ok(
-            Start::Ready {
-                console,
-                cert,
-                line,
-            },
-        ) => play_demo(alloc, console, cert, line.as_slice(), out),
-        Ok(Start::Refusal { line }) => {
+    let start = match start_demo(alloc, number) {
+        Ok(start) => start,
+        Err(AllocError) => return put_no_memory(alloc, out),
+    };
+    match start {
+        Start::Ready {
+            console,
+            cert,
+            line,
+        } => play_demo(alloc, console, cert, line.as_slice(), out),
+        Start::Refusal { line } => {
             let ending = Ending {
                 status: Status::Refused,
                 line,
             };
             end_with(alloc, out, &ending)
         }
-        Err(AllocError) => put_no_memory(alloc, out),
     }
 }
