@@ -2,6 +2,7 @@
 use Rattle.std.proofs.Common.{◌≡◌, ◌⊎◌, inl, inr, ℕ, List, [], sym, ap, ◌∙◌, subst}
 use Rattle.std.specs.Prelude.{Result, Ok, Err}
 use Rattle.avr_asm.specs.Assembly.{Output}
+use Rattle.avr_asm.specs.declared.faults.AsmError.{AsmError}
 use Rattle.uz_hex.specs.Reading.{Flash}
 use Rattle.uz_schedule.specs.declared.certificate.Cert.{Cert}
 use Rattle.uz_schedule.specs.declared.kinds.Response.TheVariants.{Four}
@@ -16,12 +17,15 @@ use Rattle.uz_play_command.specs.PlayCommand.{IsFramedRun}
 use Rattle.uz_play_command.proofs.PlaySameLemmas.{same_run}
 use Rattle.uz_demo_command.specs.DemoCommand.{AllowedOfDemo, Assembles, DemoAnswers, DemoAnswersBy, DemoSucceeds, IsDemoBy, IsDemoRun, RunEnters, demo_clocks, demo_start}
 
+abbrev assembled : Output → Result Output AsmError
+assembled output = Ok output
+
+ok_same : (x y : Output) → assembled x ≡ assembled y → x ≡ y
+ok_same x y e = cc
+
 -- a source has one assembly
 one_output : (number : ℕ) (a b : Output) → Assembles number a → Assembles number b → a ≡ b
 one_output number a b h k = ok_same a b (sym h ∙ k)
-  where
-    ok_same : (x y : Output) → Ok x ≡ Ok y → x ≡ y
-    ok_same x y e = cc
 
 one_run : (image : Flash) (cert : Cert) (a b : Answer) → IsDemoRun image cert a → IsDemoRun image cert b → a ≡ b
 one_run image cert a b p q =

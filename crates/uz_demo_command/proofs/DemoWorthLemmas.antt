@@ -1,5 +1,5 @@
 -- What a demo is worth.
-use Rattle.std.proofs.Common.{◌≡◌, ◌≢◌, inl, inr, ℕ, ◌%◌, List, sym, ap, ◌∙◌, arith}
+use Rattle.std.proofs.Common.{◌≡◌, inl, inr, ℕ, ◌%◌, List, [], sym, ap, ◌∙◌, arith}
 use Rattle.std.proofs.lemmas.List.{get_or-replicate}
 use Rattle.uz_hex.specs.Reading.{Flash}
 use Rattle.uz_schedule.specs.declared.certificate.Cert.{Cert}

@@ -56,8 +56,9 @@ fn play_out(player: &mut Player) -> RunEnd
     ensures { (start : State PadHistory) → Plays player.old start [] → IsPlayedOut (cert_of player.old) (limit_of player.old) start result (counts_of player.new) }
 {
     'records: loop {
-        if let Some(end) = next_end(player) {
-            return end;
+        match next_end(player) {
+            Some(end) => return end,
+            None => {}
         }
     }
 }

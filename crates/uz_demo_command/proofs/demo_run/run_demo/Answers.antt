@@ -1,5 +1,7 @@
 use Rattle.std.proofs.Common.{refl, subst}
 use Rattle.std.specs.Prelude.{None}
+use Rattle.uz_files.specs.declared.ending.Ending.{Ending}
+use Rattle.uz_files.specs.declared.status.Status.TheVariants.{Refused}
 use Rattle.uz_play_command.proofs.PlayWorthLemmas.{refused_not_done, refused_not_stopped}
 use Rattle.uz_demo_command.specs.DemoCommand.{demo_start}
 use Rattle.uz_demo_command.specs.DemoValues.{IsSearched}
@@ -32,10 +34,15 @@ pub returns-in-Refusal-clause-outcome : goal.returns-in-Refusal-clause-outcome
 returns-in-Refusal-clause-outcome g c = λ files.
     let given = c.in-Ok.ensures in
     let refusal = subst (IsSearched (given.output).image (given.output).hints) c.in-Refusal.is given.searched in
-    demo_refused c.args.number _ c.end_with.result _ _ c.in-Ok.start _ given refusal refl (c.end_with.ensures.comes files)
+    let ending : Ending = record { status = Refused; line = c.in-Refusal.line } in
+    demo_refused c.args.number _ c.end_with.result _ _ c.in-Ok.start ending given refusal refl (c.end_with.ensures.comes files)
 
 pub returns-in-Refusal-clause-played : goal.returns-in-Refusal-clause-played
-returns-in-Refusal-clause-played g c = refused_not_done _ _ c.end_with.result _ _ _ refl (c.end_with.ensures.comes None)
+returns-in-Refusal-clause-played g c =
+    let ending : Ending = record { status = Refused; line = c.in-Refusal.line } in
+    refused_not_done _ ending c.end_with.result _ _ _ refl (c.end_with.ensures.comes None)
 
 pub returns-in-Refusal-clause-halted : goal.returns-in-Refusal-clause-halted
-returns-in-Refusal-clause-halted g c = refused_not_stopped _ _ c.end_with.result _ _ _ refl (c.end_with.ensures.comes None)
+returns-in-Refusal-clause-halted g c =
+    let ending : Ending = record { status = Refused; line = c.in-Refusal.line } in
+    refused_not_stopped _ ending c.end_with.result _ _ _ refl (c.end_with.ensures.comes None)
