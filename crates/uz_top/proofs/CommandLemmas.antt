@@ -23,7 +23,7 @@ use Rattle.uz_source_commands.proofs.AsmLemmas.{asm_done_answer, asm_or_fault, a
 use Rattle.uz_source_commands.proofs.DisLemmas.{dis_status, dis_or_fault, dis_same, dis_done}
 use Rattle.uz_certify_command.proofs.CertifyLemmas.{certify_always, certify_decided, certify_or_fault, certify_status}
 use Rattle.uz_demo_command.proofs.DemoSameLemmas.{demo_allowed, demo_done, demo_same, demo_status}
-use Rattle.uz_certificate_commands.proofs.CheckLemmas.{check_status, check_or_fault, check_same, check_done}
+use Rattle.uz_check_command.proofs.CheckLemmas.{check_status, check_or_fault, check_same, check_done}
 
 never_usage : (files : Option FileMap) (load_fault : Type 0) (c : Command) (answer : Answer) → Answers files load_fault c answer → answer.status ≢ status.Usage
 never_usage files load_fault (Check hex cert) answer h is =

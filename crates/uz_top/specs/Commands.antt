@@ -15,7 +15,7 @@ use Rattle.uz_source_commands.specs.AsmCommand.{AsmAnswers, AsmSucceeds}
 use Rattle.uz_source_commands.specs.DisCommand.{DisAnswers, DisSucceeds}
 use Rattle.uz_certify_command.specs.CertifyCommand.{AllowedOf, CertifyAnswers, CertifyAnswersBy, CertifySucceeds, FilesCertify}
 use Rattle.uz_demo_command.specs.DemoCommand.{AllowedOfDemo, DemoAnswers, DemoAnswersBy, DemoHalted, DemoParts, DemoPlayed, DemoSucceeds}
-use Rattle.uz_certificate_commands.specs.CheckCommand.{CheckAnswers, CheckLacks, CheckSucceeds, FilesCertified}
+use Rattle.uz_check_command.specs.CheckCommand.{CheckAnswers, CheckLacks, CheckSucceeds, FilesCertified}
 
 -- the answer of a command, from what its files say
 abbrev pub Answers : Option FileMap → Type 0 → Command → Answer → Type 0
