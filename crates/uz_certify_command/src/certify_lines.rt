@@ -85,7 +85,7 @@ fn numbered(alloc: Global, begin: &[u8], number: u32) -> Result<Vec<u8>, AllocEr
 }
 
 /// The line that says why no certificate is found.
-pub(crate) fn not_found(alloc: Global, why: &NotFound) -> Result<Vec<u8>, AllocError>
+pub fn not_found(alloc: Global, why: &NotFound) -> Result<Vec<u8>, AllocError>
     ensures { IfOk result (λ line. line.items ≡ not_found_line why.now) }
 {
     match why {

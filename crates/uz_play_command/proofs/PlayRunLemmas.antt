@@ -80,11 +80,11 @@ run_over cert limit start last edges counts name (Some at) run counted entered =
 })
 
 -- the file holds the records of its edges, and this is the answer
-abbrev IsAnswered : Cert → ℕ → State PadHistory → RunEnd → Counts → Option FileMap → List ℕ → Option FileMap → Type 0
+abbrev pub IsAnswered : Cert → ℕ → State PadHistory → RunEnd → Counts → Option FileMap → List ℕ → Option FileMap → Type 0
 IsAnswered cert limit start e counts old name new =
     (edges : List Edge) × WritesFile old name (records (newest_first edges)) new × IsFramedRun name cert limit start (framed name edges (end_status e counts) (end_text e counts))
 
-captured_answers : (cert : Cert) (limit : ℕ) (start : State PadHistory) (e : RunEnd) (counts : Counts) (old new : Option FileMap) (name : List ℕ) → IsPlayedInto cert limit start e counts old name new → IsAnswered cert limit start e counts old name new
+pub captured_answers : (cert : Cert) (limit : ℕ) (start : State PadHistory) (e : RunEnd) (counts : Counts) (old new : Option FileMap) (name : List ℕ) → IsPlayedInto cert limit start e counts old name new → IsAnswered cert limit start e counts old name new
 captured_answers cert limit start end.Over counts old new name (edges, last, run, whole) =
     (edges, whole.file, run_over cert limit start last edges counts name counts.entered run whole.counted whole.entered)
 captured_answers cert limit start (end.Stopped pc word) counts old new name (edges, last, run, halts, at, is, whole) = (

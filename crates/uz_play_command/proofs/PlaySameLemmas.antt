@@ -83,7 +83,7 @@ one_line_of s p l m a b =
 
 -- One run
 
-same_run : (frames : List ℕ) (cert : Cert) (clocks : ℕ) (start : State PadHistory) (a b : Answer) → IsFramedRun frames cert clocks start a → IsFramedRun frames cert clocks start b → a ≡ b
+pub same_run : (frames : List ℕ) (cert : Cert) (clocks : ℕ) (start : State PadHistory) (a b : Answer) → IsFramedRun frames cert clocks start a → IsFramedRun frames cert clocks start b → a ≡ b
 same_run frames cert clocks start a b (inl p) (inl q) =
     let edges = (one_run clocks start p.last q.last p.edges q.edges p.run q.run).0 in
     let place = entered_once cert clocks start p.clock p.position q.clock q.position p.enters q.enters in

@@ -37,7 +37,7 @@ fn over_status_of(counts: Counts) -> Status
 }
 
 /// The status and the lines of a run whose records are written.
-fn ending_of(alloc: Global, captured: Captured) -> Result<Ending, AllocError>
+pub fn ending_of(alloc: Global, captured: Captured) -> Result<Ending, AllocError>
     ensures { IfOk result (λ e. (e.status ≡ end_status captured.end captured.counts) × (e.line.items ≡ end_text captured.end captured.counts)) }
 {
     match captured.end {

@@ -4,9 +4,9 @@ use Rattle.std.specs.Prelude.{Option, Some, None, IfSome, string_bytes}
 use Rattle.std.proofs.lemmas.Slice.Eq.{bytes_eq-Decides}
 use Rattle.std.specs.declared.string.String.{String}
 use Rattle.std.specs.declared.alloc.Global.{Global}
-use Rattle.uz_text.specs.Numbers.{number_within}
+use Rattle.uz_text.specs.Numbers.{number_below, number_within}
 use Rattle.uz_schedule.specs.declared.kinds.Response.{Response}
-use Rattle.uz_top.specs.Words.{Command, Asm, Build, Check, Expand, WritesApart, asm_words, build_words, certify_with, certify_words, check_words, command_of, debug_with, debug_words, dis_words, expand_words, play_with, play_words, response_of, trace_with, trace_words}
+use Rattle.uz_top.specs.Words.{Command, Asm, Build, Check, Expand, WritesApart, asm_words, build_words, certify_with, certify_words, check_words, command_of, debug_with, debug_words, demo_with, demo_words, dis_words, expand_words, play_with, play_words, response_of, trace_with, trace_words}
 
 abbrev Apart : Option Command → Type 0
 Apart o = IfSome o WritesApart
@@ -108,10 +108,22 @@ certify_apart (a ∷ b ∷ c ∷ d ∷ []) =
     (λ e. or_last (bytes_eq a c) (bytes_eq a d) (bytes_eq c d) ((bytes_eq-Decides c d).1 e))
 certify_apart (a ∷ b ∷ c ∷ d ∷ e ∷ words) = tt
 
+demo_with_apart : (number : Option ℕ) → Apart (demo_with number)
+demo_with_apart (Some number) = tt
+demo_with_apart None = tt
+
+demo_apart : (words : List (List ℕ)) → Apart (demo_words words)
+demo_apart [] = tt
+demo_apart (a ∷ []) = demo_with_apart (number_below 65536 a)
+demo_apart (a ∷ b ∷ words) = tt
+
 -- the commands from one of them on, in the order in which the first word is compared
 
+abbrev from_demo : List ℕ → List (List ℕ) → Option Command
+from_demo verb words = if bytes_eq verb (codes "demo") then demo_words words else None
+
 abbrev from_certify : List ℕ → List (List ℕ) → Option Command
-from_certify verb words = if bytes_eq verb (codes "certify") then certify_words words else None
+from_certify verb words = if bytes_eq verb (codes "certify") then certify_words words else from_demo verb words
 
 abbrev from_build : List ℕ → List (List ℕ) → Option Command
 from_build verb words = if bytes_eq verb (codes "build") then build_words words else from_certify verb words
@@ -145,7 +157,8 @@ command_apart (verb ∷ words) =
     (by_test (bytes_eq verb (codes "debug")) (debug_words words) (from_expand verb words) (debug_apart words)
     (by_test (bytes_eq verb (codes "expand")) (expand_words words) (from_build verb words) (expand_apart words)
     (by_test (bytes_eq verb (codes "build")) (build_words words) (from_certify verb words) (build_apart words)
-    (by_test (bytes_eq verb (codes "certify")) (certify_words words) None (certify_apart words) tt))))))))
+    (by_test (bytes_eq verb (codes "certify")) (certify_words words) (from_demo verb words) (certify_apart words)
+    (by_test (bytes_eq verb (codes "demo")) (demo_words words) None (demo_apart words) tt)))))))))
 
 -- what holds of the command where the names of its files differ
 pub holds_apart : (words : List (String Global)) (c : Command) (holds : Command → Type 0) → Some c ≡ command_of (map string_bytes words) → (WritesApart c → holds c) → IfSome (command_of (map string_bytes words)) holds

@@ -8,8 +8,9 @@ use Rattle.uz_search.specs.declared.found.NotFound.TheVariants.{Memory as NoRoom
 use Rattle.uz_files.specs.declared.status.Status.{Status}
 use Rattle.uz_files.specs.declared.status.Status.TheVariants as status
 use Rattle.uz_files.specs.Answers.{Answer, Ends, Outside, Outcome}
-use Rattle.uz_top.specs.Words.{Command, Asm, Build, Certify, Check, Debug, Dis, Expand, Play, Trace}
+use Rattle.uz_top.specs.Words.{Command, Asm, Build, Certify, Check, Debug, Demo, Dis, Expand, Play, Trace}
 use Rattle.uz_top.specs.Commands.{AllowedFor, Answers, AnswersBy, IsDecided, LacksRead, PartAnswers, Succeeds}
+use Rattle.uz_files.proofs.EndingLemmas.{comes_by}
 use Rattle.uz_files.proofs.OutcomeLemmas.{came_from, from_answer, unwritten_by}
 use Rattle.uz_run_commands.proofs.TraceAnswerLemmas.{trace_status, trace_done}
 use Rattle.uz_run_commands.proofs.TraceSameLemmas.{trace_or_fault, trace_same}
@@ -21,6 +22,7 @@ use Rattle.uz_run_commands.proofs.DebugLemmas.{debug_status, debug_or_fault, deb
 use Rattle.uz_source_commands.proofs.AsmLemmas.{asm_done_answer, asm_or_fault, asm_same, asm_status}
 use Rattle.uz_source_commands.proofs.DisLemmas.{dis_status, dis_or_fault, dis_same, dis_done}
 use Rattle.uz_certify_command.proofs.CertifyLemmas.{certify_always, certify_decided, certify_or_fault, certify_status}
+use Rattle.uz_demo_command.proofs.DemoSameLemmas.{demo_allowed, demo_done, demo_same, demo_status}
 use Rattle.uz_check_command.proofs.CheckLemmas.{check_status, check_or_fault, check_same, check_done}
 
 never_usage : (files : Option FileMap) (load_fault : Type 0) (c : Command) (answer : Answer) → Answers files load_fault c answer → answer.status ≢ status.Usage
@@ -80,6 +82,13 @@ never_usage files load_fault (Debug hex pads irq script) answer h is =
 never_usage files load_fault (Certify source irq hex cert) answer h is =
     elim (certify_status files load_fault source irq hex cert answer h) [
       | inl (e, cause) ↦ absurd (cc (e, is))
+      | inr (inl e) ↦ absurd (cc (e, is))
+      | inr (inr (inl e)) ↦ absurd (cc (e, is))
+      | inr (inr (inr e)) ↦ absurd (cc (e, is))
+    ]
+never_usage files load_fault (Demo number) answer h is =
+    elim (demo_status number answer h) [
+      | inl e ↦ absurd (cc (e, is))
       | inr (inl e) ↦ absurd (cc (e, is))
       | inr (inr (inl e)) ↦ absurd (cc (e, is))
       | inr (inr (inr e)) ↦ absurd (cc (e, is))
@@ -146,6 +155,13 @@ never_unwritten files load_fault (Certify source irq hex cert) answer h is =
       | inr (inr (inl e)) ↦ absurd (cc (e, is))
       | inr (inr (inr e)) ↦ absurd (cc (e, is))
     ]
+never_unwritten files load_fault (Demo number) answer h is =
+    elim (demo_status number answer h) [
+      | inl e ↦ absurd (cc (e, is))
+      | inr (inl e) ↦ absurd (cc (e, is))
+      | inr (inr (inl e)) ↦ absurd (cc (e, is))
+      | inr (inr (inr e)) ↦ absurd (cc (e, is))
+    ]
 
 unread_cause : (files : Option FileMap) (load_fault : Type 0) (c : Command) (answer : Answer) → Answers files load_fault c answer → answer.status ≡ status.Unread → load_fault ⊎ LacksRead files c
 unread_cause files load_fault (Check hex cert) answer h is =
@@ -208,10 +224,18 @@ unread_cause files load_fault (Certify source irq hex cert) answer h is =
       | inr (inr (inl e)) ↦ absurd (cc (e, is))
       | inr (inr (inr e)) ↦ absurd (cc (e, is))
     ]
+unread_cause files load_fault (Demo number) answer h is =
+    elim (demo_status number answer h) [
+      | inl e ↦ absurd (cc (e, is))
+      | inr (inl e) ↦ absurd (cc (e, is))
+      | inr (inr (inl e)) ↦ absurd (cc (e, is))
+      | inr (inr (inr e)) ↦ absurd (cc (e, is))
+    ]
 
 -- no certificate is searched
 abbrev NoSearch : Command → Type 0
 NoSearch (Certify source irq hex cert) = ⊥
+NoSearch (Demo number) = ⊥
 NoSearch other = Unit {0}
 
 same_answers : (one : OneEnd) (files : FileMap) (found : Result Cert NotFound) (c : Command) (a b : Answer) → NoSearch c → Answers (Some files) ⊥ c a → AnswersBy (Some files) found c b → (a ≡ b) ⊎ ⊥
@@ -224,6 +248,7 @@ same_answers one files found (Trace hex pads irq clocks) a b none p q = trace_sa
 same_answers one files found (Play hex cert pads clocks frames) a b none p q = play_same files ⊥ hex cert pads clocks frames a b p q
 same_answers one files found (Debug hex pads irq script) a b none p q = debug_same files ⊥ hex pads irq script a b p q
 same_answers one files found (Certify source irq hex cert) a b none p q = absurd none
+same_answers one files found (Demo number) a b none p q = absurd none
 
 -- loading met a fault, or none is needed for the answer
 answers_or_fault : (files : Option FileMap) (load_fault : Type 0) (c : Command) (answer : Answer) → Answers files load_fault c answer → load_fault ⊎ Answers files ⊥ c answer
@@ -236,6 +261,7 @@ answers_or_fault files load_fault (Trace hex pads irq clocks) answer h = trace_o
 answers_or_fault files load_fault (Play hex cert pads clocks frames) answer h = play_or_fault files load_fault hex cert pads clocks frames answer h
 answers_or_fault files load_fault (Debug hex pads irq script) answer h = debug_or_fault files load_fault hex pads irq script answer h
 answers_or_fault files load_fault (Certify source irq hex cert) answer h = certify_or_fault files load_fault source irq hex cert answer h
+answers_or_fault files load_fault (Demo number) answer h = inr h
 
 -- an answer without a fault of loading is the one that is decided
 
@@ -266,6 +292,11 @@ decided_by one files (Certify source irq hex cert) answer came old new = λ h en
       allowed = d.allowed;
       decided = λ wanted q. subst (λ a. Ends a came old new) (d.decided wanted q) ends;
     }
+decided_by one files (Demo number) answer came old new = λ h ends. record {
+  found = h.found;
+  allowed = demo_allowed number answer h;
+  decided = λ wanted q. subst (λ a. Ends a came old new) (demo_same number answer wanted h q) ends;
+}
 
 -- an answer that is this one, or loading met a fault
 done_as : (load_fault : Type 0) (answer wanted : Answer) → (answer ≡ wanted) ⊎ load_fault → wanted.status ≡ status.Done → (load_fault → ⊥) → answer.status ≡ status.Done
@@ -286,6 +317,7 @@ done_always one told load_fault (Trace hex pads irq clocks) h loads answer p =
 done_always one told load_fault (Play hex cert pads clocks frames) h loads answer p = play_done told load_fault hex cert pads clocks frames h loads answer p
 done_always one told load_fault (Debug hex pads irq script) h loads answer p = debug_done told load_fault hex pads irq script h loads answer p
 done_always one told load_fault (Certify source irq hex cert) h loads answer p = certify_always told load_fault source irq hex cert h loads answer p
+done_always one told load_fault (Demo number) h loads answer p = demo_done number h answer p
 
 usage_not_memory : status.Usage ≢ status.NoMemory
 usage_not_memory e = cc
@@ -333,6 +365,13 @@ module _ (one : OneEnd) (told : FileMap) (load_fault write_fault : Type 0) (c : 
         | inr (inl cut) ↦ absurd (writes cut.1)
         | inr (inr given) ↦ inl (given.2.status ∙ done_always one told load_fault c well loads given.0 given.1)
       ]
+
+-- a fault of the sink is one of writing
+pub outcome_wider : (Whole Part : Answer → Type 0) (narrow wide : Type 0) (came : Status) (old new : Outside) → (narrow → wide) → Outcome Whole Part narrow came old new → Outcome Whole Part wide came old new
+outcome_wider Whole Part narrow wide came old new widen (inl starts) = inl starts
+outcome_wider Whole Part narrow wide came old new widen (inr (inl (answer, given, comes))) = inr (inl (answer, given, comes_by answer came narrow wide old new widen comes))
+outcome_wider Whole Part narrow wide came old new widen (inr (inr (answer, given, inl cut))) = inr (inr (answer, given, inl (cut.0, widen cut.1, cut.2)))
+outcome_wider Whole Part narrow wide came old new widen (inr (inr (answer, given, inr lacks))) = inr (inr (answer, given, inr lacks))
 
 pub outcome_at : (k l : Command) (files : Option FileMap) (load_fault write_fault : Type 0) (came : Status) (old new : Outside) → k ≡ l → Outcome (Answers files load_fault l) (PartAnswers files l) write_fault came old new → Outcome (Answers files load_fault k) (PartAnswers files k) write_fault came old new
 outcome_at k l files load_fault write_fault came old new same h = subst (λ c. Outcome (Answers files load_fault c) (PartAnswers files c) write_fault came old new) (sym same) h

@@ -2,7 +2,7 @@
 use Rattle.std.specs.Prelude.{◌≡◌, ◌≢◌, ℕ, ◌||◌, List, [], ◌∷◌, map, codes, string_bytes, bytes_eq, Option, Some, None, IfSome, if◌then◌else◌}
 use Rattle.std.specs.declared.string.String.{String}
 use Rattle.std.specs.declared.alloc.Global.{Global}
-use Rattle.uz_text.specs.Numbers.{number_within}
+use Rattle.uz_text.specs.Numbers.{number_below, number_within}
 use Rattle.uz_schedule.specs.declared.kinds.Response.{Response}
 use Rattle.uz_schedule.specs.declared.kinds.Response.TheVariants.{Four, Five}
 
@@ -17,6 +17,7 @@ pub data Command : Type 0 where
   Play : (hex cert pads : List ℕ) → (clocks : ℕ) → (frames : List ℕ) → Command
   Debug : (hex pads : List ℕ) → (irq : Response) → (script : List ℕ) → Command
   Certify : (source : List ℕ) → (irq : Response) → (hex cert : List ℕ) → Command
+  Demo : (number : ℕ) → Command
 
 -- the file words of a command differ
 abbrev pub check_words : List (List ℕ) → Option Command
@@ -83,6 +84,15 @@ certify_words (source ∷ irq ∷ hex ∷ cert ∷ []) =
     if bytes_eq source hex || (bytes_eq source cert || bytes_eq hex cert) then None else certify_with source (response_of irq) hex cert
 certify_words other = None
 
+abbrev pub demo_with : Option ℕ → Option Command
+demo_with (Some number) = Some (Demo number)
+demo_with None = None
+
+-- the number is 0 to 65,535
+abbrev pub demo_words : List (List ℕ) → Option Command
+demo_words (number ∷ []) = demo_with (number_below 65536 number)
+demo_words other = None
+
 abbrev pub command_of : List (List ℕ) → Option Command
 command_of [] = None
 command_of (verb ∷ words) =
@@ -95,6 +105,7 @@ command_of (verb ∷ words) =
     else if bytes_eq verb (codes "expand") then expand_words words
     else if bytes_eq verb (codes "build") then build_words words
     else if bytes_eq verb (codes "certify") then certify_words words
+    else if bytes_eq verb (codes "demo") then demo_words words
     else None
 
 -- the words are no command

@@ -2,12 +2,12 @@
 
 ghost use Rattle.std.specs.Prelude.{◌≡◌, map, option_map, string_bytes};
 ghost use Rattle.uz_top.specs.CommandValues.{value_of};
-ghost use Rattle.uz_text.specs.Numbers.{number_within as number_from_low};
-ghost use Rattle.uz_top.specs.Words.{asm_words, build_words, certify_with as certify_with_response, certify_words, check_words, command_of, debug_with as debug_with_response, debug_words, dis_words, expand_words, play_with as play_with_clocks, play_words, response_of, trace_words};
+ghost use Rattle.uz_text.specs.Numbers.{number_below, number_within as number_from_low};
+ghost use Rattle.uz_top.specs.Words.{asm_words, build_words, certify_with as certify_with_response, certify_words, check_words, command_of, debug_with as debug_with_response, debug_words, demo_with as demo_with_number, demo_words, dis_words, expand_words, play_with as play_with_clocks, play_words, response_of, trace_words};
 
 use uz_cert::Response;
 use uz_play_command::{Clocks, number_of_clocks};
-use uz_text::number_within;
+use uz_text::{number, number_within};
 
 /// A command, with the names of its files.
 #[derive(Clone, Copy, Debug)]
@@ -56,6 +56,9 @@ pub(crate) enum Command<'a> {
         hex: &'a str,
         cert: &'a str,
     },
+    Demo {
+        number: u16,
+    },
 }
 
 /// The command of these words, without the program's name, or `None` where they are no command.
@@ -75,6 +78,7 @@ pub(crate) fn parse(words: &[String]) -> Option<Command<'_>>
         "expand" => expand(rest),
         "build" => build(rest),
         "certify" => certify(rest),
+        "demo" => demo(rest),
         _ => None,
     }
 }
@@ -291,6 +295,28 @@ fn build(words: &[String]) -> Option<Command<'_>>
             source: source.as_str(),
             hex: hex.as_str(),
         }),
+        _ => None,
+    }
+}
+
+/// The command, if the word is a number from 0 to 65,535.
+fn demo_with(word: &str) -> Option<Command<'_>>
+    ensures { option_map value_of result ≡ demo_with_number (number_below 65536 word.now) }
+{
+    match number(word.as_bytes(), 65_536) {
+        Some(number) => Some(Command::Demo {
+            number: number as u16,
+        }),
+        None => None,
+    }
+}
+
+/// `demo NUMBER`.
+fn demo(words: &[String]) -> Option<Command<'_>>
+    ensures { option_map value_of result ≡ demo_words (map string_bytes words.now) }
+{
+    match words {
+        [number] => demo_with(number.as_str()),
         _ => None,
     }
 }

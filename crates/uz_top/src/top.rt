@@ -14,6 +14,7 @@ use avr_macro::expansion_is_unique;
 use std::alloc::Global;
 use uz_certify_command::run_certify;
 use uz_check_command::run_check;
+use uz_demo_command::run_demo;
 use uz_files::{Status, put_last};
 use uz_play_command::run_play;
 use uz_run_commands::{run_debug, run_trace};
@@ -65,6 +66,7 @@ fn run<H: Shelf, K: Sink>(
             hex,
             cert,
         } => run_certify(alloc, source, *irq, hex, cert, shelf, out),
+        Command::Demo { number } => run_demo(alloc, *number, out),
     }
 }
 
@@ -90,7 +92,7 @@ pub fn uzebox<H: Shelf, K: Sink>(
         (WriteFault (H.write_faults shelf.old) (H.write_faults shelf.new) (K.faults out.old) (K.faults out.new))
         result (outside (H.files shelf.old) (K.text out.old)) (outside (H.files shelf.new) (K.text out.new))) }
 
-    // Where the shelf tells its files, they alone decide the answer, for `certify` with what the search answered: unless memory
+    // Where the shelf tells its files, they alone decide the answer, for `certify` and `demo` with what the search answered: unless memory
     // is lacking or a fault came.
     ensures exact { IfCommand words.now (λ c. IfSome (H.files shelf.old) (λ files.
         (result ≡ Status.NoMemory)
@@ -112,7 +114,7 @@ pub fn uzebox<H: Shelf, K: Sink>(
         → (result ≡ Status.Done) ⊎ (result ≡ Status.NoMemory))) }
 
     // What a command that is done is worth: `check` certifies the image and the certificate that its files spell, `certify` those that
-    // the written files spell, and a run that is played keeps to the schedule once a state of it has entered. One that is stopped never
+    // the written files spell, and a run that is played, by `play` or `demo`, keeps to the schedule once a state of it has entered. One that is stopped never
     // entered.
     ensures certified { result ≡ Status.Done → IfCommand words.now (Certifies (H.files shelf.old) (H.files shelf.new)) }
     ensures halted { result ≡ Status.Stopped → IfCommand words.now (StopTells (H.files shelf.old)) }

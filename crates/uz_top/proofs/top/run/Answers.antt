@@ -1,8 +1,8 @@
-use Rattle.std.proofs.Common.{ap, subst, sym}
+use Rattle.std.proofs.Common.{ap, inr, subst, sym}
 use Rattle.uz_top.specs.CommandValues.{value_of}
 use Rattle.uz_top.specs.Commands.{Certifies, CreatesNone}
 use Rattle.uz_top.specs.Words.{WritesApart}
-use Rattle.uz_top.proofs.CommandLemmas.{outcome_at}
+use Rattle.uz_top.proofs.CommandLemmas.{outcome_at, outcome_wider}
 use Rattle.uz_top.proofs.top.run.Goals as goal
 
 pub returns-in-Check-clause-outcome : goal.returns-in-Check-clause-outcome
@@ -51,3 +51,8 @@ pub returns-in-Certify-clause-certified : goal.returns-in-Certify-clause-certifi
 returns-in-Certify-clause-certified g c = λ done apart.
     let same = ap value_of c.in-Certify.is in
     subst (Certifies (g.H.Shelf.files c.args.shelf.now) (g.H.Shelf.files c.run_certify.new.shelf)) (sym same) (c.run_certify.ensures.certified done (subst WritesApart same apart))
+
+pub returns-in-Demo-clause-outcome : goal.returns-in-Demo-clause-outcome
+returns-in-Demo-clause-outcome g c =
+    outcome_at (value_of c.args.command.now) _ _ _ _ _ _ _ (ap value_of c.in-Demo.is)
+    (outcome_wider _ _ _ _ _ _ _ inr (c.run_demo.ensures.outcome (g.H.Shelf.files c.args.shelf.now)))

@@ -1,0 +1,3 @@
+pub mod DemoLemmas
+pub mod DemoSameLemmas
+pub mod DemoWorthLemmas

@@ -1,0 +1,2 @@
+pub mod DemoCommand
+pub mod DemoValues
