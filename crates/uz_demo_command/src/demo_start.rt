@@ -31,8 +31,8 @@ pub(crate) enum Start {
     },
 }
 
-/// The assembled source of a demo. Each of these sources has an assembly, so that want of memory is the one reason why
-/// there is none.
+/// The assembled source of a demo. That each of these sources has an assembly isn't proved: where one had none, the
+/// answer would be want of memory.
 #[tactic(auto, using(uz_files::proofs::HintCount::few_hints))]
 fn assembled(alloc: Global, number: u16) -> Result<Built, AllocError>
     ensures assembles { IfOk result (λ built. Assembles number (seen_built built)) }
