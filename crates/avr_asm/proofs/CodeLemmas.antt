@@ -1,5 +1,6 @@
 -- The words that read as an instruction are those that its pattern writes.
-use Rattle.std.proofs.Common.{◌≡◌, ℕ, zero, suc, ◌+◌, ◌-◌, ◌*◌, ◌/◌, ◌%◌, ◌^◌, ◌<◌, Bool, true, false, ◌&&◌, ◌||◌, not, cond, List, [], ◌∷◌, ◌++◌, length, nat_eq, nat_le, replicate, refl, sym, ◌∙◌, ap, subst, arith}
+use Rattle.std.proofs.Common.{◌≡◌, ℕ, zero, suc, ◌+◌, ◌-◌, ◌*◌, ◌/◌, ◌%◌, ◌^◌, ◌<◌, Bool, true, false, ◌&&◌, ◌||◌, not, cond, List, [], ◌∷◌}
+use Rattle.std.proofs.Common.{◌++◌, length, nat_eq, nat_le, replicate, refl, sym, ◌∙◌, ap, subst, arith}
 use Rattle.std.specs.Prelude.{Option, Some, None, count_by, is_some}
 use Rattle.std.specs.Int.{bit_at}
 use Rattle.std.specs.List.{AllByRecursion}
@@ -31,9 +32,12 @@ pow-more k = let one : 1 + k ≡ suc k = omega arith in ap (λ m. 2 ^ m) one ∙
 
 top : (b d y v P : ℕ) → b < 2 → d < 2 → y < P → v < P → b * P + y ≡ d * P + v → (b ≡ d) × (y ≡ v)
 top zero zero y v P hb hd hy hv e = (refl, omega arith)
-top zero (suc d) y v P hb hd hy hv e = let z : d ≡ 0 = omega arith in let p : suc d * P ≡ P = rw z (omega arith) in absurd (omega (arith, p))
-top (suc b) zero y v P hb hd hy hv e = let z : b ≡ 0 = omega arith in let p : suc b * P ≡ P = rw z (omega arith) in absurd (omega (arith, p))
-top (suc b) (suc d) y v P hb hd hy hv e = let z : b ≡ d = omega arith in let p : suc b * P ≡ suc d * P = ap (λ x. suc x * P) z in (ap suc z, omega (arith, p))
+top zero (suc d) y v P hb hd hy hv e = let z : d ≡ 0 = omega arith in let p : suc d * P ≡ P = rw z (omega arith) in
+    absurd (omega (arith, p))
+top (suc b) zero y v P hb hd hy hv e = let z : b ≡ 0 = omega arith in let p : suc b * P ≡ P = rw z (omega arith) in
+    absurd (omega (arith, p))
+top (suc b) (suc d) y v P hb hd hy hv e = let z : b ≡ d = omega arith in let p : suc b * P ≡ suc d * P = ap (λ x. suc x * P) z in
+    (ap suc z, omega (arith, p))
 
 -- the number of a letter, with places counted by recursion
 unfoldable pub spelt : ℕ → List ℕ → ℕ → ℕ
@@ -42,13 +46,15 @@ spelt c (d ∷ ds) n = cond (nat_eq d c) (bit_at n (length ds) * 2 ^ count_of c 
 
 step-lt : (t : Bool) (b x k : ℕ) → b < 2 → x < 2 ^ k → cond t (b * 2 ^ k + x) x < 2 ^ cond t (1 + k) k
 step-lt true zero x k hb hx = omega (arith, pow-more k)
-step-lt true (suc b) x k hb hx = let z : b ≡ 0 = omega arith in let p : suc b * 2 ^ k ≡ 2 ^ k = rw z (omega arith) in omega (arith, p, pow-more k)
+step-lt true (suc b) x k hb hx = let z : b ≡ 0 = omega arith in let p : suc b * 2 ^ k ≡ 2 ^ k = rw z (omega arith) in
+    omega (arith, p, pow-more k)
 step-lt false b x k hb hx = hx
 
 spelt-lt : (c : ℕ) (p : List ℕ) (n : ℕ) → spelt c p n < 2 ^ count_of c p
 unfolding spelt
 spelt-lt c [] n = omega arith
-spelt-lt c (d ∷ ds) n = step-lt (nat_eq d c) (bit_at n (length ds)) (spelt c ds n) (count_of c ds) (bit_at-lt n (length ds)) (spelt-lt c ds n)
+spelt-lt c (d ∷ ds) n = step-lt (nat_eq d c) (bit_at n (length ds)) (spelt c ds n) (count_of c ds) (bit_at-lt n (length ds))
+    (spelt-lt c ds n)
 
 -- a number's lowest 1 + k bits are those of b and x
 pub parts_of : (v b k x : ℕ) → b < 2 → x < 2 ^ k → v % 2 ^ (1 + k) ≡ b * 2 ^ k + x → (bit_at v k ≡ b) × (v % 2 ^ k ≡ x)
@@ -74,17 +80,21 @@ bit_is (Some false) b v k m h = same b 0 m
 bit_is (Some true) b v k m h = same b 1 m
 
 -- a number whose fixed bits stand and whose letters have the fields' numbers is what the pattern writes
-agree : (L : List (Char × ℕ)) (p : List ℕ) (n : ℕ) → stands p n ≡ true → ((c : ℕ) → digit c ≡ None → field_of L c % 2 ^ count_of c p ≡ spelt c p n) → n % 2 ^ length p ≡ written L p
+agree : (L : List (Char × ℕ)) (p : List ℕ) (n : ℕ) → stands p n ≡ true → ((c : ℕ) → digit c ≡ None → field_of L c % 2 ^ count_of c p ≡ spelt
+    c p n) → n % 2 ^ length p ≡ written L p
 unfolding stands written spelt
 agree L [] n s H = omega arith
 agree L (d ∷ ds) n s H =
     let st = both (meets (digit d) (bit_at n (length ds))) (stands ds n) s in
-    let tail : n % 2 ^ length ds ≡ written L ds = agree L ds n st.1 (λ c none. tail_of (nat_eq d c) (field_of L c) (bit_at n (length ds)) (count_of c ds) (spelt c ds n) (bit_at-lt n (length ds)) (spelt-lt c ds n) (H c none)) in
+    let tail : n % 2 ^ length ds ≡ written L ds = agree L ds n st.1 (λ c none. tail_of (nat_eq d c) (field_of L c) (bit_at n (length ds))
+    (count_of c ds) (spelt c ds n) (bit_at-lt n (length ds)) (spelt-lt c ds n) (H c none)) in
     let bit : bit_at n (length ds) ≡ place_bit (digit d) (field_of L d) (count_of d ds) =
     bit_is (digit d) (bit_at n (length ds)) (field_of L d) (count_of d ds) st.0
-    (λ none. head_of (nat_eq d d) (field_of L d) (bit_at n (length ds)) (count_of d ds) (spelt d ds n) (itself d) (bit_at-lt n (length ds)) (spelt-lt d ds n) (H d none)) in
+    (λ none. head_of (nat_eq d d) (field_of L d) (bit_at n (length ds)) (count_of d ds) (spelt d ds n) (itself d) (bit_at-lt n (length ds))
+    (spelt-lt d ds n) (H d none)) in
     let one : suc (length ds) ≡ 1 + length ds = omega arith in
-    ap (λ k. n % 2 ^ k) one ∙ mod-pow-add n 1 (length ds) ∙ ap (λ b. b * 2 ^ length ds + n % 2 ^ length ds) bit ∙ ap (λ x. place_bit (digit d) (field_of L d) (count_of d ds) * 2 ^ length ds + x) tail
+    ap (λ k. n % 2 ^ k) one ∙ mod-pow-add n 1 (length ds) ∙ ap (λ b. b * 2 ^ length ds + n % 2 ^ length ds) bit
+    ∙ ap (λ x. place_bit (digit d) (field_of L d) (count_of d ds) * 2 ^ length ds + x) tail
 
 eq_turned : (a b : ℕ) → nat_eq a b ≡ nat_eq b a
 eq_turned a b = by_case (nat_eq a b) refl
@@ -104,11 +114,13 @@ spelled_is c (d ∷ ds) n =
     ∙ ap (λ k. cond (nat_eq d c) (bit_at n (length ds) * 2 ^ k + spelt c ds n) (spelt c ds n)) (sym (count_is c ds))
 
 -- the letters of a row
-in_list : (P : List ℕ) (n c : ℕ) (L : List (Char × ℕ)) → AllByRecursion (λ x. x.1 ≡ spelled (code x.0) P n) L → wanted L c ≡ true → field_of L c ≡ spelled c P n
+in_list : (P : List ℕ) (n c : ℕ) (L : List (Char × ℕ)) → AllByRecursion (λ x. x.1 ≡ spelled (code x.0) P n) L → wanted L c ≡ true
+    → field_of L c ≡ spelled c P n
 in_list P n c [] s w = absurd cc
 in_list P n c (x ∷ xs) s w = chosen (nat_eq c (code x.0)) refl w (in_list P n c xs s.1)
   where
-    chosen : (t : Bool) → nat_eq c (code x.0) ≡ t → (t || wanted xs c) ≡ true → (wanted xs c ≡ true → field_of xs c ≡ spelled c P n) → cond t x.1 (field_of xs c) ≡ spelled c P n
+    chosen : (t : Bool) → nat_eq c (code x.0) ≡ t → (t || wanted xs c) ≡ true → (wanted xs c ≡ true → field_of xs c ≡ spelled c P n)
+        → cond t x.1 (field_of xs c) ≡ spelled c P n
     chosen true e v r = s.0 ∙ ap (λ k. spelled k P n) (sym (same c (code x.0) e))
     chosen false e v r = r v
 
@@ -121,12 +133,14 @@ not_in_list c (x ∷ xs) w = chosen (nat_eq c (code x.0)) (wanted xs c) x.1 (fie
     chosen false u v f e r = r e
 
 -- a character that stands nowhere in the front of a pattern
-absent : (c n : ℕ) (L : List (Char × ℕ)) (p q : List ℕ) → covered L p ≡ true → digit c ≡ None → wanted L c ≡ false → spelt c (p ++ q) n ≡ spelt c q n
+absent : (c n : ℕ) (L : List (Char × ℕ)) (p q : List ℕ) → covered L p ≡ true → digit c ≡ None → wanted L c ≡ false → spelt c (p ++ q)
+    n ≡ spelt c q n
 unfolding spelt
 absent c n L [] q e none w = refl
 absent c n L (d ∷ ds) q e none w =
     let parts = both (is_some (digit d) || wanted L d) (covered L ds) e in
-    chosen (nat_eq d c) (bit_at n (length (ds ++ q)) * 2 ^ count_of c (ds ++ q) + spelt c (ds ++ q) n) (spelt c (ds ++ q) n) (spelt c q n) (not_here parts.0) (absent c n L ds q parts.1 none w)
+    chosen (nat_eq d c) (bit_at n (length (ds ++ q)) * 2 ^ count_of c (ds ++ q) + spelt c (ds ++ q) n) (spelt c (ds ++ q) n) (spelt c q n)
+    (not_here parts.0) (absent c n L ds q parts.1 none w)
   where
     chosen : (t : Bool) (x y z : ℕ) → t ≡ false → y ≡ z → cond t x y ≡ z
     chosen true x y z e f = absurd cc
@@ -167,7 +181,8 @@ unfolding dashes
 dashes-length k = length-replicate k 45
 
 -- the letters of a row have the fields' numbers, and any other character has 0
-letters_say : (L : List (Char × ℕ)) (p : List ℕ) (k n c : ℕ) → covered L p ≡ true → Spells (p ++ dashes k) n L → n % 2 ^ k ≡ 0 → digit c ≡ None
+letters_say : (L : List (Char × ℕ)) (p : List ℕ) (k n c : ℕ) → covered L p ≡ true → Spells (p ++ dashes k) n L → n % 2 ^ k ≡ 0
+    → digit c ≡ None
     → field_of L c % 2 ^ count_of c (p ++ dashes k) ≡ spelt c (p ++ dashes k) n
 letters_say L p k n c known says low_zero none = by_case (wanted L c) refl
   where
@@ -178,17 +193,21 @@ letters_say L p k n c known says low_zero none = by_case (wanted L c) refl
     by_case false e =
         let low : n % 2 ^ length (dashes k) ≡ 0 = ap (λ m. n % 2 ^ m) (dashes-length k) ∙ low_zero in
         let none_there : spelt c (p ++ dashes k) n ≡ 0 = absent c n L p (dashes k) known none e ∙ zero_low c n (dashes k) low in
-        ap (λ x. x % 2 ^ count_of c (p ++ dashes k)) (not_in_list c L e) ∙ mod-eq_of_lt (pow_pos (count_of c (p ++ dashes k))) ∙ sym none_there
+        ap (λ x. x % 2 ^ count_of c (p ++ dashes k)) (not_in_list c L e) ∙ mod-eq_of_lt (pow_pos (count_of c (p ++ dashes k)))
+        ∙ sym none_there
 
-whole : (L : List (Char × ℕ)) (p : List ℕ) (k n : ℕ) → covered L p ≡ true → stands (p ++ dashes k) n ≡ true → Spells (p ++ dashes k) n L → n % 2 ^ k ≡ 0 → length p + k ≡ 32 → n < 2 ^ 32 → n ≡ written L (p ++ dashes k)
+whole : (L : List (Char × ℕ)) (p : List ℕ) (k n : ℕ) → covered L p ≡ true → stands (p ++ dashes k) n ≡ true → Spells (p ++ dashes k) n L
+    → n % 2 ^ k ≡ 0 → length p + k ≡ 32 → n < 2 ^ 32 → n ≡ written L (p ++ dashes k)
 whole L p k n known st says low_zero long small =
     let len : length (p ++ dashes k) ≡ 32 = length-append p (dashes k) ∙ ap (λ m. length p + m) (dashes-length k) ∙ long in
-    sym (mod-eq_of_lt small) ∙ ap (λ m. n % 2 ^ m) (sym len) ∙ agree L (p ++ dashes k) n st (λ c none. letters_say L p k n c known says low_zero none)
+    sym (mod-eq_of_lt small) ∙ ap (λ m. n % 2 ^ m) (sym len) ∙ agree L (p ++ dashes k) n st
+    (λ c none. letters_say L p k n c known says low_zero none)
 
 abbrev two_if_long : ℕ → ℕ
 two_if_long len = cond (nat_le len 16) 1 2
 
-short_or_long : (len a b : ℕ) → (nat_eq len 16 || nat_eq len 32) ≡ true → (two_if_long len ≡ 1 → b ≡ 0) → ((a * 65536 + b) % 2 ^ (32 - len) ≡ 0) × (len + (32 - len) ≡ 32)
+short_or_long : (len a b : ℕ) → (nat_eq len 16 || nat_eq len 32) ≡ true → (two_if_long len ≡ 1 → b ≡ 0)
+    → ((a * 65536 + b) % 2 ^ (32 - len) ≡ 0) × (len + (32 - len) ≡ 32)
 short_or_long len a b e z = by_case (nat_eq len 16) refl
   where
     by_case : (t : Bool) → nat_eq len 16 ≡ t → ((a * 65536 + b) % 2 ^ (32 - len) ≡ 0) × (len + (32 - len) ≡ 32)
@@ -203,16 +222,21 @@ short_or_long len a b e z = by_case (nat_eq len 16) refl
         let low : (a * 65536 + b) % 1 ≡ 0 = omega arith in
         (ap (λ m. (a * 65536 + b) % 2 ^ (32 - m)) is ∙ low, omega arith)
 
-pub code_is : (i : Instr) (a b : ℕ) → a < 65536 → b < 65536 → ReadsAt (a * 65536 + b) i → (words_of i ≡ 1 → b ≡ 0) → a * 65536 + b ≡ number_of i
+pub code_is : (i : Instr) (a b : ℕ) → a < 65536 → b < 65536 → ReadsAt (a * 65536 + b) i → (words_of i ≡ 1 → b ≡ 0)
+    → a * 65536 + b ≡ number_of i
 unfolding number_of dashes
 code_is i a b ha hb reads one =
-    let tests = both (nat_eq (length (places (row i).pattern)) 16 || nat_eq (length (places (row i).pattern)) 32) (covered (row i).letters (places (row i).pattern) && not (wanted (row i).letters 45)) (row_tests i) in
+    let tests = both (nat_eq (length (places (row i).pattern)) 16 || nat_eq (length (places (row i).pattern)) 32)
+    (covered (row i).letters (places (row i).pattern) && not (wanted (row i).letters 45)) (row_tests i) in
     let known = both (covered (row i).letters (places (row i).pattern)) (not (wanted (row i).letters 45)) tests.1 in
     let sizes = short_or_long (length (places (row i).pattern)) a b tests.0 one in
-    whole (row i).letters (places (row i).pattern) (32 - length (places (row i).pattern)) (a * 65536 + b) known.0 reads.fixed reads.letters sizes.0 sizes.1 (omega arith)
+    whole (row i).letters (places (row i).pattern) (32 - length (places (row i).pattern)) (a * 65536 + b) known.0 reads.fixed reads.letters
+    sizes.0 sizes.1 (omega arith)
 
 pub first_is : (i : Instr) (a b : ℕ) → a < 65536 → b < 65536 → ReadsAt (a * 65536 + b) i → (words_of i ≡ 1 → b ≡ 0) → a ≡ first_word i
-first_is i a b ha hb reads one = let e = code_is i a b ha hb reads one in let d : a ≡ (a * 65536 + b) / 65536 = omega arith in d ∙ ap (λ n. n / 65536) e
+first_is i a b ha hb reads one = let e = code_is i a b ha hb reads one in let d : a ≡ (a * 65536 + b) / 65536 = omega arith in
+    d ∙ ap (λ n. n / 65536) e
 
 pub second_is : (i : Instr) (a b : ℕ) → a < 65536 → b < 65536 → ReadsAt (a * 65536 + b) i → (words_of i ≡ 1 → b ≡ 0) → b ≡ second_word i
-second_is i a b ha hb reads one = let e = code_is i a b ha hb reads one in let d : b ≡ (a * 65536 + b) % 65536 = omega arith in d ∙ ap (λ n. n % 65536) e
+second_is i a b ha hb reads one = let e = code_is i a b ha hb reads one in let d : b ≡ (a * 65536 + b) % 65536 = omega arith in
+    d ∙ ap (λ n. n % 65536) e

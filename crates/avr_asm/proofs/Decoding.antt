@@ -1,5 +1,6 @@
 -- The second pass puts each instruction's bytes at its item's address, and keeps them.
-use Rattle.std.proofs.Common.{◌≡◌, ◌≢◌, ℕ, ◌+◌, ◌*◌, ◌/◌, ◌%◌, ◌<◌, Bool, true, false, cond, List, [], ◌∷◌, ◌++◌, refl, sym, ◌∙◌, ap, subst, arith}
+use Rattle.std.proofs.Common.{◌≡◌, ◌≢◌, ℕ, ◌+◌, ◌*◌, ◌/◌, ◌%◌, ◌<◌, Bool, true, false, cond, List, [], ◌∷◌, ◌++◌, refl, sym, ◌∙◌, ap, subst}
+use Rattle.std.proofs.Common.{arith}
 use Rattle.std.specs.Prelude.{Option, None, Some, Result, Ok, Err, is_some, nat_le}
 use Rattle.std.specs.FinMap as map
 use Rattle.std.specs.FinMap.{gets}
@@ -10,8 +11,8 @@ use Rattle.avr_text.specs.declared.tokens.Token.{Token}
 use Rattle.avr_text.specs.Names.{NameMap}
 use Rattle.avr_asm.specs.declared.directives.Directive.{Directive}
 use Rattle.avr_asm.specs.declared.directives.Directive.TheVariants as directive
-use Rattle.avr_asm.specs.declared.faults.AsmError.{AsmError}
-use Rattle.avr_operands.specs.declared.faults.AsmWhy.TheVariants as why
+use Rattle.avr_asm.specs.declared.errors.AsmError.{AsmError}
+use Rattle.avr_operands.specs.declared.errors.AsmWhy.TheVariants as why
 use Rattle.avr_asm.specs.declared.lines.Action.{Action}
 use Rattle.avr_asm.specs.declared.lines.Action.TheVariants as action
 use Rattle.avr_asm.specs.declared.output.Placed.{Placed}
@@ -23,7 +24,8 @@ use Rattle.avr_asm.specs.Layout.{arguments_in, is_instruction, is_instruction_in
 use Rattle.avr_asm.specs.Lines.{content_of, body_of, action_of, parts_of}
 use Rattle.avr_asm.specs.Assembly.{Output, with_line, following, at_line, output_from}
 use Rattle.avr_asm.specs.Relation.{item_of, hint_list}
-use Rattle.avr_asm.specs.LineOutputs.{LineOutput, no_output, instruction_output, data_output, hint_output, directive_output, action_output, tokens_output, line_output}
+use Rattle.avr_asm.specs.LineOutputs.{LineOutput, no_output, instruction_output, data_output, hint_output, directive_output, action_output}
+use Rattle.avr_asm.specs.LineOutputs.{tokens_output, line_output}
 use Rattle.avr_asm.proofs.OutcomeLemmas.{ok_same, bound, made}
 use Rattle.avr_asm.proofs.LinePuts.{with_output, line_put}
 
@@ -40,7 +42,8 @@ holds_kept : (old new : Flash) (at : ℕ) (bytes : List ℕ) → Keeps old new �
 holds_kept old new at [] keeps h = tt
 holds_kept old new at (b ∷ bs) keeps h = (h.0, keeps at b h.1, holds_kept old new (at + 1) bs keeps h.2)
 
-inserted : (old : Flash) (at b q v : ℕ) → is_some (map.get old at) ≡ false → map.get old q ≡ Some v → map.get (map.insert old at b) q ≡ Some v
+inserted : (old : Flash) (at b q v : ℕ) → is_some (map.get old at) ≡ false → map.get old q ≡ Some v → map.get (map.insert old at b) q ≡ Some
+    v
 inserted old at b q v free there =
     let apart : q ≢ at = λ e. let no : true ≡ false = sym (ap is_some (sym (ap (map.get old) e) ∙ there)) ∙ free in cc in
     let same : map.get (map.insert old at b) q ≡ map.get old q = grind (arith, gets, nat_tests) in
@@ -51,10 +54,13 @@ insert_holds old at b = let e : at ≡ at = refl in grind (arith, gets, nat_test
 
 pub put_holds : (at : ℕ) (bytes : List ℕ) (old new : Flash) → put at bytes old ≡ Ok new → Keeps old new × Holds new at bytes
 put_holds at [] old new e = let same : old ≡ new = ok_same old new e in (λ q v h. subst (λ m. map.get m q ≡ Some v) same h, tt)
-put_holds at (b ∷ bs) old new e = by_case (nat_le 65536 at) (is_some (map.get old at)) refl refl (λ f. put_holds (at + 1) bs (map.insert old at b) new f) e
+put_holds at (b ∷ bs) old new e = by_case (nat_le 65536 at) (is_some (map.get old at)) refl refl
+    (λ f. put_holds (at + 1) bs (map.insert old at b) new f) e
   where
-    by_case : (past taken : Bool) → nat_le 65536 at ≡ past → is_some (map.get old at) ≡ taken → (put (at + 1) bs (map.insert old at b) ≡ Ok new → Keeps (map.insert old at b) new × Holds new (at + 1) bs)
-        → cond past (Err why.Past) (cond taken (Err why.Overlap) (put (at + 1) bs (map.insert old at b))) ≡ Ok new → Keeps old new × Holds new at (b ∷ bs)
+    by_case : (past taken : Bool) → nat_le 65536 at ≡ past → is_some (map.get old at) ≡ taken
+        → (put (at + 1) bs (map.insert old at b) ≡ Ok new → Keeps (map.insert old at b) new × Holds new (at + 1) bs)
+        → cond past (Err why.Past) (cond taken (Err why.Overlap) (put (at + 1) bs (map.insert old at b))) ≡ Ok new → Keeps old new
+        × Holds new at (b ∷ bs)
     by_case true taken p t more e' = absurd cc
     by_case false true p t more e' = absurd cc
     by_case false false p t more e' =
@@ -66,22 +72,33 @@ put_holds at (b ∷ bs) old new e = by_case (nat_le 65536 at) (is_some (map.get 
 abbrev pub IsOfInstruction : Bool → LineOutput → Type 0
 IsOfInstruction is o = (i : Instr) → o.instruction ≡ Some i → (o.bytes ≡ instruction_bytes i) × (is ≡ true)
 
-no_instruction : {X : Type 0} (is : Bool) (x : Outcome X) (f : X → LineOutput) (o : LineOutput) → ((v : X) → (f v).instruction ≡ None) → mapped x f ≡ Ok o → IsOfInstruction is o
+no_instruction : {X : Type 0} (is : Bool) (x : Outcome X) (f : X → LineOutput) (o : LineOutput) → ((v : X) → (f v).instruction ≡ None)
+    → mapped x f ≡ Ok o → IsOfInstruction is o
 no_instruction is x f o none e i some =
     let it = made x f o e in
     let no : Some i ≡ None = sym some ∙ ap (λ (p : LineOutput). p.instruction) (sym it.2) ∙ none it.0 in
     absurd cc
 
-directive_has_none : (d : Directive) (is : Bool) (line : List ℕ) (symbols : NameMap) (after : ℕ) (parts : List (List Token)) (o : LineOutput) → directive_output d line symbols after parts ≡ Ok o → IsOfInstruction is o
-directive_has_none directive.Db is line symbols after parts o e = no_instruction is (byte_data line symbols parts) data_output o (λ v. refl) e
-directive_has_none directive.Dw is line symbols after parts o e = no_instruction is (word_data line symbols parts) data_output o (λ v. refl) e
-directive_has_none directive.Org is line symbols after parts o e = no_instruction is (hint_of directive.Org line symbols parts after) hint_output o (λ v. refl) e
-directive_has_none directive.Equ is line symbols after parts o e = no_instruction is (hint_of directive.Equ line symbols parts after) hint_output o (λ v. refl) e
-directive_has_none directive.Start is line symbols after parts o e = no_instruction is (hint_of directive.Start line symbols parts after) hint_output o (λ v. refl) e
-directive_has_none directive.Lines is line symbols after parts o e = no_instruction is (hint_of directive.Lines line symbols parts after) hint_output o (λ v. refl) e
-directive_has_none directive.Stack is line symbols after parts o e = no_instruction is (hint_of directive.Stack line symbols parts after) hint_output o (λ v. refl) e
-directive_has_none directive.Cell is line symbols after parts o e = no_instruction is (hint_of directive.Cell line symbols parts after) hint_output o (λ v. refl) e
-directive_has_none directive.Fact is line symbols after parts o e = no_instruction is (hint_of directive.Fact line symbols parts after) hint_output o (λ v. refl) e
+directive_has_none : (d : Directive) (is : Bool) (line : List ℕ) (symbols : NameMap) (after : ℕ) (parts : List (List Token))
+    (o : LineOutput) → directive_output d line symbols after parts ≡ Ok o → IsOfInstruction is o
+directive_has_none directive.Db is line symbols after parts o e = no_instruction is (byte_data line symbols parts) data_output o (λ v. refl)
+    e
+directive_has_none directive.Dw is line symbols after parts o e = no_instruction is (word_data line symbols parts) data_output o (λ v. refl)
+    e
+directive_has_none directive.Org is line symbols after parts o e = no_instruction is (hint_of directive.Org line symbols parts after)
+    hint_output o (λ v. refl) e
+directive_has_none directive.Equ is line symbols after parts o e = no_instruction is (hint_of directive.Equ line symbols parts after)
+    hint_output o (λ v. refl) e
+directive_has_none directive.Start is line symbols after parts o e = no_instruction is (hint_of directive.Start line symbols parts after)
+    hint_output o (λ v. refl) e
+directive_has_none directive.Lines is line symbols after parts o e = no_instruction is (hint_of directive.Lines line symbols parts after)
+    hint_output o (λ v. refl) e
+directive_has_none directive.Stack is line symbols after parts o e = no_instruction is (hint_of directive.Stack line symbols parts after)
+    hint_output o (λ v. refl) e
+directive_has_none directive.Cell is line symbols after parts o e = no_instruction is (hint_of directive.Cell line symbols parts after)
+    hint_output o (λ v. refl) e
+directive_has_none directive.Fact is line symbols after parts o e = no_instruction is (hint_of directive.Fact line symbols parts after)
+    hint_output o (λ v. refl) e
 
 nothing_out : (is : Bool) (o : LineOutput) → ◌≡◌ {A = Outcome LineOutput} (Ok no_output) (Ok o) → IsOfInstruction is o
 nothing_out is o e i some =
@@ -96,28 +113,38 @@ action_of_instruction action.Unknown line symbols address after parts o e = noth
 action_of_instruction action.NoDirective line symbols address after parts o e = nothing_out false o e
 action_of_instruction (action.Directive d) line symbols address after parts o e = directive_has_none d false line symbols after parts o e
 action_of_instruction (action.Instruction mnemonic) line symbols address after parts o e = λ i some.
-    let it = made (instruction_of mnemonic (record { line = line; symbols = symbols; next = address + 2; parts = parts })) instruction_output o e in
+    let it = made (instruction_of mnemonic (record { line = line; symbols = symbols; next = address + 2; parts = parts }))
+    instruction_output o e in
     let same : Some it.0 ≡ Some i = ap (λ (p : LineOutput). p.instruction) it.2 ∙ some in
     let is : it.0 ≡ i = cc in
     (sym (ap (λ (p : LineOutput). p.bytes) it.2) ∙ ap instruction_bytes is, refl)
 
-pub line_of_instruction : (line : List ℕ) (symbols : NameMap) (address after : ℕ) (o : LineOutput) → line_output symbols address after line ≡ Ok o → IsOfInstruction (is_instruction_line line) o
+pub line_of_instruction : (line : List ℕ) (symbols : NameMap) (address after : ℕ) (o : LineOutput) → line_output symbols address after
+    line ≡ Ok o → IsOfInstruction (is_instruction_line line) o
 unfolding line_output is_instruction_line
 line_of_instruction line symbols address after o e = by_case (content_of line) e
   where
-    by_case : (c : Outcome (List Token)) → (c >>= tokens_output line symbols address after) ≡ Ok o → IsOfInstruction (is_instruction_in line c) o
-    by_case (Ok tokens) e' = action_of_instruction (action_of line (body_of tokens)) line symbols address after (parts_of (arguments_in line tokens)) o e'
+    by_case : (c : Outcome (List Token)) → (c >>= tokens_output line symbols address after) ≡ Ok o → IsOfInstruction
+        (is_instruction_in line c) o
+    by_case (Ok tokens) e' = action_of_instruction (action_of line (body_of tokens)) line symbols address after
+        (parts_of (arguments_in line tokens)) o e'
     by_case (Err fault) e' = absurd cc
 
 -- each item's bytes stand at its address
 abbrev pub ItemHolds : Flash → Placed → Type 0
 ItemHolds image item = Holds image (2 * item.at) (instruction_bytes item.instr)
 
-each_kept : (old new : Flash) (items : List Placed) → Keeps old new → AllByRecursion (ItemHolds old) items → AllByRecursion (ItemHolds new) items
+each_kept : (old new : Flash) (items : List Placed) → Keeps old new → AllByRecursion (ItemHolds old) items → AllByRecursion (ItemHolds new)
+    items
 each_kept old new [] keeps h = tt
-each_kept old new (item ∷ items) keeps h = (holds_kept old new (2 * item.at) (instruction_bytes item.instr) keeps h.0, each_kept old new items keeps h.1)
+each_kept old new (item ∷ items) keeps h = (
+  holds_kept old new (2 * item.at) (instruction_bytes item.instr) keeps h.0,
+  each_kept old new
+      items keeps h.1,
+)
 
-each_more : (image : Flash) (items : List Placed) (item : Placed) → AllByRecursion (ItemHolds image) items → ItemHolds image item → AllByRecursion (ItemHolds image) (items ++ item ∷ [])
+each_more : (image : Flash) (items : List Placed) (item : Placed) → AllByRecursion (ItemHolds image) items → ItemHolds image item
+    → AllByRecursion (ItemHolds image) (items ++ item ∷ [])
 each_more image [] item h g = (g, tt)
 each_more image (x ∷ items) item h g = (h.0, each_more image items item h.1 g)
 
@@ -126,36 +153,51 @@ each_same image [] h = tt
 each_same image (x ∷ items) h = (h.0, each_same image items h.1)
 
 -- one more line
-line_holds : (k address : ℕ) (is : Bool) (out next : Output) (o : LineOutput) → IsOfInstruction is o → (is ≡ true → address % 2 ≡ 0) → with_output k address out o ≡ Ok next
+line_holds : (k address : ℕ) (is : Bool) (out next : Output) (o : LineOutput) → IsOfInstruction is o → (is ≡ true → address % 2 ≡ 0)
+    → with_output k address out o ≡ Ok next
     → AllByRecursion (ItemHolds out.image) out.items → AllByRecursion (ItemHolds next.image) next.items
 line_holds k address is out next o of_instruction even e h =
-    let it = made (put address o.bytes out.image) (λ image. record { image = image; items = out.items ++ item_of k address o.instruction; hints = out.hints ++ hint_list o.hint }) next e in
+    let it = made (put address o.bytes out.image) (λ image. record {
+      image = image;
+      items = out.items ++ item_of k address o.instruction;
+      hints = out.hints ++ hint_list o.hint;
+    }) next e in
     let holds = put_holds address o.bytes out.image it.0 it.1 in
-    subst (λ (n : Output). AllByRecursion (ItemHolds n.image) n.items) it.2 (by_case it.0 holds.1 o.instruction refl (each_kept out.image it.0 out.items holds.0 h))
+    subst (λ (n : Output). AllByRecursion (ItemHolds n.image) n.items) it.2
+    (by_case it.0 holds.1 o.instruction refl (each_kept out.image it.0 out.items holds.0 h))
   where
-    by_case : (image : Flash) → Holds image address o.bytes → (some : Option Instr) → o.instruction ≡ some → AllByRecursion (ItemHolds image) out.items → AllByRecursion (ItemHolds image) (out.items ++ item_of k address some)
+    by_case : (image : Flash) → Holds image address o.bytes → (some : Option Instr) → o.instruction ≡ some → AllByRecursion
+        (ItemHolds image) out.items → AllByRecursion (ItemHolds image) (out.items ++ item_of k address some)
     by_case image here None e' h' = each_same image out.items h'
     by_case image here (Some i) e' h' =
         let it = of_instruction i e' in
         let at : 2 * (address / 2) ≡ address = omega (arith, even it.1) in
-        each_more image out.items (record { at = address / 2; line = k; instr = i }) h' (subst (λ a. Holds image a (instruction_bytes i)) (sym at) (subst (Holds image address) it.0 here))
+        each_more image out.items (record { at = address / 2; line = k; instr = i }) h' (subst (λ a. Holds image a (instruction_bytes i))
+        (sym at) (subst (Holds image address) it.0 here))
 
 -- instruction lines stand at even addresses
 abbrev pub EachEven : List (List ℕ) → List ℕ → Type 0
 EachEven (line ∷ lines) (a ∷ addresses) = (is_instruction_line line ≡ true → a % 2 ≡ 0) × EachEven lines addresses
 EachEven lines addresses = Unit {0}
 
-pub at_line_ok : (k : ℕ) (o : Outcome Output) (f : Output → Result Output AsmError) (last : Output) → at_line k o f ≡ Ok last → (next : Output) × (o ≡ Ok next) × (f next ≡ Ok last)
+pub at_line_ok : (k : ℕ) (o : Outcome Output) (f : Output → Result Output AsmError) (last : Output) → at_line k o f ≡ Ok last
+    → (next : Output) × (o ≡ Ok next) × (f next ≡ Ok last)
 at_line_ok k (Ok next) f last e = (next, refl, e)
 at_line_ok k (Err fault) f last e = absurd cc
 
-pub items_hold : (k : ℕ) (symbols : NameMap) (out last : Output) (lines : List (List ℕ)) (addresses : List ℕ) → output_from k symbols out lines addresses ≡ Ok last → EachEven lines addresses
+pub items_hold : (k : ℕ) (symbols : NameMap) (out last : Output) (lines : List (List ℕ)) (addresses : List ℕ) → output_from k symbols out
+    lines addresses ≡ Ok last → EachEven lines addresses
     → AllByRecursion (ItemHolds out.image) out.items → AllByRecursion (ItemHolds last.image) last.items
 unfolding output_from
-items_hold k symbols out last [] addresses e even h = subst (λ (n : Output). AllByRecursion (ItemHolds n.image) n.items) (ok_same out last e) h
-items_hold k symbols out last (line ∷ lines) [] e even h = subst (λ (n : Output). AllByRecursion (ItemHolds n.image) n.items) (ok_same out last e) h
+items_hold k symbols out last [] addresses e even h = subst (λ (n : Output). AllByRecursion (ItemHolds n.image) n.items)
+    (ok_same out last e) h
+items_hold k symbols out last (line ∷ lines) [] e even h = subst (λ (n : Output). AllByRecursion (ItemHolds n.image) n.items)
+    (ok_same out last e) h
 items_hold k symbols out last (line ∷ lines) (a ∷ addresses) e even h =
-    let it = at_line_ok k (with_line line symbols k a (following lines addresses) out) (λ next. output_from (k + 1) symbols next lines addresses) last e in
-    let step = bound (line_output symbols a (following lines addresses) line) (with_output k a out) it.0 (sym (line_put line symbols k a (following lines addresses) out) ∙ it.1) in
+    let it = at_line_ok k (with_line line symbols k a (following lines addresses) out) (λ next. output_from (k + 1) symbols next lines
+    addresses) last e in
+    let step = bound (line_output symbols a (following lines addresses) line) (with_output k a out) it.0
+    (sym (line_put line symbols k a (following lines addresses) out) ∙ it.1) in
     items_hold (k + 1) symbols it.0 last lines addresses it.2 even.1
-    (line_holds k a (is_instruction_line line) out it.0 step.0 (line_of_instruction line symbols a (following lines addresses) step.0 step.1) even.0 step.2 h)
+    (line_holds k a (is_instruction_line line) out it.0 step.0 (line_of_instruction line symbols a (following lines addresses) step.0
+    step.1) even.0 step.2 h)

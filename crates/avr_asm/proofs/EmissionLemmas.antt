@@ -1,15 +1,17 @@
 -- One more operand of data, and bytes that can't be put.
-use Rattle.std.proofs.Common.{◌≡◌, ℕ, zero, suc, ◌+◌, ◌<◌, ◌≤◌, Bool, true, false, List, [], ◌∷◌, Bor, length, get_or, drop, map, refl, sym, ◌∙◌, ap, add-one, drop-cons, arith}
+use Rattle.std.proofs.Common.{◌≡◌, ℕ, zero, suc, ◌+◌, ◌<◌, ◌≤◌, Bool, true, false, List, [], ◌∷◌, Bor, length, get_or, drop, map, refl, sym}
+use Rattle.std.proofs.Common.{◌∙◌, ap, add-one, drop-cons, arith}
 use Rattle.std.specs.Prelude.{Err, is_some, nat_le}
 use Rattle.std.specs.FinMap as finite
 use Rattle.std.proofs.lemmas.Bool.Decides.{nat_tests}
 use Rattle.avr_text.specs.declared.tokens.Token.{Token}
 use Rattle.avr_text.specs.Names.{NameMap}
-use Rattle.avr_operands.specs.declared.faults.AsmWhy.TheVariants.{Past, Overlap}
+use Rattle.avr_operands.specs.declared.errors.AsmWhy.TheVariants.{Past, Overlap}
 use Rattle.avr_operands.specs.Faults.{Outcome}
 use Rattle.avr_asm.specs.Emission.{data_value, with_number, data_from, put, Flash}
 
-part_there : (ls : List (Bor (List Token))) (i : ℕ) (d : Bor (List Token)) → i < length ls → get_or (map (λ l. l.now) ls) i [] ≡ (get_or ls i d).now
+part_there : (ls : List (Bor (List Token))) (i : ℕ) (d : Bor (List Token)) → i < length ls → get_or (map (λ l. l.now) ls) i
+    [] ≡ (get_or ls i d).now
 part_there [] i d h = absurd (omega arith)
 part_there (l ∷ ls) zero d h = refl
 part_there (l ∷ ls) (suc i) d h = part_there ls i d (omega arith)
@@ -18,13 +20,15 @@ parts_len : (ls : List (Bor (List Token))) → length (map (λ l. l.now) ls) ≡
 parts_len [] = refl
 parts_len (l ∷ ls) = ap suc (parts_len ls)
 
-pub data_more : (wide : Bool) (line : List ℕ) (symbols : NameMap) (old new : Outcome (List ℕ)) (ls : List (Bor (List Token))) (i : ℕ) (d : Bor (List Token)) → i < length ls
+pub data_more : (wide : Bool) (line : List ℕ) (symbols : NameMap) (old new : Outcome (List ℕ)) (ls : List (Bor (List Token))) (i : ℕ)
+    (d : Bor (List Token)) → i < length ls
     → new ≡ with_number wide old (data_value wide line symbols (get_or ls i d).now)
     → data_from wide line symbols new (drop (i + 1) (map (λ l. l.now) ls)) ≡ data_from wide line symbols old (drop i (map (λ l. l.now) ls))
 data_more wide line symbols old new ls i d h e =
     let parts = map (λ (l : Bor (List Token)). l.now) ls in
     let inside : i < length parts = omega (arith, parts_len ls) in
-    let here : drop i parts ≡ (get_or ls i d).now ∷ drop (i + 1) parts = rw (add-one, drop-cons parts i [] inside) (ap (λ p. p ∷ drop (suc i) parts) (part_there ls i d h)) in
+    let here : drop i parts ≡ (get_or ls i d).now ∷ drop (i + 1) parts = rw (add-one, drop-cons parts i [] inside)
+    (ap (λ p. p ∷ drop (suc i) parts) (part_there ls i d h)) in
     ap (λ o. data_from wide line symbols o (drop (i + 1) parts)) e ∙ sym (ap (data_from wide line symbols old) here)
 
 pub put_past : (at i : ℕ) (bytes : List ℕ) (flash : Flash) → i < length bytes → 65536 ≤ at → put at (drop i bytes) flash ≡ Err Past
@@ -32,7 +36,8 @@ put_past at i bytes flash h far =
     let test : nat_le 65536 at ≡ true = grind (arith, nat_tests) in
     rw (drop-cons bytes i 0 h) (rw test refl)
 
-pub put_taken : (at i : ℕ) (bytes : List ℕ) (flash : Flash) → i < length bytes → at < 65536 → is_some (finite.get flash at) ≡ true → put at (drop i bytes) flash ≡ Err Overlap
+pub put_taken : (at i : ℕ) (bytes : List ℕ) (flash : Flash) → i < length bytes → at < 65536 → is_some (finite.get flash at) ≡ true
+    → put at (drop i bytes) flash ≡ Err Overlap
 put_taken at i bytes flash h near taken =
     let test : nat_le 65536 at ≡ false = grind (arith, nat_tests) in
     rw (drop-cons bytes i 0 h) (rw (test, taken) refl)

@@ -1,5 +1,6 @@
 -- A finite map made from a list of entries, in which each key stands once.
-use Rattle.std.proofs.Common.{◌≡◌, ℕ, zero, suc, ◌<◌, Bool, true, false, ◌||◌, cond, List, [], ◌∷◌, ◌++◌, length, get_or, refl, sym, ◌∙◌, ap, subst, arith}
+use Rattle.std.proofs.Common.{◌≡◌, ℕ, zero, suc, ◌<◌, Bool, true, false, ◌||◌, cond, List, [], ◌∷◌, ◌++◌, length, get_or, refl, sym, ◌∙◌}
+use Rattle.std.proofs.Common.{ap, subst, arith}
 use Rattle.std.specs.Prelude.{None, Some}
 use Rattle.std.specs.declared.cmp.Ordering.{Ordering}
 use Rattle.std.specs.declared.cmp.Ordering.TheVariants.{Less, Equal, Greater}
@@ -44,7 +45,8 @@ module _ {K X : Type 0} (R : K → K → Ordering) where
   absent q [] none = refl
   absent q (e ∷ es) none = by_case (eq_by_cmp R q e.0) (absent q es) none
     where
-      by_case : (b : Bool) → (find R q es ≡ None → list_any (eq_by_cmp R q) (keys_of es) ≡ false) → cond b (Some e.1) (find R q es) ≡ None → (b || list_any (eq_by_cmp R q) (keys_of es)) ≡ false
+      by_case : (b : Bool) → (find R q es ≡ None → list_any (eq_by_cmp R q) (keys_of es) ≡ false) → cond b (Some e.1) (find R q es) ≡ None
+          → (b || list_any (eq_by_cmp R q) (keys_of es)) ≡ false
       by_case true rest n = absurd cc
       by_case false rest n = rest n
 
@@ -52,7 +54,8 @@ module _ {K X : Type 0} (R : K → K → Ordering) where
   not_found q [] n = refl
   not_found q (e ∷ es) n = by_case (eq_by_cmp R q e.0) (not_found q es) n
     where
-      by_case : (b : Bool) → (list_any (eq_by_cmp R q) (keys_of es) ≡ false → find R q es ≡ None) → (b || list_any (eq_by_cmp R q) (keys_of es)) ≡ false → cond b (Some e.1) (find R q es) ≡ None
+      by_case : (b : Bool) → (list_any (eq_by_cmp R q) (keys_of es) ≡ false → find R q es ≡ None)
+          → (b || list_any (eq_by_cmp R q) (keys_of es)) ≡ false → cond b (Some e.1) (find R q es) ≡ None
       by_case true rest m = absurd cc
       by_case false rest m = rest m
 
@@ -64,12 +67,14 @@ module _ {K X : Type 0} {R : K → K → Ordering} (o : IsTotalOrder R) (exact :
   get_made m es made q = ap (λ n. get n q) made.is ∙ get-from_entries o es q
 
   -- a key that is new
-  pub made_more : (m : FinMap R X) (es : List (K × X)) (k : K) (v : X) → IsMadeOf m es → get m k ≡ None → IsMadeOf (insert m k v) (es ++ (k, v) ∷ [])
+  pub made_more : (m : FinMap R X) (es : List (K × X)) (k : K) (v : X) → IsMadeOf m es → get m k ≡ None → IsMadeOf (insert m k v)
+      (es ++ (k, v) ∷ [])
   made_more m es k v made none =
       let fresh : find R k es ≡ None = sym (get_made m es made k) ∙ none in
       record {
         is = ap (λ n. insert n k v) made.is ∙ sym (from_entries_push o exact es k v fresh);
-        once = subst (IsDistinct (eq_by_cmp R)) (sym (keys_push es k v)) (IsDistinct-push (eq_by_cmp_equiv o) (keys_of es) k made.once (absent R k es fresh));
+        once = subst (IsDistinct (eq_by_cmp R)) (sym (keys_push es k v)) (IsDistinct-push (eq_by_cmp_equiv o) (keys_of es) k made.once
+            (absent R k es fresh));
       }
 
   -- then the map's entries are those of the list
@@ -88,11 +93,14 @@ module _ {K X : Type 0} {R : K → K → Ordering} (o : IsTotalOrder R) (exact :
       apart : (i j : ℕ) (d : K × X) → i < j → j < length es → (get_or es i d).0 ≡ (get_or es j d).0 → ⊥
       apart i j d below within same =
           let inside : j < length (keys_of es) = omega (arith, keys_len es) in
-          let no : eq_by_cmp R (get_or (keys_of es) i d.0) (get_or (keys_of es) j d.0) ≡ false = apart_from_distinct (eq_by_cmp R) (keys_of es) i j d.0 made.once below inside in
+          let no : eq_by_cmp R (get_or (keys_of es) i d.0) (get_or (keys_of es) j d.0) ≡ false = apart_from_distinct (eq_by_cmp R)
+          (keys_of es) i j d.0 made.once below inside in
           let yes : eq_by_cmp R (get_or (keys_of es) i d.0) (get_or (keys_of es) j d.0) ≡ true =
-          ap (λ x. eq_by_cmp R x (get_or (keys_of es) j d.0)) (key_at es i d ∙ same ∙ sym (key_at es j d)) ∙ (eq_by_cmp_equiv o).refl (get_or (keys_of es) j d.0) in
+          ap (λ x. eq_by_cmp R x (get_or (keys_of es) j d.0)) (key_at es i d ∙ same ∙ sym (key_at es j d)) ∙ (eq_by_cmp_equiv o).refl
+          (get_or (keys_of es) j d.0) in
           absurd (let bad : true ≡ false = sym yes ∙ no in cc)
 
   -- a key that is none of the list's
-  pub found_absent : (m : FinMap R X) (es : List (K × X)) (q : K) → IsMadeOf m es → list_any (eq_by_cmp R q) (keys_of es) ≡ false → get m q ≡ None
+  pub found_absent : (m : FinMap R X) (es : List (K × X)) (q : K) → IsMadeOf m es → list_any (eq_by_cmp R q) (keys_of es) ≡ false
+      → get m q ≡ None
   found_absent m es q made none = get_made m es made q ∙ not_found R q es none

@@ -4,12 +4,13 @@ use Rattle.std.specs.Prelude.{◌↔◌, Result, Ok, Err, IfErr}
 use Rattle.std.specs.FinMap.{empty, from_entries}
 use Rattle.std.specs.Ordering.{nat_cmp, eq_by_cmp}
 use Rattle.std.specs.List.{IsDistinct}
-use Rattle.avr_operands.specs.declared.faults.AsmWhy.{AsmWhy}
-use Rattle.avr_operands.specs.declared.faults.AsmWhy.TheVariants as why
-use Rattle.avr_asm.specs.declared.faults.AsmError.{AsmError}
+use Rattle.avr_operands.specs.declared.errors.AsmWhy.{AsmWhy}
+use Rattle.avr_operands.specs.declared.errors.AsmWhy.TheVariants as why
+use Rattle.avr_asm.specs.declared.errors.AsmError.{AsmError}
 use Rattle.avr_asm.specs.declared.output.Built.{Built}
 use Rattle.avr_asm.specs.Assembly.{Output, seen_built, nothing, output_from, output_of, assembly}
-use Rattle.avr_asm.specs.FirstFault.{IsLeast, Laid, place_after, AreLaid, Filled, bytes_by, InSecondPass, AreFilled, FirstPassFault, SecondPassFault, IsFirstFault}
+use Rattle.avr_asm.specs.FirstFault.{IsLeast, Laid, place_after, AreLaid, Filled, bytes_by, InSecondPass, AreFilled, FirstPassFault}
+use Rattle.avr_asm.specs.FirstFault.{SecondPassFault, IsFirstFault}
 use Rattle.avr_asm.specs.Layout.{Layout, layout_of, GivesLayout}
 use Rattle.avr_asm.specs.Lines.{lines_of}
 use Rattle.avr_asm.specs.Relation.{IsAssembly}
@@ -27,7 +28,8 @@ unfolding IsDistinct
 nothing_made = record { is = refl; once = tt }
 
 -- what the second pass says of laid lines
-second_pass_fault : (lines : List (List ℕ)) (layout : Layout) (e : AsmError) (l : LaidOut [] lines layout) → FaultFrom layout.symbols [] 1 l.rest e → SecondPassFault lines e.line e.why
+second_pass_fault : (lines : List (List ℕ)) (layout : Layout) (e : AsmError) (l : LaidOut [] lines layout) → FaultFrom layout.symbols [] 1
+    l.rest e → SecondPassFault lines e.line e.why
 second_pass_fault lines layout e l f =
     let all = map (λ (g : Filled). g.laid) f.more ++ f.line ∷ f.after in
     let symbols : layout.symbols ≡ (place_after all).symbols = l.symbols ∙ ap (λ ls. (place_after ls).symbols) f.cut in
@@ -46,21 +48,27 @@ second_pass_fault lines layout e l f =
 faulty : (counts : WordsByName) (text : List ℕ) (e : AsmError) → assembly text ≡ Err e → IsFirstFault text e.line e.why
 faulty counts text e is = go (layout_of (lines_of text)) (lines_say (lines_of text)) is
   where
-    go : (r : Result Layout AsmError) → LayoutSays [] 1 (lines_of text) r → output_of (lines_of text) r ≡ Err e → IsFirstFault text e.line e.why
-    go (Err f) says e' = let same : f ≡ e = cc in inl (subst (λ (x : AsmError). FirstPassFault (lines_of text) x.line x.why) same (first_pass_fault (lines_of text) f says))
+    go : (r : Result Layout AsmError) → LayoutSays [] 1 (lines_of text) r → output_of (lines_of text) r ≡ Err e → IsFirstFault text e.line
+        e.why
+    go (Err f) says e' = let same : f ≡ e = cc in inl (subst (λ (x : AsmError). FirstPassFault (lines_of text) x.line x.why) same
+        (first_pass_fault (lines_of text) f says))
     go (Ok layout) says e' =
         let out = outputs_say counts layout.symbols says.rest [] [] 1 nothing says.laid nothing_made in
-        let lines : output_from 1 layout.symbols nothing (map (λ (x : Laid). x.source) says.rest) (map (λ (x : Laid). x.address) says.rest) ≡ Err e =
-        ap (λ ls. output_from 1 layout.symbols nothing ls (map (λ (x : Laid). x.address) says.rest)) says.sources ∙ ap (output_from 1 layout.symbols nothing (lines_of text)) says.addresses ∙ e' in
+        let lines : output_from 1 layout.symbols nothing (map (λ (x : Laid). x.source) says.rest) (map (λ (x : Laid). x.address) says.rest)
+        ≡ Err e =
+        ap (λ ls. output_from 1 layout.symbols nothing ls (map (λ (x : Laid). x.address) says.rest)) says.sources
+        ∙ ap (output_from 1 layout.symbols nothing (lines_of text)) says.addresses ∙ e' in
         inr (second_pass_fault (lines_of text) layout e says (subst (OutputSays layout.symbols [] 1 says.rest) lines out))
 
 -- and one that has a first fault isn't assembled
-refused : (counts : WordsByName) (text : List ℕ) (n : ℕ) (w : AsmWhy) → IsFirstFault text n w → assembly text ≡ Err (record { line = n; why = w })
+refused : (counts : WordsByName) (text : List ℕ) (n : ℕ) (w : AsmWhy) → IsFirstFault text n w → assembly text ≡ Err
+    (record { line = n; why = w })
 refused counts text n w (inl first) = ap (output_of (lines_of text)) (fault_laid (lines_of text) n w first)
 refused counts text n w (inr second) =
     let all = map (λ (f : Filled). f.laid) second.before ++ second.line ∷ second.after in
     let symbols = (place_after all).symbols in
-    let layout : layout_of (lines_of text) ≡ Ok (record { addresses = map (λ (x : Laid). x.address) all; symbols = symbols }) = ap layout_of second.cut ∙ all_laid_out all second.laid in
+    let layout : layout_of (lines_of text) ≡ Ok (record { addresses = map (λ (x : Laid). x.address) all; symbols = symbols }) =
+    ap layout_of second.cut ∙ all_laid_out all second.laid in
     let count : 1 + length second.before ≡ n = omega (arith, second.numbered) in
     ap (output_of (lines_of text)) layout
     ∙ ap (λ ls. output_from 1 symbols nothing ls (map (λ (x : Laid). x.address) all)) second.cut
@@ -70,21 +78,26 @@ refused counts text n w (inr second) =
 pub fault_exact : (counts : WordsByName) (text : List ℕ) (e : AsmError) → (assembly text ≡ Err e) ↔ IsFirstFault text e.line e.why
 fault_exact counts text e = (faulty counts text e, refused counts text e.line e.why)
 
-pub assembly_exact : (stay : ValuesStay) (counts : WordsByName) (text : List ℕ) (out : Output) → (assembly text ≡ Ok out) ↔ IsAssembly text out
+pub assembly_exact : (stay : ValuesStay) (counts : WordsByName) (text : List ℕ) (out : Output) → (assembly text ≡ Ok out) ↔ IsAssembly text
+    out
 assembly_exact stay counts text out = (is_assembly stay counts text out, exact_assembly counts text out)
 
 -- ---- one of the two
 
-pub decided : (stay : ValuesStay) (counts : WordsByName) (text : List ℕ) → ((out : Output) × IsAssembly text out) ⊎ ((n : ℕ) × (w : AsmWhy) × IsFirstFault text n w)
+pub decided : (stay : ValuesStay) (counts : WordsByName) (text : List ℕ) → ((out : Output) × IsAssembly text out)
+    ⊎ ((n : ℕ) × (w : AsmWhy) × IsFirstFault text n w)
 decided stay counts text = go (assembly text) refl
   where
-    go : (r : Result Output AsmError) → assembly text ≡ r → ((out : Output) × IsAssembly text out) ⊎ ((n : ℕ) × (w : AsmWhy) × IsFirstFault text n w)
+    go : (r : Result Output AsmError) → assembly text ≡ r → ((out : Output) × IsAssembly text out)
+        ⊎ ((n : ℕ) × (w : AsmWhy) × IsFirstFault text n w)
     go (Ok out) e = inl (out, is_assembly stay counts text out e)
     go (Err fault) e = inr (fault.line, fault.why, faulty counts text fault e)
 
-pub one_fault : (counts : WordsByName) (text : List ℕ) (n m : ℕ) (v w : AsmWhy) → IsFirstFault text n v → IsFirstFault text m w → (n ≡ m) × (v ≡ w)
+pub one_fault : (counts : WordsByName) (text : List ℕ) (n m : ℕ) (v w : AsmWhy) → IsFirstFault text n v → IsFirstFault text m w → (n ≡ m)
+    × (v ≡ w)
 one_fault counts text n m v w a b =
-    let e : ◌≡◌ {A = Result Output AsmError} (Err (record { line = n; why = v })) (Err (record { line = m; why = w })) = sym (refused counts text n v a) ∙ refused counts text m w b in
+    let e : ◌≡◌ {A = Result Output AsmError} (Err (record { line = n; why = v })) (Err (record { line = m; why = w })) =
+    sym (refused counts text n v a) ∙ refused counts text m w b in
     (ap (λ r. (told r).line) e, ap (λ r. (told r).why) e)
   where
     told : Result Output AsmError → AsmError
@@ -93,16 +106,19 @@ one_fault counts text n m v w a b =
 
 pub not_both : (counts : WordsByName) (text : List ℕ) (out : Output) (n : ℕ) (w : AsmWhy) → IsAssembly text out → IsFirstFault text n w → ⊥
 not_both counts text out n w is fault =
-    let e : ◌≡◌ {A = Result Output AsmError} (Ok out) (Err (record { line = n; why = w })) = sym (exact_assembly counts text out is) ∙ refused counts text n w fault in
+    let e : ◌≡◌ {A = Result Output AsmError} (Ok out) (Err (record { line = n; why = w })) = sym (exact_assembly counts text out is)
+    ∙ refused counts text n w fault in
     cc
 
 -- ---- what a call gave
 
-pub first_built : (counts : WordsByName) (text : List ℕ) (result : Result Built AsmError) → GivesLayout seen_built result (assembly text) → IfErr result (λ e. (e.why ≡ why.Memory) ⊎ IsFirstFault text e.line e.why)
+pub first_built : (counts : WordsByName) (text : List ℕ) (result : Result Built AsmError) → GivesLayout seen_built result (assembly text)
+    → IfErr result (λ e. (e.why ≡ why.Memory) ⊎ IsFirstFault text e.line e.why)
 first_built counts text (Ok b) e = tt
 first_built counts text (Err fault) (inl memory) = inl memory
 first_built counts text (Err fault) (inr e) = inr (faulty counts text fault e)
 
-pub faulty_built : (counts : WordsByName) (text : List ℕ) (result : Result Built AsmError) → GivesLayout seen_built result (assembly text) → (n : ℕ) (w : AsmWhy) → IsFirstFault text n w
+pub faulty_built : (counts : WordsByName) (text : List ℕ) (result : Result Built AsmError) → GivesLayout seen_built result (assembly text)
+    → (n : ℕ) (w : AsmWhy) → IsFirstFault text n w
     → GivesLayout seen_built result (Err (record { line = n; why = w }))
 faulty_built counts text result e n w fault = subst (GivesLayout seen_built result) (refused counts text n w fault) e

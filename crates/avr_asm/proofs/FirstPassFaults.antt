@@ -1,5 +1,6 @@
 -- What the first pass over a line says: it is laid out and has no fault, or has one of least number.
-use Rattle.std.proofs.Common.{◌≡◌, ℕ, ◌+◌, ◌*◌, ◌%◌, ◌<◌, ◌≤◌, ◌⊎◌, Bool, true, false, ◌&&◌, not, cond, List, [], ◌∷◌, ◌++◌, nat_lt, refl, sym, ◌∙◌, ap, subst, inl, inr, arith}
+use Rattle.std.proofs.Common.{◌≡◌, ℕ, ◌+◌, ◌*◌, ◌%◌, ◌<◌, ◌≤◌, ◌⊎◌, Bool, true, false, ◌&&◌, not, cond, List, [], ◌∷◌, ◌++◌, nat_lt, refl}
+use Rattle.std.proofs.Common.{sym, ◌∙◌, ap, subst, inl, inr, arith}
 use Rattle.std.specs.Prelude.{Option, None, Some, Result, Ok, Err, is_some, ◌==◌, ℤ, pos}
 use Rattle.std.specs.Ordering.{nat_cmp, eq_by_cmp}
 use Rattle.std.specs.Cmp.Lexicographic.{slice_cmp, nat_list_cmp_total}
@@ -13,8 +14,8 @@ use Rattle.avr_text.specs.Arithmetic as text
 use Rattle.avr_text.specs.Names.{NameMap}
 use Rattle.avr_text.specs.Reading.{is_mark_of, value_of}
 use Rattle.avr_text.specs.Tokens.{tokens_of}
-use Rattle.avr_operands.specs.declared.faults.AsmWhy.{AsmWhy}
-use Rattle.avr_operands.specs.declared.faults.AsmWhy.TheVariants as why
+use Rattle.avr_operands.specs.declared.errors.AsmWhy.{AsmWhy}
+use Rattle.avr_operands.specs.declared.errors.AsmWhy.TheVariants as why
 use Rattle.avr_operands.specs.Faults.{Outcome, ◌>>=◌, number_of}
 use Rattle.avr_operands.specs.Operands.{expression, number, line_fault, within}
 use Rattle.avr_asm.specs.declared.directives.Directive.TheVariants as directive
@@ -23,8 +24,10 @@ use Rattle.avr_asm.specs.declared.first_pass.Effect.TheVariants.{Nothing, Move, 
 use Rattle.avr_asm.specs.declared.layout.Place.{Place}
 use Rattle.avr_asm.specs.declared.lines.Action.{Action}
 use Rattle.avr_asm.specs.declared.lines.Action.TheVariants as action
-use Rattle.avr_asm.specs.FirstFault.{IsLeast, OrgFault, EquFault, ValueFault, LacksValue, IsTaken, DefinesTaken, TakesTooMuch, IsMisplaced, InFirstPass}
-use Rattle.avr_asm.specs.Layout.{is_reserved, defined, moved, set, org_effect, equ_effect, effect_of, effect_in, placed, with_symbols, labelled, named, at_address, applied, arguments_in, after_line}
+use Rattle.avr_asm.specs.FirstFault.{IsLeast, OrgFault, EquFault, ValueFault, LacksValue, IsTaken, DefinesTaken, TakesTooMuch, IsMisplaced}
+use Rattle.avr_asm.specs.FirstFault.{InFirstPass}
+use Rattle.avr_asm.specs.Layout.{is_reserved, defined, moved, set, org_effect, equ_effect, effect_of, effect_in, placed, with_symbols}
+use Rattle.avr_asm.specs.Layout.{labelled, named, at_address, applied, arguments_in, after_line}
 use Rattle.avr_asm.specs.Lines.{content_of, content, label_of, body_of, action_of, parts_of, is_name, first_text}
 use Rattle.avr_asm.proofs.EntryLists.{same_key}
 use Rattle.avr_asm.proofs.LaidLines.{label_keeps, name_keeps}
@@ -33,7 +36,8 @@ use Rattle.avr_asm.proofs.OutcomeLemmas.{ok_same}
 pub err_same : {X : Type 0} (v w : AsmWhy) → ◌≡◌ {A = Outcome X} (Err v) (Err w) → v ≡ w
 err_same v w e = cc
 
-pub unbound : {X Y : Type 0} (o : Outcome X) (f : X → Outcome Y) (w : AsmWhy) → (o >>= f) ≡ Err w → (o ≡ Err w) ⊎ ((x : X) × (o ≡ Ok x) × (f x ≡ Err w))
+pub unbound : {X Y : Type 0} (o : Outcome X) (f : X → Outcome Y) (w : AsmWhy) → (o >>= f) ≡ Err w → (o ≡ Err w)
+    ⊎ ((x : X) × (o ≡ Ok x) × (f x ≡ Err w))
 unbound {X} {Y} (Ok x) f w e = inr (x, refl, e)
 unbound {X} {Y} (Err v) f w e = inl (ap (λ u. Err u) (err_same {X = Y} v w e))
 
@@ -53,27 +57,32 @@ set_err : (o : Outcome ℤ) (w : AsmWhy) → set o ≡ Err w → o ≡ Err w
 set_err (Ok to) w e = absurd cc
 set_err (Err v) w e = ap (λ u. Err u) (err_same {X = Effect} v w e)
 
-org_fault : (line : List ℕ) (symbols : NameMap) (parts : List (List Token)) (w : AsmWhy) → org_effect line symbols parts ≡ Err w → OrgFault line symbols parts w
+org_fault : (line : List ℕ) (symbols : NameMap) (parts : List (List Token)) (w : AsmWhy) → org_effect line symbols parts ≡ Err w
+    → OrgFault line symbols parts w
 org_fault line symbols [] w e = absurd cc
 org_fault line symbols (p ∷ []) w e = moved_err (number (pos 0) (pos 65536) line symbols p) w e
 org_fault line symbols (p ∷ q ∷ rest) w e = absurd cc
 
-fault_org : (line : List ℕ) (symbols : NameMap) (parts : List (List Token)) (w : AsmWhy) → OrgFault line symbols parts w → org_effect line symbols parts ≡ Err w
+fault_org : (line : List ℕ) (symbols : NameMap) (parts : List (List Token)) (w : AsmWhy) → OrgFault line symbols parts w → org_effect line
+    symbols parts ≡ Err w
 fault_org line symbols [] w f = absurd f
 fault_org line symbols (p ∷ []) w f = ap moved f
 fault_org line symbols (p ∷ q ∷ rest) w f = absurd f
 
-equ_fault : (line : List ℕ) (symbols : NameMap) (arguments : List Token) (w : AsmWhy) → equ_effect line symbols arguments ≡ Err w → EquFault line symbols arguments w
+equ_fault : (line : List ℕ) (symbols : NameMap) (arguments : List Token) (w : AsmWhy) → equ_effect line symbols arguments ≡ Err w
+    → EquFault line symbols arguments w
 equ_fault line symbols [] w e = absurd cc
 equ_fault line symbols (n ∷ []) w e = absurd cc
 equ_fault line symbols (n ∷ q ∷ rest) w e = go (is_name n.kind) (is_mark_of 61 q.kind) refl refl e
   where
-    go : (a b : Bool) → is_name n.kind ≡ a → is_mark_of 61 q.kind ≡ b → cond (a && b) (set (expression line symbols None rest)) (Ok Wrong) ≡ Err w → EquFault line symbols (n ∷ q ∷ rest) w
+    go : (a b : Bool) → is_name n.kind ≡ a → is_mark_of 61 q.kind ≡ b → cond (a && b) (set (expression line symbols None rest))
+        (Ok Wrong) ≡ Err w → EquFault line symbols (n ∷ q ∷ rest) w
     go true true f g e' = (f, g, set_err (expression line symbols None rest) w e')
     go true false f g e' = absurd cc
     go false b f g e' = absurd cc
 
-fault_equ : (line : List ℕ) (symbols : NameMap) (arguments : List Token) (w : AsmWhy) → EquFault line symbols arguments w → equ_effect line symbols arguments ≡ Err w
+fault_equ : (line : List ℕ) (symbols : NameMap) (arguments : List Token) (w : AsmWhy) → EquFault line symbols arguments w → equ_effect line
+    symbols arguments ≡ Err w
 fault_equ line symbols [] w f = absurd f
 fault_equ line symbols (n ∷ []) w f = absurd f
 fault_equ line symbols (n ∷ q ∷ rest) w f =
@@ -125,7 +134,8 @@ expression_why (Err value_why.Unknown) w e = subst IsValueWhy (err_same {X = ℤ
 expression_why (Err value_why.Overflow) w e = subst IsValueWhy (err_same {X = ℤ} why.Range w e) tt
 expression_why (Err value_why.ZeroDivisor) w e = subst IsValueWhy (err_same {X = ℤ} why.Range w e) tt
 
-within_why : (low high : ℤ) (o : Outcome ℤ) (w : AsmWhy) → ((v : AsmWhy) → o ≡ Err v → IsValueWhy v) → within low high o ≡ Err w → IsValueWhy w
+within_why : (low high : ℤ) (o : Outcome ℤ) (w : AsmWhy) → ((v : AsmWhy) → o ≡ Err v → IsValueWhy v) → within low high o ≡ Err w
+    → IsValueWhy w
 within_why low high (Err v) w h e = h w e
 within_why low high (Ok x) w h e = go _ e
   where
@@ -133,8 +143,10 @@ within_why low high (Ok x) w h e = go _ e
     go true e' = absurd cc
     go false e' = subst IsValueWhy (err_same {X = ℤ} why.Range w e') tt
 
-number_why : (low high : ℤ) (line : List ℕ) (symbols : NameMap) (tokens : List Token) (w : AsmWhy) → number low high line symbols tokens ≡ Err w → IsValueWhy w
-number_why low high line symbols tokens w e = within_why low high (expression line symbols None tokens) w (λ v f. expression_why (value_of line tokens symbols None) v f) e
+number_why : (low high : ℤ) (line : List ℕ) (symbols : NameMap) (tokens : List Token) (w : AsmWhy) → number low high line symbols
+    tokens ≡ Err w → IsValueWhy w
+number_why low high line symbols tokens w e = within_why low high (expression line symbols None tokens) w
+    (λ v f. expression_why (value_of line tokens symbols None) v f) e
 
 org_why : (line : List ℕ) (symbols : NameMap) (parts : List (List Token)) (w : AsmWhy) → OrgFault line symbols parts w → IsValueWhy w
 org_why line symbols [] w f = absurd f
@@ -146,7 +158,8 @@ equ_why line symbols [] w f = absurd f
 equ_why line symbols (n ∷ []) w f = absurd f
 equ_why line symbols (n ∷ q ∷ rest) w f = expression_why (value_of line rest symbols None) w f.2
 
-fault_why : (a : Action) (line : List ℕ) (symbols : NameMap) (arguments : List Token) (w : AsmWhy) → ValueFault a line symbols arguments w → IsValueWhy w
+fault_why : (a : Action) (line : List ℕ) (symbols : NameMap) (arguments : List Token) (w : AsmWhy) → ValueFault a line symbols arguments w
+    → IsValueWhy w
 fault_why action.Empty line symbols arguments w f = absurd f
 fault_why action.Unknown line symbols arguments w f = absurd f
 fault_why action.NoDirective line symbols arguments w f = absurd f
@@ -173,7 +186,8 @@ value_low why.Past h = absurd h
 value_low why.Directive h = absurd h
 value_low why.Memory h = absurd h
 
-value_stands : (follows : Bool) (line : List ℕ) (place : Place) (w : AsmWhy) → IsValueWhy w → LacksValue line place.symbols w → InFirstPass follows line place w
+value_stands : (follows : Bool) (line : List ℕ) (place : Place) (w : AsmWhy) → IsValueWhy w → LacksValue line place.symbols w
+    → InFirstPass follows line place w
 value_stands follows line place why.Operand h f = f
 value_stands follows line place why.Range h f = f
 value_stands follows line place why.Symbol h f = f
@@ -193,17 +207,21 @@ some_there (Some x) e = (x, refl)
 
 -- a name that can't be defined is refused, and nothing else is
 taken_err : (name : List ℕ) (value : ℤ) (symbols : NameMap) → IsTaken symbols name → defined name value symbols ≡ Err why.Twice
-taken_err name value symbols (inl reserved) = ap (λ t. cond t (Err why.Twice) (cond (is_some (get symbols name)) (Err why.Twice) (Ok (insert symbols name value)))) reserved
+taken_err name value symbols (inl reserved) =
+    ap (λ t. cond t (Err why.Twice) (cond (is_some (get symbols name)) (Err why.Twice) (Ok (insert symbols name value)))) reserved
 taken_err name value symbols (inr there) = go (is_reserved name) (ap is_some there.1)
   where
-    go : (t : Bool) → is_some (get symbols name) ≡ true → cond t (Err why.Twice) (cond (is_some (get symbols name)) (Err why.Twice) (Ok (insert symbols name value))) ≡ Err why.Twice
+    go : (t : Bool) → is_some (get symbols name) ≡ true → cond t (Err why.Twice) (cond (is_some (get symbols name)) (Err why.Twice)
+        (Ok (insert symbols name value))) ≡ Err why.Twice
     go true s = refl
     go false s = ap (λ t. cond t (Err why.Twice) (Ok (insert symbols name value))) s
 
-err_taken : (name : List ℕ) (value : ℤ) (symbols : NameMap) (w : AsmWhy) → defined name value symbols ≡ Err w → (w ≡ why.Twice) × IsTaken symbols name
+err_taken : (name : List ℕ) (value : ℤ) (symbols : NameMap) (w : AsmWhy) → defined name value symbols ≡ Err w → (w ≡ why.Twice)
+    × IsTaken symbols name
 err_taken name value symbols w e = go (is_reserved name) (is_some (get symbols name)) refl refl e
   where
-    go : (r s : Bool) → is_reserved name ≡ r → is_some (get symbols name) ≡ s → cond r (Err why.Twice) (cond s (Err why.Twice) (Ok (insert symbols name value))) ≡ Err w → (w ≡ why.Twice) × IsTaken symbols name
+    go : (r s : Bool) → is_reserved name ≡ r → is_some (get symbols name) ≡ s → cond r (Err why.Twice)
+        (cond s (Err why.Twice) (Ok (insert symbols name value))) ≡ Err w → (w ≡ why.Twice) × IsTaken symbols name
     go true s f g e' = (sym (err_same {X = NameMap} why.Twice w e'), inl f)
     go false true f g e' = (sym (err_same {X = NameMap} why.Twice w e'), inr (some_there (get symbols name) g))
     go false false f g e' = absurd cc
@@ -211,32 +229,42 @@ err_taken name value symbols w e = go (is_reserved name) (is_some (get symbols n
 new_symbols : (name : List ℕ) (value : ℤ) (symbols next : NameMap) → defined name value symbols ≡ Ok next → insert symbols name value ≡ next
 new_symbols name value symbols next e = go (is_reserved name) (is_some (get symbols name)) e
   where
-    go : (r s : Bool) → cond r (Err why.Twice) (cond s (Err why.Twice) (Ok (insert symbols name value))) ≡ Ok next → insert symbols name value ≡ next
+    go : (r s : Bool) → cond r (Err why.Twice) (cond s (Err why.Twice) (Ok (insert symbols name value))) ≡ Ok next → insert symbols name
+        value ≡ next
     go true s e' = absurd cc
     go false true e' = absurd cc
     go false false e' = ok_same (insert symbols name value) next e'
 
 -- what is taken once one more name has a value
-found : (symbols : NameMap) (name other : List ℕ) (value : ℤ) → get (insert symbols name value) other ≡ cond (eq_by_cmp (slice_cmp nat_cmp) other name) (Some value) (get symbols other)
+found : (symbols : NameMap) (name other : List ℕ) (value : ℤ) → get (insert symbols name value) other ≡ cond
+    (eq_by_cmp (slice_cmp nat_cmp) other name) (Some value) (get symbols other)
 found symbols name other value = get-insert nat_list_cmp_total symbols name value other
 
 taken_more : (symbols : NameMap) (name other : List ℕ) (value : ℤ) → IsTaken symbols other → IsTaken (insert symbols name value) other
 taken_more symbols name other value (inl reserved) = inl reserved
 taken_more symbols name other value (inr there) = inr (go (eq_by_cmp (slice_cmp nat_cmp) other name) (found symbols name other value))
   where
-    go : (t : Bool) → get (insert symbols name value) other ≡ cond t (Some value) (get symbols other) → (x : ℤ) × (get (insert symbols name value) other ≡ Some x)
+    go : (t : Bool) → get (insert symbols name value) other ≡ cond t (Some value) (get symbols other) → (x : ℤ)
+        × (get (insert symbols name value) other ≡ Some x)
     go true e = (value, e)
     go false e = (there.0, e ∙ there.1)
 
 taken_own : (symbols : NameMap) (name : List ℕ) (value : ℤ) → IsTaken (insert symbols name value) name
 taken_own symbols name value =
-    inr (value, found symbols name name value ∙ ap (λ t. cond t (Some value) (get symbols name)) ((eq_by_cmp_equiv nat_list_cmp_total).refl name))
+    inr (
+      value,
+      found symbols name name value ∙ ap (λ t. cond t (Some value) (get symbols name))
+          ((eq_by_cmp_equiv nat_list_cmp_total).refl name),
+    )
 
-taken_back : (symbols : NameMap) (name other : List ℕ) (value : ℤ) → IsTaken (insert symbols name value) other → IsTaken symbols other ⊎ (name ≡ other)
+taken_back : (symbols : NameMap) (name other : List ℕ) (value : ℤ) → IsTaken (insert symbols name value) other → IsTaken symbols other
+    ⊎ (name ≡ other)
 taken_back symbols name other value (inl reserved) = inl (inl reserved)
-taken_back symbols name other value (inr there) = go (eq_by_cmp (slice_cmp nat_cmp) other name) refl (sym (found symbols name other value) ∙ there.1)
+taken_back symbols name other value (inr there) = go (eq_by_cmp (slice_cmp nat_cmp) other name) refl (sym (found symbols name other value)
+    ∙ there.1)
   where
-    go : (t : Bool) → eq_by_cmp (slice_cmp nat_cmp) other name ≡ t → cond t (Some value) (get symbols other) ≡ Some there.0 → IsTaken symbols other ⊎ (name ≡ other)
+    go : (t : Bool) → eq_by_cmp (slice_cmp nat_cmp) other name ≡ t → cond t (Some value) (get symbols other) ≡ Some there.0
+        → IsTaken symbols other ⊎ (name ≡ other)
     go true e f = inr (sym (same_key (slice_cmp-IsAntisymmetric nat_cmp-IsAntisymmetric) other name e))
     go false e f = inl (inr (there.0, f))
 
@@ -248,13 +276,16 @@ with_ok : (address : ℕ) (o : Outcome NameMap) (next : Place) → with_symbols 
 with_ok address (Ok symbols) next e = ap (λ (p : Place). Ok p.symbols) (ok_same (record { address = address; symbols = symbols }) next e)
 with_ok address (Err v) next e = absurd cc
 
-label_err : (label : Option (List ℕ)) (place : Place) (w : AsmWhy) → labelled label place ≡ Err w → (w ≡ why.Twice) × (name : List ℕ) × (label ≡ Some name) × IsTaken place.symbols name
+label_err : (label : Option (List ℕ)) (place : Place) (w : AsmWhy) → labelled label place ≡ Err w → (w ≡ why.Twice) × (name : List ℕ)
+    × (label ≡ Some name) × IsTaken place.symbols name
 label_err None place w e = absurd cc
 label_err (Some name) place w e =
-    let it = err_taken name (pos place.address) place.symbols w (with_err place.address (defined name (pos place.address) place.symbols) w e) in
+    let it = err_taken name (pos place.address) place.symbols w (with_err place.address (defined name (pos place.address) place.symbols) w
+    e) in
     (it.0, name, refl, it.1)
 
-name_err : (effect : Effect) (name : List ℕ) (place : Place) (w : AsmWhy) → named effect name place ≡ Err w → (w ≡ why.Twice) × (value : ℤ) × (effect ≡ Define value) × IsTaken place.symbols name
+name_err : (effect : Effect) (name : List ℕ) (place : Place) (w : AsmWhy) → named effect name place ≡ Err w → (w ≡ why.Twice) × (value : ℤ)
+    × (effect ≡ Define value) × IsTaken place.symbols name
 name_err (Define value) name place w e =
     let it = err_taken name value place.symbols w (with_err place.address (defined name value place.symbols) w e) in
     (it.0, value, refl, it.1)
@@ -264,25 +295,30 @@ name_err (Take n even) name place w e = absurd cc
 name_err Wrong name place w e = absurd cc
 
 -- a name that is taken after the label was so before, or is the label
-past_label : (label : Option (List ℕ)) (place first : Place) (name : List ℕ) → labelled label place ≡ Ok first → IsTaken first.symbols name → IsTaken place.symbols name ⊎ (label ≡ Some name)
+past_label : (label : Option (List ℕ)) (place first : Place) (name : List ℕ) → labelled label place ≡ Ok first → IsTaken first.symbols name
+    → IsTaken place.symbols name ⊎ (label ≡ Some name)
 past_label None place first name e taken = inl (subst (λ (p : Place). IsTaken p.symbols name) (sym (ok_same place first e)) taken)
 past_label (Some label) place first name e taken =
-    let is = new_symbols label (pos place.address) place.symbols first.symbols (with_ok place.address (defined label (pos place.address) place.symbols) first e) in
+    let is = new_symbols label (pos place.address) place.symbols first.symbols
+    (with_ok place.address (defined label (pos place.address) place.symbols) first e) in
     elim (taken_back place.symbols label name (pos place.address) (subst (λ m. IsTaken m name) (sym is) taken)) [
       | inl before ↦ inl before
       | inr same ↦ inr (ap (λ n. Some n) same)
     ]
 
-onto_label : (label : Option (List ℕ)) (place first : Place) (name : List ℕ) → labelled label place ≡ Ok first → IsTaken place.symbols name ⊎ (label ≡ Some name) → IsTaken first.symbols name
+onto_label : (label : Option (List ℕ)) (place first : Place) (name : List ℕ) → labelled label place ≡ Ok first → IsTaken place.symbols name
+    ⊎ (label ≡ Some name) → IsTaken first.symbols name
 onto_label None place first name e (inl taken) = subst (λ (p : Place). IsTaken p.symbols name) (ok_same place first e) taken
 onto_label None place first name e (inr same) = absurd cc
 onto_label (Some label) place first name e taken =
-    let is = new_symbols label (pos place.address) place.symbols first.symbols (with_ok place.address (defined label (pos place.address) place.symbols) first e) in
+    let is = new_symbols label (pos place.address) place.symbols first.symbols
+    (with_ok place.address (defined label (pos place.address) place.symbols) first e) in
     subst (λ m. IsTaken m name) is (go taken)
   where
     go : IsTaken place.symbols name ⊎ (Some label ≡ Some name) → IsTaken (insert place.symbols label (pos place.address)) name
     go (inl before) = taken_more place.symbols label name (pos place.address) before
-    go (inr same) = let e' : label ≡ name = cc in subst (λ n. IsTaken (insert place.symbols label (pos place.address)) n) e' (taken_own place.symbols label (pos place.address))
+    go (inr same) = let e' : label ≡ name = cc in subst (λ n. IsTaken (insert place.symbols label (pos place.address)) n) e'
+        (taken_own place.symbols label (pos place.address))
 
 -- ---- addresses
 
@@ -304,7 +340,8 @@ no_place Wrong address w e = inr (sym (err_same {X = ℕ} why.Directive w e), in
 no_place (Take n even) address w e = go (nat_lt 65536 (address + n)) even (address % 2 == 0) refl refl refl e
   where
     go : (past t aligned : Bool) → nat_lt 65536 (address + n) ≡ past → even ≡ t → (address % 2 == 0) ≡ aligned
-        → cond past (Err why.Past) (cond (t && not aligned) (Err why.Directive) (Ok (address + n))) ≡ Err w → NoPlace (Take n even) address w
+        → cond past (Err why.Past) (cond (t && not aligned) (Err why.Directive) (Ok (address + n))) ≡ Err w → NoPlace (Take n even) address
+        w
     go true t aligned f g h e' = inl (sym (err_same {X = ℕ} why.Past w e'), n, even, refl, grind (arith, nat_tests))
     go false true false f g h e' =
         let odd : address % 2 ≡ 1 = (let no : ¬ (address % 2 ≡ 0) = grind (arith, nat_tests) in omega (arith, no)) in
@@ -322,49 +359,66 @@ content_err line w e = go (tokens_of line) e
     go (Ok tokens) e' = absurd cc
     go (Err fault) e' = sym (err_same {X = List Token} why.Lex w e')
 
-effect_err : (follows : Bool) (line : List ℕ) (symbols : NameMap) (tokens : List Token) (w : AsmWhy) → effect_in line symbols follows tokens ≡ Err w → NoEffect (action_of line (body_of tokens)) line symbols (arguments_in line tokens) w
+effect_err : (follows : Bool) (line : List ℕ) (symbols : NameMap) (tokens : List Token) (w : AsmWhy) → effect_in line symbols follows
+    tokens ≡ Err w → NoEffect (action_of line (body_of tokens)) line symbols (arguments_in line tokens) w
 unfolding effect_in
 effect_err follows line symbols tokens w e = no_effect (action_of line (body_of tokens)) line symbols (arguments_in line tokens) follows w e
 
 -- what is refused is so for a why that stands
-pub refused_stands : (follows : Bool) (line : List ℕ) (place : Place) (w : AsmWhy) → after_line follows line place ≡ Err w → InFirstPass follows line place w
+pub refused_stands : (follows : Bool) (line : List ℕ) (place : Place) (w : AsmWhy) → after_line follows line place ≡ Err w
+    → InFirstPass follows line place w
 unfolding after_line applied
 refused_stands follows line place w e =
-    elim (unbound (content_of line) (λ tokens. effect_in line place.symbols follows tokens >>= (λ effect. applied (label_of line tokens) (first_text line (arguments_in line tokens)) effect place)) w e) [
+    elim (unbound (content_of line) (λ tokens. effect_in line place.symbols follows tokens >>=
+    (λ effect. applied (label_of line tokens) (first_text line (arguments_in line tokens)) effect place)) w e) [
       | inl lex ↦ subst (InFirstPass follows line place) (sym (content_err line w lex)) (lex ∙ ap (λ u. Err u) (content_err line w lex))
       | inr t ↦ with_tokens t.0 t.1 t.2
     ]
   where
-    of_address : (tokens : List Token) (effect : Effect) → content_of line ≡ Ok tokens → effect_in line place.symbols follows tokens ≡ Ok effect → NoPlace effect place.address w → InFirstPass follows line place w
-    of_address tokens effect is does (inl past) = subst (InFirstPass follows line place) (sym past.0) (tokens, is, (past.1, past.2, does ∙ ap (λ f. Ok f) past.3, past.4))
-    of_address tokens effect is does (inr (is_w, inl wrong)) = subst (InFirstPass follows line place) (sym is_w) (tokens, is, inl (does ∙ ap (λ f. Ok f) wrong))
-    of_address tokens effect is does (inr (is_w, inr odd)) = subst (InFirstPass follows line place) (sym is_w) (tokens, is, inr (odd.0, does ∙ ap (λ f. Ok f) odd.1, odd.2))
+    of_address : (tokens : List Token) (effect : Effect) → content_of line ≡ Ok tokens → effect_in line place.symbols follows tokens ≡ Ok
+        effect → NoPlace effect place.address w → InFirstPass follows line place w
+    of_address tokens effect is does (inl past) = subst (InFirstPass follows line place) (sym past.0)
+        (tokens, is, (past.1, past.2, does ∙ ap (λ f. Ok f) past.3, past.4))
+    of_address tokens effect is does (inr (is_w, inl wrong)) = subst (InFirstPass follows line place) (sym is_w)
+        (tokens, is, inl (does ∙ ap (λ f. Ok f) wrong))
+    of_address tokens effect is does (inr (is_w, inr odd)) = subst (InFirstPass follows line place) (sym is_w)
+        (tokens, is, inr (odd.0, does ∙ ap (λ f. Ok f) odd.1, odd.2))
 
-    with_effect : (tokens : List Token) (effect : Effect) → content_of line ≡ Ok tokens → effect_in line place.symbols follows tokens ≡ Ok effect
-        → applied (label_of line tokens) (first_text line (arguments_in line tokens)) effect place ≡ Err w → InFirstPass follows line place w
+    with_effect : (tokens : List Token) (effect : Effect) → content_of line ≡ Ok tokens → effect_in line place.symbols follows tokens ≡ Ok
+        effect
+        → applied (label_of line tokens) (first_text line (arguments_in line tokens)) effect place ≡ Err w → InFirstPass follows line place
+        w
     with_effect tokens effect is does e' =
         let name = first_text line (arguments_in line tokens) in
-        elim (unbound (labelled (label_of line tokens) place) (λ first. named effect name first >>= (λ second. at_address second.symbols (placed effect second.address))) w e') [
+        elim (unbound (labelled (label_of line tokens) place)
+        (λ first. named effect name first >>= (λ second. at_address second.symbols (placed effect second.address))) w e') [
           | inl l ↦
               let it = label_err (label_of line tokens) place w l in
               subst (InFirstPass follows line place) (sym it.0) (tokens, is, inl (it.1, it.2, it.3))
           | inr f ↦ elim (unbound (named effect name f.0) (λ second. at_address second.symbols (placed effect second.address)) w f.2) [
             | inl n ↦
                 let it = name_err effect name f.0 w n in
-                subst (InFirstPass follows line place) (sym it.0) (tokens, is, inr (it.1, does ∙ ap (λ g. Ok g) it.2, past_label (label_of line tokens) place f.0 name f.1 it.3))
+                subst (InFirstPass follows line place) (sym it.0)
+                (tokens, is, inr (it.1, does ∙ ap (λ g. Ok g) it.2, past_label (label_of line tokens) place f.0 name f.1 it.3))
             | inr s ↦
                 let at = name_keeps effect name f.0 s.0 s.1 ∙ label_keeps (label_of line tokens) place f.0 f.1 in
-                of_address tokens effect is does (subst (λ a. NoPlace effect a w) at (no_place effect s.0.address w (address_err s.0.symbols (placed effect s.0.address) w s.2)))
+                of_address tokens effect is does
+                (subst (λ a. NoPlace effect a w) at
+                (no_place effect s.0.address w (address_err s.0.symbols (placed effect s.0.address) w s.2)))
           ]
         ]
 
     with_tokens : (tokens : List Token) → content_of line ≡ Ok tokens
-        → (effect_in line place.symbols follows tokens >>= (λ effect. applied (label_of line tokens) (first_text line (arguments_in line tokens)) effect place)) ≡ Err w → InFirstPass follows line place w
+        → (effect_in line place.symbols follows tokens >>=
+        (λ effect. applied (label_of line tokens) (first_text line (arguments_in line tokens)) effect place)) ≡ Err w
+        → InFirstPass follows line place w
     with_tokens tokens is e' =
-        elim (unbound (effect_in line place.symbols follows tokens) (λ effect. applied (label_of line tokens) (first_text line (arguments_in line tokens)) effect place) w e') [
+        elim (unbound (effect_in line place.symbols follows tokens)
+        (λ effect. applied (label_of line tokens) (first_text line (arguments_in line tokens)) effect place) w e') [
           | inl none ↦ elim (effect_err follows line place.symbols tokens w none) [
             | inl unknown ↦ subst (InFirstPass follows line place) (sym unknown.1) (tokens, is, unknown.0)
-            | inr value ↦ value_stands follows line place w (fault_why (action_of line (body_of tokens)) line place.symbols (arguments_in line tokens) w value) (tokens, is, value)
+            | inr value ↦ value_stands follows line place w (fault_why (action_of line (body_of tokens)) line place.symbols
+                (arguments_in line tokens) w value) (tokens, is, value)
           ]
           | inr f ↦ with_effect tokens f.0 is f.1 f.2
         ]
@@ -374,14 +428,16 @@ abbrev pub Tells : {X : Type 0} → Outcome X → AsmWhy → Type 0
 Tells (Ok x) w = ⊥
 Tells (Err v) w = number_of v ≤ number_of w
 
-tells_bound : {X Y : Type 0} (o : Outcome X) (f : X → Outcome Y) (w : AsmWhy) → ((v : AsmWhy) → o ≡ Err v → number_of v ≤ number_of w) → ((x : X) → o ≡ Ok x → Tells (f x) w) → Tells (o >>= f) w
+tells_bound : {X Y : Type 0} (o : Outcome X) (f : X → Outcome Y) (w : AsmWhy) → ((v : AsmWhy) → o ≡ Err v → number_of v ≤ number_of w)
+    → ((x : X) → o ≡ Ok x → Tells (f x) w) → Tells (o >>= f) w
 tells_bound (Ok x) f w a b = b x refl
 tells_bound (Err v) f w a b = a v refl
 
 tells_is : {X : Type 0} (o : Outcome X) (w : AsmWhy) → o ≡ Err w → Tells o w
 tells_is {X} o w e = subst (λ (p : Outcome X). Tells p w) (sym e) (omega arith)
 
-effect_low : (follows : Bool) (line : List ℕ) (symbols : NameMap) (tokens : List Token) (w : AsmWhy) → effect_in line symbols follows tokens ≡ Err w → number_of w ≤ 5
+effect_low : (follows : Bool) (line : List ℕ) (symbols : NameMap) (tokens : List Token) (w : AsmWhy) → effect_in line symbols follows
+    tokens ≡ Err w → number_of w ≤ 5
 effect_low follows line symbols tokens w e = elim (effect_err follows line symbols tokens w e) [
   | inl unknown ↦ subst (λ v. number_of v ≤ 5) (sym unknown.1) (omega arith)
   | inr value ↦ value_low w (fault_why (action_of line (body_of tokens)) line symbols (arguments_in line tokens) w value)
@@ -394,7 +450,8 @@ name_six : (effect : Effect) (name : List ℕ) (place : Place) (w : AsmWhy) → 
 name_six effect name place w e = subst (λ v. number_of v ≤ 6) (sym (name_err effect name place w e).0) (omega arith)
 
 -- a fault of the address
-address_told : (effect : Effect) (symbols : NameMap) (address : ℕ) (w : AsmWhy) → Tells (placed effect address) w → Tells (at_address symbols (placed effect address)) w
+address_told : (effect : Effect) (symbols : NameMap) (address : ℕ) (w : AsmWhy) → Tells (placed effect address) w
+    → Tells (at_address symbols (placed effect address)) w
 address_told effect symbols address w h = go (placed effect address) h
   where
     go : (o : Outcome ℕ) → Tells o w → Tells (at_address symbols o) w
@@ -407,9 +464,11 @@ past_told n even address h =
     ap (λ t. cond t (Err why.Past) (cond (even && not (address % 2 == 0)) (Err why.Directive) (Ok (address + n)))) past
 
 odd_told : (n address : ℕ) → address % 2 ≡ 1 → Tells (placed (Take n true) address) why.Directive
-odd_told n address odd = go (nat_lt 65536 (address + n)) (address % 2 == 0) (let t : (address % 2 == 0) ≡ false = grind (arith, nat_tests) in t)
+odd_told n address odd = go (nat_lt 65536 (address + n)) (address % 2 == 0) (let t : (address % 2 == 0) ≡ false =
+    grind (arith, nat_tests) in t)
   where
-    go : (past aligned : Bool) → aligned ≡ false → Tells (cond past (Err why.Past) (cond (true && not aligned) (Err why.Directive) (Ok (address + n)))) why.Directive
+    go : (past aligned : Bool) → aligned ≡ false
+        → Tells (cond past (Err why.Past) (cond (true && not aligned) (Err why.Directive) (Ok (address + n)))) why.Directive
     go true aligned e = omega arith
     go false true e = absurd cc
     go false false e = omega arith
@@ -417,55 +476,74 @@ odd_told n address odd = go (nat_lt 65536 (address + n)) (address % 2 == 0) (let
 module _ (follows : Bool) (line : List ℕ) (place : Place) where
   -- a line that can be cut into tokens
   cut_told : (tokens : List Token) (w : AsmWhy) → content_of line ≡ Ok tokens
-      → Tells (effect_in line place.symbols follows tokens >>= (λ effect. applied (label_of line tokens) (first_text line (arguments_in line tokens)) effect place)) w
+      → Tells (effect_in line place.symbols follows tokens >>=
+      (λ effect. applied (label_of line tokens) (first_text line (arguments_in line tokens)) effect place)) w
       → Tells (after_line follows line place) w
   unfolding after_line
   cut_told tokens w is h =
       subst (λ (o : Outcome Place). Tells o w)
-      (sym (ap (λ (o : Outcome (List Token)). o >>= (λ ts. effect_in line place.symbols follows ts >>= (λ effect. applied (label_of line ts) (first_text line (arguments_in line ts)) effect place))) is)) h
+      (sym (ap (λ (o : Outcome (List Token)). o >>= (λ ts. effect_in line place.symbols follows ts >>=
+      (λ effect. applied (label_of line ts) (first_text line (arguments_in line ts)) effect place))) is)) h
 
-  effect_told : (tokens : List Token) (w : AsmWhy) → content_of line ≡ Ok tokens → effect_in line place.symbols follows tokens ≡ Err w → Tells (after_line follows line place) w
+  effect_told : (tokens : List Token) (w : AsmWhy) → content_of line ≡ Ok tokens → effect_in line place.symbols follows tokens ≡ Err w
+      → Tells (after_line follows line place) w
   effect_told tokens w is e =
       cut_told tokens w is
-      (tells_is (effect_in line place.symbols follows tokens >>= (λ effect. applied (label_of line tokens) (first_text line (arguments_in line tokens)) effect place)) w
-      (ap (λ (o : Outcome Effect). o >>= (λ effect. applied (label_of line tokens) (first_text line (arguments_in line tokens)) effect place)) e))
+      (tells_is (effect_in line place.symbols follows tokens >>=
+      (λ effect. applied (label_of line tokens) (first_text line (arguments_in line tokens)) effect place)) w
+      (ap (λ (o : Outcome Effect). o >>= (λ effect. applied (label_of line tokens) (first_text line (arguments_in line tokens)) effect
+      place)) e))
 
   value_told : (w : AsmWhy) → LacksValue line place.symbols w → Tells (after_line follows line place) w
   unfolding effect_in
-  value_told w (tokens, is, value) = effect_told tokens w is (value_effect (action_of line (body_of tokens)) line place.symbols (arguments_in line tokens) follows w value)
+  value_told w (tokens, is, value) = effect_told tokens w is (value_effect (action_of line (body_of tokens)) line place.symbols
+      (arguments_in line tokens) follows w value)
 
   -- a line whose effect is known
-  effect_is : (tokens : List Token) (effect : Effect) (w : AsmWhy) → content_of line ≡ Ok tokens → effect_in line place.symbols follows tokens ≡ Ok effect
-      → Tells (applied (label_of line tokens) (first_text line (arguments_in line tokens)) effect place) w → Tells (after_line follows line place) w
+  effect_is : (tokens : List Token) (effect : Effect) (w : AsmWhy) → content_of line ≡ Ok tokens → effect_in line place.symbols follows
+      tokens ≡ Ok effect
+      → Tells (applied (label_of line tokens) (first_text line (arguments_in line tokens)) effect place) w
+      → Tells (after_line follows line place) w
   effect_is tokens effect w is does h =
       cut_told tokens w is
-      (subst (λ (o : Outcome Place). Tells o w) (sym (ap (λ (o : Outcome Effect). o >>= (λ f. applied (label_of line tokens) (first_text line (arguments_in line tokens)) f place)) does)) h)
+      (subst (λ (o : Outcome Place). Tells o w)
+      (sym (ap (λ (o : Outcome Effect). o >>= (λ f. applied (label_of line tokens) (first_text line (arguments_in line tokens)) f
+      place)) does)) h)
 
   -- past the label and the name
-  names_passed : (label : Option (List ℕ)) (name : List ℕ) (effect : Effect) (w : AsmWhy) → 6 ≤ number_of w → Tells (placed effect place.address) w → Tells (applied label name effect place) w
+  names_passed : (label : Option (List ℕ)) (name : List ℕ) (effect : Effect) (w : AsmWhy) → 6 ≤ number_of w
+      → Tells (placed effect place.address) w → Tells (applied label name effect place) w
   unfolding applied
   names_passed label name effect w low h =
-      tells_bound (labelled label place) (λ first. named effect name first >>= (λ second. at_address second.symbols (placed effect second.address))) w
+      tells_bound (labelled label place)
+      (λ first. named effect name first >>= (λ second. at_address second.symbols (placed effect second.address))) w
       (λ v e. let six = label_six label place v e in omega arith)
       (λ first e. tells_bound (named effect name first) (λ second. at_address second.symbols (placed effect second.address)) w
       (λ v f. let six = name_six effect name first v f in omega arith)
-      (λ second f. address_told effect second.symbols second.address w (subst (λ a. Tells (placed effect a) w) (sym (name_keeps effect name first second f ∙ label_keeps label place first e)) h)))
+      (λ second f. address_told effect second.symbols second.address w
+      (subst (λ a. Tells (placed effect a) w) (sym (name_keeps effect name first second f ∙ label_keeps label place first e)) h)))
 
-  twice_told : (tokens : List Token) → content_of line ≡ Ok tokens → DefinesTaken follows line place tokens → Tells (after_line follows line place) why.Twice
+  twice_told : (tokens : List Token) → content_of line ≡ Ok tokens → DefinesTaken follows line place tokens
+      → Tells (after_line follows line place) why.Twice
   unfolding applied
   twice_told tokens is (inl (name, label, taken)) =
       cut_told tokens why.Twice is
-      (tells_bound (effect_in line place.symbols follows tokens) (λ effect. applied (label_of line tokens) (first_text line (arguments_in line tokens)) effect place) why.Twice
+      (tells_bound (effect_in line place.symbols follows tokens)
+      (λ effect. applied (label_of line tokens) (first_text line (arguments_in line tokens)) effect place) why.Twice
       (λ v e. let five = effect_low follows line place.symbols tokens v e in omega arith)
       (λ effect e. tells_is (applied (label_of line tokens) (first_text line (arguments_in line tokens)) effect place) why.Twice
-      (ap (λ (o : Outcome Place). o >>= (λ first. named effect (first_text line (arguments_in line tokens)) first >>= (λ second. at_address second.symbols (placed effect second.address))))
+      (ap (λ (o : Outcome Place). o >>= (λ first. named effect (first_text line (arguments_in line tokens)) first >>=
+      (λ second. at_address second.symbols (placed effect second.address))))
       (ap (λ l. labelled l place) label ∙ ap (with_symbols place.address) (taken_err name (pos place.address) place.symbols taken)))))
   twice_told tokens is (inr (value, does, taken)) =
       let name = first_text line (arguments_in line tokens) in
       effect_is tokens (Define value) why.Twice is does
-      (tells_bound (labelled (label_of line tokens) place) (λ first. named (Define value) name first >>= (λ second. at_address second.symbols (placed (Define value) second.address))) why.Twice
+      (tells_bound (labelled (label_of line tokens) place)
+      (λ first. named (Define value) name first >>= (λ second. at_address second.symbols (placed (Define value) second.address)))
+      why.Twice
       (λ v e. label_six (label_of line tokens) place v e)
-      (λ first e. tells_is (named (Define value) name first >>= (λ second. at_address second.symbols (placed (Define value) second.address))) why.Twice
+      (λ first e. tells_is (named (Define value) name first >>=
+      (λ second. at_address second.symbols (placed (Define value) second.address))) why.Twice
       (ap (λ (o : Outcome Place). o >>= (λ second. at_address second.symbols (placed (Define value) second.address)))
       (ap (with_symbols first.address) (taken_err name value first.symbols (onto_label (label_of line tokens) place first name e taken))))))
 
@@ -473,9 +551,11 @@ module _ (follows : Bool) (line : List ℕ) (place : Place) where
   unfolding after_line effect_in
   stands_told why.Lex lex =
       tells_is (after_line follows line place) why.Lex
-      (ap (λ (o : Outcome (List Token)). o >>= (λ ts. effect_in line place.symbols follows ts >>= (λ effect. applied (label_of line ts) (first_text line (arguments_in line ts)) effect place))) lex)
+      (ap (λ (o : Outcome (List Token)). o >>= (λ ts. effect_in line place.symbols follows ts >>=
+      (λ effect. applied (label_of line ts) (first_text line (arguments_in line ts)) effect place))) lex)
   stands_told why.Mnemonic (tokens, is, unknown) =
-      effect_told tokens why.Mnemonic is (ap (λ a. effect_of a line place.symbols (arguments_in line tokens) (parts_of (arguments_in line tokens)) follows) unknown)
+      effect_told tokens why.Mnemonic is
+      (ap (λ a. effect_of a line place.symbols (arguments_in line tokens) (parts_of (arguments_in line tokens)) follows) unknown)
   stands_told why.Operand value = value_told why.Operand value
   stands_told why.Range value = value_told why.Range value
   stands_told why.Symbol value = value_told why.Symbol value
@@ -483,13 +563,16 @@ module _ (follows : Bool) (line : List ℕ) (place : Place) where
   stands_told why.Overlap h = absurd h
   stands_told why.Past (tokens, is, (n, even, does, past)) =
       effect_is tokens (Take n even) why.Past is does
-      (names_passed (label_of line tokens) (first_text line (arguments_in line tokens)) (Take n even) why.Past (omega arith) (tells_is (placed (Take n even) place.address) why.Past (past_told n even place.address past)))
+      (names_passed (label_of line tokens) (first_text line (arguments_in line tokens)) (Take n even) why.Past (omega arith)
+      (tells_is (placed (Take n even) place.address) why.Past (past_told n even place.address past)))
   stands_told why.Directive (tokens, is, inl wrong) =
       effect_is tokens Wrong why.Directive is wrong
-      (names_passed (label_of line tokens) (first_text line (arguments_in line tokens)) Wrong why.Directive (omega arith) (tells_is (placed Wrong place.address) why.Directive refl))
+      (names_passed (label_of line tokens) (first_text line (arguments_in line tokens)) Wrong why.Directive (omega arith)
+      (tells_is (placed Wrong place.address) why.Directive refl))
   stands_told why.Directive (tokens, is, inr (n, does, odd)) =
       effect_is tokens (Take n true) why.Directive is does
-      (names_passed (label_of line tokens) (first_text line (arguments_in line tokens)) (Take n true) why.Directive (omega arith) (odd_told n place.address odd))
+      (names_passed (label_of line tokens) (first_text line (arguments_in line tokens)) (Take n true) why.Directive (omega arith)
+      (odd_told n place.address odd))
   stands_told why.Memory h = absurd h
 
   -- what the first pass makes of a line: no why stands, or the least one is told
@@ -497,4 +580,8 @@ module _ (follows : Bool) (line : List ℕ) (place : Place) where
   sound_line next e w h = subst (λ (o : Outcome Place). Tells o w) e (stands_told w h)
 
   pub least_line : (w : AsmWhy) → after_line follows line place ≡ Err w → IsLeast (InFirstPass follows line place) w
-  least_line w e = record { stands = refused_stands follows line place w e; least = λ v h. subst (λ (o : Outcome Place). Tells o v) e (stands_told v h) }
+  least_line w e = record {
+    stands = refused_stands follows line place w e;
+    least = λ v h. subst (λ (o : Outcome Place). Tells o v) e
+        (stands_told v h);
+  }

@@ -1,5 +1,6 @@
 -- What the first pass over all lines says: they are laid out, or one has the first fault.
-use Rattle.std.proofs.Common.{◌≡◌, ℕ, suc, ◌+◌, ◌≤◌, Bool, List, [], ◌∷◌, ◌++◌, length, map, nat_lt, inl, inr, refl, sym, ◌∙◌, ap, subst, append_assoc, append-nil, arith}
+use Rattle.std.proofs.Common.{◌≡◌, ℕ, suc, ◌+◌, ◌≤◌, Bool, List, [], ◌∷◌, ◌++◌, length, map, nat_lt, inl, inr, refl, sym, ◌∙◌, ap, subst}
+use Rattle.std.proofs.Common.{append_assoc, append-nil, arith}
 use Rattle.std.specs.Prelude.{Result, Ok, Err, Option, Some, ℤ, ◌%◌, ◌==◌, ◌&&◌, true, false, not, cond}
 use Rattle.std.specs.List.{list_any}
 use Rattle.std.specs.Ordering.{nat_cmp}
@@ -7,15 +8,17 @@ use Rattle.std.specs.Cmp.Lexicographic.{slice_cmp}
 use Rattle.std.specs.FinMap.{from_entries}
 use Rattle.std.proofs.lemmas.Bool.Decides.{nat_tests}
 use Rattle.avr_text.specs.declared.tokens.Token.{Token}
-use Rattle.avr_operands.specs.declared.faults.AsmWhy.{AsmWhy}
-use Rattle.avr_operands.specs.declared.faults.AsmWhy.TheVariants as why
+use Rattle.avr_operands.specs.declared.errors.AsmWhy.{AsmWhy}
+use Rattle.avr_operands.specs.declared.errors.AsmWhy.TheVariants as why
 use Rattle.avr_operands.specs.Faults.{Outcome, number_of}
-use Rattle.avr_asm.specs.declared.faults.AsmError.{AsmError}
+use Rattle.avr_asm.specs.declared.errors.AsmError.{AsmError}
 use Rattle.avr_asm.specs.declared.first_pass.Effect.{Effect}
 use Rattle.avr_asm.specs.declared.first_pass.Effect.TheVariants.{Nothing, Move, Define, Take, Wrong}
 use Rattle.avr_asm.specs.declared.layout.Place.{Place}
-use Rattle.avr_asm.specs.FirstFault.{IsLeast, Laid, end_after, end_from, names_in, names_by, place_after, InFirstPass, IsLaid, AreLaid, FirstPassFault}
-use Rattle.avr_asm.specs.Layout.{Layout, arguments_in, effect_in, placed, after_line, is_instruction_line, with_address, at_line, layout_from, layout_of, start}
+use Rattle.avr_asm.specs.FirstFault.{IsLeast, Laid, end_after, end_from, names_in, names_by, place_after, InFirstPass, IsLaid, AreLaid}
+use Rattle.avr_asm.specs.FirstFault.{FirstPassFault}
+use Rattle.avr_asm.specs.Layout.{Layout, arguments_in, effect_in, placed, after_line, is_instruction_line, with_address, at_line}
+use Rattle.avr_asm.specs.Layout.{layout_from, layout_of, start}
 use Rattle.avr_asm.specs.Lines.{content_of, label_of, first_text}
 use Rattle.avr_asm.specs.Relation.{label_entries, equ_entries, predefined_names}
 use Rattle.avr_asm.proofs.EntryLists.{IsMadeOf}
@@ -64,7 +67,8 @@ same_place before place a = λ i. record { address = a.address i; symbols = a.ma
 abbrev pub lay : List ℕ → Place → List Token → Effect → Laid
 lay line place tokens effect = record { source = line; address = place.address; tokens = tokens; effect = effect }
 
-end_more : (address : ℕ) (before : List Laid) (l : Laid) → end_from address (before ++ l ∷ []) ≡ end_after l.effect (end_from address before)
+end_more : (address : ℕ) (before : List Laid) (l : Laid) → end_from address (before ++ l ∷ []) ≡ end_after l.effect
+    (end_from address before)
 end_more address [] l = refl
 end_more address (b ∷ bs) l = end_more (end_after b.effect address) bs l
 
@@ -85,7 +89,8 @@ placed_end (Take n even) address next e = go (nat_lt 65536 (address + n)) (even 
     go false false e' = sym (ok_same (address + n) next e')
 
 -- the place after a line that was laid out
-past_line : (follows : Bool) (line : List ℕ) (before : List Laid) (place next : Place) (l : LaidLine follows line place next) → IsAfter before place → IsAfter (before ++ lay line place l.tokens l.effect ∷ []) next
+past_line : (follows : Bool) (line : List ℕ) (before : List Laid) (place next : Place) (l : LaidLine follows line place next)
+    → IsAfter before place → IsAfter (before ++ lay line place l.tokens l.effect ∷ []) next
 past_line follows line before place next l a =
     let s = lay line place l.tokens l.effect in
     let es = predefined_names ++ names_by before in
@@ -94,14 +99,16 @@ past_line follows line before place next l a =
     let label = label_made (label_of line l.tokens) place l.first es l.is_labelled a.made in
     let equ = equ_made l.effect (first_text line (arguments_in line l.tokens)) l.first l.second (es ++ labels) l.is_named label.0 in
     let order : (es ++ labels) ++ equs ≡ predefined_names ++ names_by (before ++ s ∷ []) =
-    append_assoc es labels equs ∙ append_assoc predefined_names (names_by before) (labels ++ equs) ∙ ap (λ ns. predefined_names ++ ns) (sym (names_more before s)) in
+    append_assoc es labels equs ∙ append_assoc predefined_names (names_by before) (labels ++ equs) ∙ ap (λ ns. predefined_names ++ ns)
+    (sym (names_more before s)) in
     record {
       address = placed_end l.effect place.address next.address l.is_placed ∙ ap (end_after l.effect) a.address ∙ sym (end_more 0 before s);
       made = subst (IsMadeOf next.symbols) order (subst (λ m. IsMadeOf m ((es ++ labels) ++ equs)) (sym l.has_symbols) equ.0);
     }
 
 -- it has no fault
-laid_sound : (follows : Bool) (line : List ℕ) (before : List Laid) (place next : Place) (l : LaidLine follows line place next) → after_line follows line place ≡ Ok next → IsAfter before place → IsLaid before (lay line place l.tokens l.effect) follows
+laid_sound : (follows : Bool) (line : List ℕ) (before : List Laid) (place next : Place) (l : LaidLine follows line place next)
+    → after_line follows line place ≡ Ok next → IsAfter before place → IsLaid before (lay line place l.tokens l.effect) follows
 laid_sound follows line before place next l e a = record {
   located = a.address;
   read = l.is_content;
@@ -115,22 +122,31 @@ pub record IsPassed (before : List Laid) (l : Laid) (follows : Bool) (place : Pl
   pub goes : after_line follows l.source place ≡ Ok next
   pub after : IsAfter (before ++ l ∷ []) next
 
-passed : (before : List Laid) (l : Laid) (follows : Bool) (place : Place) → IsLaid before l follows → IsAfter before place → IsPassed before l follows place
+passed : (before : List Laid) (l : Laid) (follows : Bool) (place : Place) → IsLaid before l follows → IsAfter before place → IsPassed before
+    l follows place
 passed before l follows place is a = go (after_line follows l.source place) refl
   where
-    same_laid : (tokens : List Token) (effect : Effect) → content_of l.source ≡ Ok tokens → effect_in l.source place.symbols follows tokens ≡ Ok effect → lay l.source place tokens effect ≡ l
+    same_laid : (tokens : List Token) (effect : Effect) → content_of l.source ≡ Ok tokens → effect_in l.source place.symbols follows
+        tokens ≡ Ok effect → lay l.source place tokens effect ≡ l
     same_laid tokens effect c f =
         let t : tokens ≡ l.tokens = ok_same tokens l.tokens (sym c ∙ is.read) in
-        let g : effect_in l.source place.symbols follows tokens ≡ Ok l.effect = ap (λ ts. effect_in l.source place.symbols follows ts) t ∙ ap (λ m. effect_in l.source m follows l.tokens) a.made.is ∙ is.does in
+        let g : effect_in l.source place.symbols follows tokens ≡ Ok l.effect = ap (λ ts. effect_in l.source place.symbols follows ts) t
+        ∙ ap (λ m. effect_in l.source m follows l.tokens) a.made.is ∙ is.does in
         let e : effect ≡ l.effect = ok_same effect l.effect (sym f ∙ g) in
         let at : place.address ≡ l.address = a.address ∙ sym is.located in
         λ i. record { source = l.source; address = at i; tokens = t i; effect = e i }
 
     go : (o : Outcome Place) → after_line follows l.source place ≡ o → IsPassed before l follows place
-    go (Err w) e = absurd (is.sound w (subst (λ p. InFirstPass follows l.source p w) (same_place before place a) (refused_stands follows l.source place w e)))
+    go (Err w) e = absurd (is.sound w (subst (λ p. InFirstPass follows l.source p w) (same_place before place a)
+        (refused_stands follows l.source place w e)))
     go (Ok next) e =
         let it = laid_line follows l.source place next e in
-        record { next = next; goes = e; after = subst (λ x. IsAfter (before ++ x ∷ []) next) (same_laid it.tokens it.effect it.is_content it.is_effect) (past_line follows l.source before place next it a) }
+        record {
+          next = next;
+          goes = e;
+          after = subst (λ x. IsAfter (before ++ x ∷ []) next)
+              (same_laid it.tokens it.effect it.is_content it.is_effect) (past_line follows l.source before place next it a);
+        }
 
 -- ---- all lines
 
@@ -156,13 +172,18 @@ abbrev pub LayoutSays : List Laid → ℕ → List (List ℕ) → Result Layout 
 LayoutSays before k lines (Ok layout) = LaidOut before lines layout
 LayoutSays before k lines (Err e) = FaultFrom before k lines e
 
-one_more_says : (before : List Laid) (l : Laid) (k : ℕ) (lines : List (List ℕ)) (r : Result Layout AsmError) → IsLaid before l (list_any is_instruction_line lines)
+one_more_says : (before : List Laid) (l : Laid) (k : ℕ) (lines : List (List ℕ)) (r : Result Layout AsmError) → IsLaid before l
+    (list_any is_instruction_line lines)
     → LayoutSays (before ++ l ∷ []) (k + 1) lines r → LayoutSays before k (l.source ∷ lines) (with_address l.address r)
 one_more_says before l k lines (Ok layout) is h = record {
   rest = l ∷ h.rest;
   sources = ap (λ ls. l.source ∷ ls) h.sources;
   addresses = ap (λ xs. l.address ∷ xs) h.addresses;
-  laid = (subst (λ ls. IsLaid before l (list_any is_instruction_line ls)) (sym h.sources ∙ sym (append-nil (map (λ (x : Laid). x.source) h.rest))) is, h.laid);
+  laid = (
+    subst (λ ls. IsLaid before l (list_any is_instruction_line ls))
+        (sym h.sources ∙ sym (append-nil (map (λ (x : Laid). x.source) h.rest))) is,
+    h.laid,
+  );
   symbols = h.symbols ∙ ap (λ ls. (place_after ls).symbols) (append_assoc before (l ∷ []) h.rest);
 }
 one_more_says before l k lines (Err e) is h = record {
@@ -172,7 +193,8 @@ one_more_says before l k lines (Err e) is h = record {
   cut = ap (λ ls. l.source ∷ ls) h.cut;
   numbered = omega (arith, h.numbered);
   laid = (subst (λ ls. IsLaid before l (list_any is_instruction_line ls)) h.cut is, h.laid);
-  fault = subst (λ ls. IsLeast (InFirstPass (list_any is_instruction_line h.after) h.line (place_after ls)) e.why) (append_assoc before (l ∷ []) h.more) h.fault;
+  fault = subst (λ ls. IsLeast (InFirstPass (list_any is_instruction_line h.after) h.line (place_after ls)) e.why)
+      (append_assoc before (l ∷ []) h.more) h.fault;
 }
 
 line_says : (before : List Laid) (line : List ℕ) (k : ℕ) (place : Place) (lines : List (List ℕ)) → IsAfter before place
@@ -186,14 +208,18 @@ line_says before line k place lines a more (Err w) e = record {
   cut = refl;
   numbered = omega arith;
   laid = tt;
-  fault = subst (λ p. IsLeast (InFirstPass (list_any is_instruction_line lines) line p) w) (same_place before place a ∙ ap place_after (sym (append-nil before))) (least_line (list_any is_instruction_line lines) line place w e);
+  fault = subst (λ p. IsLeast (InFirstPass (list_any is_instruction_line lines) line p) w)
+      (same_place before place a ∙ ap place_after (sym (append-nil before))) (least_line (list_any is_instruction_line lines) line place w
+      e);
 }
 line_says before line k place lines a more (Ok next) e =
     let it = laid_line (list_any is_instruction_line lines) line place next e in
     let l = lay line place it.tokens it.effect in
-    one_more_says before l k lines (layout_from (k + 1) next lines) (laid_sound (list_any is_instruction_line lines) line before place next it e a) (more (before ++ l ∷ []) next (past_line (list_any is_instruction_line lines) line before place next it a))
+    one_more_says before l k lines (layout_from (k + 1) next lines) (laid_sound (list_any is_instruction_line lines) line before place next
+    it e a) (more (before ++ l ∷ []) next (past_line (list_any is_instruction_line lines) line before place next it a))
 
-layout_says : (lines : List (List ℕ)) (before : List Laid) (k : ℕ) (place : Place) → IsAfter before place → LayoutSays before k lines (layout_from k place lines)
+layout_says : (lines : List (List ℕ)) (before : List Laid) (k : ℕ) (place : Place) → IsAfter before place → LayoutSays before k lines
+    (layout_from k place lines)
 unfolding layout_from
 layout_says [] before k place a = record {
   rest = [];
@@ -203,7 +229,8 @@ layout_says [] before k place a = record {
   symbols = a.made.is ∙ ap (λ ls. from_entries {R = slice_cmp nat_cmp} (predefined_names ++ names_by ls)) (sym (append-nil before));
 }
 layout_says (line ∷ lines) before k place a =
-    line_says before line k place lines a (λ bs next h. layout_says lines bs (k + 1) next h) (after_line (list_any is_instruction_line lines) line place) refl
+    line_says before line k place lines a (λ bs next h. layout_says lines bs (k + 1) next h)
+    (after_line (list_any is_instruction_line lines) line place) refl
 
 pub begins : IsAfter [] start
 begins = record { address = refl; made = subst (IsMadeOf start.symbols) (sym (append-nil predefined_names)) predefined_made }
@@ -233,7 +260,8 @@ front_none : (r : Result Layout AsmError) → r ≡ with_front [] r
 front_none (Ok layout) = refl
 front_none (Err e) = refl
 
-front_more : (address : ℕ) (front : List ℕ) (r : Result Layout AsmError) → with_address address (with_front front r) ≡ with_front (address ∷ front) r
+front_more : (address : ℕ) (front : List ℕ) (r : Result Layout AsmError) → with_address address (with_front front r) ≡ with_front
+    (address ∷ front) r
 front_more address front (Ok layout) = refl
 front_more address front (Err e) = refl
 
@@ -241,9 +269,11 @@ front_more address front (Err e) = refl
 pub record ArePassed (before ls : List Laid) (k : ℕ) (place : Place) (after : List (List ℕ)) : Type 0 where
   pub next : Place
   pub ends : IsAfter (before ++ ls) next
-  pub goes : layout_from k place (map (λ x. x.source) ls ++ after) ≡ with_front (map (λ x. x.address) ls) (layout_from (k + length ls) next after)
+  pub goes : layout_from k place (map (λ x. x.source) ls ++ after) ≡ with_front (map (λ x. x.address) ls)
+      (layout_from (k + length ls) next after)
 
-all_passed : (before ls : List Laid) (k : ℕ) (place : Place) (after : List (List ℕ)) → IsAfter before place → AreLaid before ls after → ArePassed before ls k place after
+all_passed : (before ls : List Laid) (k : ℕ) (place : Place) (after : List (List ℕ)) → IsAfter before place → AreLaid before ls after
+    → ArePassed before ls k place after
 unfolding layout_from
 all_passed before [] k place after a laid =
     let same : k ≡ k + 0 = omega arith in
@@ -270,26 +300,32 @@ all_passed before (l ∷ ls) k place after a laid =
     }
 
 -- a line with a fault is refused for it
-fault_refused : (follows : Bool) (line : List ℕ) (place : Place) (w : AsmWhy) → IsLeast (InFirstPass follows line place) w → after_line follows line place ≡ Err w
+fault_refused : (follows : Bool) (line : List ℕ) (place : Place) (w : AsmWhy) → IsLeast (InFirstPass follows line place) w
+    → after_line follows line place ≡ Err w
 fault_refused follows line place w is = go (after_line follows line place) refl
   where
     go : (o : Outcome Place) → after_line follows line place ≡ o → o ≡ Err w
     go (Ok next) e = absurd (sound_line follows line place next e w is.stands)
     go (Err v) e = ap (λ u. Err u) (same_least (InFirstPass follows line place) v w (least_line follows line place v e) is)
 
-pub fault_laid : (lines : List (List ℕ)) (n : ℕ) (w : AsmWhy) → FirstPassFault lines n w → layout_of lines ≡ Err (record { line = n; why = w })
+pub fault_laid : (lines : List (List ℕ)) (n : ℕ) (w : AsmWhy) → FirstPassFault lines n w → layout_of lines ≡ Err
+    (record { line = n; why = w })
 unfolding layout_from
 fault_laid lines n w f =
     let p = all_passed [] f.before 1 start (f.line ∷ f.after) begins f.laid in
     let follows = list_any is_instruction_line f.after in
-    let refused = fault_refused follows f.line p.next w (subst (λ q. IsLeast (InFirstPass follows f.line q) w) (sym (same_place f.before p.next p.ends)) f.fault) in
+    let refused = fault_refused follows f.line p.next w (subst (λ q. IsLeast (InFirstPass follows f.line q) w)
+    (sym (same_place f.before p.next p.ends)) f.fault) in
     let count : 1 + length f.before ≡ n = omega (arith, f.numbered) in
     ap layout_of f.cut ∙ p.goes
-    ∙ ap (λ (o : Outcome Place). with_front (map (λ (x : Laid). x.address) f.before) (at_line (1 + length f.before) o (λ next. with_address p.next.address (layout_from (1 + length f.before + 1) next f.after)))) refused
+    ∙ ap (λ (o : Outcome Place). with_front (map (λ (x : Laid). x.address) f.before)
+    (at_line (1 + length f.before) o (λ next. with_address p.next.address (layout_from (1 + length f.before + 1) next f.after))))
+    refused
     ∙ ap (λ m. Err (record { line = m; why = w })) count
 
 -- lines of which none has a fault are laid out
-pub all_laid_out : (ls : List Laid) → AreLaid [] ls [] → layout_of (map (λ x. x.source) ls) ≡ Ok (record { addresses = map (λ x. x.address) ls; symbols = (place_after ls).symbols })
+pub all_laid_out : (ls : List Laid) → AreLaid [] ls [] → layout_of (map (λ x. x.source) ls) ≡ Ok
+    (record { addresses = map (λ x. x.address) ls; symbols = (place_after ls).symbols })
 unfolding layout_from
 all_laid_out ls laid =
     let p = all_passed [] ls 1 start [] begins laid in
@@ -297,8 +333,10 @@ all_laid_out ls laid =
     ∙ (λ i. Ok (record { addresses = append-nil (map (λ (x : Laid). x.address) ls) i; symbols = p.ends.made.is i }))
 
 -- where a line without fault ends
-pub placed_laid : (front : List Laid) (l : Laid) (follows : Bool) → IsLaid front l follows → placed l.effect l.address ≡ Ok (end_after l.effect l.address)
-placed_laid front l follows is = subst (λ a. placed l.effect a ≡ Ok (end_after l.effect a)) (sym is.located) (go (placed l.effect (end_from 0 front)) refl)
+pub placed_laid : (front : List Laid) (l : Laid) (follows : Bool) → IsLaid front l follows → placed l.effect l.address ≡ Ok
+    (end_after l.effect l.address)
+placed_laid front l follows is = subst (λ a. placed l.effect a ≡ Ok (end_after l.effect a)) (sym is.located)
+    (go (placed l.effect (end_from 0 front)) refl)
   where
     none_stands : (w : AsmWhy) → NoPlace l.effect (end_from 0 front) w → ⊥
     none_stands w (inl past) = is.sound why.Past (l.tokens, is.read, (past.1, past.2, is.does ∙ ap (λ f. Ok f) past.3, past.4))

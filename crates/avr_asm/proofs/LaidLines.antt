@@ -1,19 +1,22 @@
 -- A line that the first pass laid out: its tokens, what it does, and the place after it.
-use Rattle.std.proofs.Common.{◌≡◌, ℕ, ◌+◌, ◌*◌, ◌%◌, Bool, true, false, ◌&&◌, not, cond, List, [], ◌∷◌, nat_lt, refl, sym, ◌∙◌, ap, subst, arith}
+use Rattle.std.proofs.Common.{◌≡◌, ℕ, ◌+◌, ◌*◌, ◌%◌, Bool, true, false, ◌&&◌, not, cond, List, [], ◌∷◌, nat_lt, refl, sym, ◌∙◌, ap, subst}
+use Rattle.std.proofs.Common.{arith}
 use Rattle.std.specs.Prelude.{Option, None, Some, Result, Ok, Err, ◌==◌, pos}
 use Rattle.std.specs.List.{list_any}
 use Rattle.std.proofs.lemmas.Bool.Decides.{nat_tests}
 use Rattle.avr_text.specs.declared.tokens.Token.{Token}
 use Rattle.avr_text.specs.Names.{NameMap}
-use Rattle.avr_asm.specs.declared.faults.AsmError.{AsmError}
-use Rattle.avr_operands.specs.declared.faults.AsmWhy.TheVariants as why
+use Rattle.avr_asm.specs.declared.errors.AsmError.{AsmError}
+use Rattle.avr_operands.specs.declared.errors.AsmWhy.TheVariants as why
 use Rattle.avr_asm.specs.declared.first_pass.Effect.{Effect}
 use Rattle.avr_asm.specs.declared.first_pass.Effect.TheVariants.{Nothing, Move, Define, Take, Wrong}
 use Rattle.avr_asm.specs.declared.layout.Place.{Place}
 use Rattle.avr_asm.specs.declared.lines.Action.{Action}
 use Rattle.avr_asm.specs.declared.lines.Action.TheVariants as action
 use Rattle.avr_operands.specs.Faults.{Outcome, ◌>>=◌}
-use Rattle.avr_asm.specs.Layout.{Layout, with_symbols, defined, labelled, named, at_address, placed, applied, arguments_in, effect_of, effect_in, after_line, is_instruction, is_instruction_in, is_instruction_line, with_address, at_line, layout_from}
+use Rattle.avr_asm.specs.Layout.{Layout, with_symbols, defined, labelled, named, at_address, placed, applied, arguments_in, effect_of}
+use Rattle.avr_asm.specs.Layout.{effect_in, after_line, is_instruction, is_instruction_in, is_instruction_line, with_address, at_line}
+use Rattle.avr_asm.specs.Layout.{layout_from}
 use Rattle.avr_asm.specs.Lines.{content_of, label_of, body_of, action_of, parts_of, first_text}
 use Rattle.avr_operands.specs.Mnemonics.{words_of}
 use Rattle.avr_asm.proofs.OutcomeLemmas.{ok_same, bound}
@@ -34,7 +37,8 @@ pub record LaidLine (follows : Bool) (line : List ℕ) (place next : Place) : Ty
   pub has_symbols : next.symbols ≡ second.symbols
 
 with_symbols_keeps : (address : ℕ) (o : Outcome NameMap) (next : Place) → with_symbols address o ≡ Ok next → next.address ≡ address
-with_symbols_keeps address (Ok symbols) next e = let same : record { address = address; symbols = symbols } ≡ next = ok_same (record { address = address; symbols = symbols }) next e in sym (ap (λ (p : Place). p.address) same)
+with_symbols_keeps address (Ok symbols) next e = let same : record { address = address; symbols = symbols } ≡ next =
+    ok_same (record { address = address; symbols = symbols }) next e in sym (ap (λ (p : Place). p.address) same)
 with_symbols_keeps address (Err fault) next e = absurd cc
 
 pub label_keeps : (label : Option (List ℕ)) (place next : Place) → labelled label place ≡ Ok next → next.address ≡ place.address
@@ -48,20 +52,26 @@ name_keeps (Move to) name place next e = let same : place ≡ next = ok_same pla
 name_keeps (Take bytes even) name place next e = let same : place ≡ next = ok_same place next e in sym (ap (λ (p : Place). p.address) same)
 name_keeps Wrong name place next e = let same : place ≡ next = ok_same place next e in sym (ap (λ (p : Place). p.address) same)
 
-at_address_ok : (symbols : NameMap) (o : Outcome ℕ) (next : Place) → at_address symbols o ≡ Ok next → (o ≡ Ok next.address) × (next.symbols ≡ symbols)
+at_address_ok : (symbols : NameMap) (o : Outcome ℕ) (next : Place) → at_address symbols o ≡ Ok next → (o ≡ Ok next.address)
+    × (next.symbols ≡ symbols)
 at_address_ok symbols (Ok address) next e =
     let same : record { address = address; symbols = symbols } ≡ next = ok_same (record { address = address; symbols = symbols }) next e in
     (ap (λ (p : Place). Ok p.address) same, sym (ap (λ (p : Place). p.symbols) same))
 at_address_ok symbols (Err fault) next e = absurd cc
 
-pub laid_line : (follows : Bool) (line : List ℕ) (place next : Place) → after_line follows line place ≡ Ok next → LaidLine follows line place next
+pub laid_line : (follows : Bool) (line : List ℕ) (place next : Place) → after_line follows line place ≡ Ok next → LaidLine follows line
+    place next
 unfolding after_line applied
 laid_line follows line place next e =
     let name : List Token → List ℕ = λ tokens. first_text line (arguments_in line tokens) in
-    let t = bound (content_of line) (λ tokens. effect_in line place.symbols follows tokens >>= (λ effect. applied (label_of line tokens) (first_text line (arguments_in line tokens)) effect place)) next e in
-    let f = bound (effect_in line place.symbols follows t.0) (λ effect. applied (label_of line t.0) (first_text line (arguments_in line t.0)) effect place) next t.2 in
-    let a = bound (labelled (label_of line t.0) place) (λ first. named f.0 (first_text line (arguments_in line t.0)) first >>= (λ second. at_address second.symbols (placed f.0 second.address))) next f.2 in
-    let b = bound (named f.0 (first_text line (arguments_in line t.0)) a.0) (λ second. at_address second.symbols (placed f.0 second.address)) next a.2 in
+    let t = bound (content_of line) (λ tokens. effect_in line place.symbols follows tokens >>=
+    (λ effect. applied (label_of line tokens) (first_text line (arguments_in line tokens)) effect place)) next e in
+    let f = bound (effect_in line place.symbols follows t.0)
+    (λ effect. applied (label_of line t.0) (first_text line (arguments_in line t.0)) effect place) next t.2 in
+    let a = bound (labelled (label_of line t.0) place) (λ first. named f.0 (first_text line (arguments_in line t.0)) first >>=
+    (λ second. at_address second.symbols (placed f.0 second.address))) next f.2 in
+    let b = bound (named f.0 (first_text line (arguments_in line t.0)) a.0)
+    (λ second. at_address second.symbols (placed f.0 second.address)) next a.2 in
     let c = at_address_ok b.0.symbols (placed f.0 b.0.address) next b.2 in
     let first_at = label_keeps (label_of line t.0) place a.0 a.1 in
     let second_at = name_keeps f.0 (first_text line (arguments_in line t.0)) a.0 b.0 b.1 ∙ first_at in
@@ -89,18 +99,27 @@ pub record LaidLines (k : ℕ) (place : Place) (line : List ℕ) (lines : List (
   pub addresses : layout.addresses ≡ place.address ∷ rest.addresses
   pub symbols : layout.symbols ≡ rest.symbols
 
-at_line_laid : (k : ℕ) (o : Outcome Place) (f : Place → Result Layout AsmError) (layout : Layout) → at_line k o f ≡ Ok layout → (next : Place) × (o ≡ Ok next) × (f next ≡ Ok layout)
+at_line_laid : (k : ℕ) (o : Outcome Place) (f : Place → Result Layout AsmError) (layout : Layout) → at_line k o f ≡ Ok layout
+    → (next : Place) × (o ≡ Ok next) × (f next ≡ Ok layout)
 at_line_laid k (Ok next) f layout e = (next, refl, e)
 at_line_laid k (Err fault) f layout e = absurd cc
 
-with_address_ok : (address : ℕ) (o : Result Layout AsmError) (layout : Layout) → with_address address o ≡ Ok layout → (rest : Layout) × (o ≡ Ok rest) × (record { addresses = address ∷ rest.addresses; symbols = rest.symbols } ≡ layout)
-with_address_ok address (Ok rest) layout e = (rest, refl, ok_same (record { addresses = address ∷ rest.addresses; symbols = rest.symbols }) layout e)
+with_address_ok : (address : ℕ) (o : Result Layout AsmError) (layout : Layout) → with_address address o ≡ Ok layout → (rest : Layout)
+    × (o ≡ Ok rest) × (record { addresses = address ∷ rest.addresses; symbols = rest.symbols } ≡ layout)
+with_address_ok address (Ok rest) layout e = (
+  rest,
+  refl,
+  ok_same (record { addresses = address ∷ rest.addresses; symbols = rest.symbols })
+      layout e,
+)
 with_address_ok address (Err fault) layout e = absurd cc
 
-pub laid_lines : (k : ℕ) (place : Place) (line : List ℕ) (lines : List (List ℕ)) (layout : Layout) → layout_from k place (line ∷ lines) ≡ Ok layout → LaidLines k place line lines layout
+pub laid_lines : (k : ℕ) (place : Place) (line : List ℕ) (lines : List (List ℕ)) (layout : Layout) → layout_from k place (line ∷ lines) ≡ Ok
+    layout → LaidLines k place line lines layout
 unfolding layout_from
 laid_lines k place line lines layout e =
-    let here = at_line_laid k (after_line (list_any is_instruction_line lines) line place) (λ next. with_address place.address (layout_from (k + 1) next lines)) layout e in
+    let here = at_line_laid k (after_line (list_any is_instruction_line lines) line place)
+    (λ next. with_address place.address (layout_from (k + 1) next lines)) layout e in
     let rest = with_address_ok place.address (layout_from (k + 1) here.0 lines) layout here.2 in
     record {
       next = here.0;
@@ -111,36 +130,46 @@ laid_lines k place line lines layout e =
       symbols = sym (ap (λ (l : Layout). l.symbols) rest.2);
     }
 
-pub no_lines : (k : ℕ) (place : Place) (layout : Layout) → layout_from k place [] ≡ Ok layout → record { addresses = []; symbols = place.symbols } ≡ layout
+pub no_lines : (k : ℕ) (place : Place) (layout : Layout) → layout_from k place [] ≡ Ok layout
+    → record { addresses = []; symbols = place.symbols } ≡ layout
 unfolding layout_from
 no_lines k place layout e = ok_same (record { addresses = []; symbols = place.symbols }) layout e
 
 -- an instruction's line takes room at an even address
-takes_even : (a : Action) (line : List ℕ) (symbols : NameMap) (arguments : List Token) (parts : List (List Token)) (follows : Bool) (effect : Effect)
+takes_even : (a : Action) (line : List ℕ) (symbols : NameMap) (arguments : List Token) (parts : List (List Token)) (follows : Bool)
+    (effect : Effect)
     → is_instruction a ≡ true → effect_of a line symbols arguments parts follows ≡ Ok effect → (n : ℕ) × (Take n true ≡ effect)
 takes_even action.Empty line symbols arguments parts follows effect is e = absurd cc
 takes_even action.Unknown line symbols arguments parts follows effect is e = absurd cc
 takes_even action.NoDirective line symbols arguments parts follows effect is e = absurd cc
 takes_even (action.Directive d) line symbols arguments parts follows effect is e = absurd cc
-takes_even (action.Instruction m) line symbols arguments parts follows effect is e = (2 * words_of m, ok_same (Take (2 * words_of m) true) effect e)
+takes_even (action.Instruction m) line symbols arguments parts follows effect is e =
+    (2 * words_of m, ok_same (Take (2 * words_of m) true) effect e)
 
 even_placed : (n address next : ℕ) → placed (Take n true) address ≡ Ok next → address % 2 ≡ 0
 even_placed n address next e = by_case (nat_lt 65536 (address + n)) (address % 2 == 0) refl e
   where
-    by_case : (past even : Bool) → (address % 2 == 0) ≡ even → cond past (Err why.Past) (cond (true && not even) (Err why.Directive) (Ok (address + n))) ≡ Ok next → address % 2 ≡ 0
+    by_case : (past even : Bool) → (address % 2 == 0) ≡ even → cond past (Err why.Past)
+        (cond (true && not even) (Err why.Directive) (Ok (address + n))) ≡ Ok next → address % 2 ≡ 0
     by_case true even is e' = absurd cc
     by_case false false is e' = absurd cc
     by_case false true is e' = grind (arith, nat_tests)
 
-even_here : (follows : Bool) (line : List ℕ) (place next : Place) → LaidLine follows line place next → is_instruction_line line ≡ true → place.address % 2 ≡ 0
+even_here : (follows : Bool) (line : List ℕ) (place next : Place) → LaidLine follows line place next → is_instruction_line line ≡ true
+    → place.address % 2 ≡ 0
 unfolding is_instruction_line effect_in
 even_here follows line place next l is =
     let here : is_instruction (action_of line (body_of l.tokens)) ≡ true = sym (ap (is_instruction_in line) l.is_content) ∙ is in
-    let takes = takes_even (action_of line (body_of l.tokens)) line place.symbols (arguments_in line l.tokens) (parts_of (arguments_in line l.tokens)) follows l.effect here l.is_effect in
+    let takes = takes_even (action_of line (body_of l.tokens)) line place.symbols (arguments_in line l.tokens)
+    (parts_of (arguments_in line l.tokens)) follows l.effect here l.is_effect in
     even_placed takes.0 place.address next.address (ap (λ effect. placed effect place.address) takes.1 ∙ l.is_placed)
 
-pub each_even : (k : ℕ) (place : Place) (lines : List (List ℕ)) (layout : Layout) → layout_from k place lines ≡ Ok layout → EachEven lines layout.addresses
+pub each_even : (k : ℕ) (place : Place) (lines : List (List ℕ)) (layout : Layout) → layout_from k place lines ≡ Ok layout → EachEven lines
+    layout.addresses
 each_even k place [] layout e = tt
 each_even k place (line ∷ lines) layout e =
     let l = laid_lines k place line lines layout e in
-    subst (EachEven (line ∷ lines)) (sym l.addresses) (even_here (list_any is_instruction_line lines) line place l.next l.here, each_even (k + 1) l.next lines l.rest l.is_rest)
+    subst (EachEven (line ∷ lines)) (sym l.addresses) (
+      even_here (list_any is_instruction_line lines) line place l.next l.here,
+      each_even (k + 1) l.next lines l.rest l.is_rest,
+    )

@@ -1,12 +1,13 @@
 -- One more line is laid out.
-use Rattle.std.proofs.Common.{◌≡◌, ℕ, zero, suc, ◌+◌, ◌-◌, ◌<◌, ◌≤◌, Bool, true, false, ◌||◌, List, [], ◌∷◌, ◌++◌, Bor, length, get_or, drop, map, nat_lt, ◌⊎◌, inl, inr, refl, sym, ◌∙◌, ap, append_assoc, add-one, drop-cons, drop-drop, arith}
+use Rattle.std.proofs.Common.{◌≡◌, ℕ, zero, suc, ◌+◌, ◌-◌, ◌<◌, ◌≤◌, Bool, true, false, ◌||◌, List, [], ◌∷◌, ◌++◌, Bor, length, get_or}
+use Rattle.std.proofs.Common.{drop, map, nat_lt, ◌⊎◌, inl, inr, refl, sym, ◌∙◌, ap, append_assoc, add-one, drop-cons, drop-drop, arith}
 use Rattle.std.specs.Prelude.{Result, Ok, Err}
 use Rattle.std.specs.List.{list_any}
 use Rattle.std.proofs.lemmas.List.{drop_all, append-nil}
 use Rattle.std.proofs.lemmas.Bool.Decides.{nat_tests}
-use Rattle.avr_asm.specs.declared.faults.AsmError.{AsmError}
-use Rattle.avr_operands.specs.declared.faults.AsmWhy.{AsmWhy}
-use Rattle.avr_operands.specs.declared.faults.AsmWhy.TheVariants.{Memory}
+use Rattle.avr_asm.specs.declared.errors.AsmError.{AsmError}
+use Rattle.avr_operands.specs.declared.errors.AsmWhy.{AsmWhy}
+use Rattle.avr_operands.specs.declared.errors.AsmWhy.TheVariants.{Memory}
 use Rattle.avr_asm.specs.declared.layout.Place.{Place}
 use Rattle.avr_operands.specs.Faults.{Outcome}
 use Rattle.avr_asm.specs.Layout.{Layout, with_address, at_line, layout_from, after_line, is_instruction_line, IsLast}
@@ -20,42 +21,59 @@ pub with_none : (r : Result Layout AsmError) → with_addresses [] r ≡ r
 with_none (Ok layout) = refl
 with_none (Err fault) = refl
 
-with_more : (front : List ℕ) (a : ℕ) (r : Result Layout AsmError) → with_addresses (front ++ a ∷ []) r ≡ with_addresses front (with_address a r)
-with_more front a (Ok layout) = ap (λ addresses. Ok (record { addresses = addresses; symbols = layout.symbols })) (append_assoc front (a ∷ []) layout.addresses)
+with_more : (front : List ℕ) (a : ℕ) (r : Result Layout AsmError) → with_addresses (front ++ a ∷ []) r ≡ with_addresses front
+    (with_address a r)
+with_more front a (Ok layout) = ap (λ addresses. Ok (record { addresses = addresses; symbols = layout.symbols }))
+    (append_assoc front (a ∷ []) layout.addresses)
 with_more front a (Err fault) = refl
 
-line_there : (k i : ℕ) (place : Place) (lines : List (List ℕ)) (line : List ℕ) → i < length lines → line ≡ get_or lines i [] → layout_from k place (drop i lines)
-    ≡ at_line k (after_line (list_any is_instruction_line (drop (i + 1) lines)) line place) (λ next. with_address place.address (layout_from (k + 1) next (drop (i + 1) lines)))
+line_there : (k i : ℕ) (place : Place) (lines : List (List ℕ)) (line : List ℕ) → i < length lines → line ≡ get_or lines i [] → layout_from k
+    place (drop i lines)
+    ≡ at_line k (after_line (list_any is_instruction_line (drop (i + 1) lines)) line place)
+    (λ next. with_address place.address (layout_from (k + 1) next (drop (i + 1) lines)))
 unfolding layout_from
 line_there k i place lines line h e = rw (e, add-one, drop-cons lines i [] h) refl
 
 -- a line that is laid out
-pub more_lines : (i : ℕ) (place next : Place) (lines : List (List ℕ)) (line : List ℕ) (follows : Bool) (front more : List ℕ) → i < length lines → line ≡ get_or lines i [] → follows ≡ list_any is_instruction_line (drop (i + 1) lines)
+pub more_lines : (i : ℕ) (place next : Place) (lines : List (List ℕ)) (line : List ℕ) (follows : Bool) (front more : List ℕ)
+    → i < length lines → line ≡ get_or lines i [] → follows ≡ list_any is_instruction_line (drop (i + 1) lines)
     → after_line follows line place ≡ Ok next → more ≡ front ++ place.address ∷ []
-    → with_addresses more (layout_from (i + 1 + 1) next (drop (i + 1) lines)) ≡ with_addresses front (layout_from (i + 1) place (drop i lines))
+    → with_addresses more (layout_from (i + 1 + 1) next (drop (i + 1) lines)) ≡ with_addresses front
+    (layout_from (i + 1) place (drop i lines))
 more_lines i place next lines line follows front more h e is_follows is_next is_more =
     let there = line_there (i + 1) i place lines line h e in
-    let step : after_line (list_any is_instruction_line (drop (i + 1) lines)) line place ≡ Ok next = ap (λ f. after_line f line place) (sym is_follows) ∙ is_next in
+    let step : after_line (list_any is_instruction_line (drop (i + 1) lines)) line place ≡ Ok next = ap (λ f. after_line f line place)
+    (sym is_follows) ∙ is_next in
     ap (λ xs. with_addresses xs (layout_from (i + 1 + 1) next (drop (i + 1) lines))) is_more
     ∙ with_more front place.address (layout_from (i + 1 + 1) next (drop (i + 1) lines))
-    ∙ sym (ap (with_addresses front) (there ∙ ap (λ (o : Outcome Place). at_line (i + 1) o (λ n. with_address place.address (layout_from (i + 1 + 1) n (drop (i + 1) lines)))) step))
+    ∙ sym (ap (with_addresses front)
+    (there ∙ ap (λ (o : Outcome Place). at_line (i + 1) o
+    (λ n. with_address place.address (layout_from (i + 1 + 1) n (drop (i + 1) lines)))) step))
 
 -- a line with a fault
-pub faulty_line : (i : ℕ) (place : Place) (lines : List (List ℕ)) (line : List ℕ) (follows : Bool) (front : List ℕ) (why : AsmWhy) → i < length lines → line ≡ get_or lines i [] → follows ≡ list_any is_instruction_line (drop (i + 1) lines)
-    → after_line follows line place ≡ Err why → with_addresses front (layout_from (i + 1) place (drop i lines)) ≡ Err (record { line = i + 1; why = why })
+pub faulty_line : (i : ℕ) (place : Place) (lines : List (List ℕ)) (line : List ℕ) (follows : Bool) (front : List ℕ) (why : AsmWhy)
+    → i < length lines → line ≡ get_or lines i [] → follows ≡ list_any is_instruction_line (drop (i + 1) lines)
+    → after_line follows line place ≡ Err why → with_addresses front (layout_from (i + 1) place (drop i lines)) ≡ Err
+    (record { line = i + 1; why = why })
 faulty_line i place lines line follows front why h e is_follows is_fault =
     let there = line_there (i + 1) i place lines line h e in
-    let step : after_line (list_any is_instruction_line (drop (i + 1) lines)) line place ≡ Err why = ap (λ f. after_line f line place) (sym is_follows) ∙ is_fault in
-    ap (with_addresses front) (there ∙ ap (λ (o : Outcome Place). at_line (i + 1) o (λ n. with_address place.address (layout_from (i + 1 + 1) n (drop (i + 1) lines)))) step)
+    let step : after_line (list_any is_instruction_line (drop (i + 1) lines)) line place ≡ Err why = ap (λ f. after_line f line place)
+    (sym is_follows) ∙ is_fault in
+    ap (with_addresses front) (there
+    ∙ ap (λ (o : Outcome Place). at_line (i + 1) o (λ n. with_address place.address (layout_from (i + 1 + 1) n (drop (i + 1) lines))))
+    step)
 
 -- no line is left
-pub last_line : (k i : ℕ) (place : Place) (lines : List (List ℕ)) (front : List ℕ) → length lines ≤ i → with_addresses front (layout_from k place (drop i lines)) ≡ Ok (record { addresses = front; symbols = place.symbols })
+pub last_line : (k i : ℕ) (place : Place) (lines : List (List ℕ)) (front : List ℕ) → length lines ≤ i → with_addresses front
+    (layout_from k place (drop i lines)) ≡ Ok (record { addresses = front; symbols = place.symbols })
 unfolding layout_from
 last_line k i place lines front h =
-    ap (λ ls. with_addresses front (layout_from k place ls)) (drop_all i lines h) ∙ ap (λ addresses. Ok (record { addresses = addresses; symbols = place.symbols })) (append-nil front)
+    ap (λ ls. with_addresses front (layout_from k place ls)) (drop_all i lines h)
+    ∙ ap (λ addresses. Ok (record { addresses = addresses; symbols = place.symbols })) (append-nil front)
 
 -- which lines are followed by an instruction's
-any_here : (f : List ℕ → Bool) (lines : List (List ℕ)) (i : ℕ) → i < length lines → f (get_or lines i []) ≡ true → list_any f (drop i lines) ≡ true
+any_here : (f : List ℕ → Bool) (lines : List (List ℕ)) (i : ℕ) → i < length lines → f (get_or lines i []) ≡ true
+    → list_any f (drop i lines) ≡ true
 any_here f lines i h e = rw (drop-cons lines i [] h) (ap (λ b. b || list_any f (drop (suc i) lines)) e)
 
 any_before : (f : List ℕ → Bool) (n : ℕ) (lines : List (List ℕ)) → list_any f (drop n lines) ≡ true → list_any f lines ≡ true
@@ -70,7 +88,8 @@ none_after f n lines e = by_case (list_any f (drop n lines)) refl
     by_case false e' = refl
     by_case true e' = absurd (let t : list_any f lines ≡ true = any_before f n lines e' in cc)
 
-pub is_last : (lines : List (List ℕ)) (i : ℕ) → i < length lines → is_instruction_line (get_or lines i []) ≡ true → list_any is_instruction_line (drop (i + 1) lines) ≡ false → IsLast lines (i + 1)
+pub is_last : (lines : List (List ℕ)) (i : ℕ) → i < length lines → is_instruction_line (get_or lines i []) ≡ true
+    → list_any is_instruction_line (drop (i + 1) lines) ≡ false → IsLast lines (i + 1)
 is_last lines i h here none k = by_order (nat_lt k (i + 1)) refl
   where
     by_order : (b : Bool) → nat_lt k (i + 1) ≡ b → b ≡ list_any is_instruction_line (drop k lines)
@@ -78,11 +97,13 @@ is_last lines i h here none k = by_order (nat_lt k (i + 1)) refl
         let le : k ≤ i = grind (arith, nat_tests) in
         let sum : k + (i - k) ≡ i = omega arith in
         let d : drop (i - k) (drop k lines) ≡ drop i lines = drop-drop (i - k) k lines ∙ ap (λ n. drop n lines) sum in
-        sym (any_before is_instruction_line (i - k) (drop k lines) (ap (list_any is_instruction_line) d ∙ any_here is_instruction_line lines i h here))
+        sym (any_before is_instruction_line (i - k) (drop k lines) (ap (list_any is_instruction_line) d ∙ any_here is_instruction_line lines
+        i h here))
     by_order false e =
         let le : i + 1 ≤ k = grind (arith, nat_tests) in
         let sum : i + 1 + (k - (i + 1)) ≡ k = omega arith in
-        let d : drop (k - (i + 1)) (drop (i + 1) lines) ≡ drop k lines = drop-drop (k - (i + 1)) (i + 1) lines ∙ ap (λ n. drop n lines) sum in
+        let d : drop (k - (i + 1)) (drop (i + 1) lines) ≡ drop k lines = drop-drop (k - (i + 1)) (i + 1) lines ∙ ap (λ n. drop n lines)
+        sum in
         sym (ap (list_any is_instruction_line) (sym d) ∙ none_after is_instruction_line (k - (i + 1)) (drop (i + 1) lines) none)
 
 pub none_last : (lines : List (List ℕ)) → list_any is_instruction_line (drop 0 lines) ≡ false → IsLast lines 0
@@ -98,44 +119,58 @@ mapped_len : (ls : List (Bor (List ℕ))) → length (map (λ l. l.now) ls) ≡ 
 mapped_len [] = refl
 mapped_len (l ∷ ls) = ap suc (mapped_len ls)
 
-pub here_last : (ls : List (Bor (List ℕ))) (i : ℕ) (d : Bor (List ℕ)) (b : Bool) → 0 < i → i ≤ length ls → b ≡ is_instruction_line (get_or ls (i - 1) d).now → b ≡ true
+pub here_last : (ls : List (Bor (List ℕ))) (i : ℕ) (d : Bor (List ℕ)) (b : Bool) → 0 < i → i ≤ length ls → b ≡ is_instruction_line
+    (get_or ls (i - 1) d).now → b ≡ true
     → list_any is_instruction_line (drop i (map (λ l. l.now) ls)) ≡ false → IsLast (map (λ l. l.now) ls) (i - 1 + 1)
 here_last ls i d b some within is here none =
     let lines = map (λ (l : Bor (List ℕ)). l.now) ls in
     let last : i - 1 + 1 ≡ i = omega arith in
     let short : i - 1 < length ls = omega arith in
     let inside : i - 1 < length lines = omega (arith, mapped_len ls) in
-    is_last lines (i - 1) inside (ap is_instruction_line (mapped_at ls (i - 1) d short) ∙ sym is ∙ here) (ap (λ n. list_any is_instruction_line (drop n lines)) last ∙ none)
+    is_last lines (i - 1) inside (ap is_instruction_line (mapped_at ls (i - 1) d short) ∙ sym is ∙ here)
+    (ap (λ n. list_any is_instruction_line (drop n lines)) last ∙ none)
 
-pub none_here : (ls : List (Bor (List ℕ))) (i : ℕ) (d : Bor (List ℕ)) (b : Bool) → 0 < i → i ≤ length ls → b ≡ is_instruction_line (get_or ls (i - 1) d).now → b ≡ false
-    → list_any is_instruction_line (drop i (map (λ l. l.now) ls)) ≡ false → list_any is_instruction_line (drop (i - 1) (map (λ l. l.now) ls)) ≡ false
+pub none_here : (ls : List (Bor (List ℕ))) (i : ℕ) (d : Bor (List ℕ)) (b : Bool) → 0 < i → i ≤ length ls → b ≡ is_instruction_line
+    (get_or ls (i - 1) d).now → b ≡ false
+    → list_any is_instruction_line (drop i (map (λ l. l.now) ls)) ≡ false → list_any is_instruction_line
+    (drop (i - 1) (map (λ l. l.now) ls)) ≡ false
 none_here ls i d b some within is here none =
     let lines = map (λ (l : Bor (List ℕ)). l.now) ls in
     let last : suc (i - 1) ≡ i = omega arith in
     let short : i - 1 < length ls = omega arith in
     let inside : i - 1 < length lines = omega (arith, mapped_len ls) in
-    let not_here : is_instruction_line (get_or lines (i - 1) []) ≡ false = ap is_instruction_line (mapped_at ls (i - 1) d short) ∙ sym is ∙ here in
-    let rest : list_any is_instruction_line (drop (suc (i - 1)) lines) ≡ false = ap (λ n. list_any is_instruction_line (drop n lines)) last ∙ none in
-    ap (list_any is_instruction_line) (drop-cons lines (i - 1) [] inside) ∙ ap (λ c. c || list_any is_instruction_line (drop (suc (i - 1)) lines)) not_here ∙ rest
+    let not_here : is_instruction_line (get_or lines (i - 1) []) ≡ false = ap is_instruction_line (mapped_at ls (i - 1) d short) ∙ sym is
+    ∙ here in
+    let rest : list_any is_instruction_line (drop (suc (i - 1)) lines) ≡ false = ap (λ n. list_any is_instruction_line (drop n lines)) last
+    ∙ none in
+    ap (list_any is_instruction_line) (drop-cons lines (i - 1) [] inside)
+    ∙ ap (λ c. c || list_any is_instruction_line (drop (suc (i - 1)) lines)) not_here ∙ rest
 
 -- all lines: the place in the list is past the end
 pub none_at_end : (ls : List (Bor (List ℕ))) (i : ℕ) → length ls ≤ i → list_any is_instruction_line (drop i (map (λ l. l.now) ls)) ≡ false
 none_at_end ls i h = ap (list_any is_instruction_line) (drop_all i (map (λ (l : Bor (List ℕ)). l.now) ls) (omega (arith, mapped_len ls)))
 
-pub more_lent : (i : ℕ) (place next : Place) (ls : List (Bor (List ℕ))) (d : Bor (List ℕ)) (follows : Bool) (last : ℕ) (front more : List ℕ) → i < length ls → IsLast (map (λ l. l.now) ls) last → follows ≡ nat_lt (i + 1) last
+pub more_lent : (i : ℕ) (place next : Place) (ls : List (Bor (List ℕ))) (d : Bor (List ℕ)) (follows : Bool) (last : ℕ) (front more : List ℕ)
+    → i < length ls → IsLast (map (λ l. l.now) ls) last → follows ≡ nat_lt (i + 1) last
     → after_line follows (get_or ls i d).now place ≡ Ok next → more ≡ front ++ place.address ∷ []
-    → with_addresses more (layout_from (i + 1 + 1) next (drop (i + 1) (map (λ l. l.now) ls))) ≡ with_addresses front (layout_from (i + 1) place (drop i (map (λ l. l.now) ls)))
+    → with_addresses more (layout_from (i + 1 + 1) next (drop (i + 1) (map (λ l. l.now) ls))) ≡ with_addresses front
+    (layout_from (i + 1) place (drop i (map (λ l. l.now) ls)))
 more_lent i place next ls d follows last front more h is_last is_follows is_next is_more =
     let lines = map (λ (l : Bor (List ℕ)). l.now) ls in
-    more_lines i place next lines (get_or ls i d).now follows front more (omega (arith, mapped_len ls)) (sym (mapped_at ls i d h)) (is_follows ∙ is_last (i + 1)) is_next is_more
+    more_lines i place next lines (get_or ls i d).now follows front more (omega (arith, mapped_len ls)) (sym (mapped_at ls i d h))
+    (is_follows ∙ is_last (i + 1)) is_next is_more
 
-pub faulty_lent : (i : ℕ) (place : Place) (ls : List (Bor (List ℕ))) (d : Bor (List ℕ)) (follows : Bool) (last : ℕ) (front : List ℕ) (why : AsmWhy) → i < length ls → IsLast (map (λ l. l.now) ls) last → follows ≡ nat_lt (i + 1) last
-    → after_line follows (get_or ls i d).now place ≡ Err why → with_addresses front (layout_from (i + 1) place (drop i (map (λ l. l.now) ls))) ≡ Err (record { line = i + 1; why = why })
+pub faulty_lent : (i : ℕ) (place : Place) (ls : List (Bor (List ℕ))) (d : Bor (List ℕ)) (follows : Bool) (last : ℕ) (front : List ℕ)
+    (why : AsmWhy) → i < length ls → IsLast (map (λ l. l.now) ls) last → follows ≡ nat_lt (i + 1) last
+    → after_line follows (get_or ls i d).now place ≡ Err why → with_addresses front
+    (layout_from (i + 1) place (drop i (map (λ l. l.now) ls))) ≡ Err (record { line = i + 1; why = why })
 faulty_lent i place ls d follows last front why h is_last is_follows is_fault =
     let lines = map (λ (l : Bor (List ℕ)). l.now) ls in
-    faulty_line i place lines (get_or ls i d).now follows front why (omega (arith, mapped_len ls)) (sym (mapped_at ls i d h)) (is_follows ∙ is_last (i + 1)) is_fault
+    faulty_line i place lines (get_or ls i d).now follows front why (omega (arith, mapped_len ls)) (sym (mapped_at ls i d h))
+    (is_follows ∙ is_last (i + 1)) is_fault
 
-pub last_lent : (k i : ℕ) (place : Place) (ls : List (Bor (List ℕ))) (front : List ℕ) → length ls ≤ i → with_addresses front (layout_from k place (drop i (map (λ l. l.now) ls))) ≡ Ok (record { addresses = front; symbols = place.symbols })
+pub last_lent : (k i : ℕ) (place : Place) (ls : List (Bor (List ℕ))) (front : List ℕ) → length ls ≤ i → with_addresses front
+    (layout_from k place (drop i (map (λ l. l.now) ls))) ≡ Ok (record { addresses = front; symbols = place.symbols })
 last_lent k i place ls front h = last_line k i place (map (λ (l : Bor (List ℕ)). l.now) ls) front (omega (arith, mapped_len ls))
 
 pub none_last_from : (lines : List (List ℕ)) (i : ℕ) → i ≤ 0 → list_any is_instruction_line (drop i lines) ≡ false → IsLast lines 0
@@ -143,7 +178,8 @@ none_last_from lines zero h e = none_last lines e
 none_last_from lines (suc i) h e = absurd (omega arith)
 
 -- a line's fault is told with its line, and want of memory with none
-pub told_fault : {X Y : Type 0} (k : ℕ) (why : AsmWhy) (told : AsmError) (says : Outcome X) (whole : Result Y AsmError) → (why ≡ Memory) ⊎ (says ≡ Err why) → (says ≡ Err why → whole ≡ Err (record { line = k; why = why }))
+pub told_fault : {X Y : Type 0} (k : ℕ) (why : AsmWhy) (told : AsmError) (says : Outcome X) (whole : Result Y AsmError) → (why ≡ Memory)
+    ⊎ (says ≡ Err why) → (says ≡ Err why → whole ≡ Err (record { line = k; why = why }))
     → told.why ≡ why → (why ≡ Memory) ⊎ (told.line ≡ k) → (told.why ≡ Memory) ⊎ (whole ≡ Err told)
 told_fault k why told says whole (inl m) f w l = inl (w ∙ m)
 told_fault k why told says whole (inr e) f w (inl m) = inl (w ∙ m)

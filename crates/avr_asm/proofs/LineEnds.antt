@@ -1,5 +1,6 @@
 -- A line's end: the address after it is as many bytes further on as it puts out.
-use Rattle.std.proofs.Common.{◌≡◌, ℕ, suc, ◌+◌, ◌*◌, ◌%◌, ◌<◌, ◌≤◌, Bool, true, false, ◌&&◌, not, cond, List, [], ◌∷◌, ◌++◌, length, nat_lt, nat_le, refl, sym, ◌∙◌, ap, subst, arith, ◌≢◌}
+use Rattle.std.proofs.Common.{◌≡◌, ℕ, suc, ◌+◌, ◌*◌, ◌%◌, ◌<◌, ◌≤◌, Bool, true, false, ◌&&◌, not, cond, List, [], ◌∷◌, ◌++◌, length, nat_lt}
+use Rattle.std.proofs.Common.{nat_le, refl, sym, ◌∙◌, ap, subst, arith, ◌≢◌}
 use Rattle.std.specs.Prelude.{Option, None, Ok, Err, ◌==◌, ℤ, pos, unsigned_abs}
 use Rattle.std.proofs.lemmas.Bool.Decides.{nat_tests}
 use Rattle.std.proofs.lemmas.List.{length-append}
@@ -11,7 +12,7 @@ use Rattle.avr_text.specs.Names.{NameMap}
 use Rattle.avr_text.specs.Reading.{is_mark_of}
 use Rattle.avr_asm.specs.declared.directives.Directive.{Directive}
 use Rattle.avr_asm.specs.declared.directives.Directive.TheVariants as directive
-use Rattle.avr_operands.specs.declared.faults.AsmWhy.TheVariants as why
+use Rattle.avr_operands.specs.declared.errors.AsmWhy.TheVariants as why
 use Rattle.avr_operands.specs.declared.mnemonics.Mnemonic.{Mnemonic}
 use Rattle.avr_asm.specs.declared.first_pass.Effect.{Effect}
 use Rattle.avr_asm.specs.declared.first_pass.Effect.TheVariants.{Nothing, Move, Define, Take, Wrong}
@@ -19,7 +20,8 @@ use Rattle.avr_asm.specs.declared.lines.Action.{Action}
 use Rattle.avr_asm.specs.declared.lines.Action.TheVariants as action
 use Rattle.avr_asm.specs.declared.output.Hint.{Hint}
 use Rattle.avr_asm.specs.Codes.{first_word, second_word}
-use Rattle.avr_asm.specs.Emission.{bytes_of_number, data_value, with_number, data_from, padded, padded_outcome, byte_data, word_data, word_bytes, instruction_bytes}
+use Rattle.avr_asm.specs.Emission.{bytes_of_number, data_value, with_number, data_from, padded, padded_outcome, byte_data, word_data}
+use Rattle.avr_asm.specs.Emission.{word_bytes, instruction_bytes}
 use Rattle.avr_operands.specs.Faults.{Outcome}
 use Rattle.avr_asm.specs.Hints.{hint_of, mapped}
 use Rattle.avr_operands.specs.Instructions.{instruction_of}
@@ -40,13 +42,20 @@ number_size : (wide : Bool) (x : ℤ) → length (bytes_of_number wide x) ≡ wi
 number_size false x = refl
 number_size true x = refl
 
-no_data : (wide : Bool) (line : List ℕ) (symbols : NameMap) (o : Outcome (List ℕ)) (x : Outcome ℤ) (bytes : List ℕ) → with_number wide o x ≡ Ok bytes → (sofar : List ℕ) × (o ≡ Ok sofar) × (length bytes ≡ length sofar + wide_size wide)
-no_data wide line symbols (Ok sofar) (Ok x) bytes e = (sofar, refl, sym (ap length (ok_same (sofar ++ bytes_of_number wide x) bytes e)) ∙ length-append sofar (bytes_of_number wide x) ∙ ap (λ n. length sofar + n) (number_size wide x))
+no_data : (wide : Bool) (line : List ℕ) (symbols : NameMap) (o : Outcome (List ℕ)) (x : Outcome ℤ) (bytes : List ℕ) → with_number wide o
+    x ≡ Ok bytes → (sofar : List ℕ) × (o ≡ Ok sofar) × (length bytes ≡ length sofar + wide_size wide)
+no_data wide line symbols (Ok sofar) (Ok x) bytes e = (
+  sofar,
+  refl,
+  sym (ap length (ok_same (sofar ++ bytes_of_number wide x) bytes e))
+      ∙ length-append sofar (bytes_of_number wide x) ∙ ap (λ n. length sofar + n) (number_size wide x),
+)
 no_data wide line symbols (Ok sofar) (Err fault) bytes e = absurd cc
 no_data wide line symbols (Err fault) (Ok x) bytes e = absurd cc
 no_data wide line symbols (Err fault) (Err other) bytes e = absurd cc
 
-data_size : (wide : Bool) (line : List ℕ) (symbols : NameMap) (o : Outcome (List ℕ)) (parts : List (List Token)) (bytes : List ℕ) → data_from wide line symbols o parts ≡ Ok bytes
+data_size : (wide : Bool) (line : List ℕ) (symbols : NameMap) (o : Outcome (List ℕ)) (parts : List (List Token)) (bytes : List ℕ)
+    → data_from wide line symbols o parts ≡ Ok bytes
     → (sofar : List ℕ) × (o ≡ Ok sofar) × (length bytes ≡ length sofar + wide_size wide * length parts)
 data_size wide line symbols o [] bytes e = (bytes, e, omega arith)
 data_size wide line symbols o (part ∷ parts) bytes e =
@@ -67,10 +76,12 @@ padded_size bytes = by_case (length bytes % 2 == 0) refl
         let odd : length bytes % 2 ≢ 0 = grind (arith, nat_tests) in
         length-append bytes (0 ∷ []) ∙ omega (arith, odd)
 
-byte_size : (line : List ℕ) (symbols : NameMap) (parts : List (List Token)) (bytes : List ℕ) → byte_data line symbols parts ≡ Ok bytes → length bytes ≡ length parts + length parts % 2
+byte_size : (line : List ℕ) (symbols : NameMap) (parts : List (List Token)) (bytes : List ℕ) → byte_data line symbols parts ≡ Ok bytes
+    → length bytes ≡ length parts + length parts % 2
 byte_size line symbols parts bytes e = by_case (data_from false line symbols (Ok []) parts) refl e
   where
-    by_case : (o : Outcome (List ℕ)) → data_from false line symbols (Ok []) parts ≡ o → padded_outcome o ≡ Ok bytes → length bytes ≡ length parts + length parts % 2
+    by_case : (o : Outcome (List ℕ)) → data_from false line symbols (Ok []) parts ≡ o → padded_outcome o ≡ Ok bytes → length bytes ≡ length
+        parts + length parts % 2
     by_case (Err fault) is e' = absurd cc
     by_case (Ok front) is e' =
         let d = data_size false line symbols (Ok []) parts front is in
@@ -78,7 +89,8 @@ byte_size line symbols parts bytes e = by_case (data_from false line symbols (Ok
         let count : length front ≡ length parts = omega (arith, d.2, nothing) in
         sym (ap length (ok_same (padded front) bytes e')) ∙ padded_size front ∙ ap (λ n. n + n % 2) count
 
-word_size : (line : List ℕ) (symbols : NameMap) (parts : List (List Token)) (bytes : List ℕ) → word_data line symbols parts ≡ Ok bytes → length bytes ≡ 2 * length parts
+word_size : (line : List ℕ) (symbols : NameMap) (parts : List (List Token)) (bytes : List ℕ) → word_data line symbols parts ≡ Ok bytes
+    → length bytes ≡ 2 * length parts
 word_size line symbols parts bytes e =
     let d = data_size true line symbols (Ok []) parts bytes e in
     let nothing : 0 ≡ length d.0 = ap length (ok_same [] d.0 d.1) in
@@ -86,13 +98,15 @@ word_size line symbols parts bytes e =
 
 -- an instruction has as many words as its name says
 abbrev pub WordsByName : Type 0
-WordsByName = (name : Mnemonic) (operands : Operands) (instr : Instr) → instruction_of name operands ≡ Ok instr → words instr ≡ words_of name
+WordsByName = (name : Mnemonic) (operands : Operands) (instr : Instr) → instruction_of name operands ≡ Ok instr → words instr ≡ words_of
+    name
 
 -- the bytes of an instruction
 code_size : (i : Instr) → length (instruction_bytes i) ≡ 2 * words i
 code_size i = by_case (nat_le (length (places (row i).pattern)) 16)
   where
-    by_case : (t : Bool) → length (cond (cond t 1 2 == 2) (word_bytes (first_word i) ++ word_bytes (second_word i)) (word_bytes (first_word i))) ≡ 2 * cond t 1 2
+    by_case : (t : Bool) → length (cond (cond t 1 2 == 2) (word_bytes (first_word i) ++ word_bytes (second_word i))
+        (word_bytes (first_word i))) ≡ 2 * cond t 1 2
     by_case true = refl
     by_case false = refl
 
@@ -113,24 +127,29 @@ abbrev TakesNone : Effect → Type 0
 TakesNone (Take n even) = ⊥
 TakesNone effect = Unit {0}
 
-none_ends : (effect : Effect) (address next : ℕ) (bytes : List ℕ) → TakesNone effect → bytes ≡ [] → placed effect address ≡ Ok next → end_by effect address bytes ≡ next
+none_ends : (effect : Effect) (address next : ℕ) (bytes : List ℕ) → TakesNone effect → bytes ≡ [] → placed effect address ≡ Ok next
+    → end_by effect address bytes ≡ next
 none_ends Nothing address next bytes t b e = ap (λ xs. address + length xs) b ∙ omega (arith, ok_same address next e)
 none_ends (Move to) address next bytes t b e = ok_same to next e
 none_ends (Define value) address next bytes t b e = ap (λ xs. address + length xs) b ∙ omega (arith, ok_same address next e)
 none_ends (Take n even) address next bytes t b e = absurd t
 none_ends Wrong address next bytes t b e = absurd cc
 
-none_end : (effect : Effect) (address next : ℕ) (bytes : List ℕ) → TakesNone effect → bytes ≡ [] → placed effect address ≡ Ok next → EndsAt effect address next bytes
-none_end effect address next bytes t b e = (none_ends effect address next bytes t b e, λ some. absurd (let none : length bytes ≡ 0 = ap length b in omega (arith, none, some)))
+none_end : (effect : Effect) (address next : ℕ) (bytes : List ℕ) → TakesNone effect → bytes ≡ [] → placed effect address ≡ Ok next
+    → EndsAt effect address next bytes
+none_end effect address next bytes t b e =
+    (none_ends effect address next bytes t b e, λ some. absurd (let none : length bytes ≡ 0 = ap length b in omega (arith, none, some)))
 
 take_within : (n : ℕ) (even : Bool) (address next : ℕ) → placed (Take n even) address ≡ Ok next → address + n ≤ 65536
 take_within n even address next e = by_case (nat_lt 65536 (address + n)) (even && not (address % 2 == 0)) refl e
   where
-    by_case : (past odd : Bool) → nat_lt 65536 (address + n) ≡ past → cond past (Err why.Past) (cond odd (Err why.Directive) (Ok (address + n))) ≡ Ok next → address + n ≤ 65536
+    by_case : (past odd : Bool) → nat_lt 65536 (address + n) ≡ past → cond past (Err why.Past)
+        (cond odd (Err why.Directive) (Ok (address + n))) ≡ Ok next → address + n ≤ 65536
     by_case true odd is e' = absurd cc
     by_case false odd is e' = grind (arith, nat_tests)
 
-some_end : (effect : Effect) (n : ℕ) (even : Bool) (address next : ℕ) (bytes : List ℕ) → Take n even ≡ effect → length bytes ≡ n → placed effect address ≡ Ok next → EndsAt effect address next bytes
+some_end : (effect : Effect) (n : ℕ) (even : Bool) (address next : ℕ) (bytes : List ℕ) → Take n even ≡ effect → length bytes ≡ n
+    → placed effect address ≡ Ok next → EndsAt effect address next bytes
 some_end effect n even address next bytes is size e =
     let at : placed (Take n even) address ≡ Ok next = ap (λ f. placed f address) is ∙ e in (
       subst (λ f. end_by f address bytes ≡ next) is (ap (λ k. address + k) size ∙ take_end n even address next at),
@@ -138,9 +157,13 @@ some_end effect n even address next bytes is size e =
     )
 
 -- data takes its bytes, or its line has the wrong operands
-shaped_end : (shape even : Bool) (n : ℕ) (effect : Effect) (address next : ℕ) (bytes : List ℕ) → ◌≡◌ {A = Outcome Effect} (Ok (cond shape (Take n even) Wrong)) (Ok effect) → length bytes ≡ n → placed effect address ≡ Ok next → EndsAt effect address next bytes
-shaped_end true even n effect address next bytes is size e = some_end effect n even address next bytes (ok_same (Take n even) effect is) size e
-shaped_end false even n effect address next bytes is size e = let no : placed Wrong address ≡ Ok next = ap (λ f. placed f address) (ok_same Wrong effect is) ∙ e in absurd cc
+shaped_end : (shape even : Bool) (n : ℕ) (effect : Effect) (address next : ℕ) (bytes : List ℕ) → ◌≡◌ {A = Outcome Effect}
+    (Ok (cond shape (Take n even) Wrong)) (Ok effect) → length bytes ≡ n → placed effect address ≡ Ok next → EndsAt effect address next
+    bytes
+shaped_end true even n effect address next bytes is size e = some_end effect n even address next bytes (ok_same (Take n even) effect is)
+    size e
+shaped_end false even n effect address next bytes is size e = let no : placed Wrong address ≡ Ok next = ap (λ f. placed f address)
+    (ok_same Wrong effect is) ∙ e in absurd cc
 
 shaped_none : (shape : Bool) (effect : Effect) → ◌≡◌ {A = Outcome Effect} (Ok (cond shape Nothing Wrong)) (Ok effect) → TakesNone effect
 shaped_none true effect is = subst TakesNone (ok_same Nothing effect is) tt
@@ -154,12 +177,14 @@ set_none : (o : Outcome ℤ) (effect : Effect) → set o ≡ Ok effect → Takes
 set_none (Ok value) effect is = subst TakesNone (ok_same (Define value) effect is) tt
 set_none (Err fault) effect is = absurd cc
 
-org_none : (line : List ℕ) (symbols : NameMap) (parts : List (List Token)) (effect : Effect) → org_effect line symbols parts ≡ Ok effect → TakesNone effect
+org_none : (line : List ℕ) (symbols : NameMap) (parts : List (List Token)) (effect : Effect) → org_effect line symbols parts ≡ Ok effect
+    → TakesNone effect
 org_none line symbols [] effect is = subst TakesNone (ok_same Wrong effect is) tt
 org_none line symbols (e ∷ []) effect is = moved_none (number (pos 0) (pos 65536) line symbols e) effect is
 org_none line symbols (e ∷ f ∷ rest) effect is = subst TakesNone (ok_same Wrong effect is) tt
 
-equ_none : (line : List ℕ) (symbols : NameMap) (arguments : List Token) (effect : Effect) → equ_effect line symbols arguments ≡ Ok effect → TakesNone effect
+equ_none : (line : List ℕ) (symbols : NameMap) (arguments : List Token) (effect : Effect) → equ_effect line symbols arguments ≡ Ok effect
+    → TakesNone effect
 equ_none line symbols [] effect is = subst TakesNone (ok_same Wrong effect is) tt
 equ_none line symbols (n ∷ []) effect is = subst TakesNone (ok_same Wrong effect is) tt
 equ_none line symbols (n ∷ e ∷ rest) effect is = by_case (is_name n.kind && is_mark_of 61 e.kind) is
@@ -171,32 +196,54 @@ equ_none line symbols (n ∷ e ∷ rest) effect is = by_case (is_name n.kind && 
 hint_empty : (o : Outcome (Option Hint)) (out : LineOutput) → mapped o hint_output ≡ Ok out → out.bytes ≡ []
 hint_empty o out e = let it = made o hint_output out e in sym (ap (λ (p : LineOutput). p.bytes) it.2)
 
-directive_end : (d : Directive) (line : List ℕ) (known symbols : NameMap) (arguments : List Token) (parts : List (List Token)) (follows : Bool) (address following next : ℕ) (effect : Effect) (out : LineOutput)
-    → directive_effect d line known arguments parts follows ≡ Ok effect → directive_output d line symbols following parts ≡ Ok out → placed effect address ≡ Ok next → EndsAt effect address next out.bytes
-directive_end directive.Org line known symbols arguments parts follows address following next effect out is puts e = none_end effect address next out.bytes (org_none line known parts effect is) (hint_empty (hint_of directive.Org line symbols parts following) out puts) e
-directive_end directive.Equ line known symbols arguments parts follows address following next effect out is puts e = none_end effect address next out.bytes (equ_none line known arguments effect is) (hint_empty (hint_of directive.Equ line symbols parts following) out puts) e
+directive_end : (d : Directive) (line : List ℕ) (known symbols : NameMap) (arguments : List Token) (parts : List (List Token))
+    (follows : Bool) (address following next : ℕ) (effect : Effect) (out : LineOutput)
+    → directive_effect d line known arguments parts follows ≡ Ok effect → directive_output d line symbols following parts ≡ Ok out
+    → placed effect address ≡ Ok next → EndsAt effect address next out.bytes
+directive_end directive.Org line known symbols arguments parts follows address following next effect out is puts e = none_end effect address
+    next out.bytes (org_none line known parts effect is) (hint_empty (hint_of directive.Org line symbols parts following) out puts) e
+directive_end directive.Equ line known symbols arguments parts follows address following next effect out is puts e = none_end effect address
+    next out.bytes (equ_none line known arguments effect is) (hint_empty (hint_of directive.Equ line symbols parts following) out puts) e
 directive_end directive.Db line known symbols arguments parts follows address following next effect out is puts e =
     let it = made (byte_data line symbols parts) data_output out puts in
-    shaped_end (nat_lt 0 (length parts)) false (length parts + length parts % 2) effect address next out.bytes is (sym (ap (λ (p : LineOutput). length p.bytes) it.2) ∙ byte_size line symbols parts it.0 it.1) e
+    shaped_end (nat_lt 0 (length parts)) false (length parts + length parts % 2) effect address next out.bytes is
+    (sym (ap (λ (p : LineOutput). length p.bytes) it.2) ∙ byte_size line symbols parts it.0 it.1) e
 directive_end directive.Dw line known symbols arguments parts follows address following next effect out is puts e =
     let it = made (word_data line symbols parts) data_output out puts in
-    shaped_end (nat_lt 0 (length parts)) false (2 * length parts) effect address next out.bytes is (sym (ap (λ (p : LineOutput). length p.bytes) it.2) ∙ word_size line symbols parts it.0 it.1) e
-directive_end directive.Start line known symbols arguments parts follows address following next effect out is puts e = none_end effect address next out.bytes (shaped_none (is_start line parts) effect is) (hint_empty (hint_of directive.Start line symbols parts following) out puts) e
-directive_end directive.Lines line known symbols arguments parts follows address following next effect out is puts e = none_end effect address next out.bytes (shaped_none (length parts == 2) effect is) (hint_empty (hint_of directive.Lines line symbols parts following) out puts) e
-directive_end directive.Stack line known symbols arguments parts follows address following next effect out is puts e = none_end effect address next out.bytes (shaped_none (length parts == 4) effect is) (hint_empty (hint_of directive.Stack line symbols parts following) out puts) e
-directive_end directive.Cell line known symbols arguments parts follows address following next effect out is puts e = none_end effect address next out.bytes (shaped_none (is_cell line parts) effect is) (hint_empty (hint_of directive.Cell line symbols parts following) out puts) e
-directive_end directive.Fact line known symbols arguments parts follows address following next effect out is puts e = none_end effect address next out.bytes (shaped_none ((length parts == 3) && follows) effect is) (hint_empty (hint_of directive.Fact line symbols parts following) out puts) e
+    shaped_end (nat_lt 0 (length parts)) false (2 * length parts) effect address next out.bytes is
+    (sym (ap (λ (p : LineOutput). length p.bytes) it.2) ∙ word_size line symbols parts it.0 it.1) e
+directive_end directive.Start line known symbols arguments parts follows address following next effect out is puts e = none_end effect
+    address next out.bytes (shaped_none (is_start line parts) effect is) (hint_empty (hint_of directive.Start line symbols parts following)
+    out puts) e
+directive_end directive.Lines line known symbols arguments parts follows address following next effect out is puts e = none_end effect
+    address next out.bytes (shaped_none (length parts == 2) effect is) (hint_empty (hint_of directive.Lines line symbols parts following)
+    out puts) e
+directive_end directive.Stack line known symbols arguments parts follows address following next effect out is puts e = none_end effect
+    address next out.bytes (shaped_none (length parts == 4) effect is) (hint_empty (hint_of directive.Stack line symbols parts following)
+    out puts) e
+directive_end directive.Cell line known symbols arguments parts follows address following next effect out is puts e = none_end effect
+    address next out.bytes (shaped_none (is_cell line parts) effect is) (hint_empty (hint_of directive.Cell line symbols parts following)
+    out puts) e
+directive_end directive.Fact line known symbols arguments parts follows address following next effect out is puts e = none_end effect
+    address next out.bytes (shaped_none ((length parts == 3) && follows) effect is)
+    (hint_empty (hint_of directive.Fact line symbols parts following) out puts) e
 
-pub line_end : (counts : WordsByName) (a : Action) (line : List ℕ) (known symbols : NameMap) (arguments : List Token) (parts : List (List Token)) (follows : Bool) (address following next : ℕ) (effect : Effect) (out : LineOutput)
-    → effect_of a line known arguments parts follows ≡ Ok effect → action_output a line symbols address following parts ≡ Ok out → placed effect address ≡ Ok next → EndsAt effect address next out.bytes
+pub line_end : (counts : WordsByName) (a : Action) (line : List ℕ) (known symbols : NameMap) (arguments : List Token)
+    (parts : List (List Token)) (follows : Bool) (address following next : ℕ) (effect : Effect) (out : LineOutput)
+    → effect_of a line known arguments parts follows ≡ Ok effect → action_output a line symbols address following parts ≡ Ok out
+    → placed effect address ≡ Ok next → EndsAt effect address next out.bytes
 line_end counts action.Empty line known symbols arguments parts follows address following next effect out is puts e =
-    none_end effect address next out.bytes (subst TakesNone (ok_same Nothing effect is) tt) (sym (ap (λ (p : LineOutput). p.bytes) (ok_same no_output out puts))) e
+    none_end effect address next out.bytes (subst TakesNone (ok_same Nothing effect is) tt)
+    (sym (ap (λ (p : LineOutput). p.bytes) (ok_same no_output out puts))) e
 line_end counts action.Unknown line known symbols arguments parts follows address following next effect out is puts e = absurd cc
 line_end counts action.NoDirective line known symbols arguments parts follows address following next effect out is puts e =
     let no : placed Wrong address ≡ Ok next = ap (λ f. placed f address) (ok_same Wrong effect is) ∙ e in absurd cc
 line_end counts (action.Instruction name) line known symbols arguments parts follows address following next effect out is puts e =
-    let it = made (instruction_of name (record { line = line; symbols = symbols; next = address + 2; parts = parts })) instruction_output out puts in
+    let it = made (instruction_of name (record { line = line; symbols = symbols; next = address + 2; parts = parts })) instruction_output
+    out puts in
     let size : length out.bytes ≡ 2 * words_of name =
-    sym (ap (λ (p : LineOutput). length p.bytes) it.2) ∙ code_size it.0 ∙ ap (λ n. 2 * n) (counts name (record { line = line; symbols = symbols; next = address + 2; parts = parts }) it.0 it.1) in
+    sym (ap (λ (p : LineOutput). length p.bytes) it.2) ∙ code_size it.0 ∙ ap (λ n. 2 * n)
+    (counts name (record { line = line; symbols = symbols; next = address + 2; parts = parts }) it.0 it.1) in
     some_end effect (2 * words_of name) true address next out.bytes (ok_same (Take (2 * words_of name) true) effect is) size e
-line_end counts (action.Directive d) line known symbols arguments parts follows address following next effect out is puts e = directive_end d line known symbols arguments parts follows address following next effect out is puts e
+line_end counts (action.Directive d) line known symbols arguments parts follows address following next effect out is puts e =
+    directive_end d line known symbols arguments parts follows address following next effect out is puts e

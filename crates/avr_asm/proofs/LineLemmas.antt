@@ -1,5 +1,6 @@
 -- Lines of a text, tokens before the line's end, and parts between commas.
-use Rattle.std.proofs.Common.{◌≡◌, ℕ, suc, ◌+◌, ◌-◌, ◌^◌, ◌<◌, ◌≤◌, Bool, true, false, cond, List, [], ◌∷◌, ◌++◌, All, Bor, length, get_or, take, drop, map, refl, sym, ◌∙◌, ap, subst, append_assoc, add-one, drop-cons, drop-drop, arith}
+use Rattle.std.proofs.Common.{◌≡◌, ℕ, suc, ◌+◌, ◌-◌, ◌^◌, ◌<◌, ◌≤◌, Bool, true, false, cond, List, [], ◌∷◌, ◌++◌, All, Bor, length, get_or}
+use Rattle.std.proofs.Common.{take, drop, map, refl, sym, ◌∙◌, ap, subst, append_assoc, add-one, drop-cons, drop-drop, arith}
 use Rattle.std.specs.List.{prefix_len, slice_split, onto_first as onto_first_part, AllByRecursion}
 use Rattle.std.proofs.lemmas.List.{drop_all, length-drop, map-append, append-nil}
 use Rattle.std.proofs.lemmas.List.Elements.{recursion_from_All, All-from_recursion}
@@ -10,14 +11,17 @@ use Rattle.avr_asm.specs.Layout.{EachShort}
 use Rattle.avr_operands.specs.Operands.{AllLie, EachLies}
 
 -- one that passes more, and the first that doesn't
-pub passes_more : (p : Token → Bool) (xs : List Token) (n : ℕ) (d : Token) → n < length xs → p (get_or xs n d) ≡ true → prefix_len p (drop n xs) ≡ 1 + prefix_len p (drop (n + 1) xs)
+pub passes_more : (p : Token → Bool) (xs : List Token) (n : ℕ) (d : Token) → n < length xs → p (get_or xs n d) ≡ true
+    → prefix_len p (drop n xs) ≡ 1 + prefix_len p (drop (n + 1) xs)
 passes_more p xs n d h e = rw (add-one, drop-cons xs n d h) (rw e refl)
 
-pub passes_no_more : (p : Token → Bool) (xs : List Token) (n : ℕ) (d : Token) → n < length xs → p (get_or xs n d) ≡ false → prefix_len p (drop n xs) ≡ 0
+pub passes_no_more : (p : Token → Bool) (xs : List Token) (n : ℕ) (d : Token) → n < length xs → p (get_or xs n d) ≡ false
+    → prefix_len p (drop n xs) ≡ 0
 passes_no_more p xs n d h e = rw (drop-cons xs n d h) (rw e refl)
 
 -- the first line
-pub first_more : (xs : List ℕ) (n : ℕ) → n < length xs → goes_on (get_or xs n 0) ≡ true → first_len (drop n xs) ≡ 1 + first_len (drop (n + 1) xs)
+pub first_more : (xs : List ℕ) (n : ℕ) → n < length xs → goes_on (get_or xs n 0) ≡ true → first_len (drop n xs) ≡ 1 + first_len
+    (drop (n + 1) xs)
 first_more xs n h e = rw (add-one, drop-cons xs n 0 h) (ap (λ b. cond b (1 + first_len (drop (suc n) xs)) 1) e)
 
 pub first_ends : (xs : List ℕ) (n : ℕ) → n < length xs → goes_on (get_or xs n 0) ≡ false → first_len (drop n xs) ≡ 1
@@ -27,14 +31,16 @@ pub first_none : (xs : List ℕ) (n : ℕ) → length xs ≤ n → first_len (dr
 first_none xs n h = ap first_len (drop_all n xs h)
 
 -- a text is its first line and the lines of the rest
-first_onto : (g : Bool) (b k : ℕ) (xs : List ℕ) → lines_of xs ≡ take k xs ∷ lines_of (drop k xs) → cond g (onto_first b (lines_of xs)) ((b ∷ []) ∷ lines_of xs) ≡ take (cond g (1 + k) 1) (b ∷ xs) ∷ lines_of (drop (cond g (1 + k) 1) (b ∷ xs))
+first_onto : (g : Bool) (b k : ℕ) (xs : List ℕ) → lines_of xs ≡ take k xs ∷ lines_of (drop k xs) → cond g (onto_first b (lines_of xs))
+    ((b ∷ []) ∷ lines_of xs) ≡ take (cond g (1 + k) 1) (b ∷ xs) ∷ lines_of (drop (cond g (1 + k) 1) (b ∷ xs))
 first_onto true b k xs h =
     let e : 1 + k ≡ suc k = omega arith in
     ap (onto_first b) h ∙ ap (λ n. take n (b ∷ xs) ∷ lines_of (drop n (b ∷ xs))) (sym e)
 first_onto false b k xs h = refl
 
 first_line : (b : ℕ) (bs : List ℕ) → lines_of (b ∷ bs) ≡ take (first_len (b ∷ bs)) (b ∷ bs) ∷ lines_of (drop (first_len (b ∷ bs)) (b ∷ bs))
-first_line b [] = elim (goes_on b) as (λ g. cond g ((b ∷ []) ∷ []) ((b ∷ []) ∷ []) ≡ take (cond g 1 1) (b ∷ []) ∷ lines_of (drop (cond g 1 1) (b ∷ []))) [ true ↦ refl | false ↦ refl ]
+first_line b [] = elim (goes_on b) as (λ g. cond g ((b ∷ []) ∷ []) ((b ∷ []) ∷ []) ≡ take (cond g 1 1) (b ∷ []) ∷ lines_of
+    (drop (cond g 1 1) (b ∷ []))) [ true ↦ refl | false ↦ refl ]
 first_line b (c ∷ cs) = first_onto (goes_on b) b (first_len (c ∷ cs)) (c ∷ cs) (first_line c cs)
 
 first_of_some : (xs : List ℕ) → 0 < length xs → lines_of xs ≡ take (first_len xs) xs ∷ lines_of (drop (first_len xs) xs)
@@ -42,21 +48,25 @@ first_of_some [] h = absurd (omega arith)
 first_of_some (b ∷ bs) h = first_line b bs
 
 -- one more line is cut off
-pub cut_line : (text : List ℕ) (start n : ℕ) (front more : List (Bor (List ℕ))) (line : Bor (List ℕ)) → start < length text → n ≡ first_len (drop start text) → line.now ≡ take n (drop start text) → more ≡ front ++ line ∷ []
+pub cut_line : (text : List ℕ) (start n : ℕ) (front more : List (Bor (List ℕ))) (line : Bor (List ℕ)) → start < length text → n ≡ first_len
+    (drop start text) → line.now ≡ take n (drop start text) → more ≡ front ++ line ∷ []
     → map (λ l. l.now) more ++ lines_of (drop (start + n) text) ≡ map (λ l. l.now) front ++ lines_of (drop start text)
 cut_line text start n front more line h is_n is_line is_more =
     let rest = drop start text in
     let some : 0 < length rest = omega (arith, length-drop start text) in
     let after : drop n rest ≡ drop (start + n) text = drop-drop n start text in
     let cut : lines_of rest ≡ line.now ∷ lines_of (drop (start + n) text) =
-    first_of_some rest some ∙ ap (λ k. take k rest ∷ lines_of (drop k rest)) (sym is_n) ∙ ap (λ l. l ∷ lines_of (drop n rest)) (sym is_line) ∙ ap (λ xs. line.now ∷ lines_of xs) after in
+    first_of_some rest some ∙ ap (λ k. take k rest ∷ lines_of (drop k rest)) (sym is_n) ∙ ap (λ l. l ∷ lines_of (drop n rest)) (sym is_line)
+    ∙ ap (λ xs. line.now ∷ lines_of xs) after in
     ap (λ (ls : List (Bor (List ℕ))). map (λ l. l.now) ls ++ lines_of (drop (start + n) text)) is_more
     ∙ ap (λ ls. ls ++ lines_of (drop (start + n) text)) (map-append (λ (l : Bor (List ℕ)). l.now) front (line ∷ []))
     ∙ append_assoc (map (λ (l : Bor (List ℕ)). l.now) front) (line.now ∷ []) (lines_of (drop (start + n) text))
     ∙ ap (λ ls. map (λ (l : Bor (List ℕ)). l.now) front ++ ls) (sym cut)
 
-pub no_more_lines : (text : List ℕ) (start : ℕ) (front : List (Bor (List ℕ))) → length text ≤ start → map (λ l. l.now) front ++ lines_of (drop start text) ≡ map (λ l. l.now) front
-no_more_lines text start front h = ap (λ xs. map (λ (l : Bor (List ℕ)). l.now) front ++ lines_of xs) (drop_all start text h) ∙ append-nil (map (λ (l : Bor (List ℕ)). l.now) front)
+pub no_more_lines : (text : List ℕ) (start : ℕ) (front : List (Bor (List ℕ))) → length text ≤ start → map (λ l. l.now) front
+    ++ lines_of (drop start text) ≡ map (λ l. l.now) front
+no_more_lines text start front h = ap (λ xs. map (λ (l : Bor (List ℕ)). l.now) front ++ lines_of xs) (drop_all start text h)
+    ∙ append-nil (map (λ (l : Bor (List ℕ)). l.now) front)
 
 -- the parts of a list of tokens that lie in the line
 AllParts : (P : Token → Type 0) → List (List Token) → Type 0
@@ -76,7 +86,8 @@ split_parts P q (t ∷ ts) h = elim (q t) as (λ b. AllParts P (cond b ([] ∷ s
   | false ↦ onto_parts P t (slice_split q ts) h.0 (split_parts P q ts h.1)
 ]
 
-lent_parts : (P : Token → Type 0) (parts : List (List Token)) (items : List (Bor (List Token))) → map (λ p. p.now) items ≡ parts → AllParts P parts → AllByRecursion (λ p. All P p.now) items
+lent_parts : (P : Token → Type 0) (parts : List (List Token)) (items : List (Bor (List Token))) → map (λ p. p.now) items ≡ parts
+    → AllParts P parts → AllByRecursion (λ p. All P p.now) items
 unfolding AllParts
 lent_parts P parts [] e h = tt
 lent_parts P [] (i ∷ items) e h = absurd cc
@@ -85,7 +96,8 @@ lent_parts P (x ∷ xs) (i ∷ items) e h =
     let rest : map (λ (p : Bor (List Token)). p.now) items ≡ xs = cc in
     (subst (All P) (sym first) (All-from_recursion P x h.0), lent_parts P xs items rest h.1)
 
-pub parts_lie : (len : ℕ) (q : Token → Bool) (ts : List Token) (items : List (Bor (List Token))) → AllLie len ts → map (λ p. p.now) items ≡ slice_split q ts → EachLies len items
+pub parts_lie : (len : ℕ) (q : Token → Bool) (ts : List Token) (items : List (Bor (List Token))) → AllLie len ts → map (λ p. p.now)
+    items ≡ slice_split q ts → EachLies len items
 parts_lie len q ts items h e =
     All-from_recursion (λ p. AllLie len p.now) items
     (lent_parts (Lies len) (slice_split q ts) items e (split_parts (Lies len) q ts (recursion_from_All (Lies len) ts h)))
@@ -99,16 +111,18 @@ weaker : (n m : ℕ) (ls : List (List ℕ)) → n ≤ m → AllByRecursion (λ l
 weaker n m [] h k = tt
 weaker n m (l ∷ ls) h k = let first : length l ≤ n = k.0 in (omega arith, weaker n m ls h k.1)
 
-onto_short : (b n : ℕ) (ls : List (List ℕ)) → AllByRecursion (λ l. length l ≤ n) ls → AllByRecursion (λ l. length l ≤ suc n) (onto_first b ls)
+onto_short : (b n : ℕ) (ls : List (List ℕ)) → AllByRecursion (λ l. length l ≤ n) ls → AllByRecursion (λ l. length l ≤ suc n)
+    (onto_first b ls)
 onto_short b n [] k = (omega arith, tt)
 onto_short b n (l ∷ ls) k = let first : length l ≤ n = k.0 in (omega arith, weaker n (suc n) ls (omega arith) k.1)
 
 each_line : (text : List ℕ) → AllByRecursion (λ l. length l ≤ length text) (lines_of text)
 each_line [] = tt
-each_line (b ∷ bs) = elim (goes_on b) as (λ g. AllByRecursion (λ l. length l ≤ suc (length bs)) (cond g (onto_first b (lines_of bs)) ((b ∷ []) ∷ lines_of bs))) [
-  | true ↦ onto_short b (length bs) (lines_of bs) (each_line bs)
-  | false ↦ (omega arith, weaker (length bs) (suc (length bs)) (lines_of bs) (omega arith) (each_line bs))
-]
+each_line (b ∷ bs) = elim (goes_on b) as (λ g. AllByRecursion (λ l. length l ≤ suc (length bs))
+    (cond g (onto_first b (lines_of bs)) ((b ∷ []) ∷ lines_of bs))) [
+      | true ↦ onto_short b (length bs) (lines_of bs) (each_line bs)
+      | false ↦ (omega arith, weaker (length bs) (suc (length bs)) (lines_of bs) (omega arith) (each_line bs))
+    ]
 
 onto_count : (b n : ℕ) (ls : List (List ℕ)) → length ls ≤ n → length (onto_first b ls) ≤ suc n
 onto_count b n [] k = omega arith
@@ -121,7 +135,8 @@ count_lines (b ∷ bs) = elim (goes_on b) as (λ g. length (cond g (onto_first b
   | false ↦ omega (arith, count_lines bs)
 ]
 
-short_lines : (n : ℕ) (lines : List (List ℕ)) (items : List (Bor (List ℕ))) → n < 2 ^ 32 - 1 → map (λ l. l.now) items ≡ lines → AllByRecursion (λ l. length l ≤ n) lines → AllByRecursion (λ l. length l.now < 2 ^ 32 - 1) items
+short_lines : (n : ℕ) (lines : List (List ℕ)) (items : List (Bor (List ℕ))) → n < 2 ^ 32 - 1 → map (λ l. l.now) items ≡ lines
+    → AllByRecursion (λ l. length l ≤ n) lines → AllByRecursion (λ l. length l.now < 2 ^ 32 - 1) items
 short_lines n lines [] h e k = tt
 short_lines n [] (i ∷ items) h e k = absurd cc
 short_lines n (x ∷ xs) (i ∷ items) h e k =
@@ -134,8 +149,11 @@ lent_len : (ls : List (Bor (List ℕ))) → length (map (λ l. l.now) ls) ≡ le
 lent_len [] = refl
 lent_len (l ∷ ls) = ap suc (lent_len ls)
 
-pub each_short : (text : List ℕ) (items : List (Bor (List ℕ))) → length text < 2 ^ 32 - 1 → map (λ l. l.now) items ≡ lines_of text → EachShort items
-each_short text items h e = All-from_recursion (λ l. length l.now < 2 ^ 32 - 1) items (short_lines (length text) (lines_of text) items h e (each_line text))
+pub each_short : (text : List ℕ) (items : List (Bor (List ℕ))) → length text < 2 ^ 32 - 1 → map (λ l. l.now) items ≡ lines_of text
+    → EachShort items
+each_short text items h e = All-from_recursion (λ l. length l.now < 2 ^ 32 - 1) items (short_lines (length text) (lines_of text) items h e
+    (each_line text))
 
-pub few_lines : (text : List ℕ) (items : List (Bor (List ℕ))) → length text < 2 ^ 32 - 1 → map (λ l. l.now) items ≡ lines_of text → length items < 2 ^ 32 - 1
+pub few_lines : (text : List ℕ) (items : List (Bor (List ℕ))) → length text < 2 ^ 32 - 1 → map (λ l. l.now) items ≡ lines_of text
+    → length items < 2 ^ 32 - 1
 few_lines text items h e = omega (arith, lent_len items, ap length e, count_lines text)

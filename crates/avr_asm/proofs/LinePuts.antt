@@ -17,21 +17,29 @@ use Rattle.avr_asm.specs.Hints.{hint_of, mapped}
 use Rattle.avr_operands.specs.Instructions.{instruction_of}
 use Rattle.avr_asm.specs.Layout.{arguments_in}
 use Rattle.avr_asm.specs.Lines.{content_of, body_of, action_of, parts_of}
-use Rattle.avr_asm.specs.Assembly.{Output, with_image, with_item, with_instruction, with_data, with_hint, with_directive, with_action, with_tokens, with_line, following}
+use Rattle.avr_asm.specs.Assembly.{Output, with_image, with_item, with_instruction, with_data, with_hint, with_directive, with_action}
+use Rattle.avr_asm.specs.Assembly.{with_tokens, with_line, following}
 use Rattle.avr_asm.specs.Relation.{item_of, hint_list}
-use Rattle.avr_asm.specs.LineOutputs.{LineOutput, instruction_output, data_output, hint_output, directive_output, action_output, tokens_output, line_output}
+use Rattle.avr_asm.specs.LineOutputs.{LineOutput, instruction_output, data_output, hint_output, directive_output, action_output}
+use Rattle.avr_asm.specs.LineOutputs.{tokens_output, line_output}
 
 -- what is there, with a line's output put at its address
 abbrev pub with_output : ℕ → ℕ → Output → LineOutput → Outcome Output
 with_output k address out o =
-    mapped (put address o.bytes out.image) (λ image. record { image = image; items = out.items ++ item_of k address o.instruction; hints = out.hints ++ hint_list o.hint })
+    mapped (put address o.bytes out.image) (λ image. record {
+      image = image;
+      items = out.items ++ item_of k address o.instruction;
+      hints = out.hints ++ hint_list o.hint;
+    })
 
 -- nothing more is what was there
 same_lists : (out : Output) (image : Flash) (items : List Placed) (hints : List Hint) → items ≡ out.items → hints ≡ out.hints
-    → ◌≡◌ {A = Outcome Output} (Ok (record { image = image; items = items; hints = hints })) (Ok (record { image = image; items = out.items; hints = out.hints }))
+    → ◌≡◌ {A = Outcome Output} (Ok (record { image = image; items = items; hints = hints }))
+    (Ok (record { image = image; items = out.items; hints = out.hints }))
 same_lists out image items hints e f = λ i. Ok (record { image = image; items = e i; hints = f i })
 
-unchanged : (out : Output) → ◌≡◌ {A = Outcome Output} (Ok (record { image = out.image; items = out.items ++ []; hints = out.hints ++ [] })) (Ok out)
+unchanged : (out : Output) → ◌≡◌ {A = Outcome Output} (Ok (record { image = out.image; items = out.items ++ []; hints = out.hints ++ [] }))
+    (Ok out)
 unchanged out = same_lists out out.image (out.items ++ []) (out.hints ++ []) (append-nil out.items) (append-nil out.hints)
 
 item_put : (k address : ℕ) (out : Output) (i : Instr) → with_instruction k address out i ≡ with_output k address out (instruction_output i)
@@ -39,46 +47,69 @@ unfolding with_instruction
 item_put k address out i = by_case (put address (instruction_bytes i) out.image)
   where
     by_case : (p : Outcome Flash) → with_item out (record { at = address / 2; line = k; instr = i }) p
-        ≡ mapped p (λ image. record { image = image; items = out.items ++ record { at = address / 2; line = k; instr = i } ∷ []; hints = out.hints ++ [] })
-    by_case (Ok image) = ap (λ hs. Ok (record { image = image; items = out.items ++ record { at = address / 2; line = k; instr = i } ∷ []; hints = hs })) (sym (append-nil out.hints))
+        ≡ mapped p (λ image. record {
+          image = image;
+          items = out.items ++ record { at = address / 2; line = k; instr = i } ∷ [];
+          hints = out.hints ++ [];
+        })
+    by_case (Ok image) = ap (λ hs. Ok (record {
+      image = image;
+      items = out.items ++ record { at = address / 2; line = k; instr = i } ∷ [];
+      hints = hs;
+    })) (sym (append-nil out.hints))
     by_case (Err fault) = refl
 
 data_put : (k address : ℕ) (out : Output) (bytes : List ℕ) → with_data address out bytes ≡ with_output k address out (data_output bytes)
 unfolding with_data
 data_put k address out bytes = by_case (put address bytes out.image)
   where
-    by_case : (p : Outcome Flash) → with_image out p ≡ mapped p (λ image. record { image = image; items = out.items ++ []; hints = out.hints ++ [] })
+    by_case : (p : Outcome Flash) → with_image out p ≡ mapped p
+        (λ image. record { image = image; items = out.items ++ []; hints = out.hints ++ [] })
     by_case (Ok image) = sym (same_lists out image (out.items ++ []) (out.hints ++ []) (append-nil out.items) (append-nil out.hints))
     by_case (Err fault) = refl
 
 hint_put : (k address : ℕ) (out : Output) (hint : Option Hint) → with_hint out hint ≡ with_output k address out (hint_output hint)
 hint_put k address out None = sym (unchanged out)
-hint_put k address out (Some hint) = ap (λ is. Ok (record { image = out.image; items = is; hints = out.hints ++ hint ∷ [] })) (sym (append-nil out.items))
+hint_put k address out (Some hint) = ap (λ is. Ok (record { image = out.image; items = is; hints = out.hints ++ hint ∷ [] }))
+    (sym (append-nil out.items))
 
 -- a step on a value is one on what is made of it
-on_mapped : {X : Type 0} (o : Outcome X) (f : X → LineOutput) (g : X → Outcome Output) (h : LineOutput → Outcome Output) → ((x : X) → g x ≡ h (f x)) → (o >>= g) ≡ (mapped o f >>= h)
+on_mapped : {X : Type 0} (o : Outcome X) (f : X → LineOutput) (g : X → Outcome Output) (h : LineOutput → Outcome Output)
+    → ((x : X) → g x ≡ h (f x)) → (o >>= g) ≡ (mapped o f >>= h)
 on_mapped (Ok x) f g h e = e x
 on_mapped (Err fault) f g h e = refl
 
 directive_put : (d : Directive) (line : List ℕ) (symbols : NameMap) (k address following : ℕ) (parts : List (List Token)) (out : Output)
-    → with_directive d line symbols address following parts out ≡ (directive_output d line symbols following parts >>= with_output k address out)
-directive_put directive.Db line symbols k address following parts out = on_mapped (byte_data line symbols parts) data_output (with_data address out) (with_output k address out) (data_put k address out)
-directive_put directive.Dw line symbols k address following parts out = on_mapped (word_data line symbols parts) data_output (with_data address out) (with_output k address out) (data_put k address out)
-directive_put directive.Org line symbols k address following parts out = on_mapped (hint_of directive.Org line symbols parts following) hint_output (with_hint out) (with_output k address out) (hint_put k address out)
-directive_put directive.Equ line symbols k address following parts out = on_mapped (hint_of directive.Equ line symbols parts following) hint_output (with_hint out) (with_output k address out) (hint_put k address out)
-directive_put directive.Start line symbols k address following parts out = on_mapped (hint_of directive.Start line symbols parts following) hint_output (with_hint out) (with_output k address out) (hint_put k address out)
-directive_put directive.Lines line symbols k address following parts out = on_mapped (hint_of directive.Lines line symbols parts following) hint_output (with_hint out) (with_output k address out) (hint_put k address out)
-directive_put directive.Stack line symbols k address following parts out = on_mapped (hint_of directive.Stack line symbols parts following) hint_output (with_hint out) (with_output k address out) (hint_put k address out)
-directive_put directive.Cell line symbols k address following parts out = on_mapped (hint_of directive.Cell line symbols parts following) hint_output (with_hint out) (with_output k address out) (hint_put k address out)
-directive_put directive.Fact line symbols k address following parts out = on_mapped (hint_of directive.Fact line symbols parts following) hint_output (with_hint out) (with_output k address out) (hint_put k address out)
+    → with_directive d line symbols address following parts out ≡ (directive_output d line symbols following parts >>= with_output k address
+    out)
+directive_put directive.Db line symbols k address following parts out = on_mapped (byte_data line symbols parts) data_output
+    (with_data address out) (with_output k address out) (data_put k address out)
+directive_put directive.Dw line symbols k address following parts out = on_mapped (word_data line symbols parts) data_output
+    (with_data address out) (with_output k address out) (data_put k address out)
+directive_put directive.Org line symbols k address following parts out = on_mapped (hint_of directive.Org line symbols parts following)
+    hint_output (with_hint out) (with_output k address out) (hint_put k address out)
+directive_put directive.Equ line symbols k address following parts out = on_mapped (hint_of directive.Equ line symbols parts following)
+    hint_output (with_hint out) (with_output k address out) (hint_put k address out)
+directive_put directive.Start line symbols k address following parts out = on_mapped (hint_of directive.Start line symbols parts following)
+    hint_output (with_hint out) (with_output k address out) (hint_put k address out)
+directive_put directive.Lines line symbols k address following parts out = on_mapped (hint_of directive.Lines line symbols parts following)
+    hint_output (with_hint out) (with_output k address out) (hint_put k address out)
+directive_put directive.Stack line symbols k address following parts out = on_mapped (hint_of directive.Stack line symbols parts following)
+    hint_output (with_hint out) (with_output k address out) (hint_put k address out)
+directive_put directive.Cell line symbols k address following parts out = on_mapped (hint_of directive.Cell line symbols parts following)
+    hint_output (with_hint out) (with_output k address out) (hint_put k address out)
+directive_put directive.Fact line symbols k address following parts out = on_mapped (hint_of directive.Fact line symbols parts following)
+    hint_output (with_hint out) (with_output k address out) (hint_put k address out)
 
 action_put : (a : Action) (line : List ℕ) (symbols : NameMap) (k address following : ℕ) (parts : List (List Token)) (out : Output)
-    → with_action a line symbols k address following parts out ≡ (action_output a line symbols address following parts >>= with_output k address out)
+    → with_action a line symbols k address following parts out ≡ (action_output a line symbols address following parts >>= with_output k
+    address out)
 action_put action.Empty line symbols k address following parts out = sym (unchanged out)
 action_put action.Unknown line symbols k address following parts out = sym (unchanged out)
 action_put action.NoDirective line symbols k address following parts out = sym (unchanged out)
 action_put (action.Instruction mnemonic) line symbols k address following parts out =
-    on_mapped (instruction_of mnemonic (record { line = line; symbols = symbols; next = address + 2; parts = parts })) instruction_output (with_instruction k address out) (with_output k address out) (item_put k address out)
+    on_mapped (instruction_of mnemonic (record { line = line; symbols = symbols; next = address + 2; parts = parts })) instruction_output
+    (with_instruction k address out) (with_output k address out) (item_put k address out)
 action_put (action.Directive d) line symbols k address following parts out = directive_put d line symbols k address following parts out
 
 pub line_put : (line : List ℕ) (symbols : NameMap) (k address following : ℕ) (out : Output)
@@ -86,6 +117,8 @@ pub line_put : (line : List ℕ) (symbols : NameMap) (k address following : ℕ)
 unfolding with_line line_output
 line_put line symbols k address following out = by_case (content_of line)
   where
-    by_case : (o : Outcome (List Token)) → (o >>= with_tokens line symbols k address following out) ≡ ((o >>= tokens_output line symbols address following) >>= with_output k address out)
-    by_case (Ok tokens) = action_put (action_of line (body_of tokens)) line symbols k address following (parts_of (arguments_in line tokens)) out
+    by_case : (o : Outcome (List Token)) → (o >>= with_tokens line symbols k address following out)
+        ≡ ((o >>= tokens_output line symbols address following) >>= with_output k address out)
+    by_case (Ok tokens) = action_put (action_of line (body_of tokens)) line symbols k address following
+        (parts_of (arguments_in line tokens)) out
     by_case (Err fault) = refl

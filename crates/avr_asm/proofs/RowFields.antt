@@ -5,14 +5,20 @@ use Rattle.std.specs.List.{AllByRecursion}
 use Rattle.std.proofs.Math.Nat.{mod-eq_of_lt}
 use Prim.Native.Char.{Char, code}
 use Rattle.avr_table.specs.declared.Instr.{Instr}
-use Rattle.avr_table.specs.declared.Instr.TheVariants.{Add, Adc, Adiw, Sub, Subi, Sbc, Sbci, Sbiw, And, Andi, Or, Ori, Eor, Com, Neg, Inc, Dec, Mul, Muls, Mulsu, Fmul, Fmuls, Fmulsu, Rjmp, Ijmp, Jmp, Rcall, Icall, Call, Ret, Reti, Cpse, Cp, Cpc, Cpi, Sbrc, Sbrs, Sbic, Sbis, Brbs, Brbc, Mov, Movw, Ldi, LdX, LdXInc, LdXDec, LdYInc, LdYDec, LdZInc, LdZDec, Ldd, Lds, StX, StXInc, StXDec, StYInc, StYDec, StZInc, StZDec, Std, Sts, Lpm, LpmZ, LpmZInc, Spm, In, Out, Push, Pop, Lsr, Ror, Asr, Swap, Bset, Bclr, Sbi, Cbi, Bst, Bld, Break, Nop, Sleep, Wdr}
+use Rattle.avr_table.specs.declared.Instr.TheVariants.{Add, Adc, Adiw, Sub, Subi, Sbc, Sbci, Sbiw, And, Andi, Or, Ori, Eor, Com, Neg, Inc}
+use Rattle.avr_table.specs.declared.Instr.TheVariants.{Dec, Mul, Muls, Mulsu, Fmul, Fmuls, Fmulsu, Rjmp, Ijmp, Jmp, Rcall, Icall, Call, Ret}
+use Rattle.avr_table.specs.declared.Instr.TheVariants.{Reti, Cpse, Cp, Cpc, Cpi, Sbrc, Sbrs, Sbic, Sbis, Brbs, Brbc, Mov, Movw, Ldi, LdX}
+use Rattle.avr_table.specs.declared.Instr.TheVariants.{LdXInc, LdXDec, LdYInc, LdYDec, LdZInc, LdZDec, Ldd, Lds, StX, StXInc, StXDec}
+use Rattle.avr_table.specs.declared.Instr.TheVariants.{StYInc, StYDec, StZInc, StZDec, Std, Sts, Lpm, LpmZ, LpmZInc, Spm, In, Out, Push}
+use Rattle.avr_table.specs.declared.Instr.TheVariants.{Pop, Lsr, Ror, Asr, Swap, Bset, Bclr, Sbi, Cbi, Bst, Bld, Break, Nop, Sleep, Wdr}
 use Rattle.avr_table.specs.Pattern.{digit}
 use Rattle.avr_table.specs.Rows.{row, pattern_of}
 use Rattle.avr_asm.specs.Codes.{field_of, count_of}
 
 -- a letter's number fits its places
 abbrev pub EachSpelled : List (Char × ℕ) → List ℕ → List (Char × ℕ) → Type 0
-EachSpelled L p letters = AllByRecursion (λ x. (digit (code x.0) ≡ None) × (field_of L (code x.0) % 2 ^ count_of (code x.0) p ≡ x.1)) letters
+EachSpelled L p letters = AllByRecursion (λ x. (digit (code x.0) ≡ None) × (field_of L (code x.0) % 2 ^ count_of (code x.0) p ≡ x.1))
+    letters
 
 pub each_spelled : (i : Instr) → EachSpelled (row i).letters (pattern_of i) (row i).letters
 each_spelled (Add d r) = ((refl, mod-eq_of_lt d.in_range), ((refl, mod-eq_of_lt r.in_range), tt))

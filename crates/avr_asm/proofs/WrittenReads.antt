@@ -1,5 +1,6 @@
 -- The words that a row's pattern writes are read as its instruction, whatever word follows an instruction of one.
-use Rattle.std.proofs.Common.{◌≡◌, ℕ, zero, suc, ◌+◌, ◌-◌, ◌*◌, ◌/◌, ◌%◌, ◌^◌, ◌<◌, Bool, true, false, ◌&&◌, ◌||◌, not, cond, List, [], ◌∷◌, ◌++◌, length, nat_eq, nat_le, replicate, refl, sym, ◌∙◌, ap, subst, arith}
+use Rattle.std.proofs.Common.{◌≡◌, ℕ, zero, suc, ◌+◌, ◌-◌, ◌*◌, ◌/◌, ◌%◌, ◌^◌, ◌<◌, Bool, true, false, ◌&&◌, ◌||◌, not, cond, List, [], ◌∷◌}
+use Rattle.std.proofs.Common.{◌++◌, length, nat_eq, nat_le, replicate, refl, sym, ◌∙◌, ap, subst, arith}
 use Rattle.std.specs.Prelude.{Option, Some, None}
 use Rattle.std.specs.Int.{bit_at}
 use Rattle.std.proofs.lemmas.Nat.{mod-pow-add, pow-add}
@@ -23,7 +24,8 @@ bit-lt (Some true) v k = omega arith
 written-lt : (L : List (Char × ℕ)) (p : List ℕ) → written L p < 2 ^ length p
 unfolding written
 written-lt L [] = omega arith
-written-lt L (c ∷ cs) = more (place_bit (digit c) (field_of L c) (count_of c cs)) (written L cs) (length cs) (bit-lt (digit c) (field_of L c) (count_of c cs)) (written-lt L cs)
+written-lt L (c ∷ cs) = more (place_bit (digit c) (field_of L c) (count_of c cs)) (written L cs) (length cs)
+    (bit-lt (digit c) (field_of L c) (count_of c cs)) (written-lt L cs)
   where
     more : (b x k : ℕ) → b < 2 → x < 2 ^ k → b * 2 ^ k + x < 2 ^ suc k
     more zero x k hb hx = omega arith
@@ -40,7 +42,8 @@ cut : (L : List (Char × ℕ)) (c : ℕ) (cs : List ℕ) (n : ℕ) → n % 2 ^ s
 unfolding written
 cut L c cs n e =
     let one : 1 + length cs ≡ suc (length cs) = omega arith in
-    parts_of n (place_bit (digit c) (field_of L c) (count_of c cs)) (length cs) (written L cs) (bit-lt (digit c) (field_of L c) (count_of c cs)) (written-lt L cs) (ap (λ k. n % 2 ^ k) one ∙ e)
+    parts_of n (place_bit (digit c) (field_of L c) (count_of c cs)) (length cs) (written L cs)
+    (bit-lt (digit c) (field_of L c) (count_of c cs)) (written-lt L cs) (ap (λ k. n % 2 ^ k) one ∙ e)
 
 -- its fixed bits stand
 written_stands : (L : List (Char × ℕ)) (p : List ℕ) (n : ℕ) → n % 2 ^ length p ≡ written L p → stands p n ≡ true
@@ -48,28 +51,34 @@ unfolding stands
 written_stands L [] n e = refl
 written_stands L (c ∷ cs) n e =
     let parts = cut L c cs n e in
-    ap (λ b. b && stands cs n) (bit_met (digit c) (field_of L c) (count_of c cs) (bit_at n (length cs)) parts.0) ∙ written_stands L cs n parts.1
+    ap (λ b. b && stands cs n) (bit_met (digit c) (field_of L c) (count_of c cs) (bit_at n (length cs)) parts.0) ∙ written_stands L cs n
+    parts.1
 
 -- and its letters spell their numbers
-written_spells : (L : List (Char × ℕ)) (c : ℕ) (p : List ℕ) (n : ℕ) → digit c ≡ None → n % 2 ^ length p ≡ written L p → spelt c p n ≡ field_of L c % 2 ^ count_of c p
+written_spells : (L : List (Char × ℕ)) (c : ℕ) (p : List ℕ) (n : ℕ) → digit c ≡ None → n % 2 ^ length p ≡ written L p
+    → spelt c p n ≡ field_of L c % 2 ^ count_of c p
 unfolding spelt
 written_spells L c [] n none e = omega arith
 written_spells L c (d ∷ ds) n none e =
     let parts = cut L d ds n e in
     by_case (nat_eq d c) refl parts.0 (written_spells L c ds n none parts.1)
   where
-    by_case : (t : Bool) → nat_eq d c ≡ t → bit_at n (length ds) ≡ place_bit (digit d) (field_of L d) (count_of d ds) → spelt c ds n ≡ field_of L c % 2 ^ count_of c ds
-        → cond t (bit_at n (length ds) * 2 ^ count_of c ds + spelt c ds n) (spelt c ds n) ≡ field_of L c % 2 ^ cond t (1 + count_of c ds) (count_of c ds)
+    by_case : (t : Bool) → nat_eq d c ≡ t → bit_at n (length ds) ≡ place_bit (digit d) (field_of L d) (count_of d ds)
+        → spelt c ds n ≡ field_of L c % 2 ^ count_of c ds
+        → cond t (bit_at n (length ds) * 2 ^ count_of c ds + spelt c ds n) (spelt c ds n) ≡ field_of L c % 2 ^ cond t (1 + count_of c ds)
+        (count_of c ds)
     by_case false is bit rest = rest
     by_case true is bit rest =
         let here : d ≡ c = same d c is in
         let same_bit : bit_at n (length ds) ≡ bit_at (field_of L c) (count_of c ds) =
-        bit ∙ ap (λ x. place_bit (digit x) (field_of L x) (count_of x ds)) here ∙ ap (λ o. place_bit o (field_of L c) (count_of c ds)) none in
+        bit ∙ ap (λ x. place_bit (digit x) (field_of L x) (count_of x ds)) here ∙ ap (λ o. place_bit o (field_of L c) (count_of c ds))
+        none in
         ap (λ b. b * 2 ^ count_of c ds + spelt c ds n) same_bit
         ∙ ap (λ x. bit_at (field_of L c) (count_of c ds) * 2 ^ count_of c ds + x) rest
         ∙ sym (mod-pow-add (field_of L c) 1 (count_of c ds))
 
-written_letters : (L letters : List (Char × ℕ)) (p : List ℕ) (n : ℕ) → EachSpelled L p letters → n % 2 ^ length p ≡ written L p → Spells p n letters
+written_letters : (L letters : List (Char × ℕ)) (p : List ℕ) (n : ℕ) → EachSpelled L p letters → n % 2 ^ length p ≡ written L p
+    → Spells p n letters
 written_letters L [] p n each e = tt
 written_letters L (x ∷ xs) p n each e =
     (sym (spelled_is (code x.0) p n ∙ written_spells L (code x.0) p n each.0.0 e ∙ each.0.1), written_letters L xs p n each.1 e)
@@ -78,7 +87,11 @@ pub reads_written : (i : Instr) → ReadsAt (number_of i) i
 unfolding number_of
 reads_written i =
     let small : number_of i % 2 ^ length (pattern_of i) ≡ number_of i = mod-eq_of_lt (written-lt (row i).letters (pattern_of i)) in
-    record { fixed = written_stands (row i).letters (pattern_of i) (number_of i) small; letters = written_letters (row i).letters (row i).letters (pattern_of i) (number_of i) (each_spelled i) small }
+    record {
+      fixed = written_stands (row i).letters (pattern_of i) (number_of i) small;
+      letters = written_letters (row i).letters
+          (row i).letters (pattern_of i) (number_of i) (each_spelled i) small;
+    }
 
 -- places that a pattern's end doesn't look at
 high_bit : (n k j : ℕ) → bit_at n (j + k) ≡ bit_at (n / 2 ^ k) j
@@ -89,7 +102,8 @@ high_bit n k j =
 same_bit : (ps : List ℕ) (k n m : ℕ) → n / 2 ^ k ≡ m / 2 ^ k → bit_at n (length (ps ++ dashes k)) ≡ bit_at m (length (ps ++ dashes k))
 same_bit ps k n m e =
     let len : length (ps ++ dashes k) ≡ length ps + k = length-append ps (dashes k) ∙ ap (λ x. length ps + x) (dashes-length k) in
-    ap (bit_at n) len ∙ high_bit n k (length ps) ∙ ap (λ x. bit_at x (length ps)) e ∙ sym (high_bit m k (length ps)) ∙ sym (ap (bit_at m) len)
+    ap (bit_at n) len ∙ high_bit n k (length ps) ∙ ap (λ x. bit_at x (length ps)) e ∙ sym (high_bit m k (length ps))
+    ∙ sym (ap (bit_at m) len)
 
 any_stands : (k n : ℕ) → stands (replicate k 45) n ≡ true
 unfolding stands
@@ -99,26 +113,36 @@ any_stands (suc k) n = any_stands k n
 none_spelt : (c k n : ℕ) → nat_eq 45 c ≡ false → spelt c (replicate k 45) n ≡ 0
 unfolding spelt
 none_spelt c zero n lacks = refl
-none_spelt c (suc k) n lacks = ap (λ t. cond t (bit_at n (length {A = ℕ} (replicate k 45)) * 2 ^ count_of c (replicate k 45) + spelt c (replicate k 45) n) (spelt c (replicate k 45) n)) lacks ∙ none_spelt c k n lacks
+none_spelt c (suc k) n lacks =
+    ap (λ t. cond t (bit_at n (length {A = ℕ} (replicate k 45)) * 2 ^ count_of c (replicate k 45) + spelt c (replicate k 45) n)
+    (spelt c (replicate k 45) n)) lacks ∙ none_spelt c k n lacks
 
 same_stands : (ps : List ℕ) (k n m : ℕ) → n / 2 ^ k ≡ m / 2 ^ k → stands (ps ++ dashes k) n ≡ stands (ps ++ dashes k) m
 unfolding stands dashes
 same_stands [] k n m e = any_stands k n ∙ sym (any_stands k m)
 same_stands (c ∷ cs) k n m e =
-    ap (λ b. meets (digit c) b && stands (cs ++ dashes k) n) (same_bit cs k n m e) ∙ ap (λ t. meets (digit c) (bit_at m (length (cs ++ dashes k))) && t) (same_stands cs k n m e)
+    ap (λ b. meets (digit c) b && stands (cs ++ dashes k) n) (same_bit cs k n m e)
+    ∙ ap (λ t. meets (digit c) (bit_at m (length (cs ++ dashes k))) && t) (same_stands cs k n m e)
 
-same_spelt : (c : ℕ) (ps : List ℕ) (k n m : ℕ) → nat_eq 45 c ≡ false → n / 2 ^ k ≡ m / 2 ^ k → spelt c (ps ++ dashes k) n ≡ spelt c (ps ++ dashes k) m
+same_spelt : (c : ℕ) (ps : List ℕ) (k n m : ℕ) → nat_eq 45 c ≡ false → n / 2 ^ k ≡ m / 2 ^ k → spelt c (ps ++ dashes k) n ≡ spelt c
+    (ps ++ dashes k) m
 unfolding spelt dashes
 same_spelt c [] k n m lacks e = none_spelt c k n lacks ∙ sym (none_spelt c k m lacks)
 same_spelt c (d ∷ ds) k n m lacks e =
-    ap (λ b. cond (nat_eq d c) (b * 2 ^ count_of c (ds ++ dashes k) + spelt c (ds ++ dashes k) n) (spelt c (ds ++ dashes k) n)) (same_bit ds k n m e)
-    ∙ ap (λ x. cond (nat_eq d c) (bit_at m (length (ds ++ dashes k)) * 2 ^ count_of c (ds ++ dashes k) + x) x) (same_spelt c ds k n m lacks e)
+    ap (λ b. cond (nat_eq d c) (b * 2 ^ count_of c (ds ++ dashes k) + spelt c (ds ++ dashes k) n) (spelt c (ds ++ dashes k) n))
+    (same_bit ds k n m e)
+    ∙ ap (λ x. cond (nat_eq d c) (bit_at m (length (ds ++ dashes k)) * 2 ^ count_of c (ds ++ dashes k) + x) x)
+    (same_spelt c ds k n m lacks e)
 
-same_letters : (letters : List (Char × ℕ)) (ps : List ℕ) (k n m : ℕ) → wanted letters 45 ≡ false → n / 2 ^ k ≡ m / 2 ^ k → Spells (ps ++ dashes k) n letters → Spells (ps ++ dashes k) m letters
+same_letters : (letters : List (Char × ℕ)) (ps : List ℕ) (k n m : ℕ) → wanted letters 45 ≡ false → n / 2 ^ k ≡ m / 2 ^ k
+    → Spells (ps ++ dashes k) n letters → Spells (ps ++ dashes k) m letters
 same_letters [] ps k n m lacks e each = tt
 same_letters (x ∷ xs) ps k n m lacks e each =
-    let parts = neither (nat_eq 45 (code x.0)) (wanted xs 45) lacks in
-    (each.0 ∙ spelled_is (code x.0) (ps ++ dashes k) n ∙ same_spelt (code x.0) ps k n m parts.0 e ∙ sym (spelled_is (code x.0) (ps ++ dashes k) m), same_letters xs ps k n m parts.1 e each.1)
+    let parts = neither (nat_eq 45 (code x.0)) (wanted xs 45) lacks in (
+      each.0 ∙ spelled_is (code x.0) (ps ++ dashes k) n ∙ same_spelt (code x.0) ps k n m parts.0 e
+          ∙ sym (spelled_is (code x.0) (ps ++ dashes k) m),
+      same_letters xs ps k n m parts.1 e each.1,
+    )
   where
     neither : (a b : Bool) → (a || b) ≡ false → (a ≡ false) × (b ≡ false)
     neither true b e = absurd cc
@@ -130,21 +154,27 @@ short_row len e w = by_case (nat_eq len 16) refl e
   where
     by_case : (t : Bool) → nat_eq len 16 ≡ t → (t || nat_eq len 32) ≡ true → len ≡ 16
     by_case true is e' = same len 16 is
-    by_case false is e' = let long : len ≡ 32 = same len 32 e' in absurd (let wrong : ◌≡◌ {A = ℕ} 2 1 = sym (ap (λ l. cond (nat_le l 16) 1 2) long) ∙ w in cc)
+    by_case false is e' = let long : len ≡ 32 = same len 32 e' in
+        absurd (let wrong : ◌≡◌ {A = ℕ} 2 1 = sym (ap (λ l. cond (nat_le l 16) 1 2) long) ∙ w in cc)
 
-pub reads_before : (i : Instr) (first second other : ℕ) → words_of i ≡ 1 → second < 65536 → other < 65536 → ReadsAt (first * 65536 + second) i → ReadsAt (first * 65536 + other) i
+pub reads_before : (i : Instr) (first second other : ℕ) → words_of i ≡ 1 → second < 65536 → other < 65536 → ReadsAt (first * 65536 + second)
+    i → ReadsAt (first * 65536 + other) i
 unfolding dashes
 reads_before i first second other one hs ho reads =
-    let tests = both (nat_eq (length (places (row i).pattern)) 16 || nat_eq (length (places (row i).pattern)) 32) (covered (row i).letters (places (row i).pattern) && not (wanted (row i).letters 45)) (row_tests i) in
+    let tests = both (nat_eq (length (places (row i).pattern)) 16 || nat_eq (length (places (row i).pattern)) 32)
+    (covered (row i).letters (places (row i).pattern) && not (wanted (row i).letters 45)) (row_tests i) in
     let last = both (covered (row i).letters (places (row i).pattern)) (not (wanted (row i).letters 45)) tests.1 in
     let len : length (places (row i).pattern) ≡ 16 = short_row (length (places (row i).pattern)) tests.0 one in
     let same_top : (first * 65536 + second) / 65536 ≡ (first * 65536 + other) / 65536 = omega arith in
     let k : 32 - length (places (row i).pattern) ≡ 16 = omega (arith, len) in
-    let e : (first * 65536 + second) / 2 ^ (32 - length (places (row i).pattern)) ≡ (first * 65536 + other) / 2 ^ (32 - length (places (row i).pattern)) =
+    let e : (first * 65536 + second) / 2 ^ (32 - length (places (row i).pattern)) ≡ (first * 65536 + other) / 2 ^
+    (32 - length (places (row i).pattern)) =
     ap (λ x. (first * 65536 + second) / 2 ^ x) k ∙ same_top ∙ sym (ap (λ x. (first * 65536 + other) / 2 ^ x) k) in
     record {
-      fixed = sym (same_stands (places (row i).pattern) (32 - length (places (row i).pattern)) (first * 65536 + second) (first * 65536 + other) e) ∙ reads.fixed;
-      letters = same_letters (row i).letters (places (row i).pattern) (32 - length (places (row i).pattern)) (first * 65536 + second) (first * 65536 + other) (turned (wanted (row i).letters 45) last.1) e reads.letters;
+      fixed = sym (same_stands (places (row i).pattern) (32 - length (places (row i).pattern)) (first * 65536 + second)
+          (first * 65536 + other) e) ∙ reads.fixed;
+      letters = same_letters (row i).letters (places (row i).pattern) (32 - length (places (row i).pattern)) (first * 65536 + second)
+          (first * 65536 + other) (turned (wanted (row i).letters 45) last.1) e reads.letters;
     }
   where
     turned : (b : Bool) → not b ≡ true → b ≡ false
@@ -152,7 +182,8 @@ reads_before i first second other one hs ho reads =
     turned false e = refl
 
 -- the words of an instruction, and any word after one of one word, are read as it
-pub reads_words : (i : Instr) (first second : ℕ) → first ≡ first_word i → (words_of i ≡ 2 → second ≡ second_word i) → second < 65536 → ReadsAt (first * 65536 + second) i
+pub reads_words : (i : Instr) (first second : ℕ) → first ≡ first_word i → (words_of i ≡ 2 → second ≡ second_word i) → second < 65536
+    → ReadsAt (first * 65536 + second) i
 reads_words i first second is_first is_second small = by_case (nat_le (length (places (row i).pattern)) 16) refl
   where
     halves : number_of i / 65536 * 65536 + number_of i % 65536 ≡ number_of i
@@ -168,4 +199,5 @@ reads_words i first second is_first is_second small = by_case (nat_le (length (p
     by_case true e =
         let one : words_of i ≡ 1 = ap (λ t. cond t 1 2) e in
         let low : number_of i % 65536 < 65536 = omega arith in
-        subst (λ n. ReadsAt n i) (sym (ap (λ x. x * 65536 + second) is_first)) (reads_before i (first_word i) (second_word i) second one low small whole)
+        subst (λ n. ReadsAt n i) (sym (ap (λ x. x * 65536 + second) is_first)) (reads_before i (first_word i) (second_word i) second one low
+        small whole)

@@ -6,7 +6,7 @@ use Rattle.avr_text.specs.declared.tokens.Token.{Token}
 use Rattle.avr_text.specs.Names.{NameMap}
 use Rattle.avr_asm.specs.declared.directives.Directive.{Directive}
 use Rattle.avr_asm.specs.declared.directives.Directive.TheVariants as directive
-use Rattle.avr_asm.specs.declared.faults.AsmError.{AsmError}
+use Rattle.avr_asm.specs.declared.errors.AsmError.{AsmError}
 use Rattle.avr_asm.specs.declared.lines.Action.{Action}
 use Rattle.avr_asm.specs.declared.lines.Action.TheVariants as action
 use Rattle.avr_asm.specs.declared.output.Built.{Built}
@@ -38,7 +38,8 @@ with_item out item (Err fault) = Err fault
 
 -- an instruction of a line at an address
 unfoldable pub with_instruction : ℕ → ℕ → Output → Instr → Outcome Output
-with_instruction k address out i = with_item out (record { at = address / 2; line = k; instr = i }) (put address (instruction_bytes i) out.image)
+with_instruction k address out i = with_item out (record { at = address / 2; line = k; instr = i })
+    (put address (instruction_bytes i) out.image)
 
 -- bytes of data at an address
 unfoldable pub with_data : ℕ → Output → List ℕ → Outcome Output
@@ -57,7 +58,8 @@ with_directive d line symbols address following parts out = hint_of d line symbo
 -- what a line's action puts out
 abbrev pub with_action : Action → List ℕ → NameMap → ℕ → ℕ → ℕ → List (List Token) → Output → Outcome Output
 with_action (action.Instruction mnemonic) line symbols k address following parts out =
-    instruction_of mnemonic (record { line = line; symbols = symbols; next = address + 2; parts = parts }) >>= with_instruction k address out
+    instruction_of mnemonic (record { line = line; symbols = symbols; next = address + 2; parts = parts }) >>= with_instruction k address
+    out
 with_action (action.Directive d) line symbols k address following parts out = with_directive d line symbols address following parts out
 with_action other line symbols k address following parts out = Ok out
 

@@ -1,6 +1,7 @@
 -- The words of an instruction: its row's pattern with each field's bits in the places of its letter.
 -- Source: AVR Instruction Set Manual, the patterns of the instruction table.
-use Rattle.std.specs.Prelude.{ℕ, ◌+◌, ◌*◌, ◌/◌, ◌%◌, ◌^◌, Bool, true, false, List, [], ◌∷◌, Option, Some, None, length, nat_eq, if◌then◌else◌}
+use Rattle.std.specs.Prelude.{ℕ, ◌+◌, ◌*◌, ◌/◌, ◌%◌, ◌^◌, Bool, true, false, List, [], ◌∷◌, Option, Some, None, length, nat_eq}
+use Rattle.std.specs.Prelude.{if◌then◌else◌}
 use Rattle.std.specs.Int.{bit_at}
 use Prim.Native.Char.{Char, code}
 use Rattle.avr_table.specs.declared.Instr.{Instr}

@@ -1,5 +1,6 @@
 -- What a line puts out: the bytes of data, the words of instructions, and where they go.
-use Rattle.std.specs.Prelude.{ℕ, ◌+◌, ◌/◌, ◌%◌, ◌==◌, nat_le, Bool, true, false, ℤ, pos, negsuc, List, [], ◌∷◌, ◌++◌, length, Option, Some, None, is_some, Ok, Err, unsigned_abs, if◌then◌else◌}
+use Rattle.std.specs.Prelude.{ℕ, ◌+◌, ◌/◌, ◌%◌, ◌==◌, nat_le, Bool, true, false, ℤ, pos, negsuc, List, [], ◌∷◌, ◌++◌, length, Option, Some}
+use Rattle.std.specs.Prelude.{None, is_some, Ok, Err, unsigned_abs, if◌then◌else◌}
 use Rattle.std.specs.Int.{int_rem_euclid, int_shr}
 use Rattle.std.specs.Ordering.{nat_cmp}
 use Rattle.std.specs.FinMap as map
@@ -7,8 +8,8 @@ use Rattle.std.specs.FinMap.{FinMap}
 use Rattle.avr_table.specs.declared.Instr.{Instr}
 use Rattle.avr_text.specs.declared.tokens.Token.{Token}
 use Rattle.avr_text.specs.Names.{NameMap}
-use Rattle.avr_operands.specs.declared.faults.AsmWhy.{AsmWhy}
-use Rattle.avr_operands.specs.declared.faults.AsmWhy.TheVariants as why
+use Rattle.avr_operands.specs.declared.errors.AsmWhy.{AsmWhy}
+use Rattle.avr_operands.specs.declared.errors.AsmWhy.TheVariants as why
 use Rattle.avr_asm.specs.Codes.{first_word, second_word, word_count}
 use Rattle.avr_operands.specs.Faults.{Outcome, least}
 use Rattle.avr_operands.specs.Operands.{number}
@@ -35,7 +36,8 @@ with_number wide (Err fault) (Err other) = Err (least fault other)
 
 abbrev pub data_from : Bool → List ℕ → NameMap → Outcome (List ℕ) → List (List Token) → Outcome (List ℕ)
 data_from wide line symbols sofar [] = sofar
-data_from wide line symbols sofar (part ∷ parts) = data_from wide line symbols (with_number wide sofar (data_value wide line symbols part)) parts
+data_from wide line symbols sofar (part ∷ parts) = data_from wide line symbols (with_number wide sofar (data_value wide line symbols part))
+    parts
 
 abbrev pub least_of_faults : Option AsmWhy → AsmWhy → AsmWhy
 least_of_faults None other = other

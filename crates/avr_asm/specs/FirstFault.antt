@@ -3,15 +3,14 @@
 --
 -- A first pass looks at addresses and names, a second one at operands and bytes. A fault of the first pass, on whatever line,
 -- goes before every fault of the second. In a pass the least line is named, and in a line the fault of the least number.
-use Rattle.std.specs.Prelude.{◌≡◌, ℕ, ◌+◌, ◌%◌, ◌<◌, ◌≤◌, ◌⊎◌, Bool, true, ℤ, pos, List, [], ◌∷◌, ◌++◌, map, length, Option, Some, None, Result, Ok, Err}
-use Prim.Native.Char.{code}
+use Rattle.std.specs.Prelude.{◌≡◌, ℕ, ◌+◌, ◌%◌, ◌<◌, ◌≤◌, ◌⊎◌, Bool, true, ℤ, pos, List, [], ◌∷◌, ◌++◌, map, length, Option, Some, None}
+use Rattle.std.specs.Prelude.{Result, Ok, Err}
 use Rattle.std.specs.List.{list_any}
 use Rattle.std.specs.FinMap.{get, from_entries}
 use Rattle.avr_text.specs.declared.tokens.Token.{Token}
 use Rattle.avr_text.specs.Names.{NameMap}
-use Rattle.avr_text.specs.Reading.{is_mark_of}
-use Rattle.avr_operands.specs.declared.faults.AsmWhy.{AsmWhy}
-use Rattle.avr_operands.specs.declared.faults.AsmWhy.TheVariants as why
+use Rattle.avr_operands.specs.declared.errors.AsmWhy.{AsmWhy}
+use Rattle.avr_operands.specs.declared.errors.AsmWhy.TheVariants as why
 use Rattle.avr_operands.specs.Faults.{number_of}
 use Rattle.avr_operands.specs.Operands.{expression, number}
 use Rattle.avr_asm.specs.declared.directives.Directive.TheVariants.{Org, Equ}
@@ -24,7 +23,7 @@ use Rattle.avr_asm.specs.Assembly.{following}
 use Rattle.avr_asm.specs.Emission.{Flash}
 use Rattle.avr_asm.specs.Layout.{is_reserved, arguments_in, effect_in, is_instruction_line}
 use Rattle.avr_asm.specs.LineOutputs.{LineOutput, tokens_output}
-use Rattle.avr_asm.specs.Lines.{lines_of, content_of, label_of, body_of, action_of, parts_of, is_name, first_text}
+use Rattle.avr_asm.specs.Lines.{lines_of, content_of, label_of, body_of, action_of, parts_of, is_name, is_equals, first_text}
 use Rattle.avr_asm.specs.Relation.{label_entries, equ_entries, predefined_names, bytes_from}
 
 -- of the whys that stand, the one of the least number
@@ -53,7 +52,8 @@ end_from address (l ∷ ls) = end_from (end_after l.effect address) ls
 
 -- the names that lines define: labels with their lines' addresses, `.equ` names with their values
 abbrev pub names_in : Laid → List (List ℕ × ℤ)
-names_in l = label_entries (label_of l.source l.tokens) l.address ++ equ_entries l.effect (first_text l.source (arguments_in l.source l.tokens))
+names_in l = label_entries (label_of l.source l.tokens) l.address ++ equ_entries l.effect
+    (first_text l.source (arguments_in l.source l.tokens))
 
 abbrev pub names_by : List Laid → List (List ℕ × ℤ)
 names_by [] = []
@@ -74,7 +74,7 @@ OrgFault line symbols other w = ⊥
 
 abbrev pub EquFault : List ℕ → NameMap → List Token → AsmWhy → Type 0
 EquFault line symbols (name ∷ equals ∷ rest) w =
-    (is_name name.kind ≡ true) × (is_mark_of (code "=") equals.kind ≡ true) × (expression line symbols None rest ≡ Err w)
+    (is_name name.kind ≡ true) × (is_equals equals.kind ≡ true) × (expression line symbols None rest ≡ Err w)
 EquFault line symbols other w = ⊥
 
 abbrev pub ValueFault : Action → List ℕ → NameMap → List Token → AsmWhy → Type 0
@@ -94,7 +94,8 @@ abbrev pub DefinesTaken : Bool → List ℕ → Place → List Token → Type 0
 DefinesTaken follows line place tokens =
     ((name : List ℕ) × (label_of line tokens ≡ Some name) × IsTaken place.symbols name)
     ⊎ ((value : ℤ) × (effect_in line place.symbols follows tokens ≡ Ok (Define value))
-    × (IsTaken place.symbols (first_text line (arguments_in line tokens)) ⊎ (label_of line tokens ≡ Some (first_text line (arguments_in line tokens)))))
+    × (IsTaken place.symbols (first_text line (arguments_in line tokens))
+    ⊎ (label_of line tokens ≡ Some (first_text line (arguments_in line tokens)))))
 
 -- a byte would fall at 65,536 or beyond
 abbrev pub TakesTooMuch : Bool → List ℕ → Place → List Token → Type 0
@@ -131,7 +132,8 @@ pub record IsLaid (front : List Laid) (l : Laid) (follows : Bool) : Type 0 where
 -- each of some lines is one, with these lines after them
 abbrev pub AreLaid : List Laid → List Laid → List (List ℕ) → Type 0
 AreLaid front [] after = Unit {0}
-AreLaid front (l ∷ ls) after = IsLaid front l (list_any is_instruction_line (map (λ x. x.source) ls ++ after)) × AreLaid (front ++ l ∷ []) ls after
+AreLaid front (l ∷ ls) after = IsLaid front l (list_any is_instruction_line (map (λ x. x.source) ls ++ after)) × AreLaid (front ++ l ∷ [])
+    ls after
 
 -- the first fault of the first pass: of a line after lines that have none
 pub record FirstPassFault (lines : List (List ℕ)) (n : ℕ) (w : AsmWhy) : Type 0 where
@@ -156,7 +158,8 @@ bytes_by (f ∷ fs) = bytes_from f.laid.address f.output.bytes ++ bytes_by fs
 
 -- what a line puts out by all names; a `.fact` speaks of the first instruction line after it
 abbrev pub puts_out : NameMap → Laid → List Laid → Result LineOutput AsmWhy
-puts_out symbols l after = tokens_output l.source symbols l.address (following (map (λ x. x.source) after) (map (λ x. x.address) after)) l.tokens
+puts_out symbols l after = tokens_output l.source symbols l.address (following (map (λ x. x.source) after) (map (λ x. x.address) after))
+    l.tokens
 
 -- a byte falls where an earlier line placed one
 abbrev pub OverlapsEarlier : NameMap → Flash → Laid → List Laid → Type 0
@@ -175,7 +178,8 @@ pub record IsFilled (symbols : NameMap) (front : List Filled) (f : Filled) (afte
 
 abbrev pub AreFilled : NameMap → List Filled → List Filled → List Laid → Type 0
 AreFilled symbols front [] after = Unit {0}
-AreFilled symbols front (f ∷ fs) after = IsFilled symbols front f (map (λ x. x.laid) fs ++ after) × AreFilled symbols (front ++ f ∷ []) fs after
+AreFilled symbols front (f ∷ fs) after = IsFilled symbols front f (map (λ x. x.laid) fs ++ after) × AreFilled symbols (front ++ f ∷ []) fs
+    after
 
 -- the first fault of the second pass: no line has a fault of the first, and those before this one have none of the second
 pub record SecondPassFault (lines : List (List ℕ)) (n : ℕ) (w : AsmWhy) : Type 0 where
@@ -186,7 +190,8 @@ pub record SecondPassFault (lines : List (List ℕ)) (n : ℕ) (w : AsmWhy) : Ty
   pub numbered : n ≡ length before + 1
   pub laid : AreLaid [] (map (λ f. f.laid) before ++ line ∷ after) []
   pub filled : AreFilled (place_after (map (λ f. f.laid) before ++ line ∷ after)).symbols [] before (line ∷ after)
-  pub fault : IsLeast (InSecondPass (place_after (map (λ f. f.laid) before ++ line ∷ after)).symbols (from_entries (bytes_by before)) line after) w
+  pub fault : IsLeast (InSecondPass (place_after (map (λ f. f.laid) before ++ line ∷ after)).symbols (from_entries (bytes_by before)) line
+      after) w
 
 -- the first fault of a source
 abbrev pub IsFirstFault : List ℕ → ℕ → AsmWhy → Type 0

@@ -2,18 +2,19 @@
 --
 -- The address of a line is the value of the last `.org` before it plus the bytes of the lines between. The symbols are
 -- the predefined names, the labels with their lines' addresses, and the `.equ` names.
-use Rattle.std.specs.Prelude.{◌≡◌, ℕ, ◌<◌, ◌≤◌, ◌-◌, ◌^◌, ◌⊎◌, ◌+◌, ◌*◌, ◌%◌, ◌==◌, ◌&&◌, ◌||◌, nat_lt, Bool, true, false, ℤ, pos, not, All, Vec, List, [], ◌∷◌, length, codes, bytes_eq, drop, Option, Some, None, is_some, is_none, Result, Ok, Err, unsigned_abs, if◌then◌else◌}
+use Rattle.std.specs.Prelude.{◌≡◌, ℕ, ◌<◌, ◌≤◌, ◌-◌, ◌^◌, ◌⊎◌, ◌+◌, ◌*◌, ◌%◌, ◌==◌, ◌&&◌, ◌||◌, nat_lt, Bool, true, false, ℤ, pos, not, All}
+use Rattle.std.specs.Prelude.{Vec, List, [], ◌∷◌, length, codes, bytes_eq, drop, Option, Some, None, is_some, is_none, Result, Ok, Err}
+use Rattle.std.specs.Prelude.{unsigned_abs, if◌then◌else◌}
 use Rattle.std.specs.List.{list_any}
 use Rattle.std.specs.Borrow.{Bor}
 use Rattle.std.specs.declared.alloc.Global.{Global}
 use Rattle.std.specs.FinMap as map
 use Rattle.avr_text.specs.declared.tokens.Token.{Token}
 use Rattle.avr_text.specs.Names.{NameMap}
-use Rattle.avr_text.specs.Reading.{is_mark_of}
 use Rattle.avr_asm.specs.declared.directives.Directive.{Directive}
 use Rattle.avr_asm.specs.declared.directives.Directive.TheVariants.{Org, Db, Dw, Equ, Start, Lines, Stack, Cell, Fact}
-use Rattle.avr_operands.specs.declared.faults.AsmWhy.TheVariants as why
-use Rattle.avr_asm.specs.declared.faults.AsmError.{AsmError}
+use Rattle.avr_operands.specs.declared.errors.AsmWhy.TheVariants as why
+use Rattle.avr_asm.specs.declared.errors.AsmError.{AsmError}
 use Rattle.avr_asm.specs.declared.layout.Place.{Place}
 use Rattle.avr_asm.specs.declared.first_pass.Effect.{Effect}
 use Rattle.avr_asm.specs.declared.first_pass.Effect.TheVariants.{Nothing, Move, Define, Take, Wrong}
@@ -21,7 +22,7 @@ use Rattle.avr_asm.specs.declared.lines.Action.{Action}
 use Rattle.avr_asm.specs.declared.lines.Action.TheVariants as action
 use Rattle.avr_operands.specs.Faults.{Outcome, ◌>>=◌}
 use Rattle.avr_operands.specs.Instructions.{pointer_named}
-use Rattle.avr_asm.specs.Lines.{content_of, label_of, body_of, action_of, arguments_of, parts_of, is_name, first_text}
+use Rattle.avr_asm.specs.Lines.{content_of, label_of, body_of, action_of, arguments_of, parts_of, is_name, is_equals, first_text}
 use Rattle.avr_operands.specs.Mnemonics.{words_of}
 use Rattle.avr_operands.specs.Operands.{register_of, expression, number, name_of}
 
@@ -74,14 +75,15 @@ org_effect line symbols other = Ok Wrong
 -- `.equ NAME = E`: the same
 abbrev pub equ_effect : List ℕ → NameMap → List Token → Outcome Effect
 equ_effect line symbols (n ∷ e ∷ rest) =
-    if is_name n.kind && is_mark_of 61 e.kind then set (expression line symbols None rest) else Ok Wrong
+    if is_name n.kind && is_equals e.kind then set (expression line symbols None rest) else Ok Wrong
 equ_effect line symbols other = Ok Wrong
 
 -- what a directive does: `.db` takes bytes in pairs and `.dw` words; a hint takes none, and a `.fact` has to be followed by
 -- an instruction line
 abbrev pub directive_effect : Directive → List ℕ → NameMap → List Token → List (List Token) → Bool → Outcome Effect
 directive_effect Org line symbols arguments parts follows = org_effect line symbols parts
-directive_effect Db line symbols arguments parts follows = Ok (if_shaped (nat_lt 0 (length parts)) (Take (length parts + length parts % 2) false))
+directive_effect Db line symbols arguments parts follows =
+    Ok (if_shaped (nat_lt 0 (length parts)) (Take (length parts + length parts % 2) false))
 directive_effect Dw line symbols arguments parts follows = Ok (if_shaped (nat_lt 0 (length parts)) (Take (2 * length parts) false))
 directive_effect Equ line symbols arguments parts follows = equ_effect line symbols arguments
 directive_effect Start line symbols arguments parts follows = Ok (if_shaped (is_start line parts) Nothing)
@@ -96,7 +98,8 @@ effect_of action.Empty line symbols arguments parts follows = Ok Nothing
 effect_of action.Unknown line symbols arguments parts follows = Err why.Mnemonic
 effect_of action.NoDirective line symbols arguments parts follows = Ok Wrong
 effect_of (action.Instruction mnemonic) line symbols arguments parts follows = Ok (Take (2 * words_of mnemonic) true)
-effect_of (action.Directive directive) line symbols arguments parts follows = directive_effect directive line symbols arguments parts follows
+effect_of (action.Directive directive) line symbols arguments parts follows = directive_effect directive line symbols arguments parts
+    follows
 
 -- the next line's address: bytes lie below 65,536, and instructions at even addresses
 abbrev pub placed : Effect → ℕ → Outcome ℕ
@@ -178,7 +181,8 @@ at_line k (Err fault) f = Err (record { line = k; why = fault })
 unfoldable pub layout_from : ℕ → Place → List (List ℕ) → Result Layout AsmError
 layout_from k place [] = Ok (record { addresses = []; symbols = place.symbols })
 layout_from k place (line ∷ lines) =
-    at_line k (after_line (list_any is_instruction_line lines) line place) (λ next. with_address place.address (layout_from (k + 1) next lines))
+    at_line k (after_line (list_any is_instruction_line lines) line place)
+    (λ next. with_address place.address (layout_from (k + 1) next lines))
 
 -- the predefined names, of which no two are one: I/O addresses as IN, OUT, SBI and their kin take them, and data
 -- addresses (ATmega644 data sheet, "Register Summary")
@@ -191,16 +195,24 @@ with_values (n ∷ ns) m = with_values ns (with_value m n.0 n.1)
 
 abbrev pub port_names : List (List ℕ × ℤ)
 port_names =
-    (codes "PINA", pos 0) ∷ (codes "DDRA", pos 1) ∷ (codes "PORTA", pos 2) ∷ (codes "PINB", pos 3) ∷ (codes "DDRB", pos 4) ∷ (codes "PORTB", pos 5) ∷
-    (codes "PINC", pos 6) ∷ (codes "DDRC", pos 7) ∷ (codes "PORTC", pos 8) ∷ (codes "PIND", pos 9) ∷ (codes "DDRD", pos 10) ∷ (codes "PORTD", pos 11) ∷ []
+    (codes "PINA", pos 0) ∷ (codes "DDRA", pos 1) ∷ (codes "PORTA", pos 2) ∷ (codes "PINB", pos 3) ∷ (codes "DDRB", pos 4) ∷ (
+      codes "PORTB",
+      pos 5,
+    ) ∷
+    (codes "PINC", pos 6) ∷ (codes "DDRC", pos 7) ∷ (codes "PORTC", pos 8) ∷ (codes "PIND", pos 9) ∷ (codes "DDRD", pos 10)
+    ∷ (codes "PORTD", pos 11) ∷ []
 
 abbrev pub core_names : List (List ℕ × ℤ)
 core_names =
-    (codes "TIFR1", pos 0x16) ∷ (codes "GPIOR0", pos 0x1E) ∷ (codes "SPL", pos 0x3D) ∷ (codes "SPH", pos 0x3E) ∷ (codes "SREG", pos 0x3F) ∷ []
+    (codes "TIFR1", pos 0x16) ∷ (codes "GPIOR0", pos 0x1E) ∷ (codes "SPL", pos 0x3D) ∷ (codes "SPH", pos 0x3E) ∷ (codes "SREG", pos 0x3F)
+    ∷ []
 
 abbrev pub data_names : List (List ℕ × ℤ)
 data_names =
-    (codes "TIMSK1", pos 0x6F) ∷ (codes "TCCR1A", pos 0x80) ∷ (codes "TCCR1B", pos 0x81) ∷ (codes "TCNT1L", pos 0x84) ∷ (codes "TCNT1H", pos 0x85) ∷
+    (codes "TIMSK1", pos 0x6F) ∷ (codes "TCCR1A", pos 0x80) ∷ (codes "TCCR1B", pos 0x81) ∷ (codes "TCNT1L", pos 0x84) ∷ (
+      codes "TCNT1H",
+      pos 0x85,
+    ) ∷
     (codes "OCR1AL", pos 0x88) ∷ (codes "OCR1AH", pos 0x89) ∷ (codes "OCR2A", pos 0xB3) ∷ []
 
 unfoldable pub with_ports : NameMap → NameMap

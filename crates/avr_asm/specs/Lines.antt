@@ -1,6 +1,8 @@
 -- The lines of a source, and what a line holds.
-use Rattle.std.specs.Prelude.{ℕ, ◌+◌, ◌==◌, not, Bool, true, false, List, [], ◌∷◌, take_while, drop, Option, Some, None, Result, Ok, Err, if◌then◌else◌}
+use Rattle.std.specs.Prelude.{ℕ, ◌+◌, ◌==◌, not, Bool, true, false, List, [], ◌∷◌, take_while, drop, Option, Some, None, Result, Ok, Err}
+use Rattle.std.specs.Prelude.{if◌then◌else◌}
 use Rattle.std.specs.List.{slice_split}
+use Prim.Native.Char.{code}
 use Rattle.avr_text.specs.declared.tokens.LexError.{LexError}
 use Rattle.avr_text.specs.declared.tokens.Token.{Token}
 use Rattle.avr_text.specs.declared.tokens.TokenKind.{TokenKind}
@@ -8,7 +10,7 @@ use Rattle.avr_text.specs.declared.tokens.TokenKind.TheVariants.{Name, LineEnd}
 use Rattle.avr_text.specs.Reading.{is_mark_of}
 use Rattle.avr_text.specs.Tokens.{text_of, tokens_of}
 use Rattle.avr_asm.specs.declared.directives.Directive.{Directive}
-use Rattle.avr_operands.specs.declared.faults.AsmWhy.TheVariants.{Lex}
+use Rattle.avr_operands.specs.declared.errors.AsmWhy.TheVariants.{Lex}
 use Rattle.avr_asm.specs.declared.lines.Action.{Action}
 use Rattle.avr_asm.specs.declared.lines.Action.TheVariants as action
 use Rattle.avr_operands.specs.declared.mnemonics.Mnemonic.{Mnemonic}
@@ -22,7 +24,7 @@ onto_first b [] = (b ∷ []) ∷ []
 onto_first b (line ∷ lines) = (b ∷ line) ∷ lines
 
 abbrev pub goes_on : ℕ → Bool
-goes_on b = not (b == 10)
+goes_on b = not (b == code "\n")
 
 abbrev pub lines_of : List ℕ → List (List ℕ)
 lines_of [] = []
@@ -54,12 +56,21 @@ abbrev pub is_name : TokenKind → Bool
 is_name Name = true
 is_name other = false
 
+abbrev pub is_colon : TokenKind → Bool
+is_colon = is_mark_of (code ":")
+
+abbrev pub is_dot : TokenKind → Bool
+is_dot = is_mark_of (code ".")
+
+abbrev pub is_equals : TokenKind → Bool
+is_equals = is_mark_of (code "=")
+
 abbrev pub label_if : Bool → List ℕ → Option (List ℕ)
 label_if true word = Some word
 label_if false word = None
 
 abbrev pub begins_with_label : List Token → Bool
-begins_with_label (t ∷ u ∷ rest) = if is_name t.kind then is_mark_of 58 u.kind else false
+begins_with_label (t ∷ u ∷ rest) = if is_name t.kind then is_colon u.kind else false
 begins_with_label other = false
 
 abbrev pub first_text : List ℕ → List Token → List ℕ
@@ -90,7 +101,7 @@ abbrev pub action_of : List ℕ → List Token → Action
 action_of line [] = action.Empty
 action_of line (t ∷ ts) =
     if is_name t.kind then instruction_or_unknown (mnemonic_of (text_of line t))
-    else if is_mark_of 46 t.kind then dot_action line ts
+    else if is_dot t.kind then dot_action line ts
     else action.Unknown
 
 -- the tokens after the name
@@ -101,7 +112,7 @@ arguments_of other body = []
 
 -- the parts between the commas, and none where there is nothing
 abbrev pub is_comma : Token → Bool
-is_comma token = is_mark_of 44 token.kind
+is_comma token = is_mark_of (code ",") token.kind
 
 abbrev pub parts_of : List Token → List (List Token)
 parts_of [] = []

@@ -4,7 +4,8 @@
 -- A line's address is the value of the last `.org` before it plus the lengths of the lines between. The image holds the
 -- bytes of the statements at their addresses, and nothing else. The items are the instruction lines in order, and the
 -- hints the hint directives in order.
-use Rattle.std.specs.Prelude.{◌≡◌, ◌≢◌, ◌↔◌, ℕ, ◌+◌, ◌/◌, Bool, true, false, ℤ, pos, List, [], ◌∷◌, ◌++◌, map, length, All, Option, Some, None, Ok}
+use Rattle.std.specs.Prelude.{◌≡◌, ◌≢◌, ◌↔◌, ℕ, ◌+◌, ◌/◌, Bool, true, false, ℤ, pos, List, [], ◌∷◌, ◌++◌, map, length, All, Option, Some}
+use Rattle.std.specs.Prelude.{None, Ok}
 use Rattle.std.specs.List.{list_any, Contains, AllPairs}
 use Rattle.std.specs.declared.cmp.Ordering.{Ordering}
 use Rattle.std.specs.FinMap.{FinMap, get, from_entries}
@@ -66,7 +67,8 @@ equ_entries (Define value) name = (name, value) ∷ []
 equ_entries other name = []
 
 abbrev pub definitions_in : Statement → List (List ℕ × ℤ)
-definitions_in s = label_entries (label_of s.source s.tokens) s.address ++ equ_entries s.effect (first_text s.source (arguments_in s.source s.tokens))
+definitions_in s = label_entries (label_of s.source s.tokens) s.address ++ equ_entries s.effect
+    (first_text s.source (arguments_in s.source s.tokens))
 
 abbrev pub definitions_of : List Statement → List (List ℕ × ℤ)
 definitions_of [] = []
@@ -114,17 +116,20 @@ pub record IsStatement (symbols : NameMap) (before : List Statement) (s : Statem
   -- its tokens are its line's
   pub read : content_of s.source ≡ Ok s.tokens
   -- the names of its `.org` or `.equ` are defined before it
-  pub known : effect_in s.source (from_entries (names_of before)) (list_any is_instruction_line (map (λ t. t.source) after)) s.tokens ≡ Ok s.effect
+  pub known : effect_in s.source (from_entries (names_of before)) (list_any is_instruction_line (map (λ t. t.source) after)) s.tokens ≡ Ok
+      s.effect
   -- and its value is that by all names
   pub does : effect_in s.source symbols (list_any is_instruction_line (map (λ t. t.source) after)) s.tokens ≡ Ok s.effect
   -- its bytes end within the flash, an instruction stands at an even address, and a directive has its operands
   pub fits : placed s.effect s.address ≡ Ok (end_by s.effect s.address s.output.bytes)
   -- what it puts out is by the values of all names; a `.fact` speaks of the first instruction line after it
-  pub puts : tokens_output s.source symbols s.address (following (map (λ t. t.source) after) (map (λ t. t.address) after)) s.tokens ≡ Ok s.output
+  pub puts : tokens_output s.source symbols s.address (following (map (λ t. t.source) after) (map (λ t. t.address) after)) s.tokens ≡ Ok
+      s.output
 
 -- each of some statements is one, wherever they are cut
 abbrev pub AreStatements : NameMap → List Statement → Type 0
-AreStatements symbols statements = (before : List Statement) (s : Statement) (after : List Statement) → statements ≡ before ++ s ∷ after → IsStatement symbols before s after
+AreStatements symbols statements = (before : List Statement) (s : Statement) (after : List Statement) → statements ≡ before ++ s ∷ after
+    → IsStatement symbols before s after
 
 -- what a source assembles to
 pub record IsAssembly (text : List ℕ) (built : Output) : Type 0 where

@@ -8,12 +8,12 @@ ghost use Rattle.uz_hex.specs.Cells.{IsFlash};
 ghost use Rattle.avr_asm.specs.Items.{IsDecoded, IsInFlash};
 ghost use Rattle.avr_asm.specs.Relation.{IsAssembly};
 ghost use Rattle.avr_asm.specs.FirstFault.{IsFirstFault};
-ghost use Rattle.avr_operands.specs.declared.faults.AsmWhy.{AsmWhy};
+ghost use Rattle.avr_operands.specs.declared.errors.AsmWhy.{AsmWhy};
 ghost use Rattle.avr_asm.specs.Assembly.{Output, seen_built, with_instruction, with_data, with_hint, with_directive, with_action, with_line, following as following_address, output_from, nothing, assembly};
 
 use crate::directives::Directive;
 use crate::emission::{byte_data, code_of, put, word_data};
-use crate::faults::AsmError;
+use crate::errors::AsmError;
 use crate::hints::hint_of;
 use crate::layout::{is_instruction_line, lay_out};
 use crate::lines::{Action, action_of, arguments_of, body_of, content_of, lines_of, parts_of};

@@ -2,8 +2,8 @@
 
 ghost use Rattle.std.specs.Prelude.{◌≡◌, ◌<◌, ◌≤◌, ◌^◌, false, IfOk, length, map};
 ghost use Rattle.avr_operands.specs.Operands.{AllLie, EachLies};
-ghost use Rattle.avr_text.specs.Reading.{is_mark_of};
 ghost use Rattle.avr_asm.specs.declared.first_pass.Effect.TheVariants.{Take};
+ghost use Rattle.avr_asm.specs.Lines.{is_equals as is_equals_mark};
 ghost use Rattle.avr_asm.specs.Layout.{is_reserved as is_reserved_name, is_word as is_word_operand, is_start as is_start_shape, is_cell as is_cell_shape, if_shaped as effect_if_shaped, org_effect as org_effect_of, equ_effect as equ_effect_of, directive_effect as directive_effect_of, effect_of as effect_of_line, placed as placed_effect, IsWithin};
 
 use crate::directives::Directive;
@@ -101,7 +101,7 @@ fn org_effect(line: &[u8], symbols: &Symbols, parts: &[&[Token]]) -> Result<Effe
 }
 
 fn is_equals(kind: TokenKind) -> bool
-    ensures { result ≡ is_mark_of 61 kind }
+    ensures { result ≡ is_equals_mark kind }
 {
     match kind {
         TokenKind::Mark(b'=') => true,

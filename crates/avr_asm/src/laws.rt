@@ -4,9 +4,9 @@ ghost use Rattle.std.specs.Prelude.{◌≡◌, ◌↔◌, ◌⊎◌, ℕ, ◌+�
 ghost use Rattle.avr_asm.specs.Assembly.{Output, assembly};
 ghost use Rattle.avr_asm.specs.FirstFault.{IsFirstFault};
 ghost use Rattle.avr_asm.specs.Relation.{Statement, end_of, HaveNoOrigin, length_of, IsAssembly};
-ghost use Rattle.avr_asm.specs.declared.faults.AsmError.{AsmError};
+ghost use Rattle.avr_asm.specs.declared.errors.AsmError.{AsmError};
 ghost use Rattle.avr_asm.specs.declared.first_pass.Effect.TheVariants.{Move};
-ghost use Rattle.avr_operands.specs.declared.faults.AsmWhy.{AsmWhy};
+ghost use Rattle.avr_operands.specs.declared.errors.AsmWhy.{AsmWhy};
 
 use avr_operands::name_gives_word_count;
 use avr_text::value_is_kept;

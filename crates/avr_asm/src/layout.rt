@@ -8,7 +8,7 @@ ghost use Rattle.avr_operands.specs.Operands.{AllLie};
 ghost use Rattle.avr_asm.specs.Layout.{with_value, with_ports, with_core, with_data, predefined as predefined_names, defined, labelled, named, applied as applied_effect, effect_in as effect_in_line, after_line as place_after_line, is_instruction_line as is_line_of_instruction, IsLast, IsWithin, EachShort, arguments_in, layout_of, GivesLayout, seen_layout};
 ghost use Rattle.avr_asm.specs.Lines.{first_text};
 
-use crate::faults::AsmError;
+use crate::errors::AsmError;
 use crate::first_pass::{Effect, effect_of, is_reserved, placed};
 use crate::lines::{Action, action_of, arguments_of, body_of, content_of, label_of, parts_of};
 use avr_operands::AsmWhy;

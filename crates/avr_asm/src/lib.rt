@@ -4,7 +4,7 @@
 mod assembler;
 mod directives;
 mod emission;
-mod faults;
+mod errors;
 mod first_pass;
 mod hints;
 mod laws;
@@ -14,7 +14,7 @@ mod output;
 
 pub use assembler::assemble;
 pub use avr_operands::AsmWhy;
-pub use faults::AsmError;
+pub use errors::AsmError;
 pub use laws::{
     address_is_origin_and_lengths, assembly_is_exact, assembly_is_unique, fault_is_exact,
     source_or_fault,

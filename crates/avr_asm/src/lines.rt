@@ -5,8 +5,7 @@ ghost use Rattle.std.specs.Option.{option_copied};
 ghost use Rattle.std.specs.List.{prefix_len, slice_split};
 ghost use Rattle.avr_operands.specs.Faults.{Gives};
 ghost use Rattle.avr_operands.specs.Operands.{AllLie, EachLies};
-ghost use Rattle.avr_text.specs.Reading.{is_mark_of};
-ghost use Rattle.avr_asm.specs.Lines.{goes_on as goes_on_line, first_len, lines_of as lines_of_text, is_name as is_name_token, begins_with_label as begins_with_label_tokens, label_of as label_of_tokens, body_of as body_of_tokens, dot_action as dot_action_of, action_of as action_of_body, arguments_of as arguments_of_body, content_of as content_of_line, is_content as is_content_token, is_comma as is_comma_token, parts_of as parts_of_tokens};
+ghost use Rattle.avr_asm.specs.Lines.{goes_on as goes_on_line, first_len, lines_of as lines_of_text, is_name as is_name_token, is_colon as is_colon_mark, is_dot as is_dot_mark, begins_with_label as begins_with_label_tokens, label_of as label_of_tokens, body_of as body_of_tokens, dot_action as dot_action_of, action_of as action_of_body, arguments_of as arguments_of_body, content_of as content_of_line, is_content as is_content_token, is_comma as is_comma_token, parts_of as parts_of_tokens};
 
 use crate::directives::{Directive, directive_of};
 use avr_operands::{AsmWhy, Mnemonic, mnemonic_of};
@@ -77,7 +76,7 @@ pub fn is_name(kind: TokenKind) -> bool
 }
 
 fn is_colon(kind: TokenKind) -> bool
-    ensures { result ≡ is_mark_of 58 kind }
+    ensures { result ≡ is_colon_mark kind }
 {
     match kind {
         TokenKind::Mark(b':') => true,
@@ -86,7 +85,7 @@ fn is_colon(kind: TokenKind) -> bool
 }
 
 fn is_dot(kind: TokenKind) -> bool
-    ensures { result ≡ is_mark_of 46 kind }
+    ensures { result ≡ is_dot_mark kind }
 {
     match kind {
         TokenKind::Mark(b'.') => true,

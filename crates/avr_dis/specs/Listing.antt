@@ -1,19 +1,13 @@
 -- The listing of a flash image, a line for each word of which a byte is present, in order.
-use Rattle.std.specs.Prelude.{◌≡◌, ℕ, zero, suc, ◌+◌, ◌*◌, ◌/◌, ◌%◌, Bool, true, false, ◌&&◌, ◌||◌, not, if◌then◌else◌, List, [], ◌∷◌, ◌++◌, ◌⊎◌, Option, Some, None, codes, decimal, nat_eq, nat_lt, is_some}
+use Rattle.std.specs.Prelude.{◌≡◌, ℕ, zero, suc, ◌+◌, ◌*◌, Bool, true, false, ◌&&◌, ◌||◌, not, if◌then◌else◌, List, [], ◌++◌}
+use Rattle.std.specs.Prelude.{◌⊎◌, Option, Some, None, codes, decimal, nat_eq, is_some}
 use Rattle.std.specs.Ordering.{nat_cmp}
 use Rattle.std.specs.FinMap.{FinMap, get}
 use Rattle.uz_hex.specs.Cells.{word_of}
+use Rattle.uz_text.specs.Hexadecimals.{hex_word}
 use Rattle.avr_table.specs.declared.Instr.{Instr}
 use Rattle.avr_table.specs.Rows.{Reads, words_of}
 use Rattle.avr_dis.specs.Text.{text_of}
-
--- a digit of base 16, in upper case: 48 is 0, and 55 + 10 is A
-abbrev pub hex_digit : ℕ → ℕ
-hex_digit d = if nat_lt d 10 then 48 + d else 55 + d
-
--- a word of 16 bits in four digits
-abbrev pub hex_word : ℕ → List ℕ
-hex_word n = hex_digit (n / 4096 % 16) ∷ hex_digit (n / 256 % 16) ∷ hex_digit (n / 16 % 16) ∷ hex_digit (n % 16) ∷ []
 
 -- the place of a second word: its digits, or blanks where there is none
 abbrev pub second_text : Option ℕ → List ℕ
@@ -31,7 +25,8 @@ abbrev pub line : ℕ → ℕ → List ℕ → List ℕ → List ℕ
 line at first second text = address at ++ both_words first second ++ text ++ codes "\n"
 
 abbrev pub row_line : FinMap nat_cmp ℕ → ℕ → Instr → List ℕ
-row_line image at i = line at (word_of image at) (second_text (if nat_eq (words_of i) 2 then Some (word_of image (at + 1)) else None)) (text_of i)
+row_line image at i = line at (word_of image at) (second_text (if nat_eq (words_of i) 2 then Some (word_of image (at + 1)) else None))
+    (text_of i)
 
 -- a word that no row reads
 abbrev pub word_line : FinMap nat_cmp ℕ → ℕ → List ℕ
@@ -61,7 +56,8 @@ Adds image at taken text two = AddsLine (not taken && present image at) image at
 unfoldable pub Listed : FinMap nat_cmp ℕ → ℕ → List ℕ → Bool → Type 0
 Listed image zero text two = (text ≡ []) × (two ≡ false)
 Listed image (suc at) text two =
-    (before : List ℕ) × (taken : Bool) × (added : List ℕ) × Listed image at before taken × Adds image at taken added two × (text ≡ before ++ added)
+    (before : List ℕ) × (taken : Bool) × (added : List ℕ) × Listed image at before taken × Adds image at taken added two
+    × (text ≡ before ++ added)
 
 -- The listing of all 32,768 words.
 abbrev pub IsListing : FinMap nat_cmp ℕ → List ℕ → Type 0

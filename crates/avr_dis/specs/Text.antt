@@ -4,7 +4,12 @@
 use Rattle.std.specs.Prelude.{ℕ, ◌+◌, ◌-◌, ◌*◌, ◌^◌, if◌then◌else◌, List, [], ◌∷◌, ◌++◌, map, codes, decimal, nat_eq, nat_lt}
 use Rattle.std.specs.Char.{to_ascii_lowercase}
 use Rattle.avr_table.specs.declared.Instr.{Instr}
-use Rattle.avr_table.specs.declared.Instr.TheVariants.{Add, Adc, Adiw, Sub, Subi, Sbc, Sbci, Sbiw, And, Andi, Or, Ori, Eor, Com, Neg, Inc, Dec, Mul, Muls, Mulsu, Fmul, Fmuls, Fmulsu, Rjmp, Jmp, Rcall, Call, Cpse, Cp, Cpc, Cpi, Sbrc, Sbrs, Sbic, Sbis, Brbs, Brbc, Mov, Movw, Ldi, LdX, LdXInc, LdXDec, LdYInc, LdYDec, LdZInc, LdZDec, Ldd, Lds, StX, StXInc, StXDec, StYInc, StYDec, StZInc, StZDec, Std, Sts, LpmZ, LpmZInc, In, Out, Push, Pop, Lsr, Ror, Asr, Swap, Bset, Bclr, Sbi, Cbi, Bst, Bld}
+use Rattle.avr_table.specs.declared.Instr.TheVariants.{Add, Adc, Adiw, Sub, Subi, Sbc, Sbci, Sbiw, And, Andi, Or, Ori, Eor, Com, Neg, Inc}
+use Rattle.avr_table.specs.declared.Instr.TheVariants.{Dec, Mul, Muls, Mulsu, Fmul, Fmuls, Fmulsu, Rjmp, Jmp, Rcall, Call, Cpse, Cp, Cpc}
+use Rattle.avr_table.specs.declared.Instr.TheVariants.{Cpi, Sbrc, Sbrs, Sbic, Sbis, Brbs, Brbc, Mov, Movw, Ldi, LdX, LdXInc, LdXDec, LdYInc}
+use Rattle.avr_table.specs.declared.Instr.TheVariants.{LdYDec, LdZInc, LdZDec, Ldd, Lds, StX, StXInc, StXDec, StYInc, StYDec, StZInc}
+use Rattle.avr_table.specs.declared.Instr.TheVariants.{StZDec, Std, Sts, LpmZ, LpmZInc, In, Out, Push, Pop, Lsr, Ror, Asr, Swap, Bset, Bclr}
+use Rattle.avr_table.specs.declared.Instr.TheVariants.{Sbi, Cbi, Bst, Bld}
 use Rattle.avr_table.specs.Rows.{name_of}
 
 abbrev pub register : ℕ → List ℕ

@@ -9,6 +9,6 @@ mod lines;
 mod operands;
 mod print;
 
-pub use laws::one_listing;
+pub use laws::listing_is_unique;
 pub use lines::listing;
 pub use print::print_one;

@@ -1,8 +1,8 @@
-// The listing of a flash image.
+//! The listing of a flash image.
 
 ghost use Rattle.std.specs.Prelude.{◌≡◌, ◌++◌, ◌+◌, ◌<◌, List, ℕ, IfOk, OnOk, codes, decimal};
 ghost use Rattle.std.specs.String.{string_bytes};
-ghost use Rattle.avr_dis.specs.Listing.{Adds, IsListing, LineAt, address, both_words, hex_digit, hex_word, line, present, second_text};
+ghost use Rattle.avr_dis.specs.Listing.{Adds, IsListing, LineAt, address, both_words, line, present, second_text};
 
 use crate::print::print_one;
 use avr_decode::decode;
@@ -10,6 +10,7 @@ use avr_table::words;
 use itoa::Buffer;
 use std::alloc::{AllocError, Global};
 use uz_hex::Image;
+use uz_text::word_digits;
 
 /// How many words the flash has (ATmega644 data sheet: 64 KiB).
 const FLASH_WORDS: u16 = 32768;
@@ -132,28 +133,5 @@ fn second_digits(second: Option<u16>) -> [u8; 4]
     match second {
         Some(word) => word_digits(word),
         None => *b"    ",
-    }
-}
-
-/// The four digits of a word in base 16, in upper case.
-fn word_digits(word: u16) -> [u8; 4]
-    ensures { result ≡ hex_word word }
-{
-    [
-        digit((word >> 12) as u8),
-        digit((word >> 8 & 0xF) as u8),
-        digit((word >> 4 & 0xF) as u8),
-        digit((word & 0xF) as u8),
-    ]
-}
-
-fn digit(value: u8) -> u8
-    requires { value < 16 }
-    ensures { result ≡ hex_digit value }
-{
-    if value < 10 {
-        b'0' + value
-    } else {
-        b'A' + (value - 10)
     }
 }

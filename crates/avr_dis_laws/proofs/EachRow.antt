@@ -1,6 +1,7 @@
 -- At each two words an instruction is read, or none is: a row is read where its pattern stands, with the numbers that its letters
 -- spell.
-use Rattle.std.proofs.Common.{◌≡◌, ℕ, zero, suc, ◌+◌, ◌*◌, ◌^◌, ◌<◌, ◌⊎◌, Bool, true, false, cond, List, [], ◌∷◌, length, nat_eq, refl, sym, ◌∙◌, ap, subst, inl, inr, arith}
+use Rattle.std.proofs.Common.{◌≡◌, ℕ, zero, suc, ◌+◌, ◌*◌, ◌^◌, ◌<◌, ◌⊎◌, Bool, true, false, cond, List, [], ◌∷◌, length, nat_eq, refl, sym}
+use Rattle.std.proofs.Common.{◌∙◌, ap, subst, inl, inr, arith}
 use Rattle.std.proofs.lemmas.Bool.Decides.{nat_tests}
 use Rattle.std.proofs.lemmas.List.Sums.{sum_by-cons}
 use Rattle.std.proofs.lemmas.Nat.Bits.{bit_at-lt}
@@ -11,7 +12,12 @@ use Rattle.avr_table.specs.Pattern.{places, stands, spelled}
 use Rattle.avr_table.specs.Rows.{padded, pattern_of, ReadsAt}
 use Rattle.avr_table.specs.declared.Field.{Field}
 use Rattle.avr_table.specs.declared.Instr.{Instr}
-use Rattle.avr_table.specs.declared.Instr.TheVariants.{Add, Adc, Adiw, Sub, Subi, Sbc, Sbci, Sbiw, And, Andi, Or, Ori, Eor, Com, Neg, Inc, Dec, Mul, Muls, Mulsu, Fmul, Fmuls, Fmulsu, Rjmp, Ijmp, Jmp, Rcall, Icall, Call, Ret, Reti, Cpse, Cp, Cpc, Cpi, Sbrc, Sbrs, Sbic, Sbis, Brbs, Brbc, Mov, Movw, Ldi, LdX, LdXInc, LdXDec, LdYInc, LdYDec, LdZInc, LdZDec, Ldd, Lds, StX, StXInc, StXDec, StYInc, StYDec, StZInc, StZDec, Std, Sts, Lpm, LpmZ, LpmZInc, Spm, In, Out, Push, Pop, Lsr, Ror, Asr, Swap, Bset, Bclr, Sbi, Cbi, Bst, Bld, Break, Nop, Sleep, Wdr}
+use Rattle.avr_table.specs.declared.Instr.TheVariants.{Add, Adc, Adiw, Sub, Subi, Sbc, Sbci, Sbiw, And, Andi, Or, Ori, Eor, Com, Neg, Inc}
+use Rattle.avr_table.specs.declared.Instr.TheVariants.{Dec, Mul, Muls, Mulsu, Fmul, Fmuls, Fmulsu, Rjmp, Ijmp, Jmp, Rcall, Icall, Call, Ret}
+use Rattle.avr_table.specs.declared.Instr.TheVariants.{Reti, Cpse, Cp, Cpc, Cpi, Sbrc, Sbrs, Sbic, Sbis, Brbs, Brbc, Mov, Movw, Ldi, LdX}
+use Rattle.avr_table.specs.declared.Instr.TheVariants.{LdXInc, LdXDec, LdYInc, LdYDec, LdZInc, LdZDec, Ldd, Lds, StX, StXInc, StXDec}
+use Rattle.avr_table.specs.declared.Instr.TheVariants.{StYInc, StYDec, StZInc, StZDec, Std, Sts, Lpm, LpmZ, LpmZInc, Spm, In, Out, Push}
+use Rattle.avr_table.specs.declared.Instr.TheVariants.{Pop, Lsr, Ror, Asr, Swap, Bset, Bclr, Sbi, Cbi, Bst, Bld, Break, Nop, Sleep, Wdr}
 
 -- what a letter's places spell fits as many bits
 same_test : (a b : ℕ) → nat_eq a b ≡ nat_eq b a
@@ -31,16 +37,19 @@ spelled_fits c (d ∷ ds) n = go (nat_eq d c) (same_test c d) (spelled_fits c ds
     go : (t : Bool) → nat_eq c d ≡ t → spelled c ds n < 2 ^ count_by (nat_eq c) ds
         → cond t (bit_at n (length ds) * 2 ^ count_by (nat_eq c) ds + spelled c ds n) (spelled c ds n) < 2 ^ count_by (nat_eq c) (d ∷ ds)
     go true e h =
-        let count : count_by (nat_eq c) (d ∷ ds) ≡ suc (count_by (nat_eq c) ds) = sum_by-cons (λ x. cond (nat_eq c x) 1 0) d ds ∙ ap (λ t. cond t 1 0 + count_by (nat_eq c) ds) e ∙ one_more (count_by (nat_eq c) ds) in
+        let count : count_by (nat_eq c) (d ∷ ds) ≡ suc (count_by (nat_eq c) ds) = sum_by-cons (λ x. cond (nat_eq c x) 1 0) d ds
+        ∙ ap (λ t. cond t 1 0 + count_by (nat_eq c) ds) e ∙ one_more (count_by (nat_eq c) ds) in
         let bit = bit_at-lt n (length ds) in
-        subst (λ k. bit_at n (length ds) * 2 ^ count_by (nat_eq c) ds + spelled c ds n < 2 ^ k) (sym count) (digit_fits (bit_at n (length ds)) (2 ^ count_by (nat_eq c) ds) (2 ^ suc (count_by (nat_eq c) ds)) bit h (omega arith))
+        subst (λ k. bit_at n (length ds) * 2 ^ count_by (nat_eq c) ds + spelled c ds n < 2 ^ k) (sym count)
+        (digit_fits (bit_at n (length ds)) (2 ^ count_by (nat_eq c) ds) (2 ^ suc (count_by (nat_eq c) ds)) bit h (omega arith))
       where
         digit_fits : (b m q : ℕ) {s : ℕ} → b < 2 → s < m → q ≡ 2 * m → b * m + s < q
         digit_fits zero m q lt h e = omega (arith, h, e)
         digit_fits (suc zero) m q lt h e = omega (arith, h, e)
         digit_fits (suc (suc b)) m q lt h e = absurd (omega arith)
     go false e h =
-        let count : count_by (nat_eq c) (d ∷ ds) ≡ count_by (nat_eq c) ds = sum_by-cons (λ x. cond (nat_eq c x) 1 0) d ds ∙ ap (λ t. cond t 1 0 + count_by (nat_eq c) ds) e ∙ none_more (count_by (nat_eq c) ds) in
+        let count : count_by (nat_eq c) (d ∷ ds) ≡ count_by (nat_eq c) ds = sum_by-cons (λ x. cond (nat_eq c x) 1 0) d ds
+        ∙ ap (λ t. cond t 1 0 + count_by (nat_eq c) ds) e ∙ none_more (count_by (nat_eq c) ds) in
         subst (λ k. spelled c ds n < 2 ^ k) (sym count) h
 
 -- a letter's field
@@ -308,8 +317,10 @@ row_LdZDec n h =
 
 row_Ldd : (n : ℕ) → IsTrue (stands (padded (places "10q0 qq0d dddd yqqq")) n) → (i : Instr) × ReadsAt n i
 row_Ldd n h =
-    let p = padded (places "10q0 qq0d dddd yqqq") in
-    (Ldd (taken 5 (code "d") p n refl) (taken 1 (code "y") p n refl) (taken 6 (code "q") p n refl), record { fixed = h; letters = (refl, (refl, (refl, tt))) })
+    let p = padded (places "10q0 qq0d dddd yqqq") in (
+      Ldd (taken 5 (code "d") p n refl) (taken 1 (code "y") p n refl) (taken 6 (code "q") p n refl),
+      record { fixed = h; letters = (refl, (refl, (refl, tt))) },
+    )
 
 row_Lds : (n : ℕ) → IsTrue (stands (padded (places "1001 000d dddd 0000 kkkk kkkk kkkk kkkk")) n) → (i : Instr) × ReadsAt n i
 row_Lds n h =
@@ -353,8 +364,10 @@ row_StZDec n h =
 
 row_Std : (n : ℕ) → IsTrue (stands (padded (places "10q0 qq1r rrrr yqqq")) n) → (i : Instr) × ReadsAt n i
 row_Std n h =
-    let p = padded (places "10q0 qq1r rrrr yqqq") in
-    (Std (taken 1 (code "y") p n refl) (taken 6 (code "q") p n refl) (taken 5 (code "r") p n refl), record { fixed = h; letters = (refl, (refl, (refl, tt))) })
+    let p = padded (places "10q0 qq1r rrrr yqqq") in (
+      Std (taken 1 (code "y") p n refl) (taken 6 (code "q") p n refl) (taken 5 (code "r") p n refl),
+      record { fixed = h; letters = (refl, (refl, (refl, tt))) },
+    )
 
 row_Sts : (n : ℕ) → IsTrue (stands (padded (places "1001 001r rrrr 0000 kkkk kkkk kkkk kkkk")) n) → (i : Instr) × ReadsAt n i
 row_Sts n h =
@@ -690,7 +703,8 @@ read_or_none n = go (search n (rows n))
   where
     none_read : NoneStands n (rows n) → (i : Instr) → ReadsAt n i → ⊥
     none_read none i read =
-        let no : stands (pattern_of i) n ≡ false = sym (ap (λ p. stands p n) (its_pattern n i)) ∙ fails_at n (rows n) (index i) (within n i) none in
+        let no : stands (pattern_of i) n ≡ false = sym (ap (λ p. stands p n) (its_pattern n i)) ∙ fails_at n (rows n) (index i) (within n i)
+        none in
         let yes : stands (pattern_of i) n ≡ true = read.fixed in
         cc
 

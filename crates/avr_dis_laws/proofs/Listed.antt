@@ -11,7 +11,9 @@ use Rattle.avr_dis_laws.proofs.EachRow.{Found, read_or_none}
 line_there : (image : FinMap nat_cmp ℕ) (at : ℕ) → (two : Bool) × (text : List ℕ) × LineAt image at two text
 line_there image at = go (read_or_none (word_of image at * 2 ^ 16 + word_of image (at + 1)))
   where
-    go : Found (word_of image at * 2 ^ 16 + word_of image (at + 1)) ⊎ ((i : Instr) → ReadsAt (word_of image at * 2 ^ 16 + word_of image (at + 1)) i → ⊥) → (two : Bool) × (text : List ℕ) × LineAt image at two text
+    go : Found (word_of image at * 2 ^ 16 + word_of image (at + 1))
+        ⊎ ((i : Instr) → ReadsAt (word_of image at * 2 ^ 16 + word_of image (at + 1)) i → ⊥) → (two : Bool) × (text : List ℕ)
+        × LineAt image at two text
     go (inl (i, read)) = (nat_eq (words_of i) 2, row_line image at i, inl (i, read, refl, refl))
     go (inr none) = (false, word_line image at, inr (none, refl, refl))
 

@@ -1,5 +1,6 @@
 -- Fields with one value are one.
-use Rattle.std.proofs.Common.{◌≡◌, ℕ, suc, ◌-◌, ◌*◌, ◌%◌, ◌^◌, ◌<◌, ◌≤◌, refl, sym, ◌∙◌, ap, subst, arith, rules, ℤ, pos, FitsSigned, to_z, of_z, w64}
+use Rattle.std.proofs.Common.{◌≡◌, ℕ, suc, ◌-◌, ◌*◌, ◌%◌, ◌^◌, ◌<◌, ◌≤◌, refl, sym, ◌∙◌, ap, subst, arith, rules, ℤ, pos, FitsSigned, to_z}
+use Rattle.std.proofs.Common.{of_z, w64}
 use Rattle.std.specs.Prelude.{negsuc, unsigned_abs}
 use Rattle.std.specs.Int.{int_rem_euclid}
 use Rattle.std.proofs.Math.Bridge.{le_prop}
@@ -47,7 +48,10 @@ small_fits b (negsuc n) h =
     let small : 2 ^ b ≤ 2 ^ 16 = pow_mono h in
     pos_fits (2 ^ b - 1 - n % 2 ^ b) (omega arith)
 
-pub value_is : (b : ℕ) (z r : ℤ) → b ≤ 16 → FitsSigned w64 z → r ≡ int_rem_euclid (to_z w64 (of_z w64 z)) (to_z w64 (1 * 2 ^ b % 2 ^ 64)) → unsigned_abs (to_z w64 (of_z w64 r)) ≡ unsigned b z % 2 ^ b
+pub value_is : (b : ℕ) (z r : ℤ) → b ≤ 16 → FitsSigned w64 z → r ≡ int_rem_euclid (to_z w64 (of_z w64 z)) (to_z w64 (1 * 2 ^ b % 2 ^ 64))
+    → unsigned_abs (to_z w64 (of_z w64 r)) ≡ unsigned b z % 2 ^ b
 value_is b z r h fits e =
-    let is : r ≡ int_rem_euclid z (pos (2 ^ b)) = e ∙ ap (λ x. int_rem_euclid x (to_z w64 (1 * 2 ^ b % 2 ^ 64))) (to_z-of_z w64 z fits) ∙ ap (int_rem_euclid z) (power_is b h) in
-    ap (λ x. unsigned_abs (to_z w64 (of_z w64 x))) is ∙ ap unsigned_abs (to_z-of_z w64 (int_rem_euclid z (pos (2 ^ b))) (small_fits b z h)) ∙ remainder_is b z
+    let is : r ≡ int_rem_euclid z (pos (2 ^ b)) = e ∙ ap (λ x. int_rem_euclid x (to_z w64 (1 * 2 ^ b % 2 ^ 64))) (to_z-of_z w64 z fits)
+    ∙ ap (int_rem_euclid z) (power_is b h) in
+    ap (λ x. unsigned_abs (to_z w64 (of_z w64 x))) is ∙ ap unsigned_abs (to_z-of_z w64 (int_rem_euclid z (pos (2 ^ b))) (small_fits b z h))
+    ∙ remainder_is b z

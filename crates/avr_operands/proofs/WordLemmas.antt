@@ -6,7 +6,8 @@ use Rattle.avr_table.specs.declared.Instr.TheVariants as i
 use Rattle.avr_table.specs.Rows.{words_of as row_words}
 use Rattle.avr_text.specs.declared.tokens.Token.{Token}
 use Rattle.avr_operands.specs.declared.instructions.Forms.{Forms}
-use Rattle.avr_operands.specs.declared.instructions.Forms.TheVariants.{Zero, One, Two, Load, Store, LoadDisplaced, StoreDisplaced, ProgramMemory}
+use Rattle.avr_operands.specs.declared.instructions.Forms.TheVariants.{Zero, One, Two, Load, Store, LoadDisplaced, StoreDisplaced}
+use Rattle.avr_operands.specs.declared.instructions.Forms.TheVariants.{ProgramMemory}
 use Rattle.avr_operands.specs.declared.mnemonics.Mnemonic.{Mnemonic}
 use Rattle.avr_operands.specs.declared.mnemonics.Mnemonic.TheVariants as m
 use Rattle.avr_operands.specs.declared.pointers.Pointer.{Pointer}
@@ -15,7 +16,9 @@ use Rattle.avr_operands.specs.declared.pointers.Step.{Step}
 use Rattle.avr_operands.specs.declared.pointers.Step.TheVariants.{Plain, Increment, Decrement}
 use Rattle.avr_operands.specs.Faults.{Outcome}
 use Rattle.avr_operands.specs.Fields.{field}
-use Rattle.avr_operands.specs.Instructions.{none_of, mapped, load, store, at_address, loaded, stored, displaced, displaced_of, loaded_displaced, stored_displaced, program_row, from_program, loaded_from_program, program_memory, forms_of, row_of, by_forms, instruction_of}
+use Rattle.avr_operands.specs.Instructions.{none_of, mapped, load, store, at_address, loaded, stored, displaced, displaced_of}
+use Rattle.avr_operands.specs.Instructions.{loaded_displaced, stored_displaced, program_row, from_program, loaded_from_program}
+use Rattle.avr_operands.specs.Instructions.{program_memory, forms_of, row_of, by_forms, instruction_of}
 use Rattle.avr_operands.specs.Mnemonics.{words_of}
 use Rattle.avr_operands.specs.Operands.{Operands, both, number, register, one_value, two_values, pair_of}
 
@@ -61,7 +64,8 @@ of_none : (instr : Instr) (parts : List (List Token)) → HasWords (row_words in
 of_none instr [] = refl
 of_none instr (p ∷ ps) = tt
 
-of_address : (f : ℤ → Pointer → Step → Instr) → ((x : ℤ) (pointer : Pointer) (step : Step) → row_words (f x pointer step) ≡ 1) → (x : Outcome ℤ) (address : Option (Pointer × Step)) → HasWords 1 (at_address x address f)
+of_address : (f : ℤ → Pointer → Step → Instr) → ((x : ℤ) (pointer : Pointer) (step : Step) → row_words (f x pointer step) ≡ 1)
+    → (x : Outcome ℤ) (address : Option (Pointer × Step)) → HasWords 1 (at_address x address f)
 of_address f h (Err why) address = tt
 of_address f h (Ok x) None = tt
 of_address f h (Ok x) (Some a) = h x a.0 a.1
@@ -74,17 +78,21 @@ of_stored : (line : List ℕ) (pair : Option (List Token × List Token)) → Has
 of_stored line None = tt
 of_stored line (Some p) = of_address store words_of_store _ _
 
-of_displaced : (f : ℤ → ℤ → ℤ → Instr) → ((x y q : ℤ) → row_words (f x y q) ≡ 1) → (x : Outcome ℤ) (d : Option (ℤ × List Token)) (o : Operands) → HasWords 1 (displaced x d o f)
+of_displaced : (f : ℤ → ℤ → ℤ → Instr) → ((x y q : ℤ) → row_words (f x y q) ≡ 1) → (x : Outcome ℤ) (d : Option (ℤ × List Token))
+    (o : Operands) → HasWords 1 (displaced x d o f)
 of_displaced f h x None o = tt
-of_displaced f h x (Some d) o = of_mapped 1 (λ (p : ℤ × ℤ). f p.0 d.0 p.1) (λ p. h p.0 d.0 p.1) (both x (number (pos 0) (pos 63) o.line o.symbols d.1))
+of_displaced f h x (Some d) o = of_mapped 1 (λ (p : ℤ × ℤ). f p.0 d.0 p.1) (λ p. h p.0 d.0 p.1)
+    (both x (number (pos 0) (pos 63) o.line o.symbols d.1))
 
 of_loaded_displaced : (o : Operands) (pair : Option (List Token × List Token)) → HasWords 1 (loaded_displaced o pair)
 of_loaded_displaced o None = tt
-of_loaded_displaced o (Some p) = of_displaced (λ d y q. i.Ldd (field 5 d) (field 1 y) (field 6 q)) (λ x y q. refl) (register o.line p.0) (displaced_of o.line p.1) o
+of_loaded_displaced o (Some p) = of_displaced (λ d y q. i.Ldd (field 5 d) (field 1 y) (field 6 q)) (λ x y q. refl) (register o.line p.0)
+    (displaced_of o.line p.1) o
 
 of_stored_displaced : (o : Operands) (pair : Option (List Token × List Token)) → HasWords 1 (stored_displaced o pair)
 of_stored_displaced o None = tt
-of_stored_displaced o (Some p) = of_displaced (λ r y q. i.Std (field 1 y) (field 6 q) (field 5 r)) (λ x y q. refl) (register o.line p.1) (displaced_of o.line p.0) o
+of_stored_displaced o (Some p) = of_displaced (λ r y q. i.Std (field 1 y) (field 6 q) (field 5 r)) (λ x y q. refl) (register o.line p.1)
+    (displaced_of o.line p.0) o
 
 of_program_row : (d : ℤ) (address : Option (Pointer × Step)) → HasWords 1 (program_row d address)
 of_program_row d None = tt
@@ -114,9 +122,12 @@ is_by_number (Two form other) = true
 is_by_number forms = false
 
 of_numbers : (forms : Forms) (name : Mnemonic) (o : Operands) → is_by_number forms ≡ true → HasWords (words_of name) (by_forms forms name o)
-of_numbers Zero name o h = subst (λ n. HasWords n (none_of (row_of name (pos 0) (pos 0)) o.parts)) (words_of_row name (pos 0) (pos 0)) (of_none (row_of name (pos 0) (pos 0)) o.parts)
-of_numbers (One form) name o h = of_mapped (words_of name) (λ x. row_of name x (pos 0)) (λ x. words_of_row name x (pos 0)) (one_value form o o.parts)
-of_numbers (Two form other) name o h = of_mapped (words_of name) (λ (p : ℤ × ℤ). row_of name p.0 p.1) (λ p. words_of_row name p.0 p.1) (two_values form other o (pair_of o.parts))
+of_numbers Zero name o h = subst (λ n. HasWords n (none_of (row_of name (pos 0) (pos 0)) o.parts)) (words_of_row name (pos 0) (pos 0))
+    (of_none (row_of name (pos 0) (pos 0)) o.parts)
+of_numbers (One form) name o h = of_mapped (words_of name) (λ x. row_of name x (pos 0)) (λ x. words_of_row name x (pos 0))
+    (one_value form o o.parts)
+of_numbers (Two form other) name o h = of_mapped (words_of name) (λ (p : ℤ × ℤ). row_of name p.0 p.1) (λ p. words_of_row name p.0 p.1)
+    (two_values form other o (pair_of o.parts))
 of_numbers Load name o h = absurd cc
 of_numbers Store name o h = absurd cc
 of_numbers LoadDisplaced name o h = absurd cc
@@ -133,7 +144,8 @@ words_of_instruction m.Lpm o = of_program_memory o.line o.parts
 words_of_instruction name o = of_numbers (forms_of name) name o refl
 
 -- the same of what a call gave
-pub words_of_result : (name : Mnemonic) (o : Operands) (result : Outcome Instr) → result ≡ instruction_of name o → HasWords (words_of name) result
+pub words_of_result : (name : Mnemonic) (o : Operands) (result : Outcome Instr) → result ≡ instruction_of name o → HasWords (words_of name)
+    result
 words_of_result name o result e = subst (HasWords (words_of name)) (sym e) (words_of_instruction name o)
 
 -- the same of an instruction

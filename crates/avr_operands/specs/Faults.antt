@@ -2,8 +2,9 @@
 use Rattle.std.specs.Prelude.{◌≡◌, ℕ, ◌⊎◌, nat_lt, Result, Ok, Err, if◌then◌else◌}
 use Rattle.avr_text.specs.declared.values.ValueWhy.{ValueWhy}
 use Rattle.avr_text.specs.declared.values.ValueWhy.TheVariants.{Form, Unknown, Overflow, ZeroDivisor}
-use Rattle.avr_operands.specs.declared.faults.AsmWhy.{AsmWhy}
-use Rattle.avr_operands.specs.declared.faults.AsmWhy.TheVariants.{Lex, Mnemonic, Operand, Range, Symbol, Twice, Overlap, Past, Directive, Memory}
+use Rattle.avr_operands.specs.declared.errors.AsmWhy.{AsmWhy}
+use Rattle.avr_operands.specs.declared.errors.AsmWhy.TheVariants.{Lex, Mnemonic, Operand, Range, Symbol, Twice, Overlap, Past, Directive}
+use Rattle.avr_operands.specs.declared.errors.AsmWhy.TheVariants.{Memory}
 
 abbrev pub number_of : AsmWhy → ℕ
 number_of Lex = 1

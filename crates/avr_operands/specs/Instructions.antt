@@ -1,6 +1,7 @@
 -- The instruction of a line: for each name the operands that it wants, and the row that it is with their numbers.
 -- Source: AVR Instruction Set Manual, the operands and ranges of each instruction.
 use Rattle.std.specs.Prelude.{ℕ, ℤ, pos, List, [], ◌∷◌, codes, Option, Some, None, Ok, Err, if◌then◌else◌}
+use Prim.Native.Char.{code}
 use Rattle.avr_table.specs.declared.Instr.{Instr}
 use Rattle.avr_table.specs.declared.Instr.TheVariants as i
 use Rattle.avr_text.specs.declared.tokens.Token.{Token}
@@ -9,7 +10,7 @@ use Rattle.avr_text.specs.declared.tokens.TokenKind.TheVariants.{Name}
 use Rattle.avr_text.specs.Reading.{is_mark_of}
 use Rattle.avr_text.specs.Tokens.{text_of}
 use Rattle.avr_text.specs.Words.{is_word_named}
-use Rattle.avr_operands.specs.declared.faults.AsmWhy.TheVariants.{Operand}
+use Rattle.avr_operands.specs.declared.errors.AsmWhy.TheVariants.{Operand}
 use Rattle.avr_operands.specs.declared.pointers.Pointer.{Pointer}
 use Rattle.avr_operands.specs.declared.pointers.Pointer.TheVariants.{X, Y, Z}
 use Rattle.avr_operands.specs.declared.pointers.Step.{Step}
@@ -18,9 +19,11 @@ use Rattle.avr_operands.specs.declared.mnemonics.Mnemonic.{Mnemonic}
 use Rattle.avr_operands.specs.declared.mnemonics.Mnemonic.TheVariants as m
 use Rattle.avr_text.specs.Arithmetic.{complement_of}
 use Rattle.avr_operands.specs.declared.instructions.Forms.{Forms}
-use Rattle.avr_operands.specs.declared.instructions.Forms.TheVariants.{Zero, One, Two, Load, Store, LoadDisplaced, StoreDisplaced, ProgramMemory}
+use Rattle.avr_operands.specs.declared.instructions.Forms.TheVariants.{Zero, One, Two, Load, Store, LoadDisplaced, StoreDisplaced}
+use Rattle.avr_operands.specs.declared.instructions.Forms.TheVariants.{ProgramMemory}
 use Rattle.avr_operands.specs.declared.operands.Form.{Form}
-use Rattle.avr_operands.specs.declared.operands.Form.TheVariants.{Register, UpperRegister, MiddleRegister, Pair, UpperPair, Byte, SixBits, FiveBits, ThreeBits, Word, Relative7, Relative12, Absolute}
+use Rattle.avr_operands.specs.declared.operands.Form.TheVariants.{Register, UpperRegister, MiddleRegister, Pair, UpperPair, Byte, SixBits}
+use Rattle.avr_operands.specs.declared.operands.Form.TheVariants.{FiveBits, ThreeBits, Word, Relative7, Relative12, Absolute}
 use Rattle.avr_operands.specs.Faults.{Outcome}
 use Rattle.avr_operands.specs.Fields.{field}
 use Rattle.avr_operands.specs.Operands.{Operands, register, number, both, one_value, pair_of, two_values}
@@ -69,8 +72,8 @@ stepped (Some pointer) step = Some (pointer, step)
 abbrev pub address_of : List ℕ → List Token → Option (Pointer × Step)
 address_of line (t ∷ []) = stepped (pointer_of line t) Plain
 address_of line (t ∷ u ∷ []) =
-    if is_mark_of 43 u.kind then stepped (pointer_of line t) Increment
-    else if is_mark_of 45 t.kind then stepped (pointer_of line u) Decrement
+    if is_mark_of (code "+") u.kind then stepped (pointer_of line t) Increment
+    else if is_mark_of (code "-") t.kind then stepped (pointer_of line u) Decrement
     else None
 address_of line other = None
 
@@ -83,7 +86,7 @@ base_of (Some Z) rest = Some (pos 0, rest)
 
 -- `Y+q` or `Z+q`: its pointer, and the tokens of q
 abbrev pub displaced_of : List ℕ → List Token → Option (ℤ × List Token)
-displaced_of line (t ∷ u ∷ rest) = if is_mark_of 43 u.kind then base_of (pointer_of line t) rest else None
+displaced_of line (t ∷ u ∷ rest) = if is_mark_of (code "+") u.kind then base_of (pointer_of line t) rest else None
 displaced_of line other = None
 
 -- LD by its pointer: plain Y and Z are LDD with q = 0

@@ -3,3 +3,4 @@ pub mod Fields
 pub mod Instructions
 pub mod Mnemonics
 pub mod Operands
+pub mod WhyNames

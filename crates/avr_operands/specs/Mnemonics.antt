@@ -3,7 +3,13 @@
 use Rattle.std.specs.Prelude.{ℕ, List, [], ◌∷◌, codes, Option, Some, None, if◌then◌else◌}
 use Rattle.avr_text.specs.Words.{is_word_named}
 use Rattle.avr_operands.specs.declared.mnemonics.Mnemonic.{Mnemonic}
-use Rattle.avr_operands.specs.declared.mnemonics.Mnemonic.TheVariants.{Add, Adc, Adiw, Sub, Subi, Sbc, Sbci, Sbiw, And, Andi, Or, Ori, Eor, Com, Neg, Inc, Dec, Mul, Muls, Mulsu, Fmul, Fmuls, Fmulsu, Rjmp, Ijmp, Jmp, Rcall, Icall, Call, Ret, Reti, Cpse, Cp, Cpc, Cpi, Sbrc, Sbrs, Sbic, Sbis, Brbs, Brbc, Mov, Movw, Ldi, Ld, Ldd, Lds, St, Std, Sts, Lpm, Spm, In, Out, Push, Pop, Lsr, Ror, Asr, Swap, Bset, Bclr, Sbi, Cbi, Bst, Bld, Break, Nop, Sleep, Wdr, Lsl, Rol, Tst, Clr, Ser, Cbr, SetFlag, ClearFlag, BranchIfSet, BranchIfClear}
+use Rattle.avr_operands.specs.declared.mnemonics.Mnemonic.TheVariants.{Add, Adc, Adiw, Sub, Subi, Sbc, Sbci, Sbiw, And, Andi, Or, Ori, Eor}
+use Rattle.avr_operands.specs.declared.mnemonics.Mnemonic.TheVariants.{Com, Neg, Inc, Dec, Mul, Muls, Mulsu, Fmul, Fmuls, Fmulsu, Rjmp}
+use Rattle.avr_operands.specs.declared.mnemonics.Mnemonic.TheVariants.{Ijmp, Jmp, Rcall, Icall, Call, Ret, Reti, Cpse, Cp, Cpc, Cpi, Sbrc}
+use Rattle.avr_operands.specs.declared.mnemonics.Mnemonic.TheVariants.{Sbrs, Sbic, Sbis, Brbs, Brbc, Mov, Movw, Ldi, Ld, Ldd, Lds, St, Std}
+use Rattle.avr_operands.specs.declared.mnemonics.Mnemonic.TheVariants.{Sts, Lpm, Spm, In, Out, Push, Pop, Lsr, Ror, Asr, Swap, Bset, Bclr}
+use Rattle.avr_operands.specs.declared.mnemonics.Mnemonic.TheVariants.{Sbi, Cbi, Bst, Bld, Break, Nop, Sleep, Wdr, Lsl, Rol, Tst, Clr, Ser}
+use Rattle.avr_operands.specs.declared.mnemonics.Mnemonic.TheVariants.{Cbr, SetFlag, ClearFlag, BranchIfSet, BranchIfClear}
 
 -- the first name that a word is
 abbrev pub first_named : List ℕ → List (List ℕ × Mnemonic) → Option Mnemonic

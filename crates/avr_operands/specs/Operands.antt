@@ -1,7 +1,9 @@
 -- The operands of a line: what their tokens mean, and which numbers they give an instruction.
-use Rattle.std.specs.Prelude.{ℕ, ◌+◌, ◌-◌, ◌*◌, ◌==◌, ◌&&◌, ◌||◌, nat_le, nat_lt, Bool, false, ℤ, pos, negsuc, ◌-ℤ◌, int_le, List, [], ◌∷◌, map, All, Option, Some, None, Ok, Err, if◌then◌else◌}
+use Rattle.std.specs.Prelude.{ℕ, ◌+◌, ◌-◌, ◌*◌, ◌==◌, ◌&&◌, ◌||◌, nat_le, nat_lt, Bool, false, ℤ, pos, negsuc, ◌-ℤ◌, int_le, List, [], ◌∷◌}
+use Rattle.std.specs.Prelude.{map, All, Option, Some, None, Ok, Err, if◌then◌else◌}
 use Rattle.std.specs.Borrow.{Bor}
 use Rattle.std.specs.Int.{int_rem_euclid, int_shr}
+use Prim.Native.Char.{code}
 use Rattle.avr_text.specs.declared.tokens.Token.{Token}
 use Rattle.avr_text.specs.declared.tokens.TokenKind.{TokenKind}
 use Rattle.avr_text.specs.declared.tokens.TokenKind.TheVariants.{Name}
@@ -9,10 +11,11 @@ use Rattle.avr_text.specs.Names.{NameMap}
 use Rattle.avr_text.specs.Reading.{value_of}
 use Rattle.avr_text.specs.Arithmetic as text
 use Rattle.avr_text.specs.Tokens.{Lies, text_of}
-use Rattle.avr_operands.specs.declared.faults.AsmWhy.TheVariants.{Operand, Range}
+use Rattle.avr_operands.specs.declared.errors.AsmWhy.TheVariants.{Operand, Range}
 use Rattle.avr_operands.specs.declared.operands.Operands as source
 use Rattle.avr_operands.specs.declared.operands.Form.{Form}
-use Rattle.avr_operands.specs.declared.operands.Form.TheVariants.{Register, UpperRegister, MiddleRegister, Pair, UpperPair, Byte, SixBits, FiveBits, ThreeBits, Word, Relative7, Relative12, Absolute}
+use Rattle.avr_operands.specs.declared.operands.Form.TheVariants.{Register, UpperRegister, MiddleRegister, Pair, UpperPair, Byte, SixBits}
+use Rattle.avr_operands.specs.declared.operands.Form.TheVariants.{FiveBits, ThreeBits, Word, Relative7, Relative12, Absolute}
 use Rattle.avr_operands.specs.Faults.{Outcome, least, why_of}
 
 -- each token lies in a line of a length
@@ -21,20 +24,21 @@ AllLie len tokens = All (Lies len) tokens
 
 -- a decimal digit
 abbrev pub is_digit : ℕ → Bool
-is_digit b = nat_le 48 b && nat_le b 57
+is_digit b = nat_le (code "0") b && nat_le b (code "9")
 
 -- r or R
 abbrev pub is_r : ℕ → Bool
-is_r b = b == 114 || b == 82
+is_r b = b == code "r" || b == code "R"
 
 abbrev pub below_32 : ℕ → Option ℕ
 below_32 n = if nat_lt n 32 then Some n else None
 
 -- the register that a word names: r0 to r31, in either case
 abbrev pub register_of : List ℕ → Option ℕ
-register_of (r ∷ ones ∷ []) = if is_r r && is_digit ones then Some (ones - 48) else None
+register_of (r ∷ ones ∷ []) = if is_r r && is_digit ones then Some (ones - code "0") else None
 register_of (r ∷ tens ∷ ones ∷ []) =
-    if is_r r && (nat_le 49 tens && nat_le tens 51) && is_digit ones then below_32 ((tens - 48) * 10 + (ones - 48)) else None
+    if is_r r && (nat_le (code "1") tens && nat_le tens (code "3")) && is_digit ones then below_32
+    ((tens - code "0") * 10 + (ones - code "0")) else None
 register_of other = None
 
 -- the name that an operand is, and nothing besides

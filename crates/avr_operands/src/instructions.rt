@@ -6,7 +6,7 @@ ghost use Rattle.avr_operands.specs.Mnemonics.{words_of};
 ghost use Rattle.avr_operands.specs.Operands.{seen, pair_of, EachLies};
 ghost use Rattle.avr_operands.specs.Instructions.{none as no_operand, load as load_row, store as store_row, loaded, stored, loaded_displaced, stored_displaced, program_memory, forms_of as forms_of_name, row_of as row_of_name, instruction_of};
 
-use crate::faults::AsmWhy;
+use crate::errors::AsmWhy;
 use crate::fields::field;
 use crate::mnemonics::Mnemonic;
 use crate::operands::{Form, Operands, both, number, register};

@@ -4,7 +4,7 @@
 //! the row of the instruction table that the name has with them. Source: AVR Instruction Set Manual.
 #![tactic(auto)]
 
-mod faults;
+mod errors;
 mod fields;
 mod instructions;
 mod laws;
@@ -12,7 +12,7 @@ mod mnemonics;
 mod operands;
 mod pointers;
 
-pub use faults::AsmWhy;
+pub use errors::AsmWhy;
 pub use laws::name_gives_word_count;
 pub use mnemonics::{Mnemonic, mnemonic_of};
 pub use operands::{Operands, both, expression, name_of, number, register_number};

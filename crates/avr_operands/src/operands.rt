@@ -4,7 +4,7 @@ ghost use Rattle.std.specs.Prelude.{◌≡◌, ◌<◌, ◌≤ℤ◌, IfOk, IfSo
 ghost use Rattle.std.specs.Option.{option_copied};
 ghost use Rattle.avr_operands.specs.Operands.{AllLie, register_of, name_of as name_of_tokens, expression as expression_of, within as within_range, register as register_operand, half as half_of, number as number_operand, relative as relative_operand, operand as operand_by_form, both as both_values, one_value, pair_of, two_values, seen, EachLies};
 
-use crate::faults::{AsmWhy, why_without_value};
+use crate::errors::{AsmWhy, why_without_value};
 use avr_text::{Symbols, Token, TokenKind, text_of, value};
 
 /// What an instruction wants of an operand.

@@ -1,5 +1,6 @@
 -- Two patterns that fix one bit otherwise stand in no number together.
-use Rattle.std.proofs.Common.{◌≡◌, ℕ, Bool, true, false, ◌&&◌, ◌||◌, List, [], ◌∷◌, Option, None, Some, length, nat_eq, refl, ◌∙◌, ap, arith}
+use Rattle.std.proofs.Common.{◌≡◌, ℕ, Bool, true, false, ◌&&◌, ◌||◌, List, [], ◌∷◌, Option, None, Some, length, nat_eq, refl, ◌∙◌, ap}
+use Rattle.std.proofs.Common.{arith}
 use Rattle.std.proofs.lemmas.Bool.Decides.{nat_tests}
 use Rattle.std.specs.Int.{bit_at}
 use Rattle.avr_table.specs.Pattern.{digit, meets, stands}
@@ -46,4 +47,5 @@ apart_not (c ∷ cs) (d ∷ ds) n h u v =
     by_rest rec false e =
         let t : (nat_eq (length cs) (length ds) ≡ true) × (differ (digit c) (digit d) ≡ true) = and_true _ _ (or_case _ _ h e) in
         let l : length cs ≡ length ds = same_number _ _ t.0 in
-        clash (digit c) (digit d) (bit_at n (length cs)) t.1 (and_true _ _ u).0 (ap (λ k. meets (digit d) (bit_at n k)) l ∙ (and_true _ _ v).0)
+        clash (digit c) (digit d) (bit_at n (length cs)) t.1 (and_true _ _ u).0 (ap (λ k. meets (digit d) (bit_at n k)) l
+        ∙ (and_true _ _ v).0)

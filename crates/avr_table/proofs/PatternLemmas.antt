@@ -1,5 +1,6 @@
 -- Laws of patterns of bits.
-use Rattle.std.proofs.Common.{◌≡◌, ℕ, zero, suc, ◌+◌, ◌*◌, ◌/◌, ◌%◌, ◌^◌, ◌<◌, ◌≤◌, Bool, true, false, ◌&&◌, List, [], ◌∷◌, Option, None, Some, length, nat_eq, refl, ◌∙◌, ap, subst, arith, bit_and}
+use Rattle.std.proofs.Common.{◌≡◌, ℕ, zero, suc, ◌+◌, ◌*◌, ◌/◌, ◌%◌, ◌^◌, ◌<◌, ◌≤◌, Bool, true, false, ◌&&◌, List, [], ◌∷◌, Option, None}
+use Rattle.std.proofs.Common.{Some, length, nat_eq, refl, ◌∙◌, ap, subst, arith, bit_and}
 use Rattle.std.proofs.lemmas.Bool.Decides.{nat_tests}
 use Rattle.std.specs.Int.{bit_at}
 use Rattle.std.specs.Int.Bits.{and_zero_r, and_le_r}
@@ -53,12 +54,15 @@ and_cons n k a m h =
     let e2 : bit_and (q * 2 ^ k + r) (0 * 2 ^ k + m) ≡ bit_and q 0 * 2 ^ k + bit_and r m = and_block k q 0 r m (below_at n k) h in
     let s : q * 2 ^ k + r ≡ n = split_at n k in
     let z : 0 * 2 ^ k + m ≡ m = omega arith in
-    let f1 : bit_and n (a * 2 ^ k + m) ≡ bit_and q a * 2 ^ k + bit_and r m = subst (λ x. bit_and x (a * 2 ^ k + m) ≡ bit_and q a * 2 ^ k + bit_and r m) s e1 in
-    let f2 : bit_and n m ≡ bit_and q 0 * 2 ^ k + bit_and r m = subst (λ x. bit_and x m ≡ bit_and q 0 * 2 ^ k + bit_and r m) s (subst (λ y. bit_and (q * 2 ^ k + r) y ≡ bit_and q 0 * 2 ^ k + bit_and r m) z e2) in
+    let f1 : bit_and n (a * 2 ^ k + m) ≡ bit_and q a * 2 ^ k + bit_and r m =
+    subst (λ x. bit_and x (a * 2 ^ k + m) ≡ bit_and q a * 2 ^ k + bit_and r m) s e1 in
+    let f2 : bit_and n m ≡ bit_and q 0 * 2 ^ k + bit_and r m = subst (λ x. bit_and x m ≡ bit_and q 0 * 2 ^ k + bit_and r m) s
+    (subst (λ y. bit_and (q * 2 ^ k + r) y ≡ bit_and q 0 * 2 ^ k + bit_and r m) z e2) in
     let f3 : bit_and n m ≡ bit_and r m = omega (arith, f2, ap (λ x. x * 2 ^ k) (and_zero_r q)) in
     omega (arith, f1, f3)
 
-step_to : (d : Option Bool) (n k m v : ℕ) → m < 2 ^ k → meets d (bit_at n k) ≡ true → bit_and n m ≡ v → bit_and n (fixed_bit d * 2 ^ k + m) ≡ value_bit d * 2 ^ k + v
+step_to : (d : Option Bool) (n k m v : ℕ) → m < 2 ^ k → meets d (bit_at n k) ≡ true → bit_and n m ≡ v → bit_and n (fixed_bit d * 2 ^ k + m)
+    ≡ value_bit d * 2 ^ k + v
 step_to None n k m v h b e = omega (arith, and_cons n k 0 m h, ap (λ x. x * 2 ^ k) (and_zero_r (n / 2 ^ k)), e)
 step_to (Some false) n k m v h b e =
     let z : bit_at n k ≡ 0 = grind (arith, nat_tests) in
@@ -70,19 +74,26 @@ step_to (Some true) n k m v h b e =
 -- the parts of a number
 pub top_part : (b d y v P : ℕ) → b < 2 → d < 2 → y < P → v < P → b * P + y ≡ d * P + v → (b ≡ d) × (y ≡ v)
 top_part zero zero y v P hb hd hy hv e = (refl, omega arith)
-top_part zero (suc d) y v P hb hd hy hv e = let z : d ≡ 0 = omega arith in let p : suc d * P ≡ P = rw z (omega arith) in absurd (omega (arith, p))
-top_part (suc b) zero y v P hb hd hy hv e = let z : b ≡ 0 = omega arith in let p : suc b * P ≡ P = rw z (omega arith) in absurd (omega (arith, p))
-top_part (suc b) (suc d) y v P hb hd hy hv e = let z : b ≡ d = omega arith in let p : suc b * P ≡ suc d * P = ap (λ x. suc x * P) z in (ap suc z, omega (arith, p))
+top_part zero (suc d) y v P hb hd hy hv e = let z : d ≡ 0 = omega arith in let p : suc d * P ≡ P = rw z (omega arith) in
+    absurd (omega (arith, p))
+top_part (suc b) zero y v P hb hd hy hv e = let z : b ≡ 0 = omega arith in let p : suc b * P ≡ P = rw z (omega arith) in
+    absurd (omega (arith, p))
+top_part (suc b) (suc d) y v P hb hd hy hv e = let z : b ≡ d = omega arith in let p : suc b * P ≡ suc d * P = ap (λ x. suc x * P) z in
+    (ap suc z, omega (arith, p))
 
-bit_part : (n k m v d : ℕ) → m < 2 ^ k → v < 2 ^ k → d < 2 → bit_and n (1 * 2 ^ k + m) ≡ d * 2 ^ k + v → (bit_at n k ≡ d) × (bit_and n m ≡ v)
+bit_part : (n k m v d : ℕ) → m < 2 ^ k → v < 2 ^ k → d < 2 → bit_and n (1 * 2 ^ k + m) ≡ d * 2 ^ k + v → (bit_at n k ≡ d)
+    × (bit_and n m ≡ v)
 bit_part n k m v d h hv hd e =
     top_part (bit_at n k) d (bit_and n m) v (2 ^ k) (bit_at-lt n k) hd (omega (arith, and_le_r n m)) hv
     (omega (arith, and_cons n k 1 m h, ap (λ x. x * 2 ^ k) (shr_and_one n k), e))
 
-step_from : (d : Option Bool) (n k m v : ℕ) → m < 2 ^ k → v < 2 ^ k → bit_and n (fixed_bit d * 2 ^ k + m) ≡ value_bit d * 2 ^ k + v → (meets d (bit_at n k) ≡ true) × (bit_and n m ≡ v)
+step_from : (d : Option Bool) (n k m v : ℕ) → m < 2 ^ k → v < 2 ^ k → bit_and n (fixed_bit d * 2 ^ k + m) ≡ value_bit d * 2 ^ k + v
+    → (meets d (bit_at n k) ≡ true) × (bit_and n m ≡ v)
 step_from None n k m v h hv e = (refl, omega (arith, and_cons n k 0 m h, ap (λ x. x * 2 ^ k) (and_zero_r (n / 2 ^ k)), e))
-step_from (Some false) n k m v h hv e = let b : (bit_at n k ≡ 0) × (bit_and n m ≡ v) = bit_part n k m v 0 h hv (omega arith) e in (ap (λ x. nat_eq x 0) b.0, b.1)
-step_from (Some true) n k m v h hv e = let b : (bit_at n k ≡ 1) × (bit_and n m ≡ v) = bit_part n k m v 1 h hv (omega arith) e in (ap (λ x. nat_eq x 1) b.0, b.1)
+step_from (Some false) n k m v h hv e = let b : (bit_at n k ≡ 0) × (bit_and n m ≡ v) = bit_part n k m v 0 h hv (omega arith) e in
+    (ap (λ x. nat_eq x 0) b.0, b.1)
+step_from (Some true) n k m v h hv e = let b : (bit_at n k ≡ 1) × (bit_and n m ≡ v) = bit_part n k m v 1 h hv (omega arith) e in
+    (ap (λ x. nat_eq x 1) b.0, b.1)
 
 fixed-le : (d : Option Bool) → fixed_bit d ≤ 1
 fixed-le None = omega arith
@@ -116,5 +127,6 @@ pub stands_from_mask : (p : List ℕ) (n : ℕ) → bit_and n (mask_of p) ≡ va
 unfolding stands
 stands_from_mask [] n h = refl
 stands_from_mask (c ∷ cs) n h =
-    let a : (meets (digit c) (bit_at n (length cs)) ≡ true) × (bit_and n (mask_of cs) ≡ value_of cs) = step_from (digit c) n (length cs) (mask_of cs) (value_of cs) (mask-lt cs) (value-lt cs) h in
+    let a : (meets (digit c) (bit_at n (length cs)) ≡ true) × (bit_and n (mask_of cs) ≡ value_of cs) = step_from (digit c) n (length cs)
+    (mask_of cs) (value_of cs) (mask-lt cs) (value-lt cs) h in
     both_true _ _ a.0 (stands_from_mask cs n a.1)

@@ -1,5 +1,6 @@
 -- One more piece of a text.
-use Rattle.std.proofs.Common.{◌≡◌, ℕ, zero, suc, ◌+◌, ◌-◌, ◌<◌, ◌≤◌, List, [], ◌∷◌, ◌++◌, length, drop, refl, sym, ◌∙◌, ap, append_assoc, append-nil, drop-cons, drop-drop, arith}
+use Rattle.std.proofs.Common.{◌≡◌, ℕ, zero, suc, ◌+◌, ◌-◌, ◌<◌, ◌≤◌, List, [], ◌∷◌, ◌++◌, length, drop, refl, sym, ◌∙◌, ap, append_assoc}
+use Rattle.std.proofs.Common.{append-nil, drop-cons, drop-drop, arith}
 use Rattle.std.proofs.lemmas.List.{drop_all}
 use Rattle.std.specs.Prelude.{Ok, Err}
 use Rattle.avr_text.specs.declared.pieces.Piece.TheVariants.{Gap, Fault}
@@ -34,27 +35,35 @@ skipped (suc skip) at line (b ∷ bs) =
     skipped skip (at + 1) line bs ∙ ap (λ n. cut_from 0 n line (drop skip bs)) e
 
 -- the piece at a byte of a text, and what comes after it
-piece_there : (text : List ℕ) (at line : ℕ) → at < length text → cut_from 0 at line (drop at text) ≡ after_piece (piece_at (drop at text)) at line (λ skip next. cut_from skip (at + 1) next (drop (suc at) text))
+piece_there : (text : List ℕ) (at line : ℕ) → at < length text → cut_from 0 at line (drop at text) ≡ after_piece (piece_at (drop at text))
+    at line (λ skip next. cut_from skip (at + 1) next (drop (suc at) text))
 unfolding cut_from
 piece_there text at line h = rw (drop-cons text at 0 h) refl
 
-past : (text : List ℕ) (at n line : ℕ) → 0 < n → cut_from (n - 1) (at + 1) line (drop (suc at) text) ≡ cut_from 0 (at + n) line (drop (at + n) text)
+past : (text : List ℕ) (at n line : ℕ) → 0 < n → cut_from (n - 1) (at + 1) line (drop (suc at) text) ≡ cut_from 0 (at + n) line
+    (drop (at + n) text)
 past text at n line h =
     let e : at + 1 + (n - 1) ≡ at + n = omega arith in
     let d : suc at + (n - 1) ≡ at + n = omega arith in
     skipped (n - 1) (at + 1) line (drop (suc at) text) ∙ ap (λ k. cut_from 0 k line (drop (n - 1) (drop (suc at) text))) e
     ∙ ap (cut_from 0 (at + n) line) (drop-drop (n - 1) (suc at) text ∙ ap (λ k. drop k text) d)
 
-pub cut_gap : (text : List ℕ) (at line n : ℕ) → at < length text → 0 < n → piece_at (drop at text) ≡ Gap n → cut_from 0 at line (drop at text) ≡ cut_from 0 (at + n) line (drop (at + n) text)
-cut_gap text at line n h some e = piece_there text at line h ∙ ap (λ p. after_piece p at line (λ skip next. cut_from skip (at + 1) next (drop (suc at) text))) e ∙ past text at n line some
+pub cut_gap : (text : List ℕ) (at line n : ℕ) → at < length text → 0 < n → piece_at (drop at text) ≡ Gap n → cut_from 0 at line
+    (drop at text) ≡ cut_from 0 (at + n) line (drop (at + n) text)
+cut_gap text at line n h some e = piece_there text at line h
+    ∙ ap (λ p. after_piece p at line (λ skip next. cut_from skip (at + 1) next (drop (suc at) text))) e ∙ past text at n line some
 
-pub cut_token : (text : List ℕ) (at line : ℕ) (k : TokenKind) (n : ℕ) → at < length text → 0 < n → piece_at (drop at text) ≡ piece.Token k n → cut_from 0 at line (drop at text) ≡ with_first (record { kind = k; line = line; from = at; to = at + n }) (cut_from 0 (at + n) (line_after k line) (drop (at + n) text))
+pub cut_token : (text : List ℕ) (at line : ℕ) (k : TokenKind) (n : ℕ) → at < length text → 0 < n → piece_at (drop at text) ≡ piece.Token k n
+    → cut_from 0 at line (drop at text) ≡ with_first (record { kind = k; line = line; from = at; to = at + n })
+    (cut_from 0 (at + n) (line_after k line) (drop (at + n) text))
 cut_token text at line k n h some e =
     piece_there text at line h ∙ ap (λ p. after_piece p at line (λ skip next. cut_from skip (at + 1) next (drop (suc at) text))) e
     ∙ ap (with_first (record { kind = k; line = line; from = at; to = at + n })) (past text at n (line_after k line) some)
 
-pub cut_fault : (text : List ℕ) (at line : ℕ) (why : LexWhy) → at < length text → piece_at (drop at text) ≡ Fault why → cut_from 0 at line (drop at text) ≡ Err (record { line = line; why = why })
-cut_fault text at line why h e = piece_there text at line h ∙ ap (λ p. after_piece p at line (λ skip next. cut_from skip (at + 1) next (drop (suc at) text))) e
+pub cut_fault : (text : List ℕ) (at line : ℕ) (why : LexWhy) → at < length text → piece_at (drop at text) ≡ Fault why → cut_from 0 at line
+    (drop at text) ≡ Err (record { line = line; why = why })
+cut_fault text at line why h e = piece_there text at line h
+    ∙ ap (λ p. after_piece p at line (λ skip next. cut_from skip (at + 1) next (drop (suc at) text))) e
 
 -- no byte is left
 pub cut_end : (text : List ℕ) (at line : ℕ) → length text ≤ at → cut_from 0 at line (drop at text) ≡ Ok []
@@ -62,20 +71,31 @@ unfolding cut_from
 cut_end text at line h = ap (cut_from 0 at line) (drop_all at text h)
 
 pub line_after-≤ : (k : TokenKind) (line : ℕ) → line_after k line ≤ line + 1
-line_after-≤ k line = elim k as (λ k. line_after k line ≤ line + 1) [ LineEnd ↦ omega arith | Name ↦ omega arith | Number n ↦ omega arith | Mark b ↦ omega arith | ShiftLeft ↦ omega arith | ShiftRight ↦ omega arith ]
+line_after-≤ k line = elim k as (λ k. line_after k line ≤ line + 1) [
+  | LineEnd ↦ omega arith
+  | Name ↦ omega arith
+  | Number n ↦ omega arith
+  | Mark b ↦ omega arith
+  | ShiftLeft ↦ omega arith
+  | ShiftRight ↦ omega arith
+]
 
 end_front : (front : List Token) (c : Cut) → c ≡ Ok [] → with_front front c ≡ Ok front
 end_front front c e = ap (with_front front) e ∙ ap (λ xs. Ok xs) (append-nil front)
 
-pub whole : (front : List Token) (text : List ℕ) (at line : ℕ) → length text ≤ at → with_front front (cut_from 0 at line (drop at text)) ≡ Ok front
+pub whole : (front : List Token) (text : List ℕ) (at line : ℕ) → length text ≤ at → with_front front (cut_from 0 at line (drop at text))
+    ≡ Ok front
 whole front text at line h = end_front front _ (cut_end text at line h)
 
 -- a token is cut off, whatever the tokens and the line after it are called
-pub token_more : (text : List ℕ) (at line : ℕ) (k : TokenKind) (n : ℕ) (front more : List Token) (next : ℕ) → at < length text → 0 < n → piece_at (drop at text) ≡ piece.Token k n
+pub token_more : (text : List ℕ) (at line : ℕ) (k : TokenKind) (n : ℕ) (front more : List Token) (next : ℕ) → at < length text → 0 < n
+    → piece_at (drop at text) ≡ piece.Token k n
     → more ≡ front ++ record { kind = k; line = line; from = at; to = at + n } ∷ [] → next ≡ line_after k line
     → with_front more (cut_from 0 (at + n) next (drop (at + n) text)) ≡ with_front front (cut_from 0 at line (drop at text))
 token_more text at line k n front more next h some e is_more is_next =
     ap (λ xs. with_front xs (cut_from 0 (at + n) next (drop (at + n) text))) is_more
-    ∙ ap (λ l. with_front (front ++ record { kind = k; line = line; from = at; to = at + n } ∷ []) (cut_from 0 (at + n) l (drop (at + n) text))) is_next
-    ∙ with_front_more front (record { kind = k; line = line; from = at; to = at + n }) (cut_from 0 (at + n) (line_after k line) (drop (at + n) text))
+    ∙ ap (λ l. with_front (front ++ record { kind = k; line = line; from = at; to = at + n } ∷ [])
+    (cut_from 0 (at + n) l (drop (at + n) text))) is_next
+    ∙ with_front_more front (record { kind = k; line = line; from = at; to = at + n })
+    (cut_from 0 (at + n) (line_after k line) (drop (at + n) text))
     ∙ ap (with_front front) (sym (cut_token text at line k n h some e))

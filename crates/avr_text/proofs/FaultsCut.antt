@@ -1,5 +1,6 @@
 -- A text with a fault is refused with that fault, and what a cut gives is what the text spells.
-use Rattle.std.proofs.Common.{◌≡◌, ℕ, suc, ◌<◌, ◌≤◌, true, false, cond, List, [], ◌∷◌, ◌++◌, length, drop, refl, sym, ◌∙◌, ap, subst, append-nil, Vec, Global, arith}
+use Rattle.std.proofs.Common.{◌≡◌, ℕ, suc, ◌<◌, ◌≤◌, true, false, cond, List, [], ◌∷◌, ◌++◌, length, drop, refl, sym, ◌∙◌, ap, subst}
+use Rattle.std.proofs.Common.{append-nil, Vec, Global, arith}
 use Rattle.std.proofs.lemmas.List.{length-drop}
 use Rattle.std.specs.Prelude.{◌↔◌, Result, Ok, Err, slice_index}
 use Rattle.avr_text.specs.declared.pieces.Piece.{Piece}
@@ -43,7 +44,8 @@ fault_piece (b ∷ us) lex_why.Number some fault =
     let after = fault.1 in
     ap piece_at fault.2
     ∙ word_first word after (piece.Fault lex_why.Number) fault.3
-    (ap (λ d. cond d (number_piece (length word) (number_of word)) (piece.Token Name (length word))) fault.4 ∙ ap (number_piece (length word)) fault.5)
+    (ap (λ d. cond d (number_piece (length word) (number_of word)) (piece.Token Name (length word))) fault.4
+    ∙ ap (number_piece (length word)) fault.5)
 fault_piece (b ∷ us) lex_why.Memory some fault = absurd fault
 
 module _ (text : List ℕ) where
@@ -52,7 +54,8 @@ module _ (text : List ℕ) where
   fault_cut fault h =
       let some : 0 < length (drop h.place text) = omega (arith, length-drop h.place text, h.within) in
       spelled_to text h.place (omega (arith, h.within)) h.tokens 0 1 refl h.before
-      ∙ ap (with_front h.tokens) (cut_fault text h.place (line_of text h.place) fault.why h.within (fault_piece (drop h.place text) fault.why some h.why))
+      ∙ ap (with_front h.tokens) (cut_fault text h.place (line_of text h.place) fault.why h.within
+      (fault_piece (drop h.place text) fault.why some h.why))
       ∙ ap (λ l. Err (record { line = l; why = fault.why })) (sym h.line)
 
   -- what the cut gives
@@ -63,5 +66,6 @@ module _ (text : List ℕ) where
   cut_faulty fault = (λ e. subst (CutSays text 0) e (cut_says text), fault_cut fault)
 
 -- no other fault is given
-pub given_faulty : (text : List ℕ) (r : Result (Vec Token Global) LexError) → GivesTokens r (tokens_of text) → (fault : LexError) → HasFault text 0 fault → GivesTokens r (Err fault)
+pub given_faulty : (text : List ℕ) (r : Result (Vec Token Global) LexError) → GivesTokens r (tokens_of text) → (fault : LexError)
+    → HasFault text 0 fault → GivesTokens r (Err fault)
 given_faulty text r g fault h = subst (GivesTokens r) (fault_cut text fault h) g

@@ -22,7 +22,9 @@ use Rattle.avr_text.specs.Names.{NameMap, Keeps, known}
 use Rattle.avr_text.specs.Operators.{level_of, applied_to, combined, binary_of, sign_value, sign_applied, bracket_value, bracket_applied}
 use Rattle.avr_text.specs.Tokens.{text_of}
 use Rattle.avr_text.specs.Words.{bracket_word}
-use Rattle.avr_text.specs.Reading.{signed, reduced, word_or_value, mark_operand, kind_operand, in_mode, beginning, opened, closed_at, closed, operand_step, waits, waiting, is_mark_of, operator_or_none, operator_step, bracket_step, step_in, step, run, finished_in, value_of}
+use Rattle.avr_text.specs.Reading.{signed, reduced, word_or_value, mark_operand, kind_operand, in_mode, beginning, opened, closed_at}
+use Rattle.avr_text.specs.Reading.{closed, operand_step, waits, waiting, is_mark_of, operator_or_none, operator_step, bracket_step, step_in}
+use Rattle.avr_text.specs.Reading.{step, run, finished_in, value_of}
 
 -- a number that is found stays
 abbrev pub Stays : Outcome → Outcome → Type 0
@@ -39,7 +41,8 @@ stays_equal a b e = subst (λ x. Stays a x) (sym e) (stays_same a)
 stays_combined : (op : Binary) (a b c d : Outcome) → Stays a b → Stays c d → Stays (combined op a c) (combined op b d)
 stays_combined op (Err why) b c d h k = tt
 stays_combined op (Ok x) b (Err why) d h k = tt
-stays_combined op (Ok x) b (Ok y) d h k = stays_equal (applied_to op x y) (combined op b d) (ap (λ o. combined op o d) h ∙ ap (combined op (Ok x)) k)
+stays_combined op (Ok x) b (Ok y) d h k = stays_equal (applied_to op x y) (combined op b d)
+    (ap (λ o. combined op o d) h ∙ ap (combined op (Ok x)) k)
 
 stays_sign : (kind : TokenKind) (a b : Outcome) → Stays a b → Stays (sign_applied kind a) (sign_applied kind b)
 stays_sign kind (Err why) b h = tt
@@ -57,7 +60,8 @@ stays_bracket bracket (Ok x) b h = stays_equal (bracket_value bracket x) (bracke
 data Alike : List Entry → List Entry → Type 0 where
   both_empty : Alike [] []
   both_wait : {a b : Outcome} {op : Binary} {es fs : List Entry} → Stays a b → Alike es fs → Alike (Waiting a op ∷ es) (Waiting b op ∷ fs)
-  both_open : {bracket : Bracket} {from at : ℕ} {es fs : List Entry} → Alike es fs → Alike (Open bracket from at ∷ es) (Open bracket from at ∷ fs)
+  both_open : {bracket : Bracket} {from at : ℕ} {es fs : List Entry} → Alike es fs → Alike (Open bracket from at ∷ es)
+      (Open bracket from at ∷ fs)
 
 alike_length : {es fs : List Entry} → Alike es fs → length es ≡ length fs
 alike_length both_empty = refl
@@ -72,7 +76,8 @@ reduced_alike : (level : ℕ) (a b : Outcome) {es fs : List Entry} → Stays a b
 reduced_alike level a b h both_empty = record { value = h; stack = both_empty }
 reduced_alike level a b h (both_open k) = record { value = h; stack = both_open k }
 reduced_alike level a b h (both_wait {a = l} {b = m} {op = op} {es = es} {fs = fs} w k) =
-    elim (nat_le level (level_of op)) as (λ t. Both (cond t (reduced level (combined op l a) es) (a, Waiting l op ∷ es)) (cond t (reduced level (combined op m b) fs) (b, Waiting m op ∷ fs))) [
+    elim (nat_le level (level_of op)) as (λ t. Both (cond t (reduced level (combined op l a) es) (a, Waiting l op ∷ es))
+    (cond t (reduced level (combined op m b) fs) (b, Waiting m op ∷ fs))) [
       | true ↦ reduced_alike level (combined op l a) (combined op m b) (stays_combined op l m a b w h) k
       | false ↦ record { value = h; stack = both_wait w k }
     ]
@@ -97,51 +102,62 @@ choose_alike false false s t u v e h k = k
 refused_alike : (s t : Reader) → AlikeReader s t → AlikeReader (in_mode mode.Refused s) (in_mode mode.Refused t)
 refused_alike s t h = record { stack = h.stack; depth = h.depth; mode = both_refused }
 
-opened_alike : (bracket : Bracket) (from at next : ℕ) (s t : Reader) → AlikeReader s t → AlikeReader (opened bracket from at next s) (opened bracket from at next t)
+opened_alike : (bracket : Bracket) (from at next : ℕ) (s t : Reader) → AlikeReader s t → AlikeReader (opened bracket from at next s)
+    (opened bracket from at next t)
 opened_alike bracket from at next s t h =
     choose_alike (nat_le 32 s.depth || length s.stack == 256) (nat_le 32 t.depth || length t.stack == 256)
     (in_mode mode.Refused s) (in_mode mode.Refused t)
-    (record { stack = Open bracket from at ∷ s.stack; depth = s.depth + 1; mode = mode.Operand next }) (record { stack = Open bracket from at ∷ t.stack; depth = t.depth + 1; mode = mode.Operand next })
+    (record { stack = Open bracket from at ∷ s.stack; depth = s.depth + 1; mode = mode.Operand next })
+    (record { stack = Open bracket from at ∷ t.stack; depth = t.depth + 1; mode = mode.Operand next })
     (ap (λ n. nat_le 32 n || length s.stack == 256) h.depth ∙ ap (λ n. nat_le 32 t.depth || n == 256) (alike_length h.stack))
     (refused_alike s t h)
     (record { stack = both_open h.stack; depth = ap (λ n. n + 1) h.depth; mode = both_operand next })
 
-closed_at_alike : (tokens : List Token) (a b : Outcome) (s t : Reader) {es fs : List Entry} → Stays a b → s.depth ≡ t.depth → Alike es fs → AlikeReader (closed_at tokens a es s) (closed_at tokens b fs t)
+closed_at_alike : (tokens : List Token) (a b : Outcome) (s t : Reader) {es fs : List Entry} → Stays a b → s.depth ≡ t.depth → Alike es fs
+    → AlikeReader (closed_at tokens a es s) (closed_at tokens b fs t)
 closed_at_alike tokens a b s t h d both_empty = record { stack = both_empty; depth = d; mode = both_refused }
 closed_at_alike tokens a b s t h d (both_wait w k) = record { stack = k; depth = d; mode = both_refused }
 closed_at_alike tokens a b s t h d (both_open {bracket = bracket} {from = from} {at = at} k) = record {
   stack = k;
   depth = ap (λ n. n - 1) d;
-  mode = both_operator (stays_signed (slice_range tokens from at) (bracket_applied bracket a) (bracket_applied bracket b) (stays_bracket bracket a b h));
+  mode = both_operator (stays_signed (slice_range tokens from at) (bracket_applied bracket a) (bracket_applied bracket b)
+      (stays_bracket bracket a b h));
 }
 
-closed_alike : (tokens : List Token) (a b : Outcome) (s t : Reader) → Stays a b → AlikeReader s t → AlikeReader (closed tokens a s) (closed tokens b t)
+closed_alike : (tokens : List Token) (a b : Outcome) (s t : Reader) → Stays a b → AlikeReader s t → AlikeReader (closed tokens a s)
+    (closed tokens b t)
 closed_alike tokens a b s t h k =
     let r = reduced_alike 0 a b h k.stack in
     closed_at_alike tokens (reduced 0 a s.stack).0 (reduced 0 b t.stack).0 s t r.value k.depth r.stack
 
-waiting_alike : (op : Binary) (a b : Outcome) (next : ℕ) (s t : Reader) → Stays a b → AlikeReader s t → AlikeReader (waiting op a next s) (waiting op b next t)
-waiting_alike op a b next s t h k = go (reduced (level_of op) a s.stack) (reduced (level_of op) b t.stack) (reduced_alike (level_of op) a b h k.stack)
+waiting_alike : (op : Binary) (a b : Outcome) (next : ℕ) (s t : Reader) → Stays a b → AlikeReader s t → AlikeReader (waiting op a next s)
+    (waiting op b next t)
+waiting_alike op a b next s t h k = go (reduced (level_of op) a s.stack) (reduced (level_of op) b t.stack)
+    (reduced_alike (level_of op) a b h k.stack)
   where
     go : (q r : Outcome × List Entry) → Both q r → AlikeReader (waits op q.0 next q.1 s) (waits op r.0 next r.1 t)
     go q r w = choose_alike (length q.1 == 256) (length r.1 == 256)
         (record { stack = q.1; depth = s.depth; mode = mode.Refused }) (record { stack = r.1; depth = t.depth; mode = mode.Refused })
-        (record { stack = Waiting q.0 op ∷ q.1; depth = s.depth; mode = mode.Operand next }) (record { stack = Waiting r.0 op ∷ r.1; depth = t.depth; mode = mode.Operand next })
+        (record { stack = Waiting q.0 op ∷ q.1; depth = s.depth; mode = mode.Operand next })
+        (record { stack = Waiting r.0 op ∷ r.1; depth = t.depth; mode = mode.Operand next })
         (ap (λ n. n == 256) (alike_length w.stack))
         (record { stack = w.stack; depth = k.depth; mode = both_refused })
         (record { stack = both_wait w.value w.stack; depth = k.depth; mode = both_operand next })
 
-operator_alike : (o : Option Binary) (a b : Outcome) (next : ℕ) (s t : Reader) → Stays a b → AlikeReader s t → AlikeReader (operator_or_none o a next s) (operator_or_none o b next t)
+operator_alike : (o : Option Binary) (a b : Outcome) (next : ℕ) (s t : Reader) → Stays a b → AlikeReader s t
+    → AlikeReader (operator_or_none o a next s) (operator_or_none o b next t)
 operator_alike None a b next s t h k = refused_alike s t k
 operator_alike (Some op) a b next s t h k = waiting_alike op a b next s t h k
 
-operator_step_alike : (kind : TokenKind) (tokens : List Token) (at : ℕ) (a b : Outcome) (s t : Reader) → Stays a b → AlikeReader s t → AlikeReader (operator_step kind tokens at a s) (operator_step kind tokens at b t)
+operator_step_alike : (kind : TokenKind) (tokens : List Token) (at : ℕ) (a b : Outcome) (s t : Reader) → Stays a b → AlikeReader s t
+    → AlikeReader (operator_step kind tokens at a s) (operator_step kind tokens at b t)
 operator_step_alike kind tokens at a b s t h k =
     choose_alike (is_mark_of 41 kind) (is_mark_of 41 kind) (closed tokens a s) (closed tokens b t)
     (operator_or_none (binary_of kind) a (at + 1) s) (operator_or_none (binary_of kind) b (at + 1) t) refl
     (closed_alike tokens a b s t h k) (operator_alike (binary_of kind) a b (at + 1) s t h k)
 
-bracket_step_alike : (kind : TokenKind) (bracket : Bracket) (from at next : ℕ) (s t : Reader) → AlikeReader s t → AlikeReader (bracket_step kind bracket from at next s) (bracket_step kind bracket from at next t)
+bracket_step_alike : (kind : TokenKind) (bracket : Bracket) (from at next : ℕ) (s t : Reader) → AlikeReader s t
+    → AlikeReader (bracket_step kind bracket from at next s) (bracket_step kind bracket from at next t)
 bracket_step_alike kind bracket from at next s t k =
     choose_alike (is_mark_of 40 kind) (is_mark_of 40 kind) (opened bracket from at next s) (opened bracket from at next t)
     (in_mode mode.Refused s) (in_mode mode.Refused t) refl (opened_alike bracket from at next s t k) (refused_alike s t k)
@@ -158,34 +174,54 @@ name_alike : (o : Option Bracket) (a b : Outcome) → Stays a b → AlikeOperand
 name_alike None a b h = both_value h
 name_alike (Some bracket) a b h = both_same (Word bracket)
 
-kind_alike : (word : List ℕ) (kind : TokenKind) (symbols more : NameMap) (dot : Option ℤ) → Keeps symbols more → AlikeOperand (kind_operand word kind symbols dot) (kind_operand word kind more dot)
-kind_alike word Name symbols more dot keeps = name_alike (bracket_word word) (known (map.get symbols word)) (known (map.get more word)) (known_stays (map.get symbols word) (map.get more word) (keeps word))
+kind_alike : (word : List ℕ) (kind : TokenKind) (symbols more : NameMap) (dot : Option ℤ) → Keeps symbols more
+    → AlikeOperand (kind_operand word kind symbols dot) (kind_operand word kind more dot)
+kind_alike word Name symbols more dot keeps = name_alike (bracket_word word) (known (map.get symbols word)) (known (map.get more word))
+    (known_stays (map.get symbols word) (map.get more word) (keeps word))
 kind_alike word (Number n) symbols more dot keeps = both_same (Value (Ok n))
 kind_alike word (Mark b) symbols more dot keeps = both_same (mark_operand b dot)
 kind_alike word ShiftLeft symbols more dot keeps = both_same Nothing
 kind_alike word ShiftRight symbols more dot keeps = both_same Nothing
 kind_alike word LineEnd symbols more dot keeps = both_same Nothing
 
-same_operand_alike : (o : Operand) (tokens : List Token) (from at : ℕ) (s t : Reader) → AlikeReader s t → AlikeReader (operand_step o tokens from at s) (operand_step o tokens from at t)
-same_operand_alike (Value a) tokens from at s t k = record { stack = k.stack; depth = k.depth; mode = both_operator (stays_same (signed (slice_range tokens from at) a)) }
+same_operand_alike : (o : Operand) (tokens : List Token) (from at : ℕ) (s t : Reader) → AlikeReader s t
+    → AlikeReader (operand_step o tokens from at s) (operand_step o tokens from at t)
+same_operand_alike (Value a) tokens from at s t k = record {
+  stack = k.stack;
+  depth = k.depth;
+  mode = both_operator (stays_same (signed (slice_range tokens from at) a));
+}
 same_operand_alike Sign tokens from at s t k = record { stack = k.stack; depth = k.depth; mode = both_operand from }
-same_operand_alike (Word bracket) tokens from at s t k = record { stack = k.stack; depth = k.depth; mode = both_parenthesis bracket from at }
+same_operand_alike (Word bracket) tokens from at s t k = record {
+  stack = k.stack;
+  depth = k.depth;
+  mode = both_parenthesis bracket from at;
+}
 same_operand_alike operand.Parenthesis tokens from at s t k = opened_alike _ from at (at + 1) s t k
 same_operand_alike Nothing tokens from at s t k = refused_alike s t k
 
-operand_step_alike : (tokens : List Token) (from at : ℕ) (s t : Reader) {o q : Operand} → AlikeReader s t → AlikeOperand o q → AlikeReader (operand_step o tokens from at s) (operand_step q tokens from at t)
-operand_step_alike tokens from at s t k (both_value {a = a} {b = b} h) = record { stack = k.stack; depth = k.depth; mode = both_operator (stays_signed (slice_range tokens from at) a b h) }
+operand_step_alike : (tokens : List Token) (from at : ℕ) (s t : Reader) {o q : Operand} → AlikeReader s t → AlikeOperand o q
+    → AlikeReader (operand_step o tokens from at s) (operand_step q tokens from at t)
+operand_step_alike tokens from at s t k (both_value {a = a} {b = b} h) = record {
+  stack = k.stack;
+  depth = k.depth;
+  mode = both_operator (stays_signed (slice_range tokens from at) a b h);
+}
 operand_step_alike tokens from at s t k (both_same o) = same_operand_alike o tokens from at s t k
 
-step_in_alike : (text : List ℕ) (tokens : List Token) (symbols more : NameMap) (dot : Option ℤ) (at : ℕ) (token : Token) (s t : Reader) {m n : Mode} → Keeps symbols more → AlikeReader s t → AlikeMode m n
+step_in_alike : (text : List ℕ) (tokens : List Token) (symbols more : NameMap) (dot : Option ℤ) (at : ℕ) (token : Token) (s t : Reader)
+    {m n : Mode} → Keeps symbols more → AlikeReader s t → AlikeMode m n
     → AlikeReader (step_in m text tokens symbols dot at token s) (step_in n text tokens more dot at token t)
 step_in_alike text tokens symbols more dot at token s t keeps k (both_operand from) =
     operand_step_alike tokens from at s t k (kind_alike (text_of text token) token.kind symbols more dot keeps)
-step_in_alike text tokens symbols more dot at token s t keeps k (both_parenthesis bracket from word) = bracket_step_alike token.kind bracket from word (at + 1) s t k
-step_in_alike text tokens symbols more dot at token s t keeps k (both_operator {a = a} {b = b} h) = operator_step_alike token.kind tokens at a b s t h k
+step_in_alike text tokens symbols more dot at token s t keeps k (both_parenthesis bracket from word) = bracket_step_alike token.kind bracket
+    from word (at + 1) s t k
+step_in_alike text tokens symbols more dot at token s t keeps k (both_operator {a = a} {b = b} h) = operator_step_alike token.kind tokens at
+    a b s t h k
 step_in_alike text tokens symbols more dot at token s t keeps k both_refused = k
 
-run_alike : (text : List ℕ) (tokens : List Token) (symbols more : NameMap) (dot : Option ℤ) (at : ℕ) (ts : List Token) (s t : Reader) → Keeps symbols more → AlikeReader s t
+run_alike : (text : List ℕ) (tokens : List Token) (symbols more : NameMap) (dot : Option ℤ) (at : ℕ) (ts : List Token) (s t : Reader)
+    → Keeps symbols more → AlikeReader s t
     → AlikeReader (run text tokens symbols dot at ts s) (run text tokens more dot at ts t)
 run_alike text tokens symbols more dot at [] s t keeps k = k
 run_alike text tokens symbols more dot at (u ∷ us) s t keeps k =
@@ -203,14 +239,19 @@ finished_stays es fs k (both_operand from) = tt
 finished_stays es fs k (both_parenthesis bracket from at) = tt
 finished_stays es fs k (both_operator {a = a} {b = b} h) =
     let r = reduced_alike 0 a b h k in
-    choose_stays (length (reduced 0 a es).1 == 0) (length (reduced 0 b fs).1 == 0) (reduced 0 a es).0 (reduced 0 b fs).0 (Err Form) (Err Form) (ap (λ n. n == 0) (alike_length r.stack)) r.value tt
+    choose_stays (length (reduced 0 a es).1 == 0) (length (reduced 0 b fs).1 == 0) (reduced 0 a es).0 (reduced 0 b fs).0 (Err Form)
+    (Err Form) (ap (λ n. n == 0) (alike_length r.stack)) r.value tt
 finished_stays es fs k both_refused = tt
 
-stays : (text : List ℕ) (tokens : List Token) (symbols more : NameMap) (dot : Option ℤ) → Keeps symbols more → Stays (value_of text tokens symbols dot) (value_of text tokens more dot)
+stays : (text : List ℕ) (tokens : List Token) (symbols more : NameMap) (dot : Option ℤ) → Keeps symbols more
+    → Stays (value_of text tokens symbols dot) (value_of text tokens more dot)
 stays text tokens symbols more dot keeps =
-    let k = run_alike text tokens symbols more dot 0 tokens beginning beginning keeps (record { stack = both_empty; depth = refl; mode = both_operand 0 }) in
+    let k = run_alike text tokens symbols more dot 0 tokens beginning beginning keeps
+    (record { stack = both_empty; depth = refl; mode = both_operand 0 }) in
     finished_stays (run text tokens symbols dot 0 tokens beginning).stack (run text tokens more dot 0 tokens beginning).stack k.stack k.mode
 
 -- a value that is found stays where names keep theirs
-pub value_kept : (text : List ℕ) (tokens : List Token) (symbols more : NameMap) (dot : Option ℤ) (v : ℤ) → Keeps symbols more → value_of text tokens symbols dot ≡ Ok v → value_of text tokens more dot ≡ Ok v
-value_kept text tokens symbols more dot v keeps e = subst (λ o. Stays o (value_of text tokens more dot)) e (stays text tokens symbols more dot keeps)
+pub value_kept : (text : List ℕ) (tokens : List Token) (symbols more : NameMap) (dot : Option ℤ) (v : ℤ) → Keeps symbols more
+    → value_of text tokens symbols dot ≡ Ok v → value_of text tokens more dot ≡ Ok v
+value_kept text tokens symbols more dot v keeps e = subst (λ o. Stays o (value_of text tokens more dot)) e
+    (stays text tokens symbols more dot keeps)

@@ -15,7 +15,8 @@ use Rattle.avr_text.specs.Arithmetic.{Outcome, fits, checked, is_zero, with_coun
 use Rattle.avr_text.specs.Names.{NameMap, known}
 use Rattle.avr_text.specs.Operators.{applied_to, combined, sign_value, sign_applied, bracket_applied}
 use Rattle.avr_text.specs.Reading.{value_of}
-use Rattle.avr_text.specs.Expressions.{Tree, Spells, spells_number, spells_name, spells_dot, spells_sign, spells_bracket, spells_binary, dot_value, meaning, FormUnless, IsExpression}
+use Rattle.avr_text.specs.Expressions.{Tree, Spells, spells_number, spells_name, spells_dot, spells_sign, spells_bracket, spells_binary}
+use Rattle.avr_text.specs.Expressions.{dot_value, meaning, FormUnless, IsExpression}
 use Rattle.avr_text.proofs.TreesRead.{reads_whole}
 use Rattle.avr_text.proofs.TreesFound.{tree_found}
 
@@ -55,7 +56,8 @@ combined_formed op (Ok x) (Err why) h k = k
 combined_formed op (Ok x) (Ok y) h k = applied_formed op x y
 
 sign_value_formed : (kind : TokenKind) (x : ℤ) → is_form (sign_value kind x) ≡ false
-sign_value_formed (Mark b) x = choose_formed (b == 45) (negated_of x) (cond (b == 126) (Ok (complement_of x)) (Ok x)) (checked_formed (neg_ℤ x)) (choose_formed (b == 126) (Ok (complement_of x)) (Ok x) refl refl)
+sign_value_formed (Mark b) x = choose_formed (b == 45) (negated_of x) (cond (b == 126) (Ok (complement_of x)) (Ok x))
+    (checked_formed (neg_ℤ x)) (choose_formed (b == 126) (Ok (complement_of x)) (Ok x) refl refl)
 sign_value_formed Name x = refl
 sign_value_formed (Number n) x = refl
 sign_value_formed ShiftLeft x = refl
@@ -76,25 +78,34 @@ known_formed : (o : Option ℤ) → is_form (known o) ≡ false
 known_formed None = refl
 known_formed (Some x) = refl
 
-formed : (text : List ℕ) (dot : Option ℤ) (symbols : NameMap) (depth level : ℕ) (ts : List Token) (x : Tree) → Spells text dot depth level ts x → is_form (meaning symbols dot x) ≡ false
+formed : (text : List ℕ) (dot : Option ℤ) (symbols : NameMap) (depth level : ℕ) (ts : List Token) (x : Tree) → Spells text dot depth level
+    ts x → is_form (meaning symbols dot x) ≡ false
 formed text dot symbols depth level _ _ (spells_number e) = refl
 formed text dot symbols depth level _ _ (spells_name {t = t} e f) = known_formed _
 formed text dot symbols depth level _ _ (spells_dot e f) = ap (λ d. is_form (dot_value d)) f
-formed text dot symbols depth level _ _ (spells_sign {t = t} {ts = ts} {x = x} e d) = sign_formed t.kind (meaning symbols dot x) (formed text dot symbols depth 7 ts x d)
-formed text dot symbols depth level _ _ (spells_bracket {inner = inner} {bracket = bracket} {x = x} t shallow opens d closing) = bracket_formed bracket (meaning symbols dot x) (formed text dot symbols (suc depth) 1 inner x d)
+formed text dot symbols depth level _ _ (spells_sign {t = t} {ts = ts} {x = x} e d) = sign_formed t.kind (meaning symbols dot x)
+    (formed text dot symbols depth 7 ts x d)
+formed text dot symbols depth level _ _ (spells_bracket {inner = inner} {bracket = bracket} {x = x} t shallow opens d closing) =
+    bracket_formed bracket (meaning symbols dot x) (formed text dot symbols (suc depth) 1 inner x d)
 formed text dot symbols depth level _ _ (spells_binary {left = left} {right = right} {operator = op} {x = x} {y = y} t is binds d e) =
-    combined_formed op (meaning symbols dot x) (meaning symbols dot y) (formed text dot symbols depth _ left x d) (formed text dot symbols depth _ right y e)
+    combined_formed op (meaning symbols dot x) (meaning symbols dot y) (formed text dot symbols depth _ left x d)
+    (formed text dot symbols depth _ right y e)
 
 not_form : (v : Outcome) → is_form v ≡ false → v ≢ Err Form
 not_form v h e = let no : true ≡ false = subst (λ w. is_form w ≡ false) e h in absurd cc
 
-spelled_not_form : (text : List ℕ) (tokens : List Token) (symbols : NameMap) (dot : Option ℤ) (x : Tree) → Spells text dot 0 1 tokens x → value_of text tokens symbols dot ≢ Err Form
-spelled_not_form text tokens symbols dot x d e = not_form (meaning symbols dot x) (formed text dot symbols 0 1 tokens x d) (sym (reads_whole text tokens symbols dot x d) ∙ e)
+spelled_not_form : (text : List ℕ) (tokens : List Token) (symbols : NameMap) (dot : Option ℤ) (x : Tree) → Spells text dot 0 1 tokens x
+    → value_of text tokens symbols dot ≢ Err Form
+spelled_not_form text tokens symbols dot x d e = not_form (meaning symbols dot x) (formed text dot symbols 0 1 tokens x d)
+    (sym (reads_whole text tokens symbols dot x d) ∙ e)
 
-form_or_tree : (text : List ℕ) (tokens : List Token) (symbols : NameMap) (dot : Option ℤ) → (value_of text tokens symbols dot ≡ Err Form) ⊎ IsExpression text dot tokens → FormUnless (IsExpression text dot tokens) (value_of text tokens symbols dot)
+form_or_tree : (text : List ℕ) (tokens : List Token) (symbols : NameMap) (dot : Option ℤ) → (value_of text tokens symbols dot ≡ Err Form)
+    ⊎ IsExpression text dot tokens → FormUnless (IsExpression text dot tokens) (value_of text tokens symbols dot)
 form_or_tree text tokens symbols dot (inl e) = inl (e, λ t. spelled_not_form text tokens symbols dot t.0 t.1 e)
 form_or_tree text tokens symbols dot (inr t) = inr (spelled_not_form text tokens symbols dot t.0 t.1, t)
 
 -- Form exactly where the tokens are no expression
-pub form_unless : (text : List ℕ) (tokens : List Token) (symbols : NameMap) (dot : Option ℤ) (v : Outcome) → v ≡ value_of text tokens symbols dot → FormUnless (IsExpression text dot tokens) v
-form_unless text tokens symbols dot v e = subst (FormUnless (IsExpression text dot tokens)) (sym e) (form_or_tree text tokens symbols dot (tree_found text dot tokens symbols))
+pub form_unless : (text : List ℕ) (tokens : List Token) (symbols : NameMap) (dot : Option ℤ) (v : Outcome) → v ≡ value_of text tokens
+    symbols dot → FormUnless (IsExpression text dot tokens) v
+form_unless text tokens symbols dot v e = subst (FormUnless (IsExpression text dot tokens)) (sym e)
+    (form_or_tree text tokens symbols dot (tree_found text dot tokens symbols))

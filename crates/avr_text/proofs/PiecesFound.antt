@@ -1,5 +1,6 @@
 -- What the piece at the front of a text says of the bytes there.
-use Rattle.std.proofs.Common.{◌≡◌, ℕ, ◌+◌, ◌<◌, Bool, true, false, cond, List, [], ◌∷◌, ◌++◌, length, count_by, refl, sym, ◌∙◌, ap, subst, arith}
+use Rattle.std.proofs.Common.{◌≡◌, ℕ, ◌+◌, ◌<◌, Bool, true, false, cond, List, [], ◌∷◌, ◌++◌, length, count_by, refl, sym, ◌∙◌, ap, subst}
+use Rattle.std.proofs.Common.{arith}
 use Rattle.std.proofs.lemmas.Bool.Decides.{nat_tests}
 use Rattle.std.proofs.lemmas.List.Sums.{sum_by-cons, sum_by-append, take_while-cons}
 use Rattle.std.proofs.lemmas.List.Folds.{length-prefix_len}
@@ -14,7 +15,8 @@ use Rattle.avr_text.specs.Characters.{is_blank, is_digit, is_word, is_mark, goes
 use Rattle.avr_text.specs.Numbers.{number_of}
 use Rattle.avr_text.specs.Pieces.{second, number_piece, word_piece, other_piece, piece_at}
 use Rattle.avr_text.specs.Tokens.{line_after}
-use Rattle.avr_text.specs.Spans.{Each, Stops, IsGap, gap_none, gap_blank, gap_return, gap_comment, IsWord, IsSpelling, NothingBegins, FaultAt}
+use Rattle.avr_text.specs.Spans.{Each, Stops, IsGap, gap_none, gap_blank, gap_return, gap_comment, IsWord, IsSpelling, NothingBegins}
+use Rattle.avr_text.specs.Spans.{FaultAt}
 
 -- how many lines end in bytes
 abbrev pub ends : List ℕ → ℕ
@@ -85,7 +87,8 @@ PieceSays (piece.Fault why) bytes = FaultAt why bytes
 pub same_line : (line n : ℕ) → n ≡ 0 → line ≡ line + n
 same_line line n e = omega arith
 
-number_says : (bytes word after : List ℕ) (o : Option ℕ) → bytes ≡ word ++ after → IsWord word after → is_digit (slice_index word 0) ≡ true → number_of word ≡ o → PieceSays (number_piece (length word) o) bytes
+number_says : (bytes word after : List ℕ) (o : Option ℕ) → bytes ≡ word ++ after → IsWord word after → is_digit (slice_index word 0) ≡ true
+    → number_of word ≡ o → PieceSays (number_piece (length word) o) bytes
 number_says bytes word after None e w d f = (word, after, e, w, d, f)
 number_says bytes word after (Some n) e w d f = record {
   word = word;
@@ -97,7 +100,8 @@ number_says bytes word after (Some n) e w d f = record {
   line = λ line. same_line line (ends word) (quiet is_word word_is_quiet word w.letters);
 }
 
-word_says : (bytes word after : List ℕ) (d : Bool) → bytes ≡ word ++ after → IsWord word after → is_digit (slice_index word 0) ≡ d → PieceSays (cond d (number_piece (length word) (number_of word)) (piece.Token Name (length word))) bytes
+word_says : (bytes word after : List ℕ) (d : Bool) → bytes ≡ word ++ after → IsWord word after → is_digit (slice_index word 0) ≡ d
+    → PieceSays (cond d (number_piece (length word) (number_of word)) (piece.Token Name (length word))) bytes
 word_says bytes word after true e w d = number_says bytes word after (number_of word) e w d refl
 word_says bytes word after false e w d = record {
   word = word;
@@ -110,7 +114,8 @@ word_says bytes word after false e w d = record {
 }
 
 first_passes : (b : ℕ) (bs : List ℕ) → is_word b ≡ true → 0 < length (take_while is_word (b ∷ bs))
-first_passes b bs h = subst (λ us. 0 < length us) (sym (take_while-cons is_word b bs ∙ ap (λ t. cond t (b ∷ take_while is_word bs) []) h)) (omega arith)
+first_passes b bs h = subst (λ us. 0 < length us) (sym (take_while-cons is_word b bs ∙ ap (λ t. cond t (b ∷ take_while is_word bs) []) h))
+    (omega arith)
 
 -- what no word is
 same : (a b : ℕ) → (a == b) ≡ true → a ≡ b
@@ -126,8 +131,17 @@ follows : (b c : ℕ) (us : List ℕ) → 0 < c → (second (b ∷ us) == c) ≡
 follows b c [] h e = absurd (let z : 0 ≡ c = same 0 c e in omega arith)
 follows b c (u ∷ vs) h e = (vs, ap (λ x. x ∷ vs) (same u c e))
 
-one_gap : (b : ℕ) (us : List ℕ) → (b == 10) ≡ false → ((gap rest : List ℕ) → gap ++ rest ≡ us → IsGap gap rest → IsGap (b ∷ gap) rest) → GapSays 1 (b ∷ us)
-one_gap b us e more = record { word = b ∷ []; after = us; parts = refl; len = refl; some = omega arith; quiet = quiet_byte b [] e refl; more = more }
+one_gap : (b : ℕ) (us : List ℕ) → (b == 10) ≡ false → ((gap rest : List ℕ) → gap ++ rest ≡ us → IsGap gap rest → IsGap (b ∷ gap) rest)
+    → GapSays 1 (b ∷ us)
+one_gap b us e more = record {
+  word = b ∷ [];
+  after = us;
+  parts = refl;
+  len = refl;
+  some = omega arith;
+  quiet = quiet_byte b [] e refl;
+  more = more;
+}
 
 comment_says : (us : List ℕ) → GapSays (1 + prefix_len goes_on_line us) (59 ∷ us)
 comment_says us =
@@ -143,7 +157,8 @@ comment_says us =
       more = λ gap rest e g. gap_comment (take_while goes_on_line us) w.passes (subst (Stops goes_on_line) (sym e) w.stops) g;
     }
 
-pair_says : (kind : TokenKind) (c b : ℕ) (us : List ℕ) → 0 < c → (c == 10) ≡ false → ((after : List ℕ) → IsSpelling kind (c ∷ c ∷ []) after) → ((line : ℕ) → line_after kind line ≡ line) → (b == c && second (b ∷ us) == c) ≡ true → TokenSays kind 2 (b ∷ us)
+pair_says : (kind : TokenKind) (c b : ℕ) (us : List ℕ) → 0 < c → (c == 10) ≡ false → ((after : List ℕ) → IsSpelling kind (c ∷ c ∷ []) after)
+    → ((line : ℕ) → line_after kind line ≡ line) → (b == c && second (b ∷ us) == c) ≡ true → TokenSays kind 2 (b ∷ us)
 pair_says kind c b us h ten spelled stays e =
     let t = both_true (b == c) (second (b ∷ us) == c) e in
     let f = follows b c us h t.1 in
@@ -197,7 +212,8 @@ refuted false e f = let x : false ≡ true = e in absurd cc
 no_gap : (gap after : List ℕ) → NoneFirst (gap ++ after) → IsGap gap after → gap ≡ []
 no_gap _ after n gap_none = refl
 no_gap _ after n (gap_blank {b = b} h g) = absurd (refuted (is_blank b) h n.blank)
-no_gap _ after n (gap_return {gap = gap} rest e g) = absurd (refuted (return_first (13 ∷ (gap ++ after))) (subst (λ us. return_first (13 ∷ us) ≡ true) (sym e) refl) n.return)
+no_gap _ after n (gap_return {gap = gap} rest e g) =
+    absurd (refuted (return_first (13 ∷ (gap ++ after))) (subst (λ us. return_first (13 ∷ us) ≡ true) (sym e) refl) n.return)
 no_gap _ after n (gap_comment comment h s g) = absurd (refuted true refl n.comment)
 
 no_word : (word after : List ℕ) → Stops is_word (word ++ after) → ¬ IsWord word after
@@ -218,22 +234,45 @@ nothing_begins bytes n = record {
   no_token = λ kind word after e. no_token kind word after (subst NoneFirst e n);
 }
 
-other_says : (b : ℕ) (us : List ℕ) (p q r s t u v : Bool) → is_word b ≡ false → blank_first (b ∷ us) ≡ p → end_first (b ∷ us) ≡ q → mark_first (b ∷ us) ≡ r → comment_first (b ∷ us) ≡ s → return_first (b ∷ us) ≡ t → left_first (b ∷ us) ≡ u → right_first (b ∷ us) ≡ v
-    → PieceSays (cond p (piece.Gap 1) (cond q (piece.Token LineEnd 1) (cond r (piece.Token (Mark b) 1) (cond s (piece.Gap (1 + prefix_len goes_on_line us)) (cond t (piece.Gap 1) (cond u (piece.Token ShiftLeft 2) (cond v (piece.Token ShiftRight 2) (piece.Fault lex_why.Byte)))))))) (b ∷ us)
+other_says : (b : ℕ) (us : List ℕ) (p q r s t u v : Bool) → is_word b ≡ false → blank_first (b ∷ us) ≡ p → end_first (b ∷ us) ≡ q
+    → mark_first (b ∷ us) ≡ r → comment_first (b ∷ us) ≡ s → return_first (b ∷ us) ≡ t → left_first (b ∷ us) ≡ u → right_first (b ∷ us) ≡ v
+    → PieceSays (cond p (piece.Gap 1)
+    (cond q (piece.Token LineEnd 1)
+    (cond r (piece.Token (Mark b) 1) (cond s (piece.Gap (1 + prefix_len goes_on_line us))
+    (cond t (piece.Gap 1) (cond u (piece.Token ShiftLeft 2) (cond v (piece.Token ShiftRight 2) (piece.Fault lex_why.Byte))))))))
+    (b ∷ us)
 other_says b us true q r s t u v w e1 e2 e3 e4 e5 e6 e7 = one_gap b us (blank_is_quiet b e1) (λ gap rest e g. gap_blank e1 g)
 other_says b us false true r s t u v w e1 e2 e3 e4 e5 e6 e7 =
     let ten : b ≡ 10 = same b 10 e2 in
-    record { word = 10 ∷ []; after = us; parts = ap (λ x. x ∷ us) ten; len = refl; some = omega arith; spelled = refl; line = λ line. ap (λ k. line + k) (sym (ends_cons 10 [])) }
+    record {
+      word = 10 ∷ [];
+      after = us;
+      parts = ap (λ x. x ∷ us) ten;
+      len = refl;
+      some = omega arith;
+      spelled = refl;
+      line = λ line. ap (λ k. line + k) (sym (ends_cons 10 []));
+    }
 other_says b us false false true s t u v w e1 e2 e3 e4 e5 e6 e7 =
-    record { word = b ∷ []; after = us; parts = refl; len = refl; some = omega arith; spelled = (e3, refl); line = λ line. same_line line (ends (b ∷ [])) (quiet_byte b [] e2 refl) }
+    record {
+      word = b ∷ [];
+      after = us;
+      parts = refl;
+      len = refl;
+      some = omega arith;
+      spelled = (e3, refl);
+      line = λ line. same_line line (ends (b ∷ [])) (quiet_byte b [] e2 refl);
+    }
 other_says b us false false false true t u v w e1 e2 e3 e4 e5 e6 e7 =
     subst (λ x. GapSays (1 + prefix_len goes_on_line us) (x ∷ us)) (sym (same b 59 e4)) (comment_says us)
 other_says b us false false false false true u v w e1 e2 e3 e4 e5 e6 e7 =
     let t = both_true (b == 13) (second (b ∷ us) == 10) e5 in
     let f = follows b 10 us (omega arith) t.1 in
     subst (λ x. GapSays 1 (x ∷ us)) (sym (same b 13 t.0)) (one_gap 13 us refl (λ gap rest e g. gap_return f.0 (e ∙ f.1) g))
-other_says b us false false false false false true v w e1 e2 e3 e4 e5 e6 e7 = pair_says ShiftLeft 60 b us (omega arith) refl (λ after. refl) (λ line. refl) e6
-other_says b us false false false false false false true w e1 e2 e3 e4 e5 e6 e7 = pair_says ShiftRight 62 b us (omega arith) refl (λ after. refl) (λ line. refl) e7
+other_says b us false false false false false true v w e1 e2 e3 e4 e5 e6 e7 = pair_says ShiftLeft 60 b us (omega arith) refl (λ after. refl)
+    (λ line. refl) e6
+other_says b us false false false false false false true w e1 e2 e3 e4 e5 e6 e7 = pair_says ShiftRight 62 b us (omega arith) refl
+    (λ after. refl) (λ line. refl) e7
 other_says b us false false false false false false false w e1 e2 e3 e4 e5 e6 e7 =
     (w, nothing_begins (b ∷ us) (record { word = w; blank = e1; end = e2; mark = e3; comment = e4; return = e5; left = e6; right = e7 }))
 
@@ -244,6 +283,8 @@ piece_says b us = go (is_word b) refl
     go : (t : Bool) → is_word b ≡ t → PieceSays (cond t (word_piece (take_while is_word (b ∷ us))) (other_piece (b ∷ us))) (b ∷ us)
     go true e =
         let w = while_says is_word (b ∷ us) in
-        word_says (b ∷ us) (take_while is_word (b ∷ us)) w.after (is_digit (slice_index (take_while is_word (b ∷ us)) 0)) w.parts (record { some = first_passes b us e; letters = w.passes; longest = w.stops }) refl
+        word_says (b ∷ us) (take_while is_word (b ∷ us)) w.after (is_digit (slice_index (take_while is_word (b ∷ us)) 0)) w.parts
+        (record { some = first_passes b us e; letters = w.passes; longest = w.stops }) refl
     go false e =
-        other_says b us (blank_first (b ∷ us)) (end_first (b ∷ us)) (mark_first (b ∷ us)) (comment_first (b ∷ us)) (return_first (b ∷ us)) (left_first (b ∷ us)) (right_first (b ∷ us)) e refl refl refl refl refl refl refl
+        other_says b us (blank_first (b ∷ us)) (end_first (b ∷ us)) (mark_first (b ∷ us)) (comment_first (b ∷ us)) (return_first (b ∷ us))
+        (left_first (b ∷ us)) (right_first (b ∷ us)) e refl refl refl refl refl refl refl

@@ -15,20 +15,25 @@ signed-append [] t v = refl
 signed-append (x ∷ ts) t v = ap (sign_applied x.kind) (signed-append ts t v)
 
 -- the range of a list to one more element
-pub range_more : (ts : List Token) (from i : ℕ) (d : Token) → from ≤ i → i < length ts → slice_range ts from (suc i) ≡ slice_range ts from i ++ get_or (drop from ts) (i - from) d ∷ []
+pub range_more : (ts : List Token) (from i : ℕ) (d : Token) → from ≤ i → i < length ts → slice_range ts from (suc i) ≡ slice_range ts from i
+    ++ get_or (drop from ts) (i - from) d ∷ []
 range_more ts from i d le lt =
     let e : suc i - from ≡ suc (i - from) = omega arith in
     ap (λ n. take n (drop from ts)) e ∙ take-suc (drop from ts) (i - from) d (omega (arith, length-drop from ts))
 
-pub signed_more : (ts : List Token) (from i : ℕ) (t : Token) (v : Outcome) → from ≤ i → i < length ts → t ≡ get_or ts i t → signed (slice_range ts from i) (sign_applied t.kind v) ≡ signed (slice_range ts from (suc i)) v
+pub signed_more : (ts : List Token) (from i : ℕ) (t : Token) (v : Outcome) → from ≤ i → i < length ts → t ≡ get_or ts i t
+    → signed (slice_range ts from i) (sign_applied t.kind v) ≡ signed (slice_range ts from (suc i)) v
 signed_more ts from i t v le lt e =
     let k : from + (i - from) ≡ i = omega arith in
     let there : get_or (drop from ts) (i - from) t ≡ t = get_or-drop from ts (i - from) t ∙ ap (λ n. get_or ts n t) k ∙ sym e in
-    sym (ap (λ xs. signed xs v) (range_more ts from i t le lt) ∙ signed-append (slice_range ts from i) (get_or (drop from ts) (i - from) t) v ∙ ap (λ (x : Token). signed (slice_range ts from i) (sign_applied x.kind v)) there)
+    sym (ap (λ xs. signed xs v) (range_more ts from i t le lt) ∙ signed-append (slice_range ts from i) (get_or (drop from ts) (i - from) t)
+    v ∙ ap (λ (x : Token). signed (slice_range ts from i) (sign_applied x.kind v)) there)
 
 -- as the loop counts
-pub signed_step : (ts : List Token) (from k : ℕ) (t : Token) (v w : Outcome) → from < k → true ≡ nat_lt (k - 1) (length ts) → t ≡ get_or ts (k - 1) t → w ≡ sign_applied t.kind v → signed (slice_range ts from (k - 1)) w ≡ signed (slice_range ts from k) v
+pub signed_step : (ts : List Token) (from k : ℕ) (t : Token) (v w : Outcome) → from < k → true ≡ nat_lt (k - 1) (length ts) → t ≡ get_or ts
+    (k - 1) t → w ≡ sign_applied t.kind v → signed (slice_range ts from (k - 1)) w ≡ signed (slice_range ts from k) v
 signed_step ts from k t v w lt test e is =
     let last : suc (k - 1) ≡ k = omega arith in
     let within : k - 1 < length ts = ltb-true (k - 1) (length ts) (sym test) in
-    ap (signed (slice_range ts from (k - 1))) is ∙ signed_more ts from (k - 1) t v (omega arith) within e ∙ ap (λ n. signed (slice_range ts from n) v) last
+    ap (signed (slice_range ts from (k - 1))) is ∙ signed_more ts from (k - 1) t v (omega arith) within e
+    ∙ ap (λ n. signed (slice_range ts from n) v) last

@@ -1,5 +1,6 @@
 -- The tokens that a text is cut into are its slices, with gaps between them, and so is all that stands before a fault.
-use Rattle.std.proofs.Common.{◌≡◌, inl, inr, ℕ, zero, suc, ◌+◌, ◌-◌, ◌<◌, ◌≤◌, List, [], ◌∷◌, ◌++◌, length, take, drop, refl, sym, ◌∙◌, ap, subst, drop-drop, length-append, Vec, Global, arith}
+use Rattle.std.proofs.Common.{◌≡◌, inl, inr, ℕ, zero, suc, ◌+◌, ◌-◌, ◌<◌, ◌≤◌, List, [], ◌∷◌, ◌++◌, length, take, drop, refl, sym, ◌∙◌, ap}
+use Rattle.std.proofs.Common.{subst, drop-drop, length-append, Vec, Global, arith}
 use Rattle.std.proofs.Math.Seq.{drop-append_seam, take-append_seam, take-append-add, take-add}
 use Rattle.std.proofs.lemmas.Bool.{cases_lt}
 use Rattle.std.proofs.lemmas.List.{length-drop}
@@ -27,7 +28,8 @@ module _ (text : List ℕ) where
   word_there at word after e = ap (take (length word)) e ∙ take-append_seam word after
 
   word_slice : (at : ℕ) (word after : List ℕ) → drop at text ≡ word ++ after → slice_range text at (at + length word) ≡ word
-  word_slice at word after e = let n : at + length word - at ≡ length word = omega arith in ap (λ k. take k (drop at text)) n ∙ word_there at word after e
+  word_slice at word after e = let n : at + length word - at ≡ length word = omega arith in ap (λ k. take k (drop at text)) n
+      ∙ word_there at word after e
 
   word_within : (at : ℕ) (word after : List ℕ) → drop at text ≡ word ++ after → 0 < length word → at + length word ≤ length text
   word_within at word after e some =
@@ -35,58 +37,85 @@ module _ (text : List ℕ) where
       let m : length (drop at text) ≡ length word + length after = ap length e ∙ length-append word after in
       omega arith
 
-  pub line_past : (at : ℕ) (word after : List ℕ) → drop at text ≡ word ++ after → line_of text (at + length word) ≡ line_of text at + ends word
+  pub line_past : (at : ℕ) (word after : List ℕ) → drop at text ≡ word ++ after → line_of text (at + length word) ≡ line_of text at + ends
+      word
   line_past at word after e =
       let n : ends (take (at + length word) text) ≡ ends (take at text) + ends word =
-      ap ends (take-add at (length word) text ∙ ap (λ w. take at text ++ w) (word_there at word after e)) ∙ ends_append (take at text) word in
+      ap ends (take-add at (length word) text ∙ ap (λ w. take at text ++ w) (word_there at word after e)) ∙ ends_append (take at text)
+      word in
       omega (arith, n)
 
   none_between : (at : ℕ) → slice_range text at at ≡ []
   none_between at = let e : at - at ≡ 0 = omega arith in ap (λ n. take n (drop at text)) e
 
-  gap_before : (at end : ℕ) (word after : List ℕ) → drop at text ≡ word ++ after → at + length word ≤ end → ((gap rest : List ℕ) → gap ++ rest ≡ after → IsGap gap rest → IsGap (word ++ gap) rest)
+  gap_before : (at end : ℕ) (word after : List ℕ) → drop at text ≡ word ++ after → at + length word ≤ end
+      → ((gap rest : List ℕ) → gap ++ rest ≡ after → IsGap gap rest → IsGap (word ++ gap) rest)
       → IsGap (slice_range text (at + length word) end) (drop end text) → IsGap (slice_range text at end) (drop end text)
   gap_before at end word after e le more g =
-      let split : drop (at + length word) text ≡ slice_range text (at + length word) end ++ drop end text = drop_split text (at + length word) end le in
+      let split : drop (at + length word) text ≡ slice_range text (at + length word) end ++ drop end text = drop_split text
+      (at + length word) end le in
       let n : end - at ≡ length word + (end - (at + length word)) = omega arith in
       let joins : word ++ slice_range text (at + length word) end ≡ slice_range text at end =
       ap (λ us. word ++ take (end - (at + length word)) us) (past_bytes at word after e)
       ∙ sym (take-append-add word after (end - (at + length word)))
       ∙ ap (take (length word + (end - (at + length word)))) (sym e)
       ∙ ap (λ k. take k (drop at text)) (sym n) in
-      subst (λ w. IsGap w (drop end text)) joins (more (slice_range text (at + length word) end) (drop end text) (sym split ∙ past_bytes at word after e) g)
+      subst (λ w. IsGap w (drop end text)) joins (more (slice_range text (at + length word) end) (drop end text)
+      (sym split ∙ past_bytes at word after e) g)
 
-  gap_then : (end at : ℕ) (word after : List ℕ) → drop at text ≡ word ++ after → ((gap rest : List ℕ) → gap ++ rest ≡ after → IsGap gap rest → IsGap (word ++ gap) rest)
+  gap_then : (end at : ℕ) (word after : List ℕ) → drop at text ≡ word ++ after → ((gap rest : List ℕ) → gap ++ rest ≡ after → IsGap gap rest
+      → IsGap (word ++ gap) rest)
       → (ts : List Token) → SpelledTo text end (at + length word) ts → SpelledTo text end at ts
   gap_then end at word after e more [] h = let le = h.0 in (omega arith, gap_before at end word after e h.0 more h.1)
   gap_then end at word after e more (t ∷ ts) h =
-      let le = h.0.order in
-      (record { order = omega arith; some = h.0.some; within = h.0.within; gap = gap_before at t.from word after e h.0.order more h.0.gap; spelled = h.0.spelled; line = h.0.line }, h.1)
+      let le = h.0.order in (
+        record {
+          order = omega arith;
+          some = h.0.some;
+          within = h.0.within;
+          gap = gap_before at t.from word after e h.0.order more h.0.gap;
+          spelled = h.0.spelled;
+          line = h.0.line;
+        },
+        h.1,
+      )
 
   -- what a cut from a place on says
   abbrev pub CutSays : ℕ → Cut → Type 0
   CutSays at (Ok ts) = SpelledTo text (length text) at ts
   CutSays at (Err e) = HasFault text at e
 
-  gap_cut : (at : ℕ) (word after : List ℕ) → drop at text ≡ word ++ after → ((gap rest : List ℕ) → gap ++ rest ≡ after → IsGap gap rest → IsGap (word ++ gap) rest)
+  gap_cut : (at : ℕ) (word after : List ℕ) → drop at text ≡ word ++ after → ((gap rest : List ℕ) → gap ++ rest ≡ after → IsGap gap rest
+      → IsGap (word ++ gap) rest)
       → (c : Cut) → CutSays (at + length word) c → CutSays at c
   gap_cut at word after e more (Ok ts) h = gap_then (length text) at word after e more ts h
   gap_cut at word after e more (Err fault) h =
-      record { place = h.place; tokens = h.tokens; within = h.within; before = gap_then h.place at word after e more h.tokens h.before; line = h.line; why = h.why }
+      record {
+        place = h.place;
+        tokens = h.tokens;
+        within = h.within;
+        before = gap_then h.place at word after e more h.tokens h.before;
+        line = h.line;
+        why = h.why;
+      }
 
-  next_token : (at line : ℕ) (kind : TokenKind) (word after : List ℕ) → drop at text ≡ word ++ after → 0 < length word → IsSpelling kind word after → line ≡ line_of text at
+  next_token : (at line : ℕ) (kind : TokenKind) (word after : List ℕ) → drop at text ≡ word ++ after → 0 < length word → IsSpelling kind
+      word after → line ≡ line_of text at
       → IsNext text at (record { kind = kind; line = line; from = at; to = at + length word })
   next_token at line kind word after e some spelled is = record {
     order = omega arith;
     some = omega arith;
     within = word_within at word after e some;
     gap = subst (λ g. IsGap g (drop at text)) (sym (none_between at)) gap_none;
-    spelled = subst (λ w. IsSpelling kind w (drop (at + length word) text)) (sym (word_slice at word after e)) (subst (IsSpelling kind word) (sym (past_bytes at word after e)) spelled);
+    spelled = subst (λ w. IsSpelling kind w (drop (at + length word) text)) (sym (word_slice at word after e))
+        (subst (IsSpelling kind word) (sym (past_bytes at word after e)) spelled);
     line = is;
   }
 
-  token_cut : (at line : ℕ) (kind : TokenKind) (word after : List ℕ) → drop at text ≡ word ++ after → 0 < length word → IsSpelling kind word after → line ≡ line_of text at
-      → (c : Cut) → CutSays (at + length word) c → CutSays at (with_first (record { kind = kind; line = line; from = at; to = at + length word }) c)
+  token_cut : (at line : ℕ) (kind : TokenKind) (word after : List ℕ) → drop at text ≡ word ++ after → 0 < length word → IsSpelling kind word
+      after → line ≡ line_of text at
+      → (c : Cut) → CutSays (at + length word) c
+      → CutSays at (with_first (record { kind = kind; line = line; from = at; to = at + length word }) c)
   token_cut at line kind word after e some spelled is (Ok ts) h = (next_token at line kind word after e some spelled is, h)
   token_cut at line kind word after e some spelled is (Err fault) h = record {
     place = h.place;
@@ -100,26 +129,35 @@ module _ (text : List ℕ) where
   ended : (at line : ℕ) → length text ≤ at → at ≤ length text → CutSays at (cut_from 0 at line (drop at text))
   ended at line h le =
       let n : length text - at ≡ 0 = omega arith in
-      subst (CutSays at) (sym (cut_end text at line h)) (le, subst (λ g. IsGap g (drop (length text) text)) (sym (ap (λ k. take k (drop at text)) n)) gap_none)
+      subst (CutSays at) (sym (cut_end text at line h)) (
+        le,
+        subst (λ g. IsGap g (drop (length text) text))
+            (sym (ap (λ k. take k (drop at text)) n)) gap_none,
+      )
 
   -- what comes after the piece at a place
   abbrev Later : ℕ → Type 0
   Later at = (m line : ℕ) → at < m → m ≤ length text → line ≡ line_of text m → CutSays m (cut_from 0 m line (drop m text))
 
-  piece_cut : (at line : ℕ) (p : Piece) → at < length text → line ≡ line_of text at → Later at → piece_at (drop at text) ≡ p → PieceSays p (drop at text) → CutSays at (cut_from 0 at line (drop at text))
+  piece_cut : (at line : ℕ) (p : Piece) → at < length text → line ≡ line_of text at → Later at → piece_at (drop at text) ≡ p
+      → PieceSays p (drop at text) → CutSays at (cut_from 0 at line (drop at text))
   piece_cut at line (piece.Gap n) h is later e says =
       let some : 0 < length says.word = omega (arith, says.some, says.len) in
       let place : at + length says.word ≡ at + n = ap (λ k. at + k) says.len in
-      let past : line ≡ line_of text (at + length says.word) = is ∙ sym (line_past at says.word says.after says.parts ∙ (let q = says.quiet in omega arith)) in
+      let past : line ≡ line_of text (at + length says.word) = is ∙ sym (line_past at says.word says.after says.parts
+      ∙ (let q = says.quiet in omega arith)) in
       subst (CutSays at) (ap (λ m. cut_from 0 m line (drop m text)) place ∙ sym (cut_gap text at line n h says.some e))
       (gap_cut at says.word says.after says.parts says.more (cut_from 0 (at + length says.word) line (drop (at + length says.word) text))
       (later (at + length says.word) line (omega arith) (word_within at says.word says.after says.parts some) past))
   piece_cut at line (piece.Token kind n) h is later e says =
       let some : 0 < length says.word = omega (arith, says.some, says.len) in
       let place : at + length says.word ≡ at + n = ap (λ k. at + k) says.len in
-      let past : line_after kind line ≡ line_of text (at + length says.word) = says.line line ∙ ap (λ l. l + ends says.word) is ∙ sym (line_past at says.word says.after says.parts) in
-      subst (CutSays at) (ap (λ m. with_first (record { kind = kind; line = line; from = at; to = m }) (cut_from 0 m (line_after kind line) (drop m text))) place ∙ sym (cut_token text at line kind n h says.some e))
-      (token_cut at line kind says.word says.after says.parts some says.spelled is (cut_from 0 (at + length says.word) (line_after kind line) (drop (at + length says.word) text))
+      let past : line_after kind line ≡ line_of text (at + length says.word) = says.line line ∙ ap (λ l. l + ends says.word) is
+      ∙ sym (line_past at says.word says.after says.parts) in
+      subst (CutSays at) (ap (λ m. with_first (record { kind = kind; line = line; from = at; to = m })
+      (cut_from 0 m (line_after kind line) (drop m text))) place ∙ sym (cut_token text at line kind n h says.some e))
+      (token_cut at line kind says.word says.after says.parts some says.spelled is
+      (cut_from 0 (at + length says.word) (line_after kind line) (drop (at + length says.word) text))
       (later (at + length says.word) (line_after kind line) (omega arith) (word_within at says.word says.after says.parts some) past))
   piece_cut at line (piece.Fault why) h is later e says =
       subst (CutSays at) (sym (cut_fault text at line why h e)) (record {
@@ -135,10 +173,12 @@ module _ (text : List ℕ) where
   says_there at [] e h = absurd (let n = length-drop at text in let m : length (drop at text) ≡ 0 = ap length e in omega arith)
   says_there at (b ∷ us) e h = subst (λ bs. PieceSays (piece_at bs) bs) (sym e) (piece_says b us)
 
-  spans : (fuel at line : ℕ) → at ≤ length text → length text ≤ at + fuel → line ≡ line_of text at → CutSays at (cut_from 0 at line (drop at text))
+  spans : (fuel at line : ℕ) → at ≤ length text → length text ≤ at + fuel → line ≡ line_of text at
+      → CutSays at (cut_from 0 at line (drop at text))
   spans zero at line le h is = ended at line (omega arith) le
   spans (suc fuel) at line le h is = elim (cases_lt at (length text)) [
-    | inl lt ↦ piece_cut at line (piece_at (drop at text)) lt is (λ m l a b c. spans fuel m l b (omega arith) c) refl (says_there at (drop at text) refl lt)
+    | inl lt ↦ piece_cut at line (piece_at (drop at text)) lt is (λ m l a b c. spans fuel m l b (omega arith) c) refl
+        (says_there at (drop at text) refl lt)
     | inr ge ↦ ended at line ge le
   ]
 
@@ -147,15 +187,18 @@ module _ (text : List ℕ) where
   cut_says = spans (length text) 0 1 (omega arith) (omega arith) refl
 
 -- what comes of a cut
-pub given_spelled : (text : List ℕ) (r : Result (Vec Token Global) LexError) → GivesTokens r (tokens_of text) → IfOk r (λ v. IsSpelled text v.items)
+pub given_spelled : (text : List ℕ) (r : Result (Vec Token Global) LexError) → GivesTokens r (tokens_of text)
+    → IfOk r (λ v. IsSpelled text v.items)
 given_spelled text (Ok v) e = subst (CutSays text 0) e (cut_says text)
 given_spelled text (Err fault) g = tt
 
-pub given_fault : (text : List ℕ) (r : Result (Vec Token Global) LexError) → IfErr r (λ e. e.why ≡ Memory → e.line ≡ 0) → GivesTokens r (tokens_of text) → IfErr r (IsFaultOf text)
+pub given_fault : (text : List ℕ) (r : Result (Vec Token Global) LexError) → IfErr r (λ e. e.why ≡ Memory → e.line ≡ 0) → GivesTokens r
+    (tokens_of text) → IfErr r (IsFaultOf text)
 given_fault text (Ok v) m e = tt
 given_fault text (Err fault) m (inl e) = inl (e, m e)
 given_fault text (Err fault) m (inr e) = inr (subst (CutSays text 0) e (cut_says text))
 
 -- no piece is a fault for want of memory
 pub not_memory : (text : List ℕ) (at : ℕ) (why : LexWhy) → at < length text → piece_at (drop at text) ≡ piece.Fault why → ¬ (why ≡ Memory)
-not_memory text at why h e m = subst (λ p. PieceSays p (drop at text)) (e ∙ ap (λ w. piece.Fault w) m) (says_there text at (drop at text) refl h)
+not_memory text at why h e m = subst (λ p. PieceSays p (drop at text)) (e ∙ ap (λ w. piece.Fault w) m)
+    (says_there text at (drop at text) refl h)

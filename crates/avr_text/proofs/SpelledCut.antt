@@ -1,5 +1,6 @@
 -- A text that tokens and gaps spell is cut into these tokens.
-use Rattle.std.proofs.Common.{◌≡◌, ℕ, suc, ◌+◌, ◌-◌, ◌<◌, ◌≤◌, Bool, true, false, cond, List, [], ◌∷◌, ◌++◌, length, drop, refl, sym, ◌∙◌, ap, subst, append_assoc, length-append, Vec, Global, arith}
+use Rattle.std.proofs.Common.{◌≡◌, ℕ, suc, ◌+◌, ◌-◌, ◌<◌, ◌≤◌, Bool, true, false, cond, List, [], ◌∷◌, ◌++◌, length, drop, refl, sym, ◌∙◌}
+use Rattle.std.proofs.Common.{ap, subst, append_assoc, length-append, Vec, Global, arith}
 use Rattle.std.proofs.lemmas.Bool.Decides.{nat_tests}
 use Rattle.std.proofs.lemmas.List.{length-drop, length-take}
 use Rattle.std.proofs.lemmas.List.Sums.{take_while-cons}
@@ -16,7 +17,8 @@ use Rattle.avr_text.specs.Characters.{is_blank, is_word, is_mark, goes_on_line}
 use Rattle.avr_text.specs.Numbers.{number_of}
 use Rattle.avr_text.specs.Pieces.{number_piece, word_piece, other_piece, piece_at}
 use Rattle.avr_text.specs.Tokens.{Cut, with_first, line_after, cut_from, tokens_of, text_of, GivesTokens}
-use Rattle.avr_text.specs.Spans.{Each, Stops, IsGap, gap_none, gap_blank, gap_return, gap_comment, IsWord, IsSpelling, line_of, SpelledTo, IsSpelled}
+use Rattle.avr_text.specs.Spans.{Each, Stops, IsGap, gap_none, gap_blank, gap_return, gap_comment, IsWord, IsSpelling, line_of, SpelledTo}
+use Rattle.avr_text.specs.Spans.{IsSpelled}
 use Rattle.avr_text.proofs.Cuts.{with_front, with_front_none, cut_gap, cut_token, whole}
 use Rattle.avr_text.proofs.PiecesFound.{ends, ends_append, quiet_byte, quiet, word_is_quiet, line_is_quiet, blank_is_quiet, same_line}
 use Rattle.avr_text.proofs.SpansFound.{past_bytes, line_past}
@@ -25,13 +27,16 @@ while_exact : (test : ℕ → Bool) (front after : List ℕ) → Each test front
 while_exact test [] [] h s = refl
 while_exact test [] (c ∷ cs) h s = take_while-cons test c cs ∙ ap (λ t. cond t (c ∷ take_while test cs) []) s
 while_exact test (b ∷ bs) after h s =
-    take_while-cons test b (bs ++ after) ∙ ap (λ t. cond t (b ∷ take_while test (bs ++ after)) []) h.0 ∙ ap (λ us. b ∷ us) (while_exact test bs after h.1 s)
+    take_while-cons test b (bs ++ after) ∙ ap (λ t. cond t (b ∷ take_while test (bs ++ after)) []) h.0 ∙ ap (λ us. b ∷ us)
+    (while_exact test bs after h.1 s)
 
-prefix_exact : (test : ℕ → Bool) (front after : List ℕ) → Each test front → Stops test after → prefix_len test (front ++ after) ≡ length front
+prefix_exact : (test : ℕ → Bool) (front after : List ℕ) → Each test front → Stops test after → prefix_len test (front ++ after) ≡ length
+    front
 prefix_exact test [] [] h s = refl
 prefix_exact test [] (c ∷ cs) h s = ap (λ t. cond t (1 + prefix_len test cs) 0) s
 prefix_exact test (b ∷ bs) after h s =
-    ap (λ t. cond t (1 + prefix_len test (bs ++ after)) 0) h.0 ∙ (let e = prefix_exact test bs after h.1 s in let f : 1 + prefix_len test (bs ++ after) ≡ suc (length bs) = omega arith in f)
+    ap (λ t. cond t (1 + prefix_len test (bs ++ after)) 0) h.0 ∙ (let e = prefix_exact test bs after h.1 s in
+    let f : 1 + prefix_len test (bs ++ after) ≡ suc (length bs) = omega arith in f)
 
 -- the pieces of a gap
 blank_piece : (b : ℕ) (us : List ℕ) → is_blank b ≡ true → piece_at (b ∷ us) ≡ piece.Gap 1
@@ -71,7 +76,8 @@ mark_piece b us h = go (mark_not_word b h) (mark_not_blank b h) (mark_not_end b 
     go e f g = ap (λ t. cond t (word_piece (take_while is_word (b ∷ us))) (other_piece (b ∷ us))) e ∙ rw f (rw g (rw h refl))
 
 piece_of : (kind : TokenKind) (word after : List ℕ) → IsSpelling kind word after → piece_at (word ++ after) ≡ piece.Token kind (length word)
-piece_of Name word after h = word_first word after (piece.Token Name (length word)) h.0 (ap (λ d. cond d (number_piece (length word) (number_of word)) (piece.Token Name (length word))) h.1)
+piece_of Name word after h = word_first word after (piece.Token Name (length word)) h.0
+    (ap (λ d. cond d (number_piece (length word) (number_of word)) (piece.Token Name (length word))) h.1)
 piece_of (Number n) word after h =
     word_first word after (piece.Token (Number n) (length word)) h.0
     (ap (λ d. cond d (number_piece (length word) (number_of word)) (piece.Token Name (length word))) h.1
@@ -85,8 +91,10 @@ spelled_line : (kind : TokenKind) (word after : List ℕ) (line : ℕ) → IsSpe
 spelled_line Name word after line h = same_line line (ends word) (quiet is_word word_is_quiet word h.0.letters)
 spelled_line (Number n) word after line h = same_line line (ends word) (quiet is_word word_is_quiet word h.0.letters)
 spelled_line (Mark b) word after line h = same_line line (ends word) (ap ends h.1 ∙ quiet_byte b [] (mark_not_end b h.0) refl)
-spelled_line ShiftLeft word after line h = same_line line (ends word) (ap ends h ∙ quiet_byte 60 (60 ∷ []) refl (quiet_byte 60 [] refl refl))
-spelled_line ShiftRight word after line h = same_line line (ends word) (ap ends h ∙ quiet_byte 62 (62 ∷ []) refl (quiet_byte 62 [] refl refl))
+spelled_line ShiftLeft word after line h = same_line line (ends word)
+    (ap ends h ∙ quiet_byte 60 (60 ∷ []) refl (quiet_byte 60 [] refl refl))
+spelled_line ShiftRight word after line h = same_line line (ends word)
+    (ap ends h ∙ quiet_byte 62 (62 ∷ []) refl (quiet_byte 62 [] refl refl))
 spelled_line LineEnd word after line h = let one : ends word ≡ 1 = ap ends h in omega arith
 
 spelled_some : (kind : TokenKind) (word after : List ℕ) → IsSpelling kind word after → 0 < length word
@@ -102,21 +110,25 @@ gap_quiet _ after gap_none = refl
 gap_quiet _ after (gap_blank {b = b} {gap = gap} h g) = quiet_byte b gap (blank_is_quiet b h) (gap_quiet gap after g)
 gap_quiet _ after (gap_return {gap = gap} rest e g) = quiet_byte 13 gap refl (gap_quiet gap after g)
 gap_quiet _ after (gap_comment {gap = gap} comment h s g) =
-    quiet_byte 59 (comment ++ gap) refl (let a = quiet goes_on_line line_is_quiet comment h in let b = gap_quiet gap after g in let c = ends_append comment gap in let e : ends (comment ++ gap) ≡ 0 = omega arith in e)
+    quiet_byte 59 (comment ++ gap) refl (let a = quiet goes_on_line line_is_quiet comment h in let b = gap_quiet gap after g in
+    let c = ends_append comment gap in let e : ends (comment ++ gap) ≡ 0 = omega arith in e)
 
 first_front : (t : Token) (ts : List Token) (c : Cut) → with_first t (with_front ts c) ≡ with_front (t ∷ ts) c
 first_front t ts (Ok more) = refl
 first_front t ts (Err fault) = refl
 
 module _ (text : List ℕ) where
-  piece_gone : (at line : ℕ) (word after : List ℕ) → drop at text ≡ word ++ after → 0 < length word → piece_at (word ++ after) ≡ piece.Gap (length word) → cut_from 0 at line (drop at text) ≡ cut_from 0 (at + length word) line (drop (at + length word) text)
+  piece_gone : (at line : ℕ) (word after : List ℕ) → drop at text ≡ word ++ after → 0 < length word → piece_at (word ++ after) ≡ piece.Gap
+      (length word) → cut_from 0 at line (drop at text) ≡ cut_from 0 (at + length word) line (drop (at + length word) text)
   piece_gone at line word after e some p = cut_gap text at line (length word) (there at word after e some) some (ap piece_at e ∙ p)
     where
       there : (at : ℕ) (word after : List ℕ) → drop at text ≡ word ++ after → 0 < length word → at < length text
       there at [] after e some = absurd (omega arith)
-      there at (b ∷ bs) after e some = let n = length-drop at text in let m : length (drop at text) ≡ suc (length (bs ++ after)) = ap length e in omega arith
+      there at (b ∷ bs) after e some = let n = length-drop at text in let m : length (drop at text) ≡ suc (length (bs ++ after)) =
+          ap length e in omega arith
 
-  gap_gone : (at line : ℕ) (gap after : List ℕ) → IsGap gap after → drop at text ≡ gap ++ after → cut_from 0 at line (drop at text) ≡ cut_from 0 (at + length gap) line (drop (at + length gap) text)
+  gap_gone : (at line : ℕ) (gap after : List ℕ) → IsGap gap after → drop at text ≡ gap ++ after → cut_from 0 at line
+      (drop at text) ≡ cut_from 0 (at + length gap) line (drop (at + length gap) text)
   gap_gone at line _ after gap_none e = let n : at ≡ at + 0 = omega arith in ap (λ m. cut_from 0 m line (drop m text)) n
   gap_gone at line _ after (gap_blank {b = b} {gap = gap} h g) e =
       let n : at + 1 + length gap ≡ at + suc (length gap) = omega arith in
@@ -129,10 +141,14 @@ module _ (text : List ℕ) where
       ∙ gap_gone (at + 1) line gap after g (past_bytes text at (13 ∷ []) (gap ++ after) e)
       ∙ ap (λ m. cut_from 0 m line (drop m text)) n
   gap_gone at line _ after (gap_comment {gap = gap} comment h s g) e =
-      let joins : (59 ∷ (comment ++ gap)) ++ after ≡ (59 ∷ comment) ++ (gap ++ after) = ap (λ us. 59 ∷ us) (append_assoc comment gap after) in
-      let k : 1 + prefix_len goes_on_line (comment ++ (gap ++ after)) ≡ length (59 ∷ comment) = (let x = prefix_exact goes_on_line comment (gap ++ after) h s in omega arith) in
-      let n : at + length (59 ∷ comment) + length gap ≡ at + length (59 ∷ (comment ++ gap)) = (let x = length-append comment gap in omega arith) in
-      piece_gone at line (59 ∷ comment) (gap ++ after) (e ∙ joins) (omega arith) (comment_piece (comment ++ (gap ++ after)) ∙ ap (λ m. piece.Gap m) k)
+      let joins : (59 ∷ (comment ++ gap)) ++ after ≡ (59 ∷ comment) ++ (gap ++ after) = ap (λ us. 59 ∷ us)
+      (append_assoc comment gap after) in
+      let k : 1 + prefix_len goes_on_line (comment ++ (gap ++ after)) ≡ length (59 ∷ comment) =
+      (let x = prefix_exact goes_on_line comment (gap ++ after) h s in omega arith) in
+      let n : at + length (59 ∷ comment) + length gap ≡ at + length (59 ∷ (comment ++ gap)) = (let x = length-append comment gap in
+      omega arith) in
+      piece_gone at line (59 ∷ comment) (gap ++ after) (e ∙ joins) (omega arith) (comment_piece (comment ++ (gap ++ after))
+      ∙ ap (λ m. piece.Gap m) k)
       ∙ gap_gone (at + length (59 ∷ comment)) line gap after g (past_bytes text at (59 ∷ comment) (gap ++ after) (e ∙ joins))
       ∙ ap (λ m. cut_from 0 m line (drop m text)) n
 
@@ -146,7 +162,8 @@ module _ (text : List ℕ) where
       let n = slice_ends at end le within in
       let q = gap_quiet (slice_range text at end) (drop end text) g in (
         gap_gone at line (slice_range text at end) (drop end text) g parts ∙ ap (λ m. cut_from 0 m line (drop m text)) n,
-        is ∙ same_line (line_of text at) (ends (slice_range text at end)) q ∙ sym (line_past text at (slice_range text at end) (drop end text) parts) ∙ ap (line_of text) n,
+        is ∙ same_line (line_of text at) (ends (slice_range text at end)) q
+            ∙ sym (line_past text at (slice_range text at end) (drop end text) parts) ∙ ap (line_of text) n,
       )
 
   -- tokens and gaps up to an end are cut off, and the rest is cut from there
@@ -154,7 +171,8 @@ module _ (text : List ℕ) where
       → cut_from 0 at line (drop at text) ≡ with_front ts (cut_from 0 end (line_of text end) (drop end text))
   spelled_to end fits [] at line is h =
       let crossed = gap_crossed at end line h.0 fits h.1 is in
-      crossed.0 ∙ ap (λ l. cut_from 0 end l (drop end text)) crossed.1 ∙ sym (with_front_none (cut_from 0 end (line_of text end) (drop end text)))
+      crossed.0 ∙ ap (λ l. cut_from 0 end l (drop end text)) crossed.1
+      ∙ sym (with_front_none (cut_from 0 end (line_of text end) (drop end text)))
   spelled_to end fits (t ∷ ts) at line is h =
       let next = h.0 in
       let some = next.some in
@@ -163,7 +181,8 @@ module _ (text : List ℕ) where
       let n : t.from + (t.to - t.from) ≡ t.to = omega arith in
       let len : length (text_of text t) ≡ t.to - t.from = (let x = slice_ends t.from t.to (omega arith) within in omega arith) in
       let parts : drop t.from text ≡ text_of text t ++ drop t.to text = drop_split text t.from t.to (omega arith) in
-      let front : piece_at (drop t.from text) ≡ piece.Token t.kind (t.to - t.from) = ap piece_at parts ∙ piece_of t.kind (text_of text t) (drop t.to text) next.spelled ∙ ap (λ k. piece.Token t.kind k) len in
+      let front : piece_at (drop t.from text) ≡ piece.Token t.kind (t.to - t.from) = ap piece_at parts ∙ piece_of t.kind (text_of text t)
+      (drop t.to text) next.spelled ∙ ap (λ k. piece.Token t.kind k) len in
       let line_is : line ≡ t.line = crossed.1 ∙ sym next.line in
       let past : line_after t.kind line ≡ line_of text t.to =
       spelled_line t.kind (text_of text t) (drop t.to text) line next.spelled ∙ ap (λ l. l + ends (text_of text t)) crossed.1
@@ -171,15 +190,19 @@ module _ (text : List ℕ) where
       let rest = cut_from 0 end (line_of text end) (drop end text) in
       crossed.0
       ∙ cut_token text t.from line t.kind (t.to - t.from) (omega arith) (omega arith) front
-      ∙ ap (λ m. with_first (record { kind = t.kind; line = line; from = t.from; to = m }) (cut_from 0 m (line_after t.kind line) (drop m text))) n
-      ∙ ap (with_first (record { kind = t.kind; line = line; from = t.from; to = t.to })) (spelled_to end fits ts t.to (line_after t.kind line) past h.1)
+      ∙ ap (λ m. with_first (record { kind = t.kind; line = line; from = t.from; to = m })
+      (cut_from 0 m (line_after t.kind line) (drop m text))) n
+      ∙ ap (with_first (record { kind = t.kind; line = line; from = t.from; to = t.to }))
+      (spelled_to end fits ts t.to (line_after t.kind line) past h.1)
       ∙ ap (λ l. with_first (record { kind = t.kind; line = l; from = t.from; to = t.to }) (with_front ts rest)) line_is
       ∙ first_front t ts rest
 
   pub all_cut : (ts : List Token) → IsSpelled text ts → tokens_of text ≡ Ok ts
   unfolding tokens_of
-  all_cut ts h = spelled_to (length text) (omega arith) ts 0 1 refl h ∙ whole ts text (length text) (line_of text (length text)) (omega arith)
+  all_cut ts h = spelled_to (length text) (omega arith) ts 0 1 refl h ∙ whole ts text (length text) (line_of text (length text))
+      (omega arith)
 
 -- no other tokens are given
-pub given_only : (text : List ℕ) (r : Result (Vec Token Global) LexError) → GivesTokens r (tokens_of text) → (ts : List Token) → IsSpelled text ts → GivesTokens r (Ok ts)
+pub given_only : (text : List ℕ) (r : Result (Vec Token Global) LexError) → GivesTokens r (tokens_of text) → (ts : List Token)
+    → IsSpelled text ts → GivesTokens r (Ok ts)
 given_only text r g ts h = subst (GivesTokens r) (all_cut text ts h) g

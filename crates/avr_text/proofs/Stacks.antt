@@ -1,12 +1,11 @@
 -- How many entries wait.
-use Rattle.std.proofs.Common.{◌≡◌, ℕ, ◌<◌, ◌≤◌, nat_eq, List, length, take, reverse, ◌∙◌, arith}
-use Rattle.std.proofs.lemmas.List.{length-take, length-reverse}
-use Rattle.std.specs.Bool.{OnFalse}
-use Rattle.std.proofs.lemmas.Bool.Decides.{nat_tests}
+use Rattle.std.proofs.Common.{◌≡◌, ◌↔◌, ℕ, ◌+◌, ◌<◌, ◌≤◌, Option, Some, None, IsSome, List, [], ◌∷◌, ◌++◌, length, reverse, option_to_list}
+use Rattle.std.proofs.Common.{◌∙◌, ap, arith}
+use Rattle.std.proofs.lemmas.List.{length-append, length-reverse}
 use Rattle.avr_text.specs.declared.waiting.Entry.{Entry}
 
-pub held : (n : ℕ) (es : List Entry) → n ≤ 256 → length es ≡ 256 → length (reverse (take n es)) ≡ n
-held n es h e = length-reverse (take n es) ∙ omega (arith, length-take n es)
-
-pub room_left : (n len : ℕ) → n ≤ 256 → n ≡ len → OnFalse (nat_eq n 256) (len < 256)
-room_left n len h e = grind (arith, nat_tests)
+-- there is room where one was taken out
+pub room_left : (old new : List Entry) (taken : Option Entry) → length old ≤ 256 → old ≡ new ++ option_to_list taken
+    → (IsSome taken ↔ (0 < length old)) → length (reverse new) < 256
+room_left old new (Some e) few is some = omega (arith, few, ap length is ∙ length-append new (e ∷ []), length-reverse new)
+room_left old new None few is some = grind (arith, few, ap length is ∙ length-append new [], length-reverse new, some.1)

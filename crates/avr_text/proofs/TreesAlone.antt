@@ -1,5 +1,6 @@
 -- Tokens spell at most one tree: a machine that keeps trees gives each that they spell.
-use Rattle.std.proofs.Common.{◌≡◌, ℕ, suc, ◌<◌, ◌≤◌, true, cond, List, [], ◌∷◌, ◌++◌, refl, sym, ◌∙◌, ap, subst, append_assoc, append-nil, arith}
+use Rattle.std.proofs.Common.{◌≡◌, ℕ, suc, ◌<◌, ◌≤◌, true, cond, List, [], ◌∷◌, ◌++◌, refl, sym, ◌∙◌, ap, subst, append_assoc, append-nil}
+use Rattle.std.proofs.Common.{arith}
 use Rattle.std.proofs.lemmas.Bool.Decides.{nat_tests}
 use Rattle.std.specs.Prelude.{ℤ, Option, None, Some, nat_le, ◌==◌}
 use Rattle.avr_text.specs.declared.operators.Binary.{Binary}
@@ -12,7 +13,9 @@ use Rattle.avr_text.specs.Operators.{level_of, binary_of, is_sign}
 use Rattle.avr_text.specs.Words.{bracket_word}
 use Rattle.avr_text.specs.Tokens.{text_of}
 use Rattle.avr_text.specs.Reading.{is_mark_of}
-use Rattle.avr_text.specs.Expressions.{Tree, number_tree, name_tree, dot_tree, sign_tree, bracket_tree, binary_tree, Opens, opens_plain, opens_word, Spells, spells_number, spells_name, spells_dot, spells_sign, spells_bracket, spells_binary}
+use Rattle.avr_text.specs.Expressions.{Tree, number_tree, name_tree, dot_tree, sign_tree, bracket_tree, binary_tree, Opens, opens_plain}
+use Rattle.avr_text.specs.Expressions.{opens_word, Spells, spells_number, spells_name, spells_dot, spells_sign, spells_bracket}
+use Rattle.avr_text.specs.Expressions.{spells_binary}
 use Rattle.avr_text.proofs.TreesRead.{not_le, is_le, level_most, not_closing}
 
 -- what waits
@@ -59,7 +62,8 @@ under_more level more (held_open bracket signs ∷ hs) h k = tt
 
 stays : (k : ℕ) (x : Tree) (hs : List Held) → Under k hs → turned k x hs ≡ (x, hs)
 stays k x [] h = refl
-stays k x (held_wait left op ∷ hs) h = ap (λ b. cond b (turned k (binary_tree op left x) hs) (x, held_wait left op ∷ hs)) (not_le k (level_of op) h)
+stays k x (held_wait left op ∷ hs) h = ap (λ b. cond b (turned k (binary_tree op left x) hs) (x, held_wait left op ∷ hs))
+    (not_le k (level_of op) h)
 stays k x (held_open bracket signs ∷ hs) h = refl
 
 abbrev begins_name : List ℕ → Option Bracket → Begins
@@ -73,7 +77,8 @@ begins_dot (Some x) = begins_tree dot_tree
 abbrev begins_of : List ℕ → TokenKind → Option ℤ → Begins
 begins_of word Name dot = begins_name word (bracket_word word)
 begins_of word (Number n) dot = begins_tree (number_tree n)
-begins_of word (Mark b) dot = cond (b == 40) begins_open (cond (b == 46) (begins_dot dot) (cond (is_sign (Mark b)) begins_sign begins_nothing))
+begins_of word (Mark b) dot = cond (b == 40) begins_open
+    (cond (b == 46) (begins_dot dot) (cond (is_sign (Mark b)) begins_sign begins_nothing))
 begins_of word other dot = begins_nothing
 
 sign_begins : (word : List ℕ) (kind : TokenKind) (dot : Option ℤ) → is_sign kind ≡ true → begins_of word kind dot ≡ begins_sign
@@ -126,10 +131,17 @@ module _ (text : List ℕ) (dot : Option ℤ) where
     pub goes : runs (ts ++ rest) (hs, place_operand signs) ≡ runs rest (held, place_operator value)
     pub turns : (k : ℕ) → k ≤ level → turned k value held ≡ turned k (with_signs signs x) hs
 
-  leaf : (level : ℕ) (t : Token) (rest : List Token) (hs : List Held) (signs : List Token) (x : Tree) → begins_of (text_of text t) t.kind dot ≡ begins_tree x → Gives level (t ∷ []) rest hs signs x
-  leaf level t rest hs signs x e = record { value = with_signs signs x; held = hs; goes = ap (λ b. runs rest (begun b signs t hs)) e; turns = λ k h. refl }
+  leaf : (level : ℕ) (t : Token) (rest : List Token) (hs : List Held) (signs : List Token) (x : Tree) → begins_of (text_of text t) t.kind
+      dot ≡ begins_tree x → Gives level (t ∷ []) rest hs signs x
+  leaf level t rest hs signs x e = record {
+    value = with_signs signs x;
+    held = hs;
+    goes = ap (λ b. runs rest (begun b signs t hs)) e;
+    turns = λ k h. refl;
+  }
 
-  signed : (level : ℕ) (t : Token) (ts rest : List Token) (hs : List Held) (signs : List Token) (x : Tree) → is_sign t.kind ≡ true → level ≤ 7 → Gives 7 ts rest hs (signs ++ t ∷ []) x → Gives level (t ∷ ts) rest hs signs (sign_tree t.kind x)
+  signed : (level : ℕ) (t : Token) (ts rest : List Token) (hs : List Held) (signs : List Token) (x : Tree) → is_sign t.kind ≡ true
+      → level ≤ 7 → Gives 7 ts rest hs (signs ++ t ∷ []) x → Gives level (t ∷ ts) rest hs signs (sign_tree t.kind x)
   signed level t ts rest hs signs x is within g = record {
     value = g.value;
     held = g.held;
@@ -137,36 +149,45 @@ module _ (text : List ℕ) (dot : Option ℤ) where
     turns = λ k h. g.turns k (omega arith) ∙ ap (λ y. turned k y hs) (one_more signs t x);
   }
 
-  opened : (us : List Token) (hs : List Held) (signs : List Token) {opening : List Token} {bracket : Bracket} → Opens text opening bracket → runs (opening ++ us) (hs, place_operand signs) ≡ runs us (held_open bracket signs ∷ hs, place_operand [])
+  opened : (us : List Token) (hs : List Held) (signs : List Token) {opening : List Token} {bracket : Bracket} → Opens text opening bracket
+      → runs (opening ++ us) (hs, place_operand signs) ≡ runs us (held_open bracket signs ∷ hs, place_operand [])
   opened us hs signs (opens_plain {mark = mark} e) = ap (λ kind. runs us (begun (begins_of (text_of text mark) kind dot) signs mark hs)) e
   opened us hs signs (opens_word {word = word} {mark = mark} {bracket = bracket} e w f) =
       ap (λ kind. runs (mark ∷ us) (begun (begins_of (text_of text word) kind dot) signs word hs)) e
       ∙ ap (λ o. runs (mark ∷ us) (begun (begins_name (text_of text word) o) signs word hs)) w
       ∙ ap (λ kind. runs us (cond (is_mark_of 40 kind) (held_open bracket signs ∷ hs, place_operand []) (hs, place_refused))) f
 
-  bracketed : (level : ℕ) (opening inner rest : List Token) (t : Token) (hs : List Held) (signs : List Token) (bracket : Bracket) (x : Tree) → Opens text opening bracket → t.kind ≡ Mark 41
-      → Gives 1 inner (t ∷ rest) (held_open bracket signs ∷ hs) [] x → Gives level (opening ++ (inner ++ t ∷ [])) rest hs signs (bracket_tree bracket x)
+  bracketed : (level : ℕ) (opening inner rest : List Token) (t : Token) (hs : List Held) (signs : List Token) (bracket : Bracket) (x : Tree)
+      → Opens text opening bracket → t.kind ≡ Mark 41
+      → Gives 1 inner (t ∷ rest) (held_open bracket signs ∷ hs) [] x → Gives level (opening ++ (inner ++ t ∷ [])) rest hs signs
+      (bracket_tree bracket x)
   bracketed level opening inner rest t hs signs bracket x opens closing g =
-      let joins : (opening ++ (inner ++ t ∷ [])) ++ rest ≡ opening ++ (inner ++ t ∷ rest) = append_assoc opening (inner ++ t ∷ []) rest ∙ ap (λ us. opening ++ us) (append_assoc inner (t ∷ []) rest) in
+      let joins : (opening ++ (inner ++ t ∷ [])) ++ rest ≡ opening ++ (inner ++ t ∷ rest) = append_assoc opening (inner ++ t ∷ []) rest
+      ∙ ap (λ us. opening ++ us) (append_assoc inner (t ∷ []) rest) in
       record {
         value = with_signs signs (bracket_tree bracket x);
         held = hs;
         goes =
             ap (λ us. runs us (hs, place_operand signs)) joins ∙ opened (inner ++ t ∷ rest) hs signs opens ∙ g.goes
-            ∙ ap (λ kind. runs rest (cond (is_mark_of 41 kind) (shut (turned 0 g.value g.held).0 (turned 0 g.value g.held).1) (joined (binary_of kind) g.value g.held))) closing
+            ∙ ap (λ kind. runs rest (cond (is_mark_of 41 kind) (shut (turned 0 g.value g.held).0 (turned 0 g.value g.held).1)
+            (joined (binary_of kind) g.value g.held))) closing
             ∙ ap (λ (p : Tree × List Held). runs rest (shut p.0 p.1)) (g.turns 0 (omega arith));
         turns = λ k h. refl;
       }
 
-  operated : (t : Token) (rest : List Token) (hs held : List Held) (op : Binary) (v x : Tree) → binary_of t.kind ≡ Some op → turned (level_of op) v held ≡ (x, hs)
+  operated : (t : Token) (rest : List Token) (hs held : List Held) (op : Binary) (v x : Tree) → binary_of t.kind ≡ Some op
+      → turned (level_of op) v held ≡ (x, hs)
       → runs (t ∷ rest) (held, place_operator v) ≡ runs rest (held_wait x op ∷ hs, place_operand [])
   operated t rest hs held op v x e r =
-      ap (λ b. runs rest (cond b (shut (turned 0 v held).0 (turned 0 v held).1) (joined (binary_of t.kind) v held))) (not_closing t.kind op e)
+      ap (λ b. runs rest (cond b (shut (turned 0 v held).0 (turned 0 v held).1) (joined (binary_of t.kind) v held)))
+      (not_closing t.kind op e)
       ∙ ap (λ o. runs rest (joined o v held)) e
       ∙ ap (λ (p : Tree × List Held). runs rest (held_wait p.0 op ∷ p.1, place_operand [])) r
 
-  paired : (level : ℕ) (left right rest : List Token) (t : Token) (op : Binary) (hs : List Held) (x y : Tree) → binary_of t.kind ≡ Some op → level ≤ level_of op → Under (level_of op) hs
-      → Gives (level_of op) left (t ∷ right ++ rest) hs [] x → Gives (suc (level_of op)) right rest (held_wait x op ∷ hs) [] y → Gives level (left ++ t ∷ right) rest hs [] (binary_tree op x y)
+  paired : (level : ℕ) (left right rest : List Token) (t : Token) (op : Binary) (hs : List Held) (x y : Tree) → binary_of t.kind ≡ Some op
+      → level ≤ level_of op → Under (level_of op) hs
+      → Gives (level_of op) left (t ∷ right ++ rest) hs [] x → Gives (suc (level_of op)) right rest (held_wait x op ∷ hs) [] y
+      → Gives level (left ++ t ∷ right) rest hs [] (binary_tree op x y)
   paired level left right rest t op hs x y is binds under g h = record {
     value = h.value;
     held = h.held;
@@ -174,20 +195,28 @@ module _ (text : List ℕ) (dot : Option ℤ) where
         ap (λ us. runs us (hs, place_operand [])) (append_assoc left (t ∷ right) rest) ∙ g.goes
         ∙ operated t (right ++ rest) hs g.held op g.value x is (g.turns (level_of op) (omega arith) ∙ stays (level_of op) x hs under)
         ∙ h.goes;
-    turns = λ k le. h.turns k (omega arith) ∙ ap (λ b. cond b (turned k (binary_tree op x y) hs) (y, held_wait x op ∷ hs)) (is_le k (level_of op) (omega arith));
+    turns = λ k le. h.turns k (omega arith) ∙ ap (λ b. cond b (turned k (binary_tree op x y) hs) (y, held_wait x op ∷ hs))
+        (is_le k (level_of op) (omega arith));
   }
 
-  gives : (depth level : ℕ) (ts : List Token) (x : Tree) (rest : List Token) (hs : List Held) (signs : List Token) → Spells text dot depth level ts x → level ≤ 7 → (level < 7 → signs ≡ []) → Under level hs → Gives level ts rest hs signs x
-  gives depth level _ _ rest hs signs (spells_number {t = t} {n = n} e) within plain under = leaf level t rest hs signs (number_tree n) (ap (λ kind. begins_of (text_of text t) kind dot) e)
+  gives : (depth level : ℕ) (ts : List Token) (x : Tree) (rest : List Token) (hs : List Held) (signs : List Token) → Spells text dot depth
+      level ts x → level ≤ 7 → (level < 7 → signs ≡ []) → Under level hs → Gives level ts rest hs signs x
+  gives depth level _ _ rest hs signs (spells_number {t = t} {n = n} e) within plain under = leaf level t rest hs signs (number_tree n)
+      (ap (λ kind. begins_of (text_of text t) kind dot) e)
   gives depth level _ _ rest hs signs (spells_name {t = t} e f) within plain under =
-      leaf level t rest hs signs (name_tree (text_of text t)) (ap (λ kind. begins_of (text_of text t) kind dot) e ∙ ap (begins_name (text_of text t)) f)
+      leaf level t rest hs signs (name_tree (text_of text t)) (ap (λ kind. begins_of (text_of text t) kind dot) e
+      ∙ ap (begins_name (text_of text t)) f)
   gives depth level _ _ rest hs signs (spells_dot {t = t} e f) within plain under =
       leaf level t rest hs signs dot_tree (ap (λ kind. begins_of (text_of text t) kind dot) e ∙ ap begins_dot f)
   gives depth level _ _ rest hs signs (spells_sign {t = t} {ts = ts} {x = x} is d) within plain under =
-      signed level t ts rest hs signs x is within (gives depth 7 ts x rest hs (signs ++ t ∷ []) d (omega arith) (λ h. absurd (omega arith)) (under_more level 7 hs within under))
-  gives depth level _ _ rest hs signs (spells_bracket {opening = opening} {inner = inner} {bracket = bracket} {x = x} t shallow opens d closing) within plain under =
-      bracketed level opening inner rest t hs signs bracket x opens closing (gives (suc depth) 1 inner x (t ∷ rest) (held_open bracket signs ∷ hs) [] d (omega arith) (λ h. refl) tt)
-  gives depth level _ _ rest hs signs (spells_binary {left = left} {right = right} {operator = op} {x = x} {y = y} t is binds d e) within plain under =
+      signed level t ts rest hs signs x is within (gives depth 7 ts x rest hs (signs ++ t ∷ []) d (omega arith) (λ h. absurd (omega arith))
+      (under_more level 7 hs within under))
+  gives depth level _ _ rest hs signs (spells_bracket {opening = opening} {inner = inner} {bracket = bracket} {x = x} t shallow opens d
+      closing) within plain under =
+      bracketed level opening inner rest t hs signs bracket x opens closing
+      (gives (suc depth) 1 inner x (t ∷ rest) (held_open bracket signs ∷ hs) [] d (omega arith) (λ h. refl) tt)
+  gives depth level _ _ rest hs signs (spells_binary {left = left} {right = right} {operator = op} {x = x} {y = y} t is binds d e) within
+      plain under =
       let most = level_most op in
       let below = under_more level (level_of op) hs binds under in
       let none : signs ≡ [] = plain (omega arith) in
@@ -200,8 +229,10 @@ module _ (text : List ℕ) (dot : Option ℤ) where
   tree_is : (tokens : List Token) (x : Tree) → Spells text dot 0 1 tokens x → ended (runs tokens ([], place_operand [])) ≡ x
   tree_is tokens x d =
       let g = gives 0 1 tokens x [] [] [] d (omega arith) (λ h. refl) tt in
-      ap (λ us. ended (runs us ([], place_operand []))) (sym (append-nil tokens)) ∙ ap ended g.goes ∙ ap (λ (p : Tree × List Held). p.0) (g.turns 0 (omega arith))
+      ap (λ us. ended (runs us ([], place_operand []))) (sym (append-nil tokens)) ∙ ap ended g.goes ∙ ap (λ (p : Tree × List Held). p.0)
+      (g.turns 0 (omega arith))
 
 -- at most one
-pub one_tree : (text : List ℕ) (tokens : List Token) (dot : Option ℤ) (x y : Tree) → Spells text dot 0 1 tokens x → Spells text dot 0 1 tokens y → x ≡ y
+pub one_tree : (text : List ℕ) (tokens : List Token) (dot : Option ℤ) (x y : Tree) → Spells text dot 0 1 tokens x → Spells text dot 0 1
+    tokens y → x ≡ y
 one_tree text tokens dot x y d e = sym (tree_is text dot tokens x d) ∙ tree_is text dot tokens y e

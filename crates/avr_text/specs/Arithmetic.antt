@@ -1,5 +1,6 @@
 -- What the operators of expressions compute. A value is a signed number of 64 bits, and each step's result has to be one.
-use Rattle.std.specs.Prelude.{ℕ, ◌^◌, ◌==◌, nat_lt, Bool, false, ℤ, pos, negsuc, ◌+ℤ◌, ◌-ℤ◌, ◌*ℤ◌, neg_ℤ, int_div, int_rem, Result, Ok, Err, if◌then◌else◌}
+use Rattle.std.specs.Prelude.{ℕ, ◌^◌, ◌==◌, nat_lt, Bool, false, ℤ, pos, negsuc, ◌+ℤ◌, ◌-ℤ◌, ◌*ℤ◌, neg_ℤ, int_div, int_rem, Result, Ok, Err}
+use Rattle.std.specs.Prelude.{if◌then◌else◌}
 use Rattle.std.specs.Int.{w64, int_bit_or, int_bit_xor, int_bit_and, int_shr, int_rem_euclid}
 use Rattle.avr_text.specs.declared.values.ValueWhy.{ValueWhy}
 use Rattle.avr_text.specs.declared.values.ValueWhy.TheVariants.{Overflow, ZeroDivisor}

@@ -21,8 +21,10 @@ is_word b = begins_name b || is_digit b
 -- : , = . + - * / % ( ) | ^ & ~
 abbrev pub is_mark : ℕ → Bool
 is_mark b =
-    b == code ":" || (b == code "," || (b == code "=" || (b == code "." || (b == code "+" || (b == code "-" || (b == code "*" || (b == code "/"
-    || (b == code "%" || (b == code "(" || (b == code ")" || (b == code "|" || (b == code "^" || (b == code "&" || b == code "~")))))))))))))
+    b == code ":" || (b == code ","
+    || (b == code "=" || (b == code "." || (b == code "+" || (b == code "-" || (b == code "*" || (b == code "/"
+    || (b == code "%" || (b == code "("
+    || (b == code ")" || (b == code "|" || (b == code "^" || (b == code "&" || b == code "~")))))))))))))
 
 -- no line's end, which is LF
 abbrev pub goes_on_line : ℕ → Bool

@@ -31,19 +31,25 @@ pub data Tree : Type 0 where
 -- An opening parenthesis, with lo8 or hi8 before it or without.
 pub data Opens (text : List ℕ) : List Token → Bracket → Type 0 where
   opens_plain : {mark : Token} → mark.kind ≡ Mark (code "(") → Opens text (mark ∷ []) Plain
-  opens_word : {word mark : Token} {bracket : Bracket} → word.kind ≡ Name → bracket_word (text_of text word) ≡ Some bracket → mark.kind ≡ Mark (code "(") → Opens text (word ∷ mark ∷ []) bracket
+  opens_word : {word mark : Token} {bracket : Bracket} → word.kind ≡ Name → bracket_word (text_of text word) ≡ Some bracket
+      → mark.kind ≡ Mark (code "(") → Opens text (word ∷ mark ∷ []) bracket
 
 -- Tokens that lie inside so many parentheses spell a tree, whose operators outside of further parentheses bind at
 -- least as tightly as a level: at level 1 any may stand there, at level 7 none. The right operand binds more tightly
 -- than its operator, so chains go from left to right.
 pub data Spells (text : List ℕ) (dot : Option ℤ) : ℕ → ℕ → List Token → Tree → Type 0 where
   spells_number : {depth level : ℕ} {t : Token} {n : ℤ} → t.kind ≡ Number n → Spells text dot depth level (t ∷ []) (number_tree n)
-  spells_name : {depth level : ℕ} {t : Token} → t.kind ≡ Name → bracket_word (text_of text t) ≡ None → Spells text dot depth level (t ∷ []) (name_tree (text_of text t))
-  spells_dot : {depth level : ℕ} {t : Token} {x : ℤ} → t.kind ≡ Mark (code ".") → dot ≡ Some x → Spells text dot depth level (t ∷ []) dot_tree
-  spells_sign : {depth level : ℕ} {t : Token} {ts : List Token} {x : Tree} → is_sign t.kind ≡ true → Spells text dot depth 7 ts x → Spells text dot depth level (t ∷ ts) (sign_tree t.kind x)
-  spells_bracket : {depth level : ℕ} {opening inner : List Token} {bracket : Bracket} {x : Tree} (close : Token) → depth < 32 → Opens text opening bracket → Spells text dot (suc depth) 1 inner x → close.kind ≡ Mark (code ")")
+  spells_name : {depth level : ℕ} {t : Token} → t.kind ≡ Name → bracket_word (text_of text t) ≡ None → Spells text dot depth level (t ∷ [])
+      (name_tree (text_of text t))
+  spells_dot : {depth level : ℕ} {t : Token} {x : ℤ} → t.kind ≡ Mark (code ".") → dot ≡ Some x → Spells text dot depth level (t ∷ [])
+      dot_tree
+  spells_sign : {depth level : ℕ} {t : Token} {ts : List Token} {x : Tree} → is_sign t.kind ≡ true → Spells text dot depth 7 ts x
+      → Spells text dot depth level (t ∷ ts) (sign_tree t.kind x)
+  spells_bracket : {depth level : ℕ} {opening inner : List Token} {bracket : Bracket} {x : Tree} (close : Token) → depth < 32
+      → Opens text opening bracket → Spells text dot (suc depth) 1 inner x → close.kind ≡ Mark (code ")")
       → Spells text dot depth level (opening ++ (inner ++ close ∷ [])) (bracket_tree bracket x)
-  spells_binary : {depth level : ℕ} {left right : List Token} {operator : Binary} {x y : Tree} (t : Token) → binary_of t.kind ≡ Some operator → level ≤ level_of operator
+  spells_binary : {depth level : ℕ} {left right : List Token} {operator : Binary} {x y : Tree} (t : Token) → binary_of t.kind ≡ Some
+      operator → level ≤ level_of operator
       → Spells text dot depth (level_of operator) left x → Spells text dot depth (suc (level_of operator)) right y
       → Spells text dot depth level (left ++ t ∷ right) (binary_tree operator x y)
 

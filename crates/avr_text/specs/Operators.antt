@@ -8,7 +8,8 @@ use Rattle.avr_text.specs.declared.operators.Bracket.{Bracket}
 use Rattle.avr_text.specs.declared.operators.Bracket.TheVariants.{Plain, Low, High}
 use Rattle.avr_text.specs.declared.tokens.TokenKind.{TokenKind}
 use Rattle.avr_text.specs.declared.tokens.TokenKind.TheVariants.{Mark, ShiftLeft, ShiftRight}
-use Rattle.avr_text.specs.Arithmetic.{Outcome, sum_of, difference_of, product_of, quotient_of, remainder_of, shifted_left, shifted_right, or_of, xor_of, and_of, negated_of, complement_of, low_of, high_of}
+use Rattle.avr_text.specs.Arithmetic.{Outcome, sum_of, difference_of, product_of, quotient_of, remainder_of, shifted_left, shifted_right}
+use Rattle.avr_text.specs.Arithmetic.{or_of, xor_of, and_of, negated_of, complement_of, low_of, high_of}
 
 -- from the loosest: | ^ & then << >> then + - then * / %
 abbrev pub level_of : Binary → ℕ

@@ -19,7 +19,8 @@ number_piece len (Some n) = piece.Token (token.Number (pos n)) len
 
 -- a word: a number where a digit begins it, else a name
 abbrev pub word_piece : List ℕ → Piece
-word_piece word = if is_digit (slice_index word 0) then number_piece (length word) (number_of word) else piece.Token token.Name (length word)
+word_piece word = if is_digit (slice_index word 0) then number_piece (length word) (number_of word) else piece.Token token.Name
+    (length word)
 
 -- what no word is: a mark, a shift, blanks, a comment, the line's end. A CR is a blank right before the line's end alone
 abbrev pub other_piece : List ℕ → Piece

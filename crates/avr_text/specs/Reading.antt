@@ -2,7 +2,8 @@
 --
 -- Two stacks of the trade in one: operators wait with their left operand until one comes that binds no tighter, and
 -- parentheses until they are closed. The signs before an operand are named by the places of their tokens.
-use Rattle.std.specs.Prelude.{ℕ, ◌+◌, ◌-◌, ◌==◌, ◌||◌, nat_le, Bool, false, ℤ, List, [], ◌∷◌, length, Option, Some, None, Ok, Err, if◌then◌else◌}
+use Rattle.std.specs.Prelude.{ℕ, ◌+◌, ◌-◌, ◌==◌, ◌||◌, nat_le, Bool, false, ℤ, List, [], ◌∷◌, length, Option, Some, None, Ok, Err}
+use Rattle.std.specs.Prelude.{if◌then◌else◌}
 use Prim.Native.Char.{code}
 use Rattle.std.specs.List.{slice_range}
 use Rattle.std.specs.FinMap as map
@@ -85,7 +86,11 @@ abbrev pub closed_at : List Token → Outcome → List Entry → Reader → Read
 closed_at tokens value [] s = record { stack = []; depth = s.depth; mode = mode.Refused }
 closed_at tokens value (Waiting left operator ∷ entries) s = record { stack = entries; depth = s.depth; mode = mode.Refused }
 closed_at tokens value (Open bracket from at ∷ entries) s =
-    record { stack = entries; depth = s.depth - 1; mode = mode.Operator (signed (slice_range tokens from at) (bracket_applied bracket value)) }
+    record {
+      stack = entries;
+      depth = s.depth - 1;
+      mode = mode.Operator (signed (slice_range tokens from at) (bracket_applied bracket value));
+    }
 
 abbrev pub closed : List Token → Outcome → Reader → Reader
 closed tokens value s = closed_at tokens (reduced 0 value s.stack).0 (reduced 0 value s.stack).1 s
@@ -105,7 +110,8 @@ waits operator left next entries s =
     else record { stack = Waiting left operator ∷ entries; depth = s.depth; mode = mode.Operand next }
 
 abbrev pub waiting : Binary → Outcome → ℕ → Reader → Reader
-waiting operator value next s = waits operator (reduced (level_of operator) value s.stack).0 next (reduced (level_of operator) value s.stack).1 s
+waiting operator value next s = waits operator (reduced (level_of operator) value s.stack).0 next
+    (reduced (level_of operator) value s.stack).1 s
 
 abbrev pub is_mark_of : ℕ → TokenKind → Bool
 is_mark_of b (Mark c) = c == b
@@ -117,7 +123,8 @@ operator_or_none (Some operator) value next s = waiting operator value next s
 
 -- a token after an operand
 abbrev pub operator_step : TokenKind → List Token → ℕ → Outcome → Reader → Reader
-operator_step kind tokens at value s = if is_mark_of (code ")") kind then closed tokens value s else operator_or_none (binary_of kind) value (at + 1) s
+operator_step kind tokens at value s = if is_mark_of (code ")") kind then closed tokens value s else operator_or_none (binary_of kind) value
+    (at + 1) s
 
 -- the token after lo8 or hi8
 abbrev pub bracket_step : TokenKind → Bracket → ℕ → ℕ → ℕ → Reader → Reader

@@ -1,5 +1,6 @@
 -- How tokens lie in a text: each is its slice, by its kind, and only gaps stand before, between and after them.
-use Rattle.std.specs.Prelude.{◌≡◌, ◌⊎◌, ℕ, ◌+◌, ◌<◌, ◌≤◌, ◌==◌, Bool, true, false, List, [], ◌∷◌, ◌++◌, length, take, drop, slice_index, count_by, pos, None, Some}
+use Rattle.std.specs.Prelude.{◌≡◌, ◌⊎◌, ℕ, ◌+◌, ◌<◌, ◌≤◌, ◌==◌, Bool, true, false, List, [], ◌∷◌, ◌++◌, length, take, drop, slice_index}
+use Rattle.std.specs.Prelude.{count_by, pos, None, Some}
 use Prim.Native.Char.{code}
 use Rattle.std.specs.List.{slice_range}
 use Rattle.avr_text.specs.declared.tokens.TokenKind.{TokenKind}
@@ -27,7 +28,8 @@ pub data IsGap : List ℕ → List ℕ → Type 0 where
   gap_none : {after : List ℕ} → IsGap [] after
   gap_blank : {b : ℕ} {gap after : List ℕ} → is_blank b ≡ true → IsGap gap after → IsGap (b ∷ gap) after
   gap_return : {gap after : List ℕ} (rest : List ℕ) → gap ++ after ≡ code "\n" ∷ rest → IsGap gap after → IsGap (code "\r" ∷ gap) after
-  gap_comment : {gap after : List ℕ} (comment : List ℕ) → Each goes_on_line comment → Stops goes_on_line (gap ++ after) → IsGap gap after → IsGap (code ";" ∷ (comment ++ gap)) after
+  gap_comment : {gap after : List ℕ} (comment : List ℕ) → Each goes_on_line comment → Stops goes_on_line (gap ++ after) → IsGap gap after
+      → IsGap (code ";" ∷ (comment ++ gap)) after
 
 -- a longest word: letters, digits and _, with none after them
 pub record IsWord (word after : List ℕ) : Type 0 where
@@ -38,7 +40,8 @@ pub record IsWord (word after : List ℕ) : Type 0 where
 -- bytes are a token of a kind, before other bytes: a digit begins a number, and no name
 abbrev pub IsSpelling : TokenKind → List ℕ → List ℕ → Type 0
 IsSpelling Name word after = IsWord word after × (is_digit (slice_index word 0) ≡ false)
-IsSpelling (Number n) word after = IsWord word after × (is_digit (slice_index word 0) ≡ true) × (m : ℕ) × (number_of word ≡ Some m) × (n ≡ pos m)
+IsSpelling (Number n) word after = IsWord word after × (is_digit (slice_index word 0) ≡ true) × (m : ℕ) × (number_of word ≡ Some m)
+    × (n ≡ pos m)
 IsSpelling (Mark b) word after = (is_mark b ≡ true) × (word ≡ b ∷ [])
 IsSpelling ShiftLeft word after = word ≡ code "<" ∷ code "<" ∷ []
 IsSpelling ShiftRight word after = word ≡ code ">" ∷ code ">" ∷ []
@@ -74,7 +77,8 @@ pub record NothingBegins (bytes : List ℕ) : Type 0 where
 -- why bytes can't be cut: no word is there and nothing else begins, or a longest word that a digit begins is no number
 abbrev pub FaultAt : LexWhy → List ℕ → Type 0
 FaultAt lex_why.Byte bytes = Stops is_word bytes × NothingBegins bytes
-FaultAt lex_why.Number bytes = (word after : List ℕ) × (bytes ≡ word ++ after) × IsWord word after × (is_digit (slice_index word 0) ≡ true) × (number_of word ≡ None)
+FaultAt lex_why.Number bytes = (word after : List ℕ) × (bytes ≡ word ++ after) × IsWord word after × (is_digit (slice_index word 0) ≡ true)
+    × (number_of word ≡ None)
 FaultAt lex_why.Memory bytes = ⊥
 
 -- a fault of a text from a place on: tokens and gaps are all before it

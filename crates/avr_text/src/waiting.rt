@@ -5,6 +5,7 @@ ghost use Rattle.std.specs.Prelude.{◌≡◌, ◌==◌, ◌<◌, List, [], ◌�
 
 use crate::operators::{Binary, Bracket};
 use crate::values::Outcome;
+use arrayvec::ArrayVec;
 use std::marker::Model;
 
 /// How many entries can wait: more than parentheses 32 deep need.
@@ -26,22 +27,31 @@ pub enum Entry {
     },
 }
 
+impl Default for Entry {
+    fn default() -> Entry {
+        Entry::Open {
+            bracket: Bracket::Plain,
+            from: 0,
+            at: 0,
+        }
+    }
+}
+
 /// The entries that wait. A clause sees them as a list, the latest first.
 #[derive(Drop)]
 pub struct Stack {
-    entries: [Entry; ROOM],
-    len: usize,
+    entries: ArrayVec<Entry, ROOM>,
 }
 
 impl Model for Stack {
-    ghost use Rattle.std.specs.Prelude.{◌≡◌, ◌≤◌, List, length, take, reverse};
+    ghost use Rattle.std.specs.Prelude.{◌≤◌, List, length, reverse};
     ghost use Rattle.avr_text.specs.declared.waiting.Entry.{Entry};
 
     ghost Value = { List Entry };
 
-    ghost view = { λ s. reverse (take s.len s.entries) };
+    ghost view = { λ s. reverse s.entries.items };
 
-    ghost invariant = { λ s. (s.len ≤ 256) × (length s.entries ≡ 256) };
+    ghost invariant = { λ s. length s.entries.items ≤ 256 };
 }
 
 impl Stack {
@@ -50,34 +60,28 @@ impl Stack {
         ensures { result ≡ [] }
     {
         Stack {
-            entries: [Entry::Open {
-                bracket: Bracket::Plain,
-                from: 0,
-                at: 0,
-            }; ROOM],
-            len: 0,
+            entries: ArrayVec::new(),
         }
     }
 
     pub fn is_empty(&self) -> bool
         ensures { result ≡ (length self.now == 0) }
     {
-        self.len == 0
+        self.entries.is_empty()
     }
 
     pub fn is_full(&self) -> bool
         ensures full { result ≡ (length self.now == 256) }
         ensures room { OnFalse result (length self.now < 256) }
     {
-        self.len == ROOM
+        self.entries.is_full()
     }
 
     pub fn push(&mut self, entry: Entry)
         requires { length self.old < 256 }
         ensures { self.new ≡ entry ∷ self.old }
     {
-        self.entries[self.len] = entry;
-        self.len += 1;
+        self.entries.push(entry);
     }
 
     pub fn pop(&mut self) -> Option<Entry>
@@ -85,10 +89,6 @@ impl Stack {
         ensures empty { IfNone result (self.new ≡ []) }
         ensures room { length self.new < 256 }
     {
-        if self.len == 0 {
-            return None;
-        }
-        self.len -= 1;
-        Some(self.entries[self.len])
+        self.entries.pop()
     }
 }

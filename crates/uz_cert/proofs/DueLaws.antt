@@ -1,5 +1,6 @@
 -- What holds of a draft where a kind of line is due, and where none is.
-use Rattle.std.proofs.Common.{◌≡◌, ◌≢◌, ℕ, suc, ◌+◌, ◌<◌, ◌≤◌, Bool, true, false, not, cond, eqb, ltb, List, length, refl, sym, ◌∙◌, ap, subst, arith}
+use Rattle.std.proofs.Common.{◌≡◌, ◌≢◌, ℕ, suc, ◌+◌, ◌<◌, ◌≤◌, Bool, true, false, not, cond, eqb, ltb, List, length, refl, sym, ◌∙◌, ap}
+use Rattle.std.proofs.Common.{subst, arith}
 use Rattle.std.specs.Prelude.{Option, Some, None}
 use Rattle.std.proofs.lemmas.Bool.{ltb-true, ltb-false, eqb-true, eqb-false}
 use Rattle.uz_schedule.specs.declared.states.Entry.{Entry}
@@ -53,7 +54,13 @@ states_due d h =
     (λ r. choose (DueIs d) (lacks d.entry) _ _ (λ t. h.after)
     (λ e. choose (DueIs d) (ltb (length d.points) d.sizes.points) _ _ (λ t. (h.after, ltb-true (length d.points) d.sizes.points t))
     (λ p. choose (DueIs d) d.ended _ _
-    (λ t. record { states = h; rests = ltb-false (length d.rests) d.sizes.rests r; entry = e; points = ltb-false (length d.points) d.sizes.points p })
+    (λ t. record {
+      states = h;
+      rests = ltb-false (length d.rests) d.sizes.rests r;
+      entry = e;
+      points = ltb-false (length d.points)
+          d.sizes.points p;
+    })
     (λ f. h.after.body))))
 
 none_owed : (n : ℕ) → ltb 0 n ≡ false → n ≡ 0
@@ -62,7 +69,8 @@ none_owed n e = let few = ltb-false 0 n e in omega (arith, few)
 schedule_due : (d : Draft) → IsAfterCells d → DueIs d (due_of_schedule d)
 schedule_due d h =
     choose (DueIs d) (ltb 0 d.owed) _ _ (λ t. (h.body, ltb-true 0 d.owed t))
-    (λ o. choose (DueIs d) (ltb (length d.kinds) d.sizes.kinds) _ _ (λ t. (h.body, none_owed d.owed o, ltb-true (length d.kinds) d.sizes.kinds t))
+    (λ o. choose (DueIs d) (ltb (length d.kinds) d.sizes.kinds) _ _
+    (λ t. (h.body, none_owed d.owed o, ltb-true (length d.kinds) d.sizes.kinds t))
     (λ k. choose (DueIs d) (eqb d.fall 0) _ _ (λ t. h.body)
     (λ f. choose (DueIs d) (ltb (length d.lines) d.sizes.lines) _ _ (λ t. (h.body, ltb-true (length d.lines) d.sizes.lines t))
     (λ l. states_due d (record {

@@ -1,5 +1,6 @@
 -- What a line says that is read by a form.
-use Rattle.std.proofs.Common.{◌≡◌, ◌≢◌, ℕ, suc, ◌+◌, ◌<◌, ◌≤◌, Bool, true, false, ◌&&◌, cond, eqb, leb, ltb, List, [], ◌∷◌, All, refl, sym, ◌∙◌, ap, subst, arith}
+use Rattle.std.proofs.Common.{◌≡◌, ◌≢◌, ℕ, suc, ◌+◌, ◌<◌, ◌≤◌, Bool, true, false, ◌&&◌, cond, eqb, leb, ltb, List, [], ◌∷◌, All, refl, sym}
+use Rattle.std.proofs.Common.{◌∙◌, ap, subst, arith}
 use Rattle.std.specs.Prelude.{Result, Ok, Err, ℤ, filter}
 use Rattle.std.proofs.lemmas.Bool.{leb-true, le-leb}
 use Rattle.std.proofs.lemmas.List.Elements.{All-nil, All-cons, All-head, All-tail}
@@ -34,20 +35,23 @@ Ensures P (fixed wanted form) = Ensures P form
 Ensures P (number a form) = (n : ℕ) → NumberFits a n → Ensures P (form n)
 Ensures P (choice wanted form) = (n : ℕ) → Ensures P (form n)
 Ensures P (slope limit form) = (z : ℤ) → magnitude z < limit → Ensures P (form z)
-Ensures P (spans cells form) = Ranges cells × ((es : List Ends) → SpansFit (filter (λ c. tracks Handler c.owner) cells) es → Ensures P (form es))
+Ensures P (spans cells form) = Ranges cells × ((es : List Ends) → SpansFit (filter (λ c. tracks Handler c.owner) cells) es
+    → Ensures P (form es))
 Ensures P (items shape cells say) =
     EntryShape shape × Ranges cells × ((facts : Facts) → ItemsFit shape cells facts → HasText shape facts → P (say facts))
 Ensures P (finish said) = P said
 
 -- the next word
 
-first_word : {A : Type 0} (ended : Bool) (judge : List ℕ → Result A CertWhy) (list : List (List ℕ)) (a : A) → first_as ended judge list ≡ Ok a
+first_word : {A : Type 0} (ended : Bool) (judge : List ℕ → Result A CertWhy) (list : List (List ℕ)) (a : A) → first_as ended judge list ≡ Ok
+    a
     → (w : List ℕ) × (judge w ≡ Ok a)
 first_word true judge [] a e = absurd cc
 first_word false judge [] a e = absurd cc
 first_word ended judge (w ∷ ws) a e = (w, e)
 
-next_word : {A : Type 0} (judge : List ℕ → Result A CertWhy) (words : Words) (a : A) → next_as judge words ≡ Ok a → (w : List ℕ) × (judge w ≡ Ok a)
+next_word : {A : Type 0} (judge : List ℕ → Result A CertWhy) (words : Words) (a : A) → next_as judge words ≡ Ok a → (w : List ℕ)
+    × (judge w ≡ Ok a)
 next_word judge words a e = first_word words.ended judge words.list a e
 
 -- ranges within the header's
@@ -63,21 +67,33 @@ and_is false t a b = absurd cc
 inside : (range e : Ends) → range.lo ≤ e.lo → e.hi ≤ range.hi → is_within e range ≡ true
 inside range e a b = and_is (leb range.lo e.lo) (leb e.hi range.hi) (le-leb range.lo e.lo a) (le-leb e.hi range.hi b)
 
-ends_fit : (range : Ends) (w : List ℕ) (r : Raw) (e : Ends) → RangeFits 255 range → RawFits (span_forms range) w r → ends_of r ≡ Ok e → SpanFits range e
+ends_fit : (range : Ends) (w : List ℕ) (r : Raw) (e : Ends) → RangeFits 255 range → RawFits (span_forms range) w r → ends_of r ≡ Ok e
+    → SpanFits range e
 ends_fit range w raw.All e fits h g =
     subst (SpanFits range) (ok_same (record { lo = 0; hi = 255 }) e g)
-    (record { fits = record { order = omega arith; high = omega arith }; within = inside range (record { lo = 0; hi = 255 }) (omega (arith, h.0)) (omega (arith, h.1)) })
+    (record {
+      fits = record { order = omega arith; high = omega arith };
+      within = inside range (record { lo = 0; hi = 255 })
+          (omega (arith, h.0)) (omega (arith, h.1));
+    })
 ends_fit range w (raw.One n) e fits h g =
     let few = fits.high in
     subst (SpanFits range) (ok_same (record { lo = n; hi = n }) e g)
-    (record { fits = record { order = omega arith; high = omega (arith, h.0.limit, few) }; within = inside range (record { lo = n; hi = n }) h.0.low_is (omega (arith, h.0.limit)) })
+    (record {
+      fits = record { order = omega arith; high = omega (arith, h.0.limit, few) };
+      within = inside range (record { lo = n; hi = n })
+          h.0.low_is (omega (arith, h.0.limit));
+    })
 ends_fit range w (raw.Two lo hi) e fits h g =
     let few = fits.high in
     let c = chosen_ok (is_ordered 255 lo hi) why.Order (accepted Ends (record { lo = lo; hi = hi })) e g in
     let low = and_true (ltb lo hi) _ c.0 in
     let below : lo < hi = leb-true (suc lo) hi low.0 in
     subst (SpanFits range) (ok_same (record { lo = lo; hi = hi }) e c.1)
-    (record { fits = record { order = omega (arith, below); high = omega (arith, h.1.limit, few) }; within = inside range (record { lo = lo; hi = hi }) h.0.low_is (omega (arith, h.1.limit)) })
+    (record {
+      fits = record { order = omega (arith, below); high = omega (arith, h.1.limit, few) };
+      within = inside range (record { lo = lo; hi = hi }) h.0.low_is (omega (arith, h.1.limit));
+    })
 ends_fit range w (raw.Line a b) e fits h g = absurd cc
 ends_fit range w (raw.Loop a b) e fits h g = absurd cc
 ends_fit range w (raw.Old r) e fits h g = absurd cc

@@ -1,5 +1,6 @@
 -- What the items of a line say is within limits.
-use Rattle.std.proofs.Common.{◌≡◌, ◌≢◌, ◌⊎◌, inl, inr, ℕ, zero, suc, ◌+◌, ◌<◌, ◌≤◌, Bool, true, false, ◌&&◌, ◌||◌, not, cond, eqb, leb, ltb, List, [], ◌∷◌, ◌++◌, length, take, map, set, get_or, All, refl, sym, ◌∙◌, ap, subst, arith, length-append}
+use Rattle.std.proofs.Common.{◌≡◌, ◌≢◌, ◌⊎◌, inl, inr, ℕ, zero, suc, ◌+◌, ◌<◌, ◌≤◌, Bool, true, false, ◌&&◌, ◌||◌, not, cond, eqb, leb, ltb}
+use Rattle.std.proofs.Common.{List, [], ◌∷◌, ◌++◌, length, take, map, set, get_or, All, refl, sym, ◌∙◌, ap, subst, arith, length-append}
 use Rattle.std.specs.Prelude.{Option, Some, None, Result, Ok, Err, filter, slice_get}
 use Rattle.std.proofs.lemmas.Bool.{leb-true, le-leb, eqb-true, eqb-false}
 use Rattle.std.proofs.lemmas.List.{length-set, get_or-set_same, get_or-set_other}
@@ -8,7 +9,8 @@ use Rattle.std.proofs.lemmas.Option.{get_or_from_slice_get, slice_get_within}
 use Rattle.uz_schedule.specs.Ends.{Ends, is_within}
 use Rattle.uz_schedule.specs.Tracked.{tracks}
 use Rattle.uz_schedule.specs.Limits.{rises, rises_from}
-use Rattle.uz_schedule.specs.WellFormed.{RangeFits, FactFits, CellFactFits, PairFits, BitFits, is_default_flag, is_zero_or_one, is_carry_and_zero_default}
+use Rattle.uz_schedule.specs.WellFormed.{RangeFits, FactFits, CellFactFits, PairFits, BitFits, is_default_flag, is_zero_or_one}
+use Rattle.uz_schedule.specs.WellFormed.{is_carry_and_zero_default}
 use Rattle.uz_schedule.specs.declared.kinds.Kind.{Kind}
 use Rattle.uz_schedule.specs.declared.kinds.Kind.TheVariants.{Main, Handler, Alone}
 use Rattle.uz_schedule.specs.declared.header.Cell.{Cell}
@@ -22,7 +24,8 @@ use Rattle.uz_lines.specs.Why.{◌>>=◌}
 use Rattle.uz_lines.specs.Lines.{span_of_fact}
 use Rattle.uz_lines.specs.Defaults.{range_fact}
 use Rattle.uz_lines.specs.Grammar.{Words}
-use Rattle.uz_lines.specs.Items.{own_regs, any_regs, default_regs, default_flag, seven, default_cells, first_facts, tracked_count, tracked_before, names_c_or_z, any_names, take_item, items_end, items_from, read_items}
+use Rattle.uz_lines.specs.Items.{own_regs, any_regs, default_regs, default_flag, seven, default_cells, first_facts, tracked_count}
+use Rattle.uz_lines.specs.Items.{tracked_before, names_c_or_z, any_names, take_item, items_end, items_from, read_items}
 use Rattle.uz_lines.specs.declared.items.Shape.{Shape}
 use Rattle.uz_lines.specs.declared.items.Facts.{Facts}
 use Rattle.uz_lines.specs.declared.why.CertWhy.{CertWhy}
@@ -74,17 +77,30 @@ high_of cells h i m e =
     let fits = All-get_or (λ c. RangeFits 255 c.range) cells i m there h in
     (subst (λ c. RangeFits 255 c.range) (get_or_from_slice_get cells i m m e) fits).high
 
-within_itself : (plain : Bool) (m : Cell) (both : Bool) → RangeFits 255 m.range → (both ≡ true → (m.range.lo ≡ 0) × (m.range.hi ≡ 255)) → (both ≡ false → (0 < m.range.lo) ⊎ (m.range.hi < 255))
+within_itself : (plain : Bool) (m : Cell) (both : Bool) → RangeFits 255 m.range → (both ≡ true → (m.range.lo ≡ 0) × (m.range.hi ≡ 255))
+    → (both ≡ false → (0 < m.range.lo) ⊎ (m.range.hi < 255))
     → CellValue plain m (cond both fact.Any (fact.Between m.range))
 within_itself plain m true fits h k =
-    let ends = h refl in
-    (tt, λ _. (tt, and_is (leb m.range.lo 0) (leb 255 m.range.hi) (le-leb m.range.lo 0 (omega (arith, ends.0))) (le-leb 255 m.range.hi (omega (arith, ends.1)))))
+    let ends = h refl in (
+      tt,
+      λ _. (
+        tt,
+        and_is (leb m.range.lo 0) (leb 255 m.range.hi) (le-leb m.range.lo 0 (omega (arith, ends.0)))
+            (le-leb 255 m.range.hi (omega (arith, ends.1))),
+      ),
+    )
   where
     and_is : (s t : Bool) → s ≡ true → t ≡ true → (s && t) ≡ true
     and_is true t a b = b
     and_is false t a b = absurd cc
-within_itself plain m false fits h k =
-    (record { range = fits; part = k refl }, λ _. (tt, and_is (leb m.range.lo m.range.lo) (leb m.range.hi m.range.hi) (le-leb m.range.lo m.range.lo (omega arith)) (le-leb m.range.hi m.range.hi (omega arith))))
+within_itself plain m false fits h k = (
+  record { range = fits; part = k refl },
+  λ _. (
+    tt,
+    and_is (leb m.range.lo m.range.lo) (leb m.range.hi m.range.hi)
+        (le-leb m.range.lo m.range.lo (omega arith)) (le-leb m.range.hi m.range.hi (omega arith)),
+  ),
+)
   where
     and_is : (s t : Bool) → s ≡ true → t ≡ true → (s && t) ≡ true
     and_is true t a b = b
@@ -101,13 +117,16 @@ default_cell plain m fits =
     (λ e. let t = and_true (eqb m.range.lo 0) (eqb m.range.hi 255) e in (eqb-true m.range.lo 0 t.0, eqb-true m.range.hi 255 t.1))
     (not_both m.range.lo m.range.hi (eqb m.range.lo 0) (eqb m.range.hi 255) fits.high refl refl)
 
-defaults_fit : (plain : Bool) (kind : Kind) (cells : List Cell) → CellRanges cells → CellsFit plain (cells_of kind cells) (default_cells kind cells)
+defaults_fit : (plain : Bool) (kind : Kind) (cells : List Cell) → CellRanges cells → CellsFit plain (cells_of kind cells)
+    (default_cells kind cells)
 defaults_fit plain kind [] h = tt
 defaults_fit plain kind (m ∷ ms) h =
-    by (tracks kind m.owner) (defaults_fit plain kind ms (All-tail (λ c. RangeFits 255 c.range) m ms h)) (All-head (λ c. RangeFits 255 c.range) m ms h)
+    by (tracks kind m.owner) (defaults_fit plain kind ms (All-tail (λ c. RangeFits 255 c.range) m ms h))
+    (All-head (λ c. RangeFits 255 c.range) m ms h)
   where
     by : (t : Bool) → CellsFit plain (cells_of kind ms) (default_cells kind ms) → RangeFits 255 m.range
-        → CellsFit plain (cond t (m ∷ cells_of kind ms) (cells_of kind ms)) (cond t (range_fact m.range ∷ default_cells kind ms) (default_cells kind ms))
+        → CellsFit plain (cond t (m ∷ cells_of kind ms) (cells_of kind ms)) (cond t (range_fact m.range ∷ default_cells kind ms)
+        (default_cells kind ms))
     by true rest fits = (default_cell plain m fits, rest)
     by false rest fits = rest
 
@@ -125,7 +144,8 @@ set_cells plain kind (c ∷ cs) zero m facts f e t v h =
     some_same : (x y : Cell) → Some x ≡ Some y → x ≡ y
     some_same x y k = cc
 
-    by : (b : Bool) → b ≡ true → (facts : List Fact) → CellValue plain c f → CellsFit plain (cond b (c ∷ cells_of kind cs) (cells_of kind cs)) facts
+    by : (b : Bool) → b ≡ true → (facts : List Fact) → CellValue plain c f → CellsFit plain
+        (cond b (c ∷ cells_of kind cs) (cells_of kind cs)) facts
         → CellsFit plain (cond b (c ∷ cells_of kind cs) (cells_of kind cs)) (set facts 0 f)
     by false k facts w g = absurd cc
     by true k [] w g = absurd g
@@ -134,12 +154,14 @@ set_cells plain kind (c ∷ cs) (suc i) m facts f e t v h =
     by (tracks kind c.owner) facts h (λ rest g. set_cells plain kind cs i m rest f e t v g)
   where
     by : (b : Bool) (facts : List Fact) → CellsFit plain (cond b (c ∷ cells_of kind cs) (cells_of kind cs)) facts
-        → ((rest : List Fact) → CellsFit plain (cells_of kind cs) rest → CellsFit plain (cells_of kind cs) (set rest (tracked_before kind i cs) f))
+        → ((rest : List Fact) → CellsFit plain (cells_of kind cs) rest → CellsFit plain (cells_of kind cs)
+        (set rest (tracked_before kind i cs) f))
         → CellsFit plain (cond b (c ∷ cells_of kind cs) (cells_of kind cs))
         (set facts (cond b (tracked_before kind i cs + 1) (tracked_before kind i cs)) f)
     by true [] g later = absurd g
     by true (x ∷ xs) g later =
-        subst (λ k. CellsFit plain (c ∷ cells_of kind cs) (set (x ∷ xs) k f)) (sym (next_place (tracked_before kind i cs))) (g.0, later xs g.1)
+        subst (λ k. CellsFit plain (c ∷ cells_of kind cs) (set (x ∷ xs) k f)) (sym (next_place (tracked_before kind i cs)))
+        (g.0, later xs g.1)
     by false facts g later = later facts g
 
 -- what holds where no item says otherwise
@@ -340,7 +362,8 @@ abbrev StillToCome : Facts → List (List ℕ) → Type 0
 StillToCome f later = (any_names later ≡ true) × (35 ≤ f.least)
 
 -- a word that isn't of C or Z leaves it to the later ones
-later_names : (b : ℕ) (bs : List ℕ) (later : List (List ℕ)) → (b ≡ 99 → ⊥) → (b ≡ 122 → ⊥) → any_names ((b ∷ bs) ∷ later) ≡ true → any_names later ≡ true
+later_names : (b : ℕ) (bs : List ℕ) (later : List (List ℕ)) → (b ≡ 99 → ⊥) → (b ≡ 122 → ⊥) → any_names ((b ∷ bs) ∷ later) ≡ true
+    → any_names later ≡ true
 later_names b bs later h k e =
     elim (or_true (names_c_or_z (b ∷ bs)) (any_names later) e) [
       | inl n ↦ absurd (elim (names_first b bs n) [ inl c ↦ h c | inr z ↦ k z ])
@@ -381,13 +404,31 @@ took_told shape cells f b bs later more h told (Took.Flag place x low fits defau
     ])
 took_told shape cells f b bs later more h told (Took.Slot x is fits room e) =
     subst (λ m. Told shape m later) (sym e)
-    (λ z. elim (told z) [ inl t ↦ inl t | inr s ↦ inr (later_names b bs later (λ c. omega (arith, is, c)) (λ c. omega (arith, is, c)) s.0, omega arith) ])
+    (λ z. elim (told z) [
+      | inl t ↦ inl t
+      | inr s ↦ inr (
+        later_names b bs later (λ c. omega (arith, is, c)) (λ c. omega (arith, is, c)) s.0,
+        omega arith,
+      )
+    ])
 took_told shape cells f b bs later more h told (Took.OfCell i m x is there is_tracked fits e) =
     subst (λ m. Told shape m later) (sym e)
-    (λ z. elim (told z) [ inl t ↦ inl t | inr s ↦ inr (later_names b bs later (λ c. omega (arith, is, c)) (λ c. omega (arith, is, c)) s.0, omega arith) ])
+    (λ z. elim (told z) [
+      | inl t ↦ inl t
+      | inr s ↦ inr (
+        later_names b bs later (λ c. omega (arith, is, c)) (λ c. omega (arith, is, c)) s.0,
+        omega arith,
+      )
+    ])
 took_told shape cells f b bs later more h told (Took.Successor id is room there order e) =
     subst (λ m. Told shape m later) (sym e)
-    (λ z. elim (told z) [ inl t ↦ inl t | inr s ↦ inr (later_names b bs later (λ c. omega (arith, is, c)) (λ c. omega (arith, is, c)) s.0, omega arith) ])
+    (λ z. elim (told z) [
+      | inl t ↦ inl t
+      | inr s ↦ inr (
+        later_names b bs later (λ c. omega (arith, is, c)) (λ c. omega (arith, is, c)) s.0,
+        omega arith,
+      )
+    ])
 
 -- all items
 
@@ -408,7 +449,8 @@ text_of shape f told = by (is_zero_or_one (get_or f.pairs 2 pair.Any)) told
     by false h = refl
 
 from_fits : (shape : Shape) (cells : List Cell) (ended : Bool) (f : Facts) (words : List (List ℕ)) (said : Facts) → CellRanges cells
-    → ItemsFit shape cells f → Told shape f words → items_from shape cells ended f words ≡ Ok said → ItemsFit shape cells said × HasText shape said
+    → ItemsFit shape cells f → Told shape f words → items_from shape cells ended f words ≡ Ok said → ItemsFit shape cells said
+    × HasText shape said
 from_fits shape cells ended f [] said ranges h told e =
     let same = end_same ended f said e in
     (subst (ItemsFit shape cells) same h, subst (HasText shape) same (text_of shape f told))
@@ -418,10 +460,13 @@ from_fits shape cells ended f ([] ∷ words) said ranges h told e =
 from_fits shape cells ended f ((b ∷ bs) ∷ words) said ranges h told e =
     let m = bind_ok (take_item shape cells f (b ∷ bs) words) (λ more. items_from shape cells ended more words) said e in
     let took = item_took shape cells f b bs words m.0 (high_of cells ranges) m.1 in
-    from_fits shape cells ended m.0 words said ranges (took_fits shape cells f b words m.0 h took) (took_told shape cells f b bs words m.0 h told took) m.2
+    from_fits shape cells ended m.0 words said ranges (took_fits shape cells f b words m.0 h took)
+    (took_told shape cells f b bs words m.0 h told took) m.2
 
-pub items_fit : (shape : Shape) (cells : List Cell) (words : Words) (said : Facts) → EntryShape shape → All (λ m. RangeFits 255 m.range) cells
+pub items_fit : (shape : Shape) (cells : List Cell) (words : Words) (said : Facts) → EntryShape shape → All (λ m. RangeFits 255 m.range)
+    cells
     → read_items shape cells words ≡ Ok said → ItemsFit shape cells said × HasText shape said
 unfolding read_items
 items_fit shape cells words said e ranges h =
-    from_fits shape cells words.ended (first_facts shape.kind cells) words.list said ranges (first_fit shape cells e ranges) (first_told shape cells words.list) h
+    from_fits shape cells words.ended (first_facts shape.kind cells) words.list said ranges (first_fit shape cells e ranges)
+    (first_told shape cells words.list) h

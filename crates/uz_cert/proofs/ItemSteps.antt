@@ -1,5 +1,6 @@
 -- What one item of a line does to what the items before it say.
-use Rattle.std.proofs.Common.{◌≡◌, ◌⊎◌, inl, inr, ℕ, zero, suc, ◌+◌, ◌<◌, ◌≤◌, ◌^◌, Bool, true, false, ◌&&◌, ◌||◌, not, cond, eqb, leb, ltb, List, [], ◌∷◌, ◌++◌, length, set, lit<, refl, sym, ◌∙◌, ap, subst, arith}
+use Rattle.std.proofs.Common.{◌≡◌, ◌⊎◌, inl, inr, ℕ, zero, suc, ◌+◌, ◌<◌, ◌≤◌, ◌^◌, Bool, true, false, ◌&&◌, ◌||◌, not, cond, eqb, leb, ltb}
+use Rattle.std.proofs.Common.{List, [], ◌∷◌, ◌++◌, length, set, lit<, refl, sym, ◌∙◌, ap, subst, arith}
 use Rattle.std.specs.Prelude.{Option, Some, None, Result, Ok, Err, codes, bytes_eq, decimal, slice_get}
 use Rattle.std.proofs.lemmas.Bool.{leb-true, ltb-true, leb-false, ltb-false, eqb-true, eqb-false, le-leb}
 use Rattle.std.proofs.lemmas.Fmt.{decimal_digit}
@@ -20,7 +21,10 @@ use Rattle.uz_lines.specs.Why.{◌>>=◌}
 use Rattle.uz_lines.specs.Values.{digits, raw_of, fact_of, pair_of, bit_of, is_ordered}
 use Rattle.uz_lines.specs.Lines.{span_of_fact}
 use Rattle.uz_lines.specs.Defaults.{is_default, is_any_pair, is_range}
-use Rattle.uz_lines.specs.Items.{in_order, is_handler, bytes_forms, register_set, register_key, take_register, pair_forms, pair_set, take_pair, flag_set, take_flag, slot_set, slot_room, take_slot, tracked_before, with_number, cell_at, cell_forms, numbered, cell_set, cell_value, take_cell, successor_set, take_successor, names_c_or_z, any_names, is_flag_z, take_letter, take_keyed, take_cut, take_named, take_second, take_item}
+use Rattle.uz_lines.specs.Items.{in_order, is_handler, bytes_forms, register_set, register_key, take_register, pair_forms, pair_set}
+use Rattle.uz_lines.specs.Items.{take_pair, flag_set, take_flag, slot_set, slot_room, take_slot, tracked_before, with_number, cell_at}
+use Rattle.uz_lines.specs.Items.{cell_forms, numbered, cell_set, cell_value, take_cell, successor_set, take_successor, names_c_or_z}
+use Rattle.uz_lines.specs.Items.{any_names, is_flag_z, take_letter, take_keyed, take_cut, take_named, take_second, take_item}
 use Rattle.uz_lines.specs.declared.values.Forms.{Forms}
 use Rattle.uz_lines.specs.declared.values.Raw.{Raw}
 use Rattle.uz_lines.specs.declared.values.Raw.TheVariants as raw
@@ -51,11 +55,13 @@ pub data Took (shape : Shape) (cells : List Cell) (f : Facts) (first : ℕ) (lat
       → more ≡ record f { flags = set f.flags b bit; least = 36 + b } → Took shape cells f first later more
   Slot : (fact : Fact) → first ≡ 115 → ByteFits shape fact → length f.stack.items < shape.depth
       → more ≡ record f { stack = record { items = f.stack.items ++ fact ∷ [] }; least = 42 } → Took shape cells f first later more
-  OfCell : (i : ℕ) (m : Cell) (fact : Fact) → first ≡ 109 → slice_get cells i ≡ Some m → tracks shape.kind m.owner ≡ true → CellValue shape.plain m fact
+  OfCell : (i : ℕ) (m : Cell) (fact : Fact) → first ≡ 109 → slice_get cells i ≡ Some m → tracks shape.kind m.owner ≡ true
+      → CellValue shape.plain m fact
       → more ≡ record f { cells = record { items = set f.cells.items (tracked_before shape.kind i cells) fact }; least = 44 + i }
       → Took shape cells f first later more
   Successor : (id : ℕ) → first ≡ 62 → length f.next.items < 16 → id < shape.points → f.after ≤ id
-      → more ≡ record f { next = record { items = f.next.items ++ id ∷ [] }; after = id + 1; least = 59 } → Took shape cells f first later more
+      → more ≡ record f { next = record { items = f.next.items ++ id ∷ [] }; after = id + 1; least = 59 } → Took shape cells f first later
+      more
 
 -- the order
 
@@ -84,7 +90,8 @@ plain_forms true true e = (refl, refl)
 plain_forms false true e = (refl, refl)
 plain_forms handler false e = absurd cc
 
-byte_fits : (shape : Shape) (value : List ℕ) (r : Raw) (fact : Fact) → raw_of (bytes_forms shape) value ≡ Ok r → fact_of r ≡ Ok fact → ByteFits shape fact
+byte_fits : (shape : Shape) (value : List ℕ) (r : Raw) (fact : Fact) → raw_of (bytes_forms shape) value ≡ Ok r → fact_of r ≡ Ok fact
+    → ByteFits shape fact
 byte_fits shape value r fact e g =
     let fits = raw_fits (bytes_forms shape) value r e in (
       fact_fits (bytes_forms shape) value shape.kind r fact (bytes_are shape) fits g,
@@ -93,20 +100,24 @@ byte_fits shape value r fact e g =
 
 -- registers
 
-key_took : (shape : Shape) (cells : List Cell) (f : Facts) (later : List (List ℕ)) (value : List ℕ) (o : Option ℕ) (more : Facts) → ((r : ℕ) → o ≡ Some r → r < 32)
+key_took : (shape : Shape) (cells : List Cell) (f : Facts) (later : List (List ℕ)) (value : List ℕ) (o : Option ℕ) (more : Facts)
+    → ((r : ℕ) → o ≡ Some r → r < 32)
     → register_key shape f value o ≡ Ok more → Took shape cells f 114 later more
 key_took shape cells f later value None more h e = absurd cc
 key_took shape cells f later value (Some r) more h e =
     let w = bind_ok (raw_of (bytes_forms shape) value) (λ raw. fact_of raw >>= (λ fact. register_set shape f r fact)) more e in
     let g = bind_ok (fact_of w.0) (λ fact. register_set shape f r fact) more w.2 in
-    let o = bind_ok (in_order f r (is_default shape.kind r g.0)) (λ place. accepted Facts (record f { regs = set f.regs r g.0; least = r + 1 })) more g.2 in
+    let o = bind_ok (in_order f r (is_default shape.kind r g.0))
+    (λ place. accepted Facts (record f { regs = set f.regs r g.0; least = r + 1 })) more g.2 in
     let is = ordered f r o.0 (is_default shape.kind r g.0) o.1 in
-    Took.Register r g.0 (h r refl) is.0 refl (byte_fits shape value w.0 g.0 w.1 g.1) (sym (ok_same (record f { regs = set f.regs r g.0; least = r + 1 }) more o.2))
+    Took.Register r g.0 (h r refl) is.0 refl (byte_fits shape value w.0 g.0 w.1 g.1)
+    (sym (ok_same (record f { regs = set f.regs r g.0; least = r + 1 }) more o.2))
 
 register_took : (shape : Shape) (cells : List Cell) (f : Facts) (later : List (List ℕ)) (key value : List ℕ) (more : Facts)
     → take_register shape f key value ≡ Ok more → Took shape cells f 114 later more
 unfolding take_register
-register_took shape cells f later key value more e = key_took shape cells f later value (number_below 32 key) more (λ r h. below_limit 32 r key h) e
+register_took shape cells f later key value more e = key_took shape cells f later value (number_below 32 key) more
+    (λ r h. below_limit 32 r key h) e
 
 -- pairs
 
@@ -123,12 +134,14 @@ small_pair : (v : List ℕ) (r : Raw) (p : PairFact) → RawFits pair_forms v r 
     → (bytes_eq v (codes "0") || bytes_eq v (codes "1")) ≡ true
 small_pair v raw.All p h e z = absurd (cc (ap is_zero_or_one (ok_same pair.Any p e), z))
 small_pair v (raw.One n) p h e z =
-    let same : is_zero_or_one (pair.Between (record { lo = n; hi = n })) ≡ true = ap is_zero_or_one (ok_same (pair.Between (record { lo = n; hi = n })) p e) ∙ z in
+    let same : is_zero_or_one (pair.Between (record { lo = n; hi = n })) ≡ true = ap is_zero_or_one
+    (ok_same (pair.Between (record { lo = n; hi = n })) p e) ∙ z in
     let t = and_true (eqb n n) (ltb n 2) same in
     one_pair n (ltb-true n 2 t.1) v (h.1 (omega arith))
 small_pair v (raw.Two lo hi) p h e z =
     let c = chosen_ok (is_ordered 65535 lo hi) why.Order (accepted PairFact (pair.Between (record { lo = lo; hi = hi }))) p e in
-    let same : is_zero_or_one (pair.Between (record { lo = lo; hi = hi })) ≡ true = ap is_zero_or_one (ok_same (pair.Between (record { lo = lo; hi = hi })) p c.1) ∙ z in
+    let same : is_zero_or_one (pair.Between (record { lo = lo; hi = hi })) ≡ true = ap is_zero_or_one
+    (ok_same (pair.Between (record { lo = lo; hi = hi })) p c.1) ∙ z in
     let t = and_true (eqb lo hi) (ltb hi 2) same in
     let o = and_true (ltb lo hi) (not (eqb lo 0 && eqb hi 65535)) c.0 in
     absurd (unordered lo hi o.0 t.0)
@@ -145,22 +158,27 @@ pair_took shape cells f later k value more h z e =
     let p = passed_ok shape.plain why.Word (raw_of pair_forms value >>= (λ raw. pair_of raw >>= (λ fact. pair_set f k fact))) more e in
     let w = bind_ok (raw_of pair_forms value) (λ raw. pair_of raw >>= (λ fact. pair_set f k fact)) more p.1 in
     let g = bind_ok (pair_of w.0) (λ fact. pair_set f k fact) more w.2 in
-    let o = bind_ok (in_order f (32 + k) (is_any_pair g.0)) (λ place. accepted Facts (record f { pairs = set f.pairs k g.0; least = 33 + k })) more g.2 in
+    let o = bind_ok (in_order f (32 + k) (is_any_pair g.0))
+    (λ place. accepted Facts (record f { pairs = set f.pairs k g.0; least = 33 + k })) more g.2 in
     let is = ordered f (32 + k) o.0 (is_any_pair g.0) o.1 in
     let fits = raw_fits pair_forms value w.0 w.1 in
-    Took.Pair k g.0 h is.0 refl (pair_fits pair_forms value w.0 g.0 refl fits g.1) (λ two small. z two (small_pair value w.0 g.0 fits g.1 small))
+    Took.Pair k g.0 h is.0 refl (pair_fits pair_forms value w.0 g.0 refl fits g.1)
+    (λ two small. z two (small_pair value w.0 g.0 fits g.1 small))
     (sym (ok_same (record f { pairs = set f.pairs k g.0; least = 33 + k }) more o.2))
 
 -- flags
 
-flag_took : (shape : Shape) (cells : List Cell) (f : Facts) (first : ℕ) (later : List (List ℕ)) (b : ℕ) (value : List ℕ) (more : Facts) → b < 7
+flag_took : (shape : Shape) (cells : List Cell) (f : Facts) (first : ℕ) (later : List (List ℕ)) (b : ℕ) (value : List ℕ) (more : Facts)
+    → b < 7
     → ((first ≡ 99) ⊎ (first ≡ 122) → b ≤ 1) → take_flag shape f b value ≡ Ok more → Took shape cells f first later more
 unfolding take_flag
 flag_took shape cells f first later b value more h names e =
     let w = bind_ok (bit_of (is_handler shape.kind) value) (λ bit. flag_set shape f b bit) more e in
-    let o = bind_ok (in_order f (35 + b) (is_default_flag shape.kind w.0)) (λ place. accepted Facts (record f { flags = set f.flags b w.0; least = 36 + b })) more w.2 in
+    let o = bind_ok (in_order f (35 + b) (is_default_flag shape.kind w.0))
+    (λ place. accepted Facts (record f { flags = set f.flags b w.0; least = 36 + b })) more w.2 in
     let is = ordered f (35 + b) o.0 (is_default_flag shape.kind w.0) o.1 in
-    Took.Flag b w.0 h (bit_fits shape.kind value w.0 w.1) is.1 names (sym (ok_same (record f { flags = set f.flags b w.0; least = 36 + b }) more o.2))
+    Took.Flag b w.0 h (bit_fits shape.kind value w.0 w.1) is.1 names
+    (sym (ok_same (record f { flags = set f.flags b w.0; least = 36 + b }) more o.2))
 
 -- slots
 
@@ -168,10 +186,12 @@ slot_took : (shape : Shape) (cells : List Cell) (f : Facts) (later : List (List 
     → take_slot shape f value ≡ Ok more → Took shape cells f 115 later more
 unfolding take_slot
 slot_took shape cells f later value more e =
-    let w = bind_ok (raw_of (bytes_forms shape) value) (λ raw. slot_room shape f >>= (λ room. fact_of raw >>= (λ fact. slot_set f fact))) more e in
+    let w = bind_ok (raw_of (bytes_forms shape) value) (λ raw. slot_room shape f >>= (λ room. fact_of raw >>= (λ fact. slot_set f fact)))
+    more e in
     let room = bind_ok (slot_room shape f) (λ room. fact_of w.0 >>= (λ fact. slot_set f fact)) more w.2 in
     let g = bind_ok (fact_of w.0) (λ fact. slot_set f fact) more room.2 in
-    let o = bind_ok (in_order f 42 false) (λ place. accepted Facts (record f { stack = record { items = f.stack.items ++ g.0 ∷ [] }; least = 42 })) more g.2 in
+    let o = bind_ok (in_order f 42 false)
+    (λ place. accepted Facts (record f { stack = record { items = f.stack.items ++ g.0 ∷ [] }; least = 42 })) more g.2 in
     let r = chosen_ok (ltb (length f.stack.items) shape.depth) why.Limit (accepted ℕ 0) room.0 room.1 in
     Took.Slot g.0 refl (byte_fits shape value w.0 g.0 w.1 g.1) (ltb-true (length f.stack.items) shape.depth r.0)
     (sym (ok_same (record f { stack = record { items = f.stack.items ++ g.0 ∷ [] }; least = 42 }) more o.2))
@@ -207,7 +227,8 @@ fact_forms = record { low = 0; limit = 256; top = 255; sloped = true; old = fals
 plain_within : (range : Ends) (v : List ℕ) (r : Raw) (f : Fact) → RawFits (range_forms range) v r → fact_of r ≡ Ok f
     → is_within (span_of_fact f) range ≡ true
 plain_within range v raw.All f h e =
-    subst (λ x. is_within (span_of_fact x) range ≡ true) (ok_same fact.Any f e) (within_is (record { lo = 0; hi = 255 }) range (omega (arith, h.0)) (omega (arith, h.1)))
+    subst (λ x. is_within (span_of_fact x) range ≡ true) (ok_same fact.Any f e) (within_is (record { lo = 0; hi = 255 }) range
+    (omega (arith, h.0)) (omega (arith, h.1)))
 plain_within range v (raw.One n) f h e =
     subst (λ x. is_within (span_of_fact x) range ≡ true) (ok_same (fact.Between (record { lo = n; hi = n })) f e)
     (within_is (record { lo = n; hi = n }) range h.0.low_is (omega (arith, h.0.limit)))
@@ -231,20 +252,24 @@ cell_fits true m v r f few e g =
 cell_fits false m v r f few e g =
     (cell_fact_fits fact_forms v r f (omega arith) refl (raw_fits fact_forms v r e) g, λ plain. absurd (cc plain))
 
-value_took : (shape : Shape) (cells : List Cell) (f : Facts) (later : List (List ℕ)) (o : Option ℕ) (value : List ℕ) (r : Raw) (more : Facts)
+value_took : (shape : Shape) (cells : List Cell) (f : Facts) (later : List (List ℕ)) (o : Option ℕ) (value : List ℕ) (r : Raw)
+    (more : Facts)
     → ((i : ℕ) (m : Cell) → slice_get cells i ≡ Some m → m.range.hi ≤ 255)
-    → raw_of (cell_forms shape (cell_at cells o)) value ≡ Ok r → cell_value shape cells f (cell_at cells o) r ≡ Ok more → Took shape cells f 109 later more
+    → raw_of (cell_forms shape (cell_at cells o)) value ≡ Ok r → cell_value shape cells f (cell_at cells o) r ≡ Ok more → Took shape cells f
+    109 later more
 value_took shape cells f later None value r more few e g = absurd cc
 value_took shape cells f later (Some i) value r more few e g = by (slice_get cells i) refl e g
   where
-    by : (o : Option Cell) → slice_get cells i ≡ o → raw_of (cell_forms shape (with_number i o)) value ≡ Ok r → cell_value shape cells f (with_number i o) r ≡ Ok more
+    by : (o : Option Cell) → slice_get cells i ≡ o → raw_of (cell_forms shape (with_number i o)) value ≡ Ok r → cell_value shape cells f
+        (with_number i o) r ≡ Ok more
         → Took shape cells f 109 later more
     by None there h k = absurd cc
     by (Some m) there h k =
         let t = chosen_ok (tracks shape.kind m.owner) why.Unknown (fact_of r >>= (λ fact. cell_set shape cells f i m.range fact)) more k in
         let v = bind_ok (fact_of r) (λ fact. cell_set shape cells f i m.range fact) more t.1 in
         let place = tracked_before shape.kind i cells in
-        let o = bind_ok (in_order f (43 + i) (is_range m.range v.0)) (λ p. accepted Facts (record f { cells = record { items = set f.cells.items place v.0 }; least = 44 + i })) more v.2 in
+        let o = bind_ok (in_order f (43 + i) (is_range m.range v.0))
+        (λ p. accepted Facts (record f { cells = record { items = set f.cells.items place v.0 }; least = 44 + i })) more v.2 in
         Took.OfCell i m v.0 refl there t.0 (cell_fits shape.plain m value r v.0 (few i m there) h v.1)
         (sym (ok_same (record f { cells = record { items = set f.cells.items place v.0 }; least = 44 + i }) more o.2))
 
@@ -257,7 +282,8 @@ cell_took shape cells f later key value more few e =
     let read = numbered (is_numeral key) (raw_of (cell_forms shape (cell_at cells number)) value) in
     let t = chosen_ok (digits key) why.Word (read >>= (λ raw. cell_value shape cells f (cell_at cells number) raw)) more e in
     let w = bind_ok read (λ raw. cell_value shape cells f (cell_at cells number) raw) more t.1 in
-    value_took shape cells f later number value w.0 more few (numbered_ok (is_numeral key) (raw_of (cell_forms shape (cell_at cells number)) value) w.0 w.1) w.2
+    value_took shape cells f later number value w.0 more few
+    (numbered_ok (is_numeral key) (raw_of (cell_forms shape (cell_at cells number)) value) w.0 w.1) w.2
 
 -- successors
 
@@ -274,22 +300,27 @@ successor_took : (shape : Shape) (cells : List Cell) (f : Facts) (later : List (
 unfolding take_successor
 successor_took shape cells f later id more e =
     let set_it = successor_set f (number_below shape.points id) in
-    let a = passed_ok (shape.plain || not (digits id)) why.Word (cond (not (is_numeral id)) (Err why.Number) (cond (ltb (length f.next.items) 16) set_it (Err why.Limit))) more e in
+    let a = passed_ok (shape.plain || not (digits id)) why.Word
+    (cond (not (is_numeral id)) (Err why.Number) (cond (ltb (length f.next.items) 16) set_it (Err why.Limit))) more e in
     let b = passed_ok (not (is_numeral id)) why.Number (cond (ltb (length f.next.items) 16) set_it (Err why.Limit)) more a.1 in
     let c = chosen_ok (ltb (length f.next.items) 16) why.Limit set_it more b.1 in
-    id_took shape cells f later (number_below shape.points id) more (ltb-true (length f.next.items) 16 c.0) (λ n h. below_limit shape.points n id h) c.1
+    id_took shape cells f later (number_below shape.points id) more (ltb-true (length f.next.items) 16 c.0)
+    (λ n h. below_limit shape.points n id h) c.1
 
 -- any item
 
-either_way : {A : Type 0} (P : Type 0) (t : Bool) (x y : Result A CertWhy) (a : A) → (t ≡ true → x ≡ Ok a → P) → (t ≡ false → y ≡ Ok a → P) → cond t x y ≡ Ok a → P
+either_way : {A : Type 0} (P : Type 0) (t : Bool) (x y : Result A CertWhy) (a : A) → (t ≡ true → x ≡ Ok a → P) → (t ≡ false → y ≡ Ok a → P)
+    → cond t x y ≡ Ok a → P
 either_way P true x y a h k e = h refl e
 either_way P false x y a h k e = k refl e
 
-first_is : (shape : Shape) (cells : List Cell) (f : Facts) (first letter : ℕ) (later : List (List ℕ)) (more : Facts) → eqb first letter ≡ true
+first_is : (shape : Shape) (cells : List Cell) (f : Facts) (first letter : ℕ) (later : List (List ℕ)) (more : Facts)
+    → eqb first letter ≡ true
     → Took shape cells f letter later more → Took shape cells f first later more
 first_is shape cells f first letter later more e t = subst (λ n. Took shape cells f n later more) (sym (eqb-true first letter e)) t
 
-no_flag_letter : (first letter b : ℕ) → eqb first letter ≡ true → (letter ≡ 99 → ⊥) → (letter ≡ 122 → ⊥) → (first ≡ 99) ⊎ (first ≡ 122) → b ≤ 1
+no_flag_letter : (first letter b : ℕ) → eqb first letter ≡ true → (letter ≡ 99 → ⊥) → (letter ≡ 122 → ⊥) → (first ≡ 99) ⊎ (first ≡ 122)
+    → b ≤ 1
 no_flag_letter first letter b e h k (inl c) = absurd (h (sym (eqb-true first letter e) ∙ c))
 no_flag_letter first letter b e h k (inr z) = absurd (k (sym (eqb-true first letter e) ∙ z))
 
@@ -306,9 +337,11 @@ unfolding take_letter
 letter_took shape cells f first value later more e =
     let P = Took shape cells f first later more in
     either_way P (eqb first 120) _ _ more
-    (λ t h. first_is shape cells f first 120 later more t (pair_took shape cells f later 0 value more (omega arith) (λ two _. absurd (omega (arith, two))) h))
+    (λ t h. first_is shape cells f first 120 later more t (pair_took shape cells f later 0 value more (omega arith)
+    (λ two _. absurd (omega (arith, two))) h))
     (λ _. either_way P (eqb first 121) _ _ more
-    (λ t h. first_is shape cells f first 121 later more t (pair_took shape cells f later 1 value more (omega arith) (λ two _. absurd (omega (arith, two))) h))
+    (λ t h. first_is shape cells f first 121 later more t (pair_took shape cells f later 1 value more (omega arith)
+    (λ two _. absurd (omega (arith, two))) h))
     (λ _. either_way P (eqb first 122) _ _ more
     (λ t h. either_way P (is_flag_z shape f value later) (take_flag shape f 1 value) (take_pair shape f 2 value) more
     (λ _ k. flag_took shape cells f first later 1 value more (omega arith) (λ _. omega arith) k)
@@ -318,15 +351,20 @@ letter_took shape cells f first value later more e =
     (λ _. either_way P (eqb first 99) _ _ more
     (λ t h. flag_took shape cells f first later 0 value more (omega arith) (λ _. omega arith) h)
     (λ _. either_way P (eqb first 110) _ _ more
-    (λ t h. flag_took shape cells f first later 2 value more (omega arith) (no_flag_letter first 110 2 t (λ x. omega (arith, x)) (λ x. omega (arith, x))) h)
+    (λ t h. flag_took shape cells f first later 2 value more (omega arith) (no_flag_letter first 110 2 t (λ x. omega (arith, x))
+    (λ x. omega (arith, x))) h)
     (λ _. either_way P (eqb first 118) _ _ more
-    (λ t h. flag_took shape cells f first later 3 value more (omega arith) (no_flag_letter first 118 3 t (λ x. omega (arith, x)) (λ x. omega (arith, x))) h)
+    (λ t h. flag_took shape cells f first later 3 value more (omega arith) (no_flag_letter first 118 3 t (λ x. omega (arith, x))
+    (λ x. omega (arith, x))) h)
     (λ _. either_way P (eqb first 115) _ _ more
-    (λ t h. flag_took shape cells f first later 4 value more (omega arith) (no_flag_letter first 115 4 t (λ x. omega (arith, x)) (λ x. omega (arith, x))) h)
+    (λ t h. flag_took shape cells f first later 4 value more (omega arith) (no_flag_letter first 115 4 t (λ x. omega (arith, x))
+    (λ x. omega (arith, x))) h)
     (λ _. either_way P (eqb first 104) _ _ more
-    (λ t h. flag_took shape cells f first later 5 value more (omega arith) (no_flag_letter first 104 5 t (λ x. omega (arith, x)) (λ x. omega (arith, x))) h)
+    (λ t h. flag_took shape cells f first later 5 value more (omega arith) (no_flag_letter first 104 5 t (λ x. omega (arith, x))
+    (λ x. omega (arith, x))) h)
     (λ _. either_way P (eqb first 116) _ _ more
-    (λ t h. flag_took shape cells f first later 6 value more (omega arith) (no_flag_letter first 116 6 t (λ x. omega (arith, x)) (λ x. omega (arith, x))) h)
+    (λ t h. flag_took shape cells f first later 6 value more (omega arith) (no_flag_letter first 116 6 t (λ x. omega (arith, x))
+    (λ x. omega (arith, x))) h)
     (λ _ h. absurd cc))))))))) e
 
 keyed_took : (shape : Shape) (cells : List Cell) (f : Facts) (key value : List ℕ) (later : List (List ℕ)) (first : ℕ) (more : Facts)
@@ -343,7 +381,8 @@ keyed_took shape cells f (c ∷ cs) value later first more few same e =
     (λ t h. letter_took shape cells f c value later more h)
     (λ _ h. absurd cc))) e)
 
-first_kept : (b c : ℕ) (cs : List ℕ) (o : Option (List ℕ × List ℕ)) (p : List ℕ × List ℕ) → cut_behind (b ∷ []) o ≡ Some p → p.0 ≡ c ∷ cs → c ≡ b
+first_kept : (b c : ℕ) (cs : List ℕ) (o : Option (List ℕ × List ℕ)) (p : List ℕ × List ℕ) → cut_behind (b ∷ []) o ≡ Some p → p.0 ≡ c ∷ cs
+    → c ≡ b
 first_kept b c cs None p e h = absurd cc
 first_kept b c cs (Some q) p e h =
     let same : ((b ∷ []) ++ q.0, q.1) ≡ p = some_same ((b ∷ []) ++ q.0, q.1) p e in
@@ -375,7 +414,8 @@ named_took : (shape : Shape) (cells : List Cell) (f : Facts) (b : ℕ) (bs : Lis
 unfolding take_named
 named_took shape cells f b bs later more few e = by (cut_at 61 (b ∷ bs)) refl e
   where
-    by : (o : Option (List ℕ × List ℕ)) → cut_at 61 (b ∷ bs) ≡ o → take_cut shape cells f o later ≡ Ok more → Took shape cells f b later more
+    by : (o : Option (List ℕ × List ℕ)) → cut_at 61 (b ∷ bs) ≡ o → take_cut shape cells f o later ≡ Ok more → Took shape cells f b later
+        more
     by None is h = absurd cc
     by (Some p) is h = keyed_took shape cells f p.0 p.1 later b more few (λ c cs k. first_cut b bs p c cs is k) h
 
@@ -395,10 +435,12 @@ unfolding take_item
 item_took shape cells f b bs later more few e =
     either_way (Took shape cells f b later more) (eqb b 62) (take_successor shape f bs) _ more
     (λ t h. first_is shape cells f b 62 later more t (successor_took shape cells f later bs more h))
-    (λ _. either_way (Took shape cells f b later more) (eqb b 115) (take_second shape cells f (b ∷ bs) bs later) (take_named shape cells f (b ∷ bs) later) more
+    (λ _. either_way (Took shape cells f b later more) (eqb b 115) (take_second shape cells f (b ∷ bs) bs later)
+    (take_named shape cells f (b ∷ bs) later) more
     (λ t h. second_took shape cells f b bs bs later more few t h)
     (λ _ h. named_took shape cells f b bs later more few h)) e
 
-pub no_word : (shape : Shape) (cells : List Cell) (f : Facts) (later : List (List ℕ)) (more : Facts) → take_item shape cells f [] later ≡ Ok more → ⊥
+pub no_word : (shape : Shape) (cells : List Cell) (f : Facts) (later : List (List ℕ)) (more : Facts) → take_item shape cells f [] later ≡ Ok
+    more → ⊥
 unfolding take_item
 no_word shape cells f later more e = absurd cc

@@ -1,5 +1,6 @@
 -- Each line that is within limits where it is due keeps what is read so far within limits.
-use Rattle.std.proofs.Common.{◌≡◌, ◌⊎◌, inl, inr, ℕ, suc, ◌+◌, ◌-◌, ◌*◌, ◌<◌, ◌≤◌, Bool, true, false, ◌&&◌, cond, eqb, leb, List, [], ◌∷◌, ◌++◌, length, map, replicate, All, refl, sym, ◌∙◌, ap, subst, arith, length-append}
+use Rattle.std.proofs.Common.{◌≡◌, ◌⊎◌, inl, inr, ℕ, suc, ◌+◌, ◌-◌, ◌*◌, ◌<◌, ◌≤◌, Bool, true, false, ◌&&◌, cond, eqb, leb, List, [], ◌∷◌}
+use Rattle.std.proofs.Common.{◌++◌, length, map, replicate, All, refl, sym, ◌∙◌, ap, subst, arith, length-append}
 use Rattle.std.specs.Prelude.{Option, None, Some, IsTrue, IfSome, sum_by}
 use Rattle.std.proofs.lemmas.Bool.{leb-true, le-leb, eqb-true, eqb-false}
 use Rattle.std.proofs.lemmas.Nat.{mul-le}
@@ -20,7 +21,8 @@ use Rattle.uz_lines.specs.declared.lines.StackLine.{StackLine}
 use Rattle.uz_lines.specs.declared.lines.Said.{Said}
 use Rattle.uz_lines.specs.declared.lines.Said.TheVariants as said
 use Rattle.uz_cert.specs.Drafts.{first_draft, with_said, draft_after}
-use Rattle.uz_cert.specs.Kept.{SizesFit, least_after, CellsKept, EventsKept, KindsKept, LinesKept, RestsKept, PointsKept, NoStates, NoSchedule, Kept}
+use Rattle.uz_cert.specs.Kept.{SizesFit, least_after, CellsKept, EventsKept, KindsKept, LinesKept, RestsKept, PointsKept, NoStates}
+use Rattle.uz_cert.specs.Kept.{NoSchedule, Kept}
 use Rattle.uz_cert.specs.Kept.{CellSaid, KindSaid, EventSaid, RunSaid, RestSaid, EntrySaid, PointSaid, SaidFits}
 use Rattle.uz_cert.specs.declared.draft.Draft.{Draft}
 
@@ -37,7 +39,8 @@ and_both : (a b : Bool) → (a && b) ≡ true → (a ≡ true) × (b ≡ true)
 and_both true b e = (refl, e)
 and_both false b e = absurd cc
 
-pub rises_push : (least : ℕ) (xs : List ℕ) (x : ℕ) → rises_from least xs ≡ true → least_after least xs ≤ x → rises_from least (xs ++ x ∷ []) ≡ true
+pub rises_push : (least : ℕ) (xs : List ℕ) (x : ℕ) → rises_from least xs ≡ true → least_after least xs ≤ x → rises_from least
+    (xs ++ x ∷ []) ≡ true
 rises_push least [] x h o = and_is (leb least x) true (le-leb least x o) refl
 rises_push least (y ∷ ys) x h o =
     let both = and_both (leb least y) (rises_from (y + 1) ys) h in
@@ -48,7 +51,8 @@ least_push least [] x = refl
 least_push least (y ∷ ys) x = least_push (y + 1) ys x
 
 -- the same of what elements have
-rise_more : {A : Type 0} (f : A → ℕ) (xs : List A) (x : A) (least : ℕ) → rises (map f xs) ≡ true → least ≡ least_after 0 (map f xs) → least ≤ f x
+rise_more : {A : Type 0} (f : A → ℕ) (xs : List A) (x : A) (least : ℕ) → rises (map f xs) ≡ true → least ≡ least_after 0 (map f xs)
+    → least ≤ f x
     → rises (map f (xs ++ x ∷ [])) ≡ true
 rise_more f xs x least h l o =
     subst (λ ys. rises ys ≡ true) (sym (map-append f xs (x ∷ []))) (rises_push 0 (map f xs) (f x) h (subst (λ n. n ≤ f x) l o))
@@ -58,7 +62,8 @@ least_more f xs x = sym (ap (least_after 0) (map-append f xs (x ∷ [])) ∙ lea
 
 -- nothing so far
 
-no_cells : (h : Head) (count least : ℕ) → h.cells.items ≡ [] → least ≡ least_after 0 (map (λ c. c.at) h.cells.items) → CellsKept h count least
+no_cells : (h : Head) (count least : ℕ) → h.cells.items ≡ [] → least ≡ least_after 0 (map (λ c. c.at) h.cells.items) → CellsKept h count
+    least
 no_cells h count least e l = record {
   few = subst (λ cs. length cs ≤ count) (sym e) (omega arith);
   each = subst (All (CellFits h)) (sym e) (All-nil (CellFits h));
@@ -79,7 +84,8 @@ no_lines lines kinds count e = record {
   there = subst (All (λ kind. kind < kinds)) (sym e) (All-nil (λ kind. kind < kinds));
 }
 
-no_rests : (h : Head) (s : Sizes) (rests : List Rest) (least : ℕ) → rests ≡ [] → least ≡ least_after 0 (map (λ r. r.line) rests) → RestsKept h s rests least
+no_rests : (h : Head) (s : Sizes) (rests : List Rest) (least : ℕ) → rests ≡ [] → least ≡ least_after 0 (map (λ r. r.line) rests)
+    → RestsKept h s rests least
 no_rests h s rests least e l = record {
   few = subst (λ rs. length rs ≤ s.rests) (sym e) (omega arith);
   each = subst (All (RestFits h s.lines s.points)) (sym e) (All-nil (RestFits h s.lines s.points));
@@ -90,7 +96,8 @@ no_rests h s rests least e l = record {
 no_entry : (h : Head) (s : Sizes) (entry : Option Entry) → entry ≡ None → IfSome entry (EntryFits h s.lines s.points)
 no_entry h s entry e = subst (λ o. IfSome o (EntryFits h s.lines s.points)) (sym e) tt
 
-no_points : (h : Head) (s : Sizes) (points : List Point) (left : ℕ) → points ≡ [] → left + sum_by instances_of points ≡ 16777216 → PointsKept h s points left
+no_points : (h : Head) (s : Sizes) (points : List Point) (left : ℕ) → points ≡ [] → left + sum_by instances_of points ≡ 16777216
+    → PointsKept h s points left
 no_points h s points left e l = record {
   few = subst (λ ps. length ps ≤ s.points) (sym e) (omega arith);
   each = subst (All (PointFits h s.lines s.points)) (sym e) (All-nil (PointFits h s.lines s.points));
@@ -102,8 +109,24 @@ no_points h s points left e l = record {
 pub first_kept : Kept first_draft
 first_kept = record {
   begun = omega arith;
-  sizes = record { kinds_some = omega arith; kinds_few = omega arith; lines_some = omega arith; lines_few = omega arith; rests_few = omega arith; points_some = omega arith; points_few = omega arith; cells_few = omega arith };
-  stack = record { low = omega arith; order = omega arith; high = omega arith; main = omega arith; handler = omega arith; room = omega arith };
+  sizes = record {
+    kinds_some = omega arith;
+    kinds_few = omega arith;
+    lines_some = omega arith;
+    lines_few = omega arith;
+    rests_few = omega arith;
+    points_some = omega arith;
+    points_few = omega arith;
+    cells_few = omega arith;
+  };
+  stack = record {
+    low = omega arith;
+    order = omega arith;
+    high = omega arith;
+    main = omega arith;
+    handler = omega arith;
+    room = omega arith;
+  };
   cells = no_cells first_draft.head 0 0 refl refl;
   events = record { few = omega arith; each = All-nil EventFits; rise = refl; least_is = refl; present = λ _. refl };
   kinds = no_kinds [] 1 0 refl refl;
@@ -161,7 +184,14 @@ irq_kept d r k o =
     record {
       begun = omega arith;
       sizes = k.sizes;
-      stack = record { low = k.stack.low; order = k.stack.order; high = k.stack.high; main = k.stack.main; handler = k.stack.handler; room = k.stack.room };
+      stack = record {
+        low = k.stack.low;
+        order = k.stack.order;
+        high = k.stack.high;
+        main = k.stack.main;
+        handler = k.stack.handler;
+        room = k.stack.room;
+      };
       cells = no_cells h d.sizes.cells d.cell_least empty.cells k.cells.least_is;
       events = k.events;
       kinds = k.kinds;
@@ -221,7 +251,14 @@ cell_kept d c k f =
     record {
       begun = omega arith;
       sizes = k.sizes;
-      stack = record { low = k.stack.low; order = k.stack.order; high = k.stack.high; main = k.stack.main; handler = k.stack.handler; room = k.stack.room };
+      stack = record {
+        low = k.stack.low;
+        order = k.stack.order;
+        high = k.stack.high;
+        main = k.stack.main;
+        handler = k.stack.handler;
+        room = k.stack.room;
+      };
       cells = cells_more d.head c d.sizes.cells d.cell_least k.cells f.room f.fits f.order;
       events = k.events;
       kinds = k.kinds;
@@ -257,10 +294,12 @@ kind_kept d n k f =
       entry = k.entry;
       points = k.points;
       opening = past_opening d.read f.body;
-      early = still_early d.read (length d.head.cells.items) d.sizes.cells f.body (λ h. let n = k.early h in record { rests = n.rests; entry = n.entry; points = n.points });
+      early = still_early d.read (length d.head.cells.items) d.sizes.cells f.body (λ h. let n = k.early h in
+          record { rests = n.rests; entry = n.entry; points = n.points });
     }
 
-event_more : (d : Draft) (e : Event) → Kept d → EventSaid d e → (last : Bool) → eqb (d.owed - 1) 0 ≡ last → Kept (draft_after d (said.Event e))
+event_more : (d : Draft) (e : Event) → Kept d → EventSaid d e → (last : Bool) → eqb (d.owed - 1) 0 ≡ last
+    → Kept (draft_after d (said.Event e))
 unfolding draft_after
 event_more d e k f true is =
     let one : d.owed - 1 ≡ 0 = eqb-true (d.owed - 1) 0 is in
@@ -294,7 +333,8 @@ event_more d e k f true is =
       entry = k.entry;
       points = k.points;
       opening = past_opening d.read f.body;
-      early = still_early d.read (length d.head.cells.items) d.sizes.cells f.body (λ h. let n = k.early h in record { rests = n.rests; entry = n.entry; points = n.points });
+      early = still_early d.read (length d.head.cells.items) d.sizes.cells f.body (λ h. let n = k.early h in
+          record { rests = n.rests; entry = n.entry; points = n.points });
     } in
     rw is more
 event_more d e k f false is =
@@ -324,7 +364,8 @@ event_more d e k f false is =
       entry = k.entry;
       points = k.points;
       opening = past_opening d.read f.body;
-      early = still_early d.read (length d.head.cells.items) d.sizes.cells f.body (λ h. let n = k.early h in record { rests = n.rests; entry = n.entry; points = n.points });
+      early = still_early d.read (length d.head.cells.items) d.sizes.cells f.body (λ h. let n = k.early h in
+          record { rests = n.rests; entry = n.entry; points = n.points });
     } in
     rw is more
 
@@ -343,10 +384,12 @@ fall_kept d clock k body low = record {
   entry = k.entry;
   points = k.points;
   opening = past_opening d.read body;
-  early = still_early d.read (length d.head.cells.items) d.sizes.cells body (λ h. let n = k.early h in record { rests = n.rests; entry = n.entry; points = n.points });
+  early = still_early d.read (length d.head.cells.items) d.sizes.cells body (λ h. let n = k.early h in
+      record { rests = n.rests; entry = n.entry; points = n.points });
 }
 
-run_kept : (d : Draft) (count kind : ℕ) → Kept d → RunSaid d count kind → Kept (draft_after d (said.Run (record { count = count; kind = kind })))
+run_kept : (d : Draft) (count kind : ℕ) → Kept d → RunSaid d count kind
+    → Kept (draft_after d (said.Run (record { count = count; kind = kind })))
 unfolding draft_after
 run_kept d count kind k f = record {
   begun = omega arith;
@@ -358,13 +401,15 @@ run_kept d count kind k f = record {
   fall = k.fall;
   lines = record {
     few = simp (length-append, length-replicate) f.few;
-    there = All-append (λ n. n < d.sizes.kinds) d.lines (replicate count kind) k.lines.there (All-replicate (λ n. n < d.sizes.kinds) count kind f.there);
+    there = All-append (λ n. n < d.sizes.kinds) d.lines (replicate count kind) k.lines.there
+        (All-replicate (λ n. n < d.sizes.kinds) count kind f.there);
   };
   rests = k.rests;
   entry = k.entry;
   points = k.points;
   opening = past_opening d.read f.body;
-  early = still_early d.read (length d.head.cells.items) d.sizes.cells f.body (λ h. let n = k.early h in record { rests = n.rests; entry = n.entry; points = n.points });
+  early = still_early d.read (length d.head.cells.items) d.sizes.cells f.body (λ h. let n = k.early h in
+      record { rests = n.rests; entry = n.entry; points = n.points });
 }
 
 rest_kept : (d : Draft) (r : Rest) → Kept d → RestSaid d r → Kept (draft_after d (said.Rest r))
@@ -426,7 +471,8 @@ point_kept d p k f =
       points = record {
         few = simp length-append (omega (arith, f.room));
         each = All-push (PointFits d.head d.sizes.lines d.sizes.points) d.points p k.points.each f.fits;
-        instances = less_left d.left (instances_of p) (sum_by instances_of d.points) (sum_by instances_of (d.points ++ p ∷ [])) sum f.instances (sum_by_push instances_of d.points p);
+        instances = less_left d.left (instances_of p) (sum_by instances_of d.points) (sum_by instances_of (d.points ++ p ∷ [])) sum
+            f.instances (sum_by_push instances_of d.points p);
       };
       opening = past_opening d.read f.after.body;
       early = never_early d.read (length d.head.cells.items) d.sizes.cells f.after.body f.after.cells;
@@ -450,7 +496,8 @@ end_kept d k body = record {
   entry = k.entry;
   points = k.points;
   opening = past_opening d.read body;
-  early = still_early d.read (length d.head.cells.items) d.sizes.cells body (λ h. let n = k.early h in record { rests = n.rests; entry = n.entry; points = n.points });
+  early = still_early d.read (length d.head.cells.items) d.sizes.cells body (λ h. let n = k.early h in
+      record { rests = n.rests; entry = n.entry; points = n.points });
 }
 
 pub kept_after : (d : Draft) (s : Said) → Kept d → SaidFits d s → Kept (draft_after d s)

@@ -27,7 +27,8 @@ items_ended shape cells ended f (w ∷ ws) said e =
     let m = bind_ok (take_item shape cells f w ws) (λ more. items_from shape cells ended more ws) said e in
     items_ended shape cells ended m.0 ws said m.2
 
-all_items_ended : (shape : Shape) (cells : List Cell) (words : Words) (said : Facts) → read_items shape cells words ≡ Ok said → words.ended ≡ true
+all_items_ended : (shape : Shape) (cells : List Cell) (words : Words) (said : Facts) → read_items shape cells words ≡ Ok said
+    → words.ended ≡ true
 unfolding read_items
 all_items_ended shape cells words said e = items_ended shape cells words.ended (first_facts shape.kind cells) words.list said e
 
@@ -35,7 +36,8 @@ spans_ended : (cells : List Cell) (words : Words) (p : List Ends × Words) → s
 spans_ended [] words p e = sym (ap (λ q. q.1.ended) (ok_same ([], words) p e))
 spans_ended (m ∷ ms) words p e = by (tracks Handler m.owner) e (λ rest q g. spans_ended ms rest q g)
   where
-    by : (t : Bool) → cond t (next_as (span_of m.range) words >>= (λ x. with_span x (spans_of ms (rest_of words)))) (spans_of ms words) ≡ Ok p
+    by : (t : Bool) → cond t (next_as (span_of m.range) words >>= (λ x. with_span x (spans_of ms (rest_of words)))) (spans_of ms words) ≡ Ok
+        p
         → ((rest : Words) (q : List Ends × Words) → spans_of ms rest ≡ Ok q → q.1.ended ≡ rest.ended) → p.1.ended ≡ words.ended
     by false g later = later words p g
     by true g later =

@@ -1,5 +1,6 @@
 -- What a number is that was read as asked.
-use Rattle.std.proofs.Common.{◌≡◌, ◌⊎◌, inl, inr, ℕ, zero, suc, ◌+◌, ◌<◌, ◌≤◌, Bool, true, false, ◌&&◌, not, cond, eqb, leb, ltb, List, [], ◌∷◌, refl, sym, ◌∙◌, ap, subst, arith}
+use Rattle.std.proofs.Common.{◌≡◌, ◌⊎◌, inl, inr, ℕ, zero, suc, ◌+◌, ◌<◌, ◌≤◌, Bool, true, false, ◌&&◌, not, cond, eqb, leb, ltb, List, []}
+use Rattle.std.proofs.Common.{◌∷◌, refl, sym, ◌∙◌, ap, subst, arith}
 use Rattle.std.specs.Prelude.{Option, Some, None, Result, Ok, Err, ◌^◌, decimal, ℤ, pos, negsuc, neg_ℤ}
 use Rattle.std.proofs.lemmas.Bool.{leb-true, ltb-true, leb-false, ltb-false}
 use Rattle.uz_text.proofs.NumberWords.{number_read}
@@ -83,7 +84,8 @@ out_of_hole n from to false t p q e = inl (leb-false from n p)
 
 asked_fits : (a : Asked) (m n : ℕ) → (a.low ≤ m) × (m < a.limit) → asked a m ≡ Ok n → NumberFits a n
 asked_fits a m n b e =
-    let p = passed_ok (leb a.hole m && ltb m a.hole_end) why.Limit (cond (leb a.least m && not (eqb m a.other)) (Ok m) (Err why.Order)) n e in
+    let p = passed_ok (leb a.hole m && ltb m a.hole_end) why.Limit (cond (leb a.least m && not (eqb m a.other)) (Ok m) (Err why.Order)) n
+    e in
     let q = chosen_ok (leb a.least m && not (eqb m a.other)) why.Order (Ok m) n p.1 in
     let o = and_true (leb a.least m) (not (eqb m a.other)) q.0 in
     subst (NumberFits a) (ok_same m n q.1) (record {
@@ -105,7 +107,8 @@ number_fits a w n e = option_fits a (is_numeral w) (number_within a.low a.limit 
 
 -- slopes
 
-signed_fits : (limit : ℕ) (numeral : Bool) (o : Option ℕ) (z : ℤ) → ((m : ℕ) → o ≡ Some m → m < limit) → signed_or numeral o ≡ Ok z → magnitude z < limit
+signed_fits : (limit : ℕ) (numeral : Bool) (o : Option ℕ) (z : ℤ) → ((m : ℕ) → o ≡ Some m → m < limit) → signed_or numeral o ≡ Ok z
+    → magnitude z < limit
 signed_fits limit numeral (Some m) z h e =
     let p = passed_ok (eqb m 0) why.Number (Ok (neg_ℤ (pos m))) z e in
     subst (λ y. magnitude y < limit) (ok_same (neg_ℤ (pos m)) z p.1) (negated m (h m refl))
@@ -116,7 +119,8 @@ signed_fits limit numeral (Some m) z h e =
 signed_fits limit true None z h e = absurd cc
 signed_fits limit false None z h e = absurd cc
 
-unsigned_fits : (limit : ℕ) (numeral : Bool) (o : Option ℕ) (z : ℤ) → ((m : ℕ) → o ≡ Some m → m < limit) → unsigned_or numeral o ≡ Ok z → magnitude z < limit
+unsigned_fits : (limit : ℕ) (numeral : Bool) (o : Option ℕ) (z : ℤ) → ((m : ℕ) → o ≡ Some m → m < limit) → unsigned_or numeral o ≡ Ok z
+    → magnitude z < limit
 unsigned_fits limit numeral (Some m) z h e = subst (λ y. magnitude y < limit) (ok_same (pos m) z e) (h m refl)
 unsigned_fits limit true None z h e = absurd cc
 unsigned_fits limit false None z h e = absurd cc
@@ -130,6 +134,7 @@ pub slope_fits : (limit : ℕ) (w : List ℕ) (z : ℤ) → slope_of limit w ≡
 unfolding slope_of
 slope_fits limit [] z e = absurd cc
 slope_fits limit (c ∷ cs) z e =
-    either_fits limit (eqb c 45) (signed_or (is_numeral cs) (number_below limit cs)) (unsigned_or (is_numeral (c ∷ cs)) (number_below limit (c ∷ cs))) z
+    either_fits limit (eqb c 45) (signed_or (is_numeral cs) (number_below limit cs))
+    (unsigned_or (is_numeral (c ∷ cs)) (number_below limit (c ∷ cs))) z
     (signed_fits limit (is_numeral cs) (number_below limit cs) z (λ m h. below_limit limit m cs h))
     (unsigned_fits limit (is_numeral (c ∷ cs)) (number_below limit (c ∷ cs)) z (λ m h. below_limit limit m (c ∷ cs) h)) e

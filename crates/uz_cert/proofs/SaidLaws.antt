@@ -1,5 +1,6 @@
 -- What a line says where it is due is within limits.
-use Rattle.std.proofs.Common.{◌≡◌, ◌≢◌, ◌⊎◌, inl, inr, ℕ, zero, suc, ◌+◌, ◌-◌, ◌*◌, ◌/◌, ◌<◌, ◌≤◌, Bool, true, false, ◌&&◌, cond, eqb, ltb, List, [], ◌∷◌, length, map, All, refl, sym, ◌∙◌, ap, subst, arith}
+use Rattle.std.proofs.Common.{◌≡◌, ◌≢◌, ◌⊎◌, inl, inr, ℕ, zero, suc, ◌+◌, ◌-◌, ◌*◌, ◌/◌, ◌<◌, ◌≤◌, Bool, true, false, ◌&&◌, cond, eqb, ltb}
+use Rattle.std.proofs.Common.{List, [], ◌∷◌, length, map, All, refl, sym, ◌∙◌, ap, subst, arith}
 use Rattle.std.specs.Prelude.{Option, Some, Result, Ok, ℤ, pos, negsuc, filter}
 use Rattle.std.proofs.Math.Nat.{mul-div-le}
 use Rattle.std.proofs.lemmas.Nat.{mul-le}
@@ -9,7 +10,9 @@ use Rattle.std.proofs.lemmas.List.Elements.{All-nil, All-cons, All-head, All-tai
 use Rattle.uz_schedule.specs.Ends.{Ends}
 use Rattle.uz_schedule.specs.Limits.{clock_limit, EventFits}
 use Rattle.uz_schedule.specs.Tracked.{tracks, tracked, depth_of}
-use Rattle.uz_schedule.specs.WellFormed.{RangeFits, CellFits, StackFits, SpansFit, spans_fit, RestFits, BitFits, FactFits, CellFactFits, EntryKindFits, EntryFactsFit, EntryFits, magnitude, BoxFits, IsAtBegin, PointKindFits, PointFits, instances_of}
+use Rattle.uz_schedule.specs.WellFormed.{RangeFits, CellFits, StackFits, SpansFit, spans_fit, RestFits, BitFits, FactFits, CellFactFits}
+use Rattle.uz_schedule.specs.WellFormed.{EntryKindFits, EntryFactsFit, EntryFits, magnitude, BoxFits, IsAtBegin, PointKindFits, PointFits}
+use Rattle.uz_schedule.specs.WellFormed.{instances_of}
 use Rattle.uz_schedule.specs.declared.kinds.Kind.{Kind}
 use Rattle.uz_schedule.specs.declared.kinds.Kind.TheVariants.{Main, Handler, Alone}
 use Rattle.uz_schedule.specs.declared.header.Cell.{Cell}
@@ -20,13 +23,16 @@ use Rattle.uz_lines.specs.Grammar.{Words}
 use Rattle.uz_schedule.specs.declared.lines.EventKind.{EventKind}
 use Rattle.uz_schedule.specs.declared.lines.EventKind.TheVariants as event
 use Rattle.uz_lines.specs.Forms.{Form, number, finish, reads}
-use Rattle.uz_lines.specs.Lines.{within, one_of, rising, least_of, response_of, owner_of, off_stack, event_after, none_in_main, shape_of, span_of_fact, spans_of_facts, entry_of, entry_kind, point_kind, pending_limit, count_limit, point_of, point_after}
+use Rattle.uz_lines.specs.Lines.{within, one_of, rising, least_of, response_of, owner_of, off_stack, event_after, none_in_main, shape_of}
+use Rattle.uz_lines.specs.Lines.{span_of_fact, spans_of_facts, entry_of, entry_kind, point_kind, pending_limit, count_limit, point_of}
+use Rattle.uz_lines.specs.Lines.{point_after}
 use Rattle.uz_lines.specs.declared.items.Facts.{Facts}
 use Rattle.uz_lines.specs.declared.lines.Said.{Said}
 use Rattle.uz_lines.specs.declared.lines.Said.TheVariants as said
 use Rattle.uz_lines.specs.declared.lines.Sizes.{Sizes}
 use Rattle.uz_cert.specs.Drafts.{due_of, form_of}
-use Rattle.uz_cert.specs.Kept.{SizesFit, CellsKept, Kept, IsAfterCells, CellSaid, EventSaid, RunSaid, RestSaid, EntrySaid, PointSaid, SaidFits}
+use Rattle.uz_cert.specs.Kept.{SizesFit, CellsKept, Kept, IsAfterCells, CellSaid, EventSaid, RunSaid, RestSaid, EntrySaid, PointSaid}
+use Rattle.uz_cert.specs.Kept.{SaidFits}
 use Rattle.uz_cert.specs.declared.due.Due.{Due}
 use Rattle.uz_cert.specs.declared.due.Due.TheVariants as due
 use Rattle.uz_cert.specs.declared.draft.Draft.{Draft}
@@ -127,7 +133,8 @@ event_said d body owed clock c n =
     choose_form (SaidFits d) (eqb n 0) (number (within 0 2) (λ level. event_told clock (event.Sync level)))
     (cond (eqb n 1) (event_told clock event.Pixel) (cond (eqb n 2) (event_told clock event.Sound) (event_told clock event.Leave)))
     (λ level v. record { body = body; owed = owed; fits = record { clock = c.limit; kind = omega (arith, v.limit) }; order = c.least })
-    (choose_form (SaidFits d) (eqb n 1) (event_told clock event.Pixel) (cond (eqb n 2) (event_told clock event.Sound) (event_told clock event.Leave))
+    (choose_form (SaidFits d) (eqb n 1) (event_told clock event.Pixel) (cond (eqb n 2) (event_told clock event.Sound)
+    (event_told clock event.Leave))
     (record { body = body; owed = owed; fits = record { clock = c.limit; kind = tt }; order = c.least })
     (choose_form (SaidFits d) (eqb n 2) (event_told clock event.Sound) (event_told clock event.Leave)
     (record { body = body; owed = owed; fits = record { clock = c.limit; kind = tt }; order = c.least })
@@ -189,10 +196,12 @@ spans_of_cells (m ∷ ms) (f ∷ fs) h =
       within = and_is _ (spans_fit ms (map span_of_fact fs)) plain.1 rest.within;
     }
 
-spans_of_bytes : (h : Head) (kind : Kind) (points : ℕ) (fs : List Fact) → All (ByteFits (shape_of h kind true points)) fs → All (RangeFits 255) (map span_of_fact fs)
+spans_of_bytes : (h : Head) (kind : Kind) (points : ℕ) (fs : List Fact) → All (ByteFits (shape_of h kind true points)) fs
+    → All (RangeFits 255) (map span_of_fact fs)
 spans_of_bytes h kind points fs all =
     All-map (RangeFits 255) span_of_fact fs
-    (All-weaker (ByteFits (shape_of h kind true points)) (λ f. RangeFits 255 (span_of_fact f)) (λ f g. plain_range kind f (g.1 refl) g.0) fs all)
+    (All-weaker (ByteFits (shape_of h kind true points)) (λ f. RangeFits 255 (span_of_fact f)) (λ f g. plain_range kind f (g.1 refl) g.0) fs
+    all)
 
 not_handler : (n : ℕ) → entry_kind n ≢ Handler
 not_handler n = by (eqb n 0)
@@ -206,7 +215,8 @@ in_limit Main n limit some h = omega (arith, some, h)
 in_limit Handler n limit some h = h
 in_limit Alone n limit some h = h
 
-entry_kind_fits : (kind : Kind) (id pc line clock lines : ℕ) (f : Facts) → kind ≢ Handler → line < none_in_main kind lines → clock < none_in_main kind 1820
+entry_kind_fits : (kind : Kind) (id pc line clock lines : ℕ) (f : Facts) → kind ≢ Handler → line < none_in_main kind lines
+    → clock < none_in_main kind 1820
     → EntryKindFits kind (entry_of kind id pc line clock f)
 unfolding entry_of
 entry_kind_fits Main id pc line clock lines f n l c = (omega (arith, l), omega (arith, c))
@@ -226,7 +236,8 @@ entry_facts h kind id pc line clock points f i = record {
   cells = spans_of_cells (cells_of kind h.cells.items) f.cells.items i.tracked;
 }
 
-entry_fits : (h : Head) (kind : Kind) (id pc line clock lines points : ℕ) (f : Facts) → kind ≢ Handler → 1 ≤ lines → id < points → pc < 32768
+entry_fits : (h : Head) (kind : Kind) (id pc line clock lines points : ℕ) (f : Facts) → kind ≢ Handler → 1 ≤ lines → id < points
+    → pc < 32768
     → line < none_in_main kind lines → clock < none_in_main kind 1820 → ItemsFit (shape_of h kind true points) h.cells.items f
     → EntryFits h lines points (entry_of kind id pc line clock f)
 unfolding entry_of
@@ -246,7 +257,8 @@ entry_said d kept after n id i pc p line l clock c = (
   ranges_of d.head d.sizes.cells d.cell_least kept.cells,
   λ f g text. record {
     after = after;
-    fits = entry_fits d.head (entry_kind n) id pc line clock d.sizes.lines d.sizes.points f (not_handler n) kept.sizes.lines_some i.limit p.limit l.limit c.limit g;
+    fits = entry_fits d.head (entry_kind n) id pc line clock d.sizes.lines d.sizes.points f (not_handler n) kept.sizes.lines_some i.limit
+        p.limit l.limit c.limit g;
   },
 )
 
@@ -279,7 +291,8 @@ pub record PointPlace (kind : Kind) (lines left pc l0 l1 c0 c1 clock : ℕ) (ste
   pub wait : pending < pending_limit kind
 
 point_kind_fits : (kind : Kind) (lines left pc l0 l1 c0 c1 clock : ℕ) (steps : ℤ) (pending : ℕ) (f : Facts)
-    → PointPlace kind lines left pc l0 l1 c0 c1 clock steps pending → PointKindFits kind (point_of kind pc l0 l1 c0 c1 clock steps pending f)
+    → PointPlace kind lines left pc l0 l1 c0 c1 clock steps pending → PointKindFits kind (point_of kind pc l0 l1 c0 c1 clock steps pending
+    f)
 unfolding point_of
 point_kind_fits Main lines left pc l0 l1 c0 c1 clock steps pending f p =
     let few = below_both c1 1 (c0 + left / (l1 - l0 + 1)) p.counts in
@@ -355,7 +368,8 @@ box_left lines counts left h =
     omega (arith, most, less)
 
 point_instances : (kind : Kind) (lines left pc l0 l1 c0 c1 clock : ℕ) (steps : ℤ) (pending : ℕ) (f : Facts)
-    → PointPlace kind lines left pc l0 l1 c0 c1 clock steps pending → instances_of (point_of kind pc l0 l1 c0 c1 clock steps pending f) ≤ left
+    → PointPlace kind lines left pc l0 l1 c0 c1 clock steps pending → instances_of (point_of kind pc l0 l1 c0 c1 clock steps pending f)
+    ≤ left
 unfolding point_of
 point_instances kind lines left pc l0 l1 c0 c1 clock steps pending f p =
     let few = below_both c1 (none_in_main kind 256) (c0 + left / (l1 - l0 + 1)) p.counts in
@@ -385,7 +399,8 @@ point_said d kept after room n pc p l0 a l1 b c0 c c1 e clock k steps s pending 
       λ f g text. record {
         after = after;
         room = room;
-        fits = point_fits d.head kind d.sizes.lines d.sizes.points d.left pc l0 l1 c0 c1 clock steps pending f kept.sizes.lines_some place g text;
+        fits = point_fits d.head kind d.sizes.lines d.sizes.points d.left pc l0 l1 c0 c1 clock steps pending f kept.sizes.lines_some place g
+            text;
         instances = point_instances kind d.sizes.lines d.left pc l0 l1 c0 c1 clock steps pending f place;
       },
     )
@@ -410,5 +425,6 @@ due_said d due.Entry k h = entry_said d k h
 due_said d due.Point k h = point_said d k h.0 h.1
 due_said d due.End k h = end_said d h
 
-pub said_fits : (d : Draft) (due : Due) (words : Words) (s : Said) → Kept d → due_of d ≡ Some due → reads (form_of d due) words ≡ Ok s → SaidFits d s
+pub said_fits : (d : Draft) (due : Due) (words : Words) (s : Said) → Kept d → due_of d ≡ Some due → reads (form_of d due) words ≡ Ok s
+    → SaidFits d s
 said_fits d due words s k e r = ensured (SaidFits d) (form_of d due) words s (due_said d due k (is_due d due k.begun e)) r

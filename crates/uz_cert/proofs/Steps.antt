@@ -14,7 +14,8 @@ read_due : (d : Draft) (due : Due) (line : List ℕ) (rest : List (List ℕ)) �
     → read_from d (line ∷ rest) ≡ or_fault (d.read + 1) (line_says d due line (is_more rest)) (λ more. read_from more rest)
 read_due d due line rest e = ap (λ o. read_by o d line rest (λ more. read_from more rest)) e
 
-pub step_on : (d e : Draft) (due : Due) (line : List ℕ) (pieces rest : List (List ℕ)) (ended : Bool) → pieces ≡ line ∷ rest → due_of d ≡ Some due
+pub step_on : (d e : Draft) (due : Due) (line : List ℕ) (pieces rest : List (List ℕ)) (ended : Bool) → pieces ≡ line ∷ rest
+    → due_of d ≡ Some due
     → ended ≡ is_more rest → line_says d due line ended ≡ Ok e → read_from e rest ≡ read_from d pieces
 step_on d e due line pieces rest ended p is more says =
     sym (ap (read_from d) p ∙ (read_due d due line rest is
@@ -26,7 +27,8 @@ step_fault d due line pieces rest ended w p is more says =
     ap (read_from d) p ∙ (read_due d due line rest is
     ∙ ap (λ r. or_fault (d.read + 1) r (λ m. read_from m rest)) (ap (line_says d due line) (sym more) ∙ says))
 
-pub step_end : (d : Draft) (line : List ℕ) (pieces rest : List (List ℕ)) → pieces ≡ line ∷ rest → due_of d ≡ None → read_from d pieces ≡ cert_before d line rest
+pub step_end : (d : Draft) (line : List ℕ) (pieces rest : List (List ℕ)) → pieces ≡ line ∷ rest → due_of d ≡ None
+    → read_from d pieces ≡ cert_before d line rest
 step_end d line pieces rest p is = ap (read_from d) p ∙ ap (λ o. read_by o d line rest (λ more. read_from more rest)) is
 
 abbrev late : Draft → Result Cert Fault

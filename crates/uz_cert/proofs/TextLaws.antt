@@ -1,5 +1,6 @@
 -- What reading gives is what the relation over all lines says, both ways.
-use Rattle.std.proofs.Common.{◌≡◌, ◌≢◌, ◌⊎◌, inl, inr, ℕ, suc, ◌+◌, ◌≤◌, Bool, true, false, cond, List, [], ◌∷◌, ◌++◌, length, bytes_eq, refl, sym, ◌∙◌, ap, subst, arith}
+use Rattle.std.proofs.Common.{◌≡◌, ◌≢◌, ◌⊎◌, inl, inr, ℕ, suc, ◌+◌, ◌≤◌, Bool, true, false, cond, List, [], ◌∷◌, ◌++◌, length, bytes_eq}
+use Rattle.std.proofs.Common.{refl, sym, ◌∙◌, ap, subst, arith}
 use Rattle.std.specs.Prelude.{Option, Some, None, Result, Ok, Err, IfOk, IfErr}
 use Rattle.std.proofs.lemmas.Slice.Eq.{bytes_eq-Decides}
 use Rattle.uz_schedule.specs.declared.states.Entry.{Entry}
@@ -12,8 +13,10 @@ use Rattle.uz_lines.specs.declared.lines.Said.{Said}
 use Rattle.uz_lines.specs.declared.why.CertWhy.{CertWhy}
 use Rattle.uz_lines.specs.declared.why.CertWhy.TheVariants as why
 use Rattle.uz_cert.specs.Drafts.{first_draft, lacks, due_of, form_of, draft_after}
-use Rattle.uz_cert.specs.Reading.{Fault, Gives, IsMemory, pieces_of, is_more, words_in, head_line, head_says, line_says, or_fault, cert_from, cert_with, cert_before, read_by, read_from, read_pieces, cert_of_text}
-use Rattle.uz_cert.specs.Texts.{Adds, Reaches, SpellsCertificate, IsCertificateText, HeadFails, LineFails, FailsAtHead, FailsLater, IsFirstFault}
+use Rattle.uz_cert.specs.Reading.{Fault, Gives, IsMemory, pieces_of, is_more, words_in, head_line, head_says, line_says, or_fault}
+use Rattle.uz_cert.specs.Reading.{cert_from, cert_with, cert_before, read_by, read_from, read_pieces, cert_of_text}
+use Rattle.uz_cert.specs.Texts.{Adds, Reaches, SpellsCertificate, IsCertificateText, HeadFails, LineFails, FailsAtHead, FailsLater}
+use Rattle.uz_cert.specs.Texts.{IsFirstFault}
 use Rattle.uz_cert.specs.declared.due.Due.{Due}
 use Rattle.uz_cert.specs.declared.draft.Draft.{Draft}
 use Rattle.uz_cert.specs.declared.errors.CertError.{CertError}
@@ -102,7 +105,8 @@ pub read_next : (d : Draft) (s : Said) → (draft_after d s).read ≡ d.read + 1
 unfolding draft_after
 read_next d s = refl
 
-adds : (l : LineLaw) (d m : Draft) (due : Due) (line : List ℕ) (rest : List (List ℕ)) → due_of d ≡ Some due → line_says d due line (is_more rest) ≡ Ok m
+adds : (l : LineLaw) (d m : Draft) (due : Due) (line : List ℕ) (rest : List (List ℕ)) → due_of d ≡ Some due → line_says d due line
+    (is_more rest) ≡ Ok m
     → Adds d line m × (is_more rest ≡ true) × (m.read ≡ d.read + 1)
 adds l d m due line rest is e =
     let s = says_ok d m due line (is_more rest) e in
@@ -111,7 +115,8 @@ adds l d m due line rest is e =
         due = due;
         is_due = is;
         said = s.0;
-        allowed = subst (λ t. Allows (form_of d due) (words_in line t) s.0) more (l.read (form_of d due) (words_in line (is_more rest)) s.0 s.1);
+        allowed = subst (λ t. Allows (form_of d due) (words_in line t) s.0) more (l.read (form_of d due) (words_in line (is_more rest)) s.0
+            s.1);
         leads = s.2;
       },
       more,
@@ -144,7 +149,8 @@ with_ok : (d : Draft) (o : Option Entry) (c : Cert) → cert_with d o ≡ told c
 with_ok d None c e = absurd cc
 with_ok d (Some x) c e = (x, refl, sym (same_cert (cert_from d x) c e))
 
-end_ok : (d : Draft) (line : List ℕ) (rest : List (List ℕ)) (c : Cert) → due_of d ≡ None → cert_before d line rest ≡ told c → Ends d (line ∷ rest) c
+end_ok : (d : Draft) (line : List ℕ) (rest : List (List ℕ)) (c : Cert) → due_of d ≡ None → cert_before d line rest ≡ told c
+    → Ends d (line ∷ rest) c
 unfolding cert_before
 end_ok d [] [] c due e =
     let x = with_ok d d.entry c e in
@@ -159,7 +165,8 @@ has_entry (Some e) h = (e, refl)
 not_told : (d : Draft) (e : Entry) (n : ℕ) (w : CertWhy) → told (cert_from d e) ≡ fault n w → ⊥
 not_told d e n w h = cc
 
-end_err : (d : Draft) (line : List ℕ) (rest : List (List ℕ)) (n : ℕ) (w : CertWhy) → 1 ≤ d.read → due_of d ≡ None → cert_before d line rest ≡ fault n w
+end_err : (d : Draft) (line : List ℕ) (rest : List (List ℕ)) (n : ℕ) (w : CertWhy) → 1 ≤ d.read → due_of d ≡ None → cert_before d line
+    rest ≡ fault n w
     → ((line ≢ []) ⊎ (rest ≢ [])) × (w ≡ why.NoEnd) × (n ≡ d.read + 1)
 unfolding cert_before
 end_err d [] [] n w some due e =
@@ -190,7 +197,8 @@ from_ok l d (line ∷ rest) c e = by (due_of d) refl e (λ m h. from_ok l m rest
           is = x.is;
         }
 
-from_err : (l : LineLaw) (d : Draft) (pieces : List (List ℕ)) (n : ℕ) (w : CertWhy) → 1 ≤ d.read → is_more pieces ≡ true → read_from d pieces ≡ fault n w → Fails d pieces n w
+from_err : (l : LineLaw) (d : Draft) (pieces : List (List ℕ)) (n : ℕ) (w : CertWhy) → 1 ≤ d.read → is_more pieces ≡ true
+    → read_from d pieces ≡ fault n w → Fails d pieces n w
 from_err l d [] n w some more e = absurd cc
 from_err l d (line ∷ rest) n w some more e = by (due_of d) refl e (λ m r k h. from_err l m rest n w r k h)
   where
@@ -244,7 +252,8 @@ add_read : (l : LineLaw) (d m : Draft) (line : List ℕ) (rest : List (List ℕ)
 add_read l d m line rest a more =
     ap (λ o. read_by o d line rest (λ x. read_from x rest)) a.is_due
     ∙ (ap (λ r. or_fault (d.read + 1) r (λ x. read_from x rest))
-    (ap (line_says d a.due line) more ∙ ok_says d a.due line true a.said (l.allowed (form_of d a.due) (words_in line true) a.said a.allowed))
+    (ap (line_says d a.due line) more ∙ ok_says d a.due line true a.said (l.allowed (form_of d a.due) (words_in line true) a.said
+    a.allowed))
     ∙ ap (λ x. read_from x rest) (sym a.leads))
 
 more_after : (lines : List (List ℕ)) (piece : List ℕ) (rest : List (List ℕ)) → is_more (lines ++ piece ∷ rest) ≡ true
@@ -273,13 +282,15 @@ whole_read : (d : Draft) (e : Entry) → due_of d ≡ None → d.entry ≡ Some 
 unfolding cert_before
 whole_read d e due is = ap (λ o. read_by o d [] [] (λ more. read_from more [])) due ∙ ap (cert_with d) is
 
-late_fault : (d : Draft) (line : List ℕ) (rest : List (List ℕ)) → (line ≢ []) ⊎ (rest ≢ []) → cert_before d line rest ≡ fault (d.read + 1) why.NoEnd
+late_fault : (d : Draft) (line : List ℕ) (rest : List (List ℕ)) → (line ≢ []) ⊎ (rest ≢ []) → cert_before d line rest ≡ fault (d.read + 1)
+    why.NoEnd
 unfolding cert_before
 late_fault d [] [] h = absurd (elim h [ inl a ↦ a refl | inr b ↦ b refl ])
 late_fault d [] (piece ∷ rest) h = refl
 late_fault d (b ∷ bs) rest h = refl
 
-line_fault : (l : LineLaw) (d : Draft) (line : List ℕ) (rest : List (List ℕ)) (w : CertWhy) (o : Option Due) → due_of d ≡ o → LineFails o d line rest w
+line_fault : (l : LineLaw) (d : Draft) (line : List ℕ) (rest : List (List ℕ)) (w : CertWhy) (o : Option Due) → due_of d ≡ o → LineFails o d
+    line rest w
     → read_from d (line ∷ rest) ≡ fault (d.read + 1) w
 line_fault l d line rest w None is h =
     ap (λ o. read_by o d line rest (λ more. read_from more rest)) is ∙ (late_fault d line rest h.0 ∙ ap (fault (d.read + 1)) (sym h.1))
@@ -319,7 +330,8 @@ text_certificate l text c e = by (pieces_of text) e
         → SpellsCertificate (line ∷ rest) c
     of_head line [] true is h = absurd cc
     of_head line (piece ∷ rest) true is h =
-        subst (λ x. SpellsCertificate (x ∷ piece ∷ rest) c) (sym ((test_head line).0 is)) (of_rest (piece ∷ rest) (from_ok l first_draft (piece ∷ rest) c h))
+        subst (λ x. SpellsCertificate (x ∷ piece ∷ rest) c) (sym ((test_head line).0 is))
+        (of_rest (piece ∷ rest) (from_ok l first_draft (piece ∷ rest) c h))
     of_head line rest false is h = absurd cc
 
     by : (pieces : List (List ℕ)) → read_pieces pieces ≡ told c → SpellsCertificate pieces c
@@ -392,7 +404,8 @@ fault_text l text n w (inr h) =
 
 -- what is answered, by the relation
 
-pub found_text : (l : LineLaw) (text : List ℕ) (result : Result Cert CertError) → Gives result (cert_of_text text) → IfOk result (λ c. IsCertificateText text c)
+pub found_text : (l : LineLaw) (text : List ℕ) (result : Result Cert CertError) → Gives result (cert_of_text text)
+    → IfOk result (λ c. IsCertificateText text c)
 found_text l text (Ok c) g = text_certificate l text c g
 found_text l text (Err e) g = tt
 
@@ -414,7 +427,8 @@ faulty_text l text result g n w s = subst (Gives result) (fault_text l text n w 
 pub decided : (l : LineLaw) (text : List ℕ) → ((c : Cert) × IsCertificateText text c) ⊎ ((n : ℕ) × (w : CertWhy) × IsFirstFault text n w)
 decided l text = by (cert_of_text text) refl
   where
-    by : (r : Result Cert Fault) → cert_of_text text ≡ r → ((c : Cert) × IsCertificateText text c) ⊎ ((n : ℕ) × (w : CertWhy) × IsFirstFault text n w)
+    by : (r : Result Cert Fault) → cert_of_text text ≡ r → ((c : Cert) × IsCertificateText text c)
+        ⊎ ((n : ℕ) × (w : CertWhy) × IsFirstFault text n w)
     by (Ok c) e = inl (c, text_certificate l text c e)
     by (Err f) e = inr (f.0, f.1, text_fault l text f.0 f.1 e)
 

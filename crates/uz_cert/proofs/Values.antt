@@ -1,5 +1,6 @@
 -- What a fact is that was read: within its limits.
-use Rattle.std.proofs.Common.{◌≡◌, ◌⊎◌, inl, inr, ℕ, zero, suc, ◌+◌, ◌<◌, ◌≤◌, Bool, true, false, ◌&&◌, not, cond, eqb, leb, ltb, List, [], ◌∷◌, length, refl, sym, ◌∙◌, ap, subst, arith}
+use Rattle.std.proofs.Common.{◌≡◌, ◌⊎◌, inl, inr, ℕ, zero, suc, ◌+◌, ◌<◌, ◌≤◌, Bool, true, false, ◌&&◌, not, cond, eqb, leb, ltb, List, []}
+use Rattle.std.proofs.Common.{◌∷◌, length, refl, sym, ◌∙◌, ap, subst, arith}
 use Rattle.std.specs.Prelude.{Option, Some, None, Result, Ok, Err, ⊤, ◌^◌, codes, bytes_eq, decimal}
 use Rattle.std.proofs.lemmas.Bool.{leb-true, ltb-true, leb-false, ltb-false, eqb-true, eqb-false}
 use Rattle.uz_text.specs.Cutting.{cut_at}
@@ -15,7 +16,8 @@ use Rattle.uz_schedule.specs.declared.facts.PairFact.TheVariants as any_pair
 use Rattle.uz_schedule.specs.declared.facts.Bit.{Bit}
 use Rattle.uz_schedule.specs.declared.facts.Bit.TheVariants.{Zero, One, Free, Old as OldBit}
 use Rattle.uz_lines.specs.Why.{◌>>=◌}
-use Rattle.uz_lines.specs.Values.{digits, one_or, one_number, both, two_numbers, whole, slope, sloped_parts, sloped_cut, sloped, old, range_parts, range_cut, range, raw_of, is_ordered, fact_of, pair_of, ends_of, bit_of}
+use Rattle.uz_lines.specs.Values.{digits, one_or, one_number, both, two_numbers, whole, slope, sloped_parts, sloped_cut, sloped, old}
+use Rattle.uz_lines.specs.Values.{range_parts, range_cut, range, raw_of, is_ordered, fact_of, pair_of, ends_of, bit_of}
 use Rattle.uz_lines.specs.Items.{is_handler}
 use Rattle.uz_lines.specs.declared.values.Forms.{Forms}
 use Rattle.uz_lines.specs.declared.values.Raw.{Raw}
@@ -80,11 +82,13 @@ whole_raw f v [] r e =
     subst (RawFits f v) (ok_same raw.All r p.1) (eqb-true f.low 0 t.0, ltb-true f.top f.limit t.1)
 whole_raw f v (c ∷ cs) r e = absurd cc
 
-slope_raw : (f : Forms) (v : List ℕ) (line : Bool) (n : ℕ × ℕ) → f.sloped ≡ true → ((1 ≤ n.0) × (n.0 < f.limit)) × ((0 ≤ n.1) × (n.1 < f.limit)) → RawFits f v (slope line n)
+slope_raw : (f : Forms) (v : List ℕ) (line : Bool) (n : ℕ × ℕ) → f.sloped ≡ true → ((1 ≤ n.0) × (n.0 < f.limit))
+    × ((0 ≤ n.1) × (n.1 < f.limit)) → RawFits f v (slope line n)
 slope_raw f v true n s h = (record { low_is = h.0.0; limit = h.0.1 }, record { low_is = h.1.0; limit = h.1.1 }, s)
 slope_raw f v false n s h = (record { low_is = h.0.0; limit = h.0.1 }, record { low_is = h.1.0; limit = h.1.1 }, s)
 
-parts_raw : (f : Forms) (v : List ℕ) (line : Bool) (o : Option (List ℕ × List ℕ)) (r : Raw) → f.sloped ≡ true → sloped_parts line f o ≡ Ok r → RawFits f v r
+parts_raw : (f : Forms) (v : List ℕ) (line : Bool) (o : Option (List ℕ × List ℕ)) (r : Raw) → f.sloped ≡ true → sloped_parts line f o ≡ Ok r
+    → RawFits f v r
 parts_raw f v line None r s e = absurd cc
 parts_raw f v line (Some p) r s e =
     let m = bind_ok (two_numbers 1 0 f.limit p.0 p.1) (λ n. Ok (slope line n)) r e in
@@ -124,13 +128,17 @@ range_raw f w (Some p) r e = ends_raw p.0 p.1 e
         let t = chosen_ok (eqb c 46) why.Word (two_numbers f.low f.low f.limit lo hi >>= (λ n. Ok (raw.Two n.0 n.1))) r h in
         let m = bind_ok (two_numbers f.low f.low f.limit lo hi) (λ n. Ok (raw.Two n.0 n.1)) r t.1 in
         let l = two_limits f.low f.low f.limit lo hi m.0 m.1 in
-        subst (RawFits f w) (ok_same (raw.Two m.0.0 m.0.1) r m.2) (record { low_is = l.0.0; limit = l.0.1 }, record { low_is = l.1.0; limit = l.1.1 })
+        subst (RawFits f w) (ok_same (raw.Two m.0.0 m.0.1) r m.2) (
+          record { low_is = l.0.0; limit = l.0.1 },
+          record { low_is = l.1.0; limit = l.1.1 },
+        )
 
 whole_range : (f : Forms) (w : List ℕ) (r : Raw) → range f w ≡ Ok r → RawFits f w r
 unfolding range
 whole_range f w r e = range_raw f w (cut_at 46 w) r e
 
-either_raw : (f : Forms) (v : List ℕ) (t : Bool) (x y : Result Raw CertWhy) (r : Raw) → (x ≡ Ok r → RawFits f v r) → (y ≡ Ok r → RawFits f v r) → cond t x y ≡ Ok r → RawFits f v r
+either_raw : (f : Forms) (v : List ℕ) (t : Bool) (x y : Result Raw CertWhy) (r : Raw) → (x ≡ Ok r → RawFits f v r)
+    → (y ≡ Ok r → RawFits f v r) → cond t x y ≡ Ok r → RawFits f v r
 either_raw f v true x y r h k e = h e
 either_raw f v false x y r h k e = k e
 
@@ -184,37 +192,59 @@ pub record ByteForms (f : Forms) (kind : Kind) : Type 0 where
   pub limit : f.limit ≤ 256
   pub old : f.old ≡ true → kind ≡ Handler
 
-pub fact_fits : (f : Forms) (v : List ℕ) (kind : Kind) (r : Raw) (fact : Fact) → ByteForms f kind → RawFits f v r → fact_of r ≡ Ok fact → FactFits kind fact
+pub fact_fits : (f : Forms) (v : List ℕ) (kind : Kind) (r : Raw) (fact : Fact) → ByteForms f kind → RawFits f v r → fact_of r ≡ Ok fact
+    → FactFits kind fact
 fact_fits f v kind raw.All fact b h e = subst (FactFits kind) (ok_same Any fact e) tt
 fact_fits f v kind (raw.One n) fact b h e =
-    subst (FactFits kind) (ok_same (Between (record { lo = n; hi = n })) fact e) (part_of_one 255 n (omega (arith, h.0.limit, b.limit)) (omega arith))
+    subst (FactFits kind) (ok_same (Between (record { lo = n; hi = n })) fact e) (part_of_one 255 n (omega (arith, h.0.limit, b.limit))
+    (omega arith))
 fact_fits f v kind (raw.Two lo hi) fact b h e =
     let p = chosen_ok (is_ordered 255 lo hi) why.Order (Ok (Between (record { lo = lo; hi = hi }))) fact e in
-    subst (FactFits kind) (ok_same (Between (record { lo = lo; hi = hi })) fact p.1) (part_of_two 255 lo hi (omega (arith, h.1.limit, b.limit)) p.0)
+    subst (FactFits kind) (ok_same (Between (record { lo = lo; hi = hi })) fact p.1)
+    (part_of_two 255 lo hi (omega (arith, h.1.limit, b.limit)) p.0)
 fact_fits f v kind (raw.Line a c) fact b h e =
-    subst (FactFits kind) (ok_same (Line a c) fact e) (record { some = h.0.low_is; factor = omega (arith, h.0.limit, b.limit); offset = omega (arith, h.1.limit, b.limit) })
+    subst (FactFits kind) (ok_same (Line a c) fact e) (record {
+      some = h.0.low_is;
+      factor = omega (arith, h.0.limit, b.limit);
+      offset = omega (arith, h.1.limit, b.limit);
+    })
 fact_fits f v kind (raw.Loop a c) fact b h e =
-    subst (FactFits kind) (ok_same (Loop a c) fact e) (record { some = h.0.low_is; factor = omega (arith, h.0.limit, b.limit); offset = omega (arith, h.1.limit, b.limit) })
+    subst (FactFits kind) (ok_same (Loop a c) fact e) (record {
+      some = h.0.low_is;
+      factor = omega (arith, h.0.limit, b.limit);
+      offset = omega (arith, h.1.limit, b.limit);
+    })
 fact_fits f v kind (raw.Old r) fact b h e = subst (FactFits kind) (ok_same (Old r) fact e) (b.old h.1, h.0)
 fact_fits f v kind raw.OldFlags fact b h e = subst (FactFits kind) (ok_same OldFlags fact e) (b.old h)
 
 -- no old value, where the forms have none
-pub cell_fact_fits : (f : Forms) (v : List ℕ) (r : Raw) (fact : Fact) → f.limit ≤ 256 → f.old ≡ false → RawFits f v r → fact_of r ≡ Ok fact → CellFactFits fact
+pub cell_fact_fits : (f : Forms) (v : List ℕ) (r : Raw) (fact : Fact) → f.limit ≤ 256 → f.old ≡ false → RawFits f v r → fact_of r ≡ Ok fact
+    → CellFactFits fact
 cell_fact_fits f v raw.All fact b o h e = subst CellFactFits (ok_same Any fact e) tt
 cell_fact_fits f v (raw.One n) fact b o h e =
-    subst CellFactFits (ok_same (Between (record { lo = n; hi = n })) fact e) (part_of_one 255 n (omega (arith, h.0.limit, b)) (omega arith))
+    subst CellFactFits (ok_same (Between (record { lo = n; hi = n })) fact e) (part_of_one 255 n (omega (arith, h.0.limit, b))
+    (omega arith))
 cell_fact_fits f v (raw.Two lo hi) fact b o h e =
     let p = chosen_ok (is_ordered 255 lo hi) why.Order (Ok (Between (record { lo = lo; hi = hi }))) fact e in
     subst CellFactFits (ok_same (Between (record { lo = lo; hi = hi })) fact p.1) (part_of_two 255 lo hi (omega (arith, h.1.limit, b)) p.0)
 cell_fact_fits f v (raw.Line a c) fact b o h e =
-    subst CellFactFits (ok_same (Line a c) fact e) (record { some = h.0.low_is; factor = omega (arith, h.0.limit, b); offset = omega (arith, h.1.limit, b) })
+    subst CellFactFits (ok_same (Line a c) fact e) (record {
+      some = h.0.low_is;
+      factor = omega (arith, h.0.limit, b);
+      offset = omega (arith, h.1.limit, b);
+    })
 cell_fact_fits f v (raw.Loop a c) fact b o h e =
-    subst CellFactFits (ok_same (Loop a c) fact e) (record { some = h.0.low_is; factor = omega (arith, h.0.limit, b); offset = omega (arith, h.1.limit, b) })
+    subst CellFactFits (ok_same (Loop a c) fact e) (record {
+      some = h.0.low_is;
+      factor = omega (arith, h.0.limit, b);
+      offset = omega (arith, h.1.limit, b);
+    })
 cell_fact_fits f v (raw.Old r) fact b o h e = absurd (cc (o, h.1))
 cell_fact_fits f v raw.OldFlags fact b o h e = absurd (cc (o, h))
 
 -- where the forms have neither slopes nor old values
-pub plain_fact : (f : Forms) (v : List ℕ) (r : Raw) (fact : Fact) → f.sloped ≡ false → f.old ≡ false → RawFits f v r → fact_of r ≡ Ok fact → IsPlain fact
+pub plain_fact : (f : Forms) (v : List ℕ) (r : Raw) (fact : Fact) → f.sloped ≡ false → f.old ≡ false → RawFits f v r → fact_of r ≡ Ok fact
+    → IsPlain fact
 plain_fact f v raw.All fact s o h e = subst IsPlain (ok_same Any fact e) tt
 plain_fact f v (raw.One n) fact s o h e = subst IsPlain (ok_same (Between (record { lo = n; hi = n })) fact e) tt
 plain_fact f v (raw.Two lo hi) fact s o h e =
@@ -228,14 +258,24 @@ plain_fact f v raw.OldFlags fact s o h e = absurd (cc (o, h))
 pub pair_fits : (f : Forms) (v : List ℕ) (r : Raw) (fact : PairFact) → f.limit ≡ 65536 → RawFits f v r → pair_of r ≡ Ok fact → PairFits fact
 pair_fits f v raw.All fact b h e = subst PairFits (ok_same any_pair.Any fact e) tt
 pair_fits f v (raw.One n) fact b h e =
-    subst PairFits (ok_same (any_pair.Between (record { lo = n; hi = n })) fact e) (part_of_one 65535 n (omega (arith, h.0.limit, b)) (omega arith))
+    subst PairFits (ok_same (any_pair.Between (record { lo = n; hi = n })) fact e) (part_of_one 65535 n (omega (arith, h.0.limit, b))
+    (omega arith))
 pair_fits f v (raw.Two lo hi) fact b h e =
     let p = chosen_ok (is_ordered 65535 lo hi) why.Order (Ok (any_pair.Between (record { lo = lo; hi = hi }))) fact e in
-    subst PairFits (ok_same (any_pair.Between (record { lo = lo; hi = hi })) fact p.1) (part_of_two 65535 lo hi (omega (arith, h.1.limit, b)) p.0)
+    subst PairFits (ok_same (any_pair.Between (record { lo = lo; hi = hi })) fact p.1)
+    (part_of_two 65535 lo hi (omega (arith, h.1.limit, b)) p.0)
 pair_fits f v (raw.Line a c) fact b h e =
-    subst PairFits (ok_same (any_pair.Line a c) fact e) (record { some = h.0.low_is; factor = omega (arith, h.0.limit, b); offset = omega (arith, h.1.limit, b) })
+    subst PairFits (ok_same (any_pair.Line a c) fact e) (record {
+      some = h.0.low_is;
+      factor = omega (arith, h.0.limit, b);
+      offset = omega (arith, h.1.limit, b);
+    })
 pair_fits f v (raw.Loop a c) fact b h e =
-    subst PairFits (ok_same (any_pair.Loop a c) fact e) (record { some = h.0.low_is; factor = omega (arith, h.0.limit, b); offset = omega (arith, h.1.limit, b) })
+    subst PairFits (ok_same (any_pair.Loop a c) fact e) (record {
+      some = h.0.low_is;
+      factor = omega (arith, h.0.limit, b);
+      offset = omega (arith, h.1.limit, b);
+    })
 pair_fits f v (raw.Old r) fact b h e = absurd cc
 pair_fits f v raw.OldFlags fact b h e = absurd cc
 
@@ -246,7 +286,8 @@ handler_is Main e = absurd cc
 handler_is Handler e = refl
 handler_is Alone e = absurd cc
 
-either_bit : (kind : Kind) (t : Bool) (x : Bit) (y : Result Bit CertWhy) (b : Bit) → (t ≡ true → BitFits kind x) → (y ≡ Ok b → BitFits kind b) → cond t (Ok x) y ≡ Ok b → BitFits kind b
+either_bit : (kind : Kind) (t : Bool) (x : Bit) (y : Result Bit CertWhy) (b : Bit) → (t ≡ true → BitFits kind x)
+    → (y ≡ Ok b → BitFits kind b) → cond t (Ok x) y ≡ Ok b → BitFits kind b
 either_bit kind true x y b h k e = subst (BitFits kind) (ok_same x b e) (h refl)
 either_bit kind false x y b h k e = k e
 

@@ -51,7 +51,8 @@ whole_fits d e k due is =
       schedule = schedule_fits d k w;
       rests = record {
         few = omega (arith, k.rests.few, s.rests_few, lines);
-        each = subst (λ n. All (RestFits d.head (length d.lines) n) d.rests) points (subst (λ n. All (RestFits d.head n d.sizes.points) d.rests) lines k.rests.each);
+        each = subst (λ n. All (RestFits d.head (length d.lines) n) d.rests) points
+            (subst (λ n. All (RestFits d.head n d.sizes.points) d.rests) lines k.rests.each);
         rise = k.rests.rise;
       };
       entry = subst (λ n. EntryFits d.head (length d.lines) n e) points (subst (λ n. EntryFits d.head n d.sizes.points e) lines
@@ -59,7 +60,8 @@ whole_fits d e k due is =
       points = record {
         some = omega (arith, s.points_some, points);
         few = omega (arith, s.points_few, points);
-        each = subst (λ n. All (PointFits d.head (length d.lines) n) d.points) points (subst (λ n. All (PointFits d.head n d.sizes.points) d.points) lines k.points.each);
+        each = subst (λ n. All (PointFits d.head (length d.lines) n) d.points) points
+            (subst (λ n. All (PointFits d.head n d.sizes.points) d.points) lines k.points.each);
         instances = few_instances d.left (sum_by instances_of d.points) sum;
       };
     }
@@ -77,7 +79,8 @@ by_entry d (Some x) c k due is e = subst WellFormed (ok_cert (cert_from d x) c e
     ok_cert : (a b : Cert) → answer a ≡ answer b → a ≡ b
     ok_cert a b h = cc
 
-pub read_fits : (d : Draft) (line : List ℕ) (rest : List (List ℕ)) (c : Cert) → Kept d → due_of d ≡ None → cert_before d line rest ≡ Ok c → WellFormed c
+pub read_fits : (d : Draft) (line : List ℕ) (rest : List (List ℕ)) (c : Cert) → Kept d → due_of d ≡ None → cert_before d line rest ≡ Ok c
+    → WellFormed c
 unfolding cert_before
 read_fits d [] [] c k due e = by_entry d d.entry c k due refl e
 read_fits d [] (piece ∷ rest) c k due e = absurd cc

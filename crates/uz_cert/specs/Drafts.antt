@@ -1,5 +1,6 @@
 -- What the lines of a certificate's text say so far, and what the next line has to be.
-use Rattle.std.specs.Prelude.{ℕ, ◌+◌, ◌-◌, ◌==◌, nat_lt, Bool, true, false, List, [], ◌∷◌, ◌++◌, length, replicate, Option, Some, None, if◌then◌else◌}
+use Rattle.std.specs.Prelude.{ℕ, ◌+◌, ◌-◌, ◌==◌, nat_lt, Bool, true, false, List, [], ◌∷◌, ◌++◌, length, replicate, Option, Some, None}
+use Rattle.std.specs.Prelude.{if◌then◌else◌}
 use Rattle.uz_schedule.specs.WellFormed.{instances_of}
 use Rattle.uz_schedule.specs.declared.kinds.Response.TheVariants.{Four}
 use Rattle.uz_schedule.specs.declared.lines.Event.{Event}
@@ -94,7 +95,10 @@ abbrev pub with_said : Draft → Said → Draft
 with_said d (said.Size s) = record d { sizes = s }
 with_said d (said.Irq r) = record d { head = record d.head { irq = r } }
 with_said d (said.Stack s) = record d { head = record d.head { lo = s.lo; hi = s.hi; main = s.main; handler = s.handler } }
-with_said d (said.Cell c) = record d { head = record d.head { cells = record { items = d.head.cells.items ++ c ∷ [] } }; cell_least = c.at + 1 }
+with_said d (said.Cell c) = record d {
+  head = record d.head { cells = record { items = d.head.cells.items ++ c ∷ [] } };
+  cell_least = c.at + 1;
+}
 with_said d (said.Kind events) = record d { owed = events }
 with_said d (said.Event e) = with_event d e
 with_said d (said.Fall clock) = record d { fall = clock }

@@ -1,6 +1,7 @@
 -- What holds of what the lines of a text say, as long as none has a fault: it is within the limits and orders of a well
 -- formed certificate.
-use Rattle.std.specs.Prelude.{◌≡◌, ◌⊎◌, ℕ, suc, ◌+◌, ◌<◌, ◌≤◌, ⊤, IsTrue, List, [], ◌∷◌, All, length, map, sum_by, IfSome, Option, None, Some}
+use Rattle.std.specs.Prelude.{◌≡◌, ◌⊎◌, ℕ, suc, ◌+◌, ◌<◌, ◌≤◌, ⊤, IsTrue, List, [], ◌∷◌, All, length, map, sum_by, IfSome, Option, None}
+use Rattle.std.specs.Prelude.{Some}
 use Rattle.uz_schedule.specs.Limits.{clock_limit, most_events, most_lines, rises, EventFits, EventsFit}
 use Rattle.uz_schedule.specs.WellFormed.{StackFits, CellFits, RestFits, EntryFits, PointFits, instances_of}
 use Rattle.uz_schedule.specs.declared.header.Cell.{Cell}

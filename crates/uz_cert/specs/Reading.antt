@@ -1,7 +1,9 @@
 -- Reading a certificate's text as a function on lists: the plain, slow reader.
-use Rattle.std.specs.Prelude.{◌≡◌, ◌⊎◌, ℕ, ◌+◌, ◌==◌, Bool, true, false, List, [], ◌∷◌, length, codes, bytes_eq, Option, Some, None, Result, Ok, Err, if◌then◌else◌}
+use Rattle.std.specs.Prelude.{◌≡◌, ◌⊎◌, ℕ, ◌+◌, ◌==◌, Bool, true, false, List, [], ◌∷◌, length, codes, bytes_eq, Option, Some, None, Result}
+use Rattle.std.specs.Prelude.{Ok, Err, if◌then◌else◌}
 use Rattle.std.specs.Borrow.{Bor}
 use Rattle.std.specs.List.{slice_split}
+use Prim.Native.Char.{code}
 use Rattle.uz_schedule.specs.declared.certificate.Cert.{Cert}
 use Rattle.uz_schedule.specs.declared.states.Entry.{Entry}
 use Rattle.uz_lines.specs.Why.{◌>>=◌}
@@ -20,7 +22,7 @@ Fault = ℕ × CertWhy
 
 -- the pieces of a text between its LF bytes: its lines, and what follows the last LF
 abbrev pub pieces_of : List ℕ → List (List ℕ)
-pieces_of text = slice_split (λ b. b == 10) text
+pieces_of text = slice_split (λ b. b == code "\n") text
 
 abbrev pub pieces_left : Option (Bor (List ℕ)) → List (List ℕ)
 pieces_left None = []

@@ -18,7 +18,8 @@ use Rattle.uz_core.specs.declared.decoded.Reading.TheVariants.{NoRow}
 use Rattle.uz_core.specs.RowClocks.{clocks_in}
 use Rattle.uz_core.specs.Programs.{IsDecoded, IsInstructionAt, IsReading}
 
-pub same_clocks : (i : Instr) (clocks : Clocks) → clocks.next ≡ clocks_of i Next → clocks.taken ≡ clocks_of i Taken → clocks.skip_one ≡ clocks_of i SkipOne → clocks.skip_two ≡ clocks_of i SkipTwo →
+pub same_clocks : (i : Instr) (clocks : Clocks) → clocks.next ≡ clocks_of i Next → clocks.taken ≡ clocks_of i Taken
+    → clocks.skip_one ≡ clocks_of i SkipOne → clocks.skip_two ≡ clocks_of i SkipTwo →
     clocks_in clocks ≡ clocks_of i
 same_clocks i clocks next taken one two = λ k outcome. each outcome k
   where
@@ -40,7 +41,8 @@ abbrev Only : ℕ → ℕ → Type 0
 Only first second = (i j : Instr) → Reads first second i → Reads first second j → i ≡ j
 
 -- the only instruction of two words is the one at an address that has them
-pub instruction_at : (image : FinMap nat_cmp ℕ) (at first second : ℕ) (i : Instr) → first ≡ word_of image at → second ≡ word_of image ((at + 1) % 32768) →
+pub instruction_at : (image : FinMap nat_cmp ℕ) (at first second : ℕ) (i : Instr) → first ≡ word_of image at → second ≡ word_of image
+    ((at + 1) % 32768) →
     Reads first second i → Only first second → IsInstructionAt image at i
 instruction_at image at first second i f s reads only = record {
   reads = to (λ a b. Reads a b i) reads;
@@ -52,4 +54,5 @@ instruction_at image at first second i f s reads only = record {
 
 pub no_row_at : (image : FinMap nat_cmp ℕ) (at first second : ℕ) → first ≡ word_of image at → second ≡ word_of image ((at + 1) % 32768) →
     ((i : Instr) → Reads first second i → ⊥) → IsReading image at NoRow
-no_row_at image at first second f s none = λ i h. none i (subst (λ b. Reads first b i) (sym s) (subst (λ a. Reads a (word_of image ((at + 1) % 32768)) i) (sym f) h))
+no_row_at image at first second f s none =
+    λ i h. none i (subst (λ b. Reads first b i) (sym s) (subst (λ a. Reads a (word_of image ((at + 1) % 32768)) i) (sym f) h))

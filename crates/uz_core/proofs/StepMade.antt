@@ -30,13 +30,16 @@ record Comes {C : Type 0} (s' : Core) (c' : C) (stores : List HeldStore) (answer
   held : stores ≡ r.stores
   took : answer ≡ Took r.clocks r.owed r.returned
 
-pub step_made : {C : Type 0} → (model : LoadModel C) (image : FinMap nat_cmp ℕ) (d : Decoded) (s : Core) (c : C) (s' : Core) (c' : C) (stores : List HeldStore) (answer : Step) →
+pub step_made : {C : Type 0} → (model : LoadModel C) (image : FinMap nat_cmp ℕ) (d : Decoded) (s : Core) (c : C) (s' : Core) (c' : C)
+    (stores : List HeldStore) (answer : Step) →
     IsReading image s.pc (Runs d) →
-    s' ≡ (decoded_result model image d s c).core → c' ≡ (decoded_result model image d s c).content → stores ≡ (decoded_result model image d s c).stores →
+    s' ≡ (decoded_result model image d s c).core → c' ≡ (decoded_result model image d s c).content
+    → stores ≡ (decoded_result model image d s c).stores →
     (let r = decoded_result model image d s c in answer ≡ Took r.clocks r.owed r.returned) →
     IsStep model image s c s' c' stores answer
 step_made model image d s c s' c' stores answer (i, at, runs, decoded) core content held took =
     let comes : Comes s' c' stores answer (step_result model image i s c) =
-    subst (Comes s' c' stores answer) (same_result model image i d s c decoded) (record { core = core; content = content; held = held; took = took }) in
+    subst (Comes s' c' stores answer) (same_result model image i d s c decoded)
+    (record { core = core; content = content; held = held; took = took }) in
     subst (λ a. IsStep model image s c s' c' stores a) (sym comes.took)
     (i, record { reads = at.reads; only = at.only }, runs, (comes.core, comes.content, comes.held, refl))

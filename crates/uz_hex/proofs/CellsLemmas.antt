@@ -1,5 +1,6 @@
 -- What the map of the cells has at an address.
-use Rattle.std.proofs.Common.{◌≡◌, ℕ, zero, suc, ◌+◌, ◌<◌, cond, List, [], ◌∷◌, length, get_or, set, get_or-set_same, get_or-set_other, ◌≢◌, inl, inr, replicate, refl, sym, ◌∙◌, ap, subst, zero-add, arith}
+use Rattle.std.proofs.Common.{◌≡◌, ℕ, zero, suc, ◌+◌, ◌<◌, cond, List, [], ◌∷◌, length, get_or, set, get_or-set_same, get_or-set_other, ◌≢◌}
+use Rattle.std.proofs.Common.{inl, inr, replicate, refl, sym, ◌∙◌, ap, subst, zero-add, arith}
 use Rattle.std.proofs.Math.Nat.{add-suc, suc-add, add_comm}
 use Rattle.std.proofs.lemmas.List.Recursion.{is_count_by}
 use Rattle.std.proofs.lemmas.Bool.{cases_lt}
@@ -27,7 +28,8 @@ get-present [] at k = get-empty nat_cmp (at + k)
 get-present (None ∷ cells) at zero = get-present_below cells (suc at) (at + 0) (omega arith)
 get-present (None ∷ cells) at (suc k) = rw (add-suc, ← suc-add) (get-present cells (suc at) k)
 get-present (Some b ∷ cells) at zero = get-insert_same _ at b (at + 0) (omega arith)
-get-present (Some b ∷ cells) at (suc k) = get-insert_other _ at b (at + suc k) (omega arith) ∙ rw (add-suc, ← suc-add) (get-present cells (suc at) k)
+get-present (Some b ∷ cells) at (suc k) = get-insert_other _ at b (at + suc k) (omega arith) ∙ rw (add-suc, ← suc-add)
+    (get-present cells (suc at) k)
 
 -- from the first address on
 pub get-present_0 : (cells : List (Option ℕ)) (k : ℕ) → get (present 0 cells) k ≡ get_or cells k None
@@ -42,10 +44,12 @@ present-set cells k v h =
     same_map nat_cmp_total nat_cmp-IsAntisymmetric _ _ (λ q. elim (eqb_tells q k) [ inl t ↦ at_it q t.1 | inr t ↦ elsewhere q t.1 ])
   where
     at_it : (q : ℕ) → q ≡ k → get (present 0 (set cells k (Some v))) q ≡ get (insert (present 0 cells) k v) q
-    at_it q e = get-present_0 _ q ∙ (ap (λ i. get_or (set cells k (Some v)) i None) e ∙ (get_or-set_same cells k (Some v) None h ∙ sym (get-insert_same _ k v q e)))
+    at_it q e = get-present_0 _ q ∙ (ap (λ i. get_or (set cells k (Some v)) i None) e
+        ∙ (get_or-set_same cells k (Some v) None h ∙ sym (get-insert_same _ k v q e)))
 
     elsewhere : (q : ℕ) → q ≢ k → get (present 0 (set cells k (Some v))) q ≡ get (insert (present 0 cells) k v) q
-    elsewhere q ne = get-present_0 _ q ∙ (get_or-set_other cells k q (Some v) None ne ∙ sym (get-insert_other _ k v q ne ∙ get-present_0 cells q))
+    elsewhere q ne = get-present_0 _ q ∙ (get_or-set_other cells k q (Some v) None ne
+        ∙ sym (get-insert_other _ k v q ne ∙ get-present_0 cells q))
 
 -- one more byte at an address that holds none
 len-insert_new : (m : FinMap nat_cmp ℕ) (k v : ℕ) → get m k ≡ None → len (insert m k v) ≡ 1 + len m
@@ -64,9 +68,11 @@ len-present_on (Some b ∷ cells) at =
 pub len-present : (cells : List (Option ℕ)) → len (present 0 cells) ≡ count_by is_some cells
 len-present cells = is_count_by (λ cs. len (present 0 cs)) is_some (len-empty nat_cmp ℕ) step cells
   where
-    step : (cell : Option ℕ) (cs : List (Option ℕ)) → len (present 0 (cell ∷ cs)) ≡ cond (is_some cell) (1 + len (present 0 cs)) (len (present 0 cs))
+    step : (cell : Option ℕ) (cs : List (Option ℕ)) → len (present 0 (cell ∷ cs)) ≡ cond (is_some cell) (1 + len (present 0 cs))
+        (len (present 0 cs))
     step None cs = len-present_on cs (suc 0)
-    step (Some b) cs = len-insert_new (present (suc 0) cs) 0 b (get-present_below cs (suc 0) 0 (omega arith)) ∙ ap (λ n. 1 + n) (len-present_on cs (suc 0))
+    step (Some b) cs = len-insert_new (present (suc 0) cs) 0 b (get-present_below cs (suc 0) 0 (omega arith)) ∙ ap (λ n. 1 + n)
+        (len-present_on cs (suc 0))
 
 -- where every cell holds a byte or nothing, the map is that of a flash
 pub IsFlash-present : (cells : List (Option ℕ)) → length cells ≡ 65536 → All HoldsByte cells → IsFlash (present 0 cells)

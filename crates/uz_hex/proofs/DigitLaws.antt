@@ -1,5 +1,6 @@
 -- What reading the digits of a line says of the line.
-use Rattle.std.proofs.Common.{◌≡◌, ◌≢◌, ℕ, suc, ◌+◌, ◌*◌, ◌≤◌, ◌==◌, Bool, true, false, ◌&&◌, cond, List, [], ◌∷◌, length, take, Result, Ok, Err, ◌⊎◌, inl, inr, refl, sym, ap, subst, ◌∙◌, arith}
+use Rattle.std.proofs.Common.{◌≡◌, ◌≢◌, ℕ, suc, ◌+◌, ◌*◌, ◌≤◌, ◌==◌, Bool, true, false, ◌&&◌, cond, List, [], ◌∷◌, length, take, Result, Ok}
+use Rattle.std.proofs.Common.{Err, ◌⊎◌, inl, inr, refl, sym, ap, subst, ◌∙◌, arith}
 use Rattle.std.specs.Prelude.{slice_index, Any}
 use Rattle.std.specs.Result.{result_unwrap_or}
 use Rattle.std.specs.List.{list_all}
@@ -51,7 +52,8 @@ head_of v (Ok ys) bytes h =
 head_of v (Err e) bytes h = cc h
 
 pair_by : (a b : ℕ) (rest : List ℕ) (r : Result ℕ FromHexError) → pair_value a b 0 ≡ r → list_all is_hex_digit (a ∷ b ∷ []) ≡ true
-    → (count : ℕ) × (decode_of (a ∷ b ∷ []) ≡ Ok (count ∷ [])) × ((bytes : List ℕ) → decode_of (a ∷ b ∷ rest) ≡ Ok bytes → slice_index bytes 0 ≡ count)
+    → (count : ℕ) × (decode_of (a ∷ b ∷ []) ≡ Ok (count ∷ [])) × ((bytes : List ℕ) → decode_of (a ∷ b ∷ rest) ≡ Ok bytes → slice_index bytes
+    0 ≡ count)
 unfolding decode_pairs
 pair_by a b rest (Ok v) is all = (
   v,
@@ -67,7 +69,8 @@ pair_by a b rest (Err e) is all =
     cc (sym good.1 ∙ bad)
 
 first_pair : (digits : List ℕ) → list_all is_hex_digit digits ≡ true → 2 ≤ length digits
-    → (count : ℕ) × (decode_of (take 2 digits) ≡ Ok (count ∷ [])) × ((bytes : List ℕ) → decode_of digits ≡ Ok bytes → slice_index bytes 0 ≡ count)
+    → (count : ℕ) × (decode_of (take 2 digits) ≡ Ok (count ∷ [])) × ((bytes : List ℕ) → decode_of digits ≡ Ok bytes → slice_index bytes
+    0 ≡ count)
 first_pair [] all h = absurd (omega arith)
 first_pair (a ∷ []) all h = absurd (omega arith)
 first_pair (a ∷ b ∷ rest) all h =
@@ -79,22 +82,27 @@ first_pair (a ∷ b ∷ rest) all h =
 -- ---- a line that isn't blank, up to its digits
 
 no_colon : (base : ℕ) (earlier : List (ℕ × ℕ)) (mark : ℕ) (digits : List ℕ) → mark ≢ 58 → IsLeast base earlier (mark ∷ digits) why.NoColon
-no_colon base earlier mark digits other = is_least base earlier (mark ∷ digits) 0 why.NoColon refl (clear_none base earlier (mark ∷ digits)) (λ e. cc e, λ ds e. other (cc e))
+no_colon base earlier mark digits other = is_least base earlier (mark ∷ digits) 0 why.NoColon refl (clear_none base earlier (mark ∷ digits))
+    (λ e. cc e, λ ds e. other (cc e))
 
 colon_clear : (base : ℕ) (earlier : List (ℕ × ℕ)) (line digits : List ℕ) → line ≡ 58 ∷ digits → Clear base earlier line 1
 colon_clear base earlier line digits e = clear_more base earlier line 0 why.NoColon refl (clear_none base earlier line) (λ s. s.1 digits e)
 
-digits_clear : (base : ℕ) (earlier : List (ℕ × ℕ)) (line digits : List ℕ) → line ≡ 58 ∷ digits → list_all is_hex_digit digits ≡ true → Clear base earlier line 2
+digits_clear : (base : ℕ) (earlier : List (ℕ × ℕ)) (line digits : List ℕ) → line ≡ 58 ∷ digits → list_all is_hex_digit digits ≡ true
+    → Clear base earlier line 2
 digits_clear base earlier line digits e all = clear_more base earlier line 1 why.BadDigit refl (colon_clear base earlier line digits e)
     (λ s. let same = digits_same digits s.0 line e s.1 in
     let bad = any_false s.0 s.2 in
     let good = ap (list_all is_hex_digit) (sym same) ∙ all in cc (sym good ∙ bad))
 
-bad_digit : (base : ℕ) (earlier : List (ℕ × ℕ)) (line digits : List ℕ) → line ≡ 58 ∷ digits → list_all is_hex_digit digits ≡ false → IsLeast base earlier line why.BadDigit
-bad_digit base earlier line digits e bad = is_least base earlier line 1 why.BadDigit refl (colon_clear base earlier line digits e) (digits, e, all_false digits bad)
+bad_digit : (base : ℕ) (earlier : List (ℕ × ℕ)) (line digits : List ℕ) → line ≡ 58 ∷ digits → list_all is_hex_digit digits ≡ false
+    → IsLeast base earlier line why.BadDigit
+bad_digit base earlier line digits e bad = is_least base earlier line 1 why.BadDigit refl (colon_clear base earlier line digits e)
+    (digits, e, all_false digits bad)
 
 -- its digits are those of as many bytes as the first says
-pub short_clear : (base : ℕ) (earlier : List (ℕ × ℕ)) (line bytes : List ℕ) → Encodes line bytes → slice_index bytes 0 + 5 ≡ length bytes → Clear base earlier line 3
+pub short_clear : (base : ℕ) (earlier : List (ℕ × ℕ)) (line bytes : List ℕ) → Encodes line bytes → slice_index bytes 0 + 5 ≡ length bytes
+    → Clear base earlier line 3
 short_clear base earlier line bytes e counts =
     let ok = decode_of-ok e.0 bytes e.2 in
     let all = list_all-from_AllPass is_hex_digit e.0 ok.1 in
@@ -112,7 +120,8 @@ short_clear base earlier line bytes e counts =
           other.2 (omega (arith, len, twice, head, count, counts))
     ])
 
-counted_ok : (r : Result (List ℕ) FromHexError) (bytes : List ℕ) → counted r ≡ Ok bytes → (r ≡ Ok bytes) × (slice_index bytes 0 + 5 ≡ length bytes)
+counted_ok : (r : Result (List ℕ) FromHexError) (bytes : List ℕ) → counted r ≡ Ok bytes → (r ≡ Ok bytes)
+    × (slice_index bytes 0 + 5 ≡ length bytes)
 counted_ok (Err e) bytes h = cc h
 counted_ok (Ok ys) bytes h = elim (cases_eq (slice_index ys 0 + 5) (length ys)) [
   | inl same ↦
@@ -167,7 +176,8 @@ pub chosen : {A : Type 0} (b : Bool) (x y z : A) → cond b x y ≡ z → ((b �
 chosen true x y z h = inl (refl, h)
 chosen false x y z h = inr (refl, h)
 
-pub bytes_ok : (mark : ℕ) (digits bytes : List ℕ) → bytes_of (mark ∷ digits) ≡ Ok bytes → Encodes (mark ∷ digits) bytes × (slice_index bytes 0 + 5 ≡ length bytes)
+pub bytes_ok : (mark : ℕ) (digits bytes : List ℕ) → bytes_of (mark ∷ digits) ≡ Ok bytes → Encodes (mark ∷ digits) bytes
+    × (slice_index bytes 0 + 5 ≡ length bytes)
 bytes_ok mark digits bytes h =
     elim (chosen (mark == 58) (bytes_of_digits digits) (Err why.NoColon) (Ok bytes) h) [
       | inr other ↦ cc other.1
@@ -180,7 +190,8 @@ bytes_ok mark digits bytes h =
       ]
     ]
 
-pub bytes_err : (base : ℕ) (earlier : List (ℕ × ℕ)) (mark : ℕ) (digits : List ℕ) (w : HexWhy) → bytes_of (mark ∷ digits) ≡ Err w → IsLeast base earlier (mark ∷ digits) w
+pub bytes_err : (base : ℕ) (earlier : List (ℕ × ℕ)) (mark : ℕ) (digits : List ℕ) (w : HexWhy) → bytes_of (mark ∷ digits) ≡ Err w
+    → IsLeast base earlier (mark ∷ digits) w
 bytes_err base earlier mark digits w h =
     elim (chosen (mark == 58) (bytes_of_digits digits) (Err why.NoColon) (Err w) h) [
       | inr other ↦
@@ -196,7 +207,8 @@ bytes_err base earlier mark digits w h =
                 let is : w ≡ why.Short = counted_err (decode_of digits) w all.1 in
                 let stands = short_stands base earlier (mark ∷ digits) digits line all.0 (all.1 ∙ ap Err is) in
                 subst (IsLeast base earlier (mark ∷ digits)) (sym is)
-                (is_least base earlier (mark ∷ digits) 2 why.Short refl (digits_clear base earlier (mark ∷ digits) digits line all.0) stands)
+                (is_least base earlier (mark ∷ digits) 2 why.Short refl (digits_clear base earlier (mark ∷ digits) digits line all.0)
+                stands)
           ]
     ]
 

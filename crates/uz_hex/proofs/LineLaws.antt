@@ -1,12 +1,14 @@
 -- What reading one line says of the line, both ways.
-use Rattle.std.proofs.Common.{◌≡◌, ◌≢◌, ℕ, ◌+◌, List, [], ◌∷◌, ◌++◌, length, Result, Ok, Err, ◌⊎◌, inl, inr, refl, sym, ap, subst, ◌∙◌, arith}
+use Rattle.std.proofs.Common.{◌≡◌, ◌≢◌, ℕ, ◌+◌, List, [], ◌∷◌, ◌++◌, length, Result, Ok, Err, ◌⊎◌, inl, inr, refl, sym, ap, subst, ◌∙◌}
+use Rattle.std.proofs.Common.{arith}
 use Rattle.std.specs.Prelude.{slice_index}
 use Rattle.std.proofs.lemmas.List.{append-nil}
 use Rattle.uz_hex.specs.Records.{Record, record_bytes, Encodes, Spells, given, given_by, base_after, numbered}
 use Rattle.uz_hex.specs.HexText.{InFlash, Agree, Holds, Stands, IsLeast}
 use Rattle.uz_hex.specs.Reading.{Flash, bytes_of, kind_of, address_of, data_of, place, and_more, after_record, after_line, ◌>>=◌}
 use Rattle.uz_hex.specs.declared.records.RecordType.{RecordType}
-use Rattle.uz_hex.specs.declared.records.RecordType.TheVariants.{Data, EndOfFile, ExtendedSegment, StartSegment, ExtendedLinear, StartLinear}
+use Rattle.uz_hex.specs.declared.records.RecordType.TheVariants.{Data, EndOfFile, ExtendedSegment, StartSegment, ExtendedLinear}
+use Rattle.uz_hex.specs.declared.records.RecordType.TheVariants.{StartLinear}
 use Rattle.uz_hex.specs.declared.records.Progress.{Progress}
 use Rattle.uz_hex.specs.declared.records.Progress.TheVariants.{More, Ended}
 use Rattle.uz_hex.specs.declared.errors.HexWhy.{HexWhy}
@@ -42,7 +44,8 @@ range_clear base es line r s flash = clear_more base es line 6 why.Range refl (r
     let low = subst (λ q. InFlash (given base q)) (spells_same line r past.0 s past.1) flash past.2 past.3 past.4 in
     let high = past.5 in absurd (omega arith))
 
-sound_clear : (base : ℕ) (es : List (ℕ × ℕ)) (line : List ℕ) (r : Record) → Spells line r → InFlash (given base r) → Agree (es ++ given base r) → Clear base es line 8
+sound_clear : (base : ℕ) (es : List (ℕ × ℕ)) (line : List ℕ) (r : Record) → Spells line r → InFlash (given base r)
+    → Agree (es ++ given base r) → Clear base es line 8
 sound_clear base es line r s flash agree = clear_more base es line 7 why.Conflict refl (range_clear base es line r s flash) (λ clash.
     clash.7 (subst (λ q. Agree (es ++ given base q)) (spells_same line r clash.0 s clash.1) agree clash.2 clash.3 clash.4 clash.5 clash.6))
 
@@ -63,7 +66,8 @@ blank_stands base es why.Memory s = s
 -- the line was blank, or a record that was placed
 abbrev Went : ℕ → Flash → List (ℕ × ℕ) → List ℕ → ℕ → Flash → Type 0
 Went base flash es line next held = ((line ≡ []) × (next ≡ base) × (held ≡ flash))
-    ⊎ ((r : Record) × Spells line r × (r.kind ≢ EndOfFile) × (next ≡ base_after base r) × Holds held (es ++ given base r) × InFlash (given base r))
+    ⊎ ((r : Record) × Spells line r × (r.kind ≢ EndOfFile) × (next ≡ base_after base r) × Holds held (es ++ given base r)
+    × InFlash (given base r))
 
 abbrev pub Outcome : ℕ → Flash → List (ℕ × ℕ) → List ℕ → Result (Progress × Flash) HexWhy → Type 0
 Outcome base flash es line (Ok (More next, held)) = Went base flash es line next held
@@ -77,26 +81,39 @@ holds_nil flash es h = subst (Holds flash) (sym (append-nil es)) h
 in_flash_nil : InFlash []
 in_flash_nil at b g = absurd g
 
-placed_outcome : (base : ℕ) (flash : Flash) (es : List (ℕ × ℕ)) (line : List ℕ) (r : Record) (result : Result Flash HexWhy) → Holds flash es → Spells line r → r.kind ≡ Data
+placed_outcome : (base : ℕ) (flash : Flash) (es : List (ℕ × ℕ)) (line : List ℕ) (r : Record) (result : Result Flash HexWhy) → Holds flash es
+    → Spells line r → r.kind ≡ Data
     → given base r ≡ numbered (base + r.address) r.bytes → base_after base r ≡ base
     → place flash (base + r.address) r.bytes ≡ result → Outcome base flash es line (and_more base result)
 placed_outcome base flash es line r (Ok held) h s data' given_is base_is is =
     let ok = place_ok r.bytes (base + r.address) flash held es is h in
-    inr (r, s, (λ e. cc (sym data' ∙ e)), sym base_is, subst (λ g. Holds held (es ++ g)) (sym given_is) ok.0, subst InFlash (sym given_is) ok.1)
+    inr (
+      r,
+      s,
+      (λ e. cc (sym data' ∙ e)),
+      sym base_is,
+      subst (λ g. Holds held (es ++ g)) (sym given_is) ok.0,
+      subst InFlash (sym given_is)
+          ok.1,
+    )
 placed_outcome base flash es line r (Err w) h s data' given_is base_is is =
     elim (place_err r.bytes (base + r.address) flash w es is h) [
       | inl past ↦
           let far = subst Past (sym given_is) past.1 in
-          subst (IsLeast base es line) (sym past.0) (is_least base es line 6 why.Range refl (record_clear base es line r s) (r, s, far.0, far.1, far.2, far.3))
+          subst (IsLeast base es line) (sym past.0) (is_least base es line 6 why.Range refl (record_clear base es line r s)
+          (r, s, far.0, far.1, far.2, far.3))
       | inr clash ↦
           let flash_ok = subst InFlash (sym given_is) clash.1 in
           let two = subst (λ g. Clash (es ++ g)) (sym given_is) clash.2 in
-          subst (IsLeast base es line) (sym clash.0) (is_least base es line 7 why.Conflict refl (range_clear base es line r s flash_ok) (r, s, two.0, two.1, two.2, two.3, two.4, two.5))
+          subst (IsLeast base es line) (sym clash.0) (is_least base es line 7 why.Conflict refl (range_clear base es line r s flash_ok)
+          (r, s, two.0, two.1, two.2, two.3, two.4, two.5))
     ]
 
 record_outcome : (base : ℕ) (flash : Flash) (es : List (ℕ × ℕ)) (line bytes : List ℕ) (kind : RecordType) → Holds flash es
-    → Spells line (record { address = address_of bytes; kind = kind; bytes = data_of bytes }) → Outcome base flash es line (after_record base flash bytes kind)
-record_outcome base flash es line bytes Data h s = placed_outcome base flash es line _ (place flash (base + address_of bytes) (data_of bytes)) h s refl refl refl refl
+    → Spells line (record { address = address_of bytes; kind = kind; bytes = data_of bytes }) → Outcome base flash es line
+    (after_record base flash bytes kind)
+record_outcome base flash es line bytes Data h s = placed_outcome base flash es line _
+    (place flash (base + address_of bytes) (data_of bytes)) h s refl refl refl refl
 record_outcome base flash es line bytes EndOfFile h s = (_, s, refl, refl)
 record_outcome base flash es line bytes ExtendedSegment h s = inr (_, s, (λ e. cc e), refl, holds_nil flash es h, in_flash_nil)
 record_outcome base flash es line bytes StartSegment h s = inr (_, s, (λ e. cc e), refl, holds_nil flash es h, in_flash_nil)
@@ -104,20 +121,23 @@ record_outcome base flash es line bytes ExtendedLinear h s = inr (_, s, (λ e. c
 record_outcome base flash es line bytes StartLinear h s = inr (_, s, (λ e. cc e), refl, holds_nil flash es h, in_flash_nil)
 
 kind_outcome : (base : ℕ) (flash : Flash) (es : List (ℕ × ℕ)) (line bytes : List ℕ) (result : Result RecordType HexWhy) → Holds flash es
-    → Encodes line bytes → slice_index bytes 0 + 5 ≡ length bytes → kind_of bytes ≡ result → Outcome base flash es line (result >>= after_record base flash bytes)
+    → Encodes line bytes → slice_index bytes 0 + 5 ≡ length bytes → kind_of bytes ≡ result → Outcome base flash es line
+    (result >>= after_record base flash bytes)
 kind_outcome base flash es line bytes (Ok kind) h e counts is =
     let k = kind_ok bytes kind is in
     record_outcome base flash es line bytes kind h (spelled_by line bytes kind e counts k.0 k.1 k.2)
 kind_outcome base flash es line bytes (Err w) h e counts is = kind_err base es line bytes w e counts is
 
 filled_outcome : (base : ℕ) (flash : Flash) (es : List (ℕ × ℕ)) (c : ℕ) (line : List ℕ) (result : Result (List ℕ) HexWhy) → Holds flash es
-    → bytes_of (c ∷ line) ≡ result → Outcome base flash es (c ∷ line) (result >>= (λ bytes. kind_of bytes >>= after_record base flash bytes))
+    → bytes_of (c ∷ line) ≡ result → Outcome base flash es (c ∷ line)
+    (result >>= (λ bytes. kind_of bytes >>= after_record base flash bytes))
 filled_outcome base flash es c line (Ok bytes) h is =
     let ok = bytes_ok c line bytes is in
     kind_outcome base flash es (c ∷ line) bytes (kind_of bytes) h ok.0 ok.1 refl
 filled_outcome base flash es c line (Err w) h is = bytes_err base es c line w is
 
-pub outcome : (base : ℕ) (flash : Flash) (es : List (ℕ × ℕ)) (line : List ℕ) → Holds flash es → Outcome base flash es line (after_line base flash line)
+pub outcome : (base : ℕ) (flash : Flash) (es : List (ℕ × ℕ)) (line : List ℕ) → Holds flash es → Outcome base flash es line
+    (after_line base flash line)
 outcome base flash es [] h = inl (refl, refl, refl)
 outcome base flash es (c ∷ line) h = filled_outcome base flash es c line (bytes_of (c ∷ line)) h refl
 
@@ -136,41 +156,51 @@ went_on base flash es line r (Ok (More next, held)) s more flash_ok agree (inr c
 went_on base flash es line r (Ok (Ended, held)) s more flash_ok agree came =
     let same = spells_same line came.0 r came.1 s in
     absurd (more (ap (λ (q : Record). q.kind) (sym same) ∙ came.2))
-went_on base flash es line r (Err w) s more flash_ok agree least = absurd (nothing_stands base es line (sound_clear base es line r s flash_ok agree) w least.stands)
+went_on base flash es line r (Err w) s more flash_ok agree least =
+    absurd (nothing_stands base es line (sound_clear base es line r s flash_ok agree) w least.stands)
 
 pub goes_on : (base : ℕ) (flash : Flash) (es : List (ℕ × ℕ)) (line : List ℕ) (r : Record) → Holds flash es
     → Spells line r → r.kind ≢ EndOfFile → InFlash (given base r) → Agree (es ++ given base r)
     → (held : Flash) × (after_line base flash line ≡ Ok (More (base_after base r), held)) × Holds held (es ++ given base r)
-goes_on base flash es line r h s more flash_ok agree = went_on base flash es line r (after_line base flash line) s more flash_ok agree (outcome base flash es line h)
+goes_on base flash es line r h s more flash_ok agree = went_on base flash es line r (after_line base flash line) s more flash_ok agree
+    (outcome base flash es line h)
 
 -- an end record gives nothing
 end_gives : (base : ℕ) (r : Record) → r.kind ≡ EndOfFile → given base r ≡ []
 end_gives base r e = ap (λ k. given_by k (base + r.address) r.bytes) e
 
-end_clear : (base : ℕ) (flash : Flash) (es : List (ℕ × ℕ)) (line : List ℕ) (r : Record) → Holds flash es → Spells line r → r.kind ≡ EndOfFile → Clear base es line 8
+end_clear : (base : ℕ) (flash : Flash) (es : List (ℕ × ℕ)) (line : List ℕ) (r : Record) → Holds flash es → Spells line r
+    → r.kind ≡ EndOfFile → Clear base es line 8
 end_clear base flash es line r h s e = sound_clear base es line r s (subst InFlash (sym (end_gives base r e)) in_flash_nil)
     (subst (λ g. Agree (es ++ g)) (sym (end_gives base r e)) (agree_held flash (es ++ []) (holds_nil flash es h)))
 
-ended_by : (base : ℕ) (flash : Flash) (es : List (ℕ × ℕ)) (line : List ℕ) (r : Record) (result : Result (Progress × Flash) HexWhy) → Holds flash es
+ended_by : (base : ℕ) (flash : Flash) (es : List (ℕ × ℕ)) (line : List ℕ) (r : Record) (result : Result (Progress × Flash) HexWhy)
+    → Holds flash es
     → Spells line r → r.kind ≡ EndOfFile → Outcome base flash es line result → result ≡ Ok (Ended, flash)
 ended_by base flash es line r (Ok (More next, held)) h s e (inl blank) = absurd (spells_filled line r s blank.0)
 ended_by base flash es line r (Ok (More next, held)) h s e (inr came) =
     let same = spells_same line came.0 r came.1 s in
     absurd (came.2 (ap (λ (q : Record). q.kind) same ∙ e))
 ended_by base flash es line r (Ok (Ended, held)) h s e came = ap (λ f. Ok (Ended, f)) came.3
-ended_by base flash es line r (Err w) h s e least = absurd (nothing_stands base es line (end_clear base flash es line r h s e) w least.stands)
+ended_by base flash es line r (Err w) h s e least = absurd (nothing_stands base es line (end_clear base flash es line r h s e) w
+    least.stands)
 
 pub ends : (base : ℕ) (flash : Flash) (es : List (ℕ × ℕ)) (line : List ℕ) (r : Record) → Holds flash es → Spells line r → r.kind ≡ EndOfFile
     → after_line base flash line ≡ Ok (Ended, flash)
 ends base flash es line r h s e = ended_by base flash es line r (after_line base flash line) h s e (outcome base flash es line h)
 
-failed_by : (base : ℕ) (flash : Flash) (es : List (ℕ × ℕ)) (line : List ℕ) (w : HexWhy) (result : Result (Progress × Flash) HexWhy) → Holds flash es
+failed_by : (base : ℕ) (flash : Flash) (es : List (ℕ × ℕ)) (line : List ℕ) (w : HexWhy) (result : Result (Progress × Flash) HexWhy)
+    → Holds flash es
     → IsLeast base es line w → Outcome base flash es line result → result ≡ Err w
-failed_by base flash es line w (Ok (More next, held)) h least (inl blank) = absurd (blank_stands base es w (subst (λ l. Stands base es l w) blank.0 least.stands))
+failed_by base flash es line w (Ok (More next, held)) h least (inl blank) =
+    absurd (blank_stands base es w (subst (λ l. Stands base es l w) blank.0 least.stands))
 failed_by base flash es line w (Ok (More next, held)) h least (inr came) =
-    absurd (nothing_stands base es line (sound_clear base es line came.0 came.1 came.5 (agree_held held (es ++ given base came.0) came.4)) w least.stands)
-failed_by base flash es line w (Ok (Ended, held)) h least came = absurd (nothing_stands base es line (end_clear base flash es line came.0 h came.1 came.2) w least.stands)
+    absurd (nothing_stands base es line (sound_clear base es line came.0 came.1 came.5 (agree_held held (es ++ given base came.0) came.4)) w
+    least.stands)
+failed_by base flash es line w (Ok (Ended, held)) h least came =
+    absurd (nothing_stands base es line (end_clear base flash es line came.0 h came.1 came.2) w least.stands)
 failed_by base flash es line w (Err v) h least other = ap Err (same_least base es line v w other least)
 
-pub fails : (base : ℕ) (flash : Flash) (es : List (ℕ × ℕ)) (line : List ℕ) (w : HexWhy) → Holds flash es → IsLeast base es line w → after_line base flash line ≡ Err w
+pub fails : (base : ℕ) (flash : Flash) (es : List (ℕ × ℕ)) (line : List ℕ) (w : HexWhy) → Holds flash es → IsLeast base es line w
+    → after_line base flash line ≡ Err w
 fails base flash es line w h least = failed_by base flash es line w (after_line base flash line) h least (outcome base flash es line h)

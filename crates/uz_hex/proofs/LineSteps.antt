@@ -1,5 +1,6 @@
 -- One line more is cut off a text and read.
-use Rattle.std.proofs.Common.{◌≡◌, ℕ, suc, ◌+◌, ◌-◌, ◌<◌, ◌≤◌, ◌==◌, Bool, true, false, cond, ltb, List, [], ◌∷◌, length, take, drop, Some, None, inl, inr, Result, Ok, Err, refl, sym, ap, ◌∙◌, arith, not}
+use Rattle.std.proofs.Common.{◌≡◌, ℕ, suc, ◌+◌, ◌-◌, ◌<◌, ◌≤◌, ◌==◌, Bool, true, false, cond, ltb, List, [], ◌∷◌, length, take, drop, Some}
+use Rattle.std.proofs.Common.{None, inl, inr, Result, Ok, Err, refl, sym, ap, ◌∙◌, arith, not}
 use Rattle.std.specs.List.{slice_split, onto_first, position, position_or_len}
 use Rattle.std.specs.Str.Lines.{strip_carriage_return}
 use Rattle.std.proofs.lemmas.Bool.{cases_lt}
@@ -58,7 +59,8 @@ split_next xs n h =
     slice_split_first is_lf xs 0 at.1 ∙ ap (λ k. take k xs ∷ slice_split is_lf (drop (k + 1) xs)) at.0
 
 split_by : (x : ℕ) (xs : List ℕ) (b : Bool) → (length xs ≤ position_or_len is_lf xs → slice_split is_lf xs ≡ xs ∷ [])
-    → suc (length xs) ≤ cond (not b) (1 + position_or_len is_lf xs) 0 → cond b ([] ∷ slice_split is_lf xs) (onto_first x (slice_split is_lf xs)) ≡ (x ∷ xs) ∷ []
+    → suc (length xs) ≤ cond (not b) (1 + position_or_len is_lf xs) 0 → cond b ([] ∷ slice_split is_lf xs)
+    (onto_first x (slice_split is_lf xs)) ≡ (x ∷ xs) ∷ []
 split_by x xs true rest h = absurd (omega arith)
 split_by x xs false rest h = ap (onto_first x) (rest (omega arith))
 
@@ -69,11 +71,13 @@ split_rest (x ∷ xs) h = split_by x xs (is_lf x) (λ k. split_rest xs k) h
 split_last : (xs : List ℕ) → position is_lf xs ≡ None → slice_split is_lf xs ≡ xs ∷ []
 split_last xs h = split_rest xs (position_none (position_or_len is_lf xs) (length xs) h)
 
-lines_next : (xs : List ℕ) (n : ℕ) → position is_lf xs ≡ Some n → lines_of xs ≡ trimmed (strip_carriage_return (take n xs)) ∷ lines_of (drop (n + 1) xs)
+lines_next : (xs : List ℕ) (n : ℕ) → position is_lf xs ≡ Some n → lines_of xs ≡ trimmed (strip_carriage_return (take n xs)) ∷ lines_of
+    (drop (n + 1) xs)
 lines_next xs n h =
     let rest = parts_cons (drop (n + 1) xs) in
     ap cleaned (split_next xs n h)
-    ∙ (ap (λ parts. cleaned (take n xs ∷ parts)) rest.2 ∙ ap (λ parts. trimmed (strip_carriage_return (take n xs)) ∷ cleaned parts) (sym rest.2))
+    ∙ (ap (λ parts. cleaned (take n xs ∷ parts)) rest.2 ∙ ap (λ parts. trimmed (strip_carriage_return (take n xs)) ∷ cleaned parts)
+    (sym rest.2))
 
 lines_last : (xs : List ℕ) → position is_lf xs ≡ None → lines_of xs ≡ trimmed xs ∷ []
 lines_last xs h = ap cleaned (split_last xs h)
@@ -125,7 +129,8 @@ next_more before base start n next flash held text line p h cut more is =
     ∙ ap (λ k. read_lines k next held (lines_of (drop (start + n + 1) text))) one)
 
 -- within the text
-pub next_within : (start n : ℕ) (text : List ℕ) → start ≤ length text → Some n ≡ position is_lf (rest_of start text) → start + n + 1 ≤ length text
+pub next_within : (start n : ℕ) (text : List ℕ) → start ≤ length text → Some n ≡ position is_lf (rest_of start text)
+    → start + n + 1 ≤ length text
 next_within start n text h place =
     let below = position_some (position_or_len is_lf (rest_of start text)) (length (rest_of start text)) n (sym place) in
     let len : length (rest_of start text) ≡ length text - start = ap length (rest_of-drop start text) ∙ length-drop start text in
@@ -154,14 +159,17 @@ last_line before base start flash text line r h cut is =
     ∙ ap (λ a. go_on (suc before) a (no_end before)) (ap (after_line base flash) (sym cut) ∙ is))
 
 pub last_more : (before base start next : ℕ) (flash held : Flash) (text line : List ℕ) (p : Progress)
-    → None ≡ position is_lf (rest_of start text) → line ≡ trimmed (rest_of start text) → p ≡ More next → after_line base flash line ≡ Ok (p, held)
+    → None ≡ position is_lf (rest_of start text) → line ≡ trimmed (rest_of start text) → p ≡ More next → after_line base flash line ≡ Ok
+    (p, held)
     → read_lines before base flash (lines_of (drop start text)) ≡ Err (before + 1, why.NoEnd)
 last_more before base start next flash held text line p h cut more is =
     let one : suc before ≡ before + 1 = omega arith in
-    last_line before base start flash text line (Ok (More next, held)) h cut (is ∙ ap (λ q. Ok (q, held)) more) ∙ ap (λ k. Err (k, why.NoEnd)) one
+    last_line before base start flash text line (Ok (More next, held)) h cut (is ∙ ap (λ q. Ok (q, held)) more)
+    ∙ ap (λ k. Err (k, why.NoEnd)) one
 
 pub last_ended : (before base start : ℕ) (flash held : Flash) (text line : List ℕ) (p : Progress)
-    → None ≡ position is_lf (rest_of start text) → line ≡ trimmed (rest_of start text) → p ≡ Ended → after_line base flash line ≡ Ok (p, held)
+    → None ≡ position is_lf (rest_of start text) → line ≡ trimmed (rest_of start text) → p ≡ Ended → after_line base flash line ≡ Ok
+    (p, held)
     → read_lines before base flash (lines_of (drop start text)) ≡ Ok held
 last_ended before base start flash held text line p h cut ended is =
     last_line before base start flash text line (Ok (Ended, held)) h cut (is ∙ ap (λ q. Ok (q, held)) ended)

@@ -1,5 +1,6 @@
 -- What placing bytes in the flash says of the bytes that it holds.
-use Rattle.std.proofs.Common.{◌≡◌, ◌≢◌, ℕ, zero, suc, ◌+◌, ◌-◌, ◌<◌, ◌≤◌, ◌==◌, ◌||◌, true, false, List, [], ◌∷◌, ◌++◌, length, get_or, Option, Ok, Err, Some, None, ◌⊎◌, inl, inr, refl, sym, ap, subst, ◌∙◌, arith, append_assoc}
+use Rattle.std.proofs.Common.{◌≡◌, ◌≢◌, ℕ, zero, suc, ◌+◌, ◌-◌, ◌<◌, ◌≤◌, ◌==◌, ◌||◌, true, false, List, [], ◌∷◌, ◌++◌, length, get_or}
+use Rattle.std.proofs.Common.{Option, Ok, Err, Some, None, ◌⊎◌, inl, inr, refl, sym, ap, subst, ◌∙◌, arith, append_assoc}
 use Rattle.std.specs.Prelude.{nat_le}
 use Rattle.std.proofs.lemmas.Bool.{eqb-true, eqb-false}
 use Rattle.std.proofs.lemmas.Bool.Decides.{nat_tests, eqb_tells}
@@ -32,7 +33,8 @@ gives_either (x ∷ xs) ys at b (inr later) = elim (gives_either xs ys at b late
 numbered_within : (at : ℕ) (bytes : List ℕ) (x b : ℕ) → Gives (numbered at bytes) x b → (at ≤ x) × (x < at + length bytes)
 numbered_within at [] x b h = absurd h
 numbered_within at (byte ∷ bytes) x b (inl here) = let e = here.0 in (omega arith, omega arith)
-numbered_within at (byte ∷ bytes) x b (inr later) = let r = numbered_within (suc at) bytes x b later in (omega (arith, r.0), omega (arith, r.1))
+numbered_within at (byte ∷ bytes) x b (inr later) = let r = numbered_within (suc at) bytes x b later in
+    (omega (arith, r.0), omega (arith, r.1))
 
 pub numbered_at : (at : ℕ) (bytes : List ℕ) (k x : ℕ) → k < length bytes → x ≡ at + k → Gives (numbered at bytes) x (get_or bytes k 0)
 numbered_at at [] k x h e = absurd (omega arith)
@@ -58,7 +60,8 @@ refused : (held : Option ℕ) (byte : ℕ) → takes held byte ≡ false → (th
 refused None byte t = cc t
 refused (Some there) byte t = (there, refl, eqb-false there byte t)
 
-holds_insert : (flash : Flash) (es : List (ℕ × ℕ)) (at byte : ℕ) → takes (get flash at) byte ≡ true → Holds flash es → Holds (insert flash at byte) (es ++ (at, byte) ∷ [])
+holds_insert : (flash : Flash) (es : List (ℕ × ℕ)) (at byte : ℕ) → takes (get flash at) byte ≡ true → Holds flash es
+    → Holds (insert flash at byte) (es ++ (at, byte) ∷ [])
 holds_insert flash es at byte t h x b = elim (eqb_tells x at) [
   | inl here ↦
       let e : x ≡ at = here.1 in
@@ -91,7 +94,8 @@ holds_insert flash es at byte t h x b = elim (eqb_tells x at) [
 
 -- ---- many bytes
 
-with_bytes_ok : (bytes : List ℕ) (at : ℕ) (flash held : Flash) (es : List (ℕ × ℕ)) → with_bytes flash at bytes ≡ Ok held → Holds flash es → Holds held (es ++ numbered at bytes)
+with_bytes_ok : (bytes : List ℕ) (at : ℕ) (flash held : Flash) (es : List (ℕ × ℕ)) → with_bytes flash at bytes ≡ Ok held → Holds flash es
+    → Holds held (es ++ numbered at bytes)
 with_bytes_ok [] at flash held es r h =
     let same : flash ≡ held = cc r in
     subst (λ f. Holds f (es ++ [])) same (subst (Holds flash) (sym (append-nil es)) h)
@@ -106,18 +110,29 @@ with_bytes_ok (byte ∷ bytes) at flash held es r h =
 abbrev pub Clash : List (ℕ × ℕ) → Type 0
 Clash es = (at b c : ℕ) × Gives es at b × Gives es at c × (b ≢ c)
 
-with_bytes_err : (bytes : List ℕ) (at : ℕ) (flash : Flash) (w : HexWhy) (es : List (ℕ × ℕ)) → with_bytes flash at bytes ≡ Err w → Holds flash es
+with_bytes_err : (bytes : List ℕ) (at : ℕ) (flash : Flash) (w : HexWhy) (es : List (ℕ × ℕ)) → with_bytes flash at bytes ≡ Err w
+    → Holds flash es
     → (w ≡ why.Conflict) × Clash (es ++ numbered at bytes)
 with_bytes_err [] at flash w es r h = cc r
 with_bytes_err (byte ∷ bytes) at flash w es r h =
     elim (chosen (takes (get flash at) byte) (with_bytes (insert flash at byte) (suc at) bytes) (Err why.Conflict) (Err w) r) [
       | inl can ↦
-          let later = with_bytes_err bytes (suc at) (insert flash at byte) w (es ++ (at, byte) ∷ []) can.1 (holds_insert flash es at byte can.0 h) in
+          let later = with_bytes_err bytes (suc at) (insert flash at byte) w (es ++ (at, byte) ∷ []) can.1
+          (holds_insert flash es at byte can.0 h) in
           (later.0, subst Clash (append_assoc es ((at, byte) ∷ []) (numbered (suc at) bytes)) later.1)
       | inr cannot ↦
           let there = refused (get flash at) byte cannot.0 in
-          let is : w ≡ why.Conflict = cc cannot.1 in
-          (is, (at, there.0, byte, gives_left es (numbered at (byte ∷ bytes)) at there.0 ((h at there.0).0 there.1), gives_right es (numbered at (byte ∷ bytes)) at byte (inl (refl, refl)), there.2))
+          let is : w ≡ why.Conflict = cc cannot.1 in (
+            is,
+            (
+              at,
+              there.0,
+              byte,
+              gives_left es (numbered at (byte ∷ bytes)) at there.0 ((h at there.0).0 there.1),
+              gives_right es (numbered at (byte ∷ bytes)) at byte (inl (refl, refl)),
+              there.2,
+            ),
+          )
     ]
 
 -- ---- with the test of the range
@@ -128,7 +143,8 @@ fits_range at n x t low high = grind (arith, nat_tests)
 past_range : (at n : ℕ) → ((n == 0) || nat_le (at + n) 65536) ≡ false → (0 < n) × (65536 < at + n)
 past_range at n t = (grind (arith, nat_tests), grind (arith, nat_tests))
 
-in_flash_numbered : (at : ℕ) (bytes : List ℕ) → ((length bytes == 0) || nat_le (at + length bytes) 65536) ≡ true → InFlash (numbered at bytes)
+in_flash_numbered : (at : ℕ) (bytes : List ℕ) → ((length bytes == 0) || nat_le (at + length bytes) 65536) ≡ true
+    → InFlash (numbered at bytes)
 in_flash_numbered at bytes t x b g =
     let in' = numbered_within at bytes x b g in
     fits_range at (length bytes) x t in'.0 in'.1

@@ -1,5 +1,6 @@
 -- What reading the bytes of a record says of the record.
-use Rattle.std.proofs.Common.{◌≡◌, ℕ, ◌+◌, ◌*◌, ◌/◌, ◌%◌, ◌<◌, ◌≤◌, ◌==◌, true, cond, List, [], ◌∷◌, ◌++◌, length, length-take, length-append, take, get_or, sum, Ok, Err, Some, None, ◌⊎◌, inl, inr, refl, sym, ap, subst, ◌∙◌, arith}
+use Rattle.std.proofs.Common.{◌≡◌, ℕ, ◌+◌, ◌*◌, ◌/◌, ◌%◌, ◌<◌, ◌≤◌, ◌==◌, true, cond, List, [], ◌∷◌, ◌++◌, length, length-take}
+use Rattle.std.proofs.Common.{length-append, take, get_or, sum, Ok, Err, Some, None, ◌⊎◌, inl, inr, refl, sym, ap, subst, ◌∙◌, arith}
 use Rattle.std.specs.Prelude.{slice_index}
 use Rattle.std.proofs.lemmas.Bool.{cases_eq, cases_lt, eqb-true, eqb-false}
 use Rattle.std.proofs.lemmas.Bool.Decides.{nat_tests}
@@ -10,7 +11,8 @@ use Rattle.uz_hex.specs.Records.{Record, code_of, HasLength, record_bytes, Encod
 use Rattle.uz_hex.specs.HexText.{IsLeast}
 use Rattle.uz_hex.specs.Reading.{bytes_of, type_of, has_length, with_length, kind_of, address_of, data_of}
 use Rattle.uz_hex.specs.declared.records.RecordType.{RecordType}
-use Rattle.uz_hex.specs.declared.records.RecordType.TheVariants.{Data, EndOfFile, ExtendedSegment, StartSegment, ExtendedLinear, StartLinear}
+use Rattle.uz_hex.specs.declared.records.RecordType.TheVariants.{Data, EndOfFile, ExtendedSegment, StartSegment, ExtendedLinear}
+use Rattle.uz_hex.specs.declared.records.RecordType.TheVariants.{StartLinear}
 use Rattle.uz_hex.specs.declared.errors.HexWhy.{HexWhy}
 use Rattle.uz_hex.specs.declared.errors.HexWhy.TheVariants as why
 use Rattle.uz_hex.proofs.WhyLaws.{Clear, clear_more, is_least}
@@ -81,27 +83,35 @@ kind_ok bytes kind h =
       | inr bad ↦ cc bad.1
       | inl sums ↦ elim (types (slice_index bytes 3)) [
         | inl none ↦
-            let e : with_length (slice_index bytes 0) (type_of (slice_index bytes 3)) ≡ Err why.Kind = ap (with_length (slice_index bytes 0)) none.1 in
+            let e : with_length (slice_index bytes 0) (type_of (slice_index bytes 3)) ≡ Err why.Kind =
+            ap (with_length (slice_index bytes 0)) none.1 in
             cc (sym e ∙ sums.1)
         | inr some ↦
             let e = ap (with_length (slice_index bytes 0)) some.2 in
             elim (chosen (has_length some.0 (slice_index bytes 0)) (Ok some.0) (Err why.Length) (Ok kind) (sym e ∙ sums.1)) [
               | inr long ↦ cc long.1
               | inl fits ↦
-                  let same : some.0 ≡ kind = cc fits.1 in
-                  (eqb-true (sum bytes % 256) 0 sums.0, ap code_of (sym same) ∙ some.1, subst (λ k. HasLength k (slice_index bytes 0)) same (length_fits some.0 (slice_index bytes 0) fits.0))
+                  let same : some.0 ≡ kind = cc fits.1 in (
+                    eqb-true (sum bytes % 256) 0 sums.0,
+                    ap code_of (sym same) ∙ some.1,
+                    subst (λ k. HasLength k (slice_index bytes 0)) same
+                        (length_fits some.0 (slice_index bytes 0) fits.0),
+                  )
             ]
       ]
     ]
 
 -- one record's bytes sum to 0, and so on: what is clear
-sum_clear : (base : ℕ) (earlier : List (ℕ × ℕ)) (line bytes : List ℕ) → Encodes line bytes → slice_index bytes 0 + 5 ≡ length bytes → sum bytes % 256 ≡ 0 → Clear base earlier line 4
+sum_clear : (base : ℕ) (earlier : List (ℕ × ℕ)) (line bytes : List ℕ) → Encodes line bytes → slice_index bytes 0 + 5 ≡ length bytes
+    → sum bytes % 256 ≡ 0 → Clear base earlier line 4
 sum_clear base earlier line bytes e counts sums = clear_more base earlier line 3 why.Sum refl (short_clear base earlier line bytes e counts)
     (λ s. s.2 (ap (λ xs. sum xs % 256) (encodes_same line s.0 bytes s.1 e) ∙ sums))
 
-kind_clear : (base : ℕ) (earlier : List (ℕ × ℕ)) (line bytes : List ℕ) (kind : RecordType) → Encodes line bytes → slice_index bytes 0 + 5 ≡ length bytes → sum bytes % 256 ≡ 0
+kind_clear : (base : ℕ) (earlier : List (ℕ × ℕ)) (line bytes : List ℕ) (kind : RecordType) → Encodes line bytes → slice_index bytes
+    0 + 5 ≡ length bytes → sum bytes % 256 ≡ 0
     → code_of kind ≡ slice_index bytes 3 → Clear base earlier line 5
-kind_clear base earlier line bytes kind e counts sums is = clear_more base earlier line 4 why.Kind refl (sum_clear base earlier line bytes e counts sums)
+kind_clear base earlier line bytes kind e counts sums is = clear_more base earlier line 4 why.Kind refl
+    (sum_clear base earlier line bytes e counts sums)
     (λ s. let same : slice_index s.0 3 ≡ slice_index bytes 3 = ap (λ (xs : List ℕ). slice_index xs 3) (encodes_same line s.0 bytes s.1 e) in
     let small = code_small kind in
     let high = s.2 in absurd (omega arith))
@@ -112,35 +122,43 @@ same_code a b h =
     let e : Some a ≡ Some b = sym (type_of-code_of a) ∙ (ap type_of h ∙ type_of-code_of b) in
     cc e
 
-pub length_clear : (base : ℕ) (earlier : List (ℕ × ℕ)) (line bytes : List ℕ) (kind : RecordType) → Encodes line bytes → slice_index bytes 0 + 5 ≡ length bytes → sum bytes % 256 ≡ 0
+pub length_clear : (base : ℕ) (earlier : List (ℕ × ℕ)) (line bytes : List ℕ) (kind : RecordType) → Encodes line bytes → slice_index bytes
+    0 + 5 ≡ length bytes → sum bytes % 256 ≡ 0
     → code_of kind ≡ slice_index bytes 3 → HasLength kind (slice_index bytes 0) → Clear base earlier line 6
-length_clear base earlier line bytes kind e counts sums is fits = clear_more base earlier line 5 why.Length refl (kind_clear base earlier line bytes kind e counts sums is)
+length_clear base earlier line bytes kind e counts sums is fits = clear_more base earlier line 5 why.Length refl
+    (kind_clear base earlier line bytes kind e counts sums is)
     (λ s. let one = encodes_same line s.0 bytes s.2 e in
     let code : code_of s.1 ≡ code_of kind = s.3 ∙ (ap (λ (xs : List ℕ). slice_index xs 3) one ∙ sym is) in
     let same = same_code s.1 kind code in
-    s.4 (subst (λ k. HasLength k (slice_index s.0 0)) (sym same) (subst (λ n. HasLength kind n) (sym (ap (λ (xs : List ℕ). slice_index xs 0) one)) fits)))
+    s.4 (subst (λ k. HasLength k (slice_index s.0 0)) (sym same)
+    (subst (λ n. HasLength kind n) (sym (ap (λ (xs : List ℕ). slice_index xs 0) one)) fits)))
 
-pub kind_err : (base : ℕ) (earlier : List (ℕ × ℕ)) (line bytes : List ℕ) (w : HexWhy) → Encodes line bytes → slice_index bytes 0 + 5 ≡ length bytes → kind_of bytes ≡ Err w
+pub kind_err : (base : ℕ) (earlier : List (ℕ × ℕ)) (line bytes : List ℕ) (w : HexWhy) → Encodes line bytes → slice_index bytes
+    0 + 5 ≡ length bytes → kind_of bytes ≡ Err w
     → IsLeast base earlier line w
 kind_err base earlier line bytes w e counts h =
     elim (chosen (sum bytes % 256 == 0) (with_length (slice_index bytes 0) (type_of (slice_index bytes 3))) (Err why.Sum) (Err w) h) [
       | inr bad ↦
           let is : why.Sum ≡ w = cc bad.1 in
-          subst (IsLeast base earlier line) is (is_least base earlier line 3 why.Sum refl (short_clear base earlier line bytes e counts) (bytes, e, eqb-false (sum bytes % 256) 0 bad.0))
+          subst (IsLeast base earlier line) is (is_least base earlier line 3 why.Sum refl (short_clear base earlier line bytes e counts)
+          (bytes, e, eqb-false (sum bytes % 256) 0 bad.0))
       | inl good ↦
           let sums = eqb-true (sum bytes % 256) 0 good.0 in
           elim (types (slice_index bytes 3)) [
             | inl none ↦
-                let k : with_length (slice_index bytes 0) (type_of (slice_index bytes 3)) ≡ Err why.Kind = ap (with_length (slice_index bytes 0)) none.1 in
+                let k : with_length (slice_index bytes 0) (type_of (slice_index bytes 3)) ≡ Err why.Kind =
+                ap (with_length (slice_index bytes 0)) none.1 in
                 let is : why.Kind ≡ w = cc (sym k ∙ good.1) in
-                subst (IsLeast base earlier line) is (is_least base earlier line 4 why.Kind refl (sum_clear base earlier line bytes e counts sums) (bytes, e, none.0))
+                subst (IsLeast base earlier line) is
+                (is_least base earlier line 4 why.Kind refl (sum_clear base earlier line bytes e counts sums) (bytes, e, none.0))
             | inr some ↦
                 let k = ap (with_length (slice_index bytes 0)) some.2 in
                 elim (chosen (has_length some.0 (slice_index bytes 0)) (Ok some.0) (Err why.Length) (Err w) (sym k ∙ good.1)) [
                   | inl fits ↦ cc fits.1
                   | inr long ↦
                       let is : why.Length ≡ w = cc long.1 in
-                      subst (IsLeast base earlier line) is (is_least base earlier line 5 why.Length refl (kind_clear base earlier line bytes some.0 e counts sums some.1)
+                      subst (IsLeast base earlier line) is
+                      (is_least base earlier line 5 why.Length refl (kind_clear base earlier line bytes some.0 e counts sums some.1)
                       (bytes, some.0, e, some.1, λ f. cc (sym (fits_length some.0 (slice_index bytes 0) f) ∙ long.0)))
                 ]
           ]
@@ -153,12 +171,15 @@ one_more : (rest : List ℕ) (n : ℕ) → length rest ≡ n + 1 → take n rest
 one_more rest n h = sym (take_more rest n 0 (omega arith)) ∙ take_all (n + 1) rest (omega arith)
 
 -- the record of some bytes
-pub spelled_by : (line bytes : List ℕ) (kind : RecordType) → Encodes line bytes → slice_index bytes 0 + 5 ≡ length bytes → sum bytes % 256 ≡ 0
-    → code_of kind ≡ slice_index bytes 3 → HasLength kind (slice_index bytes 0) → Spells line (record { address = address_of bytes; kind = kind; bytes = data_of bytes })
+pub spelled_by : (line bytes : List ℕ) (kind : RecordType) → Encodes line bytes → slice_index bytes 0 + 5 ≡ length bytes
+    → sum bytes % 256 ≡ 0
+    → code_of kind ≡ slice_index bytes 3 → HasLength kind (slice_index bytes 0)
+    → Spells line (record { address = address_of bytes; kind = kind; bytes = data_of bytes })
 spelled_by line bytes kind e counts sums is fits = by_bytes bytes e counts sums is fits
   where
     by_bytes : (bytes : List ℕ) → Encodes line bytes → slice_index bytes 0 + 5 ≡ length bytes → sum bytes % 256 ≡ 0
-        → code_of kind ≡ slice_index bytes 3 → HasLength kind (slice_index bytes 0) → Spells line (record { address = address_of bytes; kind = kind; bytes = data_of bytes })
+        → code_of kind ≡ slice_index bytes 3 → HasLength kind (slice_index bytes 0)
+        → Spells line (record { address = address_of bytes; kind = kind; bytes = data_of bytes })
     by_bytes [] e counts sums is fits = absurd (omega arith)
     by_bytes (a ∷ []) e counts sums is fits = absurd (omega arith)
     by_bytes (a ∷ b ∷ []) e counts sums is fits = absurd (omega arith)
@@ -171,7 +192,8 @@ spelled_by line bytes kind e counts sums is fits = by_bytes bytes e counts sums 
         let high : (256 * b + c) / 256 ≡ b = omega arith in
         let low : (256 * b + c) % 256 ≡ c = omega arith in
         let tail : take a rest ++ (get_or rest a 0 ∷ []) ≡ rest = one_more rest a (omega arith) in
-        let whole : record_bytes (record { address = 256 * b + c; kind = kind; bytes = take a rest }) (get_or rest a 0) ≡ a ∷ b ∷ c ∷ d ∷ rest = rw (len, high, low, is, tail) refl in
+        let whole : record_bytes (record { address = 256 * b + c; kind = kind; bytes = take a rest }) (get_or rest a 0) ≡ a ∷ b ∷ c ∷ d
+        ∷ rest = rw (len, high, low, is, tail) refl in
         record {
           checksum = get_or rest a 0;
           encoded = subst (Encodes line) (sym whole) e;
@@ -199,7 +221,8 @@ spells_read line r s =
     let fits : has_length r.kind (length r.bytes) ≡ true = fits_length r.kind (length r.bytes) s.fits in
     record {
       encoded = encoded_read line (record_bytes r s.checksum) s.encoded (counts_record r s.checksum);
-      kind = ap (λ b. cond b (with_length (length r.bytes) (type_of (code_of r.kind))) (Err why.Sum)) sums ∙ (ap (with_length (length r.bytes)) (type_of-code_of r.kind) ∙ ap (λ b. cond b (Ok r.kind) (Err why.Length)) fits);
+      kind = ap (λ b. cond b (with_length (length r.bytes) (type_of (code_of r.kind))) (Err why.Sum)) sums
+          ∙ (ap (with_length (length r.bytes)) (type_of-code_of r.kind) ∙ ap (λ b. cond b (Ok r.kind) (Err why.Length)) fits);
       address = omega arith;
       rest = take-append_seam r.bytes (s.checksum ∷ []);
     }

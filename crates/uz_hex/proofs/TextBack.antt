@@ -1,5 +1,6 @@
 -- The text of an image is Intel HEX of that image.
-use Rattle.std.proofs.Common.{◌≡◌, ℕ, zero, suc, ◌+◌, ◌-◌, ◌/◌, ◌%◌, ◌<◌, ◌≤◌, ◌==◌, true, false, cond, List, [], ◌∷◌, ◌++◌, length, take, get_or, map, sum, codes, Some, inl, inr, refl, sym, ap, subst, ◌∙◌, arith, append_assoc, zero-add}
+use Rattle.std.proofs.Common.{◌≡◌, ℕ, zero, suc, ◌+◌, ◌-◌, ◌/◌, ◌%◌, ◌<◌, ◌≤◌, ◌==◌, true, false, cond, List, [], ◌∷◌, ◌++◌, length, take}
+use Rattle.std.proofs.Common.{get_or, map, sum, codes, Some, inl, inr, refl, sym, ap, subst, ◌∙◌, arith, append_assoc, zero-add}
 use Rattle.std.specs.Prelude.{slice_index, nat_le}
 use Rattle.std.specs.List.{AllByRecursion, All, list_all, suffix_len}
 use Rattle.std.specs.Str.Lines.{strip_carriage_return}
@@ -14,7 +15,8 @@ use Rattle.hex.specs.Hex.{encode_with, encode_upper, upper_digits, hex_digit_val
 use Rattle.hex.proofs.HexLemmas.{decode_of-encode_upper, IsDigits-upper_digits}
 use Rattle.hex.proofs.OnLiterals.{hex_on_literals}
 use Rattle.uz_hex.specs.Cells.{IsFlash}
-use Rattle.uz_hex.specs.Records.{Record, code_of, HasLength, record_bytes, Spells, given, given_by, base_after, base_by, value_of, numbered, placed, Gives}
+use Rattle.uz_hex.specs.Records.{Record, code_of, HasLength, record_bytes, Spells, given, given_by, base_after, base_by, value_of, numbered}
+use Rattle.uz_hex.specs.Records.{placed, Gives}
 use Rattle.uz_hex.specs.HexText.{is_blank, trimmed, cleaned, lines_of, Spelled, Holds, IsHexOf}
 use Rattle.uz_hex.specs.Writing.{IsDataRecord, records_of, checksum_of, line_of, with_lf, lines_text, hex_text}
 use Rattle.uz_hex.specs.declared.records.RecordType.TheVariants.{Data, EndOfFile}
@@ -72,7 +74,8 @@ trimmed_solid c line s =
     let n : ℕ = length (c ∷ line) in
     let last = not_blank (get_or (c ∷ line) (n - 1) 0) (solid_at (c ∷ line) (n - 1) 0 s (omega arith)) in
     let whole : take n (c ∷ line) ≡ c ∷ line = take_all n (c ∷ line) (omega arith) in
-    let none : suffix_len is_blank (c ∷ line) ≡ 0 = ap (suffix_len is_blank) (sym whole) ∙ suffix_len-take_no is_blank (c ∷ line) n 0 (omega arith) (omega arith) last in
+    let none : suffix_len is_blank (c ∷ line) ≡ 0 = ap (suffix_len is_blank) (sym whole) ∙ suffix_len-take_no is_blank (c ∷ line) n 0
+    (omega arith) (omega arith) last in
     ap (λ k. take (n - k) (c ∷ line)) none ∙ take_all (n - 0) (c ∷ line) (omega arith)
 
 stripped_solid : (c : ℕ) (line : List ℕ) → Solid (c ∷ line) → strip_carriage_return (c ∷ line) ≡ c ∷ line
@@ -127,13 +130,19 @@ written_bytes r checksum w h =
     let three : List ℕ = r.address % 256 ∷ two in
     let four : List ℕ = r.address / 256 ∷ three in
     let small : code_of r.kind < 256 = subst (λ k. code_of k < 256) (sym w.shape.kind) (omega arith) in
-    bytes_cons (length r.bytes) four (omega arith) (bytes_cons (r.address / 256) three (omega arith) (bytes_cons (r.address % 256) two (omega arith)
+    bytes_cons (length r.bytes) four (omega arith) (bytes_cons (r.address / 256) three (omega arith)
+    (bytes_cons (r.address % 256) two (omega arith)
     (bytes_cons (code_of r.kind) one small (bytes_push r.bytes checksum w.bytes h))))
 
 spells_written : (r : Record) → IsWritten r → Spells (line_of r) r
 spells_written r w = record {
   checksum = checksum_of r;
-  encoded = (encode_upper (record_bytes r (checksum_of r)), refl, decode_of-encode_upper (record_bytes r (checksum_of r)) (written_bytes r (checksum_of r) w (omega arith)));
+  encoded = (
+    encode_upper (record_bytes r (checksum_of r)),
+    refl,
+    decode_of-encode_upper (record_bytes r (checksum_of r))
+        (written_bytes r (checksum_of r) w (omega arith)),
+  );
   sums = record_sums r;
   fits = subst (λ k. HasLength k (length r.bytes)) (sym w.shape.kind) tt;
 }
@@ -157,7 +166,8 @@ written_one : (r : Record) (records : List Record) → IsDataRecord r → FlashB
 written_one r records shape flash =
     let gives : (k : ℕ) → k < length r.bytes → Gives (placed 0 (r ∷ records)) (r.address + k) (get_or r.bytes k 0) = λ k h.
     gives_left (given 0 r) (placed (base_after 0 r) records) (r.address + k) (get_or r.bytes k 0)
-    (subst (λ es. Gives es (r.address + k) (get_or r.bytes k 0)) (numbered_given r shape.kind) (numbered_at r.address r.bytes k (r.address + k) h refl)) in
+    (subst (λ es. Gives es (r.address + k) (get_or r.bytes k 0)) (numbered_given r shape.kind)
+    (numbered_at r.address r.bytes k (r.address + k) h refl)) in
     let some = shape.some in
     let first = flash (r.address + 0) (get_or r.bytes 0 0) (gives 0 (omega arith)) in
     record {
@@ -173,15 +183,26 @@ written_rest : (r : Record) (records : List Record) → IsDataRecord r → Flash
 written_rest r records shape flash at b g = flash at b (gives_right (given 0 r) (placed (base_after 0 r) records) at b
     (subst (λ base. Gives (placed base records) at b) (sym (base_stays r shape.kind)) g))
 
-records_written : (records : List Record) → AllByRecursion IsDataRecord records → FlashBytes (placed 0 records) → AllByRecursion IsWritten records
+records_written : (records : List Record) → AllByRecursion IsDataRecord records → FlashBytes (placed 0 records) → AllByRecursion IsWritten
+    records
 records_written [] all flash = tt
-records_written (r ∷ records) all flash = (written_one r records all.0 flash, records_written records all.1 (written_rest r records all.0 flash))
+records_written (r ∷ records) all flash = (
+  written_one r records all.0 flash,
+  records_written records all.1
+      (written_rest r records all.0 flash),
+)
 
 spelled_written : (records : List Record) → AllByRecursion IsWritten records → Spelled (map line_of records) records
 spelled_written [] all = tt
-spelled_written (r ∷ records) all = (spells_written r all.0, (λ e. let k = all.0.shape.kind in cc (sym k ∙ e)), spelled_written records all.1)
+spelled_written (r ∷ records) all = (
+  spells_written r all.0,
+  (λ e. let k = all.0.shape.kind in cc (sym k ∙ e)),
+  spelled_written records
+      all.1,
+)
 
-lines_written : (records : List Record) (rest : List ℕ) → AllByRecursion IsWritten records → lines_of (lines_text records ++ rest) ≡ map line_of records ++ lines_of rest
+lines_written : (records : List Record) (rest : List ℕ) → AllByRecursion IsWritten records → lines_of (lines_text records ++ rest) ≡ map
+    line_of records ++ lines_of rest
 lines_written [] rest all = refl
 lines_written (r ∷ records) rest all =
     ap lines_of (append_assoc (with_lf (line_of r)) (lines_text records) rest)
@@ -225,7 +246,11 @@ text_back image flash holds =
       after = [] ∷ [];
       parts = lines_written records (with_lf end_line) all ∙ ap (λ ls. map line_of records ++ ls) end_lines;
       records = records;
-      sound = record { spelled = spelled_written records all; in_flash = λ at b g. (bytes at b g).0; agree = agree_held image (placed 0 records) holds_records };
+      sound = record {
+        spelled = spelled_written records all;
+        in_flash = λ at b g. (bytes at b g).0;
+        agree = agree_held image (placed 0 records) holds_records;
+      };
       end = end_record;
       ended = end_spelled;
       is_end = refl;

@@ -12,15 +12,18 @@ pub answer_found : (text : List ℕ) (r : Result Flash HexError) → GivesHex r 
 answer_found text (Ok image) is = subst (IsAnswer (lines_of text)) is (read_is (lines_of text))
 answer_found text (Err e) is = tt
 
-pub answer_only : (text : List ℕ) (r : Result Flash HexError) → GivesHex r (read_text text) → (image : Flash) → IsHexOf text image → GivesHex r (Ok image)
+pub answer_only : (text : List ℕ) (r : Result Flash HexError) → GivesHex r (read_text text) → (image : Flash) → IsHexOf text image
+    → GivesHex r (Ok image)
 answer_only text r is image made = subst (GivesHex r) (read_made (lines_of text) image made) is
 
-pub answer_first : (text : List ℕ) (r : Result Flash HexError) → GivesHex r (read_text text) → IfErr r (λ e. (e.why ≡ why.Memory) ⊎ IsFirstFault text e.line e.why)
+pub answer_first : (text : List ℕ) (r : Result Flash HexError) → GivesHex r (read_text text)
+    → IfErr r (λ e. (e.why ≡ why.Memory) ⊎ IsFirstFault text e.line e.why)
 answer_first text (Ok image) is = tt
 answer_first text (Err e) (inl memory) = inl memory
 answer_first text (Err e) (inr is) = inr (subst (IsAnswer (lines_of text)) is (read_is (lines_of text)))
 
-pub answer_faulty : (text : List ℕ) (r : Result Flash HexError) → GivesHex r (read_text text) → (line : ℕ) (w : HexWhy) → IsFirstFault text line w → GivesHex r (Err (line, w))
+pub answer_faulty : (text : List ℕ) (r : Result Flash HexError) → GivesHex r (read_text text) → (line : ℕ) (w : HexWhy) → IsFirstFault text
+    line w → GivesHex r (Err (line, w))
 answer_faulty text r is line w fault = subst (GivesHex r) (read_faulty (lines_of text) line w fault) is
 
 pub ruleset verdicts = (answer_found, answer_only, answer_first, answer_faulty)

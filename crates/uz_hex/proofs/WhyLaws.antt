@@ -76,7 +76,8 @@ is_least base earlier line k w is clear s = record {
 }
 
 -- where all are clear nothing stands
-pub nothing_stands : (base : ℕ) (earlier : List (ℕ × ℕ)) (line : List ℕ) → Clear base earlier line 8 → (w : HexWhy) → Stands base earlier line w → ⊥
+pub nothing_stands : (base : ℕ) (earlier : List (ℕ × ℕ)) (line : List ℕ) → Clear base earlier line 8 → (w : HexWhy) → Stands base earlier
+    line w → ⊥
 nothing_stands base earlier line clear why.NoColon s = clear.none why.NoColon (omega arith) s
 nothing_stands base earlier line clear why.BadDigit s = clear.none why.BadDigit (omega arith) s
 nothing_stands base earlier line clear why.Short s = clear.none why.Short (omega arith) s
@@ -89,7 +90,8 @@ nothing_stands base earlier line clear why.NoEnd s = s
 nothing_stands base earlier line clear why.Memory s = s
 
 -- two least ones are one
-pub same_least : (base : ℕ) (earlier : List (ℕ × ℕ)) (line : List ℕ) (v w : HexWhy) → IsLeast base earlier line v → IsLeast base earlier line w → v ≡ w
+pub same_least : (base : ℕ) (earlier : List (ℕ × ℕ)) (line : List ℕ) (v w : HexWhy) → IsLeast base earlier line v → IsLeast base earlier
+    line w → v ≡ w
 same_least base earlier line v w a b =
     let low = a.least w b.stands in
     let high = b.least v a.stands in

@@ -15,12 +15,14 @@ use Rattle.uz_hex.proofs.TextLength.{text_length, len_most}
 abbrev pub cells_text : List (Option ℕ) → List ℕ
 cells_text cells = lines_text (cut 0 [] (held_from 0 cells)) ++ with_lf (codes ":00000001FF")
 
-pub written_exact : (image : FinMap nat_cmp ℕ) (cells : List (Option ℕ)) (text : List ℕ) → image ≡ present 0 cells → text ≡ cells_text cells → text ≡ hex_text image
+pub written_exact : (image : FinMap nat_cmp ℕ) (cells : List (Option ℕ)) (text : List ℕ) → image ≡ present 0 cells → text ≡ cells_text cells
+    → text ≡ hex_text image
 written_exact image cells text view is =
     let es : held_from 0 cells ≡ entries image = sym (ap entries view ∙ entries-present cells 0) in
     is ∙ ap (λ e. lines_text (cut 0 [] e) ++ with_lf (codes ":00000001FF")) es
 
-pub written_back : (image : FinMap nat_cmp ℕ) (cells : List (Option ℕ)) (text : List ℕ) → image ≡ present 0 cells → length cells ≡ 65536 → All HoldsByte cells
+pub written_back : (image : FinMap nat_cmp ℕ) (cells : List (Option ℕ)) (text : List ℕ) → image ≡ present 0 cells → length cells ≡ 65536
+    → All HoldsByte cells
     → text ≡ cells_text cells → IsHexOf text image
 written_back image cells text view size bytes is =
     let flash = IsFlash-present cells size bytes in

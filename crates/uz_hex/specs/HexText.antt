@@ -1,7 +1,8 @@
 -- Which texts are Intel HEX, of which image, and what the first fault of another is. A relation over all lines.
 -- Intel, Hexadecimal Object File Format Specification, revision A (1988). Line ends, blanks and blank lines, an image of
 -- 65,536 bytes, no wrapping of segmented addresses, and that a byte may be given twice are this project's profile.
-use Rattle.std.specs.Prelude.{◌≡◌, ◌≢◌, ◌↔◌, ℕ, ◌+◌, ◌-◌, ◌*◌, ◌%◌, ◌<◌, ◌≤◌, ◌==◌, ◌||◌, ◌⊎◌, Bool, false, List, [], ◌∷◌, ◌++◌, length, take, sum, slice_index, Any, Some, Ok}
+use Rattle.std.specs.Prelude.{◌≡◌, ◌≢◌, ◌↔◌, ℕ, ◌+◌, ◌-◌, ◌*◌, ◌%◌, ◌<◌, ◌≤◌, ◌==◌, ◌||◌, ◌⊎◌, Bool, false, List, [], ◌∷◌, ◌++◌, length}
+use Rattle.std.specs.Prelude.{take, sum, slice_index, Any, Some, Ok}
 use Prim.Native.Char.{code}
 use Rattle.std.specs.List.{slice_split, suffix_len}
 use Rattle.std.specs.Str.Lines.{strip_carriage_return}
@@ -83,7 +84,8 @@ Stands base earlier line why.Short = (digits : List ℕ) × (line ≡ code ":" �
     × ((length digits < 10) ⊎ ((count : ℕ) × (decode_of (take 2 digits) ≡ Ok (count ∷ [])) × (length digits ≢ 2 * (count + 5))))
 Stands base earlier line why.Sum = (bytes : List ℕ) × Encodes line bytes × (sum bytes % 256 ≢ 0)
 Stands base earlier line why.Kind = (bytes : List ℕ) × Encodes line bytes × (5 < slice_index bytes 3)
-Stands base earlier line why.Length = (bytes : List ℕ) × (kind : RecordType) × Encodes line bytes × (code_of kind ≡ slice_index bytes 3) × ¬ HasLength kind (slice_index bytes 0)
+Stands base earlier line why.Length = (bytes : List ℕ) × (kind : RecordType) × Encodes line bytes × (code_of kind ≡ slice_index bytes 3)
+    × ¬ HasLength kind (slice_index bytes 0)
 Stands base earlier line why.Range = (r : Record) × Spells line r × (at byte : ℕ) × Gives (given base r) at byte × (65536 ≤ at)
 Stands base earlier line why.Conflict = (r : Record) × Spells line r
     × (at b c : ℕ) × Gives (earlier ++ given base r) at b × Gives (earlier ++ given base r) at c × (b ≢ c)

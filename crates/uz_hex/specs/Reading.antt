@@ -1,5 +1,6 @@
 -- Reading a HEX text as a function on lists: the plain, slow reader.
-use Rattle.std.specs.Prelude.{◌≡◌, ℕ, suc, ◌+◌, ◌*◌, ◌%◌, ◌==◌, ◌||◌, ◌⊎◌, nat_le, Bool, true, if◌then◌else◌, List, [], ◌∷◌, length, take, drop, sum, slice_index, Option, Some, None, Result, Ok, Err}
+use Rattle.std.specs.Prelude.{◌≡◌, ℕ, suc, ◌+◌, ◌*◌, ◌%◌, ◌==◌, ◌||◌, ◌⊎◌, nat_le, Bool, true, if◌then◌else◌, List, [], ◌∷◌, length, take}
+use Rattle.std.specs.Prelude.{drop, sum, slice_index, Option, Some, None, Result, Ok, Err}
 use Prim.Native.Char.{code}
 use Rattle.std.specs.List.{list_all}
 use Rattle.std.specs.Ordering.{nat_cmp}
@@ -9,7 +10,8 @@ use Rattle.hex.specs.declared.error.FromHexError.{FromHexError}
 use Rattle.uz_hex.specs.Records.{value_of, base_by}
 use Rattle.uz_hex.specs.HexText.{lines_of}
 use Rattle.uz_hex.specs.declared.records.RecordType.{RecordType}
-use Rattle.uz_hex.specs.declared.records.RecordType.TheVariants.{Data, EndOfFile, ExtendedSegment, StartSegment, ExtendedLinear, StartLinear}
+use Rattle.uz_hex.specs.declared.records.RecordType.TheVariants.{Data, EndOfFile, ExtendedSegment, StartSegment, ExtendedLinear}
+use Rattle.uz_hex.specs.declared.records.RecordType.TheVariants.{StartLinear}
 use Rattle.uz_hex.specs.declared.records.Progress.{Progress}
 use Rattle.uz_hex.specs.declared.records.Progress.TheVariants.{More, Ended}
 use Rattle.uz_hex.specs.declared.errors.HexWhy.{HexWhy}
@@ -74,7 +76,8 @@ takes (Some held) byte = held == byte
 -- the flash with bytes from an address on
 abbrev pub with_bytes : Flash → ℕ → List ℕ → Result Flash HexWhy
 with_bytes flash at [] = Ok flash
-with_bytes flash at (byte ∷ bytes) = if takes (get flash at) byte then with_bytes (insert flash at byte) (suc at) bytes else Err why.Conflict
+with_bytes flash at (byte ∷ bytes) = if takes (get flash at) byte then with_bytes (insert flash at byte) (suc at) bytes else Err
+    why.Conflict
 
 abbrev pub place : Flash → ℕ → List ℕ → Result Flash HexWhy
 place flash at bytes = if (length bytes == 0) || nat_le (at + length bytes) 65536 then with_bytes flash at bytes else Err why.Range

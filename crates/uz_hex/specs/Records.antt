@@ -4,7 +4,8 @@ use Rattle.std.specs.Prelude.{◌≡◌, ℕ, suc, ◌+◌, ◌*◌, ◌/◌, �
 use Prim.Native.Char.{code}
 use Rattle.hex.specs.Hex.{decode_of}
 use Rattle.uz_hex.specs.declared.records.RecordType.{RecordType}
-use Rattle.uz_hex.specs.declared.records.RecordType.TheVariants.{Data, EndOfFile, ExtendedSegment, StartSegment, ExtendedLinear, StartLinear}
+use Rattle.uz_hex.specs.declared.records.RecordType.TheVariants.{Data, EndOfFile, ExtendedSegment, StartSegment, ExtendedLinear}
+use Rattle.uz_hex.specs.declared.records.RecordType.TheVariants.{StartLinear}
 
 -- the load offset, the record type and the data bytes; the record length is their number
 pub record Record : Type 0 where

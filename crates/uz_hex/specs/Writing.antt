@@ -27,7 +27,8 @@ goes_on start bytes at = (at == start + length bytes) && nat_lt (length bytes) 1
 abbrev pub cut : ℕ → List ℕ → List (ℕ × ℕ) → List Record
 cut start bytes [] = closed start bytes
 cut start bytes (entry ∷ entries) =
-    if goes_on start bytes entry.0 then cut start (bytes ++ entry.1 ∷ []) entries else closed start bytes ++ cut entry.0 (entry.1 ∷ []) entries
+    if goes_on start bytes entry.0 then cut start (bytes ++ entry.1 ∷ []) entries else closed start bytes ++ cut entry.0 (entry.1 ∷ [])
+    entries
 
 -- the records of an image
 abbrev pub records_of : FinMap nat_cmp ℕ → List Record

@@ -1,5 +1,8 @@
 //! Why a text is no Intel HEX text, and in which line.
 
+ghost use Rattle.std.specs.Prelude.{◌≡◌};
+ghost use Rattle.uz_hex.specs.WhyNames.{hex_why_name};
+
 use std::alloc::AllocError;
 
 /// Why a line is refused, in the order that decides where several stand of one line.
@@ -25,6 +28,26 @@ pub enum HexWhy {
     NoEnd,
     /// There was not enough memory. The line says nothing.
     Memory,
+}
+
+impl HexWhy {
+    /// The name, as it is printed.
+    pub fn name(self) -> &'static str
+        ensures { result.now ≡ hex_why_name self }
+    {
+        match self {
+            HexWhy::NoColon => "NoColon",
+            HexWhy::BadDigit => "BadDigit",
+            HexWhy::Short => "Short",
+            HexWhy::Sum => "Sum",
+            HexWhy::Kind => "Kind",
+            HexWhy::Length => "Length",
+            HexWhy::Range => "Range",
+            HexWhy::Conflict => "Conflict",
+            HexWhy::NoEnd => "NoEnd",
+            HexWhy::Memory => "Memory",
+        }
+    }
 }
 
 /// The first faulty line of a text, counted from 1, and the first of its faults.

@@ -91,7 +91,7 @@ impl Image {
     pub fn is_flash(&self)
         ensures { IsFlash self.now }
     {
-        let _ = &self.cells;
+        let _ = &self.cells; // what the law speaks of
     }
 
     /// The 65,536 cells in the order of their addresses.

@@ -1,5 +1,7 @@
 -- All items of a line: what is spelled of facts is read as these facts.
-use Rattle.std.proofs.Common.{◌≡◌, ℕ, zero, suc, ◌+◌, ◌<◌, ◌≤◌, Bool, true, false, cond, not, ◌&&◌, ◌||◌, eqb, leb, ltb, List, [], ◌∷◌, ◌++◌, map, length, take, get_or, decimal, codes, bytes_eq, lit<, lit≤, refl, sym, ◌∙◌, ap, subst, append_assoc, append-nil, add-one, length-append, arith}
+use Rattle.std.proofs.Common.{◌≡◌, ℕ, zero, suc, ◌+◌, ◌<◌, ◌≤◌, Bool, true, false, cond, not, ◌&&◌, ◌||◌, eqb, leb, ltb, List, [], ◌∷◌}
+use Rattle.std.proofs.Common.{◌++◌, map, length, take, get_or, decimal, codes, bytes_eq, lit<, lit≤, refl, sym, ◌∙◌, ap, subst}
+use Rattle.std.proofs.Common.{append_assoc, append-nil, add-one, length-append, arith}
 use Rattle.std.specs.Prelude.{Some, Ok, Err, All, slice_get, slice_set}
 use Rattle.std.proofs.lemmas.List.Elements.{All-head, All-tail}
 use Rattle.std.proofs.lemmas.Fmt.{decimal_digit}
@@ -10,23 +12,28 @@ use Rattle.uz_schedule.specs.declared.kinds.Kind.{Kind}
 use Rattle.uz_schedule.specs.declared.header.Cell.{Cell}
 use Rattle.uz_schedule.specs.declared.facts.Fact.{Fact}
 use Rattle.uz_schedule.specs.declared.facts.PairFact.{PairFact}
-use Rattle.uz_schedule.specs.declared.facts.PairFact.TheVariants.{Any as AnyPair, Between as BetweenPair, Line as LinePair, Loop as LoopPair}
+use Rattle.uz_schedule.specs.declared.facts.PairFact.TheVariants.{Any as AnyPair, Between as BetweenPair, Line as LinePair}
+use Rattle.uz_schedule.specs.declared.facts.PairFact.TheVariants.{Loop as LoopPair}
 use Rattle.uz_schedule.specs.declared.facts.Bit.{Bit}
 use Rattle.uz_schedule.specs.declared.facts.Bit.TheVariants.{Zero, One, Free, Old as OldBit}
 use Rattle.uz_lines.specs.Values.{raw_of, range, one_number}
 use Rattle.uz_lines.specs.Defaults.{is_default, is_any_pair}
-use Rattle.uz_lines.specs.Items.{first_facts, default_flag, default_cells, is_handler, bytes_forms, pair_forms, tracked_count, tracked_before, names_c_or_z, any_names, is_flag_z, take_item, items_from, read_items}
+use Rattle.uz_lines.specs.Items.{first_facts, default_flag, default_cells, is_handler, bytes_forms, pair_forms, tracked_count}
+use Rattle.uz_lines.specs.Items.{tracked_before, names_c_or_z, any_names, is_flag_z, take_item, items_from, read_items}
 use Rattle.uz_lines.specs.declared.values.Raw.{Raw}
 use Rattle.uz_lines.specs.declared.values.Raw.TheVariants as raw
 use Rattle.uz_lines.specs.declared.items.Shape.{Shape}
 use Rattle.uz_lines.specs.declared.items.Facts.{Facts}
 use Rattle.uz_lines.specs.declared.why.CertWhy.TheVariants as why
-use Rattle.uz_spelling.specs.Spelling.{item, unless, fact_word, pair_word, flag_word, register_items, pair_items, flag_items, slot_items, cell_items, successor_items}
+use Rattle.uz_spelling.specs.Spelling.{item, unless, fact_word, pair_word, flag_word, register_items, pair_items, flag_items, slot_items}
+use Rattle.uz_spelling.specs.Spelling.{cell_items, successor_items}
 use Rattle.uz_line_laws.proofs.Tests.{and_true, or_false, fine, fault_not, true_not, then, le_is, number_is, word_is, is_lt, is_not_lt}
 use Rattle.uz_line_laws.proofs.Facts.{FactIn, PairIn, BitIn, raw_by, pair_raw, pair_so}
 use Rattle.uz_line_laws.proofs.Raws.{one_raw}
 use Rattle.uz_line_laws.proofs.Options.{options, Each, each_length, Ordered, section}
-use Rattle.uz_line_laws.proofs.Spelled.{count_from, pair_usual_only, registers, numbered_cells, register_word, flag_item, in_range, cell_word, usual_fact, usual_cell, registers_are, registers_usual, cells_are, cells_usual, register_only, flag_usual_only, range_only_usual}
+use Rattle.uz_line_laws.proofs.Spelled.{count_from, pair_usual_only, registers, numbered_cells, register_word, flag_item, in_range}
+use Rattle.uz_line_laws.proofs.Spelled.{cell_word, usual_fact, usual_cell, registers_are, registers_usual, cells_are, cells_usual}
+use Rattle.uz_line_laws.proofs.Spelled.{register_only, flag_usual_only, range_only_usual}
 use Rattle.uz_line_laws.proofs.Taken.{with_register, with_pair, with_flag, with_slot, with_cell, cell_form, pair_letter, flag_letter}
 use Rattle.uz_line_laws.proofs.Takes.{register_takes, pair_takes, flag_takes, slot_takes, cell_takes, successor_takes}
 use Rattle.uz_line_laws.proofs.OneMore.{letters_of_pairs, letters_of_flags}
@@ -66,7 +73,8 @@ count_push kind (p ∷ pre) x = by_own (tracks kind p.owner) (tracks kind x.owne
   where
     by_own : (t u : Bool) → tracked_count kind (pre ++ x ∷ []) ≡ cond u (tracked_count kind pre + 1) (tracked_count kind pre)
         → cond t (tracked_count kind (pre ++ x ∷ []) + 1) (tracked_count kind (pre ++ x ∷ []))
-        ≡ cond u (cond t (tracked_count kind pre + 1) (tracked_count kind pre) + 1) (cond t (tracked_count kind pre + 1) (tracked_count kind pre))
+        ≡ cond u (cond t (tracked_count kind pre + 1) (tracked_count kind pre) + 1)
+        (cond t (tracked_count kind pre + 1) (tracked_count kind pre))
     by_own true true h = ap (λ n. n + 1) h
     by_own true false h = ap (λ n. n + 1) h
     by_own false true h = h
@@ -88,7 +96,8 @@ names_next : (ids : List ℕ) → any_names (successor_items ids) ≡ false
 names_next [] = refl
 names_next (id ∷ ids) = ap (λ b. b || any_names (successor_items ids)) (names_letter 62 (decimal id) refl) ∙ names_next ids
 
-names_unless : (t : Bool) (w : List ℕ) (ws : List (List ℕ)) → names_c_or_z w ≡ false → any_names ws ≡ false → any_names (unless t w ws) ≡ false
+names_unless : (t : Bool) (w : List ℕ) (ws : List (List ℕ)) → names_c_or_z w ≡ false → any_names ws ≡ false
+    → any_names (unless t w ws) ≡ false
 names_unless true w ws e f = f
 names_unless false w ws e f = ap (λ b. b || any_names ws) e ∙ f
 
@@ -96,11 +105,13 @@ names_cells : (ks : List (ℕ × Cell)) (fs : List Fact) → any_names (options 
 names_cells [] fs = refl
 names_cells (k ∷ ks) [] = refl
 names_cells (k ∷ ks) (f ∷ fs) =
-    names_unless (in_range k f) (cell_word k f) (options in_range cell_word ks fs) (names_letter 109 (decimal k.0 ++ 61 ∷ fact_word f) refl) (names_cells ks fs)
+    names_unless (in_range k f) (cell_word k f) (options in_range cell_word ks fs) (names_letter 109 (decimal k.0 ++ 61 ∷ fact_word f) refl)
+    (names_cells ks fs)
 
 -- the flag Z
 
-flag_z_so : (shape : Shape) (f : Facts) (x : Bit) (later : List (List ℕ)) → any_names later ≡ false → is_flag_z shape f (flag_word x) later ≡ true
+flag_z_so : (shape : Shape) (f : Facts) (x : Bit) (later : List (List ℕ)) → any_names later ≡ false → is_flag_z shape f (flag_word x)
+    later ≡ true
 flag_z_so shape f Zero later e = second (shape.plain || ltb 35 f.least) (not (any_names later)) (ap not e)
   where
     second : (a b : Bool) → b ≡ true → (a || b) ≡ true
@@ -177,18 +188,23 @@ not_flag_z shape f x later p l i z =
     two false b e f = f
 
     not_mark : (t : Bool) → bytes_eq (pair_word x) (codes "?") ≡ t → t ≡ false
-    not_mark true e = absurd (fault_not why.Word (pair_raw x) (sym no_mark ∙ ap (raw_of pair_forms) (sym (word_is (pair_word x) (codes "?") e)) ∙ reads))
+    not_mark true e = absurd (fault_not why.Word (pair_raw x)
+        (sym no_mark ∙ ap (raw_of pair_forms) (sym (word_is (pair_word x) (codes "?") e)) ∙ reads))
     not_mark false e = refl
 
     not_old : (t : Bool) → bytes_eq (pair_word x) (codes "o") ≡ t → t ≡ false
-    not_old true e = absurd (fault_not why.Word (pair_raw x) (sym no_old ∙ ap (raw_of pair_forms) (sym (word_is (pair_word x) (codes "o") e)) ∙ reads))
+    not_old true e = absurd (fault_not why.Word (pair_raw x)
+        (sym no_old ∙ ap (raw_of pair_forms) (sym (word_is (pair_word x) (codes "o") e)) ∙ reads))
     not_old false e = refl
 
-    named : (n : ℕ) (w : List ℕ) → n < 2 → raw_of pair_forms w ≡ Ok (raw.One n) → bytes_eq (pair_word x) w ≡ true → not (any_names later) ≡ false
+    named : (n : ℕ) (w : List ℕ) → n < 2 → raw_of pair_forms w ≡ Ok (raw.One n) → bytes_eq (pair_word x) w ≡ true
+        → not (any_names later) ≡ false
     named n w l g e =
-        ap not (z (is_one_number x n l (raw_same (pair_raw x) (raw.One n) (sym reads ∙ ap (raw_of pair_forms) (word_is (pair_word x) w e) ∙ g))))
+        ap not (z (is_one_number x n l (raw_same (pair_raw x) (raw.One n) (sym reads ∙ ap (raw_of pair_forms) (word_is (pair_word x) w e)
+        ∙ g))))
 
-    digit : (t u : Bool) → bytes_eq (pair_word x) (codes "0") ≡ t → bytes_eq (pair_word x) (codes "1") ≡ u → ((t || u) && not (any_names later)) ≡ false
+    digit : (t u : Bool) → bytes_eq (pair_word x) (codes "0") ≡ t → bytes_eq (pair_word x) (codes "1") ≡ u
+        → ((t || u) && not (any_names later)) ≡ false
     digit true u e f = named 0 (codes "0") (lit< tt) zero_raw e
     digit false true e f = named 1 (codes "1") (lit< tt) one_raw_word f
     digit false false e f = refl
@@ -199,18 +215,24 @@ module _ (shape : Shape) (cells : List Cell) (h : ShapeFits shape cells)
     (regs : List Fact) (pairs : List PairFact) (flags : List Bit) (stack : List Fact) (cs : List Fact) (next : List ℕ) where
   -- these words say the rest, and with it all
   abbrev pub Done : Facts → List (List ℕ) → Type 0
-  Done f words = (least : ℕ) × (after : ℕ) × (items_from shape cells true f words ≡ Ok (facts_with least after regs pairs flags stack cs next))
+  Done f words = (least : ℕ) × (after : ℕ)
+      × (items_from shape cells true f words ≡ Ok (facts_with least after regs pairs flags stack cs next))
 
   step : (f more : Facts) (w : List ℕ) (ws : List (List ℕ)) → take_item shape cells f w ws ≡ Ok more → Done more ws → Done f (w ∷ ws)
-  step f more w ws e d =
-      (d.0, d.1, then (take_item shape cells f w ws) (λ m. items_from shape cells true m ws) more (Ok (facts_with d.0 d.1 regs pairs flags stack cs next)) e d.2)
+  step f more w ws e d = (
+    d.0,
+    d.1,
+    then (take_item shape cells f w ws) (λ m. items_from shape cells true m ws) more
+        (Ok (facts_with d.0 d.1 regs pairs flags stack cs next)) e d.2,
+  )
 
   at_facts : (f g : Facts) (words : List (List ℕ)) → f ≡ g → Done g words → Done f words
   at_facts f g words e d = subst (λ (x : Facts). Done x words) (sym e) d
 
   -- successors
 
-  next_stage : (front ids : List ℕ) (least after : ℕ) → front ++ ids ≡ next → rises_from after ids ≡ true → All (λ id. id < shape.points) ids
+  next_stage : (front ids : List ℕ) (least after : ℕ) → front ++ ids ≡ next → rises_from after ids ≡ true → All (λ id. id < shape.points)
+      ids
       → length next ≤ 16 → (shape.plain ≡ true → ids ≡ [])
       → Done (facts_with least after regs pairs flags stack cs front) (successor_items ids)
   next_stage front [] least after e r t few p =
@@ -218,7 +240,8 @@ module _ (shape : Shape) (cells : List Cell) (h : ShapeFits shape cells)
   next_stage front (id ∷ ids) least after e r t few p =
       let two = and_true (leb after id) (rises_from (id + 1) ids) r in
       let count : length front + length (id ∷ ids) ≡ length next = sym (length-append front (id ∷ ids)) ∙ ap length e in
-      step (facts_with least after regs pairs flags stack cs front) (facts_with 59 (id + 1) regs pairs flags stack cs (front ++ id ∷ [])) (62 ∷ decimal id) (successor_items ids)
+      step (facts_with least after regs pairs flags stack cs front) (facts_with 59 (id + 1) regs pairs flags stack cs (front ++ id ∷ []))
+      (62 ∷ decimal id) (successor_items ids)
       (successor_takes shape cells (facts_with least after regs pairs flags stack cs front) (successor_items ids) id h.places
       (record {
         word = refl;
@@ -227,7 +250,8 @@ module _ (shape : Shape) (cells : List Cell) (h : ShapeFits shape cells)
         room = omega (arith, count);
         order = le_is after id two.0;
       }))
-      (next_stage (front ++ id ∷ []) ids 59 (id + 1) (append_assoc front (id ∷ []) ids ∙ e) two.1 (All-tail (λ id. id < shape.points) id ids t) few
+      (next_stage (front ++ id ∷ []) ids 59 (id + 1) (append_assoc front (id ∷ []) ids ∙ e) two.1
+      (All-tail (λ id. id < shape.points) id ids t) few
       (λ q. absurd (some (p q))))
     where
       some : id ∷ ids ≡ [] → ⊥
@@ -240,7 +264,8 @@ module _ (shape : Shape) (cells : List Cell) (h : ShapeFits shape cells)
   -- cells
 
   abbrev CellAt : ℕ × Cell → ℕ → Type 0
-  CellAt p n = (slice_get cells p.0 ≡ Some p.1) × (p.0 < length cells) × (tracks shape.kind p.1.owner ≡ true) × (tracked_before shape.kind p.0 cells ≡ n)
+  CellAt p n = (slice_get cells p.0 ≡ Some p.1) × (p.0 < length cells) × (tracks shape.kind p.1.owner ≡ true)
+      × (tracked_before shape.kind p.0 cells ≡ n)
 
   abbrev cell_place : ℕ × Cell → ℕ
   cell_place p = 43 + p.0
@@ -257,7 +282,8 @@ module _ (shape : Shape) (cells : List Cell) (h : ShapeFits shape cells)
       (cell_takes shape cells before words p.0 p.1 x h.places
       (record { word = refl; below = at.1; there = at.0; own = at.2; fits = i; order = l; other = o }))
       (at_facts (with_cell shape cells before p.0 x) (facts_with (43 + p.0 + 1) 0 regs pairs flags stack (front ++ x ∷ back) []) words
-      (ap (λ n. facts_with n 0 regs pairs flags stack (slice_set (front ++ usual_cell p ∷ back) (tracked_before shape.kind p.0 cells) x) []) (plus p.0)
+      (ap (λ n. facts_with n 0 regs pairs flags stack (slice_set (front ++ usual_cell p ∷ back) (tracked_before shape.kind p.0 cells) x) [])
+      (plus p.0)
       ∙ ap (λ (ys : List Fact). facts_with (43 + p.0 + 1) 0 regs pairs flags stack ys [])
       (set_middle front back (tracked_before shape.kind p.0 cells) (usual_cell p) x at.3)) d)
     where
@@ -285,13 +311,15 @@ module _ (shape : Shape) (cells : List Cell) (h : ShapeFits shape cells)
       below = omega (arith, length-append pre (x ∷ later), ap length e)
 
       before : tracked_before shape.kind (length pre) cells ≡ n
-      before = ap (λ (ys : List Cell). tracked_count shape.kind (take (length pre) ys)) (sym e) ∙ ap (tracked_count shape.kind) (take_front pre (x ∷ later)) ∙ c
+      before = ap (λ (ys : List Cell). tracked_count shape.kind (take (length pre) ys)) (sym e) ∙ ap (tracked_count shape.kind)
+          (take_front pre (x ∷ later)) ∙ c
 
       by_own : (t : Bool) → tracks shape.kind x.owner ≡ t
           → ((m k : ℕ) → tracked_count shape.kind (pre ++ x ∷ []) ≡ m → k ≤ 43 + length (pre ++ x ∷ [])
           → Ordered CellAt cell_place m k 59 (numbered_cells shape.kind (length (pre ++ x ∷ [])) later))
           → Ordered CellAt cell_place n least 59
-          (cond t ((length pre, x) ∷ numbered_cells shape.kind (suc (length pre)) later) (numbered_cells shape.kind (suc (length pre)) later))
+          (cond t ((length pre, x) ∷ numbered_cells shape.kind (suc (length pre)) later)
+          (numbered_cells shape.kind (suc (length pre)) later))
       by_own true t again = (
         (there, below, t, before),
         l,
@@ -322,13 +350,16 @@ module _ (shape : Shape) (cells : List Cell) (h : ShapeFits shape cells)
   abbrev cell_words_and_next : List (List ℕ)
   cell_words_and_next = options in_range cell_word (numbered_cells shape.kind 0 cells) cs ++ successor_items next
 
-  slots_stage : (front slots : List Fact) (least : ℕ) → least ≤ 42 → front ++ slots ≡ stack → All (FactIn (bytes_forms shape)) slots → length stack ≤ shape.depth
+  slots_stage : (front slots : List Fact) (least : ℕ) → least ≤ 42 → front ++ slots ≡ stack → All (FactIn (bytes_forms shape)) slots
+      → length stack ≤ shape.depth
       → CellsFit → NextFits
-      → Done (facts_with least 0 regs pairs flags front (map usual_cell (numbered_cells shape.kind 0 cells)) []) (slot_items slots ++ cell_words_and_next)
+      → Done (facts_with least 0 regs pairs flags front (map usual_cell (numbered_cells shape.kind 0 cells)) [])
+      (slot_items slots ++ cell_words_and_next)
   slots_stage front [] least l e a d c n =
       at_facts (facts_with least 0 regs pairs flags front (map usual_cell (numbered_cells shape.kind 0 cells)) [])
       (facts_with least 0 regs pairs flags stack (map usual_cell (numbered_cells shape.kind 0 cells)) []) cell_words_and_next
-      (ap (λ (ys : List Fact). facts_with least 0 regs pairs flags ys (map usual_cell (numbered_cells shape.kind 0 cells)) []) (sym (append-nil front) ∙ e))
+      (ap (λ (ys : List Fact). facts_with least 0 regs pairs flags ys (map usual_cell (numbered_cells shape.kind 0 cells)) [])
+      (sym (append-nil front) ∙ e))
       (cells_stage least (omega arith) c n)
   slots_stage front (x ∷ slots) least l e a d c n =
       let before = facts_with least 0 regs pairs flags front (map usual_cell (numbered_cells shape.kind 0 cells)) [] in
@@ -336,7 +367,8 @@ module _ (shape : Shape) (cells : List Cell) (h : ShapeFits shape cells)
       step before (with_slot before x) (codes "s:" ++ fact_word x) (slot_items slots ++ cell_words_and_next)
       (slot_takes shape cells before (slot_items slots ++ cell_words_and_next) x
       (record { word = refl; fits = All-head (FactIn (bytes_forms shape)) x slots a; room = omega (arith, count); order = l }))
-      (slots_stage (front ++ x ∷ []) slots 42 (lit≤ tt) (append_assoc front (x ∷ []) slots ∙ e) (All-tail (FactIn (bytes_forms shape)) x slots a) d c n)
+      (slots_stage (front ++ x ∷ []) slots 42 (lit≤ tt) (append_assoc front (x ∷ []) slots ∙ e)
+      (All-tail (FactIn (bytes_forms shape)) x slots a) d c n)
 
   -- flags and pairs
 
@@ -349,7 +381,8 @@ module _ (shape : Shape) (cells : List Cell) (h : ShapeFits shape cells)
   flag_next : (front rest : List Bit) (b : ℕ) (x : Bit) (least : ℕ) (words : List (List ℕ)) → b ≡ length front → b < 7
       → BitIn (is_handler shape.kind) x → least ≤ 35 + b → (b ≡ 1 → any_names words ≡ false)
       → ((low : ℕ) → low ≤ 36 + b → Done (start low regs pairs (front ++ x ∷ rest)) words)
-      → Done (start least regs pairs (front ++ default_flag shape.kind ∷ rest)) (unless (is_default_flag shape.kind x) (flag_item (flag_letter b) x) words)
+      → Done (start least regs pairs (front ++ default_flag shape.kind ∷ rest))
+      (unless (is_default_flag shape.kind x) (flag_item (flag_letter b) x) words)
   flag_next front rest b x least words e s i l z go = by_default (is_default_flag shape.kind x) refl
     where
       d : Bit
@@ -366,9 +399,11 @@ module _ (shape : Shape) (cells : List Cell) (h : ShapeFits shape cells)
           (flag_takes shape cells before words (flag_item (flag_letter b) x) b x
           (record { word = refl; there = s; fits = i; order = l; other = t; meant = λ one. flag_z_so shape before x words (z one) }))
           (at_facts (with_flag before b x) (start (36 + b) regs pairs (front ++ x ∷ rest)) words
-          (ap (λ (ys : List Bit). start (36 + b) regs pairs ys) (set_middle front rest b (default_flag shape.kind) x e)) (go (36 + b) (omega arith)))
+          (ap (λ (ys : List Bit). start (36 + b) regs pairs ys) (set_middle front rest b (default_flag shape.kind) x e))
+          (go (36 + b) (omega arith)))
 
-  pair_next : (front rest : List PairFact) (bs : List Bit) (k : ℕ) (x : PairFact) (least : ℕ) (words : List (List ℕ)) → k ≡ length front → k < 3
+  pair_next : (front rest : List PairFact) (bs : List Bit) (k : ℕ) (x : PairFact) (least : ℕ) (words : List (List ℕ)) → k ≡ length front
+      → k < 3
       → PairIn pair_forms x → (shape.plain ≡ true → x ≡ AnyPair) → least ≤ 32 + k
       → (k ≡ 2 → is_zero_or_one x ≡ true → any_names words ≡ true)
       → ((low : ℕ) → low ≤ 33 + k → Done (start low regs (front ++ x ∷ rest) bs) words)
@@ -414,7 +449,8 @@ module _ (shape : Shape) (cells : List Cell) (h : ShapeFits shape cells)
 
   register_step : (ps : List PairFact) (bs : List Bit) (front back : List Fact) (r : ℕ) (x : Fact) (least : ℕ) (words : List (List ℕ))
       → RegisterAt r (length front) → FactIn (bytes_forms shape) x → is_default shape.kind r x ≡ false → least ≤ r
-      → Done (start (r + 1) (front ++ x ∷ back) ps bs) words → Done (start least (front ++ usual_fact shape.kind r ∷ back) ps bs) (register_word r x ∷ words)
+      → Done (start (r + 1) (front ++ x ∷ back) ps bs) words → Done (start least (front ++ usual_fact shape.kind r ∷ back) ps bs)
+      (register_word r x ∷ words)
   register_step ps bs front back r x least words at i o l d =
       let before = start least (front ++ usual_fact shape.kind r ∷ back) ps bs in
       step before (with_register before r x) (register_word r x) words
@@ -430,7 +466,8 @@ module _ (shape : Shape) (cells : List Cell) (h : ShapeFits shape cells)
       → Done (start 0 (map (usual_fact shape.kind) registers) ps bs) (options (is_default shape.kind) register_word registers regs ++ later)
   registers_stage ps bs later f go =
       section (is_default shape.kind) register_word (usual_fact shape.kind) register_place RegisterAt (λ r x. FactIn (bytes_forms shape) x)
-      (λ least values words. Done (start least values ps bs) words) (λ r x i e. register_only shape.kind r x e) (register_step ps bs) registers [] regs 0 32 later f
+      (λ least values words. Done (start least values ps bs) words) (λ r x i e. register_only shape.kind r x e) (register_step ps bs)
+      registers [] regs 0 32 later f
       (registers_ordered 0 32 0 (lit≤ tt) (lit≤ tt)) go
 
 -- the words of flags and pairs, and then others
@@ -444,7 +481,8 @@ unless_then : (t : Bool) (word : List ℕ) (xs ys : List (List ℕ)) → unless 
 unless_then true word xs ys = refl
 unless_then false word xs ys = refl
 
-flags_then_are : (kind : Kind) (ls : List ℕ) (bs : List Bit) (later : List (List ℕ)) → flag_items kind ls bs ++ later ≡ flags_then kind ls bs later
+flags_then_are : (kind : Kind) (ls : List ℕ) (bs : List Bit) (later : List (List ℕ)) → flag_items kind ls bs ++ later ≡ flags_then kind ls
+    bs later
 flags_then_are kind [] bs later = refl
 flags_then_are kind (l ∷ ls) [] later = refl
 flags_then_are kind (l ∷ ls) (b ∷ bs) later =
@@ -463,9 +501,11 @@ pairs_then_are (l ∷ ls) (f ∷ fs) later =
     unless_then (is_any_pair f) (item (l ∷ []) (pair_word f)) (pair_items ls fs) later
     ∙ ap (unless (is_any_pair f) (item (l ∷ []) (pair_word f))) (pairs_then_are ls fs later)
 
-no_names_then : (kind : Kind) (bs : List Bit) (later : List (List ℕ)) → any_names later ≡ false → any_names (flags_then kind (codes "nvsht") bs later) ≡ false
+no_names_then : (kind : Kind) (bs : List Bit) (later : List (List ℕ)) → any_names later ≡ false
+    → any_names (flags_then kind (codes "nvsht") bs later) ≡ false
 no_names_then kind [] later e = e
-no_names_then kind (n ∷ []) later e = names_unless (is_default_flag kind n) (flag_item 110 n) later (names_letter 110 (61 ∷ flag_word n) refl) e
+no_names_then kind (n ∷ []) later e = names_unless (is_default_flag kind n) (flag_item 110 n) later
+    (names_letter 110 (61 ∷ flag_word n) refl) e
 no_names_then kind (n ∷ v ∷ []) later e =
     names_unless (is_default_flag kind n) (flag_item 110 n) _ (names_letter 110 (61 ∷ flag_word n) refl)
     (names_unless (is_default_flag kind v) (flag_item 118 v) later (names_letter 118 (61 ∷ flag_word v) refl) e)
@@ -498,7 +538,8 @@ names_then kind c z bs later m = by_c (is_default_flag kind c) (is_default_flag 
 
 -- what may be said of a state
 
-pub record Sayable (shape : Shape) (cells : List Cell) (regs : List Fact) (pairs : List PairFact) (flags : List Bit) (stack : List Fact) (cs : List Fact)
+pub record Sayable (shape : Shape) (cells : List Cell) (regs : List Fact) (pairs : List PairFact) (flags : List Bit) (stack : List Fact)
+    (cs : List Fact)
     (next : List ℕ) : Type 0 where
   pub regs_fit : Each (λ r x. FactIn (bytes_forms shape) x) registers regs
   pub pairs_fit : Each (λ l x. PairIn pair_forms x) letters_of_pairs pairs
@@ -519,7 +560,8 @@ items_of kind cells regs pairs flags stack cs next =
     ++ (cell_items kind 0 cells cs
     ++ successor_items next))))
 
-pub record ReadsAs (shape : Shape) (cells : List Cell) (regs : List Fact) (pairs : List PairFact) (flags : List Bit) (stack : List Fact) (cs : List Fact)
+pub record ReadsAs (shape : Shape) (cells : List Cell) (regs : List Fact) (pairs : List PairFact) (flags : List Bit) (stack : List Fact)
+    (cs : List Fact)
     (next : List ℕ) : Type 0 where
   pub least : ℕ
   pub after : ℕ
@@ -535,31 +577,45 @@ module _ (shape : Shape) (cells : List Cell) (h : ShapeFits shape cells) (regs s
 
   no_names_after : any_names after_flags ≡ false
   no_names_after =
-      names_append (slot_items stack) (options in_range cell_word (numbered_cells shape.kind 0 cells) cs ++ successor_items next) (names_slots stack)
-      (names_append (options in_range cell_word (numbered_cells shape.kind 0 cells) cs) (successor_items next) (names_cells (numbered_cells shape.kind 0 cells) cs) (names_next next))
+      names_append (slot_items stack) (options in_range cell_word (numbered_cells shape.kind 0 cells) cs ++ successor_items next)
+      (names_slots stack)
+      (names_append (options in_range cell_word (numbered_cells shape.kind 0 cells) cs) (successor_items next)
+      (names_cells (numbered_cells shape.kind 0 cells) cs) (names_next next))
 
-  seven_flags : (pairs : List PairFact) (c z n v s a t : Bit) → Sayable shape cells regs pairs (c ∷ z ∷ n ∷ v ∷ s ∷ a ∷ t ∷ []) stack cs next
+  seven_flags : (pairs : List PairFact) (c z n v s a t : Bit) → Sayable shape cells regs pairs (c ∷ z ∷ n ∷ v ∷ s ∷ a ∷ t ∷ []) stack cs
+      next
       → (least : ℕ) → least ≤ 35
       → Done shape cells h regs pairs (c ∷ z ∷ n ∷ v ∷ s ∷ a ∷ t ∷ []) stack cs next
-      (start shape cells h regs pairs (c ∷ z ∷ n ∷ v ∷ s ∷ a ∷ t ∷ []) stack cs next least regs pairs (dk ∷ dk ∷ dk ∷ dk ∷ dk ∷ dk ∷ dk ∷ []))
+      (start shape cells h regs pairs (c ∷ z ∷ n ∷ v ∷ s ∷ a ∷ t ∷ []) stack cs next least regs pairs
+      (dk ∷ dk ∷ dk ∷ dk ∷ dk ∷ dk ∷ dk ∷ []))
       (flags_then shape.kind letters_of_flags (c ∷ z ∷ n ∷ v ∷ s ∷ a ∷ t ∷ []) after_flags)
   seven_flags pairs c z n v s a t say least l =
       let flags = c ∷ z ∷ n ∷ v ∷ s ∷ a ∷ t ∷ [] in
       let f = say.flags_fit in
-      flag_next shape cells h regs pairs flags stack cs next [] (dk ∷ dk ∷ dk ∷ dk ∷ dk ∷ dk ∷ []) 0 c least _ refl (lit< tt) f.0 l (λ e. absurd (omega arith))
-      (λ l0 b0. flag_next shape cells h regs pairs flags stack cs next (c ∷ []) (dk ∷ dk ∷ dk ∷ dk ∷ dk ∷ []) 1 z l0 _ refl (lit< tt) f.1.0 b0
+      flag_next shape cells h regs pairs flags stack cs next [] (dk ∷ dk ∷ dk ∷ dk ∷ dk ∷ dk ∷ []) 0 c least _ refl (lit< tt) f.0 l
+      (λ e. absurd (omega arith))
+      (λ l0 b0. flag_next shape cells h regs pairs flags stack cs next (c ∷ []) (dk ∷ dk ∷ dk ∷ dk ∷ dk ∷ []) 1 z l0 _ refl (lit< tt) f.1.0
+      b0
       (λ _. no_names_then shape.kind (n ∷ v ∷ s ∷ a ∷ t ∷ []) after_flags no_names_after)
-      (λ l1 b1. flag_next shape cells h regs pairs flags stack cs next (c ∷ z ∷ []) (dk ∷ dk ∷ dk ∷ dk ∷ []) 2 n l1 _ refl (lit< tt) f.1.1.0 b1 (λ e. absurd (omega arith))
-      (λ l2 b2. flag_next shape cells h regs pairs flags stack cs next (c ∷ z ∷ n ∷ []) (dk ∷ dk ∷ dk ∷ []) 3 v l2 _ refl (lit< tt) f.1.1.1.0 b2 (λ e. absurd (omega arith))
-      (λ l3 b3. flag_next shape cells h regs pairs flags stack cs next (c ∷ z ∷ n ∷ v ∷ []) (dk ∷ dk ∷ []) 4 s l3 _ refl (lit< tt) f.1.1.1.1.0 b3 (λ e. absurd (omega arith))
-      (λ l4 b4. flag_next shape cells h regs pairs flags stack cs next (c ∷ z ∷ n ∷ v ∷ s ∷ []) (dk ∷ []) 5 a l4 _ refl (lit< tt) f.1.1.1.1.1.0 b4 (λ e. absurd (omega arith))
-      (λ l5 b5. flag_next shape cells h regs pairs flags stack cs next (c ∷ z ∷ n ∷ v ∷ s ∷ a ∷ []) [] 6 t l5 _ refl (lit< tt) f.1.1.1.1.1.1.0 b5 (λ e. absurd (omega arith))
-      (λ l6 b6. slots_stage shape cells h regs pairs flags stack cs next [] stack l6 b6 refl say.stack_fit say.slots_fit say.cells_fit say.next_fit)))))))
+      (λ l1 b1. flag_next shape cells h regs pairs flags stack cs next (c ∷ z ∷ []) (dk ∷ dk ∷ dk ∷ dk ∷ []) 2 n l1 _ refl (lit< tt) f.1.1.0
+      b1 (λ e. absurd (omega arith))
+      (λ l2 b2. flag_next shape cells h regs pairs flags stack cs next (c ∷ z ∷ n ∷ []) (dk ∷ dk ∷ dk ∷ []) 3 v l2 _ refl (lit< tt)
+      f.1.1.1.0 b2 (λ e. absurd (omega arith))
+      (λ l3 b3. flag_next shape cells h regs pairs flags stack cs next (c ∷ z ∷ n ∷ v ∷ []) (dk ∷ dk ∷ []) 4 s l3 _ refl (lit< tt)
+      f.1.1.1.1.0 b3 (λ e. absurd (omega arith))
+      (λ l4 b4. flag_next shape cells h regs pairs flags stack cs next (c ∷ z ∷ n ∷ v ∷ s ∷ []) (dk ∷ []) 5 a l4 _ refl (lit< tt)
+      f.1.1.1.1.1.0 b4 (λ e. absurd (omega arith))
+      (λ l5 b5. flag_next shape cells h regs pairs flags stack cs next (c ∷ z ∷ n ∷ v ∷ s ∷ a ∷ []) [] 6 t l5 _ refl (lit< tt)
+      f.1.1.1.1.1.1.0 b5 (λ e. absurd (omega arith))
+      (λ l6 b6. slots_stage shape cells h regs pairs flags stack cs next [] stack l6 b6 refl say.stack_fit say.slots_fit say.cells_fit
+      say.next_fit)))))))
 
-  three_pairs : (x y p : PairFact) (c z n v s a t : Bit) → Sayable shape cells regs (x ∷ y ∷ p ∷ []) (c ∷ z ∷ n ∷ v ∷ s ∷ a ∷ t ∷ []) stack cs next
+  three_pairs : (x y p : PairFact) (c z n v s a t : Bit) → Sayable shape cells regs (x ∷ y ∷ p ∷ []) (c ∷ z ∷ n ∷ v ∷ s ∷ a ∷ t ∷ []) stack
+      cs next
       → (least : ℕ) → least ≤ 32
       → Done shape cells h regs (x ∷ y ∷ p ∷ []) (c ∷ z ∷ n ∷ v ∷ s ∷ a ∷ t ∷ []) stack cs next
-      (start shape cells h regs (x ∷ y ∷ p ∷ []) (c ∷ z ∷ n ∷ v ∷ s ∷ a ∷ t ∷ []) stack cs next least regs (AnyPair ∷ AnyPair ∷ AnyPair ∷ []) (dk ∷ dk ∷ dk ∷ dk ∷ dk ∷ dk ∷ dk ∷ []))
+      (start shape cells h regs (x ∷ y ∷ p ∷ []) (c ∷ z ∷ n ∷ v ∷ s ∷ a ∷ t ∷ []) stack cs next least regs
+      (AnyPair ∷ AnyPair ∷ AnyPair ∷ []) (dk ∷ dk ∷ dk ∷ dk ∷ dk ∷ dk ∷ dk ∷ []))
       (pairs_then letters_of_pairs (x ∷ y ∷ p ∷ []) (flags_then shape.kind letters_of_flags (c ∷ z ∷ n ∷ v ∷ s ∷ a ∷ t ∷ []) after_flags))
   three_pairs x y p c z n v s a t say least l =
       let pairs = x ∷ y ∷ p ∷ [] in
@@ -568,13 +624,17 @@ module _ (shape : Shape) (cells : List Cell) (h : ShapeFits shape cells) (regs s
       let f = say.pairs_fit in
       let any : (k : ℕ) → (q : PairFact) → get_or pairs k AnyPair ≡ q → k < 3 → shape.plain ≡ true → q ≡ AnyPair =
       λ k q e b w. pair_usual_only q (ap is_any_pair (sym e) ∙ say.plain_fit w k AnyPair b) in
-      pair_next shape cells h regs pairs flags stack cs next [] (AnyPair ∷ AnyPair ∷ []) ds 0 x least _ refl (lit< tt) f.0 (any 0 x refl (lit< tt)) l (λ e. absurd (omega arith))
-      (λ l0 b0. pair_next shape cells h regs pairs flags stack cs next (x ∷ []) (AnyPair ∷ []) ds 1 y l0 _ refl (lit< tt) f.1.0 (any 1 y refl (lit< tt)) b0 (λ e. absurd (omega arith))
-      (λ l1 b1. pair_next shape cells h regs pairs flags stack cs next (x ∷ y ∷ []) [] ds 2 p l1 _ refl (lit< tt) f.1.1.0 (any 2 p refl (lit< tt)) b1
+      pair_next shape cells h regs pairs flags stack cs next [] (AnyPair ∷ AnyPair ∷ []) ds 0 x least _ refl (lit< tt) f.0
+      (any 0 x refl (lit< tt)) l (λ e. absurd (omega arith))
+      (λ l0 b0. pair_next shape cells h regs pairs flags stack cs next (x ∷ []) (AnyPair ∷ []) ds 1 y l0 _ refl (lit< tt) f.1.0
+      (any 1 y refl (lit< tt)) b0 (λ e. absurd (omega arith))
+      (λ l1 b1. pair_next shape cells h regs pairs flags stack cs next (x ∷ y ∷ []) [] ds 2 p l1 _ refl (lit< tt) f.1.1.0
+      (any 2 p refl (lit< tt)) b1
       (λ _ one. names_then shape.kind c z (n ∷ v ∷ s ∷ a ∷ t ∷ []) after_flags (say.meant one))
       (λ l2 b2. seven_flags pairs c z n v s a t say l2 b2)))
 
-  all_again : (x y p : PairFact) (c z n v s a t : Bit) → Sayable shape cells regs (x ∷ y ∷ p ∷ []) (c ∷ z ∷ n ∷ v ∷ s ∷ a ∷ t ∷ []) stack cs next
+  all_again : (x y p : PairFact) (c z n v s a t : Bit) → Sayable shape cells regs (x ∷ y ∷ p ∷ []) (c ∷ z ∷ n ∷ v ∷ s ∷ a ∷ t ∷ []) stack cs
+      next
       → ReadsAs shape cells regs (x ∷ y ∷ p ∷ []) (c ∷ z ∷ n ∷ v ∷ s ∷ a ∷ t ∷ []) stack cs next
   unfolding read_items first_facts
   all_again x y p c z n v s a t say =
@@ -589,29 +649,35 @@ module _ (shape : Shape) (cells : List Cell) (h : ShapeFits shape cells) (regs s
         after = d.1;
         read =
             ap (λ (ws : List (List ℕ)). items_from shape cells true (first_facts shape.kind cells) ws) words
-            ∙ ap (λ (rs : List Fact). items_from shape cells true (facts_with 0 0 rs (AnyPair ∷ AnyPair ∷ AnyPair ∷ []) ds [] (default_cells shape.kind cells) [])
+            ∙ ap (λ (rs : List Fact). items_from shape cells true (facts_with 0 0 rs (AnyPair ∷ AnyPair ∷ AnyPair ∷ []) ds []
+            (default_cells shape.kind cells) [])
             (options (is_default shape.kind) register_word registers regs ++ later)) (registers_usual shape.kind)
-            ∙ ap (λ (fs : List Fact). items_from shape cells true (facts_with 0 0 (map (usual_fact shape.kind) registers) (AnyPair ∷ AnyPair ∷ AnyPair ∷ []) ds [] fs [])
+            ∙ ap (λ (fs : List Fact). items_from shape cells true (facts_with 0 0 (map (usual_fact shape.kind) registers)
+            (AnyPair ∷ AnyPair ∷ AnyPair ∷ []) ds [] fs [])
             (options (is_default shape.kind) register_word registers regs ++ later)) (cells_usual shape.kind 0 cells)
             ∙ d.2;
       }
     where
       words : items_of shape.kind cells regs (x ∷ y ∷ p ∷ []) (c ∷ z ∷ n ∷ v ∷ s ∷ a ∷ t ∷ []) stack cs next
           ≡ options (is_default shape.kind) register_word registers regs
-          ++ pairs_then letters_of_pairs (x ∷ y ∷ p ∷ []) (flags_then shape.kind letters_of_flags (c ∷ z ∷ n ∷ v ∷ s ∷ a ∷ t ∷ []) after_flags)
+          ++ pairs_then letters_of_pairs (x ∷ y ∷ p ∷ []) (flags_then shape.kind letters_of_flags (c ∷ z ∷ n ∷ v ∷ s ∷ a ∷ t ∷ [])
+          after_flags)
       words =
           let pairs = x ∷ y ∷ p ∷ [] in
           let flags = c ∷ z ∷ n ∷ v ∷ s ∷ a ∷ t ∷ [] in
-          ap (λ ws. ws ++ (pair_items letters_of_pairs pairs ++ (flag_items shape.kind letters_of_flags flags ++ (slot_items stack ++ (cell_items shape.kind 0 cells cs ++ successor_items next)))))
+          ap (λ ws. ws ++ (pair_items letters_of_pairs pairs ++ (flag_items shape.kind letters_of_flags flags
+          ++ (slot_items stack ++ (cell_items shape.kind 0 cells cs ++ successor_items next)))))
           (registers_are shape.kind 0 32 regs (each_length (λ r x. FactIn (bytes_forms shape) x) registers regs say.regs_fit))
           ∙ ap (λ ws. options (is_default shape.kind) register_word registers regs ++ ws)
-          (ap (λ ws. pair_items letters_of_pairs pairs ++ (flag_items shape.kind letters_of_flags flags ++ (slot_items stack ++ (ws ++ successor_items next))))
+          (ap (λ ws. pair_items letters_of_pairs pairs ++ (flag_items shape.kind letters_of_flags flags
+          ++ (slot_items stack ++ (ws ++ successor_items next))))
           (cells_are shape.kind 0 cells cs)
           ∙ ap (λ ws. pair_items letters_of_pairs pairs ++ ws) (flags_then_are shape.kind letters_of_flags flags after_flags)
           ∙ pairs_then_are letters_of_pairs pairs (flags_then shape.kind letters_of_flags flags after_flags))
 
 -- whatever the lists are
-pub items_again : (shape : Shape) (cells : List Cell) (regs : List Fact) (pairs : List PairFact) (flags : List Bit) (stack cs : List Fact) (next : List ℕ)
+pub items_again : (shape : Shape) (cells : List Cell) (regs : List Fact) (pairs : List PairFact) (flags : List Bit) (stack cs : List Fact)
+    (next : List ℕ)
     → ShapeFits shape cells → Sayable shape cells regs pairs flags stack cs next → ReadsAs shape cells regs pairs flags stack cs next
 items_again shape cells regs (x ∷ y ∷ p ∷ []) (c ∷ z ∷ n ∷ v ∷ s ∷ a ∷ t ∷ []) stack cs next h say =
     all_again shape cells h regs stack cs next x y p c z n v s a t say
@@ -626,4 +692,5 @@ items_again shape cells regs (x ∷ y ∷ p ∷ []) (c ∷ z ∷ n ∷ []) stack
 items_again shape cells regs (x ∷ y ∷ p ∷ []) (c ∷ z ∷ n ∷ v ∷ []) stack cs next h say = absurd say.flags_fit.1.1.1.1
 items_again shape cells regs (x ∷ y ∷ p ∷ []) (c ∷ z ∷ n ∷ v ∷ s ∷ []) stack cs next h say = absurd say.flags_fit.1.1.1.1.1
 items_again shape cells regs (x ∷ y ∷ p ∷ []) (c ∷ z ∷ n ∷ v ∷ s ∷ a ∷ []) stack cs next h say = absurd say.flags_fit.1.1.1.1.1.1
-items_again shape cells regs (x ∷ y ∷ p ∷ []) (c ∷ z ∷ n ∷ v ∷ s ∷ a ∷ t ∷ u ∷ rest) stack cs next h say = absurd say.flags_fit.1.1.1.1.1.1.1
+items_again shape cells regs (x ∷ y ∷ p ∷ []) (c ∷ z ∷ n ∷ v ∷ s ∷ a ∷ t ∷ u ∷ rest) stack cs next h say =
+    absurd say.flags_fit.1.1.1.1.1.1.1

@@ -1,5 +1,6 @@
 -- The line of an entry.
-use Rattle.std.proofs.Common.{◌≡◌, ℕ, zero, suc, ◌<◌, ◌≤◌, Bool, true, false, cond, ◌&&◌, eqb, List, [], ◌∷◌, ◌++◌, map, length, decimal, codes, lit<, lit≤, refl, sym, ◌∙◌, ap, subst, append-nil, arith}
+use Rattle.std.proofs.Common.{◌≡◌, ℕ, zero, suc, ◌<◌, ◌≤◌, Bool, true, false, cond, ◌&&◌, eqb, List, [], ◌∷◌, ◌++◌, map, length, decimal}
+use Rattle.std.proofs.Common.{codes, lit<, lit≤, refl, sym, ◌∙◌, ap, subst, append-nil, arith}
 use Rattle.std.specs.Prelude.{All, Some, Result, Ok, slice_get}
 use Rattle.std.proofs.lemmas.List.{length-map}
 use Rattle.std.proofs.lemmas.List.Elements.{All-nil, All-cons, All-head, All-tail}
@@ -25,7 +26,8 @@ use Rattle.uz_lines.specs.declared.items.Facts.{Facts}
 use Rattle.uz_lines.specs.declared.lines.Said.{Said}
 use Rattle.uz_lines.specs.declared.lines.Said.TheVariants as said
 use Rattle.uz_lines.specs.declared.why.CertWhy.{CertWhy}
-use Rattle.uz_spelling.specs.Spelling.{kind_word, range_facts, register_items, pair_items, flag_items, slot_items, cell_items, successor_items, entry_items, entry_words}
+use Rattle.uz_spelling.specs.Spelling.{kind_word, range_facts, register_items, pair_items, flag_items, slot_items, cell_items}
+use Rattle.uz_spelling.specs.Spelling.{successor_items, entry_items, entry_words}
 use Rattle.uz_line_laws.specs.Said.{line, PlacesAre}
 use Rattle.uz_line_laws.proofs.Tests.{fine, fine_is, true_not, bind_ok}
 use Rattle.uz_line_laws.proofs.Numbers.{number_so, number_only}
@@ -36,8 +38,11 @@ use Rattle.uz_line_laws.proofs.Taken.{cell_form}
 use Rattle.uz_line_laws.proofs.OneMore.{letters_of_pairs, letters_of_flags, spelled, Regular}
 use Rattle.uz_line_laws.proofs.OnlyItems.{ShapeFits, items_only}
 use Rattle.uz_line_laws.proofs.AgainItems.{Sayable, items_of, items_again, facts_with}
-use Rattle.uz_line_laws.proofs.Fitting.{each_of_all, all_of_each, all_other, all_map, map_back, bit_in, bit_out, range_in, SaysRange, says_range, span_back, entry_cell, entry_form_is, spans_in, spans_out, under_none, none_under, none_small}
-use Rattle.uz_line_laws.proofs.Steps.{words_in, line_same, form_rest, advance, fixed_word, retreat, fixed_is, choice_is, with_front, is_within as within_so}
+use Rattle.uz_line_laws.proofs.Fitting.{each_of_all, all_of_each, all_other, all_map, map_back, bit_in, bit_out, range_in, SaysRange}
+use Rattle.uz_line_laws.proofs.Fitting.{says_range, span_back, entry_cell, entry_form_is, spans_in, spans_out, under_none, none_under}
+use Rattle.uz_line_laws.proofs.Fitting.{none_small}
+use Rattle.uz_line_laws.proofs.Steps.{words_in, line_same, form_rest, advance, fixed_word, retreat, fixed_is, choice_is, with_front}
+use Rattle.uz_line_laws.proofs.Steps.{is_within as within_so}
 use Rattle.uz_line_laws.proofs.RestLine.{bytes_of, one_so}
 
 -- an entry after the word for its kind
@@ -73,17 +78,21 @@ at_begin Handler e h f = absurd h
 at_begin Alone e h f = absurd cc
 
 entry_sayable : (h : Head) (lines points : ℕ) (e : Entry) → EntryFactsFit h e
-    → Sayable (shape_of h e.kind true points) h.cells.items (range_facts e.regs) (AnyPair ∷ AnyPair ∷ AnyPair ∷ []) e.flags (range_facts e.stack.items)
+    → Sayable (shape_of h e.kind true points) h.cells.items (range_facts e.regs) (AnyPair ∷ AnyPair ∷ AnyPair ∷ []) e.flags
+    (range_facts e.stack.items)
     (range_facts e.cells.items) []
 entry_sayable h lines points e f =
     let shape = shape_of h e.kind true points in
     record {
-      regs_fit = each_of_all (FactIn (bytes_forms shape)) registers (range_facts e.regs) (length-map e.regs range_fact ∙ f.registers) (facts e.regs f.ranges);
+      regs_fit = each_of_all (FactIn (bytes_forms shape)) registers (range_facts e.regs) (length-map e.regs range_fact ∙ f.registers)
+          (facts e.regs f.ranges);
       pairs_fit = ((refl, lit< tt), ((refl, lit< tt), ((refl, lit< tt), tt)));
-      flags_fit = each_of_all (BitIn (is_handler e.kind)) letters_of_flags e.flags f.flag_count (all_other (BitFits e.kind) (BitIn (is_handler e.kind)) e.flags (bit_in e.kind) f.flags);
+      flags_fit = each_of_all (BitIn (is_handler e.kind)) letters_of_flags e.flags f.flag_count
+          (all_other (BitFits e.kind) (BitIn (is_handler e.kind)) e.flags (bit_in e.kind) f.flags);
       slots_fit = omega (arith, f.slots, length-map e.stack.items range_fact);
       stack_fit = facts e.stack.items f.stack;
-      cells_fit = each_other (λ p x. FactIn (entry_cell p.1) x) (λ p x. FactIn (cell_form shape p.1) x) (numbered_cells e.kind 0 h.cells.items) (range_facts e.cells.items)
+      cells_fit = each_other (λ p x. FactIn (entry_cell p.1) x) (λ p x. FactIn (cell_form shape p.1) x)
+          (numbered_cells e.kind 0 h.cells.items) (range_facts e.cells.items)
           (λ p x i. subst (λ (g : Forms). FactIn g x) (sym (entry_form_is shape p.1 refl)) i)
           (spans_in e.kind 0 h.cells.items e.cells.items f.cells.ranges f.cells.within);
       next_fit = (refl, All-nil (λ id. id < points), lit≤ tt, λ _. refl);
@@ -98,20 +107,25 @@ entry_sayable h lines points e f =
 
     any_three : All (λ x. is_any_pair x ≡ true) (AnyPair ∷ AnyPair ∷ AnyPair ∷ [])
     any_three =
-        All-cons (λ x. is_any_pair x ≡ true) AnyPair (AnyPair ∷ AnyPair ∷ []) refl (All-cons (λ x. is_any_pair x ≡ true) AnyPair (AnyPair ∷ []) refl
+        All-cons (λ x. is_any_pair x ≡ true) AnyPair (AnyPair ∷ AnyPair ∷ []) refl
+        (All-cons (λ x. is_any_pair x ≡ true) AnyPair (AnyPair ∷ []) refl
         (All-cons (λ x. is_any_pair x ≡ true) AnyPair [] refl (All-nil (λ x. is_any_pair x ≡ true))))
 
 entry_items_are : (cells : List Cell) (e : Entry)
-    → entry_items cells e ≡ items_of e.kind cells (range_facts e.regs) (AnyPair ∷ AnyPair ∷ AnyPair ∷ []) e.flags (range_facts e.stack.items) (range_facts e.cells.items) []
+    → entry_items cells e ≡ items_of e.kind cells (range_facts e.regs) (AnyPair ∷ AnyPair ∷ AnyPair ∷ []) e.flags
+    (range_facts e.stack.items) (range_facts e.cells.items) []
 entry_items_are cells e =
-    ap (λ ws. register_items e.kind 0 (range_facts e.regs) ++ (flag_items e.kind letters_of_flags e.flags ++ (slot_items (range_facts e.stack.items) ++ ws)))
+    ap (λ ws. register_items e.kind 0 (range_facts e.regs) ++ (flag_items e.kind letters_of_flags e.flags
+    ++ (slot_items (range_facts e.stack.items) ++ ws)))
     (sym (append-nil (cell_items e.kind 0 cells (range_facts e.cells.items))))
 
 entry_back : (h : Head) (e : Entry) (least after : ℕ) → EntryFactsFit h e
-    → entry_of e.kind e.id e.pc e.line e.clock (facts_with least after (range_facts e.regs) (AnyPair ∷ AnyPair ∷ AnyPair ∷ []) e.flags (range_facts e.stack.items) (range_facts e.cells.items) []) ≡ e
+    → entry_of e.kind e.id e.pc e.line e.clock (facts_with least after (range_facts e.regs) (AnyPair ∷ AnyPair ∷ AnyPair ∷ []) e.flags
+    (range_facts e.stack.items) (range_facts e.cells.items) []) ≡ e
 unfolding entry_of
 entry_back h e least after f =
-    with_lists (map span_of_fact (range_facts e.regs)) (map span_of_fact (range_facts e.stack.items)) (map span_of_fact (range_facts e.cells.items))
+    with_lists (map span_of_fact (range_facts e.regs)) (map span_of_fact (range_facts e.stack.items))
+    (map span_of_fact (range_facts e.cells.items))
     (back e.regs f.ranges) (back e.stack.items f.stack) (back e.cells.items f.cells.ranges)
   where
     make : List Ends → List Ends → List Ends → Entry
@@ -131,12 +145,24 @@ entry_back h e least after f =
     back es a = map_back (RangeFits 255) range_fact span_of_fact es (λ x r. span_back x) a
 
     with_lists : (rs ss cs : List Ends) → rs ≡ e.regs → ss ≡ e.stack.items → cs ≡ e.cells.items
-        → record { kind = e.kind; id = e.id; pc = e.pc; line = e.line; clock = e.clock; regs = rs; flags = e.flags; stack = record { items = ss }; cells = record { items = cs } } ≡ e
+        → record {
+          kind = e.kind;
+          id = e.id;
+          pc = e.pc;
+          line = e.line;
+          clock = e.clock;
+          regs = rs;
+          flags = e.flags;
+          stack = record { items = ss };
+          cells = record { items = cs };
+        } ≡ e
     with_lists rs ss cs p q r =
-        ap (λ (x : List Ends). make x ss cs) p ∙ ap (λ (x : List Ends). make e.regs x cs) q ∙ ap (λ (x : List Ends). make e.regs e.stack.items x) r
+        ap (λ (x : List Ends). make x ss cs) p ∙ ap (λ (x : List Ends). make e.regs x cs) q
+        ∙ ap (λ (x : List Ends). make e.regs e.stack.items x) r
 
 entry_after_again : (h : Head) (lines points : ℕ) (e : Entry) → PlacesAre h lines points → EntryFits h lines points e
-    → reads (entry_after h lines points e.kind) (line (decimal e.id ∷ decimal e.pc ∷ decimal e.line ∷ decimal e.clock ∷ entry_items h.cells.items e)) ≡ Ok (said.Entry e)
+    → reads (entry_after h lines points e.kind)
+    (line (decimal e.id ∷ decimal e.pc ∷ decimal e.line ∷ decimal e.clock ∷ entry_items h.cells.items e)) ≡ Ok (said.Entry e)
 entry_after_again h lines points e a f =
     let lines_few : lines ≤ 525 = a.lines_few in
     let many : points ≤ 524288 = a.points_few in
@@ -154,15 +180,19 @@ entry_after_again h lines points e a f =
     let f3 = form_rest f2 e.line in
     let lines_small = none_small kind lines (omega arith) in
     let clocks_small = none_small kind 1820 (lit≤ tt) in
-    let r = items_again shape cells (range_facts e.regs) (AnyPair ∷ AnyPair ∷ AnyPair ∷ []) e.flags (range_facts e.stack.items) (range_facts e.cells.items) []
+    let r = items_again shape cells (range_facts e.regs) (AnyPair ∷ AnyPair ∷ AnyPair ∷ []) e.flags (range_facts e.stack.items)
+    (range_facts e.cells.items) []
     (shape_fits h lines points kind true a (no_handler kind e f.kind)) (entry_sayable h lines points e f.facts) in
     let say : Facts → Said = λ x. said.Entry (entry_of kind e.id e.pc e.line e.clock x) in
     advance f0 (decimal e.id) w1 e.id says (number_so (one_of points) e.id (omega arith) (one_so points e.id (omega arith) f.id))
-    (advance f1 (decimal e.pc) w2 e.pc says (number_so (within 0 32768) e.pc (lit≤ tt) (within_so 0 32768 e.pc (lit≤ tt) (omega arith) f.pc))
+    (advance f1 (decimal e.pc) w2 e.pc says
+    (number_so (within 0 32768) e.pc (lit≤ tt) (within_so 0 32768 e.pc (lit≤ tt) (omega arith) f.pc))
     (advance f2 (decimal e.line) w3 e.line says (number_so (within 0 (none_in_main kind lines)) e.line (omega (arith, lines_small))
-    (within_so 0 (none_in_main kind lines) e.line lines_small (omega arith) (under_none kind lines e.line (λ m. (at_begin kind e f.kind m).0) f.line)))
+    (within_so 0 (none_in_main kind lines) e.line lines_small (omega arith)
+    (under_none kind lines e.line (λ m. (at_begin kind e f.kind m).0) f.line)))
     (advance f3 (decimal e.clock) w4 e.clock says (number_so (within 0 (none_in_main kind 1820)) e.clock (omega (arith, clocks_small))
-    (within_so 0 (none_in_main kind 1820) e.clock clocks_small (omega arith) (under_none kind 1820 e.clock (λ m. (at_begin kind e f.kind m).1) f.clock)))
+    (within_so 0 (none_in_main kind 1820) e.clock clocks_small (omega arith)
+    (under_none kind 1820 e.clock (λ m. (at_begin kind e f.kind m).1) f.clock)))
     (ap (λ (ws : List (List ℕ)). read_items shape cells (line ws) >>= (λ x. fine (say x))) (entry_items_are cells e)
     ∙ ap (λ (m : Result Facts CertWhy). m >>= (λ x. fine (say x))) r.read
     ∙ ap (λ (x : Entry). fine (said.Entry x)) (entry_back h e r.least r.after f.facts)))))
@@ -195,7 +225,8 @@ entry_again h lines points e a f =
     let f1 = form_rest (entry_form h lines points) 0 in
     advance (entry_form h lines points) (codes "entry") (kind_word e.kind ∷ ws) 0 says (fixed_word (codes "entry"))
     (advance f1 (kind_word e.kind) ws (kind_place e.kind) says (kind_again e.kind e f.kind)
-    (ap (λ (k : Kind). reads (entry_after h lines points k) (line ws)) (kind_back e.kind e f.kind) ∙ entry_after_again h lines points e a f))
+    (ap (λ (k : Kind). reads (entry_after h lines points k) (line ws)) (kind_back e.kind e f.kind) ∙ entry_after_again h lines points e a
+    f))
 
 -- only
 
@@ -212,7 +243,8 @@ not_handler (suc n) e = by_test (eqb (suc n) 0) e
     by_test true e = absurd cc
     by_test false e = absurd cc
 
-kind_fits : (kind : Kind) (e : Entry) → (kind ≡ Handler → true ≡ false) → (kind ≡ Main → e.line ≡ 0) → (kind ≡ Main → e.clock ≡ 0) → EntryKindFits kind e
+kind_fits : (kind : Kind) (e : Entry) → (kind ≡ Handler → true ≡ false) → (kind ≡ Main → e.line ≡ 0) → (kind ≡ Main → e.clock ≡ 0)
+    → EntryKindFits kind e
 kind_fits Main e n l c = (l refl, c refl)
 kind_fits Handler e n l c = true_not true refl (n refl)
 kind_fits Alone e n l c = tt
@@ -231,19 +263,22 @@ record FactsSaid (h : Head) (kind : Kind) (points : ℕ) (f : Facts) : Type 0 wh
   pub pairs : f.pairs ≡ AnyPair ∷ AnyPair ∷ AnyPair ∷ []
   pub next : f.next.items ≡ []
 
-facts_said : (h : Head) (kind : Kind) (points : ℕ) (f : Facts) → Regular (shape_of h kind true points) h.cells.items f → FactsSaid h kind points f
+facts_said : (h : Head) (kind : Kind) (points : ℕ) (f : Facts) → Regular (shape_of h kind true points) h.cells.items f → FactsSaid h kind
+    points f
 facts_said h kind points f r =
     let shape = shape_of h kind true points in
     let regs = all_of_each (FactIn (bytes_forms shape)) registers f.regs r.regs in
     let cells = spans_out kind 0 h.cells.items f.cells.items
-    (each_other (λ p x. FactIn (cell_form shape p.1) x) (λ p x. FactIn (entry_cell p.1) x) (numbered_cells kind 0 h.cells.items) f.cells.items
+    (each_other (λ p x. FactIn (cell_form shape p.1) x) (λ p x. FactIn (entry_cell p.1) x) (numbered_cells kind 0 h.cells.items)
+    f.cells.items
     (λ p x i. subst (λ (g : Forms). FactIn g x) (entry_form_is shape p.1 refl) i) r.tracked_cells) in
     record {
       regs_back = back f.regs regs;
       regs_fit = fit f.regs regs;
       regs_count = length-map f.regs span_of_fact ∙ each_length (λ k x. FactIn (bytes_forms shape) x) registers f.regs r.regs;
       flag_count = each_length (λ k x. BitIn (is_handler kind) x) letters_of_flags f.flags r.flags;
-      flags_fit = all_other (BitIn (is_handler kind)) (BitFits kind) f.flags (bit_out kind) (all_of_each (BitIn (is_handler kind)) letters_of_flags f.flags r.flags);
+      flags_fit = all_other (BitIn (is_handler kind)) (BitFits kind) f.flags (bit_out kind)
+          (all_of_each (BitIn (is_handler kind)) letters_of_flags f.flags r.flags);
       stack_back = back f.stack.items r.stack;
       stack_fit = fit f.stack.items r.stack;
       slots = omega (arith, r.slots, length-map f.stack.items span_of_fact);
@@ -275,20 +310,34 @@ spelled_entry h kind points id pc line clock f s =
     ++ (slot_items f.stack.items ++ (cell_items kind 0 cells f.cells.items ++ successor_items f.next.items))))) s.pairs
     ∙ ap (λ (ns : List ℕ). register_items kind 0 f.regs ++ (flag_items kind letters_of_flags f.flags
     ++ (slot_items f.stack.items ++ (cell_items kind 0 cells f.cells.items ++ successor_items ns)))) s.next
-    ∙ ap (λ (ws : List (List ℕ)). register_items kind 0 f.regs ++ (flag_items kind letters_of_flags f.flags ++ (slot_items f.stack.items ++ ws)))
+    ∙ ap (λ (ws : List (List ℕ)). register_items kind 0 f.regs
+    ++ (flag_items kind letters_of_flags f.flags ++ (slot_items f.stack.items ++ ws)))
     (append-nil (cell_items kind 0 cells f.cells.items))
-    ∙ ap (λ (rs : List Fact). register_items kind 0 rs ++ (flag_items kind letters_of_flags f.flags ++ (slot_items f.stack.items ++ cell_items kind 0 cells f.cells.items))) (sym s.regs_back)
-    ∙ ap (λ (ss : List Fact). register_items kind 0 (range_facts (map span_of_fact f.regs)) ++ (flag_items kind letters_of_flags f.flags ++ (slot_items ss ++ cell_items kind 0 cells f.cells.items)))
+    ∙ ap (λ (rs : List Fact). register_items kind 0 rs
+    ++ (flag_items kind letters_of_flags f.flags ++ (slot_items f.stack.items ++ cell_items kind 0 cells f.cells.items)))
+    (sym s.regs_back)
+    ∙ ap (λ (ss : List Fact). register_items kind 0 (range_facts (map span_of_fact f.regs))
+    ++ (flag_items kind letters_of_flags f.flags ++ (slot_items ss ++ cell_items kind 0 cells f.cells.items)))
     (sym s.stack_back)
     ∙ ap (λ (cs : List Fact). register_items kind 0 (range_facts (map span_of_fact f.regs)) ++ (flag_items kind letters_of_flags f.flags
     ++ (slot_items (range_facts (map span_of_fact f.stack.items)) ++ cell_items kind 0 cells cs))) (sym s.cells_back)
 
-entry_facts_fit : (h : Head) (kind : Kind) (points id pc line clock : ℕ) (f : Facts) → FactsSaid h kind points f → EntryFactsFit h (entry_of kind id pc line clock f)
+entry_facts_fit : (h : Head) (kind : Kind) (points id pc line clock : ℕ) (f : Facts) → FactsSaid h kind points f → EntryFactsFit h
+    (entry_of kind id pc line clock f)
 unfolding entry_of
 entry_facts_fit h kind points id pc line clock f s =
-    record { registers = s.regs_count; ranges = s.regs_fit; flag_count = s.flag_count; flags = s.flags_fit; slots = s.slots; stack = s.stack_fit; cells = s.cells_fit }
+    record {
+      registers = s.regs_count;
+      ranges = s.regs_fit;
+      flag_count = s.flag_count;
+      flags = s.flags_fit;
+      slots = s.slots;
+      stack = s.stack_fit;
+      cells = s.cells_fit;
+    }
 
-entry_fits : (h : Head) (lines points : ℕ) (kind : Kind) (id pc line clock : ℕ) (f : Facts) → FactsSaid h kind points f → (kind ≡ Handler → true ≡ false)
+entry_fits : (h : Head) (lines points : ℕ) (kind : Kind) (id pc line clock : ℕ) (f : Facts) → FactsSaid h kind points f
+    → (kind ≡ Handler → true ≡ false)
     → id < points → pc < 32768 → (line < lines) × (kind ≡ Main → line ≡ 0) → (clock < 1820) × (kind ≡ Main → clock ≡ 0)
     → EntryFits h lines points (entry_of kind id pc line clock f)
 unfolding entry_of
@@ -303,7 +352,8 @@ entry_fits h lines points kind id pc line clock f s n i p l c =
     }
 
 entry_words_are : (h : Head) (kind : Kind) (id pc line clock : ℕ) (f : Facts)
-    → codes "entry" ∷ kind_word kind ∷ decimal id ∷ decimal pc ∷ decimal line ∷ decimal clock ∷ entry_items h.cells.items (entry_of kind id pc line clock f)
+    → codes "entry" ∷ kind_word kind ∷ decimal id ∷ decimal pc ∷ decimal line ∷ decimal clock ∷ entry_items h.cells.items
+    (entry_of kind id pc line clock f)
     ≡ entry_words h.cells.items (entry_of kind id pc line clock f)
 unfolding entry_of
 entry_words_are h kind id pc line clock f = refl
@@ -344,7 +394,8 @@ entry_only h lines points words says a some e =
       sym (fine_is (said.Entry made) says m.2),
       line_same words.list (entry_words cells made) words.ended
           (with_front words.list b.left _ b.word (codes "entry") b.parts (fixed_is (codes "entry") b.word b.number b.is)
-          (with_front b.left k.left _ k.word (kind_word kind) k.parts (kind_word_back k.number k.word (choice_is entry_kinds k.word k.number k.is))
+          (with_front b.left k.left _ k.word (kind_word kind) k.parts
+          (kind_word_back k.number k.word (choice_is entry_kinds k.word k.number k.is))
           (with_front k.left i.left _ i.word (decimal i.number) i.parts idn.0
           (with_front i.left p.left _ p.word (decimal p.number) p.parts pn.0
           (with_front p.left l.left _ l.word (decimal l.number) l.parts ln.0

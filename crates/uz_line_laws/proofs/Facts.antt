@@ -1,5 +1,6 @@
 -- The words of ranges, facts, pairs and flags: read as they are spelled, and only so.
-use Rattle.std.proofs.Common.{◌≡◌, ◌⊎◌, inl, inr, ℕ, zero, suc, ◌<◌, ◌≤◌, ◌≢◌, Bool, true, false, cond, not, ◌&&◌, eqb, leb, ltb, List, ◌++◌, decimal, codes, bytes_eq, lit<, lit≤, refl, sym, ◌∙◌, ap, subst, arith}
+use Rattle.std.proofs.Common.{◌≡◌, ◌⊎◌, inl, inr, ℕ, zero, suc, ◌<◌, ◌≤◌, ◌≢◌, Bool, true, false, cond, not, ◌&&◌, eqb, leb, ltb, List}
+use Rattle.std.proofs.Common.{◌++◌, decimal, codes, bytes_eq, lit<, lit≤, refl, sym, ◌∙◌, ap, subst, arith}
 use Rattle.std.specs.Prelude.{⊤, Ok, Err}
 use Rattle.std.proofs.lemmas.Bool.Decides.{nat_tests}
 use Rattle.uz_schedule.specs.Ends.{Ends, is_within}
@@ -7,7 +8,8 @@ use Rattle.uz_schedule.specs.WellFormed.{RangeFits, PartFits}
 use Rattle.uz_schedule.specs.declared.facts.Fact.{Fact}
 use Rattle.uz_schedule.specs.declared.facts.Fact.TheVariants.{Any, Between, Line, Loop, Old, OldFlags}
 use Rattle.uz_schedule.specs.declared.facts.PairFact.{PairFact}
-use Rattle.uz_schedule.specs.declared.facts.PairFact.TheVariants.{Any as AnyPair, Between as BetweenPair, Line as LinePair, Loop as LoopPair}
+use Rattle.uz_schedule.specs.declared.facts.PairFact.TheVariants.{Any as AnyPair, Between as BetweenPair, Line as LinePair}
+use Rattle.uz_schedule.specs.declared.facts.PairFact.TheVariants.{Loop as LoopPair}
 use Rattle.uz_schedule.specs.declared.facts.Bit.{Bit}
 use Rattle.uz_schedule.specs.declared.facts.Bit.TheVariants.{Zero, One, Free, Old as OldBit}
 use Rattle.uz_lines.specs.Why.{◌>>=◌}
@@ -18,7 +20,8 @@ use Rattle.uz_lines.specs.declared.values.Raw.{Raw}
 use Rattle.uz_lines.specs.declared.values.Raw.TheVariants as raw
 use Rattle.uz_lines.specs.declared.why.CertWhy.TheVariants as why
 use Rattle.uz_spelling.specs.Spelling.{range_word, ends_word, fact_word, pair_word, flag_word}
-use Rattle.uz_line_laws.proofs.Tests.{and_true, both_true, and_false, not_true, fine, fine_is, fault_not, passed, so, else_so, bind_ok, then, le_is, is_le, lt_is, is_lt, number_is, number_not, same_number, word_is}
+use Rattle.uz_line_laws.proofs.Tests.{and_true, both_true, and_false, not_true, fine, fine_is, fault_not, passed, so, else_so, bind_ok}
+use Rattle.uz_line_laws.proofs.Tests.{then, le_is, is_le, lt_is, is_lt, number_is, number_not, same_number, word_is}
 use Rattle.uz_line_laws.proofs.Raws.{raw_word, RawFits, raw_only, raw_so}
 
 -- ranges
@@ -275,7 +278,8 @@ record SpanGives (range : Ends) (w : List ℕ) (e : Ends) : Type 0 where
 span_at : (range : Ends) (w : List ℕ) (a b : Ends) → a ≡ b → SpanGives range w a → SpanGives range w b
 span_at range w a b e h = subst (λ (x : Ends). SpanGives range w x) e h
 
-span_by : (range : Ends) (w : List ℕ) (r : Raw) (e : Ends) → range.hi ≤ 255 → w ≡ raw_word r → RawFits (span_forms range) r → ends_of r ≡ Ok e
+span_by : (range : Ends) (w : List ℕ) (r : Raw) (e : Ends) → range.hi ≤ 255 → w ≡ raw_word r → RawFits (span_forms range) r → ends_of r ≡ Ok
+    e
     → SpanGives range w e
 span_by range w raw.All e h d i g =
     span_at range w (ends 0 255) e (fine_is (ends 0 255) e g)
@@ -356,7 +360,8 @@ span_so range e h i w = by_whole (eqb e.lo 0 && eqb e.hi 255) refl
     by_whole false t =
         let part = part_from e i t in
         ap (λ w. raw_of (span_forms range) w >>= (λ raw. ends_of raw)) (part_raw 255 e part)
-        ∙ then (raw_of (span_forms range) (raw_word (raw_by false (eqb e.lo e.hi) e))) (λ raw. ends_of raw) (raw_by false (eqb e.lo e.hi) e) (Ok e)
+        ∙ then (raw_of (span_forms range) (raw_word (raw_by false (eqb e.lo e.hi) e))) (λ raw. ends_of raw) (raw_by false (eqb e.lo e.hi) e)
+        (Ok e)
         (raw_so (span_forms range) (raw_by false (eqb e.lo e.hi) e) (omega arith)
         (raw_in (span_forms range) 255 e part in_range.0 (omega (arith, in_range.1))))
         (by_single part (eqb e.lo e.hi) refl)
@@ -376,7 +381,8 @@ bit_only old w bit e = zero_word (bytes_eq w (codes "0")) refl e
     at : (a : Bit) → fine a ≡ fine bit → (w ≡ flag_word a) × BitIn old a → (w ≡ flag_word bit) × BitIn old bit
     at a e h = subst (λ (x : Bit). (w ≡ flag_word x) × BitIn old x) (fine_is a bit e) h
 
-    old_word : (t : Bool) → (bytes_eq w (codes "o") && old) ≡ t → cond t (Ok OldBit) (Err why.Word) ≡ Ok bit → (w ≡ flag_word bit) × BitIn old bit
+    old_word : (t : Bool) → (bytes_eq w (codes "o") && old) ≡ t → cond t (Ok OldBit) (Err why.Word) ≡ Ok bit → (w ≡ flag_word bit)
+        × BitIn old bit
     old_word true t e =
         let two = and_true (bytes_eq w (codes "o")) old t in
         at OldBit e (word_is w (codes "o") two.0, two.1)
@@ -388,7 +394,8 @@ bit_only old w bit e = zero_word (bytes_eq w (codes "0")) refl e
     free_word false t e = old_word (bytes_eq w (codes "o") && old) refl e
 
     one_word : (t : Bool) → bytes_eq w (codes "1") ≡ t
-        → cond t (Ok One) (cond (bytes_eq w (codes "?")) (Ok Free) (cond (bytes_eq w (codes "o") && old) (Ok OldBit) (Err why.Word))) ≡ Ok bit
+        → cond t (Ok One) (cond (bytes_eq w (codes "?")) (Ok Free) (cond (bytes_eq w (codes "o") && old) (Ok OldBit) (Err why.Word))) ≡ Ok
+        bit
         → (w ≡ flag_word bit) × BitIn old bit
     one_word true t e = at One e (word_is w (codes "1") t, tt)
     one_word false t e = free_word (bytes_eq w (codes "?")) refl e

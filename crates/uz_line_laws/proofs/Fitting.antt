@@ -1,5 +1,6 @@
 -- What a well formed certificate lets be said of states is what the forms of their lines let in, and the other way round.
-use Rattle.std.proofs.Common.{◌≡◌, ℕ, suc, ◌+◌, ◌-◌, ◌*◌, ◌/◌, ◌<◌, ◌≤◌, ◌^◌, Bool, true, false, cond, not, ◌&&◌, eqb, leb, List, [], ◌∷◌, map, length, filter, lit<, lit≤, refl, sym, ◌∙◌, ap, subst, mul_comm, arith}
+use Rattle.std.proofs.Common.{◌≡◌, ℕ, suc, ◌+◌, ◌-◌, ◌*◌, ◌/◌, ◌<◌, ◌≤◌, ◌^◌, Bool, true, false, cond, not, ◌&&◌, eqb, leb, List, [], ◌∷◌}
+use Rattle.std.proofs.Common.{map, length, filter, lit<, lit≤, refl, sym, ◌∙◌, ap, subst, mul_comm, arith}
 use Rattle.std.specs.Prelude.{All}
 use Rattle.std.proofs.lemmas.Nat.{div_below, le-div}
 use Rattle.std.proofs.lemmas.List.Elements.{All-nil, All-cons, All-head, All-tail}
@@ -12,7 +13,8 @@ use Rattle.uz_schedule.specs.declared.header.Cell.{Cell}
 use Rattle.uz_schedule.specs.declared.facts.Fact.{Fact}
 use Rattle.uz_schedule.specs.declared.facts.Fact.TheVariants.{Any, Between, Line, Loop, Old, OldFlags}
 use Rattle.uz_schedule.specs.declared.facts.PairFact.{PairFact}
-use Rattle.uz_schedule.specs.declared.facts.PairFact.TheVariants.{Any as AnyPair, Between as BetweenPair, Line as LinePair, Loop as LoopPair}
+use Rattle.uz_schedule.specs.declared.facts.PairFact.TheVariants.{Any as AnyPair, Between as BetweenPair, Line as LinePair}
+use Rattle.uz_schedule.specs.declared.facts.PairFact.TheVariants.{Loop as LoopPair}
 use Rattle.uz_schedule.specs.declared.facts.Bit.{Bit}
 use Rattle.uz_schedule.specs.declared.facts.Bit.TheVariants.{Zero, One, Free, Old as OldBit}
 use Rattle.uz_lines.specs.Defaults.{range_fact}
@@ -44,11 +46,13 @@ pub all_other : {A : Type 0} (P Q : A → Type 0) (xs : List A) → ((x : A) →
 all_other P Q [] f h = All-nil Q
 all_other P Q (x ∷ xs) f h = All-cons Q x xs (f x (All-head P x xs h)) (all_other P Q xs f (All-tail P x xs h))
 
-pub all_map : {A B : Type 0} (P : A → Type 0) (Q : B → Type 0) (f : A → B) (xs : List A) → ((x : A) → P x → Q (f x)) → All P xs → All Q (map f xs)
+pub all_map : {A B : Type 0} (P : A → Type 0) (Q : B → Type 0) (f : A → B) (xs : List A) → ((x : A) → P x → Q (f x)) → All P xs
+    → All Q (map f xs)
 all_map P Q f [] g h = All-nil Q
 all_map P Q f (x ∷ xs) g h = All-cons Q (f x) (map f xs) (g x (All-head P x xs h)) (all_map P Q f xs g (All-tail P x xs h))
 
-pub map_back : {A B : Type 0} (P : A → Type 0) (f : A → B) (g : B → A) (xs : List A) → ((x : A) → P x → g (f x) ≡ x) → All P xs → map g (map f xs) ≡ xs
+pub map_back : {A B : Type 0} (P : A → Type 0) (f : A → B) (g : B → A) (xs : List A) → ((x : A) → P x → g (f x) ≡ x) → All P xs
+    → map g (map f xs) ≡ xs
 map_back P f g [] e h = refl
 map_back {A} P f g (x ∷ xs) e h =
     ap (λ (y : A). y ∷ map g (map f xs)) (e x (All-head P x xs h)) ∙ ap (λ (ys : List A). x ∷ ys) (map_back P f g xs e (All-tail P x xs h))
@@ -113,7 +117,8 @@ numbered_length kind i (c ∷ cs) = by_own (tracks kind c.owner) (numbered_lengt
     by_own true e = ap suc e
     by_own false e = e
 
-pub cells_in : (shape : Shape) (cells : List Cell) (fs : List Fact) → shape.plain ≡ false → length fs ≡ length (filter (λ c. tracks shape.kind c.owner) cells)
+pub cells_in : (shape : Shape) (cells : List Cell) (fs : List Fact) → shape.plain ≡ false → length fs ≡ length
+    (filter (λ c. tracks shape.kind c.owner) cells)
     → All CellFactFits fs → Each (λ p x. FactIn (cell_form shape p.1) x) (numbered_cells shape.kind 0 cells) fs
 cells_in shape cells fs p e h =
     each_other (λ k x. CellFactFits x) (λ q x. FactIn (cell_form shape q.1) x) (numbered_cells shape.kind 0 cells) fs
@@ -173,9 +178,19 @@ pub record SaysRange (f : Forms) (x : Fact) : Type 0 where
   pub high : (span_of_fact x).hi < f.limit
 
 pub says_range : (f : Forms) (x : Fact) → f.top ≡ 255 → f.sloped ≡ false → f.old ≡ false → FactIn f x → SaysRange f x
-says_range f Any t s o h = record { back = refl; fits = record { order = lit≤ tt; high = lit≤ tt }; low = omega (arith, h.0); high = omega (arith, h.1, t) }
+says_range f Any t s o h = record {
+  back = refl;
+  fits = record { order = lit≤ tt; high = lit≤ tt };
+  low = omega (arith, h.0);
+  high = omega (arith, h.1, t);
+}
 says_range f (Between e) t s o h =
-    record { back = else_so (eqb e.lo 0 && eqb e.hi 255) Any (Between e) (part_not_whole 255 e h.0); fits = h.0.range; low = h.1; high = h.2 }
+    record {
+      back = else_so (eqb e.lo 0 && eqb e.hi 255) Any (Between e) (part_not_whole 255 e h.0);
+      fits = h.0.range;
+      low = h.1;
+      high = h.2;
+    }
 says_range f (Line a b) t s o h = absurd (true_not f.sloped h.0 s)
 says_range f (Loop a b) t s o h = absurd (true_not f.sloped h.0 s)
 says_range f (Old r) t s o h = absurd (true_not f.old h.0 o)
@@ -206,7 +221,8 @@ spans_in kind i (c ∷ cs) spans h e = by_own (tracks kind c.owner) e (λ ss g f
     by_own : (t : Bool) → spans_fit (cond t (c ∷ filter (λ c. tracks kind c.owner) cs) (filter (λ c. tracks kind c.owner) cs)) spans ≡ true
         → ((ss : List Ends) → All (RangeFits 255) ss → spans_fit (filter (λ c. tracks kind c.owner) cs) ss ≡ true
         → Each (λ p x. FactIn (entry_cell p.1) x) (numbered_cells kind (suc i) cs) (map range_fact ss))
-        → Each (λ p x. FactIn (entry_cell p.1) x) (cond t ((i, c) ∷ numbered_cells kind (suc i) cs) (numbered_cells kind (suc i) cs)) (map range_fact spans)
+        → Each (λ p x. FactIn (entry_cell p.1) x) (cond t ((i, c) ∷ numbered_cells kind (suc i) cs) (numbered_cells kind (suc i) cs))
+        (map range_fact spans)
     by_own false e later = later spans h e
     by_own true e later = by_spans spans h e
       where
@@ -216,21 +232,27 @@ spans_in kind i (c ∷ cs) spans h e = by_own (tracks kind c.owner) e (λ ss g f
         by_spans (s ∷ ss) h e =
             let two = and_true (is_within s c.range) (spans_fit (filter (λ c. tracks kind c.owner) cs) ss) e in
             let inside = and_true (leb c.range.lo s.lo) (leb s.hi c.range.hi) two.0 in (
-              range_in (entry_cell c) s refl (All-head (RangeFits 255) s ss h) (le_is c.range.lo s.lo inside.0) (omega (arith, le_is s.hi c.range.hi inside.1)),
+              range_in (entry_cell c) s refl (All-head (RangeFits 255) s ss h) (le_is c.range.lo s.lo inside.0)
+                  (omega (arith, le_is s.hi c.range.hi inside.1)),
               later ss (All-tail (RangeFits 255) s ss h) two.1,
             )
 
-pub spans_out : (kind : Kind) (i : ℕ) (cs : List Cell) (fs : List Fact) → Each (λ p x. FactIn (entry_cell p.1) x) (numbered_cells kind i cs) fs
-    → All (RangeFits 255) (map span_of_fact fs) × (spans_fit (filter (λ c. tracks kind c.owner) cs) (map span_of_fact fs) ≡ true) × (map range_fact (map span_of_fact fs) ≡ fs)
+pub spans_out : (kind : Kind) (i : ℕ) (cs : List Cell) (fs : List Fact) → Each (λ p x. FactIn (entry_cell p.1) x) (numbered_cells kind i cs)
+    fs
+    → All (RangeFits 255) (map span_of_fact fs) × (spans_fit (filter (λ c. tracks kind c.owner) cs) (map span_of_fact fs) ≡ true)
+    × (map range_fact (map span_of_fact fs) ≡ fs)
 spans_out kind i [] [] h = (All-nil (RangeFits 255), refl, refl)
 spans_out kind i [] (f ∷ fs) h = absurd h
 spans_out kind i (c ∷ cs) fs h = by_own (tracks kind c.owner) fs h (λ gs g. spans_out kind (suc i) cs gs g)
   where
-    by_own : (t : Bool) (gs : List Fact) → Each (λ p x. FactIn (entry_cell p.1) x) (cond t ((i, c) ∷ numbered_cells kind (suc i) cs) (numbered_cells kind (suc i) cs)) gs
+    by_own : (t : Bool) (gs : List Fact) → Each (λ p x. FactIn (entry_cell p.1) x) (cond t ((i, c) ∷ numbered_cells kind (suc i) cs)
+        (numbered_cells kind (suc i) cs)) gs
         → ((gs : List Fact) → Each (λ p x. FactIn (entry_cell p.1) x) (numbered_cells kind (suc i) cs) gs
-        → All (RangeFits 255) (map span_of_fact gs) × (spans_fit (filter (λ c. tracks kind c.owner) cs) (map span_of_fact gs) ≡ true) × (map range_fact (map span_of_fact gs) ≡ gs))
+        → All (RangeFits 255) (map span_of_fact gs) × (spans_fit (filter (λ c. tracks kind c.owner) cs) (map span_of_fact gs) ≡ true)
+        × (map range_fact (map span_of_fact gs) ≡ gs))
         → All (RangeFits 255) (map span_of_fact gs)
-        × (spans_fit (cond t (c ∷ filter (λ c. tracks kind c.owner) cs) (filter (λ c. tracks kind c.owner) cs)) (map span_of_fact gs) ≡ true)
+        × (spans_fit (cond t (c ∷ filter (λ c. tracks kind c.owner) cs) (filter (λ c. tracks kind c.owner) cs)) (map span_of_fact gs)
+        ≡ true)
         × (map range_fact (map span_of_fact gs) ≡ gs)
     by_own false gs h later = later gs h
     by_own true [] h later = absurd h
@@ -240,7 +262,8 @@ spans_out kind i (c ∷ cs) fs h = by_own (tracks kind c.owner) fs h (λ gs g. s
         let high : (span_of_fact g).hi < c.range.hi + 1 = one.high in (
           All-cons (RangeFits 255) (span_of_fact g) (map span_of_fact gs) one.fits rest.0,
           both_true (is_within (span_of_fact g) c.range) (spans_fit (filter (λ c. tracks kind c.owner) cs) (map span_of_fact gs))
-              (both_true (leb c.range.lo (span_of_fact g).lo) (leb (span_of_fact g).hi c.range.hi) (is_le c.range.lo (span_of_fact g).lo one.low)
+              (both_true (leb c.range.lo (span_of_fact g).lo) (leb (span_of_fact g).hi c.range.hi)
+              (is_le c.range.lo (span_of_fact g).lo one.low)
               (is_le (span_of_fact g).hi c.range.hi (omega arith))) rest.1,
           ap (λ (x : Fact). x ∷ map range_fact (map span_of_fact gs)) one.back ∙ ap (λ (xs : List Fact). g ∷ xs) rest.2,
         )
@@ -277,7 +300,8 @@ none_some Alone limit h = h
 
 pub box_under : (left l0 l1 c0 c1 : ℕ) → c0 ≤ c1 → (l1 - l0 + 1) * (c1 - c0 + 1) ≤ left → c1 < c0 + left / (l1 - l0 + 1)
 box_under left l0 l1 c0 c1 o h =
-    let counts : c1 - c0 + 1 ≤ left / (l1 - l0 + 1) = le-div (c1 - c0 + 1) left (l1 - l0 + 1) (omega arith) (turned (l1 - l0 + 1) (c1 - c0 + 1) left h) in
+    let counts : c1 - c0 + 1 ≤ left / (l1 - l0 + 1) = le-div (c1 - c0 + 1) left (l1 - l0 + 1) (omega arith)
+    (turned (l1 - l0 + 1) (c1 - c0 + 1) left h) in
     omega arith
   where
     turned : (a b n : ℕ) → a * b ≤ n → b * a ≤ n
@@ -290,5 +314,6 @@ under_box left l0 l1 c0 c1 o h =
     by_test : (t : Bool) → leb ((c1 - c0 + 1) * (l1 - l0 + 1)) left ≡ t → (c1 - c0 + 1) * (l1 - l0 + 1) ≤ left
     by_test true e = le_is ((c1 - c0 + 1) * (l1 - l0 + 1)) left e
     by_test false e =
-        let less : left / (l1 - l0 + 1) < c1 - c0 + 1 = div_below left (l1 - l0 + 1) (c1 - c0 + 1) (omega arith) (not_le ((c1 - c0 + 1) * (l1 - l0 + 1)) left e) in
+        let less : left / (l1 - l0 + 1) < c1 - c0 + 1 = div_below left (l1 - l0 + 1) (c1 - c0 + 1) (omega arith)
+        (not_le ((c1 - c0 + 1) * (l1 - l0 + 1)) left e) in
         absurd (omega arith)

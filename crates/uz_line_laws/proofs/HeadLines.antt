@@ -1,5 +1,6 @@
 -- The lines of sizes, response, stack and cells.
-use Rattle.std.proofs.Common.{◌≡◌, ◌⊎◌, inl, inr, ℕ, zero, suc, ◌+◌, ◌-◌, ◌<◌, ◌≤◌, ◌≢◌, ◌^◌, eqb, Bool, true, false, cond, List, [], ◌∷◌, decimal, codes, lit<, lit≤, refl, sym, ◌∙◌, ap, arith}
+use Rattle.std.proofs.Common.{◌≡◌, ◌⊎◌, inl, inr, ℕ, zero, suc, ◌+◌, ◌-◌, ◌<◌, ◌≤◌, ◌≢◌, ◌^◌, eqb, Bool, true, false, cond, List, [], ◌∷◌}
+use Rattle.std.proofs.Common.{decimal, codes, lit<, lit≤, refl, sym, ◌∙◌, ap, arith}
 use Rattle.std.specs.Prelude.{Some, Ok, slice_get}
 use Rattle.uz_schedule.specs.Schedule.{response_clocks}
 use Rattle.uz_schedule.specs.WellFormed.{CellFits, StackFits}
@@ -21,7 +22,8 @@ use Rattle.uz_spelling.specs.Spelling.{owner_word, cell_words}
 use Rattle.uz_line_laws.specs.Said.{line, sizes_words, SizesFit, response_words, stack_line_words, with_stack}
 use Rattle.uz_line_laws.proofs.Numbers.{IsAsked, number_so, number_only}
 use Rattle.uz_line_laws.proofs.Tests.{fine, number_is, number_not}
-use Rattle.uz_line_laws.proofs.Steps.{line_same, form_rest, advance, fixed_word, retreat, fixed_is, choice_is, finish_only, with_front, is_within, under_both, both_under, least_small}
+use Rattle.uz_line_laws.proofs.Steps.{line_same, form_rest, advance, fixed_word, retreat, fixed_is, choice_is, finish_only, with_front}
+use Rattle.uz_line_laws.proofs.Steps.{is_within, under_both, both_under, least_small}
 
 -- size
 
@@ -39,12 +41,16 @@ size_again s h =
     let f4 = form_rest f3 s.rests in
     let f5 = form_rest f4 s.points in
     advance size_form (codes "size") w1 0 r (fixed_word (codes "size"))
-    (advance f1 (decimal s.kinds) w2 s.kinds r (number_so (within 1 526) s.kinds (lit≤ tt) (is_within 1 526 s.kinds (lit≤ tt) h.kinds_some (omega (arith, h.kinds_few))))
-    (advance f2 (decimal s.lines) w3 s.lines r (number_so (within 1 526) s.lines (lit≤ tt) (is_within 1 526 s.lines (lit≤ tt) h.lines_some (omega (arith, h.lines_few))))
+    (advance f1 (decimal s.kinds) w2 s.kinds r
+    (number_so (within 1 526) s.kinds (lit≤ tt) (is_within 1 526 s.kinds (lit≤ tt) h.kinds_some (omega (arith, h.kinds_few))))
+    (advance f2 (decimal s.lines) w3 s.lines r
+    (number_so (within 1 526) s.lines (lit≤ tt) (is_within 1 526 s.lines (lit≤ tt) h.lines_some (omega (arith, h.lines_few))))
     (advance f3 (decimal s.rests) w4 s.rests r (number_so (within 0 (s.lines + 1)) s.rests (omega (arith, h.lines_few))
     (is_within 0 (s.lines + 1) s.rests (omega (arith, h.lines_few)) (omega arith) (omega (arith, h.rests_few))))
-    (advance f4 (decimal s.points) w5 s.points r (number_so (within 1 524289) s.points (lit≤ tt) (is_within 1 524289 s.points (lit≤ tt) h.points_some (omega (arith, h.points_few))))
-    (advance f5 (decimal s.cells) [] s.cells r (number_so (within 0 17) s.cells (lit≤ tt) (is_within 0 17 s.cells (lit≤ tt) (omega arith) (omega (arith, h.cells_few)))) refl)))))
+    (advance f4 (decimal s.points) w5 s.points r (number_so (within 1 524289) s.points (lit≤ tt)
+    (is_within 1 524289 s.points (lit≤ tt) h.points_some (omega (arith, h.points_few))))
+    (advance f5 (decimal s.cells) [] s.cells r
+    (number_so (within 0 17) s.cells (lit≤ tt) (is_within 0 17 s.cells (lit≤ tt) (omega arith) (omega (arith, h.cells_few)))) refl)))))
 
 pub size_only : (words : Words) (says : Said) → reads size_form words ≡ Ok says
     → (s : Sizes) × (says ≡ said.Size s) × (words ≡ line (sizes_words s)) × SizesFit s
@@ -94,10 +100,12 @@ size_only words says e =
 pub irq_again : (r : Response) → reads irq_form (line (response_words r)) ≡ Ok (said.Irq r)
 irq_again Four =
     advance irq_form (codes "irq") (decimal 4 ∷ []) 0 (Ok (said.Irq Four)) (fixed_word (codes "irq"))
-    (advance (form_rest irq_form 0) (decimal 4) [] 4 (Ok (said.Irq Four)) (number_so (within 4 6) 4 (lit≤ tt) (is_within 4 6 4 (lit≤ tt) (lit≤ tt) (lit< tt))) refl)
+    (advance (form_rest irq_form 0) (decimal 4) [] 4 (Ok (said.Irq Four))
+    (number_so (within 4 6) 4 (lit≤ tt) (is_within 4 6 4 (lit≤ tt) (lit≤ tt) (lit< tt))) refl)
 irq_again Five =
     advance irq_form (codes "irq") (decimal 5 ∷ []) 0 (Ok (said.Irq Five)) (fixed_word (codes "irq"))
-    (advance (form_rest irq_form 0) (decimal 5) [] 5 (Ok (said.Irq Five)) (number_so (within 4 6) 5 (lit≤ tt) (is_within 4 6 5 (lit≤ tt) (lit≤ tt) (lit< tt))) refl)
+    (advance (form_rest irq_form 0) (decimal 5) [] 5 (Ok (said.Irq Five))
+    (number_so (within 4 6) 5 (lit≤ tt) (is_within 4 6 5 (lit≤ tt) (lit≤ tt) (lit< tt))) refl)
 
 response_is : (n : ℕ) → 4 ≤ n → n < 6 → response_clocks (response_of n) ≡ n
 response_is n a b = by_test (eqb n 4) refl
@@ -144,11 +152,15 @@ stack_again h s f =
     let small_handler = least_small 33 (s.hi - s.lo - s.main) (lit≤ tt) in
     advance stack_form (codes "stack") w1 0 r (fixed_word (codes "stack"))
     (advance f1 (decimal s.lo) w2 s.lo r (number_so (within 256 4351) s.lo (lit≤ tt) (is_within 256 4351 s.lo (lit≤ tt) low (omega arith)))
-    (advance f2 (decimal s.hi) w3 s.hi r (number_so (within (s.lo + 1) 4352) s.hi (lit≤ tt) (is_within (s.lo + 1) 4352 s.hi (lit≤ tt) (omega arith) (omega arith)))
+    (advance f2 (decimal s.hi) w3 s.hi r (number_so (within (s.lo + 1) 4352) s.hi (lit≤ tt)
+    (is_within (s.lo + 1) 4352 s.hi (lit≤ tt) (omega arith) (omega arith)))
     (advance f3 (decimal s.main) w4 s.main r (number_so (within 0 (least_of 33 (s.hi - s.lo))) s.main (omega (arith, small_main))
-    (is_within 0 (least_of 33 (s.hi - s.lo)) s.main small_main (omega arith) (under_both 33 (s.hi - s.lo) s.main (omega arith) (omega arith))))
-    (advance f4 (decimal s.handler) [] s.handler r (number_so (within 0 (least_of 33 (s.hi - s.lo - s.main))) s.handler (omega (arith, small_handler))
-    (is_within 0 (least_of 33 (s.hi - s.lo - s.main)) s.handler small_handler (omega arith) (under_both 33 (s.hi - s.lo - s.main) s.handler (omega arith) (omega arith)))) refl))))
+    (is_within 0 (least_of 33 (s.hi - s.lo)) s.main small_main (omega arith) (under_both 33 (s.hi - s.lo) s.main (omega arith)
+    (omega arith))))
+    (advance f4 (decimal s.handler) [] s.handler r (number_so (within 0 (least_of 33 (s.hi - s.lo - s.main))) s.handler
+    (omega (arith, small_handler))
+    (is_within 0 (least_of 33 (s.hi - s.lo - s.main)) s.handler small_handler (omega arith) (under_both 33 (s.hi - s.lo - s.main) s.handler
+    (omega arith) (omega arith)))) refl))))
 
 pub stack_only : (words : Words) (says : Said) → reads stack_form words ≡ Ok says
     → (s : StackLine) × (says ≡ said.Stack s) × (words ≡ line (stack_line_words s)) × ((h : Head) → StackFits (with_stack h s))
@@ -164,8 +176,10 @@ stack_only words says e =
     let n = retreat f4 m.left words.ended says tt m.rest in
     let ln = number_only (within 256 4351) l.word l.number (lit≤ tt) l.is in
     let hn = number_only (within (l.number + 1) 4352) i.word i.number (lit≤ tt) i.is in
-    let mn = number_only (within 0 (least_of 33 (i.number - l.number))) m.word m.number (omega (arith, least_small 33 (i.number - l.number) (lit≤ tt))) m.is in
-    let nn = number_only (within 0 (least_of 33 (i.number - l.number - m.number))) n.word n.number (omega (arith, least_small 33 (i.number - l.number - m.number) (lit≤ tt))) n.is in
+    let mn = number_only (within 0 (least_of 33 (i.number - l.number))) m.word m.number
+    (omega (arith, least_small 33 (i.number - l.number) (lit≤ tt))) m.is in
+    let nn = number_only (within 0 (least_of 33 (i.number - l.number - m.number))) n.word n.number
+    (omega (arith, least_small 33 (i.number - l.number - m.number) (lit≤ tt))) n.is in
     let s : StackLine = record { lo = l.number; hi = i.number; main = m.number; handler = n.number } in
     let z = finish_only (said.Stack s) n.left words.ended says n.rest in
     let main = both_under 33 (i.number - l.number) m.number mn.1.below in
@@ -208,12 +222,19 @@ owner_back HandlerCell = refl
 
 off_stack_so : (lo hi least n : ℕ) → 256 ≤ n → n ≤ 4351 → ((n < lo) ⊎ (hi < n)) → least ≤ n → IsAsked (off_stack lo hi least) n
 off_stack_so lo hi least n a b d l =
-    record { low = a; below = omega arith; outside = elim d [ inl h ↦ inl h | inr h ↦ inr (omega arith) ]; least = l; other = apart n (omega arith) }
+    record {
+      low = a;
+      below = omega arith;
+      outside = elim d [ inl h ↦ inl h | inr h ↦ inr (omega arith) ];
+      least = l;
+      other = apart n (omega arith);
+    }
   where
     apart : (n : ℕ) → n < 2 ^ 31 → n ≡ 4294967295 → ⊥
     apart n h e = omega arith
 
-pub cell_again : (h : Head) (least : ℕ) (c : Cell) → CellFits h c → least ≤ c.at → reads (cell_form h.lo h.hi least) (line (cell_words c)) ≡ Ok (said.Cell c)
+pub cell_again : (h : Head) (least : ℕ) (c : Cell) → CellFits h c → least ≤ c.at → reads (cell_form h.lo h.hi least) (line (cell_words c))
+    ≡ Ok (said.Cell c)
 cell_again h least c f l =
     let r = Ok (said.Cell c) in
     let w4 = decimal c.range.hi ∷ [] in
@@ -227,10 +248,13 @@ cell_again h least c f l =
     let order : c.range.lo ≤ c.range.hi = f.range.order in
     let high : c.range.hi ≤ 255 = f.range.high in
     advance (cell_form h.lo h.hi least) (codes "cell") w1 0 r (fixed_word (codes "cell"))
-    (advance f1 (decimal c.at) w2 c.at r (number_so (off_stack h.lo h.hi least) c.at (lit≤ tt) (off_stack_so h.lo h.hi least c.at f.low f.high f.off_stack l))
+    (advance f1 (decimal c.at) w2 c.at r (number_so (off_stack h.lo h.hi least) c.at (lit≤ tt)
+    (off_stack_so h.lo h.hi least c.at f.low f.high f.off_stack l))
     (advance f2 (owner_word c.owner) w3 (owner_place c.owner) r (owner_again c.owner)
-    (advance f3 (decimal c.range.lo) w4 c.range.lo r (number_so (within 0 256) c.range.lo (lit≤ tt) (is_within 0 256 c.range.lo (lit≤ tt) (omega arith) (omega arith)))
-    (advance f4 (decimal c.range.hi) [] c.range.hi r (number_so (within c.range.lo 256) c.range.hi (lit≤ tt) (is_within c.range.lo 256 c.range.hi (lit≤ tt) order (omega arith)))
+    (advance f3 (decimal c.range.lo) w4 c.range.lo r (number_so (within 0 256) c.range.lo (lit≤ tt)
+    (is_within 0 256 c.range.lo (lit≤ tt) (omega arith) (omega arith)))
+    (advance f4 (decimal c.range.hi) [] c.range.hi r (number_so (within c.range.lo 256) c.range.hi (lit≤ tt)
+    (is_within c.range.lo 256 c.range.hi (lit≤ tt) order (omega arith)))
     (ap (λ (o : Owner). fine (said.Cell (record { at = c.at; owner = o; range = ends c.range.lo c.range.hi }))) (owner_back c.owner))))))
 
 owner_word_back : (n : ℕ) (w : List ℕ) → slice_get (codes "main" ∷ codes "handler" ∷ []) n ≡ Some w → w ≡ owner_word (owner_of n)

@@ -1,5 +1,6 @@
 -- Numbers as words of a line: read as they are written, and only so.
-use Rattle.std.proofs.Common.{◌≡◌, ◌⊎◌, inl, inr, ℕ, zero, suc, ◌+◌, ◌<◌, ◌≤◌, ◌≢◌, ◌^◌, ℤ, pos, negsuc, Bool, true, false, cond, not, ◌&&◌, eqb, leb, ltb, List, [], ◌∷◌, length, decimal, lit≤, add-one, refl, sym, ◌∙◌, ap, subst, arith}
+use Rattle.std.proofs.Common.{◌≡◌, ◌⊎◌, inl, inr, ℕ, zero, suc, ◌+◌, ◌<◌, ◌≤◌, ◌≢◌, ◌^◌, ℤ, pos, negsuc, Bool, true, false, cond, not, ◌&&◌}
+use Rattle.std.proofs.Common.{eqb, leb, ltb, List, [], ◌∷◌, length, decimal, lit≤, add-one, refl, sym, ◌∙◌, ap, subst, arith}
 use Rattle.std.specs.Prelude.{Option, Some, None, Ok, Err}
 use Rattle.std.proofs.lemmas.Bool.Decides.{nat_tests}
 use Rattle.std.proofs.lemmas.Fmt.{decimal_nonempty}
@@ -14,7 +15,8 @@ use Rattle.uz_lines.specs.Values.{digits, one_or, one_number, both, two_numbers}
 use Rattle.uz_lines.specs.declared.words.Asked.{Asked}
 use Rattle.uz_lines.specs.declared.why.CertWhy.TheVariants as why
 use Rattle.uz_spelling.specs.Spelling.{signed_word}
-use Rattle.uz_line_laws.proofs.Tests.{and_true, both_true, and_false, not_true, fine_is, passed, failed, so, else_so, le_is, is_le, is_lt, not_le, not_lt, number_not, not_number, number_is}
+use Rattle.uz_line_laws.proofs.Tests.{and_true, both_true, and_false, not_true, fine_is, passed, failed, so, else_so, le_is, is_le, is_lt}
+use Rattle.uz_line_laws.proofs.Tests.{not_le, not_lt, number_not, not_number, number_is}
 
 -- a number of a word, as it is asked
 
@@ -28,7 +30,8 @@ pub record IsAsked (a : Asked) (n : ℕ) : Type 0 where
 
 asked_is : (a : Asked) (n m : ℕ) → asked a n ≡ Ok m → (n ≡ m) × ((n < a.hole) ⊎ (a.hole_end ≤ n)) × (a.least ≤ n) × (n ≢ a.other)
 asked_is a n m e =
-    let hole = failed (leb a.hole n && ltb n a.hole_end) (cond (leb a.least n && not (eqb n a.other)) (Ok n) (Err why.Order)) why.Limit m e in
+    let hole = failed (leb a.hole n && ltb n a.hole_end) (cond (leb a.least n && not (eqb n a.other)) (Ok n) (Err why.Order)) why.Limit m
+    e in
     let order = passed (leb a.least n && not (eqb n a.other)) (Ok n) why.Order m hole.1 in
     let two = and_true (leb a.least n) (not (eqb n a.other)) order.0 in (
       fine_is n m order.1,
@@ -42,7 +45,8 @@ asked_is a n m e =
 
 asked_so : (a : Asked) (n : ℕ) → IsAsked a n → asked a n ≡ Ok n
 asked_so a n h =
-    else_so (leb a.hole n && ltb n a.hole_end) (Err why.Limit) (cond (leb a.least n && not (eqb n a.other)) (Ok n) (Err why.Order)) (hole h.outside)
+    else_so (leb a.hole n && ltb n a.hole_end) (Err why.Limit) (cond (leb a.least n && not (eqb n a.other)) (Ok n) (Err why.Order))
+    (hole h.outside)
     ∙ so (leb a.least n && not (eqb n a.other)) (Ok n) (Err why.Order)
     (both_true (leb a.least n) (not (eqb n a.other)) (is_le a.least n h.least) (ap not (not_number n a.other h.other)))
   where
@@ -109,7 +113,8 @@ cut_none c (b ∷ bs) h =
     ∙ ap (cut_behind (b ∷ [])) (cut_none c bs (All-tail (λ x. eqb x c ≡ false) b bs h))
 
 pub digits_so : (n : ℕ) → n < 2 ^ 64 → digits (decimal n) ≡ true
-digits_so n h = both_true (ltb 0 (length (decimal n))) (all_digits (decimal n)) (is_lt 0 (length (decimal n)) (decimal_nonempty n h)) (digits_of_decimal n h)
+digits_so n h = both_true (ltb 0 (length (decimal n))) (all_digits (decimal n)) (is_lt 0 (length (decimal n)) (decimal_nonempty n h))
+    (digits_of_decimal n h)
 
 -- a number with a sign
 
@@ -152,7 +157,8 @@ slope_only limit [] z h e = absurd cc
 slope_only limit (c ∷ cs) z h e = by_sign (eqb c 45) refl e
   where
     by_sign : (t : Bool) → eqb c 45 ≡ t
-        → cond t (signed_or (is_numeral cs) (number_below limit cs)) (unsigned_or (is_numeral (c ∷ cs)) (number_below limit (c ∷ cs))) ≡ Ok z
+        → cond t (signed_or (is_numeral cs) (number_below limit cs)) (unsigned_or (is_numeral (c ∷ cs)) (number_below limit (c ∷ cs))) ≡ Ok
+        z
         → (c ∷ cs ≡ signed_word z) × (magnitude z < limit)
     by_sign true is e =
         subst (λ b. (b ∷ cs ≡ signed_word z) × (magnitude z < limit)) (sym (number_is c 45 is))
@@ -169,17 +175,20 @@ signed_some t n =
 pub slope_so : (limit : ℕ) (z : ℤ) → limit ≤ 2 ^ 32 → magnitude z < limit → slope_of limit (signed_word z) ≡ Ok z
 unfolding slope_of
 slope_so limit (negsuc n) h k =
-    ap (signed_or (is_numeral (decimal (n + 1)))) (number_again limit (n + 1) h (omega arith)) ∙ signed_some (is_numeral (decimal (n + 1))) n
+    ap (signed_or (is_numeral (decimal (n + 1)))) (number_again limit (n + 1) h (omega arith)) ∙ signed_some (is_numeral (decimal (n + 1)))
+    n
 slope_so limit (pos n) h k = by_first (decimal n) (first_digit n (omega arith)) (number_again limit n h k)
   where
     above : (b c : ℕ) → b ≡ c → 48 ≤ c → b ≢ 45
     above b c e h f = omega arith
 
-    by_first : (w : List ℕ) → (c : ℕ) × (cs : List ℕ) × (w ≡ c ∷ cs) × (48 ≤ c) × (c ≤ 57) → number_below limit w ≡ Some n → slope_of limit w ≡ Ok (pos n)
+    by_first : (w : List ℕ) → (c : ℕ) × (cs : List ℕ) × (w ≡ c ∷ cs) × (48 ≤ c) × (c ≤ 57) → number_below limit w ≡ Some n → slope_of limit
+        w ≡ Ok (pos n)
     by_first [] d e = absurd cc
     by_first (b ∷ bs) d e =
         let same : b ≡ d.0 = cc in
-        else_so (eqb b 45) (signed_or (is_numeral bs) (number_below limit bs)) (unsigned_or (is_numeral (b ∷ bs)) (number_below limit (b ∷ bs)))
+        else_so (eqb b 45) (signed_or (is_numeral bs) (number_below limit bs))
+        (unsigned_or (is_numeral (b ∷ bs)) (number_below limit (b ∷ bs)))
         (not_number b 45 (above b d.0 same d.3))
         ∙ ap (unsigned_or (is_numeral (b ∷ bs))) e
 
@@ -201,7 +210,8 @@ one_only low limit n w h e =
 pub one_so : (low limit n : ℕ) → limit ≤ 2 ^ 32 → low ≤ n → n < limit → one_number low limit (decimal n) ≡ Ok n
 unfolding one_number
 one_so low limit n h l b =
-    so (digits (decimal n)) (one_or (is_numeral (decimal n)) (number_within low limit (decimal n))) (Err why.Word) (digits_so n (omega arith))
+    so (digits (decimal n)) (one_or (is_numeral (decimal n)) (number_within low limit (decimal n))) (Err why.Word)
+    (digits_so n (omega arith))
     ∙ ap (one_or (is_numeral (decimal n))) (within_again low limit n h l b)
 
 both_some : (a b : Option ℕ) (p : ℕ × ℕ) → both a b ≡ Ok p → (a ≡ Some p.0) × (b ≡ Some p.1)
@@ -217,7 +227,8 @@ unfolding two_numbers
 two_only la lb limit a b p h e =
     let words = passed (digits a && digits b)
     (cond (is_numeral a && is_numeral b) (both (number_within la limit a) (number_within lb limit b)) (Err why.Number)) why.Word p e in
-    let numerals = passed (is_numeral a && is_numeral b) (both (number_within la limit a) (number_within lb limit b)) why.Number p words.1 in
+    let numerals = passed (is_numeral a && is_numeral b) (both (number_within la limit a) (number_within lb limit b)) why.Number p
+    words.1 in
     let some = both_some (number_within la limit a) (number_within lb limit b) p numerals.1 in
     (within_read la limit p.0 a h some.0, within_read lb limit p.1 b h some.1)
 
@@ -226,10 +237,12 @@ pub two_so : (la lb limit a b : ℕ) → limit ≤ 2 ^ 32 → la ≤ a → a < l
 unfolding two_numbers
 two_so la lb limit a b h ha ka hb kb =
     so (digits (decimal a) && digits (decimal b))
-    (cond (is_numeral (decimal a) && is_numeral (decimal b)) (both (number_within la limit (decimal a)) (number_within lb limit (decimal b))) (Err why.Number))
+    (cond (is_numeral (decimal a) && is_numeral (decimal b))
+    (both (number_within la limit (decimal a)) (number_within lb limit (decimal b))) (Err why.Number))
     (Err why.Word)
     (both_true (digits (decimal a)) (digits (decimal b)) (digits_so a (omega arith)) (digits_so b (omega arith)))
-    ∙ so (is_numeral (decimal a) && is_numeral (decimal b)) (both (number_within la limit (decimal a)) (number_within lb limit (decimal b))) (Err why.Number)
+    ∙ so (is_numeral (decimal a) && is_numeral (decimal b)) (both (number_within la limit (decimal a)) (number_within lb limit (decimal b)))
+    (Err why.Number)
     (both_true (is_numeral (decimal a)) (is_numeral (decimal b)) (numeral_so a (omega arith)) (numeral_so b (omega arith)))
     ∙ ap (λ o. both o (number_within lb limit (decimal b))) (within_again la limit a h ha ka)
     ∙ ap (both (Some a)) (within_again lb limit b h hb kb)

@@ -1,5 +1,6 @@
 -- Facts as they grow while items are read: what is spelled of them is what was read.
-use Rattle.std.proofs.Common.{◌≡◌, ℕ, zero, suc, ◌+◌, ◌-◌, ◌<◌, ◌≤◌, true, false, leb, List, [], ◌∷◌, ◌++◌, map, length, drop, decimal, codes, lit≤, refl, sym, ◌∙◌, ap, subst, append_assoc, append-nil, add-one, length-append, arith}
+use Rattle.std.proofs.Common.{◌≡◌, ℕ, zero, suc, ◌+◌, ◌-◌, ◌<◌, ◌≤◌, true, false, leb, List, [], ◌∷◌, ◌++◌, map, length, drop, decimal}
+use Rattle.std.proofs.Common.{codes, lit≤, refl, sym, ◌∙◌, ap, subst, append_assoc, append-nil, add-one, length-append, arith}
 use Rattle.std.proofs.lemmas.List.{length-set}
 use Rattle.std.proofs.lemmas.List.{map-append}
 use Rattle.uz_schedule.specs.Tracked.{tracks}
@@ -18,9 +19,15 @@ use Rattle.uz_lines.specs.declared.items.Facts.{Facts}
 use Rattle.uz_spelling.specs.Spelling.{fact_word, register_items, pair_items, flag_items, slot_items, cell_items, successor_items}
 use Rattle.uz_line_laws.proofs.Tests.{and_true, both_true, is_le, true_not}
 use Rattle.uz_line_laws.proofs.Facts.{FactIn, PairIn, BitIn}
-use Rattle.uz_line_laws.proofs.Options.{options, Each, IsUsual, each_length, each_map, each_set, no_options, option_set, drop_set, drop_later, drop_none}
-use Rattle.uz_line_laws.proofs.Spelled.{registers, numbered_cells, register_word, any_pair, pair_item, usual_flag, flag_item, in_range, cell_word, usual_fact, usual_pair, usual_bit, usual_cell, registers_are, pairs_are, flags_are, cells_are, register_default, flag_default, range_default, register_at, cell_number, cells_before_next, cells_before_rise}
-use Rattle.uz_line_laws.proofs.Taken.{with_register, with_pair, with_flag, with_slot, with_cell, with_successor, TakesRegister, TakesPair, TakesFlag, TakesSlot, TakesCell, TakesSuccessor, Taken, register, pair, flag, slot, cell, successor, cell_form}
+use Rattle.uz_line_laws.proofs.Options.{options, Each, IsUsual, each_length, each_map, each_set, no_options, option_set, drop_set}
+use Rattle.uz_line_laws.proofs.Options.{drop_later, drop_none}
+use Rattle.uz_line_laws.proofs.Spelled.{registers, numbered_cells, register_word, any_pair, pair_item, usual_flag, flag_item, in_range}
+use Rattle.uz_line_laws.proofs.Spelled.{cell_word, usual_fact, usual_pair, usual_bit, usual_cell, registers_are, pairs_are, flags_are}
+use Rattle.uz_line_laws.proofs.Spelled.{cells_are, register_default, flag_default, range_default, register_at, cell_number}
+use Rattle.uz_line_laws.proofs.Spelled.{cells_before_next, cells_before_rise}
+use Rattle.uz_line_laws.proofs.Taken.{with_register, with_pair, with_flag, with_slot, with_cell, with_successor, TakesRegister, TakesPair}
+use Rattle.uz_line_laws.proofs.Taken.{TakesFlag, TakesSlot, TakesCell, TakesSuccessor, Taken, register, pair, flag, slot, cell, successor}
+use Rattle.uz_line_laws.proofs.Taken.{cell_form}
 
 abbrev pub letters_of_pairs : List ℕ
 letters_of_pairs = codes "xyz"
@@ -71,7 +78,8 @@ pub record Regular (shape : Shape) (cells : List Cell) (f : Facts) : Type 0 wher
 
 last_in : (xs tail : List (List ℕ)) (w : List ℕ) → tail ≡ [] → (xs ++ w ∷ []) ++ tail ≡ (xs ++ tail) ++ w ∷ []
 last_in xs tail w e =
-    ap (λ t. (xs ++ w ∷ []) ++ t) e ∙ append-nil (xs ++ w ∷ []) ∙ ap (λ t. t ++ w ∷ []) (sym (append-nil xs)) ∙ ap (λ t. (xs ++ t) ++ w ∷ []) (sym e)
+    ap (λ t. (xs ++ w ∷ []) ++ t) e ∙ append-nil (xs ++ w ∷ []) ∙ ap (λ t. t ++ w ∷ []) (sym (append-nil xs))
+    ∙ ap (λ t. (xs ++ t) ++ w ∷ []) (sym e)
 
 behind : (front xs ys : List (List ℕ)) (w : List ℕ) → ys ≡ xs ++ w ∷ [] → front ++ ys ≡ (front ++ xs) ++ w ∷ []
 behind front xs ys w e = ap (λ t. front ++ t) e ∙ sym (append_assoc front xs (w ∷ []))
@@ -87,12 +95,14 @@ usual_pairs = each_map (IsUsual any_pair) usual_pair letters_of_pairs (λ l. ref
 usual_flags : (kind : Kind) → Each (IsUsual (usual_flag kind)) letters_of_flags (map (usual_bit kind) letters_of_flags)
 usual_flags kind = each_map (IsUsual (usual_flag kind)) (usual_bit kind) letters_of_flags (λ l. flag_default kind)
 
-usual_cells : (kind : Kind) (cells : List Cell) → Each (IsUsual in_range) (numbered_cells kind 0 cells) (map usual_cell (numbered_cells kind 0 cells))
+usual_cells : (kind : Kind) (cells : List Cell) → Each (IsUsual in_range) (numbered_cells kind 0 cells)
+    (map usual_cell (numbered_cells kind 0 cells))
 usual_cells kind cells = each_map (IsUsual in_range) usual_cell (numbered_cells kind 0 cells) (λ p. range_default p.1.range)
 
 -- numbers that rise
 
-pub rises_more : (least : ℕ) (xs : List ℕ) (id : ℕ) → rises_from least xs ≡ true → number_after least xs ≤ id → rises_from least (xs ++ id ∷ []) ≡ true
+pub rises_more : (least : ℕ) (xs : List ℕ) (id : ℕ) → rises_from least xs ≡ true → number_after least xs ≤ id → rises_from least
+    (xs ++ id ∷ []) ≡ true
 rises_more least [] id e h = both_true (leb least id) true (is_le least id h) refl
 rises_more least (x ∷ xs) id e h =
     let two = and_true (leb least x) (rises_from (x + 1) xs) e in
@@ -109,7 +119,8 @@ module _ (shape : Shape) (cells : List Cell) (f : Facts) (h : Regular shape cell
   pairs_nothing l =
       let same = drop_none f.pairs (map usual_pair letters_of_pairs) (f.least - 32) (omega arith) h.pairs_left in
       ap (λ (x : List PairFact). pair_items letters_of_pairs x) same
-      ∙ pairs_are letters_of_pairs (map usual_pair letters_of_pairs) ∙ no_options any_pair pair_item letters_of_pairs (map usual_pair letters_of_pairs) usual_pairs
+      ∙ pairs_are letters_of_pairs (map usual_pair letters_of_pairs) ∙ no_options any_pair pair_item letters_of_pairs
+      (map usual_pair letters_of_pairs) usual_pairs
 
   flags_nothing : f.least ≤ 35 → flag_items shape.kind letters_of_flags f.flags ≡ []
   flags_nothing l =
@@ -127,9 +138,11 @@ module _ (shape : Shape) (cells : List Cell) (f : Facts) (h : Regular shape cell
   cells_nothing : f.least ≤ 43 → cell_items shape.kind 0 cells f.cells.items ≡ []
   cells_nothing l =
       let ds = map usual_cell (numbered_cells shape.kind 0 cells) in
-      let same = drop_none f.cells.items ds (tracked_before shape.kind (f.least - 43) cells) (none_before cells (f.least - 43) (omega arith)) h.cells_left in
+      let same = drop_none f.cells.items ds (tracked_before shape.kind (f.least - 43) cells)
+      (none_before cells (f.least - 43) (omega arith)) h.cells_left in
       ap (λ (x : List Fact). cell_items shape.kind 0 cells x) same
-      ∙ cells_are shape.kind 0 cells ds ∙ no_options in_range cell_word (numbered_cells shape.kind 0 cells) ds (usual_cells shape.kind cells)
+      ∙ cells_are shape.kind 0 cells ds ∙ no_options in_range cell_word (numbered_cells shape.kind 0 cells) ds
+      (usual_cells shape.kind cells)
 
   next_nothing : f.least < 59 → successor_items f.next.items ≡ []
   next_nothing l = ap successor_items (h.next_left l)
@@ -138,23 +151,29 @@ module _ (shape : Shape) (cells : List Cell) (f : Facts) (h : Regular shape cell
   none_two a b e g = ap (λ t. t ++ b) e ∙ g
 
   from_cells : f.least ≤ 43 → cell_items shape.kind 0 cells f.cells.items ++ successor_items f.next.items ≡ []
-  from_cells l = none_two (cell_items shape.kind 0 cells f.cells.items) (successor_items f.next.items) (cells_nothing l) (next_nothing (omega arith))
+  from_cells l = none_two (cell_items shape.kind 0 cells f.cells.items) (successor_items f.next.items) (cells_nothing l)
+      (next_nothing (omega arith))
 
   from_slots : f.least < 42 → slot_items f.stack.items ++ (cell_items shape.kind 0 cells f.cells.items ++ successor_items f.next.items) ≡ []
-  from_slots l = none_two (slot_items f.stack.items) (cell_items shape.kind 0 cells f.cells.items ++ successor_items f.next.items) (slots_nothing l) (from_cells (omega arith))
+  from_slots l = none_two (slot_items f.stack.items) (cell_items shape.kind 0 cells f.cells.items ++ successor_items f.next.items)
+      (slots_nothing l) (from_cells (omega arith))
 
   from_flags : f.least ≤ 35
-      → flag_items shape.kind letters_of_flags f.flags ++ (slot_items f.stack.items ++ (cell_items shape.kind 0 cells f.cells.items ++ successor_items f.next.items)) ≡ []
+      → flag_items shape.kind letters_of_flags f.flags
+      ++ (slot_items f.stack.items ++ (cell_items shape.kind 0 cells f.cells.items ++ successor_items f.next.items)) ≡ []
   from_flags l =
       none_two (flag_items shape.kind letters_of_flags f.flags)
-      (slot_items f.stack.items ++ (cell_items shape.kind 0 cells f.cells.items ++ successor_items f.next.items)) (flags_nothing l) (from_slots (omega arith))
+      (slot_items f.stack.items ++ (cell_items shape.kind 0 cells f.cells.items ++ successor_items f.next.items)) (flags_nothing l)
+      (from_slots (omega arith))
 
   pub from_pairs : f.least ≤ 32
       → pair_items letters_of_pairs f.pairs
-      ++ (flag_items shape.kind letters_of_flags f.flags ++ (slot_items f.stack.items ++ (cell_items shape.kind 0 cells f.cells.items ++ successor_items f.next.items))) ≡ []
+      ++ (flag_items shape.kind letters_of_flags f.flags
+      ++ (slot_items f.stack.items ++ (cell_items shape.kind 0 cells f.cells.items ++ successor_items f.next.items))) ≡ []
   from_pairs l =
       none_two (pair_items letters_of_pairs f.pairs)
-      (flag_items shape.kind letters_of_flags f.flags ++ (slot_items f.stack.items ++ (cell_items shape.kind 0 cells f.cells.items ++ successor_items f.next.items)))
+      (flag_items shape.kind letters_of_flags f.flags
+      ++ (slot_items f.stack.items ++ (cell_items shape.kind 0 cells f.cells.items ++ successor_items f.next.items)))
       (pairs_nothing l) (from_flags (omega arith))
 
   -- one thing is set, and its item is the last
@@ -164,7 +183,8 @@ module _ (shape : Shape) (cells : List Cell) (f : Facts) (h : Regular shape cell
   regs_more r x t l o =
       let count : length f.regs ≡ 32 = each_length (λ r x. FactIn (bytes_forms shape) x) registers f.regs h.regs in
       registers_are shape.kind 0 32 (slice_set f.regs r x) (length-set f.regs r x ∙ count)
-      ∙ option_set (is_default shape.kind) register_word registers f.regs (map (usual_fact shape.kind) registers) r r x count (usual_regs shape.kind)
+      ∙ option_set (is_default shape.kind) register_word registers f.regs (map (usual_fact shape.kind) registers) r r x count
+      (usual_regs shape.kind)
       (drop_later f.regs (map (usual_fact shape.kind) registers) f.least r l h.regs_left) (register_at r t) o
       ∙ ap (λ ws. ws ++ register_word r x ∷ []) (sym (registers_are shape.kind 0 32 f.regs count))
 
@@ -177,8 +197,10 @@ module _ (shape : Shape) (cells : List Cell) (f : Facts) (h : Regular shape cell
       (drop_later f.pairs (map usual_pair letters_of_pairs) (f.least - 32) k (omega arith) h.pairs_left) t o
       ∙ ap (λ ws. ws ++ pair_item letter x ∷ []) (sym (pairs_are letters_of_pairs f.pairs))
 
-  flags_more : (b letter : ℕ) (x : Bit) → slice_get letters_of_flags b ≡ Some letter → f.least ≤ 35 + b → usual_flag shape.kind letter x ≡ false
-      → flag_items shape.kind letters_of_flags (slice_set f.flags b x) ≡ flag_items shape.kind letters_of_flags f.flags ++ flag_item letter x ∷ []
+  flags_more : (b letter : ℕ) (x : Bit) → slice_get letters_of_flags b ≡ Some letter → f.least ≤ 35 + b → usual_flag shape.kind letter
+      x ≡ false
+      → flag_items shape.kind letters_of_flags (slice_set f.flags b x) ≡ flag_items shape.kind letters_of_flags f.flags ++ flag_item letter
+      x ∷ []
   flags_more b letter x t l o =
       flags_are shape.kind letters_of_flags (slice_set f.flags b x)
       ∙ option_set (usual_flag shape.kind) flag_item letters_of_flags f.flags (map (usual_bit shape.kind) letters_of_flags) b letter x
@@ -186,7 +208,8 @@ module _ (shape : Shape) (cells : List Cell) (f : Facts) (h : Regular shape cell
       (drop_later f.flags (map (usual_bit shape.kind) letters_of_flags) (f.least - 35) b (omega arith) h.flags_left) t o
       ∙ ap (λ ws. ws ++ flag_item letter x ∷ []) (sym (flags_are shape.kind letters_of_flags f.flags))
 
-  cells_more : (i : ℕ) (c : Cell) (x : Fact) → slice_get cells i ≡ Some c → tracks shape.kind c.owner ≡ true → f.least ≤ 43 + i → is_range c.range x ≡ false
+  cells_more : (i : ℕ) (c : Cell) (x : Fact) → slice_get cells i ≡ Some c → tracks shape.kind c.owner ≡ true → f.least ≤ 43 + i
+      → is_range c.range x ≡ false
       → cell_items shape.kind 0 cells (slice_set f.cells.items (tracked_before shape.kind i cells) x)
       ≡ cell_items shape.kind 0 cells f.cells.items ++ cell_word (i, c) x ∷ []
   cells_more i c x t own l o =
@@ -232,7 +255,8 @@ module _ (shape : Shape) (cells : List Cell) (f : Facts) (h : Regular shape cell
       record {
         few = omega arith;
         regs = each_set (λ r x. FactIn (bytes_forms shape) x) registers f.regs r r x h.regs (register_at r there) t.fits;
-        regs_left = ap (λ n. drop n (slice_set f.regs r x)) (add-one r) ∙ drop_set f.regs r x ∙ later_regs (suc r) (omega arith) ∙ ap (λ n. drop n ds) (sym (add-one r));
+        regs_left = ap (λ n. drop n (slice_set f.regs r x)) (add-one r) ∙ drop_set f.regs r x ∙ later_regs (suc r) (omega arith)
+            ∙ ap (λ n. drop n ds) (sym (add-one r));
         pairs = h.pairs;
         pairs_left = later_pairs (r + 1) (omega arith);
         flags = h.flags;
@@ -330,7 +354,8 @@ module _ (shape : Shape) (cells : List Cell) (f : Facts) (h : Regular shape cell
         flags = h.flags;
         flags_left = later_flags 42 order;
         slots = omega (arith, length-append f.stack.items (x ∷ []));
-        stack = All-append (FactIn (bytes_forms shape)) f.stack.items (x ∷ []) h.stack (All-cons (FactIn (bytes_forms shape)) x [] t.fits (All-nil (FactIn (bytes_forms shape))));
+        stack = All-append (FactIn (bytes_forms shape)) f.stack.items (x ∷ []) h.stack (All-cons (FactIn (bytes_forms shape)) x [] t.fits
+            (All-nil (FactIn (bytes_forms shape))));
         stack_left = λ l. absurd (omega arith);
         tracked_cells = h.tracked_cells;
         cells_left = later_cells 42 order;
@@ -343,7 +368,8 @@ module _ (shape : Shape) (cells : List Cell) (f : Facts) (h : Regular shape cell
         plain_next = h.plain_next;
       }
 
-  cell_regular : (i : ℕ) (c : Cell) (x : Fact) (w : List ℕ) → length cells ≤ 16 → TakesCell shape cells f w i c x → Regular shape cells (with_cell shape cells f i x)
+  cell_regular : (i : ℕ) (c : Cell) (x : Fact) (w : List ℕ) → length cells ≤ 16 → TakesCell shape cells f w i c x → Regular shape cells
+      (with_cell shape cells f i x)
   cell_regular i c x w sixteen t =
       let below : i < length cells = t.below in
       let order : f.least ≤ 43 + i = t.order in
@@ -396,7 +422,8 @@ module _ (shape : Shape) (cells : List Cell) (f : Facts) (h : Regular shape cell
         tracked_cells = h.tracked_cells;
         cells_left = later_cells 59 h.few;
         next_few = omega (arith, length-append f.next.items (id ∷ []));
-        next_there = All-append (λ n. n < shape.points) f.next.items (id ∷ []) h.next_there (All-cons (λ n. n < shape.points) id [] t.there (All-nil (λ n. n < shape.points)));
+        next_there = All-append (λ n. n < shape.points) f.next.items (id ∷ []) h.next_there (All-cons (λ n. n < shape.points) id [] t.there
+            (All-nil (λ n. n < shape.points)));
         next_rise = rises_more 0 f.next.items id h.next_rise (subst (λ n. n ≤ id) h.next_after t.order);
         next_after = after_more 0 f.next.items id;
         next_left = λ l. absurd (omega arith);
@@ -416,7 +443,8 @@ module _ (shape : Shape) (cells : List Cell) (f : Facts) (h : Regular shape cell
       ap (λ ws. ws ++ tail) (regs_more r x there order t.other ∙ ap (λ v. register_items shape.kind 0 f.regs ++ v ∷ []) (sym t.word))
       ∙ last_in (register_items shape.kind 0 f.regs) tail w (from_pairs (omega arith))
 
-  pair_spelled : (k letter : ℕ) (x : PairFact) (w : List ℕ) (later : List (List ℕ)) → slice_get letters_of_pairs k ≡ Some letter → w ≡ pair_item letter x
+  pair_spelled : (k letter : ℕ) (x : PairFact) (w : List ℕ) (later : List (List ℕ)) → slice_get letters_of_pairs k ≡ Some letter
+      → w ≡ pair_item letter x
       → TakesPair shape f w later k x → spelled shape.kind cells (with_pair f k x) ≡ spelled shape.kind cells f ++ w ∷ []
   pair_spelled k letter x w later at is t =
       let regs = register_items shape.kind 0 f.regs in
@@ -426,9 +454,11 @@ module _ (shape : Shape) (cells : List Cell) (f : Facts) (h : Regular shape cell
       let order : f.least ≤ 32 + k = t.order in
       let there : k < 3 = t.there in
       behind regs (pairs ++ tail) (pair_items letters_of_pairs (slice_set f.pairs k x) ++ tail) w
-      (ap (λ ws. ws ++ tail) (pairs_more k letter x at order t.other ∙ ap (λ v. pairs ++ v ∷ []) (sym is)) ∙ last_in pairs tail w (from_flags (omega arith)))
+      (ap (λ ws. ws ++ tail) (pairs_more k letter x at order t.other ∙ ap (λ v. pairs ++ v ∷ []) (sym is)) ∙ last_in pairs tail w
+      (from_flags (omega arith)))
 
-  flag_spelled : (b letter : ℕ) (x : Bit) (w : List ℕ) (later : List (List ℕ)) → slice_get letters_of_flags b ≡ Some letter → w ≡ flag_item letter x
+  flag_spelled : (b letter : ℕ) (x : Bit) (w : List ℕ) (later : List (List ℕ)) → slice_get letters_of_flags b ≡ Some letter → w ≡ flag_item
+      letter x
       → TakesFlag shape f w later b x → spelled shape.kind cells (with_flag f b x) ≡ spelled shape.kind cells f ++ w ∷ []
   flag_spelled b letter x w later at is t =
       let regs = register_items shape.kind 0 f.regs in
@@ -440,12 +470,14 @@ module _ (shape : Shape) (cells : List Cell) (f : Facts) (h : Regular shape cell
       let there : b < 7 = t.there in
       behind regs (pairs ++ (flags ++ tail)) (pairs ++ (more ++ tail)) w
       (behind pairs (flags ++ tail) (more ++ tail) w
-      (ap (λ ws. ws ++ tail) (flags_more b letter x at order t.other ∙ ap (λ v. flags ++ v ∷ []) (sym is)) ∙ last_in flags tail w (from_slots (omega arith))))
+      (ap (λ ws. ws ++ tail) (flags_more b letter x at order t.other ∙ ap (λ v. flags ++ v ∷ []) (sym is)) ∙ last_in flags tail w
+      (from_slots (omega arith))))
 
   slots_more : (x : Fact) → slot_items (f.stack.items ++ x ∷ []) ≡ slot_items f.stack.items ++ (codes "s:" ++ fact_word x) ∷ []
   slots_more x = map-append (λ y. codes "s:" ++ fact_word y) f.stack.items (x ∷ [])
 
-  slot_spelled : (x : Fact) (w : List ℕ) → TakesSlot shape f w x → spelled shape.kind cells (with_slot f x) ≡ spelled shape.kind cells f ++ w ∷ []
+  slot_spelled : (x : Fact) (w : List ℕ) → TakesSlot shape f w x → spelled shape.kind cells (with_slot f x) ≡ spelled shape.kind cells f
+      ++ w ∷ []
   slot_spelled x w t =
       let regs = register_items shape.kind 0 f.regs in
       let pairs = pair_items letters_of_pairs f.pairs in
@@ -478,7 +510,8 @@ module _ (shape : Shape) (cells : List Cell) (f : Facts) (h : Regular shape cell
       (ap (λ ws. ws ++ tail) (cells_more i c x t.there t.own order t.other ∙ ap (λ v. facts ++ v ∷ []) (sym t.word))
       ∙ last_in facts tail w (next_nothing (omega arith))))))
 
-  successor_spelled : (id : ℕ) (w : List ℕ) → TakesSuccessor shape f w id → spelled shape.kind cells (with_successor f id) ≡ spelled shape.kind cells f ++ w ∷ []
+  successor_spelled : (id : ℕ) (w : List ℕ) → TakesSuccessor shape f w id → spelled shape.kind cells (with_successor f id) ≡ spelled
+      shape.kind cells f ++ w ∷ []
   successor_spelled id w t =
       let regs = register_items shape.kind 0 f.regs in
       let pairs = pair_items letters_of_pairs f.pairs in
@@ -518,7 +551,11 @@ module _ (shape : Shape) (cells : List Cell) (f : Facts) (h : Regular shape cell
   flag_at (suc (suc (suc zero))) x w later t = (flag_regular 3 118 x w later refl t, flag_spelled 3 118 x w later refl t.word t)
   flag_at (suc (suc (suc (suc zero)))) x w later t = (flag_regular 4 115 x w later refl t, flag_spelled 4 115 x w later refl t.word t)
   flag_at (suc (suc (suc (suc (suc zero))))) x w later t = (flag_regular 5 104 x w later refl t, flag_spelled 5 104 x w later refl t.word t)
-  flag_at (suc (suc (suc (suc (suc (suc zero)))))) x w later t = (flag_regular 6 116 x w later refl t, flag_spelled 6 116 x w later refl t.word t)
+  flag_at (suc (suc (suc (suc (suc (suc zero)))))) x w later t = (
+    flag_regular 6 116 x w later refl t,
+    flag_spelled 6 116 x w later refl
+        t.word t,
+  )
   flag_at (suc (suc (suc (suc (suc (suc (suc b))))))) x w later t = absurd (past b t.there)
     where
       past : (b : ℕ) → suc (suc (suc (suc (suc (suc (suc b)))))) < 7 → ⊥
@@ -529,5 +566,9 @@ module _ (shape : Shape) (cells : List Cell) (f : Facts) (h : Regular shape cell
   one_more w later more s (pair k x t e) = at_same w (with_pair f k x) more e (pair_at k x w later t)
   one_more w later more s (flag b x t e) = at_same w (with_flag f b x) more e (flag_at b x w later t)
   one_more w later more s (slot x t e) = at_same w (with_slot f x) more e (slot_regular x w t, slot_spelled x w t)
-  one_more w later more s (cell i c x t e) = at_same w (with_cell shape cells f i x) more e (cell_regular i c x w s t, cell_spelled i c x w s t)
+  one_more w later more s (cell i c x t e) = at_same w (with_cell shape cells f i x) more e (
+    cell_regular i c x w s t,
+    cell_spelled i c x w
+        s t,
+  )
   one_more w later more s (successor id t e) = at_same w (with_successor f id) more e (successor_regular id w t, successor_spelled id w t)

@@ -1,5 +1,7 @@
 -- All items of a line: where they are read, they are what is spelled of the facts that they say.
-use Rattle.std.proofs.Common.{◌≡◌, ◌⊎◌, inl, inr, ℕ, zero, suc, ◌+◌, ◌<◌, ◌≤◌, Bool, true, false, cond, not, ◌&&◌, ◌||◌, eqb, ltb, List, [], ◌∷◌, ◌++◌, map, length, take, drop, get_or, decimal, codes, bytes_eq, lit<, lit≤, refl, sym, ◌∙◌, ap, subst, append_assoc, append-nil, arith}
+use Rattle.std.proofs.Common.{◌≡◌, ◌⊎◌, inl, inr, ℕ, zero, suc, ◌+◌, ◌<◌, ◌≤◌, Bool, true, false, cond, not, ◌&&◌, ◌||◌, eqb, ltb, List, []}
+use Rattle.std.proofs.Common.{◌∷◌, ◌++◌, map, length, take, drop, get_or, decimal, codes, bytes_eq, lit<, lit≤, refl, sym, ◌∙◌, ap, subst}
+use Rattle.std.proofs.Common.{append_assoc, append-nil, arith}
 use Rattle.std.specs.Prelude.{Ok, All, slice_set}
 use Rattle.std.proofs.lemmas.List.Elements.{All-nil, All-head, All-tail}
 use Rattle.std.proofs.lemmas.List.{length-map}
@@ -13,11 +15,13 @@ use Rattle.uz_schedule.specs.declared.header.Cell.{Cell}
 use Rattle.uz_schedule.specs.declared.facts.Fact.{Fact}
 use Rattle.uz_schedule.specs.declared.facts.Fact.TheVariants.{Any, Between}
 use Rattle.uz_schedule.specs.declared.facts.PairFact.{PairFact}
-use Rattle.uz_schedule.specs.declared.facts.PairFact.TheVariants.{Any as AnyPair, Between as BetweenPair, Line as LinePair, Loop as LoopPair}
+use Rattle.uz_schedule.specs.declared.facts.PairFact.TheVariants.{Any as AnyPair, Between as BetweenPair, Line as LinePair}
+use Rattle.uz_schedule.specs.declared.facts.PairFact.TheVariants.{Loop as LoopPair}
 use Rattle.uz_schedule.specs.declared.facts.Bit.{Bit}
 use Rattle.uz_lines.specs.Grammar.{Words}
 use Rattle.uz_lines.specs.Defaults.{is_default}
-use Rattle.uz_lines.specs.Items.{first_facts, default_regs, default_flag, is_handler, bytes_forms, pair_forms, names_c_or_z, any_names, is_flag_z, tracked_count, take_item, items_from, read_items}
+use Rattle.uz_lines.specs.Items.{first_facts, default_regs, default_flag, is_handler, bytes_forms, pair_forms, names_c_or_z, any_names}
+use Rattle.uz_lines.specs.Items.{is_flag_z, tracked_count, take_item, items_from, read_items}
 use Rattle.uz_lines.specs.declared.values.Forms.{Forms}
 use Rattle.uz_lines.specs.declared.items.Shape.{Shape}
 use Rattle.uz_lines.specs.declared.items.Facts.{Facts}
@@ -26,8 +30,10 @@ use Rattle.uz_spelling.specs.Spelling.{fact_word, pair_word, flag_word, register
 use Rattle.uz_line_laws.proofs.Tests.{and_true, or_false, fine_is, fault_not, true_not, bind_ok, number_is, lt_is}
 use Rattle.uz_line_laws.proofs.Facts.{FactIn, PairIn, BitIn, part_from}
 use Rattle.uz_line_laws.proofs.Options.{Each, IsUsual, each_length, each_map, no_options}
-use Rattle.uz_line_laws.proofs.Spelled.{count_from, registers, numbered_cells, register_word, usual_fact, usual_bit, usual_cell, registers_are, registers_usual, cells_usual, register_default}
-use Rattle.uz_line_laws.proofs.Taken.{with_pair, with_flag, TakesPair, TakesFlag, Taken, register, pair, flag, slot, cell, successor, PlacesFit, cell_form, flag_letter, item_taken}
+use Rattle.uz_line_laws.proofs.Spelled.{count_from, registers, numbered_cells, register_word, usual_fact, usual_bit, usual_cell}
+use Rattle.uz_line_laws.proofs.Spelled.{registers_are, registers_usual, cells_usual, register_default}
+use Rattle.uz_line_laws.proofs.Taken.{with_pair, with_flag, TakesPair, TakesFlag, Taken, register, pair, flag, slot, cell, successor}
+use Rattle.uz_line_laws.proofs.Taken.{PlacesFit, cell_form, flag_letter, item_taken}
 use Rattle.uz_line_laws.proofs.OneMore.{letters_of_pairs, letters_of_flags, spelled, Regular, from_pairs, one_more}
 
 -- the facts where nothing is said
@@ -37,7 +43,8 @@ pub record ShapeFits (shape : Shape) (cells : List Cell) : Type 0 where
   pub whole : shape.kind ≡ Handler → shape.plain ≡ false
   pub ranges : All (λ c. RangeFits 255 c.range) cells
 
-own_each : (f : Forms) (r n : ℕ) → f.old ≡ true → r + n ≤ 32 → Each (λ r x. FactIn f x) (count_from r n) (map (usual_fact Handler) (count_from r n))
+own_each : (f : Forms) (r n : ℕ) → f.old ≡ true → r + n ≤ 32 → Each (λ r x. FactIn f x) (count_from r n)
+    (map (usual_fact Handler) (count_from r n))
 own_each f r zero o h = tt
 own_each f r (suc n) o h = ((o, omega arith), own_each f (suc r) n o (omega arith))
 
@@ -66,12 +73,18 @@ form_in false range h false e = (part_from range h e, omega arith, omega (arith,
 first_cells : (shape : Shape) (kind : Kind) (i : ℕ) (cs : List Cell) → All (λ c. RangeFits 255 c.range) cs
     → Each (λ p x. FactIn (cell_form shape p.1) x) (numbered_cells kind i cs) (map usual_cell (numbered_cells kind i cs))
 first_cells shape kind i [] h = tt
-first_cells shape kind i (c ∷ cs) h = by_own (tracks kind c.owner) (first_cells shape kind (suc i) cs (All-tail (λ c. RangeFits 255 c.range) c cs h))
+first_cells shape kind i (c ∷ cs) h = by_own (tracks kind c.owner)
+    (first_cells shape kind (suc i) cs (All-tail (λ c. RangeFits 255 c.range) c cs h))
   where
-    by_own : (t : Bool) → Each (λ p x. FactIn (cell_form shape p.1) x) (numbered_cells kind (suc i) cs) (map usual_cell (numbered_cells kind (suc i) cs))
+    by_own : (t : Bool) → Each (λ p x. FactIn (cell_form shape p.1) x) (numbered_cells kind (suc i) cs)
+        (map usual_cell (numbered_cells kind (suc i) cs))
         → Each (λ p x. FactIn (cell_form shape p.1) x) (cond t ((i, c) ∷ numbered_cells kind (suc i) cs) (numbered_cells kind (suc i) cs))
         (map usual_cell (cond t ((i, c) ∷ numbered_cells kind (suc i) cs) (numbered_cells kind (suc i) cs)))
-    by_own true later = (form_in shape.plain c.range (All-head (λ c. RangeFits 255 c.range) c cs h) (eqb c.range.lo 0 && eqb c.range.hi 255) refl, later)
+    by_own true later = (
+      form_in shape.plain c.range (All-head (λ c. RangeFits 255 c.range) c cs h) (eqb c.range.lo 0 && eqb c.range.hi 255)
+          refl,
+      later,
+    )
     by_own false later = later
 
 pub first_regular : (shape : Shape) (cells : List Cell) → ShapeFits shape cells → Regular shape cells (first_facts shape.kind cells)
@@ -81,7 +94,8 @@ first_regular shape cells h =
     let cs = cells_usual shape.kind 0 cells in
     record {
       few = lit≤ tt;
-      regs = subst (λ (x : List Fact). Each (λ r x. FactIn (bytes_forms shape) x) registers x) (sym rs) (first_regs shape shape.kind refl h.whole);
+      regs = subst (λ (x : List Fact). Each (λ r x. FactIn (bytes_forms shape) x) registers x) (sym rs)
+          (first_regs shape shape.kind refl h.whole);
       regs_left = rs;
       pairs = ((refl, lit< tt), ((refl, lit< tt), ((refl, lit< tt), tt)));
       pairs_left = refl;
@@ -90,7 +104,8 @@ first_regular shape cells h =
       slots = omega arith;
       stack = All-nil (FactIn (bytes_forms shape));
       stack_left = λ l. refl;
-      tracked_cells = subst (λ (x : List Fact). Each (λ p x. FactIn (cell_form shape p.1) x) (numbered_cells shape.kind 0 cells) x) (sym cs) (first_cells shape shape.kind 0 cells h.ranges);
+      tracked_cells = subst (λ (x : List Fact). Each (λ p x. FactIn (cell_form shape p.1) x) (numbered_cells shape.kind 0 cells) x) (sym cs)
+          (first_cells shape shape.kind 0 cells h.ranges);
       cells_left = ap (λ (x : List Fact). drop (tracked_count shape.kind (take 0 cells)) x) cs;
       next_few = lit≤ tt;
       next_there = All-nil (λ id. id < shape.points);
@@ -111,7 +126,8 @@ first_regs_nothing kind =
     ∙ no_options (is_default kind) register_word registers (map (usual_fact kind) registers)
     (each_map (IsUsual (is_default kind)) (usual_fact kind) registers (register_default kind))
 
-pub first_nothing : (shape : Shape) (cells : List Cell) → ShapeFits shape cells → spelled shape.kind cells (first_facts shape.kind cells) ≡ []
+pub first_nothing : (shape : Shape) (cells : List Cell) → ShapeFits shape cells → spelled shape.kind cells (first_facts shape.kind cells)
+    ≡ []
 unfolding first_facts
 first_nothing shape cells h =
     none_append (register_items shape.kind 0 (default_regs shape.kind)) _ (first_regs_nothing shape.kind)
@@ -159,7 +175,8 @@ z_pair_names shape f x later z e =
     not_not true e = refl
     not_not false e = absurd cc
 
-    says : (pair_word x ≡ codes "0") ⊎ (pair_word x ≡ codes "1") → (bytes_eq (pair_word x) (codes "0") || bytes_eq (pair_word x) (codes "1")) ≡ true
+    says : (pair_word x ≡ codes "0") ⊎ (pair_word x ≡ codes "1") → (bytes_eq (pair_word x) (codes "0") || bytes_eq (pair_word x)
+        (codes "1")) ≡ true
     says d = elim d [
       | inl e ↦ ap (λ w. bytes_eq w (codes "0") || bytes_eq w (codes "1")) e
       | inr e ↦ ap (λ w. bytes_eq w (codes "0") || bytes_eq w (codes "1")) e
@@ -222,14 +239,17 @@ module _ (shape : Shape) (cells : List Cell) (f : Facts) (h : Regular shape cell
       past b h = omega arith
 
   -- an item that comes before the flags: Z isn't said yet, or its flags are
-  early : (w : List ℕ) (ws : List (List ℕ)) (pairs : List PairFact) (least : ℕ) → f.least < 35 → get_or pairs 2 AnyPair ≡ get_or f.pairs 2 AnyPair
-      → ZFollows shape.kind f (w ∷ ws) → is_zero_or_one (get_or pairs 2 AnyPair) ≡ true → IsMeant shape.kind f.flags ⊎ ((any_names ws ≡ true) × (35 ≤ least))
+  early : (w : List ℕ) (ws : List (List ℕ)) (pairs : List PairFact) (least : ℕ) → f.least < 35 → get_or pairs 2 AnyPair ≡ get_or f.pairs 2
+      AnyPair
+      → ZFollows shape.kind f (w ∷ ws) → is_zero_or_one (get_or pairs 2 AnyPair) ≡ true → IsMeant shape.kind f.flags
+      ⊎ ((any_names ws ≡ true) × (35 ≤ least))
   early w ws pairs least l same z one =
       elim (z (sym (ap is_zero_or_one same) ∙ one)) [ inl m ↦ inl m | inr m ↦ absurd (omega (arith, m.1)) ]
 
   -- one that comes after them and isn't of C or Z
   late : (w : List ℕ) (ws : List (List ℕ)) (least : ℕ) → f.least ≤ least → names_c_or_z w ≡ false
-      → ZFollows shape.kind f (w ∷ ws) → is_zero_or_one (get_or f.pairs 2 AnyPair) ≡ true → IsMeant shape.kind f.flags ⊎ ((any_names ws ≡ true) × (35 ≤ least))
+      → ZFollows shape.kind f (w ∷ ws) → is_zero_or_one (get_or f.pairs 2 AnyPair) ≡ true → IsMeant shape.kind f.flags
+      ⊎ ((any_names ws ≡ true) × (35 ≤ least))
   late w ws least l other z one =
       elim (z one) [ inl m ↦ inl m | inr m ↦ inr (names_later w ws other m.0, omega (arith, m.1)) ]
 
@@ -251,7 +271,8 @@ module _ (shape : Shape) (cells : List Cell) (f : Facts) (h : Regular shape cell
         | inl l ↦ early w ws (slice_set f.pairs k x) (33 + k) (omega (arith, t.order)) (pair_other f.pairs k x l) z one
         | inr e ↦ inr (
           z_pair_names shape f x ws
-              (sym (ap is_zero_or_one (ap (λ n. get_or (slice_set f.pairs n x) 2 AnyPair) e ∙ pair_third f.pairs x three)) ∙ one) (t.meant e),
+              (sym (ap is_zero_or_one (ap (λ n. get_or (slice_set f.pairs n x) 2 AnyPair) e ∙ pair_third f.pairs x three)) ∙ one)
+              (t.meant e),
           omega (arith, e),
         )
       ]
@@ -277,7 +298,8 @@ module _ (shape : Shape) (cells : List Cell) (f : Facts) (h : Regular shape cell
         ]
       ]
 
-  z_follows : (w : List ℕ) (ws : List (List ℕ)) (more : Facts) → Taken shape cells f w ws more → ZFollows shape.kind f (w ∷ ws) → ZFollows shape.kind more ws
+  z_follows : (w : List ℕ) (ws : List (List ℕ)) (more : Facts) → Taken shape cells f w ws more → ZFollows shape.kind f (w ∷ ws)
+      → ZFollows shape.kind more ws
   z_follows w ws more (register r x t e) z =
       let order : f.least ≤ r = t.order in
       let there : r < 32 = t.there in
@@ -309,7 +331,8 @@ record Rest (shape : Shape) (cells : List Cell) (ended : Bool) (f : Facts) (list
   meant : is_zero_or_one (get_or said.pairs 2 AnyPair) ≡ true → IsMeant shape.kind said.flags
 
 all_read : (shape : Shape) (cells : List Cell) (ended : Bool) (f : Facts) (list : List (List ℕ)) (said : Facts) → PlacesFit shape cells
-    → Regular shape cells f → ZFollows shape.kind f list → items_from shape cells ended f list ≡ Ok said → Rest shape cells ended f list said
+    → Regular shape cells f → ZFollows shape.kind f list → items_from shape cells ended f list ≡ Ok said → Rest shape cells ended f list
+    said
 all_read shape cells true f [] said p h z e =
     subst (λ (a : Facts). Rest shape cells true f [] a) (fine_is f said e)
     (record {
@@ -336,7 +359,8 @@ pub items_only : (shape : Shape) (cells : List Cell) (words : Words) (said : Fac
 unfolding read_items first_facts
 items_only shape cells words said h e =
     let start = first_facts shape.kind cells in
-    let rest = all_read shape cells words.ended start words.list said h.places (first_regular shape cells h) (λ one. absurd (true_not false one refl)) e in
+    let rest = all_read shape cells words.ended start words.list said h.places (first_regular shape cells h)
+    (λ one. absurd (true_not false one refl)) e in
     record {
       end = rest.end;
       words = sym (rest.words ∙ ap (λ ws. ws ++ words.list) (first_nothing shape cells h));

@@ -1,6 +1,7 @@
 -- A list of optional items: for each key one value, whose item is left out where the value is the default. This is how
 -- registers, pairs, flags and cells are spelled.
-use Rattle.std.proofs.Common.{◌≡◌, ℕ, zero, suc, ◌+◌, ◌-◌, ◌≤◌, Bool, true, false, cond, List, [], ◌∷◌, ◌++◌, map, length, drop, refl, sym, ◌∙◌, ap, subst, append_assoc, add-one, length-append, arith}
+use Rattle.std.proofs.Common.{◌≡◌, ℕ, zero, suc, ◌+◌, ◌-◌, ◌≤◌, Bool, true, false, cond, List, [], ◌∷◌, ◌++◌, map, length, drop, refl, sym}
+use Rattle.std.proofs.Common.{◌∙◌, ap, subst, append_assoc, add-one, length-append, arith}
 use Rattle.std.specs.Prelude.{⊤, Some, slice_get, slice_set}
 use Rattle.std.proofs.lemmas.List.{drop-drop}
 use Rattle.uz_spelling.specs.Spelling.{unless}
@@ -27,7 +28,8 @@ pub each_map : {K A : Type 0} (R : K → A → Type 0) (f : K → A) (ks : List 
 each_map R f [] h = tt
 each_map R f (k ∷ ks) h = (h k, each_map R f ks h)
 
-pub each_other : {K A : Type 0} (R S : K → A → Type 0) (ks : List K) (xs : List A) → ((k : K) (x : A) → R k x → S k x) → Each R ks xs → Each S ks xs
+pub each_other : {K A : Type 0} (R S : K → A → Type 0) (ks : List K) (xs : List A) → ((k : K) (x : A) → R k x → S k x) → Each R ks xs
+    → Each S ks xs
 each_other R S [] [] f h = tt
 each_other R S [] (x ∷ xs) f h = h
 each_other R S (k ∷ ks) [] f h = h
@@ -48,7 +50,8 @@ abbrev pub IsUsual : {K A : Type 0} → (K → A → Bool) → K → A → Type 
 IsUsual d k x = d k x ≡ true
 
 -- nothing is spelled of defaults
-pub no_options : {K A : Type 0} (d : K → A → Bool) (w : K → A → List ℕ) (ks : List K) (xs : List A) → Each (IsUsual d) ks xs → options d w ks xs ≡ []
+pub no_options : {K A : Type 0} (d : K → A → Bool) (w : K → A → List ℕ) (ks : List K) (xs : List A) → Each (IsUsual d) ks xs
+    → options d w ks xs ≡ []
 no_options d w [] [] h = refl
 no_options d w [] (x ∷ xs) h = absurd h
 no_options d w (k ∷ ks) [] h = absurd h
@@ -108,12 +111,15 @@ ordered_lower I place n low least limit (k ∷ ks) h o = (o.0, omega (arith, h, 
 
 -- Reads least values words: reading goes on so, where these values stand, and items are due from the place least on.
 -- Where each item that isn't a default is read, all are read, and the default stands where there was none.
-pub section : {K A : Type 0} (d : K → A → Bool) (w : K → A → List ℕ) (usual : K → A) (place : K → ℕ) (I : K → ℕ → Type 0) (R : K → A → Type 0)
+pub section : {K A : Type 0} (d : K → A → Bool) (w : K → A → List ℕ) (usual : K → A) (place : K → ℕ) (I : K → ℕ → Type 0)
+    (R : K → A → Type 0)
     (Reads : ℕ → List A → List (List ℕ) → Type 0)
     → ((k : K) (x : A) → R k x → d k x ≡ true → x ≡ usual k)
-    → ((front back : List A) (k : K) (x : A) (least : ℕ) (words : List (List ℕ)) → I k (length front) → R k x → d k x ≡ false → least ≤ place k
+    → ((front back : List A) (k : K) (x : A) (least : ℕ) (words : List (List ℕ)) → I k (length front) → R k x → d k x ≡ false
+    → least ≤ place k
     → Reads (place k + 1) (front ++ x ∷ back) words → Reads least (front ++ usual k ∷ back) (w k x ∷ words))
-    → (ks : List K) (front xs : List A) (least limit : ℕ) (later : List (List ℕ)) → Each R ks xs → Ordered I place (length front) least limit ks
+    → (ks : List K) (front xs : List A) (least limit : ℕ) (later : List (List ℕ)) → Each R ks xs → Ordered I place (length front) least
+    limit ks
     → ((least : ℕ) → least ≤ limit → Reads least (front ++ xs) later)
     → Reads least (front ++ map usual ks) (options d w ks xs ++ later)
 section d w usual place I R Reads is step [] front [] least limit later h o go = go least o
@@ -140,9 +146,11 @@ section {K} {A} d w usual place I R Reads is step (k ∷ ks) front (x ∷ xs) le
     from again y low l e =
         subst (λ (ys : List A). Reads low ys (options d w ks xs ++ later)) (append_assoc front (y ∷ []) (map usual ks))
         (again y low (ordered y low l)
-        (λ n b. subst (λ (ys : List A). Reads n ys later) (ap (λ (z : A). front ++ z ∷ xs) e ∙ sym (append_assoc front (y ∷ []) xs)) (go n b)))
+        (λ n b. subst (λ (ys : List A). Reads n ys later) (ap (λ (z : A). front ++ z ∷ xs) e ∙ sym (append_assoc front (y ∷ []) xs))
+        (go n b)))
 
-    by_default : Again → (t : Bool) → d k x ≡ t → Reads least (front ++ usual k ∷ map usual ks) (unless t (w k x) (options d w ks xs) ++ later)
+    by_default : Again → (t : Bool) → d k x ≡ t → Reads least (front ++ usual k ∷ map usual ks) (unless t (w k x) (options d w ks xs)
+        ++ later)
     by_default again true t = from again (usual k) least (omega (arith, o.1)) (is k x h.0 t)
     by_default again false t =
         step front (map usual ks) k x least (options d w ks xs ++ later) o.0 h.0 t o.1 (from again x (place k + 1) (omega arith) refl)

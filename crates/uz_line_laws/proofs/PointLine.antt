@@ -1,8 +1,10 @@
 -- The line of a point.
-use Rattle.std.proofs.Common.{◌≡◌, ℕ, zero, suc, ◌+◌, ◌-◌, ◌*◌, ◌/◌, ◌<◌, ◌≤◌, ◌^◌, ℤ, pos, negsuc, Bool, true, false, ◌&&◌, eqb, List, [], ◌∷◌, decimal, codes, get_or, lit<, lit≤, refl, sym, ◌∙◌, ap, subst, arith}
+use Rattle.std.proofs.Common.{◌≡◌, ℕ, zero, suc, ◌+◌, ◌-◌, ◌*◌, ◌/◌, ◌<◌, ◌≤◌, ◌^◌, ℤ, pos, negsuc, Bool, true, false, ◌&&◌, eqb, List, []}
+use Rattle.std.proofs.Common.{◌∷◌, decimal, codes, get_or, lit<, lit≤, refl, sym, ◌∙◌, ap, subst, arith}
 use Rattle.std.specs.Prelude.{Some, Result, Ok, slice_get}
 use Rattle.std.proofs.lemmas.Fmt.{decimal_digit}
-use Rattle.uz_schedule.specs.WellFormed.{FactFits, PairFits, BitFits, CoreFits, MemoryFits, PointFits, PointKindFits, IsAtBegin, magnitude, instances_of, is_zero_or_one, is_carry_and_zero_default}
+use Rattle.uz_schedule.specs.WellFormed.{FactFits, PairFits, BitFits, CoreFits, MemoryFits, PointFits, PointKindFits, IsAtBegin, magnitude}
+use Rattle.uz_schedule.specs.WellFormed.{instances_of, is_zero_or_one, is_carry_and_zero_default}
 use Rattle.uz_schedule.specs.declared.kinds.Kind.{Kind}
 use Rattle.uz_schedule.specs.declared.kinds.Kind.TheVariants.{Main, Handler, Alone}
 use Rattle.uz_schedule.specs.declared.header.Head.{Head}
@@ -27,8 +29,10 @@ use Rattle.uz_line_laws.proofs.Spelled.{registers}
 use Rattle.uz_line_laws.proofs.OneMore.{letters_of_pairs, letters_of_flags, spelled, Regular}
 use Rattle.uz_line_laws.proofs.OnlyItems.{items_only}
 use Rattle.uz_line_laws.proofs.AgainItems.{Sayable, items_again, facts_with}
-use Rattle.uz_line_laws.proofs.Fitting.{each_of_all, all_of_each, all_other, fact_in, fact_out, cells_in, cells_out, pair_in, pair_out, bit_in, bit_out, under_none, none_under, none_small, box_under, under_box}
-use Rattle.uz_line_laws.proofs.Steps.{words_in, line_same, form_rest, advance, fixed_word, slope_again, retreat, fixed_is, choice_is, slope_step, with_front, is_within as within_so, under_both, both_under, least_small}
+use Rattle.uz_line_laws.proofs.Fitting.{each_of_all, all_of_each, all_other, fact_in, fact_out, cells_in, cells_out, pair_in, pair_out}
+use Rattle.uz_line_laws.proofs.Fitting.{bit_in, bit_out, under_none, none_under, none_small, box_under, under_box}
+use Rattle.uz_line_laws.proofs.Steps.{words_in, line_same, form_rest, advance, fixed_word, slope_again, retreat, fixed_is, choice_is}
+use Rattle.uz_line_laws.proofs.Steps.{slope_step, with_front, is_within as within_so, under_both, both_under, least_small}
 use Rattle.uz_line_laws.proofs.EntryLine.{shape_fits}
 
 -- again
@@ -45,7 +49,8 @@ point_sayable h lines points p f =
     record {
       regs_fit = each_of_all (FactIn (bytes_forms shape)) registers p.regs f.core.register_count
           (all_other (FactFits p.kind) (FactIn (bytes_forms shape)) p.regs (λ x i. fact_in shape x refl i) f.core.registers);
-      pairs_fit = each_of_all (PairIn pair_forms) letters_of_pairs p.pairs f.core.pair_count (all_other PairFits (PairIn pair_forms) p.pairs pair_in f.core.pairs);
+      pairs_fit = each_of_all (PairIn pair_forms) letters_of_pairs p.pairs f.core.pair_count (all_other PairFits (PairIn pair_forms) p.pairs
+          pair_in f.core.pairs);
       flags_fit = each_of_all (BitIn (is_handler p.kind)) letters_of_flags p.flags f.core.flag_count
           (all_other (BitFits p.kind) (BitIn (is_handler p.kind)) p.flags (bit_in p.kind) f.core.flags);
       slots_fit = f.memory.slots;
@@ -61,7 +66,8 @@ point_sayable h lines points p f =
     said_so false b e f = absurd cc
 
 point_back : (p : Point) (n least after : ℕ) → eqb n 1 ≡ p.pending
-    → point_of p.kind p.pc p.l0 p.l1 p.c0 p.c1 p.clock p.slope n (facts_with least after p.regs p.pairs p.flags p.stack.items p.cells.items p.next.items) ≡ p
+    → point_of p.kind p.pc p.l0 p.l1 p.c0 p.c1 p.clock p.slope n (facts_with least after p.regs p.pairs p.flags p.stack.items p.cells.items
+    p.next.items) ≡ p
 unfolding point_of
 point_back p n least after e = ap make e
   where
@@ -111,8 +117,10 @@ pending_small Main = lit≤ tt
 pending_small Handler = lit≤ tt
 pending_small Alone = lit≤ tt
 
-point_after_again : (h : Head) (lines points left : ℕ) (p : Point) → PlacesAre h lines points → left ≤ 2 ^ 30 → PointFits h lines points p → instances_of p ≤ left
-    → reads (point_after h lines points left p.kind) (line (decimal p.pc ∷ decimal p.l0 ∷ decimal p.l1 ∷ decimal p.c0 ∷ decimal p.c1 ∷ decimal p.clock
+point_after_again : (h : Head) (lines points left : ℕ) (p : Point) → PlacesAre h lines points → left ≤ 2 ^ 30 → PointFits h lines points p
+    → instances_of p ≤ left
+    → reads (point_after h lines points left p.kind)
+    (line (decimal p.pc ∷ decimal p.l0 ∷ decimal p.l1 ∷ decimal p.c0 ∷ decimal p.c1 ∷ decimal p.clock
     ∷ signed_word p.slope ∷ truth_word p.pending ∷ point_items h.cells.items p)) ≡ Ok (said.Point p)
 unfolding point_after
 point_after_again h lines points left p a small f fits =
@@ -141,7 +149,8 @@ point_after_again h lines points left p a small f fits =
     let f4 = form_rest f3 p.c0 in
     let f5 = form_rest f4 p.c1 in
     let say : ℕ → Facts → Said = λ n x. said.Point (point_of kind p.pc p.l0 p.l1 p.c0 p.c1 p.clock p.slope n x) in
-    let after_slope : ℤ → Form = λ s. number (within 0 (pending_limit kind)) (λ n. items shape cells (λ x. said.Point (point_of kind p.pc p.l0 p.l1 p.c0 p.c1 p.clock s n x))) in
+    let after_slope : ℤ → Form = λ s. number (within 0 (pending_limit kind))
+    (λ n. items shape cells (λ x. said.Point (point_of kind p.pc p.l0 p.l1 p.c0 p.c1 p.clock s n x))) in
     let f7 = after_slope p.slope in
     let lines_small = none_small kind lines (omega arith) in
     let counts_small = none_small kind 256 (lit≤ tt) in
@@ -153,17 +162,21 @@ point_after_again h lines points left p a small f fits =
     (shape_fits h lines points kind false a (λ _. refl)) (point_sayable h lines points p f) in
     advance f0 (decimal p.pc) w1 p.pc says (number_so (within 0 32768) p.pc (lit≤ tt) (within_so 0 32768 p.pc (lit≤ tt) (omega arith) f.pc))
     (advance f1 (decimal p.l0) w2 p.l0 says (number_so (within 0 (none_in_main kind lines)) p.l0 (omega (arith, lines_small))
-    (within_so 0 (none_in_main kind lines) p.l0 lines_small (omega arith) (under_none kind lines p.l0 (λ m. (begin m).first_line) (omega arith))))
+    (within_so 0 (none_in_main kind lines) p.l0 lines_small (omega arith) (under_none kind lines p.l0 (λ m. (begin m).first_line)
+    (omega arith))))
     (advance f2 (decimal p.l1) w3 p.l1 says (number_so (within p.l0 (none_in_main kind lines)) p.l1 (omega (arith, lines_small))
     (within_so p.l0 (none_in_main kind lines) p.l1 lines_small line_order (under_none kind lines p.l1 (λ m. (begin m).last_line) last)))
     (advance f3 (decimal p.c0) w4 p.c0 says (number_so (within 0 (none_in_main kind 256)) p.c0 (omega (arith, counts_small))
-    (within_so 0 (none_in_main kind 256) p.c0 counts_small (omega arith) (under_none kind 256 p.c0 (λ m. (begin m).first_count) (omega arith))))
+    (within_so 0 (none_in_main kind 256) p.c0 counts_small (omega arith) (under_none kind 256 p.c0 (λ m. (begin m).first_count)
+    (omega arith))))
     (advance f4 (decimal p.c1) w5 p.c1 says (number_so (within p.c0 limit) p.c1 (omega (arith, limit_small))
     (within_so p.c0 limit p.c1 limit_small count_order
-    (under_both (none_in_main kind 256) (p.c0 + left / (p.l1 - p.l0 + 1)) p.c1 (under_none kind 256 p.c1 (λ m. (begin m).last_count) (omega arith))
+    (under_both (none_in_main kind 256) (p.c0 + left / (p.l1 - p.l0 + 1)) p.c1 (under_none kind 256 p.c1 (λ m. (begin m).last_count)
+    (omega arith))
     (box_under left p.l0 p.l1 p.c0 p.c1 count_order fits))))
     (advance f5 (decimal p.clock) w6 p.clock says (number_so (within 0 (none_in_main kind 1820)) p.clock (omega (arith, clocks_small))
-    (within_so 0 (none_in_main kind 1820) p.clock clocks_small (omega arith) (under_none kind 1820 p.clock (λ m. (begin m).clock) f.box.clock)))
+    (within_so 0 (none_in_main kind 1820) p.clock clocks_small (omega arith) (under_none kind 1820 p.clock (λ m. (begin m).clock)
+    f.box.clock)))
     (slope_again (none_in_main kind 1820) after_slope p.slope w7 says (omega (arith, clocks_small))
     (under_none kind 1820 (magnitude p.slope) (λ m. ap magnitude (begin m).slope) f.box.slope)
     (ap (λ (w : List ℕ). reads f7 (line (w ∷ w8))) (truth_spelled p.pending)
@@ -192,16 +205,19 @@ kind_back Main = refl
 kind_back Handler = refl
 kind_back Alone = refl
 
-pub point_again : (h : Head) (lines points left : ℕ) (p : Point) → PlacesAre h lines points → left ≤ 2 ^ 30 → PointFits h lines points p → instances_of p ≤ left
+pub point_again : (h : Head) (lines points left : ℕ) (p : Point) → PlacesAre h lines points → left ≤ 2 ^ 30 → PointFits h lines points p
+    → instances_of p ≤ left
     → reads (point_form h lines points left) (line (point_words h.cells.items p)) ≡ Ok (said.Point p)
 point_again h lines points left p a small f fits =
     let says = Ok (said.Point p) in
-    let ws = decimal p.pc ∷ decimal p.l0 ∷ decimal p.l1 ∷ decimal p.c0 ∷ decimal p.c1 ∷ decimal p.clock ∷ signed_word p.slope ∷ truth_word p.pending
+    let ws = decimal p.pc ∷ decimal p.l0 ∷ decimal p.l1 ∷ decimal p.c0 ∷ decimal p.c1 ∷ decimal p.clock ∷ signed_word p.slope ∷ truth_word
+    p.pending
     ∷ point_items h.cells.items p in
     let f1 = form_rest (point_form h lines points left) 0 in
     advance (point_form h lines points left) (codes "point") (kind_word p.kind ∷ ws) 0 says (fixed_word (codes "point"))
     (advance f1 (kind_word p.kind) ws (kind_place p.kind) says (kind_again p.kind)
-    (ap (λ (k : Kind). reads (point_after h lines points left k) (line ws)) (kind_back p.kind) ∙ point_after_again h lines points left p a small f fits))
+    (ap (λ (k : Kind). reads (point_after h lines points left k) (line ws)) (kind_back p.kind) ∙ point_after_again h lines points left p a
+    small f fits))
 
 -- only
 
@@ -234,7 +250,8 @@ none_waits zero h = refl
 none_waits (suc n) h = absurd (omega arith)
 
 point_kind_fits : (kind : Kind) (p : Point) (n : ℕ) → p.pending ≡ eqb n 1 → n < pending_limit kind
-    → (kind ≡ Main → p.l0 ≡ 0) → (kind ≡ Main → p.l1 ≡ 0) → (kind ≡ Main → p.c0 ≡ 0) → (kind ≡ Main → p.c1 ≡ 0) → (kind ≡ Main → p.clock ≡ 0)
+    → (kind ≡ Main → p.l0 ≡ 0) → (kind ≡ Main → p.l1 ≡ 0) → (kind ≡ Main → p.c0 ≡ 0) → (kind ≡ Main → p.c1 ≡ 0)
+    → (kind ≡ Main → p.clock ≡ 0)
     → (kind ≡ Main → magnitude p.slope ≡ 0) → PointKindFits kind p
 point_kind_fits Main p n e b l0 l1 c0 c1 k s =
     record {
@@ -262,11 +279,13 @@ core_fits h points kind pc l0 l1 c0 c1 clock steps n f r z =
     let shape = shape_of h kind false points in
     record {
       register_count = each_length (λ k x. FactIn (bytes_forms shape) x) registers f.regs r.regs;
-      registers = all_other (FactIn (bytes_forms shape)) (FactFits kind) f.regs (fact_out shape) (all_of_each (FactIn (bytes_forms shape)) registers f.regs r.regs);
+      registers = all_other (FactIn (bytes_forms shape)) (FactFits kind) f.regs (fact_out shape)
+          (all_of_each (FactIn (bytes_forms shape)) registers f.regs r.regs);
       pair_count = each_length (λ k x. PairIn pair_forms x) letters_of_pairs f.pairs r.pairs;
       pairs = all_other (PairIn pair_forms) PairFits f.pairs pair_out (all_of_each (PairIn pair_forms) letters_of_pairs f.pairs r.pairs);
       flag_count = each_length (λ k x. BitIn (is_handler kind) x) letters_of_flags f.flags r.flags;
-      flags = all_other (BitIn (is_handler kind)) (BitFits kind) f.flags (bit_out kind) (all_of_each (BitIn (is_handler kind)) letters_of_flags f.flags r.flags);
+      flags = all_other (BitIn (is_handler kind)) (BitFits kind) f.flags (bit_out kind)
+          (all_of_each (BitIn (is_handler kind)) letters_of_flags f.flags r.flags);
       text = has_text (is_zero_or_one (get_or f.pairs 2 AnyPair)) (is_carry_and_zero_default kind f.flags) z;
     }
 
@@ -306,9 +325,17 @@ point_fits : (h : Head) (lines points : ℕ) (kind : Kind) (pc l0 l1 c0 c1 clock
 unfolding point_of
 point_fits h lines points kind pc l0 l1 c0 c1 clock steps n f r z p b w =
     record {
-      kind = point_kind_fits kind (point_of kind pc l0 l1 c0 c1 clock steps n f) n refl w b.l0_main b.l1_main b.c0_main b.c1_main b.clock_main b.slope_main;
+      kind = point_kind_fits kind (point_of kind pc l0 l1 c0 c1 clock steps n f) n refl w b.l0_main b.l1_main b.c0_main b.c1_main
+          b.clock_main b.slope_main;
       pc = p;
-      box = record { line_order = b.line_order; line = b.line; count_order = b.count_order; count = b.count; clock = b.clock_in; slope = b.slope_in };
+      box = record {
+        line_order = b.line_order;
+        line = b.line;
+        count_order = b.count_order;
+        count = b.count;
+        clock = b.clock_in;
+        slope = b.slope_in;
+      };
       core = core_fits h points kind pc l0 l1 c0 c1 clock steps n f r z;
       memory = memory_fits h points kind pc l0 l1 c0 c1 clock steps n f r;
       next = record { few = r.next_few; there = r.next_there; rise = r.next_rise };
@@ -316,11 +343,13 @@ point_fits h lines points kind pc l0 l1 c0 c1 clock steps n f r z p b w =
 
 point_words_are : (h : Head) (kind : Kind) (pc l0 l1 c0 c1 clock : ℕ) (steps : ℤ) (n : ℕ) (f : Facts) (rest : List (List ℕ))
     → rest ≡ spelled kind h.cells.items f
-    → codes "point" ∷ kind_word kind ∷ decimal pc ∷ decimal l0 ∷ decimal l1 ∷ decimal c0 ∷ decimal c1 ∷ decimal clock ∷ signed_word steps ∷ truth_word (eqb n 1) ∷ rest
+    → codes "point" ∷ kind_word kind ∷ decimal pc ∷ decimal l0 ∷ decimal l1 ∷ decimal c0 ∷ decimal c1 ∷ decimal clock ∷ signed_word
+    steps ∷ truth_word (eqb n 1) ∷ rest
     ≡ point_words h.cells.items (point_of kind pc l0 l1 c0 c1 clock steps n f)
 unfolding point_of
 point_words_are h kind pc l0 l1 c0 c1 clock steps n f rest e =
-    ap (λ (ws : List (List ℕ)). codes "point" ∷ kind_word kind ∷ decimal pc ∷ decimal l0 ∷ decimal l1 ∷ decimal c0 ∷ decimal c1 ∷ decimal clock
+    ap (λ (ws : List (List ℕ)). codes "point" ∷ kind_word kind ∷ decimal pc ∷ decimal l0 ∷ decimal l1 ∷ decimal c0 ∷ decimal c1 ∷ decimal
+    clock
     ∷ signed_word steps ∷ truth_word (eqb n 1) ∷ ws) e
 
 instances_are : (kind : Kind) (pc l0 l1 c0 c1 clock : ℕ) (steps : ℤ) (n left : ℕ) (f : Facts) → (l1 - l0 + 1) * (c1 - c0 + 1) ≤ left
@@ -354,7 +383,8 @@ kind_read h lines points left list ended says e =
     record {
       kind = point_kind k.number;
       words = k.left;
-      parts = with_front list b.left (kind_word (point_kind k.number) ∷ k.left) b.word (codes "point") b.parts (fixed_is (codes "point") b.word b.number b.is)
+      parts = with_front list b.left (kind_word (point_kind k.number) ∷ k.left) b.word (codes "point") b.parts
+          (fixed_is (codes "point") b.word b.number b.is)
           (k.parts ∙ ap (λ (w : List ℕ). w ∷ k.left) (kind_word_back k.number k.word (choice_is point_kinds k.word k.number k.is)));
       rest = k.rest;
     }
@@ -400,7 +430,8 @@ lines_read h lines points left kind list ended says few e =
       rest = l1.rest;
     }
 
-record CountsRead (h : Head) (points left : ℕ) (kind : Kind) (pc l0 l1 : ℕ) (list : List (List ℕ)) (ended : Bool) (says : Said) : Type 0 where
+record CountsRead (h : Head) (points left : ℕ) (kind : Kind) (pc l0 l1 : ℕ) (list : List (List ℕ)) (ended : Bool) (says : Said) : Type
+    0 where
   pub c0 : ℕ
   pub c1 : ℕ
   pub clock : ℕ
@@ -413,7 +444,8 @@ record CountsRead (h : Head) (points left : ℕ) (kind : Kind) (pc l0 l1 : ℕ) 
   pub rest : reads (after_clock h points kind pc l0 l1 c0 c1 clock) (words_in words ended) ≡ Ok says
 
 counts_read : (h : Head) (points left : ℕ) (kind : Kind) (pc l0 l1 : ℕ) (list : List (List ℕ)) (ended : Bool) (says : Said)
-    → reads (after_lines h points left kind pc l0 l1) (words_in list ended) ≡ Ok says → CountsRead h points left kind pc l0 l1 list ended says
+    → reads (after_lines h points left kind pc l0 l1) (words_in list ended) ≡ Ok says → CountsRead h points left kind pc l0 l1 list ended
+    says
 counts_read h points left kind pc l0 l1 list ended says e =
     let counts_small = none_small kind 256 (lit≤ tt) in
     let clocks_small = none_small kind 1820 (lit≤ tt) in
@@ -442,7 +474,8 @@ counts_read h points left kind pc l0 l1 list ended says e =
       rest = c.rest;
     }
 
-record StateRead (h : Head) (points : ℕ) (kind : Kind) (pc l0 l1 c0 c1 clock : ℕ) (list : List (List ℕ)) (ended : Bool) (says : Said) : Type 0 where
+record StateRead (h : Head) (points : ℕ) (kind : Kind) (pc l0 l1 c0 c1 clock : ℕ) (list : List (List ℕ)) (ended : Bool) (says : Said) : Type
+    0 where
   pub steps : ℤ
   pub n : ℕ
   pub f : Facts
@@ -454,13 +487,16 @@ record StateRead (h : Head) (points : ℕ) (kind : Kind) (pc l0 l1 c0 c1 clock :
   pub meant : is_zero_or_one (get_or f.pairs 2 AnyPair) ≡ true → is_carry_and_zero_default kind f.flags ≡ false
   pub says_is : says ≡ said.Point (point_of kind pc l0 l1 c0 c1 clock steps n f)
 
-state_read : (h : Head) (lines points : ℕ) (kind : Kind) (pc l0 l1 c0 c1 clock : ℕ) (list : List (List ℕ)) (ended : Bool) (says : Said) → PlacesAre h lines points
-    → reads (after_clock h points kind pc l0 l1 c0 c1 clock) (words_in list ended) ≡ Ok says → StateRead h points kind pc l0 l1 c0 c1 clock list ended says
+state_read : (h : Head) (lines points : ℕ) (kind : Kind) (pc l0 l1 c0 c1 clock : ℕ) (list : List (List ℕ)) (ended : Bool) (says : Said)
+    → PlacesAre h lines points
+    → reads (after_clock h points kind pc l0 l1 c0 c1 clock) (words_in list ended) ≡ Ok says → StateRead h points kind pc l0 l1 c0 c1 clock
+    list ended says
 state_read h lines points kind pc l0 l1 c0 c1 clock list ended says a e =
     let cells = h.cells.items in
     let shape = shape_of h kind false points in
     let clocks_small = none_small kind 1820 (lit≤ tt) in
-    let after_slope : ℤ → Form = λ s. number (within 0 (pending_limit kind)) (λ n. items shape cells (λ x. said.Point (point_of kind pc l0 l1 c0 c1 clock s n x))) in
+    let after_slope : ℤ → Form = λ s. number (within 0 (pending_limit kind))
+    (λ n. items shape cells (λ x. said.Point (point_of kind pc l0 l1 c0 c1 clock s n x))) in
     let s = slope_step (none_in_main kind 1820) after_slope list ended says (omega (arith, clocks_small)) e in
     let w = retreat (after_slope s.0) s.1 ended says tt s.4 in
     let wn = number_only (within 0 (pending_limit kind)) w.word w.number (omega (arith, pending_small kind)) w.is in
@@ -521,35 +557,44 @@ box_said h lines points left kind list list2 list3 ended says some l c s =
 
 pub point_only : (h : Head) (lines points left : ℕ) (words : Words) (says : Said) → PlacesAre h lines points → 1 ≤ lines → left ≤ 2 ^ 30
     → reads (point_form h lines points left) words ≡ Ok says
-    → (p : Point) × (says ≡ said.Point p) × (words ≡ line (point_words h.cells.items p)) × PointFits h lines points p × (instances_of p ≤ left)
+    → (p : Point) × (says ≡ said.Point p) × (words ≡ line (point_words h.cells.items p)) × PointFits h lines points p
+    × (instances_of p ≤ left)
 point_only h lines points left words says a some small e = by_kind (kind_read h lines points left words.list words.ended says e)
   where
-    by_state : (k : KindRead h lines points left words.list words.ended says) → (l : LinesRead h lines points left k.kind k.words words.ended says)
+    by_state : (k : KindRead h lines points left words.list words.ended says)
+        → (l : LinesRead h lines points left k.kind k.words words.ended says)
         → (c : CountsRead h points left k.kind l.pc l.l0 l.l1 l.words words.ended says)
         → (s : StateRead h points k.kind l.pc l.l0 l.l1 c.c0 c.c1 c.clock c.words words.ended says)
-        → (p : Point) × (says ≡ said.Point p) × (words ≡ line (point_words h.cells.items p)) × PointFits h lines points p × (instances_of p ≤ left)
+        → (p : Point) × (says ≡ said.Point p) × (words ≡ line (point_words h.cells.items p)) × PointFits h lines points p
+        × (instances_of p ≤ left)
     by_state k l c s =
         let made = point_of k.kind l.pc l.l0 l.l1 c.c0 c.c1 c.clock s.steps s.n s.f in
         let b = box_said h lines points left k.kind k.words l.words c.words words.ended says some l c s in (
           made,
           s.says_is,
           line_same words.list (point_words h.cells.items made) words.ended
-              (all_parts words.list k.words l.words c.words (signed_word s.steps ∷ truth_word (eqb s.n 1) ∷ spelled k.kind h.cells.items s.f) (kind_word k.kind)
+              (all_parts words.list k.words l.words c.words (signed_word s.steps ∷ truth_word (eqb s.n 1) ∷ spelled k.kind h.cells.items
+              s.f) (kind_word k.kind)
               (decimal l.pc) (decimal l.l0) (decimal l.l1) (decimal c.c0) (decimal c.c1) (decimal c.clock) k.parts l.parts c.parts s.parts
               ∙ point_words_are h k.kind l.pc l.l0 l.l1 c.c0 c.c1 c.clock s.steps s.n s.f (spelled k.kind h.cells.items s.f) refl) s.end,
           point_fits h lines points k.kind l.pc l.l0 l.l1 c.c0 c.c1 c.clock s.steps s.n s.f s.regular s.meant l.pc_in b.0 s.n_in,
           instances_are k.kind l.pc l.l0 l.l1 c.c0 c.c1 c.clock s.steps s.n left s.f b.1,
         )
 
-    by_counts : (k : KindRead h lines points left words.list words.ended says) → (l : LinesRead h lines points left k.kind k.words words.ended says)
+    by_counts : (k : KindRead h lines points left words.list words.ended says)
+        → (l : LinesRead h lines points left k.kind k.words words.ended says)
         → CountsRead h points left k.kind l.pc l.l0 l.l1 l.words words.ended says
-        → (p : Point) × (says ≡ said.Point p) × (words ≡ line (point_words h.cells.items p)) × PointFits h lines points p × (instances_of p ≤ left)
+        → (p : Point) × (says ≡ said.Point p) × (words ≡ line (point_words h.cells.items p)) × PointFits h lines points p
+        × (instances_of p ≤ left)
     by_counts k l c = by_state k l c (state_read h lines points k.kind l.pc l.l0 l.l1 c.c0 c.c1 c.clock c.words words.ended says a c.rest)
 
-    by_lines : (k : KindRead h lines points left words.list words.ended says) → LinesRead h lines points left k.kind k.words words.ended says
-        → (p : Point) × (says ≡ said.Point p) × (words ≡ line (point_words h.cells.items p)) × PointFits h lines points p × (instances_of p ≤ left)
+    by_lines : (k : KindRead h lines points left words.list words.ended says) → LinesRead h lines points left k.kind k.words words.ended
+        says
+        → (p : Point) × (says ≡ said.Point p) × (words ≡ line (point_words h.cells.items p)) × PointFits h lines points p
+        × (instances_of p ≤ left)
     by_lines k l = by_counts k l (counts_read h points left k.kind l.pc l.l0 l.l1 l.words words.ended says l.rest)
 
     by_kind : KindRead h lines points left words.list words.ended says
-        → (p : Point) × (says ≡ said.Point p) × (words ≡ line (point_words h.cells.items p)) × PointFits h lines points p × (instances_of p ≤ left)
+        → (p : Point) × (says ≡ said.Point p) × (words ≡ line (point_words h.cells.items p)) × PointFits h lines points p
+        × (instances_of p ≤ left)
     by_kind k = by_lines k (lines_read h lines points left k.kind k.words words.ended says a.lines_few k.rest)

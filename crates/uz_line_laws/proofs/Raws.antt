@@ -1,17 +1,20 @@
 -- The word of a fact before its order is asked: read as it is written, and only so.
-use Rattle.std.proofs.Common.{◌≡◌, ℕ, ◌<◌, ◌≤◌, ◌≢◌, ◌^◌, Bool, true, false, cond, ◌&&◌, eqb, ltb, List, [], ◌∷◌, ◌++◌, decimal, codes, bytes_eq, lit<, lit≤, refl, sym, ◌∙◌, ap, subst, arith, append_assoc}
+use Rattle.std.proofs.Common.{◌≡◌, ℕ, ◌<◌, ◌≤◌, ◌≢◌, ◌^◌, Bool, true, false, cond, ◌&&◌, eqb, ltb, List, [], ◌∷◌, ◌++◌, decimal, codes}
+use Rattle.std.proofs.Common.{bytes_eq, lit<, lit≤, refl, sym, ◌∙◌, ap, subst, arith, append_assoc}
 use Rattle.std.specs.Prelude.{Option, Some, None, Result, Ok, Err}
 use Rattle.uz_text.specs.Cutting.{cut_at}
 use Rattle.uz_text.proofs.Cuts.{cut_read, cut_again}
 use Rattle.uz_lines.specs.Why.{◌>>=◌}
-use Rattle.uz_lines.specs.Values.{one_number, two_numbers, whole, slope, sloped_parts, sloped_cut, sloped, old, range_parts, range_cut, range, raw_of}
+use Rattle.uz_lines.specs.Values.{one_number, two_numbers, whole, slope, sloped_parts, sloped_cut, sloped, old, range_parts, range_cut}
+use Rattle.uz_lines.specs.Values.{range, raw_of}
 use Rattle.uz_lines.specs.declared.values.Forms.{Forms}
 use Rattle.uz_lines.specs.declared.values.Raw.{Raw}
 use Rattle.uz_lines.specs.declared.values.Raw.TheVariants as raw
 use Rattle.uz_lines.specs.declared.why.CertWhy.{CertWhy}
 use Rattle.uz_lines.specs.declared.why.CertWhy.TheVariants as why
 use Rattle.uz_spelling.specs.Spelling.{slope_word}
-use Rattle.uz_line_laws.proofs.Tests.{and_true, both_true, fine_is, passed, so, else_so, bind_ok, then, lt_is, is_lt, number_is, not_number, word_is}
+use Rattle.uz_line_laws.proofs.Tests.{and_true, both_true, fine_is, passed, so, else_so, bind_ok, then, lt_is, is_lt, number_is, not_number}
+use Rattle.uz_line_laws.proofs.Tests.{word_is}
 use Rattle.uz_line_laws.proofs.Numbers.{one_only, one_so, two_only, two_so, first_digit, decimal_lacks_below, cut_none}
 
 abbrev pub raw_word : Raw → List ℕ
@@ -58,17 +61,25 @@ plus_parts a b w m n e f h c =
     ∙ ap (λ t. c ∷ 42 ∷ t) (sym (append_assoc (decimal m) (43 ∷ []) (decimal n)))
 
 sloped_numbers : (is_line : Bool) (f : Forms) (w : List ℕ) (r : Raw) → f.limit ≤ 2 ^ 32 → sloped_cut is_line f w ≡ Ok r
-    → (n : ℕ × ℕ) × (slope is_line n ≡ r) × ((c : ℕ) → c ∷ 42 ∷ w ≡ slope_word (c ∷ []) n.0 n.1) × (1 ≤ n.0) × (n.0 < f.limit) × (n.1 < f.limit)
+    → (n : ℕ × ℕ) × (slope is_line n ≡ r) × ((c : ℕ) → c ∷ 42 ∷ w ≡ slope_word (c ∷ []) n.0 n.1) × (1 ≤ n.0) × (n.0 < f.limit)
+    × (n.1 < f.limit)
 unfolding sloped_cut
 sloped_numbers is_line f w r h e = by_cut (cut_at 43 w) refl e
   where
     by_cut : (o : Option (List ℕ × List ℕ)) → cut_at 43 w ≡ o → sloped_parts is_line f o ≡ Ok r
-        → (n : ℕ × ℕ) × (slope is_line n ≡ r) × ((c : ℕ) → c ∷ 42 ∷ w ≡ slope_word (c ∷ []) n.0 n.1) × (1 ≤ n.0) × (n.0 < f.limit) × (n.1 < f.limit)
+        → (n : ℕ × ℕ) × (slope is_line n ≡ r) × ((c : ℕ) → c ∷ 42 ∷ w ≡ slope_word (c ∷ []) n.0 n.1) × (1 ≤ n.0) × (n.0 < f.limit)
+        × (n.1 < f.limit)
     by_cut None c e = absurd cc
     by_cut (Some p) c e =
         let m = bind_ok (two_numbers 1 0 f.limit p.0 p.1) (λ n. Ok (slope is_line n)) r e in
-        let two = two_only 1 0 f.limit p.0 p.1 m.0 h m.1 in
-        (m.0, fine_is (slope is_line m.0) r m.2, (λ c. plus_parts p.0 p.1 w m.0.0 m.0.1 two.0.0 two.1.0 (cut_read 43 w p cut_is) c), two.0.1, two.0.2, two.1.2)
+        let two = two_only 1 0 f.limit p.0 p.1 m.0 h m.1 in (
+          m.0,
+          fine_is (slope is_line m.0) r m.2,
+          (λ c. plus_parts p.0 p.1 w m.0.0 m.0.1 two.0.0 two.1.0 (cut_read 43 w p cut_is) c),
+          two.0.1,
+          two.0.2,
+          two.1.2,
+        )
       where
         cut_is : cut_at 43 w ≡ Some p
         cut_is = c
@@ -98,7 +109,10 @@ old_only f cs r e =
   where
     by_flags : (t : Bool) → bytes_eq cs (codes "f") ≡ t → f.old ≡ true
         → cond t (Ok raw.OldFlags) (one_number 0 32 cs >>= (λ n. Ok (raw.Old n))) ≡ Ok r → Reads f (111 ∷ cs) r
-    by_flags true is o e = reads_at f (111 ∷ cs) raw.OldFlags r (fine_is raw.OldFlags r e) (ap (λ t. 111 ∷ t) (word_is cs (codes "f") is), o)
+    by_flags true is o e = reads_at f (111 ∷ cs) raw.OldFlags r (fine_is raw.OldFlags r e) (
+      ap (λ t. 111 ∷ t) (word_is cs (codes "f") is),
+      o,
+    )
     by_flags false is o e =
         let m = bind_ok (one_number 0 32 cs) (λ n. Ok (raw.Old n)) r e in
         let n = one_only 0 32 m.0 cs (lit≤ tt) m.1 in
@@ -120,8 +134,10 @@ range_only f w r h e = by_cut (cut_at 46 w) refl e
         let p = passed (eqb b 46) (two_numbers f.low f.low f.limit lo hi >>= (λ n. Ok (raw.Two n.0 n.1))) why.Word r e in
         let m = bind_ok (two_numbers f.low f.low f.limit lo hi) (λ n. Ok (raw.Two n.0 n.1)) r p.1 in
         let two = two_only f.low f.low f.limit lo hi m.0 h m.1 in
-        reads_at f w (raw.Two m.0.0 m.0.1) r (fine_is (raw.Two m.0.0 m.0.1) r m.2)
-        (point_parts lo hi w b m.0.0 m.0.1 two.0.0 two.1.0 (number_is b 46 p.0) (cut_read 46 w (lo, b ∷ hi) c), ((two.0.1, two.0.2), (two.1.1, two.1.2)))
+        reads_at f w (raw.Two m.0.0 m.0.1) r (fine_is (raw.Two m.0.0 m.0.1) r m.2) (
+          point_parts lo hi w b m.0.0 m.0.1 two.0.0 two.1.0 (number_is b 46 p.0) (cut_read 46 w (lo, b ∷ hi) c),
+          ((two.0.1, two.0.2), (two.1.1, two.1.2)),
+        )
 
     by_cut : (o : Option (List ℕ × List ℕ)) → cut_at 46 w ≡ o → range_cut f w o ≡ Ok r → Reads f w r
     by_cut None c e =
@@ -142,17 +158,20 @@ raw_only f (c ∷ cs) r h e = star (eqb c 42) refl e
     other true is e = head_is c 111 cs f r is (old_only f cs r e)
     other false is e = range_only f (c ∷ cs) r h e
 
-    loop : (t : Bool) → eqb c 99 ≡ t → cond t (sloped false f cs) (cond (eqb c 111) (old f cs) (range f (c ∷ cs))) ≡ Ok r → Reads f (c ∷ cs) r
+    loop : (t : Bool) → eqb c 99 ≡ t → cond t (sloped false f cs) (cond (eqb c 111) (old f cs) (range f (c ∷ cs))) ≡ Ok r → Reads f (c ∷ cs)
+        r
     loop true is e = head_is c 99 cs f r is (loop_only f cs r h e)
     loop false is e = other (eqb c 111) refl e
 
     line : (t : Bool) → eqb c 108 ≡ t
-        → cond t (sloped true f cs) (cond (eqb c 99) (sloped false f cs) (cond (eqb c 111) (old f cs) (range f (c ∷ cs)))) ≡ Ok r → Reads f (c ∷ cs) r
+        → cond t (sloped true f cs) (cond (eqb c 99) (sloped false f cs) (cond (eqb c 111) (old f cs) (range f (c ∷ cs)))) ≡ Ok r
+        → Reads f (c ∷ cs) r
     line true is e = head_is c 108 cs f r is (line_only f cs r h e)
     line false is e = loop (eqb c 99) refl e
 
     star : (t : Bool) → eqb c 42 ≡ t
-        → cond t (whole f cs) (cond (eqb c 108) (sloped true f cs) (cond (eqb c 99) (sloped false f cs) (cond (eqb c 111) (old f cs) (range f (c ∷ cs))))) ≡ Ok r
+        → cond t (whole f cs) (cond (eqb c 108) (sloped true f cs)
+        (cond (eqb c 99) (sloped false f cs) (cond (eqb c 111) (old f cs) (range f (c ∷ cs))))) ≡ Ok r
         → Reads f (c ∷ cs) r
     star true is e = head_is c 42 cs f r is (whole_only f cs r e)
     star false is e = line (eqb c 108) refl e
@@ -167,11 +186,13 @@ digit_first f (b ∷ bs) r d e =
     let same : b ≡ d.0 = cc in
     let low : 48 ≤ b = omega (arith, d.3, same) in
     let high : b ≤ 57 = omega (arith, d.4, same) in
-    else_so (eqb b 42) (whole f bs) (cond (eqb b 108) (sloped true f bs) (cond (eqb b 99) (sloped false f bs) (cond (eqb b 111) (old f bs) (range f (b ∷ bs)))))
+    else_so (eqb b 42) (whole f bs)
+    (cond (eqb b 108) (sloped true f bs) (cond (eqb b 99) (sloped false f bs) (cond (eqb b 111) (old f bs) (range f (b ∷ bs)))))
     (not_number b 42 (apart_above b 42 low (lit< tt)))
     ∙ else_so (eqb b 108) (sloped true f bs) (cond (eqb b 99) (sloped false f bs) (cond (eqb b 111) (old f bs) (range f (b ∷ bs))))
     (not_number b 108 (apart_below b 108 high (lit< tt)))
-    ∙ else_so (eqb b 99) (sloped false f bs) (cond (eqb b 111) (old f bs) (range f (b ∷ bs))) (not_number b 99 (apart_below b 99 high (lit< tt)))
+    ∙ else_so (eqb b 99) (sloped false f bs) (cond (eqb b 111) (old f bs) (range f (b ∷ bs)))
+    (not_number b 99 (apart_below b 99 high (lit< tt)))
     ∙ else_so (eqb b 111) (old f bs) (range f (b ∷ bs)) (not_number b 111 (apart_below b 111 high (lit< tt)))
     ∙ e
   where
@@ -221,11 +242,13 @@ sloped_raw is_line f a b h s ka kb =
 with_star : (is_line : Bool) (f : Forms) (cs : List ℕ) → f.sloped ≡ true → sloped is_line f (42 ∷ cs) ≡ sloped_cut is_line f cs
 with_star is_line f cs e = ap (λ t. cond t (sloped_cut is_line f cs) (Err why.Word)) e
 
-pub line_raw : (f : Forms) (a b : ℕ) → f.limit ≤ 2 ^ 32 → RawFits f (raw.Line a b) → raw_of f (slope_word (codes "l") a b) ≡ Ok (raw.Line a b)
+pub line_raw : (f : Forms) (a b : ℕ) → f.limit ≤ 2 ^ 32 → RawFits f (raw.Line a b) → raw_of f (slope_word (codes "l") a b) ≡ Ok
+    (raw.Line a b)
 unfolding raw_of
 line_raw f a b h i = with_star true f (decimal a ++ codes "+" ++ decimal b) i.0 ∙ sloped_raw true f a b h i.1 i.2 i.3
 
-pub loop_raw : (f : Forms) (a b : ℕ) → f.limit ≤ 2 ^ 32 → RawFits f (raw.Loop a b) → raw_of f (slope_word (codes "c") a b) ≡ Ok (raw.Loop a b)
+pub loop_raw : (f : Forms) (a b : ℕ) → f.limit ≤ 2 ^ 32 → RawFits f (raw.Loop a b) → raw_of f (slope_word (codes "c") a b) ≡ Ok
+    (raw.Loop a b)
 unfolding raw_of
 loop_raw f a b h i = with_star false f (decimal a ++ codes "+" ++ decimal b) i.0 ∙ sloped_raw false f a b h i.1 i.2 i.3
 
@@ -244,7 +267,8 @@ not_f w d = by_test (bytes_eq w (codes "f")) refl
 pub old_raw : (f : Forms) (r : ℕ) → RawFits f (raw.Old r) → raw_of f (111 ∷ decimal r) ≡ Ok (raw.Old r)
 unfolding raw_of
 old_raw f r i =
-    so f.old (cond (bytes_eq (decimal r) (codes "f")) (Ok raw.OldFlags) (one_number 0 32 (decimal r) >>= (λ n. Ok (raw.Old n)))) (Err why.Word) i.0
+    so f.old (cond (bytes_eq (decimal r) (codes "f")) (Ok raw.OldFlags) (one_number 0 32 (decimal r) >>= (λ n. Ok (raw.Old n))))
+    (Err why.Word) i.0
     ∙ else_so (bytes_eq (decimal r) (codes "f")) (Ok raw.OldFlags) (one_number 0 32 (decimal r) >>= (λ n. Ok (raw.Old n)))
     (not_f (decimal r) (first_digit r (omega arith)))
     ∙ then (one_number 0 32 (decimal r)) (λ n. Ok (raw.Old n)) r (Ok (raw.Old r)) (one_so 0 32 r (lit≤ tt) (omega arith) i.1) refl

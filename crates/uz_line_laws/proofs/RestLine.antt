@@ -1,5 +1,6 @@
 -- The line of a rest.
-use Rattle.std.proofs.Common.{◌≡◌, inr, ℕ, ◌<◌, ◌≤◌, ◌^◌, Bool, true, false, cond, List, [], ◌∷◌, ◌++◌, map, filter, decimal, codes, lit≤, refl, sym, ◌∙◌, ap, subst, append-nil, arith}
+use Rattle.std.proofs.Common.{◌≡◌, inr, ℕ, ◌<◌, ◌≤◌, ◌^◌, Bool, true, false, cond, List, [], ◌∷◌, ◌++◌, map, filter, decimal, codes, lit≤}
+use Rattle.std.proofs.Common.{refl, sym, ◌∙◌, ap, subst, append-nil, arith}
 use Rattle.std.specs.Prelude.{All, Result, Ok}
 use Rattle.std.proofs.lemmas.List.Elements.{All-nil, All-cons, All-head, All-tail}
 use Rattle.uz_schedule.specs.Ends.{Ends, is_within}
@@ -22,7 +23,8 @@ use Rattle.uz_line_laws.specs.Said.{line, PlacesAre}
 use Rattle.uz_line_laws.proofs.Tests.{fine, fault_not, and_true, both_true, bind_ok, then}
 use Rattle.uz_line_laws.proofs.Numbers.{IsAsked, number_so, number_only}
 use Rattle.uz_line_laws.proofs.Facts.{span_only, span_so}
-use Rattle.uz_line_laws.proofs.Steps.{words_in, line_same, form_rest, advance, fixed_word, retreat, fixed_is, finish_only, with_front, is_within as within_so}
+use Rattle.uz_line_laws.proofs.Steps.{words_in, line_same, form_rest, advance, fixed_word, retreat, fixed_is, finish_only, with_front}
+use Rattle.uz_line_laws.proofs.Steps.{is_within as within_so}
 use Rattle.uz_line_laws.proofs.ScheduleLines.{rising_so}
 
 abbrev Bytes : List Cell → Type 0
@@ -41,20 +43,25 @@ spans_read [] (x ∷ es) b h e = absurd cc
 spans_read (c ∷ cs) es b h e = by_own (tracks Handler c.owner) e (λ xs g f. spans_read cs xs (All-tail (λ c. c.range.hi ≤ 255) c cs b) g f)
   where
     by_own : (t : Bool) → spans_fit (cond t (c ∷ own cs) (own cs)) es ≡ true
-        → ((xs : List Ends) → All (RangeFits 255) xs → spans_fit (own cs) xs ≡ true → spans_of cs (line (map (ends_word 255) xs)) ≡ Ok (xs, line []))
-        → cond t (next_as (span_of c.range) (line (map (ends_word 255) es)) >>= (λ x. with_span x (spans_of cs (rest_of (line (map (ends_word 255) es))))))
+        → ((xs : List Ends) → All (RangeFits 255) xs → spans_fit (own cs) xs ≡ true → spans_of cs (line (map (ends_word 255) xs)) ≡ Ok
+        (xs, line []))
+        → cond t (next_as (span_of c.range) (line (map (ends_word 255) es)) >>=
+        (λ x. with_span x (spans_of cs (rest_of (line (map (ends_word 255) es))))))
         (spans_of cs (line (map (ends_word 255) es))) ≡ Ok (es, line [])
     by_own false e later = later es h e
     by_own true e later = by_spans es h e
       where
         by_spans : (xs : List Ends) → All (RangeFits 255) xs → spans_fit (c ∷ own cs) xs ≡ true
-            → next_as (span_of c.range) (line (map (ends_word 255) xs)) >>= (λ x. with_span x (spans_of cs (rest_of (line (map (ends_word 255) xs))))) ≡ Ok (xs, line [])
+            → next_as (span_of c.range) (line (map (ends_word 255) xs)) >>=
+            (λ x. with_span x (spans_of cs (rest_of (line (map (ends_word 255) xs))))) ≡ Ok (xs, line [])
         by_spans [] h e = absurd cc
         by_spans (x ∷ xs) h e =
             let two = and_true (is_within x c.range) (spans_fit (own cs) xs) e in
-            then (span_of c.range (ends_word 255 x)) (λ x. with_span x (spans_of cs (line (map (ends_word 255) xs)))) x (Ok (x ∷ xs, line []))
+            then (span_of c.range (ends_word 255 x)) (λ x. with_span x (spans_of cs (line (map (ends_word 255) xs)))) x
+            (Ok (x ∷ xs, line []))
             (span_so c.range x (All-head (λ c. c.range.hi ≤ 255) c cs b) (All-head (RangeFits 255) x xs h) two.0)
-            (ap (λ (m : Result Pieces CertWhy). m >>= (λ p. fine {A = Pieces} (x ∷ p.0, p.1))) (later xs (All-tail (RangeFits 255) x xs h) two.1))
+            (ap (λ (m : Result Pieces CertWhy). m >>= (λ p. fine {A = Pieces} (x ∷ p.0, p.1)))
+            (later xs (All-tail (RangeFits 255) x xs h) two.1))
 
 record SpansGone (cells : List Cell) (list : List (List ℕ)) (ended : Bool) (p : Pieces) : Type 0 where
   pub words : list ≡ map (ends_word 255) p.0 ++ p.1.list
@@ -65,7 +72,8 @@ record SpansGone (cells : List Cell) (list : List (List ℕ)) (ended : Bool) (p 
 pieces_same : (a b : Pieces) → fine {A = Pieces} a ≡ fine b → a ≡ b
 pieces_same a b e = cc
 
-spans_gone : (cells : List Cell) (list : List (List ℕ)) (ended : Bool) (p : Pieces) → Bytes cells → spans_of cells (words_in list ended) ≡ Ok p
+spans_gone : (cells : List Cell) (list : List (List ℕ)) (ended : Bool) (p : Pieces) → Bytes cells → spans_of cells (words_in list ended)
+    ≡ Ok p
     → SpansGone cells list ended p
 spans_gone [] list ended p b e =
     subst (λ (q : Pieces). SpansGone [] list ended q) (pieces_same ([], words_in list ended) p e)
@@ -75,14 +83,21 @@ spans_gone (c ∷ cs) list ended p b e =
   where
     passed_on : tracks Handler c.owner ≡ false → SpansGone cs list ended p → SpansGone (c ∷ cs) list ended p
     passed_on t g =
-        record { words = g.words; end = g.end; ranges = g.ranges; inside = ap (λ u. spans_fit (cond u (c ∷ own cs) (own cs)) p.0) t ∙ g.inside }
+        record {
+          words = g.words;
+          end = g.end;
+          ranges = g.ranges;
+          inside = ap (λ u. spans_fit (cond u (c ∷ own cs) (own cs)) p.0) t
+              ∙ g.inside;
+        }
 
     by_list : tracks Handler c.owner ≡ true → (l : List (List ℕ))
         → next_as (span_of c.range) (words_in l ended) >>= (λ x. with_span x (spans_of cs (rest_of (words_in l ended)))) ≡ Ok p
         → ((l : List (List ℕ)) (q : Pieces) → spans_of cs (words_in l ended) ≡ Ok q → SpansGone cs l ended q)
         → SpansGone (c ∷ cs) l ended p
     by_list t [] e later =
-        let m = bind_ok (next_as (span_of c.range) (words_in [] ended)) (λ x. with_span x (spans_of cs (rest_of (words_in [] ended)))) p e in
+        let m = bind_ok (next_as (span_of c.range) (words_in [] ended)) (λ x. with_span x (spans_of cs (rest_of (words_in [] ended)))) p
+        e in
         absurd (no_word ended m.0 m.1)
       where
         no_word : (ended : Bool) (x : Ends) → next_as (span_of c.range) (words_in [] ended) ≡ Ok x → ⊥
@@ -103,7 +118,8 @@ spans_gone (c ∷ cs) list ended p b e =
         })
 
     by_own : (t : Bool) → tracks Handler c.owner ≡ t
-        → cond t (next_as (span_of c.range) (words_in list ended) >>= (λ x. with_span x (spans_of cs (rest_of (words_in list ended))))) (spans_of cs (words_in list ended)) ≡ Ok p
+        → cond t (next_as (span_of c.range) (words_in list ended) >>= (λ x. with_span x (spans_of cs (rest_of (words_in list ended)))))
+        (spans_of cs (words_in list ended)) ≡ Ok p
         → ((l : List (List ℕ)) (q : Pieces) → spans_of cs (words_in l ended) ≡ Ok q → SpansGone cs l ended q)
         → SpansGone (c ∷ cs) list ended p
     by_own true t e later = by_list t list e later
@@ -111,10 +127,17 @@ spans_gone (c ∷ cs) list ended p b e =
 
 pub bytes_of : (h : Head) (cells : List Cell) → All (CellFits h) cells → All (λ c. c.range.hi ≤ 255) cells
 bytes_of h [] a = All-nil (λ c. c.range.hi ≤ 255)
-bytes_of h (c ∷ cs) a = All-cons (λ c. c.range.hi ≤ 255) c cs (All-head (CellFits h) c cs a).range.high (bytes_of h cs (All-tail (CellFits h) c cs a))
+bytes_of h (c ∷ cs) a = All-cons (λ c. c.range.hi ≤ 255) c cs (All-head (CellFits h) c cs a).range.high
+    (bytes_of h cs (All-tail (CellFits h) c cs a))
 
 pub one_so : (count n : ℕ) → count ≤ 2 ^ 31 → n < count → IsAsked (one_of count) n
-one_so count n h b = record { low = omega arith; below = b; outside = inr (omega arith); least = omega arith; other = apart n (omega arith) }
+one_so count n h b = record {
+  low = omega arith;
+  below = b;
+  outside = inr (omega arith);
+  least = omega arith;
+  other = apart n (omega arith);
+}
   where
     apart : (n : ℕ) → n < 2 ^ 31 → n ≡ 4294967295 → ⊥
     apart n h e = omega arith
@@ -135,10 +158,15 @@ rest_again h lines points least r a f l =
     let f2 = form_rest f1 r.line in
     let f3 = form_rest f2 r.clock in
     advance f0 (codes "rest") w1 0 says (fixed_word (codes "rest"))
-    (advance f1 (decimal r.line) w2 r.line says (number_so (rising least (within 0 lines)) r.line (omega arith) (rising_so least lines r.line (omega arith) l f.line))
-    (advance f2 (decimal r.clock) w3 r.clock says (number_so (within 0 1820) r.clock (lit≤ tt) (within_so 0 1820 r.clock (lit≤ tt) (omega arith) f.clock))
-    (advance f3 (decimal r.vector) w4 r.vector says (number_so (one_of points) r.vector (omega arith) (one_so points r.vector (omega arith) f.vector))
-    (ap (λ (m : Result Pieces CertWhy). m >>= (λ p. reads (finish (said.Rest (record { line = r.line; clock = r.clock; vector = r.vector; cells = record { items = p.0 } }))) p.1))
+    (advance f1 (decimal r.line) w2 r.line says (number_so (rising least (within 0 lines)) r.line (omega arith)
+    (rising_so least lines r.line (omega arith) l f.line))
+    (advance f2 (decimal r.clock) w3 r.clock says
+    (number_so (within 0 1820) r.clock (lit≤ tt) (within_so 0 1820 r.clock (lit≤ tt) (omega arith) f.clock))
+    (advance f3 (decimal r.vector) w4 r.vector says (number_so (one_of points) r.vector (omega arith)
+    (one_so points r.vector (omega arith) f.vector))
+    (ap (λ (m : Result Pieces CertWhy). m >>=
+    (λ p. reads (finish (said.Rest (record { line = r.line; clock = r.clock; vector = r.vector; cells = record { items = p.0 } })))
+    p.1))
     (spans_read cells r.cells.items (bytes_of h cells a.each) f.cells.ranges f.cells.within)))))
 
 pub rest_only : (h : Head) (lines points least : ℕ) (words : Words) (says : Said) → PlacesAre h lines points

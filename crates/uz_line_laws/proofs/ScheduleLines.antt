@@ -1,5 +1,6 @@
 -- The lines of kinds, events, the fall and runs, and the last line.
-use Rattle.std.proofs.Common.{◌≡◌, inr, ◌≢◌, ℕ, zero, suc, ◌+◌, ◌<◌, ◌≤◌, ◌^◌, Bool, true, List, [], ◌∷◌, decimal, codes, lit≤, refl, sym, ◌∙◌, arith}
+use Rattle.std.proofs.Common.{◌≡◌, inr, ◌≢◌, ℕ, zero, suc, ◌+◌, ◌<◌, ◌≤◌, ◌^◌, Bool, true, List, [], ◌∷◌, decimal, codes, lit≤, refl, sym}
+use Rattle.std.proofs.Common.{◌∙◌, arith}
 use Rattle.std.specs.Prelude.{Some, Ok, slice_get}
 use Rattle.uz_schedule.specs.Limits.{clock_limit, most_events, KindFits, EventFits}
 use Rattle.uz_schedule.specs.declared.lines.Event.{Event}
@@ -14,14 +15,17 @@ use Rattle.uz_lines.specs.declared.lines.Said.TheVariants as said
 use Rattle.uz_spelling.specs.Spelling.{event_words, event_kind_words, run_words}
 use Rattle.uz_line_laws.specs.Said.{line, RunFits}
 use Rattle.uz_line_laws.proofs.Numbers.{IsAsked, number_so, number_only}
-use Rattle.uz_line_laws.proofs.Steps.{words_in, line_same, form_rest, advance, fixed_word, retreat, fixed_is, choice_is, finish_only, with_front, is_within}
+use Rattle.uz_line_laws.proofs.Steps.{words_in, line_same, form_rest, advance, fixed_word, retreat, fixed_is, choice_is, finish_only}
+use Rattle.uz_line_laws.proofs.Steps.{with_front, is_within}
 
 -- kind
 
-pub kind_again : (events : ℕ) → 1 ≤ events → events ≤ most_events → reads kind_form (line (codes "kind" ∷ decimal events ∷ [])) ≡ Ok (said.Kind events)
+pub kind_again : (events : ℕ) → 1 ≤ events → events ≤ most_events → reads kind_form (line (codes "kind" ∷ decimal events ∷ [])) ≡ Ok
+    (said.Kind events)
 kind_again n a b =
     advance kind_form (codes "kind") (decimal n ∷ []) 0 (Ok (said.Kind n)) (fixed_word (codes "kind"))
-    (advance (form_rest kind_form 0) (decimal n) [] n (Ok (said.Kind n)) (number_so (within 1 1821) n (lit≤ tt) (is_within 1 1821 n (lit≤ tt) a (omega arith))) refl)
+    (advance (form_rest kind_form 0) (decimal n) [] n (Ok (said.Kind n))
+    (number_so (within 1 1821) n (lit≤ tt) (is_within 1 1821 n (lit≤ tt) a (omega arith))) refl)
 
 pub kind_only : (words : Words) (says : Said) → reads kind_form words ≡ Ok says
     → (events : ℕ) × (says ≡ said.Kind events) × (words ≡ line (codes "kind" ∷ decimal events ∷ [])) × (1 ≤ events) × (events ≤ most_events)
@@ -75,25 +79,38 @@ event_kind_again : (clock : ℕ) (kind : EventKind) → KindFits kind
 event_kind_again clock (Sync level) h =
     let r = Ok (said.Event (record { clock = clock; kind = Sync level })) in
     advance (kind_choice clock) (codes "sync") (decimal level ∷ []) 0 r sync_choice
-    (advance (event_after clock 0) (decimal level) [] level r (number_so (within 0 2) level (lit≤ tt) (is_within 0 2 level (lit≤ tt) (omega arith) (omega arith))) refl)
-event_kind_again clock Pixel h = advance (kind_choice clock) (codes "pixel") [] 1 (Ok (said.Event (record { clock = clock; kind = Pixel }))) pixel_choice refl
-event_kind_again clock Sound h = advance (kind_choice clock) (codes "sound") [] 2 (Ok (said.Event (record { clock = clock; kind = Sound }))) sound_choice refl
-event_kind_again clock Leave h = advance (kind_choice clock) (codes "leave") [] 3 (Ok (said.Event (record { clock = clock; kind = Leave }))) leave_choice refl
+    (advance (event_after clock 0) (decimal level) [] level r
+    (number_so (within 0 2) level (lit≤ tt) (is_within 0 2 level (lit≤ tt) (omega arith) (omega arith))) refl)
+event_kind_again clock Pixel h = advance (kind_choice clock) (codes "pixel") [] 1 (Ok (said.Event (record { clock = clock; kind = Pixel })))
+    pixel_choice refl
+event_kind_again clock Sound h = advance (kind_choice clock) (codes "sound") [] 2 (Ok (said.Event (record { clock = clock; kind = Sound })))
+    sound_choice refl
+event_kind_again clock Leave h = advance (kind_choice clock) (codes "leave") [] 3 (Ok (said.Event (record { clock = clock; kind = Leave })))
+    leave_choice refl
 
-pub event_again : (least : ℕ) (e : Event) → EventFits e → least ≤ e.clock → reads (event_form least) (line (event_words e)) ≡ Ok (said.Event e)
+pub event_again : (least : ℕ) (e : Event) → EventFits e → least ≤ e.clock → reads (event_form least) (line (event_words e)) ≡ Ok
+    (said.Event e)
 event_again least e f l =
     advance (event_form least) (decimal e.clock) (event_kind_words e.kind) e.clock (Ok (said.Event e))
-    (number_so (rising least (within 0 1820)) e.clock (lit≤ tt) (rising_so least 1820 e.clock (lit≤ tt) l f.clock)) (event_kind_again e.clock e.kind f.kind)
+    (number_so (rising least (within 0 1820)) e.clock (lit≤ tt) (rising_so least 1820 e.clock (lit≤ tt) l f.clock))
+    (event_kind_again e.clock e.kind f.kind)
 
 event_kind_only : (clock n : ℕ) (w : List ℕ) (ws : List (List ℕ)) (ended : Bool) (says : Said)
     → slice_get event_choices n ≡ Some w → reads (event_after clock n) (words_in ws ended) ≡ Ok says
-    → (kind : EventKind) × (says ≡ said.Event (record { clock = clock; kind = kind })) × (w ∷ ws ≡ event_kind_words kind) × (ended ≡ true) × KindFits kind
+    → (kind : EventKind) × (says ≡ said.Event (record { clock = clock; kind = kind })) × (w ∷ ws ≡ event_kind_words kind) × (ended ≡ true)
+    × KindFits kind
 event_kind_only clock zero w ws ended says g e =
     let same : codes "sync" ≡ w = cc in
     let v = retreat (event_after clock 0) ws ended says tt e in
     let vn = number_only (within 0 2) v.word v.number (lit≤ tt) v.is in
-    let z = finish_only (said.Event (record { clock = clock; kind = Sync v.number })) v.left ended says v.rest in
-    (Sync v.number, z.2, with_front (w ∷ ws) ws _ w (codes "sync") refl (sym same) (with_front ws v.left _ v.word (decimal v.number) v.parts vn.0 z.0), z.1, omega (arith, vn.1.below))
+    let z = finish_only (said.Event (record { clock = clock; kind = Sync v.number })) v.left ended says v.rest in (
+      Sync v.number,
+      z.2,
+      with_front (w ∷ ws) ws _ w (codes "sync") refl (sym same) (with_front ws v.left _ v.word (decimal v.number) v.parts
+          vn.0 z.0),
+      z.1,
+      omega (arith, vn.1.below),
+    )
 event_kind_only clock (suc zero) w ws ended says g e =
     let same : codes "pixel" ≡ w = cc in
     let z = finish_only (said.Event (record { clock = clock; kind = Pixel })) ws ended says e in
@@ -125,10 +142,12 @@ event_only least words says e =
 
 -- fall
 
-pub fall_again : (clock : ℕ) → 1 ≤ clock → clock < clock_limit → reads fall_form (line (codes "fall" ∷ decimal clock ∷ [])) ≡ Ok (said.Fall clock)
+pub fall_again : (clock : ℕ) → 1 ≤ clock → clock < clock_limit → reads fall_form (line (codes "fall" ∷ decimal clock ∷ [])) ≡ Ok
+    (said.Fall clock)
 fall_again n a b =
     advance fall_form (codes "fall") (decimal n ∷ []) 0 (Ok (said.Fall n)) (fixed_word (codes "fall"))
-    (advance (form_rest fall_form 0) (decimal n) [] n (Ok (said.Fall n)) (number_so (within 1 1820) n (lit≤ tt) (is_within 1 1820 n (lit≤ tt) a b)) refl)
+    (advance (form_rest fall_form 0) (decimal n) [] n (Ok (said.Fall n))
+    (number_so (within 1 1820) n (lit≤ tt) (is_within 1 1820 n (lit≤ tt) a b)) refl)
 
 pub fall_only : (words : Words) (says : Said) → reads fall_form words ≡ Ok says
     → (clock : ℕ) × (says ≡ said.Fall clock) × (words ≡ line (codes "fall" ∷ decimal clock ∷ [])) × (1 ≤ clock) × (clock < clock_limit)
@@ -158,10 +177,13 @@ run_again kinds left before count kind k l f =
     let f1 = form_rest (run_form kinds left before) 0 in
     let f2 = form_rest f1 count in
     advance (run_form kinds left before) (codes "run") (decimal count ∷ decimal kind ∷ []) 0 r (fixed_word (codes "run"))
-    (advance f1 (decimal count) (decimal kind ∷ []) count r (number_so (within 1 (left + 1)) count (omega arith) (is_within 1 (left + 1) count (omega arith) f.some (omega (arith, f.few))))
-    (advance f2 (decimal kind) [] kind r (number_so (record (one_of kinds) { other = before }) kind (omega arith) (other_so kinds before kind f.there f.other)) refl))
+    (advance f1 (decimal count) (decimal kind ∷ []) count r (number_so (within 1 (left + 1)) count (omega arith)
+    (is_within 1 (left + 1) count (omega arith) f.some (omega (arith, f.few))))
+    (advance f2 (decimal kind) [] kind r (number_so (record (one_of kinds) { other = before }) kind (omega arith)
+    (other_so kinds before kind f.there f.other)) refl))
 
-pub run_only : (kinds left before : ℕ) (words : Words) (says : Said) → kinds ≤ 2 ^ 31 → left < 2 ^ 31 → reads (run_form kinds left before) words ≡ Ok says
+pub run_only : (kinds left before : ℕ) (words : Words) (says : Said) → kinds ≤ 2 ^ 31 → left < 2 ^ 31 → reads (run_form kinds left before)
+    words ≡ Ok says
     → (r : Run) × (says ≡ said.Run r) × (words ≡ line (run_words (r.count, r.kind))) × RunFits kinds left before r.count r.kind
 run_only kinds left before words says k l e =
     let a = retreat (run_form kinds left before) words.list words.ended says tt e in
@@ -190,5 +212,8 @@ end_again = advance end_form (codes "end") [] 0 (Ok said.End) (fixed_word (codes
 pub end_only : (words : Words) (says : Said) → reads end_form words ≡ Ok says → (says ≡ said.End) × (words ≡ line (codes "end" ∷ []))
 end_only words says e =
     let a = retreat end_form words.list words.ended says tt e in
-    let z = finish_only said.End a.left words.ended says a.rest in
-    (z.2, line_same words.list (codes "end" ∷ []) words.ended (with_front words.list a.left [] a.word (codes "end") a.parts (fixed_is (codes "end") a.word a.number a.is) z.0) z.1)
+    let z = finish_only said.End a.left words.ended says a.rest in (
+      z.2,
+      line_same words.list (codes "end" ∷ []) words.ended (with_front words.list a.left [] a.word (codes "end") a.parts
+          (fixed_is (codes "end") a.word a.number a.is) z.0) z.1,
+    )

@@ -1,5 +1,6 @@
 -- The items that facts are spelled as: registers, pairs, flags and cells as lists of optional items.
-use Rattle.std.proofs.Common.{◌≡◌, ℕ, zero, suc, ◌+◌, ◌<◌, ◌≤◌, Bool, true, false, cond, ◌&&◌, eqb, List, [], ◌∷◌, map, length, decimal, lit≤, refl, sym, ◌∙◌, ap, subst, add-one, arith}
+use Rattle.std.proofs.Common.{◌≡◌, ℕ, zero, suc, ◌+◌, ◌<◌, ◌≤◌, Bool, true, false, cond, ◌&&◌, eqb, List, [], ◌∷◌, map, length, decimal}
+use Rattle.std.proofs.Common.{lit≤, refl, sym, ◌∙◌, ap, subst, add-one, arith}
 use Rattle.std.specs.Prelude.{Option, Some, slice_get}
 use Rattle.uz_schedule.specs.Ends.{Ends}
 use Rattle.uz_schedule.specs.Tracked.{tracks}
@@ -10,7 +11,8 @@ use Rattle.uz_schedule.specs.declared.header.Cell.{Cell}
 use Rattle.uz_schedule.specs.declared.facts.Fact.{Fact}
 use Rattle.uz_schedule.specs.declared.facts.Fact.TheVariants.{Any, Between, Line, Loop, Old, OldFlags}
 use Rattle.uz_schedule.specs.declared.facts.PairFact.{PairFact}
-use Rattle.uz_schedule.specs.declared.facts.PairFact.TheVariants.{Any as AnyPair, Between as BetweenPair, Line as LinePair, Loop as LoopPair}
+use Rattle.uz_schedule.specs.declared.facts.PairFact.TheVariants.{Any as AnyPair, Between as BetweenPair, Line as LinePair}
+use Rattle.uz_schedule.specs.declared.facts.PairFact.TheVariants.{Loop as LoopPair}
 use Rattle.uz_schedule.specs.declared.facts.Bit.{Bit}
 use Rattle.uz_schedule.specs.declared.facts.Bit.TheVariants.{Zero, One, Free, Old as OldBit}
 use Rattle.uz_lines.specs.Defaults.{is_default, is_any_pair, is_range, range_fact}
@@ -80,14 +82,16 @@ pub registers_are : (kind : Kind) (r n : ℕ) (fs : List Fact) → length fs ≡
 registers_are kind r zero [] e = refl
 registers_are kind r zero (f ∷ fs) e = absurd (omega arith)
 registers_are kind r (suc n) [] e = absurd (omega arith)
-registers_are kind r (suc n) (f ∷ fs) e = ap (unless (is_default kind r f) (register_word r f)) (registers_are kind (suc r) n fs (omega (arith, e)))
+registers_are kind r (suc n) (f ∷ fs) e = ap (unless (is_default kind r f) (register_word r f))
+    (registers_are kind (suc r) n fs (omega (arith, e)))
 
 pub pairs_are : (letters : List ℕ) (fs : List PairFact) → pair_items letters fs ≡ options any_pair pair_item letters fs
 pairs_are [] fs = refl
 pairs_are (l ∷ ls) [] = refl
 pairs_are (l ∷ ls) (f ∷ fs) = ap (unless (is_any_pair f) (pair_item l f)) (pairs_are ls fs)
 
-pub flags_are : (kind : Kind) (letters : List ℕ) (bs : List Bit) → flag_items kind letters bs ≡ options (usual_flag kind) flag_item letters bs
+pub flags_are : (kind : Kind) (letters : List ℕ) (bs : List Bit) → flag_items kind letters bs ≡ options (usual_flag kind) flag_item letters
+    bs
 flags_are kind [] bs = refl
 flags_are kind (l ∷ ls) [] = refl
 flags_are kind (l ∷ ls) (b ∷ bs) = ap (unless (is_default_flag kind b) (flag_item l b)) (flags_are kind ls bs)
@@ -200,7 +204,8 @@ ends_are_same a b e f = ends_eta (λ (lo : ℕ) (hi : ℕ). record { lo = lo; hi
     ends_eta : (make : ℕ → ℕ → Ends) → a.lo ≡ b.lo → a.hi ≡ b.hi → make a.lo a.hi ≡ make b.lo b.hi
     ends_eta make e f = ap (λ n. make n a.hi) e ∙ ap (λ n. make b.lo n) f
 
-pub range_only_usual : (shape : Shape) (c : Cell) (f : Fact) → FactIn (cell_form shape c) f → is_range c.range f ≡ true → f ≡ range_fact c.range
+pub range_only_usual : (shape : Shape) (c : Cell) (f : Fact) → FactIn (cell_form shape c) f → is_range c.range f ≡ true → f ≡ range_fact
+    c.range
 range_only_usual shape c Any i e = sym (so (eqb c.range.lo 0 && eqb c.range.hi 255) Any (Between c.range) e)
 range_only_usual shape c (Between x) i e =
     let two = and_true (eqb x.lo c.range.lo) (eqb x.hi c.range.hi) e in
@@ -240,7 +245,8 @@ pub cell_number : (kind : Kind) (cs : List Cell) (i a : ℕ) (c : Cell) → slic
 cell_number kind [] i a c e t = absurd cc
 cell_number kind (x ∷ xs) zero a c e t =
     let same : x ≡ c = cc in
-    ap (λ b. slice_get (cond b ((a, x) ∷ numbered_cells kind (suc a) xs) (numbered_cells kind (suc a) xs)) 0) (ap (λ (y : Cell). tracks kind y.owner) same ∙ t)
+    ap (λ b. slice_get (cond b ((a, x) ∷ numbered_cells kind (suc a) xs) (numbered_cells kind (suc a) xs)) 0)
+    (ap (λ (y : Cell). tracks kind y.owner) same ∙ t)
     ∙ numbered_same a (a + 0) x c (omega arith) same
 cell_number kind (x ∷ xs) (suc i) a c e t = by_own (tracks kind x.owner) (cell_number kind xs i (suc a) c e t)
   where
@@ -280,6 +286,7 @@ cells_before_rise kind (x ∷ xs) (suc i) zero h = absurd (omega arith)
 cells_before_rise kind (x ∷ xs) (suc i) (suc j) h = by_own (tracks kind x.owner) (cells_before_rise kind xs i j (omega arith))
   where
     by_own : (b : Bool) → tracked_before kind i xs ≤ tracked_before kind j xs
-        → cond b (tracked_before kind i xs + 1) (tracked_before kind i xs) ≤ cond b (tracked_before kind j xs + 1) (tracked_before kind j xs)
+        → cond b (tracked_before kind i xs + 1) (tracked_before kind i xs) ≤ cond b (tracked_before kind j xs + 1)
+        (tracked_before kind j xs)
     by_own true h = omega arith
     by_own false h = h

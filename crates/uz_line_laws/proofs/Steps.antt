@@ -1,5 +1,6 @@
 -- A line is read word by word: each step again, and each step back.
-use Rattle.std.proofs.Common.{◌≡◌, inr, ℕ, suc, ◌+◌, ◌<◌, ◌≤◌, ◌^◌, ℤ, pos, Bool, true, false, cond, List, [], ◌∷◌, bytes_eq, ltb, refl, sym, ◌∙◌, ap, arith}
+use Rattle.std.proofs.Common.{◌≡◌, inr, ℕ, suc, ◌+◌, ◌<◌, ◌≤◌, ◌^◌, ℤ, pos, Bool, true, false, cond, List, [], ◌∷◌, bytes_eq, ltb, refl}
+use Rattle.std.proofs.Common.{sym, ◌∙◌, ap, arith}
 use Rattle.std.specs.Prelude.{⊤, Some, Result, Ok, Err, slice_get}
 use Rattle.uz_schedule.specs.WellFormed.{magnitude}
 use Rattle.uz_lines.specs.Grammar.{Words, rest_of, next_as, fixed_of, number_of, choice_from, choice_of, slope_of, end_of}
@@ -65,13 +66,15 @@ pub fixed_word : (wanted : List ℕ) → fixed_of wanted wanted ≡ Ok 0
 unfolding fixed_of
 fixed_word wanted = so (bytes_eq wanted wanted) (Ok 0) (Err why.Word) (same_word wanted)
 
-pub slope_again : (limit : ℕ) (form : ℤ → Form) (z : ℤ) (ws : List (List ℕ)) (r : Result Said CertWhy) → limit ≤ 2 ^ 32 → magnitude z < limit
+pub slope_again : (limit : ℕ) (form : ℤ → Form) (z : ℤ) (ws : List (List ℕ)) (r : Result Said CertWhy) → limit ≤ 2 ^ 32
+    → magnitude z < limit
     → reads (form z) (line ws) ≡ r → reads (slope limit form) (line (signed_word z ∷ ws)) ≡ r
 slope_again limit form z ws r l m e = then (slope_of limit (signed_word z)) (λ n. reads (form n) (line ws)) z r (slope_so limit z l m) e
 
 -- only
 
-next_only : {A : Type 0} (judge : List ℕ → Result A CertWhy) (list : List (List ℕ)) (ended : Bool) (a : A) → next_as judge (words_in list ended) ≡ Ok a
+next_only : {A : Type 0} (judge : List ℕ → Result A CertWhy) (list : List (List ℕ)) (ended : Bool) (a : A) → next_as judge
+    (words_in list ended) ≡ Ok a
     → (w : List ℕ) × (ws : List (List ℕ)) × (list ≡ w ∷ ws) × (judge w ≡ Ok a)
 next_only judge [] true a e = absurd (fault_not why.Word a e)
 next_only judge [] false a e = absurd (fault_not why.NoEnd a e)
@@ -89,19 +92,42 @@ pub record Went (form : Form) (list : List (List ℕ)) (ended : Bool) (said : Sa
   pub is : Step form word number
   pub rest : reads (form_rest form number) (words_in left ended) ≡ Ok said
 
-pub retreat : (form : Form) (list : List (List ℕ)) (ended : Bool) (said : Said) → IsStep form → reads form (words_in list ended) ≡ Ok said → Went form list ended said
+pub retreat : (form : Form) (list : List (List ℕ)) (ended : Bool) (said : Said) → IsStep form → reads form (words_in list ended) ≡ Ok said
+    → Went form list ended said
 retreat (fixed wanted form) list ended said i e =
     let m = bind_ok (next_as (fixed_of wanted) (words_in list ended)) (λ n. reads form (rest_of (words_in list ended))) said e in
     let n = next_only (fixed_of wanted) list ended m.0 m.1 in
-    record { number = m.0; word = n.0; left = n.1; parts = n.2; is = n.3; rest = ap (reads form) (sym (rest_is list n.1 n.0 ended n.2)) ∙ m.2 }
+    record {
+      number = m.0;
+      word = n.0;
+      left = n.1;
+      parts = n.2;
+      is = n.3;
+      rest = ap (reads form) (sym (rest_is list n.1 n.0 ended n.2))
+          ∙ m.2;
+    }
 retreat (number a form) list ended said i e =
     let m = bind_ok (next_as (number_of a) (words_in list ended)) (λ n. reads (form n) (rest_of (words_in list ended))) said e in
     let n = next_only (number_of a) list ended m.0 m.1 in
-    record { number = m.0; word = n.0; left = n.1; parts = n.2; is = n.3; rest = ap (reads (form m.0)) (sym (rest_is list n.1 n.0 ended n.2)) ∙ m.2 }
+    record {
+      number = m.0;
+      word = n.0;
+      left = n.1;
+      parts = n.2;
+      is = n.3;
+      rest = ap (reads (form m.0)) (sym (rest_is list n.1 n.0 ended n.2)) ∙ m.2;
+    }
 retreat (choice wanted form) list ended said i e =
     let m = bind_ok (next_as (choice_of wanted) (words_in list ended)) (λ n. reads (form n) (rest_of (words_in list ended))) said e in
     let n = next_only (choice_of wanted) list ended m.0 m.1 in
-    record { number = m.0; word = n.0; left = n.1; parts = n.2; is = n.3; rest = ap (reads (form m.0)) (sym (rest_is list n.1 n.0 ended n.2)) ∙ m.2 }
+    record {
+      number = m.0;
+      word = n.0;
+      left = n.1;
+      parts = n.2;
+      is = n.3;
+      rest = ap (reads (form m.0)) (sym (rest_is list n.1 n.0 ended n.2)) ∙ m.2;
+    }
 retreat (slope limit form) list ended said i e = absurd i
 retreat (spans cells form) list ended said i e = absurd i
 retreat (items shape cells say) list ended said i e = absurd i
@@ -111,7 +137,8 @@ pub fixed_is : (wanted w : List ℕ) (n : ℕ) → fixed_of wanted w ≡ Ok n �
 unfolding fixed_of
 fixed_is wanted w n e = word_is w wanted (passed (bytes_eq w wanted) (Ok 0) why.Word n e).0
 
-choice_there : (wanted : List (List ℕ)) (w : List ℕ) (place n : ℕ) → choice_from place wanted w ≡ Ok n → (k : ℕ) × (n ≡ place + k) × (slice_get wanted k ≡ Some w)
+choice_there : (wanted : List (List ℕ)) (w : List ℕ) (place n : ℕ) → choice_from place wanted w ≡ Ok n → (k : ℕ) × (n ≡ place + k)
+    × (slice_get wanted k ≡ Some w)
 choice_there [] w place n e = absurd (fault_not why.Word n e)
 choice_there (x ∷ xs) w place n e = by_word (bytes_eq w x) refl e (λ f. choice_there xs w (place + 1) n f)
   where

@@ -1,5 +1,6 @@
 -- What it takes that an item is taken: its word is spelled as one of the six forms, and it sets one thing.
-use Rattle.std.proofs.Common.{◌≡◌, ℕ, zero, suc, ◌+◌, ◌<◌, ◌≤◌, ◌≢◌, ◌^◌, Bool, true, false, cond, not, ◌&&◌, ◌||◌, eqb, leb, ltb, List, [], ◌∷◌, ◌++◌, length, decimal, codes, lit<, lit≤, refl, sym, ◌∙◌, ap, subst, arith}
+use Rattle.std.proofs.Common.{◌≡◌, ℕ, zero, suc, ◌+◌, ◌<◌, ◌≤◌, ◌≢◌, ◌^◌, Bool, true, false, cond, not, ◌&&◌, ◌||◌, eqb, leb, ltb, List, []}
+use Rattle.std.proofs.Common.{◌∷◌, ◌++◌, length, decimal, codes, lit<, lit≤, refl, sym, ◌∙◌, ap, subst, arith}
 use Rattle.std.specs.Prelude.{Option, Some, None, Result, Ok, Err, All, slice_get, slice_set, slice_index}
 use Rattle.std.proofs.lemmas.List.Elements.{All-head, All-tail}
 use Rattle.uz_text.specs.Cutting.{cut_at}
@@ -15,9 +16,12 @@ use Rattle.uz_schedule.specs.declared.facts.Bit.{Bit}
 use Rattle.uz_lines.specs.Why.{◌>>=◌}
 use Rattle.uz_lines.specs.Values.{digits, raw_of, fact_of, pair_of, bit_of}
 use Rattle.uz_lines.specs.Defaults.{is_default, is_any_pair, is_range}
-use Rattle.uz_lines.specs.Items.{in_order, is_handler, bytes_forms, register_set, register_key, take_register, pair_forms, pair_set, take_pair}
-use Rattle.uz_lines.specs.Items.{flag_set, take_flag, slot_set, slot_room, take_slot, tracked_before, with_number, cell_at, cell_forms, numbered}
-use Rattle.uz_lines.specs.Items.{cell_set, cell_value, take_cell, successor_set, take_successor, is_flag_z, take_letter, take_keyed, take_cut}
+use Rattle.uz_lines.specs.Items.{in_order, is_handler, bytes_forms, register_set, register_key, take_register, pair_forms, pair_set}
+use Rattle.uz_lines.specs.Items.{take_pair}
+use Rattle.uz_lines.specs.Items.{flag_set, take_flag, slot_set, slot_room, take_slot, tracked_before, with_number, cell_at, cell_forms}
+use Rattle.uz_lines.specs.Items.{numbered}
+use Rattle.uz_lines.specs.Items.{cell_set, cell_value, take_cell, successor_set, take_successor, is_flag_z, take_letter, take_keyed}
+use Rattle.uz_lines.specs.Items.{take_cut}
 use Rattle.uz_lines.specs.Items.{take_named, take_second, take_item}
 use Rattle.uz_lines.specs.declared.values.Forms.{Forms}
 use Rattle.uz_lines.specs.declared.values.Raw.{Raw}
@@ -26,7 +30,8 @@ use Rattle.uz_lines.specs.declared.items.Facts.{Facts}
 use Rattle.uz_lines.specs.declared.why.CertWhy.{CertWhy}
 use Rattle.uz_lines.specs.declared.why.CertWhy.TheVariants as why
 use Rattle.uz_spelling.specs.Spelling.{item, fact_word, pair_word, flag_word}
-use Rattle.uz_line_laws.proofs.Tests.{and_true, both_true, or_false, not_true, fine_is, fault_not, passed, failed, so, bind_ok, then, le_is, is_le, lt_is, number_is}
+use Rattle.uz_line_laws.proofs.Tests.{and_true, both_true, or_false, not_true, fine_is, fault_not, passed, failed, so, bind_ok, then, le_is}
+use Rattle.uz_line_laws.proofs.Tests.{is_le, lt_is, number_is}
 use Rattle.uz_line_laws.proofs.Facts.{FactIn, fact_only, PairIn, pair_only, BitIn, bit_only}
 
 -- what items set
@@ -114,7 +119,8 @@ pub data Taken (shape : Shape) (cells : List Cell) (facts : Facts) (w : List ℕ
   pair : (k : ℕ) (f : PairFact) → TakesPair shape facts w later k f → more ≡ with_pair facts k f → Taken shape cells facts w later more
   flag : (b : ℕ) (bit : Bit) → TakesFlag shape facts w later b bit → more ≡ with_flag facts b bit → Taken shape cells facts w later more
   slot : (f : Fact) → TakesSlot shape facts w f → more ≡ with_slot facts f → Taken shape cells facts w later more
-  cell : (i : ℕ) (c : Cell) (f : Fact) → TakesCell shape cells facts w i c f → more ≡ with_cell shape cells facts i f → Taken shape cells facts w later more
+  cell : (i : ℕ) (c : Cell) (f : Fact) → TakesCell shape cells facts w i c f → more ≡ with_cell shape cells facts i f → Taken shape cells
+      facts w later more
   successor : (id : ℕ) → TakesSuccessor shape facts w id → more ≡ with_successor facts id → Taken shape cells facts w later more
 
 -- what is taken is one of these
@@ -127,10 +133,12 @@ order_is facts more place t set e =
     let two = and_true (leb facts.least place) (not t) p.0 in
     (le_is facts.least place two.0, not_true t two.1, sym (fine_is set more m.2))
 
-pub order_so : (facts : Facts) (place : ℕ) (t : Bool) (set : Facts) → facts.least ≤ place → t ≡ false → in_order facts place t >>= (λ p. Ok set) ≡ Ok set
+pub order_so : (facts : Facts) (place : ℕ) (t : Bool) (set : Facts) → facts.least ≤ place → t ≡ false → in_order facts place t >>=
+    (λ p. Ok set) ≡ Ok set
 order_so facts place t set l e =
     then (in_order facts place t) (λ p. Ok set) place (Ok set)
-    (so (leb facts.least place && not t) (Ok place) (Err why.Order) (both_true (leb facts.least place) (not t) (is_le facts.least place l) (ap not e))) refl
+    (so (leb facts.least place && not t) (Ok place) (Err why.Order) (both_true (leb facts.least place) (not t) (is_le facts.least place l)
+    (ap not e))) refl
 
 bytes_limit : (shape : Shape) → (bytes_forms shape).limit ≤ 256
 bytes_limit shape = lit≤ tt
@@ -200,7 +208,8 @@ slot_taken : (shape : Shape) (cells : List Cell) (facts : Facts) (w value : List
     → w ≡ 115 ∷ 58 ∷ value → take_slot shape facts value ≡ Ok more → Taken shape cells facts w later more
 unfolding take_slot
 slot_taken shape cells facts w value later more e h =
-    let m = bind_ok (raw_of (bytes_forms shape) value) (λ raw. slot_room shape facts >>= (λ room. fact_of raw >>= (λ fact. slot_set facts fact))) more h in
+    let m = bind_ok (raw_of (bytes_forms shape) value)
+    (λ raw. slot_room shape facts >>= (λ room. fact_of raw >>= (λ fact. slot_set facts fact))) more h in
     let r = bind_ok (slot_room shape facts) (λ room. fact_of m.0 >>= (λ fact. slot_set facts fact)) more m.2 in
     let n = bind_ok (fact_of m.0) (λ fact. slot_set facts fact) more r.2 in
     let room = passed (ltb (length facts.stack.items) shape.depth) (Ok 0) why.Limit r.0 r.1 in
@@ -245,7 +254,8 @@ cell_limit shape c h = by_plain shape.plain
     by_plain true = omega arith
     by_plain false = lit≤ tt
 
-cell_there : (cells : List Cell) (o : Option ℕ) (p : ℕ × Cell) → cell_at cells o ≡ Some p → (o ≡ Some p.0) × (slice_get cells p.0 ≡ Some p.1)
+cell_there : (cells : List Cell) (o : Option ℕ) (p : ℕ × Cell) → cell_at cells o ≡ Some p → (o ≡ Some p.0)
+    × (slice_get cells p.0 ≡ Some p.1)
 cell_there cells None p e = absurd cc
 cell_there cells (Some i) p e = by_cell (slice_get cells i) refl e
   where
@@ -281,11 +291,13 @@ cell_taken shape cells facts w key value later more few bytes e h =
     by_cell None at v h = absurd (fault_not why.Unknown more h)
     by_cell (Some q) at v h =
         let raw = numbered_is (is_numeral key) (raw_of (cell_forms shape (Some q)) value) m.0 v in
-        let own = passed (tracks shape.kind q.1.owner) (fact_of m.0 >>= (λ fact. cell_set shape cells facts q.0 q.1.range fact)) why.Unknown more h in
+        let own = passed (tracks shape.kind q.1.owner) (fact_of m.0 >>= (λ fact. cell_set shape cells facts q.0 q.1.range fact)) why.Unknown
+        more h in
         let n = bind_ok (fact_of m.0) (λ fact. cell_set shape cells facts q.0 q.1.range fact) more own.1 in
         let there = cell_there cells (number_below (length cells) key) q at in
         let number = number_read (length cells) q.0 key (omega arith) there.0 in
-        let fact = fact_only (cell_form shape q.1) value m.0 n.0 (cell_limit shape q.1 (cell_range cells q.0 q.1 bytes there.1)) raw.1 n.1 in
+        let fact = fact_only (cell_form shape q.1) value m.0 n.0 (cell_limit shape q.1 (cell_range cells q.0 q.1 bytes there.1)) raw.1
+        n.1 in
         let set = order_is facts more (43 + q.0) (is_range q.1.range n.0) (with_cell shape cells facts q.0 n.0) n.2 in
         cell q.0 q.1 n.0
         (record {
@@ -305,12 +317,15 @@ successor_taken shape cells facts w id later more points e h =
     by_number (number_below shape.points id) refl r.1
   where
     p : ((shape.plain || not (digits id)) ≡ false)
-        × (cond (not (is_numeral id)) (Err why.Number) (cond (ltb (length facts.next.items) 16) (successor_set facts (number_below shape.points id)) (Err why.Limit)) ≡ Ok more)
+        × (cond (not (is_numeral id)) (Err why.Number)
+        (cond (ltb (length facts.next.items) 16) (successor_set facts (number_below shape.points id)) (Err why.Limit)) ≡ Ok more)
     p = failed (shape.plain || not (digits id)) (cond (not (is_numeral id)) (Err why.Number) (cond (ltb (length facts.next.items) 16)
         (successor_set facts (number_below shape.points id)) (Err why.Limit))) why.Word more h
 
-    q : (not (is_numeral id) ≡ false) × (cond (ltb (length facts.next.items) 16) (successor_set facts (number_below shape.points id)) (Err why.Limit) ≡ Ok more)
-    q = failed (not (is_numeral id)) (cond (ltb (length facts.next.items) 16) (successor_set facts (number_below shape.points id)) (Err why.Limit)) why.Number more p.1
+    q : (not (is_numeral id) ≡ false) × (cond (ltb (length facts.next.items) 16) (successor_set facts (number_below shape.points id))
+        (Err why.Limit) ≡ Ok more)
+    q = failed (not (is_numeral id)) (cond (ltb (length facts.next.items) 16) (successor_set facts (number_below shape.points id))
+        (Err why.Limit)) why.Number more p.1
 
     r : (ltb (length facts.next.items) 16 ≡ true) × (successor_set facts (number_below shape.points id) ≡ Ok more)
     r = passed (ltb (length facts.next.items) 16) (successor_set facts (number_below shape.points id)) why.Limit more q.1
@@ -345,41 +360,54 @@ letter_taken shape cells facts w value letter later more e h = is_x (eqb letter 
     no_flag_z : (b : ℕ) → b ≢ 1 → b ≡ 1 → is_flag_z shape facts value later ≡ true
     no_flag_z b n e = absurd (n e)
 
-    is_t : (t : Bool) → eqb letter 116 ≡ t → cond t (take_flag shape facts 6 value) (Err why.Word) ≡ Ok more → Taken shape cells facts w later more
-    is_t true t h = flag_taken shape cells facts w value later 6 more (letter_word letter 116 w value (number_is letter 116 t) e) (lit< tt) (no_flag_z 6 (λ e. omega arith)) h
+    is_t : (t : Bool) → eqb letter 116 ≡ t → cond t (take_flag shape facts 6 value) (Err why.Word) ≡ Ok more → Taken shape cells facts w
+        later more
+    is_t true t h = flag_taken shape cells facts w value later 6 more (letter_word letter 116 w value (number_is letter 116 t) e) (lit< tt)
+        (no_flag_z 6 (λ e. omega arith)) h
     is_t false t h = absurd (fault_not why.Word more h)
 
-    is_h : (t : Bool) → eqb letter 104 ≡ t → cond t (take_flag shape facts 5 value) (cond (eqb letter 116) (take_flag shape facts 6 value) (Err why.Word)) ≡ Ok more
+    is_h : (t : Bool) → eqb letter 104 ≡ t → cond t (take_flag shape facts 5 value) (cond (eqb letter 116) (take_flag shape facts 6 value)
+        (Err why.Word)) ≡ Ok more
         → Taken shape cells facts w later more
-    is_h true t h = flag_taken shape cells facts w value later 5 more (letter_word letter 104 w value (number_is letter 104 t) e) (lit< tt) (no_flag_z 5 (λ e. omega arith)) h
+    is_h true t h = flag_taken shape cells facts w value later 5 more (letter_word letter 104 w value (number_is letter 104 t) e) (lit< tt)
+        (no_flag_z 5 (λ e. omega arith)) h
     is_h false t h = is_t (eqb letter 116) refl h
 
     is_s : (t : Bool) → eqb letter 115 ≡ t
-        → cond t (take_flag shape facts 4 value) (cond (eqb letter 104) (take_flag shape facts 5 value) (cond (eqb letter 116) (take_flag shape facts 6 value) (Err why.Word))) ≡ Ok more
+        → cond t (take_flag shape facts 4 value) (cond (eqb letter 104) (take_flag shape facts 5 value)
+        (cond (eqb letter 116) (take_flag shape facts 6 value) (Err why.Word))) ≡ Ok more
         → Taken shape cells facts w later more
-    is_s true t h = flag_taken shape cells facts w value later 4 more (letter_word letter 115 w value (number_is letter 115 t) e) (lit< tt) (no_flag_z 4 (λ e. omega arith)) h
+    is_s true t h = flag_taken shape cells facts w value later 4 more (letter_word letter 115 w value (number_is letter 115 t) e) (lit< tt)
+        (no_flag_z 4 (λ e. omega arith)) h
     is_s false t h = is_h (eqb letter 104) refl h
 
     is_v : (t : Bool) → eqb letter 118 ≡ t
-        → cond t (take_flag shape facts 3 value) (cond (eqb letter 115) (take_flag shape facts 4 value) (cond (eqb letter 104) (take_flag shape facts 5 value)
+        → cond t (take_flag shape facts 3 value) (cond (eqb letter 115) (take_flag shape facts 4 value)
+        (cond (eqb letter 104) (take_flag shape facts 5 value)
         (cond (eqb letter 116) (take_flag shape facts 6 value) (Err why.Word)))) ≡ Ok more
         → Taken shape cells facts w later more
-    is_v true t h = flag_taken shape cells facts w value later 3 more (letter_word letter 118 w value (number_is letter 118 t) e) (lit< tt) (no_flag_z 3 (λ e. omega arith)) h
+    is_v true t h = flag_taken shape cells facts w value later 3 more (letter_word letter 118 w value (number_is letter 118 t) e) (lit< tt)
+        (no_flag_z 3 (λ e. omega arith)) h
     is_v false t h = is_s (eqb letter 115) refl h
 
     is_n : (t : Bool) → eqb letter 110 ≡ t
-        → cond t (take_flag shape facts 2 value) (cond (eqb letter 118) (take_flag shape facts 3 value) (cond (eqb letter 115) (take_flag shape facts 4 value)
-        (cond (eqb letter 104) (take_flag shape facts 5 value) (cond (eqb letter 116) (take_flag shape facts 6 value) (Err why.Word))))) ≡ Ok more
+        → cond t (take_flag shape facts 2 value) (cond (eqb letter 118) (take_flag shape facts 3 value)
+        (cond (eqb letter 115) (take_flag shape facts 4 value)
+        (cond (eqb letter 104) (take_flag shape facts 5 value) (cond (eqb letter 116) (take_flag shape facts 6 value) (Err why.Word)))))
+        ≡ Ok more
         → Taken shape cells facts w later more
-    is_n true t h = flag_taken shape cells facts w value later 2 more (letter_word letter 110 w value (number_is letter 110 t) e) (lit< tt) (no_flag_z 2 (λ e. omega arith)) h
+    is_n true t h = flag_taken shape cells facts w value later 2 more (letter_word letter 110 w value (number_is letter 110 t) e) (lit< tt)
+        (no_flag_z 2 (λ e. omega arith)) h
     is_n false t h = is_v (eqb letter 118) refl h
 
     is_c : (t : Bool) → eqb letter 99 ≡ t
-        → cond t (take_flag shape facts 0 value) (cond (eqb letter 110) (take_flag shape facts 2 value) (cond (eqb letter 118) (take_flag shape facts 3 value)
+        → cond t (take_flag shape facts 0 value) (cond (eqb letter 110) (take_flag shape facts 2 value)
+        (cond (eqb letter 118) (take_flag shape facts 3 value)
         (cond (eqb letter 115) (take_flag shape facts 4 value) (cond (eqb letter 104) (take_flag shape facts 5 value)
         (cond (eqb letter 116) (take_flag shape facts 6 value) (Err why.Word)))))) ≡ Ok more
         → Taken shape cells facts w later more
-    is_c true t h = flag_taken shape cells facts w value later 0 more (letter_word letter 99 w value (number_is letter 99 t) e) (lit< tt) (no_flag_z 0 (λ e. omega arith)) h
+    is_c true t h = flag_taken shape cells facts w value later 0 more (letter_word letter 99 w value (number_is letter 99 t) e) (lit< tt)
+        (no_flag_z 0 (λ e. omega arith)) h
     is_c false t h = is_n (eqb letter 110) refl h
 
     which_z : letter ≡ 122 → (t : Bool) → is_flag_z shape facts value later ≡ t
@@ -389,7 +417,8 @@ letter_taken shape cells facts w value letter later more e h = is_x (eqb letter 
 
     is_z : (t : Bool) → eqb letter 122 ≡ t
         → cond t (cond (is_flag_z shape facts value later) (take_flag shape facts 1 value) (take_pair shape facts 2 value))
-        (cond (eqb letter 99) (take_flag shape facts 0 value) (cond (eqb letter 110) (take_flag shape facts 2 value) (cond (eqb letter 118) (take_flag shape facts 3 value)
+        (cond (eqb letter 99) (take_flag shape facts 0 value) (cond (eqb letter 110) (take_flag shape facts 2 value)
+        (cond (eqb letter 118) (take_flag shape facts 3 value)
         (cond (eqb letter 115) (take_flag shape facts 4 value) (cond (eqb letter 104) (take_flag shape facts 5 value)
         (cond (eqb letter 116) (take_flag shape facts 6 value) (Err why.Word))))))) ≡ Ok more
         → Taken shape cells facts w later more
@@ -399,21 +428,25 @@ letter_taken shape cells facts w value letter later more e h = is_x (eqb letter 
     is_y : (t : Bool) → eqb letter 121 ≡ t
         → cond t (take_pair shape facts 1 value)
         (cond (eqb letter 122) (cond (is_flag_z shape facts value later) (take_flag shape facts 1 value) (take_pair shape facts 2 value))
-        (cond (eqb letter 99) (take_flag shape facts 0 value) (cond (eqb letter 110) (take_flag shape facts 2 value) (cond (eqb letter 118) (take_flag shape facts 3 value)
+        (cond (eqb letter 99) (take_flag shape facts 0 value) (cond (eqb letter 110) (take_flag shape facts 2 value)
+        (cond (eqb letter 118) (take_flag shape facts 3 value)
         (cond (eqb letter 115) (take_flag shape facts 4 value) (cond (eqb letter 104) (take_flag shape facts 5 value)
         (cond (eqb letter 116) (take_flag shape facts 6 value) (Err why.Word)))))))) ≡ Ok more
         → Taken shape cells facts w later more
-    is_y true t h = pair_taken shape cells facts w value later 1 more (letter_word letter 121 w value (number_is letter 121 t) e) (lit< tt) (no_z 1 (λ e. omega arith)) h
+    is_y true t h = pair_taken shape cells facts w value later 1 more (letter_word letter 121 w value (number_is letter 121 t) e) (lit< tt)
+        (no_z 1 (λ e. omega arith)) h
     is_y false t h = is_z (eqb letter 122) refl h
 
     is_x : (t : Bool) → eqb letter 120 ≡ t
         → cond t (take_pair shape facts 0 value) (cond (eqb letter 121) (take_pair shape facts 1 value)
         (cond (eqb letter 122) (cond (is_flag_z shape facts value later) (take_flag shape facts 1 value) (take_pair shape facts 2 value))
-        (cond (eqb letter 99) (take_flag shape facts 0 value) (cond (eqb letter 110) (take_flag shape facts 2 value) (cond (eqb letter 118) (take_flag shape facts 3 value)
+        (cond (eqb letter 99) (take_flag shape facts 0 value) (cond (eqb letter 110) (take_flag shape facts 2 value)
+        (cond (eqb letter 118) (take_flag shape facts 3 value)
         (cond (eqb letter 115) (take_flag shape facts 4 value) (cond (eqb letter 104) (take_flag shape facts 5 value)
         (cond (eqb letter 116) (take_flag shape facts 6 value) (Err why.Word))))))))) ≡ Ok more
         → Taken shape cells facts w later more
-    is_x true t h = pair_taken shape cells facts w value later 0 more (letter_word letter 120 w value (number_is letter 120 t) e) (lit< tt) (no_z 0 (λ e. omega arith)) h
+    is_x true t h = pair_taken shape cells facts w value later 0 more (letter_word letter 120 w value (number_is letter 120 t) e) (lit< tt)
+        (no_z 0 (λ e. omega arith)) h
     is_x false t h = is_y (eqb letter 121) refl h
 
 -- items that have a name
@@ -425,7 +458,8 @@ pub record PlacesFit (shape : Shape) (cells : List Cell) : Type 0 where
   pub points : shape.points ≤ 2 ^ 32
 
 keyed_taken : (shape : Shape) (cells : List Cell) (facts : Facts) (w key value : List ℕ) (later : List (List ℕ)) (more : Facts)
-    → PlacesFit shape cells → w ≡ key ++ 61 ∷ value → take_keyed shape cells facts key value later ≡ Ok more → Taken shape cells facts w later more
+    → PlacesFit shape cells → w ≡ key ++ 61 ∷ value → take_keyed shape cells facts key value later ≡ Ok more → Taken shape cells facts w
+    later more
 keyed_taken shape cells facts w [] value later more fits e h = absurd (fault_not why.Word more h)
 keyed_taken shape cells facts w (c ∷ cs) value later more fits e h = is_r (eqb c 114) refl h
   where
@@ -439,12 +473,14 @@ keyed_taken shape cells facts w (c ∷ cs) value later more fits e h = is_r (eqb
         some : (n : ℕ) → suc n ≡ 0 → ⊥
         some n e = omega arith
 
-    is_letter : (t : Bool) → eqb (length cs) 0 ≡ t → cond t (take_letter shape facts c value later) (Err why.Word) ≡ Ok more → Taken shape cells facts w later more
+    is_letter : (t : Bool) → eqb (length cs) 0 ≡ t → cond t (take_letter shape facts c value later) (Err why.Word) ≡ Ok more
+        → Taken shape cells facts w later more
     is_letter true t h = letter_taken shape cells facts w value c later more (e ∙ ap (λ ks. (c ∷ ks) ++ 61 ∷ value) (no_key cs t)) h
     is_letter false t h = absurd (fault_not why.Word more h)
 
     is_m : (t : Bool) → eqb c 109 ≡ t
-        → cond t (take_cell shape cells facts cs value) (cond (eqb (length cs) 0) (take_letter shape facts c value later) (Err why.Word)) ≡ Ok more
+        → cond t (take_cell shape cells facts cs value) (cond (eqb (length cs) 0) (take_letter shape facts c value later) (Err why.Word))
+        ≡ Ok more
         → Taken shape cells facts w later more
     is_m true t h = cell_taken shape cells facts w cs value later more fits.few fits.bytes (at 109 t) h
     is_m false t h = is_letter (eqb (length cs) 0) refl h
@@ -461,7 +497,8 @@ named_taken : (shape : Shape) (cells : List Cell) (facts : Facts) (w : List ℕ)
 unfolding take_named
 named_taken shape cells facts w later more fits h = by_cut (cut_at 61 w) refl h
   where
-    by_cut : (o : Option (List ℕ × List ℕ)) → cut_at 61 w ≡ o → take_cut shape cells facts o later ≡ Ok more → Taken shape cells facts w later more
+    by_cut : (o : Option (List ℕ × List ℕ)) → cut_at 61 w ≡ o → take_cut shape cells facts o later ≡ Ok more → Taken shape cells facts w
+        later more
     by_cut None c h = absurd (fault_not why.Word more h)
     by_cut (Some p) c h = keyed_taken shape cells facts w p.0 p.1 later more fits (cut_read 61 w p c) h
 
@@ -471,7 +508,8 @@ unfolding take_item
 item_taken shape cells facts [] later more fits h = absurd (fault_not why.Word more h)
 item_taken shape cells facts (c ∷ cs) later more fits h = is_successor (eqb c 62) refl h
   where
-    second : eqb c 115 ≡ true → (ds : List ℕ) → cs ≡ ds → take_second shape cells facts (c ∷ cs) ds later ≡ Ok more → Taken shape cells facts (c ∷ cs) later more
+    second : eqb c 115 ≡ true → (ds : List ℕ) → cs ≡ ds → take_second shape cells facts (c ∷ cs) ds later ≡ Ok more → Taken shape cells
+        facts (c ∷ cs) later more
     second s [] e h = named_taken shape cells facts (c ∷ cs) later more fits h
     second s (d ∷ ds) e h = by_colon (eqb d 58) refl h
       where
@@ -489,7 +527,8 @@ item_taken shape cells facts (c ∷ cs) later more fits h = is_successor (eqb c 
     is_slot false t h = named_taken shape cells facts (c ∷ cs) later more fits h
 
     is_successor : (t : Bool) → eqb c 62 ≡ t
-        → cond t (take_successor shape facts cs) (cond (eqb c 115) (take_second shape cells facts (c ∷ cs) cs later) (take_named shape cells facts (c ∷ cs) later)) ≡ Ok more
+        → cond t (take_successor shape facts cs) (cond (eqb c 115) (take_second shape cells facts (c ∷ cs) cs later)
+        (take_named shape cells facts (c ∷ cs) later)) ≡ Ok more
         → Taken shape cells facts (c ∷ cs) later more
     is_successor true t h = successor_taken shape cells facts (c ∷ cs) cs later more fits.points (ap (λ x. x ∷ cs) (number_is c 62 t)) h
     is_successor false t h = is_slot (eqb c 115) refl h

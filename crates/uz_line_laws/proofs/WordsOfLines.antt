@@ -20,9 +20,13 @@ cut_is (b ∷ bs) =
 
 each_lacks : (ws : List (List ℕ)) → All (λ w. All (λ b. eqb b 32 ≡ false) w) ws → EachLacks 32 ws
 each_lacks [] h = tt
-each_lacks (w ∷ ws) h = (All-head (λ w. All (λ b. eqb b 32 ≡ false) w) w ws h, each_lacks ws (All-tail (λ w. All (λ b. eqb b 32 ≡ false) w) w ws h))
+each_lacks (w ∷ ws) h = (
+  All-head (λ w. All (λ b. eqb b 32 ≡ false) w) w ws h,
+  each_lacks ws (All-tail (λ w. All (λ b. eqb b 32 ≡ false) w) w ws h),
+)
 
-pub words_again : (w : List ℕ) (ws : List (List ℕ)) → 0 < length w → All (λ v. All (λ b. eqb b 32 ≡ false) v) (w ∷ ws) → words_of (line_of (w ∷ ws)) ≡ w ∷ ws
+pub words_again : (w : List ℕ) (ws : List (List ℕ)) → 0 < length w → All (λ v. All (λ b. eqb b 32 ≡ false) v) (w ∷ ws)
+    → words_of (line_of (w ∷ ws)) ≡ w ∷ ws
 words_again [] ws some h = absurd (omega arith)
 words_again (c ∷ cs) [] some h = cut_is (c ∷ cs) ∙ split_join 32 (c ∷ cs) [] (each_lacks ((c ∷ cs) ∷ []) h).0 tt
 words_again (c ∷ cs) (v ∷ vs) some h =

@@ -3,6 +3,7 @@ use Rattle.std.specs.Prelude.{ℕ, ℤ, pos, neg_ℤ, ◌+◌, ◌==◌, ◌&&�
 use Rattle.std.specs.Prelude.{Some, None, Result, Ok, Err, if◌then◌else◌, refl}
 use Rattle.std.specs.Borrow.{Bor}
 use Rattle.std.specs.Coded.{Coded, code_by, coded×, coded_ℕ, coded_bool, coded_list}
+use Prim.Native.Char.{code}
 use Rattle.uz_text.specs.Numbers.{is_numeral, number_below, number_within}
 use Rattle.uz_lines.specs.declared.words.Asked.{Asked}
 use Rattle.uz_lines.specs.declared.why.CertWhy.{CertWhy}
@@ -25,7 +26,7 @@ with_byte b (w ∷ ws) = (b ∷ w) ∷ ws
 
 abbrev pub cut_words : List ℕ → List (List ℕ)
 cut_words [] = [] ∷ []
-cut_words (b ∷ bs) = if b == 32 then [] ∷ cut_words bs else with_byte b (cut_words bs)
+cut_words (b ∷ bs) = if b == code " " then [] ∷ cut_words bs else with_byte b (cut_words bs)
 
 abbrev pub words_left : Option (Bor (List ℕ)) → List (List ℕ)
 words_left None = []
@@ -76,7 +77,7 @@ unsigned_or false None = Err why.Number
 unfoldable pub slope_of : ℕ → List ℕ → Result ℤ CertWhy
 slope_of limit [] = Err why.Number
 slope_of limit (c ∷ cs) =
-    if c == 45 then signed_or (is_numeral cs) (number_below limit cs)
+    if c == code "-" then signed_or (is_numeral cs) (number_below limit cs)
     else unsigned_or (is_numeral (c ∷ cs)) (number_below limit (c ∷ cs))
 
 unfoldable pub fixed_of : List ℕ → List ℕ → Result ℕ CertWhy

@@ -1,6 +1,7 @@
 -- The items of a line, as they are read: each sets one fact, in the order of registers, pairs, flags, slots, cells, successors.
 use Rattle.std.specs.Prelude.{ℕ, zero, suc, ◌+◌, ◌==◌, ◌&&◌, ◌||◌, not, nat_le, nat_lt, Bool, true, false, List, [], ◌∷◌, ◌++◌, length}
 use Rattle.std.specs.Prelude.{take, codes, bytes_eq, slice_get, slice_set, Option, Some, None, Result, Ok, Err, if◌then◌else◌}
+use Prim.Native.Char.{code}
 use Rattle.uz_text.specs.Cutting.{cut_at}
 use Rattle.uz_text.specs.Numbers.{is_numeral, number_below}
 use Rattle.uz_schedule.specs.Ends.{Ends}
@@ -203,7 +204,7 @@ take_successor shape facts id =
 abbrev pub names_c_or_z : List ℕ → Bool
 names_c_or_z [] = false
 names_c_or_z (c ∷ []) = false
-names_c_or_z (c ∷ d ∷ cs) = ((c == 99) || (c == 122)) && (d == 61)
+names_c_or_z (c ∷ d ∷ cs) = ((c == code "c") || (c == code "z")) && (d == code "=")
 
 abbrev pub any_names : List (List ℕ) → Bool
 any_names [] = false
@@ -219,22 +220,22 @@ is_flag_z shape facts value later =
 
 unfoldable pub take_letter : Shape → Facts → ℕ → List ℕ → List (List ℕ) → Result Facts CertWhy
 take_letter shape facts letter value later =
-    if letter == 120 then take_pair shape facts 0 value
-    else (if letter == 121 then take_pair shape facts 1 value
-    else (if letter == 122 then (if is_flag_z shape facts value later then take_flag shape facts 1 value else take_pair shape facts 2 value)
-    else (if letter == 99 then take_flag shape facts 0 value
-    else (if letter == 110 then take_flag shape facts 2 value
-    else (if letter == 118 then take_flag shape facts 3 value
-    else (if letter == 115 then take_flag shape facts 4 value
-    else (if letter == 104 then take_flag shape facts 5 value
-    else (if letter == 116 then take_flag shape facts 6 value
+    if letter == code "x" then take_pair shape facts 0 value
+    else (if letter == code "y" then take_pair shape facts 1 value
+    else (if letter == code "z" then (if is_flag_z shape facts value later then take_flag shape facts 1 value else take_pair shape facts 2 value)
+    else (if letter == code "c" then take_flag shape facts 0 value
+    else (if letter == code "n" then take_flag shape facts 2 value
+    else (if letter == code "v" then take_flag shape facts 3 value
+    else (if letter == code "s" then take_flag shape facts 4 value
+    else (if letter == code "h" then take_flag shape facts 5 value
+    else (if letter == code "t" then take_flag shape facts 6 value
     else Err why.Word))))))))
 
 abbrev pub take_keyed : Shape → List Cell → Facts → List ℕ → List ℕ → List (List ℕ) → Result Facts CertWhy
 take_keyed shape cells facts [] value later = Err why.Word
 take_keyed shape cells facts (c ∷ cs) value later =
-    if c == 114 then take_register shape facts cs value
-    else (if c == 109 then take_cell shape cells facts cs value
+    if c == code "r" then take_register shape facts cs value
+    else (if c == code "m" then take_cell shape cells facts cs value
     else (if length cs == 0 then take_letter shape facts c value later else Err why.Word))
 
 abbrev pub take_cut : Shape → List Cell → Facts → Option (List ℕ × List ℕ) → List (List ℕ) → Result Facts CertWhy
@@ -242,17 +243,17 @@ take_cut shape cells facts None later = Err why.Word
 take_cut shape cells facts (Some p) later = take_keyed shape cells facts p.0 p.1 later
 
 unfoldable pub take_named : Shape → List Cell → Facts → List ℕ → List (List ℕ) → Result Facts CertWhy
-take_named shape cells facts word later = take_cut shape cells facts (cut_at 61 word) later
+take_named shape cells facts word later = take_cut shape cells facts (cut_at (code "=") word) later
 
 abbrev pub take_second : Shape → List Cell → Facts → List ℕ → List ℕ → List (List ℕ) → Result Facts CertWhy
 take_second shape cells facts word [] later = take_named shape cells facts word later
-take_second shape cells facts word (c ∷ cs) later = if c == 58 then take_slot shape facts cs else take_named shape cells facts word later
+take_second shape cells facts word (c ∷ cs) later = if c == code ":" then take_slot shape facts cs else take_named shape cells facts word later
 
 unfoldable pub take_item : Shape → List Cell → Facts → List ℕ → List (List ℕ) → Result Facts CertWhy
 take_item shape cells facts [] later = Err why.Word
 take_item shape cells facts (c ∷ cs) later =
-    if c == 62 then take_successor shape facts cs
-    else (if c == 115 then take_second shape cells facts (c ∷ cs) cs later
+    if c == code ">" then take_successor shape facts cs
+    else (if c == code "s" then take_second shape cells facts (c ∷ cs) cs later
     else take_named shape cells facts (c ∷ cs) later)
 
 -- all items of a line, to its end

@@ -6,3 +6,4 @@ pub mod Items
 pub mod Lines
 pub mod Values
 pub mod Why
+pub mod WhyNames

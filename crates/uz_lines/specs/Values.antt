@@ -1,6 +1,7 @@
 -- The words of facts, as they are read: what is known of a byte, a pair or a flag.
 use Rattle.std.specs.Prelude.{ℕ, ◌<◌, ◌==◌, ◌&&◌, not, nat_lt, Bool, true, false, ⊤, List, [], ◌∷◌, length, codes, bytes_eq, Option, Some}
 use Rattle.std.specs.Prelude.{None, Result, Ok, Err, if◌then◌else◌}
+use Prim.Native.Char.{code}
 use Rattle.uz_text.specs.Cutting.{cut_at}
 use Rattle.uz_text.specs.Numbers.{all_digits, is_numeral, number_within}
 use Rattle.uz_schedule.specs.Ends.{Ends}
@@ -57,11 +58,11 @@ sloped_parts is_line f None = Err why.Word
 sloped_parts is_line f (Some p) = two_numbers 1 0 f.limit p.0 p.1 >>= (λ n. Ok (slope is_line n))
 
 unfoldable pub sloped_cut : Bool → Forms → List ℕ → Result Raw CertWhy
-sloped_cut is_line f w = sloped_parts is_line f (cut_at 43 w)
+sloped_cut is_line f w = sloped_parts is_line f (cut_at (code "+") w)
 
 abbrev pub sloped : Bool → Forms → List ℕ → Result Raw CertWhy
 sloped is_line f [] = Err why.Word
-sloped is_line f (c ∷ cs) = if (c == 42) && f.sloped then sloped_cut is_line f cs else Err why.Word
+sloped is_line f (c ∷ cs) = if (c == code "*") && f.sloped then sloped_cut is_line f cs else Err why.Word
 
 -- `oR` and `of`, of which this follows the `o`
 abbrev pub old : Forms → List ℕ → Result Raw CertWhy
@@ -70,22 +71,22 @@ old f w = if f.old then (if bytes_eq w (codes "f") then Ok raw.OldFlags else one
 -- `n` and `lo..hi`
 abbrev pub range_parts : Forms → List ℕ → List ℕ → Result Raw CertWhy
 range_parts f lo [] = Err why.Word
-range_parts f lo (c ∷ hi) = if c == 46 then two_numbers f.low f.low f.limit lo hi >>= (λ n. Ok (raw.Two n.0 n.1)) else Err why.Word
+range_parts f lo (c ∷ hi) = if c == code "." then two_numbers f.low f.low f.limit lo hi >>= (λ n. Ok (raw.Two n.0 n.1)) else Err why.Word
 
 abbrev pub range_cut : Forms → List ℕ → Option (List ℕ × List ℕ) → Result Raw CertWhy
 range_cut f w None = one_number f.low f.limit w >>= (λ n. Ok (raw.One n))
 range_cut f w (Some p) = range_parts f p.0 p.1
 
 unfoldable pub range : Forms → List ℕ → Result Raw CertWhy
-range f w = range_cut f w (cut_at 46 w)
+range f w = range_cut f w (cut_at (code ".") w)
 
 unfoldable pub raw_of : Forms → List ℕ → Result Raw CertWhy
 raw_of f [] = Err why.Word
 raw_of f (c ∷ cs) =
-    if c == 42 then whole f cs
-    else (if c == 108 then sloped true f cs
-    else (if c == 99 then sloped false f cs
-    else (if c == 111 then old f cs
+    if c == code "*" then whole f cs
+    else (if c == code "l" then sloped true f cs
+    else (if c == code "c" then sloped false f cs
+    else (if c == code "o" then old f cs
     else range f (c ∷ cs))))
 
 -- what the numbers of a word that is read are below

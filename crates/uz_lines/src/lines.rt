@@ -296,8 +296,8 @@ pub fn run_line(kinds: u32, left: u32, before: u32, words: &mut Words) -> Result
     Ok(Said::Run(Run { count, kind }))
 }
 
-#[tactic(auto, using(crate::proofs::Spans::behind_more))]
 /// A range for each cell of the handler, each within the one of the header.
+#[tactic(auto, using(crate::proofs::Spans::behind_more))]
 fn spans(cells: &[Cell], words: &mut Words) -> Result<ArrayVec<Span, 16>, CertWhy>
     requires { length cells.now ≤ 16 }
     ensures ok { IfOk result (λ v. spans_of cells.now words.old ≡ Ok (v.items, words.new)) }

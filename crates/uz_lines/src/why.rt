@@ -1,5 +1,8 @@
 //! Why a text is refused.
 
+ghost use Rattle.std.specs.Prelude.{◌≡◌};
+ghost use Rattle.uz_lines.specs.WhyNames.{cert_why_name};
+
 /// Why a text is refused. The numbers are the places of the variants, counted from 1.
 #[derive(Clone, Copy, Debug, PartialEq, Eq)]
 pub enum CertWhy {
@@ -19,4 +22,22 @@ pub enum CertWhy {
     NoEnd,
     /// 8: there wasn't enough memory.
     Memory,
+}
+
+impl CertWhy {
+    /// The name, as it is printed.
+    pub fn name(self) -> &'static str
+        ensures { result.now ≡ cert_why_name self }
+    {
+        match self {
+            CertWhy::Head => "Head",
+            CertWhy::Word => "Word",
+            CertWhy::Number => "Number",
+            CertWhy::Order => "Order",
+            CertWhy::Limit => "Limit",
+            CertWhy::Unknown => "Unknown",
+            CertWhy::NoEnd => "NoEnd",
+            CertWhy::Memory => "Memory",
+        }
+    }
 }

@@ -1,5 +1,6 @@
 -- An instruction and an interrupt's entry keep the core's parts in range: one case a class of effect.
-use Rattle.std.proofs.Common.{◌≡◌, ◌<◌, ℕ, zero, suc, ◌+◌, ◌-◌, ◌*◌, ◌/◌, ◌%◌, ◌^◌, Bool, true, false, if◌then◌else◌, Option, Some, None, List, [], ◌∷◌, fold, filter, nat_lt, nat_eq, refl, sym, ◌∙◌, ap, subst, arith}
+use Rattle.std.proofs.Common.{◌≡◌, ◌<◌, ℕ, zero, suc, ◌+◌, ◌-◌, ◌*◌, ◌/◌, ◌%◌, ◌^◌, Bool, true, false, if◌then◌else◌, Option, Some, None}
+use Rattle.std.proofs.Common.{List, [], ◌∷◌, fold, filter, nat_lt, nat_eq, refl, sym, ◌∙◌, ap, subst, arith}
 use Rattle.std.specs.Prelude.{unwrap_or, ℤ, pos, negsuc, ◌*ℤ◌}
 use Rattle.std.specs.Ordering.{nat_cmp}
 use Rattle.std.specs.FinMap.{FinMap, get}
@@ -20,11 +21,18 @@ use Rattle.uz_machine.specs.declared.AddressMode.TheVariants.{Direct, Displaceme
 use Rattle.uz_machine.specs.declared.JumpTarget.{JumpTarget}
 use Rattle.uz_machine.specs.declared.JumpTarget.TheVariants.{Absolute, Relative, Indirect}
 use Rattle.uz_machine.specs.declared.Effect.{Effect}
-use Rattle.uz_machine.specs.declared.Effect.TheVariants.{CopyByte, CopyPair, Binary, Unary, AddToPair, Multiply, Load, Store, PushByte, PopByte, LoadProgram, WriteIoBit, WriteFlag, LoadBit, StoreBit, Branch, SkipIf, Jump, Return}
+use Rattle.uz_machine.specs.declared.Effect.TheVariants.{CopyByte, CopyPair, Binary, Unary, AddToPair, Multiply, Load, Store, PushByte}
+use Rattle.uz_machine.specs.declared.Effect.TheVariants.{PopByte, LoadProgram, WriteIoBit, WriteFlag, LoadBit, StoreBit, Branch, SkipIf}
+use Rattle.uz_machine.specs.declared.Effect.TheVariants.{Jump, Return}
 use Rattle.uz_machine.specs.declared.HeldStore.{HeldStore}
 use Rattle.uz_machine.specs.declared.HeldStore.TheVariants.{Byte, Bit}
-use Rattle.uz_machine.specs.Arithmetic.{AluResult, bit_value, bit_is_set, with_bit, difference_of, chained_result, with_z_cleared, product_of, left_shift_of, low_word, factor, merged_sreg}
-use Rattle.uz_machine.specs.Core.{Core, LoadModel, StepResult, register, pair, with_register, with_pair, with_sp, with_sreg, with_flags, operand_value, binary_result, unary_result, add_to_pair_result, is_core_address, core_byte, with_core_byte, effective_address, with_pointer_after, following_pc, load_addresses, sample_clock, loaded_bytes, content_after_loads, pc_stores, stores_of, with_store, leaves_core, jump_address, next_pc, changed_core, effect_result, interrupted_core}
+use Rattle.uz_machine.specs.Arithmetic.{AluResult, bit_value, bit_is_set, with_bit, difference_of, chained_result, with_z_cleared}
+use Rattle.uz_machine.specs.Arithmetic.{product_of, left_shift_of, low_word, factor, merged_sreg}
+use Rattle.uz_machine.specs.Core.{Core, LoadModel, StepResult, register, pair, with_register, with_pair, with_sp, with_sreg, with_flags}
+use Rattle.uz_machine.specs.Core.{operand_value, binary_result, unary_result, add_to_pair_result, is_core_address, core_byte}
+use Rattle.uz_machine.specs.Core.{with_core_byte, effective_address, with_pointer_after, following_pc, load_addresses, sample_clock}
+use Rattle.uz_machine.specs.Core.{loaded_bytes, content_after_loads, pc_stores, stores_of, with_store, leaves_core, jump_address, next_pc}
+use Rattle.uz_machine.specs.Core.{changed_core, effect_result, interrupted_core}
 use Rattle.uz_machine.specs.CoreRange.{IsByte, IsCore, IsHeldStore, IsLoadModel}
 use Rattle.uz_machine.specs.OperandRanges.{OperandFits, AddressModeFits, JumpTargetFits, EffectFits}
 use Rattle.uz_machine.proofs.ByteLists.{byte_at, bytes_set}
@@ -70,7 +78,8 @@ record Fits (bound : ℕ) (r : AluResult) : Type 0 where
   value : r.value < bound
   flags : room r.flags ≡ 256
 
-chained_fits : (r : AluResult) (c z n v s h t : Option Bool) → r.flags ≡ c ∷ z ∷ n ∷ v ∷ s ∷ h ∷ t ∷ [] → r.value < 256 → (zero_before : Bool) → Fits 256 (chained_result r zero_before)
+chained_fits : (r : AluResult) (c z n v s h t : Option Bool) → r.flags ≡ c ∷ z ∷ n ∷ v ∷ s ∷ h ∷ t ∷ [] → r.value < 256
+    → (zero_before : Bool) → Fits 256 (chained_result r zero_before)
 chained_fits r c z n v s h t e below true = record { value = below; flags = ap room e }
 chained_fits r c z n v s h t e below false = record { value = below; flags = ap (λ fs. room (with_z_cleared fs)) e }
 
@@ -78,7 +87,8 @@ binary_fits : (op : BinaryOp) (a b sreg : ℕ) → IsByte a → IsByte b → Fit
 binary_fits (binary.Add false) a b sreg ha hb = record { value = omega arith; flags = refl }
 binary_fits (binary.Add true) a b sreg ha hb = record { value = omega arith; flags = refl }
 binary_fits (binary.Subtract false) a b sreg ha hb = record { value = omega arith; flags = refl }
-binary_fits (binary.Subtract true) a b sreg ha hb = chained_fits (difference_of a b (bit_is_set sreg 0)) _ _ _ _ _ _ _ refl (omega arith) (bit_is_set sreg 1)
+binary_fits (binary.Subtract true) a b sreg ha hb = chained_fits (difference_of a b (bit_is_set sreg 0)) _ _ _ _ _ _ _ refl (omega arith)
+    (bit_is_set sreg 1)
 binary_fits binary.And a b sreg ha hb = record { value = omega (arith, and_le_l a b); flags = refl }
 binary_fits binary.Or a b sreg ha hb = record { value = or_lt 8 a b ha hb; flags = refl }
 binary_fits binary.Xor a b sreg ha hb = record { value = xor_lt 8 a b ha hb; flags = refl }
@@ -138,7 +148,8 @@ kept_register n v s b h = record {
 }
 
 kept_pair : (n w : ℕ) (s : Core) → w < 65536 → IsCore s → IsCore (with_pair n w s)
-kept_pair n w s b h = kept_register (n + 1) (w / 256) (with_register n (w % 256) s) (omega arith) (kept_register n (w % 256) s (omega arith) h)
+kept_pair n w s b h = kept_register (n + 1) (w / 256) (with_register n (w % 256) s) (omega arith)
+    (kept_register n (w % 256) s (omega arith) h)
 
 kept_sp : (sp : ℕ) (s : Core) → sp < 65536 → IsCore s → IsCore (with_sp sp s)
 kept_sp sp s b h = record { count = h.count; registers = h.registers; sreg = h.sreg; sp = b; pc = h.pc }
@@ -151,7 +162,8 @@ kept_pc pc s b h = record { count = h.count; registers = h.registers; sreg = h.s
 
 kept_flags : (bound : ℕ) (r : AluResult) (s : Core) → Fits bound r → IsCore s → IsCore (with_flags r s)
 kept_flags bound r s f h =
-    kept_sreg _ s (subst (λ x. merged_sreg r.flags s.sreg < x) f.flags (merged_below r.flags s.sreg (subst (λ x. s.sreg < x) (sym f.flags) h.sreg))) h
+    kept_sreg _ s (subst (λ x. merged_sreg r.flags s.sreg < x) f.flags
+    (merged_below r.flags s.sreg (subst (λ x. s.sreg < x) (sym f.flags) h.sreg))) h
 
 kept_core_byte : (at v : ℕ) (s : Core) → IsByte v → IsCore s → IsCore (with_core_byte at v s)
 kept_core_byte at v s b h =
@@ -190,7 +202,8 @@ stores_fit (WriteIoBit at b set) words s fits h = ((omega (arith, fits.0.1), fit
 stores_fit (Jump target true) words s fits h = pc_stores_fit (following_pc words s) s (omega arith) h
 stores_fit e words s fits h = tt
 
-filter_one : (b : Bool) (c : HeldStore) (cs : List HeldStore) → IsHeldStore c → AllByRecursion IsHeldStore cs → AllByRecursion IsHeldStore (if b then c ∷ cs else cs)
+filter_one : (b : Bool) (c : HeldStore) (cs : List HeldStore) → IsHeldStore c → AllByRecursion IsHeldStore cs → AllByRecursion IsHeldStore
+    (if b then c ∷ cs else cs)
 filter_one true c cs h all = (h, all)
 filter_one false c cs h all = all
 
@@ -200,7 +213,8 @@ filter_keeps test (c ∷ cs) h = filter_one (test c) c (filter test cs) h.0 (fil
 
 -- The loads
 
-loaded_byte : {C : Type 0} → (model : LoadModel C) (P : C → Type 0) → IsLoadModel model P → (s : Core) (late : ℕ) (c : C) (ats : List ℕ) → IsCore s → P c →
+loaded_byte : {C : Type 0} → (model : LoadModel C) (P : C → Type 0) → IsLoadModel model P → (s : Core) (late : ℕ) (c : C) (ats : List ℕ)
+    → IsCore s → P c →
     AllByRecursion IsByte (loaded_bytes model s late c ats)
 loaded_byte model P m s late c [] h p = tt
 loaded_byte model P m s late c (at ∷ ats) h p =
@@ -208,7 +222,8 @@ loaded_byte model P m s late c (at ∷ ats) h p =
     (core_byte_is s at h, loaded_byte model P m s late c ats h p)
     (m.byte c at late p, loaded_byte model P m s late (model.content_after c at late) ats h (m.content_after c at late p))
 
-content_kept : {C : Type 0} → (model : LoadModel C) (P : C → Type 0) → IsLoadModel model P → (late : ℕ) (c : C) (ats : List ℕ) → P c → P (content_after_loads model late c ats)
+content_kept : {C : Type 0} → (model : LoadModel C) (P : C → Type 0) → IsLoadModel model P → (late : ℕ) (c : C) (ats : List ℕ) → P c
+    → P (content_after_loads model late c ats)
 content_kept model P m late c [] p = p
 content_kept model P m late c (at ∷ ats) p =
     choose P (is_core_address at) _ _
@@ -221,12 +236,14 @@ flash_byte (Some b) h = h b refl
 
 -- What an effect makes of the core
 
-changed_fits : (e : Effect) (image : FinMap nat_cmp ℕ) (words : ℕ) (loaded : List ℕ) (s : Core) → EffectFits e → IsFlash image → AllByRecursion IsByte loaded → IsCore s →
+changed_fits : (e : Effect) (image : FinMap nat_cmp ℕ) (words : ℕ) (loaded : List ℕ) (s : Core) → EffectFits e → IsFlash image
+    → AllByRecursion IsByte loaded → IsCore s →
     IsCore (changed_core e image words loaded s)
 changed_fits (CopyByte d source) image words loaded s fits f l h = kept_register d _ s (operand_byte source s fits.1 h) h
 changed_fits (CopyPair d r) image words loaded s fits f l h = kept_pair d _ s (pair_word s r h) h
 changed_fits (Binary op d source compare) image words loaded s fits f l h =
-    let r : Fits 256 (binary_result op (register s d) (operand_value source s) s.sreg) = binary_fits op _ _ s.sreg (register_byte s d h) (operand_byte source s fits.1 h) in
+    let r : Fits 256 (binary_result op (register s d) (operand_value source s) s.sreg) = binary_fits op _ _ s.sreg (register_byte s d h)
+    (operand_byte source s fits.1 h) in
     kept_flags 256 _ _ r (choose IsCore compare _ _ h (kept_register d _ s r.value h))
 changed_fits (Unary op d) image words loaded s fits f l h =
     let r : Fits 256 (unary_result op (register s d) s.sreg) = unary_fits op _ s.sreg (register_byte s d h) in
@@ -240,17 +257,21 @@ changed_fits (Multiply d r d_signed r_signed shifted) image words loaded s fits 
 changed_fits (Load d from) image words loaded s fits f l h =
     kept_register d _ _ (byte_at loaded 0 l) (kept_pointer from _ s (address_below from s fits.1 h) h)
 changed_fits (Store to r) image words loaded s fits f l h =
-    kept_pointer to _ _ (address_below to s fits.0 h) (kept_stores (stores_of (Store to r) words s) s (stores_fit (Store to r) words s fits h) h)
+    kept_pointer to _ _ (address_below to s fits.0 h) (kept_stores (stores_of (Store to r) words s) s
+    (stores_fit (Store to r) words s fits h) h)
 changed_fits (PushByte r) image words loaded s fits f l h =
-    kept_sp _ (fold with_store s (stores_of (PushByte r) words s)) (omega arith) (kept_stores (stores_of (PushByte r) words s) s (stores_fit (PushByte r) words s fits h) h)
+    kept_sp _ (fold with_store s (stores_of (PushByte r) words s)) (omega arith) (kept_stores (stores_of (PushByte r) words s) s
+    (stores_fit (PushByte r) words s fits h) h)
 changed_fits (PopByte d) image words loaded s fits f l h = kept_register d _ _ (byte_at loaded 0 l) (kept_sp _ s (omega arith) h)
 changed_fits (LoadProgram d increment) image words loaded s fits f l h =
-    kept_register d _ _ (flash_byte (get image (pair s 30)) (λ b e. (f (pair s 30) b e).1)) (choose IsCore increment _ _ (kept_pair 30 _ s (omega arith) h) h)
+    kept_register d _ _ (flash_byte (get image (pair s 30)) (λ b e. (f (pair s 30) b e).1))
+    (choose IsCore increment _ _ (kept_pair 30 _ s (omega arith) h) h)
 changed_fits (WriteFlag flag set) image words loaded s fits f l h = kept_sreg _ s (with_bit_below flag set s.sreg fits h.sreg) h
 changed_fits (LoadBit d b) image words loaded s fits f l h = kept_register d _ s (with_bit_below b _ _ fits.1 (register_byte s d h)) h
 changed_fits (StoreBit d b) image words loaded s fits f l h = kept_sreg _ s (with_bit_below 6 _ s.sreg (omega arith) h.sreg) h
 changed_fits (Jump target true) image words loaded s fits f l h =
-    kept_sp _ (fold with_store s (pc_stores (following_pc words s) s)) (omega arith) (kept_stores (pc_stores (following_pc words s) s) s (pc_stores_fit (following_pc words s) s (omega arith) h) h)
+    kept_sp _ (fold with_store s (pc_stores (following_pc words s) s)) (omega arith) (kept_stores (pc_stores (following_pc words s) s) s
+    (pc_stores_fit (following_pc words s) s (omega arith) h) h)
 changed_fits (Return from_interrupt) image words loaded s fits f l h = record {
   count = h.count;
   registers = h.registers;
@@ -280,10 +301,12 @@ pub record ResultFits {C : Type 0} (P : C → Type 0) (r : StepResult C) : Type 
   pub content : P r.content
   pub stores : AllByRecursion IsHeldStore r.stores
 
-pub effect_result_fits : {C : Type 0} → (model : LoadModel C) (P : C → Type 0) → IsLoadModel model P → (image : FinMap nat_cmp ℕ) (e : Effect) (words : ℕ) (clocks : Outcome → ℕ) (s : Core) (c : C) →
+pub effect_result_fits : {C : Type 0} → (model : LoadModel C) (P : C → Type 0) → IsLoadModel model P → (image : FinMap nat_cmp ℕ)
+    (e : Effect) (words : ℕ) (clocks : Outcome → ℕ) (s : Core) (c : C) →
     EffectFits e → IsFlash image → IsCore s → P c → ResultFits P (effect_result model image e words clocks s c)
 effect_result_fits model P m image e words clocks s c fits f h p =
-    let l : AllByRecursion IsByte (loaded_bytes model s (sample_clock e clocks) c (load_addresses e s)) = loaded_byte model P m s (sample_clock e clocks) c (load_addresses e s) h p in
+    let l : AllByRecursion IsByte (loaded_bytes model s (sample_clock e clocks) c (load_addresses e s)) = loaded_byte model P m s
+    (sample_clock e clocks) c (load_addresses e s) h p in
     record {
       core = kept_pc _ _ (next_pc_below e _ words _ s fits) (changed_fits e image words _ s fits f l h);
       content = content_kept model P m (sample_clock e clocks) c (load_addresses e s) p;
@@ -294,7 +317,13 @@ effect_result_fits model P m image e words clocks s c fits f h p =
 pub interrupted_core_fits : (s : Core) → IsCore s → IsCore (interrupted_core s)
 interrupted_core_fits s h =
     let t : IsCore (fold with_store s (pc_stores s.pc s)) = kept_stores (pc_stores s.pc s) s (pc_stores_fit s.pc s h.pc h) h in
-    record { count = t.count; registers = t.registers; sreg = with_bit_below 7 false _ (omega arith) t.sreg; sp = omega arith; pc = omega arith }
+    record {
+      count = t.count;
+      registers = t.registers;
+      sreg = with_bit_below 7 false _ (omega arith) t.sreg;
+      sp = omega arith;
+      pc = omega arith;
+    }
 
 pub entry_stores_fit : (s : Core) → IsCore s → AllByRecursion IsHeldStore (filter leaves_core (pc_stores s.pc s))
 entry_stores_fit s h = filter_keeps leaves_core (pc_stores s.pc s) (pc_stores_fit s.pc s h.pc h)

@@ -2,7 +2,12 @@
 use Rattle.std.proofs.Common.{◌<◌, ℕ, ◌+◌, ◌*◌, Bool, true, false, if◌then◌else◌, nat_eq, refl, arith}
 use Rattle.std.proofs.lemmas.Bool.Decides.{nat_tests}
 use Rattle.avr_table.specs.declared.Instr.{Instr}
-use Rattle.avr_table.specs.declared.Instr.TheVariants.{Add, Adc, Adiw, Sub, Subi, Sbc, Sbci, Sbiw, And, Andi, Or, Ori, Eor, Com, Neg, Inc, Dec, Mul, Muls, Mulsu, Fmul, Fmuls, Fmulsu, Rjmp, Ijmp, Jmp, Rcall, Icall, Call, Ret, Reti, Cpse, Cp, Cpc, Cpi, Sbrc, Sbrs, Sbic, Sbis, Brbs, Brbc, Mov, Movw, Ldi, LdX, LdXInc, LdXDec, LdYInc, LdYDec, LdZInc, LdZDec, Ldd, Lds, StX, StXInc, StXDec, StYInc, StYDec, StZInc, StZDec, Std, Sts, Lpm, LpmZ, LpmZInc, Spm, In, Out, Push, Pop, Lsr, Ror, Asr, Swap, Bset, Bclr, Sbi, Cbi, Bst, Bld, Break, Nop, Sleep, Wdr}
+use Rattle.avr_table.specs.declared.Instr.TheVariants.{Add, Adc, Adiw, Sub, Subi, Sbc, Sbci, Sbiw, And, Andi, Or, Ori, Eor, Com, Neg, Inc}
+use Rattle.avr_table.specs.declared.Instr.TheVariants.{Dec, Mul, Muls, Mulsu, Fmul, Fmuls, Fmulsu, Rjmp, Ijmp, Jmp, Rcall, Icall, Call, Ret}
+use Rattle.avr_table.specs.declared.Instr.TheVariants.{Reti, Cpse, Cp, Cpc, Cpi, Sbrc, Sbrs, Sbic, Sbis, Brbs, Brbc, Mov, Movw, Ldi, LdX}
+use Rattle.avr_table.specs.declared.Instr.TheVariants.{LdXInc, LdXDec, LdYInc, LdYDec, LdZInc, LdZDec, Ldd, Lds, StX, StXInc, StXDec}
+use Rattle.avr_table.specs.declared.Instr.TheVariants.{StYInc, StYDec, StZInc, StZDec, Std, Sts, Lpm, LpmZ, LpmZInc, Spm, In, Out, Push}
+use Rattle.avr_table.specs.declared.Instr.TheVariants.{Pop, Lsr, Ror, Asr, Swap, Bset, Bclr, Sbi, Cbi, Bst, Bld, Break, Nop, Sleep, Wdr}
 use Rattle.uz_machine.specs.Effects.{signed_offset, effect_of}
 use Rattle.uz_machine.specs.OperandRanges.{IsPair, IsUpperPair, IsPointer, AreMiddle, EffectFits}
 
@@ -54,10 +59,30 @@ effect_fits (Inc d) = omega (arith, d.in_range)
 effect_fits (Dec d) = omega (arith, d.in_range)
 effect_fits (Mul d r) = (omega (arith, d.in_range), omega (arith, r.in_range), tt)
 effect_fits (Muls d r) = (omega (arith, d.in_range), omega (arith, r.in_range), (omega arith, omega arith))
-effect_fits (Mulsu d r) = (omega (arith, d.in_range), omega (arith, r.in_range), middle d.value r.value (omega (arith, d.in_range)) (omega (arith, r.in_range)))
-effect_fits (Fmul d r) = (omega (arith, d.in_range), omega (arith, r.in_range), middle d.value r.value (omega (arith, d.in_range)) (omega (arith, r.in_range)))
-effect_fits (Fmuls d r) = (omega (arith, d.in_range), omega (arith, r.in_range), middle d.value r.value (omega (arith, d.in_range)) (omega (arith, r.in_range)))
-effect_fits (Fmulsu d r) = (omega (arith, d.in_range), omega (arith, r.in_range), middle d.value r.value (omega (arith, d.in_range)) (omega (arith, r.in_range)))
+effect_fits (Mulsu d r) = (
+  omega (arith, d.in_range),
+  omega (arith, r.in_range),
+  middle d.value r.value (omega (arith, d.in_range))
+      (omega (arith, r.in_range)),
+)
+effect_fits (Fmul d r) = (
+  omega (arith, d.in_range),
+  omega (arith, r.in_range),
+  middle d.value r.value (omega (arith, d.in_range))
+      (omega (arith, r.in_range)),
+)
+effect_fits (Fmuls d r) = (
+  omega (arith, d.in_range),
+  omega (arith, r.in_range),
+  middle d.value r.value (omega (arith, d.in_range))
+      (omega (arith, r.in_range)),
+)
+effect_fits (Fmulsu d r) = (
+  omega (arith, d.in_range),
+  omega (arith, r.in_range),
+  middle d.value r.value (omega (arith, d.in_range))
+      (omega (arith, r.in_range)),
+)
 effect_fits (Rjmp k) = offset_below 2048 k.value (omega arith) (omega (arith, k.in_range))
 effect_fits Ijmp = tt
 effect_fits (Jmp k) = omega (arith, k.in_range)
@@ -74,8 +99,16 @@ effect_fits (Sbrc r b) = (omega (arith, r.in_range, b.in_range), omega (arith, r
 effect_fits (Sbrs r b) = (omega (arith, r.in_range, b.in_range), omega (arith, r.in_range, b.in_range))
 effect_fits (Sbic a b) = ((omega arith, omega (arith, a.in_range)), omega (arith, b.in_range))
 effect_fits (Sbis a b) = ((omega arith, omega (arith, a.in_range)), omega (arith, b.in_range))
-effect_fits (Brbs s k) = (omega (arith, s.in_range, k.in_range), offset_below 64 k.value (omega arith) (omega (arith, s.in_range, k.in_range)))
-effect_fits (Brbc s k) = (omega (arith, s.in_range, k.in_range), offset_below 64 k.value (omega arith) (omega (arith, s.in_range, k.in_range)))
+effect_fits (Brbs s k) = (
+  omega (arith, s.in_range, k.in_range),
+  offset_below 64 k.value (omega arith)
+      (omega (arith, s.in_range, k.in_range)),
+)
+effect_fits (Brbc s k) = (
+  omega (arith, s.in_range, k.in_range),
+  offset_below 64 k.value (omega arith)
+      (omega (arith, s.in_range, k.in_range)),
+)
 effect_fits (Mov d r) = (omega (arith, d.in_range, r.in_range), omega (arith, d.in_range, r.in_range))
 effect_fits (Movw d r) = (any_pair d.value (omega (arith, d.in_range)), any_pair r.value (omega (arith, r.in_range)))
 effect_fits (Ldi d k) = (omega (arith, d.in_range, k.in_range), omega (arith, d.in_range, k.in_range))
@@ -86,7 +119,10 @@ effect_fits (LdYInc d) = (omega (arith, d.in_range), is_y)
 effect_fits (LdYDec d) = (omega (arith, d.in_range), is_y)
 effect_fits (LdZInc d) = (omega (arith, d.in_range), is_z)
 effect_fits (LdZDec d) = (omega (arith, d.in_range), is_z)
-effect_fits (Ldd d y q) = (omega (arith, d.in_range, y.in_range, q.in_range), (displaced y.value, omega (arith, d.in_range, y.in_range, q.in_range)))
+effect_fits (Ldd d y q) = (
+  omega (arith, d.in_range, y.in_range, q.in_range),
+  (displaced y.value, omega (arith, d.in_range, y.in_range, q.in_range)),
+)
 effect_fits (Lds d k) = (omega (arith, d.in_range, k.in_range), omega (arith, d.in_range, k.in_range))
 effect_fits (StX r) = ((is_x, omega arith), omega (arith, r.in_range))
 effect_fits (StXInc r) = (is_x, omega (arith, r.in_range))
@@ -95,7 +131,10 @@ effect_fits (StYInc r) = (is_y, omega (arith, r.in_range))
 effect_fits (StYDec r) = (is_y, omega (arith, r.in_range))
 effect_fits (StZInc r) = (is_z, omega (arith, r.in_range))
 effect_fits (StZDec r) = (is_z, omega (arith, r.in_range))
-effect_fits (Std y q r) = ((displaced y.value, omega (arith, y.in_range, q.in_range, r.in_range)), omega (arith, y.in_range, q.in_range, r.in_range))
+effect_fits (Std y q r) = (
+  (displaced y.value, omega (arith, y.in_range, q.in_range, r.in_range)),
+  omega (arith, y.in_range, q.in_range, r.in_range),
+)
 effect_fits (Sts k r) = (omega (arith, k.in_range, r.in_range), omega (arith, k.in_range, r.in_range))
 effect_fits Lpm = omega (arith)
 effect_fits (LpmZ d) = omega (arith, d.in_range)

@@ -1,5 +1,6 @@
 -- SREG after an operation: replacing the bits of a mask by a value's is merging the flags that they stand for.
-use Rattle.std.proofs.Common.{◌≡◌, ◌<◌, ◌≤◌, ℕ, zero, suc, ◌+◌, ◌-◌, ◌*◌, ◌/◌, ◌%◌, ◌^◌, Bool, true, false, if◌then◌else◌, nat_eq, Option, Some, None, List, [], ◌∷◌, min, max, bit_and, bit_or, refl, sym, ◌∙◌, ap, arith}
+use Rattle.std.proofs.Common.{◌≡◌, ◌<◌, ◌≤◌, ℕ, zero, suc, ◌+◌, ◌-◌, ◌*◌, ◌/◌, ◌%◌, ◌^◌, Bool, true, false, if◌then◌else◌, nat_eq, Option}
+use Rattle.std.proofs.Common.{Some, None, List, [], ◌∷◌, min, max, bit_and, bit_or, refl, sym, ◌∙◌, ap, arith}
 use Rattle.std.specs.Int.Bits.{and_step, or_step, and_zero_r}
 use Rattle.std.specs.Int.{bit_at}
 use Rattle.std.proofs.lemmas.Nat.Bits.{bit_at-suc, bit_at_lowest}
@@ -60,17 +61,20 @@ masked (suc n) m v s hm hv hs =
     let value : bit_and (v / 2) (m / 2) ≡ v / 2 = omega (arith, and_step v m, hv) in
     let within : v % 2 ≤ m % 2 = omega (arith, and_step v m, hv) in
     let rest : bit_or (bit_and (s / 2) (c / 2)) (v / 2) ≡ chosen_bits n (m / 2) (v / 2) (s / 2) =
-    ap (λ x. bit_or (bit_and (s / 2) x) (v / 2)) half ∙ masked n (m / 2) (v / 2) (s / 2) (omega (arith, pow-suc n)) value (omega (arith, pow-suc (suc n))) in
+    ap (λ x. bit_or (bit_and (s / 2) x) (v / 2)) half ∙ masked n (m / 2) (v / 2) (s / 2) (omega (arith, pow-suc n)) value
+    (omega (arith, pow-suc (suc n))) in
     let upper : bit_and s c / 2 ≡ bit_and (s / 2) (c / 2) = omega (arith, and_step s c) in
     let lower : bit_and s c % 2 ≡ min (s % 2) (1 - m % 2) = omega (arith, and_step s c, odd) in
-    let low : max (min (s % 2) (1 - m % 2)) (v % 2) ≡ chosen_bit (m % 2) (v % 2) (s % 2) = low_bit (m % 2) (v % 2) (s % 2) (omega arith) within (omega arith) in
+    let low : max (min (s % 2) (1 - m % 2)) (v % 2) ≡ chosen_bit (m % 2) (v % 2) (s % 2) = low_bit (m % 2) (v % 2) (s % 2) (omega arith)
+    within (omega arith) in
     let top : bit_or (bit_and s c / 2) (v / 2) ≡ chosen_bits n (m / 2) (v / 2) (s / 2) = ap (λ x. bit_or x (v / 2)) upper ∙ rest in
     let bottom : max (bit_and s c % 2) (v % 2) ≡ chosen_bit (m % 2) (v % 2) (s % 2) = ap (λ x. max x (v % 2)) lower ∙ low in
     omega (arith, or_step (bit_and s c) v, top, bottom)
 
 -- The list of flags
 
-merged_one : (b x : Bool) (flags : List (Option Bool)) (s : ℕ) → merged_sreg ((if b then Some x else None) ∷ flags) s ≡ (if b then bit_value x else s % 2) + 2 * merged_sreg flags (s / 2)
+merged_one : (b x : Bool) (flags : List (Option Bool)) (s : ℕ) → merged_sreg ((if b then Some x else None) ∷ flags)
+    s ≡ (if b then bit_value x else s % 2) + 2 * merged_sreg flags (s / 2)
 merged_one true x flags s = refl
 merged_one false x flags s = refl
 
@@ -96,10 +100,13 @@ cons_same {x} {y} {xs} {ys} p q = ap (λ a. a ∷ xs) p ∙ ap (λ rest. y ∷ r
 
 flags_list : (f : Flags) → flags_of f ≡ flag_list 7 f.mask f.value
 flags_list f =
-    cons_same (flag_of 0 f.mask f.value) (cons_same (flag_of 1 f.mask f.value) (cons_same (flag_of 2 f.mask f.value) (cons_same (flag_of 3 f.mask f.value)
+    cons_same (flag_of 0 f.mask f.value)
+    (cons_same (flag_of 1 f.mask f.value) (cons_same (flag_of 2 f.mask f.value) (cons_same (flag_of 3 f.mask f.value)
     (cons_same (flag_of 4 f.mask f.value) (cons_same (flag_of 5 f.mask f.value) (cons_same (flag_of 6 f.mask f.value) refl))))))
 
 -- what a core does with a value and a mask
-pub replaced_bits : (f : Flags) (sreg : ℕ) → FitsMask f → sreg < 256 → bit_or (bit_and sreg (255 - f.mask)) f.value ≡ merged_sreg (flags_of f) sreg
+pub replaced_bits : (f : Flags) (sreg : ℕ) → FitsMask f → sreg < 256 → bit_or (bit_and sreg (255 - f.mask)) f.value ≡ merged_sreg
+    (flags_of f) sreg
 replaced_bits f sreg fits h =
-    masked 7 f.mask f.value sreg fits.0 fits.1 h ∙ sym (merged_list 7 f.mask f.value sreg) ∙ ap (λ flags. merged_sreg flags sreg) (sym (flags_list f))
+    masked 7 f.mask f.value sreg fits.0 fits.1 h ∙ sym (merged_list 7 f.mask f.value sreg) ∙ ap (λ flags. merged_sreg flags sreg)
+    (sym (flags_list f))

@@ -1,5 +1,7 @@
 -- Results and flags of the arithmetic instructions, as numbers (AVR Instruction Set Manual).
-use Rattle.std.specs.Prelude.{◌≡◌, ◌<◌, ℕ, ◌+◌, ◌-◌, ◌*◌, ◌/◌, ◌%◌, ◌^◌, Bool, true, false, not, ◌||◌, ◌&&◌, Option, Some, None, List, [], ◌∷◌, ℤ, pos, negsuc, ◌+ℤ◌, ◌-ℤ◌, ◌*ℤ◌, int_lt, int_le, nat_lt, nat_le, nat_eq, if◌then◌else◌, bit_and, bit_or, bit_xor}
+use Rattle.std.specs.Prelude.{◌≡◌, ◌<◌, ℕ, ◌+◌, ◌-◌, ◌*◌, ◌/◌, ◌%◌, ◌^◌, Bool, true, false, not, ◌||◌, ◌&&◌, Option, Some, None, List, []}
+use Rattle.std.specs.Prelude.{◌∷◌, ℤ, pos, negsuc, ◌+ℤ◌, ◌-ℤ◌, ◌*ℤ◌, int_lt, int_le, nat_lt, nat_le, nat_eq, if◌then◌else◌, bit_and, bit_or}
+use Rattle.std.specs.Prelude.{bit_xor}
 use Rattle.std.specs.Int.{bit_at, int_rem_euclid}
 use Rattle.std.specs.Int.RustNames.{unsigned_abs}
 use Rattle.uz_machine.specs.declared.Flags.{Flags}
@@ -135,7 +137,11 @@ decrement_of a = increment_result ((a + 255) % 256) (nat_eq ((a + 255) % 256) 12
 -- Shifts of a to the right: C is the old bit 0, V is N exclusive or C
 
 abbrev pub shift_result : ℕ → ℕ → AluResult
-shift_result a v = record { value = v; flags = flags_cznvs (nat_eq (a % 2) 1) (nat_eq v 0) (is_negative v) (exclusive_or (is_negative v) (nat_eq (a % 2) 1)) }
+shift_result a v = record {
+  value = v;
+  flags = flags_cznvs (nat_eq (a % 2) 1) (nat_eq v 0) (is_negative v)
+      (exclusive_or (is_negative v) (nat_eq (a % 2) 1));
+}
 
 abbrev pub logical_shift_of : ℕ → AluResult
 logical_shift_of a = shift_result a (a / 2)
@@ -189,7 +195,8 @@ product_result v w = record { value = v; flags = flags_cz (nat_le 32768 w) (nat_
 -- two bytes, whether each is signed, and whether the product is shifted left by one
 abbrev pub product_of : ℕ → ℕ → Bool → Bool → Bool → AluResult
 product_of a b a_signed b_signed is_shifted =
-    product_result (left_shift_of is_shifted (low_word (factor a a_signed *ℤ factor b b_signed))) (low_word (factor a a_signed *ℤ factor b b_signed))
+    product_result (left_shift_of is_shifted (low_word (factor a a_signed *ℤ factor b b_signed)))
+    (low_word (factor a a_signed *ℤ factor b b_signed))
 
 -- Flags and the status register
 

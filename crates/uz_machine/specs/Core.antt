@@ -1,6 +1,7 @@
 -- The core, and what one instruction makes of it: loads with their sampling clock, held stores in order, outcome,
 -- next pc, and the whole new state, as functions of the state before (AVR Instruction Set Manual).
-use Rattle.std.specs.Prelude.{ℕ, ◌+◌, ◌-◌, ◌*◌, ◌/◌, ◌%◌, Bool, true, false, not, ◌&&◌, ◌||◌, if◌then◌else◌, nat_eq, nat_lt, nat_le, List, [], ◌∷◌, fold, filter, slice_index, slice_set, replicate}
+use Rattle.std.specs.Prelude.{ℕ, ◌+◌, ◌-◌, ◌*◌, ◌/◌, ◌%◌, Bool, true, false, not, ◌&&◌, ◌||◌, if◌then◌else◌, nat_eq, nat_lt, nat_le, List}
+use Rattle.std.specs.Prelude.{[], ◌∷◌, fold, filter, slice_index, slice_set, replicate}
 use Rattle.std.specs.Ordering.{nat_cmp}
 use Rattle.std.specs.FinMap.{FinMap}
 use Rattle.uz_hex.specs.Cells.{byte_or_255, word_of}
@@ -22,11 +23,15 @@ use Rattle.uz_machine.specs.declared.SkipTest.TheVariants.{Equal, RegisterBit, I
 use Rattle.uz_machine.specs.declared.JumpTarget.{JumpTarget}
 use Rattle.uz_machine.specs.declared.JumpTarget.TheVariants.{Absolute, Relative, Indirect}
 use Rattle.uz_machine.specs.declared.Effect.{Effect}
-use Rattle.uz_machine.specs.declared.Effect.TheVariants.{CopyByte, CopyPair, Binary, Unary, AddToPair, Multiply, Load, Store, PushByte, PopByte, LoadProgram, WriteIoBit, WriteFlag, LoadBit, StoreBit, Branch, SkipIf, Jump, Return}
+use Rattle.uz_machine.specs.declared.Effect.TheVariants.{CopyByte, CopyPair, Binary, Unary, AddToPair, Multiply, Load, Store, PushByte}
+use Rattle.uz_machine.specs.declared.Effect.TheVariants.{PopByte, LoadProgram, WriteIoBit, WriteFlag, LoadBit, StoreBit, Branch, SkipIf}
+use Rattle.uz_machine.specs.declared.Effect.TheVariants.{Jump, Return}
 use Rattle.uz_machine.specs.declared.HeldStore.{HeldStore}
 use Rattle.uz_machine.specs.declared.HeldStore.TheVariants.{Byte, Bit}
 use Rattle.uz_machine.specs.Addresses.{IO_BASE, SPL, SPH, SREG, RAM_END, TIMER1_COMPA}
-use Rattle.uz_machine.specs.Arithmetic.{AluResult, bit_is_set, with_bit, sum_of, difference_of, chained_result, and_of, or_of, xor_of, complement_of, negation_of, swap_of, increment_of, decrement_of, arithmetic_shift_of, logical_shift_of, rotation_of, pair_sum_of, pair_difference_of, product_of, merged_sreg}
+use Rattle.uz_machine.specs.Arithmetic.{AluResult, bit_is_set, with_bit, sum_of, difference_of, chained_result, and_of, or_of, xor_of}
+use Rattle.uz_machine.specs.Arithmetic.{complement_of, negation_of, swap_of, increment_of, decrement_of, arithmetic_shift_of}
+use Rattle.uz_machine.specs.Arithmetic.{logical_shift_of, rotation_of, pair_sum_of, pair_difference_of, product_of, merged_sreg}
 use Rattle.uz_machine.specs.Effects.{effect_of}
 
 pub record Core : Type 0 where
@@ -219,7 +224,8 @@ next_pc (Jump target call) outcome words loaded s = jump_address target words s
 next_pc (Return from_interrupt) outcome words loaded s = (slice_index loaded 1 + 256 * slice_index loaded 0) % 32768
 next_pc e outcome words loaded s = following_pc words s
 
--- What becomes of the core, but for its pc: the stores in order, then the pointer or SP, then the destination; each goes over what came before it
+-- What becomes of the core, but for its pc: the stores in order, then the pointer or SP, then the destination; each goes over what came
+-- before it
 
 abbrev pub changed_core : Effect → FinMap nat_cmp ℕ → ℕ → List ℕ → Core → Core
 changed_core (CopyByte d source) image words loaded s = with_register d (operand_value source s) s

@@ -10,7 +10,9 @@ use Rattle.uz_machine.specs.declared.SkipTest.TheVariants.{Equal, RegisterBit, I
 use Rattle.uz_machine.specs.declared.JumpTarget.{JumpTarget}
 use Rattle.uz_machine.specs.declared.JumpTarget.TheVariants.{Absolute, Relative, Indirect}
 use Rattle.uz_machine.specs.declared.Effect.{Effect}
-use Rattle.uz_machine.specs.declared.Effect.TheVariants.{NoOperation, CopyByte, CopyPair, Binary, Unary, AddToPair, Multiply, Load, Store, PushByte, PopByte, LoadProgram, WriteIoBit, WriteFlag, LoadBit, StoreBit, Branch, SkipIf, Jump, Return, Stop}
+use Rattle.uz_machine.specs.declared.Effect.TheVariants.{NoOperation, CopyByte, CopyPair, Binary, Unary, AddToPair, Multiply, Load, Store}
+use Rattle.uz_machine.specs.declared.Effect.TheVariants.{PushByte, PopByte, LoadProgram, WriteIoBit, WriteFlag, LoadBit, StoreBit, Branch}
+use Rattle.uz_machine.specs.declared.Effect.TheVariants.{SkipIf, Jump, Return, Stop}
 
 -- a pair's low register: an even one
 abbrev pub IsPair : ℕ → Type 0

@@ -3,7 +3,8 @@
 --
 -- This project's profile: the pads answer from a list of pairs of words, one pair a latch. Both lines read 1
 -- before the first latch, after 12 moves, and past the list's end.
-use Rattle.std.specs.Prelude.{ℕ, ◌+◌, ◌-◌, ◌*◌, Bool, not, ◌&&◌, if◌then◌else◌, nat_lt, nat_le, List, [], ◌∷◌, length, count_by, slice_index, map}
+use Rattle.std.specs.Prelude.{ℕ, ◌+◌, ◌-◌, ◌*◌, Bool, not, ◌&&◌, if◌then◌else◌, nat_lt, nat_le, List, [], ◌∷◌, length, count_by}
+use Rattle.std.specs.Prelude.{slice_index, map}
 use Rattle.uz_machine.specs.Arithmetic.{bit_value, bit_is_set}
 
 -- All that PORTA's values make of the pads: the words of each pair, for player 1 and player 2, and the values
@@ -49,7 +50,8 @@ line_level words levels =
 
 -- both lines: player 1's in bit 0, player 2's in bit 1
 abbrev pub pad_lines : PadHistory → ℕ
-pad_lines h = bit_value (line_level (map (λ pair. pair.0) h.pairs) h.levels) + bit_value (line_level (map (λ pair. pair.1) h.pairs) h.levels) * 2
+pad_lines h = bit_value (line_level (map (λ pair. pair.0) h.pairs) h.levels) + bit_value
+    (line_level (map (λ pair. pair.1) h.pairs) h.levels) * 2
 
 -- PORTA takes a value
 abbrev pub with_level : ℕ → PadHistory → PadHistory

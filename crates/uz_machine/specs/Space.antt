@@ -3,7 +3,8 @@
 --
 -- This project's profile: PINB, PINC and PIND read the port whatever its direction is, TIFR1 has bit 1 alone,
 -- other devices keep what was written, and above the RAM there is nothing.
-use Rattle.std.specs.Prelude.{◌≡◌, ℕ, ◌+◌, ◌*◌, ◌/◌, ◌^◌, Bool, true, not, ◌||◌, ◌==◌, if◌then◌else◌, nat_eq, nat_lt, List, length, slice_index, slice_set, replicate, bit_xor}
+use Rattle.std.specs.Prelude.{◌≡◌, ℕ, ◌+◌, ◌*◌, ◌/◌, ◌^◌, Bool, true, not, ◌||◌, ◌==◌, if◌then◌else◌, nat_eq, nat_lt, List, length}
+use Rattle.std.specs.Prelude.{slice_index, slice_set, replicate, bit_xor}
 use Rattle.std.specs.List.{AllByRecursion}
 use Rattle.uz_machine.specs.declared.HeldStore.{HeldStore}
 use Rattle.uz_machine.specs.declared.HeldStore.TheVariants.{Byte, Bit}
@@ -11,7 +12,8 @@ use Rattle.uz_machine.specs.Addresses.{PINA, PORTA, PINB, PINC, PIND, TIFR1, RAM
 use Rattle.uz_machine.specs.Arithmetic.{with_bit}
 use Rattle.uz_machine.specs.Core.{LoadModel}
 use Rattle.uz_machine.specs.CoreRange.{IsByte}
-use Rattle.uz_machine.specs.Timer.{Timer, IsTimer, timer_at_reset, timer_after, timer_taken, is_timer_address, timer_byte, timer_after_read, timer_after_write}
+use Rattle.uz_machine.specs.Timer.{Timer, IsTimer, timer_at_reset, timer_after, timer_taken, is_timer_address, timer_byte, timer_after_read}
+use Rattle.uz_machine.specs.Timer.{timer_after_write}
 use Rattle.uz_machine.specs.PadLine.{PadHistory, pad_lines, with_level}
 
 -- How pads hang on PORTA: the levels of the two data lines, in bits 0 and 1, and the pads after PORTA takes a value.

@@ -53,7 +53,8 @@ timer_taken t = record t { matched = false }
 -- Registers
 
 abbrev pub is_timer_address : ℕ → Bool
-is_timer_address at = at == TIFR1 || at == TIMSK1 || at == TCCR1A || at == TCCR1B || at == TCNT1L || at == TCNT1H || at == OCR1AL || at == OCR1AH
+is_timer_address at = at == TIFR1 || at == TIMSK1 || at == TCCR1A || at == TCCR1B || at == TCNT1L || at == TCNT1H || at == OCR1AL
+    || at == OCR1AH
 
 -- what reading a register of the timer gives. The high byte of TCNT1 is read from TEMP, that of OCR1A directly
 abbrev pub timer_byte : Timer → ℕ → ℕ

@@ -2,7 +2,8 @@
 --
 -- This project's profile: an entry takes 4 or 5 clocks, which the state says; a store acts at a turn's end, after
 -- the timer's change of that clock; RETI and BSET 7 leave one instruction owed, which is run before an interrupt is taken.
-use Rattle.std.specs.Prelude.{◌≡◌, ◌≢◌, ℕ, ◌+◌, ◌%◌, Bool, false, not, ◌&&◌, ◌||◌, ◌==◌, if◌then◌else◌, List, [], ◌∷◌, ◌++◌, filter, ◌⊎◌, IsTrue, IsFalse}
+use Rattle.std.specs.Prelude.{◌≡◌, ◌≢◌, ℕ, ◌+◌, ◌%◌, Bool, false, not, ◌&&◌, ◌||◌, ◌==◌, if◌then◌else◌, List, [], ◌∷◌, ◌++◌, filter, ◌⊎◌}
+use Rattle.std.specs.Prelude.{IsTrue, IsFalse}
 use Rattle.std.specs.Ordering.{nat_cmp}
 use Rattle.std.specs.FinMap.{FinMap}
 use Rattle.uz_hex.specs.Cells.{word_of}
@@ -17,10 +18,12 @@ use Rattle.uz_machine.specs.declared.Effect.TheVariants.{Stop}
 use Rattle.uz_machine.specs.Addresses.{PORTB, PINC, PORTC, OCR2A}
 use Rattle.uz_machine.specs.Arithmetic.{bit_is_set}
 use Rattle.uz_machine.specs.Effects.{effect_of}
-use Rattle.uz_machine.specs.Core.{Core, reset_core, is_core_address, core_byte, StepResult, step_result, interrupted_core, pc_stores, leaves_core}
+use Rattle.uz_machine.specs.Core.{Core, reset_core, is_core_address, core_byte, StepResult, step_result, interrupted_core, pc_stores}
+use Rattle.uz_machine.specs.Core.{leaves_core}
 use Rattle.uz_machine.specs.Timer.{is_due}
 use Rattle.uz_machine.specs.PadLine.{PadHistory}
-use Rattle.uz_machine.specs.Space.{Space, PadWiring, plain_byte, byte_at, space_after, space_loads, after_store, is_store, space_taken, space_at_reset}
+use Rattle.uz_machine.specs.Space.{Space, PadWiring, plain_byte, byte_at, space_after, space_loads, after_store, is_store, space_taken}
+use Rattle.uz_machine.specs.Space.{space_at_reset}
 
 -- A state: the flash, the core, the data space with the pads, how many clocks an entry takes, whether an
 -- instruction is owed, and the clock, a number without limit
@@ -114,7 +117,8 @@ after_instruction wiring i s = let d = instruction_result wiring i s in state_af
 abbrev pub instruction_edges : {P : Type 0} → PadWiring P → Instr → State P → List Edge
 instruction_edges wiring i s =
     let d = instruction_result wiring i s in
-    edges_at (s.clock + d.clocks) (all_edge_kinds wiring d.stores (space_after d.clocks d.content) ++ (if d.returned then Leave ∷ [] else []))
+    edges_at (s.clock + d.clocks) (all_edge_kinds wiring d.stores (space_after d.clocks d.content)
+    ++ (if d.returned then Leave ∷ [] else []))
 
 -- The turn
 

@@ -1,5 +1,6 @@
 -- The pads keep what they stand for.
-use Rattle.std.proofs.Common.{◌≡◌, ℕ, ◌+◌, ◌-◌, ◌*◌, Bool, true, false, not, ◌&&◌, if◌then◌else◌, List, [], ◌∷◌, length, min, map, nat_le, nat_lt, refl, sym, ◌∙◌, ap, subst, arith}
+use Rattle.std.proofs.Common.{◌≡◌, ℕ, ◌+◌, ◌-◌, ◌*◌, Bool, true, false, not, ◌&&◌, if◌then◌else◌, List, [], ◌∷◌, length, min, map, nat_le}
+use Rattle.std.proofs.Common.{nat_lt, refl, sym, ◌∙◌, ap, subst, arith}
 use Rattle.std.specs.Prelude.{slice_index, slice_index_or, count_by, Option, Some, None}
 use Rattle.std.proofs.lemmas.Bool.Decides.{nat_tests}
 use Rattle.std.proofs.lemmas.List.{length-map}
@@ -10,26 +11,31 @@ use Rattle.uz_machine.specs.PadLine.{PadHistory, changes_of, changes_since_latch
 use Rattle.uz_pads.specs.declared.pads.Pad.{Pad}
 use Rattle.uz_pads.specs.declared.pads.Pads.{Pads}
 use Rattle.uz_pads.specs.declared.pads.PadState.{PadState}
-use Rattle.uz_pads.specs.Pads.{StandsFor, StateStandsFor, pairs_of, list_of, with_pad_state, latched_pad, no_pad, pads_loaded, pads_after, pads_lines, lines_of}
+use Rattle.uz_pads.specs.Pads.{StandsFor, StateStandsFor, pairs_of, list_of, with_pad_state, latched_pad, no_pad, pads_loaded, pads_after}
+use Rattle.uz_pads.specs.Pads.{pads_lines, lines_of}
 
 -- A latch by its parts
 
-loaded_list : (b : Bool) (p : Pads) (current : Option Pad) → (if b then record p { current = current; next = p.next + 1 } else record p { current = None }).list ≡ p.list
+loaded_list : (b : Bool) (p : Pads) (current : Option Pad) → (if b then record p { current = current; next = p.next + 1 } else record p
+    { current = None }).list ≡ p.list
 loaded_list true p current = refl
 loaded_list false p current = refl
 
-loaded_next : (b : Bool) (p : Pads) (current : Option Pad) → (if b then record p { current = current; next = p.next + 1 } else record p { current = None }).next ≡ (if b then p.next + 1 else p.next)
+loaded_next : (b : Bool) (p : Pads) (current : Option Pad) → (if b then record p { current = current; next = p.next + 1 } else record p
+    { current = None }).next ≡ (if b then p.next + 1 else p.next)
 loaded_next true p current = refl
 loaded_next false p current = refl
 
-loaded_current : (b : Bool) (p : Pads) (current : Option Pad) → (if b then record p { current = current; next = p.next + 1 } else record p { current = None }).current ≡ (if b then current else None)
+loaded_current : (b : Bool) (p : Pads) (current : Option Pad) → (if b then record p { current = current; next = p.next + 1 } else record p
+    { current = None }).current ≡ (if b then current else None)
 loaded_current true p current = refl
 loaded_current false p current = refl
 
 next_more : (n len next : ℕ) → next ≡ min n len → (if nat_lt next len then next + 1 else next) ≡ min (1 + n) len
 next_more n len next h = grind (arith, nat_tests)
 
-some_or_none : {A : Type 0} (a b : Bool) (x y : A) → a ≡ b → (a ≡ true → x ≡ y) → (if a then Some x else None) ≡ (if b then Some y else None)
+some_or_none : {A : Type 0} (a b : Bool) (x y : A) → a ≡ b → (a ≡ true → x ≡ y) → (if a then Some x else None)
+    ≡ (if b then Some y else None)
 some_or_none true true x y e f = ap (λ z. Some z) (f refl)
 some_or_none false false x y e f = refl
 some_or_none true false x y e f = absurd cc
@@ -47,8 +53,10 @@ same_place n next len h t = grind (arith, nat_tests)
 current_more : (n next : ℕ) (list : List Pad) → next ≡ min n (length list) →
     (if nat_lt next (length list) then Some (slice_index_or list next no_pad) else None) ≡ latched_pad (1 + n) list
 current_more n next list h =
-    some_or_none (nat_lt next (length list)) (nat_le (1 + n) (length list)) _ _ (in_list n next (length list) h) (λ t. ap (λ x. slice_index_or list x no_pad) (same_place n next (length list) h t)) ∙
-    ap (λ b. if b then (if nat_le (1 + n) (length list) then Some (slice_index_or list (1 + n - 1) no_pad) else None) else None) (sym (more_is_first n))
+    some_or_none (nat_lt next (length list)) (nat_le (1 + n) (length list)) _ _ (in_list n next (length list) h)
+    (λ t. ap (λ x. slice_index_or list x no_pad) (same_place n next (length list) h t)) ∙
+    ap (λ b. if b then (if nat_le (1 + n) (length list) then Some (slice_index_or list (1 + n - 1) no_pad) else None) else None)
+    (sym (more_is_first n))
 
 -- A value of PORTA by its parts: with a fall of bit 2 or none, and a rise of bit 3 or none
 
@@ -57,14 +65,19 @@ moves_after fall rise moves = if fall then rise else (if nat_lt moves 12 then mo
 
 abbrev after_by : Bool → ℕ → ℕ → Pads → Pads
 after_by fall rise value p =
-    if fall then record (pads_loaded p) { level = value; moves = rise } else record p { level = value; moves = if nat_lt p.moves 12 then p.moves + rise else p.moves }
+    if fall then record (pads_loaded p) { level = value; moves = rise } else record p {
+      level = value;
+      moves = if nat_lt p.moves 12 then
+          p.moves + rise else p.moves;
+    }
 
 record Counts (p : Pads) (list : List Pad) (n : ℕ) : Type 0 where
   items : p.list.items ≡ list
   next : p.next ≡ min n (length list)
   current : p.current ≡ latched_pad n list
 
-counts_after : (fall : Bool) (rise value n : ℕ) (p : Pads) → Counts p p.list.items n → Counts (after_by fall rise value p) p.list.items ((if fall then 1 else 0) + n)
+counts_after : (fall : Bool) (rise value n : ℕ) (p : Pads) → Counts p p.list.items n → Counts (after_by fall rise value p) p.list.items
+    ((if fall then 1 else 0) + n)
 counts_after true rise value n p h =
     let current = Some (slice_index_or p.list.items p.next no_pad) in
     let b = nat_lt p.next (length p.list.items) in
@@ -98,22 +111,29 @@ first_one false = refl
 moves_more : (fall : Bool) (c : ℕ × ℕ) (cs : List (ℕ × ℕ)) (k : ℕ) → k ≡ min (count_by (is_rise 3) cs) 12 →
     moves_after fall (bit_value (is_rise 3 c)) k ≡ min (count_by (is_rise 3) (if fall then c ∷ [] else c ∷ cs)) 12
 moves_more true c cs k h = first_one (is_rise 3 c)
-moves_more false c cs k h = one_more (is_rise 3 c) (count_by (is_rise 3) cs) k h ∙ ap (λ x. min x 12) (sym (sum_by-cons (λ x. if is_rise 3 x then 1 else 0) c cs))
+moves_more false c cs k h = one_more (is_rise 3 c) (count_by (is_rise 3) cs) k h ∙ ap (λ x. min x 12)
+    (sym (sum_by-cons (λ x. if is_rise 3 x then 1 else 0) c cs))
 
-after_value : (p : Pads) (pairs : List (ℕ × ℕ)) (v value : ℕ) (older : List ℕ) → StandsFor p (record { pairs = pairs; levels = v ∷ older }) →
-    StandsFor (after_by (is_fall 2 (v, value)) (bit_value (is_rise 3 (v, value))) value p) (record { pairs = pairs; levels = value ∷ v ∷ older })
+after_value : (p : Pads) (pairs : List (ℕ × ℕ)) (v value : ℕ) (older : List ℕ) → StandsFor p (record { pairs = pairs; levels = v ∷ older })
+    →
+    StandsFor (after_by (is_fall 2 (v, value)) (bit_value (is_rise 3 (v, value))) value p)
+    (record { pairs = pairs; levels = value ∷ v ∷ older })
 after_value p pairs v value older h =
     let fall = is_fall 2 (v, value) in
     let rise = bit_value (is_rise 3 (v, value)) in
     let q : Pads = after_by fall rise value p in
-    let counted : latches (value ∷ v ∷ older) ≡ (if fall then 1 else 0) + latches (v ∷ older) = sum_by-cons (λ c. if is_fall 2 c then 1 else 0) (v, value) (changes_of (v ∷ older)) in
-    let counts : Counts q p.list.items ((if fall then 1 else 0) + latches (v ∷ older)) = counts_after fall rise value (latches (v ∷ older)) p (record { items = refl; next = h.next; current = h.current }) in
+    let counted : latches (value ∷ v ∷ older) ≡ (if fall then 1 else 0) + latches (v ∷ older) =
+    sum_by-cons (λ c. if is_fall 2 c then 1 else 0) (v, value) (changes_of (v ∷ older)) in
+    let counts : Counts q p.list.items ((if fall then 1 else 0) + latches (v ∷ older)) = counts_after fall rise value (latches (v ∷ older))
+    p (record { items = refl; next = h.next; current = h.current }) in
     record {
       pairs = h.pairs ∙ ap pairs_of (sym counts.items);
       begun = tt;
       level = level_after fall rise value p;
-      next = counts.next ∙ (ap (λ n. min n (length p.list.items)) (sym counted) ∙ ap (λ list. min (latches (value ∷ v ∷ older)) (length list)) (sym counts.items));
-      current = counts.current ∙ (ap (λ n. latched_pad n p.list.items) (sym counted) ∙ ap (λ list. latched_pad (latches (value ∷ v ∷ older)) list) (sym counts.items));
+      next = counts.next ∙ (ap (λ n. min n (length p.list.items)) (sym counted)
+          ∙ ap (λ list. min (latches (value ∷ v ∷ older)) (length list)) (sym counts.items));
+      current = counts.current ∙ (ap (λ n. latched_pad n p.list.items) (sym counted)
+          ∙ ap (λ list. latched_pad (latches (value ∷ v ∷ older)) list) (sym counts.items));
       moves = moves_of_after fall rise value p ∙ moves_more fall (v, value) (changes_since_latch (changes_of (v ∷ older))) p.moves h.moves;
     }
 
@@ -121,15 +141,18 @@ after_levels : (p : Pads) (pairs : List (ℕ × ℕ)) (levels : List ℕ) (value
     StandsFor (pads_after value p) (record { pairs = pairs; levels = value ∷ levels })
 after_levels p pairs [] value h = absurd h.begun
 after_levels p pairs (v ∷ older) value h =
-    subst (λ x. StandsFor (after_by (is_fall 2 (x, value)) (bit_value (is_rise 3 (x, value))) value p) (record { pairs = pairs; levels = value ∷ v ∷ older })) (sym h.level) (after_value p pairs v value older h)
+    subst (λ x. StandsFor (after_by (is_fall 2 (x, value)) (bit_value (is_rise 3 (x, value))) value p)
+    (record { pairs = pairs; levels = value ∷ v ∷ older })) (sym h.level) (after_value p pairs v value older h)
 
-pub stands_after : (p : Pads) (history : PadHistory) (value : ℕ) → StandsFor p history → StandsFor (pads_after value p) (with_level value history)
+pub stands_after : (p : Pads) (history : PadHistory) (value : ℕ) → StandsFor p history → StandsFor (pads_after value p)
+    (with_level value history)
 stands_after p history value h = after_levels p history.pairs history.levels value h
 
 -- The lines
 
 in_time : (c : Bool) (pad : Pad) (m k : ℕ) → nat_lt k 12 ≡ c → nat_lt m 12 ≡ c → (c ≡ true → k ≡ m) →
-    lines_of (Some pad) k ≡ bit_value (not (nat_lt m 12 && bit_is_set pad.one m)) + bit_value (not (nat_lt m 12 && bit_is_set pad.two m)) * 2
+    lines_of (Some pad) k ≡ bit_value (not (nat_lt m 12 && bit_is_set pad.one m)) + bit_value (not (nat_lt m 12 && bit_is_set pad.two m))
+    * 2
 in_time true pad m k e f g =
     ap (λ x. lines_of (Some pad) x) (g refl) ∙
     (ap (λ b. if b then bit_value (not (bit_is_set pad.one m)) + bit_value (not (bit_is_set pad.two m)) * 2 else 3) f ∙
@@ -153,10 +176,12 @@ by_tests false b pad m = refl
 
 -- a player's words, by their number and one by one
 one_at : (list : List Pad) (i : ℕ) → slice_index (map (λ pair. pair.0) (pairs_of list)) i ≡ (slice_index_or list i no_pad).one
-one_at list i = get_or-map (λ (pair : ℕ × ℕ). pair.0) (pairs_of list) i (0, 0) ∙ ap (λ (pair : ℕ × ℕ). pair.0) (get_or-map (λ (pad : Pad). (pad.one, pad.two)) list i no_pad)
+one_at list i = get_or-map (λ (pair : ℕ × ℕ). pair.0) (pairs_of list) i (0, 0) ∙ ap (λ (pair : ℕ × ℕ). pair.0)
+    (get_or-map (λ (pad : Pad). (pad.one, pad.two)) list i no_pad)
 
 two_at : (list : List Pad) (i : ℕ) → slice_index (map (λ pair. pair.1) (pairs_of list)) i ≡ (slice_index_or list i no_pad).two
-two_at list i = get_or-map (λ (pair : ℕ × ℕ). pair.1) (pairs_of list) i (0, 0) ∙ ap (λ (pair : ℕ × ℕ). pair.1) (get_or-map (λ (pad : Pad). (pad.one, pad.two)) list i no_pad)
+two_at list i = get_or-map (λ (pair : ℕ × ℕ). pair.1) (pairs_of list) i (0, 0) ∙ ap (λ (pair : ℕ × ℕ). pair.1)
+    (get_or-map (λ (pad : Pad). (pad.one, pad.two)) list i no_pad)
 
 one_count : (list : List Pad) → length (map (λ pair. pair.0) (pairs_of list)) ≡ length list
 one_count list = length-map (pairs_of list) (λ (pair : ℕ × ℕ). pair.0) ∙ length-map list (λ (pad : Pad). (pad.one, pad.two))
@@ -165,16 +190,20 @@ two_count : (list : List Pad) → length (map (λ pair. pair.1) (pairs_of list))
 two_count list = length-map (pairs_of list) (λ (pair : ℕ × ℕ). pair.1) ∙ length-map list (λ (pad : Pad). (pad.one, pad.two))
 
 line_of_list : (list : List Pad) (n m : ℕ) → lines_of (latched_pad n list) (min m 12) ≡
-    (let words = map (λ pair. pair.0) (pairs_of list) in bit_value (not (nat_le 1 n && nat_le n (length words) && nat_lt m 12 && bit_is_set (slice_index words (n - 1)) m))) +
-    (let words = map (λ pair. pair.1) (pairs_of list) in bit_value (not (nat_le 1 n && nat_le n (length words) && nat_lt m 12 && bit_is_set (slice_index words (n - 1)) m))) * 2
+    (let words = map (λ pair. pair.0) (pairs_of list) in
+    bit_value (not (nat_le 1 n && nat_le n (length words) && nat_lt m 12 && bit_is_set (slice_index words (n - 1)) m))) +
+    (let words = map (λ pair. pair.1) (pairs_of list) in
+    bit_value (not (nat_le 1 n && nat_le n (length words) && nat_lt m 12 && bit_is_set (slice_index words (n - 1)) m))) * 2
 line_of_list list n m =
     let pad = slice_index_or list (n - 1) no_pad in
     let shown : ℕ → ℕ → ℕ = λ len word. bit_value (not (nat_le 1 n && nat_le n len && nat_lt m 12 && bit_is_set word m)) in
     by_tests (nat_le 1 n) (nat_le n (length list)) pad m ∙
     (ap (λ len. shown len pad.one + shown (length list) pad.two * 2) (sym (one_count list)) ∙
     (ap (λ word. shown (length (map (λ pair. pair.0) (pairs_of list))) word + shown (length list) pad.two * 2) (sym (one_at list (n - 1))) ∙
-    (ap (λ len. shown (length (map (λ pair. pair.0) (pairs_of list))) (slice_index (map (λ pair. pair.0) (pairs_of list)) (n - 1)) + shown len pad.two * 2) (sym (two_count list)) ∙
-    ap (λ word. shown (length (map (λ pair. pair.0) (pairs_of list))) (slice_index (map (λ pair. pair.0) (pairs_of list)) (n - 1)) + shown (length (map (λ pair. pair.1) (pairs_of list))) word * 2) (sym (two_at list (n - 1))))))
+    (ap (λ len. shown (length (map (λ pair. pair.0) (pairs_of list))) (slice_index (map (λ pair. pair.0) (pairs_of list)) (n - 1)) + shown
+    len pad.two * 2) (sym (two_count list)) ∙
+    ap (λ word. shown (length (map (λ pair. pair.0) (pairs_of list))) (slice_index (map (λ pair. pair.0) (pairs_of list)) (n - 1)) + shown
+    (length (map (λ pair. pair.1) (pairs_of list))) word * 2) (sym (two_at list (n - 1))))))
 
 pub lines_stand : (p : Pads) (history : PadHistory) → StandsFor p history → pads_lines p ≡ pad_lines history
 lines_stand p history h =
@@ -197,8 +226,10 @@ same_list (x ∷ a) (y ∷ b) e =
     let one : x.one ≡ y.one = ap (λ (p : ℕ × ℕ). p.0) heads in
     let two : x.two ≡ y.two = ap (λ (p : ℕ × ℕ). p.1) heads in
     let rest : pairs_of a ≡ pairs_of b = cc in
-    let pad : x ≡ y = ap (λ n. let p : Pad = record { one = n; two = x.two } in p) one ∙ ap (λ n. let p : Pad = record { one = y.one; two = n } in p) two in
+    let pad : x ≡ y = ap (λ n. let p : Pad = record { one = n; two = x.two } in p) one
+    ∙ ap (λ n. let p : Pad = record { one = y.one; two = n } in p) two in
     ap (λ p. p ∷ a) pad ∙ ap (λ ps. y ∷ ps) (same_list a b rest)
 
-pub stands_again : (p : Pads) (state : PadState) (list : List Pad) (history : PadHistory) → StateStandsFor list state history → pairs_of (list_of p) ≡ pairs_of list → StandsFor (with_pad_state state p) history
+pub stands_again : (p : Pads) (state : PadState) (list : List Pad) (history : PadHistory) → StateStandsFor list state history
+    → pairs_of (list_of p) ≡ pairs_of list → StandsFor (with_pad_state state p) history
 stands_again p state list history h e = subst (λ l. StateStandsFor l state history) (same_list list (list_of p) (sym e)) h

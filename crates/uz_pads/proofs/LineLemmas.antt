@@ -1,5 +1,6 @@
 -- One more line is read.
-use Rattle.std.proofs.Common.{◌≡◌, ◌≢◌, ℕ, zero, suc, ◌+◌, ◌<◌, ◌≤◌, true, if◌then◌else◌, List, [], ◌∷◌, ◌++◌, length, get_or, take, drop, map, nat_lt, Bor, refl, sym, ◌∙◌, ap, subst, append_assoc, append-nil, arith}
+use Rattle.std.proofs.Common.{◌≡◌, ◌≢◌, ℕ, zero, suc, ◌+◌, ◌<◌, ◌≤◌, true, if◌then◌else◌, List, [], ◌∷◌, ◌++◌, length, get_or, take, drop}
+use Rattle.std.proofs.Common.{map, nat_lt, Bor, refl, sym, ◌∙◌, ap, subst, append_assoc, append-nil, arith}
 use Rattle.std.proofs.lemmas.Bool.Decides.{nat_tests}
 use Rattle.std.proofs.lemmas.List.{length-append, length-map, length-take-le, take-append-drop, take_all}
 use Rattle.std.proofs.lemmas.List.Elements.{All-append, All-nil, All-cons}
@@ -9,7 +10,8 @@ use Rattle.uz_pads.specs.declared.pads.Pad.{Pad}
 use Rattle.uz_pads.specs.declared.lines.Line.TheVariants.{Blank, Pair, Faulty}
 use Rattle.uz_pads.specs.declared.errors.PadWhy.{PadWhy}
 use Rattle.uz_pads.specs.declared.errors.PadWhy.TheVariants.{Digits, Count}
-use Rattle.uz_pads.specs.Lines.{kind_of, without_cr, line_at, lines_of_pieces, pads_of, pads_in, is_well_formed, IsRead, IsFault, IsFirstFault}
+use Rattle.uz_pads.specs.Lines.{kind_of, without_cr, line_at, lines_of_pieces, pads_of, pads_in, is_well_formed, IsRead, IsFault}
+use Rattle.uz_pads.specs.Lines.{IsFirstFault}
 
 -- the lines are as many as the pieces, each at its place
 
@@ -36,16 +38,21 @@ line_here (piece ∷ next ∷ more) (suc at) h =
 
 pub pads_in-append : (xs ys : List (List ℕ)) → pads_in (xs ++ ys) ≡ pads_in xs ++ pads_in ys
 pads_in-append [] ys = refl
-pads_in-append (x ∷ xs) ys = ap (λ pads. pads_of (kind_of x) ++ pads) (pads_in-append xs ys) ∙ sym (append_assoc (pads_of (kind_of x)) (pads_in xs) (pads_in ys))
+pads_in-append (x ∷ xs) ys = ap (λ pads. pads_of (kind_of x) ++ pads) (pads_in-append xs ys)
+    ∙ sym (append_assoc (pads_of (kind_of x)) (pads_in xs) (pads_in ys))
 
 -- one more line
-pub more_read : (earlier : List (List ℕ)) (line : List ℕ) (pads more : List Pad) → IsRead earlier pads → pads_of (kind_of line) ≡ more → is_well_formed (kind_of line) ≡ true →
+pub more_read : (earlier : List (List ℕ)) (line : List ℕ) (pads more : List Pad) → IsRead earlier pads → pads_of (kind_of line) ≡ more
+    → is_well_formed (kind_of line) ≡ true →
     length (pads ++ more) ≤ 65536 → IsRead (earlier ++ line ∷ []) (pads ++ more)
 more_read earlier line pads more h e w few =
     let all : pads_in (earlier ++ line ∷ []) ≡ pads ++ more =
-    pads_in-append earlier (line ∷ []) ∙ (ap (λ xs. xs ++ (pads_of (kind_of line) ++ [])) (sym h.are) ∙ ap (λ xs. pads ++ xs) (append-nil (pads_of (kind_of line)) ∙ e)) in
+    pads_in-append earlier (line ∷ []) ∙ (ap (λ xs. xs ++ (pads_of (kind_of line) ++ [])) (sym h.are) ∙ ap (λ xs. pads ++ xs)
+    (append-nil (pads_of (kind_of line)) ∙ e)) in
     record {
-      well_formed = All-append (λ (x : List ℕ). is_well_formed (kind_of x) ≡ true) earlier (line ∷ []) h.well_formed (All-cons (λ (x : List ℕ). is_well_formed (kind_of x) ≡ true) line [] w (All-nil (λ (x : List ℕ). is_well_formed (kind_of x) ≡ true)));
+      well_formed = All-append (λ (x : List ℕ). is_well_formed (kind_of x) ≡ true) earlier (line ∷ []) h.well_formed
+          (All-cons (λ (x : List ℕ). is_well_formed (kind_of x) ≡ true) line [] w
+          (All-nil (λ (x : List ℕ). is_well_formed (kind_of x) ≡ true)));
       few = subst (λ (xs : List Pad). length xs ≤ 65536) (sym all) few;
       are = sym all;
     }
@@ -66,32 +73,43 @@ taken_more pieces at h =
 pub read_none : (pieces : List (Bor (List ℕ))) → IsRead (take 0 (lines_of_pieces (map (λ piece. piece.now) pieces))) []
 read_none pieces = record { well_formed = All-nil _; few = omega arith; are = refl }
 
-pub read_blank : (pieces : List (Bor (List ℕ))) (at : ℕ) (pads : List Pad) → at < length pieces → kind_of (line_at (map (λ piece. piece.now) pieces) at) ≡ Blank →
-    IsRead (take at (lines_of_pieces (map (λ piece. piece.now) pieces))) pads → IsRead (take (at + 1) (lines_of_pieces (map (λ piece. piece.now) pieces))) pads
+pub read_blank : (pieces : List (Bor (List ℕ))) (at : ℕ) (pads : List Pad) → at < length pieces
+    → kind_of (line_at (map (λ piece. piece.now) pieces) at) ≡ Blank →
+    IsRead (take at (lines_of_pieces (map (λ piece. piece.now) pieces))) pads
+    → IsRead (take (at + 1) (lines_of_pieces (map (λ piece. piece.now) pieces))) pads
 read_blank pieces at pads h e r =
     let lines = lines_of_pieces (map (λ (piece : Bor (List ℕ)). piece.now) pieces) in
-    let more = more_read (take at lines) (line_at (map (λ (piece : Bor (List ℕ)). piece.now) pieces) at) pads [] r (ap pads_of e) (ap is_well_formed e) (subst (λ (xs : List Pad). length xs ≤ 65536) (sym (append-nil pads ∙ r.are)) r.few) in
-    let grown : IsRead (take at lines ++ line_at (map (λ (piece : Bor (List ℕ)). piece.now) pieces) at ∷ []) pads = subst (λ xs. IsRead (take at lines ++ line_at (map (λ (piece : Bor (List ℕ)). piece.now) pieces) at ∷ []) xs) (append-nil pads) more in
+    let more = more_read (take at lines) (line_at (map (λ (piece : Bor (List ℕ)). piece.now) pieces) at) pads [] r (ap pads_of e)
+    (ap is_well_formed e) (subst (λ (xs : List Pad). length xs ≤ 65536) (sym (append-nil pads ∙ r.are)) r.few) in
+    let grown : IsRead (take at lines ++ line_at (map (λ (piece : Bor (List ℕ)). piece.now) pieces) at ∷ []) pads =
+    subst (λ xs. IsRead (take at lines ++ line_at (map (λ (piece : Bor (List ℕ)). piece.now) pieces) at ∷ []) xs) (append-nil pads)
+    more in
     subst (λ ls. IsRead ls pads) (sym (taken_more pieces at h)) grown
 
-pub read_pair : (pieces : List (Bor (List ℕ))) (at : ℕ) (pads : List Pad) (pad : Pad) → at < length pieces → kind_of (line_at (map (λ piece. piece.now) pieces) at) ≡ Pair pad → length pads ≢ 65536 →
-    IsRead (take at (lines_of_pieces (map (λ piece. piece.now) pieces))) pads → IsRead (take (at + 1) (lines_of_pieces (map (λ piece. piece.now) pieces))) (pads ++ pad ∷ [])
+pub read_pair : (pieces : List (Bor (List ℕ))) (at : ℕ) (pads : List Pad) (pad : Pad) → at < length pieces
+    → kind_of (line_at (map (λ piece. piece.now) pieces) at) ≡ Pair pad → length pads ≢ 65536 →
+    IsRead (take at (lines_of_pieces (map (λ piece. piece.now) pieces))) pads
+    → IsRead (take (at + 1) (lines_of_pieces (map (λ piece. piece.now) pieces))) (pads ++ pad ∷ [])
 read_pair pieces at pads pad h e ne r =
     let lines = lines_of_pieces (map (λ (piece : Bor (List ℕ)). piece.now) pieces) in
     let few : length pads ≤ 65536 = subst (λ (xs : List Pad). length xs ≤ 65536) (sym r.are) r.few in
     let room : length (pads ++ pad ∷ []) ≤ 65536 = omega (arith, length-append pads (pad ∷ [])) in
-    let more = more_read (take at lines) (line_at (map (λ (piece : Bor (List ℕ)). piece.now) pieces) at) pads (pad ∷ []) r (ap pads_of e) (ap is_well_formed e) room in
+    let more = more_read (take at lines) (line_at (map (λ (piece : Bor (List ℕ)). piece.now) pieces) at) pads (pad ∷ []) r (ap pads_of e)
+    (ap is_well_formed e) room in
     subst (λ ls. IsRead ls (pads ++ pad ∷ [])) (sym (taken_more pieces at h)) more
 
-pub read_all : (pieces : List (Bor (List ℕ))) (at : ℕ) (pads : List Pad) → length pieces ≤ at → IsRead (take at (lines_of_pieces (map (λ piece. piece.now) pieces))) pads →
+pub read_all : (pieces : List (Bor (List ℕ))) (at : ℕ) (pads : List Pad) → length pieces ≤ at
+    → IsRead (take at (lines_of_pieces (map (λ piece. piece.now) pieces))) pads →
     IsRead (lines_of_pieces (map (λ piece. piece.now) pieces)) pads
 read_all pieces at pads h r =
     let ps = map (λ (piece : Bor (List ℕ)). piece.now) pieces in
     let count : length (lines_of_pieces ps) ≡ length pieces = line_count ps ∙ length-map pieces (λ (piece : Bor (List ℕ)). piece.now) in
     subst (λ ls. IsRead ls pads) (take_all at (lines_of_pieces ps) (omega arith)) r
 
-pub fault_at : (pieces : List (Bor (List ℕ))) (at : ℕ) (pads : List Pad) (why : PadWhy) → at < length pieces → IsFault (kind_of (line_at (map (λ piece. piece.now) pieces) at)) (length pads) why →
-    IsRead (take at (lines_of_pieces (map (λ piece. piece.now) pieces))) pads → IsFirstFault (lines_of_pieces (map (λ piece. piece.now) pieces)) (at + 1) why
+pub fault_at : (pieces : List (Bor (List ℕ))) (at : ℕ) (pads : List Pad) (why : PadWhy) → at < length pieces
+    → IsFault (kind_of (line_at (map (λ piece. piece.now) pieces) at)) (length pads) why →
+    IsRead (take at (lines_of_pieces (map (λ piece. piece.now) pieces))) pads
+    → IsFirstFault (lines_of_pieces (map (λ piece. piece.now) pieces)) (at + 1) why
 fault_at pieces at pads why h fault r =
     let ps = map (λ (piece : Bor (List ℕ)). piece.now) pieces in
     let lines = lines_of_pieces ps in
@@ -101,16 +119,22 @@ fault_at pieces at pads why h fault r =
       earlier = take at lines;
       line = line_at ps at;
       later = drop (suc at) lines;
-      cut = sym (take-append-drop at lines) ∙ (ap (λ xs. take at lines ++ xs) (drop-cons lines at [] (omega arith)) ∙ ap (λ x. take at lines ++ x ∷ drop (suc at) lines) (line_here ps at fits));
+      cut = sym (take-append-drop at lines) ∙ (ap (λ xs. take at lines ++ xs) (drop-cons lines at [] (omega arith))
+          ∙ ap (λ x. take at lines ++ x ∷ drop (suc at) lines) (line_here ps at fits));
       number_is = ap (λ n. n + 1) (sym (length-take-le at lines (omega arith)));
       read = subst (λ xs. IsRead (take at lines) xs) r.are r;
       fault = subst (λ (xs : List Pad). IsFault (kind_of (line_at ps at)) (length xs) why) r.are fault;
     }
 
-pub digits_fault : (pieces : List (Bor (List ℕ))) (at : ℕ) (pads : List Pad) → at < length pieces → kind_of (line_at (map (λ piece. piece.now) pieces) at) ≡ Faulty →
-    IsRead (take at (lines_of_pieces (map (λ piece. piece.now) pieces))) pads → IsFirstFault (lines_of_pieces (map (λ piece. piece.now) pieces)) (at + 1) Digits
+pub digits_fault : (pieces : List (Bor (List ℕ))) (at : ℕ) (pads : List Pad) → at < length pieces
+    → kind_of (line_at (map (λ piece. piece.now) pieces) at) ≡ Faulty →
+    IsRead (take at (lines_of_pieces (map (λ piece. piece.now) pieces))) pads
+    → IsFirstFault (lines_of_pieces (map (λ piece. piece.now) pieces)) (at + 1) Digits
 digits_fault pieces at pads h e r = fault_at pieces at pads Digits h (subst (λ line. IsFault line (length pads) Digits) (sym e) tt) r
 
-pub count_fault : (pieces : List (Bor (List ℕ))) (at : ℕ) (pads : List Pad) (pad : Pad) → at < length pieces → kind_of (line_at (map (λ piece. piece.now) pieces) at) ≡ Pair pad → length pads ≡ 65536 →
-    IsRead (take at (lines_of_pieces (map (λ piece. piece.now) pieces))) pads → IsFirstFault (lines_of_pieces (map (λ piece. piece.now) pieces)) (at + 1) Count
-count_fault pieces at pads pad h e full r = fault_at pieces at pads Count h (subst (λ line. IsFault line (length pads) Count) (sym e) full) r
+pub count_fault : (pieces : List (Bor (List ℕ))) (at : ℕ) (pads : List Pad) (pad : Pad) → at < length pieces
+    → kind_of (line_at (map (λ piece. piece.now) pieces) at) ≡ Pair pad → length pads ≡ 65536 →
+    IsRead (take at (lines_of_pieces (map (λ piece. piece.now) pieces))) pads
+    → IsFirstFault (lines_of_pieces (map (λ piece. piece.now) pieces)) (at + 1) Count
+count_fault pieces at pads pad h e full r = fault_at pieces at pads Count h (subst (λ line. IsFault line (length pads) Count) (sym e) full)
+    r

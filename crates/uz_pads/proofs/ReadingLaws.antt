@@ -1,5 +1,6 @@
 -- The lines of a pad file give one list of pairs or one first fault, and not both.
-use Rattle.std.proofs.Common.{◌≡◌, ℕ, ◌+◌, ◌<◌, ◌≤◌, true, List, [], ◌∷◌, ◌++◌, ◌⊎◌, length, get_or, refl, sym, ◌∙◌, ap, subst, inl, inr, append_assoc, append-nil, arith}
+use Rattle.std.proofs.Common.{◌≡◌, ℕ, ◌+◌, ◌<◌, ◌≤◌, true, List, [], ◌∷◌, ◌++◌, ◌⊎◌, length, get_or, refl, sym, ◌∙◌, ap, subst, inl, inr}
+use Rattle.std.proofs.Common.{append_assoc, append-nil, arith}
 use Rattle.std.proofs.lemmas.Bool.{cases_lt}
 use Rattle.std.proofs.lemmas.List.Elements.{All-nil}
 use Rattle.std.proofs.lemmas.List.{length-append}
@@ -20,22 +21,30 @@ in_middle : (xs : List (List ℕ)) (y : List ℕ) (ys : List (List ℕ)) → get
 in_middle [] y ys = refl
 in_middle (x ∷ xs) y ys = in_middle xs y ys
 
-no_fault : (line : Line) (before after : ℕ) (why : PadWhy) → IsFault line before why → is_well_formed line ≡ true → before + (length (pads_of line) + after) ≤ 65536 → ⊥
+no_fault : (line : Line) (before after : ℕ) (why : PadWhy) → IsFault line before why → is_well_formed line ≡ true
+    → before + (length (pads_of line) + after) ≤ 65536 → ⊥
 no_fault Faulty before after Digits fault good few = absurd cc
 no_fault (Pair pad) before after Count fault good few = omega (arith, fault)
 no_fault line before after why fault good few = fault
 
-not_inside : (earlier : List (List ℕ)) (line : List ℕ) (more : List (List ℕ)) (pads : List Pad) (why : PadWhy) → IsRead (earlier ++ line ∷ more) pads → IsFault (kind_of line) (length (pads_in earlier)) why → ⊥
+not_inside : (earlier : List (List ℕ)) (line : List ℕ) (more : List (List ℕ)) (pads : List Pad) (why : PadWhy)
+    → IsRead (earlier ++ line ∷ more) pads → IsFault (kind_of line) (length (pads_in earlier)) why → ⊥
 not_inside earlier line more pads why read fault =
     let good : is_well_formed (kind_of line) ≡ true =
-    subst (λ x. is_well_formed (kind_of x) ≡ true) (in_middle earlier line more) (read.well_formed (length earlier) [] (omega (arith, length-append earlier (line ∷ more)))) in
-    let pairs : pads_in (earlier ++ line ∷ more) ≡ pads_in earlier ++ (pads_of (kind_of line) ++ pads_in more) = pads_in-append earlier (line ∷ more) in
-    let count : length (pads_in (earlier ++ line ∷ more)) ≡ length (pads_in earlier) + (length (pads_of (kind_of line)) + length (pads_in more)) =
-    ap length pairs ∙ (length-append (pads_in earlier) (pads_of (kind_of line) ++ pads_in more) ∙ ap (λ n. length (pads_in earlier) + n) (length-append (pads_of (kind_of line)) (pads_in more))) in
+    subst (λ x. is_well_formed (kind_of x) ≡ true) (in_middle earlier line more)
+    (read.well_formed (length earlier) [] (omega (arith, length-append earlier (line ∷ more)))) in
+    let pairs : pads_in (earlier ++ line ∷ more) ≡ pads_in earlier ++ (pads_of (kind_of line) ++ pads_in more) = pads_in-append earlier
+    (line ∷ more) in
+    let count : length (pads_in (earlier ++ line ∷ more)) ≡ length (pads_in earlier) + (length (pads_of (kind_of line)) + length
+    (pads_in more)) =
+    ap length pairs ∙ (length-append (pads_in earlier) (pads_of (kind_of line) ++ pads_in more) ∙ ap (λ n. length (pads_in earlier) + n)
+    (length-append (pads_of (kind_of line)) (pads_in more))) in
     no_fault (kind_of line) (length (pads_in earlier)) (length (pads_in more)) why fault good (subst (λ n. n ≤ 65536) count read.few)
 
-pub read_or_faulty : (lines : List (List ℕ)) (pads : List Pad) (number : ℕ) (why : PadWhy) → IsRead lines pads → IsFirstFault lines number why → ⊥
-read_or_faulty lines pads number why read first = not_inside first.earlier first.line first.later pads why (subst (λ ls. IsRead ls pads) first.cut read) first.fault
+pub read_or_faulty : (lines : List (List ℕ)) (pads : List Pad) (number : ℕ) (why : PadWhy) → IsRead lines pads → IsFirstFault lines number
+    why → ⊥
+read_or_faulty lines pads number why read first = not_inside first.earlier first.line first.later pads why
+    (subst (λ ls. IsRead ls pads) first.cut read) first.fault
 
 -- Two cuts of the same lines: at one place, or one before the other
 
@@ -73,15 +82,19 @@ same_why Faulty before Digits Memory a b = absurd b
 same_why Faulty before Count w a b = absurd a
 same_why Faulty before Memory w a b = absurd a
 
-decide : (lines : List (List ℕ)) (n m : ℕ) (v w : PadWhy) (a : IsFirstFault lines n v) (b : IsFirstFault lines m w) → Cuts a.earlier a.line b.earlier b.line → (n ≡ m) × (v ≡ w)
+decide : (lines : List (List ℕ)) (n m : ℕ) (v w : PadWhy) (a : IsFirstFault lines n v) (b : IsFirstFault lines m w) → Cuts a.earlier a.line
+    b.earlier b.line → (n ≡ m) × (v ≡ w)
 decide lines n m v w a b (inl same) = (
   a.number_is ∙ (ap (λ ls. length ls + 1) same.0 ∙ sym b.number_is),
   same_why (kind_of b.line) (length (pads_in b.earlier)) v w
-      (subst (λ l. IsFault (kind_of l) (length (pads_in b.earlier)) v) same.1 (subst (λ ls. IsFault (kind_of a.line) (length (pads_in ls)) v) same.0 a.fault))
+      (subst (λ l. IsFault (kind_of l) (length (pads_in b.earlier)) v) same.1
+      (subst (λ ls. IsFault (kind_of a.line) (length (pads_in ls)) v) same.0 a.fault))
       b.fault,
 )
-decide lines n m v w a b (inr (inl inside)) = absurd (not_inside a.earlier a.line inside.more (pads_in b.earlier) v (subst (λ ls. IsRead ls (pads_in b.earlier)) inside.cut b.read) a.fault)
-decide lines n m v w a b (inr (inr inside)) = absurd (not_inside b.earlier b.line inside.more (pads_in a.earlier) w (subst (λ ls. IsRead ls (pads_in a.earlier)) inside.cut a.read) b.fault)
+decide lines n m v w a b (inr (inl inside)) = absurd (not_inside a.earlier a.line inside.more (pads_in b.earlier) v
+    (subst (λ ls. IsRead ls (pads_in b.earlier)) inside.cut b.read) a.fault)
+decide lines n m v w a b (inr (inr inside)) = absurd (not_inside b.earlier b.line inside.more (pads_in a.earlier) w
+    (subst (λ ls. IsRead ls (pads_in a.earlier)) inside.cut a.read) b.fault)
 
 pub one_fault : (lines : List (List ℕ)) (n m : ℕ) (v w : PadWhy) → IsFirstFault lines n v → IsFirstFault lines m w → (n ≡ m) × (v ≡ w)
 one_fault lines n m v w a b = decide lines n m v w a b (two_cuts a.earlier b.earlier a.line b.line a.later b.later (sym a.cut ∙ b.cut))
@@ -96,11 +109,14 @@ own : (lines : List (List ℕ)) (pads : List Pad) → IsRead lines pads → IsRe
 own lines pads r = record { well_formed = r.well_formed; few = r.few; are = refl }
 
 -- one more line, as it is
-one_line : (earlier : List (List ℕ)) (line : List ℕ) (rest : List (List ℕ)) (kind : Line) → kind_of line ≡ kind → IsRead earlier (pads_in earlier)
+one_line : (earlier : List (List ℕ)) (line : List ℕ) (rest : List (List ℕ)) (kind : Line) → kind_of line ≡ kind → IsRead earlier
+    (pads_in earlier)
     → (IsRead (earlier ++ line ∷ []) (pads_in (earlier ++ line ∷ [])) → Decided (earlier ++ line ∷ rest)) → Decided (earlier ++ line ∷ rest)
 one_line earlier line rest Blank e r more =
-    let few : length (pads_in earlier ++ []) ≤ 65536 = subst (λ (xs : List Pad). length xs ≤ 65536) (sym (append-nil (pads_in earlier))) r.few in
-    more (own (earlier ++ line ∷ []) (pads_in earlier ++ []) (more_read earlier line (pads_in earlier) [] r (ap pads_of e) (ap is_well_formed e) few))
+    let few : length (pads_in earlier ++ []) ≤ 65536 = subst (λ (xs : List Pad). length xs ≤ 65536) (sym (append-nil (pads_in earlier)))
+    r.few in
+    more (own (earlier ++ line ∷ []) (pads_in earlier ++ []) (more_read earlier line (pads_in earlier) [] r (ap pads_of e)
+    (ap is_well_formed e) few))
 one_line earlier line rest Faulty e r more =
     inr (
       length earlier + 1,
@@ -118,7 +134,8 @@ one_line earlier line rest Faulty e r more =
 one_line earlier line rest (Pair pad) e r more = elim (cases_lt (length (pads_in earlier)) 65536) [
   | inl room ↦
       let few : length (pads_in earlier ++ pad ∷ []) ≤ 65536 = omega (arith, length-append (pads_in earlier) (pad ∷ [])) in
-      more (own (earlier ++ line ∷ []) (pads_in earlier ++ pad ∷ []) (more_read earlier line (pads_in earlier) (pad ∷ []) r (ap pads_of e) (ap is_well_formed e) few))
+      more (own (earlier ++ line ∷ []) (pads_in earlier ++ pad ∷ []) (more_read earlier line (pads_in earlier) (pad ∷ []) r (ap pads_of e)
+      (ap is_well_formed e) few))
   | inr full ↦
       let most : length (pads_in earlier) ≤ 65536 = r.few in
       let all : length (pads_in earlier) ≡ 65536 = omega arith in
@@ -140,7 +157,12 @@ one_line earlier line rest (Pair pad) e r more = elim (cases_lt (length (pads_in
 decided : (earlier rest : List (List ℕ)) → IsRead earlier (pads_in earlier) → Decided (earlier ++ rest)
 decided earlier [] r = subst Decided (sym (append-nil earlier)) (inl (pads_in earlier, r))
 decided earlier (line ∷ rest) r =
-    one_line earlier line rest (kind_of line) refl r (λ read. subst Decided (append_assoc earlier (line ∷ []) rest) (decided (earlier ++ line ∷ []) rest read))
+    one_line earlier line rest (kind_of line) refl r (λ read. subst Decided (append_assoc earlier (line ∷ []) rest)
+    (decided (earlier ++ line ∷ []) rest read))
 
 pub read_or_fault : (lines : List (List ℕ)) → Decided lines
-read_or_fault lines = decided [] lines (record { well_formed = All-nil (λ (x : List ℕ). is_well_formed (kind_of x) ≡ true); few = omega arith; are = refl })
+read_or_fault lines = decided [] lines (record {
+  well_formed = All-nil (λ (x : List ℕ). is_well_formed (kind_of x) ≡ true);
+  few = omega arith;
+  are = refl;
+})

@@ -1,2 +1,3 @@
 pub mod Lines
 pub mod Pads
+pub mod WhyNames

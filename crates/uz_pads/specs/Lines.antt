@@ -1,8 +1,11 @@
 -- The text of a pad file: lines that end in LF or CRLF, each blank or a pair of words.
-use Rattle.std.specs.Prelude.{◌≡◌, ℕ, ◌+◌, ◌-◌, ◌*◌, ◌≤◌, Bool, true, false, ◌&&◌, ◌||◌, ◌==◌, if◌then◌else◌, nat_le, nat_lt, List, [], ◌∷◌, ◌++◌, length, slice_index, take, Option, Some, None}
+use Rattle.std.specs.Prelude.{◌≡◌, ℕ, ◌+◌, ◌-◌, ◌*◌, ◌≤◌, Bool, true, false, ◌&&◌, ◌||◌, ◌==◌, if◌then◌else◌, nat_lt, List, [], ◌∷◌}
+use Rattle.std.specs.Prelude.{◌++◌, length, slice_index, take, Option, Some, None, Result, Ok}
 use Prim.Native.Char.{code}
 use Rattle.std.specs.List.{slice_split, All}
 use Rattle.std.specs.Prelude.{slice_index_or}
+use Rattle.hex.specs.Hex.{decode_of}
+use Rattle.hex.specs.declared.error.FromHexError.{FromHexError}
 use Rattle.uz_pads.specs.declared.pads.Pad.{Pad}
 use Rattle.uz_pads.specs.declared.lines.Line.{Line}
 use Rattle.uz_pads.specs.declared.lines.Line.TheVariants.{Blank, Pair, Faulty}
@@ -11,19 +14,14 @@ use Rattle.uz_pads.specs.declared.errors.PadWhy.TheVariants.{Digits, Count}
 
 -- One line
 
--- what a hexadecimal digit of either case stands for: 0 to 9, A to F and a to f (ASCII)
-abbrev pub digit_of : ℕ → Option ℕ
-digit_of byte =
-    if nat_le (code "0") byte && nat_le byte (code "9") then Some (byte - code "0") else
-    if nat_le (code "A") byte && nat_le byte (code "F") then Some (byte - code "A" + 10) else
-    if nat_le (code "a") byte && nat_le byte (code "f") then Some (byte - code "a" + 10) else None
+-- the number of two bytes, the high one first
+abbrev pub number_of : Result (List ℕ) FromHexError → Option ℕ
+number_of (Ok (high ∷ low ∷ [])) = Some (high * 256 + low)
+number_of other = None
 
-abbrev pub of_digits : Option ℕ → Option ℕ → Option ℕ → Option ℕ → Option ℕ
-of_digits (Some a) (Some b) (Some c) (Some d) = Some ((a * 16 + b) * 256 + (c * 16 + d))
-of_digits a b c d = None
-
+-- the number that four hexadecimal digits of either case stand for
 abbrev pub word_of : ℕ → ℕ → ℕ → ℕ → Option ℕ
-word_of a b c d = of_digits (digit_of a) (digit_of b) (digit_of c) (digit_of d)
+word_of a b c d = number_of (decode_of (a ∷ b ∷ c ∷ d ∷ []))
 
 abbrev pub pad_of : Option ℕ → Option ℕ → Option Pad
 pad_of (Some one) (Some two) = Some (record { one = one; two = two })

@@ -1,5 +1,6 @@
 -- What a value of the pads stands for, and what becomes of it.
-use Rattle.std.specs.Prelude.{◌≡◌, ℕ, ◌+◌, ◌-◌, ◌*◌, not, if◌then◌else◌, List, [], ◌∷◌, length, map, min, slice_index_or, nat_le, nat_lt, Option, Some, None}
+use Rattle.std.specs.Prelude.{◌≡◌, ℕ, ◌+◌, ◌-◌, ◌*◌, not, if◌then◌else◌, List, [], ◌∷◌, length, map, min, slice_index_or, nat_le, nat_lt}
+use Rattle.std.specs.Prelude.{Option, Some, None}
 use Rattle.uz_machine.specs.Arithmetic.{bit_value, bit_is_set}
 use Rattle.uz_machine.specs.PadLine.{PadHistory, is_fall, is_rise, latches, moves}
 use Rattle.uz_machine.specs.Space.{PadWiring}

@@ -1,5 +1,8 @@
 //! Why a pad file is refused.
 
+ghost use Rattle.std.specs.Prelude.{◌≡◌};
+ghost use Rattle.uz_pads.specs.WhyNames.{pad_why_name};
+
 use std::alloc::{AllocError, AllocFailed};
 
 /// Why a line is refused, in the order of the numbers, from 1.
@@ -11,6 +14,19 @@ pub enum PadWhy {
     Count,
     /// Memory ran out. This says nothing of the text.
     Memory,
+}
+
+impl PadWhy {
+    /// The name, as it is printed.
+    pub fn name(self) -> &'static str
+        ensures { result.now ≡ pad_why_name self }
+    {
+        match self {
+            PadWhy::Digits => "Digits",
+            PadWhy::Count => "Count",
+            PadWhy::Memory => "Memory",
+        }
+    }
 }
 
 /// The first faulty line, counted from 1, and why it is refused. With `Memory` the line is 0.

@@ -1,8 +1,8 @@
 //! The lines of a pad file.
 
-ghost use Rattle.std.specs.Prelude.{◌≡◌, ◌≤◌, ◌<◌, ◌+◌, ◌==◌, ◌^◌, ◌↔◌, IfOk, IfSome, IsTrue, length, map};
+ghost use Rattle.std.specs.Prelude.{◌≡◌, ◌≤◌, ◌<◌, ◌+◌, ◌==◌, IfOk, length, map};
 ghost use Rattle.std.specs.List.{slice_split};
-ghost use Rattle.uz_pads.specs.Lines.{digit_of, word_of, pair_in, kind_of, without_cr as without_cr_of, is_blank as is_blank_of};
+ghost use Rattle.uz_pads.specs.Lines.{word_of, pair_in, kind_of, without_cr as without_cr_of, is_blank as is_blank_of};
 
 use crate::Pad;
 use std::alloc::{AllocError, Global};
@@ -18,26 +18,15 @@ pub enum Line {
     Faulty,
 }
 
-/// The number that a hexadecimal digit of either case stands for.
-fn digit(byte: u8) -> Option<u8>
-    ensures value { result ≡ digit_of byte }
-    ensures below { IfSome result (λ n. n < 16) }
-{
-    match byte {
-        b'0'..=b'9' => Some(byte - b'0'),
-        b'A'..=b'F' => Some(byte - b'A' + 10),
-        b'a'..=b'f' => Some(byte - b'a' + 10),
-        _ => None,
-    }
-}
-
-/// The number that four hexadecimal digits stand for.
+/// The number that four hexadecimal digits of either case stand for.
 fn word(a: u8, b: u8, c: u8, d: u8) -> Option<u16>
     ensures { result ≡ word_of a b c d }
 {
-    let high = u16::from(digit(a)?) * 16 + u16::from(digit(b)?);
-    let low = u16::from(digit(c)?) * 16 + u16::from(digit(d)?);
-    Some(high * 256 + low)
+    let mut bytes = [0; 2];
+    match hex::decode_to_slice([a, b, c, d].as_slice(), bytes.as_mut_slice()) {
+        Ok(()) => Some(u16::from_be_bytes(bytes)),
+        Err(_) => None,
+    }
 }
 
 fn is_blank(line: &[u8]) -> bool

@@ -14,4 +14,5 @@ pads_alike = record { lines = lines_stand; with_level = λ n p history r. stands
 pub byte_over : (space : Space Pads) (history : PadHistory) (at : ℕ) → StandsFor space.pads history →
     byte_at pads_wiring space at ≡ byte_at history_wiring (with_pads history space) at
 byte_over space history at h =
-    same_byte pads_wiring history_wiring StandsFor pads_alike space (with_pads history space) at (record { bytes = refl; timer = refl; pads = h })
+    same_byte pads_wiring history_wiring StandsFor pads_alike space (with_pads history space) at
+    (record { bytes = refl; timer = refl; pads = h })

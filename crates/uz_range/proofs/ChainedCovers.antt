@@ -32,7 +32,8 @@ zero_goes Free Free o h k = tt
 zero_goes Free Old o h k = tt
 zero_goes Old b o h k = absurd h
 
-all_hold : (b : Bit) (bs : List Bit) (os : List (Option Bool)) (t : Bool) (v : ℕ) → AdmitsAll bs os → MayBe b t → AdmitsAll (slice_set bs 1 (chained_zero (slice_index_or bs 1 Free) b)) (chained_result (record { value = v; flags = os }) t).flags
+all_hold : (b : Bit) (bs : List Bit) (os : List (Option Bool)) (t : Bool) (v : ℕ) → AdmitsAll bs os → MayBe b t
+    → AdmitsAll (slice_set bs 1 (chained_zero (slice_index_or bs 1 Free) b)) (chained_result (record { value = v; flags = os }) t).flags
 all_hold b [] [] true v h k = tt
 all_hold b [] [] false v h k = tt
 all_hold b [] (o ∷ os) t v h k = absurd h
@@ -48,5 +49,9 @@ pub value_stays : (o : AluResult) (t : Bool) → (chained_result o t).value ≡ 
 value_stays o true = refl
 value_stays o false = refl
 
-pub chained_covers : (b : Bit) (r : Ranged) (o : AluResult) (t : Bool) → Covers r o → MayBe b t → Covers (chained_answer b r) (chained_result o t)
-chained_covers b r o t h k = record { value = subst (λ v. IsWithin v r.span) (sym (value_stays o t)) h.value; flags = all_hold b r.flags o.flags t o.value h.flags k }
+pub chained_covers : (b : Bit) (r : Ranged) (o : AluResult) (t : Bool) → Covers r o → MayBe b t → Covers (chained_answer b r)
+    (chained_result o t)
+chained_covers b r o t h k = record {
+  value = subst (λ v. IsWithin v r.span) (sym (value_stays o t)) h.value;
+  flags = all_hold b r.flags o.flags t o.value h.flags k;
+}

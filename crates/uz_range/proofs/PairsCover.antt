@@ -1,5 +1,6 @@
 -- Pairs, halves and is_single bits.
-use Rattle.std.proofs.Common.{◌≡◌, ℕ, ◌+◌, ◌-◌, ◌*◌, ◌/◌, ◌%◌, ◌^◌, ◌<◌, ◌≤◌, Bool, true, false, not, ◌&&◌, if◌then◌else◌, [], ◌∷◌, Option, Some, nat_eq, nat_lt, nat_le, refl, sym, ap, subst, arith}
+use Rattle.std.proofs.Common.{◌≡◌, ℕ, ◌+◌, ◌-◌, ◌*◌, ◌/◌, ◌%◌, ◌^◌, ◌<◌, ◌≤◌, Bool, true, false, not, ◌&&◌, if◌then◌else◌, [], ◌∷◌, Option}
+use Rattle.std.proofs.Common.{Some, nat_eq, nat_lt, nat_le, refl, sym, ap, subst, arith}
 use Rattle.std.specs.Int.{bit_at}
 use Rattle.std.proofs.lemmas.Nat.{or_lt, and_le_l}
 use Rattle.std.proofs.Math.Pow.{shr_mono, pow-lt}
@@ -14,15 +15,33 @@ use Rattle.uz_range.specs.Answers.{is_single, exact_wide_answer, wide_answer, is
 use Rattle.uz_range.specs.Rules.{pair_add_answer, pair_sub_answer, low_answer, high_answer, swap_answer, bst_answer, bld_answer}
 use Rattle.uz_range.proofs.ShapesCover.{only, zero_allows, top_by, allow_themselves, both_true, only_flag}
 
-pub choose_wide : (t : Bool) (x y : WideRanged) (o : AluResult) → (t ≡ true → CoversWide x o) → (t ≡ false → CoversWide y o) → CoversWide (if t then x else y) o
+pub choose_wide : (t : Bool) (x y : WideRanged) (o : AluResult) → (t ≡ true → CoversWide x o) → (t ≡ false → CoversWide y o)
+    → CoversWide (if t then x else y) o
 choose_wide true x y o p q = p refl
 choose_wide false x y o p q = q refl
 
 pub exactly_wide_covers : (o : AluResult) → CoversWide (exact_wide_answer o) o
 exactly_wide_covers o = record { value = record { above = omega arith; below = omega arith }; flags = allow_themselves o.flags }
 
-wide_covers : (lo hi : ℕ) (c : Bit) (v : ℕ) (fc fv fs fh ft : Option Bool) → lo ≤ v → v ≤ hi → Admits c fc → CoversWide (wide_answer lo hi c) (record { value = v; flags = fc ∷ Some (nat_eq v 0) ∷ Some (nat_le 32768 v) ∷ fv ∷ fs ∷ fh ∷ ft ∷ [] })
-wide_covers lo hi c v fc fv fs fh ft a b h = record { value = record { above = a; below = b }; flags = (h, (zero_allows lo v a, (top_by (nat_lt hi 32768) (nat_le 32768 lo) (nat_le 32768 v) (λ h. grind (arith, nat_tests)) (λ h. grind (arith, nat_tests)), (tt, (tt, (tt, (tt, tt))))))) }
+wide_covers : (lo hi : ℕ) (c : Bit) (v : ℕ) (fc fv fs fh ft : Option Bool) → lo ≤ v → v ≤ hi → Admits c fc
+    → CoversWide (wide_answer lo hi c) (record {
+      value = v;
+      flags = fc ∷ Some (nat_eq v 0) ∷ Some (nat_le 32768 v) ∷ fv ∷ fs ∷ fh ∷ ft ∷ [];
+    })
+wide_covers lo hi c v fc fv fs fh ft a b h = record {
+  value = record { above = a; below = b };
+  flags = (
+    h,
+    (
+      zero_allows lo v a,
+      (
+        top_by (nat_lt hi 32768) (nat_le 32768 lo) (nat_le 32768 v) (λ h. grind (arith, nat_tests))
+            (λ h. grind (arith, nat_tests)),
+        (tt, (tt, (tt, (tt, tt)))),
+      ),
+    ),
+  );
+}
 
 no_carry : (n m : Bool) → (m ≡ true → n ≡ true) → (not n && m) ≡ false
 no_carry true m h = refl
@@ -38,10 +57,15 @@ pair_add_covers p k x w wk h =
     (λ t. rw (only p x t h) (exactly_wide_covers (pair_sum_of x k)))
     (λ t. choose_wide (nat_lt (p.hi + k) 65536) _ _ _
     (λ t'. let u : p.hi + k < 65536 = grind (arith, nat_tests) in let b : x ≤ p.hi = h.below in
-    wide_covers (p.lo + k) (p.hi + k) Zero ((x + k) % 65536) _ _ _ _ _ (omega (arith, h.above, h.below)) (omega (arith, h.above, h.below)) (ap Some (no_carry (nat_le 32768 ((x + k) % 65536)) (nat_le 32768 x) (λ e. let g : 32768 ≤ x = grind (arith, nat_tests) in let g' : 32768 ≤ (x + k) % 65536 = omega arith in grind (arith, nat_tests)))))
+    wide_covers (p.lo + k) (p.hi + k) Zero ((x + k) % 65536) _ _ _ _ _ (omega (arith, h.above, h.below)) (omega (arith, h.above, h.below))
+    (ap Some (no_carry (nat_le 32768 ((x + k) % 65536)) (nat_le 32768 x) (λ e. let g : 32768 ≤ x = grind (arith, nat_tests) in
+    let g' : 32768 ≤ (x + k) % 65536 = omega arith in grind (arith, nat_tests)))))
     (λ t'. choose_wide (nat_le 65536 (p.lo + k)) _ _ _
     (λ t''. let u : 65536 ≤ p.lo + k = grind (arith, nat_tests) in let b : p.lo ≤ x = h.above in
-    wide_covers (p.lo + k - 65536) (p.hi + k - 65536) One ((x + k) % 65536) _ _ _ _ _ (omega (arith, h.above, h.below)) (omega (arith, h.above, h.below)) (ap Some (carried (nat_le 32768 ((x + k) % 65536)) (nat_le 32768 x) (let g' : (x + k) % 65536 < 32768 = omega arith in grind (arith, nat_tests)) (let g : 32768 ≤ x = omega arith in grind (arith, nat_tests)))))
+    wide_covers (p.lo + k - 65536) (p.hi + k - 65536) One ((x + k) % 65536) _ _ _ _ _ (omega (arith, h.above, h.below))
+    (omega (arith, h.above, h.below))
+    (ap Some (carried (nat_le 32768 ((x + k) % 65536)) (nat_le 32768 x) (let g' : (x + k) % 65536 < 32768 = omega arith in
+    grind (arith, nat_tests)) (let g : 32768 ≤ x = omega arith in grind (arith, nat_tests)))))
     (λ t''. wide_covers 0 65535 Free ((x + k) % 65536) _ _ _ _ _ (omega arith) (omega arith) tt)))
 
 pub hull_covers : (low high : Ends) (x y : ℕ) → IsWithin x low → IsWithin y high → IsWithin (y * 256 + x) (hull low high)
@@ -54,7 +78,10 @@ choose_ends false x y o p q = q refl
 pub low_covers : (p : Ends) (x : ℕ) → IsWithin x p → IsWithin (x % 256) (low_answer p)
 low_covers p x h =
     choose_ends (nat_eq (p.lo / 256) (p.hi / 256)) _ _ _
-    (λ t. let e : p.lo / 256 ≡ p.hi / 256 = grind (arith, nat_tests) in record { above = omega (arith, h.above, h.below); below = omega (arith, h.above, h.below) })
+    (λ t. let e : p.lo / 256 ≡ p.hi / 256 = grind (arith, nat_tests) in record {
+      above = omega (arith, h.above, h.below);
+      below = omega (arith, h.above, h.below);
+    })
     (λ t. record { above = omega arith; below = omega arith })
 
 pub high_covers : (p : Ends) (x : ℕ) → IsWithin x p → IsWithin (x / 256) (high_answer p)
@@ -80,10 +107,16 @@ pair_sub_covers p k x w wk h =
     (λ t. rw (only p x t h) (exactly_wide_covers (pair_difference_of x k)))
     (λ t. choose_wide (nat_le 65536 (p.lo + 65536 - k)) _ _ _
     (λ t'. let u : 65536 ≤ p.lo + 65536 - k = grind (arith, nat_tests) in let b : p.lo ≤ x = h.above in
-    wide_covers (p.lo + 65536 - k - 65536) (p.hi + 65536 - k - 65536) Zero ((x + 65536 - k) % 65536) _ _ _ _ _ (omega (arith, h.above, h.below)) (omega (arith, h.above, h.below)) (ap Some (borrowed (nat_le 32768 ((x + 65536 - k) % 65536)) (nat_le 32768 x) (λ e. let g : 32768 ≤ (x + 65536 - k) % 65536 = grind (arith, nat_tests) in let g' : 32768 ≤ x = omega arith in grind (arith, nat_tests)))))
+    wide_covers (p.lo + 65536 - k - 65536) (p.hi + 65536 - k - 65536) Zero ((x + 65536 - k) % 65536) _ _ _ _ _
+    (omega (arith, h.above, h.below)) (omega (arith, h.above, h.below))
+    (ap Some (borrowed (nat_le 32768 ((x + 65536 - k) % 65536)) (nat_le 32768 x) (λ e. let g : 32768 ≤ (x + 65536 - k) % 65536 =
+    grind (arith, nat_tests) in let g' : 32768 ≤ x = omega arith in grind (arith, nat_tests)))))
     (λ t'. choose_wide (nat_lt (p.hi + 65536 - k) 65536) _ _ _
     (λ t''. let u : p.hi + 65536 - k < 65536 = grind (arith, nat_tests) in let b : x ≤ p.hi = h.below in
-    wide_covers (p.lo + 65536 - k) (p.hi + 65536 - k) One ((x + 65536 - k) % 65536) _ _ _ _ _ (omega (arith, h.above, h.below)) (omega (arith, h.above, h.below)) (ap Some (borrows (nat_le 32768 ((x + 65536 - k) % 65536)) (nat_le 32768 x) (let g' : 32768 ≤ (x + 65536 - k) % 65536 = omega arith in grind (arith, nat_tests)) (let g : x < 32768 = omega arith in grind (arith, nat_tests)))))
+    wide_covers (p.lo + 65536 - k) (p.hi + 65536 - k) One ((x + 65536 - k) % 65536) _ _ _ _ _ (omega (arith, h.above, h.below))
+    (omega (arith, h.above, h.below))
+    (ap Some (borrows (nat_le 32768 ((x + 65536 - k) % 65536)) (nat_le 32768 x) (let g' : 32768 ≤ (x + 65536 - k) % 65536 =
+    omega arith in grind (arith, nat_tests)) (let g : x < 32768 = omega arith in grind (arith, nat_tests)))))
     (λ t''. wide_covers 0 65535 Free ((x + 65536 - k) % 65536) _ _ _ _ _ (omega arith) (omega arith) tt)))
 
 one_bit : (b : ℕ) → Admits (if nat_eq b 1 then One else Zero) (Some (nat_eq b 1))
@@ -109,8 +142,10 @@ with_bit-lt : (x b : ℕ) (t : Bool) → x < 256 → b < 8 → with_bit b t x < 
 with_bit-lt x b true w h = let p : 2 ^ b < 2 ^ 8 = pow-lt h in or_lt 8 x (2 ^ b) w p
 with_bit-lt x b false w h = omega (arith, and_le_l x (255 - 2 ^ b))
 
-pub bld_covers : (a : Ends) (b : ℕ) (k : Bit) (x : ℕ) (t : Bool) → b < 8 → x < 256 → IsWithin x a → MayBe k t → IsWithin (with_bit b t x) (bld_answer a b k)
+pub bld_covers : (a : Ends) (b : ℕ) (k : Bit) (x : ℕ) (t : Bool) → b < 8 → x < 256 → IsWithin x a → MayBe k t → IsWithin (with_bit b t x)
+    (bld_answer a b k)
 bld_covers a b k x t wb w h hk =
     choose_ends (is_single a && is_known k) _ _ _
-    (λ u. let s : (is_single a ≡ true) × (is_known k ≡ true) = both_true _ _ u in rw (only a x s.0 h, only_flag k t s.1 hk) (record { above = omega arith; below = omega arith }))
+    (λ u. let s : (is_single a ≡ true) × (is_known k ≡ true) = both_true _ _ u in rw (only a x s.0 h, only_flag k t s.1 hk)
+    (record { above = omega arith; below = omega arith }))
     (λ u. record { above = omega arith; below = omega (arith, with_bit-lt x b t w wb) })

@@ -32,16 +32,37 @@ form-lt Fmul x y = product-lt x y false false true
 form-lt Fmuls x y = product-lt x y true true true
 form-lt Fmulsu x y = product-lt x y true false true
 
-free : (form : Form) (x y : ℕ) → CoversWide (record { span = ends 0 65535; flags = Free ∷ Free ∷ Free ∷ Free ∷ Free ∷ Free ∷ Free ∷ [] }) (product_by form x y)
-free Mul x y = record { value = record { above = omega arith; below = omega (arith, form-lt Mul x y) }; flags = (tt, (tt, (tt, (tt, (tt, (tt, (tt, tt))))))) }
-free Muls x y = record { value = record { above = omega arith; below = omega (arith, form-lt Muls x y) }; flags = (tt, (tt, (tt, (tt, (tt, (tt, (tt, tt))))))) }
-free Mulsu x y = record { value = record { above = omega arith; below = omega (arith, form-lt Mulsu x y) }; flags = (tt, (tt, (tt, (tt, (tt, (tt, (tt, tt))))))) }
-free Fmul x y = record { value = record { above = omega arith; below = omega (arith, form-lt Fmul x y) }; flags = (tt, (tt, (tt, (tt, (tt, (tt, (tt, tt))))))) }
-free Fmuls x y = record { value = record { above = omega arith; below = omega (arith, form-lt Fmuls x y) }; flags = (tt, (tt, (tt, (tt, (tt, (tt, (tt, tt))))))) }
-free Fmulsu x y = record { value = record { above = omega arith; below = omega (arith, form-lt Fmulsu x y) }; flags = (tt, (tt, (tt, (tt, (tt, (tt, (tt, tt))))))) }
+free : (form : Form) (x y : ℕ) → CoversWide (record { span = ends 0 65535; flags = Free ∷ Free ∷ Free ∷ Free ∷ Free ∷ Free ∷ Free ∷ [] })
+    (product_by form x y)
+free Mul x y = record {
+  value = record { above = omega arith; below = omega (arith, form-lt Mul x y) };
+  flags = (tt, (tt, (tt, (tt, (tt, (tt, (tt, tt)))))));
+}
+free Muls x y = record {
+  value = record { above = omega arith; below = omega (arith, form-lt Muls x y) };
+  flags = (tt, (tt, (tt, (tt, (tt, (tt, (tt, tt)))))));
+}
+free Mulsu x y = record {
+  value = record { above = omega arith; below = omega (arith, form-lt Mulsu x y) };
+  flags = (tt, (tt, (tt, (tt, (tt, (tt, (tt, tt)))))));
+}
+free Fmul x y = record {
+  value = record { above = omega arith; below = omega (arith, form-lt Fmul x y) };
+  flags = (tt, (tt, (tt, (tt, (tt, (tt, (tt, tt)))))));
+}
+free Fmuls x y = record {
+  value = record { above = omega arith; below = omega (arith, form-lt Fmuls x y) };
+  flags = (tt, (tt, (tt, (tt, (tt, (tt, (tt, tt)))))));
+}
+free Fmulsu x y = record {
+  value = record { above = omega arith; below = omega (arith, form-lt Fmulsu x y) };
+  flags = (tt, (tt, (tt, (tt, (tt, (tt, (tt, tt)))))));
+}
 
-pub product_covers : (a b : Ends) (form : Form) (x y : ℕ) → IsWithin x a → IsWithin y b → CoversWide (product_answer a b form) (product_by form x y)
+pub product_covers : (a b : Ends) (form : Form) (x y : ℕ) → IsWithin x a → IsWithin y b → CoversWide (product_answer a b form)
+    (product_by form x y)
 product_covers a b form x y hx hy =
     choose_wide (is_single a && is_single b) _ _ _
-    (λ t. let s : (is_single a ≡ true) × (is_single b ≡ true) = both_true _ _ t in rw (only a x s.0 hx, only b y s.1 hy) (exactly_wide_covers (product_by form x y)))
+    (λ t. let s : (is_single a ≡ true) × (is_single b ≡ true) = both_true _ _ t in rw (only a x s.0 hx, only b y s.1 hy)
+    (exactly_wide_covers (product_by form x y)))
     (λ t. free form x y)

@@ -1,5 +1,6 @@
 -- What answers hold, by their shapes.
-use Rattle.std.proofs.Common.{◌≡◌, ℕ, ◌≤◌, Bool, true, false, ◌&&◌, if◌then◌else◌, List, [], ◌∷◌, Option, None, Some, map, nat_eq, nat_lt, nat_le, refl, sym, ap, subst, arith}
+use Rattle.std.proofs.Common.{◌≡◌, ℕ, ◌≤◌, Bool, true, false, ◌&&◌, if◌then◌else◌, List, [], ◌∷◌, Option, None, Some, map, nat_eq, nat_lt}
+use Rattle.std.proofs.Common.{nat_le, refl, sym, ap, subst, arith}
 use Rattle.std.proofs.lemmas.Bool.Decides.{nat_tests}
 use Rattle.uz_machine.specs.Arithmetic.{AluResult, bit_value, exclusive_or}
 use Rattle.uz_schedule.specs.Ends.{Ends}
@@ -7,7 +8,8 @@ use Rattle.uz_schedule.specs.declared.facts.Bit.{Bit}
 use Rattle.uz_schedule.specs.declared.facts.Bit.TheVariants.{Zero, One, Free, Old}
 use Rattle.uz_range.specs.declared.answer.Ranged.{Ranged}
 use Rattle.uz_range.specs.Containment.{IsWithin, MayBe, Admits, AdmitsAll, Covers}
-use Rattle.uz_range.specs.Answers.{is_single, is_known, is_one, least_carry, most_carry, flag_of, exact_answer, zero_flag, negative_flag, arithmetic_answer, logic_answer}
+use Rattle.uz_range.specs.Answers.{is_single, is_known, is_one, least_carry, most_carry, flag_of, exact_answer, zero_flag, negative_flag}
+use Rattle.uz_range.specs.Answers.{arithmetic_answer, logic_answer}
 
 -- one of two answers
 pub choose : (t : Bool) (x y : Ranged) (o : AluResult) → (t ≡ true → Covers x o) → (t ≡ false → Covers y o) → Covers (if t then x else y) o
@@ -52,14 +54,36 @@ top_by false true s hp hq = ap Some (hq refl)
 top_by false false s hp hq = tt
 
 pub top_allows : (lo hi v : ℕ) → lo ≤ v → v ≤ hi → Admits (negative_flag lo hi) (Some (nat_le 128 v))
-top_allows lo hi v a b = top_by (nat_lt hi 128) (nat_le 128 lo) (nat_le 128 v) (λ h. grind (arith, nat_tests)) (λ h. grind (arith, nat_tests))
+top_allows lo hi v a b = top_by (nat_lt hi 128) (nat_le 128 lo) (nat_le 128 v) (λ h. grind (arith, nat_tests))
+    (λ h. grind (arith, nat_tests))
 
 -- the shapes
-pub ranged_covers : (lo hi : ℕ) (c : Bit) (v : ℕ) (fc fv fs fh ft : Option Bool) → lo ≤ v → v ≤ hi → Admits c fc → Covers (arithmetic_answer lo hi c) (record { value = v; flags = fc ∷ Some (nat_eq v 0) ∷ Some (nat_le 128 v) ∷ fv ∷ fs ∷ fh ∷ ft ∷ [] })
-ranged_covers lo hi c v fc fv fs fh ft a b h = record { value = record { above = a; below = b }; flags = (h, (zero_allows lo v a, (top_allows lo hi v a b, (tt, (tt, (tt, (tt, tt))))))) }
+pub ranged_covers : (lo hi : ℕ) (c : Bit) (v : ℕ) (fc fv fs fh ft : Option Bool) → lo ≤ v → v ≤ hi → Admits c fc
+    → Covers (arithmetic_answer lo hi c) (record {
+      value = v;
+      flags = fc ∷ Some (nat_eq v 0) ∷ Some (nat_le 128 v) ∷ fv ∷ fs ∷ fh ∷ ft ∷ [];
+    })
+ranged_covers lo hi c v fc fv fs fh ft a b h = record {
+  value = record { above = a; below = b };
+  flags = (h, (zero_allows lo v a, (top_allows lo hi v a b, (tt, (tt, (tt, (tt, tt)))))));
+}
 
-pub plain_covers : (lo hi : ℕ) (c : Bit) (v : ℕ) (s : Bool) (fc fh ft : Option Bool) → lo ≤ v → v ≤ hi → Admits c fc → nat_le 128 v ≡ s → Covers (logic_answer lo hi c) (record { value = v; flags = fc ∷ Some (nat_eq v 0) ∷ Some (nat_le 128 v) ∷ Some false ∷ Some s ∷ fh ∷ ft ∷ [] })
-plain_covers lo hi c v s fc fh ft a b h e = record { value = record { above = a; below = b }; flags = (h, (zero_allows lo v a, (top_allows lo hi v a b, (refl, (subst (λ n. Admits (negative_flag lo hi) (Some n)) e (top_allows lo hi v a b), (tt, (tt, tt))))))) }
+pub plain_covers : (lo hi : ℕ) (c : Bit) (v : ℕ) (s : Bool) (fc fh ft : Option Bool) → lo ≤ v → v ≤ hi → Admits c fc → nat_le 128 v ≡ s
+    → Covers (logic_answer lo hi c) (record {
+      value = v;
+      flags = fc ∷ Some (nat_eq v 0) ∷ Some (nat_le 128 v) ∷ Some false ∷ Some
+          s ∷ fh ∷ ft ∷ [];
+    })
+plain_covers lo hi c v s fc fh ft a b h e = record {
+  value = record { above = a; below = b };
+  flags = (
+    h,
+    (
+      zero_allows lo v a,
+      (top_allows lo hi v a b, (refl, (subst (λ n. Admits (negative_flag lo hi) (Some n)) e (top_allows lo hi v a b), (tt, (tt, tt))))),
+    ),
+  );
+}
 
 pub exclusive_or_false : (n : Bool) → n ≡ exclusive_or n false
 exclusive_or_false true = refl

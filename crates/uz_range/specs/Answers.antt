@@ -71,7 +71,11 @@ arithmetic_answer lo hi c = record { span = ends lo hi; flags = c ∷ zero_flag 
 
 -- V is 0, and S is N
 abbrev pub logic_answer : ℕ → ℕ → Bit → Ranged
-logic_answer lo hi c = record { span = ends lo hi; flags = c ∷ zero_flag lo ∷ negative_flag lo hi ∷ Zero ∷ negative_flag lo hi ∷ Free ∷ Free ∷ [] }
+logic_answer lo hi c = record {
+  span = ends lo hi;
+  flags = c ∷ zero_flag lo ∷ negative_flag lo hi ∷ Zero ∷ negative_flag lo hi ∷ Free ∷ Free
+      ∷ [];
+}
 
 -- Answers for a pair
 

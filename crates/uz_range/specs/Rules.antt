@@ -1,8 +1,11 @@
 -- The range rules, by class of instruction (this project's profile).
 -- Where every byte and flag that the result reads is single, the answer is the instruction's own result (AVR Instruction
 -- Set Manual). Else it is the range that the rule names.
-use Rattle.std.specs.Prelude.{ℕ, ◌+◌, ◌-◌, ◌*◌, ◌/◌, ◌%◌, ◌^◌, false, true, ◌&&◌, min, max, slice_set, slice_index_or, nat_lt, nat_le, nat_eq, if◌then◌else◌}
-use Rattle.uz_machine.specs.Arithmetic.{AluResult, sum_of, difference_of, negation_of, and_of, or_of, xor_of, complement_of, increment_of, decrement_of, logical_shift_of, arithmetic_shift_of, rotation_of, swap_of, product_of, pair_sum_of, pair_difference_of, with_bit, bit_is_set}
+use Rattle.std.specs.Prelude.{ℕ, ◌+◌, ◌-◌, ◌*◌, ◌/◌, ◌%◌, ◌^◌, false, true, ◌&&◌, min, max, slice_set, slice_index_or, nat_lt, nat_le}
+use Rattle.std.specs.Prelude.{nat_eq, if◌then◌else◌}
+use Rattle.uz_machine.specs.Arithmetic.{AluResult, sum_of, difference_of, negation_of, and_of, or_of, xor_of, complement_of, increment_of}
+use Rattle.uz_machine.specs.Arithmetic.{decrement_of, logical_shift_of, arithmetic_shift_of, rotation_of, swap_of, product_of, pair_sum_of}
+use Rattle.uz_machine.specs.Arithmetic.{pair_difference_of, with_bit, bit_is_set}
 use Rattle.uz_schedule.specs.Ends.{Ends}
 use Rattle.uz_schedule.specs.declared.facts.Bit.{Bit}
 use Rattle.uz_schedule.specs.declared.facts.Bit.TheVariants.{Zero, One, Free}
@@ -10,7 +13,8 @@ use Rattle.uz_range.specs.declared.answer.Ranged.{Ranged}
 use Rattle.uz_range.specs.declared.answer.WideRanged.{WideRanged}
 use Rattle.uz_range.specs.declared.products.Form.{Form}
 use Rattle.uz_range.specs.declared.products.Form.TheVariants.{Mul, Muls, Mulsu, Fmul, Fmuls, Fmulsu}
-use Rattle.uz_range.specs.Answers.{ends, is_single, is_known, is_one, least_carry, most_carry, exact_answer, arithmetic_answer, logic_answer, exact_wide_answer, wide_answer, open_wide_answer}
+use Rattle.uz_range.specs.Answers.{ends, is_single, is_known, is_one, least_carry, most_carry, exact_answer, arithmetic_answer}
+use Rattle.uz_range.specs.Answers.{logic_answer, exact_wide_answer, wide_answer, open_wide_answer}
 
 -- Sums: ADD, ADC
 

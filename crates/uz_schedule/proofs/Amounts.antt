@@ -1,5 +1,6 @@
 -- How many instances a box has at most, what ranges are left where no cell is, and interrupted registers in order.
-use Rattle.std.proofs.Common.{◌≡◌, ℕ, zero, suc, ◌+◌, ◌*◌, ◌≤◌, Bool, false, eqb, List, [], ◌∷◌, ◌++◌, length, drop, refl, sym, ◌∙◌, ap, arith}
+use Rattle.std.proofs.Common.{◌≡◌, ℕ, zero, suc, ◌+◌, ◌*◌, ◌≤◌, Bool, false, eqb, List, [], ◌∷◌, ◌++◌, length, drop, refl, sym, ◌∙◌, ap}
+use Rattle.std.proofs.Common.{arith}
 use Rattle.std.proofs.lemmas.Nat.{mul-le}
 use Rattle.std.proofs.lemmas.Bool.Decides.{nat_tests}
 use Rattle.std.specs.Prelude.{filter}
@@ -26,7 +27,8 @@ spans_left (e ∷ spans) (suc n) h = spans_left spans n (omega (arith, h)) ∙ s
     same a b = grind (arith, nat_tests)
 
 -- past the last cell
-pub cells_end : (test : Cell → Bool) (cells : List Cell) (spans : List Ends) (i : ℕ) → length cells ≤ i → spans_fit (filter test (drop i cells)) spans ≡ spans_fit [] spans
+pub cells_end : (test : Cell → Bool) (cells : List Cell) (spans : List Ends) (i : ℕ) → length cells ≤ i
+    → spans_fit (filter test (drop i cells)) spans ≡ spans_fit [] spans
 cells_end test [] spans zero h = refl
 cells_end test [] spans (suc i) h = refl
 cells_end test (c ∷ cells) spans zero h = absurd (omega (arith, h))
@@ -42,4 +44,5 @@ old_more k (suc n) =
     let less : n + 1 ≡ suc n = omega arith in
     let same : suc k + n ≡ k + suc n = omega arith in
     ap (old_from k) next
-    ∙ (ap (λ xs. Old k ∷ xs) (ap (old_from (suc k)) (sym less) ∙ old_more (suc k) n) ∙ ap (λ i. Old k ∷ (old_from (suc k) n ++ Old i ∷ [])) same)
+    ∙ (ap (λ xs. Old k ∷ xs) (ap (old_from (suc k)) (sym less) ∙ old_more (suc k) n) ∙ ap (λ i. Old k ∷ (old_from (suc k) n ++ Old i ∷ []))
+    same)

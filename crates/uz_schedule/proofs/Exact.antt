@@ -40,7 +40,8 @@ module _ {K : Type 0} (E : K → K → Bool) (exact : (x y : K) → E x y ≡ tr
   exact_list [] [] h = refl
   exact_list [] (y ∷ ys) h = absurd (true≢false (sym h))
   exact_list (x ∷ xs) [] h = absurd (true≢false (sym h))
-  exact_list (x ∷ xs) (y ∷ ys) h = λ i. exact x y (left (E x y) (pointwise E xs ys) h) i ∷ exact_list xs ys (right (E x y) (pointwise E xs ys) h) i
+  exact_list (x ∷ xs) (y ∷ ys) h = λ i. exact x y (left (E x y) (pointwise E xs ys) h) i ∷ exact_list xs ys
+      (right (E x y) (pointwise E xs ys) h) i
 
 pub exact_ends : (a b : Ends) → (nat_eq a.lo b.lo && nat_eq a.hi b.hi) ≡ true → a ≡ b
 exact_ends a b h =

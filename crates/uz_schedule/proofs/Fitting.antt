@@ -1,5 +1,6 @@
 -- The limits of a certificate's points give those of its instances.
-use Rattle.std.proofs.Common.{◌≡◌, All, ℕ, suc, ◌+◌, ◌*◌, ◌%◌, ◌<◌, ◌≤◌, Bool, true, false, ◌&&◌, cond, leb, ltb, List, [], ◌∷◌, length, map, refl, ◌∙◌, subst, lit≤, arith}
+use Rattle.std.proofs.Common.{◌≡◌, All, ℕ, suc, ◌+◌, ◌*◌, ◌%◌, ◌<◌, ◌≤◌, Bool, true, false, ◌&&◌, cond, leb, ltb, List, [], ◌∷◌, length}
+use Rattle.std.proofs.Common.{map, refl, ◌∙◌, subst, lit≤, arith}
 use Rattle.std.specs.Prelude.{Option, Some, None, option_and_then, slice_get, ℤ, pos, negsuc, ◌+ℤ◌, ◌*ℤ◌}
 use Rattle.std.proofs.Math.Nat.{mod-lt}
 use Rattle.std.proofs.lemmas.Bool.{leb-true}
@@ -8,7 +9,8 @@ use Rattle.std.proofs.lemmas.List.Elements.{All-nil, All-cons, All-tail, All-get
 use Rattle.std.proofs.lemmas.Option.{get_or_from_slice_get, slice_get_within}
 use Rattle.uz_schedule.specs.WellFormed.{RangeFits, FactFits, PointFits, WellFormed}
 use Rattle.uz_schedule.specs.InstanceLimits.{ValFits, InstanceFits}
-use Rattle.uz_schedule.specs.Instances.{val_of, cell_span, clock_below, clock_at, is_in_box, instance_of, instance_at_clock, instance_in, instance_at}
+use Rattle.uz_schedule.specs.Instances.{val_of, cell_span, clock_below, clock_at, is_in_box, instance_of, instance_at_clock, instance_in}
+use Rattle.uz_schedule.specs.Instances.{instance_at}
 use Rattle.uz_schedule.specs.Schedule.{length_of, start_of, level_at}
 use Rattle.uz_schedule.specs.declared.kinds.Kind.{Kind}
 use Rattle.uz_schedule.specs.declared.facts.Fact.{Fact}
@@ -51,9 +53,11 @@ val_fits kind l c OldFlags h = h
 
 vals_fit : (kind : Kind) (l c : ℕ) (facts : List Fact) → All (FactFits kind) facts → All (ValFits kind) (map (val_of l c) facts)
 vals_fit kind l c [] h = All-nil (ValFits kind)
-vals_fit kind l c (f ∷ facts) h = All-cons (ValFits kind) (val_of l c f) (map (val_of l c) facts) (val_fits kind l c f (h 0 f (omega arith))) (vals_fit kind l c facts (All-tail (FactFits kind) f facts h))
+vals_fit kind l c (f ∷ facts) h = All-cons (ValFits kind) (val_of l c f) (map (val_of l c) facts)
+    (val_fits kind l c f (h 0 f (omega arith))) (vals_fit kind l c facts (All-tail (FactFits kind) f facts h))
 
-in_point : (cert : Cert) (p : Point) (l c : ℕ) (inst : Instance) → PointFits cert.head (length cert.schedule.lines) (length cert.points) p → instance_in cert.schedule p l c ≡ Some inst → InstanceFits cert inst
+in_point : (cert : Cert) (p : Point) (l c : ℕ) (inst : Instance) → PointFits cert.head (length cert.schedule.lines) (length cert.points) p
+    → instance_in cert.schedule p l c ≡ Some inst → InstanceFits cert inst
 in_point cert p l c inst h e =
     let s = cert.schedule in
     let box = tested (is_in_box p l c) (option_and_then (instance_at_clock s p l c) (clock_at s p l c)) inst e in
@@ -79,10 +83,12 @@ in_point cert p l c inst h e =
       cells = length-map p.cells.items (cell_span l c) ∙ h.memory.cell_count;
     })
 
-pub instance_fits : (cert : Cert) (id l c : ℕ) (inst : Instance) → WellFormed cert → instance_at cert id l c ≡ Some inst → InstanceFits cert inst
+pub instance_fits : (cert : Cert) (id l c : ℕ) (inst : Instance) → WellFormed cert → instance_at cert id l c ≡ Some inst → InstanceFits cert
+    inst
 instance_fits cert id l c inst h e =
     let point = opened (λ p. instance_in cert.schedule p l c) (slice_get cert.points id) inst e in
     let p = point.0 in
     let Fits : Point → Type 0 = PointFits cert.head (length cert.schedule.lines) (length cert.points) in
-    let fits : Fits p = subst Fits (get_or_from_slice_get cert.points id p p point.1) (All-get_or Fits cert.points id p (slice_get_within cert.points id p point.1) h.points.each) in
+    let fits : Fits p = subst Fits (get_or_from_slice_get cert.points id p p point.1)
+    (All-get_or Fits cert.points id p (slice_get_within cert.points id p point.1) h.points.each) in
     in_point cert p l c inst fits point.2

@@ -1,5 +1,6 @@
 -- The search for the last level goes round the frame, and goes on a line at a time.
-use Rattle.std.proofs.Common.{◌≡◌, ℕ, zero, suc, ◌+◌, ◌-◌, ◌*◌, ◌%◌, ◌<◌, ◌≤◌, Bool, true, false, ◌&&◌, cond, eqb, leb, ltb, List, [], ◌∷◌, length, map, All, lit≤, refl, sym, subst, ◌∙◌, ap, arith}
+use Rattle.std.proofs.Common.{◌≡◌, ℕ, zero, suc, ◌+◌, ◌-◌, ◌*◌, ◌%◌, ◌<◌, ◌≤◌, Bool, true, false, ◌&&◌, cond, eqb, leb, ltb, List, [], ◌∷◌}
+use Rattle.std.proofs.Common.{length, map, All, lit≤, refl, sym, subst, ◌∙◌, ap, arith}
 use Rattle.std.specs.Prelude.{Option, Some, None, is_some, slice_get, slice_index}
 use Rattle.std.proofs.Math.Nat.{add-mod_left}
 use Rattle.std.proofs.lemmas.Bool.{eqb-true}
@@ -8,7 +9,8 @@ use Rattle.std.proofs.lemmas.List.Elements.{All-head, All-tail}
 use Rattle.uz_schedule.specs.declared.lines.Schedule.{Schedule}
 use Rattle.uz_schedule.specs.declared.lines.Event.{Event}
 use Rattle.uz_schedule.specs.Limits.{rises_from, rises, EventsFit, ScheduleFits}
-use Rattle.uz_schedule.specs.Schedule.{length_of, start_of, frame_of, event_from, event_in, event_in_kind, events_of, level_set, sync_of, sync_at, or_else, last_level, level_at}
+use Rattle.uz_schedule.specs.Schedule.{length_of, start_of, frame_of, event_from, event_in, event_in_kind, events_of, level_set, sync_of}
+use Rattle.uz_schedule.specs.Schedule.{sync_at, or_else, last_level, level_at}
 use Rattle.uz_schedule.specs.Levels.{set_by, last_set, last_of_kind, line_round}
 use Rattle.uz_schedule.proofs.Starts.{place_below, event_of_place}
 
@@ -32,14 +34,16 @@ search_more set zero m p =
 search_more set (suc n) m p =
     let a : suc n + m ≡ suc (n + m) = omega arith in
     let b : p - suc n ≡ p - 1 - n = omega arith in
-    rw (a, b) (ap (or_else (set p)) (search_more set n m (p - 1)) ∙ sym (else_else (set p) (last_level set n (p - 1)) (last_level set m (p - 1 - n))))
+    rw (a, b) (ap (or_else (set p)) (search_more set n m (p - 1))
+    ∙ sym (else_else (set p) (last_level set n (p - 1)) (last_level set m (p - 1 - n))))
 
 same_search : (set : ℕ → Option ℕ) (n p q : ℕ) → p ≡ q → last_level set n p ≡ last_level set n q
 same_search set n p q e = ap (last_level set n) e
 
 -- the events of a line
 
-none_early : (least n : ℕ) (events : List Event) → n ≤ least → rises_from least (map (λ e. e.clock) events) ≡ true → last_set events n ≡ None
+none_early : (least n : ℕ) (events : List Event) → n ≤ least → rises_from least (map (λ e. e.clock) events) ≡ true → last_set events
+    n ≡ None
 none_early least n [] h r = refl
 none_early least n (e ∷ es) h r =
     let two = and_true (leb least e.clock) (rises_from (e.clock + 1) (map (λ e. e.clock) es)) r in
@@ -61,10 +65,12 @@ none_early least n (e ∷ es) h r =
         false_cond true o f = absurd cc
         false_cond false o f = refl
 
-same_clock : (y z : Bool) (level later early here : Option ℕ) → y ≡ false → z ≡ true → later ≡ None → early ≡ None → here ≡ level → or_else later (cond z level None) ≡ or_else here (or_else early (cond y level None))
+same_clock : (y z : Bool) (level later early here : Option ℕ) → y ≡ false → z ≡ true → later ≡ None → early ≡ None → here ≡ level
+    → or_else later (cond z level None) ≡ or_else here (or_else early (cond y level None))
 same_clock y z level later early here e f g h k = rw (e, f, g, h, k) (sym (else_none level))
 
-other_clock : (t z : Bool) (level later early here : Option ℕ) → z ≡ t → later ≡ or_else here early → or_else later (cond z level None) ≡ or_else here (or_else early (cond t level None))
+other_clock : (t z : Bool) (level later early here : Option ℕ) → z ≡ t → later ≡ or_else here early → or_else later (cond z level None)
+    ≡ or_else here (or_else early (cond t level None))
 other_clock true z level later early here e f = rw (e, f) (else_else here early level)
 other_clock false z level later early here e f = rw (e, f) (else_else here early None)
 
@@ -81,16 +87,22 @@ not_before a b f = grind (arith, nat_tests)
 now_before : (a b : ℕ) → eqb a b ≡ true → ltb a (suc b) ≡ true
 now_before a b f = grind (arith, nat_tests)
 
-by_clock : (n : ℕ) (e : Event) (es : List Event) → rises_from (e.clock + 1) (map (λ e. e.clock) es) ≡ true → last_set es (suc n) ≡ or_else (sync_of (event_in es n)) (last_set es n) → (x : Bool) → eqb e.clock n ≡ x → or_else (last_set es (suc n)) (cond (ltb e.clock (suc n)) (level_set e.kind) None) ≡ or_else (sync_of (cond x (Some e.kind) (event_in es n))) (or_else (last_set es n) (cond (ltb e.clock n) (level_set e.kind) None))
+by_clock : (n : ℕ) (e : Event) (es : List Event) → rises_from (e.clock + 1) (map (λ e. e.clock) es) ≡ true → last_set es (suc n) ≡ or_else
+    (sync_of (event_in es n)) (last_set es n) → (x : Bool) → eqb e.clock n ≡ x → or_else (last_set es (suc n))
+    (cond (ltb e.clock (suc n)) (level_set e.kind) None) ≡ or_else (sync_of (cond x (Some e.kind) (event_in es n)))
+    (or_else (last_set es n) (cond (ltb e.clock n) (level_set e.kind) None))
 by_clock n e es rise later true f =
     let same : e.clock ≡ n = eqb-true e.clock n f in
     same_clock (ltb e.clock n) (ltb e.clock (suc n)) (level_set e.kind) (last_set es (suc n)) (last_set es n) (level_set e.kind)
-    (not_before e.clock n f) (now_before e.clock n f) (none_early (e.clock + 1) (suc n) es (omega arith) rise) (none_early (e.clock + 1) n es (omega arith) rise) refl
+    (not_before e.clock n f) (now_before e.clock n f) (none_early (e.clock + 1) (suc n) es (omega arith) rise)
+    (none_early (e.clock + 1) n es (omega arith) rise) refl
 by_clock n e es rise later false f =
-    other_clock (ltb e.clock n) (ltb e.clock (suc n)) (level_set e.kind) (last_set es (suc n)) (last_set es n) (sync_of (event_in es n)) (before_is e.clock n f) later
+    other_clock (ltb e.clock n) (ltb e.clock (suc n)) (level_set e.kind) (last_set es (suc n)) (last_set es n) (sync_of (event_in es n))
+    (before_is e.clock n f) later
 
 -- one clock more
-set_step : (least n : ℕ) (events : List Event) → rises_from least (map (λ e. e.clock) events) ≡ true → last_set events (suc n) ≡ or_else (sync_of (event_in events n)) (last_set events n)
+set_step : (least n : ℕ) (events : List Event) → rises_from least (map (λ e. e.clock) events) ≡ true → last_set events (suc n) ≡ or_else
+    (sync_of (event_in events n)) (last_set events n)
 set_step least n [] r = refl
 set_step least n (e ∷ es) r =
     let rise = rest_rises (leb least e.clock) (rises_from (e.clock + 1) (map (λ e. e.clock) es)) r in
@@ -129,7 +141,8 @@ search_round s (suc zero) p h = ap (λ o. or_else o None) (same_round s p)
 search_round s (suc (suc n)) p h =
     let down : p + frame_of s - 1 ≡ p - 1 + frame_of s = omega arith in
     ap (λ o. or_else o (last_level (sync_at s) (suc n) (p + frame_of s - 1))) (same_round s p)
-    ∙ ap (or_else (sync_at s p)) (same_search (sync_at s) (suc n) (p + frame_of s - 1) (p - 1 + frame_of s) down ∙ search_round s (suc n) (p - 1) (omega arith))
+    ∙ ap (or_else (sync_at s p)) (same_search (sync_at s) (suc n) (p + frame_of s - 1) (p - 1 + frame_of s) down ∙ search_round s (suc n)
+    (p - 1) (omega arith))
 
 none_first : (a b : Option ℕ) → a ≡ None → or_else a b ≡ b
 none_first a b e = ap (λ o. or_else o b) e
@@ -138,24 +151,31 @@ some_first : (a b : Option ℕ) (v : ℕ) → a ≡ Some v → or_else a b ≡ S
 some_first a b v e = ap (λ o. or_else o b) e
 
 -- where nothing is set from the line's begin to this place, the search begins at the line before
-pub search_before : (s : Schedule) (place n p : ℕ) → p ≡ place + frame_of s → n ≤ place + 1 → last_level (sync_at s) n p ≡ None → last_level (sync_at s) (frame_of s) (p - n) ≡ last_level (sync_at s) (frame_of s) p
+pub search_before : (s : Schedule) (place n p : ℕ) → p ≡ place + frame_of s → n ≤ place + 1 → last_level (sync_at s) n p ≡ None
+    → last_level (sync_at s) (frame_of s) (p - n) ≡ last_level (sync_at s) (frame_of s) p
 search_before s place n p e h none =
-    let first = search_more (sync_at s) n (frame_of s) p ∙ none_first (last_level (sync_at s) n p) (last_level (sync_at s) (frame_of s) (p - n)) none in
+    let first = search_more (sync_at s) n (frame_of s) p ∙ none_first (last_level (sync_at s) n p)
+    (last_level (sync_at s) (frame_of s) (p - n)) none in
     let back : p - frame_of s ≡ place = omega arith in
-    let again : last_level (sync_at s) n (p - frame_of s) ≡ None = same_search (sync_at s) n (p - frame_of s) place back ∙ (sym (search_round s n place h) ∙ (same_search (sync_at s) n (place + frame_of s) p (sym e) ∙ none)) in
-    let second = search_more (sync_at s) (frame_of s) n p ∙ (ap (or_else (last_level (sync_at s) (frame_of s) p)) again ∙ else_none (last_level (sync_at s) (frame_of s) p)) in
+    let again : last_level (sync_at s) n (p - frame_of s) ≡ None = same_search (sync_at s) n (p - frame_of s) place back
+    ∙ (sym (search_round s n place h) ∙ (same_search (sync_at s) n (place + frame_of s) p (sym e) ∙ none)) in
+    let second = search_more (sync_at s) (frame_of s) n p ∙ (ap (or_else (last_level (sync_at s) (frame_of s) p)) again
+    ∙ else_none (last_level (sync_at s) (frame_of s) p)) in
     let swap : n + frame_of s ≡ frame_of s + n = omega arith in
     sym first ∙ (ap (λ k. last_level (sync_at s) k p) swap ∙ second)
 
 pub search_found : (s : Schedule) (n m p v : ℕ) → n ≤ m → last_level (sync_at s) n p ≡ Some v → last_level (sync_at s) m p ≡ Some v
 search_found s n m p v h e =
     let whole : m ≡ n + (m - n) = omega arith in
-    ap (λ k. last_level (sync_at s) k p) whole ∙ (search_more (sync_at s) n (m - n) p ∙ some_first (last_level (sync_at s) n p) (last_level (sync_at s) (m - n) (p - n)) v e)
+    ap (λ k. last_level (sync_at s) k p) whole ∙ (search_more (sync_at s) n (m - n) p ∙ some_first (last_level (sync_at s) n p)
+    (last_level (sync_at s) (m - n) (p - n)) v e)
 
-pub search_passed : (s : Schedule) (n m p : ℕ) → n ≤ m → last_level (sync_at s) n p ≡ None → last_level (sync_at s) m p ≡ last_level (sync_at s) (m - n) (p - n)
+pub search_passed : (s : Schedule) (n m p : ℕ) → n ≤ m → last_level (sync_at s) n p ≡ None → last_level (sync_at s) m p ≡ last_level
+    (sync_at s) (m - n) (p - n)
 search_passed s n m p h e =
     let whole : m ≡ n + (m - n) = omega arith in
-    ap (λ k. last_level (sync_at s) k p) whole ∙ (search_more (sync_at s) n (m - n) p ∙ none_first (last_level (sync_at s) n p) (last_level (sync_at s) (m - n) (p - n)) e)
+    ap (λ k. last_level (sync_at s) k p) whole ∙ (search_more (sync_at s) n (m - n) p ∙ none_first (last_level (sync_at s) n p)
+    (last_level (sync_at s) (m - n) (p - n)) e)
 
 -- lines, counted on round the frame
 
@@ -175,7 +195,8 @@ ltb_true a b h = grind (arith, nat_tests)
 ltb_false : (a b : ℕ) → b ≤ a → ltb a b ≡ false
 ltb_false a b h = grind (arith, nat_tests)
 
-round_is : (s : Schedule) (q : ℕ) → start_round s q ≡ cond (ltb q (length s.lines)) (start_of s q) (frame_of s + start_of s (q - length s.lines))
+round_is : (s : Schedule) (q : ℕ) → start_round s q ≡ cond (ltb q (length s.lines)) (start_of s q)
+    (frame_of s + start_of s (q - length s.lines))
 unfolding start_round
 round_is s q = refl
 
@@ -197,7 +218,8 @@ next_round s q h = round_is s q ∙ passed (ltb q (length s.lines)) _ _ (ltb_fal
 round_step : (s : Schedule) (q : ℕ) → start_round s (suc q) ≡ start_round s q + length_of s (line_round s q)
 round_step s q = by_tests (ltb (suc q) (length s.lines)) (ltb q (length s.lines)) refl refl
   where
-    by_tests : (t u : Bool) → ltb (suc q) (length s.lines) ≡ t → ltb q (length s.lines) ≡ u → start_round s (suc q) ≡ start_round s q + length_of s (line_round s q)
+    by_tests : (t u : Bool) → ltb (suc q) (length s.lines) ≡ t → ltb q (length s.lines) ≡ u → start_round s (suc q) ≡ start_round s
+        q + length_of s (line_round s q)
     by_tests true u e f =
         let less = below (suc q) (length s.lines) e in
         first_round s (suc q) less ∙ sym (ap (λ n. n + length_of s (line_round s q)) (first_round s q (omega (arith, less))))
@@ -238,13 +260,15 @@ round_more s q (suc d) =
     line_suc l d = omega arith
 
 -- what is set at a clock of a line, lines counted on round the frame
-set_at : (s : Schedule) (q n : ℕ) → n < length_of s (line_round s q) → q < 2 * length s.lines → sync_at s (start_round s q + n) ≡ sync_of (event_in_kind (events_of s (line_round s q)) n)
+set_at : (s : Schedule) (q n : ℕ) → n < length_of s (line_round s q) → q < 2 * length s.lines → sync_at s (start_round s q + n) ≡ sync_of
+    (event_in_kind (events_of s (line_round s q)) n)
 set_at s q n h k = by_test (ltb q (length s.lines)) refl
   where
     line_is : (l m : ℕ) → l ≡ m → sync_of (event_in_kind (events_of s l) n) ≡ sync_of (event_in_kind (events_of s m) n)
     line_is l m e = ap (λ i. sync_of (event_in_kind (events_of s i) n)) e
 
-    by_test : (t : Bool) → ltb q (length s.lines) ≡ t → sync_at s (start_round s q + n) ≡ sync_of (event_in_kind (events_of s (line_round s q)) n)
+    by_test : (t : Bool) → ltb q (length s.lines) ≡ t → sync_at s (start_round s q + n) ≡ sync_of
+        (event_in_kind (events_of s (line_round s q)) n)
     by_test true e =
         let less = below q (length s.lines) e in
         let line : line_round s q ≡ q = chosen (ltb q (length s.lines)) q (q - length s.lines) e in
@@ -257,13 +281,15 @@ set_at s q n h k = by_test (ltb q (length s.lines)) refl
         let place : start_round s q + n ≡ (start_of s (q - length s.lines) + n) + frame_of s = omega (arith, begin) in
         ap (sync_at s) place
         ∙ (same_round s (start_of s (q - length s.lines) + n)
-        ∙ (ap sync_of (event_of_place s (q - length s.lines) n (omega (arith, more, k)) (omega (arith, h))) ∙ line_is (q - length s.lines) (line_round s q) (sym line)))
+        ∙ (ap sync_of (event_of_place s (q - length s.lines) n (omega (arith, more, k)) (omega (arith, h))) ∙ line_is (q - length s.lines)
+        (line_round s q) (sym line)))
 
 kind_rises_at : (s : Schedule) (l : ℕ) → ScheduleFits s → Rises (events_of s l)
 kind_rises_at s l fits = kind_rises s.kinds (slice_index s.lines l) fits.kinds.each
 
 -- a search of the first n clocks of a line
-line_search : (s : Schedule) (q n : ℕ) → ScheduleFits s → n ≤ length_of s (line_round s q) → q < 2 * length s.lines → last_level (sync_at s) n (start_round s q + n - 1) ≡ last_of_kind (events_of s (line_round s q)) n
+line_search : (s : Schedule) (q n : ℕ) → ScheduleFits s → n ≤ length_of s (line_round s q) → q < 2 * length s.lines → last_level (sync_at s)
+    n (start_round s q + n - 1) ≡ last_of_kind (events_of s (line_round s q)) n
 line_search s q zero fits h k = sym (kind_none (events_of s (line_round s q)) (kind_rises_at s (line_round s q) fits))
 line_search s q (suc n) fits h k =
     let here : start_round s q + suc n - 1 ≡ start_round s q + n = omega arith in
@@ -280,29 +306,37 @@ none_is None e = refl
 none_is (Some v) e = absurd cc
 
 -- from clock k of line l back to the line's begin
-first_search : (s : Schedule) (l k : ℕ) → ScheduleFits s → l < length s.lines → k < length_of s l → last_level (sync_at s) (k + 1) (start_of s l + k + frame_of s) ≡ last_of_kind (events_of s l) (k + 1)
+first_search : (s : Schedule) (l k : ℕ) → ScheduleFits s → l < length s.lines → k < length_of s l → last_level (sync_at s) (k + 1)
+    (start_of s l + k + frame_of s) ≡ last_of_kind (events_of s l) (k + 1)
 first_search s l k fits h j =
     let more : length s.lines ≤ l + length s.lines = omega arith in
     let back : l + length s.lines - length s.lines ≡ l = omega arith in
     let begin = next_round s (l + length s.lines) more in
     let begin_of = ap (start_of s) back in
     let at : start_of s l + k + frame_of s ≡ start_round s (l + length s.lines) + (k + 1) - 1 = omega (arith, begin, begin_of) in
-    let line : line_round s (l + length s.lines) ≡ l = passed (ltb (l + length s.lines) (length s.lines)) (l + length s.lines) (l + length s.lines - length s.lines) (ltb_false (l + length s.lines) (length s.lines) more) ∙ back in
+    let line : line_round s (l + length s.lines) ≡ l = passed (ltb (l + length s.lines) (length s.lines)) (l + length s.lines)
+    (l + length s.lines - length s.lines) (ltb_false (l + length s.lines) (length s.lines) more) ∙ back in
     same_search (sync_at s) (k + 1) (start_of s l + k + frame_of s) (start_round s (l + length s.lines) + (k + 1) - 1) at
-    ∙ (line_search s (l + length s.lines) (k + 1) fits (omega (arith, j)) (omega (arith, h)) ∙ ap (λ i. last_of_kind (events_of s i) (k + 1)) line)
+    ∙ (line_search s (l + length s.lines) (k + 1) fits (omega (arith, j)) (omega (arith, h))
+    ∙ ap (λ i. last_of_kind (events_of s i) (k + 1)) line)
 
-level_place : (s : Schedule) (p l k : ℕ) → start_of s l + k ≡ p % frame_of s → level_at s p ≡ last_level (sync_at s) (frame_of s) (start_of s l + k + frame_of s)
+level_place : (s : Schedule) (p l k : ℕ) → start_of s l + k ≡ p % frame_of s → level_at s p ≡ last_level (sync_at s) (frame_of s)
+    (start_of s l + k + frame_of s)
 level_place s p l k e = ap (λ i. last_level (sync_at s) (frame_of s) (i + frame_of s)) (sym e)
 
 -- the line itself has the level
-pub level_first : (s : Schedule) (p l k : ℕ) (o : Option ℕ) → ScheduleFits s → l < length s.lines → k < length_of s l → start_of s l + k ≡ p % frame_of s → o ≡ last_of_kind (events_of s l) (k + 1) → is_some o ≡ true → o ≡ level_at s p
+pub level_first : (s : Schedule) (p l k : ℕ) (o : Option ℕ) → ScheduleFits s → l < length s.lines → k < length_of s l → start_of s l + k ≡ p
+    % frame_of s → o ≡ last_of_kind (events_of s l) (k + 1) → is_some o ≡ true → o ≡ level_at s p
 level_first s p l k None fits h j e f some = absurd cc
 level_first s p l k (Some v) fits h j e f some =
     let small = place_below s l k h j in
-    sym (level_place s p l k e ∙ search_found s (k + 1) (frame_of s) (start_of s l + k + frame_of s) v (omega (arith, small)) (first_search s l k fits h j ∙ sym f))
+    sym (level_place s p l k e ∙ search_found s (k + 1) (frame_of s) (start_of s l + k + frame_of s) v (omega (arith, small))
+    (first_search s l k fits h j ∙ sym f))
 
 -- it has none, so lines are searched from the one before it, all round the frame
-level_before : (s : Schedule) (p l k : ℕ) (o : Option ℕ) → ScheduleFits s → l < length s.lines → k < length_of s l → start_of s l + k ≡ p % frame_of s → o ≡ last_of_kind (events_of s l) (k + 1) → is_some o ≡ false → level_at s p ≡ last_level (sync_at s) (start_round s (l + length s.lines) - start_of s l) (start_round s (l + length s.lines) - 1)
+level_before : (s : Schedule) (p l k : ℕ) (o : Option ℕ) → ScheduleFits s → l < length s.lines → k < length_of s l → start_of s l + k ≡ p %
+    frame_of s → o ≡ last_of_kind (events_of s l) (k + 1) → is_some o ≡ false → level_at s p ≡ last_level (sync_at s)
+    (start_round s (l + length s.lines) - start_of s l) (start_round s (l + length s.lines) - 1)
 level_before s p l k o fits h j e f none =
     let small = place_below s l k h j in
     let empty = first_search s l k fits h j ∙ (sym f ∙ none_is o none) in
@@ -312,23 +346,30 @@ level_before s p l k o fits h j e f none =
     let back : start_of s l + k + frame_of s - (k + 1) ≡ start_round s (l + length s.lines) - 1 = omega (arith, begin, begin_of) in
     level_place s p l k e
     ∙ (sym (search_before s (start_of s l + k) (k + 1) (start_of s l + k + frame_of s) refl (omega arith) empty)
-    ∙ (ap (λ i. last_level (sync_at s) i (start_of s l + k + frame_of s - (k + 1))) count ∙ same_search (sync_at s) (start_round s (l + length s.lines) - start_of s l) (start_of s l + k + frame_of s - (k + 1)) (start_round s (l + length s.lines) - 1) back))
+    ∙ (ap (λ i. last_level (sync_at s) i (start_of s l + k + frame_of s - (k + 1))) count ∙ same_search (sync_at s)
+    (start_round s (l + length s.lines) - start_of s l) (start_of s l + k + frame_of s - (k + 1))
+    (start_round s (l + length s.lines) - 1) back))
   where
     line_back : (l n : ℕ) → l + n - n ≡ l
     line_back l n = omega arith
 
 -- the whole line before the count-th
-whole_line : (s : Schedule) (count : ℕ) → ScheduleFits s → 0 < count → count ≤ 2 * length s.lines → last_level (sync_at s) (length_of s (line_round s (count - 1))) (start_round s count - 1) ≡ last_of_kind (events_of s (line_round s (count - 1))) (length_of s (line_round s (count - 1)))
+whole_line : (s : Schedule) (count : ℕ) → ScheduleFits s → 0 < count → count ≤ 2 * length s.lines → last_level (sync_at s)
+    (length_of s (line_round s (count - 1))) (start_round s count - 1) ≡ last_of_kind (events_of s (line_round s (count - 1)))
+    (length_of s (line_round s (count - 1)))
 whole_line s count fits h k =
     let is : suc (count - 1) ≡ count = omega (arith, h) in
     let begin = round_step s (count - 1) in
     let same = ap (start_round s) is in
-    let at : start_round s count - 1 ≡ start_round s (count - 1) + length_of s (line_round s (count - 1)) - 1 = omega (arith, begin, same) in
-    same_search (sync_at s) (length_of s (line_round s (count - 1))) (start_round s count - 1) (start_round s (count - 1) + length_of s (line_round s (count - 1)) - 1) at
+    let at : start_round s count - 1 ≡ start_round s (count - 1) + length_of s (line_round s (count - 1)) - 1 =
+    omega (arith, begin, same) in
+    same_search (sync_at s) (length_of s (line_round s (count - 1))) (start_round s count - 1)
+    (start_round s (count - 1) + length_of s (line_round s (count - 1)) - 1) at
     ∙ line_search s (count - 1) (length_of s (line_round s (count - 1))) fits (omega arith) (omega (arith, h, k))
 
 -- the lines that are left to search are as long as those from l on
-whole_fits : (s : Schedule) (l count : ℕ) → l < length s.lines → l < count → start_of s l + length_of s (line_round s (count - 1)) ≤ start_round s count
+whole_fits : (s : Schedule) (l count : ℕ) → l < length s.lines → l < count → start_of s l + length_of s (line_round s (count - 1))
+    ≤ start_round s count
 whole_fits s l count h k =
     let is : suc (count - 1) ≡ count = omega (arith, k) in
     let begin = round_step s (count - 1) in
@@ -339,13 +380,19 @@ whole_fits s l count h k =
     let first = first_round s l h in
     omega (arith, begin, same, later, at, first)
 
-pub level_of_line : (s : Schedule) (p l count : ℕ) (o : Option ℕ) → ScheduleFits s → l < length s.lines → l < count → count ≤ 2 * length s.lines → o ≡ last_of_kind (events_of s (line_round s (count - 1))) (length_of s (line_round s (count - 1))) → is_some o ≡ true → level_at s p ≡ last_level (sync_at s) (start_round s count - start_of s l) (start_round s count - 1) → o ≡ level_at s p
+pub level_of_line : (s : Schedule) (p l count : ℕ) (o : Option ℕ) → ScheduleFits s → l < length s.lines → l < count → count ≤ 2 * length
+    s.lines → o ≡ last_of_kind (events_of s (line_round s (count - 1))) (length_of s (line_round s (count - 1))) → is_some o ≡ true
+    → level_at s p ≡ last_level (sync_at s) (start_round s count - start_of s l) (start_round s count - 1) → o ≡ level_at s p
 level_of_line s p l count None fits h k j e some now = absurd cc
 level_of_line s p l count (Some v) fits h k j e some now =
     let long = whole_fits s l count h k in
-    sym (now ∙ search_found s (length_of s (line_round s (count - 1))) (start_round s count - start_of s l) (start_round s count - 1) v (omega (arith, long)) (whole_line s count fits (omega (arith, k)) j ∙ sym e))
+    sym (now ∙ search_found s (length_of s (line_round s (count - 1))) (start_round s count - start_of s l) (start_round s count - 1) v
+    (omega (arith, long)) (whole_line s count fits (omega (arith, k)) j ∙ sym e))
 
-passed_line : (s : Schedule) (p l count : ℕ) (o : Option ℕ) → ScheduleFits s → l < length s.lines → l < count → count ≤ 2 * length s.lines → o ≡ last_of_kind (events_of s (line_round s (count - 1))) (length_of s (line_round s (count - 1))) → is_some o ≡ false → level_at s p ≡ last_level (sync_at s) (start_round s count - start_of s l) (start_round s count - 1) → level_at s p ≡ last_level (sync_at s) (start_round s (count - 1) - start_of s l) (start_round s (count - 1) - 1)
+passed_line : (s : Schedule) (p l count : ℕ) (o : Option ℕ) → ScheduleFits s → l < length s.lines → l < count → count ≤ 2 * length s.lines
+    → o ≡ last_of_kind (events_of s (line_round s (count - 1))) (length_of s (line_round s (count - 1))) → is_some o ≡ false
+    → level_at s p ≡ last_level (sync_at s) (start_round s count - start_of s l) (start_round s count - 1) → level_at s p ≡ last_level
+    (sync_at s) (start_round s (count - 1) - start_of s l) (start_round s (count - 1) - 1)
 passed_line s p l count o fits h k j e none now =
     let long = whole_fits s l count h k in
     let is : suc (count - 1) ≡ count = omega (arith, k) in
@@ -354,11 +401,14 @@ passed_line s p l count o fits h k j e none now =
     let n = length_of s (line_round s (count - 1)) in
     let left : start_round s count - start_of s l - n ≡ start_round s (count - 1) - start_of s l = omega (arith, begin, same, long) in
     let at : start_round s count - 1 - n ≡ start_round s (count - 1) - 1 = omega (arith, begin, same) in
-    now ∙ (search_passed s n (start_round s count - start_of s l) (start_round s count - 1) (omega (arith, long)) (whole_line s count fits (omega (arith, k)) j ∙ (sym e ∙ none_is o none))
-    ∙ (ap (λ i. last_level (sync_at s) i (start_round s count - 1 - n)) left ∙ same_search (sync_at s) (start_round s (count - 1) - start_of s l) (start_round s count - 1 - n) (start_round s (count - 1) - 1) at))
+    now ∙ (search_passed s n (start_round s count - start_of s l) (start_round s count - 1) (omega (arith, long))
+    (whole_line s count fits (omega (arith, k)) j ∙ (sym e ∙ none_is o none))
+    ∙ (ap (λ i. last_level (sync_at s) i (start_round s count - 1 - n)) left ∙ same_search (sync_at s)
+    (start_round s (count - 1) - start_of s l) (start_round s count - 1 - n) (start_round s (count - 1) - 1) at))
 
 -- no line has it
-no_line_left : (s : Schedule) (p l : ℕ) → l < length s.lines → level_at s p ≡ last_level (sync_at s) (start_round s l - start_of s l) (start_round s l - 1) → level_at s p ≡ None
+no_line_left : (s : Schedule) (p l : ℕ) → l < length s.lines → level_at s p ≡ last_level (sync_at s) (start_round s l - start_of s l)
+    (start_round s l - 1) → level_at s p ≡ None
 no_line_left s p l h now =
     let first = first_round s l h in
     let none : start_round s l - start_of s l ≡ 0 = omega (arith, first) in
@@ -369,11 +419,16 @@ no_line_left s p l h now =
 abbrev pub LevelLeft : Schedule → ℕ → ℕ → ℕ → Type 0
 LevelLeft s p l count = level_at s p ≡ last_level (sync_at s) (start_round s count - start_of s l) (start_round s count - 1)
 
-pub level_before_line : (s : Schedule) (p l k count : ℕ) (o : Option ℕ) → ScheduleFits s → l < length s.lines → k < length_of s l → start_of s l + k ≡ p % frame_of s → o ≡ last_of_kind (events_of s l) (k + 1) → is_some o ≡ false → l + length s.lines ≡ count → LevelLeft s p l count
+pub level_before_line : (s : Schedule) (p l k count : ℕ) (o : Option ℕ) → ScheduleFits s → l < length s.lines → k < length_of s l
+    → start_of s l + k ≡ p % frame_of s → o ≡ last_of_kind (events_of s l) (k + 1) → is_some o ≡ false → l + length s.lines ≡ count
+    → LevelLeft s p l count
 level_before_line s p l k count o fits h j e f none is = subst (λ n. LevelLeft s p l n) is (level_before s p l k o fits h j e f none)
 
-pub level_passed : (s : Schedule) (p l count next : ℕ) (o : Option ℕ) → ScheduleFits s → l < length s.lines → l < count → count ≤ 2 * length s.lines → o ≡ last_of_kind (events_of s (line_round s (count - 1))) (length_of s (line_round s (count - 1))) → is_some o ≡ false → count - 1 ≡ next → LevelLeft s p l count → LevelLeft s p l next
-level_passed s p l count next o fits h k j e none is now = subst (λ n. LevelLeft s p l n) is (passed_line s p l count o fits h k j e none now)
+pub level_passed : (s : Schedule) (p l count next : ℕ) (o : Option ℕ) → ScheduleFits s → l < length s.lines → l < count → count ≤ 2 * length
+    s.lines → o ≡ last_of_kind (events_of s (line_round s (count - 1))) (length_of s (line_round s (count - 1))) → is_some o ≡ false
+    → count - 1 ≡ next → LevelLeft s p l count → LevelLeft s p l next
+level_passed s p l count next o fits h k j e none is now = subst (λ n. LevelLeft s p l n) is
+    (passed_line s p l count o fits h k j e none now)
 
 pub level_none : (s : Schedule) (p l count : ℕ) → l < length s.lines → count ≡ l → LevelLeft s p l count → level_at s p ≡ None
 level_none s p l count h is now = no_line_left s p l h (subst (λ n. LevelLeft s p l n) is now)

@@ -1,5 +1,6 @@
 -- What a search by halving finds: the event at a clock, and the last level before one.
-use Rattle.std.proofs.Common.{◌≡◌, ℕ, zero, suc, ◌+◌, ◌-◌, ◌<◌, ◌≤◌, Bool, true, false, ◌&&◌, cond, eqb, leb, ltb, List, [], ◌∷◌, length, map, All, lit≤, refl, sym, subst, ◌∙◌, ap, arith}
+use Rattle.std.proofs.Common.{◌≡◌, ℕ, zero, suc, ◌+◌, ◌-◌, ◌<◌, ◌≤◌, Bool, true, false, ◌&&◌, cond, eqb, leb, ltb, List, [], ◌∷◌, length}
+use Rattle.std.proofs.Common.{map, All, lit≤, refl, sym, subst, ◌∙◌, ap, arith}
 use Rattle.std.proofs.lemmas.List.Elements.{filter_passes}
 use Rattle.std.specs.Prelude.{Option, Some, None, filter, slice_get, slice_index_or}
 use Rattle.std.specs.List.{AllWithin}
@@ -32,7 +33,8 @@ leb_is a b e = grind (arith, nat_tests)
 is_leb : (a b : ℕ) → a ≤ b → leb a b ≡ true
 is_leb a b h = grind (arith, nat_tests)
 
-least_clock : (least : ℕ) (events : List Event) → rises_from least (clocks events) ≡ true → (j : ℕ) (d : Event) → j < length events → least ≤ (slice_index_or events j d).clock
+least_clock : (least : ℕ) (events : List Event) → rises_from least (clocks events) ≡ true → (j : ℕ) (d : Event) → j < length events
+    → least ≤ (slice_index_or events j d).clock
 least_clock least [] r j d h = absurd (omega (arith, h))
 least_clock least (e ∷ es) r zero d h = leb_is least e.clock (both (leb least e.clock) (rises_from (e.clock + 1) (clocks es)) r).0
 least_clock least (e ∷ es) r (suc j) d h =
@@ -63,14 +65,16 @@ rises_less a b (x ∷ xs) h r =
     let here = leb_is a x two.0 in
     both_true (leb b x) (rises_from (x + 1) xs) (is_leb b x (omega (arith, h, here))) two.1
 
-some_rise : (least : ℕ) (events : List Event) → rises_from least (clocks events) ≡ true → rises_from least (clocks (filter is_sync events)) ≡ true
+some_rise : (least : ℕ) (events : List Event) → rises_from least (clocks events) ≡ true → rises_from least (clocks (filter is_sync events))
+    ≡ true
 some_rise least [] r = refl
 some_rise least (e ∷ es) r =
     let two = both (leb least e.clock) (rises_from (e.clock + 1) (clocks es)) r in
     let here = leb_is least e.clock two.0 in
     by_kind (is_sync e) e (filter is_sync es) two.0 (some_rise (e.clock + 1) es two.1) (omega (arith, here))
   where
-    by_kind : (t : Bool) (e : Event) (kept : List Event) → leb least e.clock ≡ true → rises_from (e.clock + 1) (clocks kept) ≡ true → least ≤ e.clock + 1 → rises_from least (clocks (cond t (e ∷ kept) kept)) ≡ true
+    by_kind : (t : Bool) (e : Event) (kept : List Event) → leb least e.clock ≡ true → rises_from (e.clock + 1) (clocks kept) ≡ true
+        → least ≤ e.clock + 1 → rises_from least (clocks (cond t (e ∷ kept) kept)) ≡ true
     by_kind true e kept h k j = both_true (leb least e.clock) (rises_from (e.clock + 1) (clocks kept)) h k
     by_kind false e kept h k j = rises_less (e.clock + 1) least (clocks kept) j k
 
@@ -92,13 +96,15 @@ other : {A : Type 0} (b : Bool) (x y : A) → b ≡ false → cond b x y ≡ y
 other true x y e = absurd cc
 other false x y e = refl
 
-none_above : (events : List Event) (n : ℕ) → ((j : ℕ) (d : Event) → j < length events → n < (slice_index_or events j d).clock) → event_in events n ≡ None
+none_above : (events : List Event) (n : ℕ) → ((j : ℕ) (d : Event) → j < length events → n < (slice_index_or events j d).clock)
+    → event_in events n ≡ None
 none_above [] n h = refl
 none_above (e ∷ es) n h =
     other (eqb e.clock n) (Some e.kind) (event_in es n) (above_not e.clock n (h 0 e (omega arith)))
     ∙ none_above es n (λ j d k. h (suc j) d (omega (arith, k)))
 
-pub event_found : (events : List Event) (n i : ℕ) → IsNonDecreasingBy (λ e. e.clock) events → AllWithin (λ e. ltb e.clock n ≡ true) events 0 i → AllWithin (λ e. ltb e.clock n ≡ false) events i (length events) → event_in events n ≡ event_here n (slice_get events i)
+pub event_found : (events : List Event) (n i : ℕ) → IsNonDecreasingBy (λ e. e.clock) events → AllWithin (λ e. ltb e.clock n ≡ true) events 0
+    i → AllWithin (λ e. ltb e.clock n ≡ false) events i (length events) → event_in events n ≡ event_here n (slice_get events i)
 event_found [] n i sorted before after = refl
 event_found (e ∷ es) n zero sorted before after = by_test (eqb e.clock n) refl
   where
@@ -154,7 +160,9 @@ none_before (e ∷ es) n after =
     let here : set_by e n ≡ None = other (ltb e.clock n) (level_set e.kind) None (after 0 e (lit≤ tt) (omega arith)) in
     ap (λ o. or_else o (set_by e n)) (none_before es n (λ j d h g. after (suc j) d (omega arith) (omega (arith, g)))) ∙ here
 
-pub level_found : (events : List Event) (n i : ℕ) (d : Event) → ((j : ℕ) → j < length events → is_sync (slice_index_or events j d) ≡ true) → i < length events → AllWithin (λ e. ltb e.clock n ≡ true) events 0 (suc i) → AllWithin (λ e. ltb e.clock n ≡ false) events (suc i) (length events) → last_set events n ≡ level_set (slice_index_or events i d).kind
+pub level_found : (events : List Event) (n i : ℕ) (d : Event) → ((j : ℕ) → j < length events → is_sync (slice_index_or events j d) ≡ true)
+    → i < length events → AllWithin (λ e. ltb e.clock n ≡ true) events 0 (suc i) → AllWithin (λ e. ltb e.clock n ≡ false) events (suc i)
+    (length events) → last_set events n ≡ level_set (slice_index_or events i d).kind
 level_found [] n i d syncs b before after = absurd (omega (arith, b))
 level_found (e ∷ es) n zero d syncs b before after =
     let none = none_before es n (λ j d h g. after (suc j) d (omega arith) (omega (arith, g))) in
@@ -164,22 +172,30 @@ level_found (e ∷ es) n zero d syncs b before after =
     first true f = refl
     first false f = absurd cc
 level_found (e ∷ es) n (suc i) d syncs b before after =
-    let rest = level_found es n i d (λ j h. syncs (suc j) (omega (arith, h))) (omega (arith, b)) (λ j d h g. before (suc j) d (omega arith) (omega (arith, g))) (λ j d h g. after (suc j) d (omega (arith, h)) (omega (arith, g))) in
+    let rest = level_found es n i d (λ j h. syncs (suc j) (omega (arith, h))) (omega (arith, b))
+    (λ j d h g. before (suc j) d (omega arith) (omega (arith, g))) (λ j d h g. after (suc j) d (omega (arith, h)) (omega (arith, g))) in
     ap (λ o. or_else o (set_by e n)) rest ∙ a_level (slice_index_or es i d).kind (set_by e n) (syncs (suc i) b)
 
 -- where the search over the events of sync ends
 
-pub none_by_place : (events syncs : List Event) (n i : ℕ) → syncs ≡ filter is_sync events → i ≡ 0 → IsPartitionPoint (λ e. ltb e.clock n ≡ true) (λ e. ltb e.clock n ≡ false) syncs i → last_set events n ≡ None
+pub none_by_place : (events syncs : List Event) (n i : ℕ) → syncs ≡ filter is_sync events → i ≡ 0 → IsPartitionPoint
+    (λ e. ltb e.clock n ≡ true) (λ e. ltb e.clock n ≡ false) syncs i → last_set events n ≡ None
 none_by_place events syncs n i is e point =
-    let from : AllWithin (λ e. ltb e.clock n ≡ false) syncs 0 (length syncs) = subst (λ k. AllWithin (λ e. ltb e.clock n ≡ false) syncs k (length syncs)) e point.1 in
+    let from : AllWithin (λ e. ltb e.clock n ≡ false) syncs 0 (length syncs) =
+    subst (λ k. AllWithin (λ e. ltb e.clock n ≡ false) syncs k (length syncs)) e point.1 in
     syncs_alone events n ∙ (ap (λ xs. last_set xs n) (sym is) ∙ none_before syncs n from)
 
-found_before : (syncs : List Event) (n i j : ℕ) (d : Event) → ((j : ℕ) → j < length syncs → is_sync (slice_index_or syncs j d) ≡ true) → 0 < i → i ≤ length syncs → j ≡ i - 1 → IsPartitionPoint (λ e. ltb e.clock n ≡ true) (λ e. ltb e.clock n ≡ false) syncs i → last_set syncs n ≡ level_set (slice_index_or syncs j d).kind
+found_before : (syncs : List Event) (n i j : ℕ) (d : Event) → ((j : ℕ) → j < length syncs → is_sync (slice_index_or syncs j d) ≡ true)
+    → 0 < i → i ≤ length syncs → j ≡ i - 1 → IsPartitionPoint (λ e. ltb e.clock n ≡ true) (λ e. ltb e.clock n ≡ false) syncs i
+    → last_set syncs n ≡ level_set (slice_index_or syncs j d).kind
 found_before syncs n i j d passes some bound e point =
     let is : i ≡ suc j = omega (arith, e, some) in
-    level_found syncs n j d passes (omega (arith, is, bound)) (subst (λ k. AllWithin (λ e. ltb e.clock n ≡ true) syncs 0 k) is point.0) (subst (λ k. AllWithin (λ e. ltb e.clock n ≡ false) syncs k (length syncs)) is point.1)
+    level_found syncs n j d passes (omega (arith, is, bound)) (subst (λ k. AllWithin (λ e. ltb e.clock n ≡ true) syncs 0 k) is point.0)
+    (subst (λ k. AllWithin (λ e. ltb e.clock n ≡ false) syncs k (length syncs)) is point.1)
 
-pub level_by_place : (events syncs : List Event) (n i j : ℕ) (d : Event) → syncs ≡ filter is_sync events → 0 < i → i ≤ length syncs → j ≡ i - 1 → IsPartitionPoint (λ e. ltb e.clock n ≡ true) (λ e. ltb e.clock n ≡ false) syncs i → last_set events n ≡ level_set (slice_index_or syncs j d).kind
+pub level_by_place : (events syncs : List Event) (n i j : ℕ) (d : Event) → syncs ≡ filter is_sync events → 0 < i → i ≤ length syncs
+    → j ≡ i - 1 → IsPartitionPoint (λ e. ltb e.clock n ≡ true) (λ e. ltb e.clock n ≡ false) syncs i → last_set events n ≡ level_set
+    (slice_index_or syncs j d).kind
 level_by_place events syncs n i j d is some bound e point =
     let passes : All (λ e. is_sync e ≡ true) syncs = subst (λ xs. All (λ e. is_sync e ≡ true) xs) (sym is) (filter_passes is_sync events) in
     syncs_alone events n ∙ (ap (λ xs. last_set xs n) (sym is) ∙ found_before syncs n i j d (λ j h. passes j d h) some bound e point)

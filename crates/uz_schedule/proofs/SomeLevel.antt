@@ -1,5 +1,6 @@
 -- Where the level is set anywhere, there is one everywhere, and it is 0 or 1.
-use Rattle.std.proofs.Common.{◌≡◌, ◌⊎◌, inl, inr, All, ℕ, zero, suc, ◌+◌, ◌-◌, ◌%◌, ◌<◌, ◌≤◌, Bool, true, false, cond, ltb, List, [], ◌∷◌, length, refl, ◌∙◌, ap, subst, arith}
+use Rattle.std.proofs.Common.{◌≡◌, ◌⊎◌, inl, inr, All, ℕ, zero, suc, ◌+◌, ◌-◌, ◌%◌, ◌<◌, ◌≤◌, Bool, true, false, cond, ltb, List, [], ◌∷◌}
+use Rattle.std.proofs.Common.{length, refl, ◌∙◌, ap, subst, arith}
 use Rattle.std.proofs.Math.Nat.{add-mod_right, mod-lt, mod-mod}
 use Rattle.std.specs.Prelude.{Option, Some, None, slice_get, slice_index}
 use Rattle.std.proofs.lemmas.Bool.Decides.{eqb_tells, leb_tells}
@@ -10,7 +11,8 @@ use Rattle.uz_schedule.specs.declared.lines.Event.{Event}
 use Rattle.uz_schedule.specs.declared.lines.EventKind.{EventKind}
 use Rattle.uz_schedule.specs.declared.lines.EventKind.TheVariants.{Sync, Pixel, Sound, Leave}
 use Rattle.uz_schedule.specs.declared.lines.Schedule.{Schedule}
-use Rattle.uz_schedule.specs.Schedule.{length_of, frame_of, event_in, event_in_kind, event_from, events_of, event_at, sync_of, sync_at, or_else, last_level, level_at}
+use Rattle.uz_schedule.specs.Schedule.{length_of, frame_of, event_in, event_in_kind, event_from, events_of, event_at, sync_of, sync_at}
+use Rattle.uz_schedule.specs.Schedule.{or_else, last_level, level_at}
 use Rattle.uz_schedule.proofs.Modulo.{event_at_mod}
 
 -- Every level is 0 or 1
@@ -26,10 +28,12 @@ event_fits (first ∷ later) clock kind h e =
       | inr t ↦ event_fits later clock kind (All-tail EventFits first later h) (rw t.0 at e)
     ]
 
-listed_fits : (s : Schedule) (o : Option (List Event)) (clock : ℕ) (kind : EventKind) (k : ℕ) → ScheduleFits s → slice_get s.kinds k ≡ o → event_in_kind o clock ≡ Some kind → KindFits kind
+listed_fits : (s : Schedule) (o : Option (List Event)) (clock : ℕ) (kind : EventKind) (k : ℕ) → ScheduleFits s → slice_get s.kinds k ≡ o
+    → event_in_kind o clock ≡ Some kind → KindFits kind
 listed_fits s None clock kind k fits f e = absurd cc
 listed_fits s (Some events) clock kind k fits f e =
-    let each = All-get_or (λ es. All EventFits es) s.kinds k [] (slice_get_within s.kinds k events f) (λ i d b. (fits.kinds.each i d b).each) in
+    let each = All-get_or (λ es. All EventFits es) s.kinds k [] (slice_get_within s.kinds k events f)
+    (λ i d b. (fits.kinds.each i d b).each) in
     event_fits events clock kind (subst (All EventFits) (get_or_from_slice_get s.kinds k events [] f) each) e
 
 level_fits : (o : Option EventKind) (v : ℕ) → ((kind : EventKind) → o ≡ Some kind → KindFits kind) → sync_of o ≡ Some v → v ≤ 1
@@ -39,7 +43,8 @@ level_fits (Some Pixel) v h e = absurd cc
 level_fits (Some Sound) v h e = absurd cc
 level_fits (Some Leave) v h e = absurd cc
 
-chosen_fits : (t : Bool) (here there : Option EventKind) (kind : EventKind) → (here ≡ Some kind → KindFits kind) → (there ≡ Some kind → KindFits kind) → cond t here there ≡ Some kind → KindFits kind
+chosen_fits : (t : Bool) (here there : Option EventKind) (kind : EventKind) → (here ≡ Some kind → KindFits kind)
+    → (there ≡ Some kind → KindFits kind) → cond t here there ≡ Some kind → KindFits kind
 chosen_fits true here there kind f g e = f e
 chosen_fits false here there kind f g e = g e
 
@@ -47,7 +52,8 @@ walk_fits : (s : Schedule) (l count k : ℕ) (kind : EventKind) → ScheduleFits
 walk_fits s l zero k kind fits e = absurd cc
 walk_fits s l (suc count) k kind fits e =
     chosen_fits (ltb k (length_of s l)) (event_in_kind (events_of s l) k) (event_from s (suc l) count (k - length_of s l)) kind
-    (λ h. listed_fits s (events_of s l) k kind (slice_index s.lines l) fits refl h) (λ h. walk_fits s (suc l) count (k - length_of s l) kind fits h) e
+    (λ h. listed_fits s (events_of s l) k kind (slice_index s.lines l) fits refl h) (λ h. walk_fits s (suc l) count (k - length_of s l) kind
+    fits h) e
 
 sync_fits : (s : Schedule) → ScheduleFits s → (p v : ℕ) → sync_at s p ≡ Some v → v ≤ 1
 sync_fits s fits p v e = level_fits (event_at s p) v (λ kind f. walk_fits s 0 (length s.lines) (p % frame_of s) kind fits f) e
@@ -77,7 +83,13 @@ found at (suc n) x y v h g e =
             | inl u ↦ absurd (same_some (at y) v e (ap at u.1 ∙ t))
             | inr u ↦
                 let rest = found at n (x - 1) y v (omega (arith, h, u.1)) (omega (arith, h, g, u.1)) e in
-                record { level = rest.level; where_ = rest.where_; set = rest.set; is = ap (λ o. or_else o (last_level at n (x - 1))) t ∙ rest.is }
+                record {
+                  level = rest.level;
+                  where_ = rest.where_;
+                  set = rest.set;
+                  is = ap (λ o. or_else o (last_level at n (x - 1))) t
+                      ∙ rest.is;
+                }
           ]
     ]
 
@@ -110,7 +122,8 @@ level_somewhere s p q v some set =
     let below : x < frame_of s = mod-lt p some in
     let there : y < frame_of s = mod-lt q some in
     let here : sync_at s y ≡ Some v = ap sync_of (event_at_mod s y q (mod-mod q (frame_of s))) ∙ set in
-    let again : sync_at s (y + frame_of s) ≡ Some v = ap sync_of (event_at_mod s (y + frame_of s) y (add-mod_right y (frame_of s))) ∙ here in
+    let again : sync_at s (y + frame_of s) ≡ Some v = ap sync_of (event_at_mod s (y + frame_of s) y (add-mod_right y (frame_of s)))
+    ∙ here in
     let at = elim (leb_tells y x) as (λ _. Found (sync_at s) (frame_of s) (x + frame_of s)) [
       | inl t ↦ found (sync_at s) (frame_of s) (x + frame_of s) (y + frame_of s) v (omega (arith, t.1)) (omega (arith, below)) again
       | inr t ↦ found (sync_at s) (frame_of s) (x + frame_of s) y v (omega (arith, there)) (omega (arith, t.1)) here

@@ -1,5 +1,6 @@
 -- Where lines begin, and the event at a place of a line.
-use Rattle.std.proofs.Common.{◌≡◌, ℕ, zero, suc, ◌+◌, ◌-◌, ◌*◌, ◌%◌, ◌<◌, ◌≤◌, Bool, true, false, cond, ltb, length, refl, sym, ◌∙◌, ap, arith}
+use Rattle.std.proofs.Common.{◌≡◌, ℕ, zero, suc, ◌+◌, ◌-◌, ◌*◌, ◌%◌, ◌<◌, ◌≤◌, Bool, true, false, cond, ltb, length, refl, sym, ◌∙◌, ap}
+use Rattle.std.proofs.Common.{arith}
 use Rattle.std.proofs.Math.Nat.{mod-eq_of_lt}
 use Rattle.std.proofs.lemmas.Bool.Decides.{nat_tests}
 use Rattle.uz_schedule.specs.declared.lines.Schedule.{Schedule}
@@ -51,7 +52,8 @@ below_false : (k n : ℕ) → n ≤ k → ltb k n ≡ false
 below_false k n h = grind (arith, nat_tests)
 
 -- the walk over lines ends at the line whose place it is
-walked : (s : Schedule) (l count k q r : ℕ) → start_of s l + k ≡ start_of s (l + q) + r → r < length_of s (l + q) → q < count → event_from s l count k ≡ event_in_kind (events_of s (l + q)) r
+walked : (s : Schedule) (l count k q r : ℕ) → start_of s l + k ≡ start_of s (l + q) + r → r < length_of s (l + q) → q < count
+    → event_from s l count k ≡ event_in_kind (events_of s (l + q)) r
 walked s l zero k q r e h b = absurd (omega (arith, b))
 walked s l (suc count) k zero r e h b =
     let here : l + 0 ≡ l = omega arith in
@@ -65,15 +67,19 @@ walked s l (suc count) k (suc q) r e h b =
     let step : start_of s (suc l) ≡ start_of s l + length_of s l = refl in
     let long : length_of s l ≤ k = omega (arith, e, same, later, step) in
     passed (ltb k (length_of s l)) _ _ (below_false k (length_of s l) long)
-    ∙ (walked s (suc l) count (k - length_of s l) q r (omega (arith, e, same, step, long)) (omega (arith, h)) (omega (arith, b)) ∙ ap (λ m. event_in_kind (events_of s m) r) next)
+    ∙ (walked s (suc l) count (k - length_of s l) q r (omega (arith, e, same, step, long)) (omega (arith, h)) (omega (arith, b))
+    ∙ ap (λ m. event_in_kind (events_of s m) r) next)
 
 -- the event at a position that is clock k of line l
-pub event_there : (s : Schedule) (p l k : ℕ) → l < length s.lines → k < length_of s l → start_of s l + k ≡ p % frame_of s → event_at s p ≡ event_in_kind (events_of s l) k
+pub event_there : (s : Schedule) (p l k : ℕ) → l < length s.lines → k < length_of s l → start_of s l + k ≡ p % frame_of s
+    → event_at s p ≡ event_in_kind (events_of s l) k
 event_there s p l k h j e =
     let same : 0 + l ≡ l = omega arith in
     let begin = ap (start_of s) same in
-    walked s 0 (length s.lines) (p % frame_of s) l k (omega (arith, e, begin)) (omega (arith, j)) h ∙ ap (λ m. event_in_kind (events_of s m) k) same
+    walked s 0 (length s.lines) (p % frame_of s) l k (omega (arith, e, begin)) (omega (arith, j)) h
+    ∙ ap (λ m. event_in_kind (events_of s m) k) same
 
 -- a look-up by line and clock
-pub event_of_place : (s : Schedule) (l k : ℕ) → l < length s.lines → k < length_of s l → event_at s (start_of s l + k) ≡ event_in_kind (events_of s l) k
+pub event_of_place : (s : Schedule) (l k : ℕ) → l < length s.lines → k < length_of s l → event_at s (start_of s l + k) ≡ event_in_kind
+    (events_of s l) k
 event_of_place s l k h j = event_there s (start_of s l + k) l k h j (sym (mod-eq_of_lt (place_below s l k h j)))

@@ -1,11 +1,13 @@
 -- What is known of the machine where a point stands, at one line and one count of its box; where runs enter; and where
 -- the handler's next run begins. The timer's interrupt has its vector at the word address 26 (ATmega644 data sheet).
-use Rattle.std.specs.Prelude.{ℕ, zero, suc, ◌+◌, ◌*◌, ◌%◌, ℤ, pos, negsuc, ◌+ℤ◌, ◌*ℤ◌, nat_le, nat_lt, Bool, false, ◌&&◌, List, [], ◌∷◌, map, replicate, Option, Some, None, unwrap_or, option_and_then, slice_get, slice_index_or, if◌then◌else◌}
+use Rattle.std.specs.Prelude.{ℕ, zero, suc, ◌+◌, ◌*◌, ◌%◌, ℤ, pos, negsuc, ◌+ℤ◌, ◌*ℤ◌, nat_le, nat_lt, Bool, false, ◌&&◌, List, [], ◌∷◌}
+use Rattle.std.specs.Prelude.{map, replicate, Option, Some, None, unwrap_or, option_and_then, slice_get, slice_index_or, if◌then◌else◌}
 use Rattle.uz_schedule.specs.Ends.{Ends, whole_byte, whole_pair, one_number, hull}
 use Rattle.uz_schedule.specs.declared.facts.Fact.{Fact}
 use Rattle.uz_schedule.specs.declared.facts.Fact.TheVariants.{Any, Between, Line, Loop, Old as OldFact, OldFlags as OldFlagsFact}
 use Rattle.uz_schedule.specs.declared.facts.PairFact.{PairFact}
-use Rattle.uz_schedule.specs.declared.facts.PairFact.TheVariants.{Any as AnyPair, Between as BetweenPair, Line as LinePair, Loop as LoopPair}
+use Rattle.uz_schedule.specs.declared.facts.PairFact.TheVariants.{Any as AnyPair, Between as BetweenPair, Line as LinePair}
+use Rattle.uz_schedule.specs.declared.facts.PairFact.TheVariants.{Loop as LoopPair}
 use Rattle.uz_schedule.specs.declared.facts.Val.{Val}
 use Rattle.uz_schedule.specs.declared.facts.Val.TheVariants.{Range, Old, OldFlags}
 use Rattle.uz_schedule.specs.declared.facts.Bit.TheVariants.{Old as OldBit}
@@ -55,7 +57,8 @@ pair_of l c regs r (LoopPair a b) = one_number ((a * c + b) % 65536)
 -- the pairs X, Y and Z are the registers 26 and 27, 28 and 29, 30 and 31
 abbrev pub pairs_of : ℕ → ℕ → List Val → List PairFact → List Ends
 pairs_of l c regs facts =
-    pair_of l c regs 26 (slice_index_or facts 0 AnyPair) ∷ pair_of l c regs 28 (slice_index_or facts 1 AnyPair) ∷ pair_of l c regs 30 (slice_index_or facts 2 AnyPair) ∷ []
+    pair_of l c regs 26 (slice_index_or facts 0 AnyPair) ∷ pair_of l c regs 28 (slice_index_or facts 1 AnyPair) ∷ pair_of l c regs 30
+    (slice_index_or facts 2 AnyPair) ∷ []
 
 -- Points
 
@@ -149,4 +152,5 @@ handler_entry cells line clock level =
 -- the handler's first state after a rest, where its interrupt is taken at clock c of the next line
 abbrev pub rest_instance : Cert → Rest → ℕ → Instance
 rest_instance cert rest c =
-    handler_entry rest.cells.items (next_line cert.schedule rest.line) (c + response_clocks cert.head.irq) (level_or_zero cert.schedule (next_line cert.schedule rest.line) (c + response_clocks cert.head.irq))
+    handler_entry rest.cells.items (next_line cert.schedule rest.line) (c + response_clocks cert.head.irq)
+    (level_or_zero cert.schedule (next_line cert.schedule rest.line) (c + response_clocks cert.head.irq))

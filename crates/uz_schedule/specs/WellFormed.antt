@@ -1,5 +1,6 @@
 -- Well formed certificates: within the limits and orders of their text. The numbers are this project's profile.
-use Rattle.std.specs.Prelude.{◌≡◌, ◌⊎◌, ℕ, suc, ◌+◌, ◌-◌, ◌*◌, ◌<◌, ◌≤◌, ◌==◌, ◌&&◌, nat_lt, ℤ, pos, negsuc, ⊤, Bool, true, false, IsTrue, List, [], ◌∷◌, All, length, map, sum_by, slice_index_or}
+use Rattle.std.specs.Prelude.{◌≡◌, ◌⊎◌, ℕ, suc, ◌+◌, ◌-◌, ◌*◌, ◌<◌, ◌≤◌, ◌==◌, ◌&&◌, nat_lt, ℤ, pos, negsuc, ⊤, Bool, true, false, IsTrue}
+use Rattle.std.specs.Prelude.{List, [], ◌∷◌, All, length, map, sum_by, slice_index_or}
 use Rattle.uz_schedule.specs.Ends.{Ends, is_within}
 use Rattle.uz_schedule.specs.Limits.{clock_limit, rises, ScheduleFits}
 use Rattle.uz_schedule.specs.Tracked.{tracked, depth_of}
@@ -8,7 +9,8 @@ use Rattle.uz_schedule.specs.declared.kinds.Kind.TheVariants.{Main, Handler, Alo
 use Rattle.uz_schedule.specs.declared.facts.Fact.{Fact}
 use Rattle.uz_schedule.specs.declared.facts.Fact.TheVariants.{Any, Between, Line, Loop, Old, OldFlags}
 use Rattle.uz_schedule.specs.declared.facts.PairFact.{PairFact}
-use Rattle.uz_schedule.specs.declared.facts.PairFact.TheVariants.{Any as AnyPair, Between as BetweenPair, Line as LinePair, Loop as LoopPair}
+use Rattle.uz_schedule.specs.declared.facts.PairFact.TheVariants.{Any as AnyPair, Between as BetweenPair, Line as LinePair}
+use Rattle.uz_schedule.specs.declared.facts.PairFact.TheVariants.{Loop as LoopPair}
 use Rattle.uz_schedule.specs.declared.facts.Bit.{Bit}
 use Rattle.uz_schedule.specs.declared.facts.Bit.TheVariants.{Zero, One, Free, Old as OldBit}
 use Rattle.uz_schedule.specs.declared.header.Cell.{Cell}
@@ -197,7 +199,8 @@ is_default_flag Alone OldBit = false
 
 -- of the flags C Z N V S H T in this order, C and Z are left out
 abbrev pub is_carry_and_zero_default : Kind → List Bit → Bool
-is_carry_and_zero_default kind flags = is_default_flag kind (slice_index_or flags 0 Free) && is_default_flag kind (slice_index_or flags 1 Free)
+is_carry_and_zero_default kind flags = is_default_flag kind (slice_index_or flags 0 Free) && is_default_flag kind
+    (slice_index_or flags 1 Free)
 
 abbrev pub is_without_text : Point → Bool
 is_without_text p = is_zero_or_one (slice_index_or p.pairs 2 AnyPair) && is_carry_and_zero_default p.kind p.flags

@@ -18,7 +18,7 @@ impl LineOrder {
     pub fn length(self, line: u16) -> u16
         ensures { result ≡ (uniform self.count).length line }
     {
-        let _ = line;
+        let _ = line; // each line is as long
         SCANLINE
     }
 

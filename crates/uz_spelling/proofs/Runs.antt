@@ -51,7 +51,8 @@ run_kept text count kind next runs e =
     rw e (ap (λ r. text ++ ended (run_lines r)) (sym (run_goes_on count kind runs)))
 
 -- the runs of a text with a line of another kind
-pub run_over : (old new : List ℕ) (count kind next : ℕ) (runs : List (ℕ × ℕ)) → eqb next kind ≡ false → new ≡ old ++ line_end (run_words (count, kind))
+pub run_over : (old new : List ℕ) (count kind next : ℕ) (runs : List (ℕ × ℕ)) → eqb next kind ≡ false → new ≡ old
+    ++ line_end (run_words (count, kind))
     → new ++ ended (run_lines (run_on 1 next runs)) ≡ old ++ ended (run_lines (run_on count kind (run_before next runs)))
 run_over old new count kind next runs ne e =
     ap (λ t. t ++ ended (run_lines (run_on 1 next runs))) e

@@ -1,5 +1,6 @@
 -- One more word or line at the end of a text.
-use Rattle.std.proofs.Common.{◌≡◌, ℕ, zero, suc, ◌+◌, ◌<◌, ◌≤◌, Bool, true, false, cond, List, [], ◌∷◌, ◌++◌, map, drop, get_or, length, decimal, refl, sym, ◌∙◌, ap, append_assoc, append-nil, add-one, drop-cons}
+use Rattle.std.proofs.Common.{◌≡◌, ℕ, zero, suc, ◌+◌, ◌<◌, ◌≤◌, Bool, true, false, cond, List, [], ◌∷◌, ◌++◌, map, drop, get_or, length}
+use Rattle.std.proofs.Common.{decimal, refl, sym, ◌∙◌, ap, append_assoc, append-nil, add-one, drop-cons}
 use Rattle.std.specs.Prelude.{Some, slice_get}
 use Rattle.std.proofs.lemmas.List.{drop_all}
 use Rattle.uz_schedule.specs.Tracked.{tracks}
@@ -26,7 +27,8 @@ added_two old mid new a b rest all e f g =
     added mid new b rest all f (added old mid a (b ++ rest) all e g)
 
 -- an item, or none, and then others
-pub unless_first : (t : Bool) (word : List ℕ) (words : List (List ℕ)) → spaced (unless t word words) ≡ spaced (unless t word []) ++ spaced words
+pub unless_first : (t : Bool) (word : List ℕ) (words : List (List ℕ)) → spaced (unless t word words) ≡ spaced (unless t word [])
+    ++ spaced words
 unless_first true word words = refl
 unless_first false word words = ap (λ t. 32 ∷ t) (ap (λ t. t ++ spaced words) (sym (append-nil word)))
 
@@ -66,7 +68,8 @@ pairs_over letters fs k h = ap (λ ys. spaced (pair_items (drop k letters) ys)) 
 pub flag_left : (kind : Kind) (letters : List ℕ) (bs : List Bit) (k letter : ℕ) (x d : Bit)
     → k < length letters → k < length bs → letter ≡ get_or letters k 0 → x ≡ get_or bs k d
     → spaced (flag_items kind (drop k letters) (drop k bs))
-    ≡ spaced (unless (is_default_flag kind x) (item (letter ∷ []) (flag_word x)) []) ++ spaced (flag_items kind (drop (k + 1) letters) (drop (k + 1) bs))
+    ≡ spaced (unless (is_default_flag kind x) (item (letter ∷ []) (flag_word x)) [])
+    ++ spaced (flag_items kind (drop (k + 1) letters) (drop (k + 1) bs))
 flag_left kind letters bs k letter x d h i e f =
     ap (λ ls. spaced (flag_items kind ls (drop k bs))) (left letters k letter 0 h e)
     ∙ ap (λ ys. spaced (flag_items kind (letter ∷ drop (k + 1) letters) ys)) (left bs k x d i f)
@@ -94,14 +97,16 @@ cell_added old new kind i next c cs fs x t e f =
     ap (λ n. new ++ spaced (cell_items kind n cs (drop (next + 1) fs))) (add-one i)
     ∙ put old new (spaced (unless (is_range c.range x) word [])) (spaced later) (spaced (unless (is_range c.range x) word later))
     (old ++ spaced (unless (is_range c.range x) word later)) f (unless_first (is_range c.range x) word later) refl
-    ∙ ap (λ b. old ++ spaced (cond b (unless (is_range c.range x) word later) (cell_items kind (suc i) cs (x ∷ drop (next + 1) fs)))) (sym t)
+    ∙ ap (λ b. old ++ spaced (cond b (unless (is_range c.range x) word later) (cell_items kind (suc i) cs (x ∷ drop (next + 1) fs))))
+    (sym t)
     ∙ ap (λ ys. old ++ spaced (cell_items kind i (c ∷ cs) ys)) (sym (next_fact fs next x e))
 
 passed : (kind : Kind) (i : ℕ) (c : Cell) (cs : List Cell) (fs : List Fact) → tracks kind c.owner ≡ false
     → cell_items kind i (c ∷ cs) fs ≡ cell_items kind (suc i) cs fs
 passed kind i c cs [] t = sym (no_cells kind (suc i) cs)
 passed kind i c cs (f ∷ fs) t =
-    ap (λ b. cond b (unless (is_range c.range f) (item (109 ∷ decimal i) (fact_word f)) (cell_items kind (suc i) cs fs)) (cell_items kind (suc i) cs (f ∷ fs))) t
+    ap (λ b. cond b (unless (is_range c.range f) (item (109 ∷ decimal i) (fact_word f)) (cell_items kind (suc i) cs fs))
+    (cell_items kind (suc i) cs (f ∷ fs))) t
 
 -- one that it doesn't track
 pub cell_passed : (text : List ℕ) (kind : Kind) (i next : ℕ) (c : Cell) (cs : List Cell) (fs : List Fact) → tracks kind c.owner ≡ false
@@ -125,12 +130,14 @@ pub kind_added : (old mid new : List ℕ) (events : List Event) (kinds : List (L
     → new ++ ended (kinds_then kinds []) ≡ old ++ ended (kinds_then (events ∷ kinds) [])
 kind_added old mid new events kinds e f =
     let lines = map (λ e. line_of (event_words e)) events in
-    added_two old mid new (line_end (kind_words events)) (ended lines) (ended (kinds_then kinds [])) (old ++ ended (kinds_then (events ∷ kinds) [])) e f
+    added_two old mid new (line_end (kind_words events)) (ended lines) (ended (kinds_then kinds []))
+    (old ++ ended (kinds_then (events ∷ kinds) [])) e f
     (ap (λ t. old ++ t) (ap (λ t. line_end (kind_words events) ++ t) (sym (ended_append lines (kinds_then kinds [])))
     ∙ line_ended (kind_words events) (lines ++ kinds_then kinds [])))
 
 -- two lists of words
-pub added_both : (old mid new : List ℕ) (ws vs : List (List ℕ)) → mid ≡ old ++ spaced ws → new ≡ mid ++ spaced vs → new ≡ old ++ spaced (ws ++ vs)
+pub added_both : (old mid new : List ℕ) (ws vs : List (List ℕ)) → mid ≡ old ++ spaced ws → new ≡ mid ++ spaced vs → new ≡ old
+    ++ spaced (ws ++ vs)
 added_both old mid new ws vs e f =
     f ∙ ap (λ t. t ++ spaced vs) e ∙ append_assoc old (spaced ws) (spaced vs) ∙ ap (λ t. old ++ t) (sym (spaced_append ws vs))
 

@@ -6,7 +6,8 @@ use Rattle.uz_schedule.specs.declared.states.Point.{Point}
 use Rattle.uz_schedule.specs.declared.states.Rest.{Rest}
 use Rattle.uz_spelling.specs.Spelling.{register_items, pair_items, flag_items, slot_items, cell_items, successor_items, range_facts}
 use Rattle.uz_spelling.specs.Spelling.{ends_word, rest_words, entry_items, entry_words, point_items, point_words}
-use Rattle.uz_spelling.specs.Joined.{spaced, line_end, rest_text, entry_place, entry_facts, entry_text, point_place, core_text, memory_text, point_text}
+use Rattle.uz_spelling.specs.Joined.{spaced, line_end, rest_text, entry_place, entry_facts, entry_text, point_place, core_text, memory_text}
+use Rattle.uz_spelling.specs.Joined.{point_text}
 use Rattle.uz_spelling.proofs.Joining.{spaced_append, join_words}
 
 -- a first word and two lists of others

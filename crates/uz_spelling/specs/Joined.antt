@@ -1,5 +1,6 @@
 -- Words and lines joined, as they are put one after another at the end of a text.
 use Rattle.std.specs.Prelude.{ℕ, ◌+◌, ◌==◌, List, [], ◌∷◌, ◌++◌, codes, decimal, map, if◌then◌else◌}
+use Prim.Native.Char.{code}
 use Rattle.uz_schedule.specs.declared.header.Cell.{Cell}
 use Rattle.uz_schedule.specs.declared.lines.Schedule.{Schedule}
 use Rattle.uz_schedule.specs.declared.states.Entry.{Entry}
@@ -7,22 +8,23 @@ use Rattle.uz_schedule.specs.declared.states.Point.{Point}
 use Rattle.uz_schedule.specs.declared.states.Rest.{Rest}
 use Rattle.uz_schedule.specs.declared.certificate.Cert.{Cert}
 use Rattle.uz_spelling.specs.Spelling.{line_of, kind_word, signed_word, truth_word, register_items, pair_items, flag_items, slot_items}
-use Rattle.uz_spelling.specs.Spelling.{cell_items, successor_items, range_facts, ends_word, size_words, irq_words, stack_words, cell_words, fall_words}
+use Rattle.uz_spelling.specs.Spelling.{cell_items, successor_items, range_facts, ends_word, size_words, irq_words, stack_words, cell_words}
+use Rattle.uz_spelling.specs.Spelling.{fall_words}
 use Rattle.uz_spelling.specs.Spelling.{kinds_then, runs_of, run_words, rest_words, entry_words, point_words}
 
 -- each word with a space (32) before it
 abbrev pub spaced : List (List ℕ) → List ℕ
 spaced [] = []
-spaced (w ∷ ws) = 32 ∷ (w ++ spaced ws)
+spaced (w ∷ ws) = code " " ∷ (w ++ spaced ws)
 
 -- each line with an LF (10) after it
 abbrev pub ended : List (List ℕ) → List ℕ
 ended [] = []
-ended (l ∷ ls) = l ++ (10 ∷ ended ls)
+ended (l ∷ ls) = l ++ (code "\n" ∷ ended ls)
 
 -- the line of these words, with its LF
 abbrev pub line_end : List (List ℕ) → List ℕ
-line_end words = line_of words ++ (10 ∷ [])
+line_end words = line_of words ++ (code "\n" ∷ [])
 
 -- the lines of runs
 abbrev pub run_lines : List (ℕ × ℕ) → List (List ℕ)
@@ -36,7 +38,8 @@ run_on count kind (r ∷ rs) = if r.1 == kind then (r.0 + count, kind) ∷ rs el
 -- the line of a rest
 abbrev pub rest_text : Rest → List ℕ
 rest_text r =
-    codes "rest" ++ (spaced (decimal r.line ∷ decimal r.clock ∷ decimal r.vector ∷ []) ++ (spaced (map (ends_word 255) r.cells.items) ++ 10 ∷ []))
+    codes "rest" ++ (spaced (decimal r.line ∷ decimal r.clock ∷ decimal r.vector ∷ []) ++ (spaced (map (ends_word 255) r.cells.items)
+    ++ code "\n" ∷ []))
 
 -- an entry's words between `entry` and its items
 abbrev pub entry_place : Entry → List (List ℕ)
@@ -50,7 +53,7 @@ entry_facts cells e =
 
 -- the line of an entry
 abbrev pub entry_text : List Cell → Entry → List ℕ
-entry_text cells e = codes "entry" ++ (spaced (entry_place e) ++ (entry_facts cells e ++ 10 ∷ []))
+entry_text cells e = codes "entry" ++ (spaced (entry_place e) ++ (entry_facts cells e ++ code "\n" ∷ []))
 
 -- a point's words from its kind to its clock
 abbrev pub point_box : Point → List (List ℕ)
@@ -67,7 +70,8 @@ point_place p = point_box p ++ point_steps p
 -- a point's items of registers, pairs and flags
 abbrev pub core_text : Point → List ℕ
 core_text p =
-    spaced (register_items p.kind 0 p.regs) ++ (spaced (pair_items (codes "xyz") p.pairs) ++ spaced (flag_items p.kind (codes "cznvsht") p.flags))
+    spaced (register_items p.kind 0 p.regs)
+    ++ (spaced (pair_items (codes "xyz") p.pairs) ++ spaced (flag_items p.kind (codes "cznvsht") p.flags))
 
 -- a point's items of slots, cells and successors
 abbrev pub memory_text : List Cell → Point → List ℕ
@@ -76,7 +80,7 @@ memory_text cells p =
 
 -- the line of a point
 abbrev pub point_text : List Cell → Point → List ℕ
-point_text cells p = codes "point" ++ (spaced (point_place p) ++ (core_text p ++ (memory_text cells p ++ 10 ∷ [])))
+point_text cells p = codes "point" ++ (spaced (point_place p) ++ (core_text p ++ (memory_text cells p ++ code "\n" ∷ [])))
 
 -- the lines up to those of the cells
 abbrev pub head_text : Cert → List ℕ

@@ -1,6 +1,8 @@
 -- The text of a certificate. Its lines end in LF (10), words stand apart by one space (32), numbers are decimal.
-use Rattle.std.specs.Prelude.{ℕ, suc, ◌+◌, ◌==◌, ◌&&◌, Bool, true, false, ℤ, pos, negsuc, List, [], ◌∷◌, ◌++◌, map, length, codes, decimal, if◌then◌else◌}
+use Rattle.std.specs.Prelude.{ℕ, suc, ◌+◌, ◌==◌, ◌&&◌, Bool, true, false, ℤ, pos, negsuc, List, [], ◌∷◌, ◌++◌, map, length, codes, decimal}
+use Rattle.std.specs.Prelude.{if◌then◌else◌}
 use Rattle.std.specs.List.{join_with_byte}
+use Prim.Native.Char.{code}
 use Rattle.uz_schedule.specs.Ends.{Ends}
 use Rattle.uz_schedule.specs.Schedule.{response_clocks}
 use Rattle.uz_schedule.specs.declared.kinds.Kind.{Kind}
@@ -13,7 +15,8 @@ use Rattle.uz_schedule.specs.declared.kinds.Owner.TheVariants.{Main as MainCell,
 use Rattle.uz_schedule.specs.declared.facts.Fact.{Fact}
 use Rattle.uz_schedule.specs.declared.facts.Fact.TheVariants.{Any, Between, Line, Loop, Old, OldFlags}
 use Rattle.uz_schedule.specs.declared.facts.PairFact.{PairFact}
-use Rattle.uz_schedule.specs.declared.facts.PairFact.TheVariants.{Any as AnyPair, Between as BetweenPair, Line as LinePair, Loop as LoopPair}
+use Rattle.uz_schedule.specs.declared.facts.PairFact.TheVariants.{Any as AnyPair, Between as BetweenPair, Line as LinePair}
+use Rattle.uz_schedule.specs.declared.facts.PairFact.TheVariants.{Loop as LoopPair}
 use Rattle.uz_schedule.specs.declared.facts.Bit.{Bit}
 use Rattle.uz_schedule.specs.declared.facts.Bit.TheVariants.{Zero, One, Free, Old as OldBit}
 use Rattle.uz_schedule.specs.declared.header.Cell.{Cell}
@@ -28,7 +31,7 @@ use Rattle.uz_schedule.specs.declared.states.Rest.{Rest}
 use Rattle.uz_schedule.specs.declared.certificate.Cert.{Cert}
 
 abbrev pub line_of : List (List ℕ) → List ℕ
-line_of words = join_with_byte 32 words
+line_of words = join_with_byte (code " ") words
 
 -- ranges and facts
 
@@ -49,7 +52,7 @@ fact_word Any = codes "*"
 fact_word (Between e) = ends_word 255 e
 fact_word (Line a b) = slope_word (codes "l") a b
 fact_word (Loop a b) = slope_word (codes "c") a b
-fact_word (Old r) = 111 ∷ decimal r
+fact_word (Old r) = code "o" ∷ decimal r
 fact_word OldFlags = codes "of"
 
 abbrev pub pair_word : PairFact → List ℕ
@@ -67,7 +70,7 @@ flag_word OldBit = codes "o"
 -- items: what is said of registers, pairs, flags, slots and cells; a default is left out
 
 abbrev pub item : List ℕ → List ℕ → List ℕ
-item key value = key ++ 61 ∷ value
+item key value = key ++ code "=" ∷ value
 
 abbrev pub unless : Bool → List ℕ → List (List ℕ) → List (List ℕ)
 unless is_default word words = if is_default then words else word ∷ words
@@ -75,7 +78,7 @@ unless is_default word words = if is_default then words else word ∷ words
 -- the registers from r on
 abbrev pub register_items : Kind → ℕ → List Fact → List (List ℕ)
 register_items kind r [] = []
-register_items kind r (f ∷ fs) = unless (is_default kind r f) (item (114 ∷ decimal r) (fact_word f)) (register_items kind (suc r) fs)
+register_items kind r (f ∷ fs) = unless (is_default kind r f) (item (code "r" ∷ decimal r) (fact_word f)) (register_items kind (suc r) fs)
 
 -- the pairs of these letters
 abbrev pub pair_items : List ℕ → List PairFact → List (List ℕ)
@@ -87,7 +90,8 @@ pair_items (letter ∷ letters) (f ∷ fs) = unless (is_any_pair f) (item (lette
 abbrev pub flag_items : Kind → List ℕ → List Bit → List (List ℕ)
 flag_items kind [] bits = []
 flag_items kind (letter ∷ letters) [] = []
-flag_items kind (letter ∷ letters) (b ∷ bs) = unless (is_default_flag kind b) (item (letter ∷ []) (flag_word b)) (flag_items kind letters bs)
+flag_items kind (letter ∷ letters) (b ∷ bs) = unless (is_default_flag kind b) (item (letter ∷ []) (flag_word b))
+    (flag_items kind letters bs)
 
 -- the stack from the bottom, no slot left out
 abbrev pub slot_items : List Fact → List (List ℕ)
@@ -99,16 +103,17 @@ cell_items kind i [] facts = []
 cell_items kind i (c ∷ cs) [] = []
 cell_items kind i (c ∷ cs) (f ∷ fs) =
     if tracks kind c.owner
-    then unless (is_range c.range f) (item (109 ∷ decimal i) (fact_word f)) (cell_items kind (suc i) cs fs)
+    then unless (is_range c.range f) (item (code "m" ∷ decimal i) (fact_word f)) (cell_items kind (suc i) cs fs)
     else cell_items kind (suc i) cs (f ∷ fs)
 
 abbrev pub successor_items : List ℕ → List (List ℕ)
-successor_items ids = map (λ id. 62 ∷ decimal id) ids
+successor_items ids = map (λ id. code ">" ∷ decimal id) ids
 
 -- lines
 
 abbrev pub size_words : Cert → List (List ℕ)
-size_words c = codes "size" ∷ decimal (length c.schedule.kinds) ∷ decimal (length c.schedule.lines) ∷ decimal (length c.rests) ∷ decimal (length c.points) ∷ decimal (length c.head.cells.items) ∷ []
+size_words c = codes "size" ∷ decimal (length c.schedule.kinds) ∷ decimal (length c.schedule.lines) ∷ decimal (length c.rests) ∷ decimal
+    (length c.points) ∷ decimal (length c.head.cells.items) ∷ []
 
 abbrev pub irq_words : Head → List (List ℕ)
 irq_words h = codes "irq" ∷ decimal (response_clocks h.irq) ∷ []
@@ -174,7 +179,7 @@ entry_words cells e =
 
 abbrev pub signed_word : ℤ → List ℕ
 signed_word (pos n) = decimal n
-signed_word (negsuc n) = 45 ∷ decimal (n + 1)
+signed_word (negsuc n) = code "-" ∷ decimal (n + 1)
 
 abbrev pub truth_word : Bool → List ℕ
 truth_word true = codes "1"
@@ -220,4 +225,4 @@ lines_of c =
     ++ schedule_lines c.schedule (map (λ r. line_of (rest_words r)) c.rests ++ state_lines c.head.cells.items c.entry c.points))
 
 abbrev pub spelling : Cert → List ℕ
-spelling c = join_with_byte 10 (lines_of c)
+spelling c = join_with_byte (code "\n") (lines_of c)

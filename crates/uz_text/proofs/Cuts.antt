@@ -7,11 +7,13 @@ use Rattle.std.proofs.lemmas.List.Elements.{All-head, All-tail}
 use Rattle.uz_text.specs.Cutting.{cut_at, cut_behind}
 use Rattle.uz_text.proofs.Plain.{Lacks}
 
-behind_some : (b : ℕ) (o : Option (List ℕ × List ℕ)) (p : List ℕ × List ℕ) → cut_behind (b ∷ []) o ≡ Some p → (q : List ℕ × List ℕ) × (o ≡ Some q) × (p ≡ (b ∷ q.0, q.1))
+behind_some : (b : ℕ) (o : Option (List ℕ × List ℕ)) (p : List ℕ × List ℕ) → cut_behind (b ∷ []) o ≡ Some p → (q : List ℕ × List ℕ)
+    × (o ≡ Some q) × (p ≡ (b ∷ q.0, q.1))
 behind_some b None p e = absurd cc
 behind_some b (Some q) p e = (q, refl, cc)
 
-cut_read_step : (c b : ℕ) (bs : List ℕ) (p : List ℕ × List ℕ) → ((q : List ℕ × List ℕ) → cut_at c bs ≡ Some q → bs ≡ q.0 ++ c ∷ q.1) → (t : Bool) → eqb b c ≡ t → cond t (Some ([], bs)) (cut_behind (b ∷ []) (cut_at c bs)) ≡ Some p → b ∷ bs ≡ p.0 ++ c ∷ p.1
+cut_read_step : (c b : ℕ) (bs : List ℕ) (p : List ℕ × List ℕ) → ((q : List ℕ × List ℕ) → cut_at c bs ≡ Some q → bs ≡ q.0 ++ c ∷ q.1)
+    → (t : Bool) → eqb b c ≡ t → cond t (Some ([], bs)) (cut_behind (b ∷ []) (cut_at c bs)) ≡ Some p → b ∷ bs ≡ p.0 ++ c ∷ p.1
 cut_read_step c b bs p later true f e =
     let is : ◌≡◌ {A = List ℕ × List ℕ} ([], bs) p = cc in
     subst (λ (q : List ℕ × List ℕ). b ∷ bs ≡ q.0 ++ c ∷ q.1) is (ap (λ x. x ∷ bs) (eqb-true b c f))
@@ -31,5 +33,6 @@ same_byte c = grind (arith, nat_tests)
 pub cut_again : (c : ℕ) (front back : List ℕ) → Lacks c front → cut_at c (front ++ c ∷ back) ≡ Some (front, back)
 cut_again c [] back h = ap (λ (t : Bool). cond t (Some ([], back)) (cut_behind (c ∷ []) (cut_at c back))) (same_byte c)
 cut_again c (b ∷ bs) back h =
-    ap (λ (t : Bool). cond t (Some ([], bs ++ c ∷ back)) (cut_behind (b ∷ []) (cut_at c (bs ++ c ∷ back)))) (All-head (λ x. eqb x c ≡ false) b bs h)
+    ap (λ (t : Bool). cond t (Some ([], bs ++ c ∷ back)) (cut_behind (b ∷ []) (cut_at c (bs ++ c ∷ back))))
+    (All-head (λ x. eqb x c ≡ false) b bs h)
     ∙ ap (cut_behind (b ∷ [])) (cut_again c bs back (All-tail (λ x. eqb x c ≡ false) b bs h))

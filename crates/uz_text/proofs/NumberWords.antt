@@ -1,10 +1,12 @@
 -- A word that is a number is what the number is written as.
 use Rattle.std.proofs.lemmas.Bool.{ltb-true}
-use Rattle.std.proofs.Common.{◌≡◌, ℕ, zero, suc, ◌+◌, ◌-◌, ◌*◌, ◌<◌, ◌≤◌, ◌^◌, Bool, true, false, cond, ◌&&◌, ◌||◌, not, eqb, leb, ltb, List, [], ◌∷◌, length, get_or, decimal, lit<, refl, sym, ◌∙◌, ap, subst, arith, rules}
+use Rattle.std.proofs.Common.{◌≡◌, ℕ, zero, suc, ◌+◌, ◌-◌, ◌*◌, ◌<◌, ◌≤◌, ◌^◌, Bool, true, false, cond, ◌&&◌, ◌||◌, not, eqb, leb, ltb}
+use Rattle.std.proofs.Common.{List, [], ◌∷◌, length, get_or, decimal, lit<, refl, sym, ◌∙◌, ap, subst, arith, rules}
 use Rattle.std.specs.Prelude.{Option, Some, None}
 use Rattle.std.proofs.lemmas.Bool.Decides.{nat_tests}
 use Rattle.std.proofs.lemmas.Str.Parse.{IsNumeralModel, numerals_by_fold}
-use Rattle.std.proofs.lemmas.Fmt.{digits_value-decimal, decimal-digits_value, digits_decimal, decimal_nonempty, decimal_digit, first_decimal}
+use Rattle.std.proofs.lemmas.Fmt.{digits_value-decimal, decimal-digits_value, digits_decimal, decimal_nonempty, decimal_digit}
+use Rattle.std.proofs.lemmas.Fmt.{first_decimal}
 use Rattle.uz_text.specs.Numbers.{all_digits, digits_after, is_numeral, number_below, number_after, from_low, number_within}
 
 own : IsNumeralModel (λ ds. all_digits ds ≡ true) (digits_after 0)
@@ -40,7 +42,8 @@ number_read limit n w h e =
     let is = decimal-digits_value own w zero.1 long (one_zero (get_or w 0 0) (length w) zero.0) (omega arith) in
     (sym is ∙ ap decimal test.1, omega (arith, test.1))
 
-numeral_tests : (len first : ℕ) (digits : Bool) → 0 < len → (first ≡ 48 → len ≡ 1) → digits ≡ true → (ltb 0 len && ((not (eqb first 48) || eqb len 1) && digits)) ≡ true
+numeral_tests : (len first : ℕ) (digits : Bool) → 0 < len → (first ≡ 48 → len ≡ 1) → digits ≡ true
+    → (ltb 0 len && ((not (eqb first 48) || eqb len 1) && digits)) ≡ true
 numeral_tests len first digits some one d = grind (arith, nat_tests)
 
 only_zero : (n : ℕ) → n < 2 ^ 64 → get_or (decimal n) 0 0 ≡ 48 → length (decimal n) ≡ 1
@@ -53,7 +56,8 @@ chosen_some test v n limit t e b = grind (arith, nat_tests)
 pub number_again : (limit n : ℕ) → limit ≤ 2 ^ 32 → n < limit → number_below limit (decimal n) ≡ Some n
 number_again limit n h b =
     let fits : n < 2 ^ 64 = omega arith in
-    let test = numeral_tests (length (decimal n)) (get_or (decimal n) 0 0) (all_digits (decimal n)) (decimal_nonempty n fits) (only_zero n fits) (digits_decimal own n fits) in
+    let test = numeral_tests (length (decimal n)) (get_or (decimal n) 0 0) (all_digits (decimal n)) (decimal_nonempty n fits)
+    (only_zero n fits) (digits_decimal own n fits) in
     chosen_some (is_numeral (decimal n)) (digits_after 0 (decimal n)) n limit test (digits_value-decimal own n fits) b
 
 pub digits_of_decimal : (n : ℕ) → n < 2 ^ 64 → all_digits (decimal n) ≡ true
@@ -74,7 +78,8 @@ from_low_some low n (Some m) e =
     (ap (λ k. Some k) both.0, both.1)
 
 -- what is read within bounds is the number's decimal text
-pub within_read : (low limit n : ℕ) (w : List ℕ) → limit ≤ 2 ^ 32 → number_within low limit w ≡ Some n → (w ≡ decimal n) × (low ≤ n) × (n < limit)
+pub within_read : (low limit n : ℕ) (w : List ℕ) → limit ≤ 2 ^ 32 → number_within low limit w ≡ Some n → (w ≡ decimal n) × (low ≤ n)
+    × (n < limit)
 within_read low limit n w h e =
     let some = from_low_some low n (number_below limit w) e in
     let is = number_read limit n w h some.0 in

@@ -1,5 +1,6 @@
 -- Words that lack a byte, and words whose bytes are all above the space.
-use Rattle.std.proofs.Common.{◌≡◌, ◌≢◌, ℕ, ◌<◌, ◌≤◌, ◌^◌, Bool, true, false, ◌&&◌, eqb, leb, ltb, List, [], ◌∷◌, ◌++◌, All, decimal, refl, ◌∙◌, ap, arith}
+use Rattle.std.proofs.Common.{◌≡◌, ◌≢◌, ℕ, ◌<◌, ◌≤◌, ◌^◌, Bool, true, false, ◌&&◌, eqb, leb, ltb, List, [], ◌∷◌, ◌++◌, All, decimal, refl}
+use Rattle.std.proofs.Common.{◌∙◌, ap, arith}
 use Rattle.std.specs.List.{slice_split, join_with_byte}
 use Rattle.std.proofs.lemmas.Bool.Decides.{nat_tests}
 use Rattle.std.proofs.lemmas.List.Splits.{slice_split_at, slice_split_none}
@@ -27,10 +28,12 @@ pub lacks_append : (c : ℕ) (xs ys : List ℕ) → Lacks c xs → Lacks c ys �
 lacks_append c xs ys h k = All-append (λ b. eqb b c ≡ false) xs ys h k
 
 -- words that lack a byte and are joined by it are cut apart again
-pub split_join : (c : ℕ) (w : List ℕ) (ws : List (List ℕ)) → Lacks c w → EachLacks c ws → slice_split (λ b. eqb b c) (join_with_byte c (w ∷ ws)) ≡ w ∷ ws
+pub split_join : (c : ℕ) (w : List ℕ) (ws : List (List ℕ)) → Lacks c w → EachLacks c ws → slice_split (λ b. eqb b c)
+    (join_with_byte c (w ∷ ws)) ≡ w ∷ ws
 split_join c w [] h hs = slice_split_none (λ b. eqb b c) w h
 split_join c w (v ∷ vs) h hs =
-    slice_split_at (λ b. eqb b c) w c (join_with_byte c (v ∷ vs)) h (grind (arith, nat_tests)) ∙ ap (λ parts. w ∷ parts) (split_join c v vs hs.0 hs.1)
+    slice_split_at (λ b. eqb b c) w c (join_with_byte c (v ∷ vs)) h (grind (arith, nat_tests)) ∙ ap (λ parts. w ∷ parts)
+    (split_join c v vs hs.0 hs.1)
 
 -- words that lack a byte lack it joined by another one
 pub join_lacks : (c d : ℕ) (ws : List (List ℕ)) → d ≢ c → EachLacks c ws → Lacks c (join_with_byte d ws)

@@ -28,7 +28,7 @@ pub fn cut(word: &[u8], separator: u8) -> Option<(&[u8], &[u8])>
 
 /// A cut takes the separator out and nothing else, and the first part has no separator.
 #[tactic(auto, using(crate::proofs::Cuts::cut_read, crate::proofs::Cuts::cut_again))]
-pub fn one_cut()
+pub fn cut_is_unique()
     ensures joined { (separator : ℕ) (word : List ℕ) (p : List ℕ × List ℕ) → cut_at separator word ≡ Some p → word ≡ p.0 ++ separator ∷ p.1 }
     ensures first { (separator : ℕ) (front back : List ℕ) → All (λ b. (b == separator) ≡ false) front → cut_at separator (front ++ separator ∷ back) ≡ Some (front, back) }
 {}

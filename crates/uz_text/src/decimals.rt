@@ -90,7 +90,7 @@ pub fn short_number(word: &[u8], low: u16, limit: u16) -> Option<u16>
 /// A number has one spelling, and a spelling one number: a word is read as a number below a limit exactly where it is
 /// the number's decimal text.
 #[tactic(auto, using(crate::proofs::NumberWords::number_read, crate::proofs::NumberWords::number_again))]
-pub fn one_spelling()
+pub fn spelling_is_unique()
     ensures read { (limit n : ℕ) (w : List ℕ) → limit ≤ 2 ^ 32 → number_below limit w ≡ Some n → (w ≡ decimal n) × (n < limit) }
     ensures written { (limit n : ℕ) → limit ≤ 2 ^ 32 → n < limit → number_below limit (decimal n) ≡ Some n }
 {}

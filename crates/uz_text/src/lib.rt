@@ -1,8 +1,10 @@
-//! Byte texts cut apart at a separator, and decimal numbers as words.
+//! Byte texts cut apart at a separator, decimal numbers as words, and hexadecimal digits.
 #![tactic(auto)]
 
 mod cutting;
 mod decimals;
+mod hexadecimals;
 
-pub use cutting::{cut, one_cut, parts};
-pub use decimals::{is_number, number, number_within, one_spelling, short_number};
+pub use cutting::{cut, cut_is_unique, parts};
+pub use decimals::{is_number, number, number_within, short_number, spelling_is_unique};
+pub use hexadecimals::{byte_digits, word_digits};

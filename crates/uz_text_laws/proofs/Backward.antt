@@ -1,5 +1,6 @@
 -- A text that is read is the spelling of what it says: section by section, from the last line to the first.
-use Rattle.std.proofs.Common.{◌≡◌, ℕ, zero, suc, ◌+◌, ◌-◌, ◌≤◌, true, false, eqb, List, [], ◌∷◌, ◌++◌, length, map, codes, decimal, zero-add, refl, sym, ◌∙◌, ap, subst, append_assoc, append-nil, arith, length-append}
+use Rattle.std.proofs.Common.{◌≡◌, ℕ, zero, suc, ◌+◌, ◌-◌, ◌≤◌, true, false, eqb, List, [], ◌∷◌, ◌++◌, length, map, codes, decimal}
+use Rattle.std.proofs.Common.{zero-add, refl, sym, ◌∙◌, ap, subst, append_assoc, append-nil, arith, length-append}
 use Rattle.std.specs.Prelude.{Option, Some, None}
 use Rattle.std.proofs.lemmas.Bool.Decides.{nat_tests}
 use Rattle.uz_schedule.specs.declared.kinds.Response.{Response}
@@ -64,7 +65,8 @@ fall_back l d pieces c k b p none h =
     let next = fall_next d x.value in
     let no_lines = no_length d.lines none.2 in
     let no_rests = no_length d.rests none.0.1 in
-    let y = runs_back l d.sizes.lines d.sizes.lines (with_fall d x.value) x.rest c (omega arith) (subst Kept next x.kept) (omega (arith, b)) (p, x.keeps) none.0 (omega (arith, no_lines))
+    let y = runs_back l d.sizes.lines d.sizes.lines (with_fall d x.value) x.rest c (omega arith) (subst Kept next x.kept) (omega (arith, b))
+    (p, x.keeps) none.0 (omega (arith, no_lines))
     (ap (λ m. read_from m x.rest) (sym next) ∙ x.more) in
     let lines = y.line_count in
     let rests = y.rest_count in
@@ -75,7 +77,8 @@ fall_back l d pieces c k b p none h =
       e = y.e;
       ps = y.ps;
       parts = x.parts ∙ ap (λ ls. line_of (codes "fall" ∷ decimal x.value ∷ []) ∷ ls) y.parts;
-      is = y.is ∙ (ap (λ ls. cert_from (record d { fall = x.value; lines = ls ++ expand y.runs; rests = d.rests ++ y.rs; points = y.ps }) y.e) none.2
+      is = y.is ∙ (ap (λ ls. cert_from (record d { fall = x.value; lines = ls ++ expand y.runs; rests = d.rests ++ y.rs; points = y.ps })
+          y.e) none.2
           ∙ ap (λ rs. cert_from (record d { fall = x.value; lines = expand y.runs; rests = rs ++ y.rs; points = y.ps }) y.e) none.0.1);
       count = y.count;
       rest_count = omega (arith, no_rests, rests);
@@ -96,7 +99,13 @@ abbrev with_event : Draft → Event → Draft
 with_event d e = record d { read = d.read + 1; owed = d.owed - 1; events = d.events ++ e ∷ []; event_least = e.clock + 1 }
 
 abbrev with_last : Draft → Event → Draft
-with_last d e = record d { read = d.read + 1; owed = d.owed - 1; kinds = d.kinds ++ (d.events ++ e ∷ []) ∷ []; events = []; event_least = 0 }
+with_last d e = record d {
+  read = d.read + 1;
+  owed = d.owed - 1;
+  kinds = d.kinds ++ (d.events ++ e ∷ []) ∷ [];
+  events = [];
+  event_least = 0;
+}
 
 event_next : (d : Draft) (e : Event) → eqb (d.owed - 1) 0 ≡ false → draft_after d (said.Event e) ≡ with_event d e
 unfolding draft_after
@@ -128,7 +137,8 @@ zero_test n h = grind (arith, nat_tests)
 some_test : (n : ℕ) → 1 ≤ n → eqb n 0 ≡ false
 some_test n h = grind (arith, nat_tests)
 
-events_back : (l : LineSpelling) (n : ℕ) (d : Draft) (pieces : List (List ℕ)) (c : Cert) → Kept d → 4 ≤ d.read → PastCells d → d.owed ≡ n + 1
+events_back : (l : LineSpelling) (n : ℕ) (d : Draft) (pieces : List (List ℕ)) (c : Cert) → Kept d → 4 ≤ d.read → PastCells d
+    → d.owed ≡ n + 1
     → read_from d pieces ≡ told c → EventsBack d pieces c
 events_back l zero d pieces c k b p owed h =
     let x = next_read l d due.Event pieces c k (due_event d b p (omega (arith, owed))) h in
@@ -185,8 +195,18 @@ kinds_back : (l : LineSpelling) (n : ℕ) (d : Draft) (pieces : List (List ℕ))
 kinds_back l zero d pieces c k b p between count h =
     let same : d ≡ with_kinds d d.read (d.kinds ++ []) =
     ap (λ ks. record d { kinds = ks }) (sym (append-nil d.kinds)) ∙ (ap (λ n. record d { kinds = d.kinds ++ []; owed = n }) between.0
-    ∙ (ap (λ es. record d { kinds = d.kinds ++ []; owed = 0; events = es }) between.1 ∙ ap (λ n. record d { kinds = d.kinds ++ []; owed = 0; events = []; event_least = n }) between.2)) in
-    record { kinds = []; rest = pieces; read = d.read; parts = refl; count = refl; body = b; kept = subst Kept same k; more = ap (λ m. read_from m pieces) (sym same) ∙ h }
+    ∙ (ap (λ es. record d { kinds = d.kinds ++ []; owed = 0; events = es }) between.1
+    ∙ ap (λ n. record d { kinds = d.kinds ++ []; owed = 0; events = []; event_least = n }) between.2)) in
+    record {
+      kinds = [];
+      rest = pieces;
+      read = d.read;
+      parts = refl;
+      count = refl;
+      body = b;
+      kept = subst Kept same k;
+      more = ap (λ m. read_from m pieces) (sym same) ∙ h;
+    }
 kinds_back l (suc n) d pieces c k b p between count h =
     let x = next_read l d due.Kind pieces c k (due_kind d b p between.0 (omega (arith, count))) h in
     let next = kind_next d x.value in
@@ -197,7 +217,8 @@ kinds_back l (suc n) d pieces c k b p between count h =
     let seam : d.events ++ a.es ≡ a.es = ap (λ es. es ++ a.es) between.1 in
     let kept = subst (λ es. Kept (with_kinds d a.read (d.kinds ++ es ∷ []))) seam a.kept in
     let more = ap (λ es. read_from (with_kinds d a.read (d.kinds ++ es ∷ [])) a.rest) (sym seam) ∙ a.more in
-    let y = kinds_back l n (with_kinds d a.read (d.kinds ++ a.es ∷ [])) a.rest c kept a.body p (refl, refl, refl) (simp length-append (omega (arith, count))) more in
+    let y = kinds_back l n (with_kinds d a.read (d.kinds ++ a.es ∷ [])) a.rest c kept a.body p (refl, refl, refl)
+    (simp length-append (omega (arith, count))) more in
     let joined = append_assoc d.kinds (a.es ∷ []) y.kinds in
     record {
       kinds = a.es ∷ y.kinds;
@@ -214,7 +235,11 @@ kinds_back l (suc n) d pieces c k b p between count h =
 -- the cells
 
 abbrev with_cell : Draft → Cell → Draft
-with_cell d c = record d { read = d.read + 1; head = record d.head { cells = record { items = d.head.cells.items ++ c ∷ [] } }; cell_least = c.at + 1 }
+with_cell d c = record d {
+  read = d.read + 1;
+  head = record d.head { cells = record { items = d.head.cells.items ++ c ∷ [] } };
+  cell_least = c.at + 1;
+}
 
 cell_next : (d : Draft) (c : Cell) → draft_after d (said.Cell c) ≡ with_cell d c
 unfolding draft_after
@@ -237,12 +262,24 @@ record CellsBack (n : ℕ) (d : Draft) (pieces : List (List ℕ)) (c : Cert) : T
 cells_back : (l : LineSpelling) (n : ℕ) (d : Draft) (pieces : List (List ℕ)) (c : Cert) → Kept d → 4 ≤ d.read
     → length d.head.cells.items + n ≡ d.sizes.cells → read_from d pieces ≡ told c → CellsBack n d pieces c
 cells_back l zero d pieces c k b count h =
-    let same : d ≡ with_cells d d.read d.cell_least (d.head.cells.items ++ []) = ap (λ cs. with_cells d d.read d.cell_least cs) (sym (append-nil d.head.cells.items)) in
-    record { cells = []; rest = pieces; read = d.read; least = d.cell_least; parts = refl; count = refl; body = b; kept = subst Kept same k; more = ap (λ m. read_from m pieces) (sym same) ∙ h }
+    let same : d ≡ with_cells d d.read d.cell_least (d.head.cells.items ++ []) = ap (λ cs. with_cells d d.read d.cell_least cs)
+    (sym (append-nil d.head.cells.items)) in
+    record {
+      cells = [];
+      rest = pieces;
+      read = d.read;
+      least = d.cell_least;
+      parts = refl;
+      count = refl;
+      body = b;
+      kept = subst Kept same k;
+      more = ap (λ m. read_from m pieces) (sym same) ∙ h;
+    }
 cells_back l (suc n) d pieces c k b count h =
     let x = next_read l d due.Cell pieces c k (due_cell d b (omega (arith, count))) h in
     let next = cell_next d x.value in
-    let y = cells_back l n (with_cell d x.value) x.rest c (subst Kept next x.kept) (omega (arith, b)) (simp length-append (omega (arith, count)))
+    let y = cells_back l n (with_cell d x.value) x.rest c (subst Kept next x.kept) (omega (arith, b))
+    (simp length-append (omega (arith, count)))
     (ap (λ m. read_from m x.rest) (sym next) ∙ x.more) in
     let joined = append_assoc d.head.cells.items (x.value ∷ []) y.cells in
     record {
@@ -277,7 +314,8 @@ stack_next d s = refl
 abbrev pub PlainLines : Type 0
 PlainLines = (d : Draft) (s : Said) → Kept d → SaidFits d s → Lacks 10 (spelled d.head s)
 
-plain_next : (plain : PlainLines) (l : LineSpelling) (d : Draft) (kind : Due) (line : List ℕ) (rest : List (List ℕ)) (c : Cert) → Kept d → due_of d ≡ Some kind
+plain_next : (plain : PlainLines) (l : LineSpelling) (d : Draft) (kind : Due) (line : List ℕ) (rest : List (List ℕ)) (c : Cert) → Kept d
+    → due_of d ≡ Some kind
     → NextRead d kind (line ∷ rest) c → ((m : Draft) → Kept m → read_from m rest ≡ told c → EachLacks 10 rest) → EachLacks 10 (line ∷ rest)
 plain_next plain l d kind line rest c k is x later =
     let line_is : line ≡ spelled d.head (wrap kind x.value) = first_same line (spelled d.head (wrap kind x.value)) rest x.rest x.parts in
@@ -298,11 +336,13 @@ plain_end d [] [] c e = (lacks_nil 10, tt)
 plain_end d [] (piece ∷ rest) c e = absurd cc
 plain_end d (b ∷ bs) rest c e = absurd cc
 
-pub pieces_plain : (plain : PlainLines) (l : LineSpelling) (d : Draft) (pieces : List (List ℕ)) (c : Cert) → Kept d → read_from d pieces ≡ told c → EachLacks 10 pieces
+pub pieces_plain : (plain : PlainLines) (l : LineSpelling) (d : Draft) (pieces : List (List ℕ)) (c : Cert) → Kept d
+    → read_from d pieces ≡ told c → EachLacks 10 pieces
 pieces_plain plain l d [] c k e = tt
 pieces_plain plain l d (line ∷ rest) c k e = by (due_of d) refl (λ m km h. pieces_plain plain l m rest c km h)
   where
-    by : (o : Option Due) → due_of d ≡ o → ((m : Draft) → Kept m → read_from m rest ≡ told c → EachLacks 10 rest) → EachLacks 10 (line ∷ rest)
+    by : (o : Option Due) → due_of d ≡ o → ((m : Draft) → Kept m → read_from m rest ≡ told c → EachLacks 10 rest)
+        → EachLacks 10 (line ∷ rest)
     by None is later = plain_end d line rest c (sym (ap (λ o. read_by o d line rest (λ x. read_from x rest)) is) ∙ e)
     by (Some kind) is later = plain_next plain l d kind line rest c k is (next_read l d kind (line ∷ rest) c k is e) later
 
@@ -315,7 +355,18 @@ abbrev pub draft_irq : Sizes → Response → Draft
 draft_irq s r = record first_draft { read = 3; sizes = s; head = record first_draft.head { irq = r } }
 
 abbrev pub draft_stack : Sizes → Response → StackLine → Draft
-draft_stack s r t = record first_draft { read = 4; sizes = s; head = record { irq = r; lo = t.lo; hi = t.hi; main = t.main; handler = t.handler; cells = record { items = [] } } }
+draft_stack s r t = record first_draft {
+  read = 4;
+  sizes = s;
+  head = record {
+    irq = r;
+    lo = t.lo;
+    hi = t.hi;
+    main = t.main;
+    handler = t.handler;
+    cells = record { items = [] };
+  };
+}
 
 -- a certificate of these parts
 abbrev made : Response → StackLine → List Cell → List (List Event) → ℕ → List (ℕ × ℕ) → List Rest → Entry → List Point → Cert
@@ -334,7 +385,8 @@ abbrev draft_kinds : Sizes → Response → StackLine → List Cell → ℕ → 
 draft_kinds s r t cells least kinds read = with_kinds (draft_cells s r t cells 4 least) read kinds
 
 -- the lines from the fall on
-record LateBack (s : Sizes) (r : Response) (t : StackLine) (cells : List Cell) (kinds : List (List Event)) (pieces : List (List ℕ)) (c : Cert) : Type 0 where
+record LateBack (s : Sizes) (r : Response) (t : StackLine) (cells : List Cell) (kinds : List (List Event)) (pieces : List (List ℕ))
+    (c : Cert) : Type 0 where
   clock : ℕ
   runs : List (ℕ × ℕ)
   rs : List Rest
@@ -347,7 +399,8 @@ record LateBack (s : Sizes) (r : Response) (t : StackLine) (cells : List Cell) (
   points : length ps ≡ s.points
   same : runs_of (expand runs) ≡ runs
 
-late_of : (s : Sizes) (r : Response) (t : StackLine) (cells : List Cell) (kinds : List (List Event)) (read least : ℕ) (pieces : List (List ℕ)) (c : Cert)
+late_of : (s : Sizes) (r : Response) (t : StackLine) (cells : List Cell) (kinds : List (List Event)) (read least : ℕ)
+    (pieces : List (List ℕ)) (c : Cert)
     → FallBack (draft_kinds s r t cells least kinds read) pieces c → LateBack s r t cells kinds pieces c
 late_of s r t cells kinds read least pieces c f = record {
   clock = f.clock;
@@ -363,12 +416,17 @@ late_of s r t cells kinds read least pieces c f = record {
   same = runs_expand 4294967295 f.runs f.apart;
 }
 
-late_back : (l : LineSpelling) (s : Sizes) (r : Response) (t : StackLine) (cells : List Cell) (kinds : List (List Event)) (read least : ℕ) (pieces : List (List ℕ)) (c : Cert)
+late_back : (l : LineSpelling) (s : Sizes) (r : Response) (t : StackLine) (cells : List Cell) (kinds : List (List Event)) (read least : ℕ)
+    (pieces : List (List ℕ)) (c : Cert)
     → Kept (draft_kinds s r t cells least kinds read) → 4 ≤ read → s.cells ≡ length cells → s.kinds ≡ length kinds
     → read_from (draft_kinds s r t cells least kinds read) pieces ≡ told c → LateBack s r t cells kinds pieces c
 late_back l s r t cells kinds read least pieces c k b cell_count kind_count h =
     late_of s r t cells kinds read least pieces c
-    (fall_back l (draft_kinds s r t cells least kinds read) pieces c k b (cell_count, refl, kind_count) (((refl, refl, refl), refl), refl, refl) h)
+    (fall_back l (draft_kinds s r t cells least kinds read) pieces c k b (cell_count, refl, kind_count) (
+      ((refl, refl, refl), refl),
+      refl,
+      refl,
+    ) h)
 
 -- the lines from the kinds on
 record MiddleBack (s : Sizes) (r : Response) (t : StackLine) (cells : List Cell) (pieces : List (List ℕ)) (c : Cert) : Type 0 where
@@ -378,7 +436,8 @@ record MiddleBack (s : Sizes) (r : Response) (t : StackLine) (cells : List Cell)
   count : length kinds ≡ s.kinds
   later : LateBack s r t cells kinds rest c
 
-middle_of : (l : LineSpelling) (s : Sizes) (r : Response) (t : StackLine) (cells : List Cell) (read least : ℕ) (pieces : List (List ℕ)) (c : Cert)
+middle_of : (l : LineSpelling) (s : Sizes) (r : Response) (t : StackLine) (cells : List Cell) (read least : ℕ) (pieces : List (List ℕ))
+    (c : Cert)
     → s.cells ≡ length cells → KindsBack s.kinds (draft_cells s r t cells read least) pieces c → MiddleBack s r t cells pieces c
 middle_of l s r t cells read least pieces c cell_count k = record {
   kinds = k.kinds;
@@ -388,8 +447,10 @@ middle_of l s r t cells read least pieces c cell_count k = record {
   later = late_back l s r t cells k.kinds k.read least k.rest c k.kept k.body cell_count (sym k.count) k.more;
 }
 
-middle_back : (l : LineSpelling) (s : Sizes) (r : Response) (t : StackLine) (cells : List Cell) (read least : ℕ) (pieces : List (List ℕ)) (c : Cert)
-    → Kept (draft_cells s r t cells read least) → 4 ≤ read → s.cells ≡ length cells → read_from (draft_cells s r t cells read least) pieces ≡ told c
+middle_back : (l : LineSpelling) (s : Sizes) (r : Response) (t : StackLine) (cells : List Cell) (read least : ℕ) (pieces : List (List ℕ))
+    (c : Cert)
+    → Kept (draft_cells s r t cells read least) → 4 ≤ read → s.cells ≡ length cells → read_from (draft_cells s r t cells read least)
+    pieces ≡ told c
     → MiddleBack s r t cells pieces c
 middle_back l s r t cells read least pieces c k b cell_count h =
     middle_of l s r t cells read least pieces c cell_count
@@ -415,7 +476,8 @@ others_of l s r t pieces c m = record {
 
 others_back : (l : LineSpelling) (s : Sizes) (r : Response) (t : StackLine) (pieces : List (List ℕ)) (c : Cert) → Kept (draft_stack s r t)
     → read_from (draft_stack s r t) pieces ≡ told c → OthersBack s r t pieces c
-others_back l s r t pieces c k h = others_of l s r t pieces c (cells_back l s.cells (draft_stack s r t) pieces c k (omega arith) (zero-add s.cells) h)
+others_back l s r t pieces c k h = others_of l s r t pieces c (cells_back l s.cells (draft_stack s r t) pieces c k (omega arith)
+    (zero-add s.cells) h)
 
 -- the stack, the response and the sizes
 record StackBack (s : Sizes) (r : Response) (pieces : List (List ℕ)) (c : Cert) : Type 0 where
@@ -424,7 +486,8 @@ record StackBack (s : Sizes) (r : Response) (pieces : List (List ℕ)) (c : Cert
   parts : pieces ≡ spelled first_draft.head (said.Stack t) ∷ rest
   later : OthersBack s r t rest c
 
-stack_of_next : (l : LineSpelling) (s : Sizes) (r : Response) (pieces : List (List ℕ)) (c : Cert) → NextRead (draft_irq s r) due.Stack pieces c → StackBack s r pieces c
+stack_of_next : (l : LineSpelling) (s : Sizes) (r : Response) (pieces : List (List ℕ)) (c : Cert) → NextRead (draft_irq s r) due.Stack
+    pieces c → StackBack s r pieces c
 stack_of_next l s r pieces c x =
     let next = stack_next (draft_irq s r) x.value in
     record {
@@ -440,10 +503,13 @@ record IrqBack (s : Sizes) (pieces : List (List ℕ)) (c : Cert) : Type 0 where
   parts : pieces ≡ spelled first_draft.head (said.Irq r) ∷ rest
   later : StackBack s r rest c
 
-stack_back : (l : LineSpelling) (s : Sizes) (r : Response) (pieces : List (List ℕ)) (c : Cert) → Kept (draft_irq s r) → read_from (draft_irq s r) pieces ≡ told c → StackBack s r pieces c
-stack_back l s r pieces c k h = stack_of_next l s r pieces c (next_read l (draft_irq s r) due.Stack pieces c k (due_stack (draft_irq s r) refl) h)
+stack_back : (l : LineSpelling) (s : Sizes) (r : Response) (pieces : List (List ℕ)) (c : Cert) → Kept (draft_irq s r)
+    → read_from (draft_irq s r) pieces ≡ told c → StackBack s r pieces c
+stack_back l s r pieces c k h = stack_of_next l s r pieces c (next_read l (draft_irq s r) due.Stack pieces c k
+    (due_stack (draft_irq s r) refl) h)
 
-irq_of_next : (l : LineSpelling) (s : Sizes) (pieces : List (List ℕ)) (c : Cert) → NextRead (draft_sizes s) due.Irq pieces c → IrqBack s pieces c
+irq_of_next : (l : LineSpelling) (s : Sizes) (pieces : List (List ℕ)) (c : Cert) → NextRead (draft_sizes s) due.Irq pieces c
+    → IrqBack s pieces c
 irq_of_next l s pieces c x =
     let next = irq_next (draft_sizes s) x.value in
     record {
@@ -453,28 +519,42 @@ irq_of_next l s pieces c x =
       later = stack_back l s x.value x.rest c (subst Kept next x.kept) (ap (λ m. read_from m x.rest) (sym next) ∙ x.more);
     }
 
-irq_back : (l : LineSpelling) (s : Sizes) (pieces : List (List ℕ)) (c : Cert) → Kept (draft_sizes s) → read_from (draft_sizes s) pieces ≡ told c → IrqBack s pieces c
+irq_back : (l : LineSpelling) (s : Sizes) (pieces : List (List ℕ)) (c : Cert) → Kept (draft_sizes s) → read_from (draft_sizes s)
+    pieces ≡ told c → IrqBack s pieces c
 irq_back l s pieces c k h = irq_of_next l s pieces c (next_read l (draft_sizes s) due.Irq pieces c k (due_irq (draft_sizes s) refl) h)
 
 -- the lines of these parts are those of the certificate
 
 abbrev parts_after : Response → StackLine → List Cell → List (List Event) → List (List ℕ) → List (List ℕ)
 parts_after r t cells kinds late =
-    spelled first_draft.head (said.Irq r) ∷ spelled first_draft.head (said.Stack t) ∷ (map (λ x. line_of (cell_words x)) cells ++ kinds_then kinds late)
+    spelled first_draft.head (said.Irq r) ∷ spelled first_draft.head (said.Stack t) ∷ (map (λ x. line_of (cell_words x)) cells
+    ++ kinds_then kinds late)
 
-sizes_same : (s : Sizes) (kinds lines rests points cells : ℕ) → kinds ≡ s.kinds → lines ≡ s.lines → rests ≡ s.rests → points ≡ s.points → cells ≡ s.cells
+sizes_same : (s : Sizes) (kinds lines rests points cells : ℕ) → kinds ≡ s.kinds → lines ≡ s.lines → rests ≡ s.rests → points ≡ s.points
+    → cells ≡ s.cells
     → s ≡ record { kinds = kinds; lines = lines; rests = rests; points = points; cells = cells }
 sizes_same s kinds lines rests points cells a b x y z =
-    ap (λ n. record s { kinds = n }) (sym a) ∙ (ap (λ n. record s { kinds = kinds; lines = n }) (sym b) ∙ (ap (λ n. record s { kinds = kinds; lines = lines; rests = n }) (sym x)
+    ap (λ n. record s { kinds = n }) (sym a) ∙ (ap (λ n. record s { kinds = kinds; lines = n }) (sym b)
+    ∙ (ap (λ n. record s { kinds = kinds; lines = lines; rests = n }) (sym x)
     ∙ (ap (λ n. record s { kinds = kinds; lines = lines; rests = rests; points = n }) (sym y)
     ∙ ap (λ n. record s { kinds = kinds; lines = lines; rests = rests; points = points; cells = n }) (sym z))))
 
-made_lines : (s : Sizes) (r : Response) (t : StackLine) (cells : List Cell) (kinds : List (List Event)) (clock : ℕ) (runs : List (ℕ × ℕ)) (rs : List Rest) (e : Entry) (ps : List Point)
-    → s ≡ record { kinds = length kinds; lines = length (expand runs); rests = length rs; points = length ps; cells = length cells } → runs_of (expand runs) ≡ runs
-    → head_line ∷ spelled first_draft.head (said.Size s) ∷ parts_after r t cells kinds (fall_lines clock runs cells rs e ps) ≡ lines_of (made r t cells kinds clock runs rs e ps)
+made_lines : (s : Sizes) (r : Response) (t : StackLine) (cells : List Cell) (kinds : List (List Event)) (clock : ℕ) (runs : List (ℕ × ℕ))
+    (rs : List Rest) (e : Entry) (ps : List Point)
+    → s ≡ record { kinds = length kinds; lines = length (expand runs); rests = length rs; points = length ps; cells = length cells }
+    → runs_of (expand runs) ≡ runs
+    → head_line ∷ spelled first_draft.head (said.Size s) ∷ parts_after r t cells kinds (fall_lines clock runs cells rs e ps) ≡ lines_of
+    (made r t cells kinds clock runs rs e ps)
 made_lines s r t cells kinds clock runs rs e ps sizes same =
     ap (λ n. head_line ∷ spelled first_draft.head (said.Size n) ∷ parts_after r t cells kinds (fall_lines clock runs cells rs e ps)) sizes
-    ∙ ap (λ q. head_line ∷ spelled first_draft.head (said.Size (record { kinds = length kinds; lines = length (expand runs); rests = length rs; points = length ps; cells = length cells }))
+    ∙ ap (λ q. head_line ∷ spelled first_draft.head
+    (said.Size (record {
+      kinds = length kinds;
+      lines = length (expand runs);
+      rests = length rs;
+      points = length ps;
+      cells = length cells;
+    }))
     ∷ parts_after r t cells kinds (fall_lines clock q cells rs e ps)) (sym same)
 
 late_lines : (s : Sizes) (r : Response) (t : StackLine) (cells : List Cell) (kinds : List (List Event)) (pieces : List (List ℕ)) (c : Cert)
@@ -483,34 +563,43 @@ late_lines : (s : Sizes) (r : Response) (t : StackLine) (cells : List Cell) (kin
 late_lines s r t cells kinds pieces c cell_count kind_count x =
     ap (λ late. head_line ∷ spelled first_draft.head (said.Size s) ∷ parts_after r t cells kinds late) x.parts
     ∙ (made_lines s r t cells kinds x.clock x.runs x.rs x.e x.ps
-    (sizes_same s (length kinds) (length (expand x.runs)) (length x.rs) (length x.ps) (length cells) kind_count x.lines x.rests x.points cell_count) x.same
+    (sizes_same s (length kinds) (length (expand x.runs)) (length x.rs) (length x.ps) (length cells) kind_count x.lines x.rests x.points
+    cell_count) x.same
     ∙ ap lines_of (sym x.is))
 
 abbrev opening : Sizes → Response → StackLine → List (List ℕ) → List (List ℕ)
-opening s r t others = head_line ∷ spelled first_draft.head (said.Size s) ∷ spelled first_draft.head (said.Irq r) ∷ spelled first_draft.head (said.Stack t) ∷ others
+opening s r t others = head_line ∷ spelled first_draft.head (said.Size s) ∷ spelled first_draft.head (said.Irq r) ∷ spelled first_draft.head
+    (said.Stack t) ∷ others
 
-middle_lines : (s : Sizes) (r : Response) (t : StackLine) (cells : List Cell) (pieces : List (List ℕ)) (c : Cert) → length cells ≡ s.cells → MiddleBack s r t cells pieces c
+middle_lines : (s : Sizes) (r : Response) (t : StackLine) (cells : List Cell) (pieces : List (List ℕ)) (c : Cert) → length cells ≡ s.cells
+    → MiddleBack s r t cells pieces c
     → opening s r t (map (λ x. line_of (cell_words x)) cells ++ pieces) ≡ lines_of c
 middle_lines s r t cells pieces c cell_count x =
-    ap (λ others. opening s r t (map (λ m. line_of (cell_words m)) cells ++ others)) x.parts ∙ late_lines s r t cells x.kinds x.rest c cell_count x.count x.later
+    ap (λ others. opening s r t (map (λ m. line_of (cell_words m)) cells ++ others)) x.parts ∙ late_lines s r t cells x.kinds x.rest c
+    cell_count x.count x.later
 
-others_lines : (s : Sizes) (r : Response) (t : StackLine) (pieces : List (List ℕ)) (c : Cert) → OthersBack s r t pieces c → opening s r t pieces ≡ lines_of c
+others_lines : (s : Sizes) (r : Response) (t : StackLine) (pieces : List (List ℕ)) (c : Cert) → OthersBack s r t pieces c → opening s r t
+    pieces ≡ lines_of c
 others_lines s r t pieces c x = ap (opening s r t) x.parts ∙ middle_lines s r t x.cells x.rest c x.count x.later
 
 stack_lines : (s : Sizes) (r : Response) (pieces : List (List ℕ)) (c : Cert) → StackBack s r pieces c
     → head_line ∷ spelled first_draft.head (said.Size s) ∷ spelled first_draft.head (said.Irq r) ∷ pieces ≡ lines_of c
 stack_lines s r pieces c x =
-    ap (λ ls. head_line ∷ spelled first_draft.head (said.Size s) ∷ spelled first_draft.head (said.Irq r) ∷ ls) x.parts ∙ others_lines s r x.t x.rest c x.later
+    ap (λ ls. head_line ∷ spelled first_draft.head (said.Size s) ∷ spelled first_draft.head (said.Irq r) ∷ ls) x.parts ∙ others_lines s r
+    x.t x.rest c x.later
 
-irq_lines : (s : Sizes) (pieces : List (List ℕ)) (c : Cert) → IrqBack s pieces c → head_line ∷ spelled first_draft.head (said.Size s) ∷ pieces ≡ lines_of c
+irq_lines : (s : Sizes) (pieces : List (List ℕ)) (c : Cert) → IrqBack s pieces c → head_line ∷ spelled first_draft.head
+    (said.Size s) ∷ pieces ≡ lines_of c
 irq_lines s pieces c x = ap (λ ls. head_line ∷ spelled first_draft.head (said.Size s) ∷ ls) x.parts ∙ stack_lines s x.r x.rest c x.later
 
-size_lines : (l : LineSpelling) (pieces : List (List ℕ)) (c : Cert) → NextRead first_draft due.Size pieces c → head_line ∷ pieces ≡ lines_of c
+size_lines : (l : LineSpelling) (pieces : List (List ℕ)) (c : Cert) → NextRead first_draft due.Size pieces c → head_line ∷ pieces ≡ lines_of
+    c
 size_lines l pieces c x =
     let next = size_next first_draft x.value in
     ap (λ ls. head_line ∷ ls) x.parts
     ∙ irq_lines x.value x.rest c (irq_back l x.value x.rest c (subst Kept next x.kept) (ap (λ m. read_from m x.rest) (sym next) ∙ x.more))
 
 -- the lines after the first of what is read to its end are those of its certificate
-pub lines_back : (l : LineSpelling) (pieces : List (List ℕ)) (c : Cert) → read_from first_draft pieces ≡ told c → head_line ∷ pieces ≡ lines_of c
+pub lines_back : (l : LineSpelling) (pieces : List (List ℕ)) (c : Cert) → read_from first_draft pieces ≡ told c
+    → head_line ∷ pieces ≡ lines_of c
 lines_back l pieces c h = size_lines l pieces c (next_read l first_draft due.Size pieces c first_kept (due_size first_draft refl) h)

@@ -1,5 +1,6 @@
 -- The states of a text that is read: from its last line to its first run of lines, it is the spelling of what it says.
-use Rattle.std.proofs.Common.{◌≡◌, ℕ, zero, suc, ◌+◌, ◌-◌, ◌≤◌, Bool, true, false, List, [], ◌∷◌, ◌++◌, length, replicate, codes, refl, sym, ◌∙◌, ap, subst, append_assoc, append-nil, arith, length-append}
+use Rattle.std.proofs.Common.{◌≡◌, ℕ, zero, suc, ◌+◌, ◌-◌, ◌≤◌, Bool, true, false, List, [], ◌∷◌, ◌++◌, length, replicate, codes, refl, sym}
+use Rattle.std.proofs.Common.{◌∙◌, ap, subst, append_assoc, append-nil, arith, length-append}
 use Rattle.std.specs.Prelude.{Some, None, Result, Ok, Err, ⊤}
 use Rattle.std.proofs.lemmas.List.{length-replicate}
 use Rattle.uz_schedule.specs.WellFormed.{instances_of}
@@ -30,7 +31,8 @@ use Rattle.uz_cert.proofs.LineEnds.{line_ended}
 use Rattle.uz_cert.proofs.Numbers.{bind_ok, accepted, ok_same}
 use Rattle.uz_text_laws.proofs.Due.{PastFall, PastRuns, PastRests, PastEntry, PastPoints}
 use Rattle.uz_text_laws.proofs.Due.{due_run, due_rest, due_entry, due_point, due_end, due_none}
-use Rattle.uz_text_laws.proofs.Onward.{LineSpelling, spelled, due_as, Keeps, told, point_lines, entry_lines, rest_lines, run_lines, expand, Apart}
+use Rattle.uz_text_laws.proofs.Onward.{LineSpelling, spelled, due_as, Keeps, told, point_lines, entry_lines, rest_lines, run_lines, expand}
+use Rattle.uz_text_laws.proofs.Onward.{Apart}
 
 -- what a line of each kind says
 
@@ -101,7 +103,8 @@ says_ok d m kind line ended e =
     let b = bind_ok (reads (form_of d kind) (words_in line ended)) (λ s. accepted Draft (draft_after d s)) m e in
     (b.0, b.1, sym (ok_same (draft_after d b.0) m b.2))
 
-said_next : (l : LineSpelling) (d : Draft) (kind : Due) (line : List ℕ) (rest : List (List ℕ)) (c : Cert) (s : Said) → Kept d → due_of d ≡ Some kind
+said_next : (l : LineSpelling) (d : Draft) (kind : Due) (line : List ℕ) (rest : List (List ℕ)) (c : Cert) (s : Said) → Kept d
+    → due_of d ≡ Some kind
     → reads (form_of d kind) (words_in line true) ≡ Ok s → read_from (draft_after d s) rest ≡ told c → NextRead d kind (line ∷ rest) c
 said_next l d kind line rest c s k is r more =
     let o = l.only d kind line s k is r in
@@ -118,7 +121,8 @@ said_next l d kind line rest c s k is r more =
       more = ap (λ y. read_from (draft_after d y) rest) (sym same) ∙ more;
     }
 
-pub next_read : (l : LineSpelling) (d : Draft) (kind : Due) (pieces : List (List ℕ)) (c : Cert) → Kept d → due_of d ≡ Some kind → read_from d pieces ≡ told c
+pub next_read : (l : LineSpelling) (d : Draft) (kind : Due) (pieces : List (List ℕ)) (c : Cert) → Kept d → due_of d ≡ Some kind
+    → read_from d pieces ≡ told c
     → NextRead d kind pieces c
 next_read l d kind [] c k is e = absurd cc
 next_read l d kind (line ∷ rest) c k is e =
@@ -126,7 +130,8 @@ next_read l d kind (line ∷ rest) c k is e =
     (sym (ap (λ o. read_by o d line rest (λ x. read_from x rest)) is) ∙ e) in
     let s = says_ok d f.0 kind line (is_more rest) f.1 in
     let ended = line_ended (form_of d kind) (words_in line (is_more rest)) s.0 s.1 in
-    said_next l d kind line rest c s.0 k is (ap (λ t. reads (form_of d kind) (words_in line t)) (sym ended) ∙ s.1) (ap (λ x. read_from x rest) (sym s.2) ∙ f.2)
+    said_next l d kind line rest c s.0 k is (ap (λ t. reads (form_of d kind) (words_in line t)) (sym ended) ∙ s.1)
+    (ap (λ x. read_from x rest) (sym s.2) ∙ f.2)
 
 -- the end
 
@@ -144,7 +149,8 @@ end_parts d e (line ∷ rest) c is entry h = by line rest (sym (ap (λ o. read_b
     by [] (piece ∷ rest) g = absurd cc
     by (b ∷ bs) rest g = absurd cc
 
-after_end : (d : Draft) (e : Entry) → 4 ≤ d.read → PastPoints d e → (due_of (draft_after d said.End) ≡ None) × ((draft_after d said.End).entry ≡ Some e)
+after_end : (d : Draft) (e : Entry) → 4 ≤ d.read → PastPoints d e → (due_of (draft_after d said.End) ≡ None)
+    × ((draft_after d said.End).entry ≡ Some e)
 unfolding draft_after
 after_end d e b p = (due_none (record d { read = d.read + 1; ended = true }) e (omega (arith, b)) p refl, p.0.1)
 
@@ -152,7 +158,8 @@ same_end : (d : Draft) (e : Entry) → cert_from (draft_after d said.End) e ≡ 
 unfolding draft_after
 same_end d e = refl
 
-end_back : (l : LineSpelling) (d : Draft) (e : Entry) (pieces : List (List ℕ)) (c : Cert) → Kept d → 4 ≤ d.read → PastPoints d e → d.ended ≡ false
+end_back : (l : LineSpelling) (d : Draft) (e : Entry) (pieces : List (List ℕ)) (c : Cert) → Kept d → 4 ≤ d.read → PastPoints d e
+    → d.ended ≡ false
     → read_from d pieces ≡ told c → (pieces ≡ last_lines) × (c ≡ cert_from d e)
 end_back l d e pieces c k b p o h =
     let n = next_read l d due.End pieces c k (due_end d e b p o) h in
@@ -175,7 +182,8 @@ record PointsBack (d : Draft) (e : Entry) (pieces : List (List ℕ)) (c : Cert) 
   is : c ≡ cert_from (record d { points = d.points ++ ps }) e
   count : length d.points + length ps ≡ d.sizes.points
 
-points_back : (l : LineSpelling) (n : ℕ) (d : Draft) (e : Entry) (pieces : List (List ℕ)) (c : Cert) → Kept d → 4 ≤ d.read → PastEntry d e → d.ended ≡ false
+points_back : (l : LineSpelling) (n : ℕ) (d : Draft) (e : Entry) (pieces : List (List ℕ)) (c : Cert) → Kept d → 4 ≤ d.read → PastEntry d e
+    → d.ended ≡ false
     → length d.points + n ≡ d.sizes.points → read_from d pieces ≡ told c → PointsBack d e pieces c
 points_back l zero d e pieces c k b p o count h =
     let x = end_back l d e pieces c k b (p, omega (arith, count)) o h in
@@ -183,7 +191,8 @@ points_back l zero d e pieces c k b p o count h =
 points_back l (suc n) d e pieces c k b p o count h =
     let x = next_read l d due.Point pieces c k (due_point d e b p (omega (arith, count))) h in
     let next = point_next d x.value in
-    let y = points_back l n (with_point d x.value) e x.rest c (subst Kept next x.kept) (omega (arith, b)) p o (simp length-append (omega (arith, count)))
+    let y = points_back l n (with_point d x.value) e x.rest c (subst Kept next x.kept) (omega (arith, b)) p o
+    (simp length-append (omega (arith, count)))
     (ap (λ m. read_from m x.rest) (sym next) ∙ x.more) in
     let size = length-append d.points (x.value ∷ []) in
     let later = y.count in
@@ -220,7 +229,8 @@ entry_back l d pieces c k b p none h =
     let x = next_read l d due.Entry pieces c k (due_entry d b p none.0) h in
     let next = entry_next d x.value in
     let no_points : length d.points ≡ 0 = ap (λ ps. length ps) none.1 in
-    let y = points_back l d.sizes.points (with_entry d x.value) x.value x.rest c (subst Kept next x.kept) (omega (arith, b)) (p, refl) none.2 (omega (arith, no_points))
+    let y = points_back l d.sizes.points (with_entry d x.value) x.value x.rest c (subst Kept next x.kept) (omega (arith, b)) (p, refl)
+    none.2 (omega (arith, no_points))
     (ap (λ m. read_from m x.rest) (sym next) ∙ x.more) in
     let later = y.count in
     record {
@@ -265,7 +275,8 @@ rests_back l zero d pieces c k b p none count h =
 rests_back l (suc n) d pieces c k b p none count h =
     let x = next_read l d due.Rest pieces c k (due_rest d b p (omega (arith, count))) h in
     let next = rest_next d x.value in
-    let y = rests_back l n (with_rest d x.value) x.rest c (subst Kept next x.kept) (omega (arith, b)) p none (simp length-append (omega (arith, count)))
+    let y = rests_back l n (with_rest d x.value) x.rest c (subst Kept next x.kept) (omega (arith, b)) p none
+    (simp length-append (omega (arith, count)))
     (ap (λ m. read_from m x.rest) (sym next) ∙ x.more) in
     let size = length-append d.rests (x.value ∷ []) in
     let later = y.rest_count in
@@ -304,7 +315,8 @@ abbrev pub NoRestsYet : Draft → Type 0
 NoRestsYet d = NoStatesYet d × (d.rests ≡ [])
 
 -- by the lines that are left; each run takes one at least
-pub runs_back : (l : LineSpelling) (bound n : ℕ) (d : Draft) (pieces : List (List ℕ)) (c : Cert) → n ≤ bound → Kept d → 4 ≤ d.read → PastFall d → NoRestsYet d
+pub runs_back : (l : LineSpelling) (bound n : ℕ) (d : Draft) (pieces : List (List ℕ)) (c : Cert) → n ≤ bound → Kept d → 4 ≤ d.read
+    → PastFall d → NoRestsYet d
     → length d.lines + n ≡ d.sizes.lines → read_from d pieces ≡ told c → RunsBack d pieces c
 runs_back l bound zero d pieces c few k b p none count h =
     let no_rests : length d.rests ≡ 0 = ap (λ rs. length rs) none.1 in
@@ -329,8 +341,10 @@ runs_back l (suc bound) (suc n) d pieces c few k b p none count h =
     let some = x.keeps.0 in
     let same = length-replicate x.value.count x.value.kind in
     let size = length-append d.lines (replicate x.value.count x.value.kind) in
-    let left : length (d.lines ++ replicate x.value.count x.value.kind) + (suc n - x.value.count) ≡ d.sizes.lines = omega (arith, count, fits, same, size) in
-    let y = runs_back l bound (suc n - x.value.count) (with_run d x.value) x.rest c (omega (arith, few, some)) (subst Kept next x.kept) (omega (arith, b)) p none left
+    let left : length (d.lines ++ replicate x.value.count x.value.kind) + (suc n - x.value.count) ≡ d.sizes.lines =
+    omega (arith, count, fits, same, size) in
+    let y = runs_back l bound (suc n - x.value.count) (with_run d x.value) x.rest c (omega (arith, few, some)) (subst Kept next x.kept)
+    (omega (arith, b)) p none left
     (ap (λ m. read_from m x.rest) (sym next) ∙ x.more) in
     let later = y.line_count in
     let all = length-append (replicate x.value.count x.value.kind) (expand y.runs) in

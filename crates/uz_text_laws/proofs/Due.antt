@@ -75,10 +75,12 @@ past_head d h =
     ∙ pass (eqb d.read 3) _ _ (not_equal d.read 3 (omega (arith, h))))
 
 pub due_cell : (d : Draft) → 4 ≤ d.read → length d.head.cells.items < d.sizes.cells → due_of d ≡ Some due.Cell
-due_cell d h room = past_head d h ∙ pick (ltb (length d.head.cells.items) d.sizes.cells) _ _ (less_true (length d.head.cells.items) d.sizes.cells room)
+due_cell d h room = past_head d h ∙ pick (ltb (length d.head.cells.items) d.sizes.cells) _ _
+    (less_true (length d.head.cells.items) d.sizes.cells room)
 
 past_cells : (d : Draft) → 4 ≤ d.read → PastCells d → due_of d ≡ due_of_schedule d
-past_cells d b p = past_head d b ∙ pass (ltb (length d.head.cells.items) d.sizes.cells) _ _ (less_false (length d.head.cells.items) d.sizes.cells p)
+past_cells d b p = past_head d b ∙ pass (ltb (length d.head.cells.items) d.sizes.cells) _ _
+    (less_false (length d.head.cells.items) d.sizes.cells p)
 
 -- the lines of the schedule
 
@@ -87,9 +89,11 @@ due_event d b p h = past_cells d b p ∙ pick (ltb 0 d.owed) _ _ (less_true 0 d.
 
 pub due_kind : (d : Draft) → 4 ≤ d.read → PastCells d → d.owed ≡ 0 → length d.kinds < d.sizes.kinds → due_of d ≡ Some due.Kind
 due_kind d b p o room =
-    past_cells d b p ∙ (pass (ltb 0 d.owed) _ _ (less_false 0 d.owed o) ∙ pick (ltb (length d.kinds) d.sizes.kinds) _ _ (less_true (length d.kinds) d.sizes.kinds room))
+    past_cells d b p ∙ (pass (ltb 0 d.owed) _ _ (less_false 0 d.owed o) ∙ pick (ltb (length d.kinds) d.sizes.kinds) _ _
+    (less_true (length d.kinds) d.sizes.kinds room))
 
-past_kinds : (d : Draft) → 4 ≤ d.read → PastKinds d → due_of d ≡ cond (eqb d.fall 0) (Some due.Fall) (cond (ltb (length d.lines) d.sizes.lines) (Some due.Run) (due_of_states d))
+past_kinds : (d : Draft) → 4 ≤ d.read → PastKinds d → due_of d ≡ cond (eqb d.fall 0) (Some due.Fall)
+    (cond (ltb (length d.lines) d.sizes.lines) (Some due.Run) (due_of_states d))
 past_kinds d b p =
     past_cells d b p.0 ∙ (pass (ltb 0 d.owed) _ _ (less_false 0 d.owed p.1)
     ∙ pass (ltb (length d.kinds) d.sizes.kinds) _ _ (less_false (length d.kinds) d.sizes.kinds p.2))
@@ -112,22 +116,27 @@ pub due_rest : (d : Draft) → 4 ≤ d.read → PastRuns d → length d.rests < 
 due_rest d b p room = past_runs d b p ∙ pick (ltb (length d.rests) d.sizes.rests) _ _ (less_true (length d.rests) d.sizes.rests room)
 
 past_rests : (d : Draft) → 4 ≤ d.read → PastRests d
-    → due_of d ≡ cond (lacks d.entry) (Some due.Entry) (cond (ltb (length d.points) d.sizes.points) (Some due.Point) (cond d.ended None (Some due.End)))
+    → due_of d ≡ cond (lacks d.entry) (Some due.Entry) (cond (ltb (length d.points) d.sizes.points) (Some due.Point)
+    (cond d.ended None (Some due.End)))
 past_rests d b p = past_runs d b p.0 ∙ pass (ltb (length d.rests) d.sizes.rests) _ _ (less_false (length d.rests) d.sizes.rests p.1)
 
 pub due_entry : (d : Draft) → 4 ≤ d.read → PastRests d → d.entry ≡ None → due_of d ≡ Some due.Entry
 due_entry d b p h = past_rests d b p ∙ pick (lacks d.entry) _ _ (ap lacks h)
 
-past_entry : (d : Draft) (e : Entry) → 4 ≤ d.read → PastEntry d e → due_of d ≡ cond (ltb (length d.points) d.sizes.points) (Some due.Point) (cond d.ended None (Some due.End))
+past_entry : (d : Draft) (e : Entry) → 4 ≤ d.read → PastEntry d e → due_of d ≡ cond (ltb (length d.points) d.sizes.points) (Some due.Point)
+    (cond d.ended None (Some due.End))
 past_entry d e b p = past_rests d b p.0 ∙ pass (lacks d.entry) _ _ (ap lacks p.1)
 
 pub due_point : (d : Draft) (e : Entry) → 4 ≤ d.read → PastEntry d e → length d.points < d.sizes.points → due_of d ≡ Some due.Point
-due_point d e b p room = past_entry d e b p ∙ pick (ltb (length d.points) d.sizes.points) _ _ (less_true (length d.points) d.sizes.points room)
+due_point d e b p room = past_entry d e b p ∙ pick (ltb (length d.points) d.sizes.points) _ _
+    (less_true (length d.points) d.sizes.points room)
 
 pub due_end : (d : Draft) (e : Entry) → 4 ≤ d.read → PastPoints d e → d.ended ≡ false → due_of d ≡ Some due.End
 due_end d e b p h =
-    past_entry d e b p.0 ∙ (pass (ltb (length d.points) d.sizes.points) _ _ (less_false (length d.points) d.sizes.points p.1) ∙ pass d.ended _ _ h)
+    past_entry d e b p.0 ∙ (pass (ltb (length d.points) d.sizes.points) _ _ (less_false (length d.points) d.sizes.points p.1)
+    ∙ pass d.ended _ _ h)
 
 pub due_none : (d : Draft) (e : Entry) → 4 ≤ d.read → PastPoints d e → d.ended ≡ true → due_of d ≡ None
 due_none d e b p h =
-    past_entry d e b p.0 ∙ (pass (ltb (length d.points) d.sizes.points) _ _ (less_false (length d.points) d.sizes.points p.1) ∙ pick d.ended _ _ h)
+    past_entry d e b p.0 ∙ (pass (ltb (length d.points) d.sizes.points) _ _ (less_false (length d.points) d.sizes.points p.1)
+    ∙ pick d.ended _ _ h)

@@ -1,5 +1,6 @@
 -- A certificate's text is read as it: section by section, from the last line to the first.
-use Rattle.std.proofs.Common.{◌≡◌, ◌≢◌, ℕ, ◌+◌, ◌-◌, ◌<◌, ◌≤◌, Bool, true, false, ◌&&◌, eqb, List, [], ◌∷◌, ◌++◌, length, map, replicate, All, codes, decimal, leb, zero-add, refl, sym, ◌∙◌, ap, subst, append_assoc, append-nil, arith, length-append}
+use Rattle.std.proofs.Common.{◌≡◌, ◌≢◌, ℕ, ◌+◌, ◌-◌, ◌<◌, ◌≤◌, Bool, true, false, ◌&&◌, eqb, List, [], ◌∷◌, ◌++◌, length, map, replicate}
+use Rattle.std.proofs.Common.{All, codes, decimal, leb, zero-add, refl, sym, ◌∙◌, ap, subst, append_assoc, append-nil, arith, length-append}
 use Rattle.std.specs.Prelude.{Some, None, Result, Ok, ⊤, sum_by}
 use Rattle.std.proofs.lemmas.Bool.{leb-true}
 use Rattle.std.proofs.lemmas.Bool.Decides.{nat_tests}
@@ -16,7 +17,8 @@ use Rattle.uz_schedule.specs.declared.states.Rest.{Rest}
 use Rattle.uz_schedule.specs.declared.states.Entry.{Entry}
 use Rattle.uz_schedule.specs.declared.states.Point.{Point}
 use Rattle.uz_schedule.specs.declared.certificate.Cert.{Cert}
-use Rattle.uz_spelling.specs.Spelling.{line_of, cell_words, event_words, run_words, rest_words, entry_words, point_words, kinds_then, last_lines}
+use Rattle.uz_spelling.specs.Spelling.{line_of, cell_words, event_words, run_words, rest_words, entry_words, point_words, kinds_then}
+use Rattle.uz_spelling.specs.Spelling.{last_lines}
 use Rattle.uz_lines.specs.Why.{◌>>=◌}
 use Rattle.uz_lines.specs.Forms.{reads}
 use Rattle.uz_lines.specs.declared.lines.Said.{Said}
@@ -33,7 +35,8 @@ use Rattle.uz_text_laws.proofs.Due.{due_cell, due_event, due_kind, due_fall, due
 
 -- the line that says this
 abbrev pub spelled : Head → Said → List ℕ
-spelled h (said.Size s) = line_of (codes "size" ∷ decimal s.kinds ∷ decimal s.lines ∷ decimal s.rests ∷ decimal s.points ∷ decimal s.cells ∷ [])
+spelled h (said.Size s) = line_of (codes "size" ∷ decimal s.kinds ∷ decimal s.lines ∷ decimal s.rests ∷ decimal s.points ∷ decimal
+    s.cells ∷ [])
 spelled h (said.Irq r) = line_of (codes "irq" ∷ decimal (response_clocks r) ∷ [])
 spelled h (said.Stack s) = line_of (codes "stack" ∷ decimal s.lo ∷ decimal s.hi ∷ decimal s.main ∷ decimal s.handler ∷ [])
 spelled h (said.Cell c) = line_of (cell_words c)
@@ -79,7 +82,8 @@ Keeps d said.End = ⊤
 pub record LineSpelling : Type 0 where
   pub again : (d : Draft) (s : Said) → Kept d → due_of d ≡ Some (due_as s) → SaidFits d s → Keeps d s
       → reads (form_of d (due_as s)) (words_in (spelled d.head s) true) ≡ Ok s
-  pub only : (d : Draft) (due : Due) (line : List ℕ) (s : Said) → Kept d → due_of d ≡ Some due → reads (form_of d due) (words_in line true) ≡ Ok s
+  pub only : (d : Draft) (due : Due) (line : List ℕ) (s : Said) → Kept d → due_of d ≡ Some due → reads (form_of d due) (words_in line true)
+      ≡ Ok s
       → (line ≡ spelled d.head s) × (due ≡ due_as s) × Keeps d s
 
 abbrev pub told : Cert → Result Cert Fault
@@ -91,7 +95,8 @@ and_true false b e = absurd cc
 
 -- one line more
 
-says : (d : Draft) (due : Due) (line : List ℕ) (s : Said) → reads (form_of d due) (words_in line true) ≡ Ok s → line_says d due line true ≡ Ok (draft_after d s)
+says : (d : Draft) (due : Due) (line : List ℕ) (s : Said) → reads (form_of d due) (words_in line true) ≡ Ok s → line_says d due line
+    true ≡ Ok (draft_after d s)
 unfolding line_says
 says d due line s e = ap (λ m. m >>= (λ x. Ok (draft_after d x))) e
 
@@ -112,7 +117,8 @@ whole_again : (d : Draft) (e : Entry) → due_of d ≡ None → d.entry ≡ Some
 unfolding cert_before
 whole_again d e due is = ap (λ o. read_by o d [] [] (λ more. read_from more [])) due ∙ ap (cert_with d) is
 
-after_end : (d : Draft) (e : Entry) → 4 ≤ d.read → PastPoints d e → (due_of (draft_after d said.End) ≡ None) × ((draft_after d said.End).entry ≡ Some e)
+after_end : (d : Draft) (e : Entry) → 4 ≤ d.read → PastPoints d e → (due_of (draft_after d said.End) ≡ None)
+    × ((draft_after d said.End).entry ≡ Some e)
 unfolding draft_after
 after_end d e b p = (due_none (record d { read = d.read + 1; ended = true }) e (omega (arith, b)) p refl, p.0.1)
 
@@ -120,7 +126,8 @@ same_end : (d : Draft) (e : Entry) → told (cert_from (draft_after d said.End) 
 unfolding draft_after
 same_end d e = refl
 
-pub end_again : (l : LineSpelling) (d : Draft) (e : Entry) → Kept d → 4 ≤ d.read → PastPoints d e → d.ended ≡ false → read_from d last_lines ≡ told (cert_from d e)
+pub end_again : (l : LineSpelling) (d : Draft) (e : Entry) → Kept d → 4 ≤ d.read → PastPoints d e → d.ended ≡ false
+    → read_from d last_lines ≡ told (cert_from d e)
 end_again l d e k b p open_end =
     let a = after_end d e b p in
     step l d said.End ([] ∷ []) k (due_end d e b p open_end) b tt refl
@@ -143,7 +150,8 @@ unfolding draft_after
 point_next d p = refl
 
 pub points_again : (l : LineSpelling) (d : Draft) (e : Entry) (ps : List Point) → Kept d → 4 ≤ d.read → PastEntry d e → d.ended ≡ false
-    → length d.points + length ps ≡ d.sizes.points → All (PointFits d.head d.sizes.lines d.sizes.points) ps → sum_by instances_of ps ≤ d.left
+    → length d.points + length ps ≡ d.sizes.points → All (PointFits d.head d.sizes.lines d.sizes.points) ps → sum_by instances_of
+    ps ≤ d.left
     → read_from d (point_lines d.head.cells.items ps) ≡ told (cert_from (record d { points = d.points ++ ps }) e)
 points_again l d e [] k b p o count fits sum =
     end_again l d e k b (p, omega (arith, count)) o ∙ ap (λ ps. told (cert_from (record d { points = ps }) e)) (sym (append-nil d.points))
@@ -162,7 +170,8 @@ points_again l d e (x ∷ xs) k b p o count fits sum =
     step l d (said.Point x) (point_lines d.head.cells.items xs) k (due_point d e b p room) fit tt (points_more d.head.cells.items xs)
     ∙ (ap (λ y. read_from y (point_lines d.head.cells.items xs)) (point_next d x)
     ∙ (points_again l next e xs kept (omega (arith, b)) p o (simp length-append (omega (arith, count)))
-    (All-tail (PointFits d.head d.sizes.lines d.sizes.points) x xs fits) (less_sum (instances_of x) (sum_by instances_of xs) (sum_by instances_of (x ∷ xs)) d.left split sum)
+    (All-tail (PointFits d.head d.sizes.lines d.sizes.points) x xs fits) (less_sum (instances_of x) (sum_by instances_of xs)
+    (sum_by instances_of (x ∷ xs)) d.left split sum)
     ∙ ap (λ ps. told (cert_from (record d { points = ps }) e)) (append_assoc d.points (x ∷ []) xs)))
   where
     less_sum : (n rest all left : ℕ) → all ≡ n + rest → all ≤ left → rest ≤ left - n
@@ -180,7 +189,8 @@ entry_next d e = refl
 abbrev pub entry_lines : List Cell → Entry → List Point → List (List ℕ)
 entry_lines cells e ps = line_of (entry_words cells e) ∷ point_lines cells ps
 
-pub entry_again : (l : LineSpelling) (d : Draft) (e : Entry) (ps : List Point) → Kept d → 4 ≤ d.read → PastRests d → d.entry ≡ None → d.points ≡ [] → d.ended ≡ false
+pub entry_again : (l : LineSpelling) (d : Draft) (e : Entry) (ps : List Point) → Kept d → 4 ≤ d.read → PastRests d → d.entry ≡ None
+    → d.points ≡ [] → d.ended ≡ false
     → length ps ≡ d.sizes.points → EntryFits d.head d.sizes.lines d.sizes.points e
     → All (PointFits d.head d.sizes.lines d.sizes.points) ps → sum_by instances_of ps ≤ d.left
     → read_from d (entry_lines d.head.cells.items e ps) ≡ told (cert_from (record d { points = ps }) e)
@@ -191,7 +201,8 @@ entry_again l d e ps k b p none no_points o count entry fits sum =
     let kept : Kept next = subst Kept (entry_next d e) (kept_after d (said.Entry e) k fit) in
     step l d (said.Entry e) (point_lines d.head.cells.items ps) k (due_entry d b p none) fit tt (points_more d.head.cells.items ps)
     ∙ (ap (λ y. read_from y (point_lines d.head.cells.items ps)) (entry_next d e)
-    ∙ (points_again l next e ps kept (omega (arith, b)) (p, refl) o (ap (λ xs. length xs + length ps) no_points ∙ (zero-add (length ps) ∙ count)) fits sum
+    ∙ (points_again l next e ps kept (omega (arith, b)) (p, refl) o (ap (λ xs. length xs + length ps) no_points
+    ∙ (zero-add (length ps) ∙ count)) fits sum
     ∙ ap (λ xs. told (cert_from (record d { points = xs ++ ps }) e)) no_points))
 
 -- rests
@@ -214,7 +225,8 @@ StatesFit d rs e ps =
     × (length ps ≡ d.sizes.points) × EntryFits d.head d.sizes.lines d.sizes.points e
     × All (PointFits d.head d.sizes.lines d.sizes.points) ps × (sum_by instances_of ps ≤ d.left)
 
-pub rests_again : (l : LineSpelling) (d : Draft) (rs : List Rest) (e : Entry) (ps : List Point) → Kept d → 4 ≤ d.read → PastRuns d → StatesFit d rs e ps
+pub rests_again : (l : LineSpelling) (d : Draft) (rs : List Rest) (e : Entry) (ps : List Point) → Kept d → 4 ≤ d.read → PastRuns d
+    → StatesFit d rs e ps
     → read_from d (rest_lines d.head.cells.items rs e ps) ≡ told (cert_from (record d { rests = d.rests ++ rs; points = ps }) e)
 rests_again l d [] e ps k b p s =
     let count = s.3 in
@@ -236,8 +248,18 @@ rests_again l d (r ∷ rs) e ps k b p s =
     step l d (said.Rest r) (rest_lines d.head.cells.items rs e ps) k (due_rest d b p room) fit tt
     (more_after (map (λ x. line_of (rest_words x)) rs) (line_of (entry_words d.head.cells.items e)) (point_lines d.head.cells.items ps))
     ∙ (ap (λ y. read_from y (rest_lines d.head.cells.items rs e ps)) (rest_next d r)
-    ∙ (rests_again l next rs e ps kept (omega (arith, b)) p
-    (s.0, s.1, s.2, simp length-append (omega (arith, count)), All-tail (RestFits d.head d.sizes.lines d.sizes.points) r rs s.4, order.1, s.6, s.7, s.8, s.9)
+    ∙ (rests_again l next rs e ps kept (omega (arith, b)) p (
+      s.0,
+      s.1,
+      s.2,
+      simp length-append (omega (arith, count)),
+      All-tail (RestFits d.head d.sizes.lines d.sizes.points) r rs s.4,
+      order.1,
+      s.6,
+      s.7,
+      s.8,
+      s.9,
+    )
     ∙ ap (λ xs. told (cert_from (record d { rests = xs; points = ps }) e)) (append_assoc d.rests (r ∷ []) rs)))
 
 -- runs
@@ -269,9 +291,12 @@ pub more_lines : (front back : List (List ℕ)) → is_more back ≡ true → is
 more_lines [] back h = h
 more_lines (line ∷ front) back h = refl
 
-pub runs_again : (l : LineSpelling) (d : Draft) (runs : List (ℕ × ℕ)) (rs : List Rest) (e : Entry) (ps : List Point) → Kept d → 4 ≤ d.read → PastFall d
-    → Apart d.run_kind runs → All (λ r. r.1 < d.sizes.kinds) runs → length d.lines + length (expand runs) ≡ d.sizes.lines → StatesFit d rs e ps
-    → read_from d (run_lines runs d.head.cells.items rs e ps) ≡ told (cert_from (record d { lines = d.lines ++ expand runs; rests = d.rests ++ rs; points = ps }) e)
+pub runs_again : (l : LineSpelling) (d : Draft) (runs : List (ℕ × ℕ)) (rs : List Rest) (e : Entry) (ps : List Point) → Kept d → 4 ≤ d.read
+    → PastFall d
+    → Apart d.run_kind runs → All (λ r. r.1 < d.sizes.kinds) runs → length d.lines + length (expand runs) ≡ d.sizes.lines → StatesFit d rs e
+    ps
+    → read_from d (run_lines runs d.head.cells.items rs e ps) ≡ told
+    (cert_from (record d { lines = d.lines ++ expand runs; rests = d.rests ++ rs; points = ps }) e)
 runs_again l d [] rs e ps k b p apart kinds count s =
     rests_again l d rs e ps k b (p, omega (arith, count)) s
     ∙ ap (λ ls. told (cert_from (record d { lines = ls; rests = d.rests ++ rs; points = ps }) e)) (sym (append-nil d.lines))
@@ -287,12 +312,14 @@ runs_again l d (r ∷ runs) rs e ps k b p apart kinds count s =
     } in
     let next = with_run d r in
     let kept : Kept next = subst Kept (run_next d r) (kept_after d (said.Run (record { count = r.0; kind = r.1 })) k fit) in
-    step l d (said.Run (record { count = r.0; kind = r.1 })) (run_lines runs d.head.cells.items rs e ps) k (due_run d b p room) fit (apart.0, apart.1)
+    step l d (said.Run (record { count = r.0; kind = r.1 })) (run_lines runs d.head.cells.items rs e ps) k (due_run d b p room) fit
+    (apart.0, apart.1)
     (more_lines (map (λ x. line_of (run_words x)) runs) (rest_lines d.head.cells.items rs e ps) (some_rest d.head.cells.items rs e ps))
     ∙ (ap (λ y. read_from y (run_lines runs d.head.cells.items rs e ps)) (run_next d r)
     ∙ (runs_again l next runs rs e ps kept (omega (arith, b)) p apart.2 (All-tail (λ x. x.1 < d.sizes.kinds) r runs kinds)
     (simp (length-append, length-replicate) (omega (arith, count, size, same))) s
-    ∙ ap (λ ls. told (cert_from (record d { lines = ls; rests = d.rests ++ rs; points = ps }) e)) (append_assoc d.lines (replicate r.0 r.1) (expand runs))))
+    ∙ ap (λ ls. told (cert_from (record d { lines = ls; rests = d.rests ++ rs; points = ps }) e))
+    (append_assoc d.lines (replicate r.0 r.1) (expand runs))))
 
 -- the fall
 
@@ -306,7 +333,8 @@ fall_next d clock = refl
 abbrev pub fall_lines : ℕ → List (ℕ × ℕ) → List Cell → List Rest → Entry → List Point → List (List ℕ)
 fall_lines clock runs cells rs e ps = line_of (codes "fall" ∷ decimal clock ∷ []) ∷ run_lines runs cells rs e ps
 
-pub fall_again : (l : LineSpelling) (d : Draft) (clock : ℕ) (runs : List (ℕ × ℕ)) (rs : List Rest) (e : Entry) (ps : List Point) → Kept d → 4 ≤ d.read
+pub fall_again : (l : LineSpelling) (d : Draft) (clock : ℕ) (runs : List (ℕ × ℕ)) (rs : List Rest) (e : Entry) (ps : List Point) → Kept d
+    → 4 ≤ d.read
     → PastKinds d → d.fall ≡ 0 → 1 ≤ clock → clock < clock_limit → d.lines ≡ []
     → Apart d.run_kind runs → All (λ r. r.1 < d.sizes.kinds) runs → length (expand runs) ≡ d.sizes.lines → StatesFit d rs e ps
     → read_from d (fall_lines clock runs d.head.cells.items rs e ps)
@@ -337,7 +365,13 @@ with_event d e = record d { read = d.read + 1; owed = d.owed - 1; events = d.eve
 
 -- the last event of a kind
 abbrev with_last : Draft → Event → Draft
-with_last d e = record d { read = d.read + 1; owed = d.owed - 1; kinds = d.kinds ++ (d.events ++ e ∷ []) ∷ []; events = []; event_least = 0 }
+with_last d e = record d {
+  read = d.read + 1;
+  owed = d.owed - 1;
+  kinds = d.kinds ++ (d.events ++ e ∷ []) ∷ [];
+  events = [];
+  event_least = 0;
+}
 
 event_next : (d : Draft) (e : Event) → eqb (d.owed - 1) 0 ≡ false → draft_after d (said.Event e) ≡ with_event d e
 unfolding draft_after
@@ -352,14 +386,21 @@ pub record KindsRead (d : Draft) (kinds : List (List Event)) (lines others : Lis
   pub read : ℕ
   pub body : 4 ≤ read
   pub kept : Kept (record d { read = read; kinds = d.kinds ++ kinds; owed = 0; events = []; event_least = 0 })
-  pub same : read_from d lines ≡ read_from (record d { read = read; kinds = d.kinds ++ kinds; owed = 0; events = []; event_least = 0 }) others
+  pub same : read_from d lines ≡ read_from (record d { read = read; kinds = d.kinds ++ kinds; owed = 0; events = []; event_least = 0 })
+      others
 
 -- where the rest of a kind was read
 record EventsRead (d : Draft) (es : List Event) (lines others : List (List ℕ)) : Type 0 where
   read : ℕ
   body : 4 ≤ read
   kept : Kept (record d { read = read; kinds = d.kinds ++ (d.events ++ es) ∷ []; owed = 0; events = []; event_least = 0 })
-  same : read_from d lines ≡ read_from (record d { read = read; kinds = d.kinds ++ (d.events ++ es) ∷ []; owed = 0; events = []; event_least = 0 }) others
+  same : read_from d lines ≡ read_from (record d {
+    read = read;
+    kinds = d.kinds ++ (d.events ++ es) ∷ [];
+    owed = 0;
+    events = [];
+    event_least = 0;
+  }) others
 
 abbrev event_lines : List Event → List (List ℕ)
 event_lines es = map (λ e. line_of (event_words e)) es
@@ -371,14 +412,21 @@ some_test : (n : ℕ) → 1 ≤ n → eqb n 0 ≡ false
 some_test n h = grind (arith, nat_tests)
 
 events_again : (l : LineSpelling) (d : Draft) (e : Event) (es : List Event) (others : List (List ℕ)) → Kept d → 4 ≤ d.read → PastCells d
-    → d.owed ≡ length es + 1 → All EventFits (e ∷ es) → rises_from d.event_least (map (λ x. x.clock) (e ∷ es)) ≡ true → is_more others ≡ true
+    → d.owed ≡ length es + 1 → All EventFits (e ∷ es) → rises_from d.event_least (map (λ x. x.clock) (e ∷ es)) ≡ true
+    → is_more others ≡ true
     → EventsRead d (e ∷ es) (event_lines (e ∷ es) ++ others) others
 events_again l d e [] others k b p owed fits rise more =
     let order = and_true (leb d.event_least e.clock) true rise in
-    let fit : SaidFits d (said.Event e) = record { body = b; owed = omega (arith, owed); fits = All-head EventFits e [] fits; order = leb-true d.event_least e.clock order.0 } in
+    let fit : SaidFits d (said.Event e) = record {
+      body = b;
+      owed = omega (arith, owed);
+      fits = All-head EventFits e [] fits;
+      order = leb-true d.event_least e.clock order.0;
+    } in
     let none : d.owed - 1 ≡ 0 = omega (arith, owed) in
     let next = last_next d e (zero_test (d.owed - 1) none) in
-    let last : draft_after d (said.Event e) ≡ record (with_last d e) { owed = 0 } = next ∙ ap (λ n. record (with_last d e) { owed = n }) none in
+    let last : draft_after d (said.Event e) ≡ record (with_last d e) { owed = 0 } = next ∙ ap (λ n. record (with_last d e) { owed = n })
+    none in
     record {
       read = d.read + 1;
       body = omega (arith, b);
@@ -387,19 +435,32 @@ events_again l d e [] others k b p owed fits rise more =
     }
 events_again l d e (x ∷ es) others k b p owed fits rise more =
     let order = and_true (leb d.event_least e.clock) (rises_from (e.clock + 1) (map (λ y. y.clock) (x ∷ es))) rise in
-    let fit : SaidFits d (said.Event e) = record { body = b; owed = omega (arith, owed); fits = All-head EventFits e (x ∷ es) fits; order = leb-true d.event_least e.clock order.0 } in
+    let fit : SaidFits d (said.Event e) = record {
+      body = b;
+      owed = omega (arith, owed);
+      fits = All-head EventFits e (x ∷ es) fits;
+      order = leb-true d.event_least e.clock order.0;
+    } in
     let next = event_next d e (some_test (d.owed - 1) (omega (arith, owed))) in
     let kept : Kept (with_event d e) = subst Kept next (kept_after d (said.Event e) k fit) in
-    let later = events_again l (with_event d e) x es others kept (omega (arith, b)) p (omega (arith, owed)) (All-tail EventFits e (x ∷ es) fits) order.1 more in
+    let later = events_again l (with_event d e) x es others kept (omega (arith, b)) p (omega (arith, owed))
+    (All-tail EventFits e (x ∷ es) fits) order.1 more in
     let seam = append_assoc d.events (e ∷ []) (x ∷ es) in
     record {
       read = later.read;
       body = later.body;
-      kept = subst (λ ys. Kept (record d { read = later.read; kinds = d.kinds ++ ys ∷ []; owed = 0; events = []; event_least = 0 })) seam later.kept;
+      kept = subst (λ ys. Kept (record d { read = later.read; kinds = d.kinds ++ ys ∷ []; owed = 0; events = []; event_least = 0 })) seam
+          later.kept;
       same =
           step l d (said.Event e) (event_lines (x ∷ es) ++ others) k (due_event d b p (omega (arith, owed))) fit tt refl
           ∙ (ap (λ y. read_from y (event_lines (x ∷ es) ++ others)) next
-          ∙ (later.same ∙ ap (λ ys. read_from (record d { read = later.read; kinds = d.kinds ++ ys ∷ []; owed = 0; events = []; event_least = 0 }) others) seam));
+          ∙ (later.same ∙ ap (λ ys. read_from (record d {
+            read = later.read;
+            kinds = d.kinds ++ ys ∷ [];
+            owed = 0;
+            events = [];
+            event_least = 0;
+          }) others) seam));
     }
 
 kinds_more : (kinds : List (List Event)) (others : List (List ℕ)) → is_more others ≡ true → is_more (kinds_then kinds others) ≡ true
@@ -407,12 +468,14 @@ kinds_more [] others h = h
 kinds_more (es ∷ kinds) others h = refl
 
 pub kinds_again : (l : LineSpelling) (d : Draft) (kinds : List (List Event)) (others : List (List ℕ)) → Kept d → 4 ≤ d.read → PastCells d
-    → d.owed ≡ 0 → d.events ≡ [] → d.event_least ≡ 0 → length d.kinds + length kinds ≡ d.sizes.kinds → All EventsFit kinds → is_more others ≡ true
+    → d.owed ≡ 0 → d.events ≡ [] → d.event_least ≡ 0 → length d.kinds + length kinds ≡ d.sizes.kinds → All EventsFit kinds
+    → is_more others ≡ true
     → KindsRead d kinds (kinds_then kinds others) others
 kinds_again l d [] others k b p owed events least count fits more =
     let same : d ≡ record d { kinds = d.kinds ++ []; owed = 0; events = []; event_least = 0 } =
     ap (λ ks. record d { kinds = ks }) (sym (append-nil d.kinds)) ∙ (ap (λ n. record d { kinds = d.kinds ++ []; owed = n }) owed
-    ∙ (ap (λ es. record d { kinds = d.kinds ++ []; owed = 0; events = es }) events ∙ ap (λ n. record d { kinds = d.kinds ++ []; owed = 0; events = []; event_least = n }) least)) in
+    ∙ (ap (λ es. record d { kinds = d.kinds ++ []; owed = 0; events = es }) events
+    ∙ ap (λ n. record d { kinds = d.kinds ++ []; owed = 0; events = []; event_least = n }) least)) in
     record { read = d.read; body = b; kept = subst Kept same k; same = ap (λ y. read_from y others) same }
 kinds_again l d ([] ∷ kinds) others k b p owed events least count fits more =
     let some = (All-head EventsFit [] kinds fits).some in
@@ -420,15 +483,26 @@ kinds_again l d ([] ∷ kinds) others k b p owed events least count fits more =
 kinds_again l d ((e ∷ es) ∷ kinds) others k b p owed events least count fits more =
     let first = All-head EventsFit (e ∷ es) kinds fits in
     let room : length d.kinds < d.sizes.kinds = omega (arith, count) in
-    let fit : SaidFits d (said.Kind (length (e ∷ es))) = record { body = b; none_owed = owed; room = room; some = first.some; few = first.few } in
-    let kept : Kept (with_kind d (length (e ∷ es))) = subst Kept (kind_next d (length (e ∷ es))) (kept_after d (said.Kind (length (e ∷ es))) k fit) in
-    let rise : rises_from d.event_least (map (λ x. x.clock) (e ∷ es)) ≡ true = subst (λ n. rises_from n (map (λ x. x.clock) (e ∷ es)) ≡ true) (sym least) first.rise in
+    let fit : SaidFits d (said.Kind (length (e ∷ es))) = record {
+      body = b;
+      none_owed = owed;
+      room = room;
+      some = first.some;
+      few = first.few;
+    } in
+    let kept : Kept (with_kind d (length (e ∷ es))) = subst Kept (kind_next d (length (e ∷ es)))
+    (kept_after d (said.Kind (length (e ∷ es))) k fit) in
+    let rise : rises_from d.event_least (map (λ x. x.clock) (e ∷ es)) ≡ true =
+    subst (λ n. rises_from n (map (λ x. x.clock) (e ∷ es)) ≡ true) (sym least) first.rise in
     let body : 4 ≤ d.read + 1 = omega (arith, b) in
-    let a = events_again l (with_kind d (length (e ∷ es))) e es (kinds_then kinds others) kept body p (omega arith) first.each rise (kinds_more kinds others more) in
+    let a = events_again l (with_kind d (length (e ∷ es))) e es (kinds_then kinds others) kept body p (omega arith) first.each rise
+    (kinds_more kinds others more) in
     let seam : d.events ++ e ∷ es ≡ e ∷ es = ap (λ ys. ys ++ e ∷ es) events in
     let mid : Draft = record d { read = a.read; kinds = d.kinds ++ (e ∷ es) ∷ []; owed = 0; events = []; event_least = 0 } in
-    let kept_mid : Kept mid = subst (λ ys. Kept (record d { read = a.read; kinds = d.kinds ++ ys ∷ []; owed = 0; events = []; event_least = 0 })) seam a.kept in
-    let later = kinds_again l mid kinds others kept_mid a.body p refl refl refl (simp length-append (omega (arith, count))) (All-tail EventsFit (e ∷ es) kinds fits) more in
+    let kept_mid : Kept mid = subst
+    (λ ys. Kept (record d { read = a.read; kinds = d.kinds ++ ys ∷ []; owed = 0; events = []; event_least = 0 })) seam a.kept in
+    let later = kinds_again l mid kinds others kept_mid a.body p refl refl refl (simp length-append (omega (arith, count)))
+    (All-tail EventsFit (e ∷ es) kinds fits) more in
     let joined = append_assoc d.kinds ((e ∷ es) ∷ []) kinds in
     record {
       read = later.read;
@@ -437,14 +511,20 @@ kinds_again l d ((e ∷ es) ∷ kinds) others k b p owed events least count fits
       same =
           step l d (said.Kind (length (e ∷ es))) (event_lines (e ∷ es) ++ kinds_then kinds others) k (due_kind d b p owed room) fit tt refl
           ∙ (ap (λ y. read_from y (event_lines (e ∷ es) ++ kinds_then kinds others)) (kind_next d (length (e ∷ es)))
-          ∙ (a.same ∙ (ap (λ ys. read_from (record d { read = a.read; kinds = d.kinds ++ ys ∷ []; owed = 0; events = []; event_least = 0 }) (kinds_then kinds others)) seam
-          ∙ (later.same ∙ ap (λ ks. read_from (record d { read = later.read; kinds = ks; owed = 0; events = []; event_least = 0 }) others) joined))));
+          ∙ (a.same ∙ (ap (λ ys. read_from (record d { read = a.read; kinds = d.kinds ++ ys ∷ []; owed = 0; events = []; event_least = 0 })
+          (kinds_then kinds others)) seam
+          ∙ (later.same ∙ ap (λ ks. read_from (record d { read = later.read; kinds = ks; owed = 0; events = []; event_least = 0 }) others)
+          joined))));
     }
 
 -- the cells
 
 abbrev with_cell : Draft → Cell → Draft
-with_cell d c = record d { read = d.read + 1; head = record d.head { cells = record { items = d.head.cells.items ++ c ∷ [] } }; cell_least = c.at + 1 }
+with_cell d c = record d {
+  read = d.read + 1;
+  head = record d.head { cells = record { items = d.head.cells.items ++ c ∷ [] } };
+  cell_least = c.at + 1;
+}
 
 cell_next : (d : Draft) (c : Cell) → draft_after d (said.Cell c) ≡ with_cell d c
 unfolding draft_after
@@ -468,18 +548,27 @@ refit : (h : Head) (c x : Cell) → CellFits h x → CellFits (record h { cells 
 refit h c x f = record { low = f.low; high = f.high; off_stack = f.off_stack; range = f.range }
 
 pub cells_again : (l : LineSpelling) (d : Draft) (cells : List Cell) (others : List (List ℕ)) → Kept d → 4 ≤ d.read
-    → length d.head.cells.items + length cells ≡ d.sizes.cells → All (CellFits d.head) cells → rises_from d.cell_least (map (λ m. m.at) cells) ≡ true
+    → length d.head.cells.items + length cells ≡ d.sizes.cells → All (CellFits d.head) cells → rises_from d.cell_least
+    (map (λ m. m.at) cells) ≡ true
     → is_more others ≡ true → CellsRead d cells (cell_lines cells ++ others) others
 cells_again l d [] others k b count fits rise more =
-    let same : d ≡ with_cells d d.read d.cell_least (d.head.cells.items ++ []) = ap (λ cs. with_cells d d.read d.cell_least cs) (sym (append-nil d.head.cells.items)) in
+    let same : d ≡ with_cells d d.read d.cell_least (d.head.cells.items ++ []) = ap (λ cs. with_cells d d.read d.cell_least cs)
+    (sym (append-nil d.head.cells.items)) in
     record { read = d.read; least = d.cell_least; body = b; kept = subst Kept same k; same = ap (λ y. read_from y others) same }
 cells_again l d (c ∷ cells) others k b count fits rise more =
     let order = and_true (leb d.cell_least c.at) (rises_from (c.at + 1) (map (λ m. m.at) cells)) rise in
     let room : length d.head.cells.items < d.sizes.cells = omega (arith, count) in
-    let fit : SaidFits d (said.Cell c) = record { body = b; room = room; fits = All-head (CellFits d.head) c cells fits; order = leb-true d.cell_least c.at order.0 } in
+    let fit : SaidFits d (said.Cell c) = record {
+      body = b;
+      room = room;
+      fits = All-head (CellFits d.head) c cells fits;
+      order = leb-true d.cell_least c.at order.0;
+    } in
     let kept : Kept (with_cell d c) = subst Kept (cell_next d c) (kept_after d (said.Cell c) k fit) in
-    let refitted = All-weaker (CellFits d.head) (CellFits (with_cell d c).head) (λ x f. refit d.head c x f) cells (All-tail (CellFits d.head) c cells fits) in
-    let later = cells_again l (with_cell d c) cells others kept (omega (arith, b)) (simp length-append (omega (arith, count))) refitted order.1 more in
+    let refitted = All-weaker (CellFits d.head) (CellFits (with_cell d c).head) (λ x f. refit d.head c x f) cells
+    (All-tail (CellFits d.head) c cells fits) in
+    let later = cells_again l (with_cell d c) cells others kept (omega (arith, b)) (simp length-append (omega (arith, count))) refitted
+    order.1 more in
     let joined = append_assoc d.head.cells.items (c ∷ []) cells in
     record {
       read = later.read;

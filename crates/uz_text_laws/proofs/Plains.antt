@@ -1,15 +1,18 @@
 -- The words of spelled lines: each byte is above the space, so that a line is cut into its words again, and has no line end.
-use Rattle.std.proofs.Common.{◌≡◌, ◌≢◌, ℕ, suc, ◌+◌, ◌<◌, ◌≤◌, ◌^◌, Bool, true, false, ◌&&◌, cond, eqb, ltb, List, [], ◌∷◌, ◌++◌, length, map, All, codes, decimal, lit≤, refl, sym, ◌∙◌, ap, arith}
+use Rattle.std.proofs.Common.{◌≡◌, ◌≢◌, ℕ, suc, ◌+◌, ◌<◌, ◌≤◌, ◌^◌, Bool, true, false, ◌&&◌, cond, eqb, ltb, List, [], ◌∷◌, ◌++◌, length}
+use Rattle.std.proofs.Common.{map, All, codes, decimal, lit≤, refl, sym, ◌∙◌, ap, arith}
 use Rattle.std.specs.Prelude.{⊤, ℤ, pos, negsuc}
 use Rattle.std.specs.List.{slice_split, onto_first, join_with_byte}
 use Rattle.std.proofs.lemmas.List.{length-map}
 use Rattle.std.proofs.lemmas.List.Elements.{All-head, All-tail, All-weaker, All-map}
 use Rattle.std.proofs.lemmas.List.Splits.{join_with_byte-slice_split}
-use Rattle.uz_text.proofs.Plain.{plain, EachPlain, Lacks, each_lacks, split_join, join_lacks, plain_append, plain_decimal, each_plain_append}
+use Rattle.uz_text.proofs.Plain.{plain, EachPlain, Lacks, each_lacks, split_join, join_lacks, plain_append, plain_decimal}
+use Rattle.uz_text.proofs.Plain.{each_plain_append}
 use Rattle.uz_schedule.specs.Ends.{Ends}
 use Rattle.uz_schedule.specs.Tracked.{tracks}
 use Rattle.uz_schedule.specs.Limits.{EventFits, KindFits}
-use Rattle.uz_schedule.specs.WellFormed.{RangeFits, FactFits, CellFactFits, PairFits, CellFits, RestFits, EntryFits, PointFits, magnitude, is_default_flag}
+use Rattle.uz_schedule.specs.WellFormed.{RangeFits, FactFits, CellFactFits, PairFits, CellFits, RestFits, EntryFits, PointFits, magnitude}
+use Rattle.uz_schedule.specs.WellFormed.{is_default_flag}
 use Rattle.uz_schedule.specs.declared.kinds.Kind.{Kind}
 use Rattle.uz_schedule.specs.declared.kinds.Kind.TheVariants as kinds
 use Rattle.uz_schedule.specs.declared.kinds.Owner.{Owner}
@@ -30,8 +33,10 @@ use Rattle.uz_schedule.specs.declared.states.Entry.{Entry}
 use Rattle.uz_schedule.specs.declared.states.Point.{Point}
 use Rattle.uz_lines.specs.Defaults.{is_default, is_any_pair, is_range, range_fact}
 use Rattle.uz_lines.specs.Grammar.{with_byte, cut_words, words_of}
-use Rattle.uz_spelling.specs.Spelling.{line_of, range_word, ends_word, slope_word, fact_word, pair_word, flag_word, item, unless, register_items, pair_items, flag_items, slot_items, cell_items, successor_items}
-use Rattle.uz_spelling.specs.Spelling.{owner_word, cell_words, event_kind_words, event_words, rest_words, kind_word, range_facts, entry_words, signed_word, truth_word, point_words}
+use Rattle.uz_spelling.specs.Spelling.{line_of, range_word, ends_word, slope_word, fact_word, pair_word, flag_word, item, unless}
+use Rattle.uz_spelling.specs.Spelling.{register_items, pair_items, flag_items, slot_items, cell_items, successor_items}
+use Rattle.uz_spelling.specs.Spelling.{owner_word, cell_words, event_kind_words, event_words, rest_words, kind_word, range_facts}
+use Rattle.uz_spelling.specs.Spelling.{entry_words, signed_word, truth_word, point_words}
 
 -- lines are cut into their words again
 
@@ -44,7 +49,8 @@ cut_split [] = refl
 cut_split (b ∷ bs) = by (eqb b 32) (cut_split bs)
   where
     by : (t : Bool) → cut_words bs ≡ slice_split (λ x. eqb x 32) bs
-        → cond t ([] ∷ cut_words bs) (with_byte b (cut_words bs)) ≡ cond t ([] ∷ slice_split (λ x. eqb x 32) bs) (onto_first b (slice_split (λ x. eqb x 32) bs))
+        → cond t ([] ∷ cut_words bs) (with_byte b (cut_words bs)) ≡ cond t ([] ∷ slice_split (λ x. eqb x 32) bs)
+        (onto_first b (slice_split (λ x. eqb x 32) bs))
     by true e = ap (λ ws. [] ∷ ws) e
     by false e = onto_word b (cut_words bs) ∙ ap (onto_first b) e
 
@@ -100,7 +106,8 @@ small_range top e h f = (omega (arith, h, f.order, f.high), omega (arith, h, f.h
 plain_range : (e : Ends) → Small e → plain (range_word e) ≡ true
 plain_range e s =
     either (eqb e.lo e.hi) _ _ (plain_number e.lo s.0)
-    (plain_append (decimal e.lo ++ codes "..") (decimal e.hi) (plain_append (decimal e.lo) (codes "..") (plain_number e.lo s.0) refl) (plain_number e.hi s.1))
+    (plain_append (decimal e.lo ++ codes "..") (decimal e.hi) (plain_append (decimal e.lo) (codes "..") (plain_number e.lo s.0) refl)
+    (plain_number e.hi s.1))
 
 plain_ends : (top : ℕ) (e : Ends) → Small e → plain (ends_word top e) ≡ true
 plain_ends top e s = either (eqb e.lo 0 && eqb e.hi top) (codes "*") (range_word e) refl (plain_range e s)
@@ -108,7 +115,8 @@ plain_ends top e s = either (eqb e.lo 0 && eqb e.hi top) (codes "*") (range_word
 plain_slope : (of : List ℕ) (a b : ℕ) → plain of ≡ true → a < 1048576 → b < 1048576 → plain (slope_word of a b) ≡ true
 plain_slope of a b o h k =
     plain_append (of ++ codes "*" ++ decimal a ++ codes "+") (decimal b)
-    (plain_append (of ++ codes "*" ++ decimal a) (codes "+") (plain_append (of ++ codes "*") (decimal a) (plain_append of (codes "*") o refl) (plain_number a h)) refl)
+    (plain_append (of ++ codes "*" ++ decimal a) (codes "+")
+    (plain_append (of ++ codes "*") (decimal a) (plain_append of (codes "*") o refl) (plain_number a h)) refl)
     (plain_number b k)
 
 abbrev SmallFact : Fact → Type 0
@@ -175,7 +183,8 @@ plain_registers : (kind : Kind) (r : ℕ) (fs : List Fact) → r + length fs < 1
 plain_registers kind r [] h all = tt
 plain_registers kind r (f ∷ fs) h all =
     plain_unless (is_default kind r f) (item (114 ∷ decimal r) (fact_word f)) (register_items kind (suc r) fs)
-    (plain_item (114 ∷ decimal r) (fact_word f) (plain_more 114 (decimal r) refl (plain_number r (omega (arith, h)))) (plain_fact f (All-head SmallFact f fs all)))
+    (plain_item (114 ∷ decimal r) (fact_word f) (plain_more 114 (decimal r) refl (plain_number r (omega (arith, h))))
+    (plain_fact f (All-head SmallFact f fs all)))
     (plain_registers kind (suc r) fs (omega (arith, h)) (All-tail SmallFact f fs all))
 
 plain_pairs : (letters : List ℕ) (fs : List PairFact) → plain letters ≡ true → All PairFits fs → EachPlain (pair_items letters fs)
@@ -205,32 +214,43 @@ plain_flags kind (c ∷ cs) (b ∷ bs) h =
 
 plain_slots : (fs : List Fact) → All SmallFact fs → EachPlain (slot_items fs)
 plain_slots [] all = tt
-plain_slots (f ∷ fs) all = (plain_append (codes "s:") (fact_word f) refl (plain_fact f (All-head SmallFact f fs all)), plain_slots fs (All-tail SmallFact f fs all))
+plain_slots (f ∷ fs) all = (
+  plain_append (codes "s:") (fact_word f) refl (plain_fact f (All-head SmallFact f fs all)),
+  plain_slots fs (All-tail SmallFact f fs all),
+)
 
-plain_cells : (kind : Kind) (i : ℕ) (cs : List Cell) (fs : List Fact) → i + length cs < 1048576 → All SmallFact fs → EachPlain (cell_items kind i cs fs)
+plain_cells : (kind : Kind) (i : ℕ) (cs : List Cell) (fs : List Fact) → i + length cs < 1048576 → All SmallFact fs
+    → EachPlain (cell_items kind i cs fs)
 plain_cells kind i [] fs h all = tt
 plain_cells kind i (c ∷ cs) [] h all = tt
 plain_cells kind i (c ∷ cs) (f ∷ fs) h all =
-    by (tracks kind c.owner) (plain_cells kind (suc i) cs fs (omega (arith, h)) (All-tail SmallFact f fs all)) (plain_cells kind (suc i) cs (f ∷ fs) (omega (arith, h)) all)
+    by (tracks kind c.owner) (plain_cells kind (suc i) cs fs (omega (arith, h)) (All-tail SmallFact f fs all))
+    (plain_cells kind (suc i) cs (f ∷ fs) (omega (arith, h)) all)
   where
     by : (t : Bool) → EachPlain (cell_items kind (suc i) cs fs) → EachPlain (cell_items kind (suc i) cs (f ∷ fs))
-        → EachPlain (cond t (unless (is_range c.range f) (item (109 ∷ decimal i) (fact_word f)) (cell_items kind (suc i) cs fs)) (cell_items kind (suc i) cs (f ∷ fs)))
+        → EachPlain (cond t (unless (is_range c.range f) (item (109 ∷ decimal i) (fact_word f)) (cell_items kind (suc i) cs fs))
+        (cell_items kind (suc i) cs (f ∷ fs)))
     by true a b =
         plain_unless (is_range c.range f) (item (109 ∷ decimal i) (fact_word f)) (cell_items kind (suc i) cs fs)
-        (plain_item (109 ∷ decimal i) (fact_word f) (plain_more 109 (decimal i) refl (plain_number i (omega (arith, h)))) (plain_fact f (All-head SmallFact f fs all))) a
+        (plain_item (109 ∷ decimal i) (fact_word f) (plain_more 109 (decimal i) refl (plain_number i (omega (arith, h))))
+        (plain_fact f (All-head SmallFact f fs all))) a
     by false a b = b
 
 plain_successors : (most : ℕ) (ids : List ℕ) → most ≤ 1048576 → All (λ id. id < most) ids → EachPlain (successor_items ids)
 plain_successors most [] h all = tt
 plain_successors most (id ∷ ids) h all =
-    let low = All-head (λ n. n < most) id ids all in
-    (plain_more 62 (decimal id) refl (plain_number id (omega (arith, h, low))), plain_successors most ids h (All-tail (λ n. n < most) id ids all))
+    let low = All-head (λ n. n < most) id ids all in (
+      plain_more 62 (decimal id) refl (plain_number id (omega (arith, h, low))),
+      plain_successors most ids h
+          (All-tail (λ n. n < most) id ids all),
+    )
 
 small_facts : (kind : Kind) (fs : List Fact) → All (FactFits kind) fs → All SmallFact fs
 small_facts kind fs all = All-weaker (FactFits kind) SmallFact (λ f h. small_fact kind f h) fs all
 
 small_spans : (es : List Ends) → All (RangeFits 255) es → All SmallFact (range_facts es)
-small_spans es all = All-map SmallFact range_fact es (All-weaker (RangeFits 255) (λ e. SmallFact (range_fact e)) (λ e h. small_ends e h) es all)
+small_spans es all = All-map SmallFact range_fact es (All-weaker (RangeFits 255) (λ e. SmallFact (range_fact e)) (λ e h. small_ends e h) es
+    all)
 
 -- lines
 
@@ -253,8 +273,13 @@ plain_signed (negsuc n) h = plain_more 45 (decimal (n + 1)) refl (plain_number (
 
 pub plain_cell_line : (h : Head) (c : Cell) → CellFits h c → EachPlain (cell_words c)
 plain_cell_line h c f =
-    let s = small_range 255 c.range (omega arith) f.range in
-    (refl, (plain_number c.at (omega (arith, f.high)), (plain_owner c.owner, (plain_number c.range.lo s.0, (plain_number c.range.hi s.1, tt)))))
+    let s = small_range 255 c.range (omega arith) f.range in (
+      refl,
+      (
+        plain_number c.at (omega (arith, f.high)),
+        (plain_owner c.owner, (plain_number c.range.lo s.0, (plain_number c.range.hi s.1, tt))),
+      ),
+    )
 
 plain_event_kind : (k : EventKind) → KindFits k → EachPlain (event_kind_words k)
 plain_event_kind (event.Sync level) h = (refl, (plain_number level (omega (arith, h)), tt))
@@ -267,10 +292,13 @@ plain_event_line e f = let low = f.clock in (plain_number e.clock (omega (arith,
 
 plain_spans : (es : List Ends) → All (RangeFits 255) es → EachPlain (map (ends_word 255) es)
 plain_spans [] all = tt
-plain_spans (e ∷ es) all =
-    (plain_ends 255 e (small_range 255 e (omega arith) (All-head (RangeFits 255) e es all)), plain_spans es (All-tail (RangeFits 255) e es all))
+plain_spans (e ∷ es) all = (
+  plain_ends 255 e (small_range 255 e (omega arith) (All-head (RangeFits 255) e es all)),
+  plain_spans es (All-tail (RangeFits 255) e es all),
+)
 
-pub plain_rest_line : (h : Head) (lines points : ℕ) (r : Rest) → lines ≤ 525 → points ≤ 524288 → RestFits h lines points r → EachPlain (rest_words r)
+pub plain_rest_line : (h : Head) (lines points : ℕ) (r : Rest) → lines ≤ 525 → points ≤ 524288 → RestFits h lines points r
+    → EachPlain (rest_words r)
 plain_rest_line h lines points r a b f =
     let clock = f.clock in (
       refl,
@@ -286,7 +314,8 @@ plain_rest_line h lines points r a b f =
       ),
     )
 
-pub plain_entry_line : (h : Head) (lines points : ℕ) (e : Entry) → lines ≤ 525 → points ≤ 524288 → length h.cells.items ≤ 16 → EntryFits h lines points e
+pub plain_entry_line : (h : Head) (lines points : ℕ) (e : Entry) → lines ≤ 525 → points ≤ 524288 → length h.cells.items ≤ 16
+    → EntryFits h lines points e
     → EachPlain (entry_words h.cells.items e)
 plain_entry_line h lines points e a b cells f =
     let clock = f.clock in
@@ -303,10 +332,13 @@ plain_entry_line h lines points e a b cells f =
               plain_number e.line (omega (arith, a, f.line)),
               (
                 plain_number e.clock (omega (arith, clock)),
-                each_plain_append (register_items e.kind 0 (range_facts e.regs)) _ (plain_registers e.kind 0 (range_facts e.regs) (omega (arith, count, regs)) (small_spans e.regs f.facts.ranges))
+                each_plain_append (register_items e.kind 0 (range_facts e.regs)) _ (plain_registers e.kind 0 (range_facts e.regs)
+                    (omega (arith, count, regs)) (small_spans e.regs f.facts.ranges))
                     (each_plain_append (flag_items e.kind (codes "cznvsht") e.flags) _ (plain_flags e.kind (codes "cznvsht") e.flags refl)
-                    (each_plain_append (slot_items (range_facts e.stack.items)) _ (plain_slots (range_facts e.stack.items) (small_spans e.stack.items f.facts.stack))
-                    (plain_cells e.kind 0 h.cells.items (range_facts e.cells.items) (omega (arith, cells)) (small_spans e.cells.items f.facts.cells.ranges)))),
+                    (each_plain_append (slot_items (range_facts e.stack.items)) _
+                    (plain_slots (range_facts e.stack.items) (small_spans e.stack.items f.facts.stack))
+                    (plain_cells e.kind 0 h.cells.items (range_facts e.cells.items) (omega (arith, cells))
+                    (small_spans e.cells.items f.facts.cells.ranges)))),
               ),
             ),
           ),
@@ -314,7 +346,8 @@ plain_entry_line h lines points e a b cells f =
       ),
     )
 
-pub plain_point_line : (h : Head) (lines points : ℕ) (p : Point) → lines ≤ 525 → points ≤ 524288 → length h.cells.items ≤ 16 → PointFits h lines points p
+pub plain_point_line : (h : Head) (lines points : ℕ) (p : Point) → lines ≤ 525 → points ≤ 524288 → length h.cells.items ≤ 16
+    → PointFits h lines points p
     → EachPlain (point_words h.cells.items p)
 plain_point_line h lines points p a b cells f =
     let clock = f.box.clock in
@@ -338,11 +371,15 @@ plain_point_line h lines points p a b cells f =
                       plain_signed p.slope f.box.slope,
                       (
                         plain_truth p.pending,
-                        each_plain_append (register_items p.kind 0 p.regs) _ (plain_registers p.kind 0 p.regs (omega (arith, regs)) (small_facts p.kind p.regs f.core.registers))
+                        each_plain_append (register_items p.kind 0 p.regs) _ (plain_registers p.kind 0 p.regs (omega (arith, regs))
+                            (small_facts p.kind p.regs f.core.registers))
                             (each_plain_append (pair_items (codes "xyz") p.pairs) _ (plain_pairs (codes "xyz") p.pairs refl f.core.pairs)
-                            (each_plain_append (flag_items p.kind (codes "cznvsht") p.flags) _ (plain_flags p.kind (codes "cznvsht") p.flags refl)
-                            (each_plain_append (slot_items p.stack.items) _ (plain_slots p.stack.items (small_facts p.kind p.stack.items f.memory.stack))
-                            (each_plain_append (cell_items p.kind 0 h.cells.items p.cells.items) _ (plain_cells p.kind 0 h.cells.items p.cells.items (omega (arith, cells))
+                            (each_plain_append (flag_items p.kind (codes "cznvsht") p.flags) _
+                            (plain_flags p.kind (codes "cznvsht") p.flags refl)
+                            (each_plain_append (slot_items p.stack.items) _
+                            (plain_slots p.stack.items (small_facts p.kind p.stack.items f.memory.stack))
+                            (each_plain_append (cell_items p.kind 0 h.cells.items p.cells.items) _
+                            (plain_cells p.kind 0 h.cells.items p.cells.items (omega (arith, cells))
                             (All-weaker CellFactFits SmallFact (λ x g. small_cell x g) p.cells.items f.memory.cells))
                             (plain_successors points p.next.items (omega (arith, b)) f.next.there))))),
                       ),

@@ -1,5 +1,6 @@
 -- The lines of a frame as runs of one kind, and back.
-use Rattle.std.proofs.Common.{◌≡◌, ◌≢◌, ℕ, zero, suc, ◌+◌, ◌<◌, ◌≤◌, Bool, true, false, cond, eqb, List, [], ◌∷◌, ◌++◌, replicate, All, refl, sym, ◌∙◌, ap, subst, arith}
+use Rattle.std.proofs.Common.{◌≡◌, ◌≢◌, ℕ, zero, suc, ◌+◌, ◌<◌, ◌≤◌, Bool, true, false, cond, eqb, List, [], ◌∷◌, ◌++◌, replicate, All}
+use Rattle.std.proofs.Common.{refl, sym, ◌∙◌, ap, subst, arith}
 use Rattle.std.specs.Prelude.{⊤}
 use Rattle.std.proofs.lemmas.Bool.{eqb-true, eqb-false}
 use Rattle.std.proofs.lemmas.Bool.Decides.{nat_tests}
@@ -57,7 +58,8 @@ all_before most kind (r ∷ rs) h all = by (eqb r.1 kind)
 pub all_runs : (most : ℕ) (lines : List ℕ) → All (λ kind. kind < most) lines → All (λ r. r.1 < most) (runs_of lines)
 all_runs most [] all = All-nil (λ r. r.1 < most)
 all_runs most (kind ∷ lines) all =
-    all_before most kind (runs_of lines) (All-head (λ k. k < most) kind lines all) (all_runs most lines (All-tail (λ k. k < most) kind lines all))
+    all_before most kind (runs_of lines) (All-head (λ k. k < most) kind lines all)
+    (all_runs most lines (All-tail (λ k. k < most) kind lines all))
 
 good_apart : (most other : ℕ) (rs : List (ℕ × ℕ)) → most ≤ other → All (λ r. r.1 < most) rs → Good rs → Apart other rs
 good_apart most other [] h all g = tt
@@ -88,7 +90,8 @@ same_before n kind rs =
     next : (m : ℕ) → m + 1 ≡ suc m
     next m = omega arith
 
-run_again : (n kind : ℕ) (rs : List (ℕ × ℕ)) → Apart kind rs → runs_of (expand rs) ≡ rs → runs_of (replicate (suc n) kind ++ expand rs) ≡ (suc n, kind) ∷ rs
+run_again : (n kind : ℕ) (rs : List (ℕ × ℕ)) → Apart kind rs → runs_of (expand rs) ≡ rs → runs_of (replicate (suc n) kind ++ expand rs)
+    ≡ (suc n, kind) ∷ rs
 run_again zero kind rs apart e = ap (run_before kind) e ∙ new_before kind rs apart
 run_again (suc n) kind rs apart e = ap (run_before kind) (run_again n kind rs apart e) ∙ same_before (suc n) kind rs
 

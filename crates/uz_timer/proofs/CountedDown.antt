@@ -19,22 +19,35 @@ moves end left top clocks h k = by_end h.ends
 abbrev at_count : Timer → ℕ → Timer
 at_count t count = record t { count = count }
 
-pub counted_down : (t : Timer) (still end left clocks : ℕ) → (IsTrue (counts t.control_a t.control_b) → GoesRound end left t.top) → clocks < left →
-    at_count t (count_of t.control_a t.control_b still end (left - clocks)) ≡ timer_after clocks (at_count t (count_of t.control_a t.control_b still end left))
+pub counted_down : (t : Timer) (still end left clocks : ℕ) → (IsTrue (counts t.control_a t.control_b) → GoesRound end left t.top)
+    → clocks < left →
+    at_count t (count_of t.control_a t.control_b still end (left - clocks)) ≡ timer_after clocks
+    (at_count t (count_of t.control_a t.control_b still end left))
 counted_down t still end left clocks h k = by_mode (counts t.control_a t.control_b) refl
   where
     there : ℕ → Bool → Timer
     there count matched = record t { count = count; matched = t.matched || matched }
 
     by_mode : (m : Bool) → counts t.control_a t.control_b ≡ m →
-        at_count t (count_of t.control_a t.control_b still end (left - clocks)) ≡ timer_after clocks (at_count t (count_of t.control_a t.control_b still end left))
+        at_count t (count_of t.control_a t.control_b still end (left - clocks)) ≡ timer_after clocks
+        (at_count t (count_of t.control_a t.control_b still end left))
     by_mode true e =
         let m = moves end left t.top clocks (h e) k in
         ap (λ x. at_count t (if x then end - (left - clocks) else still)) e ∙
         (ap (λ x. record t { count = end - (left - clocks); matched = x }) (sym (or_false t.matched)) ∙
         (ap (λ x. there x false) (sym m.0) ∙
         (ap (λ x. there (count_after (end - left) t.top clocks) x) (sym m.1) ∙
-        ap (λ x. let from = at_count t (if x then end - left else still) in if x then record from { count = count_after from.count from.top clocks; matched = from.matched || matches_within from.count from.top clocks } else from) (sym e))))
+        ap (λ x. let from = at_count t (if x then end - left else still) in
+        if x then record from {
+          count = count_after from.count from.top clocks;
+          matched = from.matched || matches_within from.count
+              from.top clocks;
+        } else from) (sym e))))
     by_mode false e =
         ap (λ x. at_count t (if x then end - (left - clocks) else still)) e ∙
-        ap (λ x. let from = at_count t (if x then end - left else still) in if x then record from { count = count_after from.count from.top clocks; matched = from.matched || matches_within from.count from.top clocks } else from) (sym e)
+        ap (λ x. let from = at_count t (if x then end - left else still) in
+        if x then record from {
+          count = count_after from.count from.top clocks;
+          matched = from.matched || matches_within from.count
+              from.top clocks;
+        } else from) (sym e)

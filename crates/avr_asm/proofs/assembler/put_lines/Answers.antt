@@ -7,16 +7,20 @@ use Rattle.avr_asm.proofs.assembler.put_lines.Goals as goal
 pub returns-in-Err-put_line-clause-built : goal.returns-in-Err-put_line-clause-built
 returns-in-Err-put_line-clause-built c = told_fault (c.loop-i.i + 1) c.in-Err-put_line.why _ _ _ c.in-Err-put_line.ensures (λ e.
     sym c.loop-i.invariant.left
-    ∙ output_fault c.args.symbols.now (seen_built c.loop-i.built) c.args.lines.now c.args.addresses.now c.loop-i.i _ c.in-Ok-following_line.next c.in-Err-put_line.why c.loop-i-test.true c.requires.same c.in-Ok-following_line.ensures e) c.in_line.ensures.why c.in_line.ensures.line
+    ∙ output_fault c.args.symbols.now (seen_built c.loop-i.built) c.args.lines.now c.args.addresses.now c.loop-i.i _
+    c.in-Ok-following_line.next c.in-Err-put_line.why c.loop-i-test.true c.requires.same c.in-Ok-following_line.ensures e)
+    c.in_line.ensures.why c.in_line.ensures.line
 
 pub loop-i-preserved : goal.loop-i-preserved
 loop-i-preserved c = record {
   following = c.in-Ok-following_line.ensures;
   left =
-      output_more c.args.symbols.now (seen_built c.loop-i.built) (seen_built c.put_line.new.built) c.args.lines.now c.args.addresses.now c.loop-i.i _ c.in-Ok-following_line.next c.loop-i-test.true c.requires.same
+      output_more c.args.symbols.now (seen_built c.loop-i.built) (seen_built c.put_line.new.built) c.args.lines.now c.args.addresses.now
+      c.loop-i.i _ c.in-Ok-following_line.next c.loop-i-test.true c.requires.same
       c.in-Ok-following_line.ensures c.in_default.ensures
       ∙ c.loop-i.invariant.left;
 }
 
 pub returns-clause-built : goal.returns-clause-built
-returns-clause-built c = sym c.loop-i.invariant.left ∙ output_end (c.loop-i.i + 1) c.args.symbols.now (seen_built c.loop-i.built) c.args.lines.now c.args.addresses.now c.loop-i.i (omega arith)
+returns-clause-built c = sym c.loop-i.invariant.left ∙ output_end (c.loop-i.i + 1) c.args.symbols.now (seen_built c.loop-i.built)
+    c.args.lines.now c.args.addresses.now c.loop-i.i (omega arith)

@@ -6,5 +6,6 @@ use Rattle.avr_asm.proofs.assembler.put_lines.Given as goal
 abbrev pub invariant-loop-i : goal.invariant-loop-i
 invariant-loop-i l = record {
   following : l.following ≡ following (drop l.i (map (λ line. line.now) l.lines)) (drop l.i l.addresses);
-  left : output_from (l.i + 1) l.symbols (seen_built l.built) (drop l.i (map (λ line. line.now) l.lines)) (drop l.i l.addresses) ≡ output_from 1 l.symbols nothing (map (λ line. line.now) l.lines) l.addresses;
+  left : output_from (l.i + 1) l.symbols (seen_built l.built) (drop l.i (map (λ line. line.now) l.lines)) (drop l.i l.addresses)
+      ≡ output_from 1 l.symbols nothing (map (λ line. line.now) l.lines) l.addresses;
 }

@@ -4,7 +4,8 @@ use Rattle.avr_asm.proofs.EmissionLemmas.{put_past, put_taken}
 use Rattle.avr_asm.proofs.emission.put.Goals as goal
 
 pub returns-then-at-ge65536 : goal.returns-then-at-ge65536
-returns-then-at-ge65536 c = sym c.loop-byte.invariant.left ∙ put_past c.loop-byte.at c.loop-byte.byte-index c.args.bytes.now c.loop-byte.image c.loop-byte-test.true c.if-at-ge65536.true
+returns-then-at-ge65536 c = sym c.loop-byte.invariant.left ∙ put_past c.loop-byte.at c.loop-byte.byte-index c.args.bytes.now
+    c.loop-byte.image c.loop-byte-test.true c.if-at-ge65536.true
 
 pub returns-then-is_some : goal.returns-then-is_some
 returns-then-is_some c =

@@ -9,5 +9,6 @@ invariant-loop-i l = record {
   flash : l.place.address ≤ 65536;
   below : All (λ address. address ≤ 65536) l.addresses.items;
   count : length l.addresses.items ≡ l.i;
-  left : with_addresses l.addresses.items (layout_from (l.i + 1) l.place (drop l.i (map (λ line. line.now) l.lines))) ≡ layout_of (map (λ line. line.now) l.lines);
+  left : with_addresses l.addresses.items (layout_from (l.i + 1) l.place (drop l.i (map (λ line. line.now) l.lines))) ≡ layout_of
+      (map (λ line. line.now) l.lines);
 }

@@ -8,15 +8,36 @@ use Rattle.avr_decode.proofs.decoder.by_first_bits.Goals as goal
 
 pub returns-in-12 : goal.returns-in-12
 unfolding spelled
-returns-in-12 c = some_read c.args.first c.args.second (Rjmp c.run.result) (record { fixed = by_shift (pattern_of (Rjmp c.run.result)) 12 12 c.args.first c.args.second (omega arith) c.ranges.first.fits c.ranges.second.fits refl refl c.in-12.is; letters = (run_spelled c.args.first c.args.second 0 12 c.ranges.second.fits c.run.ensures, tt) })
+returns-in-12 c = some_read c.args.first c.args.second (Rjmp c.run.result)
+    (record {
+      fixed = by_shift (pattern_of (Rjmp c.run.result)) 12 12 c.args.first c.args.second (omega arith) c.ranges.first.fits
+          c.ranges.second.fits refl refl c.in-12.is;
+      letters = (
+        run_spelled c.args.first c.args.second 0 12 c.ranges.second.fits c.run.ensures,
+        tt,
+      );
+    })
 
 pub returns-in-13 : goal.returns-in-13
 unfolding spelled
-returns-in-13 c = some_read c.args.first c.args.second (Rcall c.run-in-13.result) (record { fixed = by_shift (pattern_of (Rcall c.run-in-13.result)) 12 13 c.args.first c.args.second (omega arith) c.ranges.first.fits c.ranges.second.fits refl refl c.in-13.is; letters = (run_spelled c.args.first c.args.second 0 12 c.ranges.second.fits c.run-in-13.ensures, tt) })
+returns-in-13 c = some_read c.args.first c.args.second (Rcall c.run-in-13.result)
+    (record {
+      fixed = by_shift (pattern_of (Rcall c.run-in-13.result)) 12 13 c.args.first c.args.second (omega arith) c.ranges.first.fits
+          c.ranges.second.fits refl refl c.in-13.is;
+      letters = (run_spelled c.args.first c.args.second 0 12 c.ranges.second.fits c.run-in-13.ensures, tt);
+    })
 
 pub returns-in-14 : goal.returns-in-14
 unfolding spelled
-returns-in-14 c = some_read c.args.first c.args.second (Ldi c.run-in-14.result c.runs.result) (record { fixed = by_shift (pattern_of (Ldi c.run-in-14.result c.runs.result)) 12 14 c.args.first c.args.second (omega arith) c.ranges.first.fits c.ranges.second.fits refl refl c.in-14.is; letters = (run_spelled c.args.first c.args.second 4 4 c.ranges.second.fits c.run-in-14.ensures, (runs_spelled c.args.first c.args.second 8 4 0 4 c.ranges.second.fits c.runs.ensures, tt)) })
+returns-in-14 c = some_read c.args.first c.args.second (Ldi c.run-in-14.result c.runs.result)
+    (record {
+      fixed = by_shift (pattern_of (Ldi c.run-in-14.result c.runs.result)) 12 14 c.args.first c.args.second (omega arith)
+          c.ranges.first.fits c.ranges.second.fits refl refl c.in-14.is;
+      letters = (
+        run_spelled c.args.first c.args.second 4 4 c.ranges.second.fits c.run-in-14.ensures,
+        (runs_spelled c.args.first c.args.second 8 4 0 4 c.ranges.second.fits c.runs.ensures, tt),
+      );
+    })
 
 -- words that begin with 10, and have a 0 in bit 12
 displaced_word : (first v : ℕ) → first < 65536 → first / 4096 ≡ v → bit_and (v * 4096) 53248 ≡ 32768 → bit_and first 53248 ≡ 32768

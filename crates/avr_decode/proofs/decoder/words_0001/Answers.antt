@@ -8,18 +8,46 @@ use Rattle.avr_decode.proofs.decoder.words_0001.Goals as goal
 
 pub returns-in-4 : goal.returns-in-4
 unfolding spelled
-returns-in-4 c = λ second below. record { fixed = by_shift (pattern_of (Cpse c.run-d.result c.runs-r.result)) 10 4 c.args.first second (omega arith) c.ranges.first.fits below refl refl c.in-4.is; letters = (run_spelled c.args.first second 4 5 below c.run-d.ensures, (runs_spelled c.args.first second 9 1 0 4 below c.runs-r.ensures, tt)) }
+returns-in-4 c = λ second below. record {
+  fixed = by_shift (pattern_of (Cpse c.run-d.result c.runs-r.result)) 10 4 c.args.first second
+      (omega arith) c.ranges.first.fits below refl refl c.in-4.is;
+  letters = (
+    run_spelled c.args.first second 4 5 below c.run-d.ensures,
+    (runs_spelled c.args.first second 9 1 0 4 below c.runs-r.ensures, tt),
+  );
+}
 
 pub returns-in-5 : goal.returns-in-5
 unfolding spelled
-returns-in-5 c = λ second below. record { fixed = by_shift (pattern_of (Cp c.run-d.result c.runs-r.result)) 10 5 c.args.first second (omega arith) c.ranges.first.fits below refl refl c.in-5.is; letters = (run_spelled c.args.first second 4 5 below c.run-d.ensures, (runs_spelled c.args.first second 9 1 0 4 below c.runs-r.ensures, tt)) }
+returns-in-5 c = λ second below. record {
+  fixed = by_shift (pattern_of (Cp c.run-d.result c.runs-r.result)) 10 5 c.args.first second
+      (omega arith) c.ranges.first.fits below refl refl c.in-5.is;
+  letters = (
+    run_spelled c.args.first second 4 5 below c.run-d.ensures,
+    (runs_spelled c.args.first second 9 1 0 4 below c.runs-r.ensures, tt),
+  );
+}
 
 pub returns-in-6 : goal.returns-in-6
 unfolding spelled
-returns-in-6 c = λ second below. record { fixed = by_shift (pattern_of (Sub c.run-d.result c.runs-r.result)) 10 6 c.args.first second (omega arith) c.ranges.first.fits below refl refl c.in-6.is; letters = (run_spelled c.args.first second 4 5 below c.run-d.ensures, (runs_spelled c.args.first second 9 1 0 4 below c.runs-r.ensures, tt)) }
+returns-in-6 c = λ second below. record {
+  fixed = by_shift (pattern_of (Sub c.run-d.result c.runs-r.result)) 10 6 c.args.first second
+      (omega arith) c.ranges.first.fits below refl refl c.in-6.is;
+  letters = (
+    run_spelled c.args.first second 4 5 below c.run-d.ensures,
+    (runs_spelled c.args.first second 9 1 0 4 below c.runs-r.ensures, tt),
+  );
+}
 
 pub returns-in_default : goal.returns-in_default
 unfolding spelled
 returns-in_default c =
     let e : c.args.first / 1024 ≡ 7 = omega arith in
-    λ second below. record { fixed = by_shift (pattern_of (Adc c.run-d.result c.runs-r.result)) 10 7 c.args.first second (omega arith) c.ranges.first.fits below refl refl e; letters = (run_spelled c.args.first second 4 5 below c.run-d.ensures, (runs_spelled c.args.first second 9 1 0 4 below c.runs-r.ensures, tt)) }
+    λ second below. record {
+      fixed = by_shift (pattern_of (Adc c.run-d.result c.runs-r.result)) 10 7 c.args.first second (omega arith)
+          c.ranges.first.fits below refl refl e;
+      letters = (
+        run_spelled c.args.first second 4 5 below c.run-d.ensures,
+        (runs_spelled c.args.first second 9 1 0 4 below c.runs-r.ensures, tt),
+      );
+    }

@@ -8,18 +8,46 @@ use Rattle.avr_decode.proofs.decoder.words_0010.Goals as goal
 
 pub returns-in-8 : goal.returns-in-8
 unfolding spelled
-returns-in-8 c = λ second below. record { fixed = by_shift (pattern_of (And c.run-d.result c.runs-r.result)) 10 8 c.args.first second (omega arith) c.ranges.first.fits below refl refl c.in-8.is; letters = (run_spelled c.args.first second 4 5 below c.run-d.ensures, (runs_spelled c.args.first second 9 1 0 4 below c.runs-r.ensures, tt)) }
+returns-in-8 c = λ second below. record {
+  fixed = by_shift (pattern_of (And c.run-d.result c.runs-r.result)) 10 8 c.args.first second
+      (omega arith) c.ranges.first.fits below refl refl c.in-8.is;
+  letters = (
+    run_spelled c.args.first second 4 5 below c.run-d.ensures,
+    (runs_spelled c.args.first second 9 1 0 4 below c.runs-r.ensures, tt),
+  );
+}
 
 pub returns-in-9 : goal.returns-in-9
 unfolding spelled
-returns-in-9 c = λ second below. record { fixed = by_shift (pattern_of (Eor c.run-d.result c.runs-r.result)) 10 9 c.args.first second (omega arith) c.ranges.first.fits below refl refl c.in-9.is; letters = (run_spelled c.args.first second 4 5 below c.run-d.ensures, (runs_spelled c.args.first second 9 1 0 4 below c.runs-r.ensures, tt)) }
+returns-in-9 c = λ second below. record {
+  fixed = by_shift (pattern_of (Eor c.run-d.result c.runs-r.result)) 10 9 c.args.first second
+      (omega arith) c.ranges.first.fits below refl refl c.in-9.is;
+  letters = (
+    run_spelled c.args.first second 4 5 below c.run-d.ensures,
+    (runs_spelled c.args.first second 9 1 0 4 below c.runs-r.ensures, tt),
+  );
+}
 
 pub returns-in-10 : goal.returns-in-10
 unfolding spelled
-returns-in-10 c = λ second below. record { fixed = by_shift (pattern_of (Or c.run-d.result c.runs-r.result)) 10 10 c.args.first second (omega arith) c.ranges.first.fits below refl refl c.in-10.is; letters = (run_spelled c.args.first second 4 5 below c.run-d.ensures, (runs_spelled c.args.first second 9 1 0 4 below c.runs-r.ensures, tt)) }
+returns-in-10 c = λ second below. record {
+  fixed = by_shift (pattern_of (Or c.run-d.result c.runs-r.result)) 10 10 c.args.first second
+      (omega arith) c.ranges.first.fits below refl refl c.in-10.is;
+  letters = (
+    run_spelled c.args.first second 4 5 below c.run-d.ensures,
+    (runs_spelled c.args.first second 9 1 0 4 below c.runs-r.ensures, tt),
+  );
+}
 
 pub returns-in_default : goal.returns-in_default
 unfolding spelled
 returns-in_default c =
     let e : c.args.first / 1024 ≡ 11 = omega arith in
-    λ second below. record { fixed = by_shift (pattern_of (Mov c.run-d.result c.runs-r.result)) 10 11 c.args.first second (omega arith) c.ranges.first.fits below refl refl e; letters = (run_spelled c.args.first second 4 5 below c.run-d.ensures, (runs_spelled c.args.first second 9 1 0 4 below c.runs-r.ensures, tt)) }
+    λ second below. record {
+      fixed = by_shift (pattern_of (Mov c.run-d.result c.runs-r.result)) 10 11 c.args.first second (omega arith)
+          c.ranges.first.fits below refl refl e;
+      letters = (
+        run_spelled c.args.first second 4 5 below c.run-d.ensures,
+        (runs_spelled c.args.first second 9 1 0 4 below c.runs-r.ensures, tt),
+      );
+    }

@@ -9,10 +9,12 @@ parts n i h = let e : n ≡ n / 65536 * 65536 + n % 65536 = omega arith in subst
 
 pub returns-clause-same_first : goal.returns-clause-same_first
 returns-clause-same_first c = λ first second f s read.
-    same_first c.args.i.now (c.both_words-number.result / 65536) (c.both_words-number.result % 65536) first second (omega (arith, c.both_words-number.type_inv)) (omega arith) f s
+    same_first c.args.i.now (c.both_words-number.result / 65536) (c.both_words-number.result % 65536) first second
+    (omega (arith, c.both_words-number.type_inv)) (omega arith) f s
     (parts c.both_words-number.result c.args.i.now c.both_words-number.ensures.reads) read
 
 pub returns-clause-same_second : goal.returns-clause-same_second
 returns-clause-same_second c = λ first second f s read two.
-    same_second c.args.i.now (c.both_words-number.result / 65536) (c.both_words-number.result % 65536) first second two (omega (arith, c.both_words-number.type_inv)) (omega arith) f s
+    same_second c.args.i.now (c.both_words-number.result / 65536) (c.both_words-number.result % 65536) first second two
+    (omega (arith, c.both_words-number.type_inv)) (omega arith) f s
     (parts c.both_words-number.result c.args.i.now c.both_words-number.ensures.reads) read

@@ -23,7 +23,8 @@ loop-at-preserved-in-Gap c =
       within = omega (arith, c.in-Gap.ensures.within);
       lie = c.loop-at.invariant.lie;
       left =
-          ap (with_front c.loop-at.tokens.items) (sym (cut_gap c.args.text.now c.loop-at.at c.loop-at.line c.in-Gap.n c.loop-at-test.true c.in-Gap.ensures.some there))
+          ap (with_front c.loop-at.tokens.items)
+          (sym (cut_gap c.args.text.now c.loop-at.at c.loop-at.line c.in-Gap.n c.loop-at-test.true c.in-Gap.ensures.some there))
           ∙ c.loop-at.invariant.left;
     }
 
@@ -35,9 +36,16 @@ loop-at-preserved c =
       within = omega (arith, c.in-Token.ensures.within);
       lie = subst (All (Lies (length c.args.text.now))) (sym c.in_ok-push-in-Token.ensures.items)
           (All-append (Lies (length c.args.text.now)) c.loop-at.tokens.items _ c.loop-at.invariant.lie
-          (All-cons (Lies (length c.args.text.now)) (record { kind = c.in-Token.kind; line = c.loop-at.line; from = c.loop-at.at; to = c.loop-at.at + c.in-Token.n }) [] (omega arith, omega (arith, c.in-Token.ensures.within)) (All-nil (Lies (length c.args.text.now)))));
+          (All-cons (Lies (length c.args.text.now)) (record {
+            kind = c.in-Token.kind;
+            line = c.loop-at.line;
+            from = c.loop-at.at;
+            to = c.loop-at.at + c.in-Token.n;
+          }) [] (omega arith, omega (arith, c.in-Token.ensures.within))
+          (All-nil (Lies (length c.args.text.now)))));
       left =
-          token_more c.args.text.now c.loop-at.at c.loop-at.line c.in-Token.kind c.in-Token.n c.loop-at.tokens.items c.push.new.self.items c.line_after-line.result
+          token_more c.args.text.now c.loop-at.at c.loop-at.line c.in-Token.kind c.in-Token.n c.loop-at.tokens.items c.push.new.self.items
+          c.line_after-line.result
           c.loop-at-test.true c.in-Token.ensures.some there c.in_ok-push-in-Token.ensures.items c.line_after-line.ensures
           ∙ c.loop-at.invariant.left;
     }
@@ -45,7 +53,17 @@ loop-at-preserved c =
 pub returns-in-Fault : goal.returns-in-Fault
 returns-in-Fault c =
     let there = ap piece_at (sym c.split_at.ensures.back) ∙ sym c.in-Fault.ensures.piece in
-    record { lie = tt; memory = λ m. absurd (not_memory c.args.text.now c.loop-at.at c.in-Fault.why c.loop-at-test.true there m); tokens = inr (sym c.loop-at.invariant.left ∙ ap (with_front c.loop-at.tokens.items) (cut_fault c.args.text.now c.loop-at.at c.loop-at.line c.in-Fault.why c.loop-at-test.true there)) }
+    record {
+      lie = tt;
+      memory = λ m. absurd (not_memory c.args.text.now c.loop-at.at c.in-Fault.why c.loop-at-test.true there m);
+      tokens = inr (sym c.loop-at.invariant.left ∙ ap (with_front c.loop-at.tokens.items)
+          (cut_fault c.args.text.now c.loop-at.at c.loop-at.line c.in-Fault.why c.loop-at-test.true there));
+    }
 
 pub returns : goal.returns
-returns c = record { lie = c.loop-at.invariant.lie; memory = tt; tokens = sym c.loop-at.invariant.left ∙ whole c.loop-at.tokens.items c.args.text.now c.loop-at.at c.loop-at.line (omega arith) }
+returns c = record {
+  lie = c.loop-at.invariant.lie;
+  memory = tt;
+  tokens = sym c.loop-at.invariant.left ∙ whole c.loop-at.tokens.items
+      c.args.text.now c.loop-at.at c.loop-at.line (omega arith);
+}

@@ -18,7 +18,8 @@ returns-in-Err c =
           elim c.in-Err.ensures.err [
             | inl m ↦ inl m
             | inr f ↦ inr (sym c.loop-left.invariant.same ∙ (ap (λ o. read_from draft (pieces_left o)) c.in-Some.is
-                ∙ (step_fault draft c.in-Some-due.due c.cut_line.result.0.now (pieces_of c.in-Some.text.now) (pieces_left c.cut_line.result.1) c.is_left.result
+                ∙ (step_fault draft c.in-Some-due.due c.cut_line.result.0.now (pieces_of c.in-Some.text.now)
+                (pieces_left c.cut_line.result.1) c.is_left.result
                 c.in-Err.error.why c.cut_line.ensures.pieces (sym c.due.ensures ∙ c.in-Some-due.is) c.is_left.ensures f.1
                 ∙ ap (λ n. fault n c.in-Err.error.why) (sym f.0))))
           ];
@@ -38,7 +39,8 @@ loop-left-preserved c =
     let read = c.in-Ok.ensures.read in
     record {
       same =
-          step_on draft c.take.new.self c.in-Some-due.due c.cut_line.result.0.now (pieces_of c.in-Some.text.now) (pieces_left c.cut_line.result.1) c.is_left.result
+          step_on draft c.take.new.self c.in-Some-due.due c.cut_line.result.0.now (pieces_of c.in-Some.text.now)
+          (pieces_left c.cut_line.result.1) c.is_left.result
           c.cut_line.ensures.pieces (sym c.due.ensures ∙ c.in-Some-due.is) c.is_left.ensures c.in-Ok.ensures.ok
           ∙ (ap (λ o. read_from draft (pieces_left o)) (sym c.in-Some.is) ∙ c.loop-left.invariant.same);
       kept = c.in-Ok.ensures.kept;

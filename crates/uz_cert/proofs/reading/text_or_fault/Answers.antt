@@ -1,4 +1,5 @@
-use Rattle.uz_cert.proofs.TextLaws.{LineLaw, decided, one_certificate, one_fault, not_both, text_certificate, certificate_text, text_fault, fault_text}
+use Rattle.uz_cert.proofs.TextLaws.{LineLaw, decided, one_certificate, one_fault, not_both, text_certificate, certificate_text, text_fault}
+use Rattle.uz_cert.proofs.TextLaws.{fault_text}
 use Rattle.uz_cert.proofs.reading.text_or_fault.Goals as goal
 
 pub returns : goal.returns

@@ -13,7 +13,8 @@ loop-length-preserved c =
       within = within;
       counted = omega arith;
       same = next_more l.before l.base l.start c.in-Some.length c.in-Ok-More.next l.image c.take_line.new.image c.args.text.now
-          c.without_blanks-content.result.now c.in-Ok-More.field-0 c.in-Some.ensures cut c.in-Ok-More.field-0-is c.in-Ok-More.ensures.ok ∙ l.invariant.same;
+          c.without_blanks-content.result.now c.in-Ok-More.field-0 c.in-Some.ensures cut c.in-Ok-More.field-0-is c.in-Ok-More.ensures.ok
+          ∙ l.invariant.same;
     }
 
 pub returns-in-Ok-Ended : goal.returns-in-Ok-Ended
@@ -33,14 +34,17 @@ returns-in-Err c =
 pub returns-in-Ok-More-take_line : goal.returns-in-Ok-More-take_line
 returns-in-Ok-More-take_line c =
     let l = c.loop-length in
-    (inr (sym l.invariant.same ∙ last_more l.before l.base l.start c.in-Ok-More-take_line.field-0-0 l.image c.take_line-2.new.image c.args.text.now
-    c.without_blanks.result.now c.in-Ok-More-take_line.field-0 c.in_default.ensures c.without_blanks.ensures c.in-Ok-More-take_line.field-0-is c.in-Ok-More-take_line.ensures.ok))
+    (inr (sym l.invariant.same ∙ last_more l.before l.base l.start c.in-Ok-More-take_line.field-0-0 l.image c.take_line-2.new.image
+    c.args.text.now
+    c.without_blanks.result.now c.in-Ok-More-take_line.field-0 c.in_default.ensures c.without_blanks.ensures
+    c.in-Ok-More-take_line.field-0-is c.in-Ok-More-take_line.ensures.ok))
 
 pub returns-in-Ok-Ended-take_line : goal.returns-in-Ok-Ended-take_line
 returns-in-Ok-Ended-take_line c =
     let l = c.loop-length in
     (sym l.invariant.same ∙ last_ended l.before l.base l.start l.image c.take_line-2.new.image c.args.text.now
-    c.without_blanks.result.now c.in-Ok-Ended-take_line.field-0 c.in_default.ensures c.without_blanks.ensures c.in-Ok-Ended-take_line.field-0-is c.in-Ok-Ended-take_line.ensures.ok)
+    c.without_blanks.result.now c.in-Ok-Ended-take_line.field-0 c.in_default.ensures c.without_blanks.ensures
+    c.in-Ok-Ended-take_line.field-0-is c.in-Ok-Ended-take_line.ensures.ok)
 
 pub returns-in-Err-take_line : goal.returns-in-Err-take_line
 returns-in-Err-take_line c =

@@ -8,5 +8,6 @@ use Rattle.uz_schedule.proofs.certificate_limits.spans_within.Given as goal
 abbrev pub invariant-loop-cell : goal.invariant-loop-cell
 invariant-loop-cell l = record {
   few : l.next ≤ length l.spans;
-  left : spans_fit (filter (λ c. tracks l.kind c.owner) (drop l.cell-index l.cells)) (drop l.next l.spans) ≡ spans_fit (filter (λ c. tracks l.kind c.owner) l.cells) l.spans;
+  left : spans_fit (filter (λ c. tracks l.kind c.owner) (drop l.cell-index l.cells)) (drop l.next l.spans) ≡ spans_fit
+      (filter (λ c. tracks l.kind c.owner) l.cells) l.spans;
 }

@@ -10,5 +10,6 @@ loop-point-preserved c =
     (ended (map (λ p. line_of (point_words c.args.cells.now p)) (drop (c.loop-point.point-index + 1) c.args.points.now)))
     (ended (map (λ p. line_of (point_words c.args.cells.now p)) (drop c.loop-point.point-index c.args.points.now)))
     _ c.in_ok-add_point.ensures
-    (lines_left (point_words c.args.cells.now) c.args.points.now c.loop-point.point-index c.point-item.result c.loop-point-test.true c.point-item.is)
+    (lines_left (point_words c.args.cells.now) c.args.points.now c.loop-point.point-index c.point-item.result c.loop-point-test.true
+    c.point-item.is)
     c.loop-point.invariant

@@ -16,7 +16,8 @@ returns c =
     (ended (map (λ p. line_of (point_words c.args.cert.now.head.cells.items p)) c.args.cert.now.points))
     (codes "end\n")
     (search rules)
-    (c.in_ok-add_entry.ensures ∙ ap (λ (cs : List Cell). c.add_rests.new.text.items ++ line_end (entry_words cs c.args.cert.now.entry)) cells)
+    (c.in_ok-add_entry.ensures ∙ ap (λ (cs : List Cell). c.add_rests.new.text.items ++ line_end (entry_words cs c.args.cert.now.entry))
+    cells)
     (c.in_ok-add_points.ensures
     ∙ ap (λ (cs : List Cell). c.add_entry.new.text.items ++ ended (map (λ p. line_of (point_words cs p)) c.as_slice-2.result.now)) cells
     ∙ ap (λ (ps : List Point). c.add_entry.new.text.items ++ ended (map (λ p. line_of (point_words c.args.cert.now.head.cells.items p)) ps))

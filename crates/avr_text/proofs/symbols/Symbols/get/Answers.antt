@@ -5,4 +5,5 @@ use Rattle.avr_text.proofs.symbols.Symbols.get.Goals as goal
 
 pub returns : goal.returns
 returns c =
-    c.copied.ensures ∙ c.get.ensures.value ∙ sym (get_name c.self.inside.values.entries c.args.name.now) ∙ ap (λ m. map.get m c.args.name.now) c.self.view_is
+    c.copied.ensures ∙ c.get.ensures.value ∙ sym (get_name c.self.inside.values.entries c.args.name.now)
+    ∙ ap (λ m. map.get m c.args.name.now) c.self.view_is

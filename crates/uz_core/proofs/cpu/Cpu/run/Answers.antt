@@ -6,6 +6,8 @@ use Rattle.uz_core.proofs.cpu.Cpu.run.Goals as goal
 
 pub returns-in-Runs : goal.returns-in-Runs
 returns-in-Runs g c =
-    let reading : IsReading c.args.flash.now c.args.self.now.pc (Runs c.in-Runs.decoded) = subst (IsReading c.args.flash.now c.args.self.now.pc) c.in-Runs.is c.requires.reading in
-    step_made g.D.Data.model c.args.flash.now c.in-Runs.decoded c.args.self.now (g.D.Data.content c.args.space.now) c.execute.new.self (g.D.Data.content c.execute.new.space) (g.D.Data.held c.execute.new.space) c.execute.result
+    let reading : IsReading c.args.flash.now c.args.self.now.pc (Runs c.in-Runs.decoded) =
+    subst (IsReading c.args.flash.now c.args.self.now.pc) c.in-Runs.is c.requires.reading in
+    step_made g.D.Data.model c.args.flash.now c.in-Runs.decoded c.args.self.now (g.D.Data.content c.args.space.now) c.execute.new.self
+    (g.D.Data.content c.execute.new.space) (g.D.Data.held c.execute.new.space) c.execute.result
     reading c.execute.ensures.core c.execute.ensures.content c.execute.ensures.held c.execute.ensures.took

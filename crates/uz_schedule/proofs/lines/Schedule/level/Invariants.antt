@@ -5,4 +5,5 @@ use Rattle.uz_schedule.proofs.lines.Schedule.level.Given as goal
 
 -- the lines that are left answer for the frame
 abbrev pub invariant-loop-back : goal.invariant-loop-back
-invariant-loop-back l = level_at l.self l.position ≡ last_level (sync_at l.self) (start_round l.self (l.line + l.lines - l.back) - start_of l.self l.line) (start_round l.self (l.line + l.lines - l.back) - 1)
+invariant-loop-back l = level_at l.self l.position ≡ last_level (sync_at l.self) (start_round l.self (l.line + l.lines - l.back) - start_of
+    l.self l.line) (start_round l.self (l.line + l.lines - l.back) - 1)

@@ -7,7 +7,15 @@ use Rattle.uz_timer.proofs.timer.Timer1.pass.Goals as goal
 pub returns-then-from-self : goal.returns-then-from-self
 returns-then-from-self c =
     let i = c.self.inside in
-    let t : Timer = record { count = 0; top = i.top; matched = i.matched; temp = i.temp; interrupt_mask = i.interrupt_mask; control_a = i.control_a; control_b = i.control_b } in
+    let t : Timer = record {
+      count = 0;
+      top = i.top;
+      matched = i.matched;
+      temp = i.temp;
+      interrupt_mask = i.interrupt_mask;
+      control_a = i.control_a;
+      control_b = i.control_b;
+    } in
     let same : c.from-then-from-self.result ≡ c.args.clocks = search rules in
     let below : c.args.clocks < i.left = search rules in
     ap (λ n. let moved : Timer = record t { count = count_of i.control_a i.control_b i.still i.end (i.left - n) } in moved) same ∙

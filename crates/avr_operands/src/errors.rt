@@ -2,6 +2,7 @@
 
 ghost use Rattle.std.specs.Prelude.{◌≡◌};
 ghost use Rattle.avr_operands.specs.Faults.{number_of, least as least_of, why_of};
+ghost use Rattle.avr_operands.specs.WhyNames.{asm_why_name};
 
 use avr_text::ValueWhy;
 use std::alloc::{AllocError, AllocFailed};
@@ -37,6 +38,24 @@ pub enum AsmWhy {
 }
 
 impl AsmWhy {
+    /// The name, as it is printed.
+    pub fn name(self) -> &'static str
+        ensures { result.now ≡ asm_why_name self }
+    {
+        match self {
+            AsmWhy::Lex => "Lex",
+            AsmWhy::Mnemonic => "Mnemonic",
+            AsmWhy::Operand => "Operand",
+            AsmWhy::Range => "Range",
+            AsmWhy::Symbol => "Symbol",
+            AsmWhy::Twice => "Twice",
+            AsmWhy::Overlap => "Overlap",
+            AsmWhy::Past => "Past",
+            AsmWhy::Directive => "Directive",
+            AsmWhy::Memory => "Memory",
+        }
+    }
+
     /// The place of the fault in the order above, counted from 1.
     pub fn number(self) -> u8
         ensures { result ≡ number_of self }
@@ -80,7 +99,7 @@ pub fn why_without_value(why: ValueWhy) -> AsmWhy
 
 impl From<AllocError> for AsmWhy {
     ghost use Rattle.std.specs.Prelude.{◌≡◌};
-    ghost use Rattle.avr_operands.specs.declared.faults.AsmWhy.TheVariants.{Memory};
+    ghost use Rattle.avr_operands.specs.declared.errors.AsmWhy.TheVariants.{Memory};
 
     ghost from_gives = { λ _ e. e ≡ Memory };
 
@@ -91,7 +110,7 @@ impl From<AllocError> for AsmWhy {
 
 impl<T: Drop> From<AllocFailed<T>> for AsmWhy {
     ghost use Rattle.std.specs.Prelude.{◌≡◌};
-    ghost use Rattle.avr_operands.specs.declared.faults.AsmWhy.TheVariants.{Memory};
+    ghost use Rattle.avr_operands.specs.declared.errors.AsmWhy.TheVariants.{Memory};
 
     ghost from_gives = { λ _ e. e ≡ Memory };
 
