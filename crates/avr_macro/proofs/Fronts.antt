@@ -11,8 +11,10 @@ use Rattle.avr_macro.specs.Arguments.{before_comment}
 last_first : (front : List ℕ) (b : ℕ) → reverse (front ++ b ∷ []) ≡ b ∷ reverse front
 last_first front b = reverse-append front (b ∷ [])
 
-pub drops_last : (front : List ℕ) (b : ℕ) → is_blank b ≡ true → reverse (after_blanks (reverse (front ++ b ∷ []))) ≡ reverse (after_blanks (reverse front))
-drops_last front b e = ap (λ xs. reverse (after_blanks xs)) (last_first front b) ∙ ap (λ t. reverse (cond t (after_blanks (reverse front)) (b ∷ reverse front))) e
+pub drops_last : (front : List ℕ) (b : ℕ) → is_blank b ≡ true → reverse (after_blanks (reverse (front ++ b ∷ []))) ≡ reverse
+    (after_blanks (reverse front))
+drops_last front b e = ap (λ xs. reverse (after_blanks xs)) (last_first front b)
+    ∙ ap (λ t. reverse (cond t (after_blanks (reverse front)) (b ∷ reverse front))) e
 
 pub keeps_last : (front : List ℕ) (b : ℕ) → is_blank b ≡ false → reverse (after_blanks (reverse (front ++ b ∷ []))) ≡ front ++ b ∷ []
 keeps_last front b e =
@@ -42,7 +44,8 @@ comment_whole : (xs : List ℕ) → take (length (before_comment xs)) xs ≡ bef
 comment_whole [] = refl
 comment_whole (b ∷ bs) = by_case (b == 59) (comment_whole bs)
   where
-    by_case : (t : Bool) → take (length (before_comment bs)) bs ≡ before_comment bs → take (length (cond t [] (b ∷ before_comment bs))) (b ∷ bs) ≡ cond t [] (b ∷ before_comment bs)
+    by_case : (t : Bool) → take (length (before_comment bs)) bs ≡ before_comment bs → take (length (cond t [] (b ∷ before_comment bs)))
+        (b ∷ bs) ≡ cond t [] (b ∷ before_comment bs)
     by_case true e = refl
     by_case false e = ap (λ xs. b ∷ xs) e
 

@@ -1,6 +1,9 @@
 pub mod Fronts
 pub mod MacroMaps
 pub mod Slices
+pub mod Kept
+pub mod Unchanged
+pub mod BlockEnds
 pub mod Levels
 pub mod LineMoves
 pub mod Paths

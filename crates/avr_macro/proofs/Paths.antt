@@ -1,14 +1,16 @@
 -- Over a shelf that tells its files each state has one next state or one end.
-use Rattle.std.proofs.Common.{◌≡◌, ℕ, ◌≤◌, ◌<◌, Bool, true, false, List, [], ◌∷◌, ◌++◌, length, refl, sym, ◌∙◌, ap, subst, append_assoc, arith}
+use Rattle.std.proofs.Common.{◌≡◌, ℕ, ◌≤◌, ◌<◌, Bool, true, false, List, [], ◌∷◌, ◌++◌, length, refl, sym, ◌∙◌, ap, subst, append_assoc}
+use Rattle.std.proofs.Common.{arith}
 use Rattle.std.specs.Prelude.{nat_le, Option, Some, None}
 use Rattle.std.specs.FinMap.{get}
 use Rattle.std.proofs.lemmas.List.{append-nil}
 use Rattle.std.proofs.lemmas.Bool.Decides.{nat_tests}
 use Rattle.uz_shelf.specs.Files.{FileMap}
-use Rattle.avr_macro.specs.declared.faults.MacroWhy.TheVariants.{Unread, TooLong}
+use Rattle.avr_macro.specs.declared.errors.MacroWhy.TheVariants.{Unread, TooLong}
 use Rattle.avr_macro.specs.Moves.{Move, goes, loads, refuses, included, move_of}
 use Rattle.avr_macro.specs.States.{Level, State, around}
-use Rattle.avr_macro.specs.Expansion.{BeginsWith, Does, End, Ends, ends_flat, ends_refused, ends_unread, ends_too_long, ends_loaded, Reaches, reaches_here, reaches_more, Step, step_goes, step_loads, flat_end, refused_end}
+use Rattle.avr_macro.specs.Expansion.{BeginsWith, Does, End, Ends, ends_flat, ends_refused, ends_unread, ends_too_long, ends_loaded}
+use Rattle.avr_macro.specs.Expansion.{Reaches, reaches_here, reaches_more, Step, step_goes, step_loads, flat_end, refused_end}
 
 -- a state to go on with, or an end
 data Next : Type 0 where
@@ -42,7 +44,8 @@ abbrev next : FileMap → List (List ℕ) → State → Next
 next m names s = by_levels m names s s.levels
 
 -- what a state's innermost level does
-does_next : (m : FileMap) (names : List (List ℕ)) (s : State) (level : Level) (outer : List Level) (move : Move) → Does s level outer move → next m names s ≡ by_move m names level (around outer s) move
+does_next : (m : FileMap) (names : List (List ℕ)) (s : State) (level : Level) (outer : List Level) (move : Move) → Does s level outer move
+    → next m names s ≡ by_move m names level (around outer s) move
 does_next m names s level outer move d = ap (by_levels m names s) d.levels ∙ ap (by_move m names level (around outer s)) d.does
 
 short_enough : (bytes : List ℕ) → length bytes ≤ 1048576 → nat_le (length bytes) 1048576 ≡ true
@@ -52,15 +55,18 @@ too_long : (bytes : List ℕ) → 1048576 < length bytes → nat_le (length byte
 too_long bytes h = grind (arith, nat_tests)
 
 -- a file that is there
-holds_next : (m : FileMap) (names later : List (List ℕ)) (level : Level) (s : State) (name bytes : List ℕ) (move : Move) → get m name ≡ Some bytes → length bytes ≤ 1048576 → included (length names) bytes level s ≡ move
+holds_next : (m : FileMap) (names later : List (List ℕ)) (level : Level) (s : State) (name bytes : List ℕ) (move : Move) → get m name ≡ Some
+    bytes → length bytes ≤ 1048576 → included (length names) bytes level s ≡ move
     → by_file (get m name) names later level s ≡ by_included later level move
 holds_next m names later level s name bytes move e h i =
-    ap (λ o. by_file o names later level s) e ∙ ap (λ b. by_length b names later bytes level s) (short_enough bytes h) ∙ ap (by_included later level) i
+    ap (λ o. by_file o names later level s) e ∙ ap (λ b. by_length b names later bytes level s) (short_enough bytes h)
+    ∙ ap (by_included later level) i
 
 step_next : (m : FileMap) (names later : List (List ℕ)) (s t : State) → Step (Some m) names s later t → next m names s ≡ going later t
 step_next m names _ s t (step_goes level outer d) = does_next m names s level outer (goes t) d
 step_next m names _ s t (step_loads level outer name bytes d e h i) =
-    does_next m names s level outer (loads name) d ∙ holds_next m names (names ++ name ∷ []) level (around outer s) name bytes (goes t) e h i
+    does_next m names s level outer (loads name) d ∙ holds_next m names (names ++ name ∷ []) level (around outer s) name bytes (goes t) e h
+    i
 
 ends_next : (m : FileMap) (names : List (List ℕ)) (s : State) (end : End) → Ends (Some m) names s end → next m names s ≡ over end
 ends_next m names s _ (ends_flat e) = ap (by_levels m names s) e
@@ -71,23 +77,29 @@ ends_next m names s _ (ends_too_long level outer name d longer) =
     does_next m names s level outer (loads name) d ∙ ap (λ o. by_file o names (names ++ name ∷ []) level (around outer s)) longer.1
     ∙ ap (λ b. by_length b names (names ++ name ∷ []) longer.0 level (around outer s)) (too_long longer.0 longer.2)
 ends_next m names s _ (ends_loaded level outer name bytes reason d e h i) =
-    does_next m names s level outer (loads name) d ∙ holds_next m names (names ++ name ∷ []) level (around outer s) name bytes (refuses reason) e h i
+    does_next m names s level outer (loads name) d ∙ holds_next m names (names ++ name ∷ []) level (around outer s) name bytes
+    (refuses reason) e h i
 
 -- the states from one on, in order
 data Onward (m : FileMap) : List (List ℕ) → State → List (List ℕ) → State → Type 0 where
   stay : {names : List (List ℕ)} {s : State} → Onward m names s names s
-  ahead : {names middle later : List (List ℕ)} {s t u : State} → next m names s ≡ going middle t → Onward m middle t later u → Onward m names s later u
+  ahead : {names middle later : List (List ℕ)} {s t u : State} → next m names s ≡ going middle t → Onward m middle t later u
+      → Onward m names s later u
 
-one_more : (m : FileMap) (names middle later : List (List ℕ)) (s t u : State) → Onward m names s middle t → next m middle t ≡ going later u → Onward m names s later u
+one_more : (m : FileMap) (names middle later : List (List ℕ)) (s t u : State) → Onward m names s middle t → next m middle t ≡ going later u
+    → Onward m names s later u
 one_more m names _ later s _ u stay e = ahead e stay
 one_more m names middle later s t u (ahead f rest) e = ahead f (one_more m _ middle later _ t u rest e)
 
-onward : (m : FileMap) (names : List (List ℕ)) (s : State) (later : List (List ℕ)) (t : State) → Reaches (Some m) names s later t → Onward m names s later t
+onward : (m : FileMap) (names : List (List ℕ)) (s : State) (later : List (List ℕ)) (t : State) → Reaches (Some m) names s later t
+    → Onward m names s later t
 onward m names s _ _ reaches_here = stay
-onward m names s later u (reaches_more {middle} {t = t} r step) = one_more m names middle later s t u (onward m names s middle t r) (step_next m middle later t u step)
+onward m names s later u (reaches_more {middle} {t = t} r step) = one_more m names middle later s t u (onward m names s middle t r)
+    (step_next m middle later t u step)
 
 -- a state on the way to an end goes on to it
-meets : (m : FileMap) (names here there : List (List ℕ)) (s t u : State) (end : End) → Onward m names s here t → Onward m names s there u → next m there u ≡ over end → Onward m here t there u
+meets : (m : FileMap) (names here there : List (List ℕ)) (s t u : State) (end : End) → Onward m names s here t → Onward m names s there u
+    → next m there u ≡ over end → Onward m here t there u
 meets m names _ there s _ u end stay way e = way
 meets m names here _ s t _ end (ahead {middle = a} {t = x} f rest) stay e = let k : going a x ≡ over end = sym f ∙ e in absurd cc
 meets m names here there s t u end (ahead {middle = a} {t = x} f rest) (ahead {middle = b} {t = y} g way) e =
@@ -113,7 +125,8 @@ keeps_included later level (goes t) = begins_all later
 keeps_included later level (loads name) = begins_all later
 keeps_included later level (refuses reason) = begins_all later
 
-keeps_length : (b : Bool) (names later : List (List ℕ)) (bytes : List ℕ) (level : Level) (s : State) → Keeps later (by_length b names later bytes level s)
+keeps_length : (b : Bool) (names later : List (List ℕ)) (bytes : List ℕ) (level : Level) (s : State)
+    → Keeps later (by_length b names later bytes level s)
 unfolding Keeps
 keeps_length true names later bytes level s = keeps_included later level (included (length names) bytes level s)
 keeps_length false names later bytes level s = begins_all later
@@ -133,7 +146,8 @@ unfolding Keeps
 keeps_move m names level s (goes t) = begins_all names
 keeps_move m names level s (refuses reason) = begins_all names
 keeps_move m names level s (loads name) =
-    keeps_fewer names (names ++ name ∷ []) (by_file (get m name) names (names ++ name ∷ []) level s) (name ∷ [], refl) (keeps_file (get m name) names (names ++ name ∷ []) level s)
+    keeps_fewer names (names ++ name ∷ []) (by_file (get m name) names (names ++ name ∷ []) level s) (name ∷ [], refl)
+    (keeps_file (get m name) names (names ++ name ∷ []) level s)
 
 keeps_levels : (m : FileMap) (names : List (List ℕ)) (s : State) (levels : List Level) → Keeps names (by_levels m names s levels)
 unfolding Keeps
@@ -153,15 +167,19 @@ unfolding Keeps
 names_begin m begun names there first s u end r way e =
     let last = ends_next m there u end e in
     begins_more names there end.names
-    (grows m names there s u (meets m begun names there first s u end (onward m begun first names s r) (onward m begun first there u way) last))
+    (grows m names there s u (meets m begun names there first s u end (onward m begun first names s r) (onward m begun first there u way)
+    last))
     (subst (Keeps there) last (keeps_levels m there u u.levels))
 
 -- and where the next file is asked for, its name is among them too
-asked_here : (m : FileMap) (names : List (List ℕ)) (s : State) (level : Level) (outer : List Level) (name : List ℕ) (n : Next) → Does s level outer (loads name) → next m names s ≡ n → Keeps (names ++ name ∷ []) n
+asked_here : (m : FileMap) (names : List (List ℕ)) (s : State) (level : Level) (outer : List Level) (name : List ℕ) (n : Next)
+    → Does s level outer (loads name) → next m names s ≡ n → Keeps (names ++ name ∷ []) n
 asked_here m names s level outer name n d e =
-    subst (Keeps (names ++ name ∷ [])) (sym (does_next m names s level outer (loads name) d) ∙ e) (keeps_file (get m name) names (names ++ name ∷ []) level (around outer s))
+    subst (Keeps (names ++ name ∷ [])) (sym (does_next m names s level outer (loads name) d) ∙ e)
+    (keeps_file (get m name) names (names ++ name ∷ []) level (around outer s))
 
-asked_from : (m : FileMap) (names there : List (List ℕ)) (s u : State) (end : End) (level : Level) (outer : List Level) (name : List ℕ) → Does s level outer (loads name)
+asked_from : (m : FileMap) (names there : List (List ℕ)) (s u : State) (end : End) (level : Level) (outer : List Level) (name : List ℕ)
+    → Does s level outer (loads name)
     → Onward m names s there u → next m there u ≡ over end → BeginsWith (names ++ name ∷ []) end.names
 unfolding Keeps
 asked_from m names _ s _ end level outer name d stay last = asked_here m names s level outer name (over end) d last
@@ -169,14 +187,18 @@ asked_from m names there s u end level outer name d (ahead {middle} {t = t} f re
     begins_more (names ++ name ∷ []) middle end.names (asked_here m names s level outer name (going middle t) d f)
     (begins_more middle there end.names (grows m middle there t u rest) (subst (Keeps there) last (keeps_levels m there u u.levels)))
 
-pub asked_begins : (m : FileMap) (begun names there : List (List ℕ)) (first s u : State) (end : End) (level : Level) (outer : List Level) (name : List ℕ)
-    → Reaches (Some m) begun first names s → Reaches (Some m) begun first there u → Ends (Some m) there u end → Does s level outer (loads name) → BeginsWith (names ++ name ∷ []) end.names
+pub asked_begins : (m : FileMap) (begun names there : List (List ℕ)) (first s u : State) (end : End) (level : Level) (outer : List Level)
+    (name : List ℕ)
+    → Reaches (Some m) begun first names s → Reaches (Some m) begun first there u → Ends (Some m) there u end → Does s level outer
+    (loads name) → BeginsWith (names ++ name ∷ []) end.names
 asked_begins m begun names there first s u end level outer name r way e d =
     let last = ends_next m there u end e in
-    asked_from m names there s u end level outer name d (meets m begun names there first s u end (onward m begun first names s r) (onward m begun first there u way) last) last
+    asked_from m names there s u end level outer name d (meets m begun names there first s u end (onward m begun first names s r)
+    (onward m begun first there u way) last) last
 
 -- there is one end
-same_end : (m : FileMap) (here there : List (List ℕ)) (s u : State) (x y : End) → Onward m here s there u → next m there u ≡ over y → next m here s ≡ over x → x ≡ y
+same_end : (m : FileMap) (here there : List (List ℕ)) (s u : State) (x y : End) → Onward m here s there u → next m there u ≡ over y
+    → next m here s ≡ over x → x ≡ y
 same_end m here _ s _ x y stay last e = let k : over x ≡ over y = sym e ∙ last in cc
 same_end m here there s u x y (ahead {middle = a} {t = t} f rest) last e = let k : going a t ≡ over x = sym f ∙ e in absurd cc
 
@@ -184,4 +206,5 @@ pub one_end : (m : FileMap) (begun here there : List (List ℕ)) (first s u : St
     → Reaches (Some m) begun first here s → Ends (Some m) here s x → Reaches (Some m) begun first there u → Ends (Some m) there u y → x ≡ y
 one_end m begun here there first s u x y r ex way ey =
     let last = ends_next m there u y ey in
-    same_end m here there s u x y (meets m begun here there first s u y (onward m begun first here s r) (onward m begun first there u way) last) last (ends_next m here s x ex)
+    same_end m here there s u x y (meets m begun here there first s u y (onward m begun first here s r) (onward m begun first there u way)
+    last) last (ends_next m here s x ex)

@@ -5,9 +5,9 @@ use Rattle.std.specs.declared.string.String.{String}
 use Rattle.uz_shelf.specs.Files.{FileMap, HoldsFile, HoldsLonger, LacksFile}
 use Rattle.uz_shelf.specs.declared.errors.LoadError.{LoadError}
 use Rattle.uz_shelf.specs.declared.errors.LoadError.TheVariants as load
-use Rattle.avr_macro.specs.declared.faults.MacroError.{MacroError}
-use Rattle.avr_macro.specs.declared.faults.MacroWhy.{MacroWhy}
-use Rattle.avr_macro.specs.declared.faults.MacroWhy.TheVariants.{Unread, TooLong, Memory}
+use Rattle.avr_macro.specs.declared.errors.MacroError.{MacroError}
+use Rattle.avr_macro.specs.declared.errors.MacroWhy.{MacroWhy}
+use Rattle.avr_macro.specs.declared.errors.MacroWhy.TheVariants.{Unread, TooLong, Memory}
 use Rattle.avr_macro.specs.declared.flat.Flat.{Flat}
 use Rattle.avr_macro.specs.Expansion.{Does, End, Ends, Expands, LacksLast, Reaches, first_place, refused_end}
 use Rattle.avr_macro.specs.Moves.{goes, loads, refuses, included}
@@ -35,12 +35,15 @@ abbrev pub EndsAtFile : Option FileMap → Type 0 → List (List ℕ) → List �
 EndsAtFile files load_fault names name level s e =
     ((e.why ≡ Unread) × (load_fault ⊎ LacksFile files name))
     ⊎ (((e.why ≡ TooLong) × HoldsLonger files name text_limit)
-    ⊎ ((bytes : List ℕ) × HoldsFile files name bytes × (length bytes ≤ text_limit) × (included (length names) bytes level s ≡ refuses e.why)))
+    ⊎ ((bytes : List ℕ) × HoldsFile files name bytes × (length bytes ≤ text_limit)
+    × (included (length names) bytes level s ≡ refuses e.why)))
 
 -- a file was asked for, and its lines are to be expanded now, or the expansion ends; the names before and after it
-abbrev pub Includes : {X : Type 0} → Option FileMap → Type 0 → List (List ℕ) → List ℕ → Level → State → List (List ℕ) → State → Result X MacroError → Type 0
+abbrev pub Includes : {X : Type 0} → Option FileMap → Type 0 → List (List ℕ) → List ℕ → Level → State → List (List ℕ) → State
+    → Result X MacroError → Type 0
 Includes files load_fault names name level s later after (Ok done) =
-    (later ≡ names ++ name ∷ []) × ((bytes : List ℕ) × HoldsFile files name bytes × (length bytes ≤ text_limit) × (included (length names) bytes level s ≡ goes after))
+    (later ≡ names ++ name ∷ []) × ((bytes : List ℕ) × HoldsFile files name bytes × (length bytes ≤ text_limit)
+    × (included (length names) bytes level s ≡ goes after))
 Includes files load_fault names name level s later after (Err e) =
     ((e.why ≡ Memory) × ((later ≡ names) ⊎ (later ≡ names ++ name ∷ [])))
     ⊎ ((later ≡ names ++ name ∷ []) × (e.at ≡ level.origin) × EndsAtFile files load_fault names name level s e)
@@ -48,7 +51,8 @@ Includes files load_fault names name level s later after (Err e) =
 -- the names are those of the files so far, or the next one is among them already
 abbrev pub IsAsked : List (List ℕ) → State → List (List ℕ) → Type 0
 IsAsked names s later =
-    (later ≡ names) ⊎ ((level : Level) × (outer : List Level) × (name : List ℕ) × Does s level outer (loads name) × (later ≡ names ++ name ∷ []))
+    (later ≡ names) ⊎ ((level : Level) × (outer : List Level) × (name : List ℕ) × Does s level outer (loads name)
+    × (later ≡ names ++ name ∷ []))
 
 -- why an expansion was cut short: for want of memory, by a fault of loading, or since it ends so
 abbrev pub CutBy : Option FileMap → Type 0 → List (List ℕ) → State → List (List ℕ) → MacroError → Type 0
@@ -56,7 +60,8 @@ CutBy files load_fault names s later e =
     (e.why ≡ Memory) ⊎ (((e.why ≡ Unread) × load_fault) ⊎ Ends files names s (refused_seen later e))
 
 -- an expansion came to a state, and was cut short there
-pub record IsCut (files : Option FileMap) (load_fault : Type 0) (begun : List (List ℕ)) (first : State) (later : List (List ℕ)) (e : MacroError) : Type 0 where
+pub record IsCut (files : Option FileMap) (load_fault : Type 0) (begun : List (List ℕ)) (first : State) (later : List (List ℕ))
+    (e : MacroError) : Type 0 where
   pub names : List (List ℕ)
   pub state : State
   pub reached : Reaches files begun first names state
@@ -72,12 +77,14 @@ RunsTo files load_fault begun first later after (Err e) = IsCut files load_fault
 -- that a file can't be read only where the last file isn't there.
 abbrev pub IsRefused : Option FileMap → Type 0 → List ℕ → List (List ℕ) → MacroError → Type 0
 IsRefused files load_fault name names e =
-    (e.why ≡ Memory) ⊎ (((e.why ≡ Unread) × load_fault) ⊎ (Expands files name (refused_seen names e) × (e.why ≡ Unread → LacksLast files names)))
+    (e.why ≡ Memory) ⊎ (((e.why ≡ Unread) × load_fault)
+    ⊎ (Expands files name (refused_seen names e) × (e.why ≡ Unread → LacksLast files names)))
 
 -- the answer is the one of an end, unless memory was lacking or loading met a fault
 abbrev pub Agrees : Type 0 → Result Flat MacroError → End → Type 0
 Agrees load_fault (Ok flat) end = end.answer ≡ Ok (record { text = flat.text.items; origins = flat.origins.items })
-Agrees load_fault (Err e) end = (e.why ≡ Memory) ⊎ (((e.why ≡ Unread) × load_fault) ⊎ (end.answer ≡ Err (record { at = e.at; reason = e.why })))
+Agrees load_fault (Err e) end = (e.why ≡ Memory)
+    ⊎ (((e.why ≡ Unread) × load_fault) ⊎ (end.answer ≡ Err (record { at = e.at; reason = e.why })))
 
 -- the first file is there, and its lines are to be expanded
 abbrev pub Begins : Option FileMap → List ℕ → State → Type 0
@@ -87,18 +94,21 @@ Begins files name s = (bytes : List ℕ) × HoldsFile files name bytes × (lengt
 abbrev pub FailsFirst : Option FileMap → Type 0 → List ℕ → MacroError → Type 0
 FailsFirst files load_fault name e =
     (e.why ≡ Memory)
-    ⊎ ((e.at ≡ first_place) × (((e.why ≡ Unread) × (load_fault ⊎ LacksFile files name)) ⊎ ((e.why ≡ TooLong) × HoldsLonger files name text_limit)))
+    ⊎ ((e.at ≡ first_place) × (((e.why ≡ Unread) × (load_fault ⊎ LacksFile files name))
+    ⊎ ((e.why ≡ TooLong) × HoldsLonger files name text_limit)))
 
 -- an expansion was cut short before its first line, or after it
 abbrev pub IsCutOff : Option FileMap → Type 0 → List ℕ → List (List ℕ) → MacroError → Type 0
 IsCutOff files load_fault name names e =
     ((e.why ≡ Memory) × (names ≡ []))
     ⊎ (((names ≡ name ∷ []) × FailsFirst files load_fault name e)
-    ⊎ ((bytes : List ℕ) × HoldsFile files name bytes × (length bytes ≤ text_limit) × IsCut files load_fault (name ∷ []) (first_state bytes) names e))
+    ⊎ ((bytes : List ℕ) × HoldsFile files name bytes × (length bytes ≤ text_limit) × IsCut files load_fault (name ∷ []) (first_state bytes)
+    names e))
 
 -- what came of an expansion
 abbrev pub CameOf : Option FileMap → Type 0 → List ℕ → List (List ℕ) → Result Flat MacroError → Type 0
 CameOf files load_fault name names (Ok flat) =
-    (bytes : List ℕ) × (s : State) × HoldsFile files name bytes × (length bytes ≤ text_limit) × Reaches files (name ∷ []) (first_state bytes) names s
+    (bytes : List ℕ) × (s : State) × HoldsFile files name bytes × (length bytes ≤ text_limit) × Reaches files (name ∷ [])
+    (first_state bytes) names s
     × (s.levels ≡ []) × (flat.text.items ≡ s.text) × (flat.origins.items ≡ s.origins)
 CameOf files load_fault name names (Err e) = IsCutOff files load_fault name names e

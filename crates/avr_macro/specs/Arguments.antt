@@ -1,16 +1,18 @@
 -- The arguments of a call, and the body of a macro with them in their places.
-use Rattle.std.specs.Prelude.{ℕ, ◌-◌, ◌==◌, ◌&&◌, nat_le, not, Bool, true, false, List, [], ◌∷◌, ◌++◌, map, decimal, slice_index_or, if◌then◌else◌}
+use Rattle.std.specs.Prelude.{ℕ, ◌-◌, ◌==◌, ◌&&◌, nat_le, not, Bool, true, false, List, [], ◌∷◌, ◌++◌, map, decimal, slice_index_or}
+use Rattle.std.specs.Prelude.{if◌then◌else◌}
 use Rattle.std.specs.List.{slice_split}
+use Prim.Native.Char.{code}
 use Rattle.avr_text.specs.Characters.{is_digit}
 use Rattle.avr_macro.specs.Lines.{after_blanks, trimmed}
 
 -- arguments go up to the comment, and stand apart by commas
 abbrev pub before_comment : List ℕ → List ℕ
 before_comment [] = []
-before_comment (b ∷ bs) = if b == 59 then [] else b ∷ before_comment bs
+before_comment (b ∷ bs) = if b == code ";" then [] else b ∷ before_comment bs
 
 abbrev pub is_comma : ℕ → Bool
-is_comma b = b == 44
+is_comma b = b == code ","
 
 abbrev pub is_empty : List ℕ → Bool
 is_empty [] = true
@@ -25,7 +27,7 @@ arguments_of text =
 abbrev pub lacks_from : ℕ → Bool → List ℕ → Bool
 lacks_from count named [] = false
 lacks_from count named (b ∷ bs) =
-    if named && (is_digit b && nat_le count (b - 48)) then true else lacks_from count (not named && b == 64) bs
+    if named && (is_digit b && nat_le count (b - code "0")) then true else lacks_from count (not named && b == code "@") bs
 
 -- a line names an argument that a call with so many hasn't
 abbrev pub lacks_argument : ℕ → List ℕ → Bool
@@ -42,20 +44,20 @@ argument arguments k = slice_index_or arguments k []
 -- what `@` and the byte after it stand for: `@@` is the number of the call, and before another byte than a digit it stays
 abbrev pub at_named : List (List ℕ) → ℕ → ℕ → List ℕ
 at_named arguments call b =
-    if b == 64 then decimal call else if is_digit b then argument arguments (b - 48) else 64 ∷ b ∷ []
+    if b == code "@" then decimal call else if is_digit b then argument arguments (b - code "0") else code "@" ∷ b ∷ []
 
 -- what a byte puts, after a `@` that waits for it or not
 abbrev pub put_byte : List (List ℕ) → ℕ → Bool → ℕ → List ℕ
 put_byte arguments call named b =
-    if named then at_named arguments call b else if b == 64 then [] else b ∷ []
+    if named then at_named arguments call b else if b == code "@" then [] else b ∷ []
 
 abbrev pub put_end : Bool → List ℕ
-put_end named = if named then 64 ∷ [] else []
+put_end named = if named then code "@" ∷ [] else []
 
 abbrev pub replaced_from : List (List ℕ) → ℕ → Bool → List ℕ → List ℕ
 replaced_from arguments call named [] = put_end named
 replaced_from arguments call named (b ∷ bs) =
-    put_byte arguments call named b ++ replaced_from arguments call (not named && b == 64) bs
+    put_byte arguments call named b ++ replaced_from arguments call (not named && b == code "@") bs
 
 -- a line of a body in a call
 abbrev pub replaced : List (List ℕ) → ℕ → List ℕ → List ℕ

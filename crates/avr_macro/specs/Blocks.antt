@@ -1,7 +1,8 @@
 -- Where a block ends.
 use Rattle.std.specs.Prelude.{ℕ, ◌+◌, ◌-◌, ◌==◌, ◌&&◌, Bool, true, false, List, [], ◌∷◌, Option, Some, None, if◌then◌else◌}
 use Rattle.avr_macro.specs.declared.directives.Word.{Word}
-use Rattle.avr_macro.specs.declared.directives.Word.TheVariants.{Macro, EndMacro, Repeat, EndRepeat, If, Else, EndIf, Include, Constant, Other}
+use Rattle.avr_macro.specs.declared.directives.Word.TheVariants.{Macro, EndMacro, Repeat, EndRepeat, If, Else, EndIf, Include, Constant}
+use Rattle.avr_macro.specs.declared.directives.Word.TheVariants.{Other}
 use Rattle.avr_macro.specs.Directives.{directive_of}
 
 -- two words are one

@@ -1,11 +1,19 @@
--- The bodies that a map's entries have.
-use Rattle.std.specs.Prelude.{ℕ, List, map, Vec}
-use Rattle.std.specs.declared.alloc.Global.{Global}
+-- Lines, as they are kept.
+use Rattle.std.specs.Prelude.{◌≡◌, ◌≤◌, ℕ, zero, suc, List, [], ◌∷◌}
+use Rattle.std.specs.List.{slice_range}
 
--- texts
-abbrev pub texts : Vec (Vec ℕ Global) Global → List (List ℕ)
-texts lines = map (λ (line : Vec ℕ Global). line.items) lines.items
+-- lines that stand in one text without their ends: the first from a place on, each up to a place of its own
+abbrev pub lines_in : List ℕ → ℕ → List ℕ → List (List ℕ)
+lines_in text start [] = []
+lines_in text start (end ∷ ends) = slice_range text start end ∷ lines_in text end ends
 
--- names and bodies as lists of bytes and of lines
-abbrev pub named : List (Vec ℕ Global × Vec (Vec ℕ Global) Global) → List (List ℕ × List (List ℕ))
-named entries = map {B = List ℕ × List (List ℕ)} (λ (e : Vec ℕ Global × Vec (Vec ℕ Global) Global). (e.0.items, texts e.1)) entries
+-- the places rise, up to the end of a text of so many bytes
+abbrev pub RiseTo : ℕ → ℕ → List ℕ → Type 0
+RiseTo size start [] = start ≡ size
+RiseTo size start (end ∷ ends) = (start ≤ end) × RiseTo size end ends
+
+-- where a line begins: where the one before it ends
+abbrev pub start_in : ℕ → List ℕ → ℕ → ℕ
+start_in start ends zero = start
+start_in start [] (suc n) = start
+start_in start (end ∷ ends) (suc n) = start_in end ends n

@@ -1,9 +1,11 @@
 -- What a line is, by the words at its front.
 use Rattle.std.specs.Prelude.{ℕ, ◌==◌, ◌&&◌, ◌||◌, Bool, true, List, [], ◌∷◌, codes, Option, Some, None, slice_index, if◌then◌else◌}
+use Prim.Native.Char.{code}
 use Rattle.avr_text.specs.Characters.{is_blank, begins_name}
 use Rattle.avr_text.specs.Words.{is_word_named}
 use Rattle.avr_macro.specs.declared.directives.Word.{Word}
-use Rattle.avr_macro.specs.declared.directives.Word.TheVariants.{Macro, EndMacro, Repeat, EndRepeat, If, Else, EndIf, Include, Constant, Other}
+use Rattle.avr_macro.specs.declared.directives.Word.TheVariants.{Macro, EndMacro, Repeat, EndRepeat, If, Else, EndIf, Include, Constant}
+use Rattle.avr_macro.specs.declared.directives.Word.TheVariants.{Other}
 use Rattle.avr_macro.specs.Lines.{after_blanks, word_of, after_word, is_bare}
 
 -- the directives of macros and blocks, in either case
@@ -23,7 +25,7 @@ named_word word =
 -- a directive is `.` and its name, which blanks may part
 abbrev pub dot_word : List ℕ → Word
 dot_word [] = Other
-dot_word (b ∷ bs) = if b == 46 then named_word (word_of (after_blanks bs)) else Other
+dot_word (b ∷ bs) = if b == code "." then named_word (word_of (after_blanks bs)) else Other
 
 abbrev pub after_dot : List ℕ → List ℕ
 after_dot [] = []
@@ -40,7 +42,7 @@ operands_of line = after_dot (after_blanks line)
 -- a line has a first word where a blank, a comment or the line's end comes after it
 abbrev pub ends_word : List ℕ → Bool
 ends_word [] = true
-ends_word (b ∷ bs) = is_blank b || b == 59
+ends_word (b ∷ bs) = is_blank b || b == code ";"
 
 abbrev pub first_word : List ℕ → Option (List ℕ)
 first_word line = if ends_word (after_word (after_blanks line)) then Some (word_of (after_blanks line)) else None

@@ -2,8 +2,8 @@
 use Rattle.std.specs.Prelude.{◌≡◌, ℕ, ◌≤◌, List, [], ◌∷◌, ◌++◌, length, Option, Result, Ok, Err}
 use Rattle.uz_shelf.specs.Files.{FileMap, HoldsFile, HoldsLonger, LacksFile}
 use Rattle.avr_macro.specs.declared.origin.Origin.{Origin}
-use Rattle.avr_macro.specs.declared.faults.MacroWhy.{MacroWhy}
-use Rattle.avr_macro.specs.declared.faults.MacroWhy.TheVariants.{Unread, TooLong}
+use Rattle.avr_macro.specs.declared.errors.MacroWhy.{MacroWhy}
+use Rattle.avr_macro.specs.declared.errors.MacroWhy.TheVariants.{Unread, TooLong}
 use Rattle.avr_macro.specs.Moves.{Move, goes, loads, refuses, included, move_of}
 use Rattle.avr_macro.specs.States.{Level, State, around, first_state, text_limit}
 
@@ -30,14 +30,18 @@ pub record Does (s : State) (level : Level) (outer : List Level) (move : Move) :
 
 -- One line is expanded, with the names of the files so far before and after it.
 pub data Step (files : Option FileMap) : List (List ℕ) → State → List (List ℕ) → State → Type 0 where
-  step_goes : {names : List (List ℕ)} {s t : State} (level : Level) (outer : List Level) → Does s level outer (goes t) → Step files names s names t
-  step_loads : {names : List (List ℕ)} {s t : State} (level : Level) (outer : List Level) (name bytes : List ℕ) → Does s level outer (loads name)
-      → HoldsFile files name bytes → length bytes ≤ text_limit → included (length names) bytes level (around outer s) ≡ goes t → Step files names s (names ++ name ∷ []) t
+  step_goes : {names : List (List ℕ)} {s t : State} (level : Level) (outer : List Level) → Does s level outer (goes t) → Step files names s
+      names t
+  step_loads : {names : List (List ℕ)} {s t : State} (level : Level) (outer : List Level) (name bytes : List ℕ) → Does s level outer
+      (loads name)
+      → HoldsFile files name bytes → length bytes ≤ text_limit → included (length names) bytes level (around outer s) ≡ goes t
+      → Step files names s (names ++ name ∷ []) t
 
 -- one line after another is expanded
 pub data Reaches (files : Option FileMap) (names : List (List ℕ)) (s : State) : List (List ℕ) → State → Type 0 where
   reaches_here : Reaches files names s names s
-  reaches_more : {middle later : List (List ℕ)} {t u : State} → Reaches files names s middle t → Step files middle t later u → Reaches files names s later u
+  reaches_more : {middle later : List (List ℕ)} {t u : State} → Reaches files names s middle t → Step files middle t later u → Reaches files
+      names s later u
 
 abbrev pub flat_end : List (List ℕ) → State → End
 flat_end names s = record { names = names; answer = Ok (record { text = s.text; origins = s.origins }) }
@@ -49,7 +53,8 @@ refused_end names at reason = record { names = names; answer = Err (record { at 
 -- its file is there.
 pub data Ends (files : Option FileMap) (names : List (List ℕ)) (s : State) : End → Type 0 where
   ends_flat : s.levels ≡ [] → Ends files names s (flat_end names s)
-  ends_refused : (level : Level) (outer : List Level) (reason : MacroWhy) → Does s level outer (refuses reason) → Ends files names s (refused_end names level.origin reason)
+  ends_refused : (level : Level) (outer : List Level) (reason : MacroWhy) → Does s level outer (refuses reason) → Ends files names s
+      (refused_end names level.origin reason)
   ends_unread : (level : Level) (outer : List Level) (name : List ℕ) → Does s level outer (loads name)
       → LacksFile files name → Ends files names s (refused_end (names ++ name ∷ []) level.origin Unread)
   ends_too_long : (level : Level) (outer : List Level) (name : List ℕ) → Does s level outer (loads name)

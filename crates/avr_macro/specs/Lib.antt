@@ -2,7 +2,10 @@ pub mod Lines
 pub mod Directives
 pub mod Arguments
 pub mod Bodies
+pub mod Plain
+pub mod Macros
 pub mod Blocks
+pub mod Ends
 pub mod Values
 pub mod States
 pub mod Moves
@@ -10,3 +13,4 @@ pub mod Expansion
 pub mod Views
 pub mod Steps
 pub mod Answers
+pub mod WhyNames

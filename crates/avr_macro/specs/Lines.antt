@@ -1,10 +1,11 @@
 -- The lines of a file, and the blanks and words at the front of a line.
 use Rattle.std.specs.Prelude.{ℕ, ◌-◌, ◌==◌, Bool, true, List, [], ◌∷◌, ◌++◌, length, take, reverse, slice_index, if◌then◌else◌}
+use Prim.Native.Char.{code}
 use Rattle.avr_text.specs.Characters.{is_blank, is_word}
 
 -- the CR of CRLF belongs to the line's end
 abbrev pub without_return : List ℕ → List ℕ
-without_return line = if slice_index line (length line - 1) == 13 then take (length line - 1) line else line
+without_return line = if slice_index line (length line - 1) == code "\r" then take (length line - 1) line else line
 
 -- a last line may lack its LF; where nothing stands after the last LF, no line does
 abbrev pub last_line : List ℕ → List (List ℕ)
@@ -14,7 +15,7 @@ last_line (b ∷ bs) = (b ∷ bs) ∷ []
 -- the lines of a text whose first line began before it
 abbrev pub lines_from : List ℕ → List ℕ → List (List ℕ)
 lines_from begun [] = last_line begun
-lines_from begun (b ∷ bs) = if b == 10 then without_return begun ∷ lines_from [] bs else lines_from (begun ++ b ∷ []) bs
+lines_from begun (b ∷ bs) = if b == code "\n" then without_return begun ∷ lines_from [] bs else lines_from (begun ++ b ∷ []) bs
 
 -- lines end in LF or CRLF, and are told without their ends
 abbrev pub lines_of : List ℕ → List (List ℕ)
@@ -41,7 +42,7 @@ after_word (b ∷ bs) = if is_word b then after_word bs else b ∷ bs
 -- nothing but blanks and a comment
 abbrev pub begins_comment : List ℕ → Bool
 begins_comment [] = true
-begins_comment (b ∷ bs) = b == 59
+begins_comment (b ∷ bs) = b == code ";"
 
 abbrev pub is_bare : List ℕ → Bool
 is_bare text = begins_comment (after_blanks text)

@@ -1,18 +1,21 @@
 -- What a line does: the cases of expansion. Of the reasons for which a line is refused, that of the least number is told.
-use Rattle.std.specs.Prelude.{ℕ, zero, suc, ◌+◌, ◌&&◌, ◌||◌, nat_le, nat_lt, not, Bool, true, false, ℤ, pos, negsuc, List, [], ◌∷◌, ◌++◌, length, map, drop, slice_index_or, Option, Some, None, is_some, if◌then◌else◌}
+use Rattle.std.specs.Prelude.{ℕ, zero, suc, ◌+◌, ◌&&◌, ◌||◌, nat_le, nat_lt, not, Bool, true, false, ℤ, pos, negsuc, List, [], ◌∷◌, ◌++◌}
+use Rattle.std.specs.Prelude.{length, map, drop, slice_index_or, Option, Some, None, is_some, if◌then◌else◌}
 use Rattle.std.specs.List.{slice_range}
 use Rattle.std.specs.FinMap as finmap
 use Rattle.avr_text.specs.Names.{NameMap}
 use Rattle.avr_macro.specs.declared.directives.Word.{Word}
-use Rattle.avr_macro.specs.declared.directives.Word.TheVariants.{Macro, EndMacro, Repeat, EndRepeat, If, Else, EndIf, Include, Constant, Other}
-use Rattle.avr_macro.specs.declared.faults.MacroWhy.{MacroWhy}
-use Rattle.avr_macro.specs.declared.faults.MacroWhy.TheVariants as why
+use Rattle.avr_macro.specs.declared.directives.Word.TheVariants.{Macro, EndMacro, Repeat, EndRepeat, If, Else, EndIf, Include, Constant}
+use Rattle.avr_macro.specs.declared.directives.Word.TheVariants.{Other}
+use Rattle.avr_macro.specs.declared.errors.MacroWhy.{MacroWhy}
+use Rattle.avr_macro.specs.declared.errors.MacroWhy.TheVariants as why
 use Rattle.avr_macro.specs.Arguments.{arguments_of, is_empty, any_lacks, replaced}
 use Rattle.avr_macro.specs.Blocks.{is_zero, macro_end, repeat_end, if_end, if_else}
 use Rattle.avr_macro.specs.Directives.{after_first_word, closes_well, directive_of, first_word, macro_name, operands_of}
 use Rattle.avr_macro.specs.Lines.{is_bare, trimmed}
 use Rattle.avr_macro.specs.States.{Level, State, block_limit, file_level, include_limit, inside, line_limit, next_turn, passed, text_limit}
 use Rattle.std.specs.Str.{is_utf8}
+use Prim.Native.Char.{code}
 use Rattle.avr_macro.specs.Values.{Setting, setting_of, text_value}
 
 -- expansion goes on, or asks for a file, or a line is refused
@@ -31,7 +34,15 @@ unless refused reason move = if refused then refuses reason else move
 -- a line is reached: these levels are to be expanded then
 abbrev pub reach : List Level → State → State
 reach levels s =
-    record { levels = levels; macros = s.macros; constants = s.constants; calls = s.calls; reached = s.reached + 1; text = s.text; origins = s.origins }
+    record {
+      levels = levels;
+      macros = s.macros;
+      constants = s.constants;
+      calls = s.calls;
+      reached = s.reached + 1;
+      text = s.text;
+      origins = s.origins;
+    }
 
 -- ---- the end of a turn
 
@@ -64,7 +75,15 @@ closed_by lines n = closes_well (slice_index_or lines n [])
 -- `.macro NAME` to `.endm` defines a macro
 abbrev pub define : List ℕ → List (List ℕ) → State → State
 define name body s =
-    record { levels = s.levels; macros = finmap.insert s.macros name body; constants = s.constants; calls = s.calls; reached = s.reached; text = s.text; origins = s.origins }
+    record {
+      levels = s.levels;
+      macros = finmap.insert s.macros name body;
+      constants = s.constants;
+      calls = s.calls;
+      reached = s.reached;
+      text = s.text;
+      origins = s.origins;
+    }
 
 abbrev pub macro_body : List ℕ → Option ℕ → Level → State → Move
 macro_body name None level s = refuses why.Unclosed
@@ -95,7 +114,8 @@ repeat_body operands (Some n) level s = repeat_times (text_value s.constants ope
 
 abbrev pub repeat_move : List ℕ → Level → State → Move
 repeat_move operands level s =
-    unless (nat_le block_limit level.blocks) why.Depth (unless (is_bare operands) why.Form (repeat_body operands (repeat_end (later level)) level s))
+    unless (nat_le block_limit level.blocks) why.Depth
+    (unless (is_bare operands) why.Form (repeat_body operands (repeat_end (later level)) level s))
 
 -- `.if E`, then perhaps `.else`, then `.endif`: the first part where E isn't 0, else the second. The `.else` is reached
 -- after the first part, or before the second.
@@ -127,12 +147,21 @@ if_body operands (Some n) level s = if_valued (text_value s.constants operands) 
 
 abbrev pub if_move : List ℕ → Level → State → Move
 if_move operands level s =
-    unless (nat_le block_limit level.blocks) why.Depth (unless (is_bare operands) why.Form (if_body operands (if_end (later level)) level s))
+    unless (nat_le block_limit level.blocks) why.Depth
+    (unless (is_bare operands) why.Form (if_body operands (if_end (later level)) level s))
 
 -- a line whose first word is a macro's name gives the expansion of its body
 abbrev pub call : State → State
 call s =
-    record { levels = s.levels; macros = s.macros; constants = s.constants; calls = s.calls + 1; reached = s.reached; text = s.text; origins = s.origins }
+    record {
+      levels = s.levels;
+      macros = s.macros;
+      constants = s.constants;
+      calls = s.calls + 1;
+      reached = s.reached;
+      text = s.text;
+      origins = s.origins;
+    }
 
 abbrev pub lacks_one : List (List ℕ) → List (List ℕ) → Bool
 lacks_one arguments body = nat_lt 10 (length arguments) || any_lacks (length arguments) body
@@ -162,7 +191,7 @@ put_line line setting level s =
       constants = with_setting setting s.constants;
       calls = s.calls;
       reached = s.reached + 1;
-      text = s.text ++ (line ++ 10 ∷ []);
+      text = s.text ++ (line ++ code "\n" ∷ []);
       origins = s.origins ++ level.origin ∷ [];
     }
 

@@ -55,12 +55,30 @@ pub record State : Type 0 where
 -- a file, from its first line on
 abbrev pub file_level : ℕ → ℕ → List ℕ → Level
 file_level file includes bytes =
-    record { lines = lines_of bytes; again = lines_of bytes; turns = 0; counted = false; well = true; origin = record { file = file; line = 1 }; includes = includes; blocks = 0 }
+    record {
+      lines = lines_of bytes;
+      again = lines_of bytes;
+      turns = 0;
+      counted = false;
+      well = true;
+      origin = record { file = file; line = 1 };
+      includes = includes;
+      blocks = 0;
+    }
 
 -- a block or a call that begins at a level's next line
 abbrev pub inside : Level → List (List ℕ) → ℕ → Bool → Bool → Level
 inside level lines turns counted well =
-    record { lines = lines; again = lines; turns = turns; counted = counted; well = well; origin = level.origin; includes = level.includes; blocks = level.blocks + 1 }
+    record {
+      lines = lines;
+      again = lines;
+      turns = turns;
+      counted = counted;
+      well = well;
+      origin = level.origin;
+      includes = level.includes;
+      blocks = level.blocks + 1;
+    }
 
 -- in a file the place goes on by lines
 abbrev pub place_after : ℕ → ℕ → Origin → Origin
@@ -69,19 +87,53 @@ place_after blocks n origin = if is_zero blocks then record { file = origin.file
 -- a level after some of its lines
 abbrev pub passed : ℕ → Level → Level
 passed n level =
-    record { lines = drop n level.lines; again = level.again; turns = level.turns; counted = level.counted; well = level.well; origin = place_after level.blocks n level.origin; includes = level.includes; blocks = level.blocks }
+    record {
+      lines = drop n level.lines;
+      again = level.again;
+      turns = level.turns;
+      counted = level.counted;
+      well = level.well;
+      origin = place_after level.blocks n level.origin;
+      includes = level.includes;
+      blocks = level.blocks;
+    }
 
 -- a block's next turn
 abbrev pub next_turn : ℕ → Level → Level
 next_turn turns level =
-    record { lines = level.again; again = level.again; turns = turns; counted = level.counted; well = level.well; origin = level.origin; includes = level.includes; blocks = level.blocks }
+    record {
+      lines = level.again;
+      again = level.again;
+      turns = turns;
+      counted = level.counted;
+      well = level.well;
+      origin = level.origin;
+      includes = level.includes;
+      blocks = level.blocks;
+    }
 
 -- the same with other levels
 abbrev pub around : List Level → State → State
 around levels s =
-    record { levels = levels; macros = s.macros; constants = s.constants; calls = s.calls; reached = s.reached; text = s.text; origins = s.origins }
+    record {
+      levels = levels;
+      macros = s.macros;
+      constants = s.constants;
+      calls = s.calls;
+      reached = s.reached;
+      text = s.text;
+      origins = s.origins;
+    }
 
 -- the first file, before its first line
 abbrev pub first_state : List ℕ → State
 first_state bytes =
-    record { levels = file_level 0 0 bytes ∷ []; macros = map.empty; constants = predefined; calls = 0; reached = 0; text = []; origins = [] }
+    record {
+      levels = file_level 0 0 bytes ∷ [];
+      macros = map.empty;
+      constants = predefined;
+      calls = 0;
+      reached = 0;
+      text = [];
+      origins = [];
+    }

@@ -2,8 +2,8 @@
 use Rattle.std.specs.Prelude.{◌≡◌, ◌⊎◌, ◌+◌, ◌*◌, ◌<◌, length, Option, Some, None, Result, Ok, Err, string_bytes}
 use Rattle.avr_macro.specs.declared.expander.Expander.{Expander}
 use Rattle.avr_macro.specs.declared.expander.Request.{Request}
-use Rattle.avr_macro.specs.declared.faults.MacroWhy.{MacroWhy}
-use Rattle.avr_macro.specs.declared.faults.MacroWhy.TheVariants.{Memory}
+use Rattle.avr_macro.specs.declared.errors.MacroWhy.{MacroWhy}
+use Rattle.avr_macro.specs.declared.errors.MacroWhy.TheVariants.{Memory}
 use Rattle.avr_macro.specs.Moves.{Move, goes, loads, refuses}
 use Rattle.avr_macro.specs.States.{Level, State}
 use Rattle.avr_macro.specs.Views.{seen_frame, seen_frames}

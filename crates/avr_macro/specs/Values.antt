@@ -3,9 +3,9 @@ use Rattle.std.specs.Prelude.{ℕ, ℤ, List, ◌∷◌, Option, Some, None, Ok,
 use Rattle.avr_text.specs.declared.tokens.Token.{Token}
 use Rattle.avr_text.specs.Arithmetic.{Outcome}
 use Rattle.avr_text.specs.Names.{NameMap}
-use Rattle.avr_text.specs.Reading.{value_of, is_mark_of}
+use Rattle.avr_text.specs.Reading.{value_of}
 use Rattle.avr_text.specs.Tokens.{Cut, text_of, tokens_of}
-use Rattle.avr_asm.specs.Lines.{is_name}
+use Rattle.avr_asm.specs.Lines.{is_name, is_equals}
 
 abbrev pub if_valued : Outcome → Option ℤ
 if_valued (Ok x) = Some x
@@ -39,7 +39,8 @@ set_to name (Some x) = Some (name, x)
 -- `NAME = E`
 abbrev pub tokens_setting : List ℕ → NameMap → List Token → Option Setting
 tokens_setting text constants (name ∷ equals ∷ tokens) =
-    if is_name name.kind then (if is_mark_of 61 equals.kind then set_to (text_of text name) (tokens_value text constants tokens) else None) else None
+    if is_name name.kind then (if is_equals equals.kind then set_to (text_of text name) (tokens_value text constants tokens) else None)
+    else None
 tokens_setting text constants other = None
 
 abbrev pub cut_setting : List ℕ → NameMap → Option (List Token) → Option Setting

@@ -1,19 +1,22 @@
 //! The arguments of a call, and the body of a macro with them in their places.
 
 ghost use Rattle.std.specs.Prelude.{◌≡◌, ◌-◌, ◌++◌, ◌&&◌, ◌||◌, ◌≤◌, nat_le, nat_lt, decimal, length, IfOk, OnOk, map, List, ℕ};
-ghost use Rattle.std.specs.List.{slice_split};
+ghost use Rattle.std.specs.List.{slice_range, slice_split};
+ghost use Rattle.avr_macro.specs.Plain.{are_plain as are_plain_lines, is_plain as is_plain_line};
 ghost use Rattle.avr_text.specs.Characters.{is_digit as is_digit_byte};
 ghost use Rattle.avr_macro.specs.Lines.{trimmed as trimmed_text};
 ghost use Rattle.avr_macro.specs.Arguments.{any_lacks as any_lacks_in, argument as argument_of, arguments_of as arguments_of_text, at_named as at_named_of, before_comment as before_comment_in, is_comma as is_comma_byte, is_empty as is_empty_text, lacks_argument as lacks_argument_line, put_byte as put_byte_of, put_end as put_end_of, replaced as replaced_line};
-ghost use Rattle.avr_macro.specs.Bodies.{texts};
+ghost use Rattle.avr_macro.specs.Macros.{seen_macro};
 ghost use Rattle.avr_macro.specs.Views.{lent};
 
+use crate::bodies::Macro;
+use crate::kept_lines::Lines;
 use crate::lines::{after_blanks, is_digit, trimmed};
 use itoa::Buffer;
 use std::alloc::{AllocError, Global};
 
-/// A replaced body of more bytes is given up as want of memory: arguments that double at each level would fill all of it.
-const BODY_LIMIT: usize = 16_777_216;
+/// A replaced line of more bytes is given up as want of memory: arguments that double at each level would fill all of it.
+const LINE_LIMIT: usize = 16_777_216;
 
 /// How many bytes stand before a comment.
 fn comment_at(text: &[u8]) -> usize
@@ -105,14 +108,14 @@ fn argument<'a>(arguments: &[&'a [u8]], k: usize) -> &'a [u8]
     }
 }
 
-/// Adds bytes to a body.
-fn put(body: &mut Vec<u8>, bytes: &[u8]) -> Result<(), AllocError>
-    ensures { OnOk result (body.new.items ≡ body.old.items ++ bytes.now) }
+/// Adds bytes to a line.
+fn put(line: &mut Vec<u8>, bytes: &[u8]) -> Result<(), AllocError>
+    ensures { OnOk result (line.new.items ≡ line.old.items ++ bytes.now) }
 {
-    if body.len() + bytes.len() > BODY_LIMIT {
+    if line.len() + bytes.len() > LINE_LIMIT {
         return Err(AllocError);
     }
-    body.extend_from_slice(bytes)
+    line.extend_from_slice(bytes)
 }
 
 /// What `@` and the byte after it stand for.
@@ -179,47 +182,92 @@ fn replaced(
 }
 
 /// A macro's body in the call of a number.
-pub(crate) fn replaced_body(
+#[tactic(auto, using(crate::proofs::Slices::next_line))]
+fn replaced_body(
     alloc: Global,
     arguments: &[&[u8]],
     call: u32,
-    body: &[Vec<u8>],
-) -> Result<Vec<Vec<u8>>, AllocError>
-    ensures lines { IfOk result (λ lines. texts lines ≡ map (replaced_line (map (λ a. a.now) arguments.now) call) (map (λ line. line.items) body.now)) }
-    ensures few { IfOk result (λ lines. length lines.items ≡ length body.now) }
+    body: &Macro,
+) -> Result<Lines, AllocError>
+    ensures { IfOk result (λ lines. lines ≡ map (replaced_line (map (λ a. a.now) arguments.now) call) (seen_macro body.now)) }
 {
     let mut buffer = Buffer::new();
     let number = buffer.format(call).as_bytes();
-    let mut lines = Vec::with_capacity(alloc, body.len())?;
-    let mut size = 0;
-    for text in body {
-        let line = replaced(alloc, arguments, number, text.as_slice())?;
-        size += line.len();
-        if size > BODY_LIMIT {
-            return Err(AllocError);
-        }
-        lines.push(line)?;
+    let mut lines = Lines::new(alloc);
+    for n in body.start..body.end {
+        let line = replaced(alloc, arguments, number, body.body.as_ref().lines.line(n))?;
+        lines = lines.with(line.as_slice())?;
     }
     Ok(lines)
 }
 
 /// Whether a line of a body names an argument that a call with so many hasn't.
-fn any_lacks(count: usize, body: &[Vec<u8>]) -> bool
-    ensures { result ≡ any_lacks_in count (map (λ line. line.items) body.now) }
+#[tactic(auto, using(crate::proofs::Slices::next_line))]
+fn any_lacks(count: usize, body: &Macro) -> bool
+    ensures { result ≡ any_lacks_in count (seen_macro body.now) }
 {
-    let mut rest = body;
-    while let [line, tail @ ..] = rest {
-        if lacks_argument(count, line.as_slice()) {
+    for n in body.start..body.end {
+        if lacks_argument(count, body.body.as_ref().lines.line(n)) {
             return true;
         }
-        rest = tail;
     }
     false
 }
 
 /// Whether a call has more than ten arguments, or a body names one that it hasn't.
-pub(crate) fn lacks_one(count: usize, body: &[Vec<u8>]) -> bool
-    ensures { result ≡ (nat_lt 10 count || any_lacks_in count (map (λ line. line.items) body.now)) }
+#[tactic(auto, using(crate::proofs::Unchanged::lacks_none))]
+pub(crate) fn lacks_one(count: usize, body: &Macro) -> bool
+    ensures { result ≡ (nat_lt 10 count || any_lacks_in count (seen_macro body.now)) }
 {
-    count > 10 || any_lacks(count, body)
+    if body.plain {
+        count > 10
+    } else {
+        count > 10 || any_lacks(count, body)
+    }
+}
+
+/// Whether a line has no `@`.
+fn is_plain(line: &[u8]) -> bool
+    ensures { result ≡ is_plain_line line.now }
+{
+    let mut rest = line;
+    while let [byte, tail @ ..] = rest {
+        if *byte == b'@' {
+            return false;
+        }
+        rest = tail;
+    }
+    true
+}
+
+/// Whether some lines have no `@`: those from a place to before another.
+#[tactic(auto, using(crate::proofs::Slices::next_line))]
+pub(crate) fn are_plain(lines: &Lines, from: usize, to: usize) -> bool
+    requires order { from ≤ to }
+    requires bound { to ≤ length lines.now }
+    ensures { result ≡ are_plain_lines (slice_range lines.now from to) }
+{
+    for n in from..to {
+        if !is_plain(lines.line(n)) {
+            return false;
+        }
+    }
+    true
+}
+
+/// A macro's body in the call of a number. One without `@` isn't copied.
+#[tactic(auto, using(crate::proofs::Unchanged::same_lines))]
+pub(crate) fn body_in_call(
+    alloc: Global,
+    arguments: &[&[u8]],
+    call: u32,
+    body: &Macro,
+) -> Result<Macro, AllocError>
+    ensures { IfOk result (λ lines. seen_macro lines ≡ map (replaced_line (map (λ a. a.now) arguments.now) call) (seen_macro body.now)) }
+{
+    if body.plain {
+        return body.share();
+    }
+    let lines = replaced_body(alloc, arguments, call, body)?;
+    Macro::of_lines(alloc, lines)
 }

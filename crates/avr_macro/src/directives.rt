@@ -3,6 +3,7 @@
 ghost use Rattle.std.specs.Prelude.{◌≡◌, slice_index};
 ghost use Rattle.avr_text.specs.Characters.{begins_name as begins_name_byte};
 ghost use Rattle.std.specs.Option.{option_copied};
+ghost use Rattle.avr_macro.specs.Blocks.{same_word as same_word_of};
 ghost use Rattle.avr_macro.specs.Directives.{after_dot as after_dot_in, after_first_word as after_first_word_in, closes_well as closes_well_line, directive_of as directive_of_line, dot_word as dot_word_of, ends_word as ends_word_at, first_word as first_word_of, macro_name as macro_name_of, macro_name_at as macro_name_in, named_word as named_word_of, operands_of as operands_of_line};
 
 use crate::lines::{after_blanks, after_word, begins_name, is_bare, is_blank, word_of};
@@ -31,6 +32,25 @@ pub enum Word {
     Constant,
     /// None of these.
     Other,
+}
+
+/// Whether two words are one.
+pub(crate) fn same_word(a: Word, b: Word) -> bool
+    ensures { result ≡ same_word_of a b }
+{
+    match (a, b) {
+        (Word::Macro, Word::Macro) => true,
+        (Word::EndMacro, Word::EndMacro) => true,
+        (Word::Repeat, Word::Repeat) => true,
+        (Word::EndRepeat, Word::EndRepeat) => true,
+        (Word::If, Word::If) => true,
+        (Word::Else, Word::Else) => true,
+        (Word::EndIf, Word::EndIf) => true,
+        (Word::Include, Word::Include) => true,
+        (Word::Constant, Word::Constant) => true,
+        (Word::Other, Word::Other) => true,
+        _ => false,
+    }
 }
 
 /// The directive that a word names, in either case.

@@ -1,24 +1,26 @@
 //! Expansion, a line at a time.
 
-ghost use Rattle.std.specs.Prelude.{◌≡◌, ◌<◌, ◌≤◌, ◌+◌, [], ◌∷◌, ◌++◌, true, false, Some, IfOk, IfErr, IfNone, IfSome, IsSome, OnOk, length, map, nat_lt, string_bytes};
+ghost use Rattle.std.specs.Prelude.{◌≡◌, ◌<◌, ◌≤◌, ◌+◌, [], ◌∷◌, ◌++◌, true, false, Some, IfOk, IfErr, IfNone, IfSome, IsSome, OnOk, length, nat_lt, slice_index_or, string_bytes};
 ghost use Rattle.std.specs.Bool.{OnFalse};
 ghost use Rattle.std.specs.Option.{option_map};
 ghost use Rattle.avr_macro.specs.Arguments.{arguments_of as arguments_of_line};
 ghost use Rattle.avr_macro.specs.Blocks.{if_else as if_else_in};
-ghost use Rattle.avr_macro.specs.Bodies.{texts};
+ghost use Rattle.avr_macro.specs.Macros.{seen_macro};
 ghost use Rattle.avr_macro.specs.Directives.{after_first_word as after_first_word_in, first_word as first_word_of, operands_of as operands_of_line};
-ghost use Rattle.avr_macro.specs.Moves.{body_of as body_of_word, call as call_state, chosen_part as chosen_part_of, closed_by as closed_by_line, enter as enter_move, file_name as file_name_of, goes, if_move as if_move_of, if_valued, include_move as include_move_of, included, is_full as is_full_state, is_include as is_include_word, is_null as is_null_value, later, line_move as line_move_of, macro_body as macro_body_move, macro_move as macro_move_of, move_of, one_part as one_part_of, other_move as other_move_of, part, plain_move as plain_move_of, repeat_move as repeat_move_of, repeat_times as repeat_times_move, repeated as repeated_level, turn_end as turn_end_move, turned, two_parts as two_parts_of, with_setting, word_move};
+ghost use Rattle.avr_macro.specs.Moves.{body_of as body_of_word, call as call_state, chosen_part as chosen_part_of, enter as enter_move, file_name as file_name_of, goes, if_move as if_move_of, if_valued, include_move as include_move_of, included, is_full as is_full_state, is_include as is_include_word, is_null as is_null_value, line_move as line_move_of, macro_body as macro_body_move, macro_move as macro_move_of, move_of, one_part as one_part_of, other_move as other_move_of, part, plain_move as plain_move_of, repeat_move as repeat_move_of, repeat_times as repeat_times_move, repeated as repeated_level, turn_end as turn_end_move, turned, two_parts as two_parts_of, with_setting, word_move};
 ghost use Rattle.avr_macro.specs.States.{first_state, inside as inside_level, passed as passed_level};
 ghost use Rattle.avr_macro.specs.Values.{setting_of as setting_of_text};
-ghost use Rattle.avr_macro.specs.Views.{CallsBody, seen_frame, seen_frames, seen_setting};
+ghost use Rattle.avr_macro.specs.declared.directives.Word.TheVariants as words;
+ghost use Rattle.avr_macro.specs.Views.{CallsBody, IsAt, seen_frame, seen_frames, seen_setting};
 
-use crate::arguments::{arguments_of, lacks_one, replaced_body};
-use crate::blocks::{if_else, if_end, macro_end, repeat_end};
+use crate::arguments::{arguments_of, body_in_call, lacks_one};
+use crate::bodies::{Macro, share};
 use crate::directives::{
-    Word, after_first_word, closes_well, directive_of, first_word, macro_name, operands_of,
+    Word, after_first_word, directive_of, first_word, macro_name, operands_of,
 };
-use crate::faults::MacroWhy;
-use crate::frames::{BLOCK_LIMIT, Frame, INCLUDE_LIMIT, share};
+use crate::ends::Closing;
+use crate::errors::MacroWhy;
+use crate::frames::{BLOCK_LIMIT, Frame, INCLUDE_LIMIT};
 use crate::lines::{is_bare, trimmed};
 use crate::macros::Macros;
 use crate::origin::Origin;
@@ -57,49 +59,10 @@ pub(crate) struct Expander {
     ghost few_lines: { reached ≤ 1048576 },
 }
 
-/// The lines after the next one of a level.
-fn later_lines(frame: &Frame) -> &[Vec<u8>]
-    requires { frame.now.at < frame.now.end }
-    ensures lines { map (λ line. line.items) result.now ≡ later (seen_frame frame.now) }
-    ensures count { length result.now + (frame.now.at + 1) ≡ frame.now.end }
-{
-    let body = frame.body.as_ref().as_slice();
-    &body[frame.at + 1..frame.end]
-}
-
-/// Some lines after the next one.
-fn first_lines(frame: &Frame, n: usize) -> &[Vec<u8>]
-    requires { frame.now.at + (n + 2) ≤ frame.now.end }
-    ensures lines { map (λ line. line.items) result.now ≡ part (seen_frame frame.now) 0 n }
-    ensures count { length result.now ≡ n }
-{
-    &later_lines(frame)[..n]
-}
-
-/// Whether the line after so many has no words that it may not have.
-#[tactic(auto, using(crate::proofs::Slices::line_at))]
-fn closed_by(lines: &[Vec<u8>], n: usize) -> bool
-    requires { n < length lines.now }
-    ensures { result ≡ closed_by_line (map (λ line. line.items) lines.now) n }
-{
-    closes_well(lines[n].as_slice())
-}
-
 fn is_null(value: i64) -> bool
     ensures { result ≡ is_null_value value }
 {
     value == 0
-}
-
-/// A copy of lines.
-fn copy_lines(alloc: Global, lines: &[Vec<u8>]) -> Result<Vec<Vec<u8>>, AllocError>
-    ensures { IfOk result (λ copy. texts copy ≡ map (λ line. line.items) lines.now) }
-{
-    let mut copy = Vec::with_capacity(alloc, lines.len())?;
-    for line in lines {
-        copy.push(Vec::from_slice(alloc, line.as_slice())?)?;
-    }
-    Ok(copy)
 }
 
 /// Adds a line to a text.
@@ -120,7 +83,7 @@ fn repeated(frame: &Frame, times: u32, n: usize) -> Result<Frame, AllocError>
     if times == 0 {
         frame.block(0, 0, 0, false, true)
     } else {
-        let well = closed_by(later_lines(frame), n);
+        let well = frame.closed_by(n);
         frame.block(0, n, times - 1, true, well)
     }
 }
@@ -131,7 +94,7 @@ fn one_part(frame: &Frame, chosen: bool, n: usize) -> Result<Frame, AllocError>
     requires left { frame.now.at + (n + 2) ≤ frame.now.end }
     ensures { IfOk result (λ inner. seen_frame inner ≡ one_part_of chosen n (seen_frame frame.now)) }
 {
-    let well = closed_by(later_lines(frame), n);
+    let well = frame.closed_by(n);
     let to = if chosen { n } else { 0 };
     frame.block(0, to, 0, false, well)
 }
@@ -143,8 +106,8 @@ fn two_parts(frame: &Frame, chosen: bool, m: usize, n: usize) -> Result<Frame, A
     requires parted { m < n }
     ensures { IfOk result (λ inner. seen_frame inner ≡ two_parts_of chosen m n (seen_frame frame.now)) }
 {
-    let parts_well = closed_by(later_lines(frame), m);
-    let well = parts_well && closed_by(later_lines(frame), n);
+    let parts_well = frame.closed_by(m);
+    let well = parts_well && frame.closed_by(n);
     if chosen {
         frame.block(0, m, 0, false, well)
     } else if parts_well {
@@ -154,24 +117,16 @@ fn two_parts(frame: &Frame, chosen: bool, m: usize, n: usize) -> Result<Frame, A
     }
 }
 
-/// How many lines of a conditional block stand before its `.else`.
-fn else_of(frame: &Frame, n: usize) -> Option<usize>
-    requires left { frame.now.at + (n + 2) ≤ frame.now.end }
-    ensures place { result ≡ if_else_in (part (seen_frame frame.now) 0 n) }
-    ensures within { IfSome result (λ m. m < n) }
-{
-    if_else(first_lines(frame, n))
-}
-
-/// The level of the chosen part of a conditional block.
-fn chosen_part(frame: &Frame, chosen: bool, n: usize) -> Result<Frame, AllocError>
+/// The level of the chosen part of a conditional block, whose end and `.else` come after so many lines.
+fn chosen_part(frame: &Frame, chosen: bool, closing: Closing) -> Result<Frame, AllocError>
     requires shallow { frame.now.blocks < 16 }
-    requires left { frame.now.at + (n + 2) ≤ frame.now.end }
-    ensures { IfOk result (λ inner. seen_frame inner ≡ chosen_part_of chosen (if_else_in (part (seen_frame frame.now) 0 n)) n (seen_frame frame.now)) }
+    requires left { frame.now.at + (closing.end + 2) ≤ frame.now.end }
+    requires inside { IfSome closing.part (λ m. m < closing.end) }
+    ensures { IfOk result (λ inner. seen_frame inner ≡ chosen_part_of chosen closing.part closing.end (seen_frame frame.now)) }
 {
-    match else_of(frame, n) {
-        None => one_part(frame, chosen, n),
-        Some(m) => two_parts(frame, chosen, m, n),
+    match closing.part {
+        None => one_part(frame, chosen, closing.end),
+        Some(m) => two_parts(frame, chosen, m, closing.end),
     }
 }
 
@@ -196,20 +151,15 @@ fn set(alloc: Global, constants: &mut Symbols, setting: Option<Setting>) -> Resu
     }
 }
 
-/// The lines of a call, by the line that calls.
-fn called_lines(
-    alloc: Global,
-    line: &[u8],
-    call: u32,
-    body: &[Vec<u8>],
-) -> Result<Vec<Vec<u8>>, MacroWhy>
-    ensures { CallsBody result (arguments_of_line (after_first_word_in line.now)) call (map (λ line. line.items) body.now) }
+/// The body of a call, by the line that calls.
+fn called_body(alloc: Global, line: &[u8], call: u32, body: &Macro) -> Result<Macro, MacroWhy>
+    ensures { CallsBody result (arguments_of_line (after_first_word_in line.now)) call (seen_macro body.now) }
 {
     let arguments = arguments_of(alloc, after_first_word(line))?;
     if lacks_one(arguments.len(), body) {
         return Err(MacroWhy::Argument);
     }
-    let lines = replaced_body(alloc, arguments.as_slice(), call, body)?;
+    let lines = body_in_call(alloc, arguments.as_slice(), call, body)?;
     Ok(lines)
 }
 
@@ -320,16 +270,17 @@ impl Expander {
         if self.macros.get(name).is_some() {
             return Err(MacroWhy::Twice);
         }
-        let well = closed_by(later_lines(&frame), n);
+        let well = frame.closed_by(n);
         let inner = frame.block(0, 0, 0, false, well)?;
-        let body = copy_lines(alloc, first_lines(&frame, n))?;
+        let body = frame.body_after(n)?;
         self.macros.define(alloc, name, body)?;
         self.enter(inner, frame.passed(n + 2))
     }
 
     /// `.macro NAME`
     fn macro_line(&mut self, alloc: Global, frame: Frame, operands: &[u8]) -> Result<(), MacroWhy>
-        requires { frame.at < frame.end }
+        requires left { frame.at < frame.end }
+        requires begins { IsAt words.Macro frame }
         ensures gives { Gives result (seen_expander self.new) (macro_move_of operands.now (seen_frame frame) (seen_expander self.old)) }
         ensures nearer { OnOk result (Nearer self.old self.new) }
     {
@@ -338,7 +289,7 @@ impl Expander {
         }
         match macro_name(operands) {
             None => Err(MacroWhy::Form),
-            Some(name) => match macro_end(later_lines(&frame)) {
+            Some(name) => match frame.macro_end() {
                 None => Err(MacroWhy::Unclosed),
                 Some(n) => self.define(alloc, frame, name, n),
             },
@@ -363,7 +314,8 @@ impl Expander {
 
     /// `.rept E`
     fn repeat_line(&mut self, alloc: Global, frame: Frame, operands: &[u8]) -> Result<(), MacroWhy>
-        requires { frame.at < frame.end }
+        requires left { frame.at < frame.end }
+        requires begins { IsAt words.Repeat frame }
         ensures gives { Gives result (seen_expander self.new) (repeat_move_of operands.now (seen_frame frame) (seen_expander self.old)) }
         ensures nearer { OnOk result (Nearer self.old self.new) }
     {
@@ -373,7 +325,7 @@ impl Expander {
         if is_bare(operands) {
             return Err(MacroWhy::Form);
         }
-        match repeat_end(later_lines(&frame)) {
+        match frame.repeat_end() {
             None => Err(MacroWhy::Unclosed),
             Some(n) => {
                 let times = text_value(alloc, &self.constants, operands)?;
@@ -382,17 +334,19 @@ impl Expander {
         }
     }
 
-    /// A part of a conditional block is chosen, whose end comes after so many lines.
-    fn choose(&mut self, frame: Frame, value: Option<i64>, n: usize) -> Result<(), MacroWhy>
+    /// A part of a conditional block is chosen, whose end and `.else` come after so many lines.
+    fn choose(&mut self, frame: Frame, value: Option<i64>, closing: Closing) -> Result<(), MacroWhy>
         requires shallow { frame.blocks < 16 }
-        requires left { frame.at + (n + 2) ≤ frame.end }
-        ensures gives { Gives result (seen_expander self.new) (if_valued value n (seen_frame frame) (seen_expander self.old)) }
+        requires left { frame.at + (closing.end + 2) ≤ frame.end }
+        requires parted { closing.part ≡ if_else_in (part (seen_frame frame) 0 closing.end) }
+        requires inside { IfSome closing.part (λ m. m < closing.end) }
+        ensures gives { Gives result (seen_expander self.new) (if_valued value closing.end (seen_frame frame) (seen_expander self.old)) }
         ensures nearer { OnOk result (Nearer self.old self.new) }
     {
         match value {
             Some(value) => {
-                let inner = chosen_part(&frame, !is_null(value), n)?;
-                self.enter(inner, frame.passed(n + 2))
+                let inner = chosen_part(&frame, !is_null(value), closing)?;
+                self.enter(inner, frame.passed(closing.end + 2))
             }
             None => Err(MacroWhy::Value),
         }
@@ -400,7 +354,8 @@ impl Expander {
 
     /// `.if E`
     fn if_line(&mut self, alloc: Global, frame: Frame, operands: &[u8]) -> Result<(), MacroWhy>
-        requires { frame.at < frame.end }
+        requires left { frame.at < frame.end }
+        requires begins { IsAt words.If frame }
         ensures gives { Gives result (seen_expander self.new) (if_move_of operands.now (seen_frame frame) (seen_expander self.old)) }
         ensures nearer { OnOk result (Nearer self.old self.new) }
     {
@@ -410,11 +365,11 @@ impl Expander {
         if is_bare(operands) {
             return Err(MacroWhy::Form);
         }
-        match if_end(later_lines(&frame)) {
+        match frame.condition_end() {
             None => Err(MacroWhy::Unclosed),
-            Some(n) => {
+            Some(closing) => {
                 let value = text_value(alloc, &self.constants, operands)?;
-                self.choose(frame, value, n)
+                self.choose(frame, value, closing)
             }
         }
     }
@@ -449,17 +404,17 @@ impl Expander {
         self.text.len() + (line.len() + 1) > TEXT_LIMIT as usize
     }
 
-    /// A macro is called, whose lines in this call are given.
-    fn call(&mut self, alloc: Global, frame: Frame, lines: Vec<Vec<u8>>) -> Result<(), MacroWhy>
+    /// A macro is called, whose body in this call is given.
+    fn call(&mut self, frame: Frame, lines: Macro) -> Result<(), MacroWhy>
         requires shallow { frame.blocks < 16 }
         requires left { frame.at < frame.end }
-        ensures gives { Gives result (seen_expander self.new) (enter_move (inside_level (seen_frame frame) (texts lines) 0 false true) (passed_level 1 (seen_frame frame)) (call_state (seen_expander self.old))) }
+        ensures gives { Gives result (seen_expander self.new) (enter_move (inside_level (seen_frame frame) (seen_macro lines) 0 false true) (passed_level 1 (seen_frame frame)) (call_state (seen_expander self.old))) }
         ensures nearer { OnOk result (Nearer self.old self.new) }
     {
         if self.is_full() {
             return Err(MacroWhy::Full);
         }
-        let inner = frame.call(alloc, lines)?;
+        let inner = frame.call(lines);
         push(&mut self.frames, frame.passed(1))?;
         push(&mut self.frames, inner)?;
         self.reached += 1;
@@ -468,8 +423,8 @@ impl Expander {
     }
 
     /// The body of the macro that a line calls.
-    fn called(&self, line: &[u8]) -> Option<&Vec<Vec<u8>>>
-        ensures { option_map (λ body. texts body.now) result ≡ body_of_word (first_word_of line.now) (seen_expander self.now) }
+    fn called(&self, line: &[u8]) -> Option<&Macro>
+        ensures { option_map (λ body. seen_macro body.now) result ≡ body_of_word (first_word_of line.now) (seen_expander self.now) }
     {
         match first_word(line) {
             Some(name) => self.macros.get(name),
@@ -490,8 +445,8 @@ impl Expander {
                 if frame.blocks >= BLOCK_LIMIT {
                     return Err(MacroWhy::Depth);
                 }
-                match called_lines(alloc, line, calls, body.as_slice()) {
-                    Ok(lines) => self.call(alloc, frame, lines),
+                match called_body(alloc, line, calls, body) {
+                    Ok(lines) => self.call(frame, lines),
                     Err(why) => Err(why),
                 }
             }
@@ -516,7 +471,8 @@ impl Expander {
         line: &[u8],
         word: Word,
     ) -> Result<(), MacroWhy>
-        requires { frame.at < frame.end }
+        requires left { frame.at < frame.end }
+        requires begins { IsAt word frame }
         ensures gives { is_include_word word ≡ false → Gives result (seen_expander self.new) (word_move word line.now (seen_frame frame) (seen_expander self.old)) }
         ensures nearer { OnOk result (Nearer self.old self.new) }
     {
@@ -562,7 +518,8 @@ impl Expander {
         frame: Frame,
         line: &[u8],
     ) -> Result<Option<Request>, MacroWhy>
-        requires { frame.at < frame.end }
+        requires left { frame.at < frame.end }
+        requires next { line.now ≡ slice_index_or frame.body.value.lines frame.at [] }
         ensures gives { GivesStep result (seen_expander self.old) (seen_expander self.new) (seen_frame frame) (line_move_of line.now (seen_frame frame) (seen_expander self.old)) }
         ensures nearer { IfOk result (λ request. IfNone request (Nearer self.old self.new)) }
         ensures asked { IfOk result (λ request. IsSome request → self.new ≡ self.old) }
@@ -592,7 +549,7 @@ impl Expander {
             };
         }
         let body = share(&frame.body)?;
-        let line = body.as_ref().as_slice()[frame.at].as_slice();
+        let line = body.as_ref().lines.line(frame.at);
         self.line(alloc, frame, line)
     }
 

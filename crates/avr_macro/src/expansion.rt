@@ -8,8 +8,8 @@ ghost use Rattle.avr_macro.specs.Expansion.{BeginsWith, End, Expands};
 ghost use Rattle.avr_macro.specs.Steps.{Nearer, seen_expander};
 ghost use Rattle.avr_macro.specs.Views.{seen_frame};
 
+use crate::errors::{MacroError, MacroWhy};
 use crate::expander::{Expander, Request, TEXT_LIMIT};
-use crate::faults::{MacroError, MacroWhy};
 use crate::flat::Flat;
 use crate::origin::Origin;
 use std::alloc::{AllocError, Global};

@@ -1,11 +1,12 @@
 //! A file, a block or a call, as far as it is expanded.
 
-ghost use Rattle.std.specs.Prelude.{◌≡◌, ◌<◌, ◌≤◌, ◌+◌, ◌-◌, ◌^◌, ◌∷◌, [], true, false, IfOk, Bool, length, drop, map, Vec, ℕ, nat_le, not};
-ghost use Rattle.std.specs.List.{slice_range};
-ghost use Rattle.avr_macro.specs.Blocks.{is_zero};
-ghost use Rattle.avr_macro.specs.Bodies.{texts};
+ghost use Rattle.std.specs.Prelude.{◌≡◌, ◌<◌, ◌≤◌, ◌+◌, ◌-◌, ◌^◌, [], true, false, IfOk, IfSome, length};
 ghost use Rattle.avr_macro.specs.States.{file_level, inside as inside_level, next_turn as next_turn_of, passed as passed_level, place_after as place_after_lines};
 
+use crate::arguments::are_plain;
+use crate::bodies::{Body, Macro, Text, share};
+use crate::directives::closes_well;
+use crate::ends::{Closing, closing_after, end_of};
 use crate::lines::lines_of;
 use crate::origin::Origin;
 use std::alloc::{AllocError, Global};
@@ -16,9 +17,6 @@ pub(crate) const BLOCK_LIMIT: u8 = 16;
 
 /// The greatest number of files that a file is included in.
 pub(crate) const INCLUDE_LIMIT: u8 = 8;
-
-/// The lines of a file or of a macro's body in a call.
-pub(crate) type Body = Rc<Vec<Vec<u8>>>;
 
 /// A file, a block or a call. Blocks share the lines of the file or call that they stand in.
 #[derive(Drop)]
@@ -43,19 +41,11 @@ pub(crate) struct Frame {
     pub blocks: u8,
     ghost turn: { start ≤ end },
     ghost order: { at ≤ end },
-    ghost within: { end ≤ length body.value.items },
+    ghost within: { end ≤ length body.value.lines },
     ghost few_includes: { includes ≤ 8 },
     ghost few_blocks: { blocks ≤ 16 },
     ghost repeats: { 0 < turns → 0 < blocks },
     ghost numbered: { blocks ≡ 0 → origin.line + (end - at) < 2 ^ 32 },
-}
-
-/// The lines once more, not copied.
-pub(crate) fn share(body: &Body) -> Result<Body, AllocError>
-    ensures { IfOk result (λ copy. copy.value ≡ body.now.value) }
-{
-    let copy = body.clone()?;
-    Ok(copy)
 }
 
 /// The place after some lines.
@@ -74,8 +64,12 @@ fn place_after(blocks: u8, n: usize, origin: Origin) -> Origin
 }
 
 impl Frame {
-    ghost use Rattle.avr_macro.specs.Moves.{part};
-    ghost use Rattle.avr_macro.specs.Views.{seen_frame};
+    ghost use Rattle.std.specs.Option.{option_map};
+    ghost use Rattle.avr_macro.specs.declared.directives.Word.TheVariants as words;
+    ghost use Rattle.avr_macro.specs.Blocks.{if_else as if_else_in, if_end as if_end_in, macro_end as macro_end_in, repeat_end as repeat_end_in};
+    ghost use Rattle.avr_macro.specs.Macros.{seen_macro};
+    ghost use Rattle.avr_macro.specs.Moves.{closed_by as closed_by_line, later, part};
+    ghost use Rattle.avr_macro.specs.Views.{IsAt, seen_frame};
 
     /// A file, from its first line on.
     #[tactic(auto, using(crate::proofs::Slices::whole_body))]
@@ -90,8 +84,8 @@ impl Frame {
         ensures { IfOk result (λ frame. seen_frame frame ≡ file_level file includes bytes.now) }
     {
         let lines = lines_of(alloc, bytes)?;
-        let end = lines.len();
-        let body = Rc::new(alloc, lines)?;
+        let end = lines.count();
+        let body = Rc::new(alloc, Text::new(alloc, lines)?)?;
         Ok(Frame {
             body,
             start: 0,
@@ -136,26 +130,89 @@ impl Frame {
         })
     }
 
-    /// A call, whose body is given.
-    #[tactic(auto, using(crate::proofs::Slices::whole_body))]
-    pub fn call(&self, alloc: Global, lines: Vec<Vec<u8>>) -> Result<Frame, AllocError>
-        requires shallow { self.now.blocks < 16 }
-        ensures { IfOk result (λ frame. seen_frame frame ≡ inside_level (seen_frame self.now) (texts lines) 0 false true) }
+    /// The macro whose body are so many of the lines after the next one.
+    #[tactic(auto, using(crate::proofs::Slices::first_part))]
+    pub fn body_after(&self, n: usize) -> Result<Macro, AllocError>
+        requires { self.now.at + (n + 2) ≤ self.now.end }
+        ensures { IfOk result (λ body. seen_macro body ≡ part (seen_frame self.now) 0 n) }
     {
-        let end = lines.len();
-        let body = Rc::new(alloc, lines)?;
-        Ok(Frame {
+        let body = share(&self.body)?;
+        let start = self.at + 1;
+        let end = start + n;
+        let plain = are_plain(&body.as_ref().lines, start, end);
+        Ok(Macro {
             body,
-            start: 0,
-            at: 0,
+            start,
             end,
+            plain,
+        })
+    }
+
+    /// Whether the line after the next one and so many more has no words that it may not have.
+    #[tactic(auto, using(crate::proofs::Slices::later_line))]
+    pub fn closed_by(&self, n: usize) -> bool
+        requires { self.now.at + (n + 2) ≤ self.now.end }
+        ensures { result ≡ closed_by_line (later (seen_frame self.now)) n }
+    {
+        closes_well(self.body.as_ref().lines.line(self.at + 1 + n))
+    }
+
+    /// How many of the lines after the next one stand before the end of the macro that begins there.
+    pub fn macro_end(&self) -> Option<usize>
+        requires left { self.now.at < self.now.end }
+        requires begins { IsAt words.Macro self.now }
+        ensures place { result ≡ macro_end_in (later (seen_frame self.now)) }
+        ensures within { IfSome result (λ n. self.now.at + (n + 2) ≤ self.now.end) }
+    {
+        let end = self.end;
+        let closing = self.body.as_ref().macro_closing(self.at);
+        end_of(closing_after(closing, self.at + 1, end))
+    }
+
+    /// How many of the lines after the next one stand before the end of the repeated block that begins there.
+    pub fn repeat_end(&self) -> Option<usize>
+        requires left { self.now.at < self.now.end }
+        requires begins { IsAt words.Repeat self.now }
+        ensures place { result ≡ repeat_end_in (later (seen_frame self.now)) }
+        ensures within { IfSome result (λ n. self.now.at + (n + 2) ≤ self.now.end) }
+    {
+        let end = self.end;
+        let closing = self.body.as_ref().repeat_closing(self.at);
+        end_of(closing_after(closing, self.at + 1, end))
+    }
+
+    /// How many of the lines after the next one stand before the end of the conditional block that begins there, and
+    /// before its `.else`.
+    pub fn condition_end(&self) -> Option<Closing>
+        requires left { self.now.at < self.now.end }
+        requires begins { IsAt words.If self.now }
+        ensures place { option_map (λ c. c.end) result ≡ if_end_in (later (seen_frame self.now)) }
+        ensures within { IfSome result (λ c. self.now.at + (c.end + 2) ≤ self.now.end) }
+        ensures parted { IfSome result (λ c. c.part ≡ if_else_in (part (seen_frame self.now) 0 c.end)) }
+        ensures inside { IfSome result (λ c. IfSome c.part (λ m. m < c.end)) }
+    {
+        let end = self.end;
+        let closing = self.body.as_ref().condition_closing(self.at);
+        closing_after(closing, self.at + 1, end)
+    }
+
+    /// A call, whose body is given.
+    pub fn call(&self, lines: Macro) -> Frame
+        requires shallow { self.now.blocks < 16 }
+        ensures { seen_frame result ≡ inside_level (seen_frame self.now) (seen_macro lines) 0 false true }
+    {
+        Frame {
+            body: lines.body,
+            start: lines.start,
+            at: lines.start,
+            end: lines.end,
             turns: 0,
             counted: false,
             well: true,
             origin: self.origin,
             includes: self.includes,
             blocks: self.blocks + 1,
-        })
+        }
     }
 
     /// After some of its lines.

@@ -3,21 +3,23 @@
 #![tactic(auto)]
 
 mod arguments;
-mod blocks;
+mod bodies;
 mod directives;
+mod ends;
+mod errors;
 mod expander;
 mod expansion;
-mod faults;
 mod flat;
 mod frames;
+mod kept_lines;
 mod laws;
 mod lines;
 mod macros;
 mod origin;
 mod values;
 
+pub use errors::{MacroError, MacroWhy};
 pub use expansion::expand;
-pub use faults::{MacroError, MacroWhy};
 pub use flat::Flat;
 pub use laws::expansion_is_unique;
 pub use origin::Origin;

@@ -3,8 +3,8 @@
 ghost use Rattle.std.specs.Prelude.{◌≡◌, ◌≤◌, IfOk, length, reverse};
 ghost use Rattle.avr_text.specs.Characters.{is_blank as is_blank_byte, is_digit as is_digit_byte, begins_name as begins_name_byte, is_word as is_word_byte};
 ghost use Rattle.avr_macro.specs.Lines.{after_blanks as after_blanks_in, after_word as after_word_in, begins_comment as begins_comment_at, is_bare as is_bare_text, lines_of as lines_of_text, trimmed as trimmed_text, without_return as without_return_in, word_of as word_of_text};
-ghost use Rattle.avr_macro.specs.Bodies.{texts};
 
+use crate::kept_lines::Lines;
 use std::alloc::{AllocError, Global};
 
 /// A space or a tab.
@@ -46,23 +46,23 @@ fn cut_return(line: &mut Vec<u8>)
 }
 
 /// The lines of a text, without their ends: LF or CRLF, which a last line may lack.
-pub(crate) fn lines_of(alloc: Global, text: &[u8]) -> Result<Vec<Vec<u8>>, AllocError>
-    ensures lines { IfOk result (λ lines. texts lines ≡ lines_of_text text.now) }
-    ensures few { IfOk result (λ lines. length lines.items ≤ length text.now) }
+pub(crate) fn lines_of(alloc: Global, text: &[u8]) -> Result<Lines, AllocError>
+    ensures lines { IfOk result (λ lines. lines ≡ lines_of_text text.now) }
+    ensures few { IfOk result (λ lines. length lines ≤ length text.now) }
 {
-    let mut lines = Vec::new(alloc);
+    let mut lines = Lines::new(alloc);
     let mut line = Vec::new(alloc);
     for byte in text {
         if *byte == b'\n' {
             cut_return(&mut line);
-            lines.push(line)?;
-            line = Vec::new(alloc);
+            lines = lines.with(line.as_slice())?;
+            line.clear();
         } else {
             line.push(*byte)?;
         }
     }
     if line.len() > 0 {
-        lines.push(line)?;
+        lines = lines.with(line.as_slice())?;
     }
     Ok(lines)
 }

@@ -3,8 +3,9 @@
 ghost use Rattle.std.specs.Prelude.{◌≡◌, OnErr, OnOk};
 ghost use Rattle.std.specs.Option.{option_map};
 ghost use Rattle.std.specs.FinMap as finmap;
-ghost use Rattle.avr_macro.specs.Bodies.{texts};
+ghost use Rattle.avr_macro.specs.Macros.{seen_macro};
 
+use crate::bodies::Macro;
 use std::alloc::{AllocError, Global};
 use std::collections::BTreeMap;
 use std::marker::Model;
@@ -14,7 +15,7 @@ use std::marker::Model;
 /// A clause sees a finite map from names to lines.
 #[derive(Drop)]
 pub(crate) struct Macros {
-    bodies: BTreeMap<Vec<u8>, Vec<Vec<u8>>>,
+    bodies: BTreeMap<Vec<u8>, Macro>,
 }
 
 impl Model for Macros {
@@ -23,7 +24,7 @@ impl Model for Macros {
     ghost use Rattle.std.specs.Cmp.Lexicographic.{slice_cmp};
     ghost use Rattle.std.specs.Coded.{coded_ℕ, coded_list};
     ghost use Rattle.std.specs.FinMap as map;
-    ghost use Rattle.avr_macro.specs.Bodies.{named};
+    ghost use Rattle.avr_macro.specs.Macros.{named};
 
     ghost Value = { map.FinMap (slice_cmp nat_cmp) (List (List ℕ)) };
 
@@ -43,20 +44,15 @@ impl Macros {
     }
 
     /// The body of a macro, and None exactly where none has that name.
-    pub fn get(&self, name: &[u8]) -> Option<&Vec<Vec<u8>>>
-        ensures { option_map (λ body. texts body.now) result ≡ finmap.get self.now name.now }
+    pub fn get(&self, name: &[u8]) -> Option<&Macro>
+        ensures { option_map (λ body. seen_macro body.now) result ≡ finmap.get self.now name.now }
     {
         self.bodies.get(name)
     }
 
     /// Defines a macro. After want of memory nothing is changed.
-    pub fn define(
-        &mut self,
-        alloc: Global,
-        name: &[u8],
-        body: Vec<Vec<u8>>,
-    ) -> Result<(), AllocError>
-        ensures ok { OnOk result (self.new ≡ finmap.insert self.old name.now (texts body)) }
+    pub fn define(&mut self, alloc: Global, name: &[u8], body: Macro) -> Result<(), AllocError>
+        ensures ok { OnOk result (self.new ≡ finmap.insert self.old name.now (seen_macro body)) }
         ensures err { OnErr result (self.new ≡ self.old) }
     {
         let name = Vec::from_slice(alloc, name)?;

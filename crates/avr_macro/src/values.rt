@@ -3,8 +3,7 @@
 ghost use Rattle.std.specs.Prelude.{◌≡◌, All, IfOk, IfSome, length};
 ghost use Rattle.std.specs.Option.{option_map};
 ghost use Rattle.avr_text.specs.Tokens.{Lies, tokens_of as tokens_of_text};
-ghost use Rattle.avr_text.specs.Reading.{is_mark_of};
-ghost use Rattle.avr_asm.specs.Lines.{is_name as is_name_token};
+ghost use Rattle.avr_asm.specs.Lines.{is_name as is_name_token, is_equals as is_equals_mark};
 ghost use Rattle.avr_macro.specs.Values.{cut_tokens, set_to as set_to_value, setting_of as setting_of_text, text_value as value_of_text, tokens_setting as setting_of_tokens, tokens_value as value_of_tokens};
 ghost use Rattle.avr_macro.specs.Views.{seen_setting};
 
@@ -68,7 +67,7 @@ fn is_name(kind: TokenKind) -> bool
 }
 
 fn is_equals(kind: TokenKind) -> bool
-    ensures { result ≡ is_mark_of 61 kind }
+    ensures { result ≡ is_equals_mark kind }
 {
     match kind {
         TokenKind::Mark(b'=') => true,

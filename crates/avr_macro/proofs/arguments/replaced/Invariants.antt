@@ -7,4 +7,5 @@ use Rattle.avr_macro.proofs.arguments.replaced.Given as goal
 abbrev pub invariant-loop-byte : goal.invariant-loop-byte
 invariant-loop-byte l =
     (call : ℕ) → l.number ≡ decimal call
-    → l.line.items ++ replaced_from (map (λ a. a.now) l.arguments) call l.named (drop l.byte-index l.text) ≡ replaced (map (λ a. a.now) l.arguments) call l.text
+    → l.line.items ++ replaced_from (map (λ a. a.now) l.arguments) call l.named (drop l.byte-index l.text) ≡ replaced
+    (map (λ a. a.now) l.arguments) call l.text

@@ -5,4 +5,5 @@ use Rattle.avr_macro.proofs.arguments.trim_each.Given as goal
 
 -- the arguments so far, and those of the rest
 abbrev pub invariant-loop-part : goal.invariant-loop-part
-invariant-loop-part l = lent l.arguments ++ map trimmed (map (λ part. part.now) (drop l.part-index l.parts)) ≡ map trimmed (map (λ part. part.now) l.parts)
+invariant-loop-part l = lent l.arguments ++ map trimmed (map (λ part. part.now) (drop l.part-index l.parts)) ≡ map trimmed
+    (map (λ part. part.now) l.parts)

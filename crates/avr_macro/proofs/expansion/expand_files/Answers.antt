@@ -6,12 +6,17 @@ use Rattle.avr_macro.proofs.expansion.expand_files.Goals as goal
 
 pub returns-in-Ok-run-clause-came : goal.returns-in-Ok-run-clause-came
 returns-in-Ok-run-clause-came g c =
-    all_expanded (g.H.Shelf.files c.args.shelf.now) (g.H.Shelf.files c.first_file.new.shelf) c.args.name.now (names_of c.begin_names.new.names) (names_of c.run.new.names) (seen_expander c.in-Ok-first_file.expander) (seen_expander c.run.new.expander)
+    all_expanded (g.H.Shelf.files c.args.shelf.now) (g.H.Shelf.files c.first_file.new.shelf) c.args.name.now
+    (names_of c.begin_names.new.names) (names_of c.run.new.names) (seen_expander c.in-Ok-first_file.expander)
+    (seen_expander c.run.new.expander)
     c.first_file.ensures.files c.in-Ok.ensures.ok c.in-Ok-first_file.ensures.begins c.in-Ok-run.ensures.runs
 
 pub returns-in-Err-run-clause-came : goal.returns-in-Err-run-clause-came
 returns-in-Err-run-clause-came g c =
-    cut_off (g.H.Shelf.files c.args.shelf.now) (g.H.Shelf.files c.first_file.new.shelf) (Rose (g.H.Shelf.load_faults c.first_file.new.shelf) (g.H.Shelf.load_faults c.run.new.shelf)) (Rose (g.H.Shelf.load_faults c.args.shelf.now) (g.H.Shelf.load_faults c.run.new.shelf))
-    c.args.name.now (names_of c.begin_names.new.names) (names_of c.run.new.names) (seen_expander c.in-Ok-first_file.expander) c.in-Err-run.error
+    cut_off (g.H.Shelf.files c.args.shelf.now) (g.H.Shelf.files c.first_file.new.shelf) (Rose (g.H.Shelf.load_faults c.first_file.new.shelf)
+    (g.H.Shelf.load_faults c.run.new.shelf)) (Rose (g.H.Shelf.load_faults c.args.shelf.now) (g.H.Shelf.load_faults c.run.new.shelf))
+    c.args.name.now (names_of c.begin_names.new.names) (names_of c.run.new.names) (seen_expander c.in-Ok-first_file.expander)
+    c.in-Err-run.error
     c.first_file.ensures.files c.in-Ok.ensures.ok c.in-Ok-first_file.ensures.begins
-    (rose_before (g.H.Shelf.load_faults c.args.shelf.now) (g.H.Shelf.load_faults c.first_file.new.shelf) (g.H.Shelf.load_faults c.run.new.shelf) c.first_file.ensures.load_faults) c.in-Err-run.ensures.runs
+    (rose_before (g.H.Shelf.load_faults c.args.shelf.now) (g.H.Shelf.load_faults c.first_file.new.shelf)
+    (g.H.Shelf.load_faults c.run.new.shelf) c.first_file.ensures.load_faults) c.in-Err-run.ensures.runs

@@ -7,7 +7,8 @@ use Rattle.avr_macro.proofs.expansion.run.Given as goal
 -- the lines so far are expanded
 abbrev pub invariant-lines : goal.invariant-lines
 invariant-lines g l = record {
-  reached : Reaches (g.H.Shelf.files l.initial.shelf) (names_of l.initial.names) (seen_expander l.initial.expander) (names_of l.names) (seen_expander l.expander);
+  reached : Reaches (g.H.Shelf.files l.initial.shelf) (names_of l.initial.names) (seen_expander l.initial.expander) (names_of l.names)
+      (seen_expander l.expander);
   files : g.H.Shelf.files l.shelf ≡ g.H.Shelf.files l.initial.shelf;
   open_file : g.H.Shelf.open_file l.shelf ≡ g.H.Shelf.open_file l.initial.shelf;
   load_faults : g.H.Shelf.load_faults l.initial.shelf ≤ g.H.Shelf.load_faults l.shelf;

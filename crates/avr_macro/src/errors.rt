@@ -1,5 +1,8 @@
 //! Why files are refused.
 
+ghost use Rattle.std.specs.Prelude.{◌≡◌};
+ghost use Rattle.avr_macro.specs.WhyNames.{macro_why_name};
+
 use crate::origin::Origin;
 use std::alloc::{AllocError, AllocFailed};
 
@@ -29,6 +32,26 @@ pub enum MacroWhy {
     Memory,
 }
 
+impl MacroWhy {
+    /// The name, as it is printed.
+    pub fn name(self) -> &'static str
+        ensures { result.now ≡ macro_why_name self }
+    {
+        match self {
+            MacroWhy::Unread => "Unread",
+            MacroWhy::TooLong => "TooLong",
+            MacroWhy::Depth => "Depth",
+            MacroWhy::Form => "Form",
+            MacroWhy::Unclosed => "Unclosed",
+            MacroWhy::Twice => "Twice",
+            MacroWhy::Value => "Value",
+            MacroWhy::Argument => "Argument",
+            MacroWhy::Full => "Full",
+            MacroWhy::Memory => "Memory",
+        }
+    }
+}
+
 /// The first line that is refused, and why.
 #[derive(Clone, Copy, Debug, PartialEq, Eq)]
 pub struct MacroError {
@@ -41,7 +64,7 @@ pub struct MacroError {
 
 impl From<AllocError> for MacroWhy {
     ghost use Rattle.std.specs.Prelude.{◌≡◌};
-    ghost use Rattle.avr_macro.specs.declared.faults.MacroWhy.TheVariants.{Memory};
+    ghost use Rattle.avr_macro.specs.declared.errors.MacroWhy.TheVariants.{Memory};
 
     ghost from_gives = { λ _ why. why ≡ Memory };
 
@@ -52,7 +75,7 @@ impl From<AllocError> for MacroWhy {
 
 impl<T: Drop> From<AllocFailed<T>> for MacroWhy {
     ghost use Rattle.std.specs.Prelude.{◌≡◌};
-    ghost use Rattle.avr_macro.specs.declared.faults.MacroWhy.TheVariants.{Memory};
+    ghost use Rattle.avr_macro.specs.declared.errors.MacroWhy.TheVariants.{Memory};
 
     ghost from_gives = { λ _ why. why ≡ Memory };
 

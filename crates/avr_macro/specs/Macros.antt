@@ -1,0 +1,13 @@
+-- The bodies of macros, as they are kept.
+use Rattle.std.specs.Prelude.{ℕ, List, map, Vec}
+use Rattle.std.specs.List.{slice_range}
+use Rattle.std.specs.declared.alloc.Global.{Global}
+use Rattle.avr_macro.specs.declared.bodies.Macro.{Macro}
+
+-- the lines of a macro
+abbrev pub seen_macro : Macro → List (List ℕ)
+seen_macro body = slice_range body.body.value.lines body.start body.end
+
+-- names and bodies as lists of bytes and of lines
+abbrev pub named : List (Vec ℕ Global × Macro) → List (List ℕ × List (List ℕ))
+named entries = map {B = List ℕ × List (List ℕ)} (λ (e : Vec ℕ Global × Macro). (e.0.items, seen_macro e.1)) entries
