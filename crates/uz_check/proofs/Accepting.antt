@@ -21,7 +21,8 @@ use Rattle.uz_soundness.specs.Acceptance.{Accepts}
 use Rattle.uz_check.specs.declared.refusal.RefusedWhy.{RefusedWhy}
 use Rattle.uz_check.specs.declared.refusal.RefusedWhy.TheVariants.{Schedule, Rest as RestWhy, Entry as EntryWhy}
 use Rattle.uz_check.specs.Unsteady.{first_unsteady}
-use Rattle.uz_check.specs.Refusal.{Why, ScheduleRefusal, RestRefusal, RestsRefusal, EntryRefusal, InstanceRefusal, LineRefusal, PointRefusal, PointsRefusal, FirstRefusal, IsThere}
+use Rattle.uz_check.specs.Refusal.{Why, ScheduleRefusal, RestRefusal, RestsRefusal, EntryRefusal, InstanceRefusal, LineRefusal}
+use Rattle.uz_check.specs.Refusal.{PointRefusal, PointsRefusal, FirstRefusal, IsThere}
 use Rattle.uz_check.proofs.SteadyTold.{and_true, steady_tells, steady_told, unsteady_there}
 
 -- an element of a list has a place
@@ -46,7 +47,8 @@ schedule_none s fits h = steady_tells s fits (no_place (first_unsteady s) h)
 
 schedule_some : (s : Frame) (why : RefusedWhy) → IsSteady s → ScheduleRefusal s (Some why) → ⊥
 unfolding ScheduleRefusal
-schedule_some s why steady h = let e : Some why ≡ None = h ∙ ap (option_map (λ place. Schedule place.0 place.1)) (steady_told s steady) in cc e
+schedule_some s why steady h = let e : Some why ≡ None = h ∙ ap (option_map (λ place. Schedule place.0 place.1)) (steady_told s steady) in
+    cc e
 
 -- The rests
 
@@ -65,9 +67,11 @@ rests_none cert h rest has =
     let at = h place.0 (omega arith) (omega (arith, place.1)) in
     subst (RestPasses cert) (same_some (slice_get cert.rests place.0) at.0 rest at.1 place.2) (rest_none cert at.0 at.2)
 
-rests_some : (cert : Cert) (why : RefusedWhy) → ((rest : Rest) → Contains cert.rests rest → RestPasses cert rest) → RestsRefusal cert (Some why) → ⊥
+rests_some : (cert : Cert) (why : RefusedWhy) → ((rest : Rest) → Contains cert.rests rest → RestPasses cert rest) → RestsRefusal cert
+    (Some why) → ⊥
 unfolding RestsRefusal
-rests_some cert why passes (i, low, high, (rest, found, refuses), before) = rest_some cert rest why (passes rest (in_list cert.rests i rest found)) refuses
+rests_some cert why passes (i, low, high, (rest, found, refuses), before) = rest_some cert rest why
+    (passes rest (in_list cert.rests i rest found)) refuses
 
 -- The entry
 
@@ -82,7 +86,8 @@ entry_some cert why passes h = h.0 passes
 -- The points
 
 abbrev AllPass : FinMap nat_cmp ℕ → Cert → Type 0
-AllPass image cert = (id l c : ℕ) (point : Point) → slice_get cert.points id ≡ Some point → is_in_box point l c ≡ true → IsLocal image cert id l c None
+AllPass image cert = (id l c : ℕ) (point : Point) → slice_get cert.points id ≡ Some point → is_in_box point l c ≡ true → IsLocal image cert
+    id l c None
 
 -- what a box's test says
 pub record InBox (point : Point) (l c : ℕ) : Type 0 where
@@ -96,39 +101,56 @@ box_tells point l c e =
     let both = and_true (leb point.l0 l && leb l point.l1) (leb point.c0 c && leb c point.c1) e in
     let lines = and_true (leb point.l0 l) (leb l point.l1) both.0 in
     let counts = and_true (leb point.c0 c) (leb c point.c1) both.1 in
-    record { line = leb-true point.l0 l lines.0; line_end = leb-true l point.l1 lines.1; count = leb-true point.c0 c counts.0; count_end = leb-true c point.c1 counts.1 }
+    record {
+      line = leb-true point.l0 l lines.0;
+      line_end = leb-true l point.l1 lines.1;
+      count = leb-true point.c0 c counts.0;
+      count_end = leb-true c point.c1 counts.1;
+    }
 
 pub box_told : (point : Point) (l c : ℕ) → InBox point l c → is_in_box point l c ≡ true
-box_told point l c h = rw (le-leb point.l0 l h.line, le-leb l point.l1 h.line_end, le-leb point.c0 c h.count, le-leb c point.c1 h.count_end) refl
+box_told point l c h = rw (le-leb point.l0 l h.line, le-leb l point.l1 h.line_end, le-leb point.c0 c h.count, le-leb c point.c1 h.count_end)
+    refl
 
 -- the local rule has one answer
-not_both : OneLocal → (image : FinMap nat_cmp ℕ) (cert : Cert) (id l c : ℕ) (fail : Fail) → IsLocal image cert id l c None → IsLocal image cert id l c (Some fail) → ⊥
+not_both : OneLocal → (image : FinMap nat_cmp ℕ) (cert : Cert) (id l c : ℕ) (fail : Fail) → IsLocal image cert id l c None → IsLocal image
+    cert id l c (Some fail) → ⊥
 not_both one image cert id l c fail h g = let e : None ≡ Some fail = one image cert id l c None (Some fail) h g in cc e
 
-instance_none : (image : FinMap nat_cmp ℕ) (cert : Cert) (id l c : ℕ) → InstanceRefusal image cert id l c None → IsLocal image cert id l c None
+instance_none : (image : FinMap nat_cmp ℕ) (cert : Cert) (id l c : ℕ) → InstanceRefusal image cert id l c None → IsLocal image cert id l c
+    None
 unfolding InstanceRefusal
 instance_none image cert id l c h = h
 
-instance_some : OneLocal → (image : FinMap nat_cmp ℕ) (cert : Cert) (id l c : ℕ) (why : RefusedWhy) → IsLocal image cert id l c None → InstanceRefusal image cert id l c (Some why) → ⊥
+instance_some : OneLocal → (image : FinMap nat_cmp ℕ) (cert : Cert) (id l c : ℕ) (why : RefusedWhy) → IsLocal image cert id l c None
+    → InstanceRefusal image cert id l c (Some why) → ⊥
 unfolding InstanceRefusal
 instance_some one image cert id l c why passes h = not_both one image cert id l c h.0 passes h.1
 
-line_none : (image : FinMap nat_cmp ℕ) (cert : Cert) (id : ℕ) (point : Point) (l : ℕ) → LineRefusal image cert id point l None → (c : ℕ) → point.c0 ≤ c → c ≤ point.c1 → IsLocal image cert id l c None
+line_none : (image : FinMap nat_cmp ℕ) (cert : Cert) (id : ℕ) (point : Point) (l : ℕ) → LineRefusal image cert id point l None → (c : ℕ)
+    → point.c0 ≤ c → c ≤ point.c1 → IsLocal image cert id l c None
 unfolding LineRefusal
 line_none image cert id point l h c low high = instance_none image cert id l c (h c low (omega (arith, low, high)))
 
-line_some : OneLocal → (image : FinMap nat_cmp ℕ) (cert : Cert) (id : ℕ) (point : Point) (l : ℕ) (why : RefusedWhy) → slice_get cert.points id ≡ Some point → AllPass image cert → point.l0 ≤ l → l ≤ point.l1 → LineRefusal image cert id point l (Some why) → ⊥
+line_some : OneLocal → (image : FinMap nat_cmp ℕ) (cert : Cert) (id : ℕ) (point : Point) (l : ℕ) (why : RefusedWhy) → slice_get cert.points
+    id ≡ Some point → AllPass image cert → point.l0 ≤ l → l ≤ point.l1 → LineRefusal image cert id point l (Some why) → ⊥
 unfolding LineRefusal
 line_some one image cert id point l why found passes line line_end (c, low, high, refuses, before) =
-    instance_some one image cert id l c why (passes id l c point found (box_told point l c (record { line = line; line_end = line_end; count = low; count_end = omega (arith, high, low) }))) refuses
+    instance_some one image cert id l c why
+    (passes id l c point found (box_told point l c
+    (record { line = line; line_end = line_end; count = low; count_end = omega (arith, high, low) }))) refuses
 
-point_none : (image : FinMap nat_cmp ℕ) (cert : Cert) (id : ℕ) (point : Point) → PointRefusal image cert id point None → (l c : ℕ) → InBox point l c → IsLocal image cert id l c None
+point_none : (image : FinMap nat_cmp ℕ) (cert : Cert) (id : ℕ) (point : Point) → PointRefusal image cert id point None → (l c : ℕ)
+    → InBox point l c → IsLocal image cert id l c None
 unfolding PointRefusal
-point_none image cert id point h l c box = line_none image cert id point l (h l box.line (omega (arith, box.line, box.line_end))) c box.count box.count_end
+point_none image cert id point h l c box = line_none image cert id point l (h l box.line (omega (arith, box.line, box.line_end))) c
+    box.count box.count_end
 
-point_some : OneLocal → (image : FinMap nat_cmp ℕ) (cert : Cert) (id : ℕ) (point : Point) (why : RefusedWhy) → slice_get cert.points id ≡ Some point → AllPass image cert → PointRefusal image cert id point (Some why) → ⊥
+point_some : OneLocal → (image : FinMap nat_cmp ℕ) (cert : Cert) (id : ℕ) (point : Point) (why : RefusedWhy) → slice_get cert.points
+    id ≡ Some point → AllPass image cert → PointRefusal image cert id point (Some why) → ⊥
 unfolding PointRefusal
-point_some one image cert id point why found passes (l, low, high, refuses, before) = line_some one image cert id point l why found passes low (omega (arith, low, high)) refuses
+point_some one image cert id point why found passes (l, low, high, refuses, before) = line_some one image cert id point l why found passes
+    low (omega (arith, low, high)) refuses
 
 points_none : (image : FinMap nat_cmp ℕ) (cert : Cert) → PointsRefusal image cert None → AllPass image cert
 unfolding PointsRefusal
@@ -138,9 +160,11 @@ points_none image cert h id l c point found box =
     let same = same_some (slice_get cert.points id) at.0 point at.1 found in
     point_none image cert id at.0 at.2 l c (box_tells at.0 l c (subst (λ p. is_in_box p l c ≡ true) (sym same) box))
 
-points_some : OneLocal → (image : FinMap nat_cmp ℕ) (cert : Cert) (why : RefusedWhy) → AllPass image cert → PointsRefusal image cert (Some why) → ⊥
+points_some : OneLocal → (image : FinMap nat_cmp ℕ) (cert : Cert) (why : RefusedWhy) → AllPass image cert → PointsRefusal image cert
+    (Some why) → ⊥
 unfolding PointsRefusal
-points_some one image cert why passes (id, low, high, (point, found, refuses), before) = point_some one image cert id point why found passes refuses
+points_some one image cert why passes (id, low, high, (point, found, refuses), before) = point_some one image cert id point why found passes
+    refuses
 
 -- All of it
 
@@ -152,13 +176,15 @@ rules_hold image cert fits h = record {
   points = points_none image cert h.1.1.1;
 }
 
-pub none_refuses : OneLocal → (image : FinMap nat_cmp ℕ) (cert : Cert) (why : RefusedWhy) → Accepts image cert → FirstRefusal image cert (Some why) → ⊥
+pub none_refuses : OneLocal → (image : FinMap nat_cmp ℕ) (cert : Cert) (why : RefusedWhy) → Accepts image cert → FirstRefusal image cert
+    (Some why) → ⊥
 none_refuses one image cert why h (inl schedule) = schedule_some cert.schedule why h.steady schedule
 none_refuses one image cert why h (inr (_, inl rests)) = rests_some cert why h.rests rests
 none_refuses one image cert why h (inr (_, inr (_, inl entry))) = entry_some cert why h.entry entry
 none_refuses one image cert why h (inr (_, inr (_, inr (_, points)))) = points_some one image cert why h.points points
 
-pub none_accepts : OneLocal → (image : FinMap nat_cmp ℕ) (cert : Cert) (why : Why) → ScheduleFits cert.schedule → FirstRefusal image cert why → IsNone why ↔ Accepts image cert
+pub none_accepts : OneLocal → (image : FinMap nat_cmp ℕ) (cert : Cert) (why : Why) → ScheduleFits cert.schedule → FirstRefusal image cert
+    why → IsNone why ↔ Accepts image cert
 none_accepts one image cert None fits h = (λ _. rules_hold image cert fits h, λ _. refl)
 none_accepts one image cert (Some why) fits h = (λ none. absurd cc, λ accepts. absurd (none_refuses one image cert why accepts h))
 
@@ -184,49 +210,61 @@ entry_fails_refusal cert h = (h, refl)
 
 schedule_there : (cert : Cert) (why : RefusedWhy) → ScheduleRefusal cert.schedule (Some why) → IsThere cert why
 unfolding ScheduleRefusal
-schedule_there cert why h = named (first_unsteady cert.schedule) (λ place e. unsteady_there cert.schedule 0 (length cert.schedule.lines) place e) h
+schedule_there cert why h = named (first_unsteady cert.schedule) (λ place e. unsteady_there cert.schedule 0 (length cert.schedule.lines)
+    place e) h
   where
-    named : (o : Option (ℕ × ℕ)) → ((place : ℕ × ℕ) → o ≡ Some place → place.0 < 0 + length cert.schedule.lines) → Some why ≡ option_map (λ place. Schedule place.0 place.1) o → IsThere cert why
+    named : (o : Option (ℕ × ℕ)) → ((place : ℕ × ℕ) → o ≡ Some place → place.0 < 0 + length cert.schedule.lines) → Some why ≡ option_map
+        (λ place. Schedule place.0 place.1) o → IsThere cert why
     named None there e = absurd cc
     named (Some place) there e =
         let is : Schedule place.0 place.1 ≡ why = cc in
         subst (IsThere cert) is (omega (arith, there place refl))
 
-rest_there : (cert : Cert) (rest : Rest) (why : RefusedWhy) → rest.line < length cert.schedule.lines → RestRefusal cert rest (Some why) → IsThere cert why
+rest_there : (cert : Cert) (rest : Rest) (why : RefusedWhy) → rest.line < length cert.schedule.lines → RestRefusal cert rest (Some why)
+    → IsThere cert why
 unfolding RestRefusal
 rest_there cert rest why line h = subst (IsThere cert) (sym h.1) line
 
-rests_there : (cert : Cert) (why : RefusedWhy) → ((rest : Rest) → Contains cert.rests rest → rest.line < length cert.schedule.lines) → RestsRefusal cert (Some why) → IsThere cert why
+rests_there : (cert : Cert) (why : RefusedWhy) → ((rest : Rest) → Contains cert.rests rest → rest.line < length cert.schedule.lines)
+    → RestsRefusal cert (Some why) → IsThere cert why
 unfolding RestsRefusal
-rests_there cert why lines (i, low, high, (rest, found, refuses), before) = rest_there cert rest why (lines rest (in_list cert.rests i rest found)) refuses
+rests_there cert why lines (i, low, high, (rest, found, refuses), before) = rest_there cert rest why
+    (lines rest (in_list cert.rests i rest found)) refuses
 
 entry_there : (cert : Cert) (why : RefusedWhy) → EntryRefusal cert (Some why) → IsThere cert why
 unfolding EntryRefusal
 entry_there cert why h = subst (IsThere cert) (sym h.1) tt
 
-instance_there : (image : FinMap nat_cmp ℕ) (cert : Cert) (id l c : ℕ) (why : RefusedWhy) → id < length cert.points → InstanceRefusal image cert id l c (Some why) → IsThere cert why
+instance_there : (image : FinMap nat_cmp ℕ) (cert : Cert) (id l c : ℕ) (why : RefusedWhy) → id < length cert.points → InstanceRefusal image
+    cert id l c (Some why) → IsThere cert why
 unfolding InstanceRefusal
 instance_there image cert id l c why few h = subst (IsThere cert) (sym h.2) few
 
-line_there : (image : FinMap nat_cmp ℕ) (cert : Cert) (id : ℕ) (point : Point) (l : ℕ) (why : RefusedWhy) → id < length cert.points → LineRefusal image cert id point l (Some why) → IsThere cert why
+line_there : (image : FinMap nat_cmp ℕ) (cert : Cert) (id : ℕ) (point : Point) (l : ℕ) (why : RefusedWhy) → id < length cert.points
+    → LineRefusal image cert id point l (Some why) → IsThere cert why
 unfolding LineRefusal
 line_there image cert id point l why few (c, low, high, refuses, before) = instance_there image cert id l c why few refuses
 
-point_there : (image : FinMap nat_cmp ℕ) (cert : Cert) (id : ℕ) (point : Point) (why : RefusedWhy) → id < length cert.points → PointRefusal image cert id point (Some why) → IsThere cert why
+point_there : (image : FinMap nat_cmp ℕ) (cert : Cert) (id : ℕ) (point : Point) (why : RefusedWhy) → id < length cert.points
+    → PointRefusal image cert id point (Some why) → IsThere cert why
 unfolding PointRefusal
 point_there image cert id point why few (l, low, high, refuses, before) = line_there image cert id point l why few refuses
 
 points_there : (image : FinMap nat_cmp ℕ) (cert : Cert) (why : RefusedWhy) → PointsRefusal image cert (Some why) → IsThere cert why
 unfolding PointsRefusal
-points_there image cert why (id, low, high, (point, found, refuses), before) = point_there image cert id point why (omega (arith, high)) refuses
+points_there image cert why (id, low, high, (point, found, refuses), before) = point_there image cert id point why (omega (arith, high))
+    refuses
 
-refusal_there : (image : FinMap nat_cmp ℕ) (cert : Cert) (why : RefusedWhy) → ((rest : Rest) → Contains cert.rests rest → rest.line < length cert.schedule.lines) → FirstRefusal image cert (Some why) → IsThere cert why
+refusal_there : (image : FinMap nat_cmp ℕ) (cert : Cert) (why : RefusedWhy) → ((rest : Rest) → Contains cert.rests rest → rest.line < length
+    cert.schedule.lines) → FirstRefusal image cert (Some why) → IsThere cert why
 refusal_there image cert why lines (inl schedule) = schedule_there cert why schedule
 refusal_there image cert why lines (inr (_, inl rests)) = rests_there cert why lines rests
 refusal_there image cert why lines (inr (_, inr (_, inl entry))) = entry_there cert why entry
 refusal_there image cert why lines (inr (_, inr (_, inr (_, points)))) = points_there image cert why points
 
-pub verdict_there : (image : FinMap nat_cmp ℕ) (cert : Cert) (why : Why) → WellFormed cert → FirstRefusal image cert why → IfSome why (IsThere cert)
+pub verdict_there : (image : FinMap nat_cmp ℕ) (cert : Cert) (why : Why) → WellFormed cert → FirstRefusal image cert why
+    → IfSome why (IsThere cert)
 verdict_there image cert None formed h = tt
 verdict_there image cert (Some why) formed h =
-    refusal_there image cert why (λ rest has. subst (λ (r : Rest). r.line < length cert.schedule.lines) has.2 (formed.rests.each has.0 rest has.1).line) h
+    refusal_there image cert why (λ rest has. subst (λ (r : Rest). r.line < length cert.schedule.lines) has.2
+    (formed.rests.each has.0 rest has.1).line) h

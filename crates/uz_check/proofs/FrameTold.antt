@@ -1,5 +1,6 @@
 -- The tests of a rest and of the entry hold exactly where their rules do.
-use Rattle.std.proofs.Common.{◌≡◌, inl, inr, All, Contains, ℕ, zero, suc, ◌+◌, ◌<◌, ◌≤◌, Bool, true, false, eqb, leb, ltb, List, [], ◌∷◌, length, refl, sym, ◌∙◌, ap, subst, arith}
+use Rattle.std.proofs.Common.{◌≡◌, inl, inr, All, Contains, ℕ, zero, suc, ◌+◌, ◌<◌, ◌≤◌, Bool, true, false, eqb, leb, ltb, List, [], ◌∷◌}
+use Rattle.std.proofs.Common.{length, refl, sym, ◌∙◌, ap, subst, arith}
 use Rattle.std.specs.Prelude.{Option, Some, None, ◌||◌, slice_index}
 use Rattle.std.proofs.lemmas.Bool.{le-leb, leb-true}
 use Rattle.std.proofs.lemmas.Bool.Decides.{nat_tests, eqb_tells, leb_tells}
@@ -19,7 +20,8 @@ use Rattle.uz_schedule.specs.declared.lines.Schedule.{Schedule}
 use Rattle.uz_schedule.specs.declared.states.Rest.{Rest}
 use Rattle.uz_schedule.specs.declared.certificate.Cert.{Cert}
 use Rattle.uz_soundness.specs.FrameRules.{RestPasses, EntryPasses}
-use Rattle.uz_check.specs.FrameTests.{none_after, none_until, none_after_in, none_until_in, is_leave, is_quiet_rest, enters_at, enters_always, rest_test, needs_no_rest, entry_test}
+use Rattle.uz_check.specs.FrameTests.{none_after, none_until, none_after_in, none_until_in, is_leave, is_quiet_rest, enters_at}
+use Rattle.uz_check.specs.FrameTests.{enters_always, rest_test, needs_no_rest, entry_test}
 use Rattle.uz_check.proofs.SteadyTold.{and_true}
 
 -- Events
@@ -61,10 +63,12 @@ found_later first later k e =
       | inr t ↦ rw t.0 at e
     ]
 
-after_told : (clock limit : ℕ) (events : List Event) → All (λ e. e.clock < limit) events → ((k : ℕ) → clock < k → k < limit → event_in events k ≡ None) → none_after clock events ≡ true
+after_told : (clock limit : ℕ) (events : List Event) → All (λ e. e.clock < limit) events
+    → ((k : ℕ) → clock < k → k < limit → event_in events k ≡ None) → none_after clock events ≡ true
 after_told clock limit [] fits h = refl
 after_told clock limit (first ∷ later) fits h =
-    let rest = after_told clock limit later (All-tail (λ e. e.clock < limit) first later fits) (λ k low high. found_later first later k (h k low high)) in
+    let rest = after_told clock limit later (All-tail (λ e. e.clock < limit) first later fits)
+    (λ k low high. found_later first later k (h k low high)) in
     elim (leb_tells first.clock clock) [
       | inl t ↦ rw (t.0, rest) refl
       | inr t ↦ absurd (found_here first later (h first.clock (omega (arith, t.1)) (fits zero first (omega arith))))
@@ -89,7 +93,8 @@ until_in_tells : (clock : ℕ) (o : Option (List Event)) → none_until_in clock
 until_in_tells clock None e k h = refl
 until_in_tells clock (Some events) e k h = until_tells clock events e k h
 
-after_in_told : (clock limit : ℕ) (o : Option (List Event)) → ((events : List Event) → o ≡ Some events → All (λ e. e.clock < limit) events) → ((k : ℕ) → clock < k → k < limit → event_in_kind o k ≡ None) → none_after_in clock o ≡ true
+after_in_told : (clock limit : ℕ) (o : Option (List Event)) → ((events : List Event) → o ≡ Some events → All (λ e. e.clock < limit) events)
+    → ((k : ℕ) → clock < k → k < limit → event_in_kind o k ≡ None) → none_after_in clock o ≡ true
 after_in_told clock limit None fits h = refl
 after_in_told clock limit (Some events) fits h = after_told clock limit events (fits events refl) h
 
@@ -108,7 +113,8 @@ response_few : (r : Response) → response_clocks r ≤ 5
 response_few Four = omega arith
 response_few Five = omega arith
 
-clocks_fit : (s : Schedule) → ScheduleFits s → (l : ℕ) (events : List Event) → events_of s l ≡ Some events → All (λ e. e.clock < length_of s l) events
+clocks_fit : (s : Schedule) → ScheduleFits s → (l : ℕ) (events : List Event) → events_of s l ≡ Some events
+    → All (λ e. e.clock < length_of s l) events
 clocks_fit s fits l events is =
     let k = slice_index s.lines l in
     let each = All-get_or EventsFit s.kinds k [] (slice_get_within s.kinds k events is) fits.kinds.each in
@@ -117,10 +123,13 @@ clocks_fit s fits l events is =
 
 -- A rest
 
-quiet_tells : (cert : Cert) (rest : Rest) → ScheduleFits cert.schedule → rest.line < length cert.schedule.lines → is_quiet_rest cert rest ≡ true
+quiet_tells : (cert : Cert) (rest : Rest) → ScheduleFits cert.schedule → rest.line < length cert.schedule.lines → is_quiet_rest cert
+    rest ≡ true
     → (event_at cert.schedule (start_of cert.schedule rest.line + rest.clock) ≡ Some Leave)
-    × ((k : ℕ) → rest.clock < k → k < length_of cert.schedule rest.line → event_at cert.schedule (start_of cert.schedule rest.line + k) ≡ None)
-    × ((k : ℕ) → k ≤ response_clocks cert.head.irq + 3 → event_at cert.schedule (start_of cert.schedule (next_line cert.schedule rest.line) + k) ≡ None)
+    × ((k : ℕ) → rest.clock < k → k < length_of cert.schedule rest.line → event_at cert.schedule (start_of cert.schedule rest.line + k)
+    ≡ None)
+    × ((k : ℕ) → k ≤ response_clocks cert.head.irq + 3 → event_at cert.schedule
+    (start_of cert.schedule (next_line cert.schedule rest.line) + k) ≡ None)
 quiet_tells cert rest fits line e =
     let s = cert.schedule in
     let leave = and_true (is_leave (event_at s (start_of s rest.line + rest.clock))) _ e in
@@ -128,16 +137,21 @@ quiet_tells cert rest fits line e =
     let few = response_few cert.head.irq in (
       leave_tells _ leave.0,
       λ k low high. event_of_place s rest.line k line high ∙ after_in_tells rest.clock (events_of s rest.line) both.0 k low,
-      λ k low. event_of_place s (next_line s rest.line) k (next_there s rest.line line) (omega (arith, low, few)) ∙ until_in_tells (response_clocks cert.head.irq + 3) (events_of s (next_line s rest.line)) both.1 k low,
+      λ k low. event_of_place s (next_line s rest.line) k (next_there s rest.line line) (omega (arith, low, few)) ∙ until_in_tells
+          (response_clocks cert.head.irq + 3) (events_of s (next_line s rest.line)) both.1 k low,
     )
 
-quiet_told : (cert : Cert) (rest : Rest) → ScheduleFits cert.schedule → rest.line < length cert.schedule.lines → RestPasses cert rest → is_quiet_rest cert rest ≡ true
+quiet_told : (cert : Cert) (rest : Rest) → ScheduleFits cert.schedule → rest.line < length cert.schedule.lines → RestPasses cert rest
+    → is_quiet_rest cert rest ≡ true
 quiet_told cert rest fits line h =
     let s = cert.schedule in
     let few = response_few cert.head.irq in
     let leave : is_leave (event_at s (start_of s rest.line + rest.clock)) ≡ true = ap is_leave h.leave in
-    let after = after_in_told rest.clock (length_of s rest.line) (events_of s rest.line) (clocks_fit s fits rest.line) (λ k low high. sym (event_of_place s rest.line k line high) ∙ h.quiet k low high) in
-    let until = until_in_told (response_clocks cert.head.irq + 3) (events_of s (next_line s rest.line)) (λ k low. sym (event_of_place s (next_line s rest.line) k (next_there s rest.line line) (omega (arith, low, few))) ∙ h.quiet_next k low) in
+    let after = after_in_told rest.clock (length_of s rest.line) (events_of s rest.line) (clocks_fit s fits rest.line)
+    (λ k low high. sym (event_of_place s rest.line k line high) ∙ h.quiet k low high) in
+    let until = until_in_told (response_clocks cert.head.irq + 3) (events_of s (next_line s rest.line))
+    (λ k low. sym (event_of_place s (next_line s rest.line) k (next_there s rest.line line) (omega (arith, low, few))) ∙ h.quiet_next k
+    low) in
     rw (leave, after, until) refl
 
 enters_tells : (cert : Cert) (rest : Rest) → enters_always cert rest ≡ true → (c : ℕ) → c ≤ 3 → enters_at cert rest c ≡ true
@@ -155,16 +169,24 @@ enters_tells cert rest e (suc (suc (suc zero))) few =
     (and_true (enters_at cert rest 2) (enters_at cert rest 3) rest2).1
 enters_tells cert rest e (suc (suc (suc (suc n)))) few = absurd (omega (arith, few))
 
-pub rest_tells : (cert : Cert) (rest : Rest) → ScheduleFits cert.schedule → rest.line < length cert.schedule.lines → rest_test cert rest ≡ true → RestPasses cert rest
+pub rest_tells : (cert : Cert) (rest : Rest) → ScheduleFits cert.schedule → rest.line < length cert.schedule.lines → rest_test cert
+    rest ≡ true → RestPasses cert rest
 unfolding rest_test
 rest_tells cert rest fits line e =
     let both = and_true (is_quiet_rest cert rest) (enters_always cert rest) e in
     let quiet = quiet_tells cert rest fits line both.0 in
     record { leave = quiet.0; quiet = quiet.1; quiet_next = quiet.2; vector = enters_tells cert rest both.1 }
 
-pub rest_told : (cert : Cert) (rest : Rest) → ScheduleFits cert.schedule → rest.line < length cert.schedule.lines → RestPasses cert rest → rest_test cert rest ≡ true
+pub rest_told : (cert : Cert) (rest : Rest) → ScheduleFits cert.schedule → rest.line < length cert.schedule.lines → RestPasses cert rest
+    → rest_test cert rest ≡ true
 unfolding rest_test
-rest_told cert rest fits line h = rw (quiet_told cert rest fits line h, h.vector 0 (omega arith), h.vector 1 (omega arith), h.vector 2 (omega arith), h.vector 3 (omega arith)) refl
+rest_told cert rest fits line h = rw (
+  quiet_told cert rest fits line h,
+  h.vector 0 (omega arith),
+  h.vector 1 (omega arith),
+  h.vector 2 (omega arith),
+  h.vector 3 (omega arith),
+) refl
 
 -- The entry
 
@@ -194,5 +216,6 @@ entry_tells cert e =
 pub entry_told : (cert : Cert) → EntryPasses cert → entry_test cert ≡ true
 unfolding entry_test
 entry_told cert h =
-    let given = rest_given cert.entry.kind (ltb 0 (length cert.rests)) (λ main. let rest = h.rest main in rest_some cert.rests rest.0 rest.1) in
+    let given = rest_given cert.entry.kind (ltb 0 (length cert.rests)) (λ main. let rest = h.rest main in
+    rest_some cert.rests rest.0 rest.1) in
     rw (given, h.lies) refl

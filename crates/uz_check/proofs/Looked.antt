@@ -1,5 +1,6 @@
 -- The lines of a point that aren't looked at: they pass where the lines before them do, and don't count.
-use Rattle.std.proofs.Common.{◌≡◌, inl, inr, ℕ, zero, suc, ◌+◌, ◌-◌, ◌*◌, ◌<◌, ◌≤◌, true, false, nat_lt, length, refl, sym, ◌∙◌, ap, subst, arith}
+use Rattle.std.proofs.Common.{◌≡◌, inl, inr, ℕ, zero, suc, ◌+◌, ◌-◌, ◌*◌, ◌<◌, ◌≤◌, true, false, nat_lt, length, refl, sym, ◌∙◌, ap, subst}
+use Rattle.std.proofs.Common.{arith}
 use Rattle.std.specs.Prelude.{Some, None, slice_get}
 use Rattle.std.specs.Ordering.{nat_cmp}
 use Rattle.std.specs.FinMap.{FinMap}
@@ -26,7 +27,8 @@ on_line p l h g = grind (arith, nat_tests)
 
 -- What is told passes
 
-instance_passes : FoldingLaw → (image : FinMap nat_cmp ℕ) (cert : Cert) (id l c : ℕ) (p : Point) → slice_get cert.points id ≡ Some p → p.l1 < length cert.schedule.lines → suc l ≤ p.l1 → is_told cert p (suc l) ≡ true
+instance_passes : FoldingLaw → (image : FinMap nat_cmp ℕ) (cert : Cert) (id l c : ℕ) (p : Point) → slice_get cert.points id ≡ Some p
+    → p.l1 < length cert.schedule.lines → suc l ≤ p.l1 → is_told cert p (suc l) ≡ true
     → InstanceRefusal image cert id l c None → InstanceRefusal image cert id (suc l) c None
 unfolding InstanceRefusal
 instance_passes law image cert id l c p found inside within told passes =
@@ -34,35 +36,46 @@ instance_passes law image cert id l c p found inside within told passes =
     let after : p.l0 ≤ l = grind (arith, nat_tests, both.0) in
     let back : suc l - 1 ≡ l = omega arith in
     let next = next_is cert.schedule l (omega (arith, within, inside)) in
-    let there : is_on_line p (next_line cert.schedule l) ≡ true = ap (is_on_line p) next ∙ on_line p (suc l) (omega (arith, after)) within in
-    let same = law image cert id l c p None found (omega (arith, within, inside)) (on_line p l after (omega (arith, within))) there (sym (ap (folds cert p) back) ∙ both.1) in
+    let there : is_on_line p (next_line cert.schedule l) ≡ true = ap (is_on_line p) next ∙ on_line p (suc l) (omega (arith, after))
+    within in
+    let same = law image cert id l c p None found (omega (arith, within, inside)) (on_line p l after (omega (arith, within))) there
+    (sym (ap (folds cert p) back) ∙ both.1) in
     subst (λ n. IsLocal image cert id n c None) next (same.0 passes)
 
-line_passes : FoldingLaw → (image : FinMap nat_cmp ℕ) (cert : Cert) (id l : ℕ) (p : Point) → slice_get cert.points id ≡ Some p → p.l1 < length cert.schedule.lines → suc l ≤ p.l1 → is_told cert p (suc l) ≡ true
+line_passes : FoldingLaw → (image : FinMap nat_cmp ℕ) (cert : Cert) (id l : ℕ) (p : Point) → slice_get cert.points id ≡ Some p
+    → p.l1 < length cert.schedule.lines → suc l ≤ p.l1 → is_told cert p (suc l) ≡ true
     → LineRefusal image cert id p l None → LineRefusal image cert id p (suc l) None
 unfolding LineRefusal
-line_passes law image cert id l p found inside within told passes c low high = instance_passes law image cert id l c p found inside within told (passes c low high)
+line_passes law image cert id l p found inside within told passes c low high = instance_passes law image cert id l c p found inside within
+    told (passes c low high)
 
 -- where line l passes, so do those after it that are told
-pub told_pass : FoldingLaw → (image : FinMap nat_cmp ℕ) (cert : Cert) (id l n : ℕ) (p : Point) → slice_get cert.points id ≡ Some p → p.l1 < length cert.schedule.lines → l + n ≤ p.l1
-    → ((k : ℕ) → suc l ≤ k → k ≤ l + n → is_told cert p k ≡ true) → LineRefusal image cert id p l None → LineRefusal image cert id p (l + n) None
+pub told_pass : FoldingLaw → (image : FinMap nat_cmp ℕ) (cert : Cert) (id l n : ℕ) (p : Point) → slice_get cert.points id ≡ Some p
+    → p.l1 < length cert.schedule.lines → l + n ≤ p.l1
+    → ((k : ℕ) → suc l ≤ k → k ≤ l + n → is_told cert p k ≡ true) → LineRefusal image cert id p l None → LineRefusal image cert id p (l + n)
+    None
 told_pass law image cert id l zero p found inside within told passes =
     let same : l ≡ l + zero = omega arith in
     subst (λ k. LineRefusal image cert id p k None) same passes
 told_pass law image cert id l (suc n) p found inside within told passes =
-    let before = told_pass law image cert id l n p found inside (omega (arith, within)) (λ k low high. told k low (omega (arith, high))) passes in
+    let before = told_pass law image cert id l n p found inside (omega (arith, within)) (λ k low high. told k low (omega (arith, high)))
+    passes in
     let on : suc (l + n) ≡ l + suc n = omega arith in
-    subst (λ k. LineRefusal image cert id p k None) on (line_passes law image cert id (l + n) p found inside (omega (arith, within)) (told (suc (l + n)) (omega arith) (omega arith)) before)
+    subst (λ k. LineRefusal image cert id p k None) on (line_passes law image cert id (l + n) p found inside (omega (arith, within))
+    (told (suc (l + n)) (omega arith) (omega arith)) before)
 
 -- the lines up to the next one that isn't told
-pub lines_more : FoldingLaw → (image : FinMap nat_cmp ℕ) (cert : Cert) (id l next : ℕ) (p : Point) → slice_get cert.points id ≡ Some p → p.l1 < length cert.schedule.lines → next ≤ suc p.l1 → ((k : ℕ) → l + 1 ≤ k → k < next → is_told cert p k ≡ true)
-    → ((j : ℕ) → p.l0 ≤ j → j < l → LineRefusal image cert id p j None) → LineRefusal image cert id p l None → (j : ℕ) → p.l0 ≤ j → j < next → LineRefusal image cert id p j None
+pub lines_more : FoldingLaw → (image : FinMap nat_cmp ℕ) (cert : Cert) (id l next : ℕ) (p : Point) → slice_get cert.points id ≡ Some p
+    → p.l1 < length cert.schedule.lines → next ≤ suc p.l1 → ((k : ℕ) → l + 1 ≤ k → k < next → is_told cert p k ≡ true)
+    → ((j : ℕ) → p.l0 ≤ j → j < l → LineRefusal image cert id p j None) → LineRefusal image cert id p l None → (j : ℕ) → p.l0 ≤ j → j < next
+    → LineRefusal image cert id p j None
 lines_more law image cert id l next p found inside within told before now j low high =
     elim (leb_tells l j) [
       | inl t ↦
           let on : l + (j - l) ≡ j = omega (arith, t.1) in
           subst (λ k. LineRefusal image cert id p k None) on
-          (told_pass law image cert id l (j - l) p found inside (omega (arith, t.1, high, within)) (λ k a b. told k (omega (arith, a)) (omega (arith, b, t.1, high))) now)
+          (told_pass law image cert id l (j - l) p found inside (omega (arith, t.1, high, within))
+          (λ k a b. told k (omega (arith, a)) (omega (arith, b, t.1, high))) now)
       | inr t ↦ before j low (omega (arith, t.1))
     ]
 
@@ -71,18 +84,22 @@ lines_more law image cert id l next p found inside within told before now j low 
 told_more : (cert : Cert) (p : Point) (n : ℕ) → is_told cert p (p.l0 + n) ≡ true → untold_lines cert p (suc n) ≡ untold_lines cert p n
 told_more cert p n h = rw h (omega arith)
 
-untold_more : (cert : Cert) (p : Point) (n : ℕ) → is_told cert p (p.l0 + n) ≡ false → untold_lines cert p (suc n) ≡ suc (untold_lines cert p n)
+untold_more : (cert : Cert) (p : Point) (n : ℕ) → is_told cert p (p.l0 + n) ≡ false → untold_lines cert p (suc n) ≡ suc
+    (untold_lines cert p n)
 untold_more cert p n h = rw h (omega arith)
 
-told_lines : (cert : Cert) (p : Point) (n k : ℕ) → ((j : ℕ) → p.l0 + n ≤ j → j < p.l0 + (n + k) → is_told cert p j ≡ true) → untold_lines cert p (n + k) ≡ untold_lines cert p n
+told_lines : (cert : Cert) (p : Point) (n k : ℕ) → ((j : ℕ) → p.l0 + n ≤ j → j < p.l0 + (n + k) → is_told cert p j ≡ true)
+    → untold_lines cert p (n + k) ≡ untold_lines cert p n
 told_lines cert p n zero told = ap (untold_lines cert p) (omega arith)
 told_lines cert p n (suc k) told =
     let on : n + suc k ≡ suc (n + k) = omega arith in
     ap (untold_lines cert p) on
-    ∙ (told_more cert p (n + k) (told (p.l0 + (n + k)) (omega arith) (omega arith)) ∙ told_lines cert p n k (λ j low high. told j low (omega (arith, high))))
+    ∙ (told_more cert p (n + k) (told (p.l0 + (n + k)) (omega arith) (omega arith)) ∙ told_lines cert p n k
+    (λ j low high. told j low (omega (arith, high))))
 
 -- one line that isn't told, and those that it tells of
-pub one_more_line : (cert : Cert) (p : Point) (l next w : ℕ) → p.l0 ≤ l → l + 1 ≤ next → is_told cert p l ≡ false → ((k : ℕ) → l + 1 ≤ k → k < next → is_told cert p k ≡ true)
+pub one_more_line : (cert : Cert) (p : Point) (l next w : ℕ) → p.l0 ≤ l → l + 1 ≤ next → is_told cert p l ≡ false
+    → ((k : ℕ) → l + 1 ≤ k → k < next → is_told cert p k ≡ true)
     → untold_lines cert p (next - p.l0) * w ≡ untold_lines cert p (l - p.l0) * w + w
 one_more_line cert p l next w low on h told =
     let n = l - p.l0 in
@@ -121,12 +138,14 @@ times_more a b (suc w) h =
     omega (arith, less, left, right, h)
 
 -- a line of the box that isn't told, with those before it, is part of the whole box
-pub line_of_box : (cert : Cert) (p : Point) (l w : ℕ) → p.l0 ≤ l → l ≤ p.l1 → is_told cert p l ≡ false → untold_lines cert p (l - p.l0) * w + w ≤ untold_lines cert p (suc p.l1 - p.l0) * w
+pub line_of_box : (cert : Cert) (p : Point) (l w : ℕ) → p.l0 ≤ l → l ≤ p.l1 → is_told cert p l ≡ false → untold_lines cert p
+    (l - p.l0) * w + w ≤ untold_lines cert p (suc p.l1 - p.l0) * w
 line_of_box cert p l w low high h =
     let here = one_more_line cert p l (l + 1) w low (omega arith) h (λ k a b. absurd (omega (arith, a, b))) in
     let parts : (l + 1 - p.l0) + (p.l1 - l) ≡ suc p.l1 - p.l0 = omega (arith, low, high) in
     let grows = untold_grows cert p (l + 1 - p.l0) (p.l1 - l) in
-    let all = times_more (untold_lines cert p (l + 1 - p.l0)) (untold_lines cert p (suc p.l1 - p.l0)) w (subst (λ k. untold_lines cert p (l + 1 - p.l0) ≤ untold_lines cert p k) parts grows) in
+    let all = times_more (untold_lines cert p (l + 1 - p.l0)) (untold_lines cert p (suc p.l1 - p.l0)) w
+    (subst (λ k. untold_lines cert p (l + 1 - p.l0) ≤ untold_lines cert p k) parts grows) in
     omega (arith, here, all)
 
 -- the first line of a box isn't told

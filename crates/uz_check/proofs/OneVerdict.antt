@@ -5,7 +5,7 @@ use Rattle.std.specs.Option.{option_map}
 use Rattle.std.specs.Ordering.{nat_cmp}
 use Rattle.std.specs.FinMap.{FinMap}
 use Rattle.std.proofs.lemmas.Bool.Decides.{leb_tells}
-use Rattle.uz_rules.proofs.LocalLaws.{one_local}
+use Rattle.uz_rules.proofs.LocalLaws.{local_is_unique}
 use Rattle.uz_rules.specs.Local.{IsLocal, OneLocal}
 use Rattle.uz_schedule.specs.declared.lines.Schedule.{Schedule as Frame}
 use Rattle.uz_schedule.specs.declared.states.Rest.{Rest}
@@ -15,7 +15,8 @@ use Rattle.uz_soundness.specs.Acceptance.{Accepts}
 use Rattle.uz_soundness.specs.FrameRules.{RestPasses}
 use Rattle.uz_check.specs.declared.refusal.RefusedWhy.{RefusedWhy}
 use Rattle.uz_check.specs.declared.refusal.RefusedWhy.TheVariants.{Schedule, Point as PointWhy}
-use Rattle.uz_check.specs.Refusal.{Why, FirstOf, InTurn, ScheduleRefusal, RestRefusal, RestsRefusal, EntryRefusal, InstanceRefusal, LineRefusal, PointRefusal, PointsRefusal, FirstRefusal}
+use Rattle.uz_check.specs.Refusal.{Why, FirstOf, InTurn, ScheduleRefusal, RestRefusal, RestsRefusal, EntryRefusal, InstanceRefusal}
+use Rattle.uz_check.specs.Refusal.{LineRefusal, PointRefusal, PointsRefusal, FirstRefusal}
 use Rattle.uz_check.proofs.SteadyTold.{steady_told}
 use Rattle.uz_check.proofs.Accepting.{box_told, in_list}
 
@@ -71,7 +72,8 @@ rest_at_one cert i a b (rest, found, h) (other, there, g) =
 
 rests_one : (cert : Cert) → One (RestsRefusal cert)
 unfolding RestsRefusal
-rests_one cert = first_one (λ i o. (rest : Rest) × (slice_get cert.rests i ≡ Some rest) × RestRefusal cert rest o) 0 (length cert.rests) (rest_at_one cert)
+rests_one cert = first_one (λ i o. (rest : Rest) × (slice_get cert.rests i ≡ Some rest) × RestRefusal cert rest o) 0 (length cert.rests)
+    (rest_at_one cert)
 
 entry_one : (cert : Cert) → One (EntryRefusal cert)
 unfolding EntryRefusal
@@ -83,8 +85,10 @@ entry_one cert (Some a) (Some b) h g = ap (λ w. Some w) (h.1 ∙ sym g.1)
 instance_one : OneLocal → (image : FinMap nat_cmp ℕ) (cert : Cert) (id l c : ℕ) → One (InstanceRefusal image cert id l c)
 unfolding InstanceRefusal
 instance_one one image cert id l c None None h g = refl
-instance_one one image cert id l c None (Some b) h g = absurd (let e : None ≡ Some g.0 = one image cert id l c None (Some g.0) h g.1 in cc e)
-instance_one one image cert id l c (Some a) None h g = absurd (let e : Some h.0 ≡ None = one image cert id l c (Some h.0) None h.1 g in cc e)
+instance_one one image cert id l c None (Some b) h g = absurd (let e : None ≡ Some g.0 = one image cert id l c None (Some g.0) h g.1 in
+    cc e)
+instance_one one image cert id l c (Some a) None h g = absurd (let e : Some h.0 ≡ None = one image cert id l c (Some h.0) None h.1 g in
+    cc e)
 instance_one one image cert id l c (Some a) (Some b) h g =
     let e : Some h.0 ≡ Some g.0 = one image cert id l c (Some h.0) (Some g.0) h.1 g.1 in
     let same : h.0 ≡ g.0 = cc in
@@ -98,22 +102,27 @@ point_one : OneLocal → (image : FinMap nat_cmp ℕ) (cert : Cert) (id : ℕ) (
 unfolding PointRefusal
 point_one one image cert id point = first_one (LineRefusal image cert id point) point.l0 _ (line_one one image cert id point)
 
-point_at_one : OneLocal → (image : FinMap nat_cmp ℕ) (cert : Cert) (id : ℕ) → One (λ o. (point : Point) × (slice_get cert.points id ≡ Some point) × PointRefusal image cert id point o)
+point_at_one : OneLocal → (image : FinMap nat_cmp ℕ) (cert : Cert) (id : ℕ)
+    → One (λ o. (point : Point) × (slice_get cert.points id ≡ Some point) × PointRefusal image cert id point o)
 point_at_one one image cert id a b (point, found, h) (other, there, g) =
     let same = same_some (slice_get cert.points id) other point there found in
     point_one one image cert id point a b h (subst (λ p. PointRefusal image cert id p b) same g)
 
 points_one : OneLocal → (image : FinMap nat_cmp ℕ) (cert : Cert) → One (PointsRefusal image cert)
 unfolding PointsRefusal
-points_one one image cert = first_one (λ id o. (point : Point) × (slice_get cert.points id ≡ Some point) × PointRefusal image cert id point o) 0 (length cert.points) (point_at_one one image cert)
+points_one one image cert = first_one (λ id o. (point : Point) × (slice_get cert.points id ≡ Some point) × PointRefusal image cert id point
+    o) 0 (length cert.points) (point_at_one one image cert)
 
 pub one_refusal : OneLocal → (image : FinMap nat_cmp ℕ) (cert : Cert) → One (FirstRefusal image cert)
 one_refusal one image cert =
-    turn_one (ScheduleRefusal cert.schedule) (InTurn (RestsRefusal cert) (InTurn (EntryRefusal cert) (PointsRefusal image cert))) (schedule_one cert.schedule)
-    (turn_one (RestsRefusal cert) (InTurn (EntryRefusal cert) (PointsRefusal image cert)) (rests_one cert) (turn_one (EntryRefusal cert) (PointsRefusal image cert) (entry_one cert) (points_one one image cert)))
+    turn_one (ScheduleRefusal cert.schedule) (InTurn (RestsRefusal cert) (InTurn (EntryRefusal cert) (PointsRefusal image cert)))
+    (schedule_one cert.schedule)
+    (turn_one (RestsRefusal cert) (InTurn (EntryRefusal cert) (PointsRefusal image cert)) (rests_one cert)
+    (turn_one (EntryRefusal cert) (PointsRefusal image cert) (entry_one cert) (points_one one image cert)))
 
-pub verdict_is_one : (image : FinMap nat_cmp ℕ) (cert : Cert) (a b : Option RefusedWhy) → FirstRefusal image cert a → FirstRefusal image cert b → a ≡ b
-verdict_is_one image cert a b h g = one_refusal one_local image cert a b h g
+pub verdict_is_one : (image : FinMap nat_cmp ℕ) (cert : Cert) (a b : Option RefusedWhy) → FirstRefusal image cert a → FirstRefusal image
+    cert b → a ≡ b
+verdict_is_one image cert a b h g = one_refusal local_is_unique image cert a b h g
 
 -- Nothing refuses where the rules hold
 
@@ -140,16 +149,21 @@ entry_accepts : (cert : Cert) (image : FinMap nat_cmp ℕ) → Accepts image cer
 unfolding EntryRefusal
 entry_accepts cert image h = h.entry
 
-instance_accepts : (image : FinMap nat_cmp ℕ) (cert : Cert) (id l c : ℕ) → IsLocal image cert id l c None → InstanceRefusal image cert id l c None
+instance_accepts : (image : FinMap nat_cmp ℕ) (cert : Cert) (id l c : ℕ) → IsLocal image cert id l c None → InstanceRefusal image cert id l
+    c None
 unfolding InstanceRefusal
 instance_accepts image cert id l c h = h
 
-line_accepts : (image : FinMap nat_cmp ℕ) (cert : Cert) (id : ℕ) (point : Point) (l : ℕ) → Accepts image cert → slice_get cert.points id ≡ Some point → point.l0 ≤ l → l ≤ point.l1 → LineRefusal image cert id point l None
+line_accepts : (image : FinMap nat_cmp ℕ) (cert : Cert) (id : ℕ) (point : Point) (l : ℕ) → Accepts image cert → slice_get cert.points
+    id ≡ Some point → point.l0 ≤ l → l ≤ point.l1 → LineRefusal image cert id point l None
 unfolding LineRefusal
 line_accepts image cert id point l h found line line_end c low high =
-    instance_accepts image cert id l c (h.points id l c point found (box_told point l c (record { line = line; line_end = line_end; count = low; count_end = omega (arith, high, low) })))
+    instance_accepts image cert id l c
+    (h.points id l c point found (box_told point l c
+    (record { line = line; line_end = line_end; count = low; count_end = omega (arith, high, low) })))
 
-point_accepts : (image : FinMap nat_cmp ℕ) (cert : Cert) (id : ℕ) (point : Point) → Accepts image cert → slice_get cert.points id ≡ Some point → PointRefusal image cert id point None
+point_accepts : (image : FinMap nat_cmp ℕ) (cert : Cert) (id : ℕ) (point : Point) → Accepts image cert → slice_get cert.points id ≡ Some
+    point → PointRefusal image cert id point None
 unfolding PointRefusal
 point_accepts image cert id point h found l low high = line_accepts image cert id point l h found low (omega (arith, high, low))
 
@@ -160,4 +174,7 @@ points_accept image cert h id low high =
     (at.0, at.1, point_accepts image cert id at.0 h at.1)
 
 pub accepted_none : (image : FinMap nat_cmp ℕ) (cert : Cert) → Accepts image cert → FirstRefusal image cert None
-accepted_none image cert h = (schedule_accepts cert image h, (rests_accept cert image h, (entry_accepts cert image h, points_accept image cert h)))
+accepted_none image cert h = (
+  schedule_accepts cert image h,
+  (rests_accept cert image h, (entry_accepts cert image h, points_accept image cert h)),
+)

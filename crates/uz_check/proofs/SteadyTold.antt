@@ -1,5 +1,6 @@
 -- A schedule is steady exactly where no event of it is unsteady.
-use Rattle.std.proofs.Common.{◌≡◌, ◌≢◌, inl, inr, All, ℕ, zero, suc, ◌+◌, ◌<◌, ◌≤◌, Bool, true, false, cond, eqb, List, [], ◌∷◌, length, refl, sym, ◌∙◌, ap, subst, arith}
+use Rattle.std.proofs.Common.{◌≡◌, ◌≢◌, inl, inr, All, ℕ, zero, suc, ◌+◌, ◌<◌, ◌≤◌, Bool, true, false, cond, eqb, List, [], ◌∷◌, length}
+use Rattle.std.proofs.Common.{refl, sym, ◌∙◌, ap, subst, arith}
 use Rattle.std.specs.Prelude.{Option, Some, None, ◌&&◌, slice_index}
 use Rattle.std.proofs.lemmas.Bool.{eqb-true}
 use Rattle.std.proofs.lemmas.Bool.Decides.{nat_tests, eqb_tells}
@@ -80,7 +81,8 @@ none_at : (l : ℕ) (o : Option ℕ) (later : Option (ℕ × ℕ)) → at_line l
 none_at l None later e = (refl, e)
 none_at l (Some clock) later e = absurd cc
 
-lines_tell : (s : Schedule) (l count j : ℕ) → unsteady_from s l count ≡ None → l ≤ j → j < l + count → unsteady_in s.fall (events_of s j) ≡ None
+lines_tell : (s : Schedule) (l count j : ℕ) → unsteady_from s l count ≡ None → l ≤ j → j < l + count → unsteady_in s.fall (events_of s j)
+    ≡ None
 lines_tell s l zero j e h g = absurd (omega (arith, h, g))
 lines_tell s l (suc count) j e h g =
     let both = none_at l (unsteady_in s.fall (events_of s l)) (unsteady_from s (suc l) count) e in
@@ -89,15 +91,18 @@ lines_tell s l (suc count) j e h g =
       | inr t ↦ lines_tell s (suc l) count j both.1 (omega (arith, h, t.1)) (omega (arith, g))
     ]
 
-lines_told : (s : Schedule) (l count : ℕ) → ((j : ℕ) → j < l + count → unsteady_in s.fall (events_of s j) ≡ None) → unsteady_from s l count ≡ None
+lines_told : (s : Schedule) (l count : ℕ) → ((j : ℕ) → j < l + count → unsteady_in s.fall (events_of s j) ≡ None) → unsteady_from s l
+    count ≡ None
 lines_told s l zero h = refl
 lines_told s l (suc count) h =
     ap (λ o. at_line l o (unsteady_from s (suc l) count)) (h l (omega arith)) ∙ lines_told s (suc l) count (λ j b. h j (omega (arith, b)))
 
-in_tells : (fall : ℕ) (o : Option (List Event)) (events : List Event) → o ≡ Some events → unsteady_in fall o ≡ None → unsteady_clock fall events ≡ None
+in_tells : (fall : ℕ) (o : Option (List Event)) (events : List Event) → o ≡ Some events → unsteady_in fall o ≡ None → unsteady_clock fall
+    events ≡ None
 in_tells fall o events e f = sym (ap (unsteady_in fall) e) ∙ f
 
-in_told : (fall : ℕ) (o : Option (List Event)) → ((events : List Event) → o ≡ Some events → unsteady_clock fall events ≡ None) → unsteady_in fall o ≡ None
+in_told : (fall : ℕ) (o : Option (List Event)) → ((events : List Event) → o ≡ Some events → unsteady_clock fall events ≡ None)
+    → unsteady_in fall o ≡ None
 in_told fall None h = refl
 in_told fall (Some events) h = h events refl
 
@@ -106,17 +111,21 @@ steady_tells s fits e l events h f =
     let k = slice_index s.lines l in
     let each = All-get_or EventsFit s.kinds k [] (slice_get_within s.kinds k events f) fits.kinds.each in
     let here : EventsFit events = subst EventsFit (get_or_from_slice_get s.kinds k events [] f) each in
-    line_tells s.fall events here.some (in_tells s.fall (events_of s l) events f (lines_tell s 0 (length s.lines) l e (omega arith) (omega (arith, h))))
+    line_tells s.fall events here.some
+    (in_tells s.fall (events_of s l) events f (lines_tell s 0 (length s.lines) l e (omega arith) (omega (arith, h))))
 
 pub steady_told : (s : Schedule) → IsSteady s → first_unsteady s ≡ None
-steady_told s h = lines_told s 0 (length s.lines) (λ j b. in_told s.fall (events_of s j) (λ events f. line_told s.fall events (h j events (omega (arith, b)) f)))
+steady_told s h = lines_told s 0 (length s.lines)
+    (λ j b. in_told s.fall (events_of s j) (λ events f. line_told s.fall events (h j events (omega (arith, b)) f)))
 
 -- the line that is named is one of the frame
-line_there : (l count : ℕ) (place : ℕ × ℕ) (o : Option ℕ) (later : Option (ℕ × ℕ)) → (later ≡ Some place → place.0 < suc l + count) → at_line l o later ≡ Some place → place.0 < l + suc count
+line_there : (l count : ℕ) (place : ℕ × ℕ) (o : Option ℕ) (later : Option (ℕ × ℕ)) → (later ≡ Some place → place.0 < suc l + count)
+    → at_line l o later ≡ Some place → place.0 < l + suc count
 line_there l count place None later rest e = omega (arith, rest e)
 line_there l count place (Some clock) later rest e = let is : (l, clock) ≡ place = cc in subst (λ q. q.0 < l + suc count) is (omega arith)
 
 pub unsteady_there : (s : Schedule) (l count : ℕ) (place : ℕ × ℕ) → unsteady_from s l count ≡ Some place → place.0 < l + count
 unsteady_there s l zero place e = absurd cc
 unsteady_there s l (suc count) place e =
-    line_there l count place (unsteady_in s.fall (events_of s l)) (unsteady_from s (suc l) count) (λ f. unsteady_there s (suc l) count place f) e
+    line_there l count place (unsteady_in s.fall (events_of s l)) (unsteady_from s (suc l) count)
+    (λ f. unsteady_there s (suc l) count place f) e

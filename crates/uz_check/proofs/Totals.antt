@@ -12,13 +12,16 @@ some_is : {A : Type 0} (x y : A) → Some x ≡ Some y → x ≡ y
 some_is x y h = cc
 
 -- a point's box fits
-pub box_of : (cert : Cert) (id : ℕ) (p : Point) → WellFormed cert → slice_get cert.points id ≡ Some p → BoxFits (length cert.schedule.lines) p
+pub box_of : (cert : Cert) (id : ℕ) (p : Point) → WellFormed cert → slice_get cert.points id ≡ Some p → BoxFits (length cert.schedule.lines)
+    p
 box_of cert id p fits found =
     let Fits = PointFits cert.head (length cert.schedule.lines) (length cert.points) in
-    (subst Fits (get_or_from_slice_get cert.points id p p found) (All-get_or Fits cert.points id p (slice_get_within cert.points id p found) fits.points.each)).box
+    (subst Fits (get_or_from_slice_get cert.points id p p found) (All-get_or Fits cert.points id p (slice_get_within cert.points id p found)
+    fits.points.each)).box
 
 -- with point n, the first n points are one more
-pub one_more_point : (cert : Cert) (points : List Point) (n : ℕ) (p : Point) → slice_get points n ≡ Some p → untold_in cert (take (suc n) points) ≡ untold_in cert (take n points) + untold_of cert p
+pub one_more_point : (cert : Cert) (points : List Point) (n : ℕ) (p : Point) → slice_get points n ≡ Some p → untold_in cert
+    (take (suc n) points) ≡ untold_in cert (take n points) + untold_of cert p
 one_more_point cert [] n p h = absurd cc
 one_more_point cert (q ∷ points) zero p h =
     let same : untold_of cert q ≡ untold_of cert p = ap (untold_of cert) (some_is q p h) in

@@ -41,7 +41,8 @@ is_leave (Some Leave) = true
 abbrev pub is_quiet_rest : Cert → Rest → Bool
 is_quiet_rest cert rest =
     is_leave (event_at cert.schedule (start_of cert.schedule rest.line + rest.clock))
-    && (none_after_in rest.clock (events_of cert.schedule rest.line) && none_until_in (response_clocks cert.head.irq + 3) (events_of cert.schedule (next_line cert.schedule rest.line)))
+    && (none_after_in rest.clock (events_of cert.schedule rest.line) && none_until_in (response_clocks cert.head.irq + 3)
+    (events_of cert.schedule (next_line cert.schedule rest.line)))
 
 -- the handler's first state lies in the vector's point, where the interrupt is taken with TCNT1 c
 abbrev pub enters_at : Cert → Rest → ℕ → Bool

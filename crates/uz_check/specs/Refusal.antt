@@ -21,7 +21,8 @@ Why = Option RefusedWhy
 -- the first refusal among count items from this one on: that of an item before which none refuses
 abbrev pub FirstOf : (ℕ → Why → Type 0) → ℕ → ℕ → Why → Type 0
 FirstOf answer from count None = (i : ℕ) → from ≤ i → i < from + count → answer i None
-FirstOf answer from count (Some why) = (i : ℕ) × (from ≤ i) × (i < from + count) × answer i (Some why) × ((j : ℕ) → from ≤ j → j < i → answer j None)
+FirstOf answer from count (Some why) = (i : ℕ) × (from ≤ i) × (i < from + count) × answer i (Some why)
+    × ((j : ℕ) → from ≤ j → j < i → answer j None)
 
 -- what the first of two refuses, or where it refuses nothing the second
 abbrev pub InTurn : (Why → Type 0) → (Why → Type 0) → Why → Type 0
@@ -37,7 +38,8 @@ RestRefusal cert rest (Some why) = (RestPasses cert rest → ⊥) × (why ≡ Re
 
 -- rests are in order of their lines
 unfoldable pub RestsRefusal : Cert → Why → Type 0
-RestsRefusal cert why = FirstOf (λ i o. (rest : Rest) × (slice_get cert.rests i ≡ Some rest) × RestRefusal cert rest o) 0 (length cert.rests) why
+RestsRefusal cert why = FirstOf (λ i o. (rest : Rest) × (slice_get cert.rests i ≡ Some rest) × RestRefusal cert rest o) 0
+    (length cert.rests) why
 
 unfoldable pub EntryRefusal : Cert → Why → Type 0
 EntryRefusal cert None = EntryPasses cert
@@ -57,11 +59,13 @@ PointRefusal image cert id point why = FirstOf (LineRefusal image cert id point)
 
 -- by number
 unfoldable pub PointsRefusal : FinMap nat_cmp ℕ → Cert → Why → Type 0
-PointsRefusal image cert why = FirstOf (λ id o. (point : Point) × (slice_get cert.points id ≡ Some point) × PointRefusal image cert id point o) 0 (length cert.points) why
+PointsRefusal image cert why = FirstOf (λ id o. (point : Point) × (slice_get cert.points id ≡ Some point) × PointRefusal image cert id point
+    o) 0 (length cert.points) why
 
 -- the schedule, then the rests, then the entry, then the points
 abbrev pub FirstRefusal : FinMap nat_cmp ℕ → Cert → Why → Type 0
-FirstRefusal image cert why = InTurn (ScheduleRefusal cert.schedule) (InTurn (RestsRefusal cert) (InTurn (EntryRefusal cert) (PointsRefusal image cert))) why
+FirstRefusal image cert why = InTurn (ScheduleRefusal cert.schedule)
+    (InTurn (RestsRefusal cert) (InTurn (EntryRefusal cert) (PointsRefusal image cert))) why
 
 -- what a refusal names is there: a line of the frame, a point of the certificate
 abbrev pub IsThere : Cert → RefusedWhy → Type 0

@@ -14,7 +14,7 @@ use crate::rests::rests_refusal;
 use crate::unsteady::schedule_refusal;
 use std::marker::Model;
 use uz_hex::Image;
-use uz_rules::one_local;
+use uz_rules::local_is_unique;
 use uz_schedule::Cert;
 use uz_soundness::soundness;
 
@@ -107,7 +107,7 @@ fn counted_verdict(image: &Image, cert: &Cert, looked: &mut u64) -> Option<Refus
     ensures there { IfSome result (IsThere cert.now) }
     ensures few { looked.new ≤ looked.old + untold cert.now }
 {
-    one_local();
+    local_is_unique();
     first_refusal(image, cert, looked)
 }
 

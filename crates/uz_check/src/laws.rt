@@ -8,12 +8,12 @@ ghost use Rattle.uz_soundness.specs.Acceptance.{Accepts};
 ghost use Rattle.uz_check.specs.declared.refusal.RefusedWhy.{RefusedWhy};
 ghost use Rattle.uz_check.specs.Refusal.{FirstRefusal};
 
-use uz_rules::one_local;
+use uz_rules::local_is_unique;
 
 /// A pair has one first refusal, and none where all rules hold.
-pub fn one_verdict()
+pub fn verdict_is_unique()
     ensures one { (image : FinMap nat_cmp ℕ) (cert : Cert) (a b : Option RefusedWhy) → FirstRefusal image cert a → FirstRefusal image cert b → a ≡ b }
     ensures none { (image : FinMap nat_cmp ℕ) (cert : Cert) → Accepts image cert → FirstRefusal image cert None }
 {
-    one_local();
+    local_is_unique();
 }

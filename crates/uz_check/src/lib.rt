@@ -11,6 +11,6 @@ mod rests;
 mod unsteady;
 
 pub use acceptance::{Accepted, Refused, check, check_counted, verdict};
-pub use laws::one_verdict;
+pub use laws::verdict_is_unique;
 pub use refusal::RefusedWhy;
 pub use uz_transfer::Fail;

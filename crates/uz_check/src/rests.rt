@@ -137,7 +137,7 @@ pub(crate) fn rests_refusal(cert: &Cert) -> Option<RefusedWhy>
     ensures { RestsRefusal cert.now result }
 {
     for (i, rest) in cert.rests.as_slice().iter().enumerate() {
-        let _ = i;
+        let _ = i; // said of in the loop's invariant alone
         if let Some(why) = rest_refusal(cert, rest) {
             return Some(why);
         }

@@ -1,14 +1,17 @@
 -- The events and the level of sync of lines of one kind.
-use Rattle.std.proofs.Common.{◌≡◌, inl, inr, ℕ, zero, suc, ◌+◌, ◌-◌, ◌%◌, ◌<◌, ◌≤◌, Option, Some, None, refl, sym, ◌∙◌, ap, subst, length, arith}
+use Rattle.std.proofs.Common.{◌≡◌, inl, inr, ℕ, zero, suc, ◌+◌, ◌-◌, ◌%◌, ◌<◌, ◌≤◌, Option, Some, None, refl, sym, ◌∙◌, ap, subst, length}
+use Rattle.std.proofs.Common.{arith}
 use Rattle.std.specs.Prelude.{slice_get}
 use Rattle.std.proofs.lemmas.Bool.Decides.{eqb_tells, leb_tells}
 use Rattle.uz_schedule.specs.declared.lines.Schedule.{Schedule}
-use Rattle.uz_schedule.specs.Schedule.{length_of, start_of, frame_of, next_line, At, event_in_kind, events_of, event_at, sync_of, sync_at, or_else, level_at}
+use Rattle.uz_schedule.specs.Schedule.{length_of, start_of, frame_of, next_line, At, event_in_kind, events_of, event_at, sync_of, sync_at}
+use Rattle.uz_schedule.specs.Schedule.{or_else, level_at}
 use Rattle.uz_fold.specs.Folding.{kind_of, line_before}
 
 -- what the public laws of a schedule say
 pub record ScheduleLaws : Type 0 where
-  pub by_line : (s : Schedule) (l k : ℕ) → l < length s.lines → k < length_of s l → event_at s (start_of s l + k) ≡ event_in_kind (events_of s l) k
+  pub by_line : (s : Schedule) (l k : ℕ) → l < length s.lines → k < length_of s l → event_at s (start_of s l + k) ≡ event_in_kind
+      (events_of s l) k
   pub events_round : (s : Schedule) (p q : ℕ) → p % frame_of s ≡ q % frame_of s → event_at s p ≡ event_at s q
   pub levels_round : (s : Schedule) (p q : ℕ) → p % frame_of s ≡ q % frame_of s → level_at s p ≡ level_at s q
   pub next : (s : Schedule) (p l k : ℕ) → At s p l (length_of s l + k) → At s p (next_line s l) k
@@ -54,17 +57,22 @@ before_inside s (suc l) h = omega (arith, h)
 -- Events
 
 -- clock k of two lines of one kind
-same_line : ScheduleLaws → (s : Schedule) (l m k : ℕ) → l < length s.lines → m < length s.lines → kind_of s l ≡ kind_of s m → k < length_of s l → event_at s (start_of s l + k) ≡ event_at s (start_of s m + k)
+same_line : ScheduleLaws → (s : Schedule) (l m k : ℕ) → l < length s.lines → m < length s.lines → kind_of s l ≡ kind_of s m → k < length_of
+    s l → event_at s (start_of s l + k) ≡ event_at s (start_of s m + k)
 same_line laws s l m k h g e b =
-    laws.by_line s l k h b ∙ (ap (λ q. event_in_kind (slice_get s.kinds q) k) e ∙ sym (laws.by_line s m k g (subst (λ n. k < n) (same_length s l m e) b)))
+    laws.by_line s l k h b ∙ (ap (λ q. event_in_kind (slice_get s.kinds q) k) e
+    ∙ sym (laws.by_line s m k g (subst (λ n. k < n) (same_length s l m e) b)))
 
 -- past a line's end the next one goes on
-past_end : ScheduleLaws → (s : Schedule) (l k : ℕ) → event_at s (start_of s l + (length_of s l + k)) ≡ event_at s (start_of s (next_line s l) + k)
+past_end : ScheduleLaws → (s : Schedule) (l k : ℕ) → event_at s (start_of s l + (length_of s l + k)) ≡ event_at s
+    (start_of s (next_line s l) + k)
 past_end laws s l k =
-    laws.events_round s (start_of s l + (length_of s l + k)) (start_of s (next_line s l) + k) (laws.next s (start_of s l + (length_of s l + k)) l k refl)
+    laws.events_round s (start_of s l + (length_of s l + k)) (start_of s (next_line s l) + k)
+    (laws.next s (start_of s l + (length_of s l + k)) l k refl)
 
 -- clock j of a line and of the next one, where the two and the one that follows have one kind; j may lie past the line's end
-pub same_two : ScheduleLaws → (s : Schedule) (l j : ℕ) → l < length s.lines → kind_of s l ≡ kind_of s (next_line s l) → kind_of s (next_line s l) ≡ kind_of s (next_line s (next_line s l))
+pub same_two : ScheduleLaws → (s : Schedule) (l j : ℕ) → l < length s.lines → kind_of s l ≡ kind_of s (next_line s l)
+    → kind_of s (next_line s l) ≡ kind_of s (next_line s (next_line s l))
     → j < length_of s l + length_of s (next_line s l) → event_at s (start_of s l + j) ≡ event_at s (start_of s (next_line s l) + j)
 same_two laws s l j h e f b =
     let m = next_line s l in
@@ -99,29 +107,38 @@ set_in set p (suc n) = or_else (set (p + suc n)) (set_in set p n)
 set_alike : (set : ℕ → Option ℕ) (p q n : ℕ) → ((i : ℕ) → i ≤ n → set (p + i) ≡ set (q + i)) → set_in set p n ≡ set_in set q n
 set_alike set p q zero same = refl
 set_alike set p q (suc n) same =
-    ap (λ v. or_else v (set_in set p n)) (same (suc n) (omega arith)) ∙ ap (or_else (set (q + suc n))) (set_alike set p q n (λ i h. same i (omega (arith, h))))
+    ap (λ v. or_else v (set_in set p n)) (same (suc n) (omega arith)) ∙ ap (or_else (set (q + suc n)))
+    (set_alike set p q n (λ i h. same i (omega (arith, h))))
 
-level_after : ScheduleLaws → (s : Schedule) (p n : ℕ) → 0 < frame_of s → level_at s (p + n) ≡ or_else (set_in (sync_at s) p n) (level_at s p)
+level_after : ScheduleLaws → (s : Schedule) (p n : ℕ) → 0 < frame_of s → level_at s (p + n) ≡ or_else (set_in (sync_at s) p n)
+    (level_at s p)
 level_after laws s p zero some = ap (level_at s) (omega arith)
 level_after laws s p (suc n) some =
     let on : p + suc n ≡ suc (p + n) = omega arith in
     ap (level_at s) on
     ∙ (laws.goes_on s (p + n) some
     ∙ (ap (λ v. or_else (sync_at s (suc (p + n))) v) (level_after laws s p n some)
-    ∙ (or_else_assoc (sync_at s (suc (p + n))) (set_in (sync_at s) p n) (level_at s p) ∙ ap (λ i. or_else (or_else (sync_at s i) (set_in (sync_at s) p n)) (level_at s p)) (sym on))))
+    ∙ (or_else_assoc (sync_at s (suc (p + n))) (set_in (sync_at s) p n) (level_at s p)
+    ∙ ap (λ i. or_else (or_else (sync_at s i) (set_in (sync_at s) p n)) (level_at s p)) (sym on))))
 
--- the level at a clock of the next line is what the line's length of positions before it sets, and else the level at that clock of this line
+-- the level at a clock of the next line is what the line's length of positions before it sets, and else the level at that clock of this
+-- line
 level_next : ScheduleLaws → (s : Schedule) (l k : ℕ) → 0 < frame_of s
-    → level_at s (start_of s (next_line s l) + k) ≡ or_else (set_in (sync_at s) (start_of s l + k) (length_of s l)) (level_at s (start_of s l + k))
+    → level_at s (start_of s (next_line s l) + k) ≡ or_else (set_in (sync_at s) (start_of s l + k) (length_of s l))
+    (level_at s (start_of s l + k))
 level_next laws s l k some =
     let order : start_of s l + (length_of s l + k) ≡ start_of s l + k + length_of s l = omega arith in
-    laws.levels_round s (start_of s (next_line s l) + k) (start_of s l + (length_of s l + k)) (sym (laws.next s (start_of s l + (length_of s l + k)) l k refl))
+    laws.levels_round s (start_of s (next_line s l) + k) (start_of s l + (length_of s l + k))
+    (sym (laws.next s (start_of s l + (length_of s l + k)) l k refl))
     ∙ (ap (level_at s) order ∙ level_after laws s (start_of s l + k) (length_of s l) some)
 
--- Two lines have one level at each clock, where they and the line before them have one kind: a whole line of that kind went before each of the
+-- Two lines have one level at each clock, where they and the line before them have one kind: a whole line of that kind went before each of
+-- the
 -- two clocks, and what it sets, it sets again
-pub same_level : ScheduleLaws → (s : Schedule) (l k : ℕ) → l < length s.lines → kind_of s l ≡ kind_of s (next_line s l) → kind_of s (next_line s l) ≡ kind_of s (next_line s (next_line s l))
-    → k < length_of s (next_line s l) → level_at s (start_of s (next_line s l) + k) ≡ level_at s (start_of s (next_line s (next_line s l)) + k)
+pub same_level : ScheduleLaws → (s : Schedule) (l k : ℕ) → l < length s.lines → kind_of s l ≡ kind_of s (next_line s l)
+    → kind_of s (next_line s l) ≡ kind_of s (next_line s (next_line s l))
+    → k < length_of s (next_line s l) → level_at s (start_of s (next_line s l) + k) ≡ level_at s
+    (start_of s (next_line s (next_line s l)) + k)
 same_level laws s l k h e f b =
     let m = next_line s l in
     let low = long_lines s l in
@@ -133,7 +150,8 @@ same_level laws s l k h e f b =
     let again : set_in (sync_at s) (start_of s m + k) (length_of s m) ≡ set =
     ap (set_in (sync_at s) (start_of s m + k)) (sym long)
     ∙ set_alike (sync_at s) (start_of s m + k) (start_of s l + k) (length_of s l)
-    (λ i g. ap (sync_at s) (omega arith) ∙ (sym (ap sync_of (same_two laws s l (k + i) h e f (omega (arith, b, g, long)))) ∙ ap (sync_at s) (omega arith))) in
+    (λ i g. ap (sync_at s) (omega arith) ∙ (sym (ap sync_of (same_two laws s l (k + i) h e f (omega (arith, b, g, long)))) ∙ ap (sync_at s)
+    (omega arith))) in
     let first : level_at s (start_of s m + k) ≡ or_else set here = level_next laws s l k some in
     let second : level_at s (start_of s (next_line s m) + k) ≡ or_else set (level_at s (start_of s m + k)) =
     level_next laws s m k some ∙ ap (λ v. or_else v (level_at s (start_of s m + k))) again in

@@ -1,5 +1,6 @@
 -- Runs of lines of which the conditions on lines hold.
-use Rattle.std.proofs.Common.{◌≡◌, inl, inr, ℕ, zero, suc, ◌+◌, ◌<◌, true, false, nat_lt, Some, Option, List, [], ◌∷◌, length, refl, sym, ◌∙◌, ap, subst, arith}
+use Rattle.std.proofs.Common.{◌≡◌, inl, inr, ℕ, zero, suc, ◌+◌, ◌<◌, true, false, nat_lt, Some, Option, List, [], ◌∷◌, length, refl, sym}
+use Rattle.std.proofs.Common.{◌∙◌, ap, subst, arith}
 use Rattle.std.specs.Prelude.{slice_get, slice_set}
 use Rattle.std.proofs.lemmas.Bool.Decides.{eqb_tells, leb_tells}
 use Rattle.uz_schedule.specs.declared.certificate.Cert.{Cert}
@@ -53,11 +54,21 @@ set_length [] n x = refl
 set_length (y ∷ xs) zero x = refl
 set_length (y ∷ xs) (suc n) x = ap suc (set_length xs n x)
 
-pub runs_more : (cert : Cert) (runs : List ℕ) (l e : ℕ) → l < length runs → IsRun cert (length cert.schedule.lines) l e → RunsFrom cert runs (l + 1) → RunsFrom cert (slice_set runs l e) l
+pub runs_more : (cert : Cert) (runs : List ℕ) (l e : ℕ) → l < length runs → IsRun cert (length cert.schedule.lines) l e → RunsFrom cert runs
+    (l + 1) → RunsFrom cert (slice_set runs l e) l
 runs_more cert runs l e h run noted k low high =
     elim (eqb_tells k l) [
-      | inl t ↦ (e, ap (slice_get (slice_set runs l e)) t.1 ∙ set_here runs l e h, subst (λ i. IsRun cert (length cert.schedule.lines) i e) (sym t.1) run)
-      | inr t ↦ let later = noted k (omega (arith, low, t.1)) high in (later.0, set_after runs l k e (omega (arith, low, t.1)) ∙ later.1, later.2)
+      | inl t ↦ (
+        e,
+        ap (slice_get (slice_set runs l e)) t.1 ∙ set_here runs l e h,
+        subst (λ i. IsRun cert (length cert.schedule.lines) i e)
+            (sym t.1) run,
+      )
+      | inr t ↦ let later = noted k (omega (arith, low, t.1)) high in (
+        later.0,
+        set_after runs l k e (omega (arith, low, t.1)) ∙ later.1,
+        later.2,
+      )
     ]
 
 -- What is noted
@@ -65,12 +76,14 @@ runs_more cert runs l e h run noted k low high =
 same_some : {A : Type 0} (o : Option A) (a b : A) → o ≡ Some a → o ≡ Some b → a ≡ b
 same_some o a b e f = cc
 
-pub run_of : (cert : Cert) (runs : List ℕ) (l e : ℕ) → RunsFrom cert runs 0 → l < length cert.schedule.lines → slice_get runs l ≡ Some e → IsRun cert (length cert.schedule.lines) l e
+pub run_of : (cert : Cert) (runs : List ℕ) (l e : ℕ) → RunsFrom cert runs 0 → l < length cert.schedule.lines → slice_get runs l ≡ Some e
+    → IsRun cert (length cert.schedule.lines) l e
 run_of cert runs l e noted h is =
     let run = noted l (omega arith) h in
     subst (IsRun cert (length cert.schedule.lines) l) (same_some (slice_get runs l) run.0 e run.1 is) run.2
 
-pub alike_tells : (cert : Cert) (runs : List ℕ) (l e : ℕ) → RunsFrom cert runs 0 → l < length cert.schedule.lines → slice_get runs l ≡ Some e → nat_lt l e ≡ lines_alike cert l
+pub alike_tells : (cert : Cert) (runs : List ℕ) (l e : ℕ) → RunsFrom cert runs 0 → l < length cert.schedule.lines → slice_get runs l ≡ Some
+    e → nat_lt l e ≡ lines_alike cert l
 alike_tells cert runs l e noted h is =
     let run = run_of cert runs l e noted h is in
     elim (leb_tells (suc l) e) [

@@ -12,4 +12,5 @@ pub lengths_differ : (xs ys : List Ends) → (length xs ≡ length ys → ⊥) �
 lengths_differ [] [] h = absurd (h refl)
 lengths_differ [] (y ∷ ys) h = refl
 lengths_differ (x ∷ xs) [] h = refl
-lengths_differ (x ∷ xs) (y ∷ ys) h = ap (λ b. same_ends x y && b) (lengths_differ xs ys (λ e. h (omega (arith, e)))) ∙ and_false (same_ends x y)
+lengths_differ (x ∷ xs) (y ∷ ys) h = ap (λ b. same_ends x y && b) (lengths_differ xs ys (λ e. h (omega (arith, e))))
+    ∙ and_false (same_ends x y)

@@ -1,5 +1,6 @@
 -- The abstract step of an instance looks at no line: at another line of the same length it is the same step.
-use Rattle.std.proofs.Common.{◌≡◌, ℕ, ◌+◌, ◌≤◌, Bool, true, false, not, if◌then◌else◌, nat_eq, nat_le, nat_lt, Option, Some, None, List, [], ◌∷◌, ◌++◌, map, refl, sym, ◌∙◌, ap, arith}
+use Rattle.std.proofs.Common.{◌≡◌, ℕ, ◌+◌, ◌≤◌, Bool, true, false, not, if◌then◌else◌, nat_eq, nat_le, nat_lt, Option, Some, None, List, []}
+use Rattle.std.proofs.Common.{◌∷◌, ◌++◌, map, refl, sym, ◌∙◌, ap, arith}
 use Rattle.std.specs.Prelude.{◌&&◌, ◌||◌, ◌%◌, ◌-◌, ⊤, Result, Ok, Err}
 use Rattle.std.specs.Ordering.{nat_cmp}
 use Rattle.std.specs.FinMap.{FinMap}
@@ -16,7 +17,8 @@ use Rattle.uz_machine.specs.declared.Operand.TheVariants.{Register, Constant}
 use Rattle.uz_machine.specs.declared.SkipTest.TheVariants.{Equal, RegisterBit, IoBit}
 use Rattle.uz_machine.specs.declared.JumpTarget.TheVariants.{Absolute, Relative, Indirect}
 use Rattle.uz_machine.specs.declared.Effect.{Effect}
-use Rattle.uz_machine.specs.declared.Effect.TheVariants.{CopyByte, Binary, Unary, Load, Store, LoadProgram, Branch, SkipIf, Jump, Return, Stop, NoOperation}
+use Rattle.uz_machine.specs.declared.Effect.TheVariants.{CopyByte, Binary, Unary, Load, Store, LoadProgram, Branch, SkipIf, Jump, Return}
+use Rattle.uz_machine.specs.declared.Effect.TheVariants.{Stop, NoOperation}
 use Rattle.uz_machine.specs.Core.{returns_from_interrupt}
 use Rattle.uz_machine.specs.Effects.{effect_of}
 use Rattle.uz_machine.proofs.RowClocks.{stops, clocks_within}
@@ -87,13 +89,15 @@ main_emits_moves (Store (PostIncrement p) r) m inst = refl
 main_emits_moves (Store (PreDecrement p) r) m inst = refl
 main_emits_moves e m inst = refl
 
-outcomes_move : (image : FinMap nat_cmp ℕ) (following : ℕ) (e : Effect) (m : ℕ) (inst : Instance) → outcomes image following e (at_line m inst) ≡ outcomes image following e inst
+outcomes_move : (image : FinMap nat_cmp ℕ) (following : ℕ) (e : Effect) (m : ℕ) (inst : Instance) → outcomes image following e
+    (at_line m inst) ≡ outcomes image following e inst
 outcomes_move image following (SkipIf (Equal d r)) m inst = refl
 outcomes_move image following (SkipIf (RegisterBit r b set)) m inst = refl
 outcomes_move image following (SkipIf (IoBit at b set)) m inst = refl
 outcomes_move image following e m inst = refl
 
-targets_move : (e : Effect) (o : Outcome) (following m : ℕ) (inst : Instance) → targets e o following (at_line m inst) ≡ targets e o following inst
+targets_move : (e : Effect) (o : Outcome) (following m : ℕ) (inst : Instance) → targets e o following (at_line m inst) ≡ targets e o
+    following inst
 targets_move (Jump (Absolute k) call) o following m inst = refl
 targets_move (Jump (Relative k) call) o following m inst = refl
 targets_move (Jump Indirect call) o following m inst = refl
@@ -102,25 +106,31 @@ targets_move (Return false) o following m inst = refl
 targets_move (Branch flag set offset) Taken following m inst = refl
 targets_move e o following m inst = refl
 
-exits_move : (e : Effect) (clocks : Outcome → ℕ) (following m : ℕ) (inst : Instance) (os : List Outcome) → exits_of e clocks following (at_line m inst) os ≡ exits_of e clocks following inst os
+exits_move : (e : Effect) (clocks : Outcome → ℕ) (following m : ℕ) (inst : Instance) (os : List Outcome) → exits_of e clocks following
+    (at_line m inst) os ≡ exits_of e clocks following inst os
 exits_move e clocks following m inst [] = refl
 exits_move e clocks following m inst (o ∷ os) =
-    ap (λ pcs. map (λ pc. record { pc = pc; clocks = clocks o }) pcs ++ exits_of e clocks following (at_line m inst) os) (targets_move e o following m inst)
-    ∙ ap (λ xs. map (λ pc. record { pc = pc; clocks = clocks o }) (targets e o following inst) ++ xs) (exits_move e clocks following m inst os)
+    ap (λ pcs. map (λ pc. record { pc = pc; clocks = clocks o }) pcs ++ exits_of e clocks following (at_line m inst) os)
+    (targets_move e o following m inst)
+    ∙ ap (λ xs. map (λ pc. record { pc = pc; clocks = clocks o }) (targets e o following inst) ++ xs)
+    (exits_move e clocks following m inst os)
 
 -- What it makes of the instance
 
-pointer_moves : (mode : AddressMode) (m : ℕ) (old now : Instance) → with_pointer_range mode (at_line m old) (at_line m now) ≡ at_line m (with_pointer_range mode old now)
+pointer_moves : (mode : AddressMode) (m : ℕ) (old now : Instance) → with_pointer_range mode (at_line m old) (at_line m now) ≡ at_line m
+    (with_pointer_range mode old now)
 pointer_moves (Direct k) m old now = refl
 pointer_moves (Displacement p q) m old now = refl
 pointer_moves (PostIncrement p) m old now = refl
 pointer_moves (PreDecrement p) m old now = refl
 
-stored_moves : (head : Head) (a : Ends) (v : Val) (m : ℕ) (inst : Instance) → stored_in head a v (at_line m inst) ≡ at_line m (stored_in head a v inst)
+stored_moves : (head : Head) (a : Ends) (v : Val) (m : ℕ) (inst : Instance) → stored_in head a v (at_line m inst) ≡ at_line m
+    (stored_in head a v inst)
 stored_moves head a v m inst = by_case (is_single a) (nat_eq a.lo 0x5F) (cell_place head inst.kind a.lo)
   where
     by_case : (t u : Bool) (place : Option ℕ)
-        → (if t then (if u then with_flag_list (flags_from v) (at_line m inst) else with_cell place (span_of v) (at_line m inst)) else at_line m inst)
+        → (if t then (if u then with_flag_list (flags_from v) (at_line m inst) else with_cell place (span_of v) (at_line m inst)) else
+        at_line m inst)
         ≡ at_line m (if t then (if u then with_flag_list (flags_from v) inst else with_cell place (span_of v) inst) else inst)
     by_case true true place = refl
     by_case true false (Some j) = refl
@@ -178,7 +188,8 @@ abbrev pub result_at : ℕ → Result Step Fail → Result Step Fail
 result_at m (Ok step) = Ok (step_at m step)
 result_at m (Err why) = Err why
 
-unless_moves : (why : Option Fail) (emitted : Option (Option EventKind)) (m : ℕ) (step : Step) → step_unless why emitted (step_at m step) ≡ result_at m (step_unless why emitted step)
+unless_moves : (why : Option Fail) (emitted : Option (Option EventKind)) (m : ℕ) (step : Step) → step_unless why emitted (step_at m step)
+    ≡ result_at m (step_unless why emitted step)
 unless_moves (Some why) emitted m step = refl
 unless_moves None None m step = refl
 unless_moves None (Some event) m step = refl
@@ -193,13 +204,20 @@ step_moves head length image e words clocks m inst =
     let now = at_line m inst in
     let sampled = sampled_of length e clocks inst in
     let back = returns_from_interrupt e in
-    ap (λ f. step_unless f (emission e now) (drafted (transfer head image next sampled e now) (exits_of e clocks next now (outcomes image next e now)) back (clears_flag e now))) (fail_moves head e m inst)
-    ∙ (ap (λ v. step_unless (fail_of head e inst) v (drafted (transfer head image next sampled e now) (exits_of e clocks next now (outcomes image next e now)) back (clears_flag e now))) (emission_moves e m inst)
-    ∙ (ap (λ d. step_unless (fail_of head e inst) (emission e inst) (drafted d (exits_of e clocks next now (outcomes image next e now)) back (clears_flag e now))) (transfer_moves head image next sampled e m inst)
-    ∙ (ap (λ os. step_unless (fail_of head e inst) (emission e inst) (drafted (at_line m (transfer head image next sampled e inst)) (exits_of e clocks next now os) back (clears_flag e now))) (outcomes_move image next e m inst)
-    ∙ (ap (λ xs. step_unless (fail_of head e inst) (emission e inst) (drafted (at_line m (transfer head image next sampled e inst)) xs back (clears_flag e now))) (exits_move e clocks next m inst (outcomes image next e inst))
-    ∙ (ap (λ b. step_unless (fail_of head e inst) (emission e inst) (drafted (at_line m (transfer head image next sampled e inst)) (exits_of e clocks next inst (outcomes image next e inst)) back b)) (clears_moves e m inst)
-    ∙ unless_moves (fail_of head e inst) (emission e inst) m (drafted (transfer head image next sampled e inst) (exits_of e clocks next inst (outcomes image next e inst)) back (clears_flag e inst)))))))
+    ap (λ f. step_unless f (emission e now) (drafted (transfer head image next sampled e now)
+    (exits_of e clocks next now (outcomes image next e now)) back (clears_flag e now))) (fail_moves head e m inst)
+    ∙ (ap (λ v. step_unless (fail_of head e inst) v (drafted (transfer head image next sampled e now)
+    (exits_of e clocks next now (outcomes image next e now)) back (clears_flag e now))) (emission_moves e m inst)
+    ∙ (ap (λ d. step_unless (fail_of head e inst) (emission e inst) (drafted d (exits_of e clocks next now (outcomes image next e now)) back
+    (clears_flag e now))) (transfer_moves head image next sampled e m inst)
+    ∙ (ap (λ os. step_unless (fail_of head e inst) (emission e inst) (drafted (at_line m (transfer head image next sampled e inst))
+    (exits_of e clocks next now os) back (clears_flag e now))) (outcomes_move image next e m inst)
+    ∙ (ap (λ xs. step_unless (fail_of head e inst) (emission e inst) (drafted (at_line m (transfer head image next sampled e inst)) xs back
+    (clears_flag e now))) (exits_move e clocks next m inst (outcomes image next e inst))
+    ∙ (ap (λ b. step_unless (fail_of head e inst) (emission e inst) (drafted (at_line m (transfer head image next sampled e inst))
+    (exits_of e clocks next inst (outcomes image next e inst)) back b)) (clears_moves e m inst)
+    ∙ unless_moves (fail_of head e inst) (emission e inst) m (drafted (transfer head image next sampled e inst)
+    (exits_of e clocks next inst (outcomes image next e inst)) back (clears_flag e inst)))))))
 
 -- the step of an instance that is moved to another line is its step, moved
 pub row_moves : (head : Head) (length : ℕ) (image : FinMap nat_cmp ℕ) (row : Option Instr) (m : ℕ) (inst : Instance)
@@ -213,15 +231,18 @@ row_moves head length image (Some i) m inst = step_moves head length image (effe
 abbrev pub landed : Bool → ℕ → ℕ → ℕ → ℕ → ℕ
 landed main k length l next = if main then l else (if nat_lt k length then l else next)
 
-pub placed_moves : (lines : Lines) (m : ℕ) (inst draft : Instance) (emitted : Option EventKind) (clears : Bool) (x : Exit) → lines.length m ≡ lines.length inst.line
+pub placed_moves : (lines : Lines) (m : ℕ) (inst draft : Instance) (emitted : Option EventKind) (clears : Bool) (x : Exit)
+    → lines.length m ≡ lines.length inst.line
     → placed lines (at_line m inst) (at_line m draft) emitted clears x
-    ≡ at_line (landed (is_main inst.kind) (inst.clock + x.clocks) (lines.length inst.line) m (lines.next m)) (placed lines inst draft emitted clears x)
+    ≡ at_line (landed (is_main inst.kind) (inst.clock + x.clocks) (lines.length inst.line) m (lines.next m))
+    (placed lines inst draft emitted clears x)
 placed_moves lines m inst draft emitted clears x h =
     ap (λ n. record {
       kind = inst.kind;
       pc = x.pc;
       line = landed (is_main inst.kind) (inst.clock + x.clocks) n m (lines.next m);
-      clock = if is_main inst.kind then inst.clock else (if nat_lt (inst.clock + x.clocks) n then inst.clock + x.clocks else inst.clock + x.clocks - n);
+      clock = if is_main inst.kind then inst.clock else (if nat_lt (inst.clock + x.clocks) n then inst.clock + x.clocks else
+          inst.clock + x.clocks - n);
       level = if is_main inst.kind then inst.level else level_after emitted (inst.level % 2);
       pending = if is_handler inst.kind then not clears && (inst.pending || nat_le n (inst.clock + x.clocks)) else inst.pending;
       regs = draft.regs;
@@ -251,16 +272,19 @@ few_targets k (pc ∷ pcs) h =
     let few : nat_le k 4 ≡ true = grind (arith, nat_tests) in
     rw few (few_targets k pcs h)
 
-few_exits : (e : Effect) (clocks : Outcome → ℕ) (following : ℕ) (inst : Instance) (os : List Outcome) → ((o : Outcome) → clocks o ≤ 4) → are_few (exits_of e clocks following inst os) ≡ true
+few_exits : (e : Effect) (clocks : Outcome → ℕ) (following : ℕ) (inst : Instance) (os : List Outcome) → ((o : Outcome) → clocks o ≤ 4)
+    → are_few (exits_of e clocks following inst os) ≡ true
 few_exits e clocks following inst [] h = refl
 few_exits e clocks following inst (o ∷ os) h =
-    few_joined (map (λ pc. record { pc = pc; clocks = clocks o }) (targets e o following inst)) (exits_of e clocks following inst os) (few_targets (clocks o) (targets e o following inst) (h o)) (few_exits e clocks following inst os h)
+    few_joined (map (λ pc. record { pc = pc; clocks = clocks o }) (targets e o following inst)) (exits_of e clocks following inst os)
+    (few_targets (clocks o) (targets e o following inst) (h o)) (few_exits e clocks following inst os h)
 
 abbrev pub FewOf : Result Step Fail → Type 0
 FewOf (Ok step) = are_few step.exits.items ≡ true
 FewOf (Err why) = ⊤
 
-few_unless : (why : Option Fail) (emitted : Option (Option EventKind)) (step : Step) → are_few step.exits.items ≡ true → FewOf (step_unless why emitted step)
+few_unless : (why : Option Fail) (emitted : Option (Option EventKind)) (step : Step) → are_few step.exits.items ≡ true
+    → FewOf (step_unless why emitted step)
 few_unless (Some why) emitted step h = tt
 few_unless None None step h = tt
 few_unless None (Some event) step h = h
@@ -274,10 +298,13 @@ low_of : (t : Bool) (n : ℕ) → t ≡ false → (t || (nat_le 1 n && nat_le n 
 low_of true n s e = absurd cc
 low_of false n s e = grind (arith, nat_tests)
 
-pub few_row : (head : Head) (length : ℕ) (image : FinMap nat_cmp ℕ) (i : Instr) (inst : Instance) → is_stop (effect_of i) ≡ false → FewOf (step_of_row head length image (Some i) inst)
+pub few_row : (head : Head) (length : ℕ) (image : FinMap nat_cmp ℕ) (i : Instr) (inst : Instance) → is_stop (effect_of i) ≡ false
+    → FewOf (step_of_row head length image (Some i) inst)
 few_row head length image i inst h =
     let e = effect_of i in
     let next = following_of (words_of i) inst in
     few_unless (fail_of head e inst) (emission e inst)
-    (drafted (transfer head image next (sampled_of length e (clocks_of i) inst) e inst) (exits_of e (clocks_of i) next inst (outcomes image next e inst)) (returns_from_interrupt e) (clears_flag e inst))
-    (few_exits e (clocks_of i) next inst (outcomes image next e inst) (λ o. low_of (stops e) (clocks_of i o) (sym (same_stops e) ∙ h) (clocks_within i o)))
+    (drafted (transfer head image next (sampled_of length e (clocks_of i) inst) e inst)
+    (exits_of e (clocks_of i) next inst (outcomes image next e inst)) (returns_from_interrupt e) (clears_flag e inst))
+    (few_exits e (clocks_of i) next inst (outcomes image next e inst) (λ o. low_of (stops e) (clocks_of i o) (sym (same_stops e) ∙ h)
+    (clocks_within i o)))

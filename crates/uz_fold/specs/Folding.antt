@@ -1,6 +1,7 @@
 -- Families of lines: when the local rule answers alike at a line and at the one that follows it (this project's profile).
 -- Lines are counted round the frame.
-use Rattle.std.specs.Prelude.{◌≡◌, ◌↔◌, ℕ, zero, suc, ◌-◌, ◌<◌, nat_le, nat_eq, Bool, true, false, ◌&&◌, List, [], ◌∷◌, length, Option, Some, None, slice_get, slice_index}
+use Rattle.std.specs.Prelude.{◌≡◌, ◌↔◌, ℕ, zero, suc, ◌-◌, ◌<◌, nat_le, nat_eq, Bool, true, false, ◌&&◌, List, [], ◌∷◌, length, Option}
+use Rattle.std.specs.Prelude.{Some, None, slice_get, slice_index}
 use Rattle.std.specs.List.{list_all}
 use Rattle.std.specs.Ordering.{nat_cmp}
 use Rattle.std.specs.FinMap.{FinMap}
@@ -9,7 +10,8 @@ use Rattle.uz_schedule.specs.Schedule.{next_line}
 use Rattle.uz_schedule.specs.declared.facts.Fact.{Fact}
 use Rattle.uz_schedule.specs.declared.facts.Fact.TheVariants.{Any, Between, Line, Loop, Old as OldFact, OldFlags as OldFlagsFact}
 use Rattle.uz_schedule.specs.declared.facts.PairFact.{PairFact}
-use Rattle.uz_schedule.specs.declared.facts.PairFact.TheVariants.{Any as AnyPair, Between as BetweenPair, Line as LinePair, Loop as LoopPair}
+use Rattle.uz_schedule.specs.declared.facts.PairFact.TheVariants.{Any as AnyPair, Between as BetweenPair, Line as LinePair}
+use Rattle.uz_schedule.specs.declared.facts.PairFact.TheVariants.{Loop as LoopPair}
 use Rattle.uz_schedule.specs.declared.lines.Schedule.{Schedule}
 use Rattle.uz_schedule.specs.declared.states.Rest.{Rest}
 use Rattle.uz_schedule.specs.declared.states.Point.{Point}

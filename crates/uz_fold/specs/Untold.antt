@@ -1,5 +1,6 @@
 -- How many instances of a certificate are on lines of which no earlier line tells.
-use Rattle.std.specs.Prelude.{◌≡◌, ℕ, zero, suc, ◌+◌, ◌-◌, ◌*◌, ◌<◌, ◌≤◌, nat_lt, Bool, true, false, ◌&&◌, List, [], ◌∷◌, length, Some, slice_get, if◌then◌else◌}
+use Rattle.std.specs.Prelude.{◌≡◌, ℕ, zero, suc, ◌+◌, ◌-◌, ◌*◌, ◌<◌, ◌≤◌, nat_lt, Bool, true, false, ◌&&◌, List, [], ◌∷◌, length, Some}
+use Rattle.std.specs.Prelude.{slice_get, if◌then◌else◌}
 use Rattle.uz_schedule.specs.declared.states.Point.{Point}
 use Rattle.uz_schedule.specs.declared.certificate.Cert.{Cert}
 use Rattle.uz_fold.specs.Folding.{lines_alike, is_plain, folds}
@@ -36,7 +37,8 @@ pub record IsRun (cert : Cert) (n l e : ℕ) : Type 0 where
 -- each line from one on is noted with the line up to which they hold
 abbrev pub RunsFrom : Cert → List ℕ → ℕ → Type 0
 RunsFrom cert runs from =
-    (l : ℕ) → from ≤ l → l < length cert.schedule.lines → (e : ℕ) × (slice_get runs l ≡ Some e) × IsRun cert (length cert.schedule.lines) l e
+    (l : ℕ) → from ≤ l → l < length cert.schedule.lines → (e : ℕ) × (slice_get runs l ≡ Some e) × IsRun cert (length cert.schedule.lines) l
+    e
 
 -- the first line from one on that isn't told, or the one past the box's last
 pub record IsNextUntold (cert : Cert) (p : Point) (from to : ℕ) : Type 0 where

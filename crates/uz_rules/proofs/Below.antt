@@ -1,13 +1,11 @@
 -- Tests of numbers, positions, exits and points one by one.
-use Rattle.std.proofs.Common.{◌-◌, ◌<◌, ◌≤◌, ◌≡◌, ℕ, zero, suc, ◌+◌, Bool, true, false, List, [], ◌∷◌, Option, refl, ap, ◌∙◌, arith}
-use Rattle.std.specs.Prelude.{◌&&◌, ◌||◌, is_none}
+use Rattle.std.proofs.Common.{◌-◌, ◌<◌, ◌≤◌, ◌≡◌, ℕ, suc, ◌+◌, Bool, true, false, Option, refl, sym, ap, ◌∙◌, arith}
+use Rattle.std.specs.Prelude.{◌&&◌, is_none}
 use Rattle.uz_schedule.specs.declared.lines.EventKind.{EventKind}
-use Rattle.uz_schedule.specs.declared.states.Instance.{Instance}
-use Rattle.uz_schedule.specs.declared.certificate.Cert.{Cert}
-use Rattle.uz_transfer.specs.declared.step.Exit.{Exit}
 use Rattle.uz_rules.specs.Inside.{all_below}
 use Rattle.uz_rules.specs.EdgeRule.{is_quiet}
 use Rattle.uz_rules.specs.Successors.{any_from}
+use Rattle.uz_rules.proofs.InsideMeets.{below_tells}
 
 pub below_none : (test : ℕ → Bool) → all_below 0 test ≡ true
 unfolding all_below
@@ -16,6 +14,17 @@ below_none test = refl
 pub below_more : (n : ℕ) (test : ℕ → Bool) → all_below (n + 1) test ≡ (all_below n test && test n)
 unfolding all_below
 below_more n test = let e : n + 1 ≡ suc n = omega arith in ap (λ m. all_below m test) e
+
+pub below_passed : (n : ℕ) (test : ℕ → Bool) → all_below n test ≡ true → test n ≡ true → all_below (n + 1) test ≡ true
+below_passed n test all here = rw (below_more n test, all, here) refl
+
+-- where one test fails, not all hold
+pub below_failed : (n k : ℕ) (test : ℕ → Bool) → k < n → test k ≡ false → all_below n test ≡ false
+below_failed n k test h f = by_case (all_below n test) refl
+  where
+    by_case : (t : Bool) → all_below n test ≡ t → all_below n test ≡ false
+    by_case false e = e
+    by_case true e = let never : true ≡ false = sym (below_tells n test e k h) ∙ f in absurd cc
 
 pub quiet_none : (at : ℕ → Option EventKind) (p : ℕ) → is_quiet at p 0 ≡ true
 unfolding is_quiet
@@ -33,7 +42,8 @@ pub any_found : (test : ℕ → Bool) (k last : ℕ) → k ≤ last → test k �
 unfolding any_from
 any_found test k last h t = let e : suc last - k ≡ suc (last - k) = omega arith in rw (e, t) refl
 
-pub any_more : (test : ℕ → Bool) (k last : ℕ) → k ≤ last → test k ≡ false → any_from test (k + 1) (suc last - (k + 1)) ≡ any_from test k (suc last - k)
+pub any_more : (test : ℕ → Bool) (k last : ℕ) → k ≤ last → test k ≡ false → any_from test (k + 1) (suc last - (k + 1)) ≡ any_from test k
+    (suc last - k)
 unfolding any_from
 any_more test k last h t =
     let e : suc last - k ≡ suc (last - k) = omega arith in

@@ -1,5 +1,6 @@
 -- Single bits of a byte, and of SREG after an operation.
-use Rattle.std.proofs.Common.{◌≡◌, inl, inr, ℕ, zero, suc, ◌+◌, ◌-◌, ◌*◌, ◌/◌, ◌%◌, ◌^◌, ◌<◌, Bool, true, false, if◌then◌else◌, nat_eq, Option, Some, None, List, [], ◌∷◌, refl, ◌∙◌, ap, arith}
+use Rattle.std.proofs.Common.{◌≡◌, inl, inr, ℕ, zero, suc, ◌+◌, ◌-◌, ◌*◌, ◌/◌, ◌%◌, ◌^◌, ◌<◌, Bool, true, false, if◌then◌else◌, nat_eq}
+use Rattle.std.proofs.Common.{Option, Some, None, List, [], ◌∷◌, refl, ◌∙◌, ap, arith}
 use Rattle.std.specs.Prelude.{bit_or, bit_and, slice_index_or, ◌&&◌}
 use Rattle.std.specs.Int.{bit_at}
 use Rattle.std.proofs.lemmas.Bool.Decides.{eqb_tells, nat_tests}
@@ -77,7 +78,8 @@ half_of : (b : Bool) (n : ℕ) → (bit_value b + 2 * n) / 2 ≡ n
 half_of true n = omega arith
 half_of false n = omega arith
 
-pub bit_of_merged : (flags : List (Option Bool)) (s k : ℕ) → bit_is_set (merged_sreg flags s) k ≡ or_kept (slice_index_or flags k None) (bit_is_set s k)
+pub bit_of_merged : (flags : List (Option Bool)) (s k : ℕ) → bit_is_set (merged_sreg flags s) k ≡ or_kept (slice_index_or flags k None)
+    (bit_is_set s k)
 bit_of_merged [] s k = refl
 bit_of_merged (None ∷ flags) s zero =
     let e : (s % 2 + 2 * merged_sreg flags (s / 2)) % 2 ≡ s % 2 = omega arith in
@@ -87,4 +89,5 @@ bit_of_merged (None ∷ flags) s (suc k) =
     let e : (s % 2 + 2 * merged_sreg flags (s / 2)) / 2 ≡ merged_sreg flags (s / 2) = omega arith in
     rw (bit_at-suc (s % 2 + 2 * merged_sreg flags (s / 2)) k, e, bit_at-suc s k) (bit_of_merged flags (s / 2) k)
 bit_of_merged (Some b ∷ flags) s (suc k) =
-    rw (bit_at-suc (bit_value b + 2 * merged_sreg flags (s / 2)) k, half_of b (merged_sreg flags (s / 2)), bit_at-suc s k) (bit_of_merged flags (s / 2) k)
+    rw (bit_at-suc (bit_value b + 2 * merged_sreg flags (s / 2)) k, half_of b (merged_sreg flags (s / 2)), bit_at-suc s k)
+    (bit_of_merged flags (s / 2) k)

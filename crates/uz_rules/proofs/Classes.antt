@@ -1,5 +1,6 @@
 -- What an instruction makes of core, memory and what is seen, by class of effect.
-use Rattle.std.proofs.Common.{◌≡◌, ℕ, suc, ◌+◌, ◌<◌, ◌≤◌, Bool, true, false, not, if◌then◌else◌, nat_eq, nat_lt, Option, Some, None, List, [], ◌∷◌, length, refl, ◌∙◌, ap, arith}
+use Rattle.std.proofs.Common.{◌≡◌, ℕ, suc, ◌+◌, ◌<◌, ◌≤◌, Bool, true, false, not, if◌then◌else◌, nat_eq, nat_lt, Option, Some, None, List}
+use Rattle.std.proofs.Common.{[], ◌∷◌, length, refl, ◌∙◌, ap, arith}
 use Rattle.std.specs.Prelude.{slice_index_or, ◌&&◌, ◌||◌}
 use Rattle.std.proofs.lemmas.Bool.Decides.{nat_tests}
 use Rattle.std.proofs.lemmas.List.{length-set}
@@ -46,16 +47,23 @@ pub record Before {P : Type 0} (head : Head) (inst : Instance) (o : Core) (d : �
   pub pc : core.pc ≡ inst.pc
 
 -- and after it: the draft holds of the core, and of memory once the stores are made
-pub record Parts {P : Type 0} (w : PadWiring P) (head : Head) (inst r : Instance) (o : Core) (d : ℕ) (core : Core) (calls : List HeldStore) (s : Space P) (emitted : Option EventKind) : Type 0 where
+pub record Parts {P : Type 0} (w : PadWiring P) (head : Head) (inst r : Instance) (o : Core) (d : ℕ) (core : Core) (calls : List HeldStore)
+    (s : Space P) (emitted : Option EventKind) : Type 0 where
   pub core_meets : CoreMeets r o core
   pub enabled : bit_is_set core.sreg 7 ≡ is_main inst.kind
   pub leads : Leads w head r o d core.sp calls s emitted
 
-pub low_room : {P : Type 0} (head : Head) (inst : Instance) (o : Core) (d : ℕ) (core : Core) (s : Space P) → Before head inst o d core s → head.lo ≤ suc core.sp
-low_room head inst o d core s b = omega (arith, room_left head inst.kind d core.sp (depth_of inst) 0 b.fits b.few b.memory.depth (omega (arith, b.limits.depth)))
+pub low_room : {P : Type 0} (head : Head) (inst : Instance) (o : Core) (d : ℕ) (core : Core) (s : Space P) → Before head inst o d core s
+    → head.lo ≤ suc core.sp
+low_room head inst o d core s b = omega (
+  arith,
+  room_left head inst.kind d core.sp (depth_of inst) 0 b.fits b.few b.memory.depth
+      (omega (arith, b.limits.depth)),
+)
 
 -- memory of another instance with the same stack and cells
-pub memory_same : (head : Head) (a b : Instance) (o : Core) (d sp tp : ℕ) (xs ys : List ℕ) → a.kind ≡ b.kind → a.stack ≡ b.stack → a.cells ≡ b.cells → sp ≡ tp → xs ≡ ys → MemoryMeets head a o d sp xs → MemoryMeets head b o d tp ys
+pub memory_same : (head : Head) (a b : Instance) (o : Core) (d sp tp : ℕ) (xs ys : List ℕ) → a.kind ≡ b.kind → a.stack ≡ b.stack
+    → a.cells ≡ b.cells → sp ≡ tp → xs ≡ ys → MemoryMeets head a o d sp xs → MemoryMeets head b o d tp ys
 memory_same head a b o d sp tp xs ys k p c q e h = record {
   slots = λ i w. rw (← p, ← q, ← e) (h.slots i (rw p w));
   cells = λ at j i. rw (← c, ← e) (h.cells at j (rw k i));
@@ -64,8 +72,10 @@ memory_same head a b o d sp tp xs ys k p c q e h = record {
 }
 
 -- no store, no push
-pub quiet : {P : Type 0} (w : PadWiring P) (head : Head) (inst r : Instance) (o : Core) (d : ℕ) (old core : Core) (s t : Space P) → CoreMeets r o core → bit_is_set core.sreg 7 ≡ is_main inst.kind → MemoryMeets head inst o d old.sp s.bytes
-    → inst.kind ≡ r.kind → inst.stack ≡ r.stack → inst.cells ≡ r.cells → old.sp ≡ core.sp → s.bytes ≡ t.bytes → Parts w head inst r o d core [] t None
+pub quiet : {P : Type 0} (w : PadWiring P) (head : Head) (inst r : Instance) (o : Core) (d : ℕ) (old core : Core) (s t : Space P)
+    → CoreMeets r o core → bit_is_set core.sreg 7 ≡ is_main inst.kind → MemoryMeets head inst o d old.sp s.bytes
+    → inst.kind ≡ r.kind → inst.stack ≡ r.stack → inst.cells ≡ r.cells → old.sp ≡ core.sp → s.bytes ≡ t.bytes → Parts w head inst r o d core
+    [] t None
 quiet w head inst r o d old core s t h en m k p c q e = record {
   core_meets = h;
   enabled = en;
@@ -106,7 +116,8 @@ pointer_kind (PreDecrement p) old now = refl
 
 -- I after an operation
 
-chained_seven : (r : AluResult) (c z n v s h t : Option Bool) → r.flags ≡ c ∷ z ∷ n ∷ v ∷ s ∷ h ∷ t ∷ [] → (b : Bool) → slice_index_or (chained_result r b).flags 7 None ≡ None
+chained_seven : (r : AluResult) (c z n v s h t : Option Bool) → r.flags ≡ c ∷ z ∷ n ∷ v ∷ s ∷ h ∷ t ∷ [] → (b : Bool) → slice_index_or
+    (chained_result r b).flags 7 None ≡ None
 chained_seven r c z n v s h t e true = ap (λ fs. slice_index_or fs 7 None) e
 chained_seven r c z n v s h t e false = ap (λ fs. slice_index_or (with_z_cleared fs) 7 None) e
 
@@ -134,10 +145,13 @@ pair_seven false p k = refl
 pair_seven true p k = refl
 
 -- a flag of SREG, which may be I where the kind has it clear
-pub flag_enabled : (flag : ℕ) (set main : Bool) (sreg : ℕ) → flag < 8 → refuse_if (nat_eq flag 7 && (set || main)) Mask None ≡ None → bit_is_set sreg 7 ≡ main → bit_is_set (with_bit flag set sreg) 7 ≡ main
-flag_enabled flag set main sreg h e enabled = by_case (nat_eq flag 7) set main refl e enabled (bit_of_with_bit flag 7 sreg set h (omega arith))
+pub flag_enabled : (flag : ℕ) (set main : Bool) (sreg : ℕ) → flag < 8 → refuse_if (nat_eq flag 7 && (set || main)) Mask None ≡ None
+    → bit_is_set sreg 7 ≡ main → bit_is_set (with_bit flag set sreg) 7 ≡ main
+flag_enabled flag set main sreg h e enabled = by_case (nat_eq flag 7) set main refl e enabled
+    (bit_of_with_bit flag 7 sreg set h (omega arith))
   where
-    by_case : (t u m : Bool) → nat_eq flag 7 ≡ t → refuse_if (t && (u || m)) Mask None ≡ None → bit_is_set sreg 7 ≡ m → bit_is_set (with_bit flag u sreg) 7 ≡ (if nat_eq 7 flag then u else bit_is_set sreg 7) → bit_is_set (with_bit flag u sreg) 7 ≡ m
+    by_case : (t u m : Bool) → nat_eq flag 7 ≡ t → refuse_if (t && (u || m)) Mask None ≡ None → bit_is_set sreg 7 ≡ m
+        → bit_is_set (with_bit flag u sreg) 7 ≡ (if nat_eq 7 flag then u else bit_is_set sreg 7) → bit_is_set (with_bit flag u sreg) 7 ≡ m
     by_case true true m p e en is = absurd cc
     by_case true false true p e en is = absurd cc
     by_case true false false p e en is = let q : nat_eq 7 flag ≡ true = grind (arith, nat_tests) in rw q at is
@@ -160,7 +174,9 @@ pub not_false : (t : Bool) → not t ≡ false → t ≡ true
 not_false true e = refl
 not_false false e = absurd cc
 
-pub may_be_stored : (head : Head) (inst : Instance) (level : ℕ) (to : AddressMode) (r : ℕ) (emitted : Option EventKind) → fail_of head (Store to r) inst ≡ None → emission_at level (Store to r) inst ≡ Some emitted → MayStore head inst level (address_range to inst) (value_at inst.regs r) emitted
+pub may_be_stored : (head : Head) (inst : Instance) (level : ℕ) (to : AddressMode) (r : ℕ) (emitted : Option EventKind)
+    → fail_of head (Store to r) inst ≡ None → emission_at level (Store to r) inst ≡ Some emitted → MayStore head inst level
+    (address_range to inst) (value_at inst.regs r) emitted
 may_be_stored head inst level to r emitted e f =
     let one = unless_none _ _ _ e in
     let two = unless_none _ _ _ one.1 in

@@ -1,5 +1,6 @@
 -- Containment: the state after an instruction meets the instance at one of the abstract step's exits.
-use Rattle.std.proofs.Common.{◌≡◌, ◌≢◌, ◌⊎◌, inl, inr, ℕ, suc, ◌+◌, ◌-◌, ◌%◌, ◌<◌, ◌≤◌, Bool, true, false, not, if◌then◌else◌, nat_eq, nat_le, Option, Some, None, List, [], ◌∷◌, ◌++◌, map, length, refl, sym, ◌∙◌, ap, subst, arith}
+use Rattle.std.proofs.Common.{◌≡◌, ◌≢◌, ◌⊎◌, inl, inr, ℕ, suc, ◌+◌, ◌-◌, ◌%◌, ◌<◌, ◌≤◌, Bool, true, false, not, if◌then◌else◌, nat_eq}
+use Rattle.std.proofs.Common.{nat_le, Option, Some, None, List, [], ◌∷◌, ◌++◌, map, length, refl, sym, ◌∙◌, ap, subst, arith}
 use Rattle.std.specs.Prelude.{slice_index, ◌&&◌, ◌||◌, ◌==◌, Ok}
 use Rattle.std.specs.Ordering.{nat_cmp}
 use Rattle.std.specs.FinMap.{FinMap}
@@ -13,17 +14,21 @@ use Rattle.avr_table.specs.Rows.{Reads, words_of, clocks_of}
 use Rattle.avr_decode.proofs.Unique.{unique}
 use Rattle.uz_machine.specs.declared.Edge.{Edge}
 use Rattle.uz_machine.specs.declared.EdgeKind.{EdgeKind}
-use Rattle.uz_machine.specs.declared.EdgeKind.TheVariants.{Sync as SyncEdge, Pixel as PixelEdge, Sound as SoundEdge, Enter as EnterEdge, Leave as LeaveEdge}
+use Rattle.uz_machine.specs.declared.EdgeKind.TheVariants.{Sync as SyncEdge, Pixel as PixelEdge, Sound as SoundEdge, Enter as EnterEdge}
+use Rattle.uz_machine.specs.declared.EdgeKind.TheVariants.{Leave as LeaveEdge}
 use Rattle.uz_machine.specs.declared.Effect.{Effect}
 use Rattle.uz_machine.specs.declared.AddressMode.{AddressMode}
-use Rattle.uz_machine.specs.declared.Effect.TheVariants.{NoOperation, Binary, Load, Store, LoadProgram, WriteIoBit, WriteFlag, Jump, Return, Stop}
+use Rattle.uz_machine.specs.declared.Effect.TheVariants.{NoOperation, Binary, Load, Store, LoadProgram, WriteIoBit, WriteFlag, Jump, Return}
+use Rattle.uz_machine.specs.declared.Effect.TheVariants.{Stop}
 use Rattle.uz_machine.specs.Arithmetic.{bit_is_set}
 use Rattle.uz_machine.specs.Effects.{effect_of}
-use Rattle.uz_machine.specs.Core.{Core, following_pc, load_addresses, sample_clock, loaded_bytes, content_after_loads, outcome_of, next_pc, changed_core, owes_instruction, returns_from_interrupt, StepResult, effect_result}
+use Rattle.uz_machine.specs.Core.{Core, following_pc, load_addresses, sample_clock, loaded_bytes, content_after_loads, outcome_of, next_pc}
+use Rattle.uz_machine.specs.Core.{changed_core, owes_instruction, returns_from_interrupt, StepResult, effect_result}
 use Rattle.uz_machine.specs.Timer.{is_due, is_counting, count_after, matches_within, timer_after}
 use Rattle.uz_machine.specs.PadLine.{PadHistory}
 use Rattle.uz_machine.specs.Space.{Space, history_wiring, byte_at, space_after, space_loads}
-use Rattle.uz_machine.specs.Turn.{State, sync_level, all_edge_kinds, state_after, edges_at, is_entry, after_instruction, instruction_edges, Turn}
+use Rattle.uz_machine.specs.Turn.{State, sync_level, all_edge_kinds, state_after, edges_at, is_entry, after_instruction, instruction_edges}
+use Rattle.uz_machine.specs.Turn.{Turn}
 use Rattle.uz_machine.specs.StateRange.{IsState}
 use Rattle.uz_machine.specs.CoreRange.{IsByte}
 use Rattle.uz_machine.specs.OperandRanges.{EffectFits}
@@ -52,9 +57,11 @@ use Rattle.uz_transfer.specs.Refusals.{fail_of}
 use Rattle.uz_events.specs.Events.{event_of, shown_at, shown, listed}
 use Rattle.uz_rules.proofs.StoreShows.{kinds_listed}
 use Rattle.uz_schedule.specs.Lines.{Lines, clock_after}
-use Rattle.uz_transfer.specs.Step.{exits_of, clears_flag, ends_line, following_of, sampled_of, step_unless, step_of_row, successor, IsReadAt}
+use Rattle.uz_transfer.specs.Step.{exits_of, clears_flag, ends_line, following_of, sampled_of, step_unless, step_of_row, successor}
+use Rattle.uz_transfer.specs.Step.{IsReadAt}
 use Rattle.uz_rules.specs.Meets.{top_of, TimerMeets, TimerCounts, LevelMeets, Meets, InstanceFits}
-use Rattle.uz_rules.specs.OneStep.{IsNoEntry, MainTimer, OneStep, InstructionBegins, Contained, AloneContained, HandlerContained, MainContained}
+use Rattle.uz_rules.specs.OneStep.{IsNoEntry, MainTimer, OneStep, InstructionBegins, Contained, AloneContained, HandlerContained}
+use Rattle.uz_rules.specs.OneStep.{MainContained}
 use Rattle.uz_transfer.specs.Emission.{main_emits}
 use Rattle.uz_transfer.specs.declared.step.Exit.{Exit}
 use Rattle.uz_transfer.specs.declared.step.Step.{Step}
@@ -68,7 +75,8 @@ use Rattle.uz_rules.proofs.ExitsHold.{exit_holds}
 
 -- Edges and events
 
-edges_shown : (clock : ℕ) (kinds : List EdgeKind) → shown (edges_at clock kinds) ≡ map (λ k. record { clock = clock; kind = k }) (filter_map event_of kinds)
+edges_shown : (clock : ℕ) (kinds : List EdgeKind) → shown (edges_at clock kinds) ≡ map (λ k. record { clock = clock; kind = k })
+    (filter_map event_of kinds)
 edges_shown clock [] = refl
 edges_shown clock (SyncEdge level ∷ kinds) = ap (λ l. record { clock = clock; kind = Sync level } ∷ l) (edges_shown clock kinds)
 edges_shown clock (PixelEdge v ∷ kinds) = ap (λ l. record { clock = clock; kind = Pixel } ∷ l) (edges_shown clock kinds)
@@ -76,11 +84,13 @@ edges_shown clock (SoundEdge v ∷ kinds) = ap (λ l. record { clock = clock; ki
 edges_shown clock (EnterEdge t ∷ kinds) = edges_shown clock kinds
 edges_shown clock (LeaveEdge ∷ kinds) = ap (λ l. record { clock = clock; kind = Leave } ∷ l) (edges_shown clock kinds)
 
-listed_shown : (clock : ℕ) (emitted : Option EventKind) → map (λ k. record { clock = clock; kind = k }) (kinds_listed emitted) ≡ listed (shown_at emitted clock)
+listed_shown : (clock : ℕ) (emitted : Option EventKind) → map (λ k. record { clock = clock; kind = k }) (kinds_listed emitted) ≡ listed
+    (shown_at emitted clock)
 listed_shown clock None = refl
 listed_shown clock (Some k) = refl
 
-edges_calm : (clock : ℕ) (kinds : List EdgeKind) → AllByRecursion IsNoEntry kinds → AllByRecursion (λ (e : Edge). IsNoEntry e.kind) (edges_at clock kinds)
+edges_calm : (clock : ℕ) (kinds : List EdgeKind) → AllByRecursion IsNoEntry kinds → AllByRecursion (λ (e : Edge). IsNoEntry e.kind)
+    (edges_at clock kinds)
 edges_calm clock [] h = tt
 edges_calm clock (k ∷ kinds) h = (h.0, edges_calm clock kinds h.1)
 
@@ -92,14 +102,21 @@ record Told (refused : Option Fail) (emitted : Option (Option EventKind)) (plan 
   emits : emitted ≡ Some event
   is : step ≡ record plan { emit = event }
 
-step_tells : (refused : Option Fail) (emitted : Option (Option EventKind)) (plan step : Step) → step_unless refused emitted plan ≡ Ok step → Told refused emitted plan step
+step_tells : (refused : Option Fail) (emitted : Option (Option EventKind)) (plan step : Step) → step_unless refused emitted plan ≡ Ok step
+    → Told refused emitted plan step
 step_tells (Some why) emitted plan step e = absurd cc
 step_tells None None plan step e = absurd cc
-step_tells None (Some event) plan step e = record { event = event; fine = refl; emits = refl; is = (let q : record plan { emit = event } ≡ step = cc in sym q) }
+step_tells None (Some event) plan step e = record {
+  event = event;
+  fine = refl;
+  emits = refl;
+  is = (let q : record plan { emit = event } ≡ step = cc in sym q);
+}
 
 -- No instruction is left owed, and it isn't SPM
 
-owes_none : (head : Head) (inst : Instance) (e : Effect) → fail_of head e inst ≡ None → returns_from_interrupt e ≡ false → owes_instruction e ≡ false
+owes_none : (head : Head) (inst : Instance) (e : Effect) → fail_of head e inst ≡ None → returns_from_interrupt e ≡ false → owes_instruction
+    e ≡ false
 owes_none head inst (WriteFlag flag true) f r = by_case (nat_eq flag 7) (unless_none (nat_eq flag 7 && true) Mask None f).0
   where
     by_case : (t : Bool) → (t && true) ≡ false → (true && t) ≡ false
@@ -127,18 +144,21 @@ pointer_kinds mode old now = sym (pointer_kind mode old now)
 stored_kind : (head : Head) (a : Ends) (v : Val) (inst : Instance) → (stored_in head a v inst).kind ≡ inst.kind
 stored_kind head a v inst = by_case (is_single a) (nat_eq a.lo 0x5F) (cell_place head inst.kind a.lo)
   where
-    by_case : (t u : Bool) (place : Option ℕ) → (if t then (if u then with_flag_list (flags_from v) inst else with_cell place (span_of v) inst) else inst).kind ≡ inst.kind
+    by_case : (t u : Bool) (place : Option ℕ)
+        → (if t then (if u then with_flag_list (flags_from v) inst else with_cell place (span_of v) inst) else inst).kind ≡ inst.kind
     by_case true true place = refl
     by_case true false (Some j) = refl
     by_case true false None = refl
     by_case false u place = refl
 
-draft_kind : (e : Effect) (head : Head) (image : FinMap nat_cmp ℕ) (following sampled : ℕ) (inst : Instance) → (transfer head image following sampled e inst).kind ≡ inst.kind
+draft_kind : (e : Effect) (head : Head) (image : FinMap nat_cmp ℕ) (following sampled : ℕ) (inst : Instance)
+    → (transfer head image following sampled e inst).kind ≡ inst.kind
 draft_kind (Binary op d source true) head image following sampled inst = refl
 draft_kind (Binary op d source false) head image following sampled inst = refl
 draft_kind (Load d from) head image following sampled inst = pointer_kinds from inst inst
 draft_kind (Store to r) head image following sampled inst =
-    pointer_kinds to inst (stored_in head (address_range to inst) (value_at inst.regs r) inst) ∙ stored_kind head (address_range to inst) (value_at inst.regs r) inst
+    pointer_kinds to inst (stored_in head (address_range to inst) (value_at inst.regs r) inst) ∙ stored_kind head (address_range to inst)
+    (value_at inst.regs r) inst
 draft_kind (LoadProgram d true) head image following sampled inst = refl
 draft_kind (LoadProgram d false) head image following sampled inst = refl
 draft_kind (Jump target true) head image following sampled inst = refl
@@ -150,7 +170,8 @@ draft_kind e head image following sampled inst = refl
 
 -- An instance that is alone
 
-alone_before : (head : Head) (inst : Instance) (o : Core) (d : ℕ) (s : State PadHistory) → HeadFits head → d ≤ head.main → InstanceFits head inst → IsState s → Meets head inst o d s → Before head inst o d s.core s.space
+alone_before : (head : Head) (inst : Instance) (o : Core) (d : ℕ) (s : State PadHistory) → HeadFits head → d ≤ head.main → InstanceFits head
+    inst → IsState s → Meets head inst o d s → Before head inst o d s.core s.space
 alone_before head inst o d s fits few limits state m = record {
   fits = fits;
   few = few;
@@ -175,7 +196,8 @@ abbrev kinds_of : Effect → ℕ → (Outcome → ℕ) → State PadHistory → 
 kinds_of e words clocks s = let d = result_of e words clocks s in all_edge_kinds history_wiring d.stores (space_after d.clocks d.content)
 
 abbrev edges_of : Effect → ℕ → (Outcome → ℕ) → State PadHistory → List Edge
-edges_of e words clocks s = let d = result_of e words clocks s in edges_at (s.clock + d.clocks) (kinds_of e words clocks s ++ (if d.returned then LeaveEdge ∷ [] else []))
+edges_of e words clocks s = let d = result_of e words clocks s in
+    edges_at (s.clock + d.clocks) (kinds_of e words clocks s ++ (if d.returned then LeaveEdge ∷ [] else []))
 
 abbrev pub plan_of : Head → ℕ → FinMap nat_cmp ℕ → Effect → ℕ → (Outcome → ℕ) → Instance → Option EventKind → Step
 plan_of head length image e words clocks inst emitted = record {
@@ -187,53 +209,78 @@ plan_of head length image e words clocks inst emitted = record {
 }
 
 abbrev outcome_at : Effect → ℕ → (Outcome → ℕ) → State PadHistory → Outcome
-outcome_at e words clocks s = outcome_of e s.image words (loaded_bytes (space_loads history_wiring) s.core (sample_clock e clocks) s.space (load_addresses e s.core)) s.core
+outcome_at e words clocks s = outcome_of e s.image words (loaded_bytes (space_loads history_wiring) s.core (sample_clock e clocks) s.space
+    (load_addresses e s.core)) s.core
 
 abbrev exit_at : Effect → ℕ → (Outcome → ℕ) → State PadHistory → Exit
 exit_at e words clocks s = record {
-  pc = next_pc e (outcome_at e words clocks s) words (loaded_bytes (space_loads history_wiring) s.core (sample_clock e clocks) s.space (load_addresses e s.core)) s.core;
+  pc = next_pc e (outcome_at e words clocks s) words (loaded_bytes (space_loads history_wiring) s.core (sample_clock e clocks) s.space
+      (load_addresses e s.core)) s.core;
   clocks = clocks (outcome_at e words clocks s);
 }
 
-effect_step : (head : Head) (lines : Lines) (inst : Instance) (o : Core) (d : ℕ) (s : State PadHistory) (e : Effect) (words : ℕ) (clocks : Outcome → ℕ) (event : Option EventKind) → EffectFits e → Before head inst o d s.core s.space → Meets head inst o d s
-    → (is_handler inst.kind ≡ true → byte_at history_wiring (space_after (sample_clock e clocks) s.space) 0x84 ≡ sampled_of (lines.length inst.line) e clocks inst % 256)
-    → TimerMeets inst.kind (successor lines inst (plan_of head (lines.length inst.line) s.image e words clocks inst event) (exit_at e words clocks s)) (state_of e words clocks s).space.timer → TimerCounts inst.kind (state_of e words clocks s).space.timer
-    → ((n : ℕ) → n ≡ level_after event (sync_level s.space) → LevelMeets inst.kind (if is_main inst.kind then inst.level else level_after event (inst.level % 2)) n)
-    → ((n : ℕ) → n ≡ level_after event (sync_level s.space) → n ≡ sync_level (state_of e words clocks s).space → MainTimer inst.kind (clocks (outcome_at e words clocks s)) s (state_of e words clocks s))
+effect_step : (head : Head) (lines : Lines) (inst : Instance) (o : Core) (d : ℕ) (s : State PadHistory) (e : Effect) (words : ℕ)
+    (clocks : Outcome → ℕ) (event : Option EventKind) → EffectFits e → Before head inst o d s.core s.space → Meets head inst o d s
+    → (is_handler inst.kind ≡ true → byte_at history_wiring (space_after (sample_clock e clocks) s.space) 0x84 ≡ sampled_of
+    (lines.length inst.line) e clocks inst % 256)
+    → TimerMeets inst.kind (successor lines inst (plan_of head (lines.length inst.line) s.image e words clocks inst event)
+    (exit_at e words clocks s)) (state_of e words clocks s).space.timer → TimerCounts inst.kind (state_of e words clocks s).space.timer
+    → ((n : ℕ) → n ≡ level_after event (sync_level s.space) → LevelMeets inst.kind (if is_main inst.kind then inst.level else level_after
+    event (inst.level % 2)) n)
+    → ((n : ℕ) → n ≡ level_after event (sync_level s.space) → n ≡ sync_level (state_of e words clocks s).space → MainTimer inst.kind
+    (clocks (outcome_at e words clocks s)) s (state_of e words clocks s))
     → (is_main inst.kind ≡ true → event ≡ None)
-    → AllByRecursion IsByte (state_of e words clocks s).core.registers → returns_from_interrupt e ≡ false → fail_of head e inst ≡ None → emission_at (sync_level s.space) e inst ≡ Some event → (1 ≤ clocks (outcome_at e words clocks s)) × (clocks (outcome_at e words clocks s) ≤ 4)
-    → OneStep head lines inst o d (plan_of head (lines.length inst.line) s.image e words clocks inst event) s (edges_of e words clocks s) (state_of e words clocks s)
+    → AllByRecursion IsByte (state_of e words clocks s).core.registers → returns_from_interrupt e ≡ false → fail_of head e inst ≡ None
+    → emission_at (sync_level s.space) e inst ≡ Some event → (1 ≤ clocks (outcome_at e words clocks s))
+    × (clocks (outcome_at e words clocks s) ≤ 4)
+    → OneStep head lines inst o d (plan_of head (lines.length inst.line) s.image e words clocks inst event) s (edges_of e words clocks s)
+    (state_of e words clocks s)
 effect_step head lines inst o d s e words clocks event fits b m tcnt timer ticks level runs silent bytes stays fine emits time =
     let following : following_of words inst ≡ following_pc words s.core = ap (λ n. (n + words) % 32768) (sym m.pc) in
     let plan : Step = plan_of head (lines.length inst.line) s.image e words clocks inst event in
-    let parts = parts_of history_wiring e head s.image (following_of words inst) (sampled_of (lines.length inst.line) e clocks inst) words (sample_clock e clocks) (clocks (outcome_at e words clocks s)) d inst o s.core s.space event fits b bytes following tcnt stays fine emits in
+    let parts = parts_of history_wiring e head s.image (following_of words inst) (sampled_of (lines.length inst.line) e clocks inst) words
+    (sample_clock e clocks) (clocks (outcome_at e words clocks s)) d inst o s.core s.space event fits b bytes following tcnt stays fine
+    emits in
     let content = content_bytes history_wiring (sample_clock e clocks) s.space (load_addresses e s.core) in
-    let before : sync_level (space_after (clocks (outcome_at e words clocks s)) (content_after_loads (space_loads history_wiring) (sample_clock e clocks) s.space (load_addresses e s.core))) ≡ sync_level s.space = ap (λ xs. slice_index xs 0x25 % 2) content in
-    let same : kinds_of e words clocks s ++ (if returns_from_interrupt e then LeaveEdge ∷ [] else []) ≡ kinds_of e words clocks s = ap (λ t. kinds_of e words clocks s ++ (if t then LeaveEdge ∷ [] else [])) stays ∙ append-nil (kinds_of e words clocks s) in
+    let before : sync_level (space_after (clocks (outcome_at e words clocks s)) (content_after_loads (space_loads history_wiring)
+    (sample_clock e clocks) s.space (load_addresses e s.core))) ≡ sync_level s.space = ap (λ xs. slice_index xs 0x25 % 2) content in
+    let same : kinds_of e words clocks s ++ (if returns_from_interrupt e then LeaveEdge ∷ [] else []) ≡ kinds_of e words clocks s =
+    ap (λ t. kinds_of e words clocks s ++ (if t then LeaveEdge ∷ [] else [])) stays ∙ append-nil (kinds_of e words clocks s) in
     record {
       exit = exit_at e words clocks s;
-      is_exit = exit_holds history_wiring e head s.image clocks words (following_of words inst) (sample_clock e clocks) d inst o s.core s.space fits b following stays fine (outcome_at e words clocks s) refl;
+      is_exit = exit_holds history_wiring e head s.image clocks words (following_of words inst) (sample_clock e clocks) d inst o s.core
+          s.space fits b following stays fine (outcome_at e words clocks s) refl;
       meets = record {
         pc = refl;
         enabled = parts.enabled;
-        core = core_same (transfer head s.image (following_of words inst) (sampled_of (lines.length inst.line) e clocks inst) e inst) (successor lines inst (plan_of head (lines.length inst.line) s.image e words clocks inst event) (exit_at e words clocks s)) o
-            (changed_core e s.image words (loaded_bytes (space_loads history_wiring) s.core (sample_clock e clocks) s.space (load_addresses e s.core)) s.core) (state_of e words clocks s).core refl refl refl refl refl parts.core_meets;
-        memory = memory_same head (transfer head s.image (following_of words inst) (sampled_of (lines.length inst.line) e clocks inst) e inst) (successor lines inst (plan_of head (lines.length inst.line) s.image e words clocks inst event) (exit_at e words clocks s)) o d _ (state_of e words clocks s).core.sp _ (state_of e words clocks s).space.bytes
-            (draft_kind e head s.image (following_of words inst) (sampled_of (lines.length inst.line) e clocks inst) inst) refl refl refl refl parts.leads.memory;
+        core = core_same (transfer head s.image (following_of words inst) (sampled_of (lines.length inst.line) e clocks inst) e inst)
+            (successor lines inst (plan_of head (lines.length inst.line) s.image e words clocks inst event) (exit_at e words clocks s)) o
+            (changed_core e s.image words (loaded_bytes (space_loads history_wiring) s.core (sample_clock e clocks) s.space
+            (load_addresses e s.core)) s.core) (state_of e words clocks s).core refl refl refl refl refl parts.core_meets;
+        memory = memory_same head (transfer head s.image (following_of words inst) (sampled_of (lines.length inst.line) e clocks inst) e
+            inst) (successor lines inst (plan_of head (lines.length inst.line) s.image e words clocks inst event)
+            (exit_at e words clocks s)) o d _ (state_of e words clocks s).core.sp _ (state_of e words clocks s).space.bytes
+            (draft_kind e head s.image (following_of words inst) (sampled_of (lines.length inst.line) e clocks inst) inst) refl refl refl
+            refl parts.leads.memory;
         timer = timer;
         ticks = ticks;
         level = level (sync_level (state_of e words clocks s).space) (parts.leads.shows.level ∙ ap (level_after event) before);
         response = m.response;
       };
-      events = ap (λ ks. shown (edges_at (s.clock + clocks (outcome_at e words clocks s)) ks)) same ∙ edges_shown (s.clock + clocks (outcome_at e words clocks s)) (kinds_of e words clocks s)
-          ∙ ap (λ ks. map (λ k. record { clock = s.clock + clocks (outcome_at e words clocks s); kind = k }) ks) parts.leads.shows.events ∙ listed_shown (s.clock + clocks (outcome_at e words clocks s)) event;
-      no_entry = subst (λ ks. AllByRecursion (λ (e : Edge). IsNoEntry e.kind) (edges_at (s.clock + clocks (outcome_at e words clocks s)) ks)) (sym same) (edges_calm (s.clock + clocks (outcome_at e words clocks s)) (kinds_of e words clocks s) parts.leads.shows.calm);
+      events = ap (λ ks. shown (edges_at (s.clock + clocks (outcome_at e words clocks s)) ks)) same
+          ∙ edges_shown (s.clock + clocks (outcome_at e words clocks s)) (kinds_of e words clocks s)
+          ∙ ap (λ ks. map (λ k. record { clock = s.clock + clocks (outcome_at e words clocks s); kind = k }) ks) parts.leads.shows.events
+          ∙ listed_shown (s.clock + clocks (outcome_at e words clocks s)) event;
+      no_entry = subst (λ ks. AllByRecursion (λ (e : Edge). IsNoEntry e.kind) (edges_at (s.clock + clocks (outcome_at e words clocks s))
+          ks)) (sym same) (edges_calm (s.clock + clocks (outcome_at e words clocks s)) (kinds_of e words clocks s) parts.leads.shows.calm);
       clock = refl;
       at_least_one = time.0;
       at_most_four = time.1;
       settled = owes_none head inst e fine stays;
       untouched = subst (λ xs. Untouched head inst.kind (s.core.sp + depth_of inst) xs (state_of e words clocks s).space.bytes) content
-          (stores_leave history_wiring e head words d inst o s.core s.space (space_after (clocks (outcome_at e words clocks s)) (content_after_loads (space_loads history_wiring) (sample_clock e clocks) s.space (load_addresses e s.core))) (ap length content ∙ b.size) fits b fine);
+          (stores_leave history_wiring e head words d inst o s.core s.space (space_after (clocks (outcome_at e words clocks s))
+          (content_after_loads (space_loads history_wiring) (sample_clock e clocks) s.space (load_addresses e s.core)))
+          (ap length content ∙ b.size) fits b fine);
       silent = silent;
       main_timer = runs (sync_level (state_of e words clocks s).space) (parts.leads.shows.level ∙ ap (level_after event) before) refl;
     }
@@ -254,25 +301,35 @@ record ReadsAs (head : Head) (lines : Lines) (image : FinMap nat_cmp ℕ) (inst 
   emits : emission (effect_of row) inst ≡ Some event
   is : step ≡ plan_of head (lines.length inst.line) image (effect_of row) (words_of row) (clocks_of row) inst event
 
-reads_as : (head : Head) (lines : Lines) (image : FinMap nat_cmp ℕ) (inst : Instance) (step : Step) (row : Option Instr) → IsReadAt image inst.pc row → Ok step ≡ step_of_row head (lines.length inst.line) image row inst → ReadsAs head lines image inst step
+reads_as : (head : Head) (lines : Lines) (image : FinMap nat_cmp ℕ) (inst : Instance) (step : Step) (row : Option Instr) → IsReadAt image
+    inst.pc row → Ok step ≡ step_of_row head (lines.length inst.line) image row inst → ReadsAs head lines image inst step
 reads_as head lines image inst step None reads e = absurd cc
 reads_as head lines image inst step (Some i) reads e =
-    let told = step_tells (fail_of head (effect_of i) inst) (emission (effect_of i) inst) (plan_of head (lines.length inst.line) image (effect_of i) (words_of i) (clocks_of i) inst None) step (sym e) in
+    let told = step_tells (fail_of head (effect_of i) inst) (emission (effect_of i) inst)
+    (plan_of head (lines.length inst.line) image (effect_of i) (words_of i) (clocks_of i) inst None) step (sym e) in
     record { row = i; reads = reads.found; event = told.event; fine = told.fine; emits = told.emits; is = told.is }
 
 -- the timer's part: what a load of TCNT1L gives, and the timer after the instruction
-pub record TimePart (lines : Lines) (head : Head) (inst : Instance) (s : State PadHistory) (e : Effect) (words : ℕ) (clocks : Outcome → ℕ) (event : Option EventKind) : Type 0 where
-  pub tcnt : is_handler inst.kind ≡ true → byte_at history_wiring (space_after (sample_clock e clocks) s.space) 0x84 ≡ sampled_of (lines.length inst.line) e clocks inst % 256
-  pub timer : TimerMeets inst.kind (successor lines inst (plan_of head (lines.length inst.line) s.image e words clocks inst event) (exit_at e words clocks s)) (state_of e words clocks s).space.timer
+pub record TimePart (lines : Lines) (head : Head) (inst : Instance) (s : State PadHistory) (e : Effect) (words : ℕ) (clocks : Outcome → ℕ)
+    (event : Option EventKind) : Type 0 where
+  pub tcnt : is_handler inst.kind ≡ true → byte_at history_wiring (space_after (sample_clock e clocks) s.space) 0x84 ≡ sampled_of
+      (lines.length inst.line) e clocks inst % 256
+  pub timer : TimerMeets inst.kind (successor lines inst (plan_of head (lines.length inst.line) s.image e words clocks inst event)
+      (exit_at e words clocks s)) (state_of e words clocks s).space.timer
   pub ticks : TimerCounts inst.kind (state_of e words clocks s).space.timer
 
 -- and beside it the level, the events and main's own part
-pub record KindPart (lines : Lines) (head : Head) (inst : Instance) (s : State PadHistory) (e : Effect) (words : ℕ) (clocks : Outcome → ℕ) (event : Option EventKind) : Type 0 where
-  pub tcnt : is_handler inst.kind ≡ true → byte_at history_wiring (space_after (sample_clock e clocks) s.space) 0x84 ≡ sampled_of (lines.length inst.line) e clocks inst % 256
-  pub timer : TimerMeets inst.kind (successor lines inst (plan_of head (lines.length inst.line) s.image e words clocks inst event) (exit_at e words clocks s)) (state_of e words clocks s).space.timer
+pub record KindPart (lines : Lines) (head : Head) (inst : Instance) (s : State PadHistory) (e : Effect) (words : ℕ) (clocks : Outcome → ℕ)
+    (event : Option EventKind) : Type 0 where
+  pub tcnt : is_handler inst.kind ≡ true → byte_at history_wiring (space_after (sample_clock e clocks) s.space) 0x84 ≡ sampled_of
+      (lines.length inst.line) e clocks inst % 256
+  pub timer : TimerMeets inst.kind (successor lines inst (plan_of head (lines.length inst.line) s.image e words clocks inst event)
+      (exit_at e words clocks s)) (state_of e words clocks s).space.timer
   pub ticks : TimerCounts inst.kind (state_of e words clocks s).space.timer
-  pub level : (n : ℕ) → n ≡ level_after event (sync_level s.space) → LevelMeets inst.kind (if is_main inst.kind then inst.level else level_after event (inst.level % 2)) n
-  pub runs : (n : ℕ) → n ≡ level_after event (sync_level s.space) → n ≡ sync_level (state_of e words clocks s).space → MainTimer inst.kind (clocks (outcome_at e words clocks s)) s (state_of e words clocks s)
+  pub level : (n : ℕ) → n ≡ level_after event (sync_level s.space) → LevelMeets inst.kind
+      (if is_main inst.kind then inst.level else level_after event (inst.level % 2)) n
+  pub runs : (n : ℕ) → n ≡ level_after event (sync_level s.space) → n ≡ sync_level (state_of e words clocks s).space → MainTimer inst.kind
+      (clocks (outcome_at e words clocks s)) s (state_of e words clocks s)
   pub silent : is_main inst.kind ≡ true → event ≡ None
   pub emits : emission_at (sync_level s.space) e inst ≡ Some event
 
@@ -295,8 +352,12 @@ own_bit : (byte level : ℕ) → byte % 2 ≡ level → byte % 2 ≡ level % 2
 own_bit byte level e = omega (arith, e)
 
 -- outside main no interrupt is taken
-pub any_contained : (head : Head) (lines : Lines) (image : FinMap nat_cmp ℕ) (inst : Instance) (o : Core) (d : ℕ) (step : Step) (s : State PadHistory) → is_entry s ≡ false → InstructionBegins head lines image inst o d step s
-    → ((i : Instr) (event : Option EventKind) → Reads (word_of image (inst.pc % 32768)) (word_of image ((inst.pc + 1) % 32768)) i → fail_of head (effect_of i) inst ≡ None → emission (effect_of i) inst ≡ Some event → returns_from_interrupt (effect_of i) ≡ false → (clocks_of i (outcome_at (effect_of i) (words_of i) (clocks_of i) s) ≤ 4) → KindPart lines head inst s (effect_of i) (words_of i) (clocks_of i) event)
+pub any_contained : (head : Head) (lines : Lines) (image : FinMap nat_cmp ℕ) (inst : Instance) (o : Core) (d : ℕ) (step : Step)
+    (s : State PadHistory) → is_entry s ≡ false → InstructionBegins head lines image inst o d step s
+    → ((i : Instr) (event : Option EventKind) → Reads (word_of image (inst.pc % 32768)) (word_of image ((inst.pc + 1) % 32768)) i
+    → fail_of head (effect_of i) inst ≡ None → emission (effect_of i) inst ≡ Some event → returns_from_interrupt (effect_of i) ≡ false
+    → (clocks_of i (outcome_at (effect_of i) (words_of i) (clocks_of i) s) ≤ 4) → KindPart lines head inst s (effect_of i) (words_of i)
+    (clocks_of i) event)
     → Contained head lines inst o d step s
 any_contained head lines image inst o d step s enters h part =
     let r = reads_as head lines image inst step h.step_is.row h.step_is.reads h.step_is.is in
@@ -307,38 +368,56 @@ any_contained head lines image inst o d step s enters h part =
     subst (λ (m : FinMap nat_cmp ℕ). Reads (word_of m s.core.pc) (word_of m ((s.core.pc + 1) % 32768)) r.row) (sym h.flash)
     (subst (λ n. Reads (word_of image s.core.pc) (word_of image ((n + 1) % 32768)) r.row) (sym h.meets.pc)
     (subst (λ n. Reads (word_of image n) (word_of image ((inst.pc + 1) % 32768)) r.row) (sym pc) r.reads)) in
-    let runs : effect_of r.row ≢ Stop = (λ q. let f : fail_of head Stop inst ≡ None = subst (λ e. fail_of head e inst ≡ None) q r.fine in cc) in
+    let runs : effect_of r.row ≢ Stop = (λ q. let f : fail_of head Stop inst ≡ None = subst (λ e. fail_of head e inst ≡ None) q r.fine in
+    cc) in
     record {
-      has_turn = (instruction_edges history_wiring r.row s, after_instruction history_wiring r.row s, inr (record { enters = enters; row = r.row; reads = reads; runs = runs; goes_to = refl; emits = refl }));
+      has_turn = (
+        instruction_edges history_wiring r.row s,
+        after_instruction history_wiring r.row s,
+        inr (record { enters = enters; row = r.row; reads = reads; runs = runs; goes_to = refl; emits = refl }),
+      );
       each_turn = λ edges new turn. each_turn edges new turn r stays enters reads;
     }
   where
-    each_turn : (edges : List Edge) (new : State PadHistory) → Turn history_wiring s edges new → (r : ReadsAs head lines image inst step) → returns_from_interrupt (effect_of r.row) ≡ false → is_entry s ≡ false
+    each_turn : (edges : List Edge) (new : State PadHistory) → Turn history_wiring s edges new → (r : ReadsAs head lines image inst step)
+        → returns_from_interrupt (effect_of r.row) ≡ false → is_entry s ≡ false
         → Reads (word_of s.image s.core.pc) (word_of s.image ((s.core.pc + 1) % 32768)) r.row → OneStep head lines inst o d step s edges new
     each_turn edges new (inl turn) r stays enters reads = let yes : is_entry s ≡ true = turn.enters in absurd cc
     each_turn edges new (inr turn) r stays enters reads =
         let same : turn.row ≡ r.row = unique _ turn.row r.row turn.reads reads in
         let goes : new ≡ after_instruction history_wiring r.row s = turn.goes_to ∙ ap (λ j. after_instruction history_wiring j s) same in
         let seen : edges ≡ instruction_edges history_wiring r.row s = turn.emits ∙ ap (λ j. instruction_edges history_wiring j s) same in
-        let after : IsState (after_instruction history_wiring r.row s) = subst IsState goes (state_kept s new edges (inr turn) h.is_state) in
+        let after : IsState (after_instruction history_wiring r.row s) = subst IsState goes
+        (state_kept s new edges (inr turn) h.is_state) in
         let b = alone_before head inst o d s h.head_fits h.depth h.fits h.is_state h.meets in
-        let time = in_four (stops (effect_of r.row)) _ (goes_on_stop head inst (effect_of r.row) r.fine) (clocks_within r.row (outcome_at (effect_of r.row) (words_of r.row) (clocks_of r.row) s)) in
-        let one : OneStep head lines inst o d (plan_of head (lines.length inst.line) s.image (effect_of r.row) (words_of r.row) (clocks_of r.row) inst r.event) s (instruction_edges history_wiring r.row s) (after_instruction history_wiring r.row s) =
+        let time = in_four (stops (effect_of r.row)) _ (goes_on_stop head inst (effect_of r.row) r.fine)
+        (clocks_within r.row (outcome_at (effect_of r.row) (words_of r.row) (clocks_of r.row) s)) in
+        let one : OneStep head lines inst o d (plan_of head (lines.length inst.line) s.image (effect_of r.row) (words_of r.row)
+        (clocks_of r.row) inst r.event) s (instruction_edges history_wiring r.row s) (after_instruction history_wiring r.row s) =
         let k = part r.row r.event r.reads r.fine r.emits stays time.1 in
-        effect_step head lines inst o d s (effect_of r.row) (words_of r.row) (clocks_of r.row) r.event (effect_fits r.row) b h.meets k.tcnt k.timer k.ticks k.level k.runs k.silent after.core.registers stays r.fine k.emits time in
+        effect_step head lines inst o d s (effect_of r.row) (words_of r.row) (clocks_of r.row) r.event (effect_fits r.row) b h.meets k.tcnt
+        k.timer k.ticks k.level k.runs k.silent after.core.registers stays r.fine k.emits time in
         let flash : s.image ≡ image = h.flash in
-        let plan : plan_of head (lines.length inst.line) s.image (effect_of r.row) (words_of r.row) (clocks_of r.row) inst r.event ≡ step = ap (λ (m : FinMap nat_cmp ℕ). plan_of head (lines.length inst.line) m (effect_of r.row) (words_of r.row) (clocks_of r.row) inst r.event) flash ∙ sym r.is in
+        let plan : plan_of head (lines.length inst.line) s.image (effect_of r.row) (words_of r.row) (clocks_of r.row) inst r.event ≡ step =
+        ap (λ (m : FinMap nat_cmp ℕ). plan_of head (lines.length inst.line) m (effect_of r.row) (words_of r.row) (clocks_of r.row) inst
+        r.event) flash ∙ sym r.is in
         subst (λ x. OneStep head lines inst o d x s edges new) plan
-        (subst (λ es. OneStep head lines inst o d (plan_of head (lines.length inst.line) s.image (effect_of r.row) (words_of r.row) (clocks_of r.row) inst r.event) s es new) (sym seen)
-        (subst (λ n. OneStep head lines inst o d (plan_of head (lines.length inst.line) s.image (effect_of r.row) (words_of r.row) (clocks_of r.row) inst r.event) s (instruction_edges history_wiring r.row s) n) (sym goes) one))
+        (subst (λ es. OneStep head lines inst o d (plan_of head (lines.length inst.line) s.image (effect_of r.row) (words_of r.row)
+        (clocks_of r.row) inst r.event) s es new) (sym seen)
+        (subst (λ n. OneStep head lines inst o d (plan_of head (lines.length inst.line) s.image (effect_of r.row) (words_of r.row)
+        (clocks_of r.row) inst r.event) s (instruction_edges history_wiring r.row s) n) (sym goes) one))
 
-outside_contained : (head : Head) (lines : Lines) (image : FinMap nat_cmp ℕ) (inst : Instance) (o : Core) (d : ℕ) (step : Step) (s : State PadHistory) → is_main inst.kind ≡ false → InstructionBegins head lines image inst o d step s
-    → ((i : Instr) (event : Option EventKind) → fail_of head (effect_of i) inst ≡ None → (clocks_of i (outcome_at (effect_of i) (words_of i) (clocks_of i) s) ≤ 4) → TimePart lines head inst s (effect_of i) (words_of i) (clocks_of i) event)
+outside_contained : (head : Head) (lines : Lines) (image : FinMap nat_cmp ℕ) (inst : Instance) (o : Core) (d : ℕ) (step : Step)
+    (s : State PadHistory) → is_main inst.kind ≡ false → InstructionBegins head lines image inst o d step s
+    → ((i : Instr) (event : Option EventKind) → fail_of head (effect_of i) inst ≡ None
+    → (clocks_of i (outcome_at (effect_of i) (words_of i) (clocks_of i) s) ≤ 4) → TimePart lines head inst s (effect_of i) (words_of i)
+    (clocks_of i) event)
     → Contained head lines inst o d step s
 outside_contained head lines image inst o d step s out h part =
     let off : bit_is_set s.core.sreg 7 ≡ false = h.meets.enabled ∙ out in
     let enters : is_entry s ≡ false = no_entry (is_due s.space.timer) (bit_is_set s.core.sreg 7) (not s.is_owed) off in
-    let level : sync_level s.space ≡ inst.level % 2 = own_bit (slice_index s.space.bytes 0x25) inst.level (level_of inst.kind inst.level (sync_level s.space) out h.meets.level) in
+    let level : sync_level s.space ≡ inst.level % 2 = own_bit (slice_index s.space.bytes 0x25) inst.level
+    (level_of inst.kind inst.level (sync_level s.space) out h.meets.level) in
     any_contained head lines image inst o d step s enters h (λ i event reads fine emits back few.
     let p = part i event fine few in
     record {
@@ -355,59 +434,84 @@ pub alone_contained : AloneContained
 alone_contained head lines image inst o d step s kind h =
     outside_contained head lines image inst o d step s (ap is_main kind) h (λ i event fine few. record {
       tcnt = λ t. (let z : is_handler inst.kind ≡ false = ap is_handler kind in absurd cc);
-      timer = subst (λ k. TimerMeets k (successor lines inst (plan_of head (lines.length inst.line) s.image (effect_of i) (words_of i) (clocks_of i) inst event) (exit_at (effect_of i) (words_of i) (clocks_of i) s)) (state_of (effect_of i) (words_of i) (clocks_of i) s).space.timer) (sym kind) tt;
+      timer = subst (λ k. TimerMeets k (successor lines inst (plan_of head (lines.length inst.line) s.image (effect_of i) (words_of i)
+          (clocks_of i) inst event) (exit_at (effect_of i) (words_of i) (clocks_of i) s)) (state_of (effect_of i) (words_of i) (clocks_of i)
+          s).space.timer) (sym kind) tt;
       ticks = subst (λ k. TimerCounts k (state_of (effect_of i) (words_of i) (clocks_of i) s).space.timer) (sym kind) tt;
     })
 
 -- A handler's instruction
 
 -- the timer's top is the line's last clock
-sampled_count : (count top clock length late : ℕ) → count ≡ clock → suc top ≡ length → clock < length → count_after count top late ≡ (clock + late) % length
+sampled_count : (count top clock length late : ℕ) → count ≡ clock → suc top ≡ length → clock < length → count_after count top
+    late ≡ (clock + late) % length
 sampled_count count top clock length late c t low =
     let here : nat_le count top ≡ true = grind (arith, nat_tests) in
     let e : top + 1 ≡ length = omega arith in
     rw here (rw (e, c) refl)
 
-time_step : (head : Head) (lines : Lines) (inst : Instance) (o : Core) (d : ℕ) (s : State PadHistory) (e : Effect) (words : ℕ) (clocks : Outcome → ℕ) (event : Option EventKind) → inst.kind ≡ Handler → EffectFits e → Before head inst o d s.core s.space → Meets head inst o d s
-    → suc (top_of inst) ≡ lines.length inst.line → inst.clock < lines.length inst.line → 4 ≤ lines.length inst.line → fail_of head e inst ≡ None → clocks (outcome_at e words clocks s) ≤ 4 → TimePart lines head inst s e words clocks event
+time_step : (head : Head) (lines : Lines) (inst : Instance) (o : Core) (d : ℕ) (s : State PadHistory) (e : Effect) (words : ℕ)
+    (clocks : Outcome → ℕ) (event : Option EventKind) → inst.kind ≡ Handler → EffectFits e → Before head inst o d s.core s.space
+    → Meets head inst o d s
+    → suc (top_of inst) ≡ lines.length inst.line → inst.clock < lines.length inst.line → 4 ≤ lines.length inst.line → fail_of head e
+    inst ≡ None → clocks (outcome_at e words clocks s) ≤ 4 → TimePart lines head inst s e words clocks event
 time_step head lines inst o d s e words clocks event kind fits b m full low long fine few =
     let c : ℕ = clocks (outcome_at e words clocks s) in
     let t = s.space.timer in
-    let meets : (s.space.timer.count ≡ inst.clock) × (s.space.timer.matched ≡ inst.pending) × (s.space.timer.top ≡ top_of inst) = subst (λ k. TimerMeets k inst s.space.timer) kind m.timer in
-    let ticks : (is_counting s.space.timer ≡ true) × (bit_is_set s.space.timer.interrupt_mask 1 ≡ true) = subst (λ k. TimerCounts k s.space.timer) kind m.ticks in
+    let meets : (s.space.timer.count ≡ inst.clock) × (s.space.timer.matched ≡ inst.pending) × (s.space.timer.top ≡ top_of inst) =
+    subst (λ k. TimerMeets k inst s.space.timer) kind m.timer in
+    let ticks : (is_counting s.space.timer ≡ true) × (bit_is_set s.space.timer.interrupt_mask 1 ≡ true) =
+    subst (λ k. TimerCounts k s.space.timer) kind m.ticks in
     let loaded = loads_beside history_wiring (sample_clock e clocks) s.space (load_addresses e s.core) in
-    let content : Space PadHistory = content_after_loads (space_loads history_wiring) (sample_clock e clocks) s.space (load_addresses e s.core) in
-    let counting : is_counting (content_after_loads (space_loads history_wiring) (sample_clock e clocks) s.space (load_addresses e s.core)).timer ≡ true =
-    ap (λ n. n % 32 == 9 && (content_after_loads (space_loads history_wiring) (sample_clock e clocks) s.space (load_addresses e s.core)).timer.control_a % 4 == 0) loaded.control_b
+    let content : Space PadHistory = content_after_loads (space_loads history_wiring) (sample_clock e clocks) s.space
+    (load_addresses e s.core) in
+    let counting : is_counting (content_after_loads (space_loads history_wiring) (sample_clock e clocks) s.space
+    (load_addresses e s.core)).timer ≡ true =
+    ap (λ n. n % 32 == 9 && (content_after_loads (space_loads history_wiring) (sample_clock e clocks) s.space
+    (load_addresses e s.core)).timer.control_a % 4 == 0) loaded.control_b
     ∙ (ap (λ n. s.space.timer.control_b % 32 == 9 && n % 4 == 0) loaded.control_a ∙ ticks.0) in
-    let on = later (clocks (outcome_at e words clocks s)) (content_after_loads (space_loads history_wiring) (sample_clock e clocks) s.space (load_addresses e s.core)).timer counting in
-    let stored = stores_beside history_wiring e head words d inst o s.core s.space (space_after (clocks (outcome_at e words clocks s)) (content_after_loads (space_loads history_wiring) (sample_clock e clocks) s.space (load_addresses e s.core))) fits (ap (λ k. is_main k || is_handler k) kind) b fine in
-    let time = timed inst.clock (lines.length inst.line) (clocks (outcome_at e words clocks s)) (content_after_loads (space_loads history_wiring) (sample_clock e clocks) s.space (load_addresses e s.core)).timer
+    let on = later (clocks (outcome_at e words clocks s)) (content_after_loads (space_loads history_wiring) (sample_clock e clocks) s.space
+    (load_addresses e s.core)).timer counting in
+    let stored = stores_beside history_wiring e head words d inst o s.core s.space (space_after (clocks (outcome_at e words clocks s))
+    (content_after_loads (space_loads history_wiring) (sample_clock e clocks) s.space (load_addresses e s.core))) fits
+    (ap (λ k. is_main k || is_handler k) kind) b fine in
+    let time = timed inst.clock (lines.length inst.line) (clocks (outcome_at e words clocks s))
+    (content_after_loads (space_loads history_wiring) (sample_clock e clocks) s.space (load_addresses e s.core)).timer
     (loaded.count ∙ meets.0) (ap suc (loaded.top ∙ meets.2) ∙ full) low (omega arith) in
     let now = later (sample_clock e clocks) s.space.timer ticks.0 in
     record {
-      tcnt = λ q. ap (λ n. n % 256) (now.count ∙ sampled_count s.space.timer.count s.space.timer.top inst.clock (lines.length inst.line) (sample_clock e clocks) meets.0 (ap suc meets.2 ∙ full) low);
+      tcnt = λ q. ap (λ n. n % 256) (now.count ∙ sampled_count s.space.timer.count s.space.timer.top inst.clock (lines.length inst.line)
+          (sample_clock e clocks) meets.0 (ap suc meets.2 ∙ full) low);
       timer = subst (λ k. TimerMeets k (placed_as k) (state_of e words clocks s).space.timer) (sym kind) (
         stored.count ∙ (on.count ∙ time.count),
-        stored.matched ∙ ap (λ x. not (clears_flag e inst) && x) (on.matched ∙ (ap (λ x. x || matches_within (content_after_loads (space_loads history_wiring) (sample_clock e clocks) s.space (load_addresses e s.core)).timer.count (content_after_loads (space_loads history_wiring) (sample_clock e clocks) s.space (load_addresses e s.core)).timer.top (clocks (outcome_at e words clocks s))) (loaded.matched ∙ meets.1) ∙ ap (λ x. inst.pending || x) time.ends)),
+        stored.matched ∙ ap (λ x. not (clears_flag e inst) && x)
+            (on.matched ∙ (ap (λ x. x || matches_within (content_after_loads (space_loads history_wiring) (sample_clock e clocks) s.space
+            (load_addresses e s.core)).timer.count (content_after_loads (space_loads history_wiring) (sample_clock e clocks) s.space
+            (load_addresses e s.core)).timer.top (clocks (outcome_at e words clocks s))) (loaded.matched ∙ meets.1)
+            ∙ ap (λ x. inst.pending || x) time.ends)),
         stored.top ∙ (on.top ∙ (loaded.top ∙ meets.2)),
       );
       ticks = subst (λ k. TimerCounts k (state_of e words clocks s).space.timer) (sym kind) (
-        ap (λ n. n % 32 == 9 && (state_of e words clocks s).space.timer.control_a % 4 == 0) (stored.control_b ∙ (on.control_b ∙ loaded.control_b)) ∙ (ap (λ n. s.space.timer.control_b % 32 == 9 && n % 4 == 0) (stored.control_a ∙ (on.control_a ∙ loaded.control_a)) ∙ ticks.0),
+        ap (λ n. n % 32 == 9 && (state_of e words clocks s).space.timer.control_a % 4 == 0)
+            (stored.control_b ∙ (on.control_b ∙ loaded.control_b))
+            ∙ (ap (λ n. s.space.timer.control_b % 32 == 9 && n % 4 == 0) (stored.control_a ∙ (on.control_a ∙ loaded.control_a)) ∙ ticks.0),
         ap (λ n. bit_is_set n 1) (stored.mask ∙ (on.mask ∙ loaded.mask)) ∙ ticks.1,
       );
     }
   where
     placed_as : Kind → Instance
-    placed_as k = record (successor lines inst (plan_of head (lines.length inst.line) s.image e words clocks inst event) (exit_at e words clocks s)) {
-      clock = if is_main k then inst.clock else clock_after lines inst.line (inst.clock + clocks (outcome_at e words clocks s));
-      pending = if is_handler k then not (clears_flag e inst) && (inst.pending || ends_line lines inst.line (inst.clock + clocks (outcome_at e words clocks s))) else inst.pending;
-    }
+    placed_as k = record (successor lines inst (plan_of head (lines.length inst.line) s.image e words clocks inst event)
+        (exit_at e words clocks s)) {
+          clock = if is_main k then inst.clock else clock_after lines inst.line (inst.clock + clocks (outcome_at e words clocks s));
+          pending = if is_handler k then not (clears_flag e inst)
+              && (inst.pending || ends_line lines inst.line (inst.clock + clocks (outcome_at e words clocks s))) else inst.pending;
+        }
 
 pub handler_contained : HandlerContained
 handler_contained head lines image inst o d step s kind full low long h =
     outside_contained head lines image inst o d step s (ap is_main kind) h (λ i event fine few.
-    time_step head lines inst o d s (effect_of i) (words_of i) (clocks_of i) event kind (effect_fits i) (alone_before head inst o d s h.head_fits h.depth h.fits h.is_state h.meets) h.meets full low long fine few)
+    time_step head lines inst o d s (effect_of i) (words_of i) (clocks_of i) event kind (effect_fits i)
+    (alone_before head inst o d s h.head_fits h.depth h.fits h.is_state h.meets) h.meets full low long fine few)
 
 -- An instruction of main
 
@@ -420,7 +524,8 @@ and_either true b e = inr e
 and_either false b e = inl refl
 
 -- what shows nothing shows nothing at any level
-silent_byte : (level at : ℕ) (v : Val) → (nat_eq at 0x23 || (nat_eq at 0x25 || (nat_eq at 0x26 || (nat_eq at 0x28 || nat_eq at 0xB3)))) ≡ false → byte_event level v at ≡ Some None
+silent_byte : (level at : ℕ) (v : Val) → (nat_eq at 0x23 || (nat_eq at 0x25 || (nat_eq at 0x26 || (nat_eq at 0x28 || nat_eq at 0xB3))))
+    ≡ false → byte_event level v at ≡ Some None
 silent_byte level at v e =
     let a = or_false (nat_eq at 0x23) _ e in
     let b = or_false (nat_eq at 0x25) _ a.1 in
@@ -428,18 +533,25 @@ silent_byte level at v e =
     let d = or_false (nat_eq at 0x28) _ c.1 in
     rw (a.0, b.0, c.0, d.0, d.1) refl
 
-silent_store : (level : ℕ) (a : Ends) (v : Val) → (is_single a && (nat_eq a.lo 0x23 || (nat_eq a.lo 0x25 || (nat_eq a.lo 0x26 || (nat_eq a.lo 0x28 || nat_eq a.lo 0xB3))))) ≡ false → (if is_single a then byte_event level v a.lo else Some None) ≡ Some None
+silent_store : (level : ℕ) (a : Ends) (v : Val)
+    → (is_single a && (nat_eq a.lo 0x23 || (nat_eq a.lo 0x25 || (nat_eq a.lo 0x26 || (nat_eq a.lo 0x28 || nat_eq a.lo 0xB3))))) ≡ false
+    → (if is_single a then byte_event level v a.lo else Some None) ≡ Some None
 silent_store level a v e = by_case (is_single a) e
   where
-    by_case : (t : Bool) → (t && (nat_eq a.lo 0x23 || (nat_eq a.lo 0x25 || (nat_eq a.lo 0x26 || (nat_eq a.lo 0x28 || nat_eq a.lo 0xB3))))) ≡ false → (if t then byte_event level v a.lo else Some None) ≡ Some None
+    by_case : (t : Bool) → (t && (nat_eq a.lo 0x23 || (nat_eq a.lo 0x25 || (nat_eq a.lo 0x26 || (nat_eq a.lo 0x28 || nat_eq a.lo 0xB3)))))
+        ≡ false → (if t then byte_event level v a.lo else Some None) ≡ Some None
     by_case true e = silent_byte level a.lo v e
     by_case false e = refl
 
-silent_bit : (level at b : ℕ) (set : Bool) → (nat_eq at 0x28 || ((nat_eq at 0x26 && set) || (nat_eq b 0 && ((nat_eq at 0x23 && set) || nat_eq at 0x25)))) ≡ false → bit_event level b set at ≡ Some None
+silent_bit : (level at b : ℕ) (set : Bool)
+    → (nat_eq at 0x28 || ((nat_eq at 0x26 && set) || (nat_eq b 0 && ((nat_eq at 0x23 && set) || nat_eq at 0x25)))) ≡ false → bit_event level
+    b set at ≡ Some None
 silent_bit level at b set e = by_case (nat_eq at 0x23) (nat_eq at 0x25) (nat_eq at 0x26) (nat_eq at 0x28) (nat_eq b 0) set e
   where
     by_case : (p q r t z u : Bool) → (t || ((r && u) || (z && ((p && u) || q)))) ≡ false
-        → (if p then (if z && u then Some (Some (Sync (1 - level))) else Some None) else if q then (if z then level_event level (bit_of_bool u) else Some None) else if r then (if u then Some (Some Pixel) else Some None) else if t then Some (Some Pixel) else Some None) ≡ Some None
+        → (if p then (if z && u then Some (Some (Sync (1 - level))) else Some None) else if q then
+        (if z then level_event level (bit_of_bool u) else Some None) else if r then (if u then Some (Some Pixel) else Some None) else if
+        t then Some (Some Pixel) else Some None) ≡ Some None
     by_case p q r true z u e = absurd cc
     by_case p q true false z true e = absurd cc
     by_case true q false false true true e = absurd cc
@@ -456,7 +568,8 @@ silent_bit level at b set e = by_case (nat_eq at 0x23) (nat_eq at 0x25) (nat_eq 
     by_case false false true false z false e = refl
     by_case false false false false z u e = refl
 
-silent_emission : (level : ℕ) (e : Effect) (inst : Instance) → returns_from_interrupt e ≡ false → main_emits e inst ≡ false → emission_at level e inst ≡ Some None
+silent_emission : (level : ℕ) (e : Effect) (inst : Instance) → returns_from_interrupt e ≡ false → main_emits e inst ≡ false
+    → emission_at level e inst ≡ Some None
 silent_emission level (Store to r) inst back h = silent_store level (address_range to inst) (value_at inst.regs r) h
 silent_emission level (WriteIoBit at b set) inst back h = silent_bit level at b set h
 silent_emission level (Return true) inst back h = absurd cc
@@ -478,41 +591,63 @@ bit_clears false u m c e f = refl
 bit_clears a u false c e f = absurd cc
 
 -- main doesn't store TIFR1
-main_clears : (e : Effect) (head : Head) (inst : Instance) → is_main inst.kind ≡ true → fail_of head e inst ≡ None → clears_flag e inst ≡ false
-main_clears (Store to r) head inst m f = flag_clears (is_single (address_range to inst)) (nat_eq (address_range to inst).lo 0x36) _ _ (is_main inst.kind) m (facts_of head inst to r f).flag
+main_clears : (e : Effect) (head : Head) (inst : Instance) → is_main inst.kind ≡ true → fail_of head e inst ≡ None → clears_flag e
+    inst ≡ false
+main_clears (Store to r) head inst m f = flag_clears (is_single (address_range to inst)) (nat_eq (address_range to inst).lo 0x36) _ _
+    (is_main inst.kind) m (facts_of head inst to r f).flag
 main_clears (WriteIoBit at b set) head inst m f = bit_clears (nat_eq at 0x36) set (is_main inst.kind) (nat_eq b 1) m (unless_none _ _ _ f).0
 main_clears NoOperation head inst m f = refl
 main_clears e head inst m f = refl
 
-main_part : (head : Head) (lines : Lines) (inst : Instance) (o : Core) (d : ℕ) (s : State PadHistory) (e : Effect) (words : ℕ) (clocks : Outcome → ℕ) (event : Option EventKind) → inst.kind ≡ Main → EffectFits e → Before head inst o d s.core s.space → Meets head inst o d s
-    → fail_of head e inst ≡ None → emission e inst ≡ Some event → returns_from_interrupt e ≡ false → main_emits e inst ≡ false → KindPart lines head inst s e words clocks event
+main_part : (head : Head) (lines : Lines) (inst : Instance) (o : Core) (d : ℕ) (s : State PadHistory) (e : Effect) (words : ℕ)
+    (clocks : Outcome → ℕ) (event : Option EventKind) → inst.kind ≡ Main → EffectFits e → Before head inst o d s.core s.space
+    → Meets head inst o d s
+    → fail_of head e inst ≡ None → emission e inst ≡ Some event → returns_from_interrupt e ≡ false → main_emits e inst ≡ false
+    → KindPart lines head inst s e words clocks event
 main_part head lines inst o d s e words clocks event kind fits b m fine emits back silent =
-    let ticks : (is_counting s.space.timer ≡ true) × (bit_is_set s.space.timer.interrupt_mask 1 ≡ true) = subst (λ k. TimerCounts k s.space.timer) kind m.ticks in
+    let ticks : (is_counting s.space.timer ≡ true) × (bit_is_set s.space.timer.interrupt_mask 1 ≡ true) =
+    subst (λ k. TimerCounts k s.space.timer) kind m.ticks in
     let loaded = loads_beside history_wiring (sample_clock e clocks) s.space (load_addresses e s.core) in
-    let counting : is_counting (content_after_loads (space_loads history_wiring) (sample_clock e clocks) s.space (load_addresses e s.core)).timer ≡ true =
-    ap (λ n. n % 32 == 9 && (content_after_loads (space_loads history_wiring) (sample_clock e clocks) s.space (load_addresses e s.core)).timer.control_a % 4 == 0) loaded.control_b
+    let counting : is_counting (content_after_loads (space_loads history_wiring) (sample_clock e clocks) s.space
+    (load_addresses e s.core)).timer ≡ true =
+    ap (λ n. n % 32 == 9 && (content_after_loads (space_loads history_wiring) (sample_clock e clocks) s.space
+    (load_addresses e s.core)).timer.control_a % 4 == 0) loaded.control_b
     ∙ (ap (λ n. s.space.timer.control_b % 32 == 9 && n % 4 == 0) loaded.control_a ∙ ticks.0) in
-    let on = later (clocks (outcome_at e words clocks s)) (content_after_loads (space_loads history_wiring) (sample_clock e clocks) s.space (load_addresses e s.core)).timer counting in
+    let on = later (clocks (outcome_at e words clocks s)) (content_after_loads (space_loads history_wiring) (sample_clock e clocks) s.space
+    (load_addresses e s.core)).timer counting in
     let main : is_main inst.kind ≡ true = ap is_main kind in
-    let stored = stores_beside history_wiring e head words d inst o s.core s.space (space_after (clocks (outcome_at e words clocks s)) (content_after_loads (space_loads history_wiring) (sample_clock e clocks) s.space (load_addresses e s.core))) fits (ap (λ k. is_main k || is_handler k) kind) b fine in
+    let stored = stores_beside history_wiring e head words d inst o s.core s.space (space_after (clocks (outcome_at e words clocks s))
+    (content_after_loads (space_loads history_wiring) (sample_clock e clocks) s.space (load_addresses e s.core))) fits
+    (ap (λ k. is_main k || is_handler k) kind) b fine in
     let keeps : clears_flag e inst ≡ false = main_clears e head inst main fine in
-    let nothing : event ≡ None = (let z = silent_emission (inst.level % 2) e inst back silent in let y : Some event ≡ Some None = sym emits ∙ z in cc) in
+    let nothing : event ≡ None = (let z = silent_emission (inst.level % 2) e inst back silent in let y : Some event ≡ Some None = sym emits
+    ∙ z in cc) in
     let c : ℕ = clocks (outcome_at e words clocks s) in
     record {
       tcnt = λ t. (let z : is_handler inst.kind ≡ false = ap is_handler kind in absurd cc);
-      timer = subst (λ k. TimerMeets k (successor lines inst (plan_of head (lines.length inst.line) s.image e words clocks inst event) (exit_at e words clocks s)) (state_of e words clocks s).space.timer) (sym kind) tt;
+      timer = subst (λ k. TimerMeets k (successor lines inst (plan_of head (lines.length inst.line) s.image e words clocks inst event)
+          (exit_at e words clocks s)) (state_of e words clocks s).space.timer) (sym kind) tt;
       ticks = subst (λ k. TimerCounts k (state_of e words clocks s).space.timer) (sym kind) (
-        ap (λ n. n % 32 == 9 && (state_of e words clocks s).space.timer.control_a % 4 == 0) (stored.control_b ∙ (on.control_b ∙ loaded.control_b)) ∙ (ap (λ n. s.space.timer.control_b % 32 == 9 && n % 4 == 0) (stored.control_a ∙ (on.control_a ∙ loaded.control_a)) ∙ ticks.0),
+        ap (λ n. n % 32 == 9 && (state_of e words clocks s).space.timer.control_a % 4 == 0)
+            (stored.control_b ∙ (on.control_b ∙ loaded.control_b))
+            ∙ (ap (λ n. s.space.timer.control_b % 32 == 9 && n % 4 == 0) (stored.control_a ∙ (on.control_a ∙ loaded.control_a)) ∙ ticks.0),
         ap (λ n. bit_is_set n 1) (stored.mask ∙ (on.mask ∙ loaded.mask)) ∙ ticks.1,
       );
       level = λ n q. subst (λ k. LevelMeets k (if is_main k then inst.level else level_after event (inst.level % 2)) n) (sym kind) tt;
       runs = λ n q r. subst (λ k. MainTimer k (clocks (outcome_at e words clocks s)) s (state_of e words clocks s)) (sym kind) (
         sym r ∙ (q ∙ ap (λ x. level_after x (sync_level s.space)) nothing),
         stored.top ∙ (on.top ∙ loaded.top),
-        stored.count ∙ (on.count ∙ (ap (λ n. count_after n (content_after_loads (space_loads history_wiring) (sample_clock e clocks) s.space (load_addresses e s.core)).timer.top (clocks (outcome_at e words clocks s))) loaded.count ∙ ap (λ n. count_after s.space.timer.count n (clocks (outcome_at e words clocks s))) loaded.top)),
-        stored.matched ∙ (ap (λ x. not x && (timer_after (clocks (outcome_at e words clocks s)) (content_after_loads (space_loads history_wiring) (sample_clock e clocks) s.space (load_addresses e s.core)).timer).matched) keeps
-            ∙ (on.matched ∙ (ap (λ x. x || matches_within (content_after_loads (space_loads history_wiring) (sample_clock e clocks) s.space (load_addresses e s.core)).timer.count (content_after_loads (space_loads history_wiring) (sample_clock e clocks) s.space (load_addresses e s.core)).timer.top (clocks (outcome_at e words clocks s))) loaded.matched
-            ∙ (ap (λ n. s.space.timer.matched || matches_within n (content_after_loads (space_loads history_wiring) (sample_clock e clocks) s.space (load_addresses e s.core)).timer.top (clocks (outcome_at e words clocks s))) loaded.count
+        stored.count ∙ (on.count ∙ (ap (λ n. count_after n (content_after_loads (space_loads history_wiring) (sample_clock e clocks) s.space
+            (load_addresses e s.core)).timer.top (clocks (outcome_at e words clocks s))) loaded.count
+            ∙ ap (λ n. count_after s.space.timer.count n (clocks (outcome_at e words clocks s))) loaded.top)),
+        stored.matched ∙ (ap (λ x. not x
+            && (timer_after (clocks (outcome_at e words clocks s)) (content_after_loads (space_loads history_wiring) (sample_clock e clocks)
+            s.space (load_addresses e s.core)).timer).matched) keeps
+            ∙ (on.matched ∙ (ap (λ x. x || matches_within (content_after_loads (space_loads history_wiring) (sample_clock e clocks) s.space
+            (load_addresses e s.core)).timer.count (content_after_loads (space_loads history_wiring) (sample_clock e clocks) s.space
+            (load_addresses e s.core)).timer.top (clocks (outcome_at e words clocks s))) loaded.matched
+            ∙ (ap (λ n. s.space.timer.matched || matches_within n (content_after_loads (space_loads history_wiring) (sample_clock e clocks)
+            s.space (load_addresses e s.core)).timer.top (clocks (outcome_at e words clocks s))) loaded.count
             ∙ ap (λ n. s.space.timer.matched || matches_within s.space.timer.count n (clocks (outcome_at e words clocks s))) loaded.top)))),
       );
       silent = λ m. nothing;
@@ -522,4 +657,5 @@ main_part head lines inst o d s e words clocks event kind fits b m fine emits ba
 pub main_contained : MainContained
 main_contained head lines image inst o d step s kind enters silent h =
     any_contained head lines image inst o d step s enters h (λ i event reads fine emits back few.
-    main_part head lines inst o d s (effect_of i) (words_of i) (clocks_of i) event kind (effect_fits i) (alone_before head inst o d s h.head_fits h.depth h.fits h.is_state h.meets) h.meets fine emits back (silent i reads))
+    main_part head lines inst o d s (effect_of i) (words_of i) (clocks_of i) event kind (effect_fits i)
+    (alone_before head inst o d s h.head_fits h.depth h.fits h.is_state h.meets) h.meets fine emits back (silent i reads))

@@ -1,5 +1,6 @@
 -- What changes of registers, pairs and flags keep of a core that meets an instance.
-use Rattle.std.proofs.Common.{◌≡◌, ◌≢◌, ℕ, zero, suc, ◌+◌, ◌-◌, ◌*◌, ◌/◌, ◌<◌, ◌≤◌, Bool, true, false, if◌then◌else◌, nat_le, List, [], ◌∷◌, length, refl, sym, ◌∙◌, ap, subst, inl, inr, arith}
+use Rattle.std.proofs.Common.{◌≡◌, ◌≢◌, ℕ, zero, suc, ◌+◌, ◌-◌, ◌*◌, ◌/◌, ◌<◌, ◌≤◌, Bool, true, false, if◌then◌else◌, nat_le, List, [], ◌∷◌}
+use Rattle.std.proofs.Common.{length, refl, sym, ◌∙◌, ap, subst, inl, inr, arith}
 use Rattle.std.specs.Prelude.{slice_index, slice_index_or, slice_set}
 use Rattle.std.proofs.lemmas.List.{length-set}
 use Rattle.std.proofs.lemmas.Bool.Decides.{eqb_tells, nat_tests}
@@ -12,7 +13,8 @@ use Rattle.uz_schedule.specs.declared.facts.Val.TheVariants.{Range, Old, OldFlag
 use Rattle.uz_schedule.specs.declared.states.Instance.{Instance}
 use Rattle.uz_range.specs.Containment.{IsWithin}
 use Rattle.uz_range.specs.Answers.{ends}
-use Rattle.uz_transfer.specs.Values.{span_of, value_at, pair_at, byte_hull, is_pointer, pair_number, pair_range, with_value, with_pair_range}
+use Rattle.uz_transfer.specs.Values.{span_of, value_at, pair_at, byte_hull, is_pointer, pair_number, pair_range, with_value}
+use Rattle.uz_transfer.specs.Values.{with_pair_range}
 use Rattle.uz_rules.specs.CoreMeets.{ValueHolds, CoreMeets}
 
 -- Lists
@@ -66,7 +68,8 @@ abbrev pub RegsHold : List Val → Core → Core → Type 0
 RegsHold regs o core = (r : ℕ) → r < 32 → ValueHolds (value_at regs r) o (register core r)
 
 -- a pair lies in the hull of its bytes
-pub hull_holds : (regs : List Val) (o core : Core) (d : ℕ) → IsCore core → RegsHold regs o core → d < 31 → IsWithin (pair core d) (byte_hull regs d)
+pub hull_holds : (regs : List Val) (o core : Core) (d : ℕ) → IsCore core → RegsHold regs o core → d < 31 → IsWithin (pair core d)
+    (byte_hull regs d)
 hull_holds regs o core d c h b =
     let low = in_span (value_at regs d) o (register core d) (register_byte core d c) (h d (omega arith)) in
     let high = in_span (value_at regs (d + 1)) o (register core (d + 1)) (register_byte core (d + 1) c) (h (d + 1) (omega arith)) in
@@ -81,12 +84,14 @@ core_with n v s b h = record {
   pc = h.pc;
 }
 
-regs_set : (inst : Instance) (o core : Core) (d x : ℕ) (v : Val) → IsCore core → d < 32 → x < 256 → ValueHolds v o x → RegsHold inst.regs o core → RegsHold (slice_set inst.regs d v) o (with_register d x core)
+regs_set : (inst : Instance) (o core : Core) (d x : ℕ) (v : Val) → IsCore core → d < 32 → x < 256 → ValueHolds v o x → RegsHold inst.regs o
+    core → RegsHold (slice_set inst.regs d v) o (with_register d x core)
 regs_set inst o core d x v c b bx hv h r k =
     elim (eqb_tells r d) [
       | inl t ↦
           subst (λ q. ValueHolds (value_at (slice_set inst.regs d v) q) o (slice_index (slice_set core.registers d x) q)) (sym t.1)
-          (rw (set_same core.registers d x (omega (arith, c.count, b))) (or_same (λ w. ValueHolds w o x) inst.regs d v (Range (ends 0 255)) hv (whole x bx)))
+          (rw (set_same core.registers d x (omega (arith, c.count, b))) (or_same (λ w. ValueHolds w o x) inst.regs d v (Range (ends 0 255))
+          hv (whole x bx)))
       | inr t ↦ rw (or_other inst.regs d r v (Range (ends 0 255)) t.1, set_other core.registers d r x t.1) (h r k)
     ]
 
@@ -94,27 +99,36 @@ regs_set inst o core d x v c b bx hv h r k =
 pair_other : (core : Core) (d x n : ℕ) → n ≢ d → n + 1 ≢ d → pair (with_register d x core) n ≡ pair core n
 pair_other core d x n p q = rw (set_other core.registers d n x p, set_other core.registers d (n + 1) x q) refl
 
-pairs_rehulled : (regs : List Val) (pairs : List Ends) (o core : Core) (d x : ℕ) → IsCore (with_register d x core) → d < 32 → RegsHold regs o (with_register d x core)
+pairs_rehulled : (regs : List Val) (pairs : List Ends) (o core : Core) (d x : ℕ) → IsCore (with_register d x core) → d < 32 → RegsHold regs
+    o (with_register d x core)
     → ((k : ℕ) → k < 3 → IsWithin (pair core (26 + 2 * k)) (pair_at pairs k))
-    → (t : Bool) → nat_le 26 d ≡ t → (k : ℕ) → k < 3 → IsWithin (pair (with_register d x core) (26 + 2 * k)) (pair_at (if t then slice_set pairs (pair_number d) (byte_hull regs (26 + 2 * pair_number d)) else pairs) k)
+    → (t : Bool) → nat_le 26 d ≡ t → (k : ℕ) → k < 3 → IsWithin (pair (with_register d x core) (26 + 2 * k))
+    (pair_at (if t then slice_set pairs (pair_number d) (byte_hull regs (26 + 2 * pair_number d)) else pairs) k)
 pairs_rehulled regs pairs o core d x c b h old true e k w =
     let low : 26 ≤ d = grind (arith, nat_tests) in
     elim (eqb_tells k ((d - 26) / 2)) [
       | inl t ↦
-          let P : ℕ → Type 0 = λ j. IsWithin (pair (with_register d x core) (26 + 2 * j)) (pair_at (slice_set pairs (pair_number d) (byte_hull regs (26 + 2 * pair_number d))) j) in
+          let P : ℕ → Type 0 = λ j. IsWithin (pair (with_register d x core) (26 + 2 * j))
+          (pair_at (slice_set pairs (pair_number d) (byte_hull regs (26 + 2 * pair_number d))) j) in
           subst P (sym t.1)
-          (or_same (λ q. IsWithin (pair (with_register d x core) (26 + 2 * pair_number d)) q) pairs (pair_number d) (byte_hull regs (26 + 2 * pair_number d)) (ends 0 65535)
+          (or_same (λ q. IsWithin (pair (with_register d x core) (26 + 2 * pair_number d)) q) pairs (pair_number d)
+          (byte_hull regs (26 + 2 * pair_number d)) (ends 0 65535)
           (hull_holds regs o (with_register d x core) (26 + 2 * pair_number d) c h (omega (arith, b)))
           (whole_pair _ (pair_word (with_register d x core) (26 + 2 * pair_number d) c)))
       | inr t ↦
-          rw (or_other pairs (pair_number d) k (byte_hull regs (26 + 2 * pair_number d)) (ends 0 65535) t.1, pair_other core d x (26 + 2 * k) (λ q. t.1 (omega (arith, q))) (λ q. t.1 (omega (arith, q)))) (old k w)
+          rw (
+            or_other pairs (pair_number d) k (byte_hull regs (26 + 2 * pair_number d)) (ends 0 65535) t.1,
+            pair_other core d x
+                (26 + 2 * k) (λ q. t.1 (omega (arith, q))) (λ q. t.1 (omega (arith, q))),
+          ) (old k w)
     ]
 pairs_rehulled regs pairs o core d x c b h old false e k w =
     let low : d < 26 = grind (arith, nat_tests) in
     rw (pair_other core d x (26 + 2 * k) (λ q. absurd (omega (arith, q, low))) (λ q. absurd (omega (arith, q, low)))) (old k w)
 
 -- a register takes a value
-pub val_meets : (inst : Instance) (o core : Core) (d x : ℕ) (v : Val) → IsCore core → d < 32 → x < 256 → ValueHolds v o x → CoreMeets inst o core → CoreMeets (with_value d v inst) o (with_register d x core)
+pub val_meets : (inst : Instance) (o core : Core) (d x : ℕ) (v : Val) → IsCore core → d < 32 → x < 256 → ValueHolds v o x → CoreMeets inst o
+    core → CoreMeets (with_value d v inst) o (with_register d x core)
 val_meets inst o core d x v c b bx hv h =
     let regs = regs_set inst o core d x v c b bx hv h.regs in
     record {
@@ -127,20 +141,24 @@ val_meets inst o core d x v c b bx hv h =
 pointer_is : (d : ℕ) → d < 31 → is_pointer d ≡ true → (d ≡ 26 + 2 * pair_number d) × (pair_number d < 3)
 pointer_is d b e = grind (arith, nat_tests)
 
-pub pair_holds : (inst : Instance) (o core : Core) (d : ℕ) → IsCore core → CoreMeets inst o core → d < 31 → IsWithin (pair core d) (pair_range inst d)
+pub pair_holds : (inst : Instance) (o core : Core) (d : ℕ) → IsCore core → CoreMeets inst o core → d < 31 → IsWithin (pair core d)
+    (pair_range inst d)
 pair_holds inst o core d c h b = by_case (is_pointer d) refl
   where
-    by_case : (t : Bool) → is_pointer d ≡ t → IsWithin (pair core d) (if t then pair_at inst.pairs (pair_number d) else byte_hull inst.regs d)
+    by_case : (t : Bool) → is_pointer d ≡ t → IsWithin (pair core d) (if t then pair_at inst.pairs (pair_number d) else byte_hull inst.regs
+        d)
     by_case true e =
         let p = pointer_is d b e in
         subst (λ n. IsWithin (pair core n) (pair_at inst.pairs (pair_number d))) (sym p.0) (h.pairs (pair_number d) p.1)
     by_case false e = hull_holds inst.regs o core d c h.regs b
 
 -- what is learnt of a pair
-pub range_meets : (inst : Instance) (o core : Core) (d : ℕ) (e : Ends) → IsCore core → d < 31 → IsWithin (pair core d) e → CoreMeets inst o core → CoreMeets (with_pair_range d e inst) o core
+pub range_meets : (inst : Instance) (o core : Core) (d : ℕ) (e : Ends) → IsCore core → d < 31 → IsWithin (pair core d) e → CoreMeets inst o
+    core → CoreMeets (with_pair_range d e inst) o core
 range_meets inst o core d e c b he h = by_case (is_pointer d) refl
   where
-    by_case : (t : Bool) → is_pointer d ≡ t → CoreMeets (record inst { pairs = if t then slice_set inst.pairs (pair_number d) e else inst.pairs }) o core
+    by_case : (t : Bool) → is_pointer d ≡ t
+        → CoreMeets (record inst { pairs = if t then slice_set inst.pairs (pair_number d) e else inst.pairs }) o core
     by_case true i =
         let p = pointer_is d b i in
         record {

@@ -1,5 +1,7 @@
 -- An instruction goes where one of the abstract step's exits leads, in that exit's clocks.
-use Rattle.std.proofs.Common.{◌≡◌, ◌≢◌, inl, inr, ℕ, zero, suc, ◌+◌, ◌-◌, ◌*◌, ◌%◌, ◌<◌, ◌≤◌, Bool, true, false, not, if◌then◌else◌, nat_eq, nat_lt, nat_le, Option, Some, None, List, [], ◌∷◌, ◌++◌, map, Contains, length, refl, sym, ◌∙◌, ap, subst, arith}
+use Rattle.std.proofs.Common.{◌≡◌, ◌≢◌, inl, inr, ℕ, zero, suc, ◌+◌, ◌-◌, ◌*◌, ◌%◌, ◌<◌, ◌≤◌, Bool, true, false, not, if◌then◌else◌, nat_eq}
+use Rattle.std.proofs.Common.{nat_lt, nat_le, Option, Some, None, List, [], ◌∷◌, ◌++◌, map, Contains, length, refl, sym, ◌∙◌, ap, subst}
+use Rattle.std.proofs.Common.{arith}
 use Rattle.std.specs.Prelude.{slice_index, slice_index_or, ◌&&◌, ◌||◌}
 use Rattle.std.specs.Ordering.{nat_cmp}
 use Rattle.std.specs.FinMap.{FinMap}
@@ -13,7 +15,8 @@ use Rattle.uz_machine.specs.declared.JumpTarget.TheVariants.{Absolute, Relative,
 use Rattle.uz_machine.specs.declared.Effect.{Effect}
 use Rattle.uz_machine.specs.declared.Effect.TheVariants.{NoOperation, Branch, SkipIf, Jump, Return}
 use Rattle.uz_machine.specs.Arithmetic.{bit_is_set}
-use Rattle.uz_machine.specs.Core.{Core, register, pair, following_pc, load_addresses, loaded_bytes, bit_equals, test_holds, outcome_of, next_pc, skipped_words}
+use Rattle.uz_machine.specs.Core.{Core, register, pair, following_pc, load_addresses, loaded_bytes, bit_equals, test_holds, outcome_of}
+use Rattle.uz_machine.specs.Core.{next_pc, skipped_words}
 use Rattle.uz_machine.specs.CoreRange.{IsCore}
 use Rattle.uz_machine.specs.OperandRanges.{SkipTestFits, EffectFits}
 use Rattle.uz_machine.specs.Space.{PadWiring, Space, plain_byte, space_loads}
@@ -34,7 +37,8 @@ use Rattle.uz_rules.specs.CoreMeets.{ValueHolds, FlagHolds, CoreMeets}
 use Rattle.uz_transfer.specs.Kinds.{is_main}
 use Rattle.uz_transfer.specs.Memory.{depth_of, slot_value}
 use Rattle.uz_transfer.specs.Transfer.{bit_of_bool}
-use Rattle.uz_transfer.specs.Exits.{decided, flag_of_kind, are_equal, test_decides, choices, skip_outcome, outcomes, numbers_from, skipped, targets}
+use Rattle.uz_transfer.specs.Exits.{decided, flag_of_kind, are_equal, test_decides, choices, skip_outcome, outcomes, numbers_from, skipped}
+use Rattle.uz_transfer.specs.Exits.{targets}
 use Rattle.uz_transfer.specs.Refusals.{target_fails, is_known_slot, fail_of}
 use Rattle.uz_transfer.specs.Step.{exits_of}
 use Rattle.uz_machine.specs.Core.{returns_from_interrupt}
@@ -57,14 +61,20 @@ mapped f (y ∷ xs) x zero h e = (0, omega arith, ap f e)
 mapped f (y ∷ xs) x (suc k) h e = there (f x) (f y) (map f xs) (mapped f xs x k (omega arith) e)
 
 -- from an outcome and its pc to an exit
-exit_of : (e : Effect) (clocks : Outcome → ℕ) (following : ℕ) (inst : Instance) (os : List Outcome) (o : Outcome) (pc k : ℕ) → k < length os → slice_index_or os k o ≡ o → Contains (targets e o following inst) pc
+exit_of : (e : Effect) (clocks : Outcome → ℕ) (following : ℕ) (inst : Instance) (os : List Outcome) (o : Outcome) (pc k : ℕ) → k < length os
+    → slice_index_or os k o ≡ o → Contains (targets e o following inst) pc
     → Contains (exits_of e clocks following inst os) (record { pc = pc; clocks = clocks o })
 exit_of e clocks following inst [] o pc k h i c = absurd (omega arith)
 exit_of e clocks following inst (x ∷ os) o pc zero h i c =
-    subst (λ y. Contains (map (λ pc. record { pc = pc; clocks = clocks y }) (targets e y following inst) ++ exits_of e clocks following inst os) (record { pc = pc; clocks = clocks o })) (sym i)
-    (Contains-append_left (map (λ pc. record { pc = pc; clocks = clocks o }) (targets e o following inst)) (exits_of e clocks following inst os) (record { pc = pc; clocks = clocks o }) (mapped (λ pc. record { pc = pc; clocks = clocks o }) (targets e o following inst) pc c.0 c.1 c.2))
+    subst (λ y. Contains (map (λ pc. record { pc = pc; clocks = clocks y }) (targets e y following inst) ++ exits_of e clocks following inst
+    os) (record { pc = pc; clocks = clocks o })) (sym i)
+    (Contains-append_left (map (λ pc. record { pc = pc; clocks = clocks o }) (targets e o following inst))
+    (exits_of e clocks following inst os) (record { pc = pc; clocks = clocks o }) (mapped (λ pc. record { pc = pc; clocks = clocks o })
+    (targets e o following inst) pc c.0 c.1 c.2))
 exit_of e clocks following inst (x ∷ os) o pc (suc k) h i c =
-    Contains-append_right (map (λ pc. record { pc = pc; clocks = clocks x }) (targets e x following inst)) (exits_of e clocks following inst os) (record { pc = pc; clocks = clocks o }) (exit_of e clocks following inst os o pc k (omega arith) i c)
+    Contains-append_right (map (λ pc. record { pc = pc; clocks = clocks x }) (targets e x following inst))
+    (exits_of e clocks following inst os) (record { pc = pc; clocks = clocks o })
+    (exit_of e clocks following inst os o pc k (omega arith) i c)
 
 -- Choices
 
@@ -84,7 +94,8 @@ decides_tells One before t false u h e = let q : not t ≡ false = ap not h in l
 decides_tells Free before t set u h e = absurd cc
 decides_tells OldBit before t set u h e = absurd cc
 
-chosen : (decision : Option Bool) (test : Bool) (other : Outcome) → ((u : Bool) → decision ≡ Some u → test ≡ u) → Contains (choices decision other) (if test then other else Next)
+chosen : (decision : Option Bool) (test : Bool) (other : Outcome) → ((u : Bool) → decision ≡ Some u → test ≡ u)
+    → Contains (choices decision other) (if test then other else Next)
 chosen (Some true) test other h = let e : test ≡ true = h true refl in rw e (here other [])
 chosen (Some false) test other h = let e : test ≡ false = h false refl in rw e (here Next [])
 chosen None true other h = there other Next (other ∷ []) (here other [])
@@ -95,40 +106,55 @@ bool_holds true before = refl
 bool_holds false before = refl
 
 -- a flag that a branch asks, I among them
-kind_flag : (inst : Instance) (o core : Core) (flag : ℕ) → flag < 8 → CoreMeets inst o core → bit_is_set core.sreg 7 ≡ is_main inst.kind → FlagHolds (flag_of_kind inst flag) (bit_is_set o.sreg flag) (bit_is_set core.sreg flag)
+kind_flag : (inst : Instance) (o core : Core) (flag : ℕ) → flag < 8 → CoreMeets inst o core → bit_is_set core.sreg 7 ≡ is_main inst.kind
+    → FlagHolds (flag_of_kind inst flag) (bit_is_set o.sreg flag) (bit_is_set core.sreg flag)
 kind_flag inst o core flag h m enabled =
     elim (eqb_tells flag 7) [
-      | inl t ↦ rw t.0 (subst (λ k. FlagHolds (bit_of_bool (is_main inst.kind)) (bit_is_set o.sreg k) (bit_is_set core.sreg k)) (sym t.1) (rw enabled (bool_holds (is_main inst.kind) _)))
+      | inl t ↦ rw t.0 (subst (λ k. FlagHolds (bit_of_bool (is_main inst.kind)) (bit_is_set o.sreg k) (bit_is_set core.sreg k)) (sym t.1)
+          (rw enabled (bool_holds (is_main inst.kind) _)))
       | inr t ↦ rw t.0 (m.flags flag (omega (arith, t.1)))
     ]
 
 equal_tells : (a b : Ends) (x y : ℕ) (u : Bool) → IsWithin x a → IsWithin y b → are_equal a b ≡ Some u → nat_eq x y ≡ u
 equal_tells a b x y u hx hy e = by_case (is_single a && is_single b && nat_eq a.lo b.lo) (nat_lt a.hi b.lo || nat_lt b.hi a.lo) refl refl e
   where
-    by_case : (t v : Bool) → (is_single a && is_single b && nat_eq a.lo b.lo) ≡ t → (nat_lt a.hi b.lo || nat_lt b.hi a.lo) ≡ v → (if t then Some true else if v then Some false else None) ≡ Some u → nat_eq x y ≡ u
-    by_case true v p q e = let z : true ≡ u = cc in let s : x ≡ y = (let i = hx.above in let j = hx.below in let k = hy.above in let l = hy.below in grind (arith, nat_tests)) in (let n : nat_eq x y ≡ true = grind (arith, nat_tests) in n) ∙ z
-    by_case false true p q e = let z : false ≡ u = cc in let s : x ≢ y = (λ r. let i = hx.above in let j = hx.below in let k = hy.above in let l = hy.below in grind (arith, nat_tests)) in (let n : nat_eq x y ≡ false = grind (arith, nat_tests) in n) ∙ z
+    by_case : (t v : Bool) → (is_single a && is_single b && nat_eq a.lo b.lo) ≡ t → (nat_lt a.hi b.lo || nat_lt b.hi a.lo) ≡ v
+        → (if t then Some true else if v then Some false else None) ≡ Some u → nat_eq x y ≡ u
+    by_case true v p q e = let z : true ≡ u = cc in let s : x ≡ y = (let i = hx.above in let j = hx.below in let k = hy.above in
+        let l = hy.below in grind (arith, nat_tests)) in (let n : nat_eq x y ≡ true = grind (arith, nat_tests) in n) ∙ z
+    by_case false true p q e = let z : false ≡ u = cc in let s : x ≢ y = (λ r. let i = hx.above in let j = hx.below in let k = hy.above in
+        let l = hy.below in grind (arith, nat_tests)) in (let n : nat_eq x y ≡ false = grind (arith, nat_tests) in n) ∙ z
     by_case false false p q e = absurd cc
 
-test_tells : (test : SkipTest) (inst : Instance) (o core : Core) (loaded : List ℕ) (u : Bool) → SkipTestFits test → IsCore core → CoreMeets inst o core → test_decides test inst ≡ Some u → test_holds test loaded core ≡ u
+test_tells : (test : SkipTest) (inst : Instance) (o core : Core) (loaded : List ℕ) (u : Bool) → SkipTestFits test → IsCore core
+    → CoreMeets inst o core → test_decides test inst ≡ Some u → test_holds test loaded core ≡ u
 test_tells (Equal d r) inst o core loaded u fits c m e = by_case (nat_eq d r) refl e
   where
-    by_case : (t : Bool) → nat_eq d r ≡ t → (if t then Some true else are_equal (span_of (value_at inst.regs d)) (span_of (value_at inst.regs r))) ≡ Some u → nat_eq (register core d) (register core r) ≡ u
-    by_case true p e = let z : true ≡ u = cc in let s : d ≡ r = grind (arith, nat_tests) in let t : register core d ≡ register core r = ap (register core) s in (let n : nat_eq (register core d) (register core r) ≡ true = grind (arith, nat_tests) in n) ∙ z
+    by_case : (t : Bool) → nat_eq d r ≡ t → (if t then Some true else are_equal (span_of (value_at inst.regs d))
+        (span_of (value_at inst.regs r))) ≡ Some u → nat_eq (register core d) (register core r) ≡ u
+    by_case true p e = let z : true ≡ u = cc in let s : d ≡ r = grind (arith, nat_tests) in let t : register core d ≡ register core r =
+        ap (register core) s in (let n : nat_eq (register core d) (register core r) ≡ true = grind (arith, nat_tests) in n) ∙ z
     by_case false p e =
-        equal_tells _ _ _ _ u (in_span (value_at inst.regs d) o (register core d) (register_byte core d c) (m.regs d fits.0)) (in_span (value_at inst.regs r) o (register core r) (register_byte core r c) (m.regs r fits.1)) e
+        equal_tells _ _ _ _ u (in_span (value_at inst.regs d) o (register core d) (register_byte core d c) (m.regs d fits.0))
+        (in_span (value_at inst.regs r) o (register core r) (register_byte core r c) (m.regs r fits.1)) e
 test_tells (RegisterBit r b set) inst o core loaded u fits c m e =
     is_equals (register core r) b set
-    ∙ decides_tells (bst_answer (span_of (value_at inst.regs r)) b) false (bit_is_set (register core r) b) set u (told _ false _ (bst_covers (span_of (value_at inst.regs r)) b (register core r) (in_span (value_at inst.regs r) o (register core r) (register_byte core r c) (m.regs r fits.0)))) e
+    ∙ decides_tells (bst_answer (span_of (value_at inst.regs r)) b) false (bit_is_set (register core r) b) set u
+    (told _ false _ (bst_covers (span_of (value_at inst.regs r)) b (register core r) (in_span (value_at inst.regs r) o (register core r)
+    (register_byte core r c) (m.regs r fits.0)))) e
 test_tells (IoBit at b set) inst o core loaded u fits c m e = absurd cc
 
-pub outcome_holds : (e : Effect) (image : FinMap nat_cmp ℕ) (words following : ℕ) (loaded : List ℕ) (inst : Instance) (o core : Core) → EffectFits e → IsCore core → CoreMeets inst o core → bit_is_set core.sreg 7 ≡ is_main inst.kind → following ≡ following_pc words core
+pub outcome_holds : (e : Effect) (image : FinMap nat_cmp ℕ) (words following : ℕ) (loaded : List ℕ) (inst : Instance) (o core : Core)
+    → EffectFits e → IsCore core → CoreMeets inst o core → bit_is_set core.sreg 7 ≡ is_main inst.kind → following ≡ following_pc words core
     → Contains (outcomes image following e inst) (outcome_of e image words loaded core)
 outcome_holds (Branch flag set offset) image words following loaded inst o core fits c m enabled f =
-    chosen (decided (flag_of_kind inst flag) set) (bit_equals core.sreg flag set) Taken (λ u e. is_equals core.sreg flag set ∙ decides_tells (flag_of_kind inst flag) (bit_is_set o.sreg flag) (bit_is_set core.sreg flag) set u (kind_flag inst o core flag fits.0 m enabled) e)
+    chosen (decided (flag_of_kind inst flag) set) (bit_equals core.sreg flag set) Taken (λ u e. is_equals core.sreg flag set ∙ decides_tells
+    (flag_of_kind inst flag) (bit_is_set o.sreg flag) (bit_is_set core.sreg flag) set u (kind_flag inst o core flag fits.0 m enabled) e)
 outcome_holds (SkipIf test) image words following loaded inst o core fits c m enabled f =
-    subst (λ n. Contains (choices (test_decides test inst) (skip_outcome image n)) (outcome_of (SkipIf test) image words loaded core)) (sym f)
-    (chosen (test_decides test inst) (test_holds test loaded core) (skip_outcome image (following_pc words core)) (λ u e. test_tells test inst o core loaded u fits c m e))
+    subst (λ n. Contains (choices (test_decides test inst) (skip_outcome image n)) (outcome_of (SkipIf test) image words loaded core))
+    (sym f)
+    (chosen (test_decides test inst) (test_holds test loaded core) (skip_outcome image (following_pc words core))
+    (λ u e. test_tells test inst o core loaded u fits c m e))
 outcome_holds NoOperation image words following loaded inst o core fits c m enabled f = here Next []
 outcome_holds e image words following loaded inst o core fits c m enabled f = here Next []
 
@@ -159,9 +185,11 @@ and_true true b e = (refl, e)
 and_true false b e = absurd cc
 
 -- where a return goes
-return_pc : {P : Type 0} (w : PadWiring P) (head : Head) (late d : ℕ) (inst : Instance) (o core : Core) (s : Space P) → Before head inst o d core s → fail_of head (Return false) inst ≡ None
+return_pc : {P : Type 0} (w : PadWiring P) (head : Head) (late d : ℕ) (inst : Instance) (o core : Core) (s : Space P) → Before head inst o d
+    core s → fail_of head (Return false) inst ≡ None
     → ((span_of (slot_value 2 inst)).lo + 256 * (span_of (slot_value 1 inst)).lo) % 32768
-    ≡ (slice_index (loaded_bytes (space_loads w) core late s (load_addresses (Return false) core)) 1 + 256 * slice_index (loaded_bytes (space_loads w) core late s (load_addresses (Return false) core)) 0) % 32768
+    ≡ (slice_index (loaded_bytes (space_loads w) core late s (load_addresses (Return false) core)) 1 + 256 * slice_index
+    (loaded_bytes (space_loads w) core late s (load_addresses (Return false) core)) 0) % 32768
 return_pc w head late d inst o core s b fail =
     let all = and_true (nat_le 2 (depth_of inst)) _ (not_false _ (unless_none _ _ _ fail).0) in
     let known = and_true (is_known_slot (slot_value 1 inst)) (is_known_slot (slot_value 2 inst)) all.1 in
@@ -169,45 +197,69 @@ return_pc w head late d inst o core s b fail =
     let low = low_room head inst o d core s b in
     let one : (core.sp + 1) % 65536 ≡ core.sp + 1 = omega (arith, b.memory.depth, b.fits.high, deep) in
     let two : (core.sp + 2) % 65536 ≡ core.sp + 2 = omega (arith, b.memory.depth, b.fits.high, deep) in
-    let first = slot_known (slot_value 1 inst) o (plain_byte s (core.sp + 1)) known.0 (slot_holds inst o core.sp 1 s.bytes b.memory.slots (omega arith) (omega (arith, deep))) in
-    let second = slot_known (slot_value 2 inst) o (plain_byte s (core.sp + 2)) known.1 (slot_holds inst o core.sp 2 s.bytes b.memory.slots (omega arith) deep) in
-    let loaded : loaded_bytes (space_loads w) core late s (load_addresses (Return false) core) ≡ (plain_byte s (core.sp + 1) ∷ (plain_byte s (core.sp + 2) ∷ [])) =
-    ap (λ ats. loaded_bytes (space_loads w) core late s ats) (let ats : load_addresses (Return false) core ≡ ((core.sp + 1) ∷ ((core.sp + 2) ∷ [])) = rw (one, two) refl in ats)
-    ∙ (ram_loaded w core late s (core.sp + 1) ((core.sp + 2) ∷ []) (omega (arith, b.fits.low, low)) (omega (arith, b.memory.depth, b.fits.high, deep))
-    ∙ ap (λ more. plain_byte s (core.sp + 1) ∷ more) (ram_loaded w core late ((space_loads w).content_after s (core.sp + 1) late) (core.sp + 2) [] (omega (arith, b.fits.low, low)) (omega (arith, b.memory.depth, b.fits.high, deep)))) in
-    ap (λ n. (n + 256 * (span_of (slot_value 1 inst)).lo) % 32768) second ∙ ap (λ n. (plain_byte s (core.sp + 2) + 256 * n) % 32768) first ∙ sym (ap (λ l. (slice_index l 1 + 256 * slice_index l 0) % 32768) loaded)
+    let first = slot_known (slot_value 1 inst) o (plain_byte s (core.sp + 1)) known.0 (slot_holds inst o core.sp 1 s.bytes b.memory.slots
+    (omega arith) (omega (arith, deep))) in
+    let second = slot_known (slot_value 2 inst) o (plain_byte s (core.sp + 2)) known.1 (slot_holds inst o core.sp 2 s.bytes b.memory.slots
+    (omega arith) deep) in
+    let loaded : loaded_bytes (space_loads w) core late s (load_addresses (Return false) core)
+    ≡ (plain_byte s (core.sp + 1) ∷ (plain_byte s (core.sp + 2) ∷ [])) =
+    ap (λ ats. loaded_bytes (space_loads w) core late s ats)
+    (let ats : load_addresses (Return false) core ≡ ((core.sp + 1) ∷ ((core.sp + 2) ∷ [])) = rw (one, two) refl in ats)
+    ∙ (ram_loaded w core late s (core.sp + 1) ((core.sp + 2) ∷ []) (omega (arith, b.fits.low, low))
+    (omega (arith, b.memory.depth, b.fits.high, deep))
+    ∙ ap (λ more. plain_byte s (core.sp + 1) ∷ more) (ram_loaded w core late ((space_loads w).content_after s (core.sp + 1) late)
+    (core.sp + 2) [] (omega (arith, b.fits.low, low)) (omega (arith, b.memory.depth, b.fits.high, deep)))) in
+    ap (λ n. (n + 256 * (span_of (slot_value 1 inst)).lo) % 32768) second ∙ ap (λ n. (plain_byte s (core.sp + 2) + 256 * n) % 32768) first
+    ∙ sym (ap (λ l. (slice_index l 1 + 256 * slice_index l 0) % 32768) loaded)
 
 -- the one pc of a list
 one_pc : (a b : ℕ) → a ≡ b → Contains (a ∷ []) b
 one_pc a b e = subst (λ n. Contains (a ∷ []) n) e (here a [])
 
-pub pc_holds : {P : Type 0} (w : PadWiring P) (e : Effect) (out : Outcome) (head : Head) (words following late d : ℕ) (inst : Instance) (o core : Core) (s : Space P) → EffectFits e → Before head inst o d core s → following ≡ following_pc words core → returns_from_interrupt e ≡ false → fail_of head e inst ≡ None
+pub pc_holds : {P : Type 0} (w : PadWiring P) (e : Effect) (out : Outcome) (head : Head) (words following late d : ℕ) (inst : Instance)
+    (o core : Core) (s : Space P) → EffectFits e → Before head inst o d core s → following ≡ following_pc words core
+    → returns_from_interrupt e ≡ false → fail_of head e inst ≡ None
     → Contains (targets e out following inst) (next_pc e out words (loaded_bytes (space_loads w) core late s (load_addresses e core)) core)
-pc_holds w (Branch flag set offset) Taken head words following late d inst o core s fits b f back fail = one_pc _ _ (ap (λ n. (n + offset) % 32768) f)
-pc_holds w (Branch flag set offset) Next head words following late d inst o core s fits b f back fail = one_pc following (following_pc words core) f
-pc_holds w (Branch flag set offset) SkipOne head words following late d inst o core s fits b f back fail = one_pc following (following_pc words core) f
-pc_holds w (Branch flag set offset) SkipTwo head words following late d inst o core s fits b f back fail = one_pc following (following_pc words core) f
-pc_holds w (SkipIf test) out head words following late d inst o core s fits b f back fail = one_pc _ _ (ap (λ n. (n + skipped out) % 32768) f ∙ ap (λ n. (following_pc words core + n) % 32768) (skipped_same out))
+pc_holds w (Branch flag set offset) Taken head words following late d inst o core s fits b f back fail =
+    one_pc _ _ (ap (λ n. (n + offset) % 32768) f)
+pc_holds w (Branch flag set offset) Next head words following late d inst o core s fits b f back fail = one_pc following
+    (following_pc words core) f
+pc_holds w (Branch flag set offset) SkipOne head words following late d inst o core s fits b f back fail = one_pc following
+    (following_pc words core) f
+pc_holds w (Branch flag set offset) SkipTwo head words following late d inst o core s fits b f back fail = one_pc following
+    (following_pc words core) f
+pc_holds w (SkipIf test) out head words following late d inst o core s fits b f back fail =
+    one_pc _ _ (ap (λ n. (n + skipped out) % 32768) f ∙ ap (λ n. (following_pc words core + n) % 32768) (skipped_same out))
 pc_holds w (Jump (Absolute k) call) out head words following late d inst o core s fits b f back fail = here k []
-pc_holds w (Jump (Relative k) call) out head words following late d inst o core s fits b f back fail = one_pc _ _ (ap (λ n. (n + k) % 32768) f)
+pc_holds w (Jump (Relative k) call) out head words following late d inst o core s fits b f back fail =
+    one_pc _ _ (ap (λ n. (n + k) % 32768) f)
 pc_holds w (Jump Indirect call) out head words following late d inst o core s fits b f back fail =
     let z : IsWithin (pair core 30) (pair_range inst 30) = pair_holds inst o core 30 b.is_core b.meets (omega arith) in
     let e : target_fails Indirect inst ≡ false = (unless_none _ _ _ (unless_none _ _ _ fail).1).0 in
     let low : (pair_range inst 30).hi ≤ 0x7FFF = indirect_low (pair_range inst 30) e in
     let same : pair core 30 % 32768 ≡ pair core 30 = omega (arith, low, z.below) in
-    rw same (number_in (pair_range inst 30).lo (suc (pair_range inst 30).hi - (pair_range inst 30).lo) (pair core 30) z.above (omega (arith, z.above, z.below)))
+    rw same (number_in (pair_range inst 30).lo (suc (pair_range inst 30).hi - (pair_range inst 30).lo) (pair core 30) z.above
+    (omega (arith, z.above, z.below)))
   where
     indirect_low : (p : Ends) → (nat_le (16 + p.lo) p.hi || nat_lt 0x7FFF p.hi) ≡ false → p.hi ≤ 0x7FFF
     indirect_low p e = grind (arith, nat_tests)
 pc_holds w (Return true) out head words following late d inst o core s fits b f back fail = absurd cc
-pc_holds w (Return false) out head words following late d inst o core s fits b f back fail = subst (λ n. Contains (((span_of (slot_value 2 inst)).lo + 256 * (span_of (slot_value 1 inst)).lo) % 32768 ∷ []) n) (return_pc w head late d inst o core s b fail) (here _ [])
+pc_holds w (Return false) out head words following late d inst o core s fits b f back fail =
+    subst (λ n. Contains (((span_of (slot_value 2 inst)).lo + 256 * (span_of (slot_value 1 inst)).lo) % 32768 ∷ []) n)
+    (return_pc w head late d inst o core s b fail) (here _ [])
 pc_holds w NoOperation out head words following late d inst o core s fits b f back fail = one_pc following (following_pc words core) f
 pc_holds w e out head words following late d inst o core s fits b f back fail = one_pc following (following_pc words core) f
 
 -- an exit of the step
-pub exit_holds : {P : Type 0} (w : PadWiring P) (e : Effect) (head : Head) (image : FinMap nat_cmp ℕ) (clocks : Outcome → ℕ) (words following late d : ℕ) (inst : Instance) (o core : Core) (s : Space P) → EffectFits e → Before head inst o d core s → following ≡ following_pc words core → returns_from_interrupt e ≡ false → fail_of head e inst ≡ None
+pub exit_holds : {P : Type 0} (w : PadWiring P) (e : Effect) (head : Head) (image : FinMap nat_cmp ℕ) (clocks : Outcome → ℕ)
+    (words following late d : ℕ) (inst : Instance) (o core : Core) (s : Space P) → EffectFits e → Before head inst o d core s
+    → following ≡ following_pc words core → returns_from_interrupt e ≡ false → fail_of head e inst ≡ None
     → (out : Outcome) → out ≡ outcome_of e image words (loaded_bytes (space_loads w) core late s (load_addresses e core)) core
-    → Contains (exits_of e clocks following inst (outcomes image following e inst)) (record { pc = next_pc e out words (loaded_bytes (space_loads w) core late s (load_addresses e core)) core; clocks = clocks out })
+    → Contains (exits_of e clocks following inst (outcomes image following e inst))
+    (record { pc = next_pc e out words (loaded_bytes (space_loads w) core late s (load_addresses e core)) core; clocks = clocks out })
 exit_holds w e head image clocks words following late d inst o core s fits b f back fail out is =
-    let c : Contains (outcomes image following e inst) out = subst (λ x. Contains (outcomes image following e inst) x) (sym is) (outcome_holds e image words following (loaded_bytes (space_loads w) core late s (load_addresses e core)) inst o core fits b.is_core b.meets b.enabled f) in
-    exit_of e clocks following inst (outcomes image following e inst) out _ c.0 c.1 c.2 (pc_holds w e out head words following late d inst o core s fits b f back fail)
+    let c : Contains (outcomes image following e inst) out = subst (λ x. Contains (outcomes image following e inst) x) (sym is)
+    (outcome_holds e image words following (loaded_bytes (space_loads w) core late s (load_addresses e core)) inst o core fits b.is_core
+    b.meets b.enabled f) in
+    exit_of e clocks following inst (outcomes image following e inst) out _ c.0 c.1 c.2 (pc_holds w e out head words following late d inst o
+    core s fits b f back fail)

@@ -1,5 +1,6 @@
 -- A state that meets an instance meets each in which it lies.
-use Rattle.std.proofs.Common.{◌%◌, sym, not, ◌≡◌, ◌⊎◌, inl, inr, ℕ, zero, suc, ◌+◌, ◌-◌, ◌<◌, ◌≤◌, Bool, true, false, nat_eq, nat_le, Some, List, [], ◌∷◌, length, refl, ◌∙◌, ap, subst, arith}
+use Rattle.std.proofs.Common.{◌%◌, sym, not, ◌≡◌, ◌⊎◌, inl, inr, ℕ, zero, suc, ◌+◌, ◌-◌, ◌<◌, ◌≤◌, Bool, true, false, nat_eq, nat_le, Some}
+use Rattle.std.proofs.Common.{List, [], ◌∷◌, length, refl, ◌∙◌, ap, subst, arith}
 use Rattle.std.specs.Prelude.{◌&&◌}
 use Rattle.std.specs.List.{AllByRecursion}
 use Rattle.std.proofs.lemmas.Bool.Decides.{eqb_tells, nat_tests}
@@ -22,7 +23,9 @@ use Rattle.uz_rules.specs.CoreMeets.{ValueHolds, FlagHolds, CoreMeets}
 use Rattle.uz_transfer.specs.Kinds.{cell_place}
 use Rattle.uz_rules.specs.MemoryMeets.{MemoryMeets}
 use Rattle.uz_transfer.specs.Refusals.{range_inside}
-use Rattle.uz_rules.specs.Inside.{value_inside, flag_inside, all_below, same_kind, same_bool, same_place, registers_inside, pairs_inside, flags_inside, slots_inside, cells_inside, inside, InsideKeeps, StateInside, is_old_register, restored, RestoredGives}
+use Rattle.uz_rules.specs.Inside.{value_inside, flag_inside, all_below, same_kind, same_bool, same_place, registers_inside, pairs_inside}
+use Rattle.uz_rules.specs.Inside.{flags_inside, slots_inside, cells_inside, inside, InsideKeeps, StateInside, is_old_register, restored}
+use Rattle.uz_rules.specs.Inside.{RestoredGives}
 use Rattle.uz_rules.specs.Meets.{TimerMeets, TimerCounts, LevelMeets, Meets}
 use Rattle.uz_machine.specs.PadLine.{PadHistory}
 use Rattle.uz_machine.specs.Turn.{State, sync_level}
@@ -159,12 +162,16 @@ pub core_widens : (a b : Instance) (o core : Core) → IsCore core → inside a 
 core_widens a b o core c e h =
     let parts = parts_tell a b e in
     record {
-      regs = λ r w. val_widens _ _ o _ (register_byte core r c) (below_tells 32 (λ r. value_inside (value_at a.regs r) (value_at b.regs r)) parts.registers r w) (h.regs r w);
-      pairs = λ k w. within_both _ _ _ (below_tells 3 (λ k. range_inside (pair_at a.pairs k) (pair_at b.pairs k)) parts.pairs k w) (h.pairs k w);
-      flags = λ k w. bit_widens _ _ _ _ (below_tells 7 (λ k. flag_inside (flag_at a.flags k) (flag_at b.flags k)) parts.flags k w) (h.flags k w);
+      regs = λ r w. val_widens _ _ o _ (register_byte core r c) (below_tells 32 (λ r. value_inside (value_at a.regs r) (value_at b.regs r))
+          parts.registers r w) (h.regs r w);
+      pairs = λ k w. within_both _ _ _ (below_tells 3 (λ k. range_inside (pair_at a.pairs k) (pair_at b.pairs k)) parts.pairs k w)
+          (h.pairs k w);
+      flags = λ k w. bit_widens _ _ _ _ (below_tells 7 (λ k. flag_inside (flag_at a.flags k) (flag_at b.flags k)) parts.flags k w)
+          (h.flags k w);
     }
 
-pub memory_widens : (head : Head) (a b : Instance) (o : Core) (d sp : ℕ) (bytes : List ℕ) → AllByRecursion IsByte bytes → inside a b ≡ true → MemoryMeets head a o d sp bytes → MemoryMeets head b o d sp bytes
+pub memory_widens : (head : Head) (a b : Instance) (o : Core) (d sp : ℕ) (bytes : List ℕ) → AllByRecursion IsByte bytes → inside a b ≡ true
+    → MemoryMeets head a o d sp bytes → MemoryMeets head b o d sp bytes
 memory_widens head a b o d sp bytes all e h =
     let parts = parts_tell a b e in
     let slots = and_true (nat_eq (length a.stack.items) (length b.stack.items)) _ parts.slots in
@@ -175,11 +182,15 @@ memory_widens head a b o d sp bytes all e h =
     record {
       slots = λ i w.
           let w' : i < length a.stack.items = omega (arith, size, w) in
-          rw (← size) (val_widens _ _ o _ (byte_at bytes (sp + length a.stack.items - i) all) (below_tells (length a.stack.items) (λ i. value_inside (value_at a.stack.items i) (value_at b.stack.items i)) slots.1 i w') (h.slots i w'));
+          rw (← size) (val_widens _ _ o _ (byte_at bytes (sp + length a.stack.items - i) all)
+          (below_tells (length a.stack.items) (λ i. value_inside (value_at a.stack.items i) (value_at b.stack.items i)) slots.1 i w')
+          (h.slots i w'));
       cells = λ at j p.
           let q : cell_place head a.kind at ≡ Some j = rw kind p in
           elim (lt_or j (length b.cells.items)) [
-            | inl t ↦ within_both _ _ _ (below_tells (length a.cells.items) (λ j. range_inside (span_at a.cells.items j) (span_at b.cells.items j)) cells.1 j (omega (arith, count, t))) (h.cells at j q)
+            | inl t ↦ within_both _ _ _ (below_tells (length a.cells.items)
+                (λ j. range_inside (span_at a.cells.items j) (span_at b.cells.items j)) cells.1 j (omega (arith, count, t)))
+                (h.cells at j q)
             | inr t ↦ rw (past_end b.cells.items j t) (whole _ (byte_at bytes at all))
           ];
       ranges = h.ranges;
@@ -232,10 +243,12 @@ restored_gives inst o core c old e h =
     let two = and_true (not inst.pending) _ one.1 in
     let three = and_true (all_below 7 (λ k. is_old (flag_at inst.flags k))) _ two.1 in
     let sreg : core.sreg % 128 ≡ o.sreg % 128 = same_from_bits_below 7 (core.sreg % 128) (o.sreg % 128) (omega arith) (omega arith) (λ k w.
-    let is = flag_gives (flag_at inst.flags k) (bit_is_set o.sreg k) (bit_is_set core.sreg k) (below_tells 7 (λ k. is_old (flag_at inst.flags k)) three.0 k w) (h.flags k w) in
+    let is = flag_gives (flag_at inst.flags k) (bit_is_set o.sreg k) (bit_is_set core.sreg k)
+    (below_tells 7 (λ k. is_old (flag_at inst.flags k)) three.0 k w) (h.flags k w) in
     low_seven core.sreg k w ∙ (same_bit core.sreg o.sreg k is ∙ sym (low_seven o.sreg k w))) in (
       ext_get_or 0 core.registers o.registers (c.count ∙ sym old.count) (λ r w.
           let w' : r < 32 = omega (arith, w, c.count) in
-          old_gives r (value_at inst.regs r) o (register core r) (below_tells 32 (λ r. is_old_register r (value_at inst.regs r)) three.1 r w') (h.regs r w')),
+          old_gives r (value_at inst.regs r) o (register core r) (below_tells 32 (λ r. is_old_register r (value_at inst.regs r)) three.1 r
+          w') (h.regs r w')),
       sreg,
     )

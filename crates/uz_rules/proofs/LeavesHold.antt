@@ -1,5 +1,6 @@
 -- An instruction leaves the stack above its own slots, and the cells that its kind doesn't track.
-use Rattle.std.proofs.Common.{◌≡◌, ◌≢◌, ◌⊎◌, inl, inr, ℕ, suc, ◌+◌, ◌-◌, ◌/◌, ◌%◌, ◌<◌, ◌≤◌, Bool, true, false, not, if◌then◌else◌, nat_lt, nat_le, Some, None, List, [], ◌∷◌, filter, length, refl, ◌∙◌, ap, subst, arith}
+use Rattle.std.proofs.Common.{◌≡◌, ◌≢◌, ◌⊎◌, inl, inr, ℕ, suc, ◌+◌, ◌-◌, ◌/◌, ◌%◌, ◌<◌, ◌≤◌, Bool, true, false, not, if◌then◌else◌, nat_lt}
+use Rattle.std.proofs.Common.{nat_le, Some, None, List, [], ◌∷◌, filter, length, refl, ◌∙◌, ap, subst, arith}
 use Rattle.std.specs.Prelude.{◌&&◌, ◌||◌}
 use Rattle.std.proofs.lemmas.Bool.Decides.{nat_tests}
 use Rattle.uz_machine.specs.declared.AddressMode.{AddressMode}
@@ -32,18 +33,27 @@ use Rattle.uz_rules.proofs.Classes.{Before, low_room, unless_none, not_false, si
 leaves_itself : (head : Head) (kind : Kind) (base : ℕ) (bytes : List ℕ) → Untouched head kind base bytes bytes
 leaves_itself head kind base bytes = record { above = λ a h k. refl; cells = λ a r h k. refl }
 
-pub then_leaves : (head : Head) (kind : Kind) (base : ℕ) (a b c : List ℕ) → Untouched head kind base a b → Untouched head kind base b c → Untouched head kind base a c
-then_leaves head kind base a b c p q = record { above = λ n h k. q.above n h k ∙ p.above n h k; cells = λ n r h k. q.cells n r h k ∙ p.cells n r h k }
+pub then_leaves : (head : Head) (kind : Kind) (base : ℕ) (a b c : List ℕ) → Untouched head kind base a b → Untouched head kind base b c
+    → Untouched head kind base a c
+then_leaves head kind base a b c p q = record {
+  above = λ n h k. q.above n h k ∙ p.above n h k;
+  cells = λ n r h k. q.cells n r h k
+      ∙ p.cells n r h k;
+}
 
 -- one address that is none of these
-one_leaves : (head : Head) (kind : Kind) (base at v : ℕ) (old new : List ℕ) → HeadFits head → 256 ≤ suc base → Wrote at v old new → ((a : ℕ) → base < a → a ≤ head.hi → a ≢ at) → ((a : ℕ) (r : Ends) → cell_range head a ≡ Some r → cell_place head kind a ≡ None → a ≢ at) → Untouched head kind base old new
+one_leaves : (head : Head) (kind : Kind) (base at v : ℕ) (old new : List ℕ) → HeadFits head → 256 ≤ suc base → Wrote at v old new
+    → ((a : ℕ) → base < a → a ≤ head.hi → a ≢ at) → ((a : ℕ) (r : Ends) → cell_range head a ≡ Some r → cell_place head kind a ≡ None
+    → a ≢ at) → Untouched head kind base old new
 one_leaves head kind base at v old new fits ram wrote above cells = record {
   above = λ a h k. wrote.other a (omega arith) (above a h k);
   cells = λ a r h k. wrote.other a (fits.cells_ram a r h).0 (cells a r h k);
 }
 
 -- a push: at an address of the stack, not above the base
-push_leaves : {P : Type 0} (w : PadWiring P) (head : Head) (kind : Kind) (base at v : ℕ) (s : Space P) → HeadFits head → length s.bytes ≡ 4352 → head.lo ≤ suc base → head.lo ≤ at → at ≤ base → at ≤ head.hi → Untouched head kind base s.bytes (after_byte w at v s).bytes
+push_leaves : {P : Type 0} (w : PadWiring P) (head : Head) (kind : Kind) (base at v : ℕ) (s : Space P) → HeadFits head
+    → length s.bytes ≡ 4352 → head.lo ≤ suc base → head.lo ≤ at → at ≤ base → at ≤ head.hi → Untouched head kind base s.bytes
+    (after_byte w at v s).bytes
 push_leaves w head kind base at v s fits size low first last high =
     one_leaves head kind base at v s.bytes (after_byte w at v s).bytes fits (omega (arith, fits.low)) (byte_wrote w s at v size)
     (λ a h k q. omega (arith, h, q, last))
@@ -58,7 +68,8 @@ either true b e = inl refl
 either false b e = inr e
 
 -- a store off the stack
-store_leaves : {P : Type 0} (w : PadWiring P) (head : Head) (kind : Kind) (base at v : ℕ) (a : Ends) (val : Val) (s : Space P) → HeadFits head → length s.bytes ≡ 4352 → head.lo ≤ suc base → IsWithin at a → may_store head kind a val ≡ true
+store_leaves : {P : Type 0} (w : PadWiring P) (head : Head) (kind : Kind) (base at v : ℕ) (a : Ends) (val : Val) (s : Space P)
+    → HeadFits head → length s.bytes ≡ 4352 → head.lo ≤ suc base → IsWithin at a → may_store head kind a val ≡ true
     → Untouched head kind base s.bytes (after_byte w at v s).bytes
 store_leaves {P} w head kind base at v a val s fits size low within may =
     elim (either (is_single a && (nat_le 0x20 a.lo && nat_le a.lo 0xFF)) _ may) [
@@ -76,35 +87,51 @@ store_leaves {P} w head kind base at v a val s fits size low within may =
                 let k = subst (λ n. cell_admits (cell_place head kind n) (cell_range head n) (span_of val) ≡ true) i one.1 in
                 let taken = cell_taken head kind at (span_of val) k in
                 one_leaves head kind base at v s.bytes (after_byte w at v s).bytes fits (omega (arith, fits.low)) (byte_wrote w s at v size)
-                (λ n h j q. elim (fits.cells_off at taken.range taken.is) [ inl l ↦ omega (arith, l, q, h, low) | inr g ↦ omega (arith, g, q, j) ])
-                (λ n r h j q. let z : cell_place head kind at ≡ None = subst (λ m. cell_place head kind m ≡ None) q j in let y = taken.placed in cc)
+                (λ n h j q. elim (fits.cells_off at taken.range taken.is) [
+                  | inl l ↦ omega (arith, l, q, h, low)
+                  | inr g ↦ omega
+                      (arith, g, q, j)
+                ])
+                (λ n r h j q. let z : cell_place head kind at ≡ None = subst (λ m. cell_place head kind m ≡ None) q j in
+                let y = taken.placed in cc)
             | inr u ↦
                 let f = free_by head a u in
                 one_leaves head kind base at v s.bytes (after_byte w at v s).bytes fits (omega (arith, fits.low)) (byte_wrote w s at v size)
                 (λ n h j q. elim f.off [ inl l ↦ omega (arith, l, within.below, q, h, low) | inr g ↦ omega (arith, g, within.above, q, j) ])
-                (λ n r h j q. elim (missed head.cells.items a r n f.none h) [ inl l ↦ omega (arith, l, within.above, q) | inr g ↦ omega (arith, g, within.below, q) ])
+                (λ n r h j q. elim (missed head.cells.items a r n f.none h) [
+                  | inl l ↦ omega (arith, l, within.above, q)
+                  | inr g ↦ omega
+                      (arith, g, within.below, q)
+                ])
           ]
     ]
   where
     away : ((n : ℕ) → 256 ≤ n → n ≢ at) → Untouched head kind base s.bytes (after_byte w at v s).bytes
-    away far = one_leaves head kind base at v s.bytes (after_byte w at v s).bytes fits (omega (arith, fits.low)) (byte_wrote w s at v size) (λ n h j. far n (omega (arith, h, low, fits.low))) (λ n r h j. far n (fits.cells_ram n r h).0)
+    away far = one_leaves head kind base at v s.bytes (after_byte w at v s).bytes fits (omega (arith, fits.low)) (byte_wrote w s at v size)
+        (λ n h j. far n (omega (arith, h, low, fits.low))) (λ n r h j. far n (fits.cells_ram n r h).0)
 
-held_leaves : {P : Type 0} (w : PadWiring P) (head : Head) (kind : Kind) (base at v : ℕ) (s : Space P) → Untouched head kind base s.bytes (after_byte w at v s).bytes → Untouched head kind base s.bytes (after_stores w (filter leaves_core (Byte at v ∷ [])) s).bytes
+held_leaves : {P : Type 0} (w : PadWiring P) (head : Head) (kind : Kind) (base at v : ℕ) (s : Space P) → Untouched head kind base s.bytes
+    (after_byte w at v s).bytes → Untouched head kind base s.bytes (after_stores w (filter leaves_core (Byte at v ∷ [])) s).bytes
 held_leaves {P} w head kind base at v s h = by_case (is_core_address at)
   where
     by_case : (t : Bool) → Untouched head kind base s.bytes (after_stores w (if not t then Byte at v ∷ [] else []) s).bytes
     by_case true = leaves_itself head kind base s.bytes
     by_case false = h
 
-two_leaves : {P : Type 0} (w : PadWiring P) (head : Head) (kind : Kind) (base a x b y : ℕ) (s : Space P) → Untouched head kind base s.bytes (after_byte w a x s).bytes → ((t : Space P) → t.bytes ≡ (after_byte w a x s).bytes → Untouched head kind base t.bytes (after_byte w b y t).bytes)
-    → Untouched head kind base s.bytes (after_byte w b y s).bytes → Untouched head kind base s.bytes (after_stores w (filter leaves_core (Byte a x ∷ Byte b y ∷ [])) s).bytes
+two_leaves : {P : Type 0} (w : PadWiring P) (head : Head) (kind : Kind) (base a x b y : ℕ) (s : Space P) → Untouched head kind base s.bytes
+    (after_byte w a x s).bytes → ((t : Space P) → t.bytes ≡ (after_byte w a x s).bytes → Untouched head kind base t.bytes
+    (after_byte w b y t).bytes)
+    → Untouched head kind base s.bytes (after_byte w b y s).bytes → Untouched head kind base s.bytes
+    (after_stores w (filter leaves_core (Byte a x ∷ Byte b y ∷ [])) s).bytes
 two_leaves {P} w head kind base a x b y s first second alone = by_case (is_core_address a) (is_core_address b)
   where
-    by_case : (t u : Bool) → Untouched head kind base s.bytes (after_stores w (if not t then Byte a x ∷ (if not u then Byte b y ∷ [] else []) else (if not u then Byte b y ∷ [] else [])) s).bytes
+    by_case : (t u : Bool) → Untouched head kind base s.bytes
+        (after_stores w (if not t then Byte a x ∷ (if not u then Byte b y ∷ [] else []) else (if not u then Byte b y ∷ [] else [])) s).bytes
     by_case true true = leaves_itself head kind base s.bytes
     by_case true false = alone
     by_case false true = first
-    by_case false false = then_leaves head kind base s.bytes (after_byte w a x s).bytes (after_byte w b y (after_byte w a x s)).bytes first (second (after_byte w a x s) refl)
+    by_case false false = then_leaves head kind base s.bytes (after_byte w a x s).bytes (after_byte w b y (after_byte w a x s)).bytes first
+        (second (after_byte w a x s) refl)
 
 -- the refusals of a store that don't stand
 pub record StoreFacts (head : Head) (inst : Instance) (a : Ends) (v : Val) : Type 0 where
@@ -113,7 +140,8 @@ pub record StoreFacts (head : Head) (inst : Instance) (a : Ends) (v : Val) : Typ
   pub may : not (may_store head inst.kind a v) ≡ false
   pub io : (is_single a && is_setup_register a.lo) ≡ false
 
-pub facts_of : (head : Head) (inst : Instance) (to : AddressMode) (r : ℕ) → fail_of head (Store to r) inst ≡ None → StoreFacts head inst (address_range to inst) (value_at inst.regs r)
+pub facts_of : (head : Head) (inst : Instance) (to : AddressMode) (r : ℕ) → fail_of head (Store to r) inst ≡ None → StoreFacts head inst
+    (address_range to inst) (value_at inst.regs r)
 facts_of head inst to r fail =
     let one = unless_none _ _ _ fail in
     let two = unless_none _ _ _ one.1 in
@@ -121,17 +149,21 @@ facts_of head inst to r fail =
     let four = unless_none _ _ _ three.1 in
     record { flag = one.0; mask = two.0; may = three.0; io = four.0 }
 
-pub stores_leave : {P : Type 0} (w : PadWiring P) (e : Effect) (head : Head) (words d : ℕ) (inst : Instance) (o core : Core) (before s : Space P) → length s.bytes ≡ 4352 → EffectFits e → Before head inst o d core before → fail_of head e inst ≡ None
+pub stores_leave : {P : Type 0} (w : PadWiring P) (e : Effect) (head : Head) (words d : ℕ) (inst : Instance) (o core : Core)
+    (before s : Space P) → length s.bytes ≡ 4352 → EffectFits e → Before head inst o d core before → fail_of head e inst ≡ None
     → Untouched head inst.kind (core.sp + depth_of inst) s.bytes (after_stores w (filter leaves_core (stores_of e words core)) s).bytes
 stores_leave w (Store to r) head words d inst o core before s size fits b fail =
     held_leaves w head inst.kind (core.sp + depth_of inst) (effective_address to core) (register core r) s
-    (store_leaves w head inst.kind (core.sp + depth_of inst) (effective_address to core) (register core r) (address_range to inst) (value_at inst.regs r) s b.fits size (omega (arith, low_room head inst o d core before b)) (address_holds to inst o core b.is_core fits.0 b.meets) (not_false _ (facts_of head inst to r fail).may))
+    (store_leaves w head inst.kind (core.sp + depth_of inst) (effective_address to core) (register core r) (address_range to inst)
+    (value_at inst.regs r) s b.fits size (omega (arith, low_room head inst o d core before b))
+    (address_holds to inst o core b.is_core fits.0 b.meets) (not_false _ (facts_of head inst to r fail).may))
 stores_leave w (PushByte r) head words d inst o core before s size fits b fail =
     let free : nat_le (depth_limit head inst.kind) (depth_of inst) ≡ false = (unless_none _ _ _ fail).0 in
     let few : depth_of inst + 1 ≤ depth_limit head inst.kind = grind (arith, nat_tests) in
     let room = room_left head inst.kind d core.sp (depth_of inst) 1 b.fits b.few b.memory.depth few in
     held_leaves w head inst.kind (core.sp + depth_of inst) core.sp (register core r) s
-    (push_leaves w head inst.kind (core.sp + depth_of inst) core.sp (register core r) s b.fits size (omega (arith, room)) (omega (arith, room)) (omega arith) (omega (arith, b.memory.depth)))
+    (push_leaves w head inst.kind (core.sp + depth_of inst) core.sp (register core r) s b.fits size (omega (arith, room))
+    (omega (arith, room)) (omega arith) (omega (arith, b.memory.depth)))
 stores_leave w (WriteIoBit at bit set) head words d inst o core before s size fits b fail = record {
   above = λ a h k. bit_kept w s at bit a set fits.0.1 (omega (arith, h, low_room head inst o d core before b, b.fits.low));
   cells = λ a r h k. bit_kept w s at bit a set fits.0.1 (b.fits.cells_ram a r h).0;
@@ -141,10 +173,17 @@ stores_leave w (Jump target true) head words d inst o core before s size fits b 
     let few : depth_of inst + 2 ≤ depth_limit head inst.kind = grind (arith, nat_tests) in
     let room = room_left head inst.kind d core.sp (depth_of inst) 2 b.fits b.few b.memory.depth few in
     let next : (core.sp + 65535) % 65536 ≡ core.sp - 1 = omega (arith, b.fits.low, room, b.is_core.sp) in
-    let first = push_leaves w head inst.kind (core.sp + depth_of inst) core.sp (following_pc words core % 256) s b.fits size (omega (arith, room)) (omega (arith, room)) (omega arith) (omega (arith, b.memory.depth)) in
-    two_leaves w head inst.kind (core.sp + depth_of inst) core.sp (following_pc words core % 256) ((core.sp + 65535) % 65536) (following_pc words core / 256) s first
-    (λ t q. push_leaves w head inst.kind (core.sp + depth_of inst) ((core.sp + 65535) % 65536) (following_pc words core / 256) t b.fits (ap length q ∙ (size_stored w s core.sp (following_pc words core % 256) ∙ size)) (omega (arith, room)) (omega (arith, next, room)) (omega (arith, next)) (omega (arith, next, b.memory.depth)))
-    (push_leaves w head inst.kind (core.sp + depth_of inst) ((core.sp + 65535) % 65536) (following_pc words core / 256) s b.fits size (omega (arith, room)) (omega (arith, next, room)) (omega (arith, next)) (omega (arith, next, b.memory.depth)))
-stores_leave w (Jump target false) head words d inst o core before s size fits b fail = leaves_itself head inst.kind (core.sp + depth_of inst) s.bytes
-stores_leave w NoOperation head words d inst o core before s size fits b fail = leaves_itself head inst.kind (core.sp + depth_of inst) s.bytes
+    let first = push_leaves w head inst.kind (core.sp + depth_of inst) core.sp (following_pc words core % 256) s b.fits size
+    (omega (arith, room)) (omega (arith, room)) (omega arith) (omega (arith, b.memory.depth)) in
+    two_leaves w head inst.kind (core.sp + depth_of inst) core.sp (following_pc words core % 256) ((core.sp + 65535) % 65536)
+    (following_pc words core / 256) s first
+    (λ t q. push_leaves w head inst.kind (core.sp + depth_of inst) ((core.sp + 65535) % 65536) (following_pc words core / 256) t b.fits
+    (ap length q ∙ (size_stored w s core.sp (following_pc words core % 256) ∙ size)) (omega (arith, room)) (omega (arith, next, room))
+    (omega (arith, next)) (omega (arith, next, b.memory.depth)))
+    (push_leaves w head inst.kind (core.sp + depth_of inst) ((core.sp + 65535) % 65536) (following_pc words core / 256) s b.fits size
+    (omega (arith, room)) (omega (arith, next, room)) (omega (arith, next)) (omega (arith, next, b.memory.depth)))
+stores_leave w (Jump target false) head words d inst o core before s size fits b fail = leaves_itself head inst.kind
+    (core.sp + depth_of inst) s.bytes
+stores_leave w NoOperation head words d inst o core before s size fits b fail = leaves_itself head inst.kind (core.sp + depth_of inst)
+    s.bytes
 stores_leave w e head words d inst o core before s size fits b fail = leaves_itself head inst.kind (core.sp + depth_of inst) s.bytes

@@ -19,4 +19,6 @@ pub mod Below
 pub mod LocalLaws
 pub mod LimitsHold
 pub mod AfterLaws
-pub mod Elsewhere
+pub mod FactPlaces
+pub mod AtCounts
+pub mod CountKeys

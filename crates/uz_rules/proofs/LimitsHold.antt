@@ -1,5 +1,6 @@
 -- What a certificate's limits and orders give of its header and of each instance.
-use Rattle.std.proofs.Common.{inl, inr, ◌≡◌, ◌⊎◌, ℕ, zero, suc, ◌+◌, ◌-◌, ◌<◌, ◌≤◌, Bool, true, false, not, List, [], ◌∷◌, All, length, map, filter, Option, Some, None, nat_le, nat_lt, nat_eq, refl, sym, ◌∙◌, ap, subst, arith, if◌then◌else◌}
+use Rattle.std.proofs.Common.{inl, inr, ◌≡◌, ◌⊎◌, ℕ, zero, suc, ◌+◌, ◌-◌, ◌<◌, ◌≤◌, Bool, true, false, not, List, [], ◌∷◌, All, length, map}
+use Rattle.std.proofs.Common.{filter, Option, Some, None, nat_le, nat_lt, nat_eq, refl, sym, ◌∙◌, ap, subst, arith, if◌then◌else◌}
 use Rattle.std.specs.Prelude.{◌&&◌, ℤ, pos, negsuc, ◌+ℤ◌, ◌*ℤ◌, slice_get, slice_index_or, option_and_then}
 use Rattle.std.proofs.lemmas.Bool.Decides.{nat_tests}
 use Rattle.std.proofs.lemmas.Option.{slice_get_cases, option_and_then_some}
@@ -18,7 +19,8 @@ use Rattle.uz_schedule.specs.declared.states.Point.{Point}
 use Rattle.uz_schedule.specs.declared.certificate.Cert.{Cert}
 use Rattle.uz_schedule.specs.Schedule.{length_of, start_of, level_at}
 use Rattle.uz_schedule.specs.Tracked.{tracked, depth_of as kind_depth}
-use Rattle.uz_schedule.specs.Instances.{val_of, cell_span, is_in_box, clock_below, clock_at, instance_of, instance_at_clock, instance_in, instance_at}
+use Rattle.uz_schedule.specs.Instances.{val_of, cell_span, is_in_box, clock_below, clock_at, instance_of, instance_at_clock, instance_in}
+use Rattle.uz_schedule.specs.Instances.{instance_at}
 use Rattle.uz_schedule.specs.WellFormed.{WellFormed, HeadFits as HeaderFits, CellFits, BitFits, PointFits}
 use Rattle.uz_transfer.specs.Kinds.{is_main, depth_limit, range_from, cell_range}
 use Rattle.uz_transfer.specs.Memory.{all_flags, is_old, depth_of}
@@ -51,11 +53,13 @@ cell_at : (cells : List Cell) (at : ℕ) (e : Ends) → range_from cells at ≡ 
 cell_at [] at e h = absurd cc
 cell_at (c ∷ cells) at e h = by_case (nat_eq c.at at) refl h (λ f. cell_at cells at e f)
   where
-    by_case : (t : Bool) → nat_eq c.at at ≡ t → (if t then Some c.range else range_from cells at) ≡ Some e → (range_from cells at ≡ Some e → CellAt cells at) → CellAt (c ∷ cells) at
+    by_case : (t : Bool) → nat_eq c.at at ≡ t → (if t then Some c.range else range_from cells at) ≡ Some e
+        → (range_from cells at ≡ Some e → CellAt cells at) → CellAt (c ∷ cells) at
     by_case true q h more = record { place = 0; low = omega arith; is = λ d. grind (arith, nat_tests) }
     by_case false q h more = let m = more h in record { place = suc m.place; low = omega (arith, m.low); is = λ d. m.is d }
 
-cell_fits : (head : Head) (at : ℕ) (e : Ends) → HeaderFits head → cell_range head at ≡ Some e → (256 ≤ at) × (at ≤ 4351) × ((at < head.lo) ⊎ (head.hi < at))
+cell_fits : (head : Head) (at : ℕ) (e : Ends) → HeaderFits head → cell_range head at ≡ Some e → (256 ≤ at) × (at ≤ 4351)
+    × ((at < head.lo) ⊎ (head.hi < at))
 cell_fits head at e h q =
     let c = cell_at head.cells.items at e q in
     let d : Cell = record { at = 0; owner = MainOwner; range = e } in
@@ -84,7 +88,8 @@ depth_few head Main h = h.stack.main
 depth_few head Handler h = h.stack.handler
 depth_few head Alone h = h.stack.main
 
-old_is_handlers : (kind : Kind) (flags : List Bit) → length flags ≡ 7 → All (BitFits kind) flags → all_flags is_old flags ≡ true → is_main kind ≡ false
+old_is_handlers : (kind : Kind) (flags : List Bit) → length flags ≡ 7 → All (BitFits kind) flags → all_flags is_old flags ≡ true
+    → is_main kind ≡ false
 old_is_handlers Handler flags n h e = refl
 old_is_handlers Alone flags n h e = refl
 old_is_handlers Main [] n h e = absurd (omega (arith, n))
@@ -122,12 +127,14 @@ filter_few test (x ∷ xs) = by_case (test x) (filter_few test xs)
 tracked_few : (head : Head) (kind : Kind) → length (tracked head kind) ≤ length head.cells.items
 tracked_few head kind = filter_few _ head.cells.items
 
-point_limits : (cert : Cert) (p : Point) (l c clock level : ℕ) → WellFormed cert → PointFits cert.head (length cert.schedule.lines) (length cert.points) p → l ≤ p.l1 → clock < length_of cert.schedule l
+point_limits : (cert : Cert) (p : Point) (l c clock level : ℕ) → WellFormed cert → PointFits cert.head (length cert.schedule.lines)
+    (length cert.points) p → l ≤ p.l1 → clock < length_of cert.schedule l
     → InstanceLimits cert (instance_of p l c clock level)
 point_limits cert p l c clock level fits f low early =
     let slots : length (map (val_of l c) p.stack.items) ≡ length p.stack.items = length-map p.stack.items (val_of l c) in
     let cells : length (map (cell_span l c) p.cells.items) ≡ length p.cells.items = length-map p.cells.items (cell_span l c) in
-    let deep : length p.stack.items ≤ depth_limit cert.head p.kind = subst (λ n. length p.stack.items ≤ n) (sym (depth_same cert.head p.kind)) f.memory.slots in
+    let deep : length p.stack.items ≤ depth_limit cert.head p.kind = subst (λ n. length p.stack.items ≤ n)
+    (sym (depth_same cert.head p.kind)) f.memory.slots in
     record {
       pc = f.pc;
       line = omega (arith, low, f.box.line);
@@ -142,20 +149,24 @@ point_limits cert p l c clock level fits f low early =
       };
     }
 
-pub instance_limits : (cert : Cert) (id l c : ℕ) (inst : Instance) → WellFormed cert → instance_at cert id l c ≡ Some inst → InstanceLimits cert inst
+pub instance_limits : (cert : Cert) (id l c : ℕ) (inst : Instance) → WellFormed cert → instance_at cert id l c ≡ Some inst → InstanceLimits
+    cert inst
 instance_limits cert id l c inst fits e =
     option_and_then_some (λ p. instance_in cert.schedule p l c) (slice_get cert.points id) inst e (λ p got here.
     let f = element_holds (PointFits cert.head (length cert.schedule.lines) (length cert.points)) cert.points id p got fits.points.each in
     by_box p f (is_in_box p l c) refl here)
   where
     by_box : (p : Point) → PointFits cert.head (length cert.schedule.lines) (length cert.points) p → (t : Bool) → is_in_box p l c ≡ t
-        → (if t then option_and_then (instance_at_clock cert.schedule p l c) (clock_at cert.schedule p l c) else None) ≡ Some inst → InstanceLimits cert inst
+        → (if t then option_and_then (instance_at_clock cert.schedule p l c) (clock_at cert.schedule p l c) else None) ≡ Some inst
+        → InstanceLimits cert inst
     by_box p f false q e = absurd cc
     by_box p f true q e =
         option_and_then_some (instance_at_clock cert.schedule p l c) (clock_at cert.schedule p l c) inst e (λ clock at here.
-        option_and_then_some (λ level. Some (instance_of p l c clock level)) (level_at cert.schedule (start_of cert.schedule l + clock)) inst here (λ level is there.
+        option_and_then_some (λ level. Some (instance_of p l c clock level)) (level_at cert.schedule (start_of cert.schedule l + clock))
+        inst here (λ level is there.
         subst (InstanceLimits cert) (some_same (instance_of p l c clock level) inst there)
-        (point_limits cert p l c clock level fits f (line_low p l c q) (clock_low (length_of cert.schedule l) (pos p.clock +ℤ p.slope *ℤ pos c) clock at))))
+        (point_limits cert p l c clock level fits f (line_low p l c q)
+        (clock_low (length_of cert.schedule l) (pos p.clock +ℤ p.slope *ℤ pos c) clock at))))
 
 pub limits_give : LimitsGive
 limits_give cert fits = (head_fits cert.head fits.head, λ id l c inst e. instance_limits cert id l c inst fits e)

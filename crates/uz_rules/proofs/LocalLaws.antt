@@ -28,8 +28,8 @@ decoded_same first second (Some i) (Some j) h g = ap (λ x. Some x) (unique _ i 
 point_same : (p q : Point) → Some p ≡ Some q → p ≡ q
 point_same p q e = cc
 
-pub one_local : OneLocal
-one_local image cert id l c a b h g =
+pub local_is_unique : OneLocal
+local_is_unique image cert id l c a b h g =
     let same : h.point ≡ g.point = point_same h.point g.point (sym h.is_point ∙ g.is_point) in
     let reads : IsReadAt image g.point.pc h.row = subst (λ (p : Point). IsReadAt image p.pc h.row) same h.reads in
     let row : h.row ≡ g.row = decoded_same _ _ h.row g.row reads g.reads in
@@ -51,7 +51,8 @@ any_tells test k (suc n) e = by_case (test k) refl e (λ f. any_tells test (suc 
     by_case true h e more = record { number = k; holds = h }
     by_case false h e more = more e
 
-lies_tells : (cert : Cert) (id count : ℕ) (inst : Instance) (at : Option Instance) → instance_at cert id inst.line count ≡ at → lies_at at inst ≡ true → LiesIn cert id inst
+lies_tells : (cert : Cert) (id count : ℕ) (inst : Instance) (at : Option Instance) → instance_at cert id inst.line count ≡ at
+    → lies_at at inst ≡ true → LiesIn cert id inst
 lies_tells cert id count inst None is e = absurd cc
 lies_tells cert id count inst (Some b) is e = record { count = count; point_instance = b; is = is; inside = e }
 
@@ -66,6 +67,7 @@ lies_in_point_tells cert id inst e = by_case (slice_get cert.points id) e
 
 -- The answer under the row that is read, or none
 
-pub is_local : (image : FinMap nat_cmp ℕ) (cert : Cert) (id l c : ℕ) (p : Point) (row : Option Instr) (why : Option Fail) → slice_get cert.points id ≡ Some p
+pub is_local : (image : FinMap nat_cmp ℕ) (cert : Cert) (id l c : ℕ) (p : Point) (row : Option Instr) (why : Option Fail)
+    → slice_get cert.points id ≡ Some p
     → IsReadAt image p.pc row → why ≡ local_fail image cert p.next.items row (instance_at cert id l c) → IsLocal image cert id l c why
 is_local image cert id l c p row why is reads e = record { point = p; is_point = is; row = row; reads = reads; is = e }

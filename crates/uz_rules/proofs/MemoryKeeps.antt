@@ -1,5 +1,6 @@
 -- What stores keep of a memory that meets an instance.
-use Rattle.std.proofs.Common.{◌≡◌, ◌≢◌, ◌⊎◌, inl, inr, ℕ, zero, suc, ◌+◌, ◌-◌, ◌<◌, ◌≤◌, Bool, true, false, if◌then◌else◌, nat_eq, nat_lt, Option, Some, None, List, [], ◌∷◌, ◌++◌, length, refl, sym, ◌∙◌, ap, subst, arith}
+use Rattle.std.proofs.Common.{◌≡◌, ◌≢◌, ◌⊎◌, inl, inr, ℕ, zero, suc, ◌+◌, ◌-◌, ◌<◌, ◌≤◌, Bool, true, false, if◌then◌else◌, nat_eq, nat_lt}
+use Rattle.std.proofs.Common.{Option, Some, None, List, [], ◌∷◌, ◌++◌, length, refl, sym, ◌∙◌, ap, subst, arith}
 use Rattle.std.specs.Prelude.{slice_index, slice_set, take, ◌||◌, ◌&&◌}
 use Rattle.std.proofs.lemmas.Bool.Decides.{eqb_tells, nat_tests}
 use Rattle.std.proofs.lemmas.List.{length-append}
@@ -28,7 +29,8 @@ pub record Wrote (at v : ℕ) (old new : List ℕ) : Type 0 where
 
 place_least : (kind : Kind) (cells : List Cell) (n at j : ℕ) → place_from kind cells n at ≡ Some j → n ≤ j
 place_least kind [] n at j e = absurd cc
-place_least kind (c ∷ cells) n at j e = least_by kind cells n at j (nat_eq c.at at) (tracks kind c.owner) (λ m. place_least kind cells m at j) e
+place_least kind (c ∷ cells) n at j e = least_by kind cells n at j (nat_eq c.at at) (tracks kind c.owner)
+    (λ m. place_least kind cells m at j) e
   where
     least_by : (kind : Kind) (cells : List Cell) (n at j : ℕ) (t k : Bool) → ((m : ℕ) → place_from kind cells m at ≡ Some j → m ≤ j)
         → (if t then (if k then Some n else None) else place_from kind cells (if k then suc n else n) at) ≡ Some j → n ≤ j
@@ -38,14 +40,18 @@ place_least kind (c ∷ cells) n at j e = least_by kind cells n at j (nat_eq c.a
     least_by kind cells n at j false false later e = later n e
 
 -- no two addresses have one place
-place_one : (kind : Kind) (cells : List Cell) (n a b j : ℕ) → place_from kind cells n a ≡ Some j → place_from kind cells n b ≡ Some j → a ≡ b
+place_one : (kind : Kind) (cells : List Cell) (n a b j : ℕ) → place_from kind cells n a ≡ Some j → place_from kind cells n b ≡ Some j
+    → a ≡ b
 place_one kind [] n a b j e f = absurd cc
-place_one kind (c ∷ cells) n a b j e f = one_by (nat_eq c.at a) (nat_eq c.at b) (tracks kind c.owner) refl refl (λ m. place_one kind cells m a b j) e f
+place_one kind (c ∷ cells) n a b j e f = one_by (nat_eq c.at a) (nat_eq c.at b) (tracks kind c.owner) refl refl
+    (λ m. place_one kind cells m a b j) e f
   where
-    one_by : (t u k : Bool) → nat_eq c.at a ≡ t → nat_eq c.at b ≡ u → ((m : ℕ) → place_from kind cells m a ≡ Some j → place_from kind cells m b ≡ Some j → a ≡ b)
+    one_by : (t u k : Bool) → nat_eq c.at a ≡ t → nat_eq c.at b ≡ u → ((m : ℕ) → place_from kind cells m a ≡ Some j → place_from kind cells
+        m b ≡ Some j → a ≡ b)
         → (if t then (if k then Some n else None) else place_from kind cells (if k then suc n else n) a) ≡ Some j
         → (if u then (if k then Some n else None) else place_from kind cells (if k then suc n else n) b) ≡ Some j → a ≡ b
-    one_by true true k p q later e f = let i : c.at ≡ a = grind (arith, nat_tests) in let j : c.at ≡ b = grind (arith, nat_tests) in sym i ∙ j
+    one_by true true k p q later e f = let i : c.at ≡ a = grind (arith, nat_tests) in let j : c.at ≡ b = grind (arith, nat_tests) in
+        sym i ∙ j
     one_by true false true p q later e f = let i : n ≡ j = cc in absurd (omega (arith, place_least kind cells (suc n) b j f))
     one_by true false false p q later e f = absurd cc
     one_by false true true p q later e f = let i : n ≡ j = cc in absurd (omega (arith, place_least kind cells (suc n) a j e))
@@ -62,7 +68,8 @@ place_has_range kind [] n at j e = absurd cc
 place_has_range kind (c ∷ cells) n at j e = range_by (nat_eq c.at at) refl (λ m. place_has_range kind cells m at j) e
   where
     range_by : (t : Bool) → nat_eq c.at at ≡ t → ((m : ℕ) → place_from kind cells m at ≡ Some j → HasRange cells at)
-        → (if t then (if tracks kind c.owner then Some n else None) else place_from kind cells (if tracks kind c.owner then suc n else n) at) ≡ Some j → HasRange (c ∷ cells) at
+        → (if t then (if tracks kind c.owner then Some n else None) else place_from kind cells (if tracks kind c.owner then suc n else n)
+        at) ≡ Some j → HasRange (c ∷ cells) at
     range_by true p later e = record { range = c.range; is = rw p refl }
     range_by false p later e = let r = later _ e in record { range = r.range; is = rw p r.is }
 
@@ -76,7 +83,8 @@ no_and false e = cc
 
 pub missed : (cells : List Cell) (a r : Ends) (at : ℕ) → misses cells a ≡ true → range_from cells at ≡ Some r → (at < a.lo) ⊎ (a.hi < at)
 missed [] a r at e f = absurd cc
-missed (c ∷ cells) a r at e f = missed_by (nat_eq c.at at) (nat_lt c.at a.lo) (nat_lt a.hi c.at) (misses cells a) refl refl refl refl (missed cells a r at) e f
+missed (c ∷ cells) a r at e f = missed_by (nat_eq c.at at) (nat_lt c.at a.lo) (nat_lt a.hi c.at) (misses cells a) refl refl refl refl
+    (missed cells a r at) e f
   where
     missed_by : (t u v w : Bool) → nat_eq c.at at ≡ t → nat_lt c.at a.lo ≡ u → nat_lt a.hi c.at ≡ v → misses cells a ≡ w
         → (misses cells a ≡ true → range_from cells at ≡ Some r → (at < a.lo) ⊎ (a.hi < at))
@@ -92,12 +100,14 @@ abbrev pub spans_with : Option ℕ → Ends → List Ends → List Ends
 spans_with (Some j) e spans = slice_set spans j e
 spans_with None e spans = spans
 
-cells_stored : (head : Head) (kind : Kind) (spans : List Ends) (at v : ℕ) (e : Ends) (old new : List ℕ) → HeadFits head → Wrote at v old new → IsWithin v e → v < 256 → CellsHold head kind spans old
+cells_stored : (head : Head) (kind : Kind) (spans : List Ends) (at v : ℕ) (e : Ends) (old new : List ℕ) → HeadFits head → Wrote at v old new
+    → IsWithin v e → v < 256 → CellsHold head kind spans old
     → (place : Option ℕ) → cell_place head kind at ≡ place → CellsHold head kind (spans_with place e spans) new
 cells_stored head kind spans at v e old new fits wrote within byte h None is a j p =
     let r = tracked_has_range head kind a j p in
     let ram = fits.cells_ram a r.range r.is in
-    rw (wrote.other a ram.0 (λ q. let z : cell_place head kind at ≡ Some j = subst (λ b. cell_place head kind b ≡ Some j) q p in cc)) (h a j p)
+    rw (wrote.other a ram.0 (λ q. let z : cell_place head kind at ≡ Some j = subst (λ b. cell_place head kind b ≡ Some j) q p in cc))
+    (h a j p)
 cells_stored head kind spans at v e old new fits wrote within byte h (Some i) is a j p =
     let r = tracked_has_range head kind a j p in
     let ram = fits.cells_ram a r.range r.is in
@@ -106,9 +116,14 @@ cells_stored head kind spans at v e old new fits wrote within byte h (Some i) is
           let q : i ≡ j = (let z : cell_place head kind at ≡ Some j = subst (λ b. cell_place head kind b ≡ Some j) t.1 p in cc) in
           subst (λ b. IsWithin (slice_index new b) (span_at (slice_set spans i e) j)) (sym t.1)
           (rw (wrote.same (omega (arith, ram.0, t.1)) (omega (arith, ram.1, t.1)))
-          (subst (λ k. IsWithin v (span_at (slice_set spans i e) k)) q (or_same (λ x. IsWithin v x) spans i e (ends 0 255) within (record { above = omega arith; below = omega arith }))))
+          (subst (λ k. IsWithin v (span_at (slice_set spans i e) k)) q (or_same (λ x. IsWithin v x) spans i e (ends 0 255) within
+          (record { above = omega arith; below = omega arith }))))
       | inr t ↦
-          rw (wrote.other a ram.0 t.1, or_other spans i j e (ends 0 255) (λ q. t.1 (place_one kind head.cells.items 0 a at j p (subst (λ k. cell_place head kind at ≡ Some k) (sym q) is)))) (h a j p)
+          rw (
+            wrote.other a ram.0 t.1,
+            or_other spans i j e (ends 0 255)
+                (λ q. t.1 (place_one kind head.cells.items 0 a at j p (subst (λ k. cell_place head kind at ≡ Some k) (sym q) is))),
+          ) (h a j p)
     ]
 
 -- Slots
@@ -118,16 +133,19 @@ slot_high : (head : Head) (kind : Kind) (d sp n i : ℕ) → i < n → sp + n + 
 slot_high head kind d sp n i w e = (omega arith, omega arith)
 
 -- a store off the stack
-pub stored_meets : (head : Head) (inst : Instance) (o : Core) (d sp at v : ℕ) (e : Ends) (old new : List ℕ) → HeadFits head → MemoryMeets head inst o d sp old → head.lo ≤ suc sp → Wrote at v old new → v < 256
+pub stored_meets : (head : Head) (inst : Instance) (o : Core) (d sp at v : ℕ) (e : Ends) (old new : List ℕ) → HeadFits head
+    → MemoryMeets head inst o d sp old → head.lo ≤ suc sp → Wrote at v old new → v < 256
     → (at < head.lo) ⊎ (head.hi < at) → ((r : Ends) → cell_range head at ≡ Some r → IsWithin v r) → IsWithin v e
     → (place : Option ℕ) → cell_place head inst.kind at ≡ place → MemoryMeets head (with_cell place e inst) o d sp new
-stored_meets head inst o d sp at v e old new fits h low wrote byte off takes within place is = by_place place (cells_stored head inst.kind inst.cells.items at v e old new fits wrote within byte h.cells place is)
+stored_meets head inst o d sp at v e old new fits h low wrote byte off takes within place is =
+    by_place place (cells_stored head inst.kind inst.cells.items at v e old new fits wrote within byte h.cells place is)
   where
     slots : StackHolds inst.stack.items o sp new
     slots i w =
         let n : ℕ = length inst.stack.items in
         let a : ℕ = sp + n - i in
-        rw (wrote.other (sp + length inst.stack.items - i) (omega (arith, fits.low, low, w)) (λ q. elim off [ inl l ↦ omega (arith, l, low, q, w) | inr g ↦ omega (arith, g, q, h.depth) ])) (h.slots i w)
+        rw (wrote.other (sp + length inst.stack.items - i) (omega (arith, fits.low, low, w))
+        (λ q. elim off [ inl l ↦ omega (arith, l, low, q, w) | inr g ↦ omega (arith, g, q, h.depth) ])) (h.slots i w)
 
     ranges : HeaderHolds head new
     ranges a r p =
@@ -135,16 +153,19 @@ stored_meets head inst o d sp at v e old new fits h low wrote byte off takes wit
         elim (eqb_tells a at) [
           | inl t ↦
               subst (λ b. IsWithin (slice_index new b) r) (sym t.1)
-              (rw (wrote.same (omega (arith, ram.0, t.1)) (omega (arith, ram.1, t.1))) (takes r (subst (λ b. cell_range head b ≡ Some r) t.1 p)))
+              (rw (wrote.same (omega (arith, ram.0, t.1)) (omega (arith, ram.1, t.1)))
+              (takes r (subst (λ b. cell_range head b ≡ Some r) t.1 p)))
           | inr t ↦ rw (wrote.other a ram.0 t.1) (h.ranges a r p)
         ]
 
-    by_place : (place : Option ℕ) → CellsHold head inst.kind (spans_with place e inst.cells.items) new → MemoryMeets head (with_cell place e inst) o d sp new
+    by_place : (place : Option ℕ) → CellsHold head inst.kind (spans_with place e inst.cells.items) new → MemoryMeets head
+        (with_cell place e inst) o d sp new
     by_place (Some j) cells = record { slots = slots; cells = cells; ranges = ranges; depth = h.depth }
     by_place None cells = record { slots = slots; cells = cells; ranges = ranges; depth = h.depth }
 
 -- nothing in RAM changes
-pub kept_meets : (head : Head) (inst : Instance) (o : Core) (d sp : ℕ) (old new : List ℕ) → HeadFits head → MemoryMeets head inst o d sp old → head.lo ≤ suc sp
+pub kept_meets : (head : Head) (inst : Instance) (o : Core) (d sp : ℕ) (old new : List ℕ) → HeadFits head → MemoryMeets head inst o d sp old
+    → head.lo ≤ suc sp
     → ((a : ℕ) → 256 ≤ a → slice_index new a ≡ slice_index old a) → MemoryMeets head inst o d sp new
 kept_meets head inst o d sp old new fits h low same = record {
   slots = λ i w. rw (same (sp + length inst.stack.items - i) (omega (arith, fits.low, low, w))) (h.slots i w);
@@ -166,11 +187,13 @@ other_slot [] x i e = absurd (omega arith)
 other_slot (y ∷ xs) x zero e = refl
 other_slot (y ∷ xs) x (suc i) e = other_slot xs x i (omega arith)
 
-pub push_meets : (head : Head) (inst : Instance) (o : Core) (d sp below v : ℕ) (x : Val) (old new : List ℕ) → HeadFits head → MemoryMeets head inst o d sp old → head.lo ≤ sp → sp ≡ suc below → Wrote sp v old new → ValueHolds x o v
+pub push_meets : (head : Head) (inst : Instance) (o : Core) (d sp below v : ℕ) (x : Val) (old new : List ℕ) → HeadFits head
+    → MemoryMeets head inst o d sp old → head.lo ≤ sp → sp ≡ suc below → Wrote sp v old new → ValueHolds x o v
     → MemoryMeets head (with_slots (inst.stack.items ++ x ∷ []) inst) o d below new
 push_meets head inst o d sp below v x old new fits h low is wrote hx = record {
   slots = λ i w.
-      let len : length (inst.stack.items ++ x ∷ []) ≡ suc (length inst.stack.items) = omega (arith, length-append inst.stack.items (x ∷ [])) in
+      let len : length (inst.stack.items ++ x ∷ []) ≡ suc (length inst.stack.items) =
+      omega (arith, length-append inst.stack.items (x ∷ [])) in
       elim (eqb_tells i (length inst.stack.items)) [
         | inl t ↦
             let at : below + length (inst.stack.items ++ x ∷ []) - i ≡ sp = omega (arith, len, t.1, is) in
@@ -178,13 +201,21 @@ push_meets head inst o d sp below v x old new fits h low is wrote hx = record {
         | inr t ↦
             let w' : i < length inst.stack.items = omega (arith, t.1, w, len) in
             let at : below + length (inst.stack.items ++ x ∷ []) - i ≡ sp + length inst.stack.items - i = omega (arith, len, is, w') in
-            rw (other_slot inst.stack.items x i w', at, wrote.other (sp + length inst.stack.items - i) (omega (arith, fits.low, low, w')) (λ q. omega (arith, q, w'))) (h.slots i w')
+            rw (
+              other_slot inst.stack.items x i w',
+              at,
+              wrote.other (sp + length inst.stack.items - i) (omega (arith, fits.low, low, w'))
+                  (λ q. omega (arith, q, w')),
+            ) (h.slots i w')
       ];
   cells = λ a j p.
       let r = tracked_has_range head inst.kind a j p in
-      rw (wrote.other a (fits.cells_ram a r.range r.is).0 (λ q. elim (fits.cells_off a r.range r.is) [ inl l ↦ omega (arith, l, low, q) | inr g ↦ omega (arith, g, q, h.depth) ])) (h.cells a j p);
+      rw (wrote.other a (fits.cells_ram a r.range r.is).0
+      (λ q. elim (fits.cells_off a r.range r.is) [ inl l ↦ omega (arith, l, low, q) | inr g ↦ omega (arith, g, q, h.depth) ]))
+      (h.cells a j p);
   ranges = λ a r p.
-      rw (wrote.other a (fits.cells_ram a r p).0 (λ q. elim (fits.cells_off a r p) [ inl l ↦ omega (arith, l, low, q) | inr g ↦ omega (arith, g, q, h.depth) ])) (h.ranges a r p);
+      rw (wrote.other a (fits.cells_ram a r p).0
+      (λ q. elim (fits.cells_off a r p) [ inl l ↦ omega (arith, l, low, q) | inr g ↦ omega (arith, g, q, h.depth) ])) (h.ranges a r p);
   depth = omega (arith, h.depth, is, length-append inst.stack.items (x ∷ []));
 }
 
@@ -200,15 +231,18 @@ taken [] (suc n) h = absurd (omega arith)
 taken (y ∷ xs) (suc n) h = ap suc (taken xs n (omega arith))
 
 -- n slots are popped
-pub pop_meets : (head : Head) (inst : Instance) (o : Core) (d sp above n : ℕ) (bytes : List ℕ) → MemoryMeets head inst o d sp bytes → n ≤ length inst.stack.items → above ≡ sp + n
+pub pop_meets : (head : Head) (inst : Instance) (o : Core) (d sp above n : ℕ) (bytes : List ℕ) → MemoryMeets head inst o d sp bytes
+    → n ≤ length inst.stack.items → above ≡ sp + n
     → MemoryMeets head (with_slots (take (length inst.stack.items - n) inst.stack.items) inst) o d above bytes
 pop_meets head inst o d sp above n bytes h few is =
     let m : ℕ = length inst.stack.items - n in
-    let len : length (take (length inst.stack.items - n) inst.stack.items) ≡ length inst.stack.items - n = taken inst.stack.items (length inst.stack.items - n) (omega arith) in
+    let len : length (take (length inst.stack.items - n) inst.stack.items) ≡ length inst.stack.items - n = taken inst.stack.items
+    (length inst.stack.items - n) (omega arith) in
     record {
       slots = λ i w.
           let w' : i < length inst.stack.items = omega (arith, w, len) in
-          let at : above + length (take (length inst.stack.items - n) inst.stack.items) - i ≡ sp + length inst.stack.items - i = omega (arith, len, is, few, w) in
+          let at : above + length (take (length inst.stack.items - n) inst.stack.items) - i ≡ sp + length inst.stack.items - i =
+          omega (arith, len, is, few, w) in
           rw (kept_slot inst.stack.items (length inst.stack.items - n) i w, at) (h.slots i w');
       cells = h.cells;
       ranges = h.ranges;

@@ -55,7 +55,8 @@ some_stand image flash first second = (
       enabled = refl;
       core = record {
         regs = λ r h. rw (whole_vals 32 r, zeros 32 r) (record { above = omega arith; below = omega arith });
-        pairs = λ k h. rw (whole_pairs k, zeros 32 (26 + 2 * k), zeros 32 (26 + 2 * k + 1)) (record { above = omega arith; below = omega arith });
+        pairs = λ k h. rw (whole_pairs k, zeros 32 (26 + 2 * k), zeros 32 (26 + 2 * k + 1))
+            (record { above = omega arith; below = omega arith });
         flags = λ k h. rw (seven_at (λ k. Free) Free k h) tt;
       };
       memory = record {
@@ -71,7 +72,10 @@ some_stand image flash first second = (
     };
     step_is = record {
       row = Some Nop;
-      reads = record { found = subst (λ n. Reads n (word_of image 1) Nop) (sym first) (subst (λ n. Reads 0 n Nop) (sym second) reads_nop); none = tt };
+      reads = record {
+        found = subst (λ n. Reads n (word_of image 1) Nop) (sym first) (subst (λ n. Reads 0 n Nop) (sym second) reads_nop);
+        none = tt;
+      };
       is = refl;
     };
     no_return = refl;

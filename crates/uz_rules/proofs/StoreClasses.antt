@@ -1,5 +1,7 @@
 -- The classes of effect that store: ST and OUT, PUSH, the pushes of a call, SBI and CBI.
-use Rattle.std.proofs.Common.{◌≡◌, ◌≢◌, ◌⊎◌, inl, inr, ℕ, suc, ◌+◌, ◌-◌, ◌/◌, ◌%◌, ◌<◌, ◌≤◌, Bool, true, false, not, if◌then◌else◌, nat_eq, nat_lt, nat_le, Option, Some, None, List, [], ◌∷◌, ◌++◌, fold, filter, length, refl, sym, ◌∙◌, ap, subst, append_assoc, arith}
+use Rattle.std.proofs.Common.{◌≡◌, ◌≢◌, ◌⊎◌, inl, inr, ℕ, suc, ◌+◌, ◌-◌, ◌/◌, ◌%◌, ◌<◌, ◌≤◌, Bool, true, false, not, if◌then◌else◌, nat_eq}
+use Rattle.std.proofs.Common.{nat_lt, nat_le, Option, Some, None, List, [], ◌∷◌, ◌++◌, fold, filter, length, refl, sym, ◌∙◌, ap, subst}
+use Rattle.std.proofs.Common.{append_assoc, arith}
 use Rattle.std.specs.Prelude.{◌&&◌, ◌||◌}
 use Rattle.std.specs.List.{AllByRecursion}
 use Rattle.std.proofs.lemmas.Bool.Decides.{eqb_tells, nat_tests}
@@ -50,17 +52,20 @@ use Rattle.uz_rules.proofs.LoadClasses.{ram_not_core}
 -- A list of stores
 
 -- no store
-pub none_shows : {P : Type 0} (w : PadWiring P) (s : Space P) → Shows (all_edge_kinds w [] s) (sync_level s) (sync_level (after_stores w [] s)) None
+pub none_shows : {P : Type 0} (w : PadWiring P) (s : Space P) → Shows (all_edge_kinds w [] s) (sync_level s)
+    (sync_level (after_stores w [] s)) None
 none_shows w s = record { events = refl; level = refl; calm = tt }
 
-one_shows : (kinds : List EdgeKind) (old new : ℕ) (emitted : Option EventKind) → Shows kinds old new emitted → Shows (kinds ++ []) old new emitted
+one_shows : (kinds : List EdgeKind) (old new : ℕ) (emitted : Option EventKind) → Shows kinds old new emitted → Shows (kinds ++ []) old new
+    emitted
 one_shows kinds old new emitted h = rw (append-nil kinds) h
 
 calm_append : (a b : List EdgeKind) → AllByRecursion IsNoEntry a → AllByRecursion IsNoEntry b → AllByRecursion IsNoEntry (a ++ b)
 calm_append [] b p q = q
 calm_append (k ∷ a) b p q = (p.0, calm_append a b p.1 q)
 
-then_shows : (a b : List EdgeKind) (x y z : ℕ) (emitted : Option EventKind) → Shows a x y None → Shows b y z emitted → Shows (a ++ b) x z emitted
+then_shows : (a b : List EdgeKind) (x y z : ℕ) (emitted : Option EventKind) → Shows a x y None → Shows b y z emitted → Shows (a ++ b) x z
+    emitted
 then_shows a b x y z emitted p q = record {
   events = filter_map-append event_of a b ∙ rw p.events q.events;
   level = q.level ∙ ap (level_after emitted) p.level;
@@ -76,13 +81,16 @@ ram_event level at v h =
     let e : nat_eq at 0xB3 ≡ false = grind (arith, nat_tests) in
     rw (a, b, c, d, e) refl
 
-ram_shows : {P : Type 0} (w : PadWiring P) (s : Space P) (at v : ℕ) → length s.bytes ≡ 4352 → 256 ≤ at → v < 256 → Shows (edge_kinds (Byte at v) s (after_byte w at v s)) (sync_level s) (sync_level (after_byte w at v s)) None
-ram_shows w s at v size low b = byte_shows w s at v (sync_level s) (Range (ends 0 255)) None size refl (record { above = omega arith; below = omega arith }) (ram_event (sync_level s) at (Range (ends 0 255)) low)
+ram_shows : {P : Type 0} (w : PadWiring P) (s : Space P) (at v : ℕ) → length s.bytes ≡ 4352 → 256 ≤ at → v < 256
+    → Shows (edge_kinds (Byte at v) s (after_byte w at v s)) (sync_level s) (sync_level (after_byte w at v s)) None
+ram_shows w s at v size low b = byte_shows w s at v (sync_level s) (Range (ends 0 255)) None size refl
+    (record { above = omega arith; below = omega arith }) (ram_event (sync_level s) at (Range (ends 0 255)) low)
 
 -- Room on the stack
 
 -- where the kind may push n more bytes, so many addresses are free
-pub room_left : (head : Head) (kind : Kind) (d sp depth n : ℕ) → HeadFits head → d ≤ head.main → sp + depth + depth_below kind d ≡ head.hi → depth + n ≤ depth_limit head kind → head.lo + n ≤ suc sp
+pub room_left : (head : Head) (kind : Kind) (d sp depth n : ℕ) → HeadFits head → d ≤ head.main → sp + depth + depth_below kind d ≡ head.hi
+    → depth + n ≤ depth_limit head kind → head.lo + n ≤ suc sp
 room_left head Main d sp depth n fits h e few = omega (arith, fits.room)
 room_left head Handler d sp depth n fits h e few = omega (arith, fits.room)
 room_left head Alone d sp depth n fits h e few = omega (arith, fits.room)
@@ -96,34 +104,49 @@ pub push_calls : (sp v : ℕ) → 256 ≤ sp → filter leaves_core (Byte sp v �
 push_calls sp v h = rw (ram_not_core sp h) refl
 
 -- what stores lead to, of memory and events
-pub record Leads {P : Type 0} (w : PadWiring P) (head : Head) (r : Instance) (o : Core) (d sp : ℕ) (calls : List HeldStore) (s : Space P) (emitted : Option EventKind) : Type 0 where
+pub record Leads {P : Type 0} (w : PadWiring P) (head : Head) (r : Instance) (o : Core) (d sp : ℕ) (calls : List HeldStore) (s : Space P)
+    (emitted : Option EventKind) : Type 0 where
   pub memory : MemoryMeets head r o d sp (after_stores w calls s).bytes
   pub shows : Shows (all_edge_kinds w calls s) (sync_level s) (sync_level (after_stores w calls s)) emitted
 
-pub push_leads : {P : Type 0} (w : PadWiring P) (head : Head) (inst : Instance) (o : Core) (d sp v : ℕ) (x : Val) (s : Space P) → HeadFits head → length s.bytes ≡ 4352 → MemoryMeets head inst o d sp s.bytes → head.lo ≤ sp → v < 256 → ValueHolds x o v
+pub push_leads : {P : Type 0} (w : PadWiring P) (head : Head) (inst : Instance) (o : Core) (d sp v : ℕ) (x : Val) (s : Space P)
+    → HeadFits head → length s.bytes ≡ 4352 → MemoryMeets head inst o d sp s.bytes → head.lo ≤ sp → v < 256 → ValueHolds x o v
     → Leads w head (with_slots (inst.stack.items ++ x ∷ []) inst) o d (sp - 1) (Byte sp v ∷ []) s None
 push_leads w head inst o d sp v x s fits size m low b hx = record {
-  memory = push_meets head inst o d sp (sp - 1) v x s.bytes (after_byte w sp v s).bytes fits m low (omega (arith, fits.low)) (byte_wrote w s sp v size) hx;
+  memory = push_meets head inst o d sp (sp - 1) v x s.bytes (after_byte w sp v s).bytes fits m low (omega (arith, fits.low))
+      (byte_wrote w s sp v size) hx;
   shows = one_shows _ _ _ None (ram_shows w s sp v size (omega (arith, fits.low)) b);
 }
 
 -- a call
-pub call_leads : {P : Type 0} (w : PadWiring P) (head : Head) (inst : Instance) (o : Core) (d sp pc : ℕ) (s : Space P) → HeadFits head → length s.bytes ≡ 4352 → length (after_byte w sp (pc % 256) s).bytes ≡ 4352 → MemoryMeets head inst o d sp s.bytes → head.lo + 1 ≤ sp → pc < 65536
-    → Leads w head (with_slots (inst.stack.items ++ pc_values pc) inst) o d (sp - 2) (Byte sp (pc % 256) ∷ Byte (sp - 1) (pc / 256) ∷ []) s None
+pub call_leads : {P : Type 0} (w : PadWiring P) (head : Head) (inst : Instance) (o : Core) (d sp pc : ℕ) (s : Space P) → HeadFits head
+    → length s.bytes ≡ 4352 → length (after_byte w sp (pc % 256) s).bytes ≡ 4352 → MemoryMeets head inst o d sp s.bytes → head.lo + 1 ≤ sp
+    → pc < 65536
+    → Leads w head (with_slots (inst.stack.items ++ pc_values pc) inst) o d (sp - 2) (Byte sp (pc % 256) ∷ Byte (sp - 1) (pc / 256) ∷ []) s
+    None
 call_leads w head inst o d sp pc s fits size again m low b =
-    let one = push_leads w head inst o d sp (pc % 256) (known_byte (pc % 256)) s fits size m (omega arith) (omega arith) (record { above = omega arith; below = omega arith }) in
-    let two = push_leads w head (with_slots (inst.stack.items ++ known_byte (pc % 256) ∷ []) inst) o d (sp - 1) (pc / 256) (known_byte (pc / 256)) (after_byte w sp (pc % 256) s) fits again one.memory (omega arith) (omega arith) (record { above = omega arith; below = omega arith }) in
+    let one = push_leads w head inst o d sp (pc % 256) (known_byte (pc % 256)) s fits size m (omega arith) (omega arith)
+    (record { above = omega arith; below = omega arith }) in
+    let two = push_leads w head (with_slots (inst.stack.items ++ known_byte (pc % 256) ∷ []) inst) o d (sp - 1) (pc / 256)
+    (known_byte (pc / 256)) (after_byte w sp (pc % 256) s) fits again one.memory (omega arith) (omega arith)
+    (record { above = omega arith; below = omega arith }) in
     let below : sp - 1 - 1 ≡ sp - 2 = omega arith in
-    let slots : (inst.stack.items ++ known_byte (pc % 256) ∷ []) ++ known_byte (pc / 256) ∷ [] ≡ inst.stack.items ++ pc_values pc = rw append_assoc refl in
+    let slots : (inst.stack.items ++ known_byte (pc % 256) ∷ []) ++ known_byte (pc / 256) ∷ [] ≡ inst.stack.items ++ pc_values pc =
+    rw append_assoc refl in
     record {
-      memory = subst (λ xs. MemoryMeets head (with_slots xs inst) o d (sp - 2) (after_stores w (Byte sp (pc % 256) ∷ Byte (sp - 1) (pc / 256) ∷ []) s).bytes) slots
-          (subst (λ n. MemoryMeets head (with_slots ((inst.stack.items ++ known_byte (pc % 256) ∷ []) ++ known_byte (pc / 256) ∷ []) inst) o d n (after_stores w (Byte sp (pc % 256) ∷ Byte (sp - 1) (pc / 256) ∷ []) s).bytes) below two.memory);
-      shows = then_shows _ _ (sync_level s) (sync_level (after_byte w sp (pc % 256) s)) _ None (ram_shows w s sp (pc % 256) size (omega (arith, fits.low)) (omega arith)) two.shows;
+      memory = subst (λ xs. MemoryMeets head (with_slots xs inst) o d (sp - 2)
+          (after_stores w (Byte sp (pc % 256) ∷ Byte (sp - 1) (pc / 256) ∷ []) s).bytes) slots
+          (subst (λ n. MemoryMeets head (with_slots ((inst.stack.items ++ known_byte (pc % 256) ∷ []) ++ known_byte (pc / 256) ∷ []) inst) o
+          d n (after_stores w (Byte sp (pc % 256) ∷ Byte (sp - 1) (pc / 256) ∷ []) s).bytes) below two.memory);
+      shows = then_shows _ _ (sync_level s) (sync_level (after_byte w sp (pc % 256) s)) _ None
+          (ram_shows w s sp (pc % 256) size (omega (arith, fits.low)) (omega arith)) two.shows;
     }
 
 -- SBI and CBI
 
-pub bit_leads : {P : Type 0} (w : PadWiring P) (head : Head) (inst : Instance) (o : Core) (d sp at b : ℕ) (set : Bool) (s : Space P) (emitted : Option EventKind) → HeadFits head → length s.bytes ≡ 4352 → MemoryMeets head inst o d sp s.bytes → head.lo ≤ suc sp → at < 64 → b < 8
+pub bit_leads : {P : Type 0} (w : PadWiring P) (head : Head) (inst : Instance) (o : Core) (d sp at b : ℕ) (set : Bool) (s : Space P)
+    (emitted : Option EventKind) → HeadFits head → length s.bytes ≡ 4352 → MemoryMeets head inst o d sp s.bytes → head.lo ≤ suc sp → at < 64
+    → b < 8
     → bit_event (sync_level s) b set at ≡ Some emitted → Leads w head inst o d sp (BitCall at b set ∷ []) s emitted
 bit_leads w head inst o d sp at b set s emitted fits size m low ha hb e = record {
   memory = kept_meets head inst o d sp s.bytes (after_store w (BitCall at b set) s).bytes fits m low (λ a h. bit_kept w s at b a set ha h);
@@ -140,7 +163,8 @@ pub record MayStore (head : Head) (inst : Instance) (level : ℕ) (a : Ends) (v 
   pub emits : (if is_single a then byte_event level v a.lo else Some None) ≡ Some emitted
 
 -- the core and what is held for the data space, after a store at an address
-pub record Stored {P : Type 0} (w : PadWiring P) (head : Head) (inst r : Instance) (o : Core) (d at v : ℕ) (core : Core) (s : Space P) (emitted : Option EventKind) : Type 0 where
+pub record Stored {P : Type 0} (w : PadWiring P) (head : Head) (inst r : Instance) (o : Core) (d at v : ℕ) (core : Core) (s : Space P)
+    (emitted : Option EventKind) : Type 0 where
   pub meets : CoreMeets r o (fold with_store core (Byte at v ∷ []))
   pub enabled : bit_is_set (fold with_store core (Byte at v ∷ [])).sreg 7 ≡ is_main inst.kind
   pub is_core : IsCore (fold with_store core (Byte at v ∷ []))
@@ -155,7 +179,8 @@ either : (a b : Bool) → (a || b) ≡ true → (a ≡ true) ⊎ (b ≡ true)
 either true b e = inl refl
 either false b e = inr e
 
-cell_core : (place : Option ℕ) (e : Ends) (inst : Instance) (o core : Core) → CoreMeets inst o core → CoreMeets (with_cell place e inst) o core
+cell_core : (place : Option ℕ) (e : Ends) (inst : Instance) (o core : Core) → CoreMeets inst o core → CoreMeets (with_cell place e inst) o
+    core
 cell_core (Some j) e inst o core h = record { regs = h.regs; pairs = h.pairs; flags = h.flags }
 cell_core None e inst o core h = h
 
@@ -181,8 +206,10 @@ stored_top OldFlags o x false h q =
     rw y refl
 
 -- to SREG
-sreg_stored : {P : Type 0} (w : PadWiring P) (head : Head) (inst : Instance) (o : Core) (d v : ℕ) (val : Val) (core : Core) (s : Space P) → HeadFits head → IsCore core → CoreMeets inst o core → MemoryMeets head inst o d core.sp s.bytes
-    → v < 256 → ValueHolds val o v → mask_fails inst.kind 0x5F val ≡ false → Stored w head inst (with_flag_list (flags_from val) inst) o d 0x5F v core s None
+sreg_stored : {P : Type 0} (w : PadWiring P) (head : Head) (inst : Instance) (o : Core) (d v : ℕ) (val : Val) (core : Core) (s : Space P)
+    → HeadFits head → IsCore core → CoreMeets inst o core → MemoryMeets head inst o d core.sp s.bytes
+    → v < 256 → ValueHolds val o v → mask_fails inst.kind 0x5F val ≡ false → Stored w head inst (with_flag_list (flags_from val) inst) o d
+    0x5F v core s None
 sreg_stored w head inst o d v val core s fits c h m b hv mask = record {
   meets = record { regs = h.regs; pairs = h.pairs; flags = stored_flags val o v hv };
   enabled = stored_top val o v (is_main inst.kind) hv (not_false _ mask);
@@ -196,10 +223,14 @@ sreg_stored w head inst o d v val core s fits c h m b hv mask = record {
     not_false false e = absurd cc
 
 -- to the data space, off the stack
-space_stored : {P : Type 0} (w : PadWiring P) (head : Head) (inst : Instance) (o : Core) (d at v : ℕ) (e : Ends) (core : Core) (s : Space P) (emitted : Option EventKind) (place : Option ℕ) → HeadFits head → length s.bytes ≡ 4352 → IsCore core → CoreMeets inst o core
-    → bit_is_set core.sreg 7 ≡ is_main inst.kind → MemoryMeets head inst o d core.sp s.bytes → head.lo ≤ suc core.sp → is_core_address at ≡ false → v < 256
-    → (at < head.lo) ⊎ (head.hi < at) → ((r : Ends) → cell_range head at ≡ Some r → IsWithin v r) → IsWithin v e → cell_place head inst.kind at ≡ place
-    → Shows (edge_kinds (Byte at v) s (after_byte w at v s)) (sync_level s) (sync_level (after_byte w at v s)) emitted → Stored w head inst (with_cell place e inst) o d at v core s emitted
+space_stored : {P : Type 0} (w : PadWiring P) (head : Head) (inst : Instance) (o : Core) (d at v : ℕ) (e : Ends) (core : Core) (s : Space P)
+    (emitted : Option EventKind) (place : Option ℕ) → HeadFits head → length s.bytes ≡ 4352 → IsCore core → CoreMeets inst o core
+    → bit_is_set core.sreg 7 ≡ is_main inst.kind → MemoryMeets head inst o d core.sp s.bytes → head.lo ≤ suc core.sp → is_core_address
+    at ≡ false → v < 256
+    → (at < head.lo) ⊎ (head.hi < at) → ((r : Ends) → cell_range head at ≡ Some r → IsWithin v r) → IsWithin v e → cell_place head inst.kind
+    at ≡ place
+    → Shows (edge_kinds (Byte at v) s (after_byte w at v s)) (sync_level s) (sync_level (after_byte w at v s)) emitted → Stored w head inst
+    (with_cell place e inst) o d at v core s emitted
 space_stored {P} w head inst o d at v e core s emitted place fits size c h enabled m low outside b off takes within is shows =
     let same : fold with_store core (Byte at v ∷ []) ≡ core = rw outside refl in
     let calls : filter leaves_core (Byte at v ∷ []) ≡ (Byte at v ∷ []) = rw outside refl in
@@ -209,7 +240,8 @@ space_stored {P} w head inst o d at v e core s emitted place fits size c h enabl
       is_core = rw same c;
       sp = ap (λ k. k.sp) same;
       leads = rw calls (record {
-        memory = stored_meets head inst o d core.sp at v e s.bytes (after_byte w at v s).bytes fits m low (byte_wrote w s at v size) b off takes within place is;
+        memory = stored_meets head inst o d core.sp at v e s.bytes (after_byte w at v s).bytes fits m low (byte_wrote w s at v size) b off
+            takes within place is;
         shows = one_shows _ _ _ emitted shows;
       });
     }
@@ -233,10 +265,12 @@ pub record Taken (head : Head) (kind : Kind) (at : ℕ) (v : Ends) : Type 0 wher
   pub low : range.lo ≤ v.lo
   pub high : v.hi ≤ range.hi
 
-pub cell_taken : (head : Head) (kind : Kind) (at : ℕ) (v : Ends) → cell_admits (cell_place head kind at) (cell_range head at) v ≡ true → Taken head kind at v
+pub cell_taken : (head : Head) (kind : Kind) (at : ℕ) (v : Ends) → cell_admits (cell_place head kind at) (cell_range head at) v ≡ true
+    → Taken head kind at v
 cell_taken head kind at v e = by_case (cell_place head kind at) (cell_range head at) refl refl e
   where
-    by_case : (place : Option ℕ) (range : Option Ends) → cell_place head kind at ≡ place → cell_range head at ≡ range → cell_admits place range v ≡ true → Taken head kind at v
+    by_case : (place : Option ℕ) (range : Option Ends) → cell_place head kind at ≡ place → cell_range head at ≡ range → cell_admits place
+        range v ≡ true → Taken head kind at v
     by_case (Some j) (Some r) q p e =
         let both = and_true (nat_le r.lo v.lo) (nat_le v.hi r.hi) e in
         let first = both.0 in
@@ -255,7 +289,8 @@ pub record FreeRam (head : Head) (a : Ends) : Type 0 where
   pub off : (a.hi < head.lo) ⊎ (head.hi < a.lo)
   pub none : misses head.cells.items a ≡ true
 
-pub free_by : (head : Head) (a : Ends) → ((nat_le 0x100 a.lo && nat_le a.hi 0x10FF) && ((nat_lt a.hi head.lo || nat_lt head.hi a.lo) && misses head.cells.items a)) ≡ true → FreeRam head a
+pub free_by : (head : Head) (a : Ends) → ((nat_le 0x100 a.lo && nat_le a.hi 0x10FF) && ((nat_lt a.hi head.lo || nat_lt head.hi a.lo)
+    && misses head.cells.items a)) ≡ true → FreeRam head a
 free_by head a e =
     let both = and_true (nat_le 0x100 a.lo && nat_le a.hi 0x10FF) _ e in
     let ram = and_true (nat_le 0x100 a.lo) (nat_le a.hi 0x10FF) both.0 in
@@ -263,36 +298,55 @@ free_by head a e =
     let first = ram.0 in
     record {
       low = grind (arith, nat_tests);
-      off = elim (either (nat_lt a.hi head.lo) (nat_lt head.hi a.lo) off.0) [ inl t ↦ inl (grind (arith, nat_tests)) | inr t ↦ inr (grind (arith, nat_tests)) ];
+      off = elim (either (nat_lt a.hi head.lo) (nat_lt head.hi a.lo) off.0) [
+        | inl t ↦ inl (grind (arith, nat_tests))
+        | inr t ↦ inr
+            (grind (arith, nat_tests))
+      ];
       none = off.1;
     }
 
-pub store_stored : {P : Type 0} (w : PadWiring P) (head : Head) (inst : Instance) (o : Core) (d at v : ℕ) (a : Ends) (val : Val) (core : Core) (s : Space P) (emitted : Option EventKind) → HeadFits head → length s.bytes ≡ 4352 → IsCore core → CoreMeets inst o core
-    → bit_is_set core.sreg 7 ≡ is_main inst.kind → MemoryMeets head inst o d core.sp s.bytes → head.lo ≤ suc core.sp → v < 256 → ValueHolds val o v → IsWithin at a → MayStore head inst (sync_level s) a val emitted
+pub store_stored : {P : Type 0} (w : PadWiring P) (head : Head) (inst : Instance) (o : Core) (d at v : ℕ) (a : Ends) (val : Val)
+    (core : Core) (s : Space P) (emitted : Option EventKind) → HeadFits head → length s.bytes ≡ 4352 → IsCore core → CoreMeets inst o core
+    → bit_is_set core.sreg 7 ≡ is_main inst.kind → MemoryMeets head inst o d core.sp s.bytes → head.lo ≤ suc core.sp → v < 256
+    → ValueHolds val o v → IsWithin at a → MayStore head inst (sync_level s) a val emitted
     → Stored w head inst (stored_in head a val inst) o d at v core s emitted
-store_stored {P} w head inst o d at v a val core s emitted fits size c h enabled m low b hv within may = by_single (is_single a) refl may.mask may.io may.may may.emits
+store_stored {P} w head inst o d at v a val core s emitted fits size c h enabled m low b hv within may = by_single (is_single a) refl
+    may.mask may.io may.may may.emits
   where
     span : IsWithin v (span_of val)
     span = in_span val o v b hv
 
-    shows : byte_event (sync_level s) val at ≡ Some emitted → Shows (edge_kinds (Byte at v) s (after_byte w at v s)) (sync_level s) (sync_level (after_byte w at v s)) emitted
+    shows : byte_event (sync_level s) val at ≡ Some emitted → Shows (edge_kinds (Byte at v) s (after_byte w at v s)) (sync_level s)
+        (sync_level (after_byte w at v s)) emitted
     shows e = byte_shows w s at v (sync_level s) val emitted size refl span e
 
-    free : FreeRam head a → byte_event (sync_level s) val at ≡ Some emitted → (place : Option ℕ) → cell_place head inst.kind at ≡ place → Stored w head inst (with_cell place (span_of val) inst) o d at v core s emitted
+    free : FreeRam head a → byte_event (sync_level s) val at ≡ Some emitted → (place : Option ℕ) → cell_place head inst.kind at ≡ place
+        → Stored w head inst (with_cell place (span_of val) inst) o d at v core s emitted
     free f e place is =
-        space_stored w head inst o d at v (span_of val) core s emitted place fits size c h enabled m low (ram_not_core at (omega (arith, f.low, within.above))) b
+        space_stored w head inst o d at v (span_of val) core s emitted place fits size c h enabled m low
+        (ram_not_core at (omega (arith, f.low, within.above))) b
         (elim f.off [ inl t ↦ inl (omega (arith, t, within.below)) | inr t ↦ inr (omega (arith, t, within.above)) ])
-        (λ r p. elim (missed head.cells.items a r at f.none p) [ inl t ↦ absurd (omega (arith, t, within.above)) | inr t ↦ absurd (omega (arith, t, within.below)) ])
+        (λ r p. elim (missed head.cells.items a r at f.none p) [
+          | inl t ↦ absurd (omega (arith, t, within.above))
+          | inr t ↦ absurd
+              (omega (arith, t, within.below))
+        ])
         span is (shows e)
 
     untracked : FreeRam head a → (place : Option ℕ) → cell_place head inst.kind at ≡ place → place ≡ None
     untracked f None is = refl
     untracked f (Some j) is =
         let r = tracked_has_range head inst.kind at j is in
-        elim (missed head.cells.items a r.range at f.none r.is) [ inl t ↦ absurd (omega (arith, t, within.above)) | inr t ↦ absurd (omega (arith, t, within.below)) ]
+        elim (missed head.cells.items a r.range at f.none r.is) [
+          | inl t ↦ absurd (omega (arith, t, within.above))
+          | inr t ↦ absurd
+              (omega (arith, t, within.below))
+        ]
 
     -- a single address other than SREG's
-    at_one : is_single a ≡ true → a.lo ≡ at → nat_eq at 0x5F ≡ false → is_setup_register at ≡ false → may_store head inst.kind a val ≡ true → byte_event (sync_level s) val at ≡ Some emitted
+    at_one : is_single a ≡ true → a.lo ≡ at → nat_eq at 0x5F ≡ false → is_setup_register at ≡ false → may_store head inst.kind a val ≡ true
+        → byte_event (sync_level s) val at ≡ Some emitted
         → Stored w head inst (with_cell (cell_place head inst.kind at) (span_of val) inst) o d at v core s emitted
     at_one one i sreg io may e =
         elim (either (is_single a && (nat_le 0x20 a.lo && nat_le a.lo 0xFF)) _ may) [
@@ -302,34 +356,46 @@ store_stored {P} w head inst o d at v a val core s emitted fits size c h enabled
               let second = both.1 in
               let above : 0x20 ≤ at = grind (arith, nat_tests) in
               let below : at ≤ 0xFF = grind (arith, nat_tests) in
-              space_stored w head inst o d at v (span_of val) core s emitted (cell_place head inst.kind at) fits size c h enabled m low (not_core at above io sreg) b (inl (omega (arith, below, fits.low)))
+              space_stored w head inst o d at v (span_of val) core s emitted (cell_place head inst.kind at) fits size c h enabled m low
+              (not_core at above io sreg) b (inl (omega (arith, below, fits.low)))
               (λ r p. absurd (omega (arith, below, (fits.cells_ram at r p).0))) span refl (shows e)
           | inr t ↦
               elim (either (is_single a && cell_admits (cell_place head inst.kind a.lo) (cell_range head a.lo) (span_of val)) _ t) [
                 | inl u ↦
-                    let k = subst (λ n. cell_admits (cell_place head inst.kind n) (cell_range head n) (span_of val) ≡ true) i (and_true (is_single a) _ u).1 in
+                    let k = subst (λ n. cell_admits (cell_place head inst.kind n) (cell_range head n) (span_of val) ≡ true) i
+                    (and_true (is_single a) _ u).1 in
                     let taken = cell_taken head inst.kind at (span_of val) k in
-                    space_stored w head inst o d at v (span_of val) core s emitted (cell_place head inst.kind at) fits size c h enabled m low (ram_not_core at (fits.cells_ram at taken.range taken.is).0) b (fits.cells_off at taken.range taken.is)
-                    (λ r p. let same : taken.range ≡ r = (let q = taken.is in cc) in subst (λ x. IsWithin v x) same (record { above = omega (arith, taken.low, span.above); below = omega (arith, taken.high, span.below) })) span refl (shows e)
+                    space_stored w head inst o d at v (span_of val) core s emitted (cell_place head inst.kind at) fits size c h enabled m
+                    low (ram_not_core at (fits.cells_ram at taken.range taken.is).0) b (fits.cells_off at taken.range taken.is)
+                    (λ r p. let same : taken.range ≡ r = (let q = taken.is in cc) in subst (λ x. IsWithin v x) same
+                    (record { above = omega (arith, taken.low, span.above); below = omega (arith, taken.high, span.below) })) span refl
+                    (shows e)
                 | inr u ↦ free (free_by head a u) e (cell_place head inst.kind at) refl
               ]
         ]
 
-    at_sreg : (t : Bool) → is_single a ≡ true → a.lo ≡ at → nat_eq at 0x5F ≡ t → mask_fails inst.kind at val ≡ false → is_setup_register at ≡ false → may_store head inst.kind a val ≡ true → byte_event (sync_level s) val at ≡ Some emitted
-        → Stored w head inst (if t then with_flag_list (flags_from val) inst else with_cell (cell_place head inst.kind at) (span_of val) inst) o d at v core s emitted
+    at_sreg : (t : Bool) → is_single a ≡ true → a.lo ≡ at → nat_eq at 0x5F ≡ t → mask_fails inst.kind at val ≡ false → is_setup_register
+        at ≡ false → may_store head inst.kind a val ≡ true → byte_event (sync_level s) val at ≡ Some emitted
+        → Stored w head inst (if t then with_flag_list (flags_from val) inst else with_cell (cell_place head inst.kind at) (span_of val)
+        inst) o d at v core s emitted
     at_sreg true one i is mask io may e =
         let j : at ≡ 0x5F = grind (arith, nat_tests) in
         let n : emitted ≡ None = none_is emitted (subst (λ x. byte_event (sync_level s) val x ≡ Some emitted) j e) in
-        rw n (subst (λ x. Stored w head inst (with_flag_list (flags_from val) inst) o d x v core s None) (sym j) (sreg_stored w head inst o d v val core s fits c h m b hv (subst (λ x. mask_fails inst.kind x val ≡ false) j mask)))
+        rw n (subst (λ x. Stored w head inst (with_flag_list (flags_from val) inst) o d x v core s None) (sym j)
+        (sreg_stored w head inst o d v val core s fits c h m b hv (subst (λ x. mask_fails inst.kind x val ≡ false) j mask)))
     at_sreg false one i is mask io may e = at_one one i is io may e
 
-    by_single : (t : Bool) → is_single a ≡ t → (is_single a ≡ true → mask_fails inst.kind a.lo val ≡ false) → (is_single a ≡ true → is_setup_register a.lo ≡ false) → may_store head inst.kind a val ≡ true
-        → (if is_single a then byte_event (sync_level s) val a.lo else Some None) ≡ Some emitted → Stored w head inst (if t then with_stored head a.lo val inst else inst) o d at v core s emitted
+    by_single : (t : Bool) → is_single a ≡ t → (is_single a ≡ true → mask_fails inst.kind a.lo val ≡ false)
+        → (is_single a ≡ true → is_setup_register a.lo ≡ false) → may_store head inst.kind a val ≡ true
+        → (if is_single a then byte_event (sync_level s) val a.lo else Some None) ≡ Some emitted → Stored w head inst
+        (if t then with_stored head a.lo val inst else inst) o d at v core s emitted
     by_single true one mask io may e =
         let i = only a at one within in
-        let e' : byte_event (sync_level s) val at ≡ Some emitted = subst (λ n. byte_event (sync_level s) val n ≡ Some emitted) i (rw one at e) in
+        let e' : byte_event (sync_level s) val at ≡ Some emitted = subst (λ n. byte_event (sync_level s) val n ≡ Some emitted) i
+        (rw one at e) in
         subst (λ n. Stored w head inst (with_stored head n val inst) o d at v core s emitted) (sym i)
-        (at_sreg (nat_eq at 0x5F) one i refl (subst (λ n. mask_fails inst.kind n val ≡ false) i (mask one)) (subst (λ n. is_setup_register n ≡ false) i (io one)) may e')
+        (at_sreg (nat_eq at 0x5F) one i refl (subst (λ n. mask_fails inst.kind n val ≡ false) i (mask one))
+        (subst (λ n. is_setup_register n ≡ false) i (io one)) may e')
     by_single false many mask io may e =
         let f = free_by head a (rw many at may) in
         let n : emitted ≡ None = none_is emitted (rw many at e) in

@@ -1,5 +1,6 @@
 -- How the timer goes on with an instance's clock and pending match.
-use Rattle.std.proofs.Common.{◌≡◌, ◌⊎◌, inl, inr, ℕ, suc, ◌+◌, ◌-◌, ◌/◌, ◌%◌, ◌^◌, ◌<◌, ◌≤◌, Bool, true, false, not, if◌then◌else◌, nat_eq, nat_lt, nat_le, Some, None, List, [], ◌∷◌, filter, refl, sym, ◌∙◌, subst, arith}
+use Rattle.std.proofs.Common.{◌≡◌, ◌⊎◌, inl, inr, ℕ, suc, ◌+◌, ◌-◌, ◌/◌, ◌%◌, ◌^◌, ◌<◌, ◌≤◌, Bool, true, false, not, if◌then◌else◌, nat_eq}
+use Rattle.std.proofs.Common.{nat_lt, nat_le, Some, None, List, [], ◌∷◌, filter, refl, sym, ◌∙◌, subst, arith}
 use Rattle.std.specs.Prelude.{◌&&◌, ◌||◌}
 use Rattle.std.proofs.lemmas.Bool.Decides.{eqb_tells, nat_tests}
 use Rattle.std.proofs.lemmas.Nat.Bits.{bit_at-pow_other}
@@ -9,7 +10,8 @@ use Rattle.uz_machine.specs.declared.Effect.{Effect}
 use Rattle.uz_machine.specs.declared.Effect.TheVariants.{NoOperation, Store, PushByte, WriteIoBit, Jump}
 use Rattle.uz_machine.specs.declared.HeldStore.TheVariants.{Byte, Bit as BitCall}
 use Rattle.uz_machine.specs.Arithmetic.{bit_is_set, with_bit}
-use Rattle.uz_machine.specs.Core.{Core, register, is_core_address, effective_address, following_pc, content_after_loads, stores_of, leaves_core}
+use Rattle.uz_machine.specs.Core.{Core, register, is_core_address, effective_address, following_pc, content_after_loads, stores_of}
+use Rattle.uz_machine.specs.Core.{leaves_core}
 use Rattle.uz_machine.specs.OperandRanges.{EffectFits}
 use Rattle.uz_machine.specs.Timer.{Timer, is_counting, count_after, matches_within, timer_after, is_timer_address}
 use Rattle.uz_machine.specs.Space.{PadWiring, Space, is_pin, byte_at, after_byte, after_store, takes_one_bit, space_loads}
@@ -56,14 +58,23 @@ beside_same t u e = subst (λ x. Beside false t x) (sym e) (beside_itself t)
 
 -- Loads
 
-pub loads_beside : {P : Type 0} (w : PadWiring P) (late : ℕ) (c : Space P) (ats : List ℕ) → Beside false c.timer (content_after_loads (space_loads w) late c ats).timer
+pub loads_beside : {P : Type 0} (w : PadWiring P) (late : ℕ) (c : Space P) (ats : List ℕ) → Beside false c.timer
+    (content_after_loads (space_loads w) late c ats).timer
 loads_beside w late c [] = beside_itself c.timer
 loads_beside {P} w late c (at ∷ ats) =
     choose_if (λ (t : Space P). Beside false c.timer t.timer) (is_core_address at) _ _ (λ e. loads_beside w late c ats)
     (λ e. through (nat_eq at 0x84) (loads_beside w late ((space_loads w).content_after c at late) ats))
   where
-    through : (t : Bool) {u : Timer} → Beside false (if t then record c.timer { temp = (timer_after late c.timer).count / 256 } else c.timer) u → Beside false c.timer u
-    through true h = record { count = h.count; top = h.top; matched = h.matched; mask = h.mask; control_a = h.control_a; control_b = h.control_b }
+    through : (t : Bool) {u : Timer} → Beside false (if t then record c.timer { temp = (timer_after late c.timer).count / 256 } else
+        c.timer) u → Beside false c.timer u
+    through true h = record {
+      count = h.count;
+      top = h.top;
+      matched = h.matched;
+      mask = h.mask;
+      control_a = h.control_a;
+      control_b = h.control_b;
+    }
     through false h = h
 
 -- Stores
@@ -107,7 +118,8 @@ timer_other at io f =
     ]
 
 -- TIFR1
-flag_written : {P : Type 0} (w : PadWiring P) (s : Space P) (v : ℕ) (clears : Bool) → bit_is_set v 1 ≡ clears → Beside clears s.timer (after_byte w 0x36 v s).timer
+flag_written : {P : Type 0} (w : PadWiring P) (s : Space P) (v : ℕ) (clears : Bool) → bit_is_set v 1 ≡ clears → Beside clears s.timer
+    (after_byte w 0x36 v s).timer
 flag_written w s v true e = rw e (record { count = refl; top = refl; matched = refl; mask = refl; control_a = refl; control_b = refl })
 flag_written w s v false e = rw e (beside_itself s.timer)
 
@@ -117,7 +129,8 @@ known_bit One t a k = cc
 known_bit Free t a k = absurd cc
 known_bit OldBit t a k = absurd cc
 
-written_bit : (v : Val) (o : Core) (x : ℕ) → ValueHolds v o x → is_known (stored_bit v 1) ≡ true → bit_is_set x 1 ≡ flag_is (stored_bit v 1) true
+written_bit : (v : Val) (o : Core) (x : ℕ) → ValueHolds v o x → is_known (stored_bit v 1) ≡ true → bit_is_set x 1 ≡ flag_is (stored_bit v 1)
+    true
 written_bit (Range e) o x h k = known_bit (bst_answer e 1) (bit_is_set x 1) (bst_covers e 1 x h) k
 written_bit (Old r) o x h k = absurd cc
 written_bit OldFlags o x h k = absurd cc
@@ -127,7 +140,8 @@ or_false true b e = absurd cc
 or_false false b e = (refl, e)
 
 -- one byte that is held
-held_byte : {P : Type 0} (w : PadWiring P) (s : Space P) (at v : ℕ) (clears : Bool) → Beside clears s.timer (after_byte w at v s).timer → (is_core_address at ≡ true → clears ≡ false) → Beside clears s.timer (after_stores w (filter leaves_core (Byte at v ∷ [])) s).timer
+held_byte : {P : Type 0} (w : PadWiring P) (s : Space P) (at v : ℕ) (clears : Bool) → Beside clears s.timer (after_byte w at v s).timer
+    → (is_core_address at ≡ true → clears ≡ false) → Beside clears s.timer (after_stores w (filter leaves_core (Byte at v ∷ [])) s).timer
 held_byte {P} w s at v clears h core = by_case (is_core_address at) refl
   where
     by_case : (t : Bool) → is_core_address at ≡ t → Beside clears s.timer (after_stores w (if not t then Byte at v ∷ [] else []) s).timer
@@ -154,27 +168,36 @@ known_by false true true e f = refl
 known_by false true false e f = absurd cc
 known_by false false k e f = absurd cc
 
-store_at : {P : Type 0} (w : PadWiring P) (head : Head) (kind : Kind) (at v : ℕ) (a : Ends) (val : Val) (o : Core) (s : Space P) → (is_main kind || is_handler kind) ≡ true → ValueHolds val o v → IsWithin at a → (is_single a && flag_fails kind a.lo val) ≡ false → may_store head kind a val ≡ true → (is_single a && is_setup_register a.lo) ≡ false
-    → Beside (is_single a && (nat_eq a.lo 0x36 && flag_is (stored_bit val 1) true)) s.timer (after_stores w (filter leaves_core (Byte at v ∷ [])) s).timer
+store_at : {P : Type 0} (w : PadWiring P) (head : Head) (kind : Kind) (at v : ℕ) (a : Ends) (val : Val) (o : Core) (s : Space P)
+    → (is_main kind || is_handler kind) ≡ true → ValueHolds val o v → IsWithin at a → (is_single a && flag_fails kind a.lo val) ≡ false
+    → may_store head kind a val ≡ true → (is_single a && is_setup_register a.lo) ≡ false
+    → Beside (is_single a && (nat_eq a.lo 0x36 && flag_is (stored_bit val 1) true)) s.timer
+    (after_stores w (filter leaves_core (Byte at v ∷ [])) s).timer
 store_at {P} w head kind at v a val o s beside hv within flag may io = by_single (is_single a) refl flag may io
   where
-    by_flag : (t : Bool) → nat_eq at 0x36 ≡ t → flag_fails kind at val ≡ false → is_setup_register at ≡ false → Beside (t && flag_is (stored_bit val 1) true) s.timer (after_stores w (filter leaves_core (Byte at v ∷ [])) s).timer
+    by_flag : (t : Bool) → nat_eq at 0x36 ≡ t → flag_fails kind at val ≡ false → is_setup_register at ≡ false
+        → Beside (t && flag_is (stored_bit val 1) true) s.timer (after_stores w (filter leaves_core (Byte at v ∷ [])) s).timer
     by_flag true e flag io =
         let i : at ≡ 0x36 = grind (arith, nat_tests) in
         let f : flag_fails kind 0x36 val ≡ false = subst (λ n. flag_fails kind n val ≡ false) i flag in
         let known : is_known (stored_bit val 1) ≡ true = known_by (is_main kind) (is_handler kind) (is_known (stored_bit val 1)) beside f in
         subst (λ n. Beside (flag_is (stored_bit val 1) true) s.timer (after_stores w (filter leaves_core (Byte n v ∷ [])) s).timer) (sym i)
         (flag_written w s v (flag_is (stored_bit val 1) true) (written_bit val o v hv known))
-    by_flag false e flag io = held_byte w s at v false (beside_same s.timer (after_byte w at v s).timer (timer_kept w s at v (timer_other at io e))) (λ t. refl)
+    by_flag false e flag io = held_byte w s at v false (beside_same s.timer (after_byte w at v s).timer
+        (timer_kept w s at v (timer_other at io e))) (λ t. refl)
 
-    by_single : (t : Bool) → is_single a ≡ t → (t && flag_fails kind a.lo val) ≡ false → may_store head kind a val ≡ true → (t && is_setup_register a.lo) ≡ false → Beside (t && (nat_eq a.lo 0x36 && flag_is (stored_bit val 1) true)) s.timer (after_stores w (filter leaves_core (Byte at v ∷ [])) s).timer
+    by_single : (t : Bool) → is_single a ≡ t → (t && flag_fails kind a.lo val) ≡ false → may_store head kind a val ≡ true
+        → (t && is_setup_register a.lo) ≡ false → Beside (t && (nat_eq a.lo 0x36 && flag_is (stored_bit val 1) true)) s.timer
+        (after_stores w (filter leaves_core (Byte at v ∷ [])) s).timer
     by_single true one flag may io =
         let i = only a at one within in
-        subst (λ n. Beside (nat_eq n 0x36 && flag_is (stored_bit val 1) true) s.timer (after_stores w (filter leaves_core (Byte at v ∷ [])) s).timer) (sym i)
+        subst (λ n. Beside (nat_eq n 0x36 && flag_is (stored_bit val 1) true) s.timer (after_stores w (filter leaves_core (Byte at v ∷ []))
+        s).timer) (sym i)
         (by_flag (nat_eq at 0x36) refl (subst (λ n. flag_fails kind n val ≡ false) i flag) (subst (λ n. is_setup_register n ≡ false) i io))
     by_single false many flag may io =
         let f = free_by head a (rw many at may) in
-        held_byte w s at v false (beside_same s.timer (after_byte w at v s).timer (timer_kept w s at v (timer_high at (omega (arith, f.low, within.above))))) (λ t. refl)
+        held_byte w s at v false (beside_same s.timer (after_byte w at v s).timer
+        (timer_kept w s at v (timer_high at (omega (arith, f.low, within.above))))) (λ t. refl)
 
 -- SBI, CBI
 
@@ -185,10 +208,12 @@ bit_one b =
       | inr t ↦ let z : bit_at (2 ^ b) 1 ≡ 0 = bit_at-pow_other b 1 (λ q. t.1 (sym q)) in rw (t.0, z) refl
     ]
 
-bit_at_port : {P : Type 0} (w : PadWiring P) (s : Space P) (at b : ℕ) (set : Bool) → at < 64 → is_setup_register at ≡ false → Beside (nat_eq at 0x36 && (nat_eq b 1 && set)) s.timer (after_store w (BitCall at b set) s).timer
+bit_at_port : {P : Type 0} (w : PadWiring P) (s : Space P) (at b : ℕ) (set : Bool) → at < 64 → is_setup_register at ≡ false
+    → Beside (nat_eq at 0x36 && (nat_eq b 1 && set)) s.timer (after_store w (BitCall at b set) s).timer
 bit_at_port {P} w s at b set low io = by_case (nat_eq at 0x36) set refl
   where
-    by_takes : (t u : Bool) → is_timer_address at ≡ false → (if t then (if u then after_byte w at (2 ^ b) s else s) else after_byte w at (with_bit b u (byte_at w s at)) s).timer ≡ s.timer
+    by_takes : (t u : Bool) → is_timer_address at ≡ false → (if t then (if u then after_byte w at (2 ^ b) s else s) else after_byte w at
+        (with_bit b u (byte_at w s at)) s).timer ≡ s.timer
     by_takes true true h = timer_kept w s at (2 ^ b) h
     by_takes true false h = refl
     by_takes false u h = timer_kept w s at (with_bit b u (byte_at w s at)) h
@@ -208,30 +233,36 @@ bit_at_port {P} w s at b set low io = by_case (nat_eq at 0x36) set refl
         (rw (keep_true (nat_eq b 1)) (flag_written w s (2 ^ b) (nat_eq b 1) (bit_one b)))
     by_case true false e =
         let i : at ≡ 0x36 = grind (arith, nat_tests) in
-        subst (λ n. Beside (nat_eq b 1 && false) s.timer (after_store w (BitCall n b false) s).timer) (sym i) (rw (clear_false (nat_eq b 1)) (beside_itself s.timer))
+        subst (λ n. Beside (nat_eq b 1 && false) s.timer (after_store w (BitCall n b false) s).timer) (sym i)
+        (rw (clear_false (nat_eq b 1)) (beside_itself s.timer))
     by_case false u e = beside_same s.timer (after_store w (BitCall at b u) s).timer (by_takes (takes_one_bit at) u (timer_other at io e))
 
 -- The stores of each class
 
-two_high : {P : Type 0} (w : PadWiring P) (s : Space P) (a b x y : ℕ) → 256 ≤ a → 256 ≤ b → Beside false s.timer (after_stores w (filter leaves_core (Byte a x ∷ Byte b y ∷ [])) s).timer
+two_high : {P : Type 0} (w : PadWiring P) (s : Space P) (a b x y : ℕ) → 256 ≤ a → 256 ≤ b → Beside false s.timer
+    (after_stores w (filter leaves_core (Byte a x ∷ Byte b y ∷ [])) s).timer
 two_high w s a b x y p q =
     rw (ram_not_core a p, ram_not_core b q)
     (beside_same s.timer _ (timer_kept w (after_byte w a x s) b y (timer_high b q) ∙ timer_kept w s a x (timer_high a p)))
 
-pub stores_beside : {P : Type 0} (w : PadWiring P) (e : Effect) (head : Head) (words d : ℕ) (inst : Instance) (o core : Core) (before s : Space P) → EffectFits e → (is_main inst.kind || is_handler inst.kind) ≡ true → Before head inst o d core before → fail_of head e inst ≡ None
+pub stores_beside : {P : Type 0} (w : PadWiring P) (e : Effect) (head : Head) (words d : ℕ) (inst : Instance) (o core : Core)
+    (before s : Space P) → EffectFits e → (is_main inst.kind || is_handler inst.kind) ≡ true → Before head inst o d core before
+    → fail_of head e inst ≡ None
     → Beside (clears_flag e inst) s.timer (after_stores w (filter leaves_core (stores_of e words core)) s).timer
 stores_beside w (Store to r) head words d inst o core before s fits beside b fail =
     let one = unless_none _ _ _ fail in
     let two = unless_none _ _ _ one.1 in
     let three = unless_none _ _ _ two.1 in
     let four = unless_none _ _ _ three.1 in
-    store_at w head inst.kind (effective_address to core) (register core r) (address_range to inst) (value_at inst.regs r) o s beside (b.meets.regs r fits.1) (address_holds to inst o core b.is_core fits.0 b.meets) one.0 (not_false _ three.0) four.0
+    store_at w head inst.kind (effective_address to core) (register core r) (address_range to inst) (value_at inst.regs r) o s beside
+    (b.meets.regs r fits.1) (address_holds to inst o core b.is_core fits.0 b.meets) one.0 (not_false _ three.0) four.0
 stores_beside w (PushByte r) head words d inst o core before s fits beside b fail =
     let free : nat_le (depth_limit head inst.kind) (depth_of inst) ≡ false = (unless_none _ _ _ fail).0 in
     let few : depth_of inst + 1 ≤ depth_limit head inst.kind = grind (arith, nat_tests) in
     let room = room_left head inst.kind d core.sp (depth_of inst) 1 b.fits b.few b.memory.depth few in
     let ram : 256 ≤ core.sp = omega (arith, b.fits.low, room) in
-    held_byte w s core.sp (register core r) false (beside_same s.timer _ (timer_kept w s core.sp (register core r) (timer_high core.sp ram))) (λ t. refl)
+    held_byte w s core.sp (register core r) false
+    (beside_same s.timer _ (timer_kept w s core.sp (register core r) (timer_high core.sp ram))) (λ t. refl)
 stores_beside w (WriteIoBit at bit set) head words d inst o core before s fits beside b fail =
     let io = (unless_none _ _ _ (unless_none _ _ _ fail).1).0 in
     bit_at_port w s at bit set fits.0.1 io
@@ -240,7 +271,8 @@ stores_beside w (Jump target true) head words d inst o core before s fits beside
     let few : depth_of inst + 2 ≤ depth_limit head inst.kind = grind (arith, nat_tests) in
     let room = room_left head inst.kind d core.sp (depth_of inst) 2 b.fits b.few b.memory.depth few in
     let high : 256 ≤ (core.sp + 65535) % 65536 = omega (arith, b.fits.low, room, b.is_core.sp) in
-    two_high w s core.sp ((core.sp + 65535) % 65536) (following_pc words core % 256) (following_pc words core / 256) (omega (arith, b.fits.low, room)) high
+    two_high w s core.sp ((core.sp + 65535) % 65536) (following_pc words core % 256) (following_pc words core / 256)
+    (omega (arith, b.fits.low, room)) high
 stores_beside w (Jump target false) head words d inst o core before s fits beside b fail = beside_itself s.timer
 stores_beside w NoOperation head words d inst o core before s fits beside b fail = beside_itself s.timer
 stores_beside w e head words d inst o core before s fits beside b fail = beside_itself s.timer
@@ -272,5 +304,7 @@ timed clock length c t count top low few =
     }
   where
     by_case : (b : Bool) → nat_lt (clock + c) length ≡ b → (t.count + c) % (t.top + 1) ≡ (if b then clock + c else clock + c - length)
-    by_case true e = let u : clock + c < length = grind (arith, nat_tests) in let k : t.top + 1 ≡ length = omega arith in rw (k, count) (mod-eq_of_lt u)
-    by_case false e = let u : length ≤ clock + c = grind (arith, nat_tests) in let k : t.top + 1 ≡ length = omega arith in rw (k, count) (let r : clock + c - length < length = omega arith in mod-eq-sub-mod u ∙ mod-eq_of_lt r)
+    by_case true e = let u : clock + c < length = grind (arith, nat_tests) in let k : t.top + 1 ≡ length = omega arith in
+        rw (k, count) (mod-eq_of_lt u)
+    by_case false e = let u : length ≤ clock + c = grind (arith, nat_tests) in let k : t.top + 1 ≡ length = omega arith in
+        rw (k, count) (let r : clock + c - length < length = omega arith in mod-eq-sub-mod u ∙ mod-eq_of_lt r)

@@ -36,4 +36,5 @@ example_instance = record {
 }
 
 abbrev pub SomeInstructionBegins : Type 0
-SomeInstructionBegins = (image : FinMap nat_cmp ℕ) → IsFlash image → word_of image 0 ≡ 0 → word_of image 1 ≡ 0 → (step : Step) × InstructionBegins example_head (uniform 1) image example_instance reset_core 0 step (state_at_reset image (history_at_reset []) 4)
+SomeInstructionBegins = (image : FinMap nat_cmp ℕ) → IsFlash image → word_of image 0 ≡ 0 → word_of image 1 ≡ 0 → (step : Step)
+    × InstructionBegins example_head (uniform 1) image example_instance reset_core 0 step (state_at_reset image (history_at_reset []) 4)

@@ -78,12 +78,14 @@ abbrev pub inside : Instance → Instance → Bool
 inside a b =
     same_place a b
     && (slots_inside a.stack.items b.stack.items
-    && (cells_inside a.cells.items b.cells.items && (flags_inside a.flags b.flags && (pairs_inside a.pairs b.pairs && registers_inside a.regs b.regs))))
+    && (cells_inside a.cells.items b.cells.items
+    && (flags_inside a.flags b.flags && (pairs_inside a.pairs b.pairs && registers_inside a.regs b.regs))))
 
 -- a core and the bytes of a data space that meet an instance meet each in which it lies
 abbrev pub InsideKeeps : Type 0
 InsideKeeps =
-    (head : Head) (a b : Instance) (o core : Core) (d sp : ℕ) (bytes : List ℕ) → IsCore core → AllByRecursion IsByte bytes → inside a b ≡ true
+    (head : Head) (a b : Instance) (o core : Core) (d sp : ℕ) (bytes : List ℕ) → IsCore core → AllByRecursion IsByte bytes
+    → inside a b ≡ true
     → CoreMeets a o core → MemoryMeets head a o d sp bytes → CoreMeets b o core × MemoryMeets head b o d sp bytes
 
 -- and so does a state, where its level is that instance's: levels aren't compared
@@ -103,7 +105,8 @@ is_old_register r OldFlags = false
 abbrev pub restored : Instance → Bool
 restored inst =
     nat_eq (length inst.stack.items) 0
-    && (not inst.pending && (all_below 7 (λ k. is_old (flag_at inst.flags k)) && all_below 32 (λ r. is_old_register r (value_at inst.regs r))))
+    && (not inst.pending && (all_below 7 (λ k. is_old (flag_at inst.flags k)) && all_below 32
+    (λ r. is_old_register r (value_at inst.regs r))))
 
 -- a core that meets a restored instance has the interrupted registers and flags
 abbrev pub RestoredGives : Type 0

@@ -6,6 +6,7 @@ pub mod Inside
 pub mod Example
 pub mod EdgeRule
 pub mod Successors
+pub mod FactInclusion
 pub mod Local
 pub mod Limits
 pub mod After

@@ -1,5 +1,6 @@
 -- The local rule: why an instance of a point is refused; the least reason that stands is named (this project's profile).
-use Rattle.std.specs.Prelude.{◌≡◌, ℕ, ◌+◌, ◌-◌, ◌^◌, min, Bool, true, false, not, ◌&&◌, ◌||◌, List, [], ◌∷◌, Option, Some, None, Result, Ok, Err, slice_get, nat_eq, if◌then◌else◌}
+use Rattle.std.specs.Prelude.{◌≡◌, ℕ, ◌+◌, ◌-◌, ◌^◌, min, Bool, true, false, not, ◌&&◌, ◌||◌, List, [], ◌∷◌, Option, Some, None, Result, Ok}
+use Rattle.std.specs.Prelude.{Err, slice_get, nat_eq, if◌then◌else◌}
 use Rattle.std.specs.Ordering.{nat_cmp}
 use Rattle.std.specs.FinMap.{FinMap}
 use Rattle.avr_table.specs.declared.Instr.{Instr}
@@ -69,7 +70,8 @@ end_of cert inst step = successor (lines_of cert.schedule) inst step (first_exit
 
 -- each result lies in an instance of a named successor
 abbrev pub has_successors : Cert → List ℕ → Instance → Step → Bool
-has_successors cert next inst step = each_exit (λ exit. lies_in_any cert next (successor (lines_of cert.schedule) inst step exit)) step.exits.items
+has_successors cert next inst step = each_exit (λ exit. lies_in_any cert next (successor (lines_of cert.schedule) inst step exit))
+    step.exits.items
 
 abbrev pub result_fail : Cert → List ℕ → Instance → Step → Option Fail
 result_fail cert next inst step =
@@ -106,7 +108,8 @@ pub record IsLocal (image : FinMap nat_cmp ℕ) (cert : Cert) (id l c : ℕ) (wh
 
 -- there is one answer
 abbrev pub OneLocal : Type 0
-OneLocal = (image : FinMap nat_cmp ℕ) (cert : Cert) (id l c : ℕ) (a b : Option Fail) → IsLocal image cert id l c a → IsLocal image cert id l c b → a ≡ b
+OneLocal = (image : FinMap nat_cmp ℕ) (cert : Cert) (id l c : ℕ) (a b : Option Fail) → IsLocal image cert id l c a → IsLocal image cert id l
+    c b → a ≡ b
 
 -- the reason in an answer
 abbrev pub reason : {A : Type 0} → Result A Fail → Option Fail

@@ -38,7 +38,8 @@ pub record MemoryMeets (head : Head) (inst : Instance) (o : Core) (d sp : ℕ) (
   pub ranges : HeaderHolds head bytes
   pub depth : sp + length inst.stack.items + depth_below inst.kind d ≡ head.hi
 
--- A turn leaves what lies above its own slots on the stack (under a handler main's slots and the interrupted pc), and the cells that its kind doesn't track
+-- A turn leaves what lies above its own slots on the stack (under a handler main's slots and the interrupted pc), and the cells that its
+-- kind doesn't track
 pub record Untouched (head : Head) (kind : Kind) (base : ℕ) (old new : List ℕ) : Type 0 where
   pub above : (a : ℕ) → base < a → a ≤ head.hi → slice_index new a ≡ slice_index old a
   pub cells : (a : ℕ) (r : Ends) → cell_range head a ≡ Some r → cell_place head kind a ≡ None → slice_index new a ≡ slice_index old a

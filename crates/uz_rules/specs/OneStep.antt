@@ -37,7 +37,8 @@ use Rattle.uz_rules.specs.Meets.{top_of, Meets, InstanceFits}
 -- in main sync and OCR1A stay, and TCNT1 and OCF1A go on by the clocks alone
 abbrev pub MainTimer : Kind → ℕ → State PadHistory → State PadHistory → Type 0
 MainTimer Main clocks old new =
-    (sync_level new.space ≡ sync_level old.space) × (new.space.timer.top ≡ old.space.timer.top) × (new.space.timer.count ≡ count_after old.space.timer.count old.space.timer.top clocks)
+    (sync_level new.space ≡ sync_level old.space) × (new.space.timer.top ≡ old.space.timer.top)
+    × (new.space.timer.count ≡ count_after old.space.timer.count old.space.timer.top clocks)
     × (new.space.timer.matched ≡ (old.space.timer.matched || matches_within old.space.timer.count old.space.timer.top clocks))
 MainTimer Handler clocks old new = ⊤
 MainTimer Alone clocks old new = ⊤
@@ -51,7 +52,8 @@ IsNoEntry (Enter count) = ⊥
 IsNoEntry Leave = ⊤
 
 -- The state after an instruction meets the instance at one of the step's exits
-pub record OneStep (head : Head) (lines : Lines) (inst : Instance) (o : Core) (d : ℕ) (step : Step) (old : State PadHistory) (edges : List Edge) (new : State PadHistory) : Type 0 where
+pub record OneStep (head : Head) (lines : Lines) (inst : Instance) (o : Core) (d : ℕ) (step : Step) (old : State PadHistory)
+    (edges : List Edge) (new : State PadHistory) : Type 0 where
   pub exit : Exit
   pub is_exit : Contains step.exits.items exit
   pub meets : Meets head (successor lines inst step exit) o d new
@@ -66,7 +68,8 @@ pub record OneStep (head : Head) (lines : Lines) (inst : Instance) (o : Core) (d
   pub main_timer : MainTimer inst.kind exit.clocks old new
 
 -- What containment takes of an instance and a state
-pub record InstructionBegins (head : Head) (lines : Lines) (image : FinMap nat_cmp ℕ) (inst : Instance) (o : Core) (d : ℕ) (step : Step) (s : State PadHistory) : Type 0 where
+pub record InstructionBegins (head : Head) (lines : Lines) (image : FinMap nat_cmp ℕ) (inst : Instance) (o : Core) (d : ℕ) (step : Step)
+    (s : State PadHistory) : Type 0 where
   pub is_state : IsState s
   pub flash : s.image ≡ image
   pub head_fits : HeadFits head
@@ -79,21 +82,27 @@ pub record InstructionBegins (head : Head) (lines : Lines) (image : FinMap nat_c
 -- Containment: the state has a turn, and each of its turns is one of the step's
 pub record Contained (head : Head) (lines : Lines) (inst : Instance) (o : Core) (d : ℕ) (step : Step) (s : State PadHistory) : Type 0 where
   pub has_turn : (edges : List Edge) × (new : State PadHistory) × Turn history_wiring s edges new
-  pub each_turn : (edges : List Edge) (new : State PadHistory) → Turn history_wiring s edges new → OneStep head lines inst o d step s edges new
+  pub each_turn : (edges : List Edge) (new : State PadHistory) → Turn history_wiring s edges new → OneStep head lines inst o d step s edges
+      new
 
 abbrev pub AloneContained : Type 0
 AloneContained =
-    (head : Head) (lines : Lines) (image : FinMap nat_cmp ℕ) (inst : Instance) (o : Core) (d : ℕ) (step : Step) (s : State PadHistory) → inst.kind ≡ Alone → InstructionBegins head lines image inst o d step s → Contained head lines inst o d step s
+    (head : Head) (lines : Lines) (image : FinMap nat_cmp ℕ) (inst : Instance) (o : Core) (d : ℕ) (step : Step) (s : State PadHistory)
+    → inst.kind ≡ Alone → InstructionBegins head lines image inst o d step s → Contained head lines inst o d step s
 
 -- in a handler OCR1A is the last clock of the instance's line
 abbrev pub HandlerContained : Type 0
 HandlerContained =
-    (head : Head) (lines : Lines) (image : FinMap nat_cmp ℕ) (inst : Instance) (o : Core) (d : ℕ) (step : Step) (s : State PadHistory) → inst.kind ≡ Handler → suc (top_of inst) ≡ lines.length inst.line → inst.clock < lines.length inst.line → 4 ≤ lines.length inst.line
+    (head : Head) (lines : Lines) (image : FinMap nat_cmp ℕ) (inst : Instance) (o : Core) (d : ℕ) (step : Step) (s : State PadHistory)
+    → inst.kind ≡ Handler → suc (top_of inst) ≡ lines.length inst.line → inst.clock < lines.length inst.line → 4 ≤ lines.length
+    inst.line
     → InstructionBegins head lines image inst o d step s → Contained head lines inst o d step s
 
 -- in main, where no interrupt is taken now
 abbrev pub MainContained : Type 0
 MainContained =
-    (head : Head) (lines : Lines) (image : FinMap nat_cmp ℕ) (inst : Instance) (o : Core) (d : ℕ) (step : Step) (s : State PadHistory) → inst.kind ≡ Main → is_entry s ≡ false
-    → ((i : Instr) → Reads (word_of image (inst.pc % 32768)) (word_of image ((inst.pc + 1) % 32768)) i → main_emits (effect_of i) inst ≡ false)
+    (head : Head) (lines : Lines) (image : FinMap nat_cmp ℕ) (inst : Instance) (o : Core) (d : ℕ) (step : Step) (s : State PadHistory)
+    → inst.kind ≡ Main → is_entry s ≡ false
+    → ((i : Instr) → Reads (word_of image (inst.pc % 32768)) (word_of image ((inst.pc + 1) % 32768)) i → main_emits (effect_of i)
+    inst ≡ false)
     → InstructionBegins head lines image inst o d step s → Contained head lines inst o d step s

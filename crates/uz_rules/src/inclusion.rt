@@ -9,7 +9,7 @@ ghost use Rattle.uz_rules.specs.Inside.{value_inside as lies_in_value, flag_insi
 use uz_schedule::{Bit, Instance, Kind, Span, Val, Wide};
 
 /// Whether a range of bytes lies in another.
-fn span_inside(a: &Span, b: &Span) -> bool
+pub(crate) fn span_inside(a: &Span, b: &Span) -> bool
     ensures { result ≡ range_inside a.now b.now }
 {
     b.lo() <= a.lo() && a.hi() <= b.hi()
@@ -23,7 +23,7 @@ fn wide_inside(a: &Wide, b: &Wide) -> bool
 }
 
 /// Whether what is known of a byte lies in what is known elsewhere.
-fn value_inside(a: &Val, b: &Val) -> bool
+pub(crate) fn value_inside(a: &Val, b: &Val) -> bool
     ensures { result ≡ lies_in_value a.now b.now }
 {
     match (a, b) {
@@ -80,7 +80,7 @@ fn registers_inside(a: &[Val; 32], b: &[Val; 32]) -> bool
 
 /// Whether the pairs X, Y and Z lie in others.
 #[tactic(auto, using(crate::proofs::Below::below_none, crate::proofs::Below::below_more))]
-fn pairs_inside(a: &[Wide; 3], b: &[Wide; 3]) -> bool
+pub(crate) fn pairs_inside(a: &[Wide; 3], b: &[Wide; 3]) -> bool
     ensures { result ≡ pairs_lie a.now b.now }
 {
     let mut within = true;
@@ -101,7 +101,7 @@ fn flag(flags: &[Bit; 7], k: usize) -> Bit
 
 /// Whether the flags lie in others.
 #[tactic(auto, using(crate::proofs::Below::below_none, crate::proofs::Below::below_more))]
-fn flags_inside(a: &[Bit; 7], b: &[Bit; 7]) -> bool
+pub(crate) fn flags_inside(a: &[Bit; 7], b: &[Bit; 7]) -> bool
     ensures { result ≡ flags_lie a.now b.now }
 {
     let mut within = true;

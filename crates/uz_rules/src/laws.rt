@@ -43,7 +43,7 @@ pub fn restored_gives()
 {}
 
 /// The law that the local rule has one answer. Does nothing.
-pub fn one_local()
+pub fn local_is_unique()
     ensures { OneLocal }
 {}
 

@@ -1,7 +1,10 @@
 //! Abstract results, the local rule, and their containment of the machine.
 #![tactic(auto)]
 
+mod count_keys;
 mod edge_rule;
+mod fact_inclusion;
+mod facts;
 mod inclusion;
 mod laws;
 mod local_rule;
@@ -12,10 +15,10 @@ mod successors;
 pub use inclusion::{inside, restored};
 pub use laws::{
     alone_contained, handler_contained, inside_keeps, lies_in_point_tells, limits_give,
-    main_contained, one_local, restored_gives, some_stand, state_inside,
+    local_is_unique, main_contained, restored_gives, some_stand, state_inside,
 };
 pub use local_rule::local;
 pub use next::Next;
-pub use results::after;
+pub use results::{after, put_after};
 pub use successors::lies_in_point;
 pub use uz_transfer::Fail;

@@ -1,6 +1,6 @@
 //! The abstract results of an instance, one by one.
 
-ghost use Rattle.std.specs.Prelude.{◌≡◌, ◌<◌, ◌≤◌, Ok, length, map};
+ghost use Rattle.std.specs.Prelude.{◌≡◌, ◌<◌, ◌≤◌, Ok, Err, OnOk, IfErr, length, map};
 ghost use Rattle.uz_schedule.specs.Lines.{uniform};
 ghost use Rattle.uz_transfer.specs.Kinds.{depth_limit};
 ghost use Rattle.uz_transfer.specs.Step.{placed};
@@ -41,51 +41,77 @@ fn result_at(
     result
 }
 
-/// What is known at each exit.
-fn results_at(
+/// Puts what is known at each exit in place of a list.
+fn put_results(
     draft: &Instance,
     order: LineOrder,
     at: &Instance,
     emitted: Option<EventKind>,
     clears: bool,
     exits: &[Exit],
-) -> ArrayVec<Instance, 16>
+    out: &mut ArrayVec<Instance, 16>,
+)
     requires line { at.now.line < order.count }
     requires clock { at.now.clock ≤ 1820 }
     requires few { length exits.now ≤ 16 }
-    ensures { result.items ≡ map (λ exit. placed (uniform order.count) at.now draft.now emitted clears exit) exits.now }
+    ensures { out.new.items ≡ map (λ exit. placed (uniform order.count) at.now draft.now emitted clears exit) exits.now }
 {
-    let mut out = ArrayVec::new();
+    out.clear();
     for exit in exits {
         out.push(result_at(draft, order, at, emitted, clears, *exit));
     }
-    out
 }
 
-/// The results of a step.
-fn next(order: LineOrder, at: &Instance, step: &Step) -> Next
+/// Puts the results of a step in place of others.
+fn put_next(order: LineOrder, at: &Instance, step: &Step, next: &mut Next)
     requires line { at.now.line < order.count }
     requires clock { at.now.clock ≤ 1820 }
-    ensures { Ok result ≡ next_of (uniform order.count) at.now (Ok step.now) }
+    ensures { Ok next.new ≡ next_of (uniform order.count) at.now (Ok step.now) }
 {
-    Next {
-        emit: timed(step.emit, first_exit(step.exits.as_slice()).clocks),
-        back: step.back,
-        out: results_at(
-            &step.draft,
-            order,
-            at,
-            step.emit,
-            step.clears,
-            step.exits.as_slice(),
-        ),
+    next.emit = timed(step.emit, first_exit(step.exits.as_slice()).clocks);
+    next.back = step.back;
+    put_results(
+        &step.draft,
+        order,
+        at,
+        step.emit,
+        step.clears,
+        step.exits.as_slice(),
+        &mut next.out,
+    );
+}
+
+/// Puts the abstract results of an instance in place of others, as `after` gives them; where there are none, it answers the reason, and what
+/// `next` then has isn't told. A caller that asks for many instances keeps one `Next`, so that only the results that there are
+/// get written. Takes no memory.
+#[tactic(auto, using(crate::proofs::AfterLaws::after_ok, crate::proofs::AfterLaws::after_err))]
+pub fn put_after(
+    image: &Image,
+    head: &Head,
+    lines: u16,
+    at: &Instance,
+    next: &mut Next,
+) -> Result<(), Fail>
+    requires depth { depth_limit head.now at.now.kind ≤ 32 }
+    requires few { lines ≤ 525 }
+    requires line { at.now.line < lines }
+    requires clock { at.now.clock < 1820 }
+    ensures ok { OnOk result (IsAfter head.now (uniform lines) image.now at.now (Ok next.new)) }
+    ensures err { IfErr result (λ why. IsAfter head.now (uniform lines) image.now at.now (Err why)) }
+{
+    let order = LineOrder { count: lines };
+    match abstract_step(image, head, order.length(at.line), at) {
+        Ok(step) => {
+            put_next(order, at, &step, next);
+            Ok(())
+        }
+        Err(why) => Err(why),
     }
 }
 
 /// The abstract results of an instance under the instruction at its pc, in a frame of so many lines; or the least of the reasons Opcode, Flag,
 /// Mask, Stack, Return, Store, Io and Edge that stands, where Edge is an emission that isn't known. The header is within its limits, and the
 /// instance has no more slots than its kind's depth. A pc counts modulo 32,768, and a level by its bit 0. Takes no memory.
-#[tactic(auto, using(crate::proofs::AfterLaws::after_ok, crate::proofs::AfterLaws::after_err))]
 pub fn after(image: &Image, head: &Head, lines: u16, at: &Instance) -> Result<Next, Fail>
     requires depth { depth_limit head.now at.now.kind ≤ 32 }
     requires few { lines ≤ 525 }
@@ -93,9 +119,9 @@ pub fn after(image: &Image, head: &Head, lines: u16, at: &Instance) -> Result<Ne
     requires clock { at.now.clock < 1820 }
     ensures { IsAfter head.now (uniform lines) image.now at.now result }
 {
-    let order = LineOrder { count: lines };
-    match abstract_step(image, head, order.length(at.line), at) {
-        Ok(step) => Ok(next(order, at, &step)),
+    let mut next = Next::empty();
+    match put_after(image, head, lines, at, &mut next) {
+        Ok(()) => Ok(next),
         Err(why) => Err(why),
     }
 }

@@ -1,59 +1,16 @@
 //! The named successors of a point, and the instances that lie in them.
 
-ghost use Rattle.std.specs.Prelude.{◌≡◌, ◌↔◌, ◌-◌, suc, pos, ◌+ℤ◌, ◌*ℤ◌, IsTrue, Some, slice_get};
+ghost use Rattle.std.specs.Prelude.{◌≡◌, ◌<◌, ◌↔◌, ◌-◌, suc, pos, ◌+ℤ◌, ◌*ℤ◌, IsTrue, Some, slice_get, true, ℕ};
+ghost use Rattle.std.specs.Int.RustNames.{unsigned_abs};
+ghost use Rattle.uz_schedule.specs.Limits.{ScheduleFits};
 ghost use Rattle.uz_schedule.specs.WellFormed.{WellFormed};
-ghost use Rattle.uz_schedule.specs.Instances.{instance_at};
-ghost use Rattle.uz_rules.specs.Successors.{same_program_place, lies_in_box as lies_in_its_box, lies_at as lies_there, any_from, lies_in_point as lies_in_its_point, lies_in_any as lies_in_one};
+ghost use Rattle.uz_rules.specs.Successors.{same_program_place, lies_in_box as lies_in_its_box, any_from, lies_in_point as lies_in_its_point, lies_in_any as lies_in_one};
+ghost use Rattle.uz_rules.specs.FactInclusion.{facts_inside as lies_in_facts, has_level as level_is_there, is_line_of as line_is_of, is_beside as stands_near, IsAtCount, LiesAtSome};
 
-use crate::inclusion::{inside, same_kind};
-use uz_schedule::{Cert, Instance, Point};
-
-/// Whether an instance lies in another one, where there is one.
-fn lies_at(point: &Option<Instance>, at: &Instance) -> bool
-    ensures { result ≡ lies_there point.now at.now }
-{
-    match point {
-        Some(point) => inside(at, point),
-        None => false,
-    }
-}
-
-/// Whether a point stands at an instance's clock, at this count.
-fn is_at_clock(point: &Point, at: &Instance, count: u8) -> bool
-    ensures { IsTrue result ↔ (pos point.now.clock +ℤ point.now.slope *ℤ pos count ≡ pos at.now.clock) }
-{
-    i32::from(point.clock) + i32::from(point.slope) * i32::from(count) == i32::from(at.clock)
-}
-
-/// Whether an instance lies in the instance of a point at the instance's own line and this count. What is known is compared only where
-/// the clocks are equal.
-#[tactic(auto, using(crate::proofs::Elsewhere::other_clock))]
-fn lies_at_count(cert: &Cert, id: u32, point: &Point, at: &Instance, count: u8) -> bool
-    requires fits { WellFormed cert.now }
-    requires point { slice_get cert.now.points id ≡ Some point.now }
-    ensures { result ≡ lies_there (instance_at cert.now id at.now.line count) at.now }
-{
-    if !is_at_clock(point, at, count) {
-        return false;
-    }
-    lies_at(&cert.instance(id, at.line, count), at)
-}
-
-/// Whether an instance lies in the instance of a point at the instance's own line and one of these counts.
-#[tactic(auto, using(crate::proofs::Below::any_none, crate::proofs::Below::any_found, crate::proofs::Below::any_more))]
-fn lies_at_counts(cert: &Cert, id: u32, point: &Point, at: &Instance, first: u8, last: u8) -> bool
-    requires fits { WellFormed cert.now }
-    requires point { slice_get cert.now.points id ≡ Some point.now }
-    ensures { result ≡ any_from (λ c. lies_there (instance_at cert.now id at.now.line c) at.now) first (suc last - first) }
-{
-    let end = last as u16 + 1;
-    for count in first as u16..end {
-        if lies_at_count(cert, id, point, at, count as u8) {
-            return true;
-        }
-    }
-    false
-}
+use crate::count_keys::{CountKey, key_of, may_lie};
+use crate::fact_inclusion::facts_inside;
+use crate::inclusion::same_kind;
+use uz_schedule::{Cert, Instance, Point, Schedule};
 
 /// Whether a point has an instance's kind and pc.
 fn is_same_place(point: &Point, at: &Instance) -> bool
@@ -62,17 +19,129 @@ fn is_same_place(point: &Point, at: &Instance) -> bool
     same_kind(at.kind, point.kind) && at.pc == point.pc
 }
 
-/// Whether an instance lies in an instance of a point's box.
-#[tactic(auto, using(crate::proofs::Elsewhere::other_box))]
+/// Whether a line is one of a point's box.
+fn is_line_of(point: &Point, line: u16) -> bool
+    ensures { result ≡ line_is_of point.now line }
+{
+    point.l0 <= line && line <= point.l1
+}
+
+/// Whether a clock is one of its line and the schedule has a level there.
+fn has_level(schedule: &Schedule, line: u16, clock: u16) -> bool
+    requires { ScheduleFits schedule.now }
+    ensures { result ≡ level_is_there schedule.now line clock }
+{
+    clock < schedule.length(line)
+        && schedule
+            .level(schedule.start(line) + u32::from(clock))
+            .is_some()
+}
+
+/// Whether a point has an instance's kind, pc and pending, and its box the instance's line. All of this is the same at each count.
+fn is_beside(point: &Point, at: &Instance) -> bool
+    ensures { result ≡ stands_near point.now at.now }
+{
+    (is_same_place(point, at) && at.pending == point.pending) && is_line_of(point, at.line)
+}
+
+/// The place of a fact by which these counts of a point are told apart. None is looked for where there is one count.
+fn key_among(point: &Point, first: u8, last: u8) -> CountKey {
+    if first < last {
+        key_of(point)
+    } else {
+        CountKey::Nothing
+    }
+}
+
+/// Whether an instance lies in what a point's facts say at a count. The key's place is looked at first.
+#[tactic(auto, using(crate::proofs::CountKeys::dismissed))]
+fn lies_at_count(key: &CountKey, at: &Instance, point: &Point, count: u8) -> bool
+    ensures { result ≡ lies_in_facts at.now point.now count }
+{
+    may_lie(key, at, point, count) && facts_inside(at, point, count)
+}
+
+/// Whether an instance lies in what a point's facts say at one of these counts.
+#[tactic(auto, using(crate::proofs::Below::any_none, crate::proofs::Below::any_found, crate::proofs::Below::any_more))]
+fn lies_at_one(at: &Instance, point: &Point, first: u8, last: u8) -> bool
+    ensures { result ≡ any_from (lies_in_facts at.now point.now) first (suc last - first) }
+{
+    let key = key_among(point, first, last);
+    let end = last as u16 + 1;
+    for count in first as u16..end {
+        if lies_at_count(&key, at, point, count as u8) {
+            return true;
+        }
+    }
+    false
+}
+
+/// Whether an instance lies in what a point's facts say at one of its counts, where the point's clock is the same at all.
+#[tactic(auto, using(crate::proofs::AtCounts::flat_found, crate::proofs::AtCounts::flat_clock, crate::proofs::AtCounts::flat_told))]
+fn lies_at_any_count(point: &Point, at: &Instance) -> bool
+    requires { unsigned_abs point.now.slope ≡ 0 }
+    ensures found { result ≡ true → LiesAtSome point.now at.now }
+    ensures told { LiesAtSome point.now at.now → result ≡ true }
+{
+    point.clock == at.clock && lies_at_one(at, point, point.c0, point.c1)
+}
+
+/// The count at which a clock is reached from another one by steps of a slope, where there is one.
+#[tactic(auto, using(crate::proofs::AtCounts::steps_told))]
+fn steps_between(from: u16, to: u16, slope: i16) -> u16
+    requires { 0 < unsigned_abs slope }
+    ensures { (c : ℕ) → pos from +ℤ slope *ℤ pos c ≡ pos to → c ≡ result }
+{
+    from.abs_diff(to) / slope.unsigned_abs()
+}
+
+/// Whether a point's clock is this one at a count.
+fn is_at_clock(point: &Point, clock: u16, count: u8) -> bool
+    ensures { IsTrue result ↔ (pos point.now.clock +ℤ point.now.slope *ℤ pos count ≡ pos clock) }
+{
+    i32::from(point.clock) + i32::from(point.slope) * i32::from(count) == i32::from(clock)
+}
+
+/// Whether a count is one of a point's box, and the point's clock there is this one.
+fn is_at_count(point: &Point, clock: u16, count: u8) -> bool
+    ensures { IsTrue result ↔ IsAtCount point.now clock count }
+{
+    (point.c0 <= count && count <= point.c1) && is_at_clock(point, clock, count)
+}
+
+/// Whether an instance lies in what a point's facts say at the one count that has its clock, where the clocks differ.
+#[tactic(auto, using(crate::proofs::AtCounts::its_count))]
+fn lies_at_its_count(point: &Point, at: &Instance) -> bool
+    requires { 0 < unsigned_abs point.now.slope }
+    ensures found { result ≡ true → LiesAtSome point.now at.now }
+    ensures told { LiesAtSome point.now at.now → result ≡ true }
+{
+    let count = steps_between(point.clock, at.clock, point.slope);
+    count <= u16::from(point.c1)
+        && (is_at_count(point, at.clock, count as u8) && facts_inside(at, point, count as u8))
+}
+
+/// Whether an instance lies in what a point's facts say at a count of its box where the clocks are equal.
+fn lies_at_some_count(point: &Point, at: &Instance) -> bool
+    ensures found { result ≡ true → LiesAtSome point.now at.now }
+    ensures told { LiesAtSome point.now at.now → result ≡ true }
+{
+    if point.slope.unsigned_abs() == 0 {
+        lies_at_any_count(point, at)
+    } else {
+        lies_at_its_count(point, at)
+    }
+}
+
+/// Whether an instance lies in an instance of a point's box. No instance is made: what is the same at each count is asked once,
+/// and the facts at those counts alone that have the instance's clock. The level is asked last, since it costs most.
 fn lies_in_box(cert: &Cert, id: u32, point: &Point, at: &Instance) -> bool
     requires fits { WellFormed cert.now }
     requires point { slice_get cert.now.points id ≡ Some point.now }
     ensures { result ≡ lies_in_its_box cert.now id (Some point.now) at.now }
 {
-    if !is_same_place(point, at) {
-        return false;
-    }
-    lies_at_counts(cert, id, point, at, point.c0, point.c1)
+    is_beside(point, at)
+        && (lies_at_some_count(point, at) && has_level(&cert.schedule, at.line, at.clock))
 }
 
 /// Whether an instance lies in an instance of a point: that at the instance's own line and one of the counts of the point's box.

@@ -32,7 +32,8 @@ rest_holds laws cert rest h = record {
   vector = λ c few. covered laws.lies cert rest.vector (rest_instance cert rest c) (h.vector c few);
 }
 
-local_holds : (laws : RuleLaws) (image : FinMap nat_cmp ℕ) (cert : Cert) → Accepts image cert → (id l c : ℕ) (inst : Instance) → instance_at cert id l c ≡ Some inst → LocalHolds image cert inst
+local_holds : (laws : RuleLaws) (image : FinMap nat_cmp ℕ) (cert : Cert) → Accepts image cert → (id l c : ℕ) (inst : Instance)
+    → instance_at cert id l c ≡ Some inst → LocalHolds image cert inst
 local_holds laws image cert h id l c inst e =
     let point = opened (λ p. instance_in cert.schedule p l c) (slice_get cert.points id) inst e in
     local_tells laws.lies image cert id l c inst (h.points id l c point.0 point.1 (of_point cert point.0 l c inst point.2).box) e
@@ -48,9 +49,11 @@ premises_hold laws image cert formed h = record {
 
 -- Some state enters
 
-pub some_enters : (image : FinMap nat_cmp ℕ) (cert : Cert) → IsFlash image → WellFormed cert → IsSteady cert.schedule → (cert.entry.kind ≡ Main → (rest : Rest) × Contains cert.rests rest)
+pub some_enters : (image : FinMap nat_cmp ℕ) (cert : Cert) → IsFlash image → WellFormed cert → IsSteady cert.schedule
+    → (cert.entry.kind ≡ Main → (rest : Rest) × Contains cert.rests rest)
     → (s : State PadHistory) × (p : ℕ) × IsState s × (s.image ≡ image) × EntryCondition cert s p
-some_enters image cert flash formed steady rest = some_state image cert flash (limits_of cert formed) (entry_limits cert formed) steady (has_rest cert.entry.kind refl formed.entry.kind)
+some_enters image cert flash formed steady rest = some_state image cert flash (limits_of cert formed) (entry_limits cert formed) steady
+    (has_rest cert.entry.kind refl formed.entry.kind)
   where
     has_rest : (kind : Kind) → cert.entry.kind ≡ kind → EntryKindFits kind cert.entry → HasRest cert kind
     has_rest Main is h = rest is

@@ -1,5 +1,6 @@
 -- The turn that is the handler's RETI.
-use Rattle.std.proofs.Common.{List, [], ◌∷◌, ◌≡◌, inl, Contains, ℕ, zero, suc, ◌+◌, ◌-◌, ◌*◌, ◌/◌, ◌%◌, ◌<◌, ◌≤◌, true, false, length, refl, sym, ◌∙◌, ap, subst, arith}
+use Rattle.std.proofs.Common.{List, [], ◌∷◌, ◌≡◌, inl, Contains, ℕ, zero, suc, ◌+◌, ◌-◌, ◌*◌, ◌/◌, ◌%◌, ◌<◌, ◌≤◌, true, false, length, refl}
+use Rattle.std.proofs.Common.{sym, ◌∙◌, ap, subst, arith}
 use Rattle.std.specs.Prelude.{Some, ◌||◌, slice_index}
 use Rattle.std.specs.Ordering.{nat_cmp}
 use Rattle.std.specs.FinMap.{FinMap}
@@ -52,17 +53,21 @@ use Rattle.uz_soundness.proofs.Restored.{given_back}
 use Rattle.uz_soundness.proofs.Returns.{IsReturn, return_tells}
 
 -- the two bytes are the interrupted pc's
-popped : (head : Head) (was s : State PadHistory) (n : ℕ) → was.core.sp + n ≡ head.hi → 1 ≤ was.core.sp → was.core.sp < length was.space.bytes → s.core.sp + 2 ≡ was.core.sp → was.core.pc < 32768
+popped : (head : Head) (was s : State PadHistory) (n : ℕ) → was.core.sp + n ≡ head.hi → 1 ≤ was.core.sp → was.core.sp < length
+    was.space.bytes → s.core.sp + 2 ≡ was.core.sp → was.core.pc < 32768
     → ((a : ℕ) → head.hi < a + (n + 2) → a ≤ head.hi → slice_index s.space.bytes a ≡ slice_index (pushed was) a)
     → (slice_index s.space.bytes (s.core.sp + 2) + 256 * slice_index s.space.bytes (s.core.sp + 1)) % 32768 ≡ was.core.pc
 popped head was s n top some within sp small kept =
     let at_high : s.core.sp + 1 ≡ was.core.sp - 1 = omega (arith, sp) in
-    let high : slice_index s.space.bytes (s.core.sp + 1) ≡ was.core.pc / 256 = kept (s.core.sp + 1) (omega (arith, sp, top)) (omega (arith, sp, top)) ∙ (ap (slice_index (pushed was)) at_high ∙ pushed_high was (omega (arith, within, some))) in
-    let low : slice_index s.space.bytes (s.core.sp + 2) ≡ was.core.pc % 256 = kept (s.core.sp + 2) (omega (arith, sp, top)) (omega (arith, sp, top)) ∙ (ap (slice_index (pushed was)) sp ∙ pushed_low was some within) in
+    let high : slice_index s.space.bytes (s.core.sp + 1) ≡ was.core.pc / 256 = kept (s.core.sp + 1) (omega (arith, sp, top))
+    (omega (arith, sp, top)) ∙ (ap (slice_index (pushed was)) at_high ∙ pushed_high was (omega (arith, within, some))) in
+    let low : slice_index s.space.bytes (s.core.sp + 2) ≡ was.core.pc % 256 = kept (s.core.sp + 2) (omega (arith, sp, top))
+    (omega (arith, sp, top)) ∙ (ap (slice_index (pushed was)) sp ∙ pushed_low was some within) in
     omega (arith, high, low, small)
 
 -- a core with the same registers and flags meets the same
-core_same : (inst : Instance) (o was core : Core) → ((r : ℕ) → r < 32 → register core r ≡ register was r) → ((k : ℕ) → k < 7 → bit_is_set core.sreg k ≡ bit_is_set was.sreg k) → CoreMeets inst o was → CoreMeets inst o core
+core_same : (inst : Instance) (o was core : Core) → ((r : ℕ) → r < 32 → register core r ≡ register was r)
+    → ((k : ℕ) → k < 7 → bit_is_set core.sreg k ≡ bit_is_set was.sreg k) → CoreMeets inst o was → CoreMeets inst o core
 core_same inst o was core registers flags h = record {
   regs = λ r few. subst (ValueHolds (value_at inst.regs r) o) (sym (registers r few)) (h.regs r few);
   pairs = λ k few.
@@ -80,7 +85,8 @@ leave_edge s = record { clock = s.clock + 4; kind = LeaveEdge } ∷ []
 record Placed (cert : Cert) (inst : Instance) (step : Step) (exit : Exit) (s : State PadHistory) : Type 0 where
   line : (successor (lines_of cert.schedule) inst step exit).line ≡ line_after (lines_of cert.schedule) inst.line (inst.clock + 4)
   clock : (successor (lines_of cert.schedule) inst step exit).clock ≡ clock_after (lines_of cert.schedule) inst.line (inst.clock + 4)
-  pending : (successor (lines_of cert.schedule) inst step exit).pending ≡ (inst.pending || ends_line (lines_of cert.schedule) inst.line (inst.clock + 4))
+  pending : (successor (lines_of cert.schedule) inst step exit).pending ≡ (inst.pending || ends_line (lines_of cert.schedule) inst.line
+      (inst.clock + 4))
   four : exit.clocks ≡ 4
 
 one_exit : (exits : List Exit) (e only : Exit) → exits ≡ only ∷ [] → Contains exits e → only ≡ e
@@ -90,7 +96,8 @@ one_exit exits e only is has = by_place (subst (λ xs. Contains xs e) is has)
     by_place (zero, below, found) = found
     by_place (suc i, below, found) = absurd (omega (arith, below))
 
-placed_back : (cert : Cert) (inst : Instance) (step : Step) (exit : Exit) (s : State PadHistory) → inst.kind ≡ Handler → step.clears ≡ false → exit.clocks ≡ 4 → Placed cert inst step exit s
+placed_back : (cert : Cert) (inst : Instance) (step : Step) (exit : Exit) (s : State PadHistory) → inst.kind ≡ Handler → step.clears ≡ false
+    → exit.clocks ≡ 4 → Placed cert inst step exit s
 placed_back cert inst step exit s kind clears four =
     let main : is_main inst.kind ≡ false = ap is_main kind in
     let handler : is_handler inst.kind ≡ true = ap is_handler kind in
@@ -101,8 +108,10 @@ placed_back cert inst step exit s kind clears four =
       four = four;
     }
 
-returned_follows : (image : FinMap nat_cmp ℕ) (cert : Cert) (p : ℕ) (s : State PadHistory) (inst main : Instance) (o : Core) (was : State PadHistory) (local : LocalHolds image cert inst)
-    → Premises image cert → IsState (returned s) → s.image ≡ image → level_at cert.schedule p ≡ Some (sync_level s.space) → HandlerRuns cert p s inst main o was → IsReturn image inst local.step
+returned_follows : (image : FinMap nat_cmp ℕ) (cert : Cert) (p : ℕ) (s : State PadHistory) (inst main : Instance) (o : Core)
+    (was : State PadHistory) (local : LocalHolds image cert inst)
+    → Premises image cert → IsState (returned s) → s.image ≡ image → level_at cert.schedule p ≡ Some (sync_level s.space) → HandlerRuns cert
+    p s inst main o was → IsReturn image inst local.step
     → Returns cert inst local.step → depth_of inst ≡ 0 → Turned image cert p s (RunsHandler inst main o was) (leave_edge s) (returned s)
 returned_follows image cert p s inst main o was local h then_state flash level runs reti back empty =
     let z = cert.schedule in
@@ -118,26 +127,33 @@ returned_follows image cert p s inst main o was local h then_state flash level r
     let long = line_long z inst.line h.limits.schedule fits.line in
     let time = timed z inst t 4 ticks.0 timer (omega (arith, timer.2)) fits.clock (omega (arith, long)) in
     let count : (timer_after 4 t).count ≡ r.clock = time.count ∙ sym end.clock in
-    let draft : CoreMeets r was.core s.core = subst (λ d. CoreMeets (record r { regs = d.regs; pairs = d.pairs; flags = d.flags }) was.core s.core) (sym reti.draft) (record { regs = meets.core.regs; pairs = meets.core.pairs; flags = meets.core.flags }) in
+    let draft : CoreMeets r was.core s.core = subst (λ d. CoreMeets (record r { regs = d.regs; pairs = d.pairs; flags = d.flags }) was.core
+    s.core) (sym reti.draft) (record { regs = meets.core.regs; pairs = meets.core.pairs; flags = meets.core.flags }) in
     let given = given_back r was.core s.core back.restored draft in
     let clear : (timer_after 4 t).matched ≡ false = time.matched ∙ (sym end.pending ∙ given.pending) in
     let main_fits = is_placed cert h.limits runs.main_stands.id runs.main_stands.l runs.main_stands.c main runs.main_stands.is in
     let depth = main_slots cert main main_fits runs.main_stands.of_kind in
     let d = depth_of main in
-    let stack : s.core.sp + (d + 2) ≡ cert.head.hi = omega (arith, empty, subst (λ k. s.core.sp + depth_of inst + depth_below k d ≡ cert.head.hi) kind meets.memory.depth) in
+    let stack : s.core.sp + (d + 2) ≡ cert.head.hi =
+    omega (arith, empty, subst (λ k. s.core.sp + depth_of inst + depth_below k d ≡ cert.head.hi) kind meets.memory.depth) in
     let sp : s.core.sp + 2 ≡ was.core.sp = omega (arith, stack, runs.kept.sp) in
     let low : cert.head.lo < was.core.sp = omega (arith, runs.kept.sp, depth, room_below cert.head h.limits.head) in
-    let pc : (returned s).core.pc ≡ was.core.pc = popped cert.head was s d runs.kept.sp (omega (arith, low)) (omega (arith, runs.was_state.space.size, runs.kept.sp, h.limits.head.high)) sp (omega (arith, main_fits.pc, runs.main_stands.meets.pc)) runs.kept.stack in
+    let pc : (returned s).core.pc ≡ was.core.pc = popped cert.head was s d runs.kept.sp (omega (arith, low))
+    (omega (arith, runs.was_state.space.size, runs.kept.sp, h.limits.head.high)) sp
+    (omega (arith, main_fits.pc, runs.main_stands.meets.pc)) runs.kept.stack in
     let own : (a : ℕ) → cert.head.hi < a + d → a ≤ cert.head.hi → slice_index s.space.bytes a ≡ slice_index was.space.bytes a =
-    λ a above below. runs.kept.stack a (omega (arith, above)) below ∙ pushed_off was a (λ e. omega (arith, e, above, runs.kept.sp)) (λ e. omega (arith, e, above, runs.kept.sp)) in
+    λ a above below. runs.kept.stack a (omega (arith, above)) below ∙ pushed_off was a (λ e. omega (arith, e, above, runs.kept.sp))
+    (λ e. omega (arith, e, above, runs.kept.sp)) in
     let cell : (a j : ℕ) → cell_place cert.head Main a ≡ Some j → slice_index s.space.bytes a ≡ slice_index was.space.bytes a =
     λ a j e.
     let apart = mains_alone cert.head a j e in
-    runs.kept.cells a j e ∙ off_pushed was cert.head.lo cert.head.hi a low (omega (arith, runs.kept.sp)) ((head_fits cert.head h.limits.head).cells_off a apart.range apart.there) in
+    runs.kept.cells a j e ∙ off_pushed was cert.head.lo cert.head.hi a low (omega (arith, runs.kept.sp))
+    ((head_fits cert.head h.limits.head).cells_off a apart.range apart.there) in
     let edge : EdgeHolds image cert Handler inst local.step = subst (λ k. EdgeHolds image cert k inst local.step) kind local.edge in
     let stretch : scheduled (event_at z) p s.clock 4 ≡ listed (shown_at (Some Leave) (s.clock + 4)) =
     scheduled_mod z p (position_of z inst) s.clock 4 runs.place
-    ∙ (subst (λ c. scheduled (event_at z) (position_of z inst) s.clock c ≡ listed (shown_at local.step.emit (s.clock + c))) end.four (edge back.exit s.clock back.is_exit (omega (arith, end.four))) ∙ ap (λ e. listed (shown_at e (s.clock + 4))) reti.emits)
+    ∙ (subst (λ c. scheduled (event_at z) (position_of z inst) s.clock c ≡ listed (shown_at local.step.emit (s.clock + c))) end.four
+    (edge back.exit s.clock back.is_exit (omega (arith, end.four))) ∙ ap (λ e. listed (shown_at e (s.clock + 4))) reti.emits)
     in
     let there : At z (p + 4) r.line r.clock = at_same z (p + 4) _ r.line _ r.clock (sym end.line) (sym end.clock)
     (at_after z (p + 4) inst.line (inst.clock + 4) (at_more z p inst.line inst.clock 4 runs.place)) in
@@ -145,8 +161,10 @@ returned_follows image cert p s inst main o was local h then_state flash level r
     let was_meets = runs.main_stands.meets in
     let was_memory = was_meets.memory in
     let main_kind = runs.main_stands.of_kind in
-    let handlers : CellsHold cert.head Handler inst.cells.items s.space.bytes = subst (λ k. CellsHold cert.head k inst.cells.items s.space.bytes) kind meets.memory.cells in
-    let drafted : CellsHold cert.head Handler local.step.draft.cells.items s.space.bytes = subst (λ i. CellsHold cert.head Handler i.cells.items s.space.bytes) (sym reti.draft) handlers in
+    let handlers : CellsHold cert.head Handler inst.cells.items s.space.bytes =
+    subst (λ k. CellsHold cert.head k inst.cells.items s.space.bytes) kind meets.memory.cells in
+    let drafted : CellsHold cert.head Handler local.step.draft.cells.items s.space.bytes =
+    subst (λ i. CellsHold cert.head Handler i.cells.items s.space.bytes) (sym reti.draft) handlers in
     record {
       follows = record {
         clocks = 4;
@@ -168,13 +186,16 @@ returned_follows image cert p s inst main o was local h then_state flash level r
               meets = record {
                 pc = pc ∙ was_meets.pc;
                 enabled = set_seven s.core.sreg ∙ sym (ap is_main main_kind);
-                core = core_same main o was.core (returned s).core given.registers (λ k few. set_others s.core.sreg k few ∙ given.flags k few) was_meets.core;
+                core = core_same main o was.core (returned s).core given.registers (λ k few. set_others s.core.sreg k few ∙ given.flags k
+                    few) was_meets.core;
                 memory = record {
                   slots = λ i few.
                       let at : was.core.sp + d - i ≡ s.core.sp + 2 + d - i = omega (arith, sp) in
                       let same = own (was.core.sp + d - i) (omega (arith, few, runs.kept.sp)) (omega (arith, runs.kept.sp)) in
-                      subst (λ a. ValueHolds (value_at main.stack.items i) o (slice_index s.space.bytes a)) at (subst (ValueHolds (value_at main.stack.items i) o) (sym same) (was_memory.slots i few));
-                  cells = λ a j e. subst (λ v. IsWithin v (span_at main.cells.items j)) (sym (cell a j (subst (λ k. cell_place cert.head k a ≡ Some j) main_kind e))) (was_memory.cells a j e);
+                      subst (λ a. ValueHolds (value_at main.stack.items i) o (slice_index s.space.bytes a)) at
+                      (subst (ValueHolds (value_at main.stack.items i) o) (sym same) (was_memory.slots i few));
+                  cells = λ a j e. subst (λ v. IsWithin v (span_at main.cells.items j))
+                      (sym (cell a j (subst (λ k. cell_place cert.head k a ≡ Some j) main_kind e))) (was_memory.cells a j e);
                   ranges = meets.memory.ranges;
                   depth = subst (λ k. s.core.sp + 2 + d + depth_below k 0 ≡ cert.head.hi) (sym main_kind) (omega (arith, stack));
                 };
@@ -187,7 +208,8 @@ returned_follows image cert p s inst main o was local h then_state flash level r
             };
             rests = record {
               is_rest = back.is_rest;
-              cells = cells_widen cert.head Handler local.step.draft.cells.items back.rest.cells.items s.space.bytes then_state.space.bytes back.cells drafted;
+              cells = cells_widen cert.head Handler local.step.draft.cells.items back.rest.cells.items s.space.bytes then_state.space.bytes
+                  back.cells drafted;
               top = ap suc (timer_keeps_top t 4 ∙ timer.2) ∙ omega arith;
               phase = inl (record {
                 place = at_same z (p + 4) r.line back.rest.line r.clock (timer_after 4 t).count back.line (sym count) there;
@@ -204,9 +226,12 @@ returned_follows image cert p s inst main o was local h then_state flash level r
       goes = (refl, back.is_rest, count ∙ back.clock, clear);
     }
 
-pub handler_back : (image : FinMap nat_cmp ℕ) (cert : Cert) (p : ℕ) (s : State PadHistory) (inst main : Instance) (o : Core) (was : State PadHistory) (local : LocalHolds image cert inst)
-    → Premises image cert → IsState (after_instruction history_wiring Reti s) → s.image ≡ image → level_at cert.schedule p ≡ Some (sync_level s.space) → HandlerRuns cert p s inst main o was → local.step.back ≡ true
-    → Returns cert inst local.step → Turned image cert p s (RunsHandler inst main o was) (instruction_edges history_wiring Reti s) (after_instruction history_wiring Reti s)
+pub handler_back : (image : FinMap nat_cmp ℕ) (cert : Cert) (p : ℕ) (s : State PadHistory) (inst main : Instance) (o : Core)
+    (was : State PadHistory) (local : LocalHolds image cert inst)
+    → Premises image cert → IsState (after_instruction history_wiring Reti s) → s.image ≡ image → level_at cert.schedule p ≡ Some
+    (sync_level s.space) → HandlerRuns cert p s inst main o was → local.step.back ≡ true
+    → Returns cert inst local.step → Turned image cert p s (RunsHandler inst main o was) (instruction_edges history_wiring Reti s)
+    (after_instruction history_wiring Reti s)
 handler_back image cert p s inst main o was local h then_state flash level runs is_back back =
     let z = cert.schedule in
     let reti = return_tells cert.head (length_of z inst.line) image inst local.step local.step_is is_back in
@@ -214,10 +239,17 @@ handler_back image cert p s inst main o was local h then_state flash level runs 
     let main_fits = is_placed cert h.limits runs.main_stands.id runs.main_stands.l runs.main_stands.c main runs.main_stands.is in
     let depth = main_slots cert main main_fits runs.main_stands.of_kind in
     let r = successor (lines_of z) inst local.step back.exit in
-    let draft : CoreMeets r was.core s.core = subst (λ d. CoreMeets (record r { regs = d.regs; pairs = d.pairs; flags = d.flags }) was.core s.core) (sym reti.draft) (record { regs = meets.core.regs; pairs = meets.core.pairs; flags = meets.core.flags }) in
+    let draft : CoreMeets r was.core s.core = subst (λ d. CoreMeets (record r { regs = d.regs; pairs = d.pairs; flags = d.flags }) was.core
+    s.core) (sym reti.draft) (record { regs = meets.core.regs; pairs = meets.core.pairs; flags = meets.core.flags }) in
     let given = given_back r was.core s.core back.restored draft in
     let empty : depth_of inst ≡ 0 = ap depth_of (sym reti.draft) ∙ given.slots in
-    let stack : s.core.sp + (depth_of main + 2) ≡ cert.head.hi = omega (arith, empty, subst (λ k. s.core.sp + depth_of inst + depth_below k (depth_of main) ≡ cert.head.hi) runs.stands.of_kind meets.memory.depth) in
+    let stack : s.core.sp + (depth_of main + 2) ≡ cert.head.hi =
+    omega (
+      arith,
+      empty,
+      subst (λ k. s.core.sp + depth_of inst + depth_below k (depth_of main) ≡ cert.head.hi) runs.stands.of_kind
+          meets.memory.depth,
+    ) in
     let low : 256 ≤ s.core.sp + 1 = omega (arith, stack, depth, room_below cert.head h.limits.head, h.limits.head.low) in
     let high : s.core.sp + 2 ≤ 4351 = omega (arith, stack, h.limits.head.high) in
     let goes = return_is s low high in

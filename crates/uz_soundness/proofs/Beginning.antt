@@ -1,5 +1,6 @@
 -- A state that meets the entry condition has the invariant.
-use Rattle.std.proofs.Common.{◌≡◌, inl, inr, ℕ, zero, suc, ◌+◌, ◌-◌, ◌*◌, ◌<◌, Bool, List, [], ◌∷◌, length, map, refl, sym, ◌∙◌, ap, subst, arith}
+use Rattle.std.proofs.Common.{◌≡◌, inl, inr, ℕ, zero, suc, ◌+◌, ◌-◌, ◌*◌, ◌<◌, Bool, List, [], ◌∷◌, length, map, refl, sym, ◌∙◌, ap, subst}
+use Rattle.std.proofs.Common.{arith}
 use Rattle.std.specs.Prelude.{unwrap_or, slice_index}
 use Rattle.std.specs.Ordering.{nat_cmp}
 use Rattle.std.specs.FinMap.{FinMap}
@@ -52,16 +53,20 @@ pair_holds a b v u h g = record { above = omega (arith, h.0, g.0); below = omega
 hull_is : (xs : List Ends) (r : ℕ) → hull (ends_at xs r) (ends_at xs (r + 1)) ≡ byte_hull (map Range xs) r
 hull_is xs r = rw (val_ranges xs r, val_ranges xs (r + 1)) refl
 
-pairs_hold : (cert : Cert) (core : Core) → ((r : ℕ) → r < 32 → IsIn (ends_at cert.entry.regs r) (register core r)) → (i : ℕ) → i < 3 → IsWithin (pair core (26 + 2 * i)) (pair_at (entry_instance cert).pairs i)
+pairs_hold : (cert : Cert) (core : Core) → ((r : ℕ) → r < 32 → IsIn (ends_at cert.entry.regs r) (register core r)) → (i : ℕ) → i < 3
+    → IsWithin (pair core (26 + 2 * i)) (pair_at (entry_instance cert).pairs i)
 pairs_hold cert core h zero b =
     let xs = cert.entry.regs in
-    subst (λ w. IsWithin (pair core 26) w) (hull_is xs 26) (pair_holds (ends_at xs 26) (ends_at xs 27) (register core 26) (register core 27) (h 26 (omega arith)) (h 27 (omega arith)))
+    subst (λ w. IsWithin (pair core 26) w) (hull_is xs 26) (pair_holds (ends_at xs 26) (ends_at xs 27) (register core 26) (register core 27)
+    (h 26 (omega arith)) (h 27 (omega arith)))
 pairs_hold cert core h (suc zero) b =
     let xs = cert.entry.regs in
-    subst (λ w. IsWithin (pair core 28) w) (hull_is xs 28) (pair_holds (ends_at xs 28) (ends_at xs 29) (register core 28) (register core 29) (h 28 (omega arith)) (h 29 (omega arith)))
+    subst (λ w. IsWithin (pair core 28) w) (hull_is xs 28) (pair_holds (ends_at xs 28) (ends_at xs 29) (register core 28) (register core 29)
+    (h 28 (omega arith)) (h 29 (omega arith)))
 pairs_hold cert core h (suc (suc zero)) b =
     let xs = cert.entry.regs in
-    subst (λ w. IsWithin (pair core 30) w) (hull_is xs 30) (pair_holds (ends_at xs 30) (ends_at xs 31) (register core 30) (register core 31) (h 30 (omega arith)) (h 31 (omega arith)))
+    subst (λ w. IsWithin (pair core 30) w) (hull_is xs 30) (pair_holds (ends_at xs 30) (ends_at xs 31) (register core 30) (register core 31)
+    (h 30 (omega arith)) (h 31 (omega arith)))
 pairs_hold cert core h (suc (suc (suc i))) b = absurd (omega (arith, b))
 
 -- a flag that is known, beside itself
@@ -78,15 +83,18 @@ entry_core cert s p h = record {
   flags = λ k b. flag_holds _ (bit_is_set s.core.sreg k) (h.flags k b);
 }
 
-entry_memory : (cert : Cert) (s : State PadHistory) (p : ℕ) (kind : Kind) → EntryCondition cert s p → cert.entry.kind ≡ kind → depth_below kind 0 ≡ 0 → SpansFit (tracked cert.head cert.entry.kind) cert.entry.cells.items → HeaderHolds cert.head s.space.bytes
+entry_memory : (cert : Cert) (s : State PadHistory) (p : ℕ) (kind : Kind) → EntryCondition cert s p → cert.entry.kind ≡ kind
+    → depth_below kind 0 ≡ 0 → SpansFit (tracked cert.head cert.entry.kind) cert.entry.cells.items → HeaderHolds cert.head s.space.bytes
     → MemoryMeets cert.head (entry_instance cert) s.core 0 s.core.sp s.space.bytes
 entry_memory cert s p kind h of_kind none fit ranges =
     let slots = length-map cert.entry.stack.items (λ e. Range e) in
     record {
       slots = λ i b.
           let within : i < length cert.entry.stack.items = omega (arith, slots, b) in
-          let place : s.core.sp + length cert.entry.stack.items - i ≡ s.core.sp + depth_of (entry_instance cert) - i = ap (λ n. s.core.sp + n - i) (sym slots) in
-          val_in cert.entry.stack.items i s.core (slice_index s.space.bytes (s.core.sp + depth_of (entry_instance cert) - i)) (subst (λ a. IsIn (ends_at cert.entry.stack.items i) (slice_index s.space.bytes a)) place (h.stack i within));
+          let place : s.core.sp + length cert.entry.stack.items - i ≡ s.core.sp + depth_of (entry_instance cert) - i =
+          ap (λ n. s.core.sp + n - i) (sym slots) in
+          val_in cert.entry.stack.items i s.core (slice_index s.space.bytes (s.core.sp + depth_of (entry_instance cert) - i))
+          (subst (λ a. IsIn (ends_at cert.entry.stack.items i) (slice_index s.space.bytes a)) place (h.stack i within));
       cells = cells_by_place cert.head cert.entry.kind cert.entry.cells.items s.space.bytes fit h.cells;
       ranges = ranges;
       depth = omega (arith, slots, h.sp, ap (λ k. depth_below k 0) of_kind ∙ none);
@@ -97,10 +105,12 @@ entry_level Main sync level e = tt
 entry_level Handler sync level e = e
 entry_level Alone sync level e = e
 
-begins : (image : FinMap nat_cmp ℕ) (cert : Cert) (s : State PadHistory) (p : ℕ) → Premises image cert → IsState s → s.image ≡ image → EntryCondition cert s p → (kind : Kind) → cert.entry.kind ≡ kind → Begins kind cert s p → Invariant image cert p s
+begins : (image : FinMap nat_cmp ℕ) (cert : Cert) (s : State PadHistory) (p : ℕ) → Premises image cert → IsState s → s.image ≡ image
+    → EntryCondition cert s p → (kind : Kind) → cert.entry.kind ≡ kind → Begins kind cert s p → Invariant image cert p s
 begins image cert s p h is_state flash entry Main kind start =
     let e = entry_instance cert in
-    let own : AllHold (tracked cert.head Main) cert.entry.cells.items s.space.bytes = subst (λ k. AllHold (tracked cert.head k) cert.entry.cells.items s.space.bytes) kind entry.cells in
+    let own : AllHold (tracked cert.head Main) cert.entry.cells.items s.space.bytes =
+    subst (λ k. AllHold (tracked cert.head k) cert.entry.cells.items s.space.bytes) kind entry.cells in
     let own_fit = subst (λ k. SpansFit (tracked cert.head k) cert.entry.cells.items) kind h.limits.entry_cells in
     let rest_fit = (h.limits.rests start.rest start.is_rest).cells in
     let ranges = head_holds cert.head s.space.bytes (λ c has.
@@ -138,12 +148,16 @@ begins image cert s p h is_state flash entry Alone kind start =
     let e = entry_instance cert in
     let b = h.entry.inst in
     let place = place_tells e b h.entry.inside in
-    let all : AllHold (tracked cert.head Alone) cert.entry.cells.items s.space.bytes = subst (λ k. AllHold (tracked cert.head k) cert.entry.cells.items s.space.bytes) kind entry.cells in
+    let all : AllHold (tracked cert.head Alone) cert.entry.cells.items s.space.bytes =
+    subst (λ k. AllHold (tracked cert.head k) cert.entry.cells.items s.space.bytes) kind entry.cells in
     let fit = subst (λ k. SpansFit (tracked cert.head k) cert.entry.cells.items) kind h.limits.entry_cells in
-    let ranges = head_holds cert.head s.space.bytes (λ c has. in_own_range cert.head Alone cert.entry.cells.items s.space.bytes fit all c has refl) in
+    let ranges = head_holds cert.head s.space.bytes (λ c has. in_own_range cert.head Alone cert.entry.cells.items s.space.bytes fit all c
+    has refl) in
     let there = at_same cert.schedule p cert.entry.line b.line cert.entry.clock b.clock place.line place.clock start.place in
-    let sync = level_of_instance cert p (sync_level s.space) b (is_placed cert h.limits h.entry.id h.entry.l h.entry.c b h.entry.is) entry.level there in
-    let old_level : sync_level s.space ≡ e.level = ap (λ v. unwrap_or v 0) (sym entry.level ∙ level_here cert.schedule p cert.entry.line cert.entry.clock start.place) in
+    let sync = level_of_instance cert p (sync_level s.space) b (is_placed cert h.limits h.entry.id h.entry.l h.entry.c b h.entry.is)
+    entry.level there in
+    let old_level : sync_level s.space ≡ e.level = ap (λ v. unwrap_or v 0) (sym entry.level ∙ level_here cert.schedule p cert.entry.line
+    cert.entry.clock start.place) in
     let to = lands h.laws.inside cert Alone s.core 0 e s is_state is_state.core kind (record {
       pc = entry.pc;
       enabled = start.interrupts ∙ sym (ap is_main kind);

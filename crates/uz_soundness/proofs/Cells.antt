@@ -1,5 +1,6 @@
 -- The cells that a kind tracks: in a list with their ranges, and by their addresses.
-use Rattle.std.proofs.Common.{◌≡◌, ◌⊎◌, inl, inr, Contains, ℕ, zero, suc, ◌-◌, ◌<◌, ◌≤◌, Bool, true, false, cond, List, [], ◌∷◌, filter, refl, sym, ◌∙◌, ap, subst, arith}
+use Rattle.std.proofs.Common.{◌≡◌, ◌⊎◌, inl, inr, Contains, ℕ, zero, suc, ◌-◌, ◌<◌, ◌≤◌, Bool, true, false, cond, List, [], ◌∷◌, filter}
+use Rattle.std.proofs.Common.{refl, sym, ◌∙◌, ap, subst, arith}
 use Rattle.std.specs.Prelude.{Some, None, nat_eq, slice_index, if◌then◌else◌}
 use Rattle.std.proofs.lemmas.Bool.Decides.{eqb_tells}
 use Rattle.uz_schedule.specs.Ends.{Ends}
@@ -28,7 +29,8 @@ bool_cases false = inr refl
 abbrev pub kept_by : Kind → List Cell → List Cell
 kept_by kind cells = filter (λ c. tracks kind c.owner) cells
 
-owners : (kind : Kind) (test : Owner → Bool) → ((o : Owner) → tracks kind o ≡ test o) → (cells : List Cell) → kept_by kind cells ≡ filter (λ c. test c.owner) cells
+owners : (kind : Kind) (test : Owner → Bool) → ((o : Owner) → tracks kind o ≡ test o) → (cells : List Cell) → kept_by kind cells ≡ filter
+    (λ c. test c.owner) cells
 owners kind test same [] = refl
 owners kind test same (c ∷ cells) =
     ap (λ b. cond b (c ∷ kept_by kind cells) (kept_by kind cells)) (same c.owner)
@@ -48,22 +50,29 @@ within_is : (e : Ends) (v : ℕ) → IsIn e v → IsWithin v e
 within_is e v h = record { above = h.0; below = h.1 }
 
 -- each tracked cell is in its range, by place
-by_place : (kind : Kind) (cells : List Cell) (spans : List Ends) (bytes : List ℕ) (n at j : ℕ) → SpansFit (kept_by kind cells) spans → AllHold (kept_by kind cells) spans bytes
+by_place : (kind : Kind) (cells : List Cell) (spans : List Ends) (bytes : List ℕ) (n at j : ℕ) → SpansFit (kept_by kind cells) spans
+    → AllHold (kept_by kind cells) spans bytes
     → place_from kind cells n at ≡ Some j → (n ≤ j) × IsWithin (slice_index bytes at) (span_at spans (j - n))
 by_place kind [] spans bytes n at j fit h e = absurd cc
 by_place kind (c ∷ cells) spans bytes n at j fit h e =
     place_by (nat_eq c.at at) (tracks kind c.owner) refl (λ xs m. by_place kind cells xs bytes m at j) spans fit h e
   where
     place_by : (t k : Bool) → nat_eq c.at at ≡ t
-        → ((xs : List Ends) (m : ℕ) → SpansFit (kept_by kind cells) xs → AllHold (kept_by kind cells) xs bytes → place_from kind cells m at ≡ Some j → (m ≤ j) × IsWithin (slice_index bytes at) (span_at xs (j - m)))
-        → (xs : List Ends) → SpansFit (cond k (c ∷ kept_by kind cells) (kept_by kind cells)) xs → AllHold (cond k (c ∷ kept_by kind cells) (kept_by kind cells)) xs bytes
-        → (if t then (if k then Some n else None) else place_from kind cells (if k then suc n else n) at) ≡ Some j → (n ≤ j) × IsWithin (slice_index bytes at) (span_at xs (j - n))
+        → ((xs : List Ends) (m : ℕ) → SpansFit (kept_by kind cells) xs → AllHold (kept_by kind cells) xs bytes → place_from kind cells m
+        at ≡ Some j → (m ≤ j) × IsWithin (slice_index bytes at) (span_at xs (j - m)))
+        → (xs : List Ends) → SpansFit (cond k (c ∷ kept_by kind cells) (kept_by kind cells)) xs
+        → AllHold (cond k (c ∷ kept_by kind cells) (kept_by kind cells)) xs bytes
+        → (if t then (if k then Some n else None) else place_from kind cells (if k then suc n else n) at) ≡ Some j → (n ≤ j)
+        × IsWithin (slice_index bytes at) (span_at xs (j - n))
     place_by t true p later [] fit h e = absurd fit
     place_by true true p later (r ∷ xs) fit h e =
         let i : n ≡ j = cc in
         let a : c.at ≡ at = elim (eqb_tells c.at at) [ inl x ↦ x.1 | inr x ↦ absurd (let q : true ≡ false = sym p ∙ x.0 in cc) ] in
-        let z : j - n ≡ 0 = omega (arith, i) in
-        (omega (arith, i), subst (λ m. IsWithin (slice_index bytes at) (span_at (r ∷ xs) m)) (sym z) (subst (λ b. IsWithin (slice_index bytes b) r) a (within_is r (slice_index bytes c.at) h.0)))
+        let z : j - n ≡ 0 = omega (arith, i) in (
+          omega (arith, i),
+          subst (λ m. IsWithin (slice_index bytes at) (span_at (r ∷ xs) m)) (sym z)
+              (subst (λ b. IsWithin (slice_index bytes b) r) a (within_is r (slice_index bytes c.at) h.0)),
+        )
     place_by false true p later (r ∷ xs) fit h e =
         let more = later xs (suc n) fit.2 h.1 e in
         let z : suc (j - suc n) ≡ j - n = omega (arith, more.0) in
@@ -71,7 +80,8 @@ by_place kind (c ∷ cells) spans bytes n at j fit h e =
     place_by true false p later xs fit h e = absurd cc
     place_by false false p later xs fit h e = later xs n fit h e
 
-pub cells_by_place : (head : Head) (kind : Kind) (spans : List Ends) (bytes : List ℕ) → SpansFit (tracked head kind) spans → AllHold (tracked head kind) spans bytes → CellsHold head kind spans bytes
+pub cells_by_place : (head : Head) (kind : Kind) (spans : List Ends) (bytes : List ℕ) → SpansFit (tracked head kind) spans
+    → AllHold (tracked head kind) spans bytes → CellsHold head kind spans bytes
 cells_by_place head kind spans bytes fit h at j e =
     let z : j - 0 ≡ j = omega arith in
     let fits = subst (λ xs. SpansFit xs spans) (tracked_is head kind) fit in
@@ -79,23 +89,29 @@ cells_by_place head kind spans bytes fit h at j e =
     subst (λ m. IsWithin (slice_index bytes at) (span_at spans m)) z (by_place kind head.cells.items spans bytes 0 at j fits holds e).1
 
 -- and in its own range
-own_range : (kind : Kind) (cells : List Cell) (spans : List Ends) (bytes : List ℕ) (at : ℕ) (e : Ends) → SpansFit (kept_by kind cells) spans → AllHold (kept_by kind cells) spans bytes
+own_range : (kind : Kind) (cells : List Cell) (spans : List Ends) (bytes : List ℕ) (at : ℕ) (e : Ends) → SpansFit (kept_by kind cells) spans
+    → AllHold (kept_by kind cells) spans bytes
     → (c : Cell) → Contains cells c → tracks kind c.owner ≡ true → IsWithin (slice_index bytes c.at) c.range
 own_range kind [] spans bytes at e fit h d (i, below, is) k = absurd (omega (arith, below))
 own_range kind (c ∷ cells) spans bytes at e fit h d (zero, below, is) k =
     let same : c ≡ d = is in
     first_by spans (tracks kind c.owner) (ap (λ (x : Cell). tracks kind x.owner) same ∙ k) fit h
   where
-    first_by : (xs : List Ends) (t : Bool) → t ≡ true → SpansFit (cond t (c ∷ kept_by kind cells) (kept_by kind cells)) xs → AllHold (cond t (c ∷ kept_by kind cells) (kept_by kind cells)) xs bytes → IsWithin (slice_index bytes d.at) d.range
+    first_by : (xs : List Ends) (t : Bool) → t ≡ true → SpansFit (cond t (c ∷ kept_by kind cells) (kept_by kind cells)) xs
+        → AllHold (cond t (c ∷ kept_by kind cells) (kept_by kind cells)) xs bytes → IsWithin (slice_index bytes d.at) d.range
     first_by xs false q fit h = absurd cc
     first_by [] true q fit h = absurd fit
     first_by (r ∷ xs) true q fit h =
         let same : c ≡ d = is in
-        subst (λ (x : Cell). IsWithin (slice_index bytes x.at) x.range) same (record { above = omega (arith, fit.0, h.0.0); below = omega (arith, fit.1, h.0.1) })
+        subst (λ (x : Cell). IsWithin (slice_index bytes x.at) x.range) same
+        (record { above = omega (arith, fit.0, h.0.0); below = omega (arith, fit.1, h.0.1) })
 own_range kind (c ∷ cells) spans bytes at e fit h d (suc i, below, is) k =
     rest_by (λ xs fit h. own_range kind cells xs bytes at e fit h d (i, omega (arith, below), is) k) spans (tracks kind c.owner) fit h
   where
-    rest_by : ((xs : List Ends) → SpansFit (kept_by kind cells) xs → AllHold (kept_by kind cells) xs bytes → IsWithin (slice_index bytes d.at) d.range) → (xs : List Ends) (t : Bool) → SpansFit (cond t (c ∷ kept_by kind cells) (kept_by kind cells)) xs → AllHold (cond t (c ∷ kept_by kind cells) (kept_by kind cells)) xs bytes → IsWithin (slice_index bytes d.at) d.range
+    rest_by : ((xs : List Ends) → SpansFit (kept_by kind cells) xs → AllHold (kept_by kind cells) xs bytes
+        → IsWithin (slice_index bytes d.at) d.range) → (xs : List Ends) (t : Bool)
+        → SpansFit (cond t (c ∷ kept_by kind cells) (kept_by kind cells)) xs
+        → AllHold (cond t (c ∷ kept_by kind cells) (kept_by kind cells)) xs bytes → IsWithin (slice_index bytes d.at) d.range
     rest_by later [] true fit h = absurd fit
     rest_by later (r ∷ xs) true fit h = later xs fit.2 h.1
     rest_by later xs false fit h = later xs fit h
@@ -111,7 +127,8 @@ pub cell_at : (cells : List Cell) (at : ℕ) (e : Ends) → range_from cells at 
 cell_at [] at e h = absurd cc
 cell_at (c ∷ cells) at e h = at_by (nat_eq c.at at) refl (cell_at cells at e) h
   where
-    at_by : (t : Bool) → nat_eq c.at at ≡ t → (range_from cells at ≡ Some e → CellAt cells at e) → (if t then Some c.range else range_from cells at) ≡ Some e → CellAt (c ∷ cells) at e
+    at_by : (t : Bool) → nat_eq c.at at ≡ t → (range_from cells at ≡ Some e → CellAt cells at e)
+        → (if t then Some c.range else range_from cells at) ≡ Some e → CellAt (c ∷ cells) at e
     at_by true p later q =
         let a : c.at ≡ at = elim (eqb_tells c.at at) [ inl x ↦ x.1 | inr x ↦ absurd (let q : true ≡ false = sym p ∙ x.0 in cc) ] in
         record { cell = c; has = (zero, omega arith, refl); at_is = a; range = cc }
@@ -120,14 +137,16 @@ cell_at (c ∷ cells) at e h = at_by (nat_eq c.at at) refl (cell_at cells at e) 
         record { cell = r.cell; has = (suc r.has.0, omega (arith, r.has.1), r.has.2); at_is = r.at_is; range = r.range }
 
 -- every cell is in its own range where those of a kind that tracks it hold
-pub in_own_range : (head : Head) (kind : Kind) (spans : List Ends) (bytes : List ℕ) → SpansFit (tracked head kind) spans → AllHold (tracked head kind) spans bytes
+pub in_own_range : (head : Head) (kind : Kind) (spans : List Ends) (bytes : List ℕ) → SpansFit (tracked head kind) spans
+    → AllHold (tracked head kind) spans bytes
     → (c : Cell) → Contains head.cells.items c → tracks kind c.owner ≡ true → IsWithin (slice_index bytes c.at) c.range
 in_own_range head kind spans bytes fit h c has k =
     let fits = subst (λ xs. SpansFit xs spans) (tracked_is head kind) fit in
     let holds = subst (λ xs. AllHold xs spans bytes) (tracked_is head kind) h in
     own_range kind head.cells.items spans bytes c.at c.range fits holds c has k
 
-pub head_holds : (head : Head) (bytes : List ℕ) → ((c : Cell) → Contains head.cells.items c → IsWithin (slice_index bytes c.at) c.range) → HeaderHolds head bytes
+pub head_holds : (head : Head) (bytes : List ℕ) → ((c : Cell) → Contains head.cells.items c → IsWithin (slice_index bytes c.at) c.range)
+    → HeaderHolds head bytes
 head_holds head bytes h at e is =
     let c = cell_at head.cells.items at e is in
     subst (λ a. IsWithin (slice_index bytes a) e) c.at_is (subst (λ r. IsWithin (slice_index bytes c.cell.at) r) c.range (h c.cell c.has))
@@ -139,12 +158,16 @@ pub record OtherTracks (head : Head) (kind : Kind) (at : ℕ) : Type 0 where
   pub there : cell_range head at ≡ Some range
   pub none : cell_place head kind at ≡ None
 
-not_both : (a b : Kind) → ((o : Owner) → tracks a o ≡ true → tracks b o ≡ false) → (cells : List Cell) (n m at j : ℕ) → place_from a cells n at ≡ Some j → (e : Ends) × (range_from cells at ≡ Some e) × (place_from b cells m at ≡ None)
+not_both : (a b : Kind) → ((o : Owner) → tracks a o ≡ true → tracks b o ≡ false) → (cells : List Cell) (n m at j : ℕ) → place_from a cells n
+    at ≡ Some j → (e : Ends) × (range_from cells at ≡ Some e) × (place_from b cells m at ≡ None)
 not_both a b apart [] n m at j e = absurd cc
-not_both a b apart (c ∷ cells) n m at j e = not_by (nat_eq c.at at) (tracks a c.owner) refl refl (λ i k. not_both a b apart cells i k at j) e
+not_both a b apart (c ∷ cells) n m at j e = not_by (nat_eq c.at at) (tracks a c.owner) refl refl (λ i k. not_both a b apart cells i k at j)
+    e
   where
-    not_by : (t k : Bool) → nat_eq c.at at ≡ t → tracks a c.owner ≡ k → ((i k : ℕ) → place_from a cells i at ≡ Some j → (e : Ends) × (range_from cells at ≡ Some e) × (place_from b cells k at ≡ None))
-        → (if t then (if k then Some n else None) else place_from a cells (if k then suc n else n) at) ≡ Some j → (e : Ends) × (range_from (c ∷ cells) at ≡ Some e) × (place_from b (c ∷ cells) m at ≡ None)
+    not_by : (t k : Bool) → nat_eq c.at at ≡ t → tracks a c.owner ≡ k → ((i k : ℕ) → place_from a cells i at ≡ Some j → (e : Ends)
+        × (range_from cells at ≡ Some e) × (place_from b cells k at ≡ None))
+        → (if t then (if k then Some n else None) else place_from a cells (if k then suc n else n) at) ≡ Some j → (e : Ends)
+        × (range_from (c ∷ cells) at ≡ Some e) × (place_from b (c ∷ cells) m at ≡ None)
     not_by true true p q later e = (c.range, rw p refl, rw (p, apart c.owner q) refl)
     not_by true false p q later e = absurd cc
     not_by false k p q later e =
@@ -160,24 +183,28 @@ handlers_apart MainOwner e = absurd cc
 handlers_apart HandlerOwner e = refl
 
 pub mains_alone : (head : Head) (at j : ℕ) → cell_place head Main at ≡ Some j → OtherTracks head Handler at
-mains_alone head at j e = let r = not_both Main Handler mains_apart head.cells.items 0 0 at j e in record { range = r.0; there = r.1; none = r.2 }
+mains_alone head at j e = let r = not_both Main Handler mains_apart head.cells.items 0 0 at j e in
+    record { range = r.0; there = r.1; none = r.2 }
 
 pub handlers_alone : (head : Head) (at j : ℕ) → cell_place head Handler at ≡ Some j → OtherTracks head Main at
-handlers_alone head at j e = let r = not_both Handler Main handlers_apart head.cells.items 0 0 at j e in record { range = r.0; there = r.1; none = r.2 }
+handlers_alone head at j e = let r = not_both Handler Main handlers_apart head.cells.items 0 0 at j e in
+    record { range = r.0; there = r.1; none = r.2 }
 
 pub main_or_handler : (o : Owner) → (tracks Main o ≡ true) ⊎ (tracks Handler o ≡ true)
 main_or_handler MainOwner = inl refl
 main_or_handler HandlerOwner = inr refl
 
 -- an entry's pushes leave what lies off the stack
-pub off_pushed : (s : State PadHistory) (bottom top a : ℕ) → bottom < s.core.sp → s.core.sp ≤ top → (a < bottom) ⊎ (top < a) → slice_index (pushed s) a ≡ slice_index s.space.bytes a
+pub off_pushed : (s : State PadHistory) (bottom top a : ℕ) → bottom < s.core.sp → s.core.sp ≤ top → (a < bottom) ⊎ (top < a)
+    → slice_index (pushed s) a ≡ slice_index s.space.bytes a
 off_pushed s bottom top a low high off =
     elim off [
       | inl l ↦ pushed_off s a (λ e. omega (arith, e, l, low)) (λ e. omega (arith, e, l, low))
       | inr r ↦ pushed_off s a (λ e. omega (arith, e, r, high)) (λ e. omega (arith, e, r, high))
     ]
 
-pub cells_same : (head : Head) (kind : Kind) (spans : List Ends) (old new : List ℕ) → ((at j : ℕ) → cell_place head kind at ≡ Some j → slice_index new at ≡ slice_index old at) → CellsHold head kind spans old → CellsHold head kind spans new
+pub cells_same : (head : Head) (kind : Kind) (spans : List Ends) (old new : List ℕ) → ((at j : ℕ) → cell_place head kind at ≡ Some j
+    → slice_index new at ≡ slice_index old at) → CellsHold head kind spans old → CellsHold head kind spans new
 cells_same head kind spans old new same h at j e = subst (λ v. IsWithin v (span_at spans j)) (sym (same at j e)) (h at j e)
 
 -- the header's limits, by addresses
@@ -200,7 +227,8 @@ head_fits head h = record {
 later : (x : Cell) (xs : List Cell) (c : Cell) → Contains xs c → Contains (x ∷ xs) c
 later x xs c has = (suc has.0, omega (arith, has.1), has.2)
 
-filtered_cons : (x : Cell) (xs ys : List Cell) (c : Cell) (b : Bool) → ((d : Cell) → Contains ys d → Contains xs d) → Contains (cond b (x ∷ ys) ys) c → Contains (x ∷ xs) c
+filtered_cons : (x : Cell) (xs ys : List Cell) (c : Cell) (b : Bool) → ((d : Cell) → Contains ys d → Contains xs d)
+    → Contains (cond b (x ∷ ys) ys) c → Contains (x ∷ xs) c
 filtered_cons x xs ys c true h (zero, below, is) = (zero, omega arith, is)
 filtered_cons x xs ys c true h (suc i, below, is) = later x xs c (h c (i, omega (arith, below), is))
 filtered_cons x xs ys c false h has = later x xs c (h c has)

@@ -72,7 +72,8 @@ level_met Handler level sync (inr e) = e
 level_met Alone level sync (inl e) = absurd cc
 level_met Alone level sync (inr e) = e
 
-pub lands : (laws : StateInside) (cert : Cert) (kind : Kind) (o : Core) (d : ℕ) (r : Instance) (s : State PadHistory) → IsState s → IsCore o → r.kind ≡ kind → Meets cert.head r o d s
+pub lands : (laws : StateInside) (cert : Cert) (kind : Kind) (o : Core) (d : ℕ) (r : Instance) (s : State PadHistory) → IsState s → IsCore o
+    → r.kind ≡ kind → Meets cert.head r o d s
     → (covered : IsCovered cert r) → ((kind ≡ Main) ⊎ (sync_level s.space ≡ covered.inst.level)) → Stands cert kind o d covered.inst s
 lands laws cert kind o d r s is_state old of_kind meets covered level =
     let b = covered.inst in
@@ -85,5 +86,6 @@ lands laws cert kind o d r s is_state old of_kind meets covered level =
       is = covered.is;
       of_kind = same;
       old = old;
-      meets = laws cert.head r b o d s is_state covered.inside (subst (λ k. LevelMeets k b.level (sync_level s.space)) (sym same) (level_met kind b.level (sync_level s.space) level)) meets;
+      meets = laws cert.head r b o d s is_state covered.inside (subst (λ k. LevelMeets k b.level (sync_level s.space)) (sym same)
+          (level_met kind b.level (sync_level s.space) level)) meets;
     }

@@ -53,7 +53,8 @@ abbrev enter_edge : State PadHistory → List Edge
 enter_edge s = record { clock = s.clock; kind = Enter s.space.timer.count } ∷ []
 
 one_entry : (s : State PadHistory) → s.space.timer.count ≤ 3 → All (λ e. InTime e.kind) (enter_edge s)
-one_entry s h = All-cons (λ e. InTime e.kind) (record { clock = s.clock; kind = Enter s.space.timer.count }) [] h (All-nil (λ e. InTime e.kind))
+one_entry s h = All-cons (λ e. InTime e.kind) (record { clock = s.clock; kind = Enter s.space.timer.count }) [] h
+    (All-nil (λ e. InTime e.kind))
 
 pub response_few : (r : Response) → response_clocks r ≤ 5
 response_few Four = omega arith
@@ -76,7 +77,8 @@ any_pair (suc zero) h = refl
 any_pair (suc (suc zero)) h = refl
 any_pair (suc (suc (suc i))) h = absurd (omega (arith, h))
 
-old_core : (cert : Cert) (rest : Rest) (n : ℕ) (s : State PadHistory) → IsCore s.core → CoreMeets (rest_instance cert rest n) s.core (entered s).core
+old_core : (cert : Cert) (rest : Rest) (n : ℕ) (s : State PadHistory) → IsCore s.core → CoreMeets (rest_instance cert rest n) s.core
+    (entered s).core
 old_core cert rest n s fits = record {
   regs = λ r few.
       let e : value_at (old_from 0 32) r ≡ Old r = old_from_at 0 32 r few ∙ ap Old (omega arith) in
@@ -91,7 +93,8 @@ old_core cert rest n s fits = record {
 }
 
 entered_follows : (image : FinMap nat_cmp ℕ) (cert : Cert) (p : ℕ) (s : State PadHistory) (main : Instance) (o : Core) (rest : Rest)
-    → Premises image cert → IsState s → IsState (entered s) → s.image ≡ image → level_at cert.schedule p ≡ Some (sync_level s.space) → MainRuns cert p s main o rest → Due cert p s rest
+    → Premises image cert → IsState s → IsState (entered s) → s.image ≡ image → level_at cert.schedule p ≡ Some (sync_level s.space)
+    → MainRuns cert p s main o rest → Due cert p s rest
     → Turned image cert p s (RunsMain main o rest) (enter_edge s) (entered s)
 entered_follows image cert p s main o rest h is_state then_state flash level runs due =
     let rule = h.rests rest runs.rests.is_rest in
@@ -107,17 +110,30 @@ entered_follows image cert p s main o rest h is_state then_state flash level run
     let r = rest_instance cert rest n in
     let b = covered.inst in
     let place = place_tells r b covered.inside in
-    let at_stack : s.core.sp + depth_of main ≡ cert.head.hi = omega (arith, subst (λ k. s.core.sp + depth_of main + depth_below k 0 ≡ cert.head.hi) of_kind meets.memory.depth) in
+    let at_stack : s.core.sp + depth_of main ≡ cert.head.hi =
+    omega (arith, subst (λ k. s.core.sp + depth_of main + depth_below k 0 ≡ cert.head.hi) of_kind meets.memory.depth) in
     let low : cert.head.lo < s.core.sp = omega (arith, at_stack, depth, room_below cert.head limits.head) in
     let high : s.core.sp ≤ cert.head.hi = omega (arith, at_stack) in
     let few : response_clocks cert.head.irq ≤ 5 = response_few cert.head.irq in
     let some : 1 ≤ response_clocks cert.head.irq = response_some cert.head.irq in
-    let within : n + s.response ≤ s.space.timer.top = omega (arith, due.early, meets.response, few, runs.rests.top, line_long schedule rest.line limits.schedule (limits.rests rest runs.rests.is_rest).line) in
-    let count : (timer_after s.response t).count ≡ n + s.response = count_counting t s.response ticks.0 ∙ count_within n t.top s.response within in
+    let within : n + s.response ≤ s.space.timer.top = omega (
+      arith,
+      due.early,
+      meets.response,
+      few,
+      runs.rests.top,
+      line_long schedule
+          rest.line limits.schedule (limits.rests rest runs.rests.is_rest).line,
+    ) in
+    let count : (timer_after s.response t).count ≡ n + s.response = count_counting t s.response ticks.0 ∙ count_within n t.top s.response
+    within in
     let flag : (timer_after s.response t).matched ≡ false = matched_within t s.response ticks.0 within in
-    let off : (a : ℕ) (e : Ends) → cell_range cert.head a ≡ Some e → slice_index (pushed s) a ≡ slice_index s.space.bytes a = λ a e has. off_pushed s cert.head.lo cert.head.hi a low high ((head_fits cert.head limits.head).cells_off a e has) in
-    let cells = cells_same cert.head Handler rest.cells.items s.space.bytes (pushed s) (λ a j e. let apart = handlers_alone cert.head a j e in off a apart.range apart.there) runs.rests.cells in
-    let ranges : HeaderHolds cert.head (pushed s) = λ a e has. subst (λ v. IsWithin v e) (sym (off a e has)) (meets.memory.ranges a e has) in
+    let off : (a : ℕ) (e : Ends) → cell_range cert.head a ≡ Some e → slice_index (pushed s) a ≡ slice_index s.space.bytes a =
+    λ a e has. off_pushed s cert.head.lo cert.head.hi a low high ((head_fits cert.head limits.head).cells_off a e has) in
+    let cells = cells_same cert.head Handler rest.cells.items s.space.bytes (pushed s) (λ a j e. let apart = handlers_alone cert.head a j
+    e in off a apart.range apart.there) runs.rests.cells in
+    let ranges : HeaderHolds cert.head (pushed s) = λ a e has. subst (λ v. IsWithin v e) (sym (off a e has))
+    (meets.memory.ranges a e has) in
     let same_level : sync_level (entered s).space ≡ sync_level s.space = pushed_level s (omega (arith, low, limits.head.low)) in
     let line = next_line schedule rest.line in
     let quiet : scheduled (event_at schedule) p s.clock s.response ≡ [] =
@@ -126,12 +142,17 @@ entered_follows image cert p s main o rest h is_state then_state flash level run
     ∙ rule.quiet_next (n + i) (omega (arith, due.early, most, meets.response)))
     in
     let then_level : level_at schedule (p + s.response) ≡ Some (sync_level (entered s).space) =
-    level_along schedule p s.clock s.response (frame_some schedule limits.schedule) ∙ (ap (λ es. last_in es (level_at schedule p)) quiet ∙ (level ∙ ap (λ v. Some v) (sym same_level))) in
+    level_along schedule p s.clock s.response (frame_some schedule limits.schedule) ∙ (ap (λ es. last_in es (level_at schedule p)) quiet
+    ∙ (level ∙ ap (λ v. Some v) (sym same_level))) in
     let clock : n + s.response ≡ b.clock = ap (λ k. n + k) meets.response ∙ place.clock in
-    let then_place = at_same schedule (p + s.response) line b.line (n + s.response) b.clock place.line clock (at_more schedule p line n s.response due.place) in
-    let sync = level_of_instance cert (p + s.response) (sync_level (entered s).space) b (is_placed cert limits covered.id covered.l covered.c b covered.is) then_level then_place in
-    let rest_place = at_same schedule (p + s.response) line line (n + s.response) (n + response_clocks cert.head.irq) refl (ap (λ k. n + k) meets.response) (at_more schedule p line n s.response due.place) in
-    let old_level : sync_level (entered s).space ≡ r.level = ap (λ v. unwrap_or v 0) (sym then_level ∙ level_here schedule (p + s.response) line (n + response_clocks cert.head.irq) rest_place) in
+    let then_place = at_same schedule (p + s.response) line b.line (n + s.response) b.clock place.line clock
+    (at_more schedule p line n s.response due.place) in
+    let sync = level_of_instance cert (p + s.response) (sync_level (entered s).space) b
+    (is_placed cert limits covered.id covered.l covered.c b covered.is) then_level then_place in
+    let rest_place = at_same schedule (p + s.response) line line (n + s.response) (n + response_clocks cert.head.irq) refl
+    (ap (λ k. n + k) meets.response) (at_more schedule p line n s.response due.place) in
+    let old_level : sync_level (entered s).space ≡ r.level = ap (λ v. unwrap_or v 0) (sym then_level ∙ level_here schedule (p + s.response)
+    line (n + response_clocks cert.head.irq) rest_place) in
     let to = lands h.laws.inside cert Handler s.core (depth_of main) r (entered s) then_state is_state.core refl (record {
       pc = refl;
       enabled = clear_seven s.core.sreg;
@@ -172,11 +193,18 @@ entered_follows image cert p s main o rest h is_state then_state flash level run
     }
 
 pub enters : (image : FinMap nat_cmp ℕ) (cert : Cert) (p : ℕ) (s : State PadHistory) (main : Instance) (o : Core) (rest : Rest)
-    → Premises image cert → IsState s → IsState (after_entry history_wiring s) → s.image ≡ image → level_at cert.schedule p ≡ Some (sync_level s.space) → MainRuns cert p s main o rest → Due cert p s rest
+    → Premises image cert → IsState s → IsState (after_entry history_wiring s) → s.image ≡ image → level_at cert.schedule p ≡ Some
+    (sync_level s.space) → MainRuns cert p s main o rest → Due cert p s rest
     → Turned image cert p s (RunsMain main o rest) (entry_edges history_wiring s) (after_entry history_wiring s)
 enters image cert p s main o rest h is_state then_state flash level runs due =
-    let depth = main_slots cert main (is_placed cert h.limits runs.stands.id runs.stands.l runs.stands.c main runs.stands.is) runs.stands.of_kind in
-    let at_stack : s.core.sp + depth_of main ≡ cert.head.hi = omega (arith, subst (λ k. s.core.sp + depth_of main + depth_below k 0 ≡ cert.head.hi) runs.stands.of_kind runs.stands.meets.memory.depth) in
+    let depth = main_slots cert main (is_placed cert h.limits runs.stands.id runs.stands.l runs.stands.c main runs.stands.is)
+    runs.stands.of_kind in
+    let at_stack : s.core.sp + depth_of main ≡ cert.head.hi =
+    omega (
+      arith,
+      subst (λ k. s.core.sp + depth_of main + depth_below k 0 ≡ cert.head.hi) runs.stands.of_kind
+          runs.stands.meets.memory.depth,
+    ) in
     let low : 257 ≤ s.core.sp = omega (arith, at_stack, depth, room_below cert.head h.limits.head, h.limits.head.low) in
     let high : s.core.sp ≤ 4351 = omega (arith, at_stack, h.limits.head.high) in
     let goes = entry_is s low high in

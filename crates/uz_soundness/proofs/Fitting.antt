@@ -1,5 +1,6 @@
 -- What the limits of a certificate give.
-use Rattle.std.proofs.Common.{◌≡◌, ◌⊎◌, inl, inr, ℕ, zero, suc, ◌+◌, ◌<◌, ◌≤◌, Bool, true, false, cond, leb, ltb, List, [], ◌∷◌, length, refl, sym, ◌∙◌, ap, subst, arith}
+use Rattle.std.proofs.Common.{◌≡◌, ◌⊎◌, inl, inr, ℕ, zero, suc, ◌+◌, ◌<◌, ◌≤◌, Bool, true, false, cond, leb, ltb, List, [], ◌∷◌, length}
+use Rattle.std.proofs.Common.{refl, sym, ◌∙◌, ap, subst, arith}
 use Rattle.std.specs.Prelude.{Option, Some, None, ◌&&◌, nat_eq, nat_le, slice_index, slice_get, ℤ, pos, negsuc, ◌+ℤ◌, ◌*ℤ◌}
 use Rattle.std.specs.Option.{option_and_then}
 use Rattle.std.proofs.lemmas.Bool.{leb-true, eqb-true}
@@ -45,7 +46,8 @@ line_short s l fits h = omega arith
 pub room_below : (head : Head) → HeadLimits head → head.lo + head.main + 2 ≤ suc head.hi
 room_below head h = omega (arith, h.order, h.room)
 
-pub opened : {A B : Type 0} (f : A → Option B) (o : Option A) (b : B) → option_and_then f o ≡ Some b → (a : A) × (o ≡ Some a) × (f a ≡ Some b)
+pub opened : {A B : Type 0} (f : A → Option B) (o : Option A) (b : B) → option_and_then f o ≡ Some b → (a : A) × (o ≡ Some a)
+    × (f a ≡ Some b)
 opened f None b e = absurd cc
 opened f (Some a) b e = (a, refl, e)
 
@@ -87,7 +89,8 @@ of_point cert p l c inst e =
       is = let same : Some (instance_of p l c clock.0 level.0) ≡ Some inst = level.2 in cc;
     }
 
-in_point : (cert : Cert) (p : Point) (l c : ℕ) (inst : Instance) → PointLimits cert p → instance_in cert.schedule p l c ≡ Some inst → IsPlaced cert inst
+in_point : (cert : Cert) (p : Point) (l c : ℕ) (inst : Instance) → PointLimits cert p → instance_in cert.schedule p l c ≡ Some inst
+    → IsPlaced cert inst
 in_point cert p l c inst h e =
     let of = of_point cert p l c inst e in
     let lines = and_true (leb p.l0 l && leb l p.l1) (leb p.c0 c && leb c p.c1) of.box in
@@ -106,7 +109,8 @@ pub is_placed : (cert : Cert) → Limits cert → (id l c : ℕ) (inst : Instanc
 is_placed cert limits id l c inst e =
     let point = opened (λ p. instance_in cert.schedule p l c) (slice_get cert.points id) inst e in
     let p = point.0 in
-    let fits : PointLimits cert p = subst (PointLimits cert) (get_or_from_slice_get cert.points id p p point.1) (All-get_or (PointLimits cert) cert.points id p (slice_get_within cert.points id p point.1) limits.points) in
+    let fits : PointLimits cert p = subst (PointLimits cert) (get_or_from_slice_get cert.points id p p point.1)
+    (All-get_or (PointLimits cert) cert.points id p (slice_get_within cert.points id p point.1) limits.points) in
     in_point cert p l c inst fits point.2
 
 pub main_slots : (cert : Cert) (inst : Instance) → IsPlaced cert inst → inst.kind ≡ Main → depth_of inst ≤ cert.head.main
@@ -145,13 +149,16 @@ byte_at (b ∷ bytes) zero h = h.0
 byte_at (b ∷ bytes) (suc at) h = byte_at bytes at h.1
 
 -- cells in ranges that lie in others are in those
-pub cells_widen : (head : Head) (kind : Kind) (a b : List Ends) (bytes : List ℕ) → AllByRecursion IsByte bytes → cells_inside a b ≡ true → CellsHold head kind a bytes → CellsHold head kind b bytes
+pub cells_widen : (head : Head) (kind : Kind) (a b : List Ends) (bytes : List ℕ) → AllByRecursion IsByte bytes → cells_inside a b ≡ true
+    → CellsHold head kind a bytes → CellsHold head kind b bytes
 cells_widen head kind a b bytes fine e h at j is =
     let both = and_true (nat_eq (length a) (length b)) _ e in
     let same : length a ≡ length b = eqb-true (length a) (length b) both.0 in
     elim (lt_or j (length b)) [
-      | inl low ↦ within_tells (span_at a j) (span_at b j) (slice_index bytes at) (below_tells (length a) (λ j. range_inside (span_at a j) (span_at b j)) both.1 j (omega (arith, low, same))) (h at j is)
-      | inr past ↦ subst (IsWithin (slice_index bytes at)) (sym (past_end b j past)) (record { above = omega arith; below = omega (arith, byte_at bytes at fine) })
+      | inl low ↦ within_tells (span_at a j) (span_at b j) (slice_index bytes at)
+          (below_tells (length a) (λ j. range_inside (span_at a j) (span_at b j)) both.1 j (omega (arith, low, same))) (h at j is)
+      | inr past ↦ subst (IsWithin (slice_index bytes at)) (sym (past_end b j past))
+          (record { above = omega arith; below = omega (arith, byte_at bytes at fine) })
     ]
 
 pub register_byte : (c : Core) (r : ℕ) → IsCore c → register c r < 256

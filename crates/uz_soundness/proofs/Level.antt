@@ -19,14 +19,16 @@ last_level_more at zero x = or_else_none (at x) ∙ ap at (omega arith)
 last_level_more at (suc n) x =
     let e : x - 1 - n ≡ x - suc n = omega arith in
     ap (or_else (at x)) (last_level_more at n (x - 1))
-    ∙ (or_else_assoc (at x) (last_level at n (x - 1)) (at (x - 1 - n)) ∙ ap (λ i. or_else (or_else (at x) (last_level at n (x - 1))) (at i)) e)
+    ∙ (or_else_assoc (at x) (last_level at n (x - 1)) (at (x - 1 - n)) ∙ ap (λ i. or_else (or_else (at x) (last_level at n (x - 1))) (at i))
+    e)
 
 -- what happens at a position, with what holds before it
 joined : (event before again : Option ℕ) → again ≡ event → or_else again before ≡ or_else event (or_else before event)
 joined None before again e = rw e (sym (or_else_none before))
 joined (Some v) before again e = rw e refl
 
-last_level_step : (at : ℕ → Option ℕ) (frame x : ℕ) → ((y : ℕ) → at (y + frame) ≡ at y) → 0 < frame → last_level at frame (suc x + frame) ≡ or_else (at (suc x)) (last_level at frame (x + frame))
+last_level_step : (at : ℕ → Option ℕ) (frame x : ℕ) → ((y : ℕ) → at (y + frame) ≡ at y) → 0 < frame → last_level at frame (suc x + frame)
+    ≡ or_else (at (suc x)) (last_level at frame (x + frame))
 last_level_step at zero x again some = absurd (omega arith)
 last_level_step at (suc n) x again some =
     let front : suc x + suc n - 1 ≡ x + suc n = omega arith in
@@ -63,7 +65,8 @@ level_mod s x y e = ap (λ z. last_level (sync_at s) (frame_of s) (z + frame_of 
 
 -- the level, counted from the position itself
 level_is : (s : Schedule) (x : ℕ) → level_at s x ≡ last_level (sync_at s) (frame_of s) (x + frame_of s)
-level_is s x = last_level_same (sync_at s) (frame_of s) (x % frame_of s) x (λ k. sync_at_mod_more s (x % frame_of s) x k (mod-mod x (frame_of s)))
+level_is s x = last_level_same (sync_at s) (frame_of s) (x % frame_of s) x
+    (λ k. sync_at_mod_more s (x % frame_of s) x k (mod-mod x (frame_of s)))
 
 pub level_step : (s : Schedule) (x : ℕ) → 0 < frame_of s → level_at s (suc x) ≡ or_else (sync_at s (suc x)) (level_at s x)
 level_step s x some =

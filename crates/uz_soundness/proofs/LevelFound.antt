@@ -17,13 +17,15 @@ use Rattle.uz_soundness.proofs.Quiet.{frame_some}
 -- a list whose first event is a fall at this clock has it there
 first_event : (fall : ℕ) (events : List Event) → IsSteadyLine fall events → event_in events fall ≡ Some (Sync 0)
 first_event fall events h =
-    let here : event_in (h.first ∷ h.later) h.first.clock ≡ Some h.first.kind = let e : eqb h.first.clock h.first.clock ≡ true = grind (arith, nat_tests) in rw e refl in
+    let here : event_in (h.first ∷ h.later) h.first.clock ≡ Some h.first.kind = let e : eqb h.first.clock h.first.clock ≡ true =
+    grind (arith, nat_tests) in rw e refl in
     ap (λ es. event_in es fall) h.is ∙ (ap (event_in (h.first ∷ h.later)) (sym h.clock) ∙ (here ∙ ap (λ k. Some k) h.kind))
 
 -- the first line has its fall
 fall_event : (s : Schedule) → ScheduleFits s → IsSteady s → event_at s (start_of s 0 + s.fall) ≡ Some (Sync 0)
 fall_event s fits steady =
-    let kind : slice_index s.lines 0 < length s.kinds = All-get_or (λ k. k < length s.kinds) s.lines 0 0 (omega (arith, fits.lines.some)) fits.lines.there in
+    let kind : slice_index s.lines 0 < length s.kinds = All-get_or (λ k. k < length s.kinds) s.lines 0 0 (omega (arith, fits.lines.some))
+    fits.lines.there in
     let events = get_or s.kinds (slice_index s.lines 0) [] in
     let is : events_of s 0 ≡ Some events = slice_get-get_or s.kinds (slice_index s.lines 0) [] kind in
     event_of_place s 0 s.fall (omega (arith, fits.lines.some)) (omega (arith, fits.fall_in_line))

@@ -50,7 +50,8 @@ old_handler kind One e h = absurd cc
 old_handler kind Free e h = absurd cc
 old_handler kind OldBit e h = ap is_main h
 
-old_flags : (kind : Kind) (flags : List Bit) → 1 ≤ length flags → All (BitFits kind) flags → all_flags is_old flags ≡ true → is_main kind ≡ false
+old_flags : (kind : Kind) (flags : List Bit) → 1 ≤ length flags → All (BitFits kind) flags → all_flags is_old flags ≡ true
+    → is_main kind ≡ false
 old_flags kind [] some h e = absurd (omega (arith, some))
 old_flags kind (b ∷ flags) some h e = old_handler kind b (and_true (is_old b) (all_flags is_old flags) e).0 (h zero b (omega arith))
 
@@ -87,7 +88,8 @@ limits_of cert h = record {
   schedule = h.schedule;
   head = head_limits cert.head h.head;
   rests = rest_limits cert h;
-  points = mapped (PointFits cert.head (length cert.schedule.lines) (length cert.points)) (PointLimits cert) cert.points (point_limits cert) h.points.each;
+  points = mapped (PointFits cert.head (length cert.schedule.lines) (length cert.points)) (PointLimits cert) cert.points (point_limits cert)
+      h.points.each;
   entry_cells = spans_told (schedule.tracked cert.head cert.entry.kind) cert.entry.cells.items h.entry.facts.cells.within;
 }
 
@@ -99,6 +101,7 @@ entry_limits cert h = record {
   slots = subst (λ n. length cert.entry.stack.items ≤ n) (depth_same cert.head cert.entry.kind) h.entry.facts.slots;
   stack = bytes cert.entry.stack.items h.entry.facts.stack;
   cells = bytes cert.entry.cells.items h.entry.facts.cells.ranges;
-  rests = λ rest has. bytes rest.cells.items (each_of (RestFits cert.head (length cert.schedule.lines) (length cert.points)) cert.rests rest h.rests.each has).cells.ranges;
+  rests = λ rest has. bytes rest.cells.items (each_of (RestFits cert.head (length cert.schedule.lines) (length cert.points)) cert.rests rest
+      h.rests.each has).cells.ranges;
   rise = h.head.rise;
 }

@@ -15,7 +15,8 @@ next_start : (s : Schedule) (l k : ℕ) → (start_of s (next_line s l) + k) % f
 next_start s l k =
     elim (eqb_tells (suc l) (length s.lines)) [
       | inl t ↦
-          let whole : (start_of s (length s.lines) + k) % frame_of s ≡ k % frame_of s = ap (λ i. i % frame_of s) (omega arith) ∙ add-mod_right k (frame_of s) in
+          let whole : (start_of s (length s.lines) + k) % frame_of s ≡ k % frame_of s = ap (λ i. i % frame_of s) (omega arith)
+          ∙ add-mod_right k (frame_of s) in
           let here = ap (λ n. (start_of s n + k) % frame_of s) t.1 in
           rw t.0 (ap (λ i. i % frame_of s) (omega arith) ∙ (sym whole ∙ (sym here ∙ ap (λ i. i % frame_of s) (omega arith))))
       | inr t ↦ rw t.0 (ap (λ i. i % frame_of s) (omega arith))

@@ -1,5 +1,6 @@
 -- What the local rule gives of an instance that it doesn't refuse.
-use Rattle.std.proofs.Common.{◌≡◌, ◌⊎◌, inl, inr, Contains, ℕ, zero, suc, ◌+◌, ◌-◌, ◌%◌, ◌≤◌, Bool, true, false, cond, List, [], ◌∷◌, refl, sym, ◌∙◌, ap, subst, arith}
+use Rattle.std.proofs.Common.{◌≡◌, ◌⊎◌, inl, inr, Contains, ℕ, zero, suc, ◌+◌, ◌-◌, ◌%◌, ◌≤◌, Bool, true, false, cond, List, [], ◌∷◌, refl}
+use Rattle.std.proofs.Common.{sym, ◌∙◌, ap, subst, arith}
 use Rattle.std.specs.Prelude.{Option, Some, None, Result, Ok, Err, is_none, not, nat_eq, ◌&&◌, ◌||◌, slice_get}
 use Rattle.std.specs.Ordering.{nat_cmp}
 use Rattle.std.specs.FinMap.{FinMap}
@@ -33,7 +34,8 @@ use Rattle.uz_transfer.specs.Step.{IsReadAt, IsStep, step_of_row, successor}
 use Rattle.uz_rules.specs.Inside.{cells_inside, restored}
 use Rattle.uz_rules.specs.EdgeRule.{position_of, is_kind, is_event, is_quiet, emits_as_scheduled, each_exit, edges_fit}
 use Rattle.uz_rules.specs.Successors.{lies_in_point, lies_in_any, LiesInPoint}
-use Rattle.uz_rules.specs.Local.{is_no_opcode, row_emits_in_main, rest_in, return_fail, first_exit, end_of, has_successors, compares_edges, step_fail, instance_fail, IsLocal}
+use Rattle.uz_rules.specs.Local.{is_no_opcode, row_emits_in_main, rest_in, return_fail, first_exit, end_of, has_successors, compares_edges}
+use Rattle.uz_rules.specs.Local.{step_fail, instance_fail, IsLocal}
 use Rattle.uz_soundness.specs.Claim.{scheduled}
 use Rattle.uz_soundness.proofs.Premises.{IsCovered, EdgeHolds, Succeeds, LocalHolds}
 use Rattle.uz_soundness.proofs.Steps.{scheduled-+}
@@ -93,7 +95,8 @@ quiet_none at p k (suc n) e =
     ap (scheduled at p k) i ∙ (scheduled-+ at p k n 1 ∙ rw (before, here) refl)
 
 -- and one more
-passed : (at : ℕ → Option EventKind) (p k c : ℕ) → 1 ≤ c → is_quiet at p (c - 1) ≡ true → scheduled at p k c ≡ listed (shown_at (at (p + c)) (k + c))
+passed : (at : ℕ → Option EventKind) (p k c : ℕ) → 1 ≤ c → is_quiet at p (c - 1) ≡ true → scheduled at p k c ≡ listed
+    (shown_at (at (p + c)) (k + c))
 passed at p k zero some e = absurd (omega (arith, some))
 passed at p k (suc n) some e =
     let m : suc n - 1 ≡ n = omega arith in
@@ -107,15 +110,20 @@ passed at p k (suc n) some e =
 
 exit_tells : (test : Exit → Bool) (exits : List Exit) (exit : Exit) → each_exit test exits ≡ true → Contains exits exit → test exit ≡ true
 exit_tells test [] exit e (i, below, is) = absurd (omega (arith, below))
-exit_tells test (x ∷ exits) exit e (zero, below, is) = let same : x ≡ exit = is in ap test (sym same) ∙ (and_true (test x) (each_exit test exits) e).0
-exit_tells test (x ∷ exits) exit e (suc i, below, is) = exit_tells test exits exit (and_true (test x) (each_exit test exits) e).1 (i, omega (arith, below), is)
+exit_tells test (x ∷ exits) exit e (zero, below, is) = let same : x ≡ exit = is in ap test (sym same)
+    ∙ (and_true (test x) (each_exit test exits) e).0
+exit_tells test (x ∷ exits) exit e (suc i, below, is) = exit_tells test exits exit (and_true (test x) (each_exit test exits) e).1
+    (i, omega (arith, below), is)
 
-exit_scheduled : (cert : Cert) (inst : Instance) (step : Step) → edges_fit cert.schedule (position_of cert.schedule inst) step.emit step.exits.items ≡ true → (exit : Exit) (k : ℕ) → Contains step.exits.items exit → 1 ≤ exit.clocks
+exit_scheduled : (cert : Cert) (inst : Instance) (step : Step) → edges_fit cert.schedule (position_of cert.schedule inst) step.emit
+    step.exits.items ≡ true → (exit : Exit) (k : ℕ) → Contains step.exits.items exit → 1 ≤ exit.clocks
     → scheduled (event_at cert.schedule) (position_of cert.schedule inst) k exit.clocks ≡ listed (shown_at step.emit (k + exit.clocks))
 exit_scheduled cert inst step e exit k has some =
     let p = position_of cert.schedule inst in
-    let both = and_true (is_quiet (event_at cert.schedule) p (exit.clocks - 1)) _ (exit_tells (λ x. emits_as_scheduled cert.schedule p step.emit x.clocks) step.exits.items exit e has) in
-    passed (event_at cert.schedule) p k exit.clocks some both.0 ∙ ap (λ o. listed (shown_at o (k + exit.clocks))) (event_tells (event_at cert.schedule (p + exit.clocks)) step.emit both.1)
+    let both = and_true (is_quiet (event_at cert.schedule) p (exit.clocks - 1)) _
+    (exit_tells (λ x. emits_as_scheduled cert.schedule p step.emit x.clocks) step.exits.items exit e has) in
+    passed (event_at cert.schedule) p k exit.clocks some both.0 ∙ ap (λ o. listed (shown_at o (k + exit.clocks)))
+    (event_tells (event_at cert.schedule (p + exit.clocks)) step.emit both.1)
 
 first_is : (exits : List Exit) (only : Exit) → exits ≡ only ∷ [] → Contains exits (first_exit exits)
 first_is exits only is = subst (λ xs. Contains xs (first_exit xs)) (sym is) (zero, omega arith, refl)
@@ -149,7 +157,8 @@ rest_there : (rests : List Rest) (line : ℕ) (rest : Rest) → rest_in rests li
 rest_there [] line rest e = absurd cc
 rest_there (r ∷ rests) line rest e = there_by (nat_eq r.line line) refl (rest_there rests line rest) e
   where
-    there_by : (t : Bool) → nat_eq r.line line ≡ t → (rest_in rests line ≡ Some rest → RestThere rests line rest) → cond t (Some r) (rest_in rests line) ≡ Some rest → RestThere (r ∷ rests) line rest
+    there_by : (t : Bool) → nat_eq r.line line ≡ t → (rest_in rests line ≡ Some rest → RestThere rests line rest) → cond t (Some r)
+        (rest_in rests line) ≡ Some rest → RestThere (r ∷ rests) line rest
     there_by true p later f =
         let same : r ≡ rest = cc in
         record { has = (zero, omega arith, same); line_is = sym (number_tells r.line line p) ∙ ap (λ (x : Rest). x.line) same }
@@ -165,7 +174,8 @@ record ReturnTold (cert : Cert) (end : Instance) : Type 0 where
   restored : restored end ≡ true
   cells : cells_inside end.cells.items rest.cells.items ≡ true
 
-return_told : (cert : Cert) (end : Instance) (found : Option Rest) → rest_in cert.rests end.line ≡ found → None ≡ return_fail found end → ReturnTold cert end
+return_told : (cert : Cert) (end : Instance) (found : Option Rest) → rest_in cert.rests end.line ≡ found → None ≡ return_fail found end
+    → ReturnTold cert end
 return_told cert end None is e = absurd cc
 return_told cert end (Some rest) is e =
     let there = rest_there cert.rests end.line rest is in
@@ -183,8 +193,10 @@ return_told cert end (Some rest) is e =
 
 -- The rule
 
-result_tells : (laws : LiesInPoint) (image : FinMap nat_cmp ℕ) (cert : Cert) (next : List ℕ) (inst : Instance) (step : Step) → IsStep cert.head (length_of cert.schedule inst.line) image inst (Ok step) → (back : Bool) → step.back ≡ back
-    → None ≡ cond back (return_fail (rest_in cert.rests (end_of cert inst step).line) (end_of cert inst step)) (refuse_if (not (has_successors cert next inst step)) fail.Successor None) → Succeeds cert inst step back
+result_tells : (laws : LiesInPoint) (image : FinMap nat_cmp ℕ) (cert : Cert) (next : List ℕ) (inst : Instance) (step : Step)
+    → IsStep cert.head (length_of cert.schedule inst.line) image inst (Ok step) → (back : Bool) → step.back ≡ back
+    → None ≡ cond back (return_fail (rest_in cert.rests (end_of cert inst step).line) (end_of cert inst step))
+    (refuse_if (not (has_successors cert next inst step)) fail.Successor None) → Succeeds cert inst step back
 result_tells laws image cert next inst step is true back e =
     let told = return_told cert (end_of cert inst step) (rest_in cert.rests (end_of cert inst step).line) refl e in
     let reti = return_tells cert.head (length_of cert.schedule inst.line) image inst step is back in
@@ -201,9 +213,11 @@ result_tells laws image cert next inst step is true back e =
     }
 result_tells laws image cert next inst step is false back e =
     let passes = not_false _ (unrefused _ _ _ e).0 in
-    λ exit has. any_covered laws cert next (successor (lines_of cert.schedule) inst step exit) (exit_tells (λ x. lies_in_any cert next (successor (lines_of cert.schedule) inst step x)) step.exits.items exit passes has)
+    λ exit has. any_covered laws cert next (successor (lines_of cert.schedule) inst step exit)
+    (exit_tells (λ x. lies_in_any cert next (successor (lines_of cert.schedule) inst step x)) step.exits.items exit passes has)
 
-main_silent : (row : Option Instr) (inst : Instance) (i : Instr) (first second : ℕ) → is_main inst.kind ≡ true → row_emits_in_main row inst ≡ false → (row ≡ None → ⊥) → ((j : Instr) → row ≡ Some j → i ≡ j) → main_emits (effect_of i) inst ≡ false
+main_silent : (row : Option Instr) (inst : Instance) (i : Instr) (first second : ℕ) → is_main inst.kind ≡ true → row_emits_in_main row
+    inst ≡ false → (row ≡ None → ⊥) → ((j : Instr) → row ≡ Some j → i ≡ j) → main_emits (effect_of i) inst ≡ false
 main_silent None inst i first second kind e some same = absurd (some refl)
 main_silent (Some j) inst i first second kind e some same =
     let silent : main_emits (effect_of j) inst ≡ false = drop_true (is_main inst.kind) (main_emits (effect_of j) inst) kind e in
@@ -213,15 +227,19 @@ main_silent (Some j) inst i first second kind e some same =
     drop_true true b e f = f
     drop_true false b e f = absurd cc
 
-reads_tell : (first second : ℕ) (row : Option Instr) (i : Instr) → Decoded first second row → Reads first second i → (j : Instr) → row ≡ Some j → i ≡ j
+reads_tell : (first second : ℕ) (row : Option Instr) (i : Instr) → Decoded first second row → Reads first second i → (j : Instr)
+    → row ≡ Some j → i ≡ j
 reads_tell first second None i decoded reads j e = absurd cc
 reads_tell first second (Some k) i decoded reads j e =
     let same : k ≡ j = cc in
     unique _ i k reads decoded.found ∙ same
 
-edge_tells : (image : FinMap nat_cmp ℕ) (cert : Cert) (row : Option Instr) (inst : Instance) (step : Step) → IsReadAt image inst.pc row → is_no_opcode row ≡ false → row_emits_in_main row inst ≡ false → compares_edges cert inst step ≡ true → (kind : Kind) → inst.kind ≡ kind → EdgeHolds image cert kind inst step
+edge_tells : (image : FinMap nat_cmp ℕ) (cert : Cert) (row : Option Instr) (inst : Instance) (step : Step) → IsReadAt image inst.pc row
+    → is_no_opcode row ≡ false → row_emits_in_main row inst ≡ false → compares_edges cert inst step ≡ true → (kind : Kind)
+    → inst.kind ≡ kind → EdgeHolds image cert kind inst step
 edge_tells image cert row inst step reads opcode silent compares Main kind =
-    λ i at. main_silent row inst i (word_of image (inst.pc % 32768)) (word_of image ((inst.pc + 1) % 32768)) (ap is_main kind) silent (λ e. let z : true ≡ false = sym (ap is_no_opcode e) ∙ opcode in cc) (reads_tell _ _ row i reads at)
+    λ i at. main_silent row inst i (word_of image (inst.pc % 32768)) (word_of image ((inst.pc + 1) % 32768)) (ap is_main kind) silent
+    (λ e. let z : true ≡ false = sym (ap is_no_opcode e) ∙ opcode in cc) (reads_tell _ _ row i reads at)
 edge_tells image cert row inst step reads opcode silent compares Handler kind =
     let main : is_main inst.kind ≡ false = ap is_main kind in
     exit_scheduled cert inst step (rw main at compares)
@@ -229,13 +247,19 @@ edge_tells image cert row inst step reads opcode silent compares Alone kind =
     let main : is_main inst.kind ≡ false = ap is_main kind in
     exit_scheduled cert inst step (rw main at compares)
 
-step_tells : (laws : LiesInPoint) (image : FinMap nat_cmp ℕ) (cert : Cert) (next : List ℕ) (row : Option Instr) (inst : Instance) (result : Result Step Fail) → IsReadAt image inst.pc row → is_no_opcode row ≡ false → step_of_row cert.head (length_of cert.schedule inst.line) image row inst ≡ result
+step_tells : (laws : LiesInPoint) (image : FinMap nat_cmp ℕ) (cert : Cert) (next : List ℕ) (row : Option Instr) (inst : Instance)
+    (result : Result Step Fail) → IsReadAt image inst.pc row → is_no_opcode row ≡ false → step_of_row cert.head
+    (length_of cert.schedule inst.line) image row inst ≡ result
     → None ≡ step_fail cert next inst (row_emits_in_main row inst) result → LocalHolds image cert inst
 step_tells laws image cert next row inst (Err why) reads opcode is e = absurd cc
 step_tells laws image cert next row inst (Ok step) reads opcode is e =
     let silent = unrefused _ _ _ e in
     let compares = unrefused _ _ _ silent.1 in
-    let step_is : IsStep cert.head (length_of cert.schedule inst.line) image inst (Ok step) = record { row = row; reads = reads; is = sym is } in
+    let step_is : IsStep cert.head (length_of cert.schedule inst.line) image inst (Ok step) = record {
+      row = row;
+      reads = reads;
+      is = sym is;
+    } in
     record {
       step = step;
       step_is = step_is;
@@ -243,13 +267,16 @@ step_tells laws image cert next row inst (Ok step) reads opcode is e =
       successor = result_tells laws image cert next inst step step_is step.back refl compares.1;
     }
 
-pub local_tells : (laws : LiesInPoint) (image : FinMap nat_cmp ℕ) (cert : Cert) (id l c : ℕ) (inst : Instance) → IsLocal image cert id l c None → instance_at cert id l c ≡ Some inst → LocalHolds image cert inst
+pub local_tells : (laws : LiesInPoint) (image : FinMap nat_cmp ℕ) (cert : Cert) (id l c : ℕ) (inst : Instance) → IsLocal image cert id l c
+    None → instance_at cert id l c ≡ Some inst → LocalHolds image cert inst
 local_tells laws image cert id l c inst h e =
     let opcode = unrefused _ _ _ h.is in
-    let fails : None ≡ instance_fail image cert h.point.next.items h.row (Some inst) = opcode.1 ∙ ap (instance_fail image cert h.point.next.items h.row) e in
+    let fails : None ≡ instance_fail image cert h.point.next.items h.row (Some inst) = opcode.1
+    ∙ ap (instance_fail image cert h.point.next.items h.row) e in
     let at = opened (λ p. instance_in cert.schedule p l c) (slice_get cert.points id) inst e in
     let same : at.0 ≡ h.point = same_some (slice_get cert.points id) at.0 h.point at.1 h.is_point in
-    let pc : h.point.pc ≡ inst.pc = ap (λ (p : Point). p.pc) (sym same) ∙ ap (λ (i : Instance). i.pc) (of_point cert at.0 l c inst at.2).is in
+    let pc : h.point.pc ≡ inst.pc = ap (λ (p : Point). p.pc) (sym same) ∙ ap (λ (i : Instance). i.pc)
+    (of_point cert at.0 l c inst at.2).is in
     step_tells laws image cert h.point.next.items h.row inst _ (subst (λ k. IsReadAt image k h.row) pc h.reads) opcode.0 refl fails
   where
     same_some : (o : Option Point) (a b : Point) → o ≡ Some a → o ≡ Some b → a ≡ b

@@ -1,5 +1,6 @@
 -- Entries and returns alternate, and main's time between them.
-use Rattle.std.proofs.Common.{◌≡◌, ◌⊎◌, inl, inr, All, Contains, ℕ, zero, suc, ◌+◌, Bool, true, false, List, [], ◌∷◌, ◌++◌, refl, sym, ◌∙◌, ap, subst, arith}
+use Rattle.std.proofs.Common.{◌≡◌, ◌⊎◌, inl, inr, All, Contains, ℕ, zero, suc, ◌+◌, Bool, true, false, List, [], ◌∷◌, ◌++◌, refl, sym, ◌∙◌}
+use Rattle.std.proofs.Common.{ap, subst, arith}
 use Rattle.std.specs.Prelude.{⊤}
 use Rattle.std.specs.Ordering.{nat_cmp}
 use Rattle.std.specs.FinMap.{FinMap}
@@ -38,11 +39,14 @@ Since cert s (RunsMain i o rest) (InMain since line at) =
 Since cert s (RunsHandler i m o was) (InMain since line at) = ⊥
 Since cert s (RunsHandler i m o was) InHandler = ⊤
 
-plain_time : (cert : Cert) (phase : Phase) (edges : List Edge) (tail : List (ℕ × EdgeKind)) → All (λ e. IsPlain e.kind) edges → MainsTime cert phase tail → MainsTime cert phase (told edges ++ tail)
+plain_time : (cert : Cert) (phase : Phase) (edges : List Edge) (tail : List (ℕ × EdgeKind)) → All (λ e. IsPlain e.kind) edges
+    → MainsTime cert phase tail → MainsTime cert phase (told edges ++ tail)
 plain_time cert phase [] tail h more = more
-plain_time cert phase (e ∷ es) tail h more = one e.clock e.kind (h 0 e (omega arith)) (plain_time cert phase es tail (All-tail (λ e. IsPlain e.kind) e es h) more)
+plain_time cert phase (e ∷ es) tail h more = one e.clock e.kind (h 0 e (omega arith))
+    (plain_time cert phase es tail (All-tail (λ e. IsPlain e.kind) e es h) more)
   where
-    one : (clock : ℕ) (kind : EdgeKind) → IsPlain kind → MainsTime cert phase (told es ++ tail) → MainsTime cert phase ((clock, kind) ∷ (told es ++ tail))
+    one : (clock : ℕ) (kind : EdgeKind) → IsPlain kind → MainsTime cert phase (told es ++ tail) → MainsTime cert phase
+        ((clock, kind) ∷ (told es ++ tail))
     one clock (Sync v) h more = more
     one clock (Pixel v) h more = more
     one clock (Sound v) h more = more
@@ -53,23 +57,28 @@ both : (b : Bool) → b ≡ true → b ≡ false → ⊥
 both b e f = absurd cc
 
 -- main goes on
-spent : (cert : Cert) (s next : State PadHistory) (c : ℕ) (rest later : Rest) (i j : Instance) (o q : Core) (phase : Phase) → Since cert s (RunsMain i o rest) phase → next.clock ≡ s.clock + c → later ≡ rest → s.space.timer.matched ≡ false → Spends (length_of cert.schedule rest.line) s next c → Since cert next (RunsMain j q later) phase
+spent : (cert : Cert) (s next : State PadHistory) (c : ℕ) (rest later : Rest) (i j : Instance) (o q : Core) (phase : Phase)
+    → Since cert s (RunsMain i o rest) phase → next.clock ≡ s.clock + c → later ≡ rest → s.space.timer.matched ≡ false
+    → Spends (length_of cert.schedule rest.line) s next c → Since cert next (RunsMain j q later) phase
 spent cert s next c rest later i j o q InHandler since clock same clear spends = absurd since
-spent cert s next c rest later i j o q (InMain k line at) (is, inr due) clock same clear spends = absurd (both s.space.timer.matched due.0 clear)
+spent cert s next c rest later i j o q (InMain k line at) (is, inr due) clock same clear spends =
+    absurd (both s.space.timer.matched due.0 clear)
 spent cert s next c rest later i j o q (InMain k line at) (is, inl before) clock same clear (inl within) =
     (ap (λ (r : Rest). r.line) same ∙ is, inl (within.0, omega (arith, before.1, clock, within.1)))
 spent cert s next c rest later i j o q (InMain k line at) (is, inl before) clock same clear (inr past) =
     let length : length_of cert.schedule rest.line ≡ length_of cert.schedule line = ap (length_of cert.schedule) is in
     (ap (λ (r : Rest). r.line) same ∙ is, inr (past.0, omega (arith, before.1, clock, past.1, length)))
 
-time_step : (cert : Cert) (s next : State PadHistory) (c : ℕ) (now then : Running) (edges : List Edge) (tail : List (ℕ × EdgeKind)) (phase : Phase) → Since cert s now phase → next.clock ≡ s.clock + c → Goes cert s next c now then edges
+time_step : (cert : Cert) (s next : State PadHistory) (c : ℕ) (now then : Running) (edges : List Edge) (tail : List (ℕ × EdgeKind))
+    (phase : Phase) → Since cert s now phase → next.clock ≡ s.clock + c → Goes cert s next c now then edges
     → ((later : Phase) → Since cert next then later → MainsTime cert later tail) → MainsTime cert phase (told edges ++ tail)
 time_step cert s next c (RunsAlone i o) then edges tail phase since clock goes more = absurd since
 time_step cert s next c (RunsMain i o rest) (RunsAlone j q) edges tail phase since clock goes more = absurd goes
 time_step cert s next c (RunsMain i o rest) (RunsMain j q later) edges tail phase since clock goes more =
     plain_time cert phase edges tail goes.0 (more phase (spent cert s next c rest later i j o q phase since clock goes.1 goes.2 goes.3))
 time_step cert s next c (RunsMain i o rest) (RunsHandler j m q was) edges tail InHandler since clock goes more = absurd since
-time_step cert s next c (RunsMain i o rest) (RunsHandler j m q was) edges tail (InMain k line at) (is, inl before) clock goes more = absurd (both s.space.timer.matched goes.2 before.0)
+time_step cert s next c (RunsMain i o rest) (RunsHandler j m q was) edges tail (InMain k line at) (is, inl before) clock goes more =
+    absurd (both s.space.timer.matched goes.2 before.0)
 time_step cert s next c (RunsMain i o rest) (RunsHandler j m q was) edges tail (InMain k line at) (is, inr due) clock goes more =
     subst (λ es. MainsTime cert (InMain k line at) (told es ++ tail)) (sym goes.0) (goes.1, due.1, more InHandler tt)
 time_step cert s next c (RunsHandler i m o was) (RunsAlone j q) edges tail phase since clock goes more = absurd goes
@@ -78,9 +87,12 @@ time_step cert s next c (RunsHandler i m o was) (RunsMain j q rest) edges tail I
     subst (λ es. MainsTime cert InHandler (told es ++ tail)) (sym goes.0)
     (rest, goes.1, more (InMain next.clock rest.line rest.clock) (refl, inl (goes.3, ap (λ n. next.clock + n) (sym goes.2))))
 time_step cert s next c (RunsHandler i m o was) (RunsHandler j n q later) edges tail (InMain k line at) since clock goes more = absurd since
-time_step cert s next c (RunsHandler i m o was) (RunsHandler j n q later) edges tail InHandler since clock goes more = plain_time cert InHandler edges tail goes (more InHandler tt)
+time_step cert s next c (RunsHandler i m o was) (RunsHandler j n q later) edges tail InHandler since clock goes more = plain_time cert
+    InHandler edges tail goes (more InHandler tt)
 
-run_time : (image : FinMap nat_cmp ℕ) (cert : Cert) → EveryTurnGoes image cert → (n p : ℕ) (s : State PadHistory) (edges : List Edge) (end : State PadHistory) (now : Invariant image cert p s) (phase : Phase) → Since cert s now.running phase → Run (Turn history_wiring) n s edges end → MainsTime cert phase (told edges)
+run_time : (image : FinMap nat_cmp ℕ) (cert : Cert) → EveryTurnGoes image cert → (n p : ℕ) (s : State PadHistory) (edges : List Edge)
+    (end : State PadHistory) (now : Invariant image cert p s) (phase : Phase) → Since cert s now.running phase → Run (Turn history_wiring) n
+    s edges end → MainsTime cert phase (told edges)
 run_time image cert goes zero p s edges end now phase since run = subst (λ es. MainsTime cert phase (told es)) (sym run.0) tt
 run_time image cert goes (suc n) p s edges end now phase since (first, mid, rest, turn, run, cut) =
     let step = goes s p first mid now turn in
@@ -96,12 +108,15 @@ record AtRest (cert : Cert) (p : ℕ) (s : State PadHistory) (running : Running)
   place : At cert.schedule p rest.line s.space.timer.count
   since : Since cert s running (InMain s.clock rest.line s.space.timer.count)
 
-clear_of : (s : State PadHistory) (kind : Kind) → bit_is_set s.core.sreg 7 ≡ true → bit_is_set s.core.sreg 7 ≡ is_main kind → is_main kind ≡ false → ⊥
+clear_of : (s : State PadHistory) (kind : Kind) → bit_is_set s.core.sreg 7 ≡ true → bit_is_set s.core.sreg 7 ≡ is_main kind
+    → is_main kind ≡ false → ⊥
 clear_of s kind on is off = both (bit_is_set s.core.sreg 7) on (is ∙ off)
 
-at_rest : (cert : Cert) (p : ℕ) (s : State PadHistory) (running : Running) → bit_is_set s.core.sreg 7 ≡ true → s.space.timer.matched ≡ false → Runs cert p s running → AtRest cert p s running
+at_rest : (cert : Cert) (p : ℕ) (s : State PadHistory) (running : Running) → bit_is_set s.core.sreg 7 ≡ true → s.space.timer.matched ≡ false
+    → Runs cert p s running → AtRest cert p s running
 at_rest cert p s (RunsAlone i o) on clear runs = absurd (clear_of s i.kind on runs.stands.meets.enabled (ap is_main runs.stands.of_kind))
-at_rest cert p s (RunsHandler i m o was) on clear runs = absurd (clear_of s i.kind on runs.stands.meets.enabled (ap is_main runs.stands.of_kind))
+at_rest cert p s (RunsHandler i m o was) on clear runs =
+    absurd (clear_of s i.kind on runs.stands.meets.enabled (ap is_main runs.stands.of_kind))
 at_rest cert p s (RunsMain i o rest) on clear runs =
     elim runs.rests.phase [
       | inl before ↦ record { rest = rest; is_rest = runs.rests.is_rest; place = before.place; since = (refl, inl (clear, refl)) }
@@ -112,5 +127,10 @@ pub mains_time : (image : FinMap nat_cmp ℕ) (cert : Cert) → Premises image c
 mains_time image cert h s p n edges end is_state flash entry kind run =
     let start : BeginsMain cert s p = subst (λ k. Begins k cert s p) kind entry.begins in
     let now = begins_with image cert h s p is_state flash entry in
-    let place = at_rest cert p s now.running start.interrupts start.timer.clear now.runs in
-    (place.rest, place.is_rest, place.place, run_time image cert (every_turn_goes image cert h) n p s edges end now (InMain s.clock place.rest.line s.space.timer.count) place.since run)
+    let place = at_rest cert p s now.running start.interrupts start.timer.clear now.runs in (
+      place.rest,
+      place.is_rest,
+      place.place,
+      run_time image cert (every_turn_goes image cert h) n p s edges end now
+          (InMain s.clock place.rest.line s.space.timer.count) place.since run,
+    )

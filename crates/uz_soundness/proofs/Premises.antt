@@ -59,7 +59,8 @@ EdgeHolds image cert Alone inst step =
     → scheduled (event_at cert.schedule) (position_of cert.schedule inst) k exit.clocks ≡ listed (shown_at step.emit (k + exit.clocks))
 
 abbrev pub Succeeds : Cert → Instance → Step → Bool → Type 0
-Succeeds cert inst step false = (exit : Exit) → Contains step.exits.items exit → IsCovered cert (successor (lines_of cert.schedule) inst step exit)
+Succeeds cert inst step false = (exit : Exit) → Contains step.exits.items exit → IsCovered cert
+    (successor (lines_of cert.schedule) inst step exit)
 Succeeds cert inst step true = Returns cert inst step
 
 pub record LocalHolds (image : FinMap nat_cmp ℕ) (cert : Cert) (inst : Instance) : Type 0 where
@@ -71,8 +72,10 @@ pub record LocalHolds (image : FinMap nat_cmp ℕ) (cert : Cert) (inst : Instanc
 -- What the rules of a rest give
 
 pub record RestHolds (cert : Cert) (rest : Rest) : Type 0 where
-  pub quiet : (k : ℕ) → rest.clock < k → k < length_of cert.schedule rest.line → event_at cert.schedule (start_of cert.schedule rest.line + k) ≡ None
-  pub quiet_next : (k : ℕ) → k ≤ response_clocks cert.head.irq + 3 → event_at cert.schedule (start_of cert.schedule (next_line cert.schedule rest.line) + k) ≡ None
+  pub quiet : (k : ℕ) → rest.clock < k → k < length_of cert.schedule rest.line → event_at cert.schedule
+      (start_of cert.schedule rest.line + k) ≡ None
+  pub quiet_next : (k : ℕ) → k ≤ response_clocks cert.head.irq + 3 → event_at cert.schedule
+      (start_of cert.schedule (next_line cert.schedule rest.line) + k) ≡ None
   pub vector : (c : ℕ) → c ≤ 3 → IsCovered cert (rest_instance cert rest c)
 
 -- The laws of the rules: a state that meets an instance goes on as the abstract step says

@@ -19,7 +19,8 @@ frame_some s h = frame_by (length s.lines) h.lines.some
     frame_by (suc n) g = omega arith
 
 -- a stretch depends on its start modulo the frame
-pub scheduled_mod : (s : Schedule) (p q k c : ℕ) → p % frame_of s ≡ q % frame_of s → scheduled (event_at s) p k c ≡ scheduled (event_at s) q k c
+pub scheduled_mod : (s : Schedule) (p q k c : ℕ) → p % frame_of s ≡ q % frame_of s → scheduled (event_at s) p k c ≡ scheduled (event_at s) q
+    k c
 scheduled_mod s p q k zero e = refl
 scheduled_mod s p q k (suc c) e =
     let i : p + 1 ≡ suc p = omega arith in
@@ -43,7 +44,8 @@ abbrev pub last_in : List Shown → Option ℕ → Option ℕ
 last_in [] o = o
 last_in (e ∷ es) o = last_in es (or_else (level_set e.kind) o)
 
-last_in_event : (event : Option EventKind) (k : ℕ) (rest : List Shown) (o : Option ℕ) → last_in (listed (shown_at event k) ++ rest) o ≡ last_in rest (or_else (sync_of event) o)
+last_in_event : (event : Option EventKind) (k : ℕ) (rest : List Shown) (o : Option ℕ) → last_in (listed (shown_at event k) ++ rest)
+    o ≡ last_in rest (or_else (sync_of event) o)
 last_in_event None k rest o = refl
 last_in_event (Some kind) k rest o = refl
 

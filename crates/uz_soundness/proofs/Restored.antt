@@ -42,10 +42,13 @@ pub given_back : (inst : Instance) (o core : Core) → restored inst ≡ true �
 given_back inst o core e h =
     let a = and_true (nat_eq (depth_of inst) 0) _ e in
     let b = and_true (not inst.pending) _ a.1 in
-    let c = and_true (all_below 7 (λ k. is_old (flag_at inst.flags k))) (all_below 32 (λ r. is_old_register r (value_at inst.regs r))) b.1 in
+    let c = and_true (all_below 7 (λ k. is_old (flag_at inst.flags k))) (all_below 32 (λ r. is_old_register r (value_at inst.regs r)))
+    b.1 in
     record {
-      registers = λ r few. register_back r (value_at inst.regs r) o (register core r) (below_tells 32 (λ r. is_old_register r (value_at inst.regs r)) c.1 r few) (h.regs r few);
-      flags = λ k few. flag_back (flag_at inst.flags k) (bit_is_set o.sreg k) (bit_is_set core.sreg k) (below_tells 7 (λ k. is_old (flag_at inst.flags k)) c.0 k few) (h.flags k few);
+      registers = λ r few. register_back r (value_at inst.regs r) o (register core r)
+          (below_tells 32 (λ r. is_old_register r (value_at inst.regs r)) c.1 r few) (h.regs r few);
+      flags = λ k few. flag_back (flag_at inst.flags k) (bit_is_set o.sreg k) (bit_is_set core.sreg k)
+          (below_tells 7 (λ k. is_old (flag_at inst.flags k)) c.0 k few) (h.flags k few);
       slots = number_tells (depth_of inst) 0 a.0;
       pending = not_true inst.pending b.0;
     }

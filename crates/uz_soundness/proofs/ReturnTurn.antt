@@ -42,20 +42,38 @@ returned s =
 abbrev addresses : Core → List ℕ
 addresses c = load_addresses (Return true) c
 
-loads : (s : State PadHistory) → 256 ≤ s.core.sp + 1 → s.core.sp + 2 ≤ 4351 → loaded_bytes (space_loads history_wiring) s.core 3 s.space (addresses s.core) ≡ slice_index s.space.bytes (s.core.sp + 1) ∷ slice_index s.space.bytes (s.core.sp + 2) ∷ []
+loads : (s : State PadHistory) → 256 ≤ s.core.sp + 1 → s.core.sp + 2 ≤ 4351 → loaded_bytes (space_loads history_wiring) s.core 3 s.space
+    (addresses s.core) ≡ slice_index s.space.bytes (s.core.sp + 1) ∷ slice_index s.space.bytes (s.core.sp + 2) ∷ []
 loads s low high =
     let one : (s.core.sp + 1) % 65536 ≡ s.core.sp + 1 = omega arith in
     let two : (s.core.sp + 2) % 65536 ≡ s.core.sp + 2 = omega arith in
     let first = ram_read history_wiring (space_after 3 s.space) (s.core.sp + 1) low (omega arith) in
     let again : Space PadHistory → Space PadHistory = λ t. space_after 3 t in
     let kept = ram_timer (s.core.sp + 1) 3 s.space.timer low in
-    rw (one, two, off_core (s.core.sp + 1) low, off_core (s.core.sp + 2) (omega arith), kept, first, ram_read history_wiring (space_after 3 s.space) (s.core.sp + 2) (omega arith) high) refl
+    rw (
+      one,
+      two,
+      off_core (s.core.sp + 1) low,
+      off_core (s.core.sp + 2) (omega arith),
+      kept,
+      first,
+      ram_read history_wiring
+          (space_after 3 s.space) (s.core.sp + 2) (omega arith) high,
+    ) refl
 
-content : (s : State PadHistory) → 256 ≤ s.core.sp + 1 → s.core.sp + 2 ≤ 4351 → content_after_loads (space_loads history_wiring) 3 s.space (addresses s.core) ≡ s.space
+content : (s : State PadHistory) → 256 ≤ s.core.sp + 1 → s.core.sp + 2 ≤ 4351 → content_after_loads (space_loads history_wiring) 3 s.space
+    (addresses s.core) ≡ s.space
 content s low high =
     let one : (s.core.sp + 1) % 65536 ≡ s.core.sp + 1 = omega arith in
     let two : (s.core.sp + 2) % 65536 ≡ s.core.sp + 2 = omega arith in
-    rw (one, two, off_core (s.core.sp + 1) low, off_core (s.core.sp + 2) (omega arith), ram_timer (s.core.sp + 1) 3 s.space.timer low, ram_timer (s.core.sp + 2) 3 s.space.timer (omega arith)) refl
+    rw (
+      one,
+      two,
+      off_core (s.core.sp + 1) low,
+      off_core (s.core.sp + 2) (omega arith),
+      ram_timer (s.core.sp + 1) 3 s.space.timer low,
+      ram_timer (s.core.sp + 2) 3 s.space.timer (omega arith),
+    ) refl
 
 pub return_is : (s : State PadHistory) → 256 ≤ s.core.sp + 1 → s.core.sp + 2 ≤ 4351 → after_instruction history_wiring Reti s ≡ returned s
 return_is s low high =
@@ -65,7 +83,12 @@ return_is s low high =
     λ i.
     record {
       image = s.image;
-      core = record { pc = (slice_index (bytes i) 1 + 256 * slice_index (bytes i) 0) % 32768; registers = s.core.registers; sreg = with_bit 7 true s.core.sreg; sp = up i };
+      core = record {
+        pc = (slice_index (bytes i) 1 + 256 * slice_index (bytes i) 0) % 32768;
+        registers = s.core.registers;
+        sreg = with_bit 7 true s.core.sreg;
+        sp = up i;
+      };
       space = space_after 4 (same i);
       response = s.response;
       is_owed = true;

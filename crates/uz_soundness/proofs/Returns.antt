@@ -31,7 +31,8 @@ record Told (refused : Option Fail) (emitted : Option (Option EventKind)) (plan 
   emits : emitted ≡ Some event
   is : step ≡ record plan { emit = event }
 
-told : (refused : Option Fail) (emitted : Option (Option EventKind)) (plan step : Step) → Ok step ≡ step_unless refused emitted plan → Told refused emitted plan step
+told : (refused : Option Fail) (emitted : Option (Option EventKind)) (plan step : Step) → Ok step ≡ step_unless refused emitted plan
+    → Told refused emitted plan step
 told (Some why) emitted plan step e = absurd cc
 told None None plan step e = absurd cc
 told None (Some event) plan step e = record { event = event; fine = refl; emits = refl; is = cc }
@@ -44,14 +45,17 @@ pub record IsReturn (image : FinMap nat_cmp ℕ) (inst : Instance) (step : Step)
   pub emits : step.emit ≡ Some Leave
   pub clears : step.clears ≡ false
 
-row_back : (head : Head) (length : ℕ) (image : FinMap nat_cmp ℕ) (inst : Instance) (step : Step) (row : Option Instr) → Decoded (word_of image (inst.pc % 32768)) (word_of image ((inst.pc + 1) % 32768)) row → Ok step ≡ step_of_row head length image row inst → step.back ≡ true → IsReturn image inst step
+row_back : (head : Head) (length : ℕ) (image : FinMap nat_cmp ℕ) (inst : Instance) (step : Step) (row : Option Instr)
+    → Decoded (word_of image (inst.pc % 32768)) (word_of image ((inst.pc + 1) % 32768)) row → Ok step ≡ step_of_row head length image row
+    inst → step.back ≡ true → IsReturn image inst step
 row_back head length image inst step None reads e back = absurd cc
 row_back head length image inst step (Some i) reads e back =
     let t = told _ _ _ step e in
     let reti : i ≡ Reti = is_reti i (sym (ap (λ (x : Step). x.back) t.is) ∙ back) in
     reti_back i reti reads.found e
   where
-    reti_back : (j : Instr) → j ≡ Reti → Reads (word_of image (inst.pc % 32768)) (word_of image ((inst.pc + 1) % 32768)) j → Ok step ≡ step_of_row head length image (Some j) inst → IsReturn image inst step
+    reti_back : (j : Instr) → j ≡ Reti → Reads (word_of image (inst.pc % 32768)) (word_of image ((inst.pc + 1) % 32768)) j
+        → Ok step ≡ step_of_row head length image (Some j) inst → IsReturn image inst step
     reti_back j is read same =
         let f = subst (λ k. Ok step ≡ step_of_row head length image (Some k) inst) is same in
         let t = told _ (Some (Some Leave)) _ step f in
@@ -64,23 +68,30 @@ row_back head length image inst step (Some i) reads e back =
           clears = ap (λ (x : Step). x.clears) t.is;
         }
 
-pub return_tells : (head : Head) (length : ℕ) (image : FinMap nat_cmp ℕ) (inst : Instance) (step : Step) → IsStep head length image inst (Ok step) → step.back ≡ true → IsReturn image inst step
+pub return_tells : (head : Head) (length : ℕ) (image : FinMap nat_cmp ℕ) (inst : Instance) (step : Step) → IsStep head length image inst
+    (Ok step) → step.back ≡ true → IsReturn image inst step
 return_tells head length image inst step h back = row_back head length image inst step h.row h.reads h.is back
 
 -- and where it isn't RETI, the row that is read there doesn't return from an interrupt
-row_forth : (head : Head) (length : ℕ) (image : FinMap nat_cmp ℕ) (inst : Instance) (step : Step) (i : Instr) (row : Option Instr) → Decoded (word_of image (inst.pc % 32768)) (word_of image ((inst.pc + 1) % 32768)) row → Ok step ≡ step_of_row head length image row inst
-    → Reads (word_of image (inst.pc % 32768)) (word_of image ((inst.pc + 1) % 32768)) i → step.back ≡ false → returns_from_interrupt (effect_of i) ≡ false
+row_forth : (head : Head) (length : ℕ) (image : FinMap nat_cmp ℕ) (inst : Instance) (step : Step) (i : Instr) (row : Option Instr)
+    → Decoded (word_of image (inst.pc % 32768)) (word_of image ((inst.pc + 1) % 32768)) row → Ok step ≡ step_of_row head length image row
+    inst
+    → Reads (word_of image (inst.pc % 32768)) (word_of image ((inst.pc + 1) % 32768)) i → step.back ≡ false → returns_from_interrupt
+    (effect_of i) ≡ false
 row_forth head length image inst step i None decoded e reads forth = absurd cc
 row_forth head length image inst step i (Some j) decoded e reads forth =
     let t = told _ _ _ step e in
     let same : i ≡ j = unique _ i j reads decoded.found in
     ap (λ k. returns_from_interrupt (effect_of k)) same ∙ (sym (ap (λ (x : Step). x.back) t.is) ∙ forth)
 
-pub forth_plain : (head : Head) (length : ℕ) (image : FinMap nat_cmp ℕ) (inst : Instance) (step : Step) (i : Instr) → IsStep head length image inst (Ok step) → Reads (word_of image (inst.pc % 32768)) (word_of image ((inst.pc + 1) % 32768)) i → step.back ≡ false → returns_from_interrupt (effect_of i) ≡ false
+pub forth_plain : (head : Head) (length : ℕ) (image : FinMap nat_cmp ℕ) (inst : Instance) (step : Step) (i : Instr) → IsStep head length
+    image inst (Ok step) → Reads (word_of image (inst.pc % 32768)) (word_of image ((inst.pc + 1) % 32768)) i → step.back ≡ false
+    → returns_from_interrupt (effect_of i) ≡ false
 forth_plain head length image inst step i h reads forth = row_forth head length image inst step i h.row h.reads h.is reads forth
 
 -- a return is the handler's
-row_handler : (head : Head) (length : ℕ) (image : FinMap nat_cmp ℕ) (inst : Instance) (step : Step) (row : Option Instr) → Ok step ≡ step_of_row head length image row inst → step.back ≡ true → inst.kind ≡ Handler
+row_handler : (head : Head) (length : ℕ) (image : FinMap nat_cmp ℕ) (inst : Instance) (step : Step) (row : Option Instr)
+    → Ok step ≡ step_of_row head length image row inst → step.back ≡ true → inst.kind ≡ Handler
 row_handler head length image inst step None e back = absurd cc
 row_handler head length image inst step (Some i) e back =
     let t = told _ _ _ step e in
@@ -93,5 +104,6 @@ row_handler head length image inst step (Some i) e back =
     handler_by Main k e = let z : is_handler inst.kind ≡ false = ap is_handler k in absurd (let w = rw z at e in cc w)
     handler_by Alone k e = let z : is_handler inst.kind ≡ false = ap is_handler k in absurd (let w = rw z at e in cc w)
 
-pub handler_returns : (head : Head) (length : ℕ) (image : FinMap nat_cmp ℕ) (inst : Instance) (step : Step) → IsStep head length image inst (Ok step) → step.back ≡ true → inst.kind ≡ Handler
+pub handler_returns : (head : Head) (length : ℕ) (image : FinMap nat_cmp ℕ) (inst : Instance) (step : Step) → IsStep head length image inst
+    (Ok step) → step.back ≡ true → inst.kind ≡ Handler
 handler_returns head length image inst step h back = row_handler head length image inst step h.row h.is back

@@ -1,6 +1,7 @@
 -- From one turn to every run. Nothing here knows a machine's turn, a point or a rule: where each turn of a state that
 -- meets `Meets` at a position keeps to the schedule and leads to a state that meets it again, every run does.
-use Rattle.std.proofs.Common.{◌≡◌, All, ℕ, zero, suc, ◌+◌, ◌-◌, ◌<◌, ◌≤◌, List, [], ◌++◌, refl, ◌∙◌, ap, append_assoc, add_assoc, add-zero, zero-add, arith}
+use Rattle.std.proofs.Common.{◌≡◌, All, ℕ, zero, suc, ◌+◌, ◌-◌, ◌<◌, ◌≤◌, List, [], ◌++◌, refl, ◌∙◌, ap, append_assoc, add_assoc, add-zero}
+use Rattle.std.proofs.Common.{zero-add, arith}
 use Rattle.std.proofs.Math.Nat.{add-suc, suc-add}
 use Rattle.std.proofs.lemmas.List.{append-nil}
 use Rattle.std.proofs.lemmas.List.Elements.{filter-append, filter_map-append, All-append}
@@ -13,7 +14,8 @@ use Rattle.uz_events.specs.Events.{event_of, shown_at, shown, listed}
 use Rattle.uz_soundness.specs.Claim.{scheduled, until, InTime, Follows}
 
 -- one turn keeps to the schedule, and to what holds at each position
-pub record StepFollows {S : Type 0} (clock_of : S → ℕ) (at : ℕ → Option EventKind) (Meets : ℕ → S → Type 0) (p : ℕ) (s : S) (edges : List Edge) (next : S) : Type 0 where
+pub record StepFollows {S : Type 0} (clock_of : S → ℕ) (at : ℕ → Option EventKind) (Meets : ℕ → S → Type 0) (p : ℕ) (s : S)
+    (edges : List Edge) (next : S) : Type 0 where
   pub clocks : ℕ
   pub some : 1 ≤ clocks
   pub clock : clock_of next ≡ clock_of s + clocks
@@ -21,15 +23,18 @@ pub record StepFollows {S : Type 0} (clock_of : S → ℕ) (at : ℕ → Option 
   pub exact : shown edges ≡ scheduled at p (clock_of s) clocks
   pub entries : All (λ e. InTime e.kind) edges
 
-pub record EveryStep {S : Type 0} (turn : S → List Edge → S → Type 0) (clock_of : S → ℕ) (at : ℕ → Option EventKind) (Meets : ℕ → S → Type 0) : Type 0 where
+pub record EveryStep {S : Type 0} (turn : S → List Edge → S → Type 0) (clock_of : S → ℕ) (at : ℕ → Option EventKind)
+    (Meets : ℕ → S → Type 0) : Type 0 where
   pub goes_on : (p : ℕ) (s : S) → Meets p s → (more : List Edge) × (next : S) × turn s more next
-  pub follows : (p : ℕ) (s : S) (edges : List Edge) (next : S) → Meets p s → turn s edges next → StepFollows clock_of at Meets p s edges next
+  pub follows : (p : ℕ) (s : S) (edges : List Edge) (next : S) → Meets p s → turn s edges next → StepFollows clock_of at Meets p s edges
+      next
 
 shown-append : (first rest : List Edge) → shown (first ++ rest) ≡ shown first ++ shown rest
 shown-append first rest = filter_map-append (λ e. shown_at (event_of e.kind) e.clock) first rest
 
 -- a stretch of c + d clocks is one of c and then one of d
-pub scheduled-+ : (at : ℕ → Option EventKind) (p k c d : ℕ) → scheduled at p k (c + d) ≡ scheduled at p k c ++ scheduled at (p + c) (k + c) d
+pub scheduled-+ : (at : ℕ → Option EventKind) (p k c d : ℕ) → scheduled at p k (c + d) ≡ scheduled at p k c ++ scheduled at (p + c) (k + c)
+    d
 scheduled-+ at p k zero d = simp (zero-add, add-zero)
 scheduled-+ at p k (suc c) d =
     let rest = simp suc-add at (scheduled-+ at (suc p) (suc k) c d) in
@@ -52,7 +57,8 @@ until-scheduled_before at p k (suc n) limit h =
     rw filter-append cc
 
 -- and up to its end
-until-scheduled_whole : (at : ℕ → Option EventKind) (p k n limit : ℕ) → k + n ≤ limit → until limit (scheduled at p k n) ≡ scheduled at p k n
+until-scheduled_whole : (at : ℕ → Option EventKind) (p k n limit : ℕ) → k + n ≤ limit → until limit (scheduled at p k n) ≡ scheduled at p k
+    n
 until-scheduled_whole at p k zero limit h = refl
 until-scheduled_whole at p k (suc n) limit h =
     let now = until-event_within (at (suc p)) (suc k) limit (omega arith) in
@@ -66,13 +72,15 @@ until-scheduled at p k n more =
     let none = until-scheduled_before at (p + n) (k + n) more (k + n) (omega arith) in
     rw (scheduled-+, filter-append) (ap (λ es. until (k + n) (scheduled at p k n) ++ es) none ∙ (append-nil _ ∙ whole))
 
-up_to : (at : ℕ → Option EventKind) (p k n d : ℕ) (edges : List Edge) → shown edges ≡ scheduled at p k d → n ≤ d → until (k + n) (shown edges) ≡ scheduled at p k n
+up_to : (at : ℕ → Option EventKind) (p k n d : ℕ) (edges : List Edge) → shown edges ≡ scheduled at p k d → n ≤ d → until (k + n)
+    (shown edges) ≡ scheduled at p k n
 up_to at p k n d edges e h =
     let parts : d ≡ n + (d - n) = omega arith in
     rw (e, parts) (until-scheduled at p k n (d - n))
 
 -- after n turns the state is at a later position, and the events are those of the schedule between
-pub record Comes {S : Type 0} (clock_of : S → ℕ) (at : ℕ → Option EventKind) (Meets : ℕ → S → Type 0) (p : ℕ) (s : S) (n : ℕ) (edges : List Edge) (end : S) : Type 0 where
+pub record Comes {S : Type 0} (clock_of : S → ℕ) (at : ℕ → Option EventKind) (Meets : ℕ → S → Type 0) (p : ℕ) (s : S) (n : ℕ)
+    (edges : List Edge) (end : S) : Type 0 where
   pub clocks : ℕ
   pub some : n ≤ clocks
   pub clock : clock_of end ≡ clock_of s + clocks
@@ -80,10 +88,13 @@ pub record Comes {S : Type 0} (clock_of : S → ℕ) (at : ℕ → Option EventK
   pub exact : shown edges ≡ scheduled at p (clock_of s) clocks
   pub entries : All (λ e. InTime e.kind) edges
 
-joined : (at : ℕ → Option EventKind) (p k c d k' : ℕ) (first rest : List Edge) → shown first ≡ scheduled at p k c → k' ≡ k + c → shown rest ≡ scheduled at (p + c) k' d → shown (first ++ rest) ≡ scheduled at p k (c + d)
+joined : (at : ℕ → Option EventKind) (p k c d k' : ℕ) (first rest : List Edge) → shown first ≡ scheduled at p k c → k' ≡ k + c
+    → shown rest ≡ scheduled at (p + c) k' d → shown (first ++ rest) ≡ scheduled at p k (c + d)
 joined at p k c d k' first rest f e r = shown-append first rest ∙ rw (scheduled-+, f, r, e) refl
 
-pub along : {S : Type 0} (turn : S → List Edge → S → Type 0) (clock_of : S → ℕ) (at : ℕ → Option EventKind) (Meets : ℕ → S → Type 0) → EveryStep turn clock_of at Meets → (n p : ℕ) (s : S) (edges : List Edge) (end : S) → Meets p s → Run turn n s edges end → Comes clock_of at Meets p s n edges end
+pub along : {S : Type 0} (turn : S → List Edge → S → Type 0) (clock_of : S → ℕ) (at : ℕ → Option EventKind) (Meets : ℕ → S → Type 0)
+    → EveryStep turn clock_of at Meets → (n p : ℕ) (s : S) (edges : List Edge) (end : S) → Meets p s → Run turn n s edges end
+    → Comes clock_of at Meets p s n edges end
 along turn clock_of at Meets h zero p s edges end m run =
     record {
       clocks = 0;
@@ -107,7 +118,8 @@ along turn clock_of at Meets h (suc n) p s edges end m run =
     }
 
 -- a run of n turns, however many
-pub goes : {S : Type 0} (turn : S → List Edge → S → Type 0) (clock_of : S → ℕ) (at : ℕ → Option EventKind) (Meets : ℕ → S → Type 0) → EveryStep turn clock_of at Meets → (n p : ℕ) (s : S) → Meets p s → (edges : List Edge) × (end : S) × Run turn n s edges end
+pub goes : {S : Type 0} (turn : S → List Edge → S → Type 0) (clock_of : S → ℕ) (at : ℕ → Option EventKind) (Meets : ℕ → S → Type 0)
+    → EveryStep turn clock_of at Meets → (n p : ℕ) (s : S) → Meets p s → (edges : List Edge) × (end : S) × Run turn n s edges end
 goes turn clock_of at Meets h zero p s m = ([], s, (refl, refl))
 goes turn clock_of at Meets h (suc n) p s m =
     let first = h.goes_on p s m in
@@ -116,7 +128,8 @@ goes turn clock_of at Meets h (suc n) p s m =
     (first.0 ++ rest.0, rest.1, (first.0, first.1, rest.0, first.2, rest.2, refl))
 
 -- where every turn keeps to the schedule, every run does, for every number of clocks
-pub every_run : {S : Type 0} (turn : S → List Edge → S → Type 0) (clock_of : S → ℕ) (at : ℕ → Option EventKind) (Meets : ℕ → S → Type 0) → EveryStep turn clock_of at Meets → (p : ℕ) (s : S) → Meets p s → (T : ℕ) → Follows turn clock_of at s p T
+pub every_run : {S : Type 0} (turn : S → List Edge → S → Type 0) (clock_of : S → ℕ) (at : ℕ → Option EventKind) (Meets : ℕ → S → Type 0)
+    → EveryStep turn clock_of at Meets → (p : ℕ) (s : S) → Meets p s → (T : ℕ) → Follows turn clock_of at s p T
 every_run turn clock_of at Meets h p s m T =
     let far = goes turn clock_of at Meets h T p s m in
     let came = along turn clock_of at Meets h T p s far.0 far.1 m far.2 in

@@ -19,7 +19,8 @@ pub record Timed (z : Schedule) (inst : Instance) (t : Timer) (c : ℕ) : Type 0
   pub count : (timer_after c t).count ≡ clock_after (lines_of z) inst.line (inst.clock + c)
   pub matched : (timer_after c t).matched ≡ (inst.pending || ends_line (lines_of z) inst.line (inst.clock + c))
 
-pub timed : (z : Schedule) (inst : Instance) (t : Timer) (c : ℕ) → is_counting t ≡ true → TimerMeets Handler inst t → suc t.top ≡ length_of z inst.line → inst.clock < length_of z inst.line → c < length_of z inst.line → Timed z inst t c
+pub timed : (z : Schedule) (inst : Instance) (t : Timer) (c : ℕ) → is_counting t ≡ true → TimerMeets Handler inst t → suc t.top ≡ length_of
+    z inst.line → inst.clock < length_of z inst.line → c < length_of z inst.line → Timed z inst t c
 timed z inst t c counting timer top low few =
     let first : t.count ≤ t.top = omega (arith, timer.0, top, low) in
     elim (leb_tells (suc (inst.clock + c)) (length_of z inst.line)) [

@@ -12,6 +12,7 @@ use Rattle.uz_soundness.specs.Certified.{clock_of}
 use Rattle.uz_soundness.specs.Invariant.{Running, Invariant}
 use Rattle.uz_soundness.specs.Ways.{Goes}
 
-pub record Turned (image : FinMap nat_cmp ℕ) (cert : Cert) (p : ℕ) (s : State PadHistory) (running : Running) (edges : List Edge) (next : State PadHistory) : Type 0 where
+pub record Turned (image : FinMap nat_cmp ℕ) (cert : Cert) (p : ℕ) (s : State PadHistory) (running : Running) (edges : List Edge)
+    (next : State PadHistory) : Type 0 where
   pub follows : StepFollows clock_of (event_at cert.schedule) (Invariant image cert) p s edges next
   pub goes : Goes cert s next follows.clocks running follows.meets.running edges

@@ -15,4 +15,5 @@ pub record Accepts (image : FinMap nat_cmp ℕ) (cert : Cert) : Type 0 where
   pub steady : IsSteady cert.schedule
   pub rests : (rest : Rest) → Contains cert.rests rest → RestPasses cert rest
   pub entry : EntryPasses cert
-  pub points : (id l c : ℕ) (point : Point) → slice_get cert.points id ≡ Some point → is_in_box point l c ≡ true → IsLocal image cert id l c None
+  pub points : (id l c : ℕ) (point : Point) → slice_get cert.points id ≡ Some point → is_in_box point l c ≡ true → IsLocal image cert id l c
+      None

@@ -19,4 +19,5 @@ clock_of s = s.clock
 -- schedule's, and its interrupts are taken in time
 abbrev pub Certified : FinMap nat_cmp ℕ → Cert → Type 0
 Certified image cert =
-    (s : State PadHistory) (p : ℕ) → IsState s → s.image ≡ image → EntryCondition cert s p → (T : ℕ) → Follows (Turn history_wiring) clock_of (event_at cert.schedule) s p T
+    (s : State PadHistory) (p : ℕ) → IsState s → s.image ≡ image → EntryCondition cert s p → (T : ℕ) → Follows (Turn history_wiring)
+    clock_of (event_at cert.schedule) s p T

@@ -3,7 +3,8 @@ use Rattle.std.specs.Prelude.{◌≡◌, All, ⊤, ℕ, zero, suc, ◌+◌, ◌<
 use Rattle.uz_schedule.specs.declared.lines.EventKind.{EventKind}
 use Rattle.uz_machine.specs.declared.Edge.{Edge}
 use Rattle.uz_machine.specs.declared.EdgeKind.{EdgeKind}
-use Rattle.uz_machine.specs.declared.EdgeKind.TheVariants.{Sync as SyncEdge, Pixel as PixelEdge, Sound as SoundEdge, Enter as EnterEdge, Leave as LeaveEdge}
+use Rattle.uz_machine.specs.declared.EdgeKind.TheVariants.{Sync as SyncEdge, Pixel as PixelEdge, Sound as SoundEdge, Enter as EnterEdge}
+use Rattle.uz_machine.specs.declared.EdgeKind.TheVariants.{Leave as LeaveEdge}
 use Rattle.uz_machine.specs.Run.{Run}
 use Rattle.uz_events.specs.Events.{Shown, shown_at, shown, listed}
 
@@ -25,12 +26,15 @@ InTime (EnterEdge count) = count ≤ 3
 InTime LeaveEdge = ⊤
 
 -- From state s, which stands at position p of the frame, the machine keeps to the schedule for T clocks
-pub record Follows {S : Type 0} (turn : S → List Edge → S → Type 0) (clock_of : S → ℕ) (at : ℕ → Option EventKind) (s : S) (p T : ℕ) : Type 0 where
+pub record Follows {S : Type 0} (turn : S → List Edge → S → Type 0) (clock_of : S → ℕ) (at : ℕ → Option EventKind) (s : S) (p T : ℕ) : Type
+    0 where
   -- no state of clock less than T after s lacks a turn
-  pub goes_on : (n : ℕ) (edges : List Edge) (end : S) → Run turn n s edges end → clock_of end < clock_of s + T → (more : List Edge) × (next : S) × turn end more next
+  pub goes_on : (n : ℕ) (edges : List Edge) (end : S) → Run turn n s edges end → clock_of end < clock_of s + T → (more : List Edge)
+      × (next : S) × turn end more next
   -- the run comes to T clocks after s
   pub comes : (n : ℕ) × (edges : List Edge) × (end : S) × Run turn n s edges end × (clock_of s + T ≤ clock_of end)
   -- and then its events of clock at most T after s are, one by one, those of the schedule at the positions p + 1 to p + T
-  pub exact : (n : ℕ) (edges : List Edge) (end : S) → Run turn n s edges end → clock_of s + T ≤ clock_of end → until (clock_of s + T) (shown edges) ≡ scheduled at p (clock_of s) T
+  pub exact : (n : ℕ) (edges : List Edge) (end : S) → Run turn n s edges end → clock_of s + T ≤ clock_of end → until (clock_of s + T)
+      (shown edges) ≡ scheduled at p (clock_of s) T
   -- its interrupts are taken in time
   pub entries : (n : ℕ) (edges : List Edge) (end : S) → Run turn n s edges end → All (λ e. InTime e.kind) edges

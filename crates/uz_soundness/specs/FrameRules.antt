@@ -12,8 +12,10 @@ use Rattle.uz_rules.specs.Successors.{lies_in_point}
 -- the latest end of an interrupt's entry; and the handler's first state lies in the vector's point, whatever the latency
 pub record RestPasses (cert : Cert) (rest : Rest) : Type 0 where
   pub leave : event_at cert.schedule (start_of cert.schedule rest.line + rest.clock) ≡ Some Leave
-  pub quiet : (k : ℕ) → rest.clock < k → k < length_of cert.schedule rest.line → event_at cert.schedule (start_of cert.schedule rest.line + k) ≡ None
-  pub quiet_next : (k : ℕ) → k ≤ response_clocks cert.head.irq + 3 → event_at cert.schedule (start_of cert.schedule (next_line cert.schedule rest.line) + k) ≡ None
+  pub quiet : (k : ℕ) → rest.clock < k → k < length_of cert.schedule rest.line → event_at cert.schedule
+      (start_of cert.schedule rest.line + k) ≡ None
+  pub quiet_next : (k : ℕ) → k ≤ response_clocks cert.head.irq + 3 → event_at cert.schedule
+      (start_of cert.schedule (next_line cert.schedule rest.line) + k) ≡ None
   pub vector : (c : ℕ) → c ≤ 3 → lies_in_point cert rest.vector (rest_instance cert rest c) ≡ true
 
 -- a main entry has a rest, and the entry's state lies in its point

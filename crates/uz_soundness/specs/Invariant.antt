@@ -88,7 +88,8 @@ pub record MainRuns (cert : Cert) (p : ℕ) (s : State PadHistory) (inst : Insta
   pub stands : Stands cert Main o 0 inst s
   pub rests : Rests cert p s rest
 
-pub record HandlerRuns (cert : Cert) (p : ℕ) (s : State PadHistory) (inst main : Instance) (o : Core) (was : State PadHistory) : Type 0 where
+pub record HandlerRuns (cert : Cert) (p : ℕ) (s : State PadHistory) (inst main : Instance) (o : Core) (was : State PadHistory) : Type
+    0 where
   pub stands : Stands cert Handler was.core (depth_of main) inst s
   pub place : At cert.schedule p inst.line inst.clock
   pub was_state : IsState was
@@ -112,12 +113,14 @@ pub record Invariant (image : FinMap nat_cmp ℕ) (cert : Cert) (p : ℕ) (s : S
 -- from every state with the invariant the run keeps to the schedule
 abbrev pub KeepsInvariant : FinMap nat_cmp ℕ → Cert → Type 0
 KeepsInvariant image cert =
-    (s : State PadHistory) (p : ℕ) → Invariant image cert p s → (T : ℕ) → Follows (Turn history_wiring) clock_of (event_at cert.schedule) s p T
+    (s : State PadHistory) (p : ℕ) → Invariant image cert p s → (T : ℕ) → Follows (Turn history_wiring) clock_of (event_at cert.schedule) s
+    p T
 
 -- and every state of it has the invariant, at its position
 abbrev pub HoldsAlong : FinMap nat_cmp ℕ → Cert → Type 0
 HoldsAlong image cert =
-    (s : State PadHistory) (p n : ℕ) (edges : List Edge) (end : State PadHistory) → Invariant image cert p s → Run (Turn history_wiring) n s edges end → (c : ℕ) × (end.clock ≡ s.clock + c) × Invariant image cert (p + c) end
+    (s : State PadHistory) (p n : ℕ) (edges : List Edge) (end : State PadHistory) → Invariant image cert p s → Run (Turn history_wiring) n s
+    edges end → (c : ℕ) × (end.clock ≡ s.clock + c) × Invariant image cert (p + c) end
 
 -- a state that meets the entry condition has it
 abbrev pub BeginsWithIt : FinMap nat_cmp ℕ → Cert → Type 0

@@ -15,9 +15,11 @@ use Rattle.uz_console.specs.Entry.{EntryCondition}
 
 -- the events of the run from s up to a clock are the schedule's, its interrupts are taken in time, and it isn't stopped
 pub record PlaysTo (at : Cert) (s : State PadHistory) (p limit : ℕ) : Type 0 where
-  pub exact : (edges : List Edge) (last : State PadHistory) → IsClockRun limit s edges last → shown edges ≡ scheduled (event_at at.schedule) p s.clock (limit - s.clock)
+  pub exact : (edges : List Edge) (last : State PadHistory) → IsClockRun limit s edges last → shown edges ≡ scheduled (event_at at.schedule)
+      p s.clock (limit - s.clock)
   pub entries : (edges : List Edge) (last : State PadHistory) → IsClockRun limit s edges last → All (λ e. InTime e.kind) edges
   pub never_stops : (edges : List Edge) (last : State PadHistory) → IsStoppedRun limit s edges last → ⊥
 
 abbrev pub Plays : FinMap nat_cmp ℕ → Cert → Type 0
-Plays image cert = (s : State PadHistory) (p limit : ℕ) → IsState s → s.image ≡ image → EntryCondition cert s p → s.clock ≤ limit → PlaysTo cert s p limit
+Plays image cert = (s : State PadHistory) (p limit : ℕ) → IsState s → s.image ≡ image → EntryCondition cert s p → s.clock ≤ limit
+    → PlaysTo cert s p limit

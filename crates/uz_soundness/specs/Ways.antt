@@ -43,13 +43,15 @@ Goes cert s next c (RunsMain i o rest) (RunsHandler j m q was) edges =
     (edges ≡ record { clock = s.clock; kind = Enter s.space.timer.count } ∷ []) × (s.space.timer.count ≤ 3) × (s.space.timer.matched ≡ true)
 Goes cert s next c (RunsHandler i m o was) (RunsAlone j q) edges = ⊥
 Goes cert s next c (RunsHandler i m o was) (RunsMain j q rest) edges =
-    (edges ≡ record { clock = next.clock; kind = Leave } ∷ []) × Contains cert.rests rest × (next.space.timer.count ≡ rest.clock) × (next.space.timer.matched ≡ false)
+    (edges ≡ record { clock = next.clock; kind = Leave } ∷ []) × Contains cert.rests rest × (next.space.timer.count ≡ rest.clock)
+    × (next.space.timer.matched ≡ false)
 Goes cert s next c (RunsHandler i m o was) (RunsHandler j n q then) edges = All (λ e. IsPlain e.kind) edges
 
 -- each turn from a state with the invariant leads to one with it, and goes one of these ways
 abbrev pub EveryTurnGoes : FinMap nat_cmp ℕ → Cert → Type 0
 EveryTurnGoes image cert =
-    (s : State PadHistory) (p : ℕ) (edges : List Edge) (next : State PadHistory) → (now : Invariant image cert p s) → Turn history_wiring s edges next
+    (s : State PadHistory) (p : ℕ) (edges : List Edge) (next : State PadHistory) → (now : Invariant image cert p s) → Turn history_wiring s
+    edges next
     → (c : ℕ) × (then : Invariant image cert (p + c) next) × (next.clock ≡ s.clock + c) × Goes cert s next c now.running then.running edges
 
 -- Main's time
@@ -65,10 +67,12 @@ MainsTime cert phase [] = ⊤
 MainsTime cert phase ((clock, Sync level) ∷ es) = MainsTime cert phase es
 MainsTime cert phase ((clock, Pixel value) ∷ es) = MainsTime cert phase es
 MainsTime cert phase ((clock, Sound value) ∷ es) = MainsTime cert phase es
-MainsTime cert (InMain since line at) ((clock, Enter count) ∷ es) = (count ≤ 3) × (clock + at ≡ since + length_of cert.schedule line + count) × MainsTime cert InHandler es
+MainsTime cert (InMain since line at) ((clock, Enter count) ∷ es) = (count ≤ 3)
+    × (clock + at ≡ since + length_of cert.schedule line + count) × MainsTime cert InHandler es
 MainsTime cert InHandler ((clock, Enter count) ∷ es) = ⊥
 MainsTime cert (InMain since line at) ((clock, Leave) ∷ es) = ⊥
-MainsTime cert InHandler ((clock, Leave) ∷ es) = (rest : Rest) × Contains cert.rests rest × MainsTime cert (InMain clock rest.line rest.clock) es
+MainsTime cert InHandler ((clock, Leave) ∷ es) = (rest : Rest) × Contains cert.rests rest × MainsTime cert
+    (InMain clock rest.line rest.clock) es
 
 abbrev pub told : List Edge → List (ℕ × EdgeKind)
 told edges = map (λ e. (e.clock, e.kind)) edges
@@ -77,5 +81,7 @@ told edges = map (λ e. (e.clock, e.kind)) edges
 -- less the rest clock, and 0 to 3 clocks more. It begins at the line and clock of the state itself
 abbrev pub MainsTimeHolds : FinMap nat_cmp ℕ → Cert → Type 0
 MainsTimeHolds image cert =
-    (s : State PadHistory) (p n : ℕ) (edges : List Edge) (end : State PadHistory) → IsState s → s.image ≡ image → EntryCondition cert s p → cert.entry.kind ≡ Main → Run (Turn history_wiring) n s edges end
-    → (rest : Rest) × Contains cert.rests rest × (At cert.schedule p rest.line s.space.timer.count) × MainsTime cert (InMain s.clock rest.line s.space.timer.count) (told edges)
+    (s : State PadHistory) (p n : ℕ) (edges : List Edge) (end : State PadHistory) → IsState s → s.image ≡ image → EntryCondition cert s p
+    → cert.entry.kind ≡ Main → Run (Turn history_wiring) n s edges end
+    → (rest : Rest) × Contains cert.rests rest × (At cert.schedule p rest.line s.space.timer.count) × MainsTime cert
+    (InMain s.clock rest.line s.space.timer.count) (told edges)

@@ -10,6 +10,9 @@ numbers_step a last h =
     ap (numbers_from a) e ∙ ap (λ n. a ∷ numbers_from n (suc last - (a + 1))) s
 
 -- one more exit is pushed
-pub pushed_on : (exits new : List Exit) (all : List Exit) (f : ℕ → Exit) (a last : ℕ) → a ≤ last → exits ++ map f (numbers_from a (suc last - a)) ≡ all → new ≡ exits ++ f a ∷ [] → new ++ map f (numbers_from (a + 1) (suc last - (a + 1))) ≡ all
+pub pushed_on : (exits new : List Exit) (all : List Exit) (f : ℕ → Exit) (a last : ℕ) → a ≤ last → exits
+    ++ map f (numbers_from a (suc last - a)) ≡ all → new ≡ exits ++ f a ∷ [] → new ++ map f (numbers_from (a + 1) (suc last - (a + 1)))
+    ≡ all
 pushed_on exits new all f a last h e p =
-    ap (λ xs. xs ++ map f (numbers_from (a + 1) (suc last - (a + 1)))) p ∙ (rw append_assoc refl ∙ (ap (λ ns. exits ++ map f ns) (sym (numbers_step a last h)) ∙ e))
+    ap (λ xs. xs ++ map f (numbers_from (a + 1) (suc last - (a + 1)))) p
+    ∙ (rw append_assoc refl ∙ (ap (λ ns. exits ++ map f ns) (sym (numbers_step a last h)) ∙ e))

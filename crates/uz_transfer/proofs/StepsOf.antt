@@ -14,10 +14,12 @@ use Rattle.uz_transfer.specs.declared.fail.Fail.TheVariants.{Opcode}
 use Rattle.uz_transfer.specs.declared.step.Step.{Step}
 use Rattle.uz_transfer.specs.Step.{step_of, IsStep}
 
-pub steps_some : (head : Head) (length : ℕ) (image : FinMap nat_cmp ℕ) (inst : Instance) (result : Result Step Fail) (i : Instr) → Reads (word_of image (inst.pc % 32768)) (word_of image ((inst.pc + 1) % 32768)) i
+pub steps_some : (head : Head) (length : ℕ) (image : FinMap nat_cmp ℕ) (inst : Instance) (result : Result Step Fail) (i : Instr)
+    → Reads (word_of image (inst.pc % 32768)) (word_of image ((inst.pc + 1) % 32768)) i
     → result ≡ step_of head length image (effect_of i) (words_of i) (clocks_of i) inst → IsStep head length image inst result
 steps_some head length image inst result i reads e = record { row = Some i; reads = record { found = reads; none = tt }; is = e }
 
-pub steps_none : (head : Head) (length : ℕ) (image : FinMap nat_cmp ℕ) (inst : Instance) (result : Result Step Fail) → ((i : Instr) → Reads (word_of image (inst.pc % 32768)) (word_of image ((inst.pc + 1) % 32768)) i → ⊥)
+pub steps_none : (head : Head) (length : ℕ) (image : FinMap nat_cmp ℕ) (inst : Instance) (result : Result Step Fail)
+    → ((i : Instr) → Reads (word_of image (inst.pc % 32768)) (word_of image ((inst.pc + 1) % 32768)) i → ⊥)
     → result ≡ Err Opcode → IsStep head length image inst result
 steps_none head length image inst result none e = record { row = None; reads = record { found = tt; none = none }; is = e }

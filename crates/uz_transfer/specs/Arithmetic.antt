@@ -12,7 +12,9 @@ use Rattle.uz_machine.specs.declared.Operand.TheVariants.{Constant, Register}
 use Rattle.uz_machine.specs.declared.UnaryOp.{UnaryOp}
 use Rattle.uz_machine.specs.declared.UnaryOp.TheVariants as unary
 use Rattle.uz_range.specs.Answers.{open_wide_answer}
-use Rattle.uz_range.specs.Rules.{and_answer, asr_answer, chained_answer, com_answer, difference_answer, lsr_answer, negate_answer, or_answer, pair_add_answer, pair_sub_answer, product_answer, ror_answer, same_and_answer, same_sub_answer, same_xor_answer, step_down_answer, step_up_answer, sum_answer, swap_answer, xor_answer}
+use Rattle.uz_range.specs.Rules.{and_answer, asr_answer, chained_answer, com_answer, difference_answer, lsr_answer, negate_answer}
+use Rattle.uz_range.specs.Rules.{or_answer, pair_add_answer, pair_sub_answer, product_answer, ror_answer, same_and_answer, same_sub_answer}
+use Rattle.uz_range.specs.Rules.{same_xor_answer, step_down_answer, step_up_answer, sum_answer, swap_answer, xor_answer}
 use Rattle.uz_range.specs.declared.answer.Ranged.{Ranged}
 use Rattle.uz_range.specs.declared.answer.WideRanged.{WideRanged}
 use Rattle.uz_range.specs.declared.products.Form.TheVariants.{Fmul, Fmuls, Fmulsu, Mul, Muls, Mulsu}

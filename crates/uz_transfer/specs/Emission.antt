@@ -60,9 +60,14 @@ level_after (Some Pixel) level = level
 level_after (Some Sound) level = level
 level_after (Some Leave) level = level
 
--- whether main's instruction stores what is seen outside, which it may not: PORTC, PINC, OCR2A, and PORTB and PINB but by SBI or CBI of bits 1 to 7
+-- whether main's instruction stores what is seen outside, which it may not: PORTC, PINC, OCR2A, and PORTB and PINB but by SBI or CBI of
+-- bits 1 to 7
 abbrev pub main_emits : Effect → Instance → Bool
 main_emits (Store to r) inst =
-    is_single (address_range to inst) && (nat_eq (address_range to inst).lo 0x23 || (nat_eq (address_range to inst).lo 0x25 || (nat_eq (address_range to inst).lo 0x26 || (nat_eq (address_range to inst).lo 0x28 || nat_eq (address_range to inst).lo 0xB3))))
-main_emits (WriteIoBit at b set) inst = nat_eq at 0x28 || ((nat_eq at 0x26 && set) || (nat_eq b 0 && ((nat_eq at 0x23 && set) || nat_eq at 0x25)))
+    is_single (address_range to inst)
+    && (nat_eq (address_range to inst).lo 0x23
+    || (nat_eq (address_range to inst).lo 0x25
+    || (nat_eq (address_range to inst).lo 0x26 || (nat_eq (address_range to inst).lo 0x28 || nat_eq (address_range to inst).lo 0xB3))))
+main_emits (WriteIoBit at b set) inst = nat_eq at 0x28
+    || ((nat_eq at 0x26 && set) || (nat_eq b 0 && ((nat_eq at 0x23 && set) || nat_eq at 0x25)))
 main_emits e inst = false

@@ -4,7 +4,8 @@ use Rattle.avr_table.specs.declared.Outcome.{Outcome}
 use Rattle.avr_table.specs.declared.Outcome.TheVariants.{Next, SkipOne, SkipTwo, Taken}
 use Rattle.std.specs.FinMap.{FinMap}
 use Rattle.std.specs.Ordering.{nat_cmp}
-use Rattle.std.specs.Prelude.{Bool, List, None, Option, Some, [], false, if◌then◌else◌, nat_eq, nat_lt, not, suc, true, zero, ℕ, ◌%◌, ◌&&◌, ◌*◌, ◌+◌, ◌-◌, ◌||◌, ◌∷◌}
+use Rattle.std.specs.Prelude.{Bool, List, None, Option, Some, [], false, if◌then◌else◌, nat_eq, nat_lt, not, suc, true, zero, ℕ, ◌%◌, ◌&&◌}
+use Rattle.std.specs.Prelude.{◌*◌, ◌+◌, ◌-◌, ◌||◌, ◌∷◌}
 use Rattle.uz_schedule.specs.Ends.{Ends}
 use Rattle.uz_schedule.specs.declared.facts.Bit.{Bit}
 use Rattle.uz_schedule.specs.declared.facts.Bit.TheVariants.{Free, Old as OldBit, One, Zero}
@@ -42,7 +43,8 @@ are_equal a b =
     if nat_lt a.hi b.lo || nat_lt b.hi a.lo then Some false else None
 
 abbrev pub test_decides : SkipTest → Instance → Option Bool
-test_decides (Equal d r) inst = if nat_eq d r then Some true else are_equal (span_of (value_at inst.regs d)) (span_of (value_at inst.regs r))
+test_decides (Equal d r) inst = if nat_eq d r then Some true else are_equal (span_of (value_at inst.regs d))
+    (span_of (value_at inst.regs r))
 test_decides (RegisterBit r b set) inst = decided (bst_answer (span_of (value_at inst.regs r)) b) set
 test_decides (IoBit at b set) inst = None
 

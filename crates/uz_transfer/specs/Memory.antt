@@ -1,7 +1,8 @@
 -- What is known of bytes of the data space: SREG, addresses, loads, stores and the stack.
 use Rattle.std.specs.FinMap.{FinMap}
 use Rattle.std.specs.Ordering.{nat_cmp}
-use Rattle.std.specs.Prelude.{Bool, List, None, Option, Some, [], false, if◌then◌else◌, length, nat_eq, nat_lt, slice_set, take, true, ℕ, ◌%◌, ◌&&◌, ◌*◌, ◌+◌, ◌-◌, ◌∷◌}
+use Rattle.std.specs.Prelude.{Bool, List, None, Option, Some, [], false, if◌then◌else◌, length, nat_eq, nat_lt, slice_set, take, true, ℕ}
+use Rattle.std.specs.Prelude.{◌%◌, ◌&&◌, ◌*◌, ◌+◌, ◌-◌, ◌∷◌}
 use Rattle.uz_schedule.specs.Ends.{Ends}
 use Rattle.uz_schedule.specs.declared.facts.Bit.{Bit}
 use Rattle.uz_schedule.specs.declared.facts.Bit.TheVariants.{Free, Old as OldBit, One, Zero}
@@ -15,7 +16,8 @@ use Rattle.uz_machine.specs.declared.AddressMode.{AddressMode}
 use Rattle.uz_machine.specs.declared.AddressMode.TheVariants.{Direct, Displacement, PostIncrement, PreDecrement}
 use Rattle.uz_range.specs.Answers.{ends, is_known, is_one, is_single}
 use Rattle.uz_range.specs.Rules.{bst_answer, pair_add_answer, pair_sub_answer}
-use Rattle.uz_transfer.specs.Values.{exact_pair, span_of, value_at, span_at, each_flag, pair_range, with_pair_value, with_flag_list, any_byte, known_byte}
+use Rattle.uz_transfer.specs.Values.{exact_pair, span_of, value_at, span_at, each_flag, pair_range, with_pair_value, with_flag_list}
+use Rattle.uz_transfer.specs.Values.{any_byte, known_byte}
 use Rattle.uz_transfer.specs.Kinds.{cell_place, cell_range, is_main, is_handler}
 
 -- The byte of flags

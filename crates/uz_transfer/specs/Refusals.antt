@@ -30,7 +30,8 @@ refuse_if b why later = if b then Some why else later
 abbrev pub is_setup_register : ℕ → Bool
 is_setup_register at =
     nat_eq at 0x21 || (nat_eq at 0x24 || (nat_eq at 0x27 || (nat_eq at 0x2A || (nat_eq at 0x5D || (nat_eq at 0x5E ||
-    (nat_eq at 0x6F || (nat_eq at 0x80 || (nat_eq at 0x81 || (nat_eq at 0x84 || (nat_eq at 0x85 || (nat_eq at 0x88 || nat_eq at 0x89)))))))))))
+    (nat_eq at 0x6F || (nat_eq at 0x80
+    || (nat_eq at 0x81 || (nat_eq at 0x84 || (nat_eq at 0x85 || (nat_eq at 0x88 || nat_eq at 0x89)))))))))))
 
 -- bit k of a value that is stored; the interrupted flags have bit 7 clear
 abbrev pub stored_bit : Val → ℕ → Bit
@@ -99,7 +100,8 @@ fail_of head (WriteIoBit at b set) inst =
 fail_of head (WriteFlag flag set) inst = refuse_if (nat_eq flag 7 && (set || is_main inst.kind)) Mask None
 fail_of head (Jump target call) inst =
     refuse_if (call && nat_lt (depth_limit head inst.kind) (depth_of inst + 2)) Stack (refuse_if (target_fails target inst) ReturnWhy None)
-fail_of head (Return false) inst = refuse_if (not (nat_le 2 (depth_of inst) && (is_known_slot (slot_value 1 inst) && is_known_slot (slot_value 2 inst)))) ReturnWhy None
+fail_of head (Return false) inst =
+    refuse_if (not (nat_le 2 (depth_of inst) && (is_known_slot (slot_value 1 inst) && is_known_slot (slot_value 2 inst)))) ReturnWhy None
 fail_of head (Return true) inst = refuse_if (not (is_handler inst.kind)) ReturnWhy None
 fail_of head Stop inst = Some Opcode
 fail_of head e inst = None

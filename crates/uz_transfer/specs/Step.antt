@@ -5,7 +5,8 @@ use Rattle.avr_table.specs.declared.Instr.{Instr}
 use Rattle.avr_table.specs.declared.Outcome.{Outcome}
 use Rattle.std.specs.FinMap.{FinMap}
 use Rattle.std.specs.Ordering.{nat_cmp}
-use Rattle.std.specs.Prelude.{Bool, Err, List, None, Ok, Option, Result, Some, [], false, if◌then◌else◌, length, map, nat_eq, nat_le, not, true, ℕ, ◌%◌, ◌&&◌, ◌++◌, ◌+◌, ◌||◌, ◌∷◌, ◌≡◌}
+use Rattle.std.specs.Prelude.{Bool, Err, List, None, Ok, Option, Result, Some, [], false, if◌then◌else◌, length, map, nat_eq, nat_le, not}
+use Rattle.std.specs.Prelude.{true, ℕ, ◌%◌, ◌&&◌, ◌++◌, ◌+◌, ◌||◌, ◌∷◌, ◌≡◌}
 pub use Rattle.uz_schedule.specs.Lines.{Lines, uniform, line_after, clock_after}
 use Rattle.uz_schedule.specs.declared.header.Head.{Head}
 use Rattle.uz_schedule.specs.declared.lines.EventKind.{EventKind}
@@ -30,10 +31,12 @@ use Rattle.uz_transfer.specs.Refusals.{stored_bit, flag_is, fail_of}
 
 abbrev pub exits_of : Effect → (Outcome → ℕ) → ℕ → Instance → List Outcome → List Exit
 exits_of e clocks following inst [] = []
-exits_of e clocks following inst (o ∷ os) = map (λ pc. record { pc = pc; clocks = clocks o }) (targets e o following inst) ++ exits_of e clocks following inst os
+exits_of e clocks following inst (o ∷ os) = map (λ pc. record { pc = pc; clocks = clocks o }) (targets e o following inst)
+    ++ exits_of e clocks following inst os
 
 abbrev pub clears_flag : Effect → Instance → Bool
-clears_flag (Store to r) inst = is_single (address_range to inst) && (nat_eq (address_range to inst).lo 0x36 && flag_is (stored_bit (value_at inst.regs r) 1) true)
+clears_flag (Store to r) inst = is_single (address_range to inst)
+    && (nat_eq (address_range to inst).lo 0x36 && flag_is (stored_bit (value_at inst.regs r) 1) true)
 clears_flag (WriteIoBit at b set) inst = nat_eq at 0x36 && (nat_eq b 1 && set)
 clears_flag e inst = false
 
@@ -66,7 +69,8 @@ step_of head length image e words clocks inst =
 abbrev pub ends_line : Lines → ℕ → ℕ → Bool
 ends_line lines l k = nat_le (lines.length l) k
 
--- The instance at an exit, by what is known after the instruction, what it emits and whether it clears the match. Main keeps its line, clock and level,
+-- The instance at an exit, by what is known after the instruction, what it emits and whether it clears the match. Main keeps its line,
+-- clock and level,
 -- and a handler alone has a pending match
 abbrev pub placed : Lines → Instance → Instance → Option EventKind → Bool → Exit → Instance
 placed lines inst draft emitted clears exit = record {
@@ -75,7 +79,8 @@ placed lines inst draft emitted clears exit = record {
   line = if is_main inst.kind then inst.line else line_after lines inst.line (inst.clock + exit.clocks);
   clock = if is_main inst.kind then inst.clock else clock_after lines inst.line (inst.clock + exit.clocks);
   level = if is_main inst.kind then inst.level else level_after emitted (inst.level % 2);
-  pending = if is_handler inst.kind then not clears && (inst.pending || ends_line lines inst.line (inst.clock + exit.clocks)) else inst.pending;
+  pending = if is_handler inst.kind then not clears && (inst.pending || ends_line lines inst.line (inst.clock + exit.clocks)) else
+      inst.pending;
   regs = draft.regs;
   pairs = draft.pairs;
   flags = draft.flags;

@@ -9,11 +9,15 @@ use Rattle.uz_schedule.specs.declared.facts.Val.TheVariants.{Range}
 use Rattle.uz_schedule.specs.declared.header.Head.{Head}
 use Rattle.uz_schedule.specs.declared.states.Instance.{Instance}
 use Rattle.uz_machine.specs.declared.Effect.{Effect}
-use Rattle.uz_machine.specs.declared.Effect.TheVariants.{AddToPair, Binary, CopyByte, CopyPair, Jump, Load, LoadBit, LoadProgram, Multiply, PopByte, PushByte, Return, Store, StoreBit, Unary, WriteFlag}
+use Rattle.uz_machine.specs.declared.Effect.TheVariants.{AddToPair, Binary, CopyByte, CopyPair, Jump, Load, LoadBit, LoadProgram, Multiply}
+use Rattle.uz_machine.specs.declared.Effect.TheVariants.{PopByte, PushByte, Return, Store, StoreBit, Unary, WriteFlag}
 use Rattle.uz_range.specs.Rules.{bld_answer, bst_answer, pair_add_answer}
-use Rattle.uz_transfer.specs.Values.{exact_pair, span_of, value_at, flag_at, pair_range, with_value, with_pair_range, with_pair_value, with_flag_list, merged_flags, known_byte}
-use Rattle.uz_transfer.specs.Arithmetic.{known_operand, operation_answer, operation_value, binary_keeps, unary_answer, unary_keeps, add_to_pair_answer, pair_keeps, factors_answer, product_keeps}
-use Rattle.uz_transfer.specs.Memory.{address_range, with_pointer_range, loaded_value, flash_value, stored_in, with_slots, slot_value, without_slots}
+use Rattle.uz_transfer.specs.Values.{exact_pair, span_of, value_at, flag_at, pair_range, with_value, with_pair_range, with_pair_value}
+use Rattle.uz_transfer.specs.Values.{with_flag_list, merged_flags, known_byte}
+use Rattle.uz_transfer.specs.Arithmetic.{known_operand, operation_answer, operation_value, binary_keeps, unary_answer, unary_keeps}
+use Rattle.uz_transfer.specs.Arithmetic.{add_to_pair_answer, pair_keeps, factors_answer, product_keeps}
+use Rattle.uz_transfer.specs.Memory.{address_range, with_pointer_range, loaded_value, flash_value, stored_in, with_slots, slot_value}
+use Rattle.uz_transfer.specs.Memory.{without_slots}
 
 -- What registers, flags, stack and cells become
 
@@ -51,9 +55,12 @@ transfer head image following sampled (Store to r) inst =
 transfer head image following sampled (PushByte r) inst = with_slots (inst.stack.items ++ value_at inst.regs r ∷ []) inst
 transfer head image following sampled (PopByte d) inst = with_value d (slot_value 1 inst) (without_slots 1 inst)
 transfer head image following sampled (LoadProgram d increment) inst =
-    with_value d (flash_value image (pair_range inst 30)) (if increment then with_pair_value 30 (pair_add_answer (exact_pair inst 30) 1).span inst else inst)
-transfer head image following sampled (WriteFlag flag set) inst = with_flag_list (if nat_lt flag 7 then slice_set inst.flags flag (bit_of_bool set) else inst.flags) inst
-transfer head image following sampled (LoadBit d b) inst = with_value d (Range (bld_answer (span_of (value_at inst.regs d)) b (flag_at inst.flags 6))) inst
+    with_value d (flash_value image (pair_range inst 30))
+    (if increment then with_pair_value 30 (pair_add_answer (exact_pair inst 30) 1).span inst else inst)
+transfer head image following sampled (WriteFlag flag set) inst = with_flag_list (if nat_lt flag 7 then slice_set inst.flags flag
+    (bit_of_bool set) else inst.flags) inst
+transfer head image following sampled (LoadBit d b) inst =
+    with_value d (Range (bld_answer (span_of (value_at inst.regs d)) b (flag_at inst.flags 6))) inst
 transfer head image following sampled (StoreBit d b) inst = with_flag 6 (bst_answer (span_of (value_at inst.regs d)) b) inst
 transfer head image following sampled (Jump target true) inst = with_slots (inst.stack.items ++ pc_values following) inst
 transfer head image following sampled (Return false) inst = without_slots 2 inst

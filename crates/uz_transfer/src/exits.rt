@@ -217,7 +217,7 @@ pub(crate) fn returned(at: &Instance, i: &Instr, following: u16) -> ArrayVec<Exi
     requires { 2 ≤ depth_of at.now }
     ensures { result.items ≡ exits_of (Return false) (clocks_of i.now) following at.now (Next ∷ []) }
 {
-    let _ = following;
+    let _ = following; // said of in the contract alone
     let high = span_of(&slot(at, 1)).lo() as u16;
     let low = span_of(&slot(at, 2)).lo() as u16;
     one(exit(i, Outcome::Next, (low + 256 * high) % 32768))
@@ -273,7 +273,7 @@ fn jump_known(
     requires fine { fail_of_effect head.now (Jump target call) at.now ≡ None }
     ensures { result.items ≡ exits_of (Jump target call) (clocks_of i.now) following at.now (Next ∷ []) }
 {
-    let _ = head;
+    let _ = head; // said of in the contract alone
     jump(at, i, following, target, call)
 }
 
@@ -283,6 +283,6 @@ fn return_known(at: &Instance, head: &Head, i: &Instr, following: u16) -> ArrayV
     requires { fail_of_effect head.now (Return false) at.now ≡ None }
     ensures { result.items ≡ exits_of (Return false) (clocks_of i.now) following at.now (Next ∷ []) }
 {
-    let _ = head;
+    let _ = head; // said of in the contract alone
     returned(at, i, following)
 }

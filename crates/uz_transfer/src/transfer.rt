@@ -82,7 +82,7 @@ fn push_register(at: &mut Instance, head: &Head, r: u8)
     requires fine { fail_of_effect head.now (PushByte r) at.old ≡ None }
     ensures { at.new ≡ with_slots (at.old.stack.items ++ value_at at.old.regs r ∷ []) at.old }
 {
-    let _ = head;
+    let _ = head; // said of in the contract alone
     let v = val(at, r);
     push(at, v);
 }
@@ -94,7 +94,7 @@ fn pop_one(at: &mut Instance, head: &Head, d: u8)
     requires fine { fail_of_effect head.now (PopByte d) at.old ≡ None }
     ensures { at.new ≡ with_value d (slot_value 1 at.old) (without_slots 1 at.old) }
 {
-    let _ = head;
+    let _ = head; // said of in the contract alone
     pop_byte(at, d);
 }
 
@@ -105,8 +105,8 @@ fn push_pc(at: &mut Instance, head: &Head, target: JumpTarget, following: u16)
     requires fine { fail_of_effect head.now (Jump target true) at.old ≡ None }
     ensures { at.new ≡ with_slots (at.old.stack.items ++ pc_values following) at.old }
 {
-    let _ = head;
-    let _ = target;
+    let _ = head; // said of in the contract alone
+    let _ = target; // said of in the contract alone
     push(at, known_byte((following % 256) as u8));
     push(at, known_byte((following / 256) as u8));
 }
@@ -117,6 +117,6 @@ fn drop_pc(at: &mut Instance, head: &Head)
     requires { fail_of_effect head.now (Return false) at.old ≡ None }
     ensures { at.new ≡ without_slots 2 at.old }
 {
-    let _ = head;
+    let _ = head; // said of in the contract alone
     drop_slots(at, 2);
 }

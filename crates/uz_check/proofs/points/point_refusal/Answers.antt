@@ -17,12 +17,14 @@ lines-preserved c =
     let l = c.lines.l in
     let inv = c.lines.invariant in
     let next = c.next_untold-l.ensures in
-    let one = one_more_line cert p l c.next_untold-l.result (suc p.c1 - p.c0) inv.begun next.onward (inv.untold c.lines-test.true) next.told in
+    let one = one_more_line cert p l c.next_untold-l.result (suc p.c1 - p.c0) inv.begun next.onward (inv.untold c.lines-test.true)
+    next.told in
     let seen = c.line_refusal.ensures.few in
     record {
       begun = omega (arith, inv.begun, next.onward);
       within = next.within;
-      none = lines_more c.lines_fold.ensures c.args.image.now cert c.args.id l c.next_untold-l.result p c.requires.point c.requires.box_fits.line next.within next.told inv.none c.in_default.ensures.first;
+      none = lines_more c.lines_fold.ensures c.args.image.now cert c.args.id l c.next_untold-l.result p c.requires.point
+          c.requires.box_fits.line next.within next.told inv.none c.in_default.ensures.first;
       few = omega (arith, one, inv.few, seen);
       untold = next.untold;
     }

@@ -28,7 +28,8 @@ points-preserved c =
     record {
       none = λ j few.
           elim (eqb_tells j n) [
-            | inl t ↦ subst (λ i. (q : Point) × (slice_get cert.points i ≡ Some q) × PointRefusal image cert i q None) (sym t.1) (point, c.point_of-point.ensures.is, c.in_default.ensures.first)
+            | inl t ↦ subst (λ i. (q : Point) × (slice_get cert.points i ≡ Some q) × PointRefusal image cert i q None) (sym t.1)
+                (point, c.point_of-point.ensures.is, c.in_default.ensures.first)
             | inr t ↦ c.points.invariant.none j (omega (arith, few, t.1))
           ];
       few = omega (arith, one, same, seen, c.points.invariant.few);

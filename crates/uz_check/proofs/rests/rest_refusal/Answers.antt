@@ -4,7 +4,11 @@ use Rattle.uz_check.proofs.FrameTold.{rest_tells, rest_told}
 use Rattle.uz_check.proofs.rests.rest_refusal.Goals as goal
 
 pub returns-then-rest_passes : goal.returns-then-rest_passes
-returns-then-rest_passes c = rest_passes_refusal c.args.cert.now c.args.rest.now (rest_tells c.args.cert.now c.args.rest.now c.requires.fits.schedule c.requires.line (sym c.rest_passes.ensures ∙ c.if-rest_passes.true))
+returns-then-rest_passes c = rest_passes_refusal c.args.cert.now c.args.rest.now
+    (rest_tells c.args.cert.now c.args.rest.now c.requires.fits.schedule c.requires.line
+    (sym c.rest_passes.ensures ∙ c.if-rest_passes.true))
 
 pub returns-else-rest_passes : goal.returns-else-rest_passes
-returns-else-rest_passes c = rest_fails_refusal c.args.cert.now c.args.rest.now (λ passes. let e = sym (rest_told c.args.cert.now c.args.rest.now c.requires.fits.schedule c.requires.line passes) ∙ (sym c.rest_passes.ensures ∙ c.if-rest_passes.false) in cc e)
+returns-else-rest_passes c = rest_fails_refusal c.args.cert.now c.args.rest.now
+    (λ passes. let e = sym (rest_told c.args.cert.now c.args.rest.now c.requires.fits.schedule c.requires.line passes)
+    ∙ (sym c.rest_passes.ensures ∙ c.if-rest_passes.false) in cc e)

@@ -20,5 +20,6 @@ each-preserved c =
     record {
       all = set_length c.each.runs c.from.result e ∙ inv.all;
       run = run;
-      each = subst (λ k. RunsFrom cert (slice_set c.each.runs k e) l) (sym place) (runs_more cert c.each.runs l e room run (subst (RunsFrom cert c.each.runs) next inv.each));
+      each = subst (λ k. RunsFrom cert (slice_set c.each.runs k e) l) (sym place)
+          (runs_more cert c.each.runs l e room run (subst (RunsFrom cert c.each.runs) next inv.each));
     }

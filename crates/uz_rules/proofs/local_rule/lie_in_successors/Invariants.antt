@@ -7,4 +7,6 @@ use Rattle.uz_rules.proofs.local_rule.lie_in_successors.Given as goal
 
 -- what is left answers for all
 abbrev pub invariant-loop-exit : goal.invariant-loop-exit
-invariant-loop-exit l = each_exit (λ e. lies_in_any l.cert l.next (placed (lines_of l.cert.schedule) l.at l.draft l.emitted l.clears e)) (drop l.exit-index l.exits) ≡ each_exit (λ e. lies_in_any l.cert l.next (placed (lines_of l.cert.schedule) l.at l.initial.draft l.emitted l.clears e)) l.exits
+invariant-loop-exit l = each_exit (λ e. lies_in_any l.cert l.next (placed (lines_of l.cert.schedule) l.at l.draft l.emitted l.clears e))
+    (drop l.exit-index l.exits) ≡ each_exit
+    (λ e. lies_in_any l.cert l.next (placed (lines_of l.cert.schedule) l.at l.initial.draft l.emitted l.clears e)) l.exits

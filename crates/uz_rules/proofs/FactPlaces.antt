@@ -1,0 +1,17 @@
+-- What is known of a byte at a place, by the fact that stands there.
+use Rattle.std.proofs.Common.{◌<◌, ◌≡◌, ℕ, List, length, map}
+use Rattle.std.specs.Prelude.{slice_index_or}
+use Rattle.std.proofs.lemmas.List.{get_or-map}
+use Rattle.uz_schedule.specs.declared.facts.Fact.{Fact}
+use Rattle.uz_schedule.specs.declared.facts.Val.TheVariants.{Range}
+use Rattle.uz_schedule.specs.Instances.{val_of, cell_span}
+use Rattle.uz_range.specs.Answers.{ends}
+use Rattle.uz_transfer.specs.Values.{value_at, span_at}
+
+pub value_of_fact : (l c : ℕ) (facts : List Fact) (i : ℕ) (d : Fact) → i < length facts
+    → value_at (map (val_of l c) facts) i ≡ val_of l c (slice_index_or facts i d)
+value_of_fact l c facts i d h = get_or-map (val_of l c) facts i d (Range (ends 0 255)) h
+
+pub span_of_fact : (l c : ℕ) (facts : List Fact) (i : ℕ) (d : Fact) → i < length facts
+    → span_at (map (cell_span l c) facts) i ≡ cell_span l c (slice_index_or facts i d)
+span_of_fact l c facts i d h = get_or-map (cell_span l c) facts i d (ends 0 255) h

@@ -1,0 +1,10 @@
+use Rattle.std.proofs.Common.{◌≡◌, ◌-◌, suc}
+use Rattle.uz_rules.specs.Successors.{any_from}
+use Rattle.uz_rules.specs.FactInclusion.{facts_inside}
+use Rattle.uz_rules.proofs.successors.lies_at_one.Given as goal
+
+-- what is left answers for all
+abbrev pub invariant-loop-count : goal.invariant-loop-count
+invariant-loop-count l =
+    let here = facts_inside l.at l.point in
+    any_from here l.count (suc l.last - l.count) ≡ any_from here l.first (suc l.last - l.first)
