@@ -32,13 +32,15 @@ each_inserted P t (u ∷ us) p q = by_test (nat_lt t.cell.at u.cell.at) (each_in
 abbrev pub addresses : List Tracked → List ℕ
 addresses ts = map (λ u. u.cell.at) ts
 
-pub rises_inserted : (least : ℕ) (t : Tracked) (ts : List Tracked) → rises_from least (addresses ts) ≡ true → least ≤ t.cell.at → AllByRecursion (λ u. u.cell.at ≢ t.cell.at) ts → rises_from least (addresses (with_cell t ts)) ≡ true
+pub rises_inserted : (least : ℕ) (t : Tracked) (ts : List Tracked) → rises_from least (addresses ts) ≡ true → least ≤ t.cell.at
+    → AllByRecursion (λ u. u.cell.at ≢ t.cell.at) ts → rises_from least (addresses (with_cell t ts)) ≡ true
 rises_inserted least t [] rises low apart = rises_one least t.cell.at low
   where
     rises_one : (a b : ℕ) → a ≤ b → (nat_le a b && true) ≡ true
     rises_one a b h = grind (arith, nat_tests)
 rises_inserted least t (u ∷ us) rises low apart = by_test (nat_lt t.cell.at u.cell.at) refl
-    (λ above. rises_inserted (u.cell.at + 1) t us (both (nat_le least u.cell.at) (rises_from (u.cell.at + 1) (addresses us)) rises).1 above apart.1)
+    (λ above. rises_inserted (u.cell.at + 1) t us (both (nat_le least u.cell.at) (rises_from (u.cell.at + 1) (addresses us)) rises).1 above
+    apart.1)
   where
     parts : (nat_le least u.cell.at ≡ true) × (rises_from (u.cell.at + 1) (addresses us) ≡ true)
     parts = both (nat_le least u.cell.at) (rises_from (u.cell.at + 1) (addresses us)) rises
@@ -49,7 +51,8 @@ rises_inserted least t (u ∷ us) rises low apart = by_test (nat_lt t.cell.at u.
     first_low : nat_le least t.cell.at ≡ true
     first_low = grind (arith, nat_tests)
 
-    by_test : (b : Bool) → nat_lt t.cell.at u.cell.at ≡ b → (u.cell.at + 1 ≤ t.cell.at → rises_from (u.cell.at + 1) (addresses (with_cell t us)) ≡ true)
+    by_test : (b : Bool) → nat_lt t.cell.at u.cell.at ≡ b
+        → (u.cell.at + 1 ≤ t.cell.at → rises_from (u.cell.at + 1) (addresses (with_cell t us)) ≡ true)
         → rises_from least (addresses (insert (u ∷ us) (cond b 0 (suc (place_in t.cell.at us))) t)) ≡ true
     by_test true e later =
         let next : nat_le (t.cell.at + 1) u.cell.at ≡ true = grind (arith, nat_tests, e) in
@@ -69,7 +72,10 @@ each_there Q [] h = tt
 each_there Q (x ∷ xs) h = (h 0 x refl, each_there Q xs (λ i y there. h (suc i) y there))
 
 abbrev pub tracked_cell : ℕ → Kind → ℕ → ℕ → ℕ → Tracked
-tracked_cell at owner lo hi first = record { cell = record { at = at; owner = owner_of owner; range = record { lo = lo; hi = hi } }; first = first }
+tracked_cell at owner lo hi first = record {
+  cell = record { at = at; owner = owner_of owner; range = record { lo = lo; hi = hi } };
+  first = first;
+}
 
 -- what is asked of the cell that a hint is
 abbrev pub OfCell : (Tracked → Type 0) → Hint → Type 0
@@ -86,7 +92,8 @@ each_with P (Stack lo hi main handler) ts p q = q
 each_with P (Cell at owner lo hi first) ts p q = each_inserted P (tracked_cell at owner lo hi first) ts p q
 each_with P (Fact at place lo hi) ts p q = q
 
-pub each_cell : (P : Tracked → Type 0) (hints : List Hint) (ts : List Tracked) → AllByRecursion (OfCell P) hints → AllByRecursion P ts → AllByRecursion P (with_cells ts hints)
+pub each_cell : (P : Tracked → Type 0) (hints : List Hint) (ts : List Tracked) → AllByRecursion (OfCell P) hints → AllByRecursion P ts
+    → AllByRecursion P (with_cells ts hints)
 each_cell P [] ts p q = q
 each_cell P (h ∷ hints) ts p q = each_cell P hints (with_hint ts h) p.1 (each_with P h ts p.0 q)
 
@@ -115,20 +122,24 @@ lone (h ∷ hints) f = (
 abbrev Free : List Tracked → List Hint → Type 0
 Free ts hints = AllByRecursion (λ u. has_cell u.cell.at hints ≡ false) ts
 
-rises_with : (h : Hint) (hints : List Hint) (ts : List Tracked) → LoneHead h hints → Free ts (h ∷ hints) → rises_from 0 (addresses ts) ≡ true → rises_from 0 (addresses (with_hint ts h)) ≡ true × Free (with_hint ts h) hints
+rises_with : (h : Hint) (hints : List Hint) (ts : List Tracked) → LoneHead h hints → Free ts (h ∷ hints)
+    → rises_from 0 (addresses ts) ≡ true → rises_from 0 (addresses (with_hint ts h)) ≡ true × Free (with_hint ts h) hints
 rises_with (Start kind at) hints ts l f r = (r, f)
 rises_with (Lines lines fall) hints ts l f r = (r, f)
 rises_with (Stack lo hi main handler) hints ts l f r = (r, f)
 rises_with (Cell at owner lo hi first) hints ts l f r = (
   rises_inserted 0 (tracked_cell at owner lo hi first) ts r (omega arith) (each_map _ _ (apart) ts f),
-  each_inserted (λ u. has_cell u.cell.at hints ≡ false) (tracked_cell at owner lo hi first) ts l (each_map _ _ (λ u h. (neither (at == u.cell.at) (has_cell u.cell.at hints) h).1) ts f),
+  each_inserted (λ u. has_cell u.cell.at hints ≡ false) (tracked_cell at owner lo hi first) ts l
+      (each_map _ _ (λ u h. (neither (at == u.cell.at) (has_cell u.cell.at hints) h).1) ts f),
 )
   where
     apart : (u : Tracked) → ((at == u.cell.at) || has_cell u.cell.at hints) ≡ false → u.cell.at ≢ at
-    apart u h = let e : (at == u.cell.at) ≡ false = (neither (at == u.cell.at) (has_cell u.cell.at hints) h).0 in grind (arith, nat_tests, e)
+    apart u h = let e : (at == u.cell.at) ≡ false = (neither (at == u.cell.at) (has_cell u.cell.at hints) h).0 in
+        grind (arith, nat_tests, e)
 rises_with (Fact at place lo hi) hints ts l f r = (r, f)
 
-pub rises_all : (hints : List Hint) (ts : List Tracked) → Lone hints → Free ts hints → rises_from 0 (addresses ts) ≡ true → rises_from 0 (addresses (with_cells ts hints)) ≡ true
+pub rises_all : (hints : List Hint) (ts : List Tracked) → Lone hints → Free ts hints → rises_from 0 (addresses ts) ≡ true
+    → rises_from 0 (addresses (with_cells ts hints)) ≡ true
 rises_all [] ts l f r = r
 rises_all (h ∷ hints) ts l f r =
     rises_all hints (with_hint ts h) l.1 (rises_with h hints ts l.0 f r).1 (rises_with h hints ts l.0 f r).0

@@ -1,5 +1,6 @@
 -- What hints that aren't at fault give of cells and facts, and one more register of a start.
-use Rattle.std.proofs.Common.{◌≡◌, ◌∙◌, sym, ap, refl, arith, ℕ, zero, suc, ◌+◌, ◌<◌, ◌≤◌, Bool, true, false, List, [], ◌∷◌, ◌++◌, length, take, drop, get_or, add-one, cond}
+use Rattle.std.proofs.Common.{◌≡◌, ◌∙◌, sym, ap, refl, arith, ℕ, zero, suc, ◌+◌, ◌<◌, ◌≤◌, Bool, true, false, List, [], ◌∷◌, ◌++◌, length}
+use Rattle.std.proofs.Common.{take, drop, get_or, add-one, cond}
 use Rattle.std.specs.Prelude.{Option, Some, None, slice_get, nat_lt, IfSome, ◌==◌, ◌&&◌}
 use Rattle.std.proofs.Math.Seq.{take-suc, drop-cons}
 use Rattle.std.proofs.lemmas.List.Edits.{length-insert}
@@ -17,14 +18,16 @@ use Rattle.uz_hints.specs.Cells.{owner_of, place_in, with_hint, with_cells, HasR
 use Rattle.uz_hints.specs.Faults.{IsFine, FineBefore, CellFine, CellPart, CellsFine, FactPart, FactsFine}
 use Rattle.uz_hints.specs.Reading.{byte_range, ranges_from}
 
-cell_part : (image : FinMap nat_cmp ℕ) (irq : Response) (hints : List Hint) (i : ℕ) (h : Hint) → IsFine image irq hints i h → CellPart hints i h
+cell_part : (image : FinMap nat_cmp ℕ) (irq : Response) (hints : List Hint) (i : ℕ) (h : Hint) → IsFine image irq hints i h → CellPart hints
+    i h
 cell_part image irq hints i (Start kind at) f = tt
 cell_part image irq hints i (Lines lines fall) f = tt
 cell_part image irq hints i (Stack lo hi main handler) f = tt
 cell_part image irq hints i (Cell at owner lo hi first) f = f
 cell_part image irq hints i (Fact at place lo hi) f = tt
 
-pub cells_fine : (image : FinMap nat_cmp ℕ) (irq : Response) (hints : List Hint) → FineBefore image irq hints (length hints) → CellsFine hints
+pub cells_fine : (image : FinMap nat_cmp ℕ) (irq : Response) (hints : List Hint) → FineBefore image irq hints (length hints)
+    → CellsFine hints
 cells_fine image irq hints fine i h there = cell_part image irq hints i h (fine i h (slice_get_within hints i h there) there)
 
 fact_part : (image : FinMap nat_cmp ℕ) (irq : Response) (hints : List Hint) (i : ℕ) (h : Hint) → IsFine image irq hints i h → FactPart h
@@ -34,7 +37,8 @@ fact_part image irq hints i (Stack lo hi main handler) f = tt
 fact_part image irq hints i (Cell at owner lo hi first) f = tt
 fact_part image irq hints i (Fact at place lo hi) f = (f.order, f.there, f.byte)
 
-pub facts_fine : (image : FinMap nat_cmp ℕ) (irq : Response) (hints : List Hint) → FineBefore image irq hints (length hints) → FactsFine hints
+pub facts_fine : (image : FinMap nat_cmp ℕ) (irq : Response) (hints : List Hint) → FineBefore image irq hints (length hints)
+    → FactsFine hints
 facts_fine image irq hints fine i h there = fact_part image irq hints i h (fine i h (slice_get_within hints i h there) there)
 
 -- The range that a fine fact gives a register
@@ -47,9 +51,11 @@ range_fits pc place (Start kind at) register f = tt
 range_fits pc place (Lines lines fall) register f = tt
 range_fits pc place (Stack lo hi main handler) register f = tt
 range_fits pc place (Cell at owner lo hi first) register f = tt
-range_fits pc place (Fact at of lo hi) register f = by_test (of == place) (λ e. let same : of ≡ place = grind (arith, nat_tests, e) in f.2 (omega arith)) (at == pc)
+range_fits pc place (Fact at of lo hi) register f = by_test (of == place) (λ e. let same : of ≡ place = grind (arith, nat_tests, e) in
+    f.2 (omega arith)) (at == pc)
   where
-    by_test : (same : Bool) → (same ≡ true → hi ≤ 255) → (here : Bool) → IfSome (cond (here && same) (Some (record { lo = lo; hi = hi })) None) InBytes
+    by_test : (same : Bool) → (same ≡ true → hi ≤ 255) → (here : Bool) → IfSome (cond (here && same) (Some (record { lo = lo; hi = hi }))
+        None) InBytes
     by_test true bound true = (f.0, bound refl)
     by_test true bound false = tt
     by_test false bound true = tt
@@ -62,11 +68,13 @@ later_fits (Some r) b h k = h
 pub first_fits : (pc place : ℕ) (hints : List Hint) → place < 32 → FactsFine hints → IfSome (first_fact pc place hints) InBytes
 first_fits pc place [] register fine = tt
 first_fits pc place (h ∷ hints) register fine =
-    later_fits (range_at pc place h) (first_fact pc place hints) (range_fits pc place h register (fine 0 h refl)) (first_fits pc place hints register (λ i g there. fine (suc i) g there))
+    later_fits (range_at pc place h) (first_fact pc place hints) (range_fits pc place h register (fine 0 h refl))
+    (first_fits pc place hints register (λ i g there. fine (suc i) g there))
 
 -- One more register
 
-pub ranges_more : (hints : List Hint) (pc k n : ℕ) → ranges_from hints pc k (n + 1) ≡ ranges_from hints pc k n ++ byte_range (first_fact pc (k + n) hints) ∷ []
+pub ranges_more : (hints : List Hint) (pc k n : ℕ) → ranges_from hints pc k (n + 1) ≡ ranges_from hints pc k n
+    ++ byte_range (first_fact pc (k + n) hints) ∷ []
 ranges_more hints pc k zero =
     let same : k + 0 ≡ k = omega arith in
     ap (λ i. byte_range (first_fact pc i hints) ∷ []) (sym same)
@@ -75,7 +83,8 @@ ranges_more hints pc k (suc n) =
     let less : n + 1 ≡ suc n = omega arith in
     let same : suc k + n ≡ k + suc n = omega arith in
     ap (ranges_from hints pc k) next
-    ∙ (ap (λ xs. byte_range (first_fact pc k hints) ∷ xs) (ap (ranges_from hints pc (suc k)) (sym less) ∙ ranges_more hints pc (suc k) n) ∙ ap (λ i. byte_range (first_fact pc k hints) ∷ (ranges_from hints pc (suc k) n ++ byte_range (first_fact pc i hints) ∷ [])) same)
+    ∙ (ap (λ xs. byte_range (first_fact pc k hints) ∷ xs) (ap (ranges_from hints pc (suc k)) (sym less) ∙ ranges_more hints pc (suc k) n)
+    ∙ ap (λ i. byte_range (first_fact pc k hints) ∷ (ranges_from hints pc (suc k) n ++ byte_range (first_fact pc i hints) ∷ [])) same)
 
 -- Cells
 
@@ -88,7 +97,8 @@ place_within at (t ∷ ts) = by_test (nat_lt at t.cell.at) (place_within at ts)
     by_test false h = omega arith
 
 -- there is room for a cell that isn't the 17th
-pub room : (hints : List Hint) (ts : List Tracked) (i : ℕ) (h : Hint) → CellsFine hints → slice_get hints i ≡ Some h → length ts ≡ cell_count (take i hints) → HasRoom ts h
+pub room : (hints : List Hint) (ts : List Tracked) (i : ℕ) (h : Hint) → CellsFine hints → slice_get hints i ≡ Some h
+    → length ts ≡ cell_count (take i hints) → HasRoom ts h
 room hints ts i (Start kind at) fine there count = tt
 room hints ts i (Lines lines fall) fine there count = tt
 room hints ts i (Stack lo hi main handler) fine there count = tt
@@ -102,28 +112,34 @@ with_one : (ts : List Tracked) (h : Hint) → length (with_hint ts h) ≡ length
 with_one ts (Start kind at) = omega arith
 with_one ts (Lines lines fall) = omega arith
 with_one ts (Stack lo hi main handler) = omega arith
-with_one ts (Cell at owner lo hi first) = length-insert ts (place_in at ts) (record { cell = record { at = at; owner = owner_of owner; range = record { lo = lo; hi = hi } }; first = first }) (place_within at ts)
+with_one ts (Cell at owner lo hi first) = length-insert ts (place_in at ts)
+    (record { cell = record { at = at; owner = owner_of owner; range = record { lo = lo; hi = hi } }; first = first }) (place_within at ts)
 with_one ts (Fact at place lo hi) = omega arith
 
 count_append : (a b : List Hint) → cell_count (a ++ b) ≡ cell_count a + cell_count b
 count_append [] b = omega arith
 count_append (h ∷ a) b = by_test (cell_hint h) (count_append a b)
   where
-    by_test : (t : Bool) → cell_count (a ++ b) ≡ cell_count a + cell_count b → cond t (suc (cell_count (a ++ b))) (cell_count (a ++ b)) ≡ cond t (suc (cell_count a)) (cell_count a) + cell_count b
+    by_test : (t : Bool) → cell_count (a ++ b) ≡ cell_count a + cell_count b → cond t (suc (cell_count (a ++ b))) (cell_count (a ++ b))
+        ≡ cond t (suc (cell_count a)) (cell_count a) + cell_count b
     by_test true e = omega arith
     by_test false e = e
 
-pub count_more : (hints : List Hint) (ts : List Tracked) (i : ℕ) (d : Hint) → i < length hints → length ts ≡ cell_count (take i hints) → length (with_hint ts (get_or hints i d)) ≡ cell_count (take (i + 1) hints)
+pub count_more : (hints : List Hint) (ts : List Tracked) (i : ℕ) (d : Hint) → i < length hints → length ts ≡ cell_count (take i hints)
+    → length (with_hint ts (get_or hints i d)) ≡ cell_count (take (i + 1) hints)
 count_more hints ts i d within count =
     let more : take (i + 1) hints ≡ take i hints ++ get_or hints i d ∷ [] = rw add-one (take-suc hints i d within) in
-    let both : cell_count (take (i + 1) hints) ≡ cell_count (take i hints) + cell_count (get_or hints i d ∷ []) = ap cell_count more ∙ count_append (take i hints) (get_or hints i d ∷ []) in
+    let both : cell_count (take (i + 1) hints) ≡ cell_count (take i hints) + cell_count (get_or hints i d ∷ []) = ap cell_count more
+    ∙ count_append (take i hints) (get_or hints i d ∷ []) in
     let one : length (with_hint ts (get_or hints i d)) ≡ length ts + cell_count (get_or hints i d ∷ []) = with_one ts (get_or hints i d) in
     omega arith
 
-pub left_more : (hints : List Hint) (ts : List Tracked) (i : ℕ) (d : Hint) → i < length hints → with_cells (with_hint ts (get_or hints i d)) (drop (i + 1) hints) ≡ with_cells ts (drop i hints)
+pub left_more : (hints : List Hint) (ts : List Tracked) (i : ℕ) (d : Hint) → i < length hints → with_cells (with_hint ts (get_or hints i d))
+    (drop (i + 1) hints) ≡ with_cells ts (drop i hints)
 left_more hints ts i d within =
     let less : drop i hints ≡ get_or hints i d ∷ drop (i + 1) hints = rw add-one (drop-cons hints i d within) in
     sym (ap (with_cells ts) less)
 
-pub room_at : (hints : List Hint) (ts : List Tracked) (i : ℕ) (d : Hint) → CellsFine hints → i < length hints → length ts ≡ cell_count (take i hints) → HasRoom ts (get_or hints i d)
+pub room_at : (hints : List Hint) (ts : List Tracked) (i : ℕ) (d : Hint) → CellsFine hints → i < length hints → length ts ≡ cell_count
+    (take i hints) → HasRoom ts (get_or hints i d)
 room_at hints ts i d fine within count = room hints ts i (get_or hints i d) fine (slice_get-get_or hints i d within) count

@@ -27,7 +27,8 @@ abbrev pub with_hint : List Tracked → Hint → List Tracked
 with_hint ts (Start kind at) = ts
 with_hint ts (Lines lines fall) = ts
 with_hint ts (Stack lo hi main handler) = ts
-with_hint ts (Cell at owner lo hi first) = with_cell (record { cell = record { at = at; owner = owner_of owner; range = record { lo = lo; hi = hi } }; first = first }) ts
+with_hint ts (Cell at owner lo hi first) =
+    with_cell (record { cell = record { at = at; owner = owner_of owner; range = record { lo = lo; hi = hi } }; first = first }) ts
 with_hint ts (Fact at place lo hi) = ts
 
 -- a cell's range is in order, and there is room for it

@@ -1,5 +1,6 @@
 -- Which hints are at fault. The limits are those of a certificate's text.
-use Rattle.std.specs.Prelude.{◌≡◌, ◌≢◌, ◌⊎◌, ⊤, ℕ, ◌+◌, ◌-◌, ◌<◌, ◌≤◌, Bool, true, false, List, take, drop, length, Option, Some, None, slice_get}
+use Rattle.std.specs.Prelude.{◌≡◌, ◌≢◌, ◌⊎◌, ⊤, ℕ, ◌+◌, ◌-◌, ◌<◌, ◌≤◌, Bool, true, false, List, take, drop, length, Option, Some, None}
+use Rattle.std.specs.Prelude.{slice_get}
 use Rattle.std.specs.Ordering.{nat_cmp}
 use Rattle.std.specs.FinMap.{FinMap}
 use Rattle.avr_table.specs.declared.Instr.{Instr}
@@ -34,7 +35,8 @@ abbrev pub starts_main : Option Beginning → Bool
 starts_main None = false
 starts_main (Some start) = is_main start.kind
 
--- within limits, with a fall above every clock at which the handler's first instruction may begin, where runs enter main; and the first lines
+-- within limits, with a fall above every clock at which the handler's first instruction may begin, where runs enter main; and the first
+-- lines
 pub record LinesFine (irq : Response) (hints : List Hint) (i lines fall : ℕ) : Type 0 where
   pub some : 1 ≤ lines
   pub few : lines ≤ most_lines

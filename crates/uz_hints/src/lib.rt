@@ -3,7 +3,7 @@
 #![tactic(auto)]
 
 mod cells;
-mod faults;
+mod errors;
 mod reading;
 mod words;
 

@@ -7,7 +7,7 @@ ghost use Rattle.uz_hints.specs.Reading.{byte_range as range_of, start_registers
 ghost use Rattle.uz_hints.specs.Cells.{cells_of as cells_of_hints, first_values as values_of};
 
 use crate::cells::{cells_of, first_values, head_cells};
-use crate::faults::first_fault;
+use crate::errors::first_fault;
 use crate::words::{
     Beginning, FrameSize, PlaceRange, StackRegion, first_fact, first_lines, first_stack,
     first_start,

@@ -1,16 +1,19 @@
 -- The certificate that is made of an ended search is well formed, and accepted.
-use Rattle.std.proofs.Common.{◌≡◌, ◌≢◌, ◌∙◌, sym, ap, refl, arith, inl, inr, ⊎_elim, ◌⊎◌, ℕ, zero, suc, ◌+◌, ◌-◌, ◌*◌, ◌<◌, ◌≤◌, Bool, true, false, List, [], ◌∷◌, map, All, length, subst, if◌then◌else◌}
+use Rattle.std.proofs.Common.{◌≡◌, ◌≢◌, ◌∙◌, sym, ap, refl, arith, inl, inr, ⊎_elim, ◌⊎◌, ℕ, zero, suc, ◌+◌, ◌-◌, ◌*◌, ◌<◌, ◌≤◌, Bool, true}
+use Rattle.std.proofs.Common.{false, List, [], ◌∷◌, map, All, length, subst, if◌then◌else◌}
 use Rattle.std.specs.Prelude.{Contains, Option, Some, None, ◌&&◌, ◌||◌, ◌==◌, nat_eq, nat_le, slice_get, unwrap_or}
 use Rattle.std.proofs.lemmas.Bool.{cases_eq, cases_lt, eq-eqb}
 use Rattle.std.proofs.lemmas.Bool.Decides.{nat_tests}
 use Rattle.std.proofs.lemmas.Option.{get_or_from_slice_get, slice_get-get_or, slice_get_within}
 use Rattle.uz_schedule.specs.Ends.{Ends}
-use Rattle.uz_schedule.specs.Instances.{entry_instance, entry_instance_at, handler_entry, instance_at, is_in_box, level_or_zero, rest_instance}
+use Rattle.uz_schedule.specs.Instances.{entry_instance, entry_instance_at, handler_entry, instance_at, is_in_box, level_or_zero}
+use Rattle.uz_schedule.specs.Instances.{rest_instance}
 use Rattle.uz_schedule.specs.Limits.{ScheduleFits, rises}
 use Rattle.uz_schedule.specs.Lines.{Lines, uniform}
 use Rattle.uz_schedule.specs.Schedule.{level_at, next_line, response_clocks, start_of}
 use Rattle.uz_schedule.specs.Tracked.{tracked}
-use Rattle.uz_schedule.specs.WellFormed.{EntryFactsFit, EntryFits, EntryKindFits, PointFits, PointsFit, RangeFits, RestFits, RestsFit, WellFormed, instances_of, spans_fit}
+use Rattle.uz_schedule.specs.WellFormed.{EntryFactsFit, EntryFits, EntryKindFits, PointFits, PointsFit, RangeFits, RestFits, RestsFit}
+use Rattle.uz_schedule.specs.WellFormed.{WellFormed, instances_of, spans_fit}
 use Rattle.uz_schedule.specs.declared.certificate.Cert.{Cert}
 use Rattle.uz_schedule.specs.declared.facts.Bit.{Bit}
 use Rattle.uz_schedule.specs.declared.facts.Bit.TheVariants.{Zero, One, Free, Old as OldBit}
@@ -27,7 +30,8 @@ use Rattle.uz_schedule.specs.declared.states.Point.{Point}
 use Rattle.uz_schedule.specs.declared.states.Rest.{Rest}
 use Rattle.uz_transfer.specs.Refusals.{range_inside}
 use Rattle.uz_transfer.specs.Values.{flag_at, pair_at, span_at, value_at}
-use Rattle.uz_rules.specs.Inside.{all_below, cells_inside, flag_inside, flags_inside, inside, pairs_inside, registers_inside, same_bool, same_kind, same_place, slots_inside, value_inside}
+use Rattle.uz_rules.specs.Inside.{all_below, cells_inside, flag_inside, flags_inside, inside, pairs_inside, registers_inside, same_bool}
+use Rattle.uz_rules.specs.Inside.{same_kind, same_place, slots_inside, value_inside}
 use Rattle.uz_rules.specs.Successors.{any_from, lies_at, lies_in_any, lies_in_box, lies_in_point}
 use Rattle.uz_soundness.specs.Acceptance.{Accepts}
 use Rattle.uz_search.specs.declared.found.Found.{Found}
@@ -67,7 +71,8 @@ pub record Laws : Type 0 where
   pub within : EndedWithinLimits
   pub widens : LiesInWidened
   pub accepts : EndedAccepts
-  pub stand : (image : Flash) (p : Program) (s : Found) (x : Instance) → ProgramFits p → IsEnded image p s → Among s.nodes.keys x → Stands p x
+  pub stand : (image : Flash) (p : Program) (s : Found) (x : Instance) → ProgramFits p → IsEnded image p s → Among s.nodes.keys x
+      → Stands p x
 
 -- Lists
 
@@ -111,9 +116,12 @@ bool_self false = refl
 
 inside_self : (x : Instance) → inside x x ≡ true
 inside_self x =
-    λ i. (kind_self x.kind i && (eq-eqb x.pc x.pc refl i && (eq-eqb x.line x.line refl i && (eq-eqb x.clock x.clock refl i && bool_self x.pending i))))
-    && ((eq-eqb (length x.stack.items) (length x.stack.items) refl i && below_all (length x.stack.items) (λ k. value_inside (value_at x.stack.items k) (value_at x.stack.items k)) (λ k. value_self (value_at x.stack.items k)) i)
-    && ((eq-eqb (length x.cells.items) (length x.cells.items) refl i && below_all (length x.cells.items) (λ k. range_inside (span_at x.cells.items k) (span_at x.cells.items k)) (λ k. range_self (span_at x.cells.items k)) i)
+    λ i. (kind_self x.kind i && (eq-eqb x.pc x.pc refl i
+    && (eq-eqb x.line x.line refl i && (eq-eqb x.clock x.clock refl i && bool_self x.pending i))))
+    && ((eq-eqb (length x.stack.items) (length x.stack.items) refl i && below_all (length x.stack.items)
+    (λ k. value_inside (value_at x.stack.items k) (value_at x.stack.items k)) (λ k. value_self (value_at x.stack.items k)) i)
+    && ((eq-eqb (length x.cells.items) (length x.cells.items) refl i && below_all (length x.cells.items)
+    (λ k. range_inside (span_at x.cells.items k) (span_at x.cells.items k)) (λ k. range_self (span_at x.cells.items k)) i)
     && (below_all 7 (λ k. flag_inside (flag_at x.flags k) (flag_at x.flags k)) (λ k. flag_self (flag_at x.flags k)) i
     && (below_all 3 (λ k. range_inside (pair_at x.pairs k) (pair_at x.pairs k)) (λ k. range_self (pair_at x.pairs k)) i
     && below_all 32 (λ k. value_inside (value_at x.regs k) (value_at x.regs k)) (λ k. value_self (value_at x.regs k)) i))))
@@ -157,10 +165,12 @@ pub record IsKnownAt (cert : Cert) (n : ℕ) (x : Instance) : Type 0 where
 lies : (cert : Cert) (n : ℕ) (x y : Instance) → IsKnownAt cert n x → inside y x ≡ true → lies_in_point cert n y ≡ true
 lies cert n x y known h =
     ap (λ o. lies_in_box cert n o y) known.at
-    ∙ any_true (λ c. lies_at (instance_at cert n y.line c) y) known.point.c0 (suc known.point.c1 - known.point.c0) known.count known.low (let low = known.low in let high = known.high in omega arith)
+    ∙ any_true (λ c. lies_at (instance_at cert n y.line c) y) known.point.c0 (suc known.point.c1 - known.point.c0) known.count known.low
+    (let low = known.low in let high = known.high in omega arith)
     (ap (λ l. lies_at (instance_at cert n l known.count) y) (line_of y x h) ∙ (ap (λ o. lies_at o y) known.is ∙ h))
 
-any_named : (cert : Cert) (ids : List ℕ) (i n : ℕ) (y : Instance) → slice_get ids i ≡ Some n → lies_in_point cert n y ≡ true → lies_in_any cert ids y ≡ true
+any_named : (cert : Cert) (ids : List ℕ) (i n : ℕ) (y : Instance) → slice_get ids i ≡ Some n → lies_in_point cert n y ≡ true
+    → lies_in_any cert ids y ≡ true
 any_named cert [] i n y at h = absurd (cc)
 any_named cert (id ∷ ids) zero n y at h = ap (λ b. b || lies_in_any cert ids y) (ap (λ m. lies_in_point cert m y) (some_is id n at) ∙ h)
 any_named cert (id ∷ ids) (suc i) n y at h = or_later (lies_in_point cert id y) (lies_in_any cert ids y) (any_named cert ids i n y at h)
@@ -199,7 +209,8 @@ few_clocks Four = omega arith
 few_clocks Five = omega arith
 
 -- the handler's first states after a rest are instances
-pub entered : (image : Flash) (p : Program) (found : Found) (entry : Entry) (s : Schedule) → EndedRestsEnter → ProgramFits p → IsEnded image p found → made_of.IsScheduleOf p found.marks.items s
+pub entered : (image : Flash) (p : Program) (found : Found) (entry : Entry) (s : Schedule) → EndedRestsEnter → ProgramFits p → IsEnded image
+    p found → made_of.IsScheduleOf p found.marks.items s
     → AreEntered p s (rests_of found.returns.items) found.nodes.keys
 entered image p found entry s enter fits ended made k c rest at few =
     let o = of_return 0 0 found.returns.items k rest at in
@@ -207,8 +218,10 @@ entered image p found entry s enter fits ended made k c rest at few =
     enter image p found (record { head = p.head; schedule = s; rests = []; entry = entry; points = [] }) rest o.noted c fits ended refl made
     (subst (λ l. ReturnAt found.returns.items l o.noted) line o.there) (ap (λ v. v.items) o.are_cells) few
 
-module _ (image : Flash) (p : Program) (entry : Entry) (found : Found) (parts : Parts) (laws : Laws) (fits : ProgramFits p) (ended : IsEnded image p found)
-    (few : length found.nodes.keys < 524288) (entering : IsEntry p entry) (returns : ReturnsFromMain p found) (of : ArePartsOf image p entry found parts) where
+module _ (image : Flash) (p : Program) (entry : Entry) (found : Found) (parts : Parts) (laws : Laws) (fits : ProgramFits p)
+    (ended : IsEnded image p found)
+    (few : length found.nodes.keys < 524288) (entering : IsEntry p entry) (returns : ReturnsFromMain p found)
+    (of : ArePartsOf image p entry found parts) where
   abbrev cert : Cert
   cert = cert_of p parts
 
@@ -244,23 +257,27 @@ module _ (image : Flash) (p : Program) (entry : Entry) (found : Found) (parts : 
   rest_line : (k : ℕ) (rest : Rest) → slice_get parts.rests.items k ≡ Some rest → rest.line < p.lines
   rest_line k rest at = lines_of_rests found.returns.items parts.rests.items p.lines of.rests ended.lines k rest at
 
-  first : (k c : ℕ) (rest : Rest) → slice_get parts.rests.items k ≡ Some rest → c ≤ 3 → Among found.nodes.keys (first_after p parts.schedule rest c)
+  first : (k c : ℕ) (rest : Rest) → slice_get parts.rests.items k ≡ Some rest → c ≤ 3 → Among found.nodes.keys
+      (first_after p parts.schedule rest c)
   first k c rest at le = entered image p found entry parts.schedule laws.enter fits ended made k c rest (among_rests k rest at) le
 
   -- a vector's instance at its line, for each latency
-  vector_at : (k c : ℕ) (rest : Rest) → slice_get parts.rests.items k ≡ Some rest → c ≤ 3 → instance_at cert k (next_line parts.schedule rest.line) c ≡ Some (first_after p parts.schedule rest c)
+  vector_at : (k c : ℕ) (rest : Rest) → slice_get parts.rests.items k ≡ Some rest → c ≤ 3 → instance_at cert k
+      (next_line parts.schedule rest.line) c ≡ Some (first_after p parts.schedule rest c)
   vector_at k c rest at le =
       let v = of.points.vectors k rest at in
       let x = first_after p parts.schedule rest c in
       let small = few_clocks p.head.irq in
       let there : level_at parts.schedule (start_of parts.schedule (next rest.line) + (c + response)) ≡ Some x.level =
-      ap (λ l. level_at parts.schedule (start_of parts.schedule l + (c + response))) (sym (same_next rest.line)) ∙ level x (first k c rest at le) in
+      ap (λ l. level_at parts.schedule (start_of parts.schedule l + (c + response))) (sym (same_next rest.line))
+      ∙ level x (first k c rest at le) in
       ap (λ l. instance_at cert k l c) (same_next rest.line)
       ∙ (vector_instance cert k rest.cells.items (next rest.line) response c x.level v.next v.is le (omega arith) there
       ∙ ap (λ l. Some (handler_entry rest.cells.items l (c + response) x.level)) (sym (same_next rest.line)))
 
   -- a vector says what is known of each of its first states
-  vector_known : (k c : ℕ) (rest : Rest) → slice_get parts.rests.items k ≡ Some rest → c ≤ 3 → IsKnownAt cert k (first_after p parts.schedule rest c)
+  vector_known : (k c : ℕ) (rest : Rest) → slice_get parts.rests.items k ≡ Some rest → c ≤ 3 → IsKnownAt cert k
+      (first_after p parts.schedule rest c)
   vector_known k c rest at le =
       let v = of.points.vectors k rest at in
       record {
@@ -283,7 +300,8 @@ module _ (image : Flash) (p : Program) (entry : Entry) (found : Found) (parts : 
           let high = v.after.first.latest in
           let clocks = (stand x (i, node)).clock in
           let same : x.clock - response + response ≡ x.clock = omega arith in
-          let there : level_at parts.schedule (start_of parts.schedule (next v.rest.line) + (x.clock - response + response)) ≡ Some x.level =
+          let there : level_at parts.schedule (start_of parts.schedule (next v.rest.line) + (x.clock - response + response)) ≡ Some
+          x.level =
           (λ j. level_at parts.schedule (start_of parts.schedule (v.after.line j) + same j)) ∙ level x (i, node) in
           record {
             point = vector_point v.rest.cells.items (next v.rest.line) response vec.next;
@@ -292,8 +310,10 @@ module _ (image : Flash) (p : Program) (entry : Entry) (found : Found) (parts : 
             low = omega arith;
             high = omega arith;
             is = ap (λ l. instance_at cert n l (x.clock - response)) (sym v.after.line)
-                ∙ (vector_instance cert n v.rest.cells.items (next v.rest.line) response (x.clock - response) x.level vec.next vec.is (omega arith) (omega arith) there
-                ∙ (λ j. Some (handler_entry v.rest.cells.items (v.after.line j) (same j) x.level)) ∙ ap (λ y. Some y) (sym v.after.first.is));
+                ∙ (vector_instance cert n v.rest.cells.items (next v.rest.line) response (x.clock - response) x.level vec.next vec.is
+                (omega arith) (omega arith) there
+                ∙ (λ j. Some (handler_entry v.rest.cells.items (v.after.line j) (same j) x.level)) ∙ ap (λ y. Some y)
+                (sym v.after.first.is));
           }
       by (inr h) =
           let own = of.points.own i n x node number h.1 in
@@ -309,7 +329,8 @@ module _ (image : Flash) (p : Program) (entry : Entry) (found : Found) (parts : 
   succeeded : (x : Instance) (ids : List ℕ) → NamesResults image p found.nodes.keys of.numbers x ids → HasSuccessors image p cert ids x
   succeeded x ids named result y after on there =
       let h = named result y after on there in
-      any_named cert ids h.named.0 h.number y h.named.1 (lies cert h.number (widened p y) y (known h.place h.number (widened p y) h.node h.is) (laws.widens p y))
+      any_named cert ids h.named.0 h.number y h.named.1
+      (lies cert h.number (widened p y) y (known h.place h.number (widened p y) h.node h.is) (laws.widens p y))
 
   -- Points
 
@@ -339,18 +360,30 @@ module _ (image : Flash) (p : Program) (entry : Entry) (found : Found) (parts : 
       inl (record { rest = r.0; at = r.1; below = below; ids = v.next; is = some_is point _ (sym at ∙ v.is) }))
       (λ (low : length parts.rests.items ≤ id).
       let i = of.numbered.there id low (slice_get_within parts.points.items id point at) in
-      let within : i.0 < length found.nodes.keys = (let w = slice_get_within of.numbers i.0 id i.1 in let same = of.numbered.lengths in omega arith) in
+      let within : i.0 < length found.nodes.keys = (let w = slice_get_within of.numbers i.0 id i.1 in let same = of.numbered.lengths in
+      omega arith) in
       let x = there_is found.nodes.keys i.0 within in
       let own = of.points.own i.0 id x.0 x.1 i.1 low in
-      inr (record { place = i.0; x = x.0; node = x.1; number = i.1; low = low; ids = own.next; is = some_is point _ (sym at ∙ own.is); ordered = own.ordered }))
+      inr (record {
+        place = i.0;
+        x = x.0;
+        node = x.1;
+        number = i.1;
+        low = low;
+        ids = own.next;
+        is = some_is point _ (sym at ∙ own.is);
+        ordered = own.ordered;
+      }))
       (cases_lt id (length parts.rests.items))
 
-  stands_for : (id l c : ℕ) (point : Point) → slice_get parts.points.items id ≡ Some point → is_in_box point l c ≡ true → StandsFor image p found cert id l c point
+  stands_for : (id l c : ℕ) (point : Point) → slice_get parts.points.items id ≡ Some point → is_in_box point l c ≡ true → StandsFor image p
+      found cert id l c point
   stands_for id l c point at box = ⊎_elim vector own (which id point at)
     where
       vector : IsVector id point → StandsFor image p found cert id l c point
       vector v =
-          let inside : is_in_box (vector_point v.rest.cells.items (next v.rest.line) response v.ids) l c ≡ true = subst (λ (z : Point). is_in_box z l c ≡ true) v.is box in
+          let inside : is_in_box (vector_point v.rest.cells.items (next v.rest.line) response v.ids) l c ≡ true =
+          subst (λ (z : Point). is_in_box z l c ≡ true) v.is box in
           let parts_of_box = both (nat_le (next v.rest.line) l && nat_le l (next v.rest.line)) (nat_le 0 c && nat_le c 3) inside in
           let lines = both (nat_le (next v.rest.line) l) (nat_le l (next v.rest.line)) parts_of_box.0 in
           let counts = both (nat_le 0 c) (nat_le c 3) parts_of_box.1 in
@@ -383,15 +416,18 @@ module _ (image : Flash) (p : Program) (entry : Entry) (found : Found) (parts : 
           let there : slice_get parts.points.items id ≡ Some (point_of o.x o.ids) = at ∙ ap (λ z. Some z) o.is in
           record {
             x = o.x;
-            is = (λ j. instance_at cert id (sym same j) (sym none j)) ∙ own_instance cert id o.x o.ids there (limits o.x node).pair_count (stand o.x node).clock (level o.x node);
+            is = (λ j. instance_at cert id (sym same j) (sym none j)) ∙ own_instance cert id o.x o.ids there (limits o.x node).pair_count
+                (stand o.x node).clock (level o.x node);
             node = node;
             pc = sym (ap (λ (z : Point). z.pc) o.is);
-            named = succeeded o.x point.next.items (of.named.own o.place id o.x point (slice_get_within found.nodes.keys o.place o.x o.node) o.node o.number o.low at);
+            named = succeeded o.x point.next.items (of.named.own o.place id o.x point (slice_get_within found.nodes.keys o.place o.x o.node)
+                o.node o.number o.low at);
           }
 
   is_rest : (rest : Rest) → Contains parts.rests.items rest → IsRestOf found cert rest
   is_rest rest has =
-      let at : slice_get parts.rests.items has.0 ≡ Some rest = slice_get-get_or parts.rests.items has.0 rest has.1 ∙ ap (λ r. Some r) has.2 in
+      let at : slice_get parts.rests.items has.0 ≡ Some rest = slice_get-get_or parts.rests.items has.0 rest has.1 ∙ ap (λ r. Some r)
+      has.2 in
       let o = of_return 0 0 found.returns.items has.0 rest (among_rests has.0 rest at) in
       let line : o.place ≡ rest.line = (let l = o.is_line in omega arith) in
       let vector : has.0 ≡ rest.vector = (let v = o.is_vector in omega arith) in
@@ -419,15 +455,23 @@ module _ (image : Flash) (p : Program) (entry : Entry) (found : Found) (parts : 
   entry_lies =
       let e = of.entry_number in
       subst (λ z. lies_in_point cert parts.entry.id z ≡ true) (sym enters_start)
-      (lies cert parts.entry.id (entry_instance_at entry 1) (entry_instance_at entry 1) (known e.place parts.entry.id (entry_instance_at entry 1) e.node e.is) (inside_self (entry_instance_at entry 1)))
+      (lies cert parts.entry.id (entry_instance_at entry 1) (entry_instance_at entry 1)
+      (known e.place parts.entry.id (entry_instance_at entry 1) e.node e.is) (inside_self (entry_instance_at entry 1)))
 
   some_rest : parts.entry.kind ≡ Main → (rest : Rest) × Contains parts.rests.items rest
   some_rest main =
       let r = returns (entry_instance_at entry 1) entering.start (sym (ap (λ (z : Entry). z.kind) of.enters) ∙ main) in
       let one = rest_of_line 0 0 found.returns.items r.0 r.1 r.2 in
       let among = rest_among (rests_of found.returns.items) (0 + r.0) one.rest one.is in
-      let at : slice_get parts.rests.items among.0 ≡ Some one.rest = ap (λ rs. slice_get rs among.0) of.rests ∙ among.1 in
-      (one.rest, (among.0, slice_get_within parts.rests.items among.0 one.rest at, get_or_from_slice_get parts.rests.items among.0 one.rest one.rest at))
+      let at : slice_get parts.rests.items among.0 ≡ Some one.rest = ap (λ rs. slice_get rs among.0) of.rests ∙ among.1 in (
+        one.rest,
+        (
+          among.0,
+          slice_get_within parts.rests.items among.0 one.rest at,
+          get_or_from_slice_get parts.rests.items among.0 one.rest
+              one.rest at,
+        ),
+      )
 
   are_points : ArePointsOf image p found cert
   are_points = record { points = stands_for; rests = is_rest; entry = entry_lies; enters = some_rest }
@@ -446,10 +490,12 @@ module _ (image : Flash) (p : Program) (entry : Entry) (found : Found) (parts : 
       vector_number : (n : ℕ) (rest : Rest) → slice_get parts.rests.items n ≡ Some rest → Among of.numbers n
       vector_number n rest at =
           let node = first n 0 rest at (omega arith) in
-          let m = there_is of.numbers node.0 (let w = slice_get_within found.nodes.keys node.0 (first_after p parts.schedule rest 0) node.1 in let same = of.numbered.lengths in omega arith) in
+          let m = there_is of.numbers node.0 (let w = slice_get_within found.nodes.keys node.0 (first_after p parts.schedule rest 0)
+          node.1 in let same = of.numbered.lengths in omega arith) in
           (node.0, m.1 ∙ ap (λ k. Some k) (by m.0 (of.numbered.each node.0 m.0 (first_after p parts.schedule rest 0) node.1 m.1)))
         where
-          by : (m : ℕ) → Numbered response (uniform p.lines) parts.rests.items (length parts.points.items) m (first_after p parts.schedule rest 0) → m ≡ n
+          by : (m : ℕ) → Numbered response (uniform p.lines) parts.rests.items (length parts.points.items) m
+              (first_after p parts.schedule rest 0) → m ≡ n
           by m (inl v) =
               let same : next v.rest.line ≡ next rest.line = v.after.line ∙ same_next rest.line in
               let line = one_next p.lines v.rest.line rest.line (rest_line m v.rest v.there) (rest_line n rest at) same in
@@ -466,13 +512,15 @@ module _ (image : Flash) (p : Program) (entry : Entry) (found : Found) (parts : 
   some_point : 1 ≤ length parts.points.items
   some_point =
       let e = of.entry_number in
-      let below = numbers_below response (uniform p.lines) parts.rests.items found.nodes.keys of.numbers (length parts.points.items) of.numbered e.place parts.entry.id e.is in
+      let below = numbers_below response (uniform p.lines) parts.rests.items found.nodes.keys of.numbers (length parts.points.items)
+      of.numbered e.place parts.entry.id e.is in
       omega arith
 
   cells_fit : (k : ℕ) (rest : Rest) → slice_get parts.rests.items k ≡ Some rest → spans_fit (tracked p.head Handler) rest.cells.items ≡ true
   cells_fit k rest at = (limits (first_after p parts.schedule rest 0) (first k 0 rest at (omega arith))).cells
 
-  point_fits : (id : ℕ) (point : Point) → slice_get parts.points.items id ≡ Some point → PointFits p.head p.lines (length parts.points.items) point
+  point_fits : (id : ℕ) (point : Point) → slice_get parts.points.items id ≡ Some point → PointFits p.head p.lines
+      (length parts.points.items) point
   point_fits id point at = ⊎_elim vector own (which id point at)
     where
       vector : IsVector id point → PointFits p.head p.lines (length parts.points.items) point
@@ -480,18 +528,23 @@ module _ (image : Flash) (p : Program) (entry : Entry) (found : Found) (parts : 
           let small = few_clocks p.head.irq in
           let names = subst (λ (z : Point). NamesFit (length parts.points.items) z.next.items) v.is (of.points.names id point at) in
           subst (PointFits p.head p.lines (length parts.points.items)) (sym v.is)
-          (vector_fits p (length parts.points.items) v.rest.cells.items (next v.rest.line) response v.ids (next_below p.lines v.rest.line (rest_line id v.rest v.at)) (omega arith) (cells_fit id v.rest v.at) (of.points.vectors id v.rest v.at).ordered names)
+          (vector_fits p (length parts.points.items) v.rest.cells.items (next v.rest.line) response v.ids
+          (next_below p.lines v.rest.line (rest_line id v.rest v.at)) (omega arith) (cells_fit id v.rest v.at)
+          (of.points.vectors id v.rest v.at).ordered names)
 
       own : IsOwn id point → PointFits p.head p.lines (length parts.points.items) point
       own o =
           let node : Among found.nodes.keys o.x = (o.place, o.node) in
           let names = subst (λ (z : Point). NamesFit (length parts.points.items) z.next.items) o.is (of.points.names id point at) in
-          subst (PointFits p.head p.lines (length parts.points.items)) (sym o.is) (own_fits p (length parts.points.items) o.x o.ids (stand o.x node) (limits o.x node) o.ordered names)
+          subst (PointFits p.head p.lines (length parts.points.items)) (sym o.is) (own_fits p (length parts.points.items) o.x o.ids
+          (stand o.x node) (limits o.x node) o.ordered names)
 
   few_instances : (id : ℕ) (point : Point) → slice_get parts.points.items id ≡ Some point → instances_of point ≤ 4
   few_instances id point at = ⊎_elim
-      (λ v. subst (λ (z : Point). instances_of z ≤ 4) (sym v.is) (let l = next v.rest.line in let none : l - l ≡ 0 = omega arith in subst (λ n. (n + 1) * 4 ≤ 4) (sym none) (omega arith)))
-      (λ o. subst (λ (z : Point). instances_of z ≤ 4) (sym o.is) (let l = o.x.line in let none : l - l ≡ 0 = omega arith in subst (λ n. (n + 1) * 1 ≤ 4) (sym none) (omega arith)))
+      (λ v. subst (λ (z : Point). instances_of z ≤ 4) (sym v.is) (let l = next v.rest.line in let none : l - l ≡ 0 = omega arith in
+      subst (λ n. (n + 1) * 4 ≤ 4) (sym none) (omega arith)))
+      (λ o. subst (λ (z : Point). instances_of z ≤ 4) (sym o.is) (let l = o.x.line in let none : l - l ≡ 0 = omega arith in
+      subst (λ n. (n + 1) * 1 ≤ 4) (sym none) (omega arith)))
       (which id point at)
 
   rest_fits : (k : ℕ) (rest : Rest) → slice_get parts.rests.items k ≡ Some rest → RestFits p.head p.lines (length parts.points.items) rest
@@ -501,12 +554,16 @@ module _ (image : Flash) (p : Program) (entry : Entry) (found : Found) (parts : 
       let some = of.numbered.some in
       let vector = o.is_vector in
       let line : o.place ≡ rest.line = (let l = o.is_line in omega arith) in
-      let quiet = laws.quiet image p found parts.schedule rest.line o.noted fits ended made (rest_line k rest at) (subst (λ l. ReturnAt found.returns.items l o.noted) line o.there) in
+      let quiet = laws.quiet image p found parts.schedule rest.line o.noted fits ended made (rest_line k rest at)
+      (subst (λ l. ReturnAt found.returns.items l o.noted) line o.there) in
       record {
         line = rest_line k rest at;
         clock = subst (λ c. c < 1820) (sym o.is_clock) quiet.in_line;
         vector = omega arith;
-        cells = record { ranges = all_of (RangeFits 255) rest.cells.items (of.points.vectors k rest at).ordered; within = cells_fit k rest at };
+        cells = record {
+          ranges = all_of (RangeFits 255) rest.cells.items (of.points.vectors k rest at).ordered;
+          within = cells_fit k rest at;
+        };
       }
 
   kind_same : (k : Kind) (id : ℕ) → EntryKindFits k entry → EntryKindFits k (record entry { id = id })
@@ -524,26 +581,38 @@ module _ (image : Flash) (p : Program) (entry : Entry) (found : Found) (parts : 
         pc = entering.pc;
         line = (let zero_line = entering.line in omega arith);
         clock = (let zero_clock = entering.clock in omega arith);
-        facts = record { registers = f.registers; ranges = f.ranges; flag_count = f.flag_count; flags = f.flags; slots = f.slots; stack = f.stack; cells = f.cells };
+        facts = record {
+          registers = f.registers;
+          ranges = f.ranges;
+          flag_count = f.flag_count;
+          flags = f.flags;
+          slots = f.slots;
+          stack = f.stack;
+          cells = f.cells;
+        };
       }
 
   -- among the lines of the schedule, which are the program's
-  fits_lines : (n : ℕ) → p.lines ≡ n → RestsFit p.head n (length parts.points.items) parts.rests.items × EntryFits p.head n (length parts.points.items) parts.entry × PointsFit p.head n parts.points.items
-  fits_lines n same = subst (λ n. RestsFit p.head n (length parts.points.items) parts.rests.items × EntryFits p.head n (length parts.points.items) parts.entry × PointsFit p.head n parts.points.items) same (
-    record {
-      few = few_of found.returns.items parts.rests.items p.lines of.rests ended.lines;
-      each = all_of (RestFits p.head p.lines (length parts.points.items)) parts.rests.items rest_fits;
-      rise = ap (λ rs. rises (map (λ r. r.line) rs)) of.rests ∙ rests_rise 0 0 0 found.returns.items (omega arith);
-    },
-    subst (EntryFits p.head p.lines (length parts.points.items)) (sym of.enters)
-        (entry_fits parts.entry.id (let e = of.entry_number in numbers_below response (uniform p.lines) parts.rests.items found.nodes.keys of.numbers (length parts.points.items) of.numbered e.place parts.entry.id e.is)),
-    record {
-      some = some_point;
-      few = omega (arith, few_points);
-      each = all_of (PointFits p.head p.lines (length parts.points.items)) parts.points.items point_fits;
-      instances = (let sum = sum_few instances_of parts.points.items few_instances in omega (arith, few_points));
-    },
-  )
+  fits_lines : (n : ℕ) → p.lines ≡ n → RestsFit p.head n (length parts.points.items) parts.rests.items × EntryFits p.head n
+      (length parts.points.items) parts.entry × PointsFit p.head n parts.points.items
+  fits_lines n same = subst (λ n. RestsFit p.head n (length parts.points.items) parts.rests.items × EntryFits p.head n
+      (length parts.points.items) parts.entry × PointsFit p.head n parts.points.items) same (
+        record {
+          few = few_of found.returns.items parts.rests.items p.lines of.rests ended.lines;
+          each = all_of (RestFits p.head p.lines (length parts.points.items)) parts.rests.items rest_fits;
+          rise = ap (λ rs. rises (map (λ r. r.line) rs)) of.rests ∙ rests_rise 0 0 0 found.returns.items (omega arith);
+        },
+        subst (EntryFits p.head p.lines (length parts.points.items)) (sym of.enters)
+            (entry_fits parts.entry.id (let e = of.entry_number in numbers_below response (uniform p.lines) parts.rests.items
+            found.nodes.keys
+            of.numbers (length parts.points.items) of.numbered e.place parts.entry.id e.is)),
+        record {
+          some = some_point;
+          few = omega (arith, few_points);
+          each = all_of (PointFits p.head p.lines (length parts.points.items)) parts.points.items point_fits;
+          instances = (let sum = sum_few instances_of parts.points.items few_instances in omega (arith, few_points));
+        },
+      )
 
   pub well_formed : WellFormed cert
   well_formed =
@@ -551,4 +620,5 @@ module _ (image : Flash) (p : Program) (entry : Entry) (found : Found) (parts : 
       record { head = fits.head; schedule = schedule_fits; rests = all.0; entry = all.1; points = all.2 }
 
   pub accepted : Accepts image cert
-  accepted = laws.accepts image p found cert fits ended (record { head = refl; schedule = made; rests = all_in found.returns.items parts.rests.items of.rests }) schedule_fits are_points
+  accepted = laws.accepts image p found cert fits ended
+      (record { head = refl; schedule = made; rests = all_in found.returns.items parts.rests.items of.rests }) schedule_fits are_points

@@ -1,5 +1,6 @@
 -- How many results an instance has: at most 16, and the handler's first states at most two.
-use Rattle.std.proofs.Common.{◌≡◌, ◌∙◌, sym, ap, refl, arith, ℕ, zero, suc, ◌+◌, ◌-◌, ◌<◌, ◌≤◌, Bool, true, false, List, [], ◌∷◌, ◌++◌, length, length-append, map, Option, Some, None, Ok, Err, subst, if◌then◌else◌}
+use Rattle.std.proofs.Common.{◌≡◌, ◌∙◌, sym, ap, refl, arith, ℕ, zero, suc, ◌+◌, ◌-◌, ◌<◌, ◌≤◌, Bool, true, false, List, [], ◌∷◌, ◌++◌}
+use Rattle.std.proofs.Common.{length, length-append, map, Option, Some, None, Ok, Err, subst, if◌then◌else◌}
 use Rattle.std.specs.Prelude.{◌&&◌, ◌||◌, nat_le, nat_lt}
 use Rattle.std.proofs.lemmas.Bool.Decides.{nat_tests}
 use Rattle.std.proofs.lemmas.List.{length-map}
@@ -31,7 +32,8 @@ use Rattle.uz_search.proofs.OneResult.{exits_at, one_result, steps}
 use Rattle.uz_paths.specs.Linked.{HasFew}
 
 -- an instance that has results isn't refused
-pub ok_or_err : (image : Flash) (p : Program) (x : Instance) (a : Next) (why : Fail) → After image p x (Ok a) → After image p x (Err why) → ⊥
+pub ok_or_err : (image : Flash) (p : Program) (x : Instance) (a : Next) (why : Fail) → After image p x (Ok a) → After image p x (Err why)
+    → ⊥
 ok_or_err image p x a why h k = let same = one_result image p x (Ok a) (Err why) h k in cc
 
 count_from : (a n : ℕ) → length (numbers_from a n) ≡ n
@@ -46,7 +48,8 @@ not_refused : (b : Bool) (why : Fail) (later : Option Fail) → refuse_if b why 
 not_refused true why later h = absurd (cc)
 not_refused false why later h = (refl, h)
 
-pcs_few : (target : JumpTarget) (following most : ℕ) (x : Instance) → 1 ≤ most → AimsFew most x → target_fails target x ≡ false → length (jump_pcs target following x) ≤ most
+pcs_few : (target : JumpTarget) (following most : ℕ) (x : Instance) → 1 ≤ most → AimsFew most x → target_fails target x ≡ false
+    → length (jump_pcs target following x) ≤ most
 pcs_few (Absolute k) following most x some aims h = some
 pcs_few (Relative k) following most x some aims h = some
 pcs_few Indirect following most x some aims h =
@@ -54,12 +57,14 @@ pcs_few Indirect following most x some aims h =
     let count = count_from (pair_range x 30).lo (suc (pair_range x 30).hi - (pair_range x 30).lo) in
     omega arith
 
-branch_few : (d : Option Bool) (flag : ℕ) (set : Bool) (offset : ℕ) (clocks : Outcome → ℕ) (following : ℕ) (x : Instance) → length (exits_of (Branch flag set offset) clocks following x (choices d outcome.Taken)) ≤ 2
+branch_few : (d : Option Bool) (flag : ℕ) (set : Bool) (offset : ℕ) (clocks : Outcome → ℕ) (following : ℕ) (x : Instance)
+    → length (exits_of (Branch flag set offset) clocks following x (choices d outcome.Taken)) ≤ 2
 branch_few (Some true) flag set offset clocks following x = omega arith
 branch_few (Some false) flag set offset clocks following x = omega arith
 branch_few None flag set offset clocks following x = omega arith
 
-skip_few : (d : Option Bool) (test : SkipTest) (o : Outcome) (clocks : Outcome → ℕ) (following : ℕ) (x : Instance) → length (exits_of (SkipIf test) clocks following x (choices d o)) ≤ 2
+skip_few : (d : Option Bool) (test : SkipTest) (o : Outcome) (clocks : Outcome → ℕ) (following : ℕ) (x : Instance)
+    → length (exits_of (SkipIf test) clocks following x (choices d o)) ≤ 2
 skip_few (Some true) test o clocks following x = omega arith
 skip_few (Some false) test o clocks following x = omega arith
 skip_few None test o clocks following x = omega arith
@@ -68,10 +73,13 @@ length_of_map : {A B : Type 0} (f : A → B) (xs : List A) → length (map f xs 
 length_of_map f [] = refl
 length_of_map f (x ∷ xs) = ap suc (length_of_map f xs)
 
-exits_few : (image : Flash) (head : Head) (e : Effect) (clocks : Outcome → ℕ) (following most : ℕ) (x : Instance) → 2 ≤ most → AimsFew most x → fail_of head e x ≡ None
+exits_few : (image : Flash) (head : Head) (e : Effect) (clocks : Outcome → ℕ) (following most : ℕ) (x : Instance) → 2 ≤ most
+    → AimsFew most x → fail_of head e x ≡ None
     → length (exits_of e clocks following x (outcomes image following e x)) ≤ most
-exits_few image head (Branch flag set offset) clocks following most x some aims fine = let h = branch_few (decided (flag_of_kind x flag) set) flag set offset clocks following x in omega arith
-exits_few image head (SkipIf test) clocks following most x some aims fine = let h = skip_few (test_decides test x) test (skip_outcome image following) clocks following x in omega arith
+exits_few image head (Branch flag set offset) clocks following most x some aims fine = let h =
+    branch_few (decided (flag_of_kind x flag) set) flag set offset clocks following x in omega arith
+exits_few image head (SkipIf test) clocks following most x some aims fine = let h = skip_few (test_decides test x) test
+    (skip_outcome image following) clocks following x in omega arith
 exits_few image head (Jump target call) clocks following most x some aims fine =
     let stack = not_refused _ _ _ fine in
     let aimed = not_refused (target_fails target x) _ _ stack.1 in
@@ -105,7 +113,8 @@ few_results image p x = few_by image p x 16 (omega arith) aims
         either_false false b e = (refl, e)
 
 -- of the handler's first states nothing is known of Z, so that an indirect jump is refused
-pub few_entries : (image : Flash) (p : Program) (cells : List Ends) (line clock level : ℕ) → HasFew image p (handler_entry cells line clock level) 2
+pub few_entries : (image : Flash) (p : Program) (cells : List Ends) (line clock level : ℕ) → HasFew image p
+    (handler_entry cells line clock level) 2
 few_entries image p cells line clock level = few_by image p (handler_entry cells line clock level) 2 (omega arith) (λ h. absurd (aims h))
   where
     aims : target_fails Indirect (handler_entry cells line clock level) ≡ false → ⊥

@@ -27,7 +27,8 @@ use Rattle.uz_paths.specs.Finding.{instance_limit, Cause, NoCause, Licensed, IsF
 use Rattle.uz_paths.specs.ProgramOf.{IsProgramOf, start_entry, entry_with}
 use Rattle.uz_paths.proofs.RestLemmas.{is_return}
 
-pub found_by : (image : FinMap nat_cmp ℕ) (p : Program) (entry : Entry) (found : Found) (parts : Parts) (cert : Cert) → cert ≡ cert_of p parts → ArePartsOf image p entry found parts → IsEnded image p found
+pub found_by : (image : FinMap nat_cmp ℕ) (p : Program) (entry : Entry) (found : Found) (parts : Parts) (cert : Cert) → cert ≡ cert_of p
+    parts → ArePartsOf image p entry found parts → IsEnded image p found
     → ((x : Instance) → Among found.nodes.keys x → OnTrail image p x) → IsFoundBy image p entry cert
 found_by image p entry found parts cert is a ended trails = subst (IsFoundBy image p entry) (sym is) (record {
   head = refl;
@@ -37,17 +38,20 @@ found_by image p entry found parts cert is a ended trails = subst (IsFoundBy ima
   rests = is_return image p found parts.rests.items a.rests ended trails;
 })
 
-fact_part : (image : FinMap nat_cmp ℕ) (irq : Response) (hints : List SourceHint) (i : ℕ) (h : SourceHint) → IsFine image irq hints i h → FactPart h
+fact_part : (image : FinMap nat_cmp ℕ) (irq : Response) (hints : List SourceHint) (i : ℕ) (h : SourceHint) → IsFine image irq hints i h
+    → FactPart h
 fact_part image irq hints i (Start kind at) f = tt
 fact_part image irq hints i (Lines lines fall) f = tt
 fact_part image irq hints i (Stack lo hi main handler) f = tt
 fact_part image irq hints i (Cell at owner lo hi first) f = tt
 fact_part image irq hints i (Fact at place lo hi) f = (f.order, f.there, f.byte)
 
-pub facts_fine : (image : FinMap nat_cmp ℕ) (irq : Response) (hints : List SourceHint) (r : Reading) → IsReading image irq hints r → FactsFine hints
+pub facts_fine : (image : FinMap nat_cmp ℕ) (irq : Response) (hints : List SourceHint) (r : Reading) → IsReading image irq hints r
+    → FactsFine hints
 facts_fine image irq hints r is i h there = fact_part image irq hints i h (is.fine i h (slice_get_within hints i h there) there)
 
-pub licensed : (image : FinMap nat_cmp ℕ) (irq : Response) (hints : List SourceHint) (p : Program) (e : NotFound) → IsProgramOf irq hints p → Refusal image p instance_limit e → Cause image irq hints e
+pub licensed : (image : FinMap nat_cmp ℕ) (irq : Response) (hints : List SourceHint) (p : Program) (e : NotFound) → IsProgramOf irq hints p
+    → Refusal image p instance_limit e → Cause image irq hints e
 licensed image irq hints p (Stuck trail why) of shows = record { program = p; of = of; shows = shows }
 licensed image irq hints p (Split first second) of shows = record { program = p; of = of; shows = shows }
 licensed image irq hints p (Full count) of shows = record { program = p; of = of; shows = shows }
@@ -58,20 +62,24 @@ licensed image irq hints p Memory of shows = tt
 some_is : {A : Type 0} (a b : A) → Some a ≡ Some b → a ≡ b
 some_is a b e = cc
 
-pub asked : (image : FinMap nat_cmp ℕ) (irq : Response) (hints : List SourceHint) (r : Reading) (p : Program) (entry : Entry) (cert : Cert) → IsReading image irq hints r → IsProgramOf irq hints p → p.head ≡ r.head
+pub asked : (image : FinMap nat_cmp ℕ) (irq : Response) (hints : List SourceHint) (r : Reading) (p : Program) (entry : Entry) (cert : Cert)
+    → IsReading image irq hints r → IsProgramOf irq hints p → p.head ≡ r.head
     → entry ≡ entry_with r.registers r.head r.start 0 → IsFoundBy image p entry cert → IsAsked image irq hints cert
 asked image irq hints r p entry cert is of head e found =
     let start : r.start ≡ of.start = some_is r.start of.start (sym is.start ∙ of.starts_at) in
     let same : entry ≡ start_entry hints p.head of.start 0 =
-    e ∙ (ap (λ rs. entry_with rs r.head r.start 0) is.registers ∙ (ap (λ h. start_entry hints h r.start 0) (sym head) ∙ ap (λ s. start_entry hints p.head s 0) start)) in
+    e ∙ (ap (λ rs. entry_with rs r.head r.start 0) is.registers ∙ (ap (λ h. start_entry hints h r.start 0) (sym head)
+    ∙ ap (λ s. start_entry hints p.head s 0) start)) in
     record { program = p; of = of; found = subst (λ x. IsFoundBy image p x cert) same found }
 
-pub ok_asked : (image : FinMap nat_cmp ℕ) (irq : Response) (hints : List SourceHint) (r : Reading) (p : Program) (entry : Entry) (answer : Result Cert NotFound) → IsReading image irq hints r → IsProgramOf irq hints p → p.head ≡ r.head
+pub ok_asked : (image : FinMap nat_cmp ℕ) (irq : Response) (hints : List SourceHint) (r : Reading) (p : Program) (entry : Entry)
+    (answer : Result Cert NotFound) → IsReading image irq hints r → IsProgramOf irq hints p → p.head ≡ r.head
     → entry ≡ entry_with r.registers r.head r.start 0 → IfOk answer (IsFoundBy image p entry) → IfOk answer (IsAsked image irq hints)
 ok_asked image irq hints r p entry (Ok cert) is of head e found = asked image irq hints r p entry cert is of head e found
 ok_asked image irq hints r p entry (Err why) is of head e found = tt
 
-pub err_cause : (image : FinMap nat_cmp ℕ) (irq : Response) (hints : List SourceHint) (p : Program) (answer : Result Cert NotFound) → IsProgramOf irq hints p
+pub err_cause : (image : FinMap nat_cmp ℕ) (irq : Response) (hints : List SourceHint) (p : Program) (answer : Result Cert NotFound)
+    → IsProgramOf irq hints p
     → IfErr answer (Refusal image p instance_limit) → IfErr answer (Cause image irq hints)
 err_cause image irq hints p (Ok cert) of shows = tt
 err_cause image irq hints p (Err e) of shows = licensed image irq hints p e of shows
@@ -80,7 +88,8 @@ pub no_hint : (r : Reading) (index : ℕ) → Ok r ≡ Err index → ⊥
 no_hint r index e = cc
 
 -- without a cause there is a certificate, or memory lacks
-pub complete_answer : (image : FinMap nat_cmp ℕ) (irq : Response) (hints : List SourceHint) (answer : Result Cert NotFound) → IfErr answer (Cause image irq hints) → NoCause image irq hints → IsOk answer ⊎ (answer ≡ Err Memory)
+pub complete_answer : (image : FinMap nat_cmp ℕ) (irq : Response) (hints : List SourceHint) (answer : Result Cert NotFound)
+    → IfErr answer (Cause image irq hints) → NoCause image irq hints → IsOk answer ⊎ (answer ≡ Err Memory)
 complete_answer image irq hints (Ok cert) cause none = inl refl
 complete_answer image irq hints (Err (Stuck trail why)) cause none = absurd (none (Stuck trail why) (λ h. cc) cause)
 complete_answer image irq hints (Err (Split first second)) cause none = absurd (none (Split first second) (λ h. cc) cause)

@@ -14,7 +14,8 @@ use Rattle.uz_search.proofs.Lists.{in_map, of_map}
 use Rattle.uz_paths.specs.Finding.{IsFoundBy, IsReturn}
 
 -- a return is told of but the vector's number
-again : (image : FinMap nat_cmp ℕ) (p : Program) (a b : Rest) → rest_unnumbered a ≡ rest_unnumbered b → IsReturn image p a → IsReturn image p b
+again : (image : FinMap nat_cmp ℕ) (p : Program) (a b : Rest) → rest_unnumbered a ≡ rest_unnumbered b → IsReturn image p a → IsReturn image
+    p b
 again image p a b same r = record {
   at = r.at;
   on_trail = r.on_trail;
@@ -25,7 +26,8 @@ again image p a b same r = record {
   cells = sym (ap (λ (z : Rest). z.cells) same) ∙ r.cells;
 }
 
-pub found_joined : (image : FinMap nat_cmp ℕ) (p : Program) (entry : Entry) (a b : Cert) → SameButPoints a b → IsFoundBy image p entry a → IsFoundBy image p entry b
+pub found_joined : (image : FinMap nat_cmp ℕ) (p : Program) (entry : Entry) (a b : Cert) → SameButPoints a b → IsFoundBy image p entry a
+    → IsFoundBy image p entry b
 found_joined image p entry a b same f = record {
   head = sym same.head ∙ f.head;
   lines = sym (ap (λ (s : Schedule). length s.lines) same.schedule) ∙ f.lines;
@@ -37,6 +39,12 @@ found_joined image p entry a b same f = record {
     rests : (rest : Rest) → Contains b.rests rest → IsReturn image p rest
     rests rest has =
         let at : slice_get b.rests has.0 ≡ Some rest = slice_get-get_or b.rests has.0 rest has.1 ∙ ap (λ r. Some r) has.2 in
-        let there : slice_get (map rest_unnumbered a.rests) has.0 ≡ Some (rest_unnumbered rest) = ap (λ rs. slice_get rs has.0) same.rests ∙ in_map rest_unnumbered b.rests has.0 rest at in
+        let there : slice_get (map rest_unnumbered a.rests) has.0 ≡ Some (rest_unnumbered rest) = ap (λ rs. slice_get rs has.0) same.rests
+        ∙ in_map rest_unnumbered b.rests has.0 rest at in
         let old = of_map rest_unnumbered a.rests has.0 (rest_unnumbered rest) there in
-        again image p old.0 rest old.2 (f.rests old.0 (has.0, slice_get_within a.rests has.0 old.0 old.1, get_or_from_slice_get a.rests has.0 old.0 old.0 old.1))
+        again image p old.0 rest old.2 (f.rests old.0 (
+          has.0,
+          slice_get_within a.rests has.0 old.0 old.1,
+          get_or_from_slice_get a.rests
+              has.0 old.0 old.0 old.1,
+        ))

@@ -1,5 +1,6 @@
 -- Names of successors: one more, and points of which one names more.
-use Rattle.std.proofs.Common.{◌≡◌, ◌≢◌, ◌∙◌, sym, ap, refl, arith, inl, inr, ⊎_elim, ℕ, zero, suc, ◌+◌, ◌<◌, ◌≤◌, Bool, true, false, List, [], ◌∷◌, ◌++◌, length, length-append, take, drop, set, get_or, add-one, cond, subst}
+use Rattle.std.proofs.Common.{◌≡◌, ◌≢◌, ◌∙◌, sym, ap, refl, arith, inl, inr, ⊎_elim, ℕ, zero, suc, ◌+◌, ◌<◌, ◌≤◌, Bool, true, false, List}
+use Rattle.std.proofs.Common.{[], ◌∷◌, ◌++◌, length, length-append, take, drop, set, get_or, add-one, cond, subst}
 use Rattle.std.specs.Prelude.{Option, Some, None, slice_get, ◌⊎◌, ◌&&◌, not, nat_eq, nat_lt, nat_le, insert, position, All, if◌then◌else◌}
 use Rattle.std.specs.List.{position_or_len}
 use Rattle.std.proofs.Math.Seq.{take-suc}
@@ -18,7 +19,8 @@ use Rattle.uz_schedule.specs.declared.states.Rest.{Rest}
 use Rattle.uz_search.specs.declared.program.Program.{Program}
 use Rattle.uz_search.specs.Following.{Among, Flash}
 use Rattle.uz_search.specs.Widenings.{widened}
-use Rattle.uz_paths.specs.Linked.{IsVectorAt, IsPointAt, HasName, NamesFit, NamesMore, NamesResults, NamesEntries, NamesVectors, NamesOwn, ArePoints, Renamed}
+use Rattle.uz_paths.specs.Linked.{IsVectorAt, IsPointAt, HasName, NamesFit, NamesMore, NamesResults, NamesEntries, NamesVectors, NamesOwn}
+use Rattle.uz_paths.specs.Linked.{ArePoints, Renamed}
 use Rattle.uz_paths.specs.Points.{AreOrdered, IsOrdered, point_of, vector_point}
 use Rattle.uz_paths.specs.Successors.{count_below, is_number, with_number}
 use Rattle.uz_paths.specs.Numbers.{IsVectorOf, AreNumbers}
@@ -38,14 +40,16 @@ all_inserted : (count n place : ℕ) (ms : List ℕ) → n < count → All (λ i
 all_inserted count n zero ms less all = All-cons (λ id. id < count) n ms less all
 all_inserted count n (suc place) [] less all = All-cons (λ id. id < count) n [] less all
 all_inserted count n (suc place) (m ∷ ms) less all =
-    All-cons (λ id. id < count) m (insert ms place n) (all 0 m (omega arith)) (all_inserted count n place ms less (λ k d within. all (suc k) d (omega arith)))
+    All-cons (λ id. id < count) m (insert ms place n) (all 0 m (omega arith))
+    (all_inserted count n place ms less (λ k d within. all (suc k) d (omega arith)))
 
 both : (a b : Bool) → (a && b) ≡ true → (a ≡ true) × (b ≡ true)
 both true b e = (refl, e)
 both false b e = absurd (cc)
 
 -- in its place, where it isn't there
-rises_inserted : (least n : ℕ) (ms : List ℕ) → rises_from least ms ≡ true → least ≤ n → is_number n (slice_get ms (count_below n ms)) ≡ false → rises_from least (insert ms (count_below n ms) n) ≡ true
+rises_inserted : (least n : ℕ) (ms : List ℕ) → rises_from least ms ≡ true → least ≤ n → is_number n (slice_get ms (count_below n ms))
+    ≡ false → rises_from least (insert ms (count_below n ms) n) ≡ true
 rises_inserted least n [] rise low apart = rises_one least n low
   where
     rises_one : (a b : ℕ) → a ≤ b → (nat_le a b && true) ≡ true
@@ -90,17 +94,21 @@ inserted_kept (x ∷ ms) (suc p) n m zero e = (0, e)
 inserted_kept (x ∷ ms) (suc p) n m (suc i) e = let r = inserted_kept ms p n m i e in (suc r.0, r.1)
 
 -- the place of an element that a test finds
-pub place_some : {A : Type 0} (test : A → Bool) (xs : List A) (x : A) (i : ℕ) → Some i ≡ position test xs → ((y : A) → test y ≡ true → x ≡ y) → slice_get xs i ≡ Some x
+pub place_some : {A : Type 0} (test : A → Bool) (xs : List A) (x : A) (i : ℕ) → Some i ≡ position test xs
+    → ((y : A) → test y ≡ true → x ≡ y) → slice_get xs i ≡ Some x
 place_some test xs x i is same = by (nat_lt (position_or_len test xs) (length xs)) refl is
   where
-    by : (b : Bool) → nat_lt (position_or_len test xs) (length xs) ≡ b → Some i ≡ (if b then Some (position_or_len test xs) else None) → slice_get xs i ≡ Some x
+    by : (b : Bool) → nat_lt (position_or_len test xs) (length xs) ≡ b → Some i ≡ (if b then Some (position_or_len test xs) else None)
+        → slice_get xs i ≡ Some x
     by true e h =
         let within : position_or_len test xs < length xs = grind (arith, nat_tests, e) in
         let place : i ≡ position_or_len test xs = some_is i (position_or_len test xs) h in
-        ap (slice_get xs) place ∙ (slice_get-get_or xs (position_or_len test xs) x within ∙ ap (λ y. Some y) (sym (same (get_or xs (position_or_len test xs) x) (passes_at_first test xs x within))))
+        ap (slice_get xs) place ∙ (slice_get-get_or xs (position_or_len test xs) x within ∙ ap (λ y. Some y)
+        (sym (same (get_or xs (position_or_len test xs) x) (passes_at_first test xs x within))))
     by false e h = absurd (cc)
 
-pub place_none : {A : Type 0} (test : A → Bool) (xs : List A) (x : A) (i : ℕ) → None ≡ position test xs → test x ≡ true → slice_get xs i ≡ Some x → ⊥
+pub place_none : {A : Type 0} (test : A → Bool) (xs : List A) (x : A) (i : ℕ) → None ≡ position test xs → test x ≡ true
+    → slice_get xs i ≡ Some x → ⊥
 place_none test xs x i is passes at = by (nat_lt (position_or_len test xs) (length xs)) refl is
   where
     by : (b : Bool) → nat_lt (position_or_len test xs) (length xs) ≡ b → None ≡ (if b then Some (position_or_len test xs) else None) → ⊥
@@ -113,13 +121,17 @@ place_none test xs x i is passes at = by (nat_lt (position_or_len test xs) (leng
         absurd (cc)
 
 -- one more number
-pub one_named : (count n : ℕ) (ms : List ℕ) → n < count → length ms < 16 → NamesMore count 1 ms (with_number n ms) × Among (with_number n ms) n
+pub one_named : (count n : ℕ) (ms : List ℕ) → n < count → length ms < 16 → NamesMore count 1 ms (with_number n ms)
+    × Among (with_number n ms) n
 one_named count n ms less room = by_tests (is_number n (slice_get ms (count_below n ms))) (nat_lt (length ms) 16) refl refl
   where
     by_tests : (a b : Bool) → is_number n (slice_get ms (count_below n ms)) ≡ a → nat_lt (length ms) 16 ≡ b
-        → NamesMore count 1 ms (cond (not a && b) (insert ms (count_below n ms) n) ms) × Among (cond (not a && b) (insert ms (count_below n ms) n) ms) n
-    by_tests true b e f =
-        (record { kept = λ m h. h; few = omega arith; fits = λ h. h }, (count_below n ms, is_number_there n (slice_get ms (count_below n ms)) e))
+        → NamesMore count 1 ms (cond (not a && b) (insert ms (count_below n ms) n) ms)
+        × Among (cond (not a && b) (insert ms (count_below n ms) n) ms) n
+    by_tests true b e f = (
+      record { kept = λ m h. h; few = omega arith; fits = λ h. h },
+      (count_below n ms, is_number_there n (slice_get ms (count_below n ms)) e),
+    )
     by_tests false false e f = absurd (let no : 16 ≤ length ms = grind (arith, nat_tests, f) in omega arith)
     by_tests false true e f =
         let longer = length-insert ms (count_below n ms) n (below_length n ms) in (
@@ -138,7 +150,8 @@ one_named count n ms less room = by_tests (is_number n (slice_get ms (count_belo
 pub none_more : (count most : ℕ) (ms : List ℕ) → NamesMore count most ms ms
 none_more count most ms = record { kept = λ n h. h; few = omega arith; fits = λ h. h }
 
-pub names_on : (count a b most : ℕ) (ms ns os : List ℕ) → NamesMore count a ms ns → NamesMore count b ns os → a + b ≤ most → NamesMore count most ms os
+pub names_on : (count a b most : ℕ) (ms ns os : List ℕ) → NamesMore count a ms ns → NamesMore count b ns os → a + b ≤ most → NamesMore count
+    most ms os
 names_on count a b most ms ns os h k le = record {
   kept = λ n t. k.kept n (h.kept n t);
   few = let x = h.few in let y = k.few in omega arith;
@@ -149,29 +162,42 @@ pub names_within : (count most bound : ℕ) (ms ns : List ℕ) → NamesMore cou
 names_within count most bound ms ns h le = record { kept = h.kept; few = (let few = h.few in omega arith); fits = h.fits }
 
 -- a name stays
-pub still_named : (nodes : List Instance) (numbers : List ℕ) (y : Instance) (ms ns : List ℕ) → ((n : ℕ) → Among ms n → Among ns n) → HasName nodes numbers y ms → HasName nodes numbers y ns
-still_named nodes numbers y ms ns kept h = record { place = h.place; number = h.number; node = h.node; is = h.is; named = kept h.number h.named }
+pub still_named : (nodes : List Instance) (numbers : List ℕ) (y : Instance) (ms ns : List ℕ) → ((n : ℕ) → Among ms n → Among ns n)
+    → HasName nodes numbers y ms → HasName nodes numbers y ns
+still_named nodes numbers y ms ns kept h = record {
+  place = h.place;
+  number = h.number;
+  node = h.node;
+  is = h.is;
+  named = kept h.number h.named;
+}
 
-pub still_named_all : (image : Flash) (p : Program) (nodes : List Instance) (numbers : List ℕ) (x : Instance) (ms ns : List ℕ) → ((n : ℕ) → Among ms n → Among ns n)
+pub still_named_all : (image : Flash) (p : Program) (nodes : List Instance) (numbers : List ℕ) (x : Instance) (ms ns : List ℕ)
+    → ((n : ℕ) → Among ms n → Among ns n)
     → NamesResults image p nodes numbers x ms → NamesResults image p nodes numbers x ns
-still_named_all image p nodes numbers x ms ns kept h = λ result y after on there. still_named nodes numbers (widened p y) ms ns kept (h result y after on there)
+still_named_all image p nodes numbers x ms ns kept h = λ result y after on there. still_named nodes numbers (widened p y) ms ns kept
+    (h result y after on there)
 
 -- Points
 
-vector_again : (response : ℕ) (lines : Lines) (p q : Point) (rest : Rest) (next later : List ℕ) → q ≡ record p { next = record { items = later } } → p ≡ vector_point rest.cells.items (lines.next rest.line) response next
+vector_again : (response : ℕ) (lines : Lines) (p q : Point) (rest : Rest) (next later : List ℕ)
+    → q ≡ record p { next = record { items = later } } → p ≡ vector_point rest.cells.items (lines.next rest.line) response next
     → q ≡ vector_point rest.cells.items (lines.next rest.line) response later
 vector_again response lines p q rest next later r e = r ∙ ap {A = Point} (λ x. record x { next = record { items = later } }) e
 
-point_again : (p q : Point) (x : Instance) (next later : List ℕ) → q ≡ record p { next = record { items = later } } → p ≡ point_of x next → q ≡ point_of x later
+point_again : (p q : Point) (x : Instance) (next later : List ℕ) → q ≡ record p { next = record { items = later } } → p ≡ point_of x next
+    → q ≡ point_of x later
 point_again p q x next later r e = r ∙ ap {A = Point} (λ y. record y { next = record { items = later } }) e
 
 -- a list after a write at a place
-at_write : {A : Type 0} (xs : List A) (i j : ℕ) (q x : A) → slice_get (set xs i q) j ≡ Some x → i < length xs → ((i ≡ j) × (q ≡ x)) ⊎ ((i ≢ j) × (slice_get xs j ≡ Some x))
+at_write : {A : Type 0} (xs : List A) (i j : ℕ) (q x : A) → slice_get (set xs i q) j ≡ Some x → i < length xs → ((i ≡ j) × (q ≡ x))
+    ⊎ ((i ≢ j) × (slice_get xs j ≡ Some x))
 at_write [] i j q x e h = absurd (omega arith)
 at_write (y ∷ ys) zero zero q x e h = inl (refl, some_is q x e)
 at_write (y ∷ ys) zero (suc j) q x e h = inr (λ f. omega arith, e)
 at_write (y ∷ ys) (suc i) zero q x e h = inr (λ f. omega arith, e)
-at_write (y ∷ ys) (suc i) (suc j) q x e h = ⊎_elim (λ a. inl (ap suc a.0, a.1)) (λ a. inr (λ f. a.0 (omega arith), a.1)) (at_write ys i j q x e (omega arith))
+at_write (y ∷ ys) (suc i) (suc j) q x e h = ⊎_elim (λ a. inl (ap suc a.0, a.1)) (λ a. inr (λ f. a.0 (omega arith), a.1))
+    (at_write ys i j q x e (omega arith))
 
 wrote : {A : Type 0} (xs : List A) (i : ℕ) (q : A) → i < length xs → slice_get (set xs i q) i ≡ Some q
 wrote [] i q h = absurd (omega arith)
@@ -191,8 +217,10 @@ length_write (y ∷ ys) zero q = refl
 length_write (y ∷ ys) (suc i) q = ap suc (length_write ys i q)
 
 -- one point names more
-pub points_again : (response : ℕ) (lines : Lines) (rests : List Rest) (nodes : List Instance) (numbers : List ℕ) (count n : ℕ) (next : List ℕ) (points : List Point) (p q : Point)
-    → ArePoints response lines rests nodes numbers count points → slice_get points n ≡ Some p → Renamed count next p q → ArePoints response lines rests nodes numbers count (set points n q)
+pub points_again : (response : ℕ) (lines : Lines) (rests : List Rest) (nodes : List Instance) (numbers : List ℕ) (count n : ℕ)
+    (next : List ℕ) (points : List Point) (p q : Point)
+    → ArePoints response lines rests nodes numbers count points → slice_get points n ≡ Some p → Renamed count next p q → ArePoints response
+    lines rests nodes numbers count (set points n q)
 points_again response lines rests nodes numbers count n next points p q a there r = record {
   size = length_write points n q ∙ a.size;
   vectors = λ k rest at. vector_cases k rest (a.vectors k rest at) (nat_eq n k) refl;
@@ -203,12 +231,18 @@ points_again response lines rests nodes numbers count n next points p q a there 
     within : n < length points
     within = slice_get_within points n p there
 
-    vector_cases : (k : ℕ) (rest : Rest) → IsVectorAt response lines points k rest → (b : Bool) → nat_eq n k ≡ b → IsVectorAt response lines (set points n q) k rest
+    vector_cases : (k : ℕ) (rest : Rest) → IsVectorAt response lines points k rest → (b : Bool) → nat_eq n k ≡ b → IsVectorAt response lines
+        (set points n q) k rest
     vector_cases k rest v true e =
         let same : n ≡ k = grind (arith, nat_tests, e) in
-        let is : p ≡ vector_point rest.cells.items (lines.next rest.line) response v.next = some_is p _ (sym there ∙ (ap (slice_get points) same ∙ v.is)) in
+        let is : p ≡ vector_point rest.cells.items (lines.next rest.line) response v.next =
+        some_is p _ (sym there ∙ (ap (slice_get points) same ∙ v.is)) in
         let later = vector_again response lines p q rest v.next next r.is is in
-        record { next = next; is = ap (slice_get (set points n q)) (sym same) ∙ (wrote points n q within ∙ ap Some later); ordered = v.ordered }
+        record {
+          next = next;
+          is = ap (slice_get (set points n q)) (sym same) ∙ (wrote points n q within ∙ ap Some later);
+          ordered = v.ordered;
+        }
     vector_cases k rest v false e =
         let apart : n ≢ k = grind (arith, nat_tests, e) in
         record { next = v.next; is = unwritten points n k q _ apart v.is; ordered = v.ordered }
@@ -218,44 +252,58 @@ points_again response lines rests nodes numbers count n next points p q a there 
         let same : n ≡ m = grind (arith, nat_tests, e) in
         let is : p ≡ point_of x v.next = some_is p _ (sym there ∙ (ap (slice_get points) same ∙ v.is)) in
         let later = point_again p q x v.next next r.is is in
-        record { next = next; is = ap (slice_get (set points n q)) (sym same) ∙ (wrote points n q within ∙ ap Some later); ordered = v.ordered }
+        record {
+          next = next;
+          is = ap (slice_get (set points n q)) (sym same) ∙ (wrote points n q within ∙ ap Some later);
+          ordered = v.ordered;
+        }
     own_cases m x v false e =
         let apart : n ≢ m = grind (arith, nat_tests, e) in
         record { next = v.next; is = unwritten points n m q _ apart v.is; ordered = v.ordered }
 
-    name_cases : (k : ℕ) (point : Point) → ((n ≡ k) × (q ≡ point)) ⊎ ((n ≢ k) × (slice_get points k ≡ Some point)) → NamesFit count point.next.items
+    name_cases : (k : ℕ) (point : Point) → ((n ≡ k) × (q ≡ point)) ⊎ ((n ≢ k) × (slice_get points k ≡ Some point)) → NamesFit count
+        point.next.items
     name_cases k point (inl h) = subst (λ x. NamesFit count x.next.items) (sym r.is ∙ h.1) r.fits
     name_cases k point (inr h) = a.names k point h.1
 
 -- one more vector names what follows it
-pub vectors_named : (image : Flash) (p : Program) (s : Schedule) (rests : List Rest) (nodes : List Instance) (numbers : List ℕ) (count k : ℕ) (next : List ℕ) (points : List Point) (old new : Point) (rest : Rest)
-    → k < length points → slice_get rests k ≡ Some rest → NamesVectors image p s rests nodes numbers k points → Renamed count next old new → NamesEntries image p s nodes numbers rest next
+pub vectors_named : (image : Flash) (p : Program) (s : Schedule) (rests : List Rest) (nodes : List Instance) (numbers : List ℕ)
+    (count k : ℕ) (next : List ℕ) (points : List Point) (old new : Point) (rest : Rest)
+    → k < length points → slice_get rests k ≡ Some rest → NamesVectors image p s rests nodes numbers k points → Renamed count next old new
+    → NamesEntries image p s nodes numbers rest next
     → NamesVectors image p s rests nodes numbers (k + 1) (set points k new)
 vectors_named image p s rests nodes numbers count k next points old new rest within at before r names j other point less there is = ⊎_elim
     (λ h.
     let same : rest ≡ other = some_is rest other (sym at ∙ (ap (slice_get rests) h.0 ∙ there)) in
-    subst (λ (z : Point). NamesEntries image p s nodes numbers other z.next.items) (sym r.is ∙ h.1) (subst (λ z. NamesEntries image p s nodes numbers z next) same names))
+    subst (λ (z : Point). NamesEntries image p s nodes numbers other z.next.items) (sym r.is ∙ h.1)
+    (subst (λ z. NamesEntries image p s nodes numbers z next) same names))
     (λ h. let apart = h.0 in before j other point (omega arith) there h.1)
     (at_write points k j new point is within)
 
 -- vectors stay where another point names what follows it
-pub vectors_stay : (image : Flash) (p : Program) (s : Schedule) (rests : List Rest) (nodes : List Instance) (numbers : List ℕ) (n : ℕ) (points : List Point) (new : Point) → length rests ≤ n → n < length points
-    → NamesVectors image p s rests nodes numbers (length rests) points → NamesVectors image p s rests nodes numbers (length rests) (set points n new)
+pub vectors_stay : (image : Flash) (p : Program) (s : Schedule) (rests : List Rest) (nodes : List Instance) (numbers : List ℕ) (n : ℕ)
+    (points : List Point) (new : Point) → length rests ≤ n → n < length points
+    → NamesVectors image p s rests nodes numbers (length rests) points → NamesVectors image p s rests nodes numbers (length rests)
+    (set points n new)
 vectors_stay image p s rests nodes numbers n points new low within before j rest point less there is = ⊎_elim
     (λ h. let same = h.0 in absurd (omega arith))
     (λ h. before j rest point less there h.1)
     (at_write points n j new point is within)
 
 -- one more instance's point names its results
-pub own_named : (image : Flash) (p : Program) (response : ℕ) (lines : Lines) (rests : List Rest) (nodes : List Instance) (numbers : List ℕ) (count i n : ℕ) (next : List ℕ) (points : List Point) (old new : Point) (x : Instance)
-    → AreNumbers response lines rests nodes numbers count → n < length points → slice_get nodes i ≡ Some x → slice_get numbers i ≡ Some n → length rests ≤ n
+pub own_named : (image : Flash) (p : Program) (response : ℕ) (lines : Lines) (rests : List Rest) (nodes : List Instance) (numbers : List ℕ)
+    (count i n : ℕ) (next : List ℕ) (points : List Point) (old new : Point) (x : Instance)
+    → AreNumbers response lines rests nodes numbers count → n < length points → slice_get nodes i ≡ Some x → slice_get numbers i ≡ Some n
+    → length rests ≤ n
     → NamesOwn image p (length rests) nodes numbers i points → Renamed count next old new → NamesResults image p nodes numbers x next
     → NamesOwn image p (length rests) nodes numbers (i + 1) (set points n new)
-own_named image p response lines rests nodes numbers count i n next points old new x are within at number low before r names j m y point less there is above point_is = ⊎_elim
+own_named image p response lines rests nodes numbers count i n next points old new x are within at number low before r names j m y point
+    less there is above point_is = ⊎_elim
     (λ h.
     let place : j ≡ i = are.apart j i m above is (number ∙ ap Some h.0) in
     let same : x ≡ y = some_is x y (sym at ∙ (ap (slice_get nodes) (sym place) ∙ there)) in
-    subst (λ (z : Point). NamesResults image p nodes numbers y z.next.items) (sym r.is ∙ h.1) (subst (λ z. NamesResults image p nodes numbers z next) same names))
+    subst (λ (z : Point). NamesResults image p nodes numbers y z.next.items) (sym r.is ∙ h.1)
+    (subst (λ z. NamesResults image p nodes numbers z next) same names))
     (λ h. before j m y point (earlier h.0) there is above h.1)
     (at_write points n m new point point_is within)
   where
@@ -266,9 +314,11 @@ own_named image p response lines rests nodes numbers count i n next points old n
         (cases_eq j i)
 
 -- an instance whose point is a vector names nothing itself
-pub own_passed : (image : Flash) (p : Program) (rests : List Rest) (nodes : List Instance) (numbers : List ℕ) (i n : ℕ) (points : List Point) → slice_get numbers i ≡ Some n → n < length rests
+pub own_passed : (image : Flash) (p : Program) (rests : List Rest) (nodes : List Instance) (numbers : List ℕ) (i n : ℕ)
+    (points : List Point) → slice_get numbers i ≡ Some n → n < length rests
     → NamesOwn image p (length rests) nodes numbers i points → NamesOwn image p (length rests) nodes numbers (i + 1) points
-own_passed image p rests nodes numbers i n points number low before j m y point less there is above point_is = before j m y point earlier there is above point_is
+own_passed image p rests nodes numbers i n points number low before j m y point less there is above point_is = before j m y point earlier
+    there is above point_is
   where
     earlier : j < i
     earlier = ⊎_elim
@@ -290,7 +340,8 @@ no_points response lines = record {
 }
 
 -- one more point without successors
-names_on_end : (count count' : ℕ) (points : List Point) (p : Point) → count ≤ count' → p.next.items ≡ [] → ((n : ℕ) (q : Point) → slice_get points n ≡ Some q → NamesFit count q.next.items)
+names_on_end : (count count' : ℕ) (points : List Point) (p : Point) → count ≤ count' → p.next.items ≡ []
+    → ((n : ℕ) (q : Point) → slice_get points n ≡ Some q → NamesFit count q.next.items)
     → (n : ℕ) (q : Point) → slice_get (points ++ p ∷ []) n ≡ Some q → NamesFit count' q.next.items
 names_on_end count count' points p le bare names n q at = ⊎_elim
     (λ h. let f = names n q h in record { few = f.few; there = λ k d within. let low = f.there k d within in omega arith; rise = f.rise })
@@ -299,19 +350,28 @@ names_on_end count count' points p le bare names n q at = ⊎_elim
 
 pub vector_more : (response : ℕ) (lines : Lines) (rests : List Rest) (rest : Rest) (points : List Point) (count : ℕ)
     → length rests ≡ count → AreOrdered 255 rest.cells.items → ArePoints response lines rests [] [] count points
-    → ArePoints response lines (rests ++ rest ∷ []) [] [] (count + 1) (points ++ vector_point rest.cells.items (lines.next rest.line) response [] ∷ [])
+    → ArePoints response lines (rests ++ rest ∷ []) [] [] (count + 1) (points ++ vector_point rest.cells.items (lines.next rest.line)
+    response [] ∷ [])
 vector_more response lines rests rest points count same ordered a = record {
-  size = let s = a.size in let l = length-append points (vector_point rest.cells.items (lines.next rest.line) response [] ∷ []) in omega arith;
+  size = let s = a.size in let l = length-append points (vector_point rest.cells.items (lines.next rest.line) response [] ∷ []) in
+      omega arith;
   vectors = λ k r at. ⊎_elim
-      (λ h. let v = a.vectors k r h in record { next = v.next; is = keeps points (vector_point rest.cells.items (lines.next rest.line) response []) _ k v.is; ordered = v.ordered })
+      (λ h. let v = a.vectors k r h in
+      record {
+        next = v.next;
+        is = keeps points (vector_point rest.cells.items (lines.next rest.line) response []) _ k v.is;
+        ordered = v.ordered;
+      })
       (λ h. let s = a.size in let place : k ≡ length points = h.0 ∙ (same ∙ sym s) in record {
         next = [];
-        is = ap (slice_get (points ++ vector_point rest.cells.items (lines.next rest.line) response [] ∷ [])) place ∙ (last_there points _ ∙ ap (λ x. Some (vector_point x.cells.items (lines.next x.line) response [])) h.1);
+        is = ap (slice_get (points ++ vector_point rest.cells.items (lines.next rest.line) response [] ∷ [])) place
+            ∙ (last_there points _ ∙ ap (λ x. Some (vector_point x.cells.items (lines.next x.line) response [])) h.1);
         ordered = subst (λ (z : Rest). AreOrdered 255 z.cells.items) h.1 ordered;
       })
       (at_more rests rest r k at);
   own = λ i n x at number low. absurd (cc);
-  names = names_on_end count (count + 1) points (vector_point rest.cells.items (lines.next rest.line) response []) (omega arith) refl a.names;
+  names = names_on_end count (count + 1) points (vector_point rest.cells.items (lines.next rest.line) response []) (omega arith) refl
+      a.names;
 }
 
 length_some : {A : Type 0} (xs : List A) (i : ℕ) → i ≤ length xs → length (take i xs) ≡ i
@@ -320,13 +380,16 @@ length_some [] (suc i) h = absurd (omega arith)
 length_some (x ∷ xs) zero h = refl
 length_some (x ∷ xs) (suc i) h = ap suc (length_some xs i (omega arith))
 
-pub vectors_next : (response : ℕ) (lines : Lines) (rests : List Rest) (i : ℕ) (d : Rest) (points points' : List Point) → i < length rests → ArePoints response lines (take i rests) [] [] i points
+pub vectors_next : (response : ℕ) (lines : Lines) (rests : List Rest) (i : ℕ) (d : Rest) (points points' : List Point) → i < length rests
+    → ArePoints response lines (take i rests) [] [] i points
     → points' ≡ points ++ vector_point (get_or rests i d).cells.items (lines.next (get_or rests i d).line) response [] ∷ []
     → AreOrdered 255 (get_or rests i d).cells.items → ArePoints response lines (take (i + 1) rests) [] [] (i + 1) points'
 vectors_next response lines rests i d points points' within a e ordered =
     let more : take (i + 1) rests ≡ take i rests ++ get_or rests i d ∷ [] = rw add-one (take-suc rests i d within) in
     let next = vector_more response lines (take i rests) (get_or rests i d) points i (length_some rests i (omega arith)) ordered a in
-    subst (ArePoints response lines (take (i + 1) rests) [] [] (i + 1)) (sym e) (subst (λ rs. ArePoints response lines rs [] [] (i + 1) (points ++ vector_point (get_or rests i d).cells.items (lines.next (get_or rests i d).line) response [] ∷ [])) (sym more) next)
+    subst (ArePoints response lines (take (i + 1) rests) [] [] (i + 1)) (sym e)
+    (subst (λ rs. ArePoints response lines rs [] [] (i + 1) (points ++ vector_point (get_or rests i d).cells.items
+    (lines.next (get_or rests i d).line) response [] ∷ [])) (sym more) next)
 
 all_taken : {A : Type 0} (xs : List A) (i : ℕ) → length xs ≤ i → take i xs ≡ xs
 all_taken [] zero h = refl
@@ -334,15 +397,19 @@ all_taken [] (suc i) h = refl
 all_taken (x ∷ xs) zero h = absurd (omega arith)
 all_taken (x ∷ xs) (suc i) h = ap (λ ys. x ∷ ys) (all_taken xs i (omega arith))
 
-pub vectors_end : (response : ℕ) (lines : Lines) (rests : List Rest) (i : ℕ) (points : List Point) → length rests ≤ i → i ≤ length rests → ArePoints response lines (take i rests) [] [] i points → ArePoints response lines rests [] [] (length rests) points
+pub vectors_end : (response : ℕ) (lines : Lines) (rests : List Rest) (i : ℕ) (points : List Point) → length rests ≤ i → i ≤ length rests
+    → ArePoints response lines (take i rests) [] [] i points → ArePoints response lines rests [] [] (length rests) points
 vectors_end response lines rests i points past within a =
     let same : i ≡ length rests = omega arith in
-    subst (λ n. ArePoints response lines rests [] [] n points) same (subst (λ rs. ArePoints response lines rs [] [] i points) (all_taken rests i past) a)
+    subst (λ n. ArePoints response lines rests [] [] n points) same (subst (λ rs. ArePoints response lines rs [] [] i points)
+    (all_taken rests i past) a)
 
 -- One more instance
 
-points_vector : (response : ℕ) (lines : Lines) (rests : List Rest) (ns : List Instance) (of : List ℕ) (count k : ℕ) (x : Instance) (points : List Point)
-    → length of ≡ length ns → k < length rests → ArePoints response lines rests ns of count points → ArePoints response lines rests (ns ++ x ∷ []) (of ++ k ∷ []) count points
+points_vector : (response : ℕ) (lines : Lines) (rests : List Rest) (ns : List Instance) (of : List ℕ) (count k : ℕ) (x : Instance)
+    (points : List Point)
+    → length of ≡ length ns → k < length rests → ArePoints response lines rests ns of count points → ArePoints response lines rests
+    (ns ++ x ∷ []) (of ++ k ∷ []) count points
 points_vector response lines rests ns of count k x points same less a = record {
   size = a.size;
   vectors = a.vectors;
@@ -350,69 +417,97 @@ points_vector response lines rests ns of count k x points same less a = record {
   names = a.names;
 }
   where
-    own_cases : (i n : ℕ) (y : Instance) → length rests ≤ n → (slice_get ns i ≡ Some y) ⊎ ((i ≡ length ns) × (x ≡ y)) → (slice_get of i ≡ Some n) ⊎ ((i ≡ length of) × (k ≡ n)) → IsPointAt points n y
+    own_cases : (i n : ℕ) (y : Instance) → length rests ≤ n → (slice_get ns i ≡ Some y) ⊎ ((i ≡ length ns) × (x ≡ y))
+        → (slice_get of i ≡ Some n) ⊎ ((i ≡ length of) × (k ≡ n)) → IsPointAt points n y
     own_cases i n y low (inl h) (inl g) = a.own i n y h g low
     own_cases i n y low (inl h) (inr g) = let e = g.1 in absurd (omega arith)
     own_cases i n y low (inr h) (inl g) = let within = slice_get_within of i n g in let e = h.0 in absurd (omega arith)
     own_cases i n y low (inr h) (inr g) = let e = g.1 in absurd (omega arith)
 
-points_own : (response : ℕ) (lines : Lines) (rests : List Rest) (ns : List Instance) (of : List ℕ) (count : ℕ) (x : Instance) (points : List Point)
-    → length of ≡ length ns → IsOrdered x → ArePoints response lines rests ns of count points → ArePoints response lines rests (ns ++ x ∷ []) (of ++ count ∷ []) (count + 1) (points ++ point_of x [] ∷ [])
+points_own : (response : ℕ) (lines : Lines) (rests : List Rest) (ns : List Instance) (of : List ℕ) (count : ℕ) (x : Instance)
+    (points : List Point)
+    → length of ≡ length ns → IsOrdered x → ArePoints response lines rests ns of count points → ArePoints response lines rests
+    (ns ++ x ∷ []) (of ++ count ∷ []) (count + 1) (points ++ point_of x [] ∷ [])
 points_own response lines rests ns of count x points same ordered a = record {
   size = let s = a.size in let l = length-append points (point_of x [] ∷ []) in omega arith;
-  vectors = λ k rest at. let v = a.vectors k rest at in record { next = v.next; is = keeps points (point_of x []) _ k v.is; ordered = v.ordered };
+  vectors = λ k rest at. let v = a.vectors k rest at in record {
+    next = v.next;
+    is = keeps points (point_of x []) _ k v.is;
+    ordered = v.ordered;
+  };
   own = λ i n y node number low. own_cases i n y low (at_more ns x y i node) (at_more of count n i number);
   names = names_on_end count (count + 1) points (point_of x []) (omega arith) refl a.names;
 }
   where
-    own_cases : (i n : ℕ) (y : Instance) → length rests ≤ n → (slice_get ns i ≡ Some y) ⊎ ((i ≡ length ns) × (x ≡ y)) → (slice_get of i ≡ Some n) ⊎ ((i ≡ length of) × (count ≡ n)) → IsPointAt (points ++ point_of x [] ∷ []) n y
-    own_cases i n y low (inl h) (inl g) = let v = a.own i n y h g low in record { next = v.next; is = keeps points (point_of x []) _ n v.is; ordered = v.ordered }
+    own_cases : (i n : ℕ) (y : Instance) → length rests ≤ n → (slice_get ns i ≡ Some y) ⊎ ((i ≡ length ns) × (x ≡ y))
+        → (slice_get of i ≡ Some n) ⊎ ((i ≡ length of) × (count ≡ n)) → IsPointAt (points ++ point_of x [] ∷ []) n y
+    own_cases i n y low (inl h) (inl g) = let v = a.own i n y h g low in record {
+      next = v.next;
+      is = keeps points (point_of x []) _ n v.is;
+      ordered = v.ordered;
+    }
     own_cases i n y low (inl h) (inr g) = let within = slice_get_within ns i y h in let e = g.0 in absurd (omega arith)
     own_cases i n y low (inr h) (inl g) = let within = slice_get_within of i n g in let e = h.0 in absurd (omega arith)
     own_cases i n y low (inr h) (inr g) = record {
       next = [];
-      is = ap (slice_get (points ++ point_of x [] ∷ [])) (sym g.1 ∙ sym a.size) ∙ (last_there points (point_of x []) ∙ ap (λ z. Some (point_of z [])) h.1);
+      is = ap (slice_get (points ++ point_of x [] ∷ [])) (sym g.1 ∙ sym a.size)
+          ∙ (last_there points (point_of x []) ∙ ap (λ z. Some (point_of z [])) h.1);
       ordered = subst IsOrdered h.1 ordered;
     }
 
 -- so many instances numbered, with their points
-pub record AreNumbered (response : ℕ) (lines : Lines) (rests : List Rest) (nodes : List Instance) (numbers : List ℕ) (points : List Point) : Type 0 where
+pub record AreNumbered (response : ℕ) (lines : Lines) (rests : List Rest) (nodes : List Instance) (numbers : List ℕ) (points : List Point) :
+    Type 0 where
   pub numbers_are : AreNumbers response lines rests nodes numbers (length points)
   pub points_are : ArePoints response lines rests nodes numbers (length points) points
 
-more_taken : (response : ℕ) (lines : Lines) (rests : List Rest) (nodes : List Instance) (i : ℕ) (x : Instance) (numbers numbers' : List ℕ) (points points' : List Point) (n : ℕ) → i < length nodes → x ≡ get_or nodes i x
-    → numbers' ≡ numbers ++ n ∷ [] → AreNumbered response lines rests (take i nodes ++ x ∷ []) (numbers ++ n ∷ []) points' → AreNumbered response lines rests (take (i + 1) nodes) numbers' points'
+more_taken : (response : ℕ) (lines : Lines) (rests : List Rest) (nodes : List Instance) (i : ℕ) (x : Instance) (numbers numbers' : List ℕ)
+    (points points' : List Point) (n : ℕ) → i < length nodes → x ≡ get_or nodes i x
+    → numbers' ≡ numbers ++ n ∷ [] → AreNumbered response lines rests (take i nodes ++ x ∷ []) (numbers ++ n ∷ []) points'
+    → AreNumbered response lines rests (take (i + 1) nodes) numbers' points'
 more_taken response lines rests nodes i x numbers numbers' points points' n within is e a =
     let more : take (i + 1) nodes ≡ take i nodes ++ get_or nodes i x ∷ [] = rw add-one (take-suc nodes i x within) in
     let same : take (i + 1) nodes ≡ take i nodes ++ x ∷ [] = more ∙ ap (λ y. take i nodes ++ y ∷ []) (sym is) in
-    subst (λ ns. AreNumbered response lines rests ns numbers' points') (sym same) (subst (λ ms. AreNumbered response lines rests (take i nodes ++ x ∷ []) ms points') (sym e) a)
+    subst (λ ns. AreNumbered response lines rests ns numbers' points') (sym same)
+    (subst (λ ms. AreNumbered response lines rests (take i nodes ++ x ∷ []) ms points') (sym e) a)
 
-pub vector_step : (response : ℕ) (lines : Lines) (rests : List Rest) (nodes : List Instance) (i : ℕ) (x : Instance) (numbers numbers' : List ℕ) (points points' : List Point) (k : ℕ) → i < length nodes → x ≡ get_or nodes i x
-    → AreNumbered response lines rests (take i nodes) numbers points → IsVectorOf response lines rests k x → numbers' ≡ numbers ++ k ∷ [] → points' ≡ points → AreNumbered response lines rests (take (i + 1) nodes) numbers' points'
+pub vector_step : (response : ℕ) (lines : Lines) (rests : List Rest) (nodes : List Instance) (i : ℕ) (x : Instance)
+    (numbers numbers' : List ℕ) (points points' : List Point) (k : ℕ) → i < length nodes → x ≡ get_or nodes i x
+    → AreNumbered response lines rests (take i nodes) numbers points → IsVectorOf response lines rests k x → numbers' ≡ numbers ++ k ∷ []
+    → points' ≡ points → AreNumbered response lines rests (take (i + 1) nodes) numbers' points'
 vector_step response lines rests nodes i x numbers numbers' points points' k within is a v e f =
     more_taken response lines rests nodes i x numbers numbers' points points' k within is e
     (subst (AreNumbered response lines rests (take i nodes ++ x ∷ []) (numbers ++ k ∷ [])) (sym f) (record {
       numbers_are = more_vector response lines rests (take i nodes) numbers (length points) k x a.numbers_are v;
-      points_are = points_vector response lines rests (take i nodes) numbers (length points) k x points a.numbers_are.lengths (slice_get_within rests k v.rest v.there) a.points_are;
+      points_are = points_vector response lines rests (take i nodes) numbers (length points) k x points a.numbers_are.lengths
+          (slice_get_within rests k v.rest v.there) a.points_are;
     }))
 
-pub own_step : (response : ℕ) (lines : Lines) (rests : List Rest) (nodes : List Instance) (i : ℕ) (x : Instance) (numbers numbers' : List ℕ) (points points' : List Point) → i < length nodes → x ≡ get_or nodes i x
-    → AreNumbered response lines rests (take i nodes) numbers points → ((k : ℕ) → IsVectorOf response lines rests k x → ⊥) → numbers' ≡ numbers ++ length points ∷ [] → points' ≡ points ++ point_of x [] ∷ []
+pub own_step : (response : ℕ) (lines : Lines) (rests : List Rest) (nodes : List Instance) (i : ℕ) (x : Instance) (numbers numbers' : List ℕ)
+    (points points' : List Point) → i < length nodes → x ≡ get_or nodes i x
+    → AreNumbered response lines rests (take i nodes) numbers points → ((k : ℕ) → IsVectorOf response lines rests k x → ⊥)
+    → numbers' ≡ numbers ++ length points ∷ [] → points' ≡ points ++ point_of x [] ∷ []
     → IsOrdered x → AreNumbered response lines rests (take (i + 1) nodes) numbers' points'
 own_step response lines rests nodes i x numbers numbers' points points' within is a none e f ordered =
     let longer : length (points ++ point_of x [] ∷ []) ≡ length points + 1 = length-append points (point_of x [] ∷ []) in
     more_taken response lines rests nodes i x numbers numbers' points points' (length points) within is e
     (subst (AreNumbered response lines rests (take i nodes ++ x ∷ []) (numbers ++ length points ∷ [])) (sym f) (record {
-      numbers_are = subst (AreNumbers response lines rests (take i nodes ++ x ∷ []) (numbers ++ length points ∷ [])) (sym longer) (more_own response lines rests (take i nodes) numbers (length points) x a.numbers_are none);
-      points_are = subst (λ n. ArePoints response lines rests (take i nodes ++ x ∷ []) (numbers ++ length points ∷ []) n (points ++ point_of x [] ∷ [])) (sym longer)
+      numbers_are = subst (AreNumbers response lines rests (take i nodes ++ x ∷ []) (numbers ++ length points ∷ [])) (sym longer)
+          (more_own response lines rests (take i nodes) numbers (length points) x a.numbers_are none);
+      points_are = subst (λ n. ArePoints response lines rests (take i nodes ++ x ∷ []) (numbers ++ length points ∷ []) n
+          (points ++ point_of x [] ∷ [])) (sym longer)
           (points_own response lines rests (take i nodes) numbers (length points) x points a.numbers_are.lengths ordered a.points_are);
     }))
 
-pub none_yet : (response : ℕ) (lines : Lines) (rests : List Rest) (points : List Point) → ArePoints response lines rests [] [] (length rests) points → AreNumbered response lines rests [] [] points
+pub none_yet : (response : ℕ) (lines : Lines) (rests : List Rest) (points : List Point) → ArePoints response lines rests [] []
+    (length rests) points → AreNumbered response lines rests [] [] points
 none_yet response lines rests points a = record {
   numbers_are = subst (AreNumbers response lines rests [] []) (sym a.size) (none_numbered response lines rests);
   points_are = subst (λ n. ArePoints response lines rests [] [] n points) (sym a.size) a;
 }
 
-pub all_numbered : (response : ℕ) (lines : Lines) (rests : List Rest) (nodes : List Instance) (i : ℕ) (numbers : List ℕ) (points : List Point) → length nodes ≤ i → AreNumbered response lines rests (take i nodes) numbers points → AreNumbered response lines rests nodes numbers points
-all_numbered response lines rests nodes i numbers points past a = subst (λ ns. AreNumbered response lines rests ns numbers points) (all_taken nodes i past) a
+pub all_numbered : (response : ℕ) (lines : Lines) (rests : List Rest) (nodes : List Instance) (i : ℕ) (numbers : List ℕ)
+    (points : List Point) → length nodes ≤ i → AreNumbered response lines rests (take i nodes) numbers points → AreNumbered response lines
+    rests nodes numbers points
+all_numbered response lines rests nodes i numbers points past a = subst (λ ns. AreNumbered response lines rests ns numbers points)
+    (all_taken nodes i past) a

@@ -1,5 +1,6 @@
 -- The schedule of an ended search's marks is one of a certificate: within its limits, with the events that are marked.
-use Rattle.std.proofs.Common.{◌≡◌, ◌≢◌, ◌∙◌, sym, ap, refl, arith, inl, inr, ⊎_elim, ℕ, zero, suc, ◌+◌, ◌*◌, ◌<◌, ◌≤◌, Bool, true, false, List, [], ◌∷◌, ◌++◌, map, All, length, get_or, subst, if◌then◌else◌}
+use Rattle.std.proofs.Common.{◌≡◌, ◌≢◌, ◌∙◌, sym, ap, refl, arith, inl, inr, ⊎_elim, ℕ, zero, suc, ◌+◌, ◌*◌, ◌<◌, ◌≤◌, Bool, true, false}
+use Rattle.std.proofs.Common.{List, [], ◌∷◌, ◌++◌, map, All, length, get_or, subst, if◌then◌else◌}
 use Rattle.std.specs.Prelude.{Option, Some, None, Result, Ok, Err, IfOk, ◌&&◌, ◌==◌, nat_eq, nat_le, slice_get, slice_index}
 use Rattle.std.proofs.lemmas.Bool.{cases_eq, eq-eqb}
 use Rattle.std.proofs.lemmas.Bool.Decides.{nat_tests}
@@ -25,7 +26,8 @@ use Rattle.uz_paths.specs.Kinds.{event_here, events_from, line_events, noted, Is
 
 -- the event at a clock of a line is that of the line's kind
 abbrev pub EventByLine : Type 0
-EventByLine = (s : Schedule) (l k : ℕ) → l < length s.lines → k < length_of s l → event_at s (start_of s l + k) ≡ event_in_kind (events_of s l) k
+EventByLine = (s : Schedule) (l k : ℕ) → l < length s.lines → k < length_of s l → event_at s (start_of s l + k) ≡ event_in_kind
+    (events_of s l) k
 
 -- The events of a line
 
@@ -44,16 +46,21 @@ none_before : (marks : List (Option Mark)) (start k n q : ℕ) → q < k → eve
 unfolding events_from
 none_before marks start k zero q less = refl
 none_before marks start k (suc n) q less =
-    here_else k q (noted (slice_get marks (start + k))) (events_from marks start (suc k) n) (λ e. omega arith) ∙ none_before marks start (suc k) n q (omega arith)
+    here_else k q (noted (slice_get marks (start + k))) (events_from marks start (suc k) n) (λ e. omega arith) ∙ none_before marks start
+    (suc k) n q (omega arith)
 
 -- at each clock stands what is noted there
-at_clock : (marks : List (Option Mark)) (start k n q : ℕ) → k ≤ q → q < k + n → event_in (events_from marks start k n) q ≡ noted (slice_get marks (start + q))
+at_clock : (marks : List (Option Mark)) (start k n q : ℕ) → k ≤ q → q < k + n → event_in (events_from marks start k n) q ≡ noted
+    (slice_get marks (start + q))
 unfolding events_from
 at_clock marks start k zero q le less = absurd (omega arith)
 at_clock marks start k (suc n) q le less = ⊎_elim
-    (λ (same : k ≡ q). subst (λ j. event_in (event_here k (noted (slice_get marks (start + k))) ++ events_from marks start (suc k) n) j ≡ noted (slice_get marks (start + j))) same
-    (here_at k (noted (slice_get marks (start + k))) (events_from marks start (suc k) n) (none_before marks start (suc k) n k (omega arith))))
-    (λ (other : k ≢ q). here_else k q (noted (slice_get marks (start + k))) (events_from marks start (suc k) n) other ∙ at_clock marks start (suc k) n q (omega arith) (omega arith))
+    (λ (same : k ≡ q). subst (λ j. event_in (event_here k (noted (slice_get marks (start + k))) ++ events_from marks start (suc k) n)
+    j ≡ noted (slice_get marks (start + j))) same
+    (here_at k (noted (slice_get marks (start + k))) (events_from marks start (suc k) n)
+    (none_before marks start (suc k) n k (omega arith))))
+    (λ (other : k ≢ q). here_else k q (noted (slice_get marks (start + k))) (events_from marks start (suc k) n) other ∙ at_clock marks start
+    (suc k) n q (omega arith) (omega arith))
     (cases_eq k q)
 
 pub line_at : (marks : List (Option Mark)) (l k : ℕ) → k < 1820 → event_in (line_events marks l) k ≡ noted (slice_get marks (1820 * l + k))
@@ -67,13 +74,15 @@ few_here k n (Some kind) rest h = omega arith
 few_events : (marks : List (Option Mark)) (start k n : ℕ) → length (events_from marks start k n) ≤ n
 unfolding events_from
 few_events marks start k zero = omega arith
-few_events marks start k (suc n) = few_here k n (noted (slice_get marks (start + k))) (events_from marks start (suc k) n) (few_events marks start (suc k) n)
+few_events marks start k (suc n) = few_here k n (noted (slice_get marks (start + k))) (events_from marks start (suc k) n)
+    (few_events marks start (suc k) n)
 
 -- marked levels are 0 and 1
 abbrev LevelsFit : List (Option Mark) → Type 0
 LevelsFit marks = (y v : ℕ) (m : Mark) → MarkAt marks y m → m.event ≡ Some (Sync v) → v ≤ 1
 
-noted_fits : (marks : List (Option Mark)) (y : ℕ) (kind : EventKind) → LevelsFit marks → noted (slice_get marks y) ≡ Some kind → KindFits kind
+noted_fits : (marks : List (Option Mark)) (y : ℕ) (kind : EventKind) → LevelsFit marks → noted (slice_get marks y) ≡ Some kind
+    → KindFits kind
 noted_fits marks y Pixel levels is = tt
 noted_fits marks y Sound levels is = tt
 noted_fits marks y Leave levels is = tt
@@ -84,35 +93,42 @@ noted_fits marks y (Sync v) levels is = by (slice_get marks y) refl is
     by (Some None) at e = absurd (cc)
     by (Some (Some m)) at e = levels y v m at e
 
-here_fits : (k : ℕ) (o : Option EventKind) (rest : List Event) → k < 1820 → ((kind : EventKind) → o ≡ Some kind → KindFits kind) → All EventFits rest → All EventFits (event_here k o ++ rest)
+here_fits : (k : ℕ) (o : Option EventKind) (rest : List Event) → k < 1820 → ((kind : EventKind) → o ≡ Some kind → KindFits kind)
+    → All EventFits rest → All EventFits (event_here k o ++ rest)
 here_fits k None rest less fits all = all
-here_fits k (Some kind) rest less fits all = All-cons EventFits (record { clock = k; kind = kind }) rest (record { clock = less; kind = fits kind refl }) all
+here_fits k (Some kind) rest less fits all = All-cons EventFits (record { clock = k; kind = kind }) rest
+    (record { clock = less; kind = fits kind refl }) all
 
 all_fit : (marks : List (Option Mark)) (start k n : ℕ) → k + n ≤ 1820 → LevelsFit marks → All EventFits (events_from marks start k n)
 unfolding events_from
 all_fit marks start k zero le levels = All-nil EventFits
 all_fit marks start k (suc n) le levels =
-    here_fits k (noted (slice_get marks (start + k))) (events_from marks start (suc k) n) (omega arith) (λ kind is. noted_fits marks (start + k) kind levels is) (all_fit marks start (suc k) n (omega arith) levels)
+    here_fits k (noted (slice_get marks (start + k))) (events_from marks start (suc k) n) (omega arith)
+    (λ kind is. noted_fits marks (start + k) kind levels is) (all_fit marks start (suc k) n (omega arith) levels)
 
 le_true : (a b : ℕ) → a ≤ b → nat_le a b ≡ true
 le_true a b h = grind (arith, nat_tests)
 
-here_rises : (least k : ℕ) (o : Option EventKind) (rest : List Event) → least ≤ k → ((low : ℕ) → low ≤ suc k → rises_from low (map (λ e. e.clock) rest) ≡ true)
+here_rises : (least k : ℕ) (o : Option EventKind) (rest : List Event) → least ≤ k
+    → ((low : ℕ) → low ≤ suc k → rises_from low (map (λ e. e.clock) rest) ≡ true)
     → rises_from least (map (λ e. e.clock) (event_here k o ++ rest)) ≡ true
 here_rises least k None rest le later = later least (omega arith)
 here_rises least k (Some kind) rest le later = λ i. le_true least k le i && later (k + 1) (omega arith) i
 
-all_rise : (marks : List (Option Mark)) (start k n least : ℕ) → least ≤ k → rises_from least (map (λ e. e.clock) (events_from marks start k n)) ≡ true
+all_rise : (marks : List (Option Mark)) (start k n least : ℕ) → least ≤ k → rises_from least
+    (map (λ e. e.clock) (events_from marks start k n)) ≡ true
 unfolding events_from
 all_rise marks start k zero least le = refl
 all_rise marks start k (suc n) least le =
-    here_rises least k (noted (slice_get marks (start + k))) (events_from marks start (suc k) n) le (λ low few. all_rise marks start (suc k) n low few)
+    here_rises least k (noted (slice_get marks (start + k))) (events_from marks start (suc k) n) le
+    (λ low few. all_rise marks start (suc k) n low few)
 
 some_event : (events : List Event) (k : ℕ) (e : EventKind) → event_in events k ≡ Some e → 1 ≤ length events
 some_event [] k e is = absurd (cc)
 some_event (d ∷ ds) k e is = omega arith
 
-line_fits : (marks : List (Option Mark)) (l k : ℕ) (e : EventKind) → LevelsFit marks → event_in (line_events marks l) k ≡ Some e → EventsFit (line_events marks l)
+line_fits : (marks : List (Option Mark)) (l k : ℕ) (e : EventKind) → LevelsFit marks → event_in (line_events marks l) k ≡ Some e
+    → EventsFit (line_events marks l)
 unfolding line_events
 line_fits marks l k e levels is = record {
   some = some_event (line_events marks l) k e is;
@@ -128,7 +144,8 @@ same_event None = refl
 same_event (Some None) = refl
 same_event (Some (Some m)) = refl
 
-pub is_made : (p : Program) (marks : List (Option Mark)) (s : Schedule) → EventByLine → IsScheduleOf marks p.lines p.fall s → laws.IsScheduleOf p marks s
+pub is_made : (p : Program) (marks : List (Option Mark)) (s : Schedule) → EventByLine → IsScheduleOf marks p.lines p.fall s
+    → laws.IsScheduleOf p marks s
 is_made p marks s by_line of = record {
   lines = of.count;
   fall = of.falls;
@@ -137,7 +154,8 @@ is_made p marks s by_line of = record {
       ∙ (ap (λ o. event_in_kind o k) (of.events l below) ∙ (line_at marks l k in_line ∙ same_event (slice_get marks (1820 * l + k))));
 }
 
-pub is_fit : (image : Flash) (p : Program) (found : Found) (s : Schedule) → EventByLine → EndedFallsOnce → EndedLevelsFit → ProgramFits p → IsEnded image p found → IsScheduleOf found.marks.items p.lines p.fall s → ScheduleFits s
+pub is_fit : (image : Flash) (p : Program) (found : Found) (s : Schedule) → EventByLine → EndedFallsOnce → EndedLevelsFit → ProgramFits p
+    → IsEnded image p found → IsScheduleOf found.marks.items p.lines p.fall s → ScheduleFits s
 is_fit image p found s by_line falls levels fits ended of = record {
   kinds = record { some = some_kind; few = (let few = of.few in let lines = fits.few in omega arith); each = each_kind };
   lines = record {
@@ -158,7 +176,8 @@ is_fit image p found s by_line falls levels fits ended of = record {
     fall_at : (l : ℕ) → l < p.lines → event_in (line_events found.marks.items l) p.fall ≡ Some (Sync 0)
     fall_at l below =
         let first = (falls image p found s fits ended made).first l below in
-        line_at found.marks.items l p.fall fits.fall_in_line ∙ (same_event (slice_get found.marks.items (1820 * l + p.fall)) ∙ (sym (made.events l p.fall below fits.fall_in_line) ∙ first))
+        line_at found.marks.items l p.fall fits.fall_in_line ∙ (same_event (slice_get found.marks.items (1820 * l + p.fall))
+        ∙ (sym (made.events l p.fall below fits.fall_in_line) ∙ first))
 
     each_kind : All EventsFit s.kinds
     each_kind i d within =
@@ -173,7 +192,8 @@ is_fit image p found s by_line falls levels fits ended of = record {
 
     kind_there : (l d : ℕ) → l < length s.lines → get_or s.lines l d < length s.kinds
     kind_there l d within =
-        let same : get_or s.lines l 0 ≡ get_or s.lines l d = get_or_from_slice_get s.lines l (get_or s.lines l d) 0 (slice_get-get_or s.lines l d within) in
+        let same : get_or s.lines l 0 ≡ get_or s.lines l d = get_or_from_slice_get s.lines l (get_or s.lines l d) 0
+        (slice_get-get_or s.lines l d within) in
         subst (λ n. n < length s.kinds) same (kind_of l (subst (λ n. l < n) of.count within))
 
 -- what follows from what is promised of Ok

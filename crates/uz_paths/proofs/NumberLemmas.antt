@@ -1,5 +1,6 @@
 -- One more instance numbered, and rests passed by.
-use Rattle.std.proofs.Common.{◌≡◌, ◌∙◌, sym, ap, refl, arith, inl, inr, ⊎_elim, Bool, true, false, nat_lt, length-append, ℕ, zero, suc, ◌+◌, ◌<◌, ◌≤◌, List, [], ◌∷◌, ◌++◌, length, take, get_or, add-one, subst}
+use Rattle.std.proofs.Common.{◌≡◌, ◌∙◌, sym, ap, refl, arith, inl, inr, ⊎_elim, Bool, true, false, nat_lt, length-append, ℕ, zero, suc, ◌+◌}
+use Rattle.std.proofs.Common.{◌<◌, ◌≤◌, List, [], ◌∷◌, ◌++◌, length, take, get_or, add-one, subst}
 use Rattle.std.specs.Prelude.{Option, Some, None, slice_get, ◌⊎◌}
 use borrow.Author.Count.{below_more}
 use Rattle.std.proofs.Math.Seq.{take-suc}
@@ -23,7 +24,8 @@ old_facts_more k (suc n) =
     let less : n + 1 ≡ suc n = omega arith in
     let same : suc k + n ≡ k + suc n = omega arith in
     ap (old_facts k) next
-    ∙ (ap (λ xs. Old k ∷ xs) (ap (old_facts (suc k)) (sym less) ∙ old_facts_more (suc k) n) ∙ ap (λ i. Old k ∷ (old_facts (suc k) n ++ Old i ∷ [])) same)
+    ∙ (ap (λ xs. Old k ∷ xs) (ap (old_facts (suc k)) (sym less) ∙ old_facts_more (suc k) n)
+    ∙ ap (λ i. Old k ∷ (old_facts (suc k) n ++ Old i ∷ [])) same)
 
 -- Rests
 
@@ -31,17 +33,21 @@ one_of : {A : Type 0} (a b : A) → Some a ≡ Some b → a ≡ b
 one_of a b e = cc
 
 -- it isn't the vector of the rest of number k
-not_here : (response : ℕ) (lines : Lines) (rests : List Rest) (k : ℕ) (rest : Rest) (x : Instance) → slice_get rests k ≡ Some rest → (IsFirstAfter response lines rest x → ⊥) → IsVectorOf response lines rests k x → ⊥
+not_here : (response : ℕ) (lines : Lines) (rests : List Rest) (k : ℕ) (rest : Rest) (x : Instance) → slice_get rests k ≡ Some rest
+    → (IsFirstAfter response lines rest x → ⊥) → IsVectorOf response lines rests k x → ⊥
 not_here response lines rests k rest x there not v =
     let same : v.rest ≡ rest = one_of v.rest rest (sym v.there ∙ there) in
     not (subst (λ r. IsFirstAfter response lines r x) same v.after)
 
-pub none_more : (response : ℕ) (lines : Lines) (rests : List Rest) (k : ℕ) (d : Rest) (x : Instance) → k < length rests → (IsFirstAfter response lines (get_or rests k d) x → ⊥)
+pub none_more : (response : ℕ) (lines : Lines) (rests : List Rest) (k : ℕ) (d : Rest) (x : Instance) → k < length rests
+    → (IsFirstAfter response lines (get_or rests k d) x → ⊥)
     → ((j : ℕ) → j < k → IsVectorOf response lines rests j x → ⊥) → (j : ℕ) → j < k + 1 → IsVectorOf response lines rests j x → ⊥
 none_more response lines rests k d x within not before =
-    below_more (λ j. IsVectorOf response lines rests j x → ⊥) k before (not_here response lines rests k (get_or rests k d) x (slice_get-get_or rests k d within) not)
+    below_more (λ j. IsVectorOf response lines rests j x → ⊥) k before (not_here response lines rests k (get_or rests k d) x
+    (slice_get-get_or rests k d within) not)
 
-pub none_all : (response : ℕ) (lines : Lines) (rests : List Rest) (k : ℕ) (x : Instance) → length rests ≤ k → ((j : ℕ) → j < k → IsVectorOf response lines rests j x → ⊥) → (j : ℕ) → IsVectorOf response lines rests j x → ⊥
+pub none_all : (response : ℕ) (lines : Lines) (rests : List Rest) (k : ℕ) (x : Instance) → length rests ≤ k
+    → ((j : ℕ) → j < k → IsVectorOf response lines rests j x → ⊥) → (j : ℕ) → IsVectorOf response lines rests j x → ⊥
 none_all response lines rests k x all none j v =
     let within : j < length rests = slice_get_within rests j v.rest v.there in
     none j (omega arith) v
@@ -49,7 +55,8 @@ none_all response lines rests k x all none j v =
 -- Numbers
 
 -- the element at a place of a list with one more
-pub at_more : {A : Type 0} (xs : List A) (a x : A) (i : ℕ) → slice_get (xs ++ a ∷ []) i ≡ Some x → (slice_get xs i ≡ Some x) ⊎ ((i ≡ length xs) × (a ≡ x))
+pub at_more : {A : Type 0} (xs : List A) (a x : A) (i : ℕ) → slice_get (xs ++ a ∷ []) i ≡ Some x → (slice_get xs i ≡ Some x)
+    ⊎ ((i ≡ length xs) × (a ≡ x))
 at_more [] a x zero e = inr (refl, one_of a x e)
 at_more [] a x (suc i) e = absurd (cc)
 at_more (y ∷ ys) a x zero e = inl e
@@ -67,7 +74,8 @@ last_there (y ∷ ys) a = last_there ys a
 below_rests : (r : ℕ) (l : Lines) (rests : List Rest) (k : ℕ) (x : Instance) → IsVectorOf r l rests k x → k < length rests
 below_rests r l rests k x v = slice_get_within rests k v.rest v.there
 
-more_lengths : (of : List ℕ) (ns : List Instance) (k : ℕ) (x : Instance) → length of ≡ length ns → length (of ++ k ∷ []) ≡ length (ns ++ x ∷ [])
+more_lengths : (of : List ℕ) (ns : List Instance) (k : ℕ) (x : Instance) → length of ≡ length ns → length (of ++ k ∷ []) ≡ length
+    (ns ++ x ∷ [])
 more_lengths of ns k x e = length-append of (k ∷ []) ∙ (ap (λ n. n + 1) e ∙ sym (length-append ns (x ∷ [])))
 
 -- an instance that is a vector's
@@ -82,7 +90,8 @@ more_vector r l rests ns of count k x a v = record {
   few = let more = length-append ns (x ∷ []) in let few = a.few in omega arith;
 }
   where
-    each_cases : (i n : ℕ) (y : Instance) → (slice_get ns i ≡ Some y) ⊎ ((i ≡ length ns) × (x ≡ y)) → (slice_get of i ≡ Some n) ⊎ ((i ≡ length of) × (k ≡ n)) → Numbered r l rests count n y
+    each_cases : (i n : ℕ) (y : Instance) → (slice_get ns i ≡ Some y) ⊎ ((i ≡ length ns) × (x ≡ y)) → (slice_get of i ≡ Some n)
+        ⊎ ((i ≡ length of) × (k ≡ n)) → Numbered r l rests count n y
     each_cases i n y (inl h) (inl g) = a.each i n y h g
     each_cases i n y (inl h) (inr g) = let within = slice_get_within ns i y h in let same = a.lengths in absurd (omega arith)
     each_cases i n y (inr h) (inl g) = let within = slice_get_within of i n g in let same = a.lengths in absurd (omega arith)
@@ -91,18 +100,21 @@ more_vector r l rests ns of count k x a v = record {
     low_vector : (n : ℕ) → length rests ≤ n → k ≡ n → ⊥
     low_vector n low e = let within = below_rests r l rests k x v in omega arith
 
-    apart_cases : (i j n : ℕ) → length rests ≤ n → (slice_get of i ≡ Some n) ⊎ ((i ≡ length of) × (k ≡ n)) → (slice_get of j ≡ Some n) ⊎ ((j ≡ length of) × (k ≡ n)) → i ≡ j
+    apart_cases : (i j n : ℕ) → length rests ≤ n → (slice_get of i ≡ Some n) ⊎ ((i ≡ length of) × (k ≡ n)) → (slice_get of j ≡ Some n)
+        ⊎ ((j ≡ length of) × (k ≡ n)) → i ≡ j
     apart_cases i j n low (inl h) (inl g) = a.apart i j n low h g
     apart_cases i j n low (inl h) (inr g) = absurd (low_vector n low g.1)
     apart_cases i j n low (inr h) g = absurd (low_vector n low h.1)
 
-wider : (r : ℕ) (l : Lines) (rests : List Rest) (count n : ℕ) (x : Instance) → Numbered r l rests count n x → Numbered r l rests (count + 1) n x
+wider : (r : ℕ) (l : Lines) (rests : List Rest) (count n : ℕ) (x : Instance) → Numbered r l rests count n x → Numbered r l rests (count + 1)
+    n x
 wider r l rests count n x (inl v) = inl v
 wider r l rests count n x (inr h) = let less = h.2 in inr (h.0, h.1, omega arith)
 
 -- an instance that has a point of its own
 pub more_own : (r : ℕ) (l : Lines) (rests : List Rest) (ns : List Instance) (of : List ℕ) (count : ℕ) (x : Instance)
-    → AreNumbers r l rests ns of count → ((k : ℕ) → IsVectorOf r l rests k x → ⊥) → AreNumbers r l rests (ns ++ x ∷ []) (of ++ count ∷ []) (count + 1)
+    → AreNumbers r l rests ns of count → ((k : ℕ) → IsVectorOf r l rests k x → ⊥) → AreNumbers r l rests (ns ++ x ∷ []) (of ++ count ∷ [])
+    (count + 1)
 more_own r l rests ns of count x a none = record {
   lengths = more_lengths of ns count x a.lengths;
   each = λ i n y node number. each_cases i n y (at_more ns x y i node) (at_more of count n i number);
@@ -112,7 +124,8 @@ more_own r l rests ns of count x a none = record {
   few = let more = length-append ns (x ∷ []) in let few = a.few in omega arith;
 }
   where
-    each_cases : (i n : ℕ) (y : Instance) → (slice_get ns i ≡ Some y) ⊎ ((i ≡ length ns) × (x ≡ y)) → (slice_get of i ≡ Some n) ⊎ ((i ≡ length of) × (count ≡ n)) → Numbered r l rests (count + 1) n y
+    each_cases : (i n : ℕ) (y : Instance) → (slice_get ns i ≡ Some y) ⊎ ((i ≡ length ns) × (x ≡ y)) → (slice_get of i ≡ Some n)
+        ⊎ ((i ≡ length of) × (count ≡ n)) → Numbered r l rests (count + 1) n y
     each_cases i n y (inl h) (inl g) = wider r l rests count n y (a.each i n y h g)
     each_cases i n y (inl h) (inr g) = let within = slice_get_within ns i y h in let same = a.lengths in absurd (omega arith)
     each_cases i n y (inr h) (inl g) = let within = slice_get_within of i n g in let same = a.lengths in absurd (omega arith)
@@ -131,13 +144,15 @@ more_own r l rests ns of count x a none = record {
         let there : i < length ns = omega arith in
         not_count n (get_or ns i x) low (a.each i n (get_or ns i x) (slice_get-get_or ns i x there) h) (sym e)
 
-    apart_cases : (i j n : ℕ) → length rests ≤ n → (slice_get of i ≡ Some n) ⊎ ((i ≡ length of) × (count ≡ n)) → (slice_get of j ≡ Some n) ⊎ ((j ≡ length of) × (count ≡ n)) → i ≡ j
+    apart_cases : (i j n : ℕ) → length rests ≤ n → (slice_get of i ≡ Some n) ⊎ ((i ≡ length of) × (count ≡ n)) → (slice_get of j ≡ Some n)
+        ⊎ ((j ≡ length of) × (count ≡ n)) → i ≡ j
     apart_cases i j n low (inl h) (inl g) = a.apart i j n low h g
     apart_cases i j n low (inl h) (inr g) = absurd (below i n low h g.1)
     apart_cases i j n low (inr h) (inl g) = absurd (below j n low g h.1)
     apart_cases i j n low (inr h) (inr g) = h.0 ∙ sym g.0
 
-    there_cases : (n : ℕ) → length rests ≤ n → n < count + 1 → (b : Bool) → nat_lt n count ≡ b → (i : ℕ) × (slice_get (of ++ count ∷ []) i ≡ Some n)
+    there_cases : (n : ℕ) → length rests ≤ n → n < count + 1 → (b : Bool) → nat_lt n count ≡ b → (i : ℕ)
+        × (slice_get (of ++ count ∷ []) i ≡ Some n)
     there_cases n low less true e =
         let old = a.there n low (grind (arith, nat_tests, e)) in
         (old.0, keeps of count n old.0 old.1)
@@ -160,35 +175,48 @@ pub not_true : (b : Bool) → b ≡ true → b ≡ false → ⊥
 not_true b e f = cc
 
 -- the first instances of a list, and one more
-pub numbers_more : (r : ℕ) (l : Lines) (rests : List Rest) (nodes : List Instance) (i : ℕ) (d : Instance) (of : List ℕ) (count : ℕ) → i < length nodes
+pub numbers_more : (r : ℕ) (l : Lines) (rests : List Rest) (nodes : List Instance) (i : ℕ) (d : Instance) (of : List ℕ) (count : ℕ)
+    → i < length nodes
     → AreNumbers r l rests (take i nodes ++ get_or nodes i d ∷ []) of count → AreNumbers r l rests (take (i + 1) nodes) of count
 numbers_more r l rests nodes i d of count within a =
     let more : take (i + 1) nodes ≡ take i nodes ++ get_or nodes i d ∷ [] = rw add-one (take-suc nodes i d within) in
     subst (λ ns. AreNumbers r l rests ns of count) (sym more) a
 
-pub vector_next : (r : ℕ) (l : Lines) (rests : List Rest) (nodes : List Instance) (i : ℕ) (x : Instance) (of of' : List ℕ) (count count' k : ℕ) → i < length nodes → x ≡ get_or nodes i x
-    → AreNumbers r l rests (take i nodes) of count → IsVectorOf r l rests k x → of' ≡ of ++ k ∷ [] → count' ≡ count → AreNumbers r l rests (take (i + 1) nodes) of' count'
+pub vector_next : (r : ℕ) (l : Lines) (rests : List Rest) (nodes : List Instance) (i : ℕ) (x : Instance) (of of' : List ℕ)
+    (count count' k : ℕ) → i < length nodes → x ≡ get_or nodes i x
+    → AreNumbers r l rests (take i nodes) of count → IsVectorOf r l rests k x → of' ≡ of ++ k ∷ [] → count' ≡ count → AreNumbers r l rests
+    (take (i + 1) nodes) of' count'
 vector_next r l rests nodes i x of of' count count' k within is a v e f =
-    let more : AreNumbers r l rests (take i nodes ++ get_or nodes i x ∷ []) (of ++ k ∷ []) count = more_vector r l rests (take i nodes) of count k (get_or nodes i x) a (subst (IsVectorOf r l rests k) is v) in
-    let next : AreNumbers r l rests (take (i + 1) nodes) (of ++ k ∷ []) count = numbers_more r l rests nodes i x (of ++ k ∷ []) count within more in
-    subst (λ n. AreNumbers r l rests (take (i + 1) nodes) of' n) (sym f) (subst (λ ns. AreNumbers r l rests (take (i + 1) nodes) ns count) (sym e) next)
+    let more : AreNumbers r l rests (take i nodes ++ get_or nodes i x ∷ []) (of ++ k ∷ []) count = more_vector r l rests (take i nodes) of
+    count k (get_or nodes i x) a (subst (IsVectorOf r l rests k) is v) in
+    let next : AreNumbers r l rests (take (i + 1) nodes) (of ++ k ∷ []) count = numbers_more r l rests nodes i x (of ++ k ∷ []) count within
+    more in
+    subst (λ n. AreNumbers r l rests (take (i + 1) nodes) of' n) (sym f) (subst (λ ns. AreNumbers r l rests (take (i + 1) nodes) ns count)
+    (sym e) next)
 
-pub own_next : (r : ℕ) (l : Lines) (rests : List Rest) (nodes : List Instance) (i : ℕ) (x : Instance) (of of' : List ℕ) (count count' : ℕ) → i < length nodes → x ≡ get_or nodes i x
-    → AreNumbers r l rests (take i nodes) of count → ((k : ℕ) → IsVectorOf r l rests k x → ⊥) → of' ≡ of ++ count ∷ [] → count' ≡ count + 1 → AreNumbers r l rests (take (i + 1) nodes) of' count'
+pub own_next : (r : ℕ) (l : Lines) (rests : List Rest) (nodes : List Instance) (i : ℕ) (x : Instance) (of of' : List ℕ) (count count' : ℕ)
+    → i < length nodes → x ≡ get_or nodes i x
+    → AreNumbers r l rests (take i nodes) of count → ((k : ℕ) → IsVectorOf r l rests k x → ⊥) → of' ≡ of ++ count ∷ [] → count' ≡ count + 1
+    → AreNumbers r l rests (take (i + 1) nodes) of' count'
 own_next r l rests nodes i x of of' count count' within is a none e f =
-    let more : AreNumbers r l rests (take i nodes ++ get_or nodes i x ∷ []) (of ++ count ∷ []) (count + 1) = more_own r l rests (take i nodes) of count (get_or nodes i x) a (λ k v. none k (subst (IsVectorOf r l rests k) (sym is) v)) in
-    let next : AreNumbers r l rests (take (i + 1) nodes) (of ++ count ∷ []) (count + 1) = numbers_more r l rests nodes i x (of ++ count ∷ []) (count + 1) within more in
-    subst (λ n. AreNumbers r l rests (take (i + 1) nodes) of' n) (sym f) (subst (λ ns. AreNumbers r l rests (take (i + 1) nodes) ns (count + 1)) (sym e) next)
+    let more : AreNumbers r l rests (take i nodes ++ get_or nodes i x ∷ []) (of ++ count ∷ []) (count + 1) = more_own r l rests
+    (take i nodes) of count (get_or nodes i x) a (λ k v. none k (subst (IsVectorOf r l rests k) (sym is) v)) in
+    let next : AreNumbers r l rests (take (i + 1) nodes) (of ++ count ∷ []) (count + 1) = numbers_more r l rests nodes i x
+    (of ++ count ∷ []) (count + 1) within more in
+    subst (λ n. AreNumbers r l rests (take (i + 1) nodes) of' n) (sym f)
+    (subst (λ ns. AreNumbers r l rests (take (i + 1) nodes) ns (count + 1)) (sym e) next)
 
 -- each number is one of a point that is there
-pub numbers_below : (r : ℕ) (l : Lines) (rests : List Rest) (nodes : List Instance) (of : List ℕ) (count : ℕ) → AreNumbers r l rests nodes of count → (i n : ℕ) → slice_get of i ≡ Some n → n < count
+pub numbers_below : (r : ℕ) (l : Lines) (rests : List Rest) (nodes : List Instance) (of : List ℕ) (count : ℕ) → AreNumbers r l rests nodes
+    of count → (i n : ℕ) → slice_get of i ≡ Some n → n < count
 numbers_below r l rests nodes of count a i n number = by_node (slice_get_cases nodes i).1
   where
     below : (x : Instance) → Numbered r l rests count n x → n < count
     below x (inl v) = let within = below_rests r l rests n x v in let some = a.some in omega arith
     below x (inr h) = h.2
 
-    by_node : ((x : Instance) × (i < length nodes) × (slice_get nodes i ≡ Some x) × (get_or nodes i x ≡ x)) ⊎ ((length nodes ≤ i) × (slice_get nodes i ≡ None)) → n < count
+    by_node : ((x : Instance) × (i < length nodes) × (slice_get nodes i ≡ Some x) × (get_or nodes i x ≡ x))
+        ⊎ ((length nodes ≤ i) × (slice_get nodes i ≡ None)) → n < count
     by_node (inl h) = below h.0 (a.each i n h.0 h.2 number)
     by_node (inr h) = let past = h.0 in let within = slice_get_within of i n number in let same = a.lengths in absurd (omega arith)
 

@@ -1,5 +1,6 @@
 -- One more fact, and that the program of hints that aren't at fault is fit to be searched.
-use Rattle.std.proofs.Common.{◌≡◌, ◌≢◌, ◌∙◌, sym, ap, refl, arith, ℕ, zero, suc, ◌+◌, ◌<◌, ◌≤◌, Bool, true, false, List, [], ◌∷◌, ◌++◌, append_assoc, append-nil, length, drop, get_or, add-one, subst}
+use Rattle.std.proofs.Common.{◌≡◌, ◌≢◌, ◌∙◌, sym, ap, refl, arith, ℕ, zero, suc, ◌+◌, ◌<◌, ◌≤◌, Bool, true, false, List, [], ◌∷◌, ◌++◌}
+use Rattle.std.proofs.Common.{append_assoc, append-nil, length, drop, get_or, add-one, subst}
 use Rattle.std.specs.Prelude.{Option, Some, None, slice_get}
 use Rattle.std.specs.Ordering.{nat_cmp}
 use Rattle.std.specs.FinMap.{FinMap}
@@ -34,11 +35,13 @@ pub fact_at : (hints : List Hint) (i : ℕ) (d : Hint) → FactsFine hints → i
 fact_at hints i d fine within = fine i (get_or hints i d) (slice_get-get_or hints i d within)
 
 pub facts_more : {A : Type 0} (f : Hint → List A) (all : List Hint → List A) → ((h : Hint) (hs : List Hint) → all (h ∷ hs) ≡ f h ++ all hs)
-    → (hints : List Hint) (i : ℕ) (d : Hint) (old new : List A) → i < length hints → new ≡ old ++ f (get_or hints i d) → new ++ all (drop (i + 1) hints) ≡ old ++ all (drop i hints)
+    → (hints : List Hint) (i : ℕ) (d : Hint) (old new : List A) → i < length hints → new ≡ old ++ f (get_or hints i d) → new
+    ++ all (drop (i + 1) hints) ≡ old ++ all (drop i hints)
 facts_more f all step hints i d old new within is =
     let less : drop i hints ≡ get_or hints i d ∷ drop (i + 1) hints = rw add-one (drop-cons hints i d within) in
     ap (λ xs. xs ++ all (drop (i + 1) hints)) is
-    ∙ (append_assoc old (f (get_or hints i d)) (all (drop (i + 1) hints)) ∙ ap (λ xs. old ++ xs) (sym (ap all less ∙ step (get_or hints i d) (drop (i + 1) hints))))
+    ∙ (append_assoc old (f (get_or hints i d)) (all (drop (i + 1) hints)) ∙ ap (λ xs. old ++ xs)
+    (sym (ap all less ∙ step (get_or hints i d) (drop (i + 1) hints))))
 
 -- Starts
 
@@ -50,7 +53,8 @@ pub record Sizes (p : Program) (start : Beginning) : Type 0 where
   pub above : is_main start.kind ≡ true → response_clocks p.head.irq + 3 < p.fall
   pub enters : start.kind ≢ Handler
 
-start_fits : (p : Program) (start : Beginning) (registers : List Ends) (head : Head) → Sizes p start → StartFits p (entry_instance_at (entry_with registers head start 0) 1)
+start_fits : (p : Program) (start : Beginning) (registers : List Ends) (head : Head) → Sizes p start
+    → StartFits p (entry_instance_at (entry_with registers head start 0) 1)
 start_fits p start registers head s = record {
   stands = record {
     line = let some = s.some in omega arith;
@@ -65,7 +69,8 @@ start_fits p start registers head s = record {
   before = λ e. let some = s.fall_some in omega arith;
 }
 
-first_fits : (p : Program) (start : Beginning) (cells : List Ends) (c : ℕ) → Sizes p start → is_main start.kind ≡ true → c ≤ 3 → StartFits p (first_state p.head.irq cells c)
+first_fits : (p : Program) (start : Beginning) (cells : List Ends) (c : ℕ) → Sizes p start → is_main start.kind ≡ true → c ≤ 3
+    → StartFits p (first_state p.head.irq cells c)
 first_fits p start cells c s main few =
     let above = s.above main in
     let low = s.fall_in_line in
@@ -84,7 +89,8 @@ first_fits p start cells c s main few =
       before = λ e. omega arith;
     }
 
-pub first_of_five : {A : Type 0} (P : A → Type 0) (a b c d e x : A) (i : ℕ) → P a → P b → P c → P d → P e → slice_get (a ∷ b ∷ c ∷ d ∷ e ∷ []) i ≡ Some x → P x
+pub first_of_five : {A : Type 0} (P : A → Type 0) (a b c d e x : A) (i : ℕ) → P a → P b → P c → P d → P e
+    → slice_get (a ∷ b ∷ c ∷ d ∷ e ∷ []) i ≡ Some x → P x
 first_of_five P a b c d e x zero pa pb pc pd pe h = subst P (some_is a x h) pa
 first_of_five P a b c d e x (suc zero) pa pb pc pd pe h = subst P (some_is b x h) pb
 first_of_five P a b c d e x (suc (suc zero)) pa pb pc pd pe h = subst P (some_is c x h) pc
@@ -97,23 +103,33 @@ first_of_one P a x zero pa h = subst P (some_is a x h) pa
 first_of_one P a x (suc i) pa h = absurd (cc)
 
 all_start : (p : Program) (start : Beginning) (registers cells : List Ends) (head : Head) (kind : Kind) → start.kind ≡ kind → Sizes p start
-    → p.starts ≡ entry_instance_at (entry_with registers head start 0) 1 ∷ first_states kind p.head.irq cells → (x : Instance) → Among p.starts x → StartFits p x
+    → p.starts ≡ entry_instance_at (entry_with registers head start 0) 1 ∷ first_states kind p.head.irq cells → (x : Instance)
+    → Among p.starts x → StartFits p x
 all_start p start registers cells head Main k s e x (i, there) =
     let main : is_main start.kind ≡ true = ap is_main k in
-    first_of_five (StartFits p) _ _ _ _ _ x i (start_fits p start registers head s) (first_fits p start cells 0 s main (omega arith)) (first_fits p start cells 1 s main (omega arith)) (first_fits p start cells 2 s main (omega arith)) (first_fits p start cells 3 s main (omega arith))
+    first_of_five (StartFits p) _ _ _ _ _ x i (start_fits p start registers head s) (first_fits p start cells 0 s main (omega arith))
+    (first_fits p start cells 1 s main (omega arith)) (first_fits p start cells 2 s main (omega arith))
+    (first_fits p start cells 3 s main (omega arith))
     (ap (λ xs. slice_get xs i) (sym e) ∙ there)
 all_start p start registers cells head Handler k s e x a = absurd (s.enters k)
 all_start p start registers cells head Alone k s e x (i, there) =
     first_of_one (StartFits p) _ x i (start_fits p start registers head s) (ap (λ xs. slice_get xs i) (sym e) ∙ there)
 
-one_begins : (p : Program) (start : Beginning) (registers cells : List Ends) (head : Head) (kind : Kind) → start.kind ≡ kind → kind ≢ Handler
-    → p.starts ≡ entry_instance_at (entry_with registers head start 0) 1 ∷ first_states kind p.head.irq cells → (x : Instance) × Among p.starts x × (x.kind ≢ Main)
+one_begins : (p : Program) (start : Beginning) (registers cells : List Ends) (head : Head) (kind : Kind) → start.kind ≡ kind
+    → kind ≢ Handler
+    → p.starts ≡ entry_instance_at (entry_with registers head start 0) 1 ∷ first_states kind p.head.irq cells → (x : Instance)
+    × Among p.starts x × (x.kind ≢ Main)
 one_begins p start registers cells head Main k n e = (first_state p.head.irq cells 0, (1, ap (λ xs. slice_get xs 1) e), λ h. cc)
 one_begins p start registers cells head Handler k n e = absurd (n refl)
-one_begins p start registers cells head Alone k n e = (entry_instance_at (entry_with registers head start 0) 1, (0, ap (λ xs. slice_get xs 0) e), λ h. cc)
+one_begins p start registers cells head Alone k n e = (
+  entry_instance_at (entry_with registers head start 0) 1,
+  (0, ap (λ xs. slice_get xs 0) e),
+  λ h. cc,
+)
 
 pub program_fits : (r : Reading) (p : Program) → ReadingFits r → p.head ≡ r.head → p.lines ≡ r.size.lines → p.fall ≡ r.size.fall
-    → p.starts ≡ entry_instance_at (entry_with r.registers r.head r.start 0) 1 ∷ first_states r.start.kind p.head.irq r.firsts.items → ProgramFits p
+    → p.starts ≡ entry_instance_at (entry_with r.registers r.head r.start 0) 1 ∷ first_states r.start.kind p.head.irq r.firsts.items
+    → ProgramFits p
 program_fits r p fits head lines fall starts =
     let some = fits.some in
     let few = fits.few in

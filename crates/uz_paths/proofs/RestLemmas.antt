@@ -1,5 +1,6 @@
 -- The rests of noted returns.
-use Rattle.std.proofs.Common.{◌≡◌, ◌∙◌, sym, ap, refl, arith, ℕ, zero, suc, ◌+◌, ◌<◌, ◌≤◌, Bool, true, false, List, [], ◌∷◌, map, length, subst, if◌then◌else◌}
+use Rattle.std.proofs.Common.{◌≡◌, ◌∙◌, sym, ap, refl, arith, ℕ, zero, suc, ◌+◌, ◌<◌, ◌≤◌, Bool, true, false, List, [], ◌∷◌, map, length}
+use Rattle.std.proofs.Common.{subst, if◌then◌else◌}
 use Rattle.std.specs.Prelude.{Option, Some, None, ◌&&◌, nat_eq, nat_le, slice_get, Contains}
 use Rattle.std.proofs.lemmas.Bool.Decides.{nat_tests}
 use Rattle.std.specs.Ordering.{nat_cmp}
@@ -40,7 +41,8 @@ pub record OfReturn (line vector : ℕ) (returns : List (Option Return)) (i : �
 some_is : {A : Type 0} (a b : A) → Some a ≡ Some b → a ≡ b
 some_is a b e = cc
 
-after_none : (line vector : ℕ) (returns : List (Option Return)) (i : ℕ) (rest : Rest) → OfReturn (suc line) vector returns i rest → OfReturn line vector (None ∷ returns) i rest
+after_none : (line vector : ℕ) (returns : List (Option Return)) (i : ℕ) (rest : Rest) → OfReturn (suc line) vector returns i rest
+    → OfReturn line vector (None ∷ returns) i rest
 unfolding somes
 after_none line vector returns i rest o = record {
   place = suc o.place;
@@ -53,7 +55,8 @@ after_none line vector returns i rest o = record {
   are_cells = o.are_cells;
 }
 
-after_some : (line vector : ℕ) (r : Return) (returns : List (Option Return)) (i : ℕ) (rest : Rest) → OfReturn (suc line) (suc vector) returns i rest → OfReturn line vector (Some r ∷ returns) (suc i) rest
+after_some : (line vector : ℕ) (r : Return) (returns : List (Option Return)) (i : ℕ) (rest : Rest) → OfReturn (suc line) (suc vector)
+    returns i rest → OfReturn line vector (Some r ∷ returns) (suc i) rest
 unfolding somes
 after_some line vector r returns i rest o = record {
   place = suc o.place;
@@ -66,7 +69,8 @@ after_some line vector r returns i rest o = record {
   are_cells = o.are_cells;
 }
 
-pub of_return : (line vector : ℕ) (returns : List (Option Return)) (i : ℕ) (rest : Rest) → slice_get (rests_from line vector returns) i ≡ Some rest → OfReturn line vector returns i rest
+pub of_return : (line vector : ℕ) (returns : List (Option Return)) (i : ℕ) (rest : Rest) → slice_get (rests_from line vector returns)
+    i ≡ Some rest → OfReturn line vector returns i rest
 unfolding somes
 of_return line vector [] i rest e = absurd (cc)
 of_return line vector (None ∷ returns) i rest e = after_none line vector returns i rest (of_return (suc line) vector returns i rest e)
@@ -82,10 +86,12 @@ of_return line vector (Some r ∷ returns) zero rest e =
       is_clock = sym (ap (λ x. x.clock) is);
       are_cells = sym (ap (λ x. x.cells) is);
     }
-of_return line vector (Some r ∷ returns) (suc i) rest e = after_some line vector r returns i rest (of_return (suc line) (suc vector) returns i rest e)
+of_return line vector (Some r ∷ returns) (suc i) rest e = after_some line vector r returns i rest
+    (of_return (suc line) (suc vector) returns i rest e)
 
 -- rests of one line are one
-pub one_rest : (returns : List (Option Return)) (i j : ℕ) (a b : Rest) → slice_get (rests_of returns) i ≡ Some a → slice_get (rests_of returns) j ≡ Some b → a.line ≡ b.line → i ≡ j
+pub one_rest : (returns : List (Option Return)) (i j : ℕ) (a b : Rest) → slice_get (rests_of returns) i ≡ Some a
+    → slice_get (rests_of returns) j ≡ Some b → a.line ≡ b.line → i ≡ j
 one_rest returns i j a b at there same =
     let o = of_return 0 0 returns i a at in
     let q = of_return 0 0 returns j b there in
@@ -96,10 +102,12 @@ one_rest returns i j a b at there same =
 le_true : (a b : ℕ) → a ≤ b → nat_le a b ≡ true
 le_true a b h = grind (arith, nat_tests)
 
-pub rests_rise : (line vector least : ℕ) (returns : List (Option Return)) → least ≤ line → rises_from least (map (λ r. r.line) (rests_from line vector returns)) ≡ true
+pub rests_rise : (line vector least : ℕ) (returns : List (Option Return)) → least ≤ line → rises_from least
+    (map (λ r. r.line) (rests_from line vector returns)) ≡ true
 rests_rise line vector least [] le = refl
 rests_rise line vector least (None ∷ returns) le = rests_rise (suc line) vector least returns (omega arith)
-rests_rise line vector least (Some r ∷ returns) le = λ i. le_true least line le i && rests_rise (suc line) (suc vector) (line + 1) returns (omega arith) i
+rests_rise line vector least (Some r ∷ returns) le = λ i. le_true least line le i && rests_rise (suc line) (suc vector) (line + 1) returns
+    (omega arith) i
 
 -- each return is its line's rest
 pub record RestIn (rests : List Rest) (l : ℕ) (r : Return) : Type 0 where
@@ -114,7 +122,8 @@ not_first a b = grind (arith, nat_tests)
 first_self : (a : ℕ) → nat_eq a (a + 0) ≡ true
 first_self a = grind (arith, nat_tests)
 
-pub rest_of_line : (line vector : ℕ) (returns : List (Option Return)) (i : ℕ) (r : Return) → slice_get returns i ≡ Some (Some r) → RestIn (rests_from line vector returns) (line + i) r
+pub rest_of_line : (line vector : ℕ) (returns : List (Option Return)) (i : ℕ) (r : Return) → slice_get returns i ≡ Some (Some r)
+    → RestIn (rests_from line vector returns) (line + i) r
 rest_of_line line vector [] i r at = absurd (cc)
 rest_of_line line vector (None ∷ returns) zero r at = absurd (cc)
 rest_of_line line vector (None ∷ returns) (suc i) r at =
@@ -125,16 +134,19 @@ rest_of_line line vector (Some q ∷ returns) zero r at =
     let one : q ≡ r = some_is q r same in
     record {
       rest = record { line = line; clock = q.clock; vector = vector; cells = record { items = q.cells.items } };
-      is = ap (λ b. if b then Some (record { line = line; clock = q.clock; vector = vector; cells = record { items = q.cells.items } }) else rest_in (rests_from (suc line) (suc vector) returns) (line + 0)) (first_self line);
+      is = ap (λ b. if b then Some (record { line = line; clock = q.clock; vector = vector; cells = record { items = q.cells.items } }) else
+          rest_in (rests_from (suc line) (suc vector) returns) (line + 0)) (first_self line);
       clock = ap (λ z. z.clock) one;
       cells = ap (λ z. z.cells.items) one;
     }
 rest_of_line line vector (Some q ∷ returns) (suc i) r at =
     let next : suc line + i ≡ line + suc i = omega arith in
-    let later = subst (λ l. RestIn (rests_from (suc line) (suc vector) returns) l r) next (rest_of_line (suc line) (suc vector) returns i r at) in
+    let later = subst (λ l. RestIn (rests_from (suc line) (suc vector) returns) l r) next (rest_of_line (suc line) (suc vector) returns i r
+    at) in
     record {
       rest = later.rest;
-      is = ap (λ b. if b then Some (record { line = line; clock = q.clock; vector = vector; cells = record { items = q.cells.items } }) else rest_in (rests_from (suc line) (suc vector) returns) (line + suc i)) (not_first line i) ∙ later.is;
+      is = ap (λ b. if b then Some (record { line = line; clock = q.clock; vector = vector; cells = record { items = q.cells.items } }) else
+          rest_in (rests_from (suc line) (suc vector) returns) (line + suc i)) (not_first line i) ∙ later.is;
       clock = later.clock;
       cells = later.cells;
     }
@@ -143,7 +155,8 @@ pub rest_among : (rests : List Rest) (l : ℕ) (rest : Rest) → rest_in rests l
 rest_among [] l rest at = absurd (cc)
 rest_among (r ∷ rests) l rest at = by (nat_eq r.line l) at (rest_among rests l rest)
   where
-    by : (b : Bool) → (if b then Some r else rest_in rests l) ≡ Some rest → (rest_in rests l ≡ Some rest → Among rests rest) → Among (r ∷ rests) rest
+    by : (b : Bool) → (if b then Some r else rest_in rests l) ≡ Some rest → (rest_in rests l ≡ Some rest → Among rests rest)
+        → Among (r ∷ rests) rest
     by true is more = (0, is)
     by false is more = let later = more is in (suc later.0, later.1)
 
@@ -154,7 +167,8 @@ all_in returns rests e l r at =
     (one.rest, ap (λ rs. rest_in rs l) e ∙ one.is, one.clock, one.cells)
 
 -- each rest's line is one of the frame
-pub lines_within : (returns : List (Option Return)) (k : ℕ) (rest : Rest) → slice_get (rests_of returns) k ≡ Some rest → rest.line < length returns
+pub lines_within : (returns : List (Option Return)) (k : ℕ) (rest : Rest) → slice_get (rests_of returns) k ≡ Some rest → rest.line < length
+    returns
 lines_within returns k rest e =
     let o = of_return 0 0 returns k rest e in
     let within = slice_get_within returns o.place (Some o.noted) o.there in
@@ -167,7 +181,8 @@ few_rests line vector (None ∷ returns) = let h = few_rests (suc line) vector r
 few_rests line vector (Some r ∷ returns) = let h = few_rests (suc line) (suc vector) returns in omega arith
 
 -- each rest is a return of a trail
-return_of : (image : FinMap nat_cmp ℕ) (p : Program) (found : Found) (i : ℕ) (rest : Rest) → IsEnded image p found → ((x : Instance) → Among found.nodes.keys x → OnTrail image p x) → OfReturn 0 0 found.returns.items i rest → IsReturn image p rest
+return_of : (image : FinMap nat_cmp ℕ) (p : Program) (found : Found) (i : ℕ) (rest : Rest) → IsEnded image p found
+    → ((x : Instance) → Among found.nodes.keys x → OnTrail image p x) → OfReturn 0 0 found.returns.items i rest → IsReturn image p rest
 return_of image p found i rest ended trails o =
     let n = ended.ended o.place o.noted o.there in
     let line : rest.line ≡ o.place = o.is_line ∙ omega arith in
@@ -181,14 +196,17 @@ return_of image p found i rest ended trails o =
       cells = o.are_cells ∙ n.5.1;
     }
 
-pub is_return : (image : FinMap nat_cmp ℕ) (p : Program) (found : Found) (rests : List Rest) → rests ≡ rests_of found.returns.items → IsEnded image p found
+pub is_return : (image : FinMap nat_cmp ℕ) (p : Program) (found : Found) (rests : List Rest) → rests ≡ rests_of found.returns.items
+    → IsEnded image p found
     → ((x : Instance) → Among found.nodes.keys x → OnTrail image p x) → (rest : Rest) → Contains rests rest → IsReturn image p rest
 is_return image p found rests e ended trails rest has =
     let at : slice_get rests has.0 ≡ Some rest = slice_get-get_or rests has.0 rest has.1 ∙ ap Some has.2 in
-    return_of image p found has.0 rest ended trails (of_return 0 0 found.returns.items has.0 rest (ap (λ rs. slice_get rs has.0) (sym e) ∙ at))
+    return_of image p found has.0 rest ended trails (of_return 0 0 found.returns.items has.0 rest (ap (λ rs. slice_get rs has.0) (sym e)
+    ∙ at))
 
 pub few_of : (returns : List (Option Return)) (rests : List Rest) (n : ℕ) → rests ≡ rests_of returns → length returns ≡ n → length rests ≤ n
 few_of returns rests n e f = let h = few_rests 0 0 returns in let g = ap length e in omega arith
 
-pub lines_of_rests : (returns : List (Option Return)) (rests : List Rest) (n : ℕ) → rests ≡ rests_of returns → length returns ≡ n → (k : ℕ) (rest : Rest) → slice_get rests k ≡ Some rest → rest.line < n
+pub lines_of_rests : (returns : List (Option Return)) (rests : List Rest) (n : ℕ) → rests ≡ rests_of returns → length returns ≡ n
+    → (k : ℕ) (rest : Rest) → slice_get rests k ≡ Some rest → rest.line < n
 lines_of_rests returns rests n e f k rest at = let h = lines_within returns k rest (ap (λ rs. slice_get rs k) (sym e) ∙ at) in omega arith

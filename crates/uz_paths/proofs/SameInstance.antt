@@ -1,10 +1,13 @@
 -- What a point says where it stands is the instance that it is made of.
-use Rattle.std.proofs.Common.{◌≡◌, ◌∙◌, sym, ap, refl, arith, ℕ, zero, suc, ◌+◌, ◌*◌, ◌%◌, ◌<◌, ◌≤◌, Bool, true, false, List, [], ◌∷◌, map, length, subst, if◌then◌else◌}
-use Rattle.std.specs.Prelude.{Option, Some, None, ◌&&◌, nat_eq, nat_le, nat_lt, option_and_then, slice_get, slice_index_or, ℤ, pos, ◌+ℤ◌, ◌*ℤ◌}
+use Rattle.std.proofs.Common.{◌≡◌, ◌∙◌, sym, ap, refl, arith, ℕ, zero, suc, ◌+◌, ◌*◌, ◌%◌, ◌<◌, ◌≤◌, Bool, true, false, List, [], ◌∷◌, map}
+use Rattle.std.proofs.Common.{length, subst, if◌then◌else◌}
+use Rattle.std.specs.Prelude.{Option, Some, None, ◌&&◌, nat_eq, nat_le, nat_lt, option_and_then, slice_get, slice_index_or, ℤ, pos, ◌+ℤ◌}
+use Rattle.std.specs.Prelude.{◌*ℤ◌}
 use Rattle.std.proofs.Math.Nat.{mod-eq_of_lt}
 use Rattle.std.proofs.lemmas.Bool.Decides.{nat_tests}
 use Rattle.uz_schedule.specs.Ends.{Ends, one_number, whole_byte, whole_pair}
-use Rattle.uz_schedule.specs.Instances.{cell_span, clock_below, hull_at, handler_entry, span_of_val, instance_at, instance_at_clock, instance_in, instance_of, is_in_box, old_from, pair_of, pairs_of, val_of}
+use Rattle.uz_schedule.specs.Instances.{cell_span, clock_below, hull_at, handler_entry, span_of_val, instance_at, instance_at_clock}
+use Rattle.uz_schedule.specs.Instances.{instance_in, instance_of, is_in_box, old_from, pair_of, pairs_of, val_of}
 use Rattle.uz_schedule.specs.Schedule.{length_of, level_at, start_of}
 use Rattle.uz_schedule.specs.WellFormed.{is_carry_and_zero_default}
 use Rattle.uz_schedule.specs.declared.certificate.Cert.{Cert}
@@ -60,7 +63,8 @@ cells_back l c (e ∷ es) = λ i. cell_back l c e i ∷ cells_back l c es i
 range_back : (ambiguous : Bool) (l : ℕ) (regs : List Val) (r : ℕ) (e : Ends) → pair_of l 0 regs r (range_fact ambiguous e) ≡ e
 range_back ambiguous l regs r e = by (ambiguous && (nat_eq e.lo e.hi && nat_lt e.hi 2)) refl
   where
-    by : (b : Bool) → (ambiguous && (nat_eq e.lo e.hi && nat_lt e.hi 2)) ≡ b → pair_of l 0 regs r (if b then LoopPair 1 e.lo else BetweenPair e) ≡ e
+    by : (b : Bool) → (ambiguous && (nat_eq e.lo e.hi && nat_lt e.hi 2)) ≡ b → pair_of l 0 regs r
+        (if b then LoopPair 1 e.lo else BetweenPair e) ≡ e
     by true is =
         let small = both (nat_eq e.lo e.hi) (nat_lt e.hi 2) (both ambiguous (nat_eq e.lo e.hi && nat_lt e.hi 2) is).1 in
         let same : e.lo ≡ e.hi = eq_of e.lo e.hi small.0 in
@@ -69,7 +73,8 @@ range_back ambiguous l regs r e = by (ambiguous && (nat_eq e.lo e.hi && nat_lt e
         ends_same (one_number ((1 * 0 + e.lo) % 65536)) e value (value ∙ same)
     by false is = refl
 
-pair_back : (ambiguous : Bool) (l : ℕ) (regs : List Val) (r : ℕ) (e : Ends) → pair_of l 0 regs r (pair_fact ambiguous (hull_at regs r) e) ≡ e
+pair_back : (ambiguous : Bool) (l : ℕ) (regs : List Val) (r : ℕ) (e : Ends) → pair_of l 0 regs r (pair_fact ambiguous (hull_at regs r) e)
+    ≡ e
 pair_back ambiguous l regs r e = by (same_ends e (hull_at regs r)) refl
   where
     by : (b : Bool) → same_ends e (hull_at regs r) ≡ b → pair_of l 0 regs r (if b then AnyPair else range_fact ambiguous e) ≡ e
@@ -78,16 +83,19 @@ pair_back ambiguous l regs r e = by (same_ends e (hull_at regs r)) refl
         sym (ends_same e (hull_at regs r) (eq_of e.lo (hull_at regs r).lo parts.0) (eq_of e.hi (hull_at regs r).hi parts.1))
     by false is = range_back ambiguous l regs r e
 
-three_of : {A : Type 0} (xs : List A) (d : A) → length xs ≡ 3 → slice_index_or xs 0 d ∷ slice_index_or xs 1 d ∷ slice_index_or xs 2 d ∷ [] ≡ xs
+three_of : {A : Type 0} (xs : List A) (d : A) → length xs ≡ 3 → slice_index_or xs 0 d ∷ slice_index_or xs 1 d ∷ slice_index_or xs 2
+    d ∷ [] ≡ xs
 three_of [] d h = absurd (omega arith)
 three_of (a ∷ []) d h = absurd (omega arith)
 three_of (a ∷ b ∷ []) d h = absurd (omega arith)
 three_of (a ∷ b ∷ c ∷ []) d h = refl
 three_of (a ∷ b ∷ c ∷ e ∷ xs) d h = absurd (omega arith)
 
-pairs_back : (kind : Kind) (l : ℕ) (regs : List Val) (pairs : List Ends) (flags : List Bit) → length pairs ≡ 3 → pairs_of l 0 regs (pair_facts kind regs pairs flags) ≡ pairs
+pairs_back : (kind : Kind) (l : ℕ) (regs : List Val) (pairs : List Ends) (flags : List Bit) → length pairs ≡ 3 → pairs_of l 0 regs
+    (pair_facts kind regs pairs flags) ≡ pairs
 pairs_back kind l regs pairs flags three =
-    (λ i. pair_back false l regs 26 (slice_index_or pairs 0 whole_pair) i ∷ pair_back false l regs 28 (slice_index_or pairs 1 whole_pair) i ∷ pair_back (is_carry_and_zero_default kind flags) l regs 30 (slice_index_or pairs 2 whole_pair) i ∷ [])
+    (λ i. pair_back false l regs 26 (slice_index_or pairs 0 whole_pair) i ∷ pair_back false l regs 28 (slice_index_or pairs 1 whole_pair)
+    i ∷ pair_back (is_carry_and_zero_default kind flags) l regs 30 (slice_index_or pairs 2 whole_pair) i ∷ [])
     ∙ three_of pairs whole_pair three
 
 olds_back : (l c k n : ℕ) → map (val_of l c) (old_facts k n) ≡ old_from k n
@@ -111,12 +119,16 @@ box_true a b c d e f g h = λ i. (e i && f i) && (g i && h i)
 -- Where points stand
 
 -- at a line and a count of its box, where there is this level at this clock
-pub placed : (cert : Cert) (id l c clock level : ℕ) (p : Point) → slice_get cert.points id ≡ Some p → is_in_box p l c ≡ true → pos p.clock +ℤ p.slope *ℤ pos c ≡ pos clock → clock < 1820
-    → level_at cert.schedule (start_of cert.schedule l + clock) ≡ Some level → instance_at cert id l c ≡ Some (instance_of p l c clock level)
+pub placed : (cert : Cert) (id l c clock level : ℕ) (p : Point) → slice_get cert.points id ≡ Some p → is_in_box p l c ≡ true
+    → pos p.clock +ℤ p.slope *ℤ pos c ≡ pos clock → clock < 1820
+    → level_at cert.schedule (start_of cert.schedule l + clock) ≡ Some level → instance_at cert id l c ≡ Some
+    (instance_of p l c clock level)
 placed cert id l c clock level p at inside is less there =
     ap (λ o. option_and_then (λ q. instance_in cert.schedule q l c) o) at
-    ∙ (ap (λ b. if b then option_and_then (instance_at_clock cert.schedule p l c) (clock_below (length_of cert.schedule l) (pos p.clock +ℤ p.slope *ℤ pos c)) else None) inside
-    ∙ (ap (λ o. option_and_then (instance_at_clock cert.schedule p l c) o) (below (length_of cert.schedule l) clock (pos p.clock +ℤ p.slope *ℤ pos c) is less)
+    ∙ (ap (λ b. if b then option_and_then (instance_at_clock cert.schedule p l c)
+    (clock_below (length_of cert.schedule l) (pos p.clock +ℤ p.slope *ℤ pos c)) else None) inside
+    ∙ (ap (λ o. option_and_then (instance_at_clock cert.schedule p l c) o)
+    (below (length_of cert.schedule l) clock (pos p.clock +ℤ p.slope *ℤ pos c) is less)
     ∙ ap (λ o. option_and_then (λ level. Some (instance_of p l c clock level)) o) there))
 
 own_same : (x : Instance) (next : List ℕ) → length x.pairs ≡ 3 → instance_of (point_of x next) x.line 0 x.clock x.level ≡ x
@@ -135,21 +147,25 @@ own_same x next three = λ i. record {
 }
   where
     pairs : pairs_of x.line 0 (map (val_of x.line 0) (map fact_of x.regs)) (pair_facts x.kind x.regs x.pairs x.flags) ≡ x.pairs
-    pairs = ap (λ regs. pairs_of x.line 0 regs (pair_facts x.kind x.regs x.pairs x.flags)) (vals_back x.line 0 x.regs) ∙ pairs_back x.kind x.line x.regs x.pairs x.flags three
+    pairs = ap (λ regs. pairs_of x.line 0 regs (pair_facts x.kind x.regs x.pairs x.flags)) (vals_back x.line 0 x.regs) ∙ pairs_back x.kind
+        x.line x.regs x.pairs x.flags three
 
 -- the point of an instance, at its line
-pub own_instance : (cert : Cert) (id : ℕ) (x : Instance) (next : List ℕ) → slice_get cert.points id ≡ Some (point_of x next) → length x.pairs ≡ 3 → x.clock < 1820
+pub own_instance : (cert : Cert) (id : ℕ) (x : Instance) (next : List ℕ) → slice_get cert.points id ≡ Some (point_of x next)
+    → length x.pairs ≡ 3 → x.clock < 1820
     → level_at cert.schedule (start_of cert.schedule x.line + x.clock) ≡ Some x.level → instance_at cert id x.line 0 ≡ Some x
 own_instance cert id x next at three less level =
     placed cert id x.line 0 x.clock x.level (point_of x next) at
-    (box_true (nat_le x.line x.line) (nat_le x.line x.line) (nat_le 0 0) (nat_le 0 0) (le_true x.line x.line (omega arith)) (le_true x.line x.line (omega arith)) refl refl)
+    (box_true (nat_le x.line x.line) (nat_le x.line x.line) (nat_le 0 0) (nat_le 0 0) (le_true x.line x.line (omega arith))
+    (le_true x.line x.line (omega arith)) refl refl)
     clock less level
     ∙ ap (λ y. Some y) (own_same x next three)
   where
     clock : pos x.clock +ℤ pos 0 *ℤ pos 0 ≡ pos x.clock
     clock = let same : x.clock + 0 * 0 ≡ x.clock = omega arith in ap pos same
 
-vector_same : (cells : List Ends) (line response c level : ℕ) (next : List ℕ) → instance_of (vector_point cells line response next) line c (c + response) level ≡ handler_entry cells line (c + response) level
+vector_same : (cells : List Ends) (line response c level : ℕ) (next : List ℕ) → instance_of (vector_point cells line response next) line c
+    (c + response) level ≡ handler_entry cells line (c + response) level
 vector_same cells line response c level next = λ i. record {
   kind = Handler;
   pc = 26;
@@ -164,15 +180,19 @@ vector_same cells line response c level next = λ i. record {
   cells = record { items = cells_back line c cells i };
 }
   where
-    pairs : pairs_of line c (map (val_of line c) (old_facts 0 32)) (AnyPair ∷ AnyPair ∷ AnyPair ∷ []) ≡ whole_pair ∷ whole_pair ∷ whole_pair ∷ []
+    pairs : pairs_of line c (map (val_of line c) (old_facts 0 32)) (AnyPair ∷ AnyPair ∷ AnyPair ∷ []) ≡ whole_pair ∷ whole_pair ∷ whole_pair
+        ∷ []
     pairs = ap (λ regs. pairs_of line c regs (AnyPair ∷ AnyPair ∷ AnyPair ∷ [])) (olds_back line c 0 32) ∙ refl
 
 -- a vector, at its line and a count from 0 to 3
-pub vector_instance : (cert : Cert) (id : ℕ) (cells : List Ends) (line response c level : ℕ) (next : List ℕ) → slice_get cert.points id ≡ Some (vector_point cells line response next) → c ≤ 3 → c + response < 1820
-    → level_at cert.schedule (start_of cert.schedule line + (c + response)) ≡ Some level → instance_at cert id line c ≡ Some (handler_entry cells line (c + response) level)
+pub vector_instance : (cert : Cert) (id : ℕ) (cells : List Ends) (line response c level : ℕ) (next : List ℕ) → slice_get cert.points
+    id ≡ Some (vector_point cells line response next) → c ≤ 3 → c + response < 1820
+    → level_at cert.schedule (start_of cert.schedule line + (c + response)) ≡ Some level → instance_at cert id line c ≡ Some
+    (handler_entry cells line (c + response) level)
 vector_instance cert id cells line response c level next at few less there =
     placed cert id line c (c + response) level (vector_point cells line response next) at
-    (box_true (nat_le line line) (nat_le line line) (nat_le 0 c) (nat_le c 3) (le_true line line (omega arith)) (le_true line line (omega arith)) (le_true 0 c (omega arith)) (le_true c 3 few))
+    (box_true (nat_le line line) (nat_le line line) (nat_le 0 c) (nat_le c 3) (le_true line line (omega arith))
+    (le_true line line (omega arith)) (le_true 0 c (omega arith)) (le_true c 3 few))
     clock less there
     ∙ ap (λ y. Some y) (vector_same cells line response c level next)
   where

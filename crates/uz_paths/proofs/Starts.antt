@@ -1,5 +1,6 @@
 -- The starts of a search are within a certificate's limits, and the entry is one of them.
-use Rattle.std.proofs.Common.{◌≡◌, ◌≢◌, ◌∙◌, sym, ap, refl, arith, ℕ, zero, suc, ◌+◌, ◌*◌, ◌<◌, ◌≤◌, Bool, true, false, List, [], ◌∷◌, map, filter, All, length, subst, if◌then◌else◌}
+use Rattle.std.proofs.Common.{◌≡◌, ◌≢◌, ◌∙◌, sym, ap, refl, arith, ℕ, zero, suc, ◌+◌, ◌*◌, ◌<◌, ◌≤◌, Bool, true, false, List, [], ◌∷◌, map}
+use Rattle.std.proofs.Common.{filter, All, length, subst, if◌then◌else◌}
 use Rattle.std.specs.Prelude.{Some, ◌&&◌, nat_le, slice_get, replicate}
 use Rattle.std.proofs.lemmas.Bool.Decides.{nat_tests}
 use Rattle.std.proofs.lemmas.List.{length-map}
@@ -65,11 +66,13 @@ self_fit : (cells : List Cell) → spans_fit cells (map (λ c. c.range) cells) �
 self_fit [] = refl
 self_fit (c ∷ cells) = λ i. in_self c.range i && self_fit cells i
 
-cell_ranges : (h : Head) (test : Cell → Bool) (cells : List Cell) → All (CellFits h) cells → All (RangeFits 255) (map (λ c. c.range) (filter test cells))
+cell_ranges : (h : Head) (test : Cell → Bool) (cells : List Cell) → All (CellFits h) cells → All (RangeFits 255)
+    (map (λ c. c.range) (filter test cells))
 cell_ranges h test [] all = All-nil (RangeFits 255)
 cell_ranges h test (c ∷ cells) all = by (test c) (cell_ranges h test cells (All-tail (CellFits h) c cells all))
   where
-    by : (b : Bool) → All (RangeFits 255) (map (λ c. c.range) (filter test cells)) → All (RangeFits 255) (map (λ c. c.range) (if b then c ∷ filter test cells else filter test cells))
+    by : (b : Bool) → All (RangeFits 255) (map (λ c. c.range) (filter test cells)) → All (RangeFits 255)
+        (map (λ c. c.range) (if b then c ∷ filter test cells else filter test cells))
     by true rest = All-cons (RangeFits 255) c.range (map (λ c. c.range) (filter test cells)) (All-head (CellFits h) c cells all).range rest
     by false rest = rest
 
@@ -78,7 +81,8 @@ cell_ranges h test (c ∷ cells) all = by (test c) (cell_ranges h test cells (Al
 whole_open : (e : Ends) → Some e ≡ Some whole_pair → IsOpen e
 whole_open e is = let same = some_is e whole_pair is in (ap (λ z. z.lo) same, (let hi = ap (λ z. z.hi) same in omega arith))
 
-entry_limits : (p : Program) (start : Beginning) (registers : List Ends) → start.pc < 32768 → length registers ≡ 32 → IsWithinLimits p (entry_instance_at (entry_with registers p.head start 0) 1)
+entry_limits : (p : Program) (start : Beginning) (registers : List Ends) → start.pc < 32768 → length registers ≡ 32 → IsWithinLimits p
+    (entry_instance_at (entry_with registers p.head start 0) 1)
 entry_limits p start registers pc count = record {
   pc = pc;
   register_count = length-map registers (λ r. Range r) ∙ count;
@@ -92,13 +96,15 @@ entry_limits p start registers pc count = record {
   cells = self_fit (tracked p.head start.kind);
 }
   where
-    hulls : (k : ℕ) → k < 3 → slice_get (hull_at (map Range registers) 26 ∷ hull_at (map Range registers) 28 ∷ hull_at (map Range registers) 30 ∷ []) k ≡ Some whole_pair → IsOpen (hull_at (map Range registers) (26 + 2 * k))
+    hulls : (k : ℕ) → k < 3 → slice_get (hull_at (map Range registers) 26 ∷ hull_at (map Range registers) 28 ∷ hull_at (map Range registers)
+        30 ∷ []) k ≡ Some whole_pair → IsOpen (hull_at (map Range registers) (26 + 2 * k))
     hulls zero less at = whole_open (hull_at (map Range registers) 26) at
     hulls (suc zero) less at = whole_open (hull_at (map Range registers) 28) at
     hulls (suc (suc zero)) less at = whole_open (hull_at (map Range registers) 30) at
     hulls (suc (suc (suc k))) less at = absurd (omega arith)
 
-first_limits : (p : Program) (cells : List Ends) (c : ℕ) → spans_fit (tracked p.head Handler) cells ≡ true → IsWithinLimits p (first_state p.head.irq cells c)
+first_limits : (p : Program) (cells : List Ends) (c : ℕ) → spans_fit (tracked p.head Handler) cells ≡ true → IsWithinLimits p
+    (first_state p.head.irq cells c)
 first_limits p cells c fit = record {
   pc = omega arith;
   register_count = refl;
@@ -112,19 +118,25 @@ first_limits p cells c fit = record {
   cells = fit;
 }
   where
-    hulls : (k : ℕ) → k < 3 → slice_get (whole_pair ∷ whole_pair ∷ whole_pair ∷ []) k ≡ Some whole_pair → IsOpen (hull_at (old_from 0 32) (26 + 2 * k))
+    hulls : (k : ℕ) → k < 3 → slice_get (whole_pair ∷ whole_pair ∷ whole_pair ∷ []) k ≡ Some whole_pair
+        → IsOpen (hull_at (old_from 0 32) (26 + 2 * k))
     hulls zero less at = (refl, omega arith)
     hulls (suc zero) less at = (refl, omega arith)
     hulls (suc (suc zero)) less at = (refl, omega arith)
     hulls (suc (suc (suc k))) less at = absurd (omega arith)
 
-all_limits : (p : Program) (start : Beginning) (registers firsts : List Ends) (kind : Kind) → start.pc < 32768 → length registers ≡ 32 → spans_fit (tracked p.head Handler) firsts ≡ true
-    → p.starts ≡ entry_instance_at (entry_with registers p.head start 0) 1 ∷ first_states kind p.head.irq firsts → (x : Instance) → Among p.starts x → IsWithinLimits p x
+all_limits : (p : Program) (start : Beginning) (registers firsts : List Ends) (kind : Kind) → start.pc < 32768 → length registers ≡ 32
+    → spans_fit (tracked p.head Handler) firsts ≡ true
+    → p.starts ≡ entry_instance_at (entry_with registers p.head start 0) 1 ∷ first_states kind p.head.irq firsts → (x : Instance)
+    → Among p.starts x → IsWithinLimits p x
 all_limits p start registers firsts Main pc count fit e x (i, there) =
-    first_of_five (IsWithinLimits p) _ _ _ _ _ x i (entry_limits p start registers pc count) (first_limits p firsts 0 fit) (first_limits p firsts 1 fit) (first_limits p firsts 2 fit) (first_limits p firsts 3 fit)
+    first_of_five (IsWithinLimits p) _ _ _ _ _ x i (entry_limits p start registers pc count) (first_limits p firsts 0 fit)
+    (first_limits p firsts 1 fit) (first_limits p firsts 2 fit) (first_limits p firsts 3 fit)
     (ap (λ xs. slice_get xs i) (sym e) ∙ there)
-all_limits p start registers firsts Handler pc count fit e x (i, there) = first_of_one (IsWithinLimits p) _ x i (entry_limits p start registers pc count) (ap (λ xs. slice_get xs i) (sym e) ∙ there)
-all_limits p start registers firsts Alone pc count fit e x (i, there) = first_of_one (IsWithinLimits p) _ x i (entry_limits p start registers pc count) (ap (λ xs. slice_get xs i) (sym e) ∙ there)
+all_limits p start registers firsts Handler pc count fit e x (i, there) = first_of_one (IsWithinLimits p) _ x i
+    (entry_limits p start registers pc count) (ap (λ xs. slice_get xs i) (sym e) ∙ there)
+all_limits p start registers firsts Alone pc count fit e x (i, there) = first_of_one (IsWithinLimits p) _ x i
+    (entry_limits p start registers pc count) (ap (λ xs. slice_get xs i) (sym e) ∙ there)
 
 -- the entry
 
@@ -133,7 +145,8 @@ kind_fits Main e enters line clock = (line, clock)
 kind_fits Handler e enters line clock = absurd (enters refl)
 kind_fits Alone e enters line clock = tt
 
-facts_fit : (head : Head) (start : Beginning) (registers : List Ends) → HeadFits head → length registers ≡ 32 → All (RangeFits 255) registers → EntryFactsFit head (entry_with registers head start 0)
+facts_fit : (head : Head) (start : Beginning) (registers : List Ends) → HeadFits head → length registers ≡ 32 → All (RangeFits 255)
+    registers → EntryFactsFit head (entry_with registers head start 0)
 facts_fit head start registers fits count ranges = record {
   registers = count;
   ranges = ranges;
@@ -141,11 +154,16 @@ facts_fit head start registers fits count ranges = record {
   flags = all_repeated (BitFits start.kind) Free 7 tt;
   slots = omega arith;
   stack = All-nil (RangeFits 255);
-  cells = record { ranges = cell_ranges head (λ c. tracks start.kind c.owner) head.cells.items fits.cells; within = self_fit (tracked head start.kind) };
+  cells = record {
+    ranges = cell_ranges head (λ c. tracks start.kind c.owner) head.cells.items fits.cells;
+    within = self_fit (tracked head start.kind);
+  };
 }
 
-pub is_entry : (r : Reading) (p : Program) (entry : Entry) → ReadingFits r → p.head ≡ r.head → entry ≡ entry_with r.registers r.head r.start 0
-    → p.starts ≡ entry_instance_at (entry_with r.registers r.head r.start 0) 1 ∷ first_states r.start.kind p.head.irq r.firsts.items → IsEntry p entry
+pub is_entry : (r : Reading) (p : Program) (entry : Entry) → ReadingFits r → p.head ≡ r.head → entry ≡ entry_with r.registers r.head r.start
+    0
+    → p.starts ≡ entry_instance_at (entry_with r.registers r.head r.start 0) 1 ∷ first_states r.start.kind p.head.irq r.firsts.items
+    → IsEntry p entry
 is_entry r p entry fits head e starts = subst (IsEntry p) (sym (e ∙ ap (λ h. entry_with r.registers h r.start 0) (sym head))) (record {
   start = (0, ap (λ xs. slice_get xs 0) starts');
   kind = kind_fits r.start.kind (entry_with r.registers p.head r.start 0) fits.enters refl refl;
@@ -153,8 +171,10 @@ is_entry r p entry fits head e starts = subst (IsEntry p) (sym (e ∙ ap (λ h. 
   line = refl;
   clock = refl;
   facts = facts_fit p.head r.start r.registers (subst HeadFits (sym head) fits.head) fits.register_count fits.registers;
-  limits = all_limits p r.start r.registers r.firsts.items r.start.kind fits.pc fits.register_count (subst (λ h. spans_fit (tracked h Handler) r.firsts.items ≡ true) (sym head) fits.firsts.within) starts';
+  limits = all_limits p r.start r.registers r.firsts.items r.start.kind fits.pc fits.register_count
+      (subst (λ h. spans_fit (tracked h Handler) r.firsts.items ≡ true) (sym head) fits.firsts.within) starts';
 })
   where
     starts' : p.starts ≡ entry_instance_at (entry_with r.registers p.head r.start 0) 1 ∷ first_states r.start.kind p.head.irq r.firsts.items
-    starts' = starts ∙ ap (λ h. entry_instance_at (entry_with r.registers h r.start 0) 1 ∷ first_states r.start.kind p.head.irq r.firsts.items) (sym head)
+    starts' = starts ∙ ap (λ h. entry_instance_at (entry_with r.registers h r.start 0) 1 ∷ first_states r.start.kind p.head.irq
+        r.firsts.items) (sym head)

@@ -1,5 +1,6 @@
 -- The points of instances are within a certificate's limits.
-use Rattle.std.proofs.Common.{◌≡◌, ◌≢◌, ◌∙◌, sym, ap, refl, arith, inl, inr, ⊎_elim, ◌⊎◌, ℕ, zero, suc, ◌+◌, ◌*◌, ◌<◌, ◌≤◌, Bool, true, false, List, [], ◌∷◌, map, All, length, get_or, subst, if◌then◌else◌}
+use Rattle.std.proofs.Common.{◌≡◌, ◌≢◌, ◌∙◌, sym, ap, refl, arith, inl, inr, ⊎_elim, ◌⊎◌, ℕ, zero, suc, ◌+◌, ◌*◌, ◌<◌, ◌≤◌, Bool, true}
+use Rattle.std.proofs.Common.{false, List, [], ◌∷◌, map, All, length, get_or, subst, if◌then◌else◌}
 use Rattle.std.specs.Prelude.{Some, ◌&&◌, nat_eq, nat_le, nat_lt, pos, slice_get, slice_index_or, replicate}
 use Rattle.std.proofs.lemmas.Bool.{cases_eq, eq-eqb}
 use Rattle.std.proofs.lemmas.Bool.Decides.{nat_tests}
@@ -9,7 +10,8 @@ use Rattle.std.proofs.lemmas.Option.{slice_get-get_or}
 use Rattle.uz_schedule.specs.Ends.{Ends, whole_byte, whole_pair}
 use Rattle.uz_schedule.specs.Instances.{hull_at, span_of_val, val_at}
 use Rattle.uz_schedule.specs.Tracked.{tracked, depth_of}
-use Rattle.uz_schedule.specs.WellFormed.{BitFits, CellFactFits, FactFits, IsAtBegin, PairFits, PartFits, PointFits, PointKindFits, RangeFits, is_carry_and_zero_default, is_zero_or_one, spans_fit}
+use Rattle.uz_schedule.specs.WellFormed.{BitFits, CellFactFits, FactFits, IsAtBegin, PairFits, PartFits, PointFits, PointKindFits}
+use Rattle.uz_schedule.specs.WellFormed.{RangeFits, is_carry_and_zero_default, is_zero_or_one, spans_fit}
 use Rattle.uz_schedule.specs.declared.facts.Bit.{Bit}
 use Rattle.uz_schedule.specs.declared.facts.Bit.TheVariants.{Old as OldBit}
 use Rattle.uz_schedule.specs.declared.facts.Fact.TheVariants.{Any, Between, Old as OldFact}
@@ -26,7 +28,8 @@ use Rattle.uz_search.specs.Fitting.{Stands}
 use Rattle.uz_search.proofs.Lists.{of_map}
 use Rattle.uz_search_laws.specs.Limits.{IsOpen, IsWithinLimits, OldFits}
 use Rattle.uz_paths.specs.Linked.{NamesFit}
-use Rattle.uz_paths.specs.Points.{AreOrdered, AreOrderedVals, IsOrdered, IsOrderedVal, byte_fact, fact_of, old_facts, pair_fact, point_of, range_fact, same_ends, vector_point}
+use Rattle.uz_paths.specs.Points.{AreOrdered, AreOrderedVals, IsOrdered, IsOrderedVal, byte_fact, fact_of, old_facts, pair_fact, point_of}
+use Rattle.uz_paths.specs.Points.{range_fact, same_ends, vector_point}
 use Rattle.uz_paths.proofs.SameInstance.{both, ends_same, eq_of}
 
 -- Elements
@@ -34,7 +37,8 @@ use Rattle.uz_paths.proofs.SameInstance.{both, ends_same, eq_of}
 pub all_of : {A : Type 0} (P : A → Type 0) (xs : List A) → ((i : ℕ) (x : A) → slice_get xs i ≡ Some x → P x) → All P xs
 all_of P xs each k d within = each k (get_or xs k d) (slice_get-get_or xs k d within)
 
-mapped : {A B : Type 0} (P : B → Type 0) (f : A → B) (xs : List A) → ((i : ℕ) (x : A) → slice_get xs i ≡ Some x → P (f x)) → All P (map f xs)
+mapped : {A B : Type 0} (P : B → Type 0) (f : A → B) (xs : List A) → ((i : ℕ) (x : A) → slice_get xs i ≡ Some x → P (f x))
+    → All P (map f xs)
 mapped P f xs each = all_of P (map f xs) (λ i y at. let x = of_map f xs i y at in subst P x.2 (each i x.0 x.1))
 
 -- Facts
@@ -69,14 +73,20 @@ fact_fits kind (Range e) old range = byte_fits kind e range
 fact_fits kind (Old r) old range = old
 fact_fits kind OldFlags old range = old
 
-range_fits : (ambiguous : Bool) (e : Ends) → RangeFits 65535 e → (nat_eq e.lo 0 && nat_eq e.hi 65535) ≡ false → PairFits (range_fact ambiguous e)
+range_fits : (ambiguous : Bool) (e : Ends) → RangeFits 65535 e → (nat_eq e.lo 0 && nat_eq e.hi 65535) ≡ false
+    → PairFits (range_fact ambiguous e)
 range_fits ambiguous e range partial = by (ambiguous && (nat_eq e.lo e.hi && nat_lt e.hi 2)) refl
   where
     by : (b : Bool) → (ambiguous && (nat_eq e.lo e.hi && nat_lt e.hi 2)) ≡ b → PairFits (if b then LoopPair 1 e.lo else BetweenPair e)
-    by true is = let order = range.order in let high = range.high in record { some = omega arith; factor = omega arith; offset = omega arith }
+    by true is = let order = range.order in let high = range.high in record {
+      some = omega arith;
+      factor = omega arith;
+      offset = omega arith;
+    }
     by false is = part 65535 e range partial
 
-pair_fits : (ambiguous : Bool) (hull e : Ends) → RangeFits 65535 e → (e ≡ whole_pair → hull ≡ whole_pair) → PairFits (pair_fact ambiguous hull e)
+pair_fits : (ambiguous : Bool) (hull e : Ends) → RangeFits 65535 e → (e ≡ whole_pair → hull ≡ whole_pair)
+    → PairFits (pair_fact ambiguous hull e)
 pair_fits ambiguous hull e range whole = by (same_ends e hull) refl
   where
     not_whole : same_ends e hull ≡ false → (b : Bool) → (nat_eq e.lo 0 && nat_eq e.hi 65535) ≡ b → b ≡ false
@@ -84,7 +94,8 @@ pair_fits ambiguous hull e range whole = by (same_ends e hull) refl
     not_whole differ true is =
         let parts = both (nat_eq e.lo 0) (nat_eq e.hi 65535) is in
         let all : e ≡ whole_pair = ends_same e whole_pair (eq_of e.lo 0 parts.0) (eq_of e.hi 65535 parts.1) in
-        let one : same_ends whole_pair whole_pair ≡ false = subst (λ z. same_ends whole_pair z ≡ false) (whole all) (subst (λ z. same_ends z hull ≡ false) all differ) in
+        let one : same_ends whole_pair whole_pair ≡ false = subst (λ z. same_ends whole_pair z ≡ false) (whole all)
+        (subst (λ z. same_ends z hull ≡ false) all differ) in
         absurd (cc)
 
     by : (b : Bool) → same_ends e hull ≡ b → PairFits (if b then AnyPair else range_fact ambiguous e)
@@ -100,7 +111,8 @@ has_text : (ambiguous : Bool) (hull e : Ends) → (is_zero_or_one (pair_fact amb
 has_text false hull e = and_false (is_zero_or_one (pair_fact false hull e))
 has_text true hull e = by (same_ends e hull)
   where
-    between : (b : Bool) → (nat_eq e.lo e.hi && nat_lt e.hi 2) ≡ b → (is_zero_or_one (if b then LoopPair 1 e.lo else BetweenPair e) && true) ≡ false
+    between : (b : Bool) → (nat_eq e.lo e.hi && nat_lt e.hi 2) ≡ b → (is_zero_or_one (if b then LoopPair 1 e.lo else BetweenPair e) && true)
+        ≡ false
     between true is = refl
     between false is = ap (λ b. b && true) is
 
@@ -116,10 +128,12 @@ span_fits (Old r) range = record { order = omega arith; high = omega arith }
 span_fits OldFlags range = record { order = omega arith; high = omega arith }
 
 -- a hull that is open is the whole range
-open_whole : (regs : List Val) (r : ℕ) → length regs ≡ 32 → r + 1 < 32 → AreOrderedVals regs → IsOpen (hull_at regs r) → hull_at regs r ≡ whole_pair
+open_whole : (regs : List Val) (r : ℕ) → length regs ≡ 32 → r + 1 < 32 → AreOrderedVals regs → IsOpen (hull_at regs r)
+    → hull_at regs r ≡ whole_pair
 open_whole regs r count inside ordered wide =
     let low = (span_fits (val_at regs r) (ordered r (val_at regs r) (slice_get-get_or regs r (Range whole_byte) (omega arith)))).high in
-    let high = (span_fits (val_at regs (r + 1)) (ordered (r + 1) (val_at regs (r + 1)) (slice_get-get_or regs (r + 1) (Range whole_byte) (omega arith)))).high in
+    let high = (span_fits (val_at regs (r + 1))
+    (ordered (r + 1) (val_at regs (r + 1)) (slice_get-get_or regs (r + 1) (Range whole_byte) (omega arith)))).high in
     let begin = wide.0 in
     let end = wide.1 in
     ends_same (hull_at regs r) whole_pair begin (omega arith)
@@ -143,7 +157,8 @@ main_handler e = cc
 alone_handler : Alone ≡ Handler → ⊥
 alone_handler e = cc
 
-pub own_fits : (p : Program) (count : ℕ) (x : Instance) (next : List ℕ) → Stands p x → IsWithinLimits p x → IsOrdered x → NamesFit count next → PointFits p.head p.lines count (point_of x next)
+pub own_fits : (p : Program) (count : ℕ) (x : Instance) (next : List ℕ) → Stands p x → IsWithinLimits p x → IsOrdered x → NamesFit count
+    next → PointFits p.head p.lines count (point_of x next)
 own_fits p count x next stands limits ordered names = record {
   kind = kind x.kind refl;
   pc = limits.pc;
@@ -194,8 +209,10 @@ own_fits p count x next stands limits ordered names = record {
     at k less = slice_get-get_or x.pairs k whole_pair (let three = limits.pair_count in omega arith)
 
     pair : (k : ℕ) (b : Bool) → k < 3 → PairFits (pair_fact b (hull_at x.regs (26 + 2 * k)) (slice_index_or x.pairs k whole_pair))
-    pair k b less = pair_fits b (hull_at x.regs (26 + 2 * k)) (slice_index_or x.pairs k whole_pair) (ordered.pairs k (slice_index_or x.pairs k whole_pair) (at k less))
-        (λ whole. open_whole x.regs (26 + 2 * k) limits.register_count (omega arith) ordered.registers (limits.hulls k less (at k less ∙ ap (λ e. Some e) whole)))
+    pair k b less = pair_fits b (hull_at x.regs (26 + 2 * k)) (slice_index_or x.pairs k whole_pair)
+        (ordered.pairs k (slice_index_or x.pairs k whole_pair) (at k less))
+        (λ whole. open_whole x.regs (26 + 2 * k) limits.register_count (omega arith) ordered.registers
+        (limits.hulls k less (at k less ∙ ap (λ e. Some e) whole)))
 
 old_fits : (k n : ℕ) → k + n ≤ 32 → All (FactFits Handler) (old_facts k n)
 old_fits k zero h = All-nil (FactFits Handler)
@@ -205,12 +222,20 @@ old_flags : (n : ℕ) → All (BitFits Handler) (replicate n OldBit)
 old_flags zero = All-nil (BitFits Handler)
 old_flags (suc n) = All-cons (BitFits Handler) OldBit (replicate n OldBit) refl (old_flags n)
 
-pub vector_fits : (p : Program) (count : ℕ) (cells : List Ends) (line response : ℕ) (next : List ℕ) → line < p.lines → response < 1820 → spans_fit (tracked p.head Handler) cells ≡ true → AreOrdered 255 cells → NamesFit count next
+pub vector_fits : (p : Program) (count : ℕ) (cells : List Ends) (line response : ℕ) (next : List ℕ) → line < p.lines → response < 1820
+    → spans_fit (tracked p.head Handler) cells ≡ true → AreOrdered 255 cells → NamesFit count next
     → PointFits p.head p.lines count (vector_point cells line response next)
 vector_fits p count cells line response next below less fit ordered names = record {
   kind = tt;
   pc = omega arith;
-  box = record { line_order = omega arith; line = below; count_order = omega arith; count = omega arith; clock = less; slope = omega arith };
+  box = record {
+    line_order = omega arith;
+    line = below;
+    count_order = omega arith;
+    count = omega arith;
+    clock = less;
+    slope = omega arith;
+  };
   core = record {
     register_count = refl;
     registers = old_fits 0 32 (omega arith);

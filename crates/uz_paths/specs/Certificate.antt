@@ -43,15 +43,18 @@ pub record IsNumberOf (nodes : List Instance) (numbers : List ℕ) (x : Instance
   pub node : slice_get nodes place ≡ Some x
   pub is : slice_get numbers place ≡ Some n
 
--- the schedule of the marks, the rests of the returns, this entry, and a point for each vector and each other instance, which name what follows them
+-- the schedule of the marks, the rests of the returns, this entry, and a point for each vector and each other instance, which name what
+-- follows them
 pub record ArePartsOf (image : Flash) (p : Program) (entry : Entry) (found : Found) (parts : Parts) : Type 0 where
   pub schedule : IsScheduleOf found.marks.items p.lines p.fall parts.schedule
   pub rests : parts.rests.items ≡ rests_of found.returns.items
   pub enters : parts.entry ≡ record entry { id = parts.entry.id }
   pub numbers : List ℕ
   pub entry_number : IsNumberOf found.nodes.keys numbers (entry_instance_at entry 1) parts.entry.id
-  pub numbered : AreNumbers (response_clocks p.head.irq) (uniform p.lines) parts.rests.items found.nodes.keys numbers (length parts.points.items)
-  pub points : ArePoints (response_clocks p.head.irq) (uniform p.lines) parts.rests.items found.nodes.keys numbers (length parts.points.items) parts.points.items
+  pub numbered : AreNumbers (response_clocks p.head.irq) (uniform p.lines) parts.rests.items found.nodes.keys numbers
+      (length parts.points.items)
+  pub points : ArePoints (response_clocks p.head.irq) (uniform p.lines) parts.rests.items found.nodes.keys numbers
+      (length parts.points.items) parts.points.items
   pub named : AreNamed image p parts.schedule parts.rests.items found.nodes.keys numbers parts.points.items
 
 -- with the program's header

@@ -33,7 +33,8 @@ pub record NamesFit (count : ℕ) (next : List ℕ) : Type 0 where
   pub rise : IsTrue (rises next)
 
 -- each rest's vector and each other instance has its point
-pub record ArePoints (response : ℕ) (lines : Lines) (rests : List Rest) (nodes : List Instance) (numbers : List ℕ) (count : ℕ) (points : List Point) : Type 0 where
+pub record ArePoints (response : ℕ) (lines : Lines) (rests : List Rest) (nodes : List Instance) (numbers : List ℕ) (count : ℕ)
+    (points : List Point) : Type 0 where
   pub size : length points ≡ count
   pub vectors : (k : ℕ) (rest : Rest) → slice_get rests k ≡ Some rest → IsVectorAt response lines points k rest
   pub own : (i n : ℕ) (x : Instance) → slice_get nodes i ≡ Some x → slice_get numbers i ≡ Some n → length rests ≤ n → IsPointAt points n x
@@ -62,11 +63,13 @@ pub record NamesMore (count most : ℕ) (old new : List ℕ) : Type 0 where
 
 -- the instance's results, each widened by the facts of its program counter, have their numbers among these
 abbrev pub NamesResults : Flash → Program → List Instance → List ℕ → Instance → List ℕ → Type 0
-NamesResults image p nodes numbers x next = (result : Next) (y : Instance) → After image p x (Ok result) → result.back ≡ false → Among result.out.items y → HasName nodes numbers (widened p y) next
+NamesResults image p nodes numbers x next = (result : Next) (y : Instance) → After image p x (Ok result) → result.back ≡ false
+    → Among result.out.items y → HasName nodes numbers (widened p y) next
 
 -- results of instances are instances, where they are widened
 abbrev pub IsClosed : Flash → Program → List Instance → Type 0
-IsClosed image p nodes = (x y : Instance) (result : Next) → Among nodes x → After image p x (Ok result) → result.back ≡ false → Among result.out.items y → Among nodes (widened p y)
+IsClosed image p nodes = (x y : Instance) (result : Next) → Among nodes x → After image p x (Ok result) → result.back ≡ false
+    → Among result.out.items y → Among nodes (widened p y)
 
 -- an instance has at most so many results
 abbrev pub HasFew : Flash → Program → Instance → ℕ → Type 0
@@ -75,7 +78,8 @@ HasFew image p x most = (result : Next) → After image p x (Ok result) → leng
 -- the handler's first state after a rest, where its interrupt is taken at clock c of the next line, with the schedule's level there
 abbrev pub first_after : Program → Schedule → Rest → ℕ → Instance
 first_after p s rest c =
-    handler_entry rest.cells.items (next_line s rest.line) (c + response_clocks p.head.irq) (level_or_zero s (next_line s rest.line) (c + response_clocks p.head.irq))
+    handler_entry rest.cells.items (next_line s rest.line) (c + response_clocks p.head.irq)
+    (level_or_zero s (next_line s rest.line) (c + response_clocks p.head.irq))
 
 -- the results of a rest's first states are named
 abbrev pub NamesEntries : Flash → Program → Schedule → List Instance → List ℕ → Rest → List ℕ → Type 0
@@ -88,14 +92,17 @@ AreEntered p s rests nodes = (k c : ℕ) (rest : Rest) → slice_get rests k ≡
 -- so many vectors name what follows them
 abbrev pub NamesVectors : Flash → Program → Schedule → List Rest → List Instance → List ℕ → ℕ → List Point → Type 0
 NamesVectors image p s rests nodes numbers done points =
-    (k : ℕ) (rest : Rest) (point : Point) → k < done → slice_get rests k ≡ Some rest → slice_get points k ≡ Some point → NamesEntries image p s nodes numbers rest point.next.items
+    (k : ℕ) (rest : Rest) (point : Point) → k < done → slice_get rests k ≡ Some rest → slice_get points k ≡ Some point → NamesEntries image
+    p s nodes numbers rest point.next.items
 
 -- of so many instances those with a point of their own name their results
 abbrev pub NamesOwn : Flash → Program → ℕ → List Instance → List ℕ → ℕ → List Point → Type 0
 NamesOwn image p vectors nodes numbers done points =
-    (i n : ℕ) (x : Instance) (point : Point) → i < done → slice_get nodes i ≡ Some x → slice_get numbers i ≡ Some n → vectors ≤ n → slice_get points n ≡ Some point → NamesResults image p nodes numbers x point.next.items
+    (i n : ℕ) (x : Instance) (point : Point) → i < done → slice_get nodes i ≡ Some x → slice_get numbers i ≡ Some n → vectors ≤ n
+    → slice_get points n ≡ Some point → NamesResults image p nodes numbers x point.next.items
 
 -- all points name what follows them
-pub record AreNamed (image : Flash) (p : Program) (s : Schedule) (rests : List Rest) (nodes : List Instance) (numbers : List ℕ) (points : List Point) : Type 0 where
+pub record AreNamed (image : Flash) (p : Program) (s : Schedule) (rests : List Rest) (nodes : List Instance) (numbers : List ℕ)
+    (points : List Point) : Type 0 where
   pub vectors : NamesVectors image p s rests nodes numbers (length rests) points
   pub own : NamesOwn image p (length rests) nodes numbers (length nodes) points

@@ -1,4 +1,5 @@
--- The numbers of points: first those of the handler's first states after a rest, one for each rest, then one for each other instance in the order in
+-- The numbers of points: first those of the handler's first states after a rest, one for each rest, then one for each other instance in the
+-- order in
 -- which it was found.
 use Rattle.std.specs.Prelude.{◌≡◌, ◌⊎◌, ◌<◌, ◌≤◌, ℕ, ◌+◌, List, Option, Some, None, slice_get, length}
 use Rattle.uz_schedule.specs.Ends.{Ends}
@@ -30,7 +31,8 @@ Numbered response lines rests count n x =
     IsVectorOf response lines rests n x ⊎ (((k : ℕ) → IsVectorOf response lines rests k x → ⊥) × (length rests ≤ n) × (n < count))
 
 -- the numbers of these instances, of so many points
-pub record AreNumbers (response : ℕ) (lines : Lines) (rests : List Rest) (nodes : List Instance) (numbers : List ℕ) (count : ℕ) : Type 0 where
+pub record AreNumbers (response : ℕ) (lines : Lines) (rests : List Rest) (nodes : List Instance) (numbers : List ℕ) (count : ℕ) : Type
+    0 where
   pub lengths : length numbers ≡ length nodes
   pub each : (i n : ℕ) (x : Instance) → slice_get nodes i ≡ Some x → slice_get numbers i ≡ Some n → Numbered response lines rests count n x
   -- points of their own are apart, and each is there

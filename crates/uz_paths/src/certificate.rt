@@ -159,11 +159,11 @@ fn rests_are_entered(
     requires schedule { IsScheduleOf found.now.marks.items program.now.lines program.now.fall schedule.now }
     ensures { AreEntered program.now schedule.now (rests_of_returns found.now.returns.items) found.now.nodes.keys }
 {
-    let _ = image;
-    let _ = program;
-    let _ = entry;
-    let _ = schedule;
-    let _ = found;
+    let _ = image; // said of in the contract alone
+    let _ = program; // said of in the contract alone
+    let _ = entry; // said of in the contract alone
+    let _ = schedule; // said of in the contract alone
+    let _ = found; // said of in the contract alone
     event_by_line();
     ended_rests_enter();
 }
@@ -175,9 +175,9 @@ fn nodes_are_closed(image: &Image, program: &Program, found: &Found)
     ensures stand { (x : Instance) → Among found.now.nodes.keys x → Stands program.now x }
     ensures closed { IsClosed image.now program.now found.now.nodes.keys }
 {
-    let _ = image;
-    let _ = program;
-    let _ = found;
+    let _ = image; // said of in the contract alone
+    let _ = program; // said of in the contract alone
+    let _ = found; // said of in the contract alone
     nodes_are_reached();
 }
 

@@ -17,7 +17,7 @@ use crate::successors::put_number;
 use arrayvec::ArrayVec;
 use indexmap::IndexSet;
 use uz_hex::Image;
-use uz_rules::{Next, after};
+use uz_rules::{Next, put_after};
 use uz_schedule::{Instance, Point, Rest, Schedule, equal_instances_are_one};
 use uz_search::{Program, widened_copy};
 
@@ -56,7 +56,7 @@ fn name(
     ensures more { NamesMore count 1 names.old.items names.new.items }
     ensures named { HasName nodes.now.keys numbers.now to.now names.new.items }
 {
-    let _ = count;
+    let _ = count; // said of in the contract alone
     let place = place_of(nodes, to);
     put_number(names, number_at(numbers, place));
 }
@@ -104,7 +104,8 @@ fn name_next(
     name_all(program, nodes, numbers, count, next.out.as_slice(), names);
 }
 
-/// Puts the numbers of the points where an instance leads among others, of which there are at most `most`.
+/// Puts the numbers of the points where an instance leads among others, of which there are at most `most`; its results are put in place of
+/// others.
 fn name_results(
     image: &Image,
     program: &Program,
@@ -114,6 +115,7 @@ fn name_results(
     at: &Instance,
     most: u32,
     names: &mut ArrayVec<u32, 16>,
+    next: &mut Next,
 )
     requires fits { ProgramFits program.now }
     requires stands { Stands program.now at.now }
@@ -126,14 +128,14 @@ fn name_results(
     ensures more { NamesMore count most names.old.items names.new.items }
     ensures named { NamesResults image.now program.now nodes.now.keys numbers.now at.now names.new.items }
 {
-    let _ = most;
-    match after(image, &program.head, program.lines, at) {
-        Ok(next) => name_next(program, nodes, numbers, count, &next, names),
+    let _ = most; // said of in the contract alone
+    match put_after(image, &program.head, program.lines, at, next) {
+        Ok(()) => name_next(program, nodes, numbers, count, next, names),
         Err(_) => {}
     }
 }
 
-/// The numbers of the points where an instance leads.
+/// The numbers of the points where an instance leads, whose results are put in place of others.
 fn own_names(
     image: &Image,
     program: &Program,
@@ -141,6 +143,7 @@ fn own_names(
     numbers: &[u32],
     count: u32,
     at: &Instance,
+    next: &mut Next,
 ) -> ArrayVec<u32, 16>
     requires fits { ProgramFits program.now }
     requires stands { Stands program.now at.now }
@@ -152,7 +155,9 @@ fn own_names(
     ensures named { NamesResults image.now program.now nodes.now.keys numbers.now at.now result.items }
 {
     let mut names = ArrayVec::new();
-    name_results(image, program, nodes, numbers, count, at, 16, &mut names);
+    name_results(
+        image, program, nodes, numbers, count, at, 16, &mut names, next,
+    );
     names
 }
 
@@ -165,6 +170,7 @@ fn vector_names(
     numbers: &[u32],
     count: u32,
     rest: &Rest,
+    next: &mut Next,
 ) -> ArrayVec<u32, 16>
     requires fits { ProgramFits program.now }
     requires schedule { ScheduleFits schedule.now }
@@ -181,7 +187,9 @@ fn vector_names(
     let mut names = ArrayVec::new();
     for c in 0..4u16 {
         let at = first_after(program, schedule, rest, c);
-        name_results(image, program, nodes, numbers, count, &at, 2, &mut names);
+        name_results(
+            image, program, nodes, numbers, count, &at, 2, &mut names, next,
+        );
     }
     names
 }
@@ -191,7 +199,7 @@ fn put_names(point: &mut Point, count: u32, names: ArrayVec<u32, 16>)
     requires { NamesFit count names.items }
     ensures { Renamed count names.items point.old point.new }
 {
-    let _ = count;
+    let _ = count; // said of in the contract alone
     point.next = names;
 }
 
@@ -204,6 +212,7 @@ fn link_vectors(
     nodes: &IndexSet<Instance>,
     numbers: &[u32],
     points: &mut [Point],
+    next: &mut Next,
 )
     requires fits { ProgramFits program.now }
     requires schedule { ScheduleFits schedule.now }
@@ -220,7 +229,7 @@ fn link_vectors(
 {
     let count = points.len() as u32;
     for (k, rest) in rests.iter().enumerate() {
-        let names = vector_names(image, program, schedule, nodes, numbers, count, rest);
+        let names = vector_names(image, program, schedule, nodes, numbers, count, rest, next);
         put_names(&mut points[k], count, names);
     }
 }
@@ -234,6 +243,7 @@ fn link_own(
     nodes: &IndexSet<Instance>,
     numbers: &[u32],
     points: &mut [Point],
+    next: &mut Next,
 )
     requires fits { ProgramFits program.now }
     requires stand { (x : Instance) → Among nodes.now.keys x → Stands program.now x }
@@ -246,12 +256,12 @@ fn link_own(
     ensures vectors { NamesVectors image.now program.now schedule.now rests.now nodes.now.keys numbers.now (length rests.now) points.new }
     ensures own { NamesOwn image.now program.now (length rests.now) nodes.now.keys numbers.now (length nodes.now.keys) points.new }
 {
-    let _ = schedule;
+    let _ = schedule; // said of in the contract alone
     let count = points.len() as u32;
     for (i, at) in nodes.as_slice().iter().enumerate() {
         let number = number_at(numbers, i) as usize;
         if number >= rests.len() {
-            let names = own_names(image, program, nodes, numbers, count, at);
+            let names = own_names(image, program, nodes, numbers, count, at, next);
             put_names(&mut points[number], count, names);
         }
     }
@@ -280,6 +290,11 @@ pub(crate) fn link_all(
     ensures made { ArePoints (response_clocks program.now.head.irq) (uniform program.now.lines) rests.now nodes.now.keys numbers.now (length points.old) points.new }
     ensures named { AreNamed image.now program.now schedule.now rests.now nodes.now.keys numbers.now points.new }
 {
-    link_vectors(image, program, schedule, rests, nodes, numbers, points);
-    link_own(image, program, schedule, rests, nodes, numbers, points);
+    let mut next = Next::empty();
+    link_vectors(
+        image, program, schedule, rests, nodes, numbers, points, &mut next,
+    );
+    link_own(
+        image, program, schedule, rests, nodes, numbers, points, &mut next,
+    );
 }

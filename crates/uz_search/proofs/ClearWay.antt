@@ -1,5 +1,6 @@
 -- What an instance passes is clear, or there is a clock that is unsteady.
-use Rattle.std.proofs.Common.{◌≡◌, ◌≢◌, ℕ, zero, suc, ◌≤◌, ◌+◌, ◌⊎◌, Option, Some, None, Bool, true, false, ◌&&◌, nat_eq, nat_lt, refl, sym, ap, ◌∙◌, subst, inl, inr, ⊎_elim, if◌then◌else◌, true≢false, arith}
+use Rattle.std.proofs.Common.{◌≡◌, ◌≢◌, ℕ, zero, suc, ◌≤◌, ◌+◌, ◌⊎◌, Option, Some, None, Bool, true, false, ◌&&◌, nat_eq, nat_lt, refl, sym}
+use Rattle.std.proofs.Common.{ap, ◌∙◌, subst, inl, inr, ⊎_elim, if◌then◌else◌, true≢false, arith}
 use Rattle.std.proofs.lemmas.Bool.{cases_eq}
 use Rattle.std.proofs.lemmas.Bool.Decides.{nat_tests}
 use Rattle.uz_schedule.specs.Lines.{clock_after}
@@ -78,7 +79,8 @@ module _ (program : Program) (x : Instance) (emit : Option (ℕ × EventKind)) w
   clear_each zero h k some few = absurd (omega (arith, some, few))
   clear_each (suc n) h k some few =
       let b = both_true (is_clear_way program x emit n) (Test (suc n)) h in
-      ⊎_elim (λ (same : k ≡ suc n). subst (λ m. Test m ≡ true) (sym same) b.1) (λ (apart : k ≢ suc n). clear_each n b.0 k some (omega (arith, few, apart))) (cases_eq k (suc n))
+      ⊎_elim (λ (same : k ≡ suc n). subst (λ m. Test m ≡ true) (sym same) b.1) (λ (apart : k ≢ suc n). clear_each n b.0 k some
+      (omega (arith, few, apart))) (cases_eq k (suc n))
 
   pub unclear_some : (n : ℕ) → is_clear_way program x emit n ≡ false → (k : ℕ) × (1 ≤ k) × (k ≤ n) × (Test k ≡ false)
   unfolding is_clear_way
@@ -93,15 +95,26 @@ unfolding is_clear_way
 way_none program x emit = refl
 
 pub way_more : (program : Program) (x : Instance) (emit : Option (ℕ × EventKind)) (n : ℕ)
-    → is_clear_way program x emit (n + 1) ≡ (is_clear_way program x emit n && is_clear_at program.fall (clock_after (lines_of program) x.line (x.clock + (n + 1))) (shown_at emit (n + 1)))
+    → is_clear_way program x emit (n + 1) ≡ (is_clear_way program x emit n && is_clear_at program.fall
+    (clock_after (lines_of program) x.line (x.clock + (n + 1))) (shown_at emit (n + 1)))
 unfolding is_clear_way
 way_more program x emit n = let e : n + 1 ≡ suc n = omega arith in rw e refl
 
-pub passes_from : (program : Program) (x : Instance) (next : Next) → x.kind ≢ Main → is_clear_way program x next.emit (most_clocks x next.out.items) ≡ false → PassesUnsteady program x next
+pub passes_from : (program : Program) (x : Instance) (next : Next) → x.kind ≢ Main → is_clear_way program x next.emit
+    (most_clocks x next.out.items) ≡ false → PassesUnsteady program x next
 passes_from program x next apart h =
     let r = unclear_some program x next.emit (most_clocks x next.out.items) h in
-    record { apart = apart; clocks = r.0; some = r.1; few = r.2; unsteady = unclear program.fall (clock_after (lines_of program) x.line (x.clock + r.0)) (shown_at next.emit r.0) r.3 }
+    record {
+      apart = apart;
+      clocks = r.0;
+      some = r.1;
+      few = r.2;
+      unsteady = unclear program.fall
+          (clock_after (lines_of program) x.line (x.clock + r.0)) (shown_at next.emit r.0) r.3;
+    }
 
-pub passes_not : (program : Program) (x : Instance) (next : Next) → is_clear_way program x next.emit (most_clocks x next.out.items) ≡ true → PassesUnsteady program x next → ⊥
+pub passes_not : (program : Program) (x : Instance) (next : Next) → is_clear_way program x next.emit (most_clocks x next.out.items) ≡ true
+    → PassesUnsteady program x next → ⊥
 passes_not program x next h u =
-    clear program.fall (clock_after (lines_of program) x.line (x.clock + u.clocks)) (shown_at next.emit u.clocks) (clear_each program x next.emit (most_clocks x next.out.items) h u.clocks u.some u.few) u.unsteady
+    clear program.fall (clock_after (lines_of program) x.line (x.clock + u.clocks)) (shown_at next.emit u.clocks)
+    (clear_each program x next.emit (most_clocks x next.out.items) h u.clocks u.some u.few) u.unsteady

@@ -1,5 +1,6 @@
 -- What an instruction emits: a return a leave, and nothing else one; and a sync event turns the level.
-use Rattle.std.proofs.Common.{◌≡◌, ℕ, zero, suc, ◌≤◌, ◌+◌, ◌-◌, Option, Some, None, Bool, true, false, not, ◌&&◌, ◌||◌, nat_eq, refl, arith, if◌then◌else◌}
+use Rattle.std.proofs.Common.{◌≡◌, ℕ, zero, suc, ◌≤◌, ◌+◌, ◌-◌, Option, Some, None, Bool, true, false, not, ◌&&◌, ◌||◌, nat_eq, refl, arith}
+use Rattle.std.proofs.Common.{if◌then◌else◌}
 use Rattle.std.specs.Prelude.{⊤}
 use Rattle.uz_schedule.specs.declared.facts.Bit.{Bit}
 use Rattle.uz_schedule.specs.declared.facts.Bit.TheVariants.{Zero, One, Free, Old as OldBit}
@@ -58,7 +59,8 @@ byte_turns level v at le =
 
 bit_turns : (level b : ℕ) (set : Bool) (at : ℕ) → level ≤ 1 → Turns level (bit_event level b set at)
 bit_turns level b set at le =
-    choose (Turns level) (nat_eq at 0x23) _ _ (choose (Turns level) (nat_eq b 0 && set) (Some (Some (Sync (1 - level)))) (Some None) (omega arith) tt)
+    choose (Turns level) (nat_eq at 0x23) _ _ (choose (Turns level) (nat_eq b 0 && set) (Some (Some (Sync (1 - level)))) (Some None)
+    (omega arith) tt)
     (choose (Turns level) (nat_eq at 0x25) _ _ (choose (Turns level) (nat_eq b 0) _ (Some None) (level_turns level (bit_of_bool set) le) tt)
     (choose (Turns level) (nat_eq at 0x26) _ _ (choose (Turns level) set (Some (Some Pixel)) (Some None) tt tt)
     (choose (Turns level) (nat_eq at 0x28) (Some (Some Pixel)) (Some None) tt tt)))
@@ -69,7 +71,8 @@ Emits level true event = event ≡ Some (Some Leave)
 Emits level false event = Turns level event
 
 pub emits : (level : ℕ) (e : Effect) (x : Instance) → level ≤ 1 → Emits level (returns_from_interrupt e) (emission_at level e x)
-emits level (Store to r) x le = choose (Turns level) (is_single (address_range to x)) _ (Some None) (byte_turns level (value_at x.regs r) (address_range to x).lo le) tt
+emits level (Store to r) x le = choose (Turns level) (is_single (address_range to x)) _ (Some None)
+    (byte_turns level (value_at x.regs r) (address_range to x).lo le) tt
 emits level (WriteIoBit at b set) x le = bit_turns level b set at le
 emits level (Return true) x le = refl
 emits level (Return false) x le = tt

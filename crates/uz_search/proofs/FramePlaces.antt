@@ -1,5 +1,6 @@
 -- Lines and clocks as positions of the frame, and places some clocks on.
-use Rattle.std.proofs.Common.{◌≡◌, ℕ, suc, ◌<◌, ◌≤◌, ◌+◌, ◌-◌, ◌*◌, ◌%◌, ◌⊎◌, ◌==◌, nat_lt, Bool, true, false, refl, sym, ap, ◌∙◌, inl, inr, ⊎_elim, if◌then◌else◌, arith}
+use Rattle.std.proofs.Common.{◌≡◌, ℕ, suc, ◌<◌, ◌≤◌, ◌+◌, ◌-◌, ◌*◌, ◌%◌, ◌⊎◌, ◌==◌, nat_lt, Bool, true, false, refl, sym, ap, ◌∙◌, inl, inr}
+use Rattle.std.proofs.Common.{⊎_elim, if◌then◌else◌, arith}
 use Rattle.std.proofs.lemmas.Bool.{cases_lt}
 use Rattle.std.proofs.lemmas.Bool.Decides.{nat_tests}
 use Rattle.std.proofs.Math.Nat.{mod-eq_of_lt, add-mod_right}
@@ -72,15 +73,19 @@ next_is lines line below = by (suc line == lines) refl
     by true e = inl (grind (arith, nat_tests), refl)
     by false e = inr (grind (arith, nat_tests), refl)
 
-pub reach_after : (lines line clock c : ℕ) → line < lines → clock < 1820 → c ≤ 1820 → Reaches lines line clock c (line_after (uniform lines) line (clock + c)) (clock_after (uniform lines) line (clock + c))
+pub reach_after : (lines line clock c : ℕ) → line < lines → clock < 1820 → c ≤ 1820 → Reaches lines line clock c
+    (line_after (uniform lines) line (clock + c)) (clock_after (uniform lines) line (clock + c))
 reach_after lines line clock c below in_line few = by (nat_lt (clock + c) 1820) refl
   where
-    by : (b : Bool) → nat_lt (clock + c) 1820 ≡ b → Reaches lines line clock c (if b then line else (uniform lines).next line) (if b then clock + c else clock + c - 1820)
+    by : (b : Bool) → nat_lt (clock + c) 1820 ≡ b → Reaches lines line clock c (if b then line else (uniform lines).next line)
+        (if b then clock + c else clock + c - 1820)
     by true e = (grind (arith, nat_tests), inl (refl, refl))
-    by false e = let ge : 1820 ≤ clock + c = grind (arith, nat_tests) in (omega (arith, in_line, few), inr (next_is lines line below, omega (arith, ge)))
+    by false e = let ge : 1820 ≤ clock + c = grind (arith, nat_tests) in
+        (omega (arith, in_line, few), inr (next_is lines line below, omega (arith, ge)))
 
 -- the clocks between the two
-pub between_of : (lines line clock c l q : ℕ) → Reaches lines line clock c l q → clock < 1820 → 1 ≤ c → c < 1820 → (if nat_lt clock q then q - clock else 1820 - clock + q) ≡ c
+pub between_of : (lines line clock c l q : ℕ) → Reaches lines line clock c l q → clock < 1820 → 1 ≤ c → c < 1820
+    → (if nat_lt clock q then q - clock else 1820 - clock + q) ≡ c
 between_of lines line clock c l q (h, inl a) in_line some few = by (nat_lt clock q) refl
   where
     by : (b : Bool) → nat_lt clock q ≡ b → (if b then q - clock else 1820 - clock + q) ≡ c
@@ -93,7 +98,8 @@ between_of lines line clock c l q (h, inr a) in_line some few = by (nat_lt clock
     by false e = omega (arith, a.1, in_line)
 
 -- the clock of a place some clocks on
-pub reach_clock : (lines line clock k l q : ℕ) → clock < 1820 → Reaches lines line clock k l q → clock_after (uniform lines) line (clock + k) ≡ q
+pub reach_clock : (lines line clock k l q : ℕ) → clock < 1820 → Reaches lines line clock k l q → clock_after (uniform lines) line
+    (clock + k) ≡ q
 reach_clock lines line clock k l q in_line (h, inl a) = by (nat_lt (clock + k) 1820) refl
   where
     by : (b : Bool) → nat_lt (clock + k) 1820 ≡ b → (if b then clock + k else clock + k - 1820) ≡ q

@@ -1,5 +1,6 @@
 -- Lists that are mapped, joined and chosen from, element by element.
-use Rattle.std.proofs.Common.{◌≡◌, ◌≢◌, ℕ, zero, suc, ◌⊎◌, List, [], ◌∷◌, ◌++◌, map, Some, Bool, true, false, refl, sym, ap, ◌∙◌, subst, inl, inr, ⊎_elim, slice_get, drop, append_assoc, if◌then◌else◌}
+use Rattle.std.proofs.Common.{◌≡◌, ◌≢◌, ℕ, zero, suc, ◌⊎◌, List, [], ◌∷◌, ◌++◌, map, Some, Bool, true, false, refl, sym, ap, ◌∙◌, subst}
+use Rattle.std.proofs.Common.{inl, inr, ⊎_elim, slice_get, drop, append_assoc, if◌then◌else◌}
 use Rattle.std.specs.List.{flat_map}
 use Rattle.uz_schedule.specs.declared.kinds.Kind.{Kind}
 use Rattle.uz_schedule.specs.declared.kinds.Kind.TheVariants.{Main, Handler, Alone}
@@ -55,7 +56,9 @@ module _ {A : Type 0} where
       (append_cases (f z) (flat_map f zs) h.0 y h.1)
 
   -- one more of a list is done
-  pub flat_next : (f : A → List A) (xs done whole : List A) (i : ℕ) (x : A) → slice_get xs i ≡ Some x → done ++ flat_map f (drop i xs) ≡ whole → (done ++ f x) ++ flat_map f (drop (suc i) xs) ≡ whole
+  pub flat_next : (f : A → List A) (xs done whole : List A) (i : ℕ) (x : A) → slice_get xs i ≡ Some x → done
+      ++ flat_map f (drop i xs) ≡ whole → (done ++ f x) ++ flat_map f (drop (suc i) xs) ≡ whole
   flat_next f [] done whole i x h e = cc
-  flat_next f (z ∷ zs) done whole zero x h e = ap (λ v. (done ++ f v) ++ flat_map f zs) (sym (some_is z x h)) ∙ append_assoc done (f z) (flat_map f zs) ∙ e
+  flat_next f (z ∷ zs) done whole zero x h e = ap (λ v. (done ++ f v) ++ flat_map f zs) (sym (some_is z x h)) ∙ append_assoc done (f z)
+      (flat_map f zs) ∙ e
   flat_next f (z ∷ zs) done whole (suc i) x h e = flat_next f zs done whole i x h e

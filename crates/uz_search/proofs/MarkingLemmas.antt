@@ -1,5 +1,6 @@
 -- What is kept where positions are marked.
-use Rattle.std.proofs.Common.{◌≡◌, ℕ, zero, suc, ◌<◌, ◌≤◌, ◌+◌, ◌%◌, ◌∷◌, [], List, Option, Some, None, refl, sym, ap, ◌∙◌, subst, length, slice_get, slice_set, inl, inr, ⊎_elim, arith}
+use Rattle.std.proofs.Common.{◌≡◌, ℕ, zero, suc, ◌<◌, ◌≤◌, ◌+◌, ◌%◌, ◌∷◌, [], List, Option, Some, None, refl, sym, ap, ◌∙◌, subst, length}
+use Rattle.std.proofs.Common.{slice_get, slice_set, inl, inr, ⊎_elim, arith}
 use Rattle.std.proofs.lemmas.Bool.{cases_eq}
 use Rattle.uz_schedule.specs.declared.lines.EventKind.{EventKind}
 use Rattle.uz_search.specs.declared.marks.Mark.{Mark}
@@ -19,7 +20,8 @@ module _ {A : Type 0} where
   get_set_other (x ∷ xs) (suc i) zero a ne = refl
   get_set_other (x ∷ xs) (suc i) (suc j) a ne = get_set_other xs i j a (λ e. ne (ap suc e))
 
-pub marks_new : (old : List (Option Mark)) (x : ℕ) (m : Mark) → slice_get old x ≡ Some None → MarksOne old x m.event m.by None (slice_set old x (Some m))
+pub marks_new : (old : List (Option Mark)) (x : ℕ) (m : Mark) → slice_get old x ≡ Some None → MarksOne old x m.event m.by None
+    (slice_set old x (Some m))
 marks_new old x m free = (
   (λ y n h. ⊎_elim
       (λ e. let two : slice_get old x ≡ Some (Some n) = subst (λ z. slice_get old z ≡ Some (Some n)) e h in cc (two, free))
@@ -27,7 +29,8 @@ marks_new old x m free = (
       (cases_eq y x)),
   (m, get_set_same old x (Some m) None free, refl),
   (λ y n h. ⊎_elim
-      (λ e. let mine : Some m ≡ Some n = some_of (sym (get_set_same old x (Some m) None free) ∙ subst (λ z. slice_get (slice_set old x (Some m)) z ≡ Some (Some n)) e h) in
+      (λ e. let mine : Some m ≡ Some n = some_of (sym (get_set_same old x (Some m) None free)
+      ∙ subst (λ z. slice_get (slice_set old x (Some m)) z ≡ Some (Some n)) e h) in
       let same : n ≡ m = cc mine in inr (e, ap (λ k. k.event) same, ap (λ k. k.by) same))
       (λ ne. inl (sym (get_set_other old x y (Some m) ne) ∙ h))
       (cases_eq y x)),

@@ -22,23 +22,28 @@ use Rattle.uz_rules.proofs.LocalLaws.{decoded_same}
 use Rattle.uz_search.specs.declared.program.Program.{Program}
 use Rattle.uz_search.specs.Following.{Flash, After, lines_of}
 
-pub one_result : (image : Flash) (program : Program) (x : Instance) (a b : Result Next Fail) → After image program x a → After image program x b → a ≡ b
+pub one_result : (image : Flash) (program : Program) (x : Instance) (a b : Result Next Fail) → After image program x a → After image program
+    x b → a ≡ b
 one_result image program x a b h k =
-    h.is ∙ ap (λ row. next_of (lines_of program) x (step_of_row program.head ((lines_of program).length x.line) image row x)) (decoded_same _ _ h.row k.row h.reads k.reads) ∙ sym k.is
+    h.is ∙ ap (λ row. next_of (lines_of program) x (step_of_row program.head ((lines_of program).length x.line) image row x))
+    (decoded_same _ _ h.row k.row h.reads k.reads) ∙ sym k.is
 
 ok_is : (a b : Next) → ◌≡◌ {A = Result Next Fail} (Ok a) (Ok b) → a ≡ b
 ok_is a b h = cc
 
-pub one_next : (image : Flash) (program : Program) (x : Instance) (a b : Next) → After image program x (Ok a) → After image program x (Ok b) → a ≡ b
+pub one_next : (image : Flash) (program : Program) (x : Instance) (a b : Next) → After image program x (Ok a) → After image program x (Ok b)
+    → a ≡ b
 one_next image program x a b h k = ok_is a b (one_result image program x (Ok a) (Ok b) h k)
 
 -- Where an instance has results
 
 abbrev pub exits_at : Flash → Instance → Instr → List Exit
-exits_at image x i = exits_of (effect_of i) (clocks_of i) (following_of (words_of i) x) x (outcomes image (following_of (words_of i) x) (effect_of i) x)
+exits_at image x i = exits_of (effect_of i) (clocks_of i) (following_of (words_of i) x) x
+    (outcomes image (following_of (words_of i) x) (effect_of i) x)
 
 abbrev pub draft_at : Flash → Program → Instance → Instr → Instance
-draft_at image program x i = transfer program.head image (following_of (words_of i) x) (sampled_of ((lines_of program).length x.line) (effect_of i) (clocks_of i) x) (effect_of i) x
+draft_at image program x i = transfer program.head image (following_of (words_of i) x) (sampled_of ((lines_of program).length x.line)
+    (effect_of i) (clocks_of i) x) (effect_of i) x
 
 -- the row that is read, and what it makes of the instance
 pub record Steps (image : Flash) (program : Program) (x : Instance) (next : Next) : Type 0 where
@@ -48,10 +53,12 @@ pub record Steps (image : Flash) (program : Program) (x : Instance) (next : Next
   pub emits : emission (effect_of row) x ≡ Some emitted
   pub emit : next.emit ≡ timed emitted (first_exit (exits_at image x row)).clocks
   pub back : next.back ≡ returns_from_interrupt (effect_of row)
-  pub out : next.out.items ≡ map (placed (lines_of program) x (draft_at image program x row) emitted (clears_flag (effect_of row) x)) (exits_at image x row)
+  pub out : next.out.items ≡ map (placed (lines_of program) x (draft_at image program x row) emitted (clears_flag (effect_of row) x))
+      (exits_at image x row)
 
 -- of a step with this reason and emission
-record Unless (lines : Lines) (x : Instance) (why : Option Fail) (emission : Option (Option EventKind)) (step : Step) (next : Next) : Type 0 where
+record Unless (lines : Lines) (x : Instance) (why : Option Fail) (emission : Option (Option EventKind)) (step : Step) (next : Next) : Type
+    0 where
   emitted : Option EventKind
   fails : why ≡ None
   emits : emission ≡ Some emitted
@@ -64,7 +71,8 @@ unless lines x None None step next h = cc
 unless lines x None (Some emitted) step next h = record { emitted = emitted; fails = refl; emits = refl; is = h }
 
 steps_row : (image : Flash) (program : Program) (x : Instance) (next : Next) (row : Option Instr)
-    → Ok next ≡ next_of (lines_of program) x (step_of_row program.head ((lines_of program).length x.line) image row x) → Steps image program x next
+    → Ok next ≡ next_of (lines_of program) x (step_of_row program.head ((lines_of program).length x.line) image row x) → Steps image program
+    x next
 steps_row image program x next None h = cc
 steps_row image program x next (Some i) h = record {
   row = i;
@@ -91,7 +99,10 @@ steps_row image program x next (Some i) h = record {
     is : next ≡ record {
       emit = timed u.emitted (first_exit (exits_at image x i)).clocks;
       back = returns_from_interrupt (effect_of i);
-      out = record { items = map (placed (lines_of program) x (draft_at image program x i) u.emitted (clears_flag (effect_of i) x)) (exits_at image x i) };
+      out = record {
+        items = map (placed (lines_of program) x (draft_at image program x i) u.emitted (clears_flag (effect_of i) x))
+            (exits_at image x i);
+      };
     }
     is = ok_is next _ u.is
 

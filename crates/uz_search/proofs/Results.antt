@@ -1,5 +1,6 @@
 -- Where the results of an instance stand, and what is shown on the way to them.
-use Rattle.std.proofs.Common.{◌≡◌, ◌≢◌, ℕ, zero, suc, ◌<◌, ◌≤◌, ◌+◌, ◌%◌, [], ◌∷◌, map, Option, Some, None, true, false, not, ◌&&◌, ◌||◌, refl, sym, ap, ◌∙◌, subst, inl, inr, ⊎_elim, slice_get, if◌then◌else◌, arith}
+use Rattle.std.proofs.Common.{◌≡◌, ◌≢◌, ℕ, zero, suc, ◌<◌, ◌≤◌, ◌+◌, ◌%◌, [], ◌∷◌, map, Option, Some, None, true, false, not, ◌&&◌, ◌||◌}
+use Rattle.std.proofs.Common.{refl, sym, ap, ◌∙◌, subst, inl, inr, ⊎_elim, slice_get, if◌then◌else◌, arith}
 use Rattle.std.proofs.Math.Nat.{mod-eq_of_lt}
 use Rattle.uz_machine.specs.Core.{returns_from_interrupt}
 use Rattle.uz_machine.specs.Effects.{effect_of}
@@ -35,7 +36,8 @@ apart_main Handler h = refl
 apart_main Alone h = refl
 
 -- a result, at its exit
-pub record AtExit (image : Flash) (program : Program) (x : Instance) (next : Next) (s : Steps image program x next) (y : Instance) : Type 0 where
+pub record AtExit (image : Flash) (program : Program) (x : Instance) (next : Next) (s : Steps image program x next) (y : Instance) : Type
+    0 where
   pub exit : Exit
   pub there : Among (exits_at image x s.row) exit
   pub is : placed (lines_of program) x (draft_at image program x s.row) s.emitted (clears_flag (effect_of s.row) x) exit ≡ y
@@ -45,9 +47,11 @@ pub record AtExit (image : Flash) (program : Program) (x : Instance) (next : Nex
 module _ (image : Flash) (program : Program) (x : Instance) (next : Next) (s : Steps image program x next) where
   pub result : (y : Instance) → Among next.out.items y → AtExit image program x next s y
   result y h =
-      let at = of_map (placed (lines_of program) x (draft_at image program x s.row) s.emitted (clears_flag (effect_of s.row) x)) (exits_at image x s.row) h.0 y
+      let at = of_map (placed (lines_of program) x (draft_at image program x s.row) s.emitted (clears_flag (effect_of s.row) x))
+      (exits_at image x s.row) h.0 y
       (ap (λ l. slice_get l h.0) (sym s.out) ∙ h.1) in
-      let clocks = exit_clocks image program.head s.row x (following_of (words_of s.row) x) (outcomes image (following_of (words_of s.row) x) (effect_of s.row) x) at.0 s.fails (h.0, at.1) in
+      let clocks = exit_clocks image program.head s.row x (following_of (words_of s.row) x)
+      (outcomes image (following_of (words_of s.row) x) (effect_of s.row) x) at.0 s.fails (h.0, at.1) in
       record { exit = at.0; there = (h.0, at.1); is = at.2; some = clocks.0; few = clocks.1 }
 
   -- there is one, where Z's ends are in order
@@ -55,7 +59,8 @@ module _ (image : Flash) (program : Program) (x : Instance) (next : Next) (s : S
   some_result order =
       let exit = first_exit_of image (effect_of s.row) (clocks_of s.row) (following_of (words_of s.row) x) x order in (
         placed (lines_of program) x (draft_at image program x s.row) s.emitted (clears_flag (effect_of s.row) x) exit.0,
-        ap (λ l. slice_get l 0) s.out ∙ in_map (placed (lines_of program) x (draft_at image program x s.row) s.emitted (clears_flag (effect_of s.row) x)) (exits_at image x s.row) 0 exit.0 exit.1,
+        ap (λ l. slice_get l 0) s.out ∙ in_map (placed (lines_of program) x (draft_at image program x s.row) s.emitted
+            (clears_flag (effect_of s.row) x)) (exits_at image x s.row) 0 exit.0 exit.1,
       )
 
   pub same_kind : (y : Instance) → Among next.out.items y → y.kind ≡ x.kind
@@ -66,7 +71,8 @@ module _ (image : Flash) (program : Program) (x : Instance) (next : Next) (s : S
   back_is_handler back = back_handler program.head (effect_of s.row) x s.fails (sym s.back ∙ back)
 
   -- where one exit is there, one result is
-  only_one : OneExit image (effect_of s.row) (clocks_of s.row) (following_of (words_of s.row) x) x → (y : Instance) → Among next.out.items y → slice_get next.out.items 0 ≡ Some y
+  only_one : OneExit image (effect_of s.row) (clocks_of s.row) (following_of (words_of s.row) x) x → (y : Instance) → Among next.out.items y
+      → slice_get next.out.items 0 ≡ Some y
   only_one one y (i, h) =
       let out : next.out.items ≡ f one.exit ∷ [] = s.out ∙ ap (map f) one.is in
       let here : slice_get (f one.exit ∷ []) i ≡ Some y = ap (λ l. slice_get l i) (sym out) ∙ h in
@@ -88,8 +94,10 @@ module _ (image : Flash) (program : Program) (x : Instance) (next : Next) (s : S
   emits_so stands =
       let even : x.level % 2 ≡ x.level = mod-eq_of_lt (let l = stands.level in omega (arith, l)) in
       let at : Emits x.level (returns_from_interrupt (effect_of s.row)) (emission (effect_of s.row) x) =
-      subst (λ n. Emits x.level (returns_from_interrupt (effect_of s.row)) (emission_at n (effect_of s.row) x)) (sym even) (emits x.level (effect_of s.row) x stands.level) in
-      subst (λ b. Emits x.level b (Some s.emitted)) (sym s.back) (subst (Emits x.level (returns_from_interrupt (effect_of s.row))) s.emits at)
+      subst (λ n. Emits x.level (returns_from_interrupt (effect_of s.row)) (emission_at n (effect_of s.row) x)) (sym even)
+      (emits x.level (effect_of s.row) x stands.level) in
+      subst (λ b. Emits x.level b (Some s.emitted)) (sym s.back) (subst (Emits x.level (returns_from_interrupt (effect_of s.row))) s.emits
+      at)
 
 -- a result outside main: it stands 1 to 4 clocks on
 pub record Moves (program : Program) (x y : Instance) : Type 0 where
@@ -102,21 +110,25 @@ pub record Moves (program : Program) (x y : Instance) : Type 0 where
 abbrev pub LevelOf : Instance → Option EventKind → Instance → Type 0
 LevelOf x emitted y = y.level ≡ level_after emitted x.level
 
-module _ (image : Flash) (program : Program) (x : Instance) (stands : Stands program x) (apart : x.kind ≢ Main) (next : Next) (s : Steps image program x next) where
+module _ (image : Flash) (program : Program) (x : Instance) (stands : Stands program x) (apart : x.kind ≢ Main) (next : Next)
+    (s : Steps image program x next) where
   main_not : is_main x.kind ≡ false
   main_not = apart_main x.kind apart
 
   -- the clocks to a result are its exit's
-  at_exit : (y : Instance) (h : Among next.out.items y) → (clocks_between x y ≡ (result image program x next s y h).exit.clocks) × Reaches program.lines x.line x.clock (result image program x next s y h).exit.clocks y.line y.clock
+  at_exit : (y : Instance) (h : Among next.out.items y) → (clocks_between x y ≡ (result image program x next s y h).exit.clocks)
+      × Reaches program.lines x.line x.clock (result image program x next s y h).exit.clocks y.line y.clock
   at_exit y h =
       let r = result image program x next s y h in
       let k : ℕ = r.exit.clocks in
       let some = r.some in
       let few = r.few in
       let line : line_after (lines_of program) x.line (x.clock + k) ≡ y.line =
-      sym (ap (λ b. if b then x.line else line_after (lines_of program) x.line (x.clock + k)) main_not) ∙ ap (λ (z : Instance). z.line) r.is in
+      sym (ap (λ b. if b then x.line else line_after (lines_of program) x.line (x.clock + k)) main_not) ∙ ap (λ (z : Instance). z.line)
+      r.is in
       let clock : clock_after (lines_of program) x.line (x.clock + k) ≡ y.clock =
-      sym (ap (λ b. if b then x.clock else clock_after (lines_of program) x.line (x.clock + k)) main_not) ∙ ap (λ (z : Instance). z.clock) r.is in
+      sym (ap (λ b. if b then x.clock else clock_after (lines_of program) x.line (x.clock + k)) main_not) ∙ ap (λ (z : Instance). z.clock)
+      r.is in
       let reach : Reaches program.lines x.line x.clock k y.line y.clock =
       subst (λ q. Reaches program.lines x.line x.clock k y.line q) clock
       (subst (λ l. Reaches program.lines x.line x.clock k l (clock_after (lines_of program) x.line (x.clock + k))) line
@@ -138,7 +150,8 @@ module _ (image : Flash) (program : Program) (x : Instance) (stands : Stands pro
   level_of y h =
       let r = result image program x next s y h in
       let even : x.level % 2 ≡ x.level = mod-eq_of_lt (let l = stands.level in omega (arith, l)) in
-      ap (λ (z : Instance). z.level) (sym r.is) ∙ ap (λ b. if b then x.level else level_after s.emitted (x.level % 2)) main_not ∙ ap (level_after s.emitted) even
+      ap (λ (z : Instance). z.level) (sym r.is) ∙ ap (λ b. if b then x.level else level_after s.emitted (x.level % 2)) main_not
+      ∙ ap (level_after s.emitted) even
 
   -- what is emitted is emitted at the end of the one result
   pub at_end : (t : ℕ) (e : EventKind) (y : Instance) → next.emit ≡ Some (t, e) → Among next.out.items y → t ≡ clocks_between x y
@@ -171,17 +184,20 @@ module _ (image : Flash) (program : Program) (x : Instance) (stands : Stands pro
           let none : Some (t, e) ≡ None = sym emit ∙ s.emit ∙ ap (λ o. timed o (first_exit (exits_at image x s.row)).clocks) is in
           cc
       by (Some event) is =
-          let pair : (t, e) ≡ ((first_exit (exits_at image x s.row)).clocks, event) = some_is (t, e) _ (sym emit ∙ s.emit ∙ ap (λ o. timed o (first_exit (exits_at image x s.row)).clocks) is) in
+          let pair : (t, e) ≡ ((first_exit (exits_at image x s.row)).clocks, event) = some_is (t, e) _
+          (sym emit ∙ s.emit ∙ ap (λ o. timed o (first_exit (exits_at image x s.row)).clocks) is) in
           is ∙ ap Some (ap (λ (q : ℕ × EventKind). q.1) (sym pair))
 
   pub leaves : next.back ≡ true → (t : ℕ) × (next.emit ≡ Some (t, Leave))
   leaves back =
-      let e : s.emitted ≡ Some Leave = some_is s.emitted (Some Leave) (subst (λ b. Emits x.level b (Some s.emitted)) back (emits_so image program x next s stands)) in
+      let e : s.emitted ≡ Some Leave = some_is s.emitted (Some Leave) (subst (λ b. Emits x.level b (Some s.emitted)) back
+      (emits_so image program x next s stands)) in
       ((first_exit (exits_at image x s.row)).clocks, s.emit ∙ ap (λ o. timed o (first_exit (exits_at image x s.row)).clocks) e)
 
   pub returns : (t : ℕ) → next.emit ≡ Some (t, Leave) → next.back ≡ true
   returns t emit = ⊎_elim (λ h. h)
-      (λ h. absurd (subst (λ o. Turns x.level (Some o)) (emitted_is t Leave emit) (subst (λ b. Emits x.level b (Some s.emitted)) h (emits_so image program x next s stands))))
+      (λ h. absurd (subst (λ o. Turns x.level (Some o)) (emitted_is t Leave emit) (subst (λ b. Emits x.level b (Some s.emitted)) h
+      (emits_so image program x next s stands))))
       (bool_cases next.back)
 
   pub syncs : (t v : ℕ) (y : Instance) → next.emit ≡ Some (t, Sync v) → Among next.out.items y → (y.level ≡ v) × (x.level + v ≡ 1)
@@ -189,9 +205,11 @@ module _ (image : Flash) (program : Program) (x : Instance) (stands : Stands pro
       let e = emitted_is t (Sync v) emit in (
         level_of y h ∙ ap (λ o. level_after o x.level) e,
         ⊎_elim
-            (λ back. let leave : s.emitted ≡ Some Leave = some_is s.emitted (Some Leave) (subst (λ b. Emits x.level b (Some s.emitted)) back (emits_so image program x next s stands)) in
+            (λ back. let leave : s.emitted ≡ Some Leave = some_is s.emitted (Some Leave) (subst (λ b. Emits x.level b (Some s.emitted)) back
+            (emits_so image program x next s stands)) in
             let one : Sync v ≡ Leave = some_is (Sync v) Leave (sym e ∙ leave) in absurd cc)
-            (λ back. subst (λ o. Turns x.level (Some o)) e (subst (λ b. Emits x.level b (Some s.emitted)) back (emits_so image program x next s stands)))
+            (λ back. subst (λ o. Turns x.level (Some o)) e (subst (λ b. Emits x.level b (Some s.emitted)) back
+            (emits_so image program x next s stands)))
             (bool_cases next.back),
       )
 
@@ -223,17 +241,22 @@ module _ (image : Flash) (program : Program) (x : Instance) (stands : Stands pro
   main_line main y h =
       let r = result image program x next s y h in
       let k : ℕ = x.clock + r.exit.clocks in (
-        ap (λ (z : Instance). z.line) (sym r.is) ∙ ap (λ b. if b then x.line else line_after (lines_of program) x.line k) (main_is x.kind main),
-        ap (λ (z : Instance). z.clock) (sym r.is) ∙ ap (λ b. if b then x.clock else clock_after (lines_of program) x.line k) (main_is x.kind main),
-        ap (λ (z : Instance). z.level) (sym r.is) ∙ ap (λ b. if b then x.level else level_after s.emitted (x.level % 2)) (main_is x.kind main),
+        ap (λ (z : Instance). z.line) (sym r.is) ∙ ap (λ b. if b then x.line else line_after (lines_of program) x.line k)
+            (main_is x.kind main),
+        ap (λ (z : Instance). z.clock) (sym r.is) ∙ ap (λ b. if b then x.clock else clock_after (lines_of program) x.line k)
+            (main_is x.kind main),
+        ap (λ (z : Instance). z.level) (sym r.is) ∙ ap (λ b. if b then x.level else level_after s.emitted (x.level % 2))
+            (main_is x.kind main),
       )
 
   level_bound : x.kind ≢ Main → (y : Instance) → Among next.out.items y → y.level ≤ 1
   level_bound apart y h = ⊎_elim
-      (λ back. let leave : s.emitted ≡ Some Leave = some_is s.emitted (Some Leave) (subst (λ b. Emits x.level b (Some s.emitted)) back (emits_so image program x next s stands)) in
+      (λ back. let leave : s.emitted ≡ Some Leave = some_is s.emitted (Some Leave) (subst (λ b. Emits x.level b (Some s.emitted)) back
+      (emits_so image program x next s stands)) in
       subst (λ n. n ≤ 1) (sym (level_of image program x stands apart next s y h ∙ ap (λ o. level_after o x.level) leave)) stands.level)
       (λ back. subst (λ n. n ≤ 1) (sym (level_of image program x stands apart next s y h))
-      (level_turned x.level s.emitted stands.level (subst (λ b. Emits x.level b (Some s.emitted)) back (emits_so image program x next s stands))))
+      (level_turned x.level s.emitted stands.level (subst (λ b. Emits x.level b (Some s.emitted)) back
+      (emits_so image program x next s stands))))
       (bool_cases next.back)
 
   line_bound : (y : Instance) → Moves program x y → y.line < program.lines
@@ -256,7 +279,9 @@ module _ (image : Flash) (program : Program) (x : Instance) (stands : Stands pro
       pending : y.kind ≢ Handler → y.pending ≡ false
       pending other =
           let not_handler : x.kind ≢ Handler = λ e. other (kind ∙ e) in
-          ap (λ (z : Instance). z.pending) (sym r.is) ∙ ap (λ b. if b then not (clears_flag (effect_of s.row) x) && (x.pending || ends_line (lines_of program) x.line (x.clock + r.exit.clocks)) else x.pending) (handler_not x.kind not_handler) ∙ stands.pending not_handler
+          ap (λ (z : Instance). z.pending) (sym r.is) ∙ ap (λ b. if b then not (clears_flag (effect_of s.row) x)
+          && (x.pending || ends_line (lines_of program) x.line (x.clock + r.exit.clocks)) else x.pending)
+          (handler_not x.kind not_handler) ∙ stands.pending not_handler
 
       of_main : x.kind ≡ Main → Stands program y
       of_main main = let m = main_line main y h in record {

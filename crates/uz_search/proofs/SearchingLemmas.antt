@@ -1,5 +1,6 @@
 -- What is kept while instances are asked.
-use Rattle.std.proofs.Common.{◌≡◌, ◌≢◌, ℕ, zero, suc, ◌<◌, ◌+◌, [], List, Option, Some, None, Ok, sym, ap, ◌∙◌, subst, length, slice_get, get_or, ◌++◌, inl, inr, ⊎_elim, drop, take, append-nil, arith}
+use Rattle.std.proofs.Common.{◌≡◌, ◌≢◌, ℕ, zero, suc, ◌<◌, ◌+◌, [], List, Option, Some, None, Ok, sym, ap, ◌∙◌, subst, length, slice_get}
+use Rattle.std.proofs.Common.{get_or, ◌++◌, inl, inr, ⊎_elim, drop, take, append-nil, arith}
 use Rattle.std.proofs.lemmas.List.{take_all, drop_all}
 use Rattle.std.proofs.lemmas.Option.{slice_get_within, slice_get-get_or}
 use Rattle.std.proofs.lemmas.Bool.{cases_eq}
@@ -39,9 +40,12 @@ way_from_all x next by old (Some other) new apart all =
       it.6,
     )
 
-pub treats_from : (image : Flash) (program : Program) (x : Instance) (by : ℕ) (marks marks' : List (Option Mark)) (returns returns' : List (Option Return)) (next : Next)
-    → length marks ≡ frame_of program → After image program x (Ok next) → ((y : Instance) × (slice_get next.out.items 0 ≡ Some y)) → ((why : Fail) → StuckWith image program x next why → ⊥)
-    → MarksWay x next by marks None marks' → NotesEnd next by returns None returns' → Treats image program x by marks marks' returns returns' next
+pub treats_from : (image : Flash) (program : Program) (x : Instance) (by : ℕ) (marks marks' : List (Option Mark))
+    (returns returns' : List (Option Return)) (next : Next)
+    → length marks ≡ frame_of program → After image program x (Ok next) → ((y : Instance) × (slice_get next.out.items 0 ≡ Some y))
+    → ((why : Fail) → StuckWith image program x next why → ⊥)
+    → MarksWay x next by marks None marks' → NotesEnd next by returns None returns' → Treats image program x by marks marks' returns
+    returns' next
 treats_from image program x by marks marks' returns returns' next frame after some clear way end = record {
   after = after;
   some = some;
@@ -51,7 +55,16 @@ treats_from image program x by marks marks' returns returns' next frame after so
   keeps_marks = way.0;
   keeps_returns = end.0;
   own_marks = λ y m h. ⊎_elim (λ before. inl before)
-      (λ own. inr ((next, after, own.0.0, subst (λ n. Passing n (place_of x) (most_clocks x next.out.items) next.emit y m.event) frame own.0.1), own.1))
+      (λ own. inr (
+        (
+          next,
+          after,
+          own.0.0,
+          subst (λ n. Passing n (place_of x) (most_clocks x next.out.items) next.emit y m.event) frame
+              own.0.1,
+        ),
+        own.1,
+      ))
       (way.1 y m h);
   own_returns = λ line r h. ⊎_elim (λ before. inl before)
       (λ own. inr (own.0, (next, after, own.1.0, own.1.1), own.2, own.3, own.4))
@@ -59,7 +72,8 @@ treats_from image program x by marks marks' returns returns' next frame after so
 }
 
 -- a slice that was lent whole and came back
-pub whole_back : {A : Type 0} (old new : List A) (n : ℕ) → length new ≡ length old → n ≡ length old → take n (new ++ drop (length new) old) ≡ new
+pub whole_back : {A : Type 0} (old new : List A) (n : ℕ) → length new ≡ length old → n ≡ length old → take n (new ++ drop (length new) old)
+    ≡ new
 whole_back old new n same len =
     let nothing : drop (length new) old ≡ [] = drop_all (length new) old (omega arith) in
     ap (λ l. take n (new ++ l)) nothing ∙ ap (take n) (append-nil new) ∙ take_all n new (omega arith)
@@ -85,8 +99,10 @@ module _ (image : Flash) (program : Program) (P : Instance → Type 0)
   pub tree_all : (x : Instance) → Among nodes x → P x
   tree_all x at = below_all (suc at.0) at.0 x (omega arith) at.1
 
-pub treated_more : (image : Flash) (program : Program) (nodes nodes' : List Instance) (marks marks' : List (Option Mark)) (returns returns' : List (Option Return)) (x : Instance)
-    → Extends nodes nodes' → KeepsMarks marks marks' → KeepsReturns returns returns' → Treated image program nodes marks returns x → Treated image program nodes' marks' returns' x
+pub treated_more : (image : Flash) (program : Program) (nodes nodes' : List Instance) (marks marks' : List (Option Mark))
+    (returns returns' : List (Option Return)) (x : Instance)
+    → Extends nodes nodes' → KeepsMarks marks marks' → KeepsReturns returns returns' → Treated image program nodes marks returns x
+    → Treated image program nodes' marks' returns' x
 treated_more image program nodes nodes' marks marks' returns returns' x extends keeps_marks keeps_returns t = record {
   next = t.next;
   after = t.after;
@@ -97,47 +113,51 @@ treated_more image program nodes nodes' marks marks' returns returns' x extends 
   follow = λ y at. among_more nodes nodes' y extends (t.follow y at);
 }
 
-pub search_more : (image : Flash) (program : Program) (nodes nodes' : List Instance) (parents parents' : List (Option ℕ)) (marks marks' : List (Option Mark)) (returns returns' : List (Option Return)) (done : ℕ) (x : Instance) (next : Next)
+pub search_more : (image : Flash) (program : Program) (nodes nodes' : List Instance) (parents parents' : List (Option ℕ))
+    (marks marks' : List (Option Mark)) (returns returns' : List (Option Return)) (done : ℕ) (x : Instance) (next : Next)
     → IsSearch image program nodes parents marks returns done → slice_get nodes done ≡ Some x
     → Treats image program x done marks marks' returns returns' next
     → length marks' ≡ length marks → length returns' ≡ length returns
     → AddsAll image program nodes (followers_of program next) nodes' parents'
     → IsSearch image program nodes' parents' marks' returns' (done + 1)
-search_more image program nodes nodes' parents parents' marks marks' returns returns' done x next s at t same_marks same_returns adds = record {
-  tree = adds.tree;
-  started = λ y h. among_more nodes nodes' y adds.extends (s.started y h);
-  marked = λ y m h. ⊎_elim
-      (λ old. let was = s.marked y m old in (was.0, adds.extends m.by was.0 was.1, was.2))
-      (λ own. (x, subst (λ n. slice_get nodes' n ≡ Some x) (sym own.1) (adds.extends done x at), own.0))
-      (t.own_marks y m h);
-  ended = λ line r h. ⊎_elim
-      (λ old. let was = s.ended line r old in (was.0, was.1, adds.extends r.by was.0 was.2, was.3, was.4, was.5))
-      (λ own. (x, own.0, subst (λ n. slice_get nodes' n ≡ Some x) (sym own.4) (adds.extends done x at), own.1, own.2, own.3))
-      (t.own_returns line r h);
-  frame = same_marks ∙ s.frame;
-  lines = same_returns ∙ s.lines;
-  treated = λ i z below here. ⊎_elim
-      (λ e. let same : x ≡ z = some_is x z (sym (adds.extends done x at) ∙ subst (λ n. slice_get nodes' n ≡ Some z) e here) in
-      subst (Treated image program nodes' marks' returns') same (record {
-        next = next;
-        after = t.after;
-        some = t.some;
-        clear = t.clear;
-        seen = t.seen;
-        noted = t.noted;
-        follow = λ y among. adds.there among.0 y among.1;
-      }))
-      (λ ne. let lt : i < done = omega arith in
-      let w' : i < length nodes = omega (arith, lt, slice_get_within nodes done x at) in
-      let old : slice_get nodes i ≡ Some (get_or nodes i x) = slice_get-get_or nodes i x w' in
-      let same : get_or nodes i x ≡ z = some_is (get_or nodes i x) z (sym (adds.extends i (get_or nodes i x) old) ∙ here) in
-      treated_more image program nodes nodes' marks marks' returns returns' z adds.extends t.keeps_marks t.keeps_returns
-      (s.treated i z lt (old ∙ ap Some same)))
-      (cases_eq i done);
-}
+search_more image program nodes nodes' parents parents' marks marks' returns returns' done x next s at t same_marks same_returns adds =
+    record {
+      tree = adds.tree;
+      started = λ y h. among_more nodes nodes' y adds.extends (s.started y h);
+      marked = λ y m h. ⊎_elim
+          (λ old. let was = s.marked y m old in (was.0, adds.extends m.by was.0 was.1, was.2))
+          (λ own. (x, subst (λ n. slice_get nodes' n ≡ Some x) (sym own.1) (adds.extends done x at), own.0))
+          (t.own_marks y m h);
+      ended = λ line r h. ⊎_elim
+          (λ old. let was = s.ended line r old in (was.0, was.1, adds.extends r.by was.0 was.2, was.3, was.4, was.5))
+          (λ own. (x, own.0, subst (λ n. slice_get nodes' n ≡ Some x) (sym own.4) (adds.extends done x at), own.1, own.2, own.3))
+          (t.own_returns line r h);
+      frame = same_marks ∙ s.frame;
+      lines = same_returns ∙ s.lines;
+      treated = λ i z below here. ⊎_elim
+          (λ e. let same : x ≡ z = some_is x z (sym (adds.extends done x at) ∙ subst (λ n. slice_get nodes' n ≡ Some z) e here) in
+          subst (Treated image program nodes' marks' returns') same (record {
+            next = next;
+            after = t.after;
+            some = t.some;
+            clear = t.clear;
+            seen = t.seen;
+            noted = t.noted;
+            follow = λ y among. adds.there among.0 y among.1;
+          }))
+          (λ ne. let lt : i < done = omega arith in
+          let w' : i < length nodes = omega (arith, lt, slice_get_within nodes done x at) in
+          let old : slice_get nodes i ≡ Some (get_or nodes i x) = slice_get-get_or nodes i x w' in
+          let same : get_or nodes i x ≡ z = some_is (get_or nodes i x) z (sym (adds.extends i (get_or nodes i x) old) ∙ here) in
+          treated_more image program nodes nodes' marks marks' returns returns' z adds.extends t.keeps_marks t.keeps_returns
+          (s.treated i z lt (old ∙ ap Some same)))
+          (cases_eq i done);
+    }
 
-pub split_from : (image : Flash) (program : Program) (nodes : List Instance) (parents : List (Option ℕ)) (marks : List (Option Mark)) (returns : List (Option Return)) (done other : ℕ) (x : Instance)
-    → IsSearch image program nodes parents marks returns done → slice_get nodes done ≡ Some x → SplitsFrom image program x done other marks returns
+pub split_from : (image : Flash) (program : Program) (nodes : List Instance) (parents : List (Option ℕ)) (marks : List (Option Mark))
+    (returns : List (Option Return)) (done other : ℕ) (x : Instance)
+    → IsSearch image program nodes parents marks returns done → slice_get nodes done ≡ Some x → SplitsFrom image program x done other marks
+    returns
     → (z : Instance) × (slice_get nodes other ≡ Some z) × Split image program z x
 split_from image program nodes parents marks returns done other x s at (inl h) = ⊎_elim
     (λ old. let was = s.marked h.0 h.1 old in

@@ -1,5 +1,6 @@
 -- What follows an instance stands in the frame as it does.
-use Rattle.std.proofs.Common.{◌≡◌, ℕ, zero, suc, ◌<◌, ◌≤◌, List, map, Option, true, false, refl, sym, ap, ◌∙◌, subst, ⊎_elim, if◌then◌else◌, arith}
+use Rattle.std.proofs.Common.{◌≡◌, ℕ, zero, suc, ◌<◌, ◌≤◌, List, map, Option, true, false, refl, sym, ap, ◌∙◌, subst, ⊎_elim, if◌then◌else◌}
+use Rattle.std.proofs.Common.{arith}
 use Rattle.std.specs.List.{flat_map}
 use Rattle.uz_schedule.specs.Schedule.{response_clocks}
 use Rattle.uz_schedule.specs.declared.kinds.Kind.TheVariants.{Handler}
@@ -48,7 +49,8 @@ entry_of program end e (suc (suc zero), h) = record { c = 2; few = omega arith; 
 entry_of program end e (suc (suc (suc zero)), h) = record { c = 3; few = omega arith; is = some_is _ e h }
 entry_of program end e (suc (suc (suc (suc i))), h) = cc
 
-pub stands_entry : (program : Program) (end e : Instance) → Stands program end → end.kind ≡ Handler → Among (entries program end) e → Stands program e
+pub stands_entry : (program : Program) (end e : Instance) → Stands program end → end.kind ≡ Handler → Among (entries program end) e
+    → Stands program e
 stands_entry program end e stands handler h =
     let it = entry_of program end e h in
     let few = it.few in
@@ -66,14 +68,18 @@ stands_entry program end e stands handler h =
 pub stands_more : (image : Flash) (program : Program) (x y : Instance) → Stands program x → Follows image program x y → Stands program y
 stands_more image program x y stands follows = ⊎_elim
     (λ (back : next.back ≡ true).
-    let flat : Among (flat_map (entries program) next.out.items) y = subst (λ l. Among l y) (ap (λ b. if b then flat_map (entries program) next.out.items else map (widened program) next.out.items) back) follows.is in
+    let flat : Among (flat_map (entries program) next.out.items) y = subst (λ l. Among l y)
+    (ap (λ b. if b then flat_map (entries program) next.out.items else map (widened program) next.out.items) back) follows.is in
     let from = of_flat (entries program) next.out.items y flat in
     let handler = back_is_handler image program x next s back in
-    stands_entry program from.0 y (stands_next image program x stands next s from.0 from.1) (same_kind image program x next s from.0 from.1 ∙ handler) from.2)
+    stands_entry program from.0 y (stands_next image program x stands next s from.0 from.1) (same_kind image program x next s from.0 from.1
+    ∙ handler) from.2)
     (λ (back : next.back ≡ false).
-    let mapped : Among (map (widened program) next.out.items) y = subst (λ l. Among l y) (ap (λ b. if b then flat_map (entries program) next.out.items else map (widened program) next.out.items) back) follows.is in
+    let mapped : Among (map (widened program) next.out.items) y = subst (λ l. Among l y)
+    (ap (λ b. if b then flat_map (entries program) next.out.items else map (widened program) next.out.items) back) follows.is in
     let from = of_map (widened program) next.out.items mapped.0 y mapped.1 in
-    subst (Stands program) from.2 (stands_so program (widened program from.0) from.0 (widened_place program from.0) (stands_next image program x stands next s from.0 (mapped.0, from.1))))
+    subst (Stands program) from.2 (stands_so program (widened program from.0) from.0 (widened_place program from.0)
+    (stands_next image program x stands next s from.0 (mapped.0, from.1))))
     (bool_cases next.back)
   where
     next : Next
@@ -82,5 +88,7 @@ stands_more image program x y stands follows = ⊎_elim
     s : Steps image program x next
     s = steps image program x next follows.after
 
-pub stands_all : (image : Flash) (program : Program) (nodes : List Instance) (parents : List (Option ℕ)) → ProgramFits program → IsTree image program nodes parents → (x : Instance) → Among nodes x → Stands program x
-stands_all image program nodes parents fits tree = tree_all image program (Stands program) (λ y h. (fits.starts y h).stands) (stands_more image program) nodes parents tree
+pub stands_all : (image : Flash) (program : Program) (nodes : List Instance) (parents : List (Option ℕ)) → ProgramFits program
+    → IsTree image program nodes parents → (x : Instance) → Among nodes x → Stands program x
+stands_all image program nodes parents fits tree = tree_all image program (Stands program) (λ y h. (fits.starts y h).stands)
+    (stands_more image program) nodes parents tree

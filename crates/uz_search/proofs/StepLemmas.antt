@@ -1,5 +1,7 @@
 -- One step of the search, and where it stops.
-use Rattle.std.proofs.Common.{◌≡◌, ℕ, ◌<◌, ◌+◌, List, Option, Some, Ok, Err, Result, refl, sym, ap, ◌∙◌, subst, length, slice_get, take, drop, ◌++◌, zero, suc, ◌≤◌, None, replicate, [], arith}
+use Rattle.std.proofs.Common.{◌≡◌, ℕ, ◌<◌, ◌+◌, List, Option, Some, Ok, Err, Result, refl, sym, ap, ◌∙◌, subst, length, slice_get, take}
+use Rattle.std.proofs.Common.{drop, ◌++◌, zero, suc, ◌≤◌, None, replicate, [], arith}
+use Rattle.std.specs.Prelude.{⊤}
 use Rattle.std.proofs.lemmas.List.{length-replicate}
 use Rattle.std.proofs.lemmas.Option.{slice_get_within}
 use Rattle.uz_schedule.specs.declared.states.Instance.{Instance}
@@ -22,36 +24,47 @@ pub come_from : (image : Flash) (program : Program) (nodes : List Instance) (don
 come_from image program nodes done x next follow at after is k y here =
     (x, at, record { next = next; after = after; is = (k, ap (λ l. slice_get l k) (sym is) ∙ here) })
 
-pub search_step : (image : Flash) (program : Program) (nodes nodes' : List Instance) (parents parents' : List (Option ℕ)) (marks marks0 marks' : List (Option Mark)) (returns returns0 returns' : List (Option Return)) (nm nr done : ℕ) (x : Instance) (next : Next) (follow : List Instance)
+pub search_step : (image : Flash) (program : Program) (nodes nodes' : List Instance) (parents parents' : List (Option ℕ))
+    (marks marks0 marks' : List (Option Mark)) (returns returns0 returns' : List (Option Return)) (nm nr done : ℕ) (x : Instance)
+    (next : Next) (follow : List Instance)
     → IsSearch image program nodes parents marks returns done → slice_get nodes done ≡ Some x
     → marks0 ≡ marks → returns0 ≡ returns
     → Treats image program x done marks0 marks' returns0 returns' next
     → length marks' ≡ length marks0 → length returns' ≡ length returns0 → nm ≡ length marks → nr ≡ length returns
     → follow ≡ followers_of program next
-    → ((image : Flash) (program : Program) → IsTree image program nodes parents → ComeFrom image program nodes (Some done) follow → AddsAll image program nodes follow nodes' parents')
-    → IsSearch image program nodes' parents' (take nm (marks' ++ drop (length marks') marks)) (take nr (returns' ++ drop (length returns') returns)) (done + 1)
-search_step image program nodes nodes' parents parents' marks marks0 marks' returns returns0 returns' nm nr done x next follow s at em er t lm lr en er' is adds =
-    let t1 = subst (λ r. Treats image program x done marks marks' r returns' next) er (subst (λ m. Treats image program x done m marks' returns0 returns' next) em t) in
+    → ((image : Flash) (program : Program) → IsTree image program nodes parents → ComeFrom image program nodes (Some done) follow
+    → AddsAll image program nodes follow nodes' parents')
+    → IsSearch image program nodes' parents' (take nm (marks' ++ drop (length marks') marks))
+    (take nr (returns' ++ drop (length returns') returns)) (done + 1)
+search_step image program nodes nodes' parents parents' marks marks0 marks' returns returns0 returns' nm nr done x next follow s at em er t
+    lm lr en er' is adds =
+    let t1 = subst (λ r. Treats image program x done marks marks' r returns' next) er
+    (subst (λ m. Treats image program x done m marks' returns0 returns' next) em t) in
     let sm : length marks' ≡ length marks = lm ∙ ap length em in
     let sr : length returns' ≡ length returns = lr ∙ ap length er in
     let added = adds image program s.tree (come_from image program nodes done x next follow at t.after is) in
     let added1 = subst (λ l. AddsAll image program nodes l nodes' parents') is added in
     let more = search_more image program nodes nodes' parents parents' marks marks' returns returns' done x next s at t1 sm sr added1 in
-    subst (λ m. IsSearch image program nodes' parents' m (take nr (returns' ++ drop (length returns') returns)) (done + 1)) (sym (whole_back marks marks' nm sm en))
+    subst (λ m. IsSearch image program nodes' parents' m (take nr (returns' ++ drop (length returns') returns)) (done + 1))
+    (sym (whole_back marks marks' nm sm en))
     (subst (λ r. IsSearch image program nodes' parents' marks' r (done + 1)) (sym (whole_back returns returns' nr sr er')) more)
 
-pub stop_holds : (image : Flash) (program : Program) (nodes : List Instance) (parents : List (Option ℕ)) (marks marks0 : List (Option Mark)) (returns returns0 : List (Option Return)) (done : ℕ) (x : Instance) (stop : Stop)
+pub stop_holds : (image : Flash) (program : Program) (nodes : List Instance) (parents : List (Option ℕ)) (marks marks0 : List (Option Mark))
+    (returns returns0 : List (Option Return)) (done : ℕ) (x : Instance) (stop : Stop)
     → IsSearch image program nodes parents marks returns done → slice_get nodes done ≡ Some x → marks0 ≡ marks → returns0 ≡ returns
-    → ((why : Fail) → ◌≡◌ {A = Result Next Stop} (Err stop) (Err (stops.Stuck why)) → IsStuck image program x why)
-    → ((other : ℕ) → ◌≡◌ {A = Result Next Stop} (Err stop) (Err (stops.Split other)) → SplitsFrom image program x done other marks0 returns0)
+    → ((why : Fail) → ◌≡◌ {A = Result ⊤ Stop} (Err stop) (Err (stops.Stuck why)) → IsStuck image program x why)
+    → ((other : ℕ) → ◌≡◌ {A = Result ⊤ Stop} (Err stop) (Err (stops.Split other)) → SplitsFrom image program x done other marks0
+    returns0)
     → StopHolds image program nodes x stop
 stop_holds image program nodes parents marks marks0 returns returns0 done x (stops.Stuck why) s at em er stuck split = stuck why refl
 stop_holds image program nodes parents marks marks0 returns returns0 done x (stops.Split other) s at em er stuck split =
     split_from image program nodes parents marks returns done other x s at
-    (subst (λ r. SplitsFrom image program x done other marks r) er (subst (λ m. SplitsFrom image program x done other m returns0) em (split other refl)))
+    (subst (λ r. SplitsFrom image program x done other marks r) er (subst (λ m. SplitsFrom image program x done other m returns0) em
+    (split other refl)))
 stop_holds image program nodes parents marks marks0 returns returns0 done x stops.Memory s at em er stuck split = tt
 
-pub split_within : (image : Flash) (program : Program) (nodes : List Instance) (parents : List (Option ℕ)) (marks marks0 : List (Option Mark)) (returns returns0 : List (Option Return)) (done other : ℕ) (x : Instance)
+pub split_within : (image : Flash) (program : Program) (nodes : List Instance) (parents : List (Option ℕ))
+    (marks marks0 : List (Option Mark)) (returns returns0 : List (Option Return)) (done other : ℕ) (x : Instance)
     → IsSearch image program nodes parents marks returns done → slice_get nodes done ≡ Some x → marks0 ≡ marks → returns0 ≡ returns
     → SplitsFrom image program x done other marks0 returns0 → other < length nodes
 split_within image program nodes parents marks marks0 returns returns0 done other x s at em er h =
@@ -64,9 +77,11 @@ none_blank zero x m h = cc
 none_blank (suc n) zero m h = cc
 none_blank (suc n) (suc x) m h = none_blank n x m h
 
-pub search_begin : (image : Flash) (program : Program) (items nodes : List Instance) (parents : List (Option ℕ)) (marks : List (Option Mark)) (returns : List (Option Return))
+pub search_begin : (image : Flash) (program : Program) (items nodes : List Instance) (parents : List (Option ℕ))
+    (marks : List (Option Mark)) (returns : List (Option Return))
     → items ≡ program.starts
-    → ((image : Flash) (program : Program) → IsTree image program [] [] → ComeFrom image program [] None items → AddsAll image program [] items nodes parents)
+    → ((image : Flash) (program : Program) → IsTree image program [] [] → ComeFrom image program [] None items → AddsAll image program []
+    items nodes parents)
     → marks ≡ replicate (frame_of program) None → returns ≡ replicate program.lines None
     → IsSearch image program nodes parents marks returns 0
 search_begin image program items nodes parents marks returns is adds em er =
@@ -82,8 +97,10 @@ search_begin image program items nodes parents marks returns is adds em er =
       treated = λ i x below here. absurd (omega arith);
     }
 
-pub search_end : (image : Flash) (program : Program) (nodes : List Instance) (parents : List (Option ℕ)) (marks : List (Option Mark)) (returns : List (Option Return)) (done : ℕ)
-    → IsSearch image program nodes parents marks returns done → length nodes ≤ done → IsSearch image program nodes parents marks returns (length nodes)
+pub search_end : (image : Flash) (program : Program) (nodes : List Instance) (parents : List (Option ℕ)) (marks : List (Option Mark))
+    (returns : List (Option Return)) (done : ℕ)
+    → IsSearch image program nodes parents marks returns done → length nodes ≤ done → IsSearch image program nodes parents marks returns
+    (length nodes)
 search_end image program nodes parents marks returns done s le = record {
   tree = s.tree;
   started = s.started;

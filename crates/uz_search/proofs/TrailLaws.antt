@@ -1,5 +1,6 @@
 -- Trails of a tree, and distinct instances on trails.
-use Rattle.std.proofs.Common.{◌≡◌, ℕ, zero, suc, ◌≤◌, List, [], ◌∷◌, ◌++◌, Option, Some, Bool, true, false, refl, sym, ap, ◌∙◌, subst, length, slice_get, take, true≢false}
+use Rattle.std.proofs.Common.{◌≡◌, ℕ, zero, suc, ◌≤◌, List, [], ◌∷◌, ◌++◌, Option, Some, Bool, true, false, refl, sym, ap, ◌∙◌, subst}
+use Rattle.std.proofs.Common.{length, slice_get, take, true≢false}
 use Rattle.std.specs.List.{IsDistinct, AllByRecursion}
 use Rattle.std.proofs.lemmas.List.{length-take-le}
 use Rattle.uz_schedule.specs.declared.states.Instance.{Instance}
@@ -18,7 +19,8 @@ use Rattle.uz_search.proofs.OneResult.{one_next}
 use Rattle.uz_search.proofs.VisitingLemmas.{get_front, some_is}
 use Rattle.uz_search.proofs.SearchingLemmas.{tree_all}
 
-pub leads_push : (image : Flash) (program : Program) (t : List Instance) (x y : Instance) → Leads image program t → last_of t ≡ Some x → Follows image program x y → Leads image program (t ++ y ∷ [])
+pub leads_push : (image : Flash) (program : Program) (t : List Instance) (x y : Instance) → Leads image program t → last_of t ≡ Some x
+    → Follows image program x y → Leads image program (t ++ y ∷ [])
 leads_push image program [] x y leads last more = tt
 leads_push image program (a ∷ []) x y leads last more = (subst (λ z. Follows image program z y) (sym (some_is a x last)) more, tt)
 leads_push image program (a ∷ b ∷ rest) x y leads last more = (leads.0, leads_push image program (b ∷ rest) x y leads.1 last more)
@@ -31,7 +33,8 @@ last_push (a ∷ b ∷ rest) y = last_push (b ∷ rest) y
 pub on_trail_start : (image : Flash) (program : Program) (y : Instance) → Among program.starts y → OnTrail image program y
 on_trail_start image program y h = (y ∷ [], record { first = y; begins = refl; start = h; leads = tt; ends = refl })
 
-pub on_trail_more : (image : Flash) (program : Program) (x y : Instance) → OnTrail image program x → Follows image program x y → OnTrail image program y
+pub on_trail_more : (image : Flash) (program : Program) (x y : Instance) → OnTrail image program x → Follows image program x y
+    → OnTrail image program y
 on_trail_more image program x y h more = (
   h.0 ++ y ∷ [],
   record {
@@ -43,9 +46,11 @@ on_trail_more image program x y h more = (
   },
 )
 
-pub all_on_trails : (image : Flash) (program : Program) (nodes : List Instance) (parents : List (Option ℕ)) → IsTree image program nodes parents
+pub all_on_trails : (image : Flash) (program : Program) (nodes : List Instance) (parents : List (Option ℕ)) → IsTree image program nodes
+    parents
     → (x : Instance) → Among nodes x → OnTrail image program x
-all_on_trails image program nodes parents tree = tree_all image program (OnTrail image program) (on_trail_start image program) (on_trail_more image program) nodes parents tree
+all_on_trails image program nodes parents tree = tree_all image program (OnTrail image program) (on_trail_start image program)
+    (on_trail_more image program) nodes parents tree
 
 module _ {A : Type 0} where
   pub get_take : (n : ℕ) (xs : List A) (i : ℕ) (x : A) → slice_get (take n xs) i ≡ Some x → slice_get xs i ≡ Some x
@@ -71,7 +76,8 @@ module _ {A : Type 0} where
     one_place (y ∷ ys) d (suc i) zero x h k = absurd (apart ys i y x d.0 h (some_is y x k))
     one_place (y ∷ ys) d (suc i) (suc j) x h k = ap suc (one_place ys d.1 i j x h k)
 
-pub on_trails : (image : Flash) (program : Program) (nodes : List Instance) (parents : List (Option ℕ)) (limit : ℕ) → IsTree image program nodes parents
+pub on_trails : (image : Flash) (program : Program) (nodes : List Instance) (parents : List (Option ℕ)) (limit : ℕ) → IsTree image program
+    nodes parents
     → AreDistinct nodes → limit ≤ length nodes → OnTrails image program limit
 on_trails image program nodes parents limit tree one le = record {
   list = take limit nodes;
@@ -81,7 +87,8 @@ on_trails image program nodes parents limit tree one le = record {
 }
 
 -- a search that ends and has no return is a closed list without one
-pub closed_without : (image : Flash) (program : Program) (nodes : List Instance) (parents : List (Option ℕ)) (marks : List (Option Mark)) (returns : List (Option Return))
+pub closed_without : (image : Flash) (program : Program) (nodes : List Instance) (parents : List (Option ℕ)) (marks : List (Option Mark))
+    (returns : List (Option Return))
     → IsSearch image program nodes parents marks returns (length nodes)
     → AreDistinct nodes
     → ((s : Instance) × Among program.starts s × (s.kind ≡ Main))
@@ -93,14 +100,16 @@ closed_without image program nodes parents marks returns s one main nothing = re
   length = refl;
   distinct = one;
   starts = s.started;
-  closed = λ x y h f. let t = treated x h in t.follow y (subst (λ n. Among (followers_of program n) y) (one_next image program x f.next t.next f.after t.after) f.is);
+  closed = λ x y h f. let t = treated x h in
+      t.follow y (subst (λ n. Among (followers_of program n) y) (one_next image program x f.next t.next f.after t.after) f.is);
   after = λ x h. let t = treated x h in (t.next, t.after, without x h t (t.next.back) refl);
 }
   where
     treated : (x : Instance) → Among nodes x → Treated image program nodes marks returns x
     treated x h = s.treated h.0 x (slice_get_within nodes h.0 x h.1) h.1
 
-    without : (x : Instance) → Among nodes x → (t : Treated image program nodes marks returns x) → (b : Bool) → t.next.back ≡ b → t.next.back ≡ false
+    without : (x : Instance) → Among nodes x → (t : Treated image program nodes marks returns x) → (b : Bool) → t.next.back ≡ b
+        → t.next.back ≡ false
     without x h t false e = e
     without x h t true e =
         let end = t.some in

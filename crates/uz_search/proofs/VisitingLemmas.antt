@@ -1,5 +1,6 @@
 -- What is kept where instances are added.
-use Rattle.std.proofs.Common.{◌≡◌, ℕ, zero, suc, ◌<◌, ◌+◌, ◌⊎◌, ◌∷◌, [], ◌++◌, List, Option, Some, None, Bool, true, false, not, refl, sym, ap, ◌∙◌, subst, length, slice_get, Contains, inl, inr, ⊎_elim, length-append, append_assoc, arith}
+use Rattle.std.proofs.Common.{◌≡◌, ℕ, zero, suc, ◌<◌, ◌+◌, ◌⊎◌, ◌∷◌, [], ◌++◌, List, Option, Some, None, Bool, true, false, not, refl, sym}
+use Rattle.std.proofs.Common.{ap, ◌∙◌, subst, length, slice_get, Contains, inl, inr, ⊎_elim, length-append, append_assoc, arith}
 use Rattle.std.proofs.lemmas.Option.{slice_get_within, slice_get-get_or}
 use Rattle.uz_schedule.specs.declared.states.Instance.{Instance}
 use Rattle.uz_search.specs.declared.program.Program.{Program}
@@ -39,11 +40,13 @@ pub extends_front : (xs ys : List Instance) → Extends xs (xs ++ ys)
 extends_front xs ys i x h = get_front xs ys i x h
 
 module _ (image : Flash) (program : Program) where
-  pub came_more : (nodes nodes' : List Instance) (p : Option ℕ) (x : Instance) → Extends nodes nodes' → CameFrom image program nodes p x → CameFrom image program nodes' p x
+  pub came_more : (nodes nodes' : List Instance) (p : Option ℕ) (x : Instance) → Extends nodes nodes' → CameFrom image program nodes p x
+      → CameFrom image program nodes' p x
   came_more nodes nodes' None x e h = h
   came_more nodes nodes' (Some p) x e h = (h.0, e p h.0 h.1, h.2)
 
-  pub came_within : (nodes : List Instance) (p : Option ℕ) (q : ℕ) (x : Instance) → p ≡ Some q → CameFrom image program nodes p x → q < length nodes
+  pub came_within : (nodes : List Instance) (p : Option ℕ) (q : ℕ) (x : Instance) → p ≡ Some q → CameFrom image program nodes p x
+      → q < length nodes
   came_within nodes None q x e h = cc
   came_within nodes (Some p) q x e h = subst (λ n. n < length nodes) (some_is p q e) (slice_get_within nodes p h.0 h.1)
 
@@ -60,10 +63,12 @@ module _ (image : Flash) (program : Program) where
       each = λ i x p hx hp. ⊎_elim
           (λ oldx. ⊎_elim
           (λ oldp. came_more nodes (nodes ++ item ∷ []) p x (extends_front nodes (item ∷ [])) (tree.are.each i x p oldx oldp))
-          (λ newp. let w : i < length nodes = slice_get_within nodes i x oldx in let l = tree.lengths in let e = newp.0 in absurd (omega (arith, w, l, e)))
+          (λ newp. let w : i < length nodes = slice_get_within nodes i x oldx in let l = tree.lengths in let e = newp.0 in
+          absurd (omega (arith, w, l, e)))
           (push_cases parents parent i p hp))
           (λ newx. ⊎_elim
-          (λ oldp. let w : i < length parents = slice_get_within parents i p oldp in let l = tree.lengths in let e = newx.0 in absurd (omega (arith, w, l, e)))
+          (λ oldp. let w : i < length parents = slice_get_within parents i p oldp in let l = tree.lengths in let e = newx.0 in
+          absurd (omega (arith, w, l, e)))
           (λ newp. came_more nodes (nodes ++ item ∷ []) p x (extends_front nodes (item ∷ []))
           (subst (λ y. CameFrom image program nodes p y) newx.1 (subst (λ q. CameFrom image program nodes q item) newp.1 came)))
           (push_cases parents parent i p hp))
@@ -71,7 +76,8 @@ module _ (image : Flash) (program : Program) where
     };
   }
 
-  pub tree_add : (nodes : List Instance) (parents : List (Option ℕ)) (item : Instance) (parent : Option ℕ) (nodes' : List Instance) (parents' : List (Option ℕ))
+  pub tree_add : (nodes : List Instance) (parents : List (Option ℕ)) (item : Instance) (parent : Option ℕ) (nodes' : List Instance)
+      (parents' : List (Option ℕ))
       → IsTree image program nodes parents → CameFrom image program nodes parent item
       → Adds nodes parents item parent nodes' parents' → IsTree image program nodes' parents'
   tree_add nodes parents item parent nodes' parents' tree came (inl h) =
@@ -80,12 +86,14 @@ module _ (image : Flash) (program : Program) where
       subst (λ k. IsTree image program k parents') (sym h.0)
       (subst (λ q. IsTree image program (nodes ++ item ∷ []) q) (sym h.1) (tree_push nodes parents item parent tree came))
 
-pub extends_add : (nodes : List Instance) (parents : List (Option ℕ)) (item : Instance) (parent : Option ℕ) (nodes' : List Instance) (parents' : List (Option ℕ))
+pub extends_add : (nodes : List Instance) (parents : List (Option ℕ)) (item : Instance) (parent : Option ℕ) (nodes' : List Instance)
+    (parents' : List (Option ℕ))
     → Adds nodes parents item parent nodes' parents' → Extends nodes nodes'
 extends_add nodes parents item parent nodes' parents' (inl h) = λ i x e. ap (λ k. slice_get k i) h.1 ∙ e
 extends_add nodes parents item parent nodes' parents' (inr h) = λ i x e. ap (λ k. slice_get k i) h.0 ∙ get_front nodes (item ∷ []) i x e
 
-pub there_add : (nodes : List Instance) (parents : List (Option ℕ)) (item : Instance) (parent : Option ℕ) (nodes' : List Instance) (parents' : List (Option ℕ))
+pub there_add : (nodes : List Instance) (parents : List (Option ℕ)) (item : Instance) (parent : Option ℕ) (nodes' : List Instance)
+    (parents' : List (Option ℕ))
     → Adds nodes parents item parent nodes' parents' → Among nodes' item
 there_add nodes parents item parent nodes' parents' (inl h) = (h.0.0, ap (λ k. slice_get k h.0.0) h.1 ∙ h.0.1)
 there_add nodes parents item parent nodes' parents' (inr h) = (length nodes, ap (λ k. slice_get k (length nodes)) h.0 ∙ get_push nodes item)
@@ -98,7 +106,8 @@ get_at [] z ys = refl
 get_at (x ∷ xs) z ys = get_at xs z ys
 
 -- one more is added
-pub adds_more : (image : Flash) (program : Program) (nodes0 : List Instance) (parent : Option ℕ) (items done : List Instance) (item : Instance) (rest : List Instance)
+pub adds_more : (image : Flash) (program : Program) (nodes0 : List Instance) (parent : Option ℕ) (items done : List Instance)
+    (item : Instance) (rest : List Instance)
     (nodes : List Instance) (parents : List (Option ℕ)) (nodes' : List Instance) (parents' : List (Option ℕ))
     → items ≡ done ++ item ∷ rest → ComeFrom image program nodes0 parent items → AddsAll image program nodes0 done nodes parents
     → Adds nodes parents item parent nodes' parents' → AddsAll image program nodes0 (done ++ item ∷ []) nodes' parents'
@@ -114,5 +123,6 @@ adds_more image program nodes0 parent items done item rest nodes parents nodes' 
           (push_cases done item k y h);
     }
 
-pub cut_more : {A : Type 0} (all done rest rest' : List A) (item : A) → all ≡ done ++ rest → rest ≡ item ∷ rest' → all ≡ done ++ item ∷ [] ++ rest'
+pub cut_more : {A : Type 0} (all done rest rest' : List A) (item : A) → all ≡ done ++ rest → rest ≡ item ∷ rest' → all ≡ done ++ item ∷ []
+    ++ rest'
 cut_more all done rest rest' item h e = h ∙ ap (λ r. done ++ r) e ∙ sym (append_assoc done (item ∷ []) rest')

@@ -19,7 +19,17 @@ pub record SamePlace (a b : Instance) : Type 0 where
   pub cells : a.cells ≡ b.cells
 
 same_self : (a : Instance) → SamePlace a a
-same_self a = record { kind = refl; pc = refl; line = refl; clock = refl; level = refl; pending = refl; flags = refl; stack = refl; cells = refl }
+same_self a = record {
+  kind = refl;
+  pc = refl;
+  line = refl;
+  clock = refl;
+  level = refl;
+  pending = refl;
+  flags = refl;
+  stack = refl;
+  cells = refl;
+}
 
 same_then : (a b c : Instance) → SamePlace a b → SamePlace b c → SamePlace a c
 same_then a b c h k = record {
@@ -40,12 +50,33 @@ either false y x h = same_self x
 
 by_one : (fact : Widening) (x : Instance) → SamePlace (widened_by fact x) x
 unfolding widened_by
-by_one (Register r range) x = either _ _ x (record { kind = refl; pc = refl; line = refl; clock = refl; level = refl; pending = refl; flags = refl; stack = refl; cells = refl })
-by_one (Pair k range) x = either _ _ x (record { kind = refl; pc = refl; line = refl; clock = refl; level = refl; pending = refl; flags = refl; stack = refl; cells = refl })
+by_one (Register r range) x = either _ _ x (record {
+  kind = refl;
+  pc = refl;
+  line = refl;
+  clock = refl;
+  level = refl;
+  pending = refl;
+  flags = refl;
+  stack = refl;
+  cells = refl;
+})
+by_one (Pair k range) x = either _ _ x (record {
+  kind = refl;
+  pc = refl;
+  line = refl;
+  clock = refl;
+  level = refl;
+  pending = refl;
+  flags = refl;
+  stack = refl;
+  cells = refl;
+})
 
 by_all : (facts : List Widening) (x : Instance) → SamePlace (widened_all facts x) x
 by_all [] x = same_self x
-by_all (fact ∷ facts) x = same_then (widened_all facts (widened_by fact x)) (widened_by fact x) x (by_all facts (widened_by fact x)) (by_one fact x)
+by_all (fact ∷ facts) x = same_then (widened_all facts (widened_by fact x)) (widened_by fact x) x (by_all facts (widened_by fact x))
+    (by_one fact x)
 
 pub widened_place : (program : Program) (x : Instance) → SamePlace (widened program x) x
 unfolding widened

@@ -1,5 +1,6 @@
 -- What follows an instance on a trail, and what an instance shows on its way.
-use Rattle.std.specs.Prelude.{◌≡◌, ◌≢◌, ℕ, ◌+◌, ◌-◌, ◌*◌, ◌%◌, ◌==◌, ◌≤◌, nat_lt, max, true, List, [], ◌∷◌, map, Option, Some, None, Result, Ok, slice_get, if◌then◌else◌}
+use Rattle.std.specs.Prelude.{◌≡◌, ◌≢◌, ℕ, ◌+◌, ◌-◌, ◌*◌, ◌%◌, ◌==◌, ◌≤◌, nat_lt, max, true, List, [], ◌∷◌, map, Option, Some, None, Result}
+use Rattle.std.specs.Prelude.{Ok, slice_get, if◌then◌else◌}
 use Rattle.std.specs.List.{flat_map}
 use Rattle.std.specs.Ordering.{nat_cmp}
 use Rattle.std.specs.FinMap.{FinMap}
@@ -89,7 +90,8 @@ pub record Passing (frame place most : ℕ) (emit : Option (ℕ × EventKind)) (
 
 -- outside main an instance passes this position of the frame, and shows this there
 abbrev pub Shows : Flash → Program → Instance → ℕ → Option EventKind → Type 0
-Shows image p x y e = (next : Next) × After image p x (Ok next) × (x.kind ≢ Main) × Passing (frame_of p) (place_of x) (most_clocks x next.out.items) next.emit y e
+Shows image p x y e = (next : Next) × After image p x (Ok next) × (x.kind ≢ Main) × Passing (frame_of p) (place_of x)
+    (most_clocks x next.out.items) next.emit y e
 
 -- the handler returns with the instance, and ends so
 abbrev pub ReturnsTo : Flash → Program → Instance → Instance → Type 0

@@ -37,4 +37,5 @@ MarksAll old place most emit by None new =
     KeepsMarks old new × MarksOwn old new place most emit by × SeenOnWay new (length old) place most emit
 MarksAll old place most emit by (Some other) new =
     MarksOwn old new place most emit by
-    × ((m : Mark) × (y : ℕ) × (e : Option EventKind) × MarkAt new y m × (m.by ≡ other) × Passing (length old) place most emit y e × (m.event ≡ e → ⊥))
+    × ((m : Mark) × (y : ℕ) × (e : Option EventKind) × MarkAt new y m × (m.by ≡ other) × Passing (length old) place most emit y e
+    × (m.event ≡ e → ⊥))

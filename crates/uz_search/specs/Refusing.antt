@@ -17,7 +17,8 @@ ShowApart image p a b = (y : ℕ) × (d : Option EventKind) × (e : Option Event
 
 -- two instances return on one line at different clocks or with different cells
 abbrev pub ReturnApart : Flash → Program → Instance → Instance → Type 0
-ReturnApart image p a b = (x : Instance) × (y : Instance) × ReturnsTo image p a x × ReturnsTo image p b y × (x.line ≡ y.line) × ((x.clock ≡ y.clock) × (x.cells ≡ y.cells) → ⊥)
+ReturnApart image p a b = (x : Instance) × (y : Instance) × ReturnsTo image p a x × ReturnsTo image p b y × (x.line ≡ y.line)
+    × ((x.clock ≡ y.clock) × (x.cells ≡ y.cells) → ⊥)
 
 abbrev pub Split : Flash → Program → Instance → Instance → Type 0
 Split image p a b = ShowApart image p a b ⊎ ReturnApart image p a b
@@ -47,7 +48,8 @@ pub record ClosedWithoutReturn (image : Flash) (p : Program) (count : ℕ) : Typ
 -- what a refusal of a search of this limit shows; want of memory shows nothing, and hints are no matter of the search
 abbrev pub Refusal : Flash → Program → ℕ → NotFound → Type 0
 Refusal image p limit (Stuck trail why) = (x : Instance) × IsTrail image p trail x × IsStuck image p x why
-Refusal image p limit (SplitAnswer first second) = (a : Instance) × (b : Instance) × IsTrail image p first a × IsTrail image p second b × Split image p a b
+Refusal image p limit (SplitAnswer first second) = (a : Instance) × (b : Instance) × IsTrail image p first a × IsTrail image p second b
+    × Split image p a b
 Refusal image p limit (Full count) = (count ≡ limit) × OnTrails image p count
 Refusal image p limit (Hint index) = ⊥
 Refusal image p limit (NoRest count) = ClosedWithoutReturn image p count

@@ -19,7 +19,8 @@ use Rattle.uz_search.specs.Refusing.{Split}
 use Rattle.uz_search.specs.Visiting.{IsTree}
 
 -- the search has asked the instance, and has all that follows it
-pub record Treated (image : Flash) (p : Program) (nodes : List Instance) (marks : List (Option Mark)) (returns : List (Option Return)) (x : Instance) : Type 0 where
+pub record Treated (image : Flash) (p : Program) (nodes : List Instance) (marks : List (Option Mark)) (returns : List (Option Return))
+    (x : Instance) : Type 0 where
   pub next : Next
   pub after : After image p x (Ok next)
   pub some : (y : Instance) × (slice_get next.out.items 0 ≡ Some y)
@@ -30,14 +31,17 @@ pub record Treated (image : Flash) (p : Program) (nodes : List Instance) (marks 
 
 -- each mark is of an instance that is there
 abbrev pub AreMarked : Flash → Program → List Instance → List (Option Mark) → Type 0
-AreMarked image p nodes marks = (y : ℕ) (m : Mark) → MarkAt marks y m → (x : Instance) × (slice_get nodes m.by ≡ Some x) × Shows image p x y m.event
+AreMarked image p nodes marks = (y : ℕ) (m : Mark) → MarkAt marks y m → (x : Instance) × (slice_get nodes m.by ≡ Some x) × Shows image p x y
+    m.event
 
 -- each return is of an instance that is there
 abbrev pub AreNoted : Flash → Program → List Instance → List (Option Return) → Type 0
-AreNoted image p nodes returns = (line : ℕ) (r : Return) → ReturnAt returns line r → (x : Instance) × (end : Instance) × (slice_get nodes r.by ≡ Some x) × ReturnsTo image p x end × (line ≡ end.line) × IsReturnOf r end
+AreNoted image p nodes returns = (line : ℕ) (r : Return) → ReturnAt returns line r → (x : Instance) × (end : Instance)
+    × (slice_get nodes r.by ≡ Some x) × ReturnsTo image p x end × (line ≡ end.line) × IsReturnOf r end
 
 -- the search so far: the first instances, of this number, are treated
-pub record IsSearch (image : Flash) (p : Program) (nodes : List Instance) (parents : List (Option ℕ)) (marks : List (Option Mark)) (returns : List (Option Return)) (done : ℕ) : Type 0 where
+pub record IsSearch (image : Flash) (p : Program) (nodes : List Instance) (parents : List (Option ℕ)) (marks : List (Option Mark))
+    (returns : List (Option Return)) (done : ℕ) : Type 0 where
   pub tree : IsTree image p nodes parents
   pub started : (y : Instance) → Among p.starts y → Among nodes y
   pub marked : AreMarked image p nodes marks
@@ -55,7 +59,8 @@ IsEnded image p s = IsSearchOf image p s (length s.nodes.keys)
 
 -- What one instance's treatment leaves of the marks and the returns
 
-pub record Treats (image : Flash) (p : Program) (x : Instance) (by : ℕ) (marks marks' : List (Option Mark)) (returns returns' : List (Option Return)) (next : Next) : Type 0 where
+pub record Treats (image : Flash) (p : Program) (x : Instance) (by : ℕ) (marks marks' : List (Option Mark))
+    (returns returns' : List (Option Return)) (next : Next) : Type 0 where
   pub after : After image p x (Ok next)
   pub some : (y : Instance) × (slice_get next.out.items 0 ≡ Some y)
   pub clear : (why : Fail) → StuckWith image p x next why → ⊥
@@ -64,31 +69,38 @@ pub record Treats (image : Flash) (p : Program) (x : Instance) (by : ℕ) (marks
   pub keeps_marks : KeepsMarks marks marks'
   pub keeps_returns : KeepsReturns returns returns'
   pub own_marks : (y : ℕ) (m : Mark) → MarkAt marks' y m → MarkAt marks y m ⊎ (Shows image p x y m.event × (m.by ≡ by))
-  pub own_returns : (line : ℕ) (r : Return) → ReturnAt returns' line r → ReturnAt returns line r ⊎ ((end : Instance) × ReturnsTo image p x end × (line ≡ end.line) × IsReturnOf r end × (r.by ≡ by))
+  pub own_returns : (line : ℕ) (r : Return) → ReturnAt returns' line r → ReturnAt returns line r
+      ⊎ ((end : Instance) × ReturnsTo image p x end × (line ≡ end.line) × IsReturnOf r end × (r.by ≡ by))
 
 -- the instance shows or returns otherwise than what is noted of another one
 abbrev pub SplitsFrom : Flash → Program → Instance → ℕ → ℕ → List (Option Mark) → List (Option Return) → Type 0
 SplitsFrom image p x by other marks returns =
-    ((y : ℕ) × (m : Mark) × (e : Option EventKind) × (MarkAt marks y m ⊎ (Shows image p x y m.event × (m.by ≡ by))) × (m.by ≡ other) × Shows image p x y e × (m.event ≢ e))
+    ((y : ℕ) × (m : Mark) × (e : Option EventKind) × (MarkAt marks y m ⊎ (Shows image p x y m.event × (m.by ≡ by))) × (m.by ≡ other)
+    × Shows image p x y e × (m.event ≢ e))
     ⊎ ((end : Instance) × (r : Return) × ReturnAt returns end.line r × (r.by ≡ other) × ReturnsTo image p x end × (IsReturnOf r end → ⊥))
 
 -- the marks of an instance's way; those of main leave none
 abbrev pub MarksWay : Instance → Next → ℕ → List (Option Mark) → Option ℕ → List (Option Mark) → Type 0
 MarksWay x next by old None new = KeepsMarks old new
-    × ((y : ℕ) (m : Mark) → MarkAt new y m → MarkAt old y m ⊎ (((x.kind ≢ Main) × Passing (length old) (place_of x) (most_clocks x next.out.items) next.emit y m.event) × (m.by ≡ by)))
+    × ((y : ℕ) (m : Mark) → MarkAt new y m → MarkAt old y m
+    ⊎ (((x.kind ≢ Main) × Passing (length old) (place_of x) (most_clocks x next.out.items) next.emit y m.event) × (m.by ≡ by)))
     × (x.kind ≢ Main → SeenOnWay new (length old) (place_of x) (most_clocks x next.out.items) next.emit)
 MarksWay x next by old (Some other) new =
     (y : ℕ) × (m : Mark) × (e : Option EventKind)
-    × (MarkAt old y m ⊎ (((x.kind ≢ Main) × Passing (length old) (place_of x) (most_clocks x next.out.items) next.emit y m.event) × (m.by ≡ by)))
+    × (MarkAt old y m ⊎ (((x.kind ≢ Main) × Passing (length old) (place_of x) (most_clocks x next.out.items) next.emit y m.event)
+    × (m.by ≡ by)))
     × (m.by ≡ other) × ((x.kind ≢ Main) × Passing (length old) (place_of x) (most_clocks x next.out.items) next.emit y e) × (m.event ≢ e)
 
 -- the end of a return is noted
 abbrev pub NotesEnd : Next → ℕ → List (Option Return) → Option ℕ → List (Option Return) → Type 0
 NotesEnd next by old None new = KeepsReturns old new
     × (next.back ≡ true → (end : Instance) → slice_get next.out.items 0 ≡ Some end → Noted new end)
-    × ((line : ℕ) (r : Return) → ReturnAt new line r → ReturnAt old line r ⊎ ((end : Instance) × ((next.back ≡ true) × (slice_get next.out.items 0 ≡ Some end)) × (line ≡ end.line) × IsReturnOf r end × (r.by ≡ by)))
+    × ((line : ℕ) (r : Return) → ReturnAt new line r → ReturnAt old line r
+    ⊎ ((end : Instance) × ((next.back ≡ true) × (slice_get next.out.items 0 ≡ Some end)) × (line ≡ end.line) × IsReturnOf r end
+    × (r.by ≡ by)))
 NotesEnd next by old (Some other) new =
-    (end : Instance) × (r : Return) × ReturnAt old end.line r × (r.by ≡ other) × ((next.back ≡ true) × (slice_get next.out.items 0 ≡ Some end)) × (IsReturnOf r end → ⊥)
+    (end : Instance) × (r : Return) × ReturnAt old end.line r × (r.by ≡ other)
+    × ((next.back ≡ true) × (slice_get next.out.items 0 ≡ Some end)) × (IsReturnOf r end → ⊥)
 
 -- why the search stops at the instance x
 abbrev pub StopHolds : Flash → Program → List Instance → Instance → Stop → Type 0

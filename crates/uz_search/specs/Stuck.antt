@@ -28,7 +28,8 @@ pub record IsUnrestored (next : Next) : Type 0 where
   pub ends : Among next.out.items end
   pub kept : restored end ≡ false
 
--- what is shown at clock q of a line breaks its steadiness: an event before the fall, sync 0 at another clock, or anything but sync 0 at the fall
+-- what is shown at clock q of a line breaks its steadiness: an event before the fall, sync 0 at another clock, or anything but sync 0 at
+-- the fall
 abbrev pub IsUnsteady : ℕ → ℕ → Option EventKind → Type 0
 IsUnsteady fall q shown =
     ((e : EventKind) × (shown ≡ Some e) × (q < fall))

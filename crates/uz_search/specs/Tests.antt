@@ -21,4 +21,5 @@ is_clear_at fall q (Some e) = if is_fall e then nat_eq q fall else nat_lt fall q
 -- so at each of this many clocks on
 unfoldable pub is_clear_way : Program → Instance → Option (ℕ × EventKind) → ℕ → Bool
 is_clear_way p x emit zero = true
-is_clear_way p x emit (suc k) = is_clear_way p x emit k && is_clear_at p.fall (clock_after (lines_of p) x.line (x.clock + suc k)) (shown_at emit (suc k))
+is_clear_way p x emit (suc k) = is_clear_way p x emit k && is_clear_at p.fall (clock_after (lines_of p) x.line (x.clock + suc k))
+    (shown_at emit (suc k))

@@ -41,4 +41,5 @@ ComeEarlier parents = (i n : ℕ) → slice_get parents i ≡ Some (Some n) → 
 
 -- what each instance came from, number by number
 pub record AreParents (image : Flash) (p : Program) (nodes : List Instance) (parents : List (Option ℕ)) : Type 0 where
-  pub each : (i : ℕ) (x : Instance) (parent : Option ℕ) → slice_get nodes i ≡ Some x → slice_get parents i ≡ Some parent → CameFrom image p nodes parent x
+  pub each : (i : ℕ) (x : Instance) (parent : Option ℕ) → slice_get nodes i ≡ Some x → slice_get parents i ≡ Some parent → CameFrom image p
+      nodes parent x

@@ -1,5 +1,6 @@
 -- Facts of a register or a pointer at a program counter, and what they make of an instance that comes by.
-use Rattle.std.specs.Prelude.{Bool, List, Vec, [], ◌∷◌, Option, Some, None, if◌then◌else◌, not, ◌&&◌, nat_eq, nat_lt, slice_set, slice_index_or, ℕ}
+use Rattle.std.specs.Prelude.{Bool, List, Vec, [], ◌∷◌, Option, Some, None, if◌then◌else◌, not, ◌&&◌, nat_eq, nat_lt, slice_set}
+use Rattle.std.specs.Prelude.{slice_index_or, ℕ}
 use Rattle.std.specs.declared.alloc.Global.{Global}
 use Rattle.std.specs.Ordering.{nat_cmp}
 use Rattle.std.specs.BTreeMap.{get}

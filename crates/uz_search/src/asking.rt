@@ -1,6 +1,6 @@
 //! What is asked of one instance.
 
-ghost use Rattle.std.specs.Prelude.{◌≡◌, ◌<◌, ◌≤◌, ◌+◌, true, ℕ, IfOk, Ok, Err, Some, length, slice_get};
+ghost use Rattle.std.specs.Prelude.{◌≡◌, ◌<◌, ◌≤◌, ◌+◌, true, ℕ, IfOk, OnOk, Ok, Err, Some, length, slice_get};
 ghost use Rattle.uz_schedule.specs.declared.states.Instance.{Instance};
 ghost use Rattle.uz_transfer.specs.declared.fail.Fail.{Fail};
 ghost use Rattle.uz_transfer.specs.Values.{pair_range};
@@ -11,7 +11,7 @@ ghost use Rattle.uz_search.specs.Searching.{Treats, SplitsFrom, MarksWay, NotesE
 
 use crate::marks::{Mark, mark_all};
 use crate::passing::{most_clocks, place};
-use crate::program::{Program, results};
+use crate::program::{Program, put_results};
 use crate::returns::{Return, note_return};
 use crate::stuck::stuck;
 use std::alloc::AllocError;
@@ -75,10 +75,10 @@ fn is_ordered(at: &Instance)
     ensures { (pair_range at.now 30).lo ≤ (pair_range at.now 30).hi }
 {
     let z = at.pairs[2];
-    let _ = z.lo();
+    let _ = z.lo(); // what orders the range
 }
 
-/// Asks the instance of this number for its results, and notes what it shows and where it returns.
+/// Asks the instance of this number for its results, which it puts in place of others, and notes what it shows and where it returns.
 pub(crate) fn examine(
     image: &Image,
     program: &Program,
@@ -86,28 +86,28 @@ pub(crate) fn examine(
     by: u32,
     marks: &mut [Option<Mark>],
     returns: &mut [Option<Return>],
-) -> Result<Next, Stop>
+    next: &mut Next,
+) -> Result<(), Stop>
     requires fits { ProgramFits program.now }
     requires stands { Stands program.now at.now }
     requires frame { length marks.old ≡ frame_of program.now }
     requires lines { length returns.old ≡ program.now.lines }
-    ensures ok { IfOk result (λ next. Treats image.now program.now at.now by marks.old marks.new returns.old returns.new next) }
+    ensures ok { OnOk result (Treats image.now program.now at.now by marks.old marks.new returns.old returns.new next.new) }
     ensures stuck { (why : Fail) → result ≡ Err (Stop.Stuck why) → IsStuck image.now program.now at.now why }
     ensures split { (other : ℕ) → result ≡ Err (Stop.Split other) → SplitsFrom image.now program.now at.now by other marks.old returns.old }
 {
-    let next = match results(image, program, at) {
-        Ok(next) => next,
-        Err(why) => return Err(Stop::Stuck(why)),
-    };
-    is_ordered(at);
-    if let Some(why) = stuck(image, program, at, &next) {
+    if let Err(why) = put_results(image, program, at, next) {
         return Err(Stop::Stuck(why));
     }
-    if let Some(other) = mark_way(at, &next, by, marks) {
+    is_ordered(at);
+    if let Some(why) = stuck(image, program, at, next) {
+        return Err(Stop::Stuck(why));
+    }
+    if let Some(other) = mark_way(at, next, by, marks) {
         return Err(Stop::Split(other));
     }
-    if let Some(other) = note_end(&next, by, returns)? {
+    if let Some(other) = note_end(next, by, returns)? {
         return Err(Stop::Split(other));
     }
-    Ok(next)
+    Ok(())
 }

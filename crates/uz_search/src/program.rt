@@ -1,6 +1,6 @@
 //! What a search is told of a program.
 
-ghost use Rattle.std.specs.Prelude.{◌≡◌, ◌<◌, ◌≤◌, ◌++◌, map, true, IfOk, OnOk, IsFalse, IsTrue};
+ghost use Rattle.std.specs.Prelude.{◌≡◌, ◌<◌, ◌≤◌, ◌++◌, map, true, Ok, Err, IfOk, IfErr, OnOk, IsFalse, IsTrue};
 ghost use Rattle.std.specs.List.{flat_map};
 ghost use Rattle.uz_schedule.specs.declared.kinds.Kind.TheVariants.{Main};
 ghost use Rattle.uz_schedule.specs.declared.states.Instance.{Instance};
@@ -12,7 +12,7 @@ use crate::widening::{Widening, widen};
 use std::alloc::{AllocError, Global};
 use std::collections::BTreeMap;
 use uz_hex::Image;
-use uz_rules::{Fail, Next, after};
+use uz_rules::{Fail, Next, put_after};
 use uz_schedule::{Head, Instance, Kind, LineOrder, Sequence, handler_entry};
 use uz_transfer::copied;
 
@@ -40,13 +40,19 @@ impl Program {
     }
 }
 
-/// The abstract results of an instance.
-pub(crate) fn results(image: &Image, program: &Program, at: &Instance) -> Result<Next, Fail>
+/// Puts the abstract results of an instance in place of others.
+pub(crate) fn put_results(
+    image: &Image,
+    program: &Program,
+    at: &Instance,
+    next: &mut Next,
+) -> Result<(), Fail>
     requires fits { ProgramFits program.now }
     requires stands { Stands program.now at.now }
-    ensures { After image.now program.now at.now result }
+    ensures ok { OnOk result (After image.now program.now at.now (Ok next.new)) }
+    ensures err { IfErr result (λ why. After image.now program.now at.now (Err why)) }
 {
-    after(image, &program.head, program.lines, at)
+    put_after(image, &program.head, program.lines, at, next)
 }
 
 /// The handler's first state after a return that ends so, where its interrupt is taken at clock `c` of the next line.

@@ -22,6 +22,7 @@ use crate::visited::add_all;
 use indexmap::IndexSet;
 use std::alloc::{AllocError, Global};
 use uz_hex::Image;
+use uz_rules::Next;
 use uz_schedule::Instance;
 
 /// The refusal of a search that stops at the instance of this number.
@@ -55,13 +56,14 @@ fn refused(
     }
 }
 
-/// Treats the instance of this number: asks it, and adds what follows it.
+/// Treats the instance of this number: asks it, and adds what follows it. Its results are put in place of others.
 fn step(
     alloc: Global,
     image: &Image,
     program: &Program,
     found: &mut Found,
     done: u32,
+    next: &mut Next,
 ) -> Result<(), NotFound>
     requires fits { ProgramFits program.now }
     requires so_far { IsSearchOf image.now program.now found.old done }
@@ -77,6 +79,7 @@ fn step(
         done,
         found.marks.as_mut_slice(),
         found.returns.as_mut_slice(),
+        next,
     ) {
         Err(stop) => Err(refused(
             alloc,
@@ -85,8 +88,8 @@ fn step(
             done,
             stop,
         )),
-        Ok(next) => {
-            let follow = followers(alloc, program, &next)?;
+        Ok(()) => {
+            let follow = followers(alloc, program, next)?;
             add_all(&mut found.nodes, &mut found.parents, follow, Some(done))?;
             Ok(())
         }
@@ -131,12 +134,13 @@ fn explore(alloc: Global, image: &Image, program: &Program, limit: u32) -> Resul
     ensures refusal { IfErr result (Refusal image.now program.now limit) }
 {
     let mut found = begin(alloc, program)?;
+    let mut next = Next::empty();
     let mut done = 0;
     'work: while (done as usize) < found.nodes.len() {
         if found.nodes.len() >= limit as usize {
             return Err(NotFound::Full { count: limit });
         }
-        if let Err(refusal) = step(alloc, image, program, &mut found, done) {
+        if let Err(refusal) = step(alloc, image, program, &mut found, done, &mut next) {
             return Err(refusal);
         }
         done += 1;

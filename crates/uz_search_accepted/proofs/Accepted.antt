@@ -18,7 +18,8 @@ use Rattle.uz_search_accepted.proofs.SteadyLines.{steady}
 
 pub accepted : EndedAccepts
 accepted image p found cert fits ended made schedule of = record {
-  steady = steady p cert.schedule schedule made.schedule.lines made.schedule.fall fits.fall_in_line (falls_once image p found cert.schedule fits ended made.schedule);
+  steady = steady p cert.schedule schedule made.schedule.lines made.schedule.fall fits.fall_in_line
+      (falls_once image p found cert.schedule fits ended made.schedule);
   rests = rest_passes;
   entry = record { rest = of.enters; lies = of.entry };
   points = point_passes;
@@ -27,16 +28,19 @@ accepted image p found cert fits ended made schedule of = record {
     rest_passes : (rest : Rest) → Contains cert.rests rest → RestPasses cert rest
     rest_passes rest there =
         let r = of.rests rest there in
-        let line : rest.line < p.lines = (let w = slice_get_within found.returns.items rest.line (Some r.noted) r.at in let n = ended.lines in omega (arith, w, n)) in
+        let line : rest.line < p.lines = (let w = slice_get_within found.returns.items rest.line (Some r.noted) r.at in
+        let n = ended.lines in omega (arith, w, n)) in
         let q = rests_are_quiet image p found cert.schedule rest.line r.noted fits ended made.schedule line r.at in
         record {
           leave = ap (λ k. event_at cert.schedule (start_of cert.schedule rest.line + k)) r.clock ∙ q.leave;
           quiet = λ k after in_line. q.quiet k (subst (λ c. c < k) r.clock after) in_line;
           quiet_next = λ k few. q.quiet_next k (subst (λ (h : Head). k ≤ response_clocks h.irq + 3) made.head few);
-          vector = λ c few. r.vector c few (rests_enter image p found cert rest r.noted c fits ended made.head made.schedule r.at r.cells few);
+          vector = λ c few. r.vector c few (rests_enter image p found cert rest r.noted c fits ended made.head made.schedule r.at r.cells
+              few);
         }
 
-    point_passes : (id l c : ℕ) (point : Point) → slice_get cert.points id ≡ Some point → is_in_box point l c ≡ true → IsLocal image cert id l c None
+    point_passes : (id l c : ℕ) (point : Point) → slice_get cert.points id ≡ Some point → is_in_box point l c ≡ true → IsLocal image cert id
+        l c None
     point_passes id l c point at box =
         let s = of.points id l c point at box in
         let t = cover.treated image p fits found.nodes.keys found.parents.items found.marks.items found.returns.items ended s.x s.node in
@@ -45,5 +49,6 @@ accepted image p found cert fits ended made schedule of = record {
           is_point = at;
           row = t.after.row;
           reads = subst (λ pc. IsReadAt image pc t.after.row) s.pc t.after.reads;
-          is = sym (ap (local_fail image cert point.next.items t.after.row) s.is ∙ passes_local image p found cert point.next.items t.after.row s.x fits ended made s.node s.named t.after.reads);
+          is = sym (ap (local_fail image cert point.next.items t.after.row) s.is ∙ passes_local image p found cert point.next.items
+              t.after.row s.x fits ended made s.node s.named t.after.reads);
         }

@@ -1,5 +1,6 @@
 -- Lines that fall once are steady.
-use Rattle.std.proofs.Common.{◌≡◌, ◌≢◌, ℕ, ◌<◌, ◌≤◌, ◌+◌, List, [], ◌∷◌, map, All, Some, Bool, true, false, ◌&&◌, nat_le, nat_eq, refl, sym, ap, ◌∙◌, subst, ⊎_elim, length, slice_index, ◌==◌, if◌then◌else◌, true≢false, arith}
+use Rattle.std.proofs.Common.{◌≡◌, ◌≢◌, ℕ, ◌<◌, ◌≤◌, ◌+◌, List, [], ◌∷◌, map, All, Some, Bool, true, false, ◌&&◌, nat_le, nat_eq, refl, sym}
+use Rattle.std.proofs.Common.{ap, ◌∙◌, subst, ⊎_elim, length, slice_index, ◌==◌, if◌then◌else◌, true≢false, arith}
 use Rattle.std.proofs.lemmas.Bool.{cases_eq, eq-eqb}
 use Rattle.std.proofs.lemmas.Bool.Decides.{nat_tests}
 use Rattle.std.proofs.lemmas.List.Elements.{All-head, All-tail, All-cons, All-nil}
@@ -20,12 +21,15 @@ both_true true b h = (refl, h)
 both_true false b h = absurd (true≢false (sym h))
 
 -- of rising clocks none comes before the first
-in_rise : (events : List Event) (least k : ℕ) (e : EventKind) → rises_from least (map (λ e. e.clock) events) ≡ true → event_in events k ≡ Some e → least ≤ k
+in_rise : (events : List Event) (least k : ℕ) (e : EventKind) → rises_from least (map (λ e. e.clock) events) ≡ true → event_in events
+    k ≡ Some e → least ≤ k
 in_rise [] least k e rise h = cc
 in_rise (d ∷ ds) least k e rise h = by (d.clock == k) refl
-    (λ later. in_rise ds (d.clock + 1) k e (both_true (nat_le least d.clock) (rises_from (d.clock + 1) (map (λ e. e.clock) ds)) rise).1 later) h
+    (λ later. in_rise ds (d.clock + 1) k e (both_true (nat_le least d.clock) (rises_from (d.clock + 1) (map (λ e. e.clock) ds)) rise).1
+    later) h
   where
-    by : (b : Bool) → (d.clock == k) ≡ b → (event_in ds k ≡ Some e → d.clock + 1 ≤ k) → (if b then Some d.kind else event_in ds k) ≡ Some e → least ≤ k
+    by : (b : Bool) → (d.clock == k) ≡ b → (event_in ds k ≡ Some e → d.clock + 1 ≤ k) → (if b then Some d.kind else event_in ds k) ≡ Some e
+        → least ≤ k
     by true is more g =
         let low = (both_true (nat_le least d.clock) (rises_from (d.clock + 1) (map (λ e. e.clock) ds)) rise).0 in
         grind (arith, nat_tests)
@@ -55,15 +59,18 @@ none_later fall least (d ∷ ds) fits rise low once =
     let both = both_true (nat_le least d.clock) (rises_from (d.clock + 1) (map (λ e. e.clock) ds)) rise in
     let first : least ≤ d.clock = below least d.clock both.0 in
     All-cons (λ e. e.kind ≢ Sync 0) d ds
-    (λ falls. let same = once d.clock (All-head EventFits d ds fits).clock (event_first d ds ∙ ap Some falls) in omega (arith, same, first, low))
+    (λ falls. let same = once d.clock (All-head EventFits d ds fits).clock (event_first d ds ∙ ap Some falls) in
+    omega (arith, same, first, low))
     (none_later fall (d.clock + 1) ds (All-tail EventFits d ds fits) both.1 (omega (arith, first, low))
     (λ k in_line at. once k in_line (event_later d ds k (in_rise ds (d.clock + 1) k (Sync 0) both.1 at) ∙ at)))
   where
     below : (a b : ℕ) → nat_le a b ≡ true → a ≤ b
     below a b h = grind (arith, nat_tests)
 
-steady_line : (fall : ℕ) (events : List Event) → All EventFits events → rises_from 0 (map (λ e. e.clock) events) ≡ true → event_in events fall ≡ Some (Sync 0)
-    → ((k : ℕ) (e : EventKind) → k < 1820 → event_in events k ≡ Some e → fall ≤ k) → ((k : ℕ) → k < 1820 → event_in events k ≡ Some (Sync 0) → k ≡ fall) → IsSteadyLine fall events
+steady_line : (fall : ℕ) (events : List Event) → All EventFits events → rises_from 0 (map (λ e. e.clock) events) ≡ true → event_in events
+    fall ≡ Some (Sync 0)
+    → ((k : ℕ) (e : EventKind) → k < 1820 → event_in events k ≡ Some e → fall ≤ k) → ((k : ℕ) → k < 1820 → event_in events k ≡ Some (Sync 0)
+    → k ≡ fall) → IsSteadyLine fall events
 steady_line fall [] fits rise falls above once = cc
 steady_line fall (e ∷ es) fits rise falls above once = record {
   first = e;
@@ -85,7 +92,8 @@ steady_line fall (e ∷ es) fits rise falls above once = record {
     clock = ⊎_elim
         (λ (same : e.clock ≡ fall). same)
         (λ (other : e.clock ≢ fall).
-        let later : event_in es fall ≡ Some (Sync 0) = sym (ap (λ b. if b then Some e.kind else event_in es fall) (differ e.clock fall other)) ∙ falls in
+        let later : event_in es fall ≡ Some (Sync 0) =
+        sym (ap (λ b. if b then Some e.kind else event_in es fall) (differ e.clock fall other)) ∙ falls in
         let after = in_rise es (e.clock + 1) fall (Sync 0) rises later in
         omega (arith, after, le))
         (cases_eq e.clock fall)
@@ -93,10 +101,12 @@ steady_line fall (e ∷ es) fits rise falls above once = record {
         differ : (a b : ℕ) → a ≢ b → nat_eq a b ≡ false
         differ a b h = grind (arith, nat_tests)
 
-pub steady : (p : Program) (s : Schedule) → ScheduleFits s → length s.lines ≡ p.lines → s.fall ≡ p.fall → p.fall < 1820 → FallsOnce p s → IsSteady s
+pub steady : (p : Program) (s : Schedule) → ScheduleFits s → length s.lines ≡ p.lines → s.fall ≡ p.fall → p.fall < 1820 → FallsOnce p s
+    → IsSteady s
 steady p s fits lines fall in_line falls l events below at =
     let low : l < p.lines = subst (λ n. l < n) lines below in
-    let on : (k : ℕ) → k < 1820 → event_at s (start_of s l + k) ≡ event_in events k = λ k inside. event_of_place s l k below inside ∙ ap (λ o. event_in_kind o k) at in
+    let on : (k : ℕ) → k < 1820 → event_at s (start_of s l + k) ≡ event_in events k = λ k inside. event_of_place s l k below inside
+    ∙ ap (λ o. event_in_kind o k) at in
     let kind : EventsFit events = kind_fits events at in
     subst (λ n. IsSteadyLine n events) (sym fall)
     (steady_line p.fall events kind.each kind.rise (sym (on p.fall in_line) ∙ falls.first l low)

@@ -19,7 +19,8 @@ use Rattle.uz_search.specs.Searching.{IsEnded}
 use Rattle.uz_search_laws.specs.Complete.{HasSuccessors}
 use Rattle.uz_search_laws.specs.Made.{IsMadeOf}
 
--- at a line and a count of a point's box stands an instance of the search, at the point's program counter, and its results lie in the named successors
+-- at a line and a count of a point's box stands an instance of the search, at the point's program counter, and its results lie in the named
+-- successors
 pub record StandsFor (image : Flash) (p : Program) (found : Found) (cert : Cert) (id l c : ℕ) (point : Point) : Type 0 where
   pub x : Instance
   pub is : instance_at cert id l c ≡ Some x
@@ -36,11 +37,13 @@ pub record IsRestOf (found : Found) (cert : Cert) (rest : Rest) : Type 0 where
   pub vector : (c : ℕ) → c ≤ 3 → Among found.nodes.keys (rest_instance cert rest c) → lies_in_point cert rest.vector (rest_instance cert rest c) ≡ true
 
 pub record ArePointsOf (image : Flash) (p : Program) (found : Found) (cert : Cert) : Type 0 where
-  pub points : (id l c : ℕ) (point : Point) → slice_get cert.points id ≡ Some point → is_in_box point l c ≡ true → StandsFor image p found cert id l c point
+  pub points : (id l c : ℕ) (point : Point) → slice_get cert.points id ≡ Some point → is_in_box point l c ≡ true → StandsFor image p found
+      cert id l c point
   pub rests : (rest : Rest) → Contains cert.rests rest → IsRestOf found cert rest
   pub entry : lies_in_point cert cert.entry.id (entry_instance cert) ≡ true
   pub enters : cert.entry.kind ≡ Main → (rest : Rest) × Contains cert.rests rest
 
 abbrev pub EndedAccepts : Type 0
-EndedAccepts = (image : Flash) (p : Program) (found : Found) (cert : Cert) → ProgramFits p → IsEnded image p found → IsMadeOf p found cert → ScheduleFits cert.schedule
+EndedAccepts = (image : Flash) (p : Program) (found : Found) (cert : Cert) → ProgramFits p → IsEnded image p found → IsMadeOf p found cert
+    → ScheduleFits cert.schedule
     → ArePointsOf image p found cert → Accepts image cert

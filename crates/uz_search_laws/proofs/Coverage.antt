@@ -1,5 +1,6 @@
 -- A search that ends reaches each line, and its returns end their lines.
-use Rattle.std.proofs.Common.{◌≡◌, ◌≢◌, ℕ, zero, suc, ◌<◌, ◌≤◌, ◌+◌, ◌-◌, ◌%◌, List, map, Option, Some, true, false, refl, sym, ap, ◌∙◌, subst, inl, inr, ⊎_elim, length, slice_get, if◌then◌else◌, true≢false, arith}
+use Rattle.std.proofs.Common.{◌≡◌, ◌≢◌, ℕ, zero, suc, ◌<◌, ◌≤◌, ◌+◌, ◌-◌, ◌%◌, List, map, Option, Some, true, false, refl, sym, ap, ◌∙◌}
+use Rattle.std.proofs.Common.{subst, inl, inr, ⊎_elim, length, slice_get, if◌then◌else◌, true≢false, arith}
 use Rattle.std.specs.List.{flat_map}
 use Rattle.std.proofs.lemmas.Bool.{cases_lt}
 use Rattle.std.proofs.lemmas.Option.{slice_get_within}
@@ -13,7 +14,8 @@ use Rattle.uz_search.specs.declared.marks.Mark.{Mark}
 use Rattle.uz_search.specs.declared.program.Program.{Program}
 use Rattle.uz_search.specs.declared.returns.Return.{Return}
 use Rattle.uz_search.specs.Fitting.{ProgramFits, Stands}
-use Rattle.uz_search.specs.Following.{Among, Flash, Follows, entries, followers_of, frame_of, most_clocks, clocks_between, shown_at, place_of}
+use Rattle.uz_search.specs.Following.{Among, Flash, Follows, entries, followers_of, frame_of, most_clocks, clocks_between, shown_at}
+use Rattle.uz_search.specs.Following.{place_of}
 use Rattle.uz_search.specs.Marking.{Seen}
 use Rattle.uz_search.specs.Returning.{ReturnAt}
 use Rattle.uz_search.specs.Searching.{IsSearch, Treated}
@@ -31,7 +33,8 @@ use Rattle.uz_search_laws.proofs.NodeLaws as node_laws
 use Rattle.uz_search_laws.proofs.NodeLaws.{Owes, Clear, entry_place, some_entry, start_place}
 use Rattle.uz_search_laws.proofs.Closing.{seen_once, shown_is, shown_here, one_emit, clocks_few, reaches_less, reaches_one, reaches_back}
 
-module _ (image : Flash) (program : Program) (fits : ProgramFits program) (nodes : List Instance) (parents : List (Option ℕ)) (marks : List (Option Mark)) (returns : List (Option Return))
+module _ (image : Flash) (program : Program) (fits : ProgramFits program) (nodes : List Instance) (parents : List (Option ℕ))
+    (marks : List (Option Mark)) (returns : List (Option Return))
     (s : IsSearch image program nodes parents marks returns (length nodes)) where
   pub stands : (x : Instance) → Among nodes x → Stands program x
   stands x node = stands_all image program nodes parents fits s.tree x node
@@ -47,28 +50,38 @@ module _ (image : Flash) (program : Program) (fits : ProgramFits program) (nodes
 
   -- a return is the handler's, each entry of which comes before the fall
   pub back_apart : (x : Instance) (node : Among nodes x) → (treated x node).next.back ≡ true → x.kind ≢ Main
-  back_apart x node back main = let t = treated x node in kinds (sym main ∙ back_is_handler image program x t.next (steps image program x t.next t.after) back)
+  back_apart x node back main = let t = treated x node in
+      kinds (sym main ∙ back_is_handler image program x t.next (steps image program x t.next t.after) back)
     where
       kinds : Main ≡ Handler → ⊥
       kinds h = cc
 
-  pub entered : (x : Instance) (node : Among nodes x) → (treated x node).next.back ≡ true → response_clocks program.head.irq + 3 < program.fall
-  entered x node back = let t = treated x node in (stands x node).entered (back_is_handler image program x t.next (steps image program x t.next t.after) back)
+  pub entered : (x : Instance) (node : Among nodes x) → (treated x node).next.back ≡ true → response_clocks program.head.irq + 3
+      < program.fall
+  entered x node back = let t = treated x node in
+      (stands x node).entered (back_is_handler image program x t.next (steps image program x t.next t.after) back)
 
   -- what follows an instance is among what its treatment found
-  pub following : (x : Instance) (node : Among nodes x) (y : Instance) → Follows image program x y → Among (followers_of program (treated x node).next) y
+  pub following : (x : Instance) (node : Among nodes x) (y : Instance) → Follows image program x y
+      → Among (followers_of program (treated x node).next) y
   following x node y follows = let t = treated x node in
-      subst (λ (n : Next). Among (followers_of program n) y) (result.one_next image program x follows.next t.next follows.after t.after) follows.is
+      subst (λ (n : Next). Among (followers_of program n) y) (result.one_next image program x follows.next t.next follows.after t.after)
+      follows.is
 
   -- main's results are main's, with its level
-  pub main_kind : (x : Instance) (node : Among nodes x) → x.kind ≡ Main → (y : Instance) → Among (treated x node).next.out.items y → y.kind ≡ Main
-  main_kind x node main y there = let t = treated x node in same_kind image program x t.next (steps image program x t.next t.after) y there ∙ main
+  pub main_kind : (x : Instance) (node : Among nodes x) → x.kind ≡ Main → (y : Instance) → Among (treated x node).next.out.items y
+      → y.kind ≡ Main
+  main_kind x node main y there = let t = treated x node in same_kind image program x t.next (steps image program x t.next t.after) y there
+      ∙ main
 
-  pub main_level : (x : Instance) (node : Among nodes x) → x.kind ≡ Main → (y : Instance) → Among (treated x node).next.out.items y → y.level ≡ x.level
-  main_level x node main y there = let t = treated x node in (main_line image program x (stands x node) t.next (steps image program x t.next t.after) main y there).2
+  pub main_level : (x : Instance) (node : Among nodes x) → x.kind ≡ Main → (y : Instance) → Among (treated x node).next.out.items y
+      → y.level ≡ x.level
+  main_level x node main y there = let t = treated x node in
+      (main_line image program x (stands x node) t.next (steps image program x t.next t.after) main y there).2
 
   -- a result stands on a line of the frame
-  pub result_line : (x : Instance) (node : Among nodes x) → x.kind ≢ Main → (y : Instance) → Among (treated x node).next.out.items y → y.line < program.lines
+  pub result_line : (x : Instance) (node : Among nodes x) → x.kind ≢ Main → (y : Instance) → Among (treated x node).next.out.items y
+      → y.line < program.lines
   result_line x node apart y there = by y.line y.clock (clocks_between x y) ((owed x node apart).moves y there).goes
     where
       by : (l q k : ℕ) → Reaches program.lines x.line x.clock k l q → l < program.lines
@@ -76,7 +89,8 @@ module _ (image : Flash) (program : Program) (fits : ProgramFits program) (nodes
       by l q k (h, inr a) = next_below program.lines x.line l (stands x node).line a.0
 
   -- what an instance shows where it passes is what is marked there
-  pub seen_at : (x : Instance) (node : Among nodes x) → x.kind ≢ Main → (k l q : ℕ) → 1 ≤ k → k ≤ most_clocks x (treated x node).next.out.items
+  pub seen_at : (x : Instance) (node : Among nodes x) → x.kind ≢ Main → (k l q : ℕ) → 1 ≤ k → k ≤ most_clocks x
+      (treated x node).next.out.items
       → Reaches program.lines x.line x.clock k l q → Seen marks (at l q) (shown_at (treated x node).next.emit k)
   seen_at x node apart k l q some few reach =
       let t = treated x node in
@@ -106,10 +120,12 @@ module _ (image : Flash) (program : Program) (fits : ProgramFits program) (nodes
       let same : next ≡ t.next = result.one_next image program it.0 next t.next it.2.1 t.after in
       let st = it.2.3 in
       let fits = stands it.0 node in
-      let few : st.clocks ≤ most_clocks it.0 t.next.out.items = subst (λ (n : Next). st.clocks ≤ most_clocks it.0 n.out.items) same st.few in
+      let few : st.clocks ≤ most_clocks it.0 t.next.out.items = subst (λ (n : Next). st.clocks ≤ most_clocks it.0 n.out.items) same
+      st.few in
       let little = (owed it.0 node it.2.2).few in
       let r = reach_some program.lines it.0.line it.0.clock st.clocks fits.line fits.clock (omega (arith, few, little)) in
-      let where_ : at l q ≡ at r.0 r.1 = st.there ∙ ap (λ f. (place_of it.0 + st.clocks) % f) refl ∙ reaches_at program.lines it.0.line it.0.clock st.clocks r.0 r.1 fits.line r.2 in
+      let where_ : at l q ≡ at r.0 r.1 = st.there ∙ ap (λ f. (place_of it.0 + st.clocks) % f) refl ∙ reaches_at program.lines it.0.line
+      it.0.clock st.clocks r.0 r.1 fits.line r.2 in
       let line = one_line l q r.0 r.1 in_line r.2.0 where_ in
       let clock = one_clock l q r.0 r.1 in_line r.2.0 where_ in
       record {
@@ -125,14 +141,16 @@ module _ (image : Flash) (program : Program) (fits : ProgramFits program) (nodes
       }
 
   -- a result of an instance that does not return is there, widened
-  pub result_there : (x : Instance) (node : Among nodes x) (y : Instance) → (treated x node).next.back ≡ false → Among (treated x node).next.out.items y → Among nodes (widened program y)
+  pub result_there : (x : Instance) (node : Among nodes x) (y : Instance) → (treated x node).next.back ≡ false
+      → Among (treated x node).next.out.items y → Among nodes (widened program y)
   result_there x node y back out =
       let t = treated x node in
       let here : followers_of program t.next ≡ map (widened program) t.next.out.items =
       ap (λ b. if b then flat_map (entries program) t.next.out.items else map (widened program) t.next.out.items) back in
       t.follow (widened program y) (out.0, ap (λ l. slice_get l out.0) here ∙ in_map (widened program) t.next.out.items out.0 y out.1)
 
-  pub entry_there : (x : Instance) (node : Among nodes x) (end e : Instance) → (treated x node).next.back ≡ true → slice_get (treated x node).next.out.items 0 ≡ Some end → Among (entries program end) e → Among nodes e
+  pub entry_there : (x : Instance) (node : Among nodes x) (end e : Instance) → (treated x node).next.back ≡ true
+      → slice_get (treated x node).next.out.items 0 ≡ Some end → Among (entries program end) e → Among nodes e
   entry_there x node end e back out entry =
       let t = treated x node in
       let here : followers_of program t.next ≡ flat_map (entries program) t.next.out.items =
@@ -151,11 +169,14 @@ module _ (image : Flash) (program : Program) (fits : ProgramFits program) (nodes
 
   -- a fact of instances that steps outside main keep
   pub record Kept (G : Instance → Type 0) : Type 0 where
-    pub result : (x : Instance) (node : Among nodes x) → x.kind ≢ Main → (y : Instance) → (treated x node).next.back ≡ false → Among (treated x node).next.out.items y → G x → G (widened program y)
-    pub entry : (x : Instance) (node : Among nodes x) → x.kind ≢ Main → (end e : Instance) → (treated x node).next.back ≡ true → slice_get (treated x node).next.out.items 0 ≡ Some end → Among (entries program end) e → G x → G e
+    pub result : (x : Instance) (node : Among nodes x) → x.kind ≢ Main → (y : Instance) → (treated x node).next.back ≡ false
+        → Among (treated x node).next.out.items y → G x → G (widened program y)
+    pub entry : (x : Instance) (node : Among nodes x) → x.kind ≢ Main → (end e : Instance) → (treated x node).next.back ≡ true
+        → slice_get (treated x node).next.out.items 0 ≡ Some end → Among (entries program end) e → G x → G e
 
   -- from each instance a way leads past the next program.fall
-  pub next_fall : (G : Instance → Type 0) → Kept G → (n : ℕ) (x : Instance) → Among nodes x → x.kind ≢ Main → G x → (d l : ℕ) → 1 ≤ d → d ≤ n → d ≤ 1820 → Reaches program.lines x.line x.clock d l program.fall → (f : Falls l) × G f.x
+  pub next_fall : (G : Instance → Type 0) → Kept G → (n : ℕ) (x : Instance) → Among nodes x → x.kind ≢ Main → G x → (d l : ℕ) → 1 ≤ d
+      → d ≤ n → d ≤ 1820 → Reaches program.lines x.line x.clock d l program.fall → (f : Falls l) × G f.x
   next_fall G kept zero x node apart good d l some le most reach = absurd (omega arith)
   next_fall G kept (suc n) x node apart good d l some le most reach = ⊎_elim
       (λ (short : most_clocks x t.next.out.items < d). ⊎_elim
@@ -169,16 +190,20 @@ module _ (image : Flash) (program : Program) (fits : ProgramFits program) (nodes
       let before = entry_place program y entry.0 (entered x node back) (result_line x node apart y y_there) entry.1 in
       let below : d - c ≤ n = omega (arith, mv.some, le) in
       let place = late y.line y.clock (d - c) l entry.0.line (omega (arith, few, short)) mv.goes.0 left above before.1 in
-      next_fall G kept n entry.0 (entry_there x node y entry.0 back o.out.1 entry.1) before.0.apart (kept.entry x node apart y entry.0 back o.out.1 entry.1 good) (program.fall - entry.0.clock) l
-      (let h = before.0.clock in omega (arith, h)) (let h = place.1 in omega (arith, h, below)) (let f = fits.fall_in_line in omega (arith, f))
+      next_fall G kept n entry.0 (entry_there x node y entry.0 back o.out.1 entry.1) before.0.apart
+      (kept.entry x node apart y entry.0 back o.out.1 entry.1 good) (program.fall - entry.0.clock) l
+      (let h = before.0.clock in omega (arith, h)) (let h = place.1 in omega (arith, h, below)) (let f = fits.fall_in_line in
+      omega (arith, f))
       (fits.fall_in_line, inl (place.0, (let h = before.0.clock in omega (arith, h)))))
       (λ (back : t.next.back ≡ false).
       let z = widened program y in
       let same = widened_place program y in
       let left = reaches_less program.lines x.line x.clock c y.line y.clock d l program.fall mv.goes reach (omega (arith, few, short)) in
       let apart' : z.kind ≢ Main = λ h. mv.apart (sym same.kind ∙ h) in
-      next_fall G kept n z (result_there x node y back y_there) apart' (kept.result x node apart y back y_there good) (d - c) l (omega (arith, few, short)) (omega (arith, mv.some, le)) (omega arith)
-      (subst (λ (a : ℕ). Reaches program.lines a z.clock (d - c) l program.fall) (sym same.line) (subst (λ (b : ℕ). Reaches program.lines y.line b (d - c) l program.fall) (sym same.clock) left)))
+      next_fall G kept n z (result_there x node y back y_there) apart' (kept.result x node apart y back y_there good) (d - c) l
+      (omega (arith, few, short)) (omega (arith, mv.some, le)) (omega arith)
+      (subst (λ (a : ℕ). Reaches program.lines a z.clock (d - c) l program.fall) (sym same.line)
+      (subst (λ (b : ℕ). Reaches program.lines y.line b (d - c) l program.fall) (sym same.clock) left)))
       (bool_cases t.next.back))
       (λ long. (record { x = x; node = node; apart = apart; k = d; some = some; few = long; reach = reach }, good))
       (cases_lt (most_clocks x t.next.out.items) d)
@@ -207,9 +232,13 @@ module _ (image : Flash) (program : Program) (fits : ProgramFits program) (nodes
       few : c ≤ most_clocks x t.next.out.items
       few = clocks_few x t.next.out.items 0 y o.out.1
 
-      late : (line clock j l line' : ℕ) → 1 ≤ j → clock < 1820 → Reaches program.lines line clock j l program.fall → program.fall ≤ clock → IsNext program.lines line line' → (l ≡ line') × (program.fall ≤ j)
+      late : (line clock j l line' : ℕ) → 1 ≤ j → clock < 1820 → Reaches program.lines line clock j l program.fall → program.fall ≤ clock
+          → IsNext program.lines line line' → (l ≡ line') × (program.fall ≤ j)
       late line clock j l line' pos in_line (h, inl a) above next = absurd (omega (arith, a.1))
-      late line clock j l line' pos in_line (h, inr a) above next = (one_next program.lines line l line' a.0 next, omega (arith, a.1, h, in_line))
+      late line clock j l line' pos in_line (h, inr a) above next = (
+        one_next program.lines line l line' a.0 next,
+        omega (arith, a.1, h, in_line),
+      )
 
   -- an instance at the program.fall of a line, after the instruction that shows it
   pub record FallNode (l : ℕ) : Type 0 where
@@ -266,7 +295,8 @@ module _ (image : Flash) (program : Program) (fits : ProgramFits program) (nodes
       let before = start_place program fits b.0 b.1 b.2 in
       let h = before.0.clock in
       let f = fits.fall_in_line in
-      (next_fall (λ x. Unit {0}) any_kept 1820 b.0 node b.2 tt (program.fall - b.0.clock) 0 (omega (arith, h)) (omega (arith, f)) (omega (arith, f)) (f, inl (sym before.1, omega (arith, h)))).0
+      (next_fall (λ x. Unit {0}) any_kept 1820 b.0 node b.2 tt (program.fall - b.0.clock) 0 (omega (arith, h)) (omega (arith, f))
+      (omega (arith, f)) (f, inl (sym before.1, omega (arith, h)))).0
   each_falls (suc l) below =
       let n = fall_node l (each_falls l (omega arith)) in
       let line = n.line in
@@ -322,9 +352,11 @@ module _ (image : Flash) (program : Program) (fits : ProgramFits program) (nodes
       shown_here t.next.emit (clocks_between x end) Leave (leave.1 ∙ ap (λ k. Some (k, Leave)) time) in
       let above = cl.above end.line end.clock (clocks_between x end) Leave mv.some few mv.goes shows in
       let not_fall : program.fall ≢ end.clock = λ e.
-      let f = cl.falls end.line (clocks_between x end) mv.some few (subst (λ q. Reaches program.lines x.line x.clock (clocks_between x end) end.line q) (sym e) mv.goes) in
+      let f = cl.falls end.line (clocks_between x end) mv.some few
+      (subst (λ q. Reaches program.lines x.line x.clock (clocks_between x end) end.line q) (sym e) mv.goes) in
       sync_no_leave 0 (some_is (Sync 0) Leave (sym f ∙ shows)) in
-      let seen = subst (Seen marks (at end.line end.clock)) shows (seen_at x node apart (clocks_between x end) end.line end.clock mv.some few mv.goes) in
+      let seen = subst (Seen marks (at end.line end.clock)) shows (seen_at x node apart (clocks_between x end) end.line end.clock mv.some
+      few mv.goes) in
       record {
         x = x;
         end = end;
@@ -335,12 +367,14 @@ module _ (image : Flash) (program : Program) (fits : ProgramFits program) (nodes
         clock = it.5.0;
         cells = it.5.1;
         in_line = subst (λ q. q < 1820) (sym it.5.0) mv.goes.0;
-        seen = subst (λ q. Seen marks (at l q) (Some Leave)) (sym it.5.0) (subst (λ a. Seen marks (at a end.clock) (Some Leave)) (sym it.4) seen);
+        seen = subst (λ q. Seen marks (at l q) (Some Leave)) (sym it.5.0) (subst (λ a. Seen marks (at a end.clock) (Some Leave)) (sym it.4)
+            seen);
         after = let e = it.5.0 in omega (arith, above, not_fall, e);
       }
 
   -- an instance that does not return shows no leave
-  no_leave : (x : Instance) (node : Among nodes x) → x.kind ≢ Main → (k l q : ℕ) → (treated x node).next.back ≡ false → 1 ≤ k → k ≤ most_clocks x (treated x node).next.out.items
+  no_leave : (x : Instance) (node : Among nodes x) → x.kind ≢ Main → (k l q : ℕ) → (treated x node).next.back ≡ false → 1 ≤ k
+      → k ≤ most_clocks x (treated x node).next.out.items
       → Reaches program.lines x.line x.clock k l q → Seen marks (at l q) (Some Leave) → ⊥
   no_leave x node apart k l q back some few reach seen =
       let t = treated x node in
@@ -356,7 +390,8 @@ module _ (image : Flash) (program : Program) (fits : ProgramFits program) (nodes
   early_start : (y : Instance) → Among program.starts y → Early y
   early_start y h = record {
     node = s.started y h;
-    early = λ apart r at_r. let b = (start_place program fits y h apart).0.clock in let a = (leaves_at y.line r at_r).after in omega (arith, a, b);
+    early = λ apart r at_r. let b = (start_place program fits y h apart).0.clock in let a = (leaves_at y.line r at_r).after in
+        omega (arith, a, b);
   }
 
   early_more : (x y : Instance) → Early x → Follows image program x y → Early y
@@ -365,14 +400,16 @@ module _ (image : Flash) (program : Program) (fits : ProgramFits program) (nodes
     early = λ apart r at_r. ⊎_elim
         (λ (back : t.next.back ≡ true).
         let flat : Among (flat_map (entries program) t.next.out.items) y = subst (λ l. Among l y)
-        (ap (λ b. if b then flat_map (entries program) t.next.out.items else map (widened program) t.next.out.items) back) (following x e.node y follows) in
+        (ap (λ b. if b then flat_map (entries program) t.next.out.items else map (widened program) t.next.out.items) back)
+        (following x e.node y follows) in
         let from = of_flat (entries program) t.next.out.items y flat in
         let x_apart : x.kind ≢ Main = back_apart x e.node back in
         let b = (entry_place program from.0 y (entered x e.node back) (result_line x e.node x_apart from.0 from.1) from.2).0.clock in
         let a = (leaves_at y.line r at_r).after in omega (arith, a, b))
         (λ (back : t.next.back ≡ false).
         let mapped : Among (map (widened program) t.next.out.items) y = subst (λ l. Among l y)
-        (ap (λ b. if b then flat_map (entries program) t.next.out.items else map (widened program) t.next.out.items) back) (following x e.node y follows) in
+        (ap (λ b. if b then flat_map (entries program) t.next.out.items else map (widened program) t.next.out.items) back)
+        (following x e.node y follows) in
         let from = of_map (widened program) t.next.out.items mapped.0 y mapped.1 in
         let z = from.0 in
         let z_there : Among t.next.out.items z = (mapped.0, from.1) in
@@ -390,9 +427,11 @@ module _ (image : Flash) (program : Program) (fits : ProgramFits program) (nodes
         let leave = leaves_at z.line r at_z in
         subst (λ q. q < r.clock) (sym clock) (⊎_elim (λ lt. lt)
         (λ (late : r.clock ≤ z.clock).
-        let b = reaches_back program.lines x.line x.clock (clocks_between x z) z.line z.clock r.clock mv.goes late (stands x e.node).line (stands x e.node).clock
+        let b = reaches_back program.lines x.line x.clock (clocks_between x z) z.line z.clock r.clock mv.goes late (stands x e.node).line
+        (stands x e.node).clock
         (λ on. e.early x_apart r (subst (λ l. ReturnAt returns l r) on at_z)) in
-        absurd (no_leave x e.node x_apart (clocks_between x z - (z.clock - r.clock)) z.line r.clock back b.0 (let le = b.1 in omega (arith, le, few)) b.2 leave.seen))
+        absurd (no_leave x e.node x_apart (clocks_between x z - (z.clock - r.clock)) z.line r.clock back b.0 (let le = b.1 in
+        omega (arith, le, few)) b.2 leave.seen))
         (cases_lt z.clock r.clock)))
         (kind_cases x.kind))
         (bool_cases t.next.back);
@@ -405,18 +444,21 @@ module _ (image : Flash) (program : Program) (fits : ProgramFits program) (nodes
   early_all x node = tree_all image program Early early_start early_more nodes parents s.tree x node
 
   -- nothing stands after a return on its line
-  pub quiet_after : (l : ℕ) (r : Return) (q : ℕ) (e : EventKind) → ReturnAt returns l r → r.clock < q → q < 1820 → Seen marks (at l q) (Some e) → ⊥
+  pub quiet_after : (l : ℕ) (r : Return) (q : ℕ) (e : EventKind) → ReturnAt returns l r → r.clock < q → q < 1820 → Seen marks (at l q)
+      (Some e) → ⊥
   quiet_after l r q e at_r after in_line seen =
       let h = who l q e in_line seen in
       let t = treated h.x h.node in
       let leave = leaves_at l r at_r in
-      let b = reaches_back program.lines h.x.line h.x.clock h.k l q r.clock h.reach (omega arith) (stands h.x h.node).line (stands h.x h.node).clock
+      let b = reaches_back program.lines h.x.line h.x.clock h.k l q r.clock h.reach (omega arith) (stands h.x h.node).line
+      (stands h.x h.node).clock
       (λ on. (early_all h.x h.node).early h.apart r (subst (λ a. ReturnAt returns a r) on at_r)) in
       let few' = h.few in
       let le = b.1 in
       let shows = seen_once marks (at l r.clock) (shown_at t.next.emit (h.k - (q - r.clock))) (Some Leave)
       (seen_at h.x h.node h.apart (h.k - (q - r.clock)) l r.clock b.0 (omega (arith, le, few')) b.2) leave.seen in
-      let one = one_emit t.next.emit (h.k - (q - r.clock)) h.k Leave e (shown_is t.next.emit (h.k - (q - r.clock)) Leave shows) (shown_is t.next.emit h.k e h.shown) in
+      let one = one_emit t.next.emit (h.k - (q - r.clock)) h.k Leave e (shown_is t.next.emit (h.k - (q - r.clock)) Leave shows)
+      (shown_is t.next.emit h.k e h.shown) in
       let k_some = b.0 in
       let eq = one.0 in
       omega (arith, eq, k_some, after)

@@ -1,5 +1,6 @@
 -- The schedule of an ended search: its falls, its returns and its levels.
-use Rattle.std.proofs.Common.{◌≡◌, ◌≢◌, ℕ, zero, suc, ◌<◌, ◌≤◌, ◌+◌, ◌%◌, List, Some, refl, sym, ap, ◌∙◌, subst, ⊎_elim, arith, if◌then◌else◌, ◌==◌}
+use Rattle.std.proofs.Common.{◌≡◌, ◌≢◌, ℕ, zero, suc, ◌<◌, ◌≤◌, ◌+◌, ◌%◌, List, Some, refl, sym, ap, ◌∙◌, subst, ⊎_elim, arith}
+use Rattle.std.proofs.Common.{if◌then◌else◌, ◌==◌}
 use Rattle.std.proofs.Math.Nat.{mod-eq_of_lt}
 use Rattle.std.specs.Prelude.{unwrap_or}
 use Rattle.uz_schedule.specs.Instances.{handler_entry, level_or_zero, rest_instance}
@@ -32,10 +33,14 @@ lines_some program fits = let some = fits.some in omega (arith, some)
 
 pub falls_once : EndedFallsOnce
 falls_once image p found s fits ended of = record {
-  first = λ l below. event_on p found.marks.items s of l p.fall below fits.fall_in_line ∙ seen_shows found.marks.items (at l p.fall) (Some (Sync 0)) (cover.steady_first image p fits found.nodes.keys found.parents.items found.marks.items found.returns.items ended l below);
-  above = λ l k e below in_line shown. cover.steady_above image p fits found.nodes.keys found.parents.items found.marks.items found.returns.items ended l k e in_line
+  first = λ l below. event_on p found.marks.items s of l p.fall below fits.fall_in_line ∙ seen_shows found.marks.items (at l p.fall)
+      (Some (Sync 0)) (cover.steady_first image p fits found.nodes.keys found.parents.items found.marks.items found.returns.items ended l
+      below);
+  above = λ l k e below in_line shown. cover.steady_above image p fits found.nodes.keys found.parents.items found.marks.items
+      found.returns.items ended l k e in_line
       (shown_seen found.marks.items (at l k) e (sym (event_on p found.marks.items s of l k below in_line) ∙ shown));
-  once = λ l k below in_line shown. cover.steady_once image p fits found.nodes.keys found.parents.items found.marks.items found.returns.items ended l k in_line
+  once = λ l k below in_line shown. cover.steady_once image p fits found.nodes.keys found.parents.items found.marks.items
+      found.returns.items ended l k in_line
       (shown_seen found.marks.items (at l k) (Sync 0) (sym (event_on p found.marks.items s of l k below in_line) ∙ shown));
 }
 
@@ -50,7 +55,8 @@ levels_fit image p found y v m fits ended marked is =
     let same = result.one_next image p x next t.next it.2.1 t.after in
     let apart = it.2.2 in
     let passing = it.2.3 in
-    let emit = subst (λ (n : Next). n.emit ≡ Some (passing.clocks, Sync v)) same (shown_is next.emit passing.clocks (Sync v) (sym passing.shows ∙ is)) in
+    let emit = subst (λ (n : Next). n.emit ≡ Some (passing.clocks, Sync v)) same
+    (shown_is next.emit passing.clocks (Sync v) (sym passing.shows ∙ is)) in
     let o = cover.owed image p fits found.nodes.keys found.parents.items found.marks.items found.returns.items ended x node apart in
     let sum = (o.syncs passing.clocks v o.out.0 emit (0, o.out.1)).1 in
     omega (arith, sum)
@@ -58,37 +64,45 @@ levels_fit image p found y v m fits ended marked is =
 pub rests_are_quiet : EndedRestsAreQuiet
 rests_are_quiet image p found s l r fits ended of below noted = record {
   in_line = leave.in_line;
-  leave = event_on p found.marks.items s of l r.clock below leave.in_line ∙ seen_shows found.marks.items (at l r.clock) (Some Leave) leave.seen;
+  leave = event_on p found.marks.items s of l r.clock below leave.in_line ∙ seen_shows found.marks.items (at l r.clock) (Some Leave)
+      leave.seen;
   quiet = λ k after in_line. event_on p found.marks.items s of l k below in_line
-      ∙ none_shown found.marks.items (at l k) (λ e seen. cover.quiet_after image p fits found.nodes.keys found.parents.items found.marks.items found.returns.items ended l r k e noted after in_line seen);
+      ∙ none_shown found.marks.items (at l k) (λ e seen. cover.quiet_after image p fits found.nodes.keys found.parents.items
+      found.marks.items found.returns.items ended l r k e noted after in_line seen);
   quiet_next = λ k few.
       let early : k < p.fall = omega (arith, few, entered) in
       let in_line : k < 1820 = (let f = fits.fall_in_line in omega (arith, f, early)) in
       event_on p found.marks.items s of next k next_below' in_line
       ∙ none_shown found.marks.items (at next k) (λ e seen.
-      let above = cover.steady_above image p fits found.nodes.keys found.parents.items found.marks.items found.returns.items ended next k e in_line seen in omega (arith, above, early));
+      let above = cover.steady_above image p fits found.nodes.keys found.parents.items found.marks.items found.returns.items ended next k e
+      in_line seen in omega (arith, above, early));
 }
   where
     leave : cover.LeavesAt image p fits found.nodes.keys found.parents.items found.marks.items found.returns.items ended l r
     leave = cover.leaves_at image p fits found.nodes.keys found.parents.items found.marks.items found.returns.items ended l r noted
 
     entered : response_clocks p.head.irq + 3 < p.fall
-    entered = cover.entered image p fits found.nodes.keys found.parents.items found.marks.items found.returns.items ended leave.x leave.node leave.back
+    entered = cover.entered image p fits found.nodes.keys found.parents.items found.marks.items found.returns.items ended leave.x leave.node
+        leave.back
 
     next : ℕ
     next = next_line s l
 
     next_below' : next < p.lines
-    next_below' = next_below p.lines l next below (subst (λ n. IsNext p.lines l (if suc l == n then 0 else suc l)) (sym of.lines) (next_is p.lines l below))
+    next_below' = next_below p.lines l next below (subst (λ n. IsNext p.lines l (if suc l == n then 0 else suc l)) (sym of.lines)
+        (next_is p.lines l below))
 
 pub levels_are : EndedLevels
 levels_are image p found s x fits ended of node = ⊎_elim
     (λ (main : x.kind ≡ Main).
     let stands = cover.stands image p fits found.nodes.keys found.parents.items found.marks.items found.returns.items ended x node in
     let place = stands.main main in
-    let f = levels.first_level image p fits found.nodes.keys found.parents.items found.marks.items found.returns.items ended 0 fits.fall_some in
+    let f = levels.first_level image p fits found.nodes.keys found.parents.items found.marks.items found.returns.items ended 0
+    fits.fall_some in
     let level : levels.LevelIs (frame_of p) found.marks.items f.p x.level =
-    subst (λ (v : ℕ). levels.LevelIs (frame_of p) found.marks.items f.p v) (sym (levels.main_all image p fits found.nodes.keys found.parents.items found.marks.items found.returns.items ended x node main)) f.level in
+    subst (λ (v : ℕ). levels.LevelIs (frame_of p) found.marks.items f.p v)
+    (sym (levels.main_all image p fits found.nodes.keys found.parents.items found.marks.items found.returns.items ended x node main))
+    f.level in
     let zero_place : f.p % frame_of p ≡ at 0 0 = f.place in
     at_place f.p level (zero_place ∙ ap (λ l. at l 0) (sym place.0) ∙ ap (at x.line) (sym place.1)))
     (λ (apart : x.kind ≢ Main).
@@ -96,7 +110,8 @@ levels_are image p found s x fits ended of node = ⊎_elim
     at_place g.p g.level g.at)
     (kind_cases x.kind)
   where
-    at_place : (n : ℕ) → levels.LevelIs (frame_of p) found.marks.items n x.level → n % frame_of p ≡ at x.line x.clock → level_at s (position_of s x) ≡ Some x.level
+    at_place : (n : ℕ) → levels.LevelIs (frame_of p) found.marks.items n x.level → n % frame_of p ≡ at x.line x.clock
+        → level_at s (position_of s x) ≡ Some x.level
     at_place n level place =
         let stands = cover.stands image p fits found.nodes.keys found.parents.items found.marks.items found.returns.items ended x node in
         let line = stands.line in
@@ -105,7 +120,8 @@ levels_are image p found s x fits ended of node = ⊎_elim
         let here : position_of s x ≡ at x.line x.clock = omega (arith, start) in
         let below : at x.line x.clock < frame_of p = omega (arith, line, clock) in
         let round : n % frame_of_schedule s ≡ position_of s x % frame_of_schedule s =
-        ap (λ f. n % f) (frame_is p found.marks.items s of) ∙ place ∙ sym (mod-eq_of_lt below) ∙ ap (λ y. y % frame_of p) (sym here) ∙ ap (λ f. position_of s x % f) (sym (frame_is p found.marks.items s of)) in
+        ap (λ f. n % f) (frame_is p found.marks.items s of) ∙ place ∙ sym (mod-eq_of_lt below) ∙ ap (λ y. y % frame_of p) (sym here)
+        ∙ ap (λ f. position_of s x % f) (sym (frame_is p found.marks.items s of)) in
         level_mod s (position_of s x) n (sym round) ∙ level_is p found.marks.items s of n x.level (lines_some p fits) level
 
 -- The handler's first state after a rest
@@ -130,7 +146,8 @@ rests_enter image p found cert rest r c fits ended head of noted cells few = sub
     among (suc (suc (suc (suc k)))) le = absurd (omega arith)
 
     node : Among found.nodes.keys e
-    node = cover.entry_there image p fits found.nodes.keys found.parents.items found.marks.items found.returns.items ended leave.x leave.node leave.end e leave.back leave.out (among c few)
+    node = cover.entry_there image p fits found.nodes.keys found.parents.items found.marks.items found.returns.items ended leave.x
+        leave.node leave.end e leave.back leave.out (among c few)
 
     line : next_line cert.schedule rest.line ≡ e.line
     line = ap (λ n. if suc rest.line == n then 0 else suc rest.line) of.lines ∙ ap (λ l. if suc l == p.lines then 0 else suc l) leave.line
@@ -146,7 +163,11 @@ rests_enter image p found cert rest r c fits ended head of noted cells few = sub
 
     same : rest_instance cert rest c ≡ e
     same =
-        ap (λ (es : List Ends). handler_entry es (next_line cert.schedule rest.line) (c + response_clocks cert.head.irq) (level_or_zero cert.schedule (next_line cert.schedule rest.line) (c + response_clocks cert.head.irq))) (cells ∙ ap (λ v. v.items) leave.cells)
-        ∙ ap (λ l. handler_entry leave.end.cells.items l (c + response_clocks cert.head.irq) (level_or_zero cert.schedule (next_line cert.schedule rest.line) (c + response_clocks cert.head.irq))) line
-        ∙ ap (λ k. handler_entry leave.end.cells.items e.line k (level_or_zero cert.schedule (next_line cert.schedule rest.line) (c + response_clocks cert.head.irq))) clock
+        ap (λ (es : List Ends). handler_entry es (next_line cert.schedule rest.line) (c + response_clocks cert.head.irq)
+        (level_or_zero cert.schedule (next_line cert.schedule rest.line) (c + response_clocks cert.head.irq)))
+        (cells ∙ ap (λ v. v.items) leave.cells)
+        ∙ ap (λ l. handler_entry leave.end.cells.items l (c + response_clocks cert.head.irq)
+        (level_or_zero cert.schedule (next_line cert.schedule rest.line) (c + response_clocks cert.head.irq))) line
+        ∙ ap (λ k. handler_entry leave.end.cells.items e.line k (level_or_zero cert.schedule (next_line cert.schedule rest.line)
+        (c + response_clocks cert.head.irq))) clock
         ∙ ap (λ v. handler_entry leave.end.cells.items e.line e.clock v) level

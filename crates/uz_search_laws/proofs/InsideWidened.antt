@@ -1,5 +1,6 @@
 -- An instance lies in what widening makes of it.
-use Rattle.std.proofs.Common.{◌≡◌, ℕ, zero, suc, ◌≤◌, List, [], ◌∷◌, Bool, true, false, not, ◌&&◌, nat_le, nat_lt, refl, sym, ap, ◌∙◌, length, slice_set, slice_index_or, if◌then◌else◌, arith}
+use Rattle.std.proofs.Common.{◌≡◌, ℕ, zero, suc, ◌≤◌, List, [], ◌∷◌, Bool, true, false, not, ◌&&◌, nat_le, nat_lt, refl, sym, ap, ◌∙◌}
+use Rattle.std.proofs.Common.{length, slice_set, slice_index_or, if◌then◌else◌, arith}
 use Rattle.std.specs.Prelude.{⊤}
 use Rattle.std.proofs.lemmas.Bool.{eq-eqb}
 use Rattle.std.proofs.lemmas.Bool.Decides.{nat_tests}
@@ -13,7 +14,8 @@ use Rattle.uz_schedule.specs.declared.kinds.Kind.TheVariants.{Main, Handler, Alo
 use Rattle.uz_schedule.specs.declared.states.Instance.{Instance}
 use Rattle.uz_transfer.specs.Refusals.{range_inside}
 use Rattle.uz_transfer.specs.Values.{flag_at, pair_at, span_at, value_at}
-use Rattle.uz_rules.specs.Inside.{all_below, cells_inside, flag_inside, flags_inside, inside, pairs_inside, registers_inside, same_bool, same_kind, same_place, slots_inside, value_inside}
+use Rattle.uz_rules.specs.Inside.{all_below, cells_inside, flag_inside, flags_inside, inside, pairs_inside, registers_inside, same_bool}
+use Rattle.uz_rules.specs.Inside.{same_kind, same_place, slots_inside, value_inside}
 use Rattle.uz_search.specs.declared.program.Program.{Program}
 use Rattle.uz_search.specs.declared.widening.Widening.{Widening}
 use Rattle.uz_search.specs.declared.widening.Widening.TheVariants.{Register, Pair}
@@ -100,7 +102,8 @@ pair_spreads fact e = by (is_whole fact) (is_within e fact) refl
     by false false is = spreads_self e
     by false true is = (grind (arith, nat_tests), grind (arith, nat_tests))
 
-set_spreads : (pairs : List Ends) (n j : ℕ) (w : Ends) → Spreads (pair_at pairs n) w → Spreads (pair_at pairs j) (pair_at (slice_set pairs n w) j)
+set_spreads : (pairs : List Ends) (n j : ℕ) (w : Ends) → Spreads (pair_at pairs n) w → Spreads (pair_at pairs j)
+    (pair_at (slice_set pairs n w) j)
 set_spreads [] n j w h = spreads_self (pair_at [] j)
 set_spreads (v ∷ vs) zero zero w h = h
 set_spreads (v ∷ vs) zero (suc j) w h = spreads_self (pair_at vs j)
@@ -118,16 +121,20 @@ wider_self x = record { registers = λ j. grows_self (value_at x.regs j); pairs 
 
 fact_wider : (fact : Widening) (x : Instance) → Wider x (widened_by fact x)
 unfolding widened_by
-fact_wider (Register r fact) x = choose (Wider x) (nat_lt r 32) (record x { regs = slice_set x.regs r (widened_value fact (slice_index_or x.regs r (Range whole_byte))) }) x
+fact_wider (Register r fact) x = choose (Wider x) (nat_lt r 32)
+    (record x { regs = slice_set x.regs r (widened_value fact (slice_index_or x.regs r (Range whole_byte))) }) x
     (record {
-      registers = λ j. set_grows x.regs r j (widened_value fact (slice_index_or x.regs r (Range whole_byte))) (value_grows fact (slice_index_or x.regs r (Range whole_byte)));
+      registers = λ j. set_grows x.regs r j (widened_value fact (slice_index_or x.regs r (Range whole_byte)))
+          (value_grows fact (slice_index_or x.regs r (Range whole_byte)));
       pairs = λ j. spreads_self (pair_at x.pairs j);
     })
     (wider_self x)
-fact_wider (Pair n fact) x = choose (Wider x) (nat_lt n 3) (record x { pairs = slice_set x.pairs n (widened_pair fact (slice_index_or x.pairs n whole_pair)) }) x
+fact_wider (Pair n fact) x = choose (Wider x) (nat_lt n 3)
+    (record x { pairs = slice_set x.pairs n (widened_pair fact (slice_index_or x.pairs n whole_pair)) }) x
     (record {
       registers = λ j. grows_self (value_at x.regs j);
-      pairs = λ j. set_spreads x.pairs n j (widened_pair fact (slice_index_or x.pairs n whole_pair)) (pair_spreads fact (slice_index_or x.pairs n whole_pair));
+      pairs = λ j. set_spreads x.pairs n j (widened_pair fact (slice_index_or x.pairs n whole_pair))
+          (pair_spreads fact (slice_index_or x.pairs n whole_pair));
     })
     (wider_self x)
 
@@ -137,7 +144,8 @@ facts_wider (fact ∷ facts) x =
     let one = fact_wider fact x in
     let all = facts_wider facts (widened_by fact x) in
     record {
-      registers = λ j. grows_then (value_at x.regs j) (value_at (widened_by fact x).regs j) (value_at (widened_all facts (widened_by fact x)).regs j) (one.registers j) (all.registers j);
+      registers = λ j. grows_then (value_at x.regs j) (value_at (widened_by fact x).regs j)
+          (value_at (widened_all facts (widened_by fact x)).regs j) (one.registers j) (all.registers j);
       pairs = λ j. let a = one.pairs j in let b = all.pairs j in (omega (arith, a.0, b.0), omega (arith, a.1, b.1));
     }
 
@@ -188,18 +196,23 @@ inside_widened p x = λ i. place i && (slots i && (cells i && (flags i && (pairs
     slots : slots_inside x.stack.items (widened p x).stack.items ≡ true
     slots = ap (λ s. slots_inside x.stack.items s.items) same.stack
         ∙ (λ i. eq-eqb (length x.stack.items) (length x.stack.items) refl i
-        && below_all (length x.stack.items) (λ j. value_inside (value_at x.stack.items j) (value_at x.stack.items j)) (λ j. grows_inside (value_at x.stack.items j) (value_at x.stack.items j) (grows_self (value_at x.stack.items j))) i)
+        && below_all (length x.stack.items) (λ j. value_inside (value_at x.stack.items j) (value_at x.stack.items j))
+        (λ j. grows_inside (value_at x.stack.items j) (value_at x.stack.items j) (grows_self (value_at x.stack.items j))) i)
 
     cells : cells_inside x.cells.items (widened p x).cells.items ≡ true
     cells = ap (λ c. cells_inside x.cells.items c.items) same.cells
         ∙ (λ i. eq-eqb (length x.cells.items) (length x.cells.items) refl i
-        && below_all (length x.cells.items) (λ j. range_inside (span_at x.cells.items j) (span_at x.cells.items j)) (λ j. range_grown (span_at x.cells.items j) (span_at x.cells.items j) (omega arith) (omega arith)) i)
+        && below_all (length x.cells.items) (λ j. range_inside (span_at x.cells.items j) (span_at x.cells.items j))
+        (λ j. range_grown (span_at x.cells.items j) (span_at x.cells.items j) (omega arith) (omega arith)) i)
 
     flags : flags_inside x.flags (widened p x).flags ≡ true
-    flags = ap (flags_inside x.flags) same.flags ∙ below_all 7 (λ k. flag_inside (flag_at x.flags k) (flag_at x.flags k)) (λ k. flag_self (flag_at x.flags k))
+    flags = ap (flags_inside x.flags) same.flags ∙ below_all 7 (λ k. flag_inside (flag_at x.flags k) (flag_at x.flags k))
+        (λ k. flag_self (flag_at x.flags k))
 
     pairs : pairs_inside x.pairs (widened p x).pairs ≡ true
-    pairs = below_all 3 (λ k. range_inside (pair_at x.pairs k) (pair_at (widened p x).pairs k)) (λ k. let h = wide.pairs k in range_grown (pair_at x.pairs k) (pair_at (widened p x).pairs k) h.0 h.1)
+    pairs = below_all 3 (λ k. range_inside (pair_at x.pairs k) (pair_at (widened p x).pairs k)) (λ k. let h = wide.pairs k in
+        range_grown (pair_at x.pairs k) (pair_at (widened p x).pairs k) h.0 h.1)
 
     registers : registers_inside x.regs (widened p x).regs ≡ true
-    registers = below_all 32 (λ r. value_inside (value_at x.regs r) (value_at (widened p x).regs r)) (λ r. grows_inside (value_at x.regs r) (value_at (widened p x).regs r) (wide.registers r))
+    registers = below_all 32 (λ r. value_inside (value_at x.regs r) (value_at (widened p x).regs r))
+        (λ r. grows_inside (value_at x.regs r) (value_at (widened p x).regs r) (wide.registers r))

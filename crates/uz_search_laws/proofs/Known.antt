@@ -1,5 +1,7 @@
 -- What is known of an instance, within a kind's limits, and how writing keeps it so.
-use Rattle.std.proofs.Common.{◌≡◌, ◌≢◌, ℕ, zero, suc, ◌<◌, ◌≤◌, ◌+◌, ◌*◌, ◌⊎◌, List, [], ◌∷◌, ◌++◌, Some, Bool, true, false, ◌||◌, nat_eq, nat_le, refl, sym, ap, ◌∙◌, subst, inl, inr, ⊎_elim, length, slice_get, slice_set, slice_index_or, take, if◌then◌else◌, true≢false, arith}
+use Rattle.std.proofs.Common.{◌≡◌, ◌≢◌, ℕ, zero, suc, ◌<◌, ◌≤◌, ◌+◌, ◌*◌, ◌⊎◌, List, [], ◌∷◌, ◌++◌, Some, Bool, true, false, ◌||◌, nat_eq}
+use Rattle.std.proofs.Common.{nat_le, refl, sym, ap, ◌∙◌, subst, inl, inr, ⊎_elim, length, slice_get, slice_set, slice_index_or, take}
+use Rattle.std.proofs.Common.{if◌then◌else◌, true≢false, arith}
 use Rattle.std.proofs.lemmas.Bool.{cases_eq}
 use Rattle.std.proofs.lemmas.Bool.Decides.{nat_tests}
 use Rattle.uz_schedule.specs.Ends.{Ends, hull, whole_pair}
@@ -15,7 +17,8 @@ use Rattle.uz_schedule.specs.declared.states.Instance.{Instance}
 use Rattle.uz_range.specs.Answers.{ends}
 use Rattle.uz_range.specs.Rules.{low_answer, high_answer}
 use Rattle.uz_transfer.specs.Memory.{is_old, with_slots}
-use Rattle.uz_transfer.specs.Values.{span_of, value_at, flag_at, pair_at, each_flag, byte_hull, is_pointer, pair_number, pair_range, pairs_after_byte, with_value, with_pair_range, with_pair_value, with_flag_list, merged_flags}
+use Rattle.uz_transfer.specs.Values.{span_of, value_at, flag_at, pair_at, each_flag, byte_hull, is_pointer, pair_number, pair_range}
+use Rattle.uz_transfer.specs.Values.{pairs_after_byte, with_value, with_pair_range, with_pair_value, with_flag_list, merged_flags}
 use Rattle.uz_search.proofs.VisitingLemmas.{some_is}
 use Rattle.uz_search_laws.specs.Limits.{Each, IsOpen, OldFits}
 use Rattle.uz_search_laws.proofs.NewFlags.{AreNew, new_at}
@@ -113,7 +116,8 @@ pointer_cases d is = by (nat_eq d 26) (nat_eq d 28) refl refl is
     by false false e f h = inr (inr (grind (arith, nat_tests)))
 
 pub pointer_place : (d : ℕ) → is_pointer d ≡ true → (26 + 2 * pair_number d ≡ d) × (pair_number d < 3)
-pointer_place d is = ⊎_elim (λ e. place 26 e refl (omega arith)) (λ r. ⊎_elim (λ e. place 28 e refl (omega arith)) (λ e. place 30 e refl (omega arith)) r) (pointer_cases d is)
+pointer_place d is = ⊎_elim (λ e. place 26 e refl (omega arith)) (λ r. ⊎_elim (λ e. place 28 e refl (omega arith))
+    (λ e. place 30 e refl (omega arith)) r) (pointer_cases d is)
   where
     place : (n : ℕ) → d ≡ n → 26 + 2 * pair_number n ≡ n → pair_number n < 3 → (26 + 2 * pair_number d ≡ d) × (pair_number d < 3)
     place n e h k = subst (λ (m : ℕ). (26 + 2 * pair_number m ≡ m) × (pair_number m < 3)) (sym e) (h, k)
@@ -145,7 +149,8 @@ module _ (head : Head) (kind : Kind) where
   seven f h (suc (suc (suc (suc (suc (suc zero)))))) b at = subst (BitFits kind) (some_is (f 6) b at) (h 6)
   seven f h (suc (suc (suc (suc (suc (suc (suc k))))))) b at = cc
 
-  pub with_flags : (flags : List Bit) (x : Instance) → Known head kind x → length flags ≡ 7 → Each (BitFits kind) flags → Known head kind (with_flag_list flags x)
+  pub with_flags : (flags : List Bit) (x : Instance) → Known head kind x → length flags ≡ 7 → Each (BitFits kind) flags → Known head kind
+      (with_flag_list flags x)
   with_flags flags x h count each = record {
     register_count = h.register_count;
     registers = h.registers;
@@ -158,19 +163,24 @@ module _ (head : Head) (kind : Kind) where
     cells = h.cells;
   }
 
-  pub with_new : (f : ℕ → Bit) (x : Instance) → Known head kind x → ((k : ℕ) → BitFits kind (f k)) → Known head kind (with_flag_list (each_flag f) x)
+  pub with_new : (f : ℕ → Bit) (x : Instance) → Known head kind x → ((k : ℕ) → BitFits kind (f k)) → Known head kind
+      (with_flag_list (each_flag f) x)
   with_new f x h fits = with_flags (each_flag f) x h refl (seven f fits)
 
-  pub with_merged : (keeps : ℕ → Bool) (new : List Bit) (x : Instance) → Known head kind x → AreNew new → Known head kind (with_flag_list (merged_flags keeps new x.flags) x)
-  with_merged keeps new x h are = with_new (λ k. if keeps k then flag_at x.flags k else flag_at new k) x h (λ k. either (keeps k) (flag_at x.flags k) (flag_at new k)
+  pub with_merged : (keeps : ℕ → Bool) (new : List Bit) (x : Instance) → Known head kind x → AreNew new → Known head kind
+      (with_flag_list (merged_flags keeps new x.flags) x)
+  with_merged keeps new x h are = with_new (λ k. if keeps k then flag_at x.flags k else flag_at new k) x h
+      (λ k. either (keeps k) (flag_at x.flags k) (flag_at new k)
       (index_each (BitFits kind) x.flags k Free h.flags tt) (new_fits (flag_at new k) (new_at new k are)))
     where
       either : (b : Bool) (c d : Bit) → BitFits kind c → BitFits kind d → BitFits kind (if b then c else d)
       either true c d p q = p
       either false c d p q = q
 
-  pub with_one_flag : (k : ℕ) (b : Bit) (x : Instance) → Known head kind x → is_old b ≡ false → Known head kind (with_flag_list (slice_set x.flags k b) x)
-  with_one_flag k b x h new = with_flags (slice_set x.flags k b) x h (length_set x.flags k b ∙ h.flag_count) (each_set (BitFits kind) x.flags k b h.flags (new_fits b new))
+  pub with_one_flag : (k : ℕ) (b : Bit) (x : Instance) → Known head kind x → is_old b ≡ false → Known head kind
+      (with_flag_list (slice_set x.flags k b) x)
+  with_one_flag k b x h new = with_flags (slice_set x.flags k b) x h (length_set x.flags k b ∙ h.flag_count)
+      (each_set (BitFits kind) x.flags k b h.flags (new_fits b new))
 
   -- Registers and pairs
 
@@ -180,7 +190,8 @@ module _ (head : Head) (kind : Kind) where
       ap (λ a. hull (span_of a) (span_of (value_at (slice_set regs d v) (j + 1)))) (index_set_other regs d j v (Range (ends 0 255)) low)
       ∙ ap (λ b. hull (span_of (value_at regs j)) (span_of b)) (index_set_other regs d (j + 1) v (Range (ends 0 255)) high)
 
-  pub hulls_after : (x : Instance) (d : ℕ) (v : Val) → Known head kind x → (k : ℕ) → k < 3 → slice_get (pairs_after_byte d (slice_set x.regs d v) x.pairs) k ≡ Some whole_pair
+  pub hulls_after : (x : Instance) (d : ℕ) (v : Val) → Known head kind x → (k : ℕ) → k < 3
+      → slice_get (pairs_after_byte d (slice_set x.regs d v) x.pairs) k ≡ Some whole_pair
       → IsOpen (byte_hull (slice_set x.regs d v) (26 + 2 * k))
   hulls_after x d v h k few = by (nat_le 26 d) refl
     where
@@ -190,17 +201,20 @@ module _ (head : Head) (kind : Kind) where
       fresh : Ends
       fresh = byte_hull (slice_set x.regs d v) (26 + 2 * n)
 
-      by : (b : Bool) → nat_le 26 d ≡ b → slice_get (if b then slice_set x.pairs n fresh else x.pairs) k ≡ Some whole_pair → IsOpen (byte_hull (slice_set x.regs d v) (26 + 2 * k))
+      by : (b : Bool) → nat_le 26 d ≡ b → slice_get (if b then slice_set x.pairs n fresh else x.pairs) k ≡ Some whole_pair
+          → IsOpen (byte_hull (slice_set x.regs d v) (26 + 2 * k))
       by true is at = ⊎_elim
           (λ (same : k ≡ n).
           let len = h.pair_count in
-          let here : Some fresh ≡ Some whole_pair = sym (get_set_same x.pairs n fresh (omega (arith, len, same, few))) ∙ ap (slice_get (slice_set x.pairs n fresh)) (sym same) ∙ at in
+          let here : Some fresh ≡ Some whole_pair = sym (get_set_same x.pairs n fresh (omega (arith, len, same, few)))
+          ∙ ap (slice_get (slice_set x.pairs n fresh)) (sym same) ∙ at in
           subst IsOpen (sym (ap (λ m. byte_hull (slice_set x.regs d v) (26 + 2 * m)) same ∙ some_is fresh whole_pair here)) whole_open)
           (λ (other : k ≢ n).
           let ge : 26 ≤ d = grind (arith, nat_tests) in
           let low : (26 + 2 * k ≡ d → ⊥) = λ e. other (omega (arith, e)) in
           let high : (26 + 2 * k + 1 ≡ d → ⊥) = λ e. other (omega (arith, e)) in
-          subst IsOpen (sym (hull_other x.regs d (26 + 2 * k) v low high)) (h.hulls k few (sym (get_set_other x.pairs n k fresh other) ∙ at)))
+          subst IsOpen (sym (hull_other x.regs d (26 + 2 * k) v low high))
+          (h.hulls k few (sym (get_set_other x.pairs n k fresh other) ∙ at)))
           (cases_eq k n)
       by false is at =
           let lt : d < 26 = grind (arith, nat_tests) in
@@ -227,7 +241,8 @@ module _ (head : Head) (kind : Kind) where
   }
 
   -- a pair takes a range; where it is whole its bytes are
-  pub with_pair : (d : ℕ) (e : Ends) (x : Instance) → Known head kind x → (is_pointer d ≡ true → e ≡ whole_pair → IsOpen (byte_hull x.regs d)) → Known head kind (with_pair_range d e x)
+  pub with_pair : (d : ℕ) (e : Ends) (x : Instance) → Known head kind x
+      → (is_pointer d ≡ true → e ≡ whole_pair → IsOpen (byte_hull x.regs d)) → Known head kind (with_pair_range d e x)
   with_pair d e x h whole = record {
     register_count = h.register_count;
     registers = h.registers;
@@ -247,11 +262,13 @@ module _ (head : Head) (kind : Kind) where
       count true = length_set x.pairs n e ∙ h.pair_count
       count false = h.pair_count
 
-      hulls : (b : Bool) → is_pointer d ≡ b → (k : ℕ) → k < 3 → slice_get (if b then slice_set x.pairs n e else x.pairs) k ≡ Some whole_pair → IsOpen (byte_hull x.regs (26 + 2 * k))
+      hulls : (b : Bool) → is_pointer d ≡ b → (k : ℕ) → k < 3 → slice_get (if b then slice_set x.pairs n e else x.pairs) k ≡ Some whole_pair
+          → IsOpen (byte_hull x.regs (26 + 2 * k))
       hulls true is k few at = ⊎_elim
           (λ (same : k ≡ n).
           let len = h.pair_count in
-          let here : Some e ≡ Some whole_pair = sym (get_set_same x.pairs n e (omega (arith, len, same, few))) ∙ ap (slice_get (slice_set x.pairs n e)) (sym same) ∙ at in
+          let here : Some e ≡ Some whole_pair = sym (get_set_same x.pairs n e (omega (arith, len, same, few)))
+          ∙ ap (slice_get (slice_set x.pairs n e)) (sym same) ∙ at in
           let low : 26 + 2 * k ≡ d = let p = (pointer_place d is).0 in omega (arith, p, same) in
           subst (λ m. IsOpen (byte_hull x.regs m)) (sym low) (whole is (some_is e whole_pair here)))
           (λ (other : k ≢ n). h.hulls k few (sym (get_set_other x.pairs n k e other) ∙ at))
@@ -262,20 +279,24 @@ module _ (head : Head) (kind : Kind) where
   pub whole_bytes : (x : Instance) (r : ℕ) → Known head kind x → pair_range x r ≡ whole_pair → IsOpen (byte_hull x.regs r)
   whole_bytes x r h = by (is_pointer r) refl
     where
-      by : (b : Bool) → is_pointer r ≡ b → (if b then pair_at x.pairs (pair_number r) else byte_hull x.regs r) ≡ whole_pair → IsOpen (byte_hull x.regs r)
+      by : (b : Bool) → is_pointer r ≡ b → (if b then pair_at x.pairs (pair_number r) else byte_hull x.regs r) ≡ whole_pair
+          → IsOpen (byte_hull x.regs r)
       by true is e =
           let p = pointer_place r is in
           let len = h.pair_count in
           let few = p.1 in
-          subst (λ m. IsOpen (byte_hull x.regs m)) p.0 (h.hulls (pair_number r) p.1 (get_index x.pairs (pair_number r) (ends 0 65535) (omega (arith, len, few)) ∙ ap Some e))
+          subst (λ m. IsOpen (byte_hull x.regs m)) p.0
+          (h.hulls (pair_number r) p.1 (get_index x.pairs (pair_number r) (ends 0 65535) (omega (arith, len, few)) ∙ ap Some e))
       by false is e = subst IsOpen (sym e) whole_open
 
   -- a pair takes the range of a copy or of a result
 
-  pub with_copied : (d : ℕ) (a b : Val) (e : Ends) (x : Instance) → Known head kind x → OldFits kind a → OldFits kind b → (e ≡ whole_pair → IsOpen (hull (span_of a) (span_of b)))
+  pub with_copied : (d : ℕ) (a b : Val) (e : Ends) (x : Instance) → Known head kind x → OldFits kind a → OldFits kind b
+      → (e ≡ whole_pair → IsOpen (hull (span_of a) (span_of b)))
       → Known head kind (with_pair_range d e (with_value (d + 1) b (with_value d a x)))
   with_copied d a b e x h fits_a fits_b whole =
-      with_pair d e (with_value (d + 1) b (with_value d a x)) (with_byte (d + 1) b (with_value d a x) (with_byte d a x h fits_a) fits_b) (λ is same. subst IsOpen (sym (bytes is)) (whole same))
+      with_pair d e (with_value (d + 1) b (with_value d a x)) (with_byte (d + 1) b (with_value d a x) (with_byte d a x h fits_a) fits_b)
+      (λ is same. subst IsOpen (sym (bytes is)) (whole same))
     where
       bytes : is_pointer d ≡ true → byte_hull (slice_set (slice_set x.regs d a) (d + 1) b) d ≡ hull (span_of a) (span_of b)
       bytes is =
@@ -284,17 +305,21 @@ module _ (head : Head) (kind : Kind) where
           let len = h.register_count in
           let len' = length_set x.regs d a in
           let low : value_at (slice_set (slice_set x.regs d a) (d + 1) b) d ≡ a =
-          index_set_other (slice_set x.regs d a) (d + 1) d b (Range (ends 0 255)) (λ e. omega (arith, e)) ∙ index_set_same x.regs d a (Range (ends 0 255)) (omega (arith, len, few)) in
+          index_set_other (slice_set x.regs d a) (d + 1) d b (Range (ends 0 255)) (λ e. omega (arith, e)) ∙ index_set_same x.regs d a
+          (Range (ends 0 255)) (omega (arith, len, few)) in
           let high : value_at (slice_set (slice_set x.regs d a) (d + 1) b) (d + 1) ≡ b =
           index_set_same (slice_set x.regs d a) (d + 1) b (Range (ends 0 255)) (omega (arith, len, len', few)) in
-          ap (λ v. hull (span_of v) (span_of (value_at (slice_set (slice_set x.regs d a) (d + 1) b) (d + 1)))) low ∙ ap (λ v. hull (span_of a) (span_of v)) high
+          ap (λ v. hull (span_of v) (span_of (value_at (slice_set (slice_set x.regs d a) (d + 1) b) (d + 1)))) low
+          ∙ ap (λ v. hull (span_of a) (span_of v)) high
 
   pub with_result : (d : ℕ) (e : Ends) (x : Instance) → Known head kind x → Known head kind (with_pair_value d e x)
-  with_result d e x h = with_copied d (Range (low_answer e)) (Range (high_answer e)) e x h tt tt (λ same. subst (λ (p : Ends). IsOpen (hull (low_answer p) (high_answer p))) (sym same) whole_open)
+  with_result d e x h = with_copied d (Range (low_answer e)) (Range (high_answer e)) e x h tt tt
+      (λ same. subst (λ (p : Ends). IsOpen (hull (low_answer p) (high_answer p))) (sym same) whole_open)
 
   -- The stack
 
-  pub with_stack : (slots : List Val) (x : Instance) → Known head kind x → length slots ≤ depth_of head kind → Each (OldFits kind) slots → Known head kind (with_slots slots x)
+  pub with_stack : (slots : List Val) (x : Instance) → Known head kind x → length slots ≤ depth_of head kind → Each (OldFits kind) slots
+      → Known head kind (with_slots slots x)
   with_stack slots x h few each = record {
     register_count = h.register_count;
     registers = h.registers;
@@ -308,4 +333,5 @@ module _ (head : Head) (kind : Kind) where
   }
 
   pub without : (n : ℕ) (x : Instance) → Known head kind x → Known head kind (with_slots (take n x.stack.items) x)
-  without n x h = with_stack (take n x.stack.items) x h (let a = length_take n x.stack.items in let b = h.slots in omega (arith, a, b)) (each_take (OldFits kind) n x.stack.items h.stack)
+  without n x h = with_stack (take n x.stack.items) x h (let a = length_take n x.stack.items in let b = h.slots in omega (arith, a, b))
+      (each_take (OldFits kind) n x.stack.items h.stack)

@@ -1,5 +1,6 @@
 -- A store to a tracked cell stays in the header's range of the cell.
-use Rattle.std.proofs.Common.{◌≡◌, ℕ, suc, ◌≤◌, ◌-◌, ◌⊎◌, List, [], ◌∷◌, Option, Some, None, Bool, true, false, ◌&&◌, ◌||◌, nat_eq, nat_le, nat_lt, refl, sym, ap, ◌∙◌, subst, inl, inr, ⊎_elim, filter, slice_set, if◌then◌else◌, true≢false, arith}
+use Rattle.std.proofs.Common.{◌≡◌, ℕ, suc, ◌≤◌, ◌-◌, ◌⊎◌, List, [], ◌∷◌, Option, Some, None, Bool, true, false, ◌&&◌, ◌||◌, nat_eq, nat_le}
+use Rattle.std.proofs.Common.{nat_lt, refl, sym, ap, ◌∙◌, subst, inl, inr, ⊎_elim, filter, slice_set, if◌then◌else◌, true≢false, arith}
 use Rattle.std.specs.Prelude.{All}
 use Rattle.std.proofs.lemmas.Bool.Decides.{nat_tests}
 use Rattle.std.proofs.lemmas.List.Elements.{All-head, All-tail}
@@ -35,7 +36,8 @@ both_true false b h = absurd (true≢false (sym h))
 abbrev Keeps : List Cell → List Ends → ℕ → ℕ → Ends → Type 0
 Keeps tracked_cells spans n j v = (n ≤ j) × (spans_fit tracked_cells (slice_set spans (j - n) v) ≡ true)
 
-first_set : (c : Cell) (rest : List Cell) (spans : List Ends) (n j : ℕ) (v : Ends) → n ≡ j → range_inside v c.range ≡ true → spans_fit (c ∷ rest) spans ≡ true → Keeps (c ∷ rest) spans n j v
+first_set : (c : Cell) (rest : List Cell) (spans : List Ends) (n j : ℕ) (v : Ends) → n ≡ j → range_inside v c.range ≡ true
+    → spans_fit (c ∷ rest) spans ≡ true → Keeps (c ∷ rest) spans n j v
 first_set c rest [] n j v same inside fit = absurd (true≢false (sym fit))
 first_set c rest (s ∷ spans) n j v same inside fit =
     let zero_is : j - n ≡ 0 = omega (arith, same) in
@@ -55,15 +57,18 @@ later_set c rest (s ∷ spans) n j v fit more =
     (omega (arith, le), ap (λ m. spans_fit (c ∷ rest) (slice_set (s ∷ spans) m v)) next ∙ (λ i. first i && after i))
 
 -- one cell before the others
-one_set : (here mine : Bool) (c : Cell) (rest : List Cell) (spans : List Ends) (n j : ℕ) (e v : Ends) (place : ℕ → Option ℕ) (range : Option Ends)
-    → (if here then (if mine then Some n else None) else place (if mine then suc n else n)) ≡ Some j → (if here then Some c.range else range) ≡ Some e → range_inside v e ≡ true
+one_set : (here mine : Bool) (c : Cell) (rest : List Cell) (spans : List Ends) (n j : ℕ) (e v : Ends) (place : ℕ → Option ℕ)
+    (range : Option Ends)
+    → (if here then (if mine then Some n else None) else place (if mine then suc n else n)) ≡ Some j
+    → (if here then Some c.range else range) ≡ Some e → range_inside v e ≡ true
     → spans_fit (if mine then c ∷ rest else rest) spans ≡ true
     → ((m : ℕ) (ss : List Ends) → place m ≡ Some j → range ≡ Some e → spans_fit rest ss ≡ true → Keeps rest ss m j v)
     → Keeps (if mine then c ∷ rest else rest) spans n j v
 one_set true true c rest spans n j e v place range at is inside fit more =
     first_set c rest spans n j v (some_is n j at) (subst (λ z. range_inside v z ≡ true) (sym (some_is c.range e is)) inside) fit
 one_set true false c rest spans n j e v place range at is inside fit more = cc
-one_set false true c rest spans n j e v place range at is inside fit more = later_set c rest spans n j v fit (λ ss fits. more (suc n) ss at is fits)
+one_set false true c rest spans n j e v place range at is inside fit more = later_set c rest spans n j v fit
+    (λ ss fits. more (suc n) ss at is fits)
 one_set false false c rest spans n j e v place range at is inside fit more = more n spans at is fit
 
 pub cell_set : (kind : Kind) (cells : List Cell) (spans : List Ends) (n j at : ℕ) (e v : Ends)
@@ -72,31 +77,38 @@ pub cell_set : (kind : Kind) (cells : List Cell) (spans : List Ends) (n j at : �
     → Keeps (filter (λ c. tracks_cell kind c.owner) cells) spans n j v
 cell_set kind [] spans n j at e v place range inside fit = cc
 cell_set kind (c ∷ cells) spans n j at e v place range inside fit =
-    one_set (nat_eq c.at at) (tracks_cell kind c.owner) c (filter (λ c. tracks_cell kind c.owner) cells) spans n j e v (λ m. place_from kind cells m at) (range_from cells at)
-    (ap (λ b. if nat_eq c.at at then (if b then Some n else None) else place_from kind cells (if b then suc n else n) at) (sym (same_tracks kind c.owner)) ∙ place)
+    one_set (nat_eq c.at at) (tracks_cell kind c.owner) c (filter (λ c. tracks_cell kind c.owner) cells) spans n j e v
+    (λ m. place_from kind cells m at) (range_from cells at)
+    (ap (λ b. if nat_eq c.at at then (if b then Some n else None) else place_from kind cells (if b then suc n else n) at)
+    (sym (same_tracks kind c.owner)) ∙ place)
     range inside fit (λ m ss at' range' fits. cell_set kind cells ss m j at e v at' range' inside fits)
 
 -- Where a store is allowed
 
 -- the cell at an address is one of RAM
 high_one : (here mine : Bool) (c : Cell) (n at j : ℕ) (place : ℕ → Option ℕ) → nat_eq c.at at ≡ here → 256 ≤ c.at
-    → (if here then (if mine then Some n else None) else place (if mine then suc n else n)) ≡ Some j → ((m : ℕ) → place m ≡ Some j → 256 ≤ at) → 256 ≤ at
+    → (if here then (if mine then Some n else None) else place (if mine then suc n else n)) ≡ Some j
+    → ((m : ℕ) → place m ≡ Some j → 256 ≤ at) → 256 ≤ at
 high_one true mine c n at j place is low h more = grind (arith, nat_tests)
 high_one false mine c n at j place is low h more = more (if mine then suc n else n) h
 
-place_high : (head : Head) (kind : Kind) (cells : List Cell) (n at j : ℕ) → All (CellFits head) cells → place_from kind cells n at ≡ Some j → 256 ≤ at
+place_high : (head : Head) (kind : Kind) (cells : List Cell) (n at j : ℕ) → All (CellFits head) cells → place_from kind cells n at ≡ Some j
+    → 256 ≤ at
 place_high head kind [] n at j fits h = cc
 place_high head kind (c ∷ cells) n at j fits h =
-    high_one (nat_eq c.at at) (tracks kind c.owner) c n at j (λ m. place_from kind cells m at) refl (All-head (CellFits head) c cells fits).low h
+    high_one (nat_eq c.at at) (tracks kind c.owner) c n at j (λ m. place_from kind cells m at) refl
+    (All-head (CellFits head) c cells fits).low h
     (λ m later. place_high head kind cells m at j (All-tail (CellFits head) c cells fits) later)
 
 -- no cell stands where a range misses all
-missed_one : (here mine : Bool) (c : Cell) (n at j : ℕ) (a : Ends) (place : ℕ → Option ℕ) → nat_eq c.at at ≡ here → a.lo ≡ at → a.hi ≡ at → (nat_lt c.at a.lo || nat_lt a.hi c.at) ≡ true
+missed_one : (here mine : Bool) (c : Cell) (n at j : ℕ) (a : Ends) (place : ℕ → Option ℕ) → nat_eq c.at at ≡ here → a.lo ≡ at → a.hi ≡ at
+    → (nat_lt c.at a.lo || nat_lt a.hi c.at) ≡ true
     → (if here then (if mine then Some n else None) else place (if mine then suc n else n)) ≡ Some j → ((m : ℕ) → place m ≡ Some j → ⊥) → ⊥
 missed_one true mine c n at j a place is low high apart h more = grind (arith, nat_tests)
 missed_one false mine c n at j a place is low high apart h more = more (if mine then suc n else n) h
 
-place_missed : (kind : Kind) (cells : List Cell) (n at j : ℕ) (a : Ends) → a.lo ≡ at → a.hi ≡ at → misses cells a ≡ true → place_from kind cells n at ≡ Some j → ⊥
+place_missed : (kind : Kind) (cells : List Cell) (n at j : ℕ) (a : Ends) → a.lo ≡ at → a.hi ≡ at → misses cells a ≡ true → place_from kind
+    cells n at ≡ Some j → ⊥
 place_missed kind [] n at j a low high missed h = cc
 place_missed kind (c ∷ cells) n at j a low high missed h =
     let b = both_true (nat_lt c.at a.lo || nat_lt a.hi c.at) (misses cells a) missed in
@@ -119,7 +131,8 @@ or_cases true b h = inl refl
 or_cases false b h = inr h
 
 -- a store at one address, where it is allowed, keeps the cells in their ranges
-pub store_keeps : (head : Head) (kind : Kind) (a : Ends) (v : Val) (spans : List Ends) (j : ℕ) → HeadFits head → is_single a ≡ true → may_store head kind a v ≡ true → cell_place head kind a.lo ≡ Some j
+pub store_keeps : (head : Head) (kind : Kind) (a : Ends) (v : Val) (spans : List Ends) (j : ℕ) → HeadFits head → is_single a ≡ true
+    → may_store head kind a v ≡ true → cell_place head kind a.lo ≡ Some j
     → spans_fit (tracked head kind) spans ≡ true → spans_fit (tracked head kind) (slice_set spans j (span_of v)) ≡ true
 store_keeps head kind a v spans j fits single may place fit = ⊎_elim
     (λ (io : (is_single a && (nat_le 0x20 a.lo && nat_le a.lo 0xFF)) ≡ true).
@@ -128,13 +141,16 @@ store_keeps head kind a v spans j fits single may place fit = ⊎_elim
     absurd (above a.lo high low))
     (λ rest. ⊎_elim
     (λ (cell : (is_single a && cell_admits (cell_place head kind a.lo) (cell_range head a.lo) (span_of v)) ≡ true).
-    let ad = admitted (cell_place head kind a.lo) (cell_range head a.lo) (span_of v) (both_true (is_single a) (cell_admits (cell_place head kind a.lo) (cell_range head a.lo) (span_of v)) cell).1 in
+    let ad = admitted (cell_place head kind a.lo) (cell_range head a.lo) (span_of v)
+    (both_true (is_single a) (cell_admits (cell_place head kind a.lo) (cell_range head a.lo) (span_of v)) cell).1 in
     let kept = cell_set kind head.cells.items spans 0 j a.lo ad.own (span_of v) place ad.is ad.inside fit in
     let same : j - 0 ≡ j = omega arith in
     subst (λ m. spans_fit (tracked head kind) (slice_set spans m (span_of v)) ≡ true) same kept.1)
-    (λ (ram : ((nat_le 0x100 a.lo && nat_le a.hi 0x10FF) && ((nat_lt a.hi head.lo || nat_lt head.hi a.lo) && misses head.cells.items a)) ≡ true).
+    (λ (ram : ((nat_le 0x100 a.lo && nat_le a.hi 0x10FF) && ((nat_lt a.hi head.lo || nat_lt head.hi a.lo) && misses head.cells.items a))
+    ≡ true).
     let missed = (both_true (nat_lt a.hi head.lo || nat_lt head.hi a.lo) (misses head.cells.items a)
-    (both_true (nat_le 0x100 a.lo && nat_le a.hi 0x10FF) ((nat_lt a.hi head.lo || nat_lt head.hi a.lo) && misses head.cells.items a) ram).1).1 in
+    (both_true (nat_le 0x100 a.lo && nat_le a.hi 0x10FF) ((nat_lt a.hi head.lo || nat_lt head.hi a.lo) && misses head.cells.items a)
+    ram).1).1 in
     let same : a.hi ≡ a.lo = single_is a.lo a.hi single in
     absurd (place_missed kind head.cells.items 0 a.lo j a refl same missed place))
     (or_cases (is_single a && cell_admits (cell_place head kind a.lo) (cell_range head a.lo) (span_of v))

@@ -1,5 +1,7 @@
 -- An instance of an ended search passes the local rule.
-use Rattle.std.proofs.Common.{◌≡◌, ◌≢◌, ℕ, zero, suc, ◌<◌, ◌≤◌, ◌+◌, ◌-◌, ◌%◌, List, [], ◌∷◌, map, Option, Some, None, Result, Ok, Err, Bool, true, false, not, ◌&&◌, ◌||◌, nat_eq, nat_le, refl, sym, ap, ◌∙◌, subst, inl, inr, ⊎_elim, length, slice_get, if◌then◌else◌, arith}
+use Rattle.std.proofs.Common.{◌≡◌, ◌≢◌, ℕ, zero, suc, ◌<◌, ◌≤◌, ◌+◌, ◌-◌, ◌%◌, List, [], ◌∷◌, map, Option, Some, None, Result, Ok, Err}
+use Rattle.std.proofs.Common.{Bool, true, false, not, ◌&&◌, ◌||◌, nat_eq, nat_le, refl, sym, ap, ◌∙◌, subst, inl, inr, ⊎_elim, length}
+use Rattle.std.proofs.Common.{slice_get, if◌then◌else◌, arith}
 use Rattle.std.specs.Prelude.{is_none}
 use Rattle.std.proofs.lemmas.Bool.{eq-eqb}
 use Rattle.std.proofs.lemmas.Bool.Decides.{nat_tests}
@@ -33,7 +35,8 @@ use Rattle.uz_rules.specs.declared.next.Next.{Next}
 use Rattle.uz_rules.specs.After.{timed, next_of}
 use Rattle.uz_rules.specs.EdgeRule.{position_of, is_kind, is_event, is_quiet, emits_as_scheduled, each_exit, edges_fit}
 use Rattle.uz_rules.specs.Inside.{all_below, cells_inside, restored}
-use Rattle.uz_rules.specs.Local.{compares_edges, end_of, first_exit, has_successors, instance_fail, is_no_opcode, is_stop, rest_in, result_fail, return_fail, row_emits_in_main, step_fail}
+use Rattle.uz_rules.specs.Local.{compares_edges, end_of, first_exit, has_successors, instance_fail, is_no_opcode, is_stop, rest_in}
+use Rattle.uz_rules.specs.Local.{result_fail, return_fail, row_emits_in_main, step_fail}
 use Rattle.uz_rules.specs.Successors.{lies_in_any}
 use Rattle.uz_rules.proofs.LocalLaws.{decoded_same}
 use Rattle.uz_search.specs.declared.found.Found.{Found}
@@ -68,7 +71,8 @@ same_event_true (Some e) = same_kind_true e
 quiet_all : (event : ℕ → Option EventKind) (p n : ℕ) → ((k : ℕ) → 1 ≤ k → k ≤ n → event (p + k) ≡ None) → is_quiet event p n ≡ true
 unfolding is_quiet
 quiet_all event p zero none = refl
-quiet_all event p (suc n) none = λ i. quiet_all event p n (λ k some few. none k some (omega (arith, few))) i && is_none (none (suc n) (omega arith) (omega arith) i)
+quiet_all event p (suc n) none = λ i. quiet_all event p n (λ k some few. none k some (omega (arith, few))) i
+    && is_none (none (suc n) (omega arith) (omega arith) i)
 
 each_all : (test : Exit → Bool) (exits : List Exit) → ((exit : Exit) → Among exits exit → test exit ≡ true) → each_exit test exits ≡ true
 each_all test [] all = refl
@@ -81,7 +85,8 @@ below_all (suc n) test all = λ i. below_all n test all i && all n i
 
 cells_same : (cells : List Ends) → cells_inside cells cells ≡ true
 cells_same cells =
-    λ i. eq-eqb (length cells) (length cells) refl i && below_all (length cells) (λ j. range_inside (span_at cells j) (span_at cells j)) (λ j. range_same (span_at cells j)) i
+    λ i. eq-eqb (length cells) (length cells) refl i && below_all (length cells) (λ j. range_inside (span_at cells j) (span_at cells j))
+    (λ j. range_same (span_at cells j)) i
   where
     range_same : (e : Ends) → range_inside e e ≡ true
     range_same e = λ i. le_self e.lo i && le_self e.hi i
@@ -107,7 +112,8 @@ record HasStep (program : Program) (x : Instance) (next : Next) (result : Result
   back : next.back ≡ step.back
   out : next.out.items ≡ map (successor (lines_of program) x step) step.exits.items
 
-has_step : (program : Program) (x : Instance) (next : Next) (result : Result Step Fail) → Ok next ≡ next_of (lines_of program) x result → HasStep program x next result
+has_step : (program : Program) (x : Instance) (next : Next) (result : Result Step Fail) → Ok next ≡ next_of (lines_of program) x result
+    → HasStep program x next result
 has_step program x next (Err why) h = cc
 has_step program x next (Ok step) h = let same = ok_is next _ h in record {
   step = step;
@@ -122,7 +128,8 @@ record Parts (why : Option Fail) (exits : List Exit) (step : Step) : Type 0 wher
   fine : why ≡ None
   same : step.exits.items ≡ exits
 
-parts : (why : Option Fail) (emitted : Option (Option EventKind)) (draft step : Step) → step_unless why emitted draft ≡ Ok step → Parts why draft.exits.items step
+parts : (why : Option Fail) (emitted : Option (Option EventKind)) (draft step : Step) → step_unless why emitted draft ≡ Ok step
+    → Parts why draft.exits.items step
 parts (Some why) emitted draft step h = cc
 parts None None draft step h = cc
 parts None (Some e) draft step h = record { fine = refl; same = ap (λ (z : Step). z.exits.items) (sym (step_is _ step h)) }
@@ -130,23 +137,29 @@ parts None (Some e) draft step h = record { fine = refl; same = ap (λ (z : Step
     step_is : (a b : Step) → ◌≡◌ {A = Result Step Fail} (Ok a) (Ok b) → a ≡ b
     step_is a b e = cc
 
-row_parts : (head : Head) (image : Flash) (x : Instance) (i : Instr) (step : Step) → step_of_row head 1820 image (Some i) x ≡ Ok step → Parts (fail_of head (effect_of i) x) (exits_at image x i) step
+row_parts : (head : Head) (image : Flash) (x : Instance) (i : Instr) (step : Step) → step_of_row head 1820 image (Some i) x ≡ Ok step
+    → Parts (fail_of head (effect_of i) x) (exits_at image x i) step
 row_parts head image x i step h = parts (fail_of head (effect_of i) x) (emission (effect_of i) x) _ step h
 
-exit_bounds : (head : Head) (image : Flash) (x : Instance) (row : Option Instr) (step : Step) → step_of_row head 1820 image row x ≡ Ok step → (exit : Exit) → Among step.exits.items exit → (1 ≤ exit.clocks) × (exit.clocks ≤ 4)
+exit_bounds : (head : Head) (image : Flash) (x : Instance) (row : Option Instr) (step : Step) → step_of_row head 1820 image row x ≡ Ok step
+    → (exit : Exit) → Among step.exits.items exit → (1 ≤ exit.clocks) × (exit.clocks ≤ 4)
 exit_bounds head image x None step h exit there = cc
 exit_bounds head image x (Some i) step h exit there =
     let r = row_parts head image x i step h in
-    exit_clocks image head i x (following_of (words_of i) x) (outcomes image (following_of (words_of i) x) (effect_of i) x) exit r.fine (subst (λ l. Among l exit) r.same there)
+    exit_clocks image head i x (following_of (words_of i) x) (outcomes image (following_of (words_of i) x) (effect_of i) x) exit r.fine
+    (subst (λ l. Among l exit) r.same there)
 
 -- the clocks to the result at an exit are the exit's
-between_exit : (program : Program) (x : Instance) (step : Step) (exit : Exit) → Stands program x → x.kind ≢ Main → 1 ≤ exit.clocks → exit.clocks ≤ 4 → clocks_between x (successor (lines_of program) x step exit) ≡ exit.clocks
+between_exit : (program : Program) (x : Instance) (step : Step) (exit : Exit) → Stands program x → x.kind ≢ Main → 1 ≤ exit.clocks
+    → exit.clocks ≤ 4 → clocks_between x (successor (lines_of program) x step exit) ≡ exit.clocks
 between_exit program x step exit stands apart some few =
     let y : Instance = successor (lines_of program) x step exit in
     let k : ℕ = x.clock + exit.clocks in
     let main_not = apart_main x.kind apart in
-    let line : line_after (lines_of program) x.line k ≡ y.line = sym (ap (λ b. if b then x.line else line_after (lines_of program) x.line k) main_not) in
-    let clock : clock_after (lines_of program) x.line k ≡ y.clock = sym (ap (λ b. if b then x.clock else clock_after (lines_of program) x.line k) main_not) in
+    let line : line_after (lines_of program) x.line k ≡ y.line = sym (ap (λ b. if b then x.line else line_after (lines_of program) x.line k)
+    main_not) in
+    let clock : clock_after (lines_of program) x.line k ≡ y.clock =
+    sym (ap (λ b. if b then x.clock else clock_after (lines_of program) x.line k) main_not) in
     let reach : Reaches program.lines x.line x.clock exit.clocks y.line y.clock =
     subst (λ q. Reaches program.lines x.line x.clock exit.clocks y.line q) clock
     (subst (λ l. Reaches program.lines x.line x.clock exit.clocks l (clock_after (lines_of program) x.line k)) line
@@ -165,7 +178,8 @@ shown_end : (emitted : Option EventKind) (c : ℕ) → shown_at (timed emitted c
 shown_end None c = refl
 shown_end (Some e) c = ap (λ b. if b then Some e else None) (eq-eqb c c refl)
 
-module _ (image : Flash) (program : Program) (fits : ProgramFits program) (found : Found) (ended : IsEnded image program found) (cert : Cert) (made : IsMadeOf program found cert) (ids : List ℕ)
+module _ (image : Flash) (program : Program) (fits : ProgramFits program) (found : Found) (ended : IsEnded image program found)
+    (cert : Cert) (made : IsMadeOf program found cert) (ids : List ℕ)
     (x : Instance) (node : Among found.nodes.keys x) (lies : HasSuccessors image program cert ids x) where
   abbrev t : Treated image program found.nodes.keys found.marks.items found.returns.items x
   t = cover.treated image program fits found.nodes.keys found.parents.items found.marks.items found.returns.items ended x node
@@ -177,7 +191,8 @@ module _ (image : Flash) (program : Program) (fits : ProgramFits program) (found
   lines_same : lines_of_schedule cert.schedule ≡ lines_of program
   lines_same = ap uniform made.schedule.lines
 
-  module _ (row : Option Instr) (reads : IsReadAt image x.pc row) (s : HasStep program x t.next (step_of_row cert.head 1820 image row x)) where
+  module _ (row : Option Instr) (reads : IsReadAt image x.pc row)
+      (s : HasStep program x t.next (step_of_row cert.head 1820 image row x)) where
     -- main stores nothing that is seen
     no_emission : row_emits_in_main row x ≡ false
     no_emission = ⊎_elim
@@ -187,7 +202,8 @@ module _ (image : Flash) (program : Program) (fits : ProgramFits program) (found
 
     -- Edge
 
-    edge_at : x.kind ≢ Main → (exit : Exit) → Among s.step.exits.items exit → emits_as_scheduled cert.schedule (position_of cert.schedule x) s.step.emit exit.clocks ≡ true
+    edge_at : x.kind ≢ Main → (exit : Exit) → Among s.step.exits.items exit → emits_as_scheduled cert.schedule (position_of cert.schedule x)
+        s.step.emit exit.clocks ≡ true
     edge_at apart exit there = λ i. quiet i && last i
       where
         y : Instance
@@ -197,7 +213,8 @@ module _ (image : Flash) (program : Program) (fits : ProgramFits program) (found
         o = cover.owed image program fits found.nodes.keys found.parents.items found.marks.items found.returns.items ended x node apart
 
         y_there : slice_get t.next.out.items there.0 ≡ Some y
-        y_there = ap (λ l. slice_get l there.0) s.out ∙ in_map (successor (lines_of program) x s.step) s.step.exits.items there.0 exit there.1
+        y_there = ap (λ l. slice_get l there.0) s.out ∙ in_map (successor (lines_of program) x s.step) s.step.exits.items there.0 exit
+            there.1
 
         c : ℕ
         c = clocks_between x y
@@ -218,8 +235,10 @@ module _ (image : Flash) (program : Program) (fits : ProgramFits program) (found
         event_on : (k : ℕ) → 1 ≤ k → k ≤ c → event_at cert.schedule (position_of cert.schedule x + k) ≡ shown_at t.next.emit k
         event_on k low high =
             let frame : 0 < frame_of program = (let l = fits.some in omega (arith, l)) in
-            ap (λ n. event_at cert.schedule (n + k)) position ∙ event_is program found.marks.items cert.schedule made.schedule (place_of x + k) frame
-            ∙ seen_shows found.marks.items ((place_of x + k) % frame_of program) (shown_at t.next.emit k) (t.seen apart k low (omega (arith, high, few)))
+            ap (λ n. event_at cert.schedule (n + k)) position ∙ event_is program found.marks.items cert.schedule made.schedule
+            (place_of x + k) frame
+            ∙ seen_shows found.marks.items ((place_of x + k) % frame_of program) (shown_at t.next.emit k)
+            (t.seen apart k low (omega (arith, high, few)))
 
         -- where something is emitted it is at the end of this exit
         emit_is : t.next.emit ≡ timed s.step.emit exit.clocks
@@ -228,35 +247,44 @@ module _ (image : Flash) (program : Program) (fits : ProgramFits program) (found
             by : (emitted : Option EventKind) → s.step.emit ≡ emitted → t.next.emit ≡ timed s.step.emit exit.clocks
             by None is = s.emit ∙ ap (λ e. timed e (first_exit s.step.exits.items).clocks) is ∙ ap (λ e. timed e exit.clocks) (sym is)
             by (Some e) is =
-                let emit : t.next.emit ≡ Some ((first_exit s.step.exits.items).clocks, e) = s.emit ∙ ap (λ o. timed o (first_exit s.step.exits.items).clocks) is in
+                let emit : t.next.emit ≡ Some ((first_exit s.step.exits.items).clocks, e) = s.emit
+                ∙ ap (λ o. timed o (first_exit s.step.exits.items).clocks) is in
                 let time = o.at_end (first_exit s.step.exits.items).clocks e y emit (there.0, y_there) in
                 s.emit ∙ ap (timed s.step.emit) (time ∙ clocks)
 
         quiet : is_quiet (event_at cert.schedule) (position_of cert.schedule x) (exit.clocks - 1) ≡ true
         quiet = quiet_all (event_at cert.schedule) (position_of cert.schedule x) (exit.clocks - 1) (λ k low high.
-            event_on k low (omega (arith, clocks, high)) ∙ ap (λ m. shown_at m k) emit_is ∙ shown_before s.step.emit exit.clocks k (omega (arith, clocks, some, high)))
+            event_on k low (omega (arith, clocks, high)) ∙ ap (λ m. shown_at m k) emit_is ∙ shown_before s.step.emit exit.clocks k
+            (omega (arith, clocks, some, high)))
 
         last : is_event (event_at cert.schedule (position_of cert.schedule x + exit.clocks)) s.step.emit ≡ true
         last =
             let at_end : event_at cert.schedule (position_of cert.schedule x + exit.clocks) ≡ s.step.emit =
-            event_on exit.clocks (omega (arith, clocks, some)) (omega (arith, clocks)) ∙ ap (λ m. shown_at m exit.clocks) emit_is ∙ shown_end s.step.emit exit.clocks in
+            event_on exit.clocks (omega (arith, clocks, some)) (omega (arith, clocks)) ∙ ap (λ m. shown_at m exit.clocks) emit_is
+            ∙ shown_end s.step.emit exit.clocks in
             ap (λ e. is_event e s.step.emit) at_end ∙ same_event_true s.step.emit
 
     compares : compares_edges cert x s.step ≡ true
     compares = ⊎_elim
-        (λ (main : x.kind ≡ Main). ap (λ k. is_main k || edges_fit cert.schedule (position_of cert.schedule x) s.step.emit s.step.exits.items) main)
+        (λ (main : x.kind ≡ Main). ap (λ k. is_main k || edges_fit cert.schedule (position_of cert.schedule x) s.step.emit
+        s.step.exits.items) main)
         (λ (apart : x.kind ≢ Main).
         ap (λ b. b || edges_fit cert.schedule (position_of cert.schedule x) s.step.emit s.step.exits.items) (apart_main x.kind apart)
-        ∙ each_all (λ exit. emits_as_scheduled cert.schedule (position_of cert.schedule x) s.step.emit exit.clocks) s.step.exits.items (edge_at apart))
+        ∙ each_all (λ exit. emits_as_scheduled cert.schedule (position_of cert.schedule x) s.step.emit exit.clocks) s.step.exits.items
+        (edge_at apart))
         (kind_cases x.kind)
 
     -- Successor
 
     goes_on : t.next.back ≡ false → has_successors cert ids x s.step ≡ true
-    goes_on back = each_all (λ exit. lies_in_any cert ids (successor (lines_of_schedule cert.schedule) x s.step exit)) s.step.exits.items (λ exit there.
+    goes_on back = each_all (λ exit. lies_in_any cert ids (successor (lines_of_schedule cert.schedule) x s.step exit)) s.step.exits.items
+        (λ exit there.
         subst (λ (l : Lines). lies_in_any cert ids (successor l x s.step exit) ≡ true) (sym lines_same)
-        (lies t.next (successor (lines_of program) x s.step exit) t.after back
-        (there.0, ap (λ l. slice_get l there.0) s.out ∙ in_map (successor (lines_of program) x s.step) s.step.exits.items there.0 exit there.1)))
+        (lies t.next (successor (lines_of program) x s.step exit) t.after back (
+          there.0,
+          ap (λ l. slice_get l there.0) s.out ∙ in_map (successor (lines_of program) x s.step) s.step.exits.items there.0 exit
+              there.1,
+        )))
 
     -- Clock and Restore
 
@@ -283,16 +311,20 @@ module _ (image : Flash) (program : Program) (fits : ProgramFits program) (found
             let kept : restored end ≡ true = ⊎_elim (λ yes. yes)
             (λ no. absurd (t.clear Restore (inr (refl, record { back = back; end = end; ends = (0, t.some.1); kept = no }))))
             (bool_cases (restored end)) in
-            let inside : cells_inside end.cells.items rest.0.cells.items ≡ true = subst (λ l. cells_inside end.cells.items l ≡ true) cells (cells_same end.cells.items) in
+            let inside : cells_inside end.cells.items rest.0.cells.items ≡ true = subst (λ l. cells_inside end.cells.items l ≡ true) cells
+            (cells_same end.cells.items) in
             ap (λ r. return_fail r end) rest.1
-            ∙ ap (λ b. refuse_if (not b) Clock (refuse_if (not (restored end && cells_inside end.cells.items rest.0.cells.items)) Restore None)) (eq-eqb end.clock rest.0.clock clock)
+            ∙ ap (λ b. refuse_if (not b) Clock (refuse_if (not (restored end && cells_inside end.cells.items rest.0.cells.items)) Restore
+            None)) (eq-eqb end.clock rest.0.clock clock)
             ∙ ap (λ b. refuse_if (not (b && cells_inside end.cells.items rest.0.cells.items)) Restore None) kept
             ∙ ap (λ b. refuse_if (not b) Restore None) inside
 
     result_ok : result_fail cert ids x s.step ≡ None
     result_ok = ⊎_elim
-        (λ back. ap (λ b. if b then return_fail (rest_in cert.rests (end_of cert x s.step).line) (end_of cert x s.step) else refuse_if (not (has_successors cert ids x s.step)) Successor None) (sym s.back ∙ back) ∙ returns back)
-        (λ back. ap (λ b. if b then return_fail (rest_in cert.rests (end_of cert x s.step).line) (end_of cert x s.step) else refuse_if (not (has_successors cert ids x s.step)) Successor None) (sym s.back ∙ back)
+        (λ back. ap (λ b. if b then return_fail (rest_in cert.rests (end_of cert x s.step).line) (end_of cert x s.step) else refuse_if
+        (not (has_successors cert ids x s.step)) Successor None) (sym s.back ∙ back) ∙ returns back)
+        (λ back. ap (λ b. if b then return_fail (rest_in cert.rests (end_of cert x s.step).line) (end_of cert x s.step) else refuse_if
+        (not (has_successors cert ids x s.step)) Successor None) (sym s.back ∙ back)
         ∙ ap (λ b. refuse_if (not b) Successor None) (goes_on back))
         (bool_cases t.next.back)
 
@@ -307,17 +339,22 @@ fails_stop head Stop x h = cc
 fails_stop head NoOperation x h = refl
 fails_stop head e x h = refl
 
-stops_none : (head : Head) (image : Flash) (x : Instance) (row : Option Instr) (step : Step) → step_of_row head 1820 image row x ≡ Ok step → is_no_opcode row ≡ false
+stops_none : (head : Head) (image : Flash) (x : Instance) (row : Option Instr) (step : Step) → step_of_row head 1820 image row x ≡ Ok step
+    → is_no_opcode row ≡ false
 stops_none head image x None step h = cc
 stops_none head image x (Some i) step h = fails_stop head (effect_of i) x (row_parts head image x i step h).fine
 
 pub passes_local : EndedPassesLocal
 passes_local image p found cert ids row x fits ended made node lies reads =
-    ap (λ b. refuse_if b Opcode (instance_fail image cert ids row (Some x))) (stops_none cert.head image x row s.step s.is) ∙ step_ok image p fits found ended cert made ids x node lies row reads s
+    ap (λ b. refuse_if b Opcode (instance_fail image cert ids row (Some x))) (stops_none cert.head image x row s.step s.is) ∙ step_ok image
+    p fits found ended cert made ids x node lies row reads s
   where
-    s : HasStep p x (cover.treated image p fits found.nodes.keys found.parents.items found.marks.items found.returns.items ended x node).next (step_of_row cert.head 1820 image row x)
+    s : HasStep p x (cover.treated image p fits found.nodes.keys found.parents.items found.marks.items found.returns.items ended x
+        node).next (step_of_row cert.head 1820 image row x)
     s =
-        let a = (cover.treated image p fits found.nodes.keys found.parents.items found.marks.items found.returns.items ended x node).after in
+        let a = (cover.treated image p fits found.nodes.keys found.parents.items found.marks.items found.returns.items ended x
+        node).after in
         has_step p x _ (step_of_row cert.head 1820 image row x)
-        (a.is ∙ ap (λ (r : Option Instr). next_of (lines_of p) x (step_of_row p.head 1820 image r x)) (decoded_same _ _ a.row row a.reads reads)
+        (a.is ∙ ap (λ (r : Option Instr). next_of (lines_of p) x (step_of_row p.head 1820 image r x))
+        (decoded_same _ _ a.row row a.reads reads)
         ∙ ap (λ (h : Head). next_of (lines_of p) x (step_of_row h 1820 image row x)) (sym made.head))

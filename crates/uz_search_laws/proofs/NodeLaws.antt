@@ -1,5 +1,6 @@
 -- What the results of one instance owe the frame, and where its handler's entries stand.
-use Rattle.std.proofs.Common.{◌≡◌, ◌≢◌, ℕ, suc, ◌<◌, ◌≤◌, ◌+◌, ◌⊎◌, List, [], ◌∷◌, Option, Some, None, Ok, true, refl, sym, ap, subst, inl, inr, ⊎_elim, slice_get, arith}
+use Rattle.std.proofs.Common.{◌≡◌, ◌≢◌, ℕ, suc, ◌<◌, ◌≤◌, ◌+◌, ◌⊎◌, List, [], ◌∷◌, Option, Some, None, Ok, true, refl, sym, ap, subst, inl}
+use Rattle.std.proofs.Common.{inr, ⊎_elim, slice_get, arith}
 use Rattle.std.proofs.lemmas.Bool.{cases_eq, cases_lt}
 use Rattle.uz_schedule.specs.Schedule.{response_clocks}
 use Rattle.uz_schedule.specs.declared.kinds.Kind.TheVariants.{Main}
@@ -40,11 +41,13 @@ most_few : (x : Instance) (out : List Instance) (n : ℕ) → ((y : Instance) �
 most_few x [] n h = omega arith
 most_few x (z ∷ zs) n h = let a = h z (0, refl) in let b = most_few x zs n (λ y there. h y (suc there.0, there.1)) in omega (arith, a, b)
 
-pub owes : (image : Flash) (program : Program) (x : Instance) (next : Next) → Stands program x → x.kind ≢ Main → After image program x (Ok next) → ((y : Instance) × (slice_get next.out.items 0 ≡ Some y)) → Owes program x next
+pub owes : (image : Flash) (program : Program) (x : Instance) (next : Next) → Stands program x → x.kind ≢ Main → After image program x
+    (Ok next) → ((y : Instance) × (slice_get next.out.items 0 ≡ Some y)) → Owes program x next
 owes image program x next stands apart after some = record {
   out = some;
   one = results.one_return image program x next s;
-  few = let few = most_few x next.out.items 4 (λ y there. (results.moves image program x stands apart next s y there).few) in omega (arith, few);
+  few = let few = most_few x next.out.items 4 (λ y there. (results.moves image program x stands apart next s y there).few) in
+      omega (arith, few);
   moves = results.moves image program x stands apart next s;
   at_end = results.at_end image program x stands apart next s;
   leaves = results.leaves image program x stands apart next s;
@@ -58,20 +61,25 @@ owes image program x next stands apart after some = record {
 
 -- what is asked of the places that an instance passes: nothing is shown before the fall, and sync 0 at the fall and nowhere else
 pub record Clear (program : Program) (x : Instance) (next : Next) : Type 0 where
-  pub above : (l q k : ℕ) (e : EventKind) → 1 ≤ k → k ≤ most_clocks x next.out.items → Reaches program.lines x.line x.clock k l q → shown_at next.emit k ≡ Some e → program.fall ≤ q
-  pub falls : (l k : ℕ) → 1 ≤ k → k ≤ most_clocks x next.out.items → Reaches program.lines x.line x.clock k l program.fall → shown_at next.emit k ≡ Some (Sync 0)
-  pub once : (l q k : ℕ) → 1 ≤ k → k ≤ most_clocks x next.out.items → Reaches program.lines x.line x.clock k l q → shown_at next.emit k ≡ Some (Sync 0) → q ≡ program.fall
+  pub above : (l q k : ℕ) (e : EventKind) → 1 ≤ k → k ≤ most_clocks x next.out.items → Reaches program.lines x.line x.clock k l q
+      → shown_at next.emit k ≡ Some e → program.fall ≤ q
+  pub falls : (l k : ℕ) → 1 ≤ k → k ≤ most_clocks x next.out.items → Reaches program.lines x.line x.clock k l program.fall
+      → shown_at next.emit k ≡ Some (Sync 0)
+  pub once : (l q k : ℕ) → 1 ≤ k → k ≤ most_clocks x next.out.items → Reaches program.lines x.line x.clock k l q → shown_at next.emit
+      k ≡ Some (Sync 0) → q ≡ program.fall
 
 -- whether an event is this one
 shown_choice : (shown : Option EventKind) → (shown ≡ Some (Sync 0)) ⊎ (shown ≢ Some (Sync 0))
 shown_choice None = inr (λ h. cc)
-shown_choice (Some (Sync v)) = ⊎_elim (λ (e : v ≡ 0). inl (ap (λ n. Some (Sync n)) e)) (λ (n : v ≢ 0). inr (λ h. n (level_is h))) (cases_eq v 0)
+shown_choice (Some (Sync v)) = ⊎_elim (λ (e : v ≡ 0). inl (ap (λ n. Some (Sync n)) e)) (λ (n : v ≢ 0). inr (λ h. n (level_is h)))
+    (cases_eq v 0)
   where
     level_is : Some (Sync v) ≡ Some (Sync 0) → v ≡ 0
     level_is h = cc
 shown_choice (Some e) = inr (λ h. cc)
 
-pub cleared : (image : Flash) (program : Program) (x : Instance) (next : Next) → Stands program x → x.kind ≢ Main → ((why : Fail) → StuckWith image program x next why → ⊥) → Clear program x next
+pub cleared : (image : Flash) (program : Program) (x : Instance) (next : Next) → Stands program x → x.kind ≢ Main
+    → ((why : Fail) → StuckWith image program x next why → ⊥) → Clear program x next
 cleared image program x next stands apart clear = record {
   above = λ l q k e some few reach shown. ⊎_elim
       (λ (below : q < program.fall). absurd (no k some few q (at l q k reach) (inl (e, shown, below))))
@@ -90,7 +98,8 @@ cleared image program x next stands apart clear = record {
     at : (l q k : ℕ) → Reaches program.lines x.line x.clock k l q → clock_after (lines_of program) x.line (x.clock + k) ≡ q
     at l q k reach = reach_clock program.lines x.line x.clock k l q stands.clock reach
 
-    no : (k : ℕ) → 1 ≤ k → k ≤ most_clocks x next.out.items → (q : ℕ) → clock_after (lines_of program) x.line (x.clock + k) ≡ q → IsUnsteady program.fall q (shown_at next.emit k) → ⊥
+    no : (k : ℕ) → 1 ≤ k → k ≤ most_clocks x next.out.items → (q : ℕ) → clock_after (lines_of program) x.line (x.clock + k) ≡ q
+        → IsUnsteady program.fall q (shown_at next.emit k) → ⊥
     no k some few q at_q unsteady = clear Edge (inl (
       refl,
       inr (record {
@@ -109,7 +118,8 @@ pub record Before (program : Program) (x : Instance) : Type 0 where
   pub apart : x.kind ≢ Main
   pub clock : x.clock < program.fall
 
-pub entry_place : (program : Program) (end e : Instance) → response_clocks program.head.irq + 3 < program.fall → end.line < program.lines → Among (entries program end) e
+pub entry_place : (program : Program) (end e : Instance) → response_clocks program.head.irq + 3 < program.fall → end.line < program.lines
+    → Among (entries program end) e
     → Before program e × IsNext program.lines end.line e.line × (e.level ≡ end.level)
 entry_place program end e entered below there =
     let it = entry_of program end e there in
@@ -120,5 +130,6 @@ entry_place program end e entered below there =
 pub some_entry : (program : Program) (end : Instance) → (e : Instance) × Among (entries program end) e
 some_entry program end = (entry_at program end 0, (0, refl))
 
-pub start_place : (program : Program) (fits : ProgramFits program) (s : Instance) → Among program.starts s → s.kind ≢ Main → Before program s × (s.line ≡ 0)
+pub start_place : (program : Program) (fits : ProgramFits program) (s : Instance) → Among program.starts s → s.kind ≢ Main → Before program
+    s × (s.line ≡ 0)
 start_place program fits s h apart = (record { apart = apart; clock = (fits.starts s h).before apart }, (fits.starts s h).line apart)

@@ -1,5 +1,6 @@
 -- The schedule that is made of the marks, position by position.
-use Rattle.std.proofs.Common.{◌≡◌, ℕ, zero, suc, ◌<◌, ◌≤◌, ◌+◌, ◌-◌, ◌*◌, ◌/◌, ◌%◌, List, Option, Some, None, refl, sym, ap, ◌∙◌, subst, length, slice_get, arith}
+use Rattle.std.proofs.Common.{◌≡◌, ℕ, zero, suc, ◌<◌, ◌≤◌, ◌+◌, ◌-◌, ◌*◌, ◌/◌, ◌%◌, List, Option, Some, None, refl, sym, ap, ◌∙◌, subst}
+use Rattle.std.proofs.Common.{length, slice_get, arith}
 use Rattle.std.proofs.Math.Nat.{mod-eq_of_lt, mod-lt, add-mod_right}
 use Rattle.uz_schedule.specs.Schedule.{start_of, frame_of as frame_of_schedule, event_at, level_at, sync_at, sync_of, or_else}
 use Rattle.uz_schedule.specs.declared.lines.EventKind.{EventKind}
@@ -78,7 +79,8 @@ module _ (program : Program) (marks : List (Option Mark)) (s : Schedule) (of : I
       by (Some Leave) is = ap sync_of is
 
   -- the level goes on where no level is set
-  level_kept : (n d v : ℕ) → 0 < frame_of program → level_at s n ≡ Some v → ((j : ℕ) → n < j → j ≤ n + d → sync_at s j ≡ None) → level_at s (n + d) ≡ Some v
+  level_kept : (n d v : ℕ) → 0 < frame_of program → level_at s n ≡ Some v → ((j : ℕ) → n < j → j ≤ n + d → sync_at s j ≡ None)
+      → level_at s (n + d) ≡ Some v
   level_kept n zero v some h none = ap (level_at s) (plus_zero n) ∙ h
     where
       plus_zero : (n : ℕ) → n + 0 ≡ n
@@ -97,14 +99,17 @@ module _ (program : Program) (marks : List (Option Mark)) (s : Schedule) (of : I
       let m : ℕ = n - 1 in
       let n_is : n ≡ suc m = omega (arith, some) in
       let same : n % frame_of program ≡ h.last % frame_of program = add-mod_right h.last (frame_of program) in
-      let set : sync_at s n ≡ Some v = ap sync_of (event_is n some ∙ ap (marked_at marks) same ∙ seen_shows marks (h.last % frame_of program) (Some (Sync v)) h.sync) in
+      let set : sync_at s n ≡ Some v = ap sync_of (event_is n some ∙ ap (marked_at marks) same ∙ seen_shows marks
+      (h.last % frame_of program) (Some (Sync v)) h.sync) in
       let at_n : level_at s n ≡ Some v =
-      ap (level_at s) n_is ∙ level_step s m (subst (λ f. 0 < f) (sym frame_is) some) ∙ ap (λ o. or_else o (level_at s m)) (ap (sync_at s) (sym n_is) ∙ set) in
+      ap (level_at s) n_is ∙ level_step s m (subst (λ f. 0 < f) (sym frame_is) some) ∙ ap (λ o. or_else o (level_at s m))
+      (ap (sync_at s) (sym n_is) ∙ set) in
       let d : ℕ = p - h.last in
       let quiet : (j : ℕ) → n < j → j ≤ n + d → sync_at s j ≡ None = λ j after last. sync_none j some (λ u seen.
       let i : ℕ = j - frame_of program in
       let i_is : i + frame_of program ≡ j = omega (arith, after) in
-      let round : j % frame_of program ≡ i % frame_of program = ap (λ k. k % frame_of program) (sym i_is) ∙ add-mod_right i (frame_of program) in
+      let round : j % frame_of program ≡ i % frame_of program = ap (λ k. k % frame_of program) (sym i_is) ∙ add-mod_right i
+      (frame_of program) in
       h.quiet i (omega (arith, after, i_is)) (omega (arith, last, i_is, le)) u (subst (λ k. Seen marks k (Some (Sync u))) round seen)) in
       let at_p : level_at s (n + d) ≡ Some v = level_kept n d v some at_n quiet in
       let n_d : n + d ≡ p + frame_of program = omega (arith, le) in

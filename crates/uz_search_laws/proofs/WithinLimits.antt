@@ -1,5 +1,7 @@
 -- Each instance on a trail is within limits.
-use Rattle.std.proofs.Common.{◌≡◌, ◌≢◌, ℕ, zero, suc, ◌<◌, ◌≤◌, ◌+◌, ◌-◌, ◌*◌, ◌%◌, List, [], ◌∷◌, map, Option, Some, None, Bool, true, false, not, ◌&&◌, ◌||◌, nat_le, nat_lt, refl, sym, ap, ◌∙◌, subst, ⊎_elim, length, slice_get, slice_set, slice_index_or, replicate, if◌then◌else◌, true≢false, arith}
+use Rattle.std.proofs.Common.{◌≡◌, ◌≢◌, ℕ, zero, suc, ◌<◌, ◌≤◌, ◌+◌, ◌-◌, ◌*◌, ◌%◌, List, [], ◌∷◌, map, Option, Some, None, Bool, true}
+use Rattle.std.proofs.Common.{false, not, ◌&&◌, ◌||◌, nat_le, nat_lt, refl, sym, ap, ◌∙◌, subst, ⊎_elim, length, slice_get, slice_set}
+use Rattle.std.proofs.Common.{slice_index_or, replicate, if◌then◌else◌, true≢false, arith}
 use Rattle.std.specs.List.{flat_map}
 use Rattle.std.proofs.Math.Nat.{mod-lt}
 use Rattle.std.proofs.lemmas.Bool.{cases_eq, cases_lt}
@@ -47,7 +49,8 @@ use Rattle.uz_search.proofs.Standing.{entry_of}
 use Rattle.uz_search.proofs.VisitingLemmas.{some_is}
 use Rattle.uz_search.proofs.WidenedLaws.{widened_place}
 use Rattle.uz_search_laws.specs.Limits.{Each, IsOpen, OldFits, IsWithinLimits, EndedWithinLimits}
-use Rattle.uz_search_laws.proofs.Known.{Known, each_set, get_index, get_set_same, get_set_other, index_each, index_set_other, index_set_same, length_set}
+use Rattle.uz_search_laws.proofs.Known.{Known, each_set, get_index, get_set_same, get_set_other, index_each, index_set_other}
+use Rattle.uz_search_laws.proofs.Known.{index_set_same, length_set}
 use Rattle.uz_search_laws.proofs.KnownStep.{transfer_known}
 
 -- Program counters
@@ -69,11 +72,13 @@ one_pc : (a pc : ℕ) → a < 32768 → Among (a ∷ []) pc → pc < 32768
 one_pc a pc below (zero, h) = subst (λ n. n < 32768) (some_is a pc h) below
 one_pc a pc below (suc i, h) = cc
 
-jump_below : (target : JumpTarget) (following pc : ℕ) (x : Instance) → EffectFits (Jump target false) → target_fails target x ≡ false → Among (jump_pcs target following x) pc → pc < 32768
+jump_below : (target : JumpTarget) (following pc : ℕ) (x : Instance) → EffectFits (Jump target false) → target_fails target x ≡ false
+    → Among (jump_pcs target following x) pc → pc < 32768
 jump_below (Absolute k) following pc x fits fine h = one_pc k pc fits h
 jump_below (Relative k) following pc x fits fine h = one_pc ((following + k) % 32768) pc (mod-lt (following + k) (omega arith)) h
 jump_below Indirect following pc x fits fine h =
-    let low : nat_lt 0x7FFF (pair_range x 30).hi ≡ false = or_false (nat_le (16 + (pair_range x 30).lo) (pair_range x 30).hi) (nat_lt 0x7FFF (pair_range x 30).hi) fine in
+    let low : nat_lt 0x7FFF (pair_range x 30).hi ≡ false = or_false (nat_le (16 + (pair_range x 30).lo) (pair_range x 30).hi)
+    (nat_lt 0x7FFF (pair_range x 30).hi) fine in
     let few : (pair_range x 30).hi ≤ 0x7FFF = grind (arith, nat_tests) in
     by few h
   where
@@ -93,8 +98,10 @@ jump_below Indirect following pc x fits fine h =
         (λ (le : lo ≤ suc hi). number_below lo (suc hi - lo) 32768 pc (omega (arith, le, few)) there)
         (cases_lt (suc hi) lo)
 
-target_below : (head : Head) (e : Effect) (o : Outcome) (following pc : ℕ) (x : Instance) → EffectFits e → fail_of head e x ≡ None → following < 32768 → Among (targets e o following x) pc → pc < 32768
-target_below head (Branch flag set offset) outcome.Taken following pc x fits fine low h = one_pc ((following + offset) % 32768) pc (mod-lt (following + offset) (omega arith)) h
+target_below : (head : Head) (e : Effect) (o : Outcome) (following pc : ℕ) (x : Instance) → EffectFits e → fail_of head e x ≡ None
+    → following < 32768 → Among (targets e o following x) pc → pc < 32768
+target_below head (Branch flag set offset) outcome.Taken following pc x fits fine low h = one_pc ((following + offset) % 32768) pc
+    (mod-lt (following + offset) (omega arith)) h
 target_below head (Branch flag set offset) outcome.Next following pc x fits fine low h = one_pc following pc low h
 target_below head (Branch flag set offset) outcome.SkipOne following pc x fits fine low h = one_pc following pc low h
 target_below head (Branch flag set offset) outcome.SkipTwo following pc x fits fine low h = one_pc following pc low h
@@ -107,7 +114,8 @@ target_below head (Return true) o following pc x fits fine low h = one_pc (x.pc 
 target_below head NoOperation o following pc x fits fine low h = one_pc following pc low h
 target_below head e o following pc x fits fine low h = one_pc following pc low h
 
-exit_below : (head : Head) (e : Effect) (clocks : Outcome → ℕ) (following : ℕ) (x : Instance) (os : List Outcome) (exit : Exit) → EffectFits e → fail_of head e x ≡ None → following < 32768
+exit_below : (head : Head) (e : Effect) (clocks : Outcome → ℕ) (following : ℕ) (x : Instance) (os : List Outcome) (exit : Exit)
+    → EffectFits e → fail_of head e x ≡ None → following < 32768
     → Among (exits_of e clocks following x os) exit → exit.pc < 32768
 exit_below head e clocks following x [] exit fits fine low (i, h) = cc
 exit_below head e clocks following x (o ∷ os) exit fits fine low (i, h) = ⊎_elim
@@ -173,10 +181,13 @@ value_old kind fact (Old r) h = h
 value_old kind fact OldFlags h = h
 value_old kind fact (Range e) h = choose (OldFits kind) (is_within e fact) (Range fact) (Range e) tt tt
 
-set_wider : (regs : List Val) (r j : ℕ) (w : Val) → r < length regs → Wider (value_at regs r) w → Wider (value_at regs j) (value_at (slice_set regs r w) j)
+set_wider : (regs : List Val) (r j : ℕ) (w : Val) → r < length regs → Wider (value_at regs r) w → Wider (value_at regs j)
+    (value_at (slice_set regs r w) j)
 set_wider regs r j w low wide = ⊎_elim
-    (λ (same : j ≡ r). subst (λ m. Wider (value_at regs m) (value_at (slice_set regs r w) m)) (sym same) (subst (Wider (value_at regs r)) (sym (index_set_same regs r w (Range (ends 0 255)) low)) wide))
-    (λ (other : j ≢ r). subst (Wider (value_at regs j)) (sym (index_set_other regs r j w (Range (ends 0 255)) other)) (omega arith, omega arith))
+    (λ (same : j ≡ r). subst (λ m. Wider (value_at regs m) (value_at (slice_set regs r w) m)) (sym same)
+    (subst (Wider (value_at regs r)) (sym (index_set_same regs r w (Range (ends 0 255)) low)) wide))
+    (λ (other : j ≢ r). subst (Wider (value_at regs j)) (sym (index_set_other regs r j w (Range (ends 0 255)) other))
+    (omega arith, omega arith))
     (cases_eq j r)
 
 hull_wider : (a b c d : Val) → Wider a c → Wider b d → IsOpen (hull (span_of a) (span_of b)) → IsOpen (hull (span_of c) (span_of d))
@@ -201,19 +212,24 @@ module _ (head : Head) (kind : Kind) where
       regs : List Val
       regs = slice_set x.regs r (widened_value fact (slice_index_or x.regs r (Range whole_byte)))
 
-      open_still : r < 32 → (k : ℕ) → k < 3 → slice_get x.pairs k ≡ Some whole_pair → IsOpen (byte_hull (slice_set x.regs r (widened_value fact (slice_index_or x.regs r (Range whole_byte)))) (26 + 2 * k))
+      open_still : r < 32 → (k : ℕ) → k < 3 → slice_get x.pairs k ≡ Some whole_pair
+          → IsOpen (byte_hull (slice_set x.regs r (widened_value fact (slice_index_or x.regs r (Range whole_byte)))) (26 + 2 * k))
       open_still low k few at =
           let len = h.register_count in
           let wide = value_wider fact (slice_index_or x.regs r (Range whole_byte)) in
           let v : Val = widened_value fact (slice_index_or x.regs r (Range whole_byte)) in
-          hull_wider (value_at x.regs (26 + 2 * k)) (value_at x.regs (26 + 2 * k + 1)) (value_at (slice_set x.regs r v) (26 + 2 * k)) (value_at (slice_set x.regs r v) (26 + 2 * k + 1))
-          (set_wider x.regs r (26 + 2 * k) v (omega (arith, len, low)) wide) (set_wider x.regs r (26 + 2 * k + 1) v (omega (arith, len, low)) wide) (h.hulls k few at)
+          hull_wider (value_at x.regs (26 + 2 * k)) (value_at x.regs (26 + 2 * k + 1)) (value_at (slice_set x.regs r v) (26 + 2 * k))
+          (value_at (slice_set x.regs r v) (26 + 2 * k + 1))
+          (set_wider x.regs r (26 + 2 * k) v (omega (arith, len, low)) wide)
+          (set_wider x.regs r (26 + 2 * k + 1) v (omega (arith, len, low)) wide) (h.hulls k few at)
 
-      by : (b : Bool) → nat_lt r 32 ≡ b → Known head kind (if b then record x { regs = slice_set x.regs r (widened_value fact (slice_index_or x.regs r (Range whole_byte))) } else x)
+      by : (b : Bool) → nat_lt r 32 ≡ b → Known head kind
+          (if b then record x { regs = slice_set x.regs r (widened_value fact (slice_index_or x.regs r (Range whole_byte))) } else x)
       by true is = record {
         register_count = length_set x.regs r (widened_value fact (slice_index_or x.regs r (Range whole_byte))) ∙ h.register_count;
         registers = each_set (OldFits kind) x.regs r (widened_value fact (slice_index_or x.regs r (Range whole_byte))) h.registers
-            (value_old kind fact (slice_index_or x.regs r (Range whole_byte)) (index_each (OldFits kind) x.regs r (Range whole_byte) h.registers tt));
+            (value_old kind fact (slice_index_or x.regs r (Range whole_byte)) (index_each (OldFits kind) x.regs r (Range whole_byte)
+            h.registers tt));
         pair_count = h.pair_count;
         hulls = open_still (grind (arith, nat_tests));
         flag_count = h.flag_count;
@@ -225,18 +241,22 @@ module _ (head : Head) (kind : Kind) where
       by false is = h
   fact_known (Pair n fact) x h = by (nat_lt n 3) refl
     where
-      open_still : n < 3 → (k : ℕ) → k < 3 → slice_get (slice_set x.pairs n (widened_pair fact (slice_index_or x.pairs n whole_pair))) k ≡ Some whole_pair → IsOpen (byte_hull x.regs (26 + 2 * k))
+      open_still : n < 3 → (k : ℕ) → k < 3 → slice_get (slice_set x.pairs n (widened_pair fact (slice_index_or x.pairs n whole_pair)))
+          k ≡ Some whole_pair → IsOpen (byte_hull x.regs (26 + 2 * k))
       open_still low k few at = ⊎_elim
           (λ (same : k ≡ n).
           let len = h.pair_count in
           let e : Ends = widened_pair fact (slice_index_or x.pairs n whole_pair) in
-          let here : e ≡ whole_pair = some_is e whole_pair (sym (get_set_same x.pairs n e (omega (arith, len, low))) ∙ ap (slice_get (slice_set x.pairs n e)) (sym same) ∙ at) in
+          let here : e ≡ whole_pair = some_is e whole_pair (sym (get_set_same x.pairs n e (omega (arith, len, low)))
+          ∙ ap (slice_get (slice_set x.pairs n e)) (sym same) ∙ at) in
           let old : slice_index_or x.pairs n whole_pair ≡ whole_pair = pair_whole fact (slice_index_or x.pairs n whole_pair) here in
           h.hulls k few (ap (slice_get x.pairs) same ∙ get_index x.pairs n whole_pair (omega (arith, len, low)) ∙ ap Some old))
-          (λ (other : k ≢ n). h.hulls k few (sym (get_set_other x.pairs n k (widened_pair fact (slice_index_or x.pairs n whole_pair)) other) ∙ at))
+          (λ (other : k ≢ n). h.hulls k few (sym (get_set_other x.pairs n k (widened_pair fact (slice_index_or x.pairs n whole_pair)) other)
+          ∙ at))
           (cases_eq k n)
 
-      by : (b : Bool) → nat_lt n 3 ≡ b → Known head kind (if b then record x { pairs = slice_set x.pairs n (widened_pair fact (slice_index_or x.pairs n whole_pair)) } else x)
+      by : (b : Bool) → nat_lt n 3 ≡ b → Known head kind
+          (if b then record x { pairs = slice_set x.pairs n (widened_pair fact (slice_index_or x.pairs n whole_pair)) } else x)
       by true is = record {
         register_count = h.register_count;
         registers = h.registers;
@@ -281,7 +301,8 @@ entry_known p end e h handler there =
       cells = subst (λ k. spans_fit (tracked p.head k) end.cells.items ≡ true) handler h.cells;
     })
   where
-    open_all : (k : ℕ) → k < 3 → slice_get (whole_pair ∷ whole_pair ∷ whole_pair ∷ []) k ≡ Some whole_pair → IsOpen (hull_at (old_from 0 32) (26 + 2 * k))
+    open_all : (k : ℕ) → k < 3 → slice_get (whole_pair ∷ whole_pair ∷ whole_pair ∷ []) k ≡ Some whole_pair
+        → IsOpen (hull_at (old_from 0 32) (26 + 2 * k))
     open_all zero few at = (refl, omega arith)
     open_all (suc zero) few at = (refl, omega arith)
     open_all (suc (suc zero)) few at = (refl, omega arith)
@@ -299,11 +320,13 @@ entry_known p end e h handler there =
 
 -- Results
 
-within_next : (image : Flash) (p : Program) (x : Instance) (next : Next) → HeadFits p.head → IsWithinLimits p x → (s : Steps image p x next) → (y : Instance) → Among next.out.items y → IsWithinLimits p y
+within_next : (image : Flash) (p : Program) (x : Instance) (next : Next) → HeadFits p.head → IsWithinLimits p x → (s : Steps image p x next)
+    → (y : Instance) → Among next.out.items y → IsWithinLimits p y
 within_next image p x next fits h s y there =
     let r = result image p x next s y there in
     let e : Effect = effect_of s.row in
-    let known = transfer_known p.head x (known_of p x h) image (following_of (words_of s.row) x) (sampled_of ((lines_of p).length x.line) e (clocks_of s.row) x) e fits s.fails in
+    let known = transfer_known p.head x (known_of p x h) image (following_of (words_of s.row) x)
+    (sampled_of ((lines_of p).length x.line) e (clocks_of s.row) x) e fits s.fails in
     let placed_known : Known p.head x.kind y = subst (Known p.head x.kind) r.is (record {
       register_count = known.register_count;
       registers = known.registers;
@@ -316,17 +339,23 @@ within_next image p x next fits h s y there =
       cells = known.cells;
     }) in
     let low : r.exit.pc < 32768 =
-    exit_below p.head e (clocks_of s.row) (following_of (words_of s.row) x) x (outcomes image (following_of (words_of s.row) x) e x) r.exit (effect_fits s.row) s.fails (mod-lt (x.pc + words_of s.row) (omega arith)) r.there in
-    within_of p y (subst (λ (z : Instance). z.pc < 32768) r.is low) (subst (λ k. Known p.head k y) (sym (same_kind image p x next s y there)) placed_known)
+    exit_below p.head e (clocks_of s.row) (following_of (words_of s.row) x) x (outcomes image (following_of (words_of s.row) x) e x) r.exit
+    (effect_fits s.row) s.fails (mod-lt (x.pc + words_of s.row) (omega arith)) r.there in
+    within_of p y (subst (λ (z : Instance). z.pc < 32768) r.is low)
+    (subst (λ k. Known p.head k y) (sym (same_kind image p x next s y there)) placed_known)
 
-within_more : (image : Flash) (p : Program) (x y : Instance) → HeadFits p.head → IsWithinLimits p x → Follows image p x y → IsWithinLimits p y
+within_more : (image : Flash) (p : Program) (x y : Instance) → HeadFits p.head → IsWithinLimits p x → Follows image p x y → IsWithinLimits p
+    y
 within_more image p x y fits h follows = ⊎_elim
     (λ (back : next.back ≡ true).
-    let flat : Among (flat_map (entries p) next.out.items) y = subst (λ l. Among l y) (ap (λ b. if b then flat_map (entries p) next.out.items else map (widened p) next.out.items) back) follows.is in
+    let flat : Among (flat_map (entries p) next.out.items) y = subst (λ l. Among l y)
+    (ap (λ b. if b then flat_map (entries p) next.out.items else map (widened p) next.out.items) back) follows.is in
     let from = of_flat (entries p) next.out.items y flat in
-    entry_known p from.0 y (within_next image p x next fits h s from.0 from.1) (same_kind image p x next s from.0 from.1 ∙ back_is_handler image p x next s back) from.2)
+    entry_known p from.0 y (within_next image p x next fits h s from.0 from.1) (same_kind image p x next s from.0 from.1 ∙ back_is_handler
+    image p x next s back) from.2)
     (λ (back : next.back ≡ false).
-    let mapped : Among (map (widened p) next.out.items) y = subst (λ l. Among l y) (ap (λ b. if b then flat_map (entries p) next.out.items else map (widened p) next.out.items) back) follows.is in
+    let mapped : Among (map (widened p) next.out.items) y = subst (λ l. Among l y)
+    (ap (λ b. if b then flat_map (entries p) next.out.items else map (widened p) next.out.items) back) follows.is in
     let from = of_map (widened p) next.out.items mapped.0 y mapped.1 in
     let z = from.0 in
     let w = within_next image p x next fits h s z (mapped.0, from.1) in
@@ -343,4 +372,5 @@ within_more image p x y fits h follows = ⊎_elim
 
 pub ended_within : EndedWithinLimits
 ended_within image p found x fits starts ended node =
-    tree_all image p (IsWithinLimits p) starts (λ a b h follows. within_more image p a b fits.head h follows) found.nodes.keys found.parents.items ended.tree x node
+    tree_all image p (IsWithinLimits p) starts (λ a b h follows. within_more image p a b fits.head h follows) found.nodes.keys
+    found.parents.items ended.tree x node

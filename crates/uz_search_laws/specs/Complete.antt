@@ -1,4 +1,5 @@
--- What an ended search gives of the schedule that is made of it: it is steady, the handler's returns are quiet, and each instance passes the local rule.
+-- What an ended search gives of the schedule that is made of it: it is steady, the handler's returns are quiet, and each instance passes
+-- the local rule.
 use Rattle.std.specs.Prelude.{◌≡◌, ℕ, ◌+◌, ◌<◌, ◌≤◌, true, false, List, Option, Some, None, Ok}
 use Rattle.avr_table.specs.declared.Instr.{Instr}
 use Rattle.uz_schedule.specs.Instances.{rest_instance}
@@ -32,7 +33,8 @@ pub record FallsOnce (p : Program) (s : Schedule) : Type 0 where
   pub once : (l k : ℕ) → l < p.lines → k < scanline → event_at s (start_of s l + k) ≡ Some (Sync 0) → k ≡ p.fall
 
 abbrev pub EndedFallsOnce : Type 0
-EndedFallsOnce = (image : Flash) (p : Program) (found : Found) (s : Schedule) → ProgramFits p → IsEnded image p found → IsScheduleOf p found.marks.items s → FallsOnce p s
+EndedFallsOnce = (image : Flash) (p : Program) (found : Found) (s : Schedule) → ProgramFits p → IsEnded image p found → IsScheduleOf p
+    found.marks.items s → FallsOnce p s
 
 -- a marked level is 0 or 1
 abbrev pub EndedLevelsFit : Type 0
@@ -46,23 +48,29 @@ pub record IsQuietRest (p : Program) (s : Schedule) (l : ℕ) (r : Return) : Typ
   pub quiet_next : (k : ℕ) → k ≤ response_clocks p.head.irq + 3 → event_at s (start_of s (next_line s l) + k) ≡ None
 
 abbrev pub EndedRestsAreQuiet : Type 0
-EndedRestsAreQuiet = (image : Flash) (p : Program) (found : Found) (s : Schedule) (l : ℕ) (r : Return) → ProgramFits p → IsEnded image p found → IsScheduleOf p found.marks.items s
+EndedRestsAreQuiet = (image : Flash) (p : Program) (found : Found) (s : Schedule) (l : ℕ) (r : Return) → ProgramFits p → IsEnded image p
+    found → IsScheduleOf p found.marks.items s
     → l < p.lines → ReturnAt found.returns.items l r → IsQuietRest p s l r
 
 -- the level of each instance is the schedule's at its position
 abbrev pub EndedLevels : Type 0
-EndedLevels = (image : Flash) (p : Program) (found : Found) (s : Schedule) (x : Instance) → ProgramFits p → IsEnded image p found → IsScheduleOf p found.marks.items s
+EndedLevels = (image : Flash) (p : Program) (found : Found) (s : Schedule) (x : Instance) → ProgramFits p → IsEnded image p found
+    → IsScheduleOf p found.marks.items s
     → Among found.nodes.keys x → level_at s (position_of s x) ≡ Some x.level
 
 -- the handler's first state after a rest is an instance of the search, whatever the latency
 abbrev pub EndedRestsEnter : Type 0
-EndedRestsEnter = (image : Flash) (p : Program) (found : Found) (cert : Cert) (rest : Rest) (r : Return) (c : ℕ) → ProgramFits p → IsEnded image p found → cert.head ≡ p.head
-    → IsScheduleOf p found.marks.items cert.schedule → ReturnAt found.returns.items rest.line r → rest.cells.items ≡ r.cells.items → c ≤ 3 → Among found.nodes.keys (rest_instance cert rest c)
+EndedRestsEnter = (image : Flash) (p : Program) (found : Found) (cert : Cert) (rest : Rest) (r : Return) (c : ℕ) → ProgramFits p
+    → IsEnded image p found → cert.head ≡ p.head
+    → IsScheduleOf p found.marks.items cert.schedule → ReturnAt found.returns.items rest.line r → rest.cells.items ≡ r.cells.items → c ≤ 3
+    → Among found.nodes.keys (rest_instance cert rest c)
 
 -- each instance passes the local rule, with successors in which its results lie
 abbrev pub HasSuccessors : Flash → Program → Cert → List ℕ → Instance → Type 0
-HasSuccessors image p cert ids x = (next : Next) (y : Instance) → After image p x (Ok next) → next.back ≡ false → Among next.out.items y → lies_in_any cert ids y ≡ true
+HasSuccessors image p cert ids x = (next : Next) (y : Instance) → After image p x (Ok next) → next.back ≡ false → Among next.out.items y
+    → lies_in_any cert ids y ≡ true
 
 abbrev pub EndedPassesLocal : Type 0
-EndedPassesLocal = (image : Flash) (p : Program) (found : Found) (cert : Cert) (ids : List ℕ) (row : Option Instr) (x : Instance) → ProgramFits p → IsEnded image p found → IsMadeOf p found cert
+EndedPassesLocal = (image : Flash) (p : Program) (found : Found) (cert : Cert) (ids : List ℕ) (row : Option Instr) (x : Instance)
+    → ProgramFits p → IsEnded image p found → IsMadeOf p found cert
     → Among found.nodes.keys x → HasSuccessors image p cert ids x → IsReadAt image x.pc row → local_fail image cert ids row (Some x) ≡ None

@@ -47,7 +47,8 @@ pub record IsWithinLimits (p : Program) (x : Instance) : Type 0 where
 
 -- where the starts are within the limits each instance is
 abbrev pub EndedWithinLimits : Type 0
-EndedWithinLimits = (image : Flash) (p : Program) (found : Found) (x : Instance) → ProgramFits p → ((s : Instance) → Among p.starts s → IsWithinLimits p s)
+EndedWithinLimits = (image : Flash) (p : Program) (found : Found) (x : Instance) → ProgramFits p
+    → ((s : Instance) → Among p.starts s → IsWithinLimits p s)
     → IsEnded image p found → Among found.nodes.keys x → IsWithinLimits p x
 
 -- an instance lies in what widening makes of it

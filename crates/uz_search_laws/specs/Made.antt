@@ -30,7 +30,8 @@ pub record IsScheduleOf (p : Program) (marks : List (Option Mark)) (s : Schedule
 
 -- each return is its line's rest
 abbrev pub AreRestsOf : List (Option Return) → List Rest → Type 0
-AreRestsOf returns rests = (l : ℕ) (r : Return) → ReturnAt returns l r → (rest : Rest) × (rest_in rests l ≡ Some rest) × (rest.clock ≡ r.clock) × (rest.cells.items ≡ r.cells.items)
+AreRestsOf returns rests = (l : ℕ) (r : Return) → ReturnAt returns l r → (rest : Rest) × (rest_in rests l ≡ Some rest)
+    × (rest.clock ≡ r.clock) × (rest.cells.items ≡ r.cells.items)
 
 pub record IsMadeOf (p : Program) (found : Found) (cert : Cert) : Type 0 where
   pub head : cert.head ≡ p.head

@@ -7,11 +7,14 @@ use Rattle.uz_hints.specs.Cells.{with_cells}
 use Rattle.uz_hints.proofs.cells.cells_of.Goals as goal
 
 pub put_hint-requires : goal.put_hint-requires
-put_hint-requires c = room_at c.args.hints.now c.loop-hint.cells.items c.loop-hint.hint-index (Start Main 0) c.requires c.loop-hint-test.true c.loop-hint.invariant.count
+put_hint-requires c = room_at c.args.hints.now c.loop-hint.cells.items c.loop-hint.hint-index (Start Main 0) c.requires
+    c.loop-hint-test.true c.loop-hint.invariant.count
 
 pub loop-hint-preserved : goal.loop-hint-preserved
 loop-hint-preserved c = record {
-  count = ap length c.put_hint.ensures ∙ count_more c.args.hints.now c.loop-hint.cells.items c.loop-hint.hint-index (Start Main 0) c.loop-hint-test.true c.loop-hint.invariant.count;
+  count = ap length c.put_hint.ensures ∙ count_more c.args.hints.now c.loop-hint.cells.items c.loop-hint.hint-index (Start Main 0)
+      c.loop-hint-test.true c.loop-hint.invariant.count;
   left = ap (λ ts. with_cells ts (drop (c.loop-hint.hint-index + 1) c.args.hints.now)) c.put_hint.ensures
-      ∙ (left_more c.args.hints.now c.loop-hint.cells.items c.loop-hint.hint-index (Start Main 0) c.loop-hint-test.true ∙ c.loop-hint.invariant.left);
+      ∙ (left_more c.args.hints.now c.loop-hint.cells.items c.loop-hint.hint-index (Start Main 0) c.loop-hint-test.true
+      ∙ c.loop-hint.invariant.left);
 }

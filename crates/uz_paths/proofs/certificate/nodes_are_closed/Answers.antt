@@ -6,13 +6,16 @@ use Rattle.uz_search.proofs.Lists.{in_map}
 use Rattle.uz_paths.proofs.certificate.nodes_are_closed.Goals as goal
 
 pub returns-clause-stand : goal.returns-clause-stand
-returns-clause-stand c = λ x node. c.nodes_are_reached.ensures.stand c.args.image.now c.args.program.now c.args.found.now x c.requires.fits c.requires.ended node
+returns-clause-stand c = λ x node. c.nodes_are_reached.ensures.stand c.args.image.now c.args.program.now c.args.found.now x c.requires.fits
+    c.requires.ended node
 
 pub returns-clause-closed : goal.returns-clause-closed
 returns-clause-closed c =
-    λ x y result node after on there. c.nodes_are_reached.ensures.closed c.args.image.now c.args.program.now c.args.found.now x (widened c.args.program.now y) c.requires.ended node (record {
+    λ x y result node after on there. c.nodes_are_reached.ensures.closed c.args.image.now c.args.program.now c.args.found.now x
+    (widened c.args.program.now y) c.requires.ended node (record {
       next = result;
       after = after;
-      is = subst (λ b. Among (if b then flat_map (entries c.args.program.now) result.out.items else map (widened c.args.program.now) result.out.items) (widened c.args.program.now y)) (sym on)
+      is = subst (λ b. Among (if b then flat_map (entries c.args.program.now) result.out.items else map (widened c.args.program.now)
+          result.out.items) (widened c.args.program.now y)) (sym on)
           (there.0, in_map (widened c.args.program.now) result.out.items there.0 y there.1);
     })

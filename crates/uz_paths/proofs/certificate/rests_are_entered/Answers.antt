@@ -4,5 +4,6 @@ use Rattle.uz_paths.proofs.certificate.rests_are_entered.Goals as goal
 
 pub returns : goal.returns
 returns c =
-    entered c.args.image.now c.args.program.now c.args.found.now c.args.entry.now c.args.schedule.now c.ended_rests_enter.ensures c.requires.fits c.requires.ended
+    entered c.args.image.now c.args.program.now c.args.found.now c.args.entry.now c.args.schedule.now c.ended_rests_enter.ensures
+    c.requires.fits c.requires.ended
     (is_made c.args.program.now c.args.found.now.marks.items c.args.schedule.now c.event_by_line.ensures c.requires.schedule)

@@ -8,12 +8,15 @@ program_of-requires-clause-facts c = facts_fine c.args.image.now c.args.irq c.ar
 
 pub returns-clause-asked : goal.returns-clause-asked
 returns-clause-asked c =
-    ok_asked c.args.image.now c.args.irq c.args.hints.now c.in-Ok.reading c.in_ok-program.program c.in_ok-program.entry c.find_by.result c.in-Ok.ensures.read
-    (c.in_ok-program.ensures.program c.args.image.now c.args.irq c.in-Ok.ensures.read) c.in_ok-program.ensures.head c.in_ok-program.ensures.entry c.find_by.ensures.found
+    ok_asked c.args.image.now c.args.irq c.args.hints.now c.in-Ok.reading c.in_ok-program.program c.in_ok-program.entry c.find_by.result
+    c.in-Ok.ensures.read
+    (c.in_ok-program.ensures.program c.args.image.now c.args.irq c.in-Ok.ensures.read) c.in_ok-program.ensures.head
+    c.in_ok-program.ensures.entry c.find_by.ensures.found
 
 pub returns-clause-cause : goal.returns-clause-cause
 returns-clause-cause c =
-    err_cause c.args.image.now c.args.irq c.args.hints.now c.in_ok-program.program c.find_by.result (c.in_ok-program.ensures.program c.args.image.now c.args.irq c.in-Ok.ensures.read) c.find_by.ensures.cause
+    err_cause c.args.image.now c.args.irq c.args.hints.now c.in_ok-program.program c.find_by.result
+    (c.in_ok-program.ensures.program c.args.image.now c.args.irq c.in-Ok.ensures.read) c.find_by.ensures.cause
 
 pub returns-clause-hint : goal.returns-clause-hint
 returns-clause-hint c = λ index refused. absurd (no_hint c.in-Ok.reading index (c.in-Ok.ensures.exact index refused))
@@ -21,7 +24,9 @@ returns-clause-hint c = λ index refused. absurd (no_hint c.in-Ok.reading index 
 pub returns-clause-complete : goal.returns-clause-complete
 returns-clause-complete c =
     complete_answer c.args.image.now c.args.irq c.args.hints.now c.find_by.result
-    (err_cause c.args.image.now c.args.irq c.args.hints.now c.in_ok-program.program c.find_by.result (c.in_ok-program.ensures.program c.args.image.now c.args.irq c.in-Ok.ensures.read) c.find_by.ensures.cause)
+    (err_cause c.args.image.now c.args.irq c.args.hints.now c.in_ok-program.program c.find_by.result
+    (c.in_ok-program.ensures.program c.args.image.now c.args.irq c.in-Ok.ensures.read) c.find_by.ensures.cause)
 
 pub returns-in-Err-clause-complete : goal.returns-in-Err-clause-complete
-returns-in-Err-clause-complete c = complete_answer c.args.image.now c.args.irq c.args.hints.now (Err (Hint c.in-Err.index)) c.in-Err.ensures.refused
+returns-in-Err-clause-complete c = complete_answer c.args.image.now c.args.irq c.args.hints.now (Err (Hint c.in-Err.index))
+    c.in-Err.ensures.refused

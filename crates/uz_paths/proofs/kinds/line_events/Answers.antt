@@ -10,12 +10,15 @@ loop-clock-init c = begins c.args.marks.now c.args.line 1820 c.new-events.result
 pub loop-clock-preserved : goal.loop-clock-preserved
 loop-clock-preserved c =
     let within = c.loop-clock-test.true in
-    let is : c.push_event.new.events ≡ c.loop-clock.events ++ event_here c.loop-clock.clock (noted (slice_get c.args.marks.now (1820 * c.args.line + c.loop-clock.clock))) =
+    let is : c.push_event.new.events ≡ c.loop-clock.events ++ event_here c.loop-clock.clock
+    (noted (slice_get c.args.marks.now (1820 * c.args.line + c.loop-clock.clock))) =
     c.in_ok-push_event.ensures ∙ ap (λ o. c.loop-clock.events ++ event_here c.loop-clock.clock o) c.noted.ensures in
-    clock_more c.args.marks.now (1820 * c.args.line) c.loop-clock.clock (1820 - c.loop-clock.clock) (1820 - (c.loop-clock.clock + 1)) c.loop-clock.events c.push_event.new.events (omega arith) is
+    clock_more c.args.marks.now (1820 * c.args.line) c.loop-clock.clock (1820 - c.loop-clock.clock) (1820 - (c.loop-clock.clock + 1))
+    c.loop-clock.events c.push_event.new.events (omega arith) is
     ∙ c.loop-clock.invariant
 
 pub returns : goal.returns
 returns c =
     let past = c.loop-clock-test.false in
-    ends c.args.marks.now (1820 * c.args.line) c.loop-clock.clock (1820 - c.loop-clock.clock) c.loop-clock.events _ (omega arith) c.loop-clock.invariant
+    ends c.args.marks.now (1820 * c.args.line) c.loop-clock.clock (1820 - c.loop-clock.clock) c.loop-clock.events _ (omega arith)
+    c.loop-clock.invariant

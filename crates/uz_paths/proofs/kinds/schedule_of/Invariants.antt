@@ -11,5 +11,6 @@ invariant-loop-line l = record {
   few : length l.kinds.items ≤ l.line;
   apart : AreApart l.kinds.items;
   used : (i : ℕ) (kind : List Event) → slice_get l.kinds.items i ≡ Some kind → (j : ℕ) × (j < l.line) × (kind ≡ line_events l.marks j);
-  kind : (j : ℕ) → j < l.line → (n : ℕ) × (slice_get l.numbers.items j ≡ Some n) × (slice_get l.kinds.items n ≡ Some (line_events l.marks j));
+  kind : (j : ℕ) → j < l.line → (n : ℕ) × (slice_get l.numbers.items j ≡ Some n)
+      × (slice_get l.kinds.items n ≡ Some (line_events l.marks j));
 }

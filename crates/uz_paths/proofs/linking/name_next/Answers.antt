@@ -12,13 +12,16 @@ pub returns-then-next-clause-named : goal.returns-then-next-clause-named
 returns-then-next-clause-named c = λ on y there. absurd (let off = c.if-next.true in cc)
 
 pub name_all-requires-clause-nodes : goal.name_all-requires-clause-nodes
-name_all-requires-clause-nodes c = λ y there. c.requires.nodes c.if-next.false y (subst (λ (l : List Instance). Among l y) c.as_slice.ensures.value there)
+name_all-requires-clause-nodes c = λ y there. c.requires.nodes c.if-next.false y
+    (subst (λ (l : List Instance). Among l y) c.as_slice.ensures.value there)
 
 pub name_all-requires-clause-room : goal.name_all-requires-clause-room
 name_all-requires-clause-room c = let same = ap length c.as_slice.ensures.value in omega (arith, c.requires.room)
 
 pub returns-clause-more : goal.returns-clause-more
-returns-clause-more c = subst (λ (l : List Instance). NamesMore c.args.count (length l) c.args.names.now.items c.name_all.new.names.items) c.as_slice.ensures.value c.name_all.ensures.more
+returns-clause-more c = subst (λ (l : List Instance). NamesMore c.args.count (length l) c.args.names.now.items c.name_all.new.names.items)
+    c.as_slice.ensures.value c.name_all.ensures.more
 
 pub returns-clause-named : goal.returns-clause-named
-returns-clause-named c = λ on y there. c.name_all.ensures.named y (subst (λ (l : List Instance). Among l y) (sym c.as_slice.ensures.value) there)
+returns-clause-named c = λ on y there. c.name_all.ensures.named y (subst (λ (l : List Instance). Among l y) (sym c.as_slice.ensures.value)
+    there)

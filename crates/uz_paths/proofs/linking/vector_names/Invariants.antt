@@ -7,5 +7,6 @@ abbrev pub invariant-loop-c : goal.invariant-loop-c
 invariant-loop-c l = record {
   few : length l.names.items ≤ 2 * l.c;
   fits : NamesFit l.count l.names.items;
-  named : (j : ℕ) → j < l.c → NamesResults l.image l.program l.nodes.keys l.numbers (first_after l.program l.schedule l.rest j) l.names.items;
+  named : (j : ℕ) → j < l.c → NamesResults l.image l.program l.nodes.keys l.numbers (first_after l.program l.schedule l.rest j)
+      l.names.items;
 }

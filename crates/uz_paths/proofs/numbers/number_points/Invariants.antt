@@ -6,4 +6,5 @@ use Rattle.uz_paths.proofs.numbers.number_points.Given as goal
 
 -- those so far have their numbers and points
 abbrev pub invariant-loop-at : goal.invariant-loop-at
-invariant-loop-at l = AreNumbered (response_clocks l.response) (uniform l.order.count) l.rests (take l.at-index l.nodes) l.numbers.items l.points.items
+invariant-loop-at l = AreNumbered (response_clocks l.response) (uniform l.order.count) l.rests (take l.at-index l.nodes) l.numbers.items
+    l.points.items

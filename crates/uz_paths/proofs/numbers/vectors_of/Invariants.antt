@@ -6,4 +6,5 @@ use Rattle.uz_paths.proofs.numbers.vectors_of.Given as goal
 
 -- those so far have their vectors
 abbrev pub invariant-loop-rest : goal.invariant-loop-rest
-invariant-loop-rest l = ArePoints (response_clocks l.response) (uniform l.order.count) (take l.rest-index l.rests) [] [] l.rest-index l.points.items
+invariant-loop-rest l = ArePoints (response_clocks l.response) (uniform l.order.count) (take l.rest-index l.rests) [] [] l.rest-index
+    l.points.items

@@ -13,5 +13,7 @@ put_hint-requires c = fact_at c.args.hints.now c.loop-hint.hint-index (Start Mai
 
 pub loop-hint-preserved : goal.loop-hint-preserved
 loop-hint-preserved c = λ pc.
-    facts_more (hint_facts pc) (facts_for pc) (λ h hs. refl) c.args.hints.now c.loop-hint.hint-index (Start Main 0) (facts_in (get nat_cmp c.loop-hint.facts pc)) (facts_in (get nat_cmp c.put_hint.new.facts pc)) c.loop-hint-test.true (c.in_ok-put_hint.ensures pc)
+    facts_more (hint_facts pc) (facts_for pc) (λ h hs. refl) c.args.hints.now c.loop-hint.hint-index (Start Main 0)
+    (facts_in (get nat_cmp c.loop-hint.facts pc)) (facts_in (get nat_cmp c.put_hint.new.facts pc)) c.loop-hint-test.true
+    (c.in_ok-put_hint.ensures pc)
     ∙ c.loop-hint.invariant pc

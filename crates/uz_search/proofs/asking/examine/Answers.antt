@@ -1,6 +1,6 @@
 use Rattle.std.proofs.Common.{◌≡◌, ◌<◌, ℕ, Option, Result, Err, inr, sym, subst}
+use Rattle.std.specs.Prelude.{⊤}
 use Rattle.uz_transfer.specs.declared.fail.Fail.{Fail}
-use Rattle.uz_rules.specs.declared.next.Next.{Next}
 use Rattle.uz_search.specs.declared.asking.Stop.{Stop}
 use Rattle.uz_search.specs.declared.asking.Stop.TheVariants.{Stuck}
 use Rattle.uz_search.specs.Stuck.{StuckWith}
@@ -15,22 +15,23 @@ note_end-requires c = λ back end at0.
     let image = c.args.image.now in
     let program = c.args.program.now in
     let x = c.args.at.now in
-    let next = c.in-Ok.next in
+    let next = c.put_results.new.next in
     subst (λ n. end.line < n) (sym c.requires.lines)
-    (stands_next image program x c.requires.stands next (steps image program x next c.in-Ok.ensures) end (0, at0)).line
+    (stands_next image program x c.requires.stands next (steps image program x next c.in_default.ensures.ok) end (0, at0)).line
 
 pub returns-clause-ok : goal.returns-clause-ok
 returns-clause-ok c =
     let image = c.args.image.now in
     let program = c.args.program.now in
     let x = c.args.at.now in
-    let next = c.in-Ok.next in
+    let next = c.put_results.new.next in
     treats_from image program x c.args.by c.args.marks.now c.mark_way.new.marks c.args.returns.now c.note_end.new.returns next
-    c.requires.frame c.in-Ok.ensures (some_result image program x next (steps image program x next c.in-Ok.ensures) c.is_ordered.ensures)
-    c.in_default.ensures.none c.in_default-mark_way.ensures
+    c.requires.frame c.in_default.ensures.ok (some_result image program x next (steps image program x next c.in_default.ensures.ok)
+    c.is_ordered.ensures)
+    c.in_default-stuck.ensures.none c.in_default-mark_way.ensures
     (subst (λ (o : Option ℕ). NotesEnd next c.args.by c.args.returns.now o c.note_end.new.returns) c.in_default-2.is c.in_ok-other.ensures)
 
-why_is : (a b : Fail) → ◌≡◌ {A = Result Next Stop} (Err (Stuck a)) (Err (Stuck b)) → a ≡ b
+why_is : (a b : Fail) → ◌≡◌ {A = Result ⊤ Stop} (Err (Stuck a)) (Err (Stuck b)) → a ≡ b
 why_is a b e = cc
 
 pub returns-in-Some-clause-stuck : goal.returns-in-Some-clause-stuck
@@ -38,5 +39,5 @@ returns-in-Some-clause-stuck c = λ why e.
     let image = c.args.image.now in
     let program = c.args.program.now in
     let x = c.args.at.now in
-    let next = c.in-Ok.next in
-    inr (next, c.in-Ok.ensures, subst (StuckWith image program x next) (why_is c.in-Some.why why e) c.in-Some.ensures.some)
+    let next = c.put_results.new.next in
+    inr (next, c.in_default.ensures.ok, subst (StuckWith image program x next) (why_is c.in-Some.why why e) c.in-Some.ensures.some)

@@ -12,5 +12,7 @@ returns-in-Handler c =
     let apart : x.kind ≢ Main = λ main. ⊎_elim (λ h. cc (h, main)) (λ h. cc (h, main)) c.in-Handler.is in
     let most = c.most_clocks-most.ensures.clocks ∙ ap (most_clocks x) c.as_slice.ensures.value in
     way_from_all x next c.args.by c.args.marks.now c.mark_all.result c.mark_all.new.marks apart
-    (subst (λ (n : ℕ). MarksAll c.args.marks.now n (most_clocks x next.out.items) next.emit c.args.by c.mark_all.result c.mark_all.new.marks) c.place.ensures.value
-    (subst (λ (n : ℕ). MarksAll c.args.marks.now c.place.result n next.emit c.args.by c.mark_all.result c.mark_all.new.marks) most c.mark_all.ensures))
+    (subst (λ (n : ℕ). MarksAll c.args.marks.now n (most_clocks x next.out.items) next.emit c.args.by c.mark_all.result
+    c.mark_all.new.marks) c.place.ensures.value
+    (subst (λ (n : ℕ). MarksAll c.args.marks.now c.place.result n next.emit c.args.by c.mark_all.result c.mark_all.new.marks) most
+    c.mark_all.ensures))

@@ -13,7 +13,8 @@ each-preserved c =
     let k : ℕ = c.each.step + 1 in
     let one : MarksOne mid ((c.args.place + k) % length old) (shown_at c.args.emit k) c.args.by None new =
     subst (λ n. MarksOne mid ((c.args.place + k) % n) (shown_at c.args.emit k) c.args.by None new) c.each.auto.marks
-    (subst (λ (e : Option EventKind). MarksOne mid ((c.args.place + k) % length mid) e c.args.by None new) c.shown_after.ensures c.in_default.ensures) in
+    (subst (λ (e : Option EventKind). MarksOne mid ((c.args.place + k) % length mid) e c.args.by None new) c.shown_after.ensures
+    c.in_default.ensures) in
     let below : c.each.step < c.args.most = c.each-test.true in
     record {
       kept = λ x m h. one.0 x m (c.each.invariant.kept x m h);

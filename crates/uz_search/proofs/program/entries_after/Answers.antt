@@ -4,5 +4,9 @@ use Rattle.uz_search.proofs.program.entries_after.Goals as goal
 
 pub push_entries-requires : goal.push_entries-requires
 push_entries-requires c = record {
-  line = c.requires c.end-item.result (c.each.end-index, slice_get-get_or c.args.ends.now c.each.end-index c.end-item.result c.each-test.true ∙ ap Some (sym c.end-item.is));
+  line = c.requires c.end-item.result (
+    c.each.end-index,
+    slice_get-get_or c.args.ends.now c.each.end-index c.end-item.result
+        c.each-test.true ∙ ap Some (sym c.end-item.is),
+  );
 }

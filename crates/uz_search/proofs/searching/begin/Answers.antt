@@ -13,9 +13,11 @@ returns c = λ image.
     let parents = c.add_all.new.parents.items in
     search_begin image c.args.program.now items nodes parents c.in_ok-marks.marks.items c.in_ok-returns.returns.items
     (c.in_ok-starts.ensures ∙ c.as_slice.ensures)
-    (subst (λ (ps : List (Option ℕ)). (image : Flash) (program : Program) → IsTree image program [] ps → ComeFrom image program [] None items → AddsAll image program [] items nodes parents)
+    (subst (λ (ps : List (Option ℕ)). (image : Flash) (program : Program) → IsTree image program [] ps → ComeFrom image program [] None
+    items → AddsAll image program [] items nodes parents)
     c.new-parents.ensures.items
-    (subst (λ (ks : List Instance). (image : Flash) (program : Program) → IsTree image program ks c.new-parents.result.items → ComeFrom image program ks None items → AddsAll image program ks items nodes parents)
+    (subst (λ (ks : List Instance). (image : Flash) (program : Program) → IsTree image program ks c.new-parents.result.items
+    → ComeFrom image program ks None items → AddsAll image program ks items nodes parents)
     c.new-nodes.ensures.empty c.in_ok-add_all.ensures))
     (c.in_ok-marks.ensures ∙ ap (λ n. replicate n None) c.line_start.ensures.value)
     (c.in_ok-returns.ensures ∙ ap (λ n. replicate n None) c.from.ensures)

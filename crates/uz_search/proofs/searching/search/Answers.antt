@@ -9,7 +9,8 @@ use Rattle.uz_search.specs.Returning.{ReturnAt, SomeReturn}
 use Rattle.uz_search.specs.Refusing.{ClosedWithoutReturn}
 use Rattle.uz_search.proofs.TrailLaws.{closed_without, one_place}
 use Rattle.uz_search.proofs.searching.search.Goals as goal
-use Rattle.uz_search.proofs.searching.search.Goals.{else-starts_in_main-via-then-starts_in_main+else-is_without_return, else-starts_in_main-via-else-starts_in_main}
+use Rattle.uz_search.proofs.searching.search.Goals.{else-starts_in_main-via-then-starts_in_main+else-is_without_return}
+use Rattle.uz_search.proofs.searching.search.Goals.{else-starts_in_main-via-else-starts_in_main}
 
 pub returns-then-is_without_return-clause-refusal : goal.returns-then-is_without_return-clause-refusal
 returns-then-is_without_return-clause-refusal c =
@@ -29,5 +30,6 @@ returns-clause-returns c =
       | else-starts_in_main-via-then-starts_in_main+else-is_without_return w ↦
           subst SomeReturn w.as_slice-then-starts_in_main.ensures.value (w.is_without_return.ensures.some w.if-is_without_return.false)
       | else-starts_in_main-via-else-starts_in_main w ↦
-          absurd (c.starts_in_main.ensures.none w.if-starts_in_main.false x (subst (λ (l : List Instance). Among l x) (sym c.as_slice.ensures) there) main)
+          absurd (c.starts_in_main.ensures.none w.if-starts_in_main.false x
+          (subst (λ (l : List Instance). Among l x) (sym c.as_slice.ensures) there) main)
     ]

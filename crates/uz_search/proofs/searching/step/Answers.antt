@@ -13,14 +13,17 @@ returns-in-Err-clause-refusal c = λ limit.
     let program = c.args.program.now in
     let s = c.args.found.now in
     let x = c.copy_at-at.result in
-    let at : slice_get s.nodes.keys c.args.done ≡ Some x = ap (λ l. slice_get l c.args.done) (sym c.as_slice.ensures.keys) ∙ c.copy_at-at.ensures in
+    let at : slice_get s.nodes.keys c.args.done ≡ Some x = ap (λ l. slice_get l c.args.done) (sym c.as_slice.ensures.keys)
+    ∙ c.copy_at-at.ensures in
     let keys = c.as_slice-in-Err.ensures.keys in
     let parents = c.as_slice-in-Err-2.ensures.value in
     let tree = subst (λ k. IsTree image program k c.as_slice-in-Err-2.result.now) (sym keys)
     (subst (λ p. IsTree image program s.nodes.keys p) (sym parents) c.requires.so_far.tree) in
-    let holds = stop_holds image program s.nodes.keys s.parents.items s.marks.items c.as_mut_slice.result.now s.returns.items c.as_mut_slice-2.result.now c.args.done x c.in-Err.stop
+    let holds = stop_holds image program s.nodes.keys s.parents.items s.marks.items c.as_mut_slice.result.now s.returns.items
+    c.as_mut_slice-2.result.now c.args.done x c.in-Err.stop
     c.requires.so_far at c.as_mut_slice.ensures.value c.as_mut_slice-2.ensures.value c.in-Err.ensures.stuck c.in-Err.ensures.split in
-    c.refused.ensures image program limit x tree (ap (λ l. slice_get l c.args.done) keys ∙ at) (subst (λ k. StopHolds image program k x c.in-Err.stop) (sym keys) holds)
+    c.refused.ensures image program limit x tree (ap (λ l. slice_get l c.args.done) keys ∙ at)
+    (subst (λ k. StopHolds image program k x c.in-Err.stop) (sym keys) holds)
 
 pub returns-in_ok-add_all-in-Ok-clause-ok : goal.returns-in_ok-add_all-in-Ok-clause-ok
 returns-in_ok-add_all-in-Ok-clause-ok c =
@@ -28,10 +31,11 @@ returns-in_ok-add_all-in-Ok-clause-ok c =
     let program = c.args.program.now in
     let s = c.args.found.now in
     let x = c.copy_at-at.result in
-    let at : slice_get s.nodes.keys c.args.done ≡ Some x = ap (λ l. slice_get l c.args.done) (sym c.as_slice.ensures.keys) ∙ c.copy_at-at.ensures in
+    let at : slice_get s.nodes.keys c.args.done ≡ Some x = ap (λ l. slice_get l c.args.done) (sym c.as_slice.ensures.keys)
+    ∙ c.copy_at-at.ensures in
     search_step image program s.nodes.keys c.add_all.new.nodes.keys s.parents.items c.add_all.new.parents.items
     s.marks.items c.as_mut_slice.result.now c.examine.new.marks s.returns.items c.as_mut_slice-2.result.now c.examine.new.returns
-    s.marks.len s.returns.len c.args.done x c.in-Ok.next c.in_ok-follow-in-Ok.follow.items
+    s.marks.len s.returns.len c.args.done x c.examine.new.next c.in_ok-follow-in-Ok.follow.items
     c.requires.so_far at c.as_mut_slice.ensures.value c.as_mut_slice-2.ensures.value c.in-Ok.ensures.ok
     c.examine.auto.marks c.examine.auto.returns s.marks.ok.0 s.returns.ok.0 c.in_ok-follow-in-Ok.ensures c.in_ok-add_all-in-Ok.ensures
 
@@ -47,9 +51,11 @@ refused-requires-clause-other c = λ other is.
     let program = c.args.program.now in
     let s = c.args.found.now in
     let x = c.copy_at-at.result in
-    let at : slice_get s.nodes.keys c.args.done ≡ Some x = ap (λ l. slice_get l c.args.done) (sym c.as_slice.ensures.keys) ∙ c.copy_at-at.ensures in
+    let at : slice_get s.nodes.keys c.args.done ≡ Some x = ap (λ l. slice_get l c.args.done) (sym c.as_slice.ensures.keys)
+    ∙ c.copy_at-at.ensures in
     subst (λ k. other < length k) (sym c.as_slice-in-Err.ensures.keys)
-    (split_within image program s.nodes.keys s.parents.items s.marks.items c.as_mut_slice.result.now s.returns.items c.as_mut_slice-2.result.now c.args.done other x
+    (split_within image program s.nodes.keys s.parents.items s.marks.items c.as_mut_slice.result.now s.returns.items
+    c.as_mut_slice-2.result.now c.args.done other x
     c.requires.so_far at c.as_mut_slice.ensures.value c.as_mut_slice-2.ensures.value (c.in-Err.ensures.split other (λ i. Err (is i))))
 
 pub followers-requires : goal.followers-requires
@@ -58,7 +64,7 @@ followers-requires c = λ back y there.
     let program = c.args.program.now in
     let s = c.args.found.now in
     let x = c.copy_at-at.result in
-    let next = c.in-Ok.next in
+    let next = c.examine.new.next in
     let stands = stands_all image program s.nodes.keys s.parents.items c.requires.fits c.requires.so_far.tree x
     (c.args.done, ap (λ l. slice_get l c.args.done) (sym c.as_slice.ensures.keys) ∙ c.copy_at-at.ensures) in
     (stands_next image program x stands next (steps image program x next c.in-Ok.ensures.ok.after) y there).line

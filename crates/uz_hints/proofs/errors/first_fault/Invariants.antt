@@ -1,5 +1,5 @@
 use Rattle.uz_hints.specs.Faults.{FineBefore}
-use Rattle.uz_hints.proofs.faults.first_fault.Given as goal
+use Rattle.uz_hints.proofs.errors.first_fault.Given as goal
 
 -- nothing is at fault so far
 abbrev pub invariant-loop-i : goal.invariant-loop-i
