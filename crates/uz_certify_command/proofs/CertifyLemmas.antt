@@ -28,15 +28,17 @@ use Rattle.uz_files.specs.declared.status.Status.TheVariants.{Done, Unread, BadI
 use Rattle.uz_files.specs.Answers.{Answer, ComesOf, IsCut, NoPart, Outcome, Write, WritesAll, WritesPart, one_line, outside}
 use Rattle.uz_files.specs.Lines.{no_memory_line}
 use Rattle.uz_files.specs.Endings.{ComesOfFailure, EndsBy, answer_of}
-use Rattle.uz_files.specs.Reading.{Fails, Refuses, Says, Spells, text_limit}
-use Rattle.uz_files.specs.SourceFile.{output_of}
-use Rattle.uz_certify_command.specs.CertifyCommand.{Allowed, AllowedOf, CertifyAnswers, CertifyAnswersBy, CertifySucceeds, FilesCertify, IsCertified, IsCertifiedBy, certify_answer}
+use Rattle.uz_files.specs.Reading.{Fails, Says, text_limit}
+use Rattle.uz_certify_command.specs.CertifyCommand.{Allowed, AllowedOf, CertifyAnswers, CertifyAnswersBy, CertifySucceeds, FilesCertify}
+use Rattle.uz_certify_command.specs.CertifyCommand.{IsCertified, IsCertifiedBy, certify_answer}
 use Rattle.uz_certify_command.specs.CertifyValues.{IsFound, IsFoundIn, IsPair, IsPairOf, IsRefusal, both_files}
 use Rattle.uz_check_command.specs.CheckCommand.{accepted_line}
 use Rattle.uz_files.proofs.EndingLemmas.{comes_by, run_outcome}
 use Rattle.uz_files.proofs.ReadingLemmas.{ends_by}
-use Rattle.uz_files.proofs.ReadsLemmas.{fails_says, fails_status, is_reader, reads_or_fault, reads_same, says_same}
+use Rattle.uz_files.proofs.ReadsLemmas.{fails_says, fails_status, reads_or_fault, reads_same, says_same}
 use Rattle.uz_files.proofs.TextLemmas.{takes_none}
+use Rattle.avr_asm.specs.Relation.{IsAssembly}
+use Rattle.uz_files.specs.Formats.{Readings, RefusesSource}
 
 -- Lists of files
 
@@ -47,23 +49,31 @@ all_part files after (w ∷ ws) (mid, written, rest) = inr (inr (mid, written, a
 abbrev done_with : List Write → List ℕ → Answer
 done_with ws line = record { writes = ws; printed = []; status = Done; line = line }
 
-cut_all : (ws : List Write) (line further : List ℕ) (files after : Option FileMap) (old new : Option (List ℕ)) → WritesAll files ws after → IsCut (one_line Done line) further (outside after old) (outside after new) → IsCut (done_with ws line) further (outside files old) (outside after new)
+cut_all : (ws : List Write) (line further : List ℕ) (files after : Option FileMap) (old new : Option (List ℕ)) → WritesAll files ws after
+    → IsCut (one_line Done line) further (outside after old) (outside after new) → IsCut (done_with ws line) further (outside files old)
+    (outside after new)
 cut_all ws line further files after old new written (inl (same, text)) = inl (all_part files after ws written, text)
 cut_all ws line further files after old new written (inr (same, text)) = inr (written, text)
 
-comes_all : (ws : List Write) (line : List ℕ) (write_fault : Type 0) (came : Status) (files after : Option FileMap) (old new : Option (List ℕ)) → WritesAll files ws after → ComesOf (one_line Done line) write_fault came (outside after old) (outside after new) → ComesOf (done_with ws line) write_fault came (outside files old) (outside after new)
+comes_all : (ws : List Write) (line : List ℕ) (write_fault : Type 0) (came : Status) (files after : Option FileMap)
+    (old new : Option (List ℕ)) → WritesAll files ws after → ComesOf (one_line Done line) write_fault came (outside after old)
+    (outside after new) → ComesOf (done_with ws line) write_fault came (outside files old) (outside after new)
 comes_all ws line write_fault came files after old new written (inl ends) = inl (record {
   status = ends.status;
   files = written;
   done = ends.done;
+  whole = ends.whole;
   text = ends.text;
 })
-comes_all ws line write_fault came files after old new written (inr (inl (more, cut))) = inr (inl (inl refl, (cut.0, cut.1, cut_all ws line [] files after old new written cut.2)))
-comes_all ws line write_fault came files after old new written (inr (inr lacks)) = inr (inr (lacks.0, (lacks.1.0, cut_all ws line (take lacks.1.0 no_memory_line) files after old new written lacks.1.1)))
+comes_all ws line write_fault came files after old new written (inr (inl (more, cut))) =
+    inr (inl (inl refl, (cut.0, cut.1, cut_all ws line [] files after old new written cut.2)))
+comes_all ws line write_fault came files after old new written (inr (inr lacks)) =
+    inr (inr (lacks.0, (lacks.1.0, cut_all ws line (take lacks.1.0 no_memory_line) files after old new written lacks.1.1)))
 
 -- What the search gives
 
-pub found_pair : (image : Flash) (irq : Response) (hints : List SourceHint) (cert : Cert) (found : Found) → Allowed image irq hints (Ok cert) → IsPairOf image cert found → IsFound image irq hints found
+pub found_pair : (image : Flash) (irq : Response) (hints : List SourceHint) (cert : Cert) (found : Found) → Allowed image irq hints
+    (Ok cert) → IsPairOf image cert found → IsFound image irq hints found
 found_pair image irq hints cert (Pair hex text line) allowed is = record {
   cert = cert;
   allowed = allowed;
@@ -74,13 +84,16 @@ found_pair image irq hints cert (Pair hex text line) allowed is = record {
 }
 found_pair image irq hints cert (Refusal line) allowed is = absurd is
 
-same_pair : (name hex image text line : List ℕ) (flash : Flash) (cert : Cert) → image ≡ hex_text flash → text ≡ spelling cert → line ≡ accepted_line cert → done_with (both_files hex image name text) line ≡ certify_answer hex name flash (Ok cert)
+same_pair : (name hex image text line : List ℕ) (flash : Flash) (cert : Cert) → image ≡ hex_text flash → text ≡ spelling cert
+    → line ≡ accepted_line cert → done_with (both_files hex image name text) line ≡ certify_answer hex name flash (Ok cert)
 same_pair name hex image text line flash cert is_hex is_text is_line =
     ap (λ b. done_with (both_files hex b name text) line) is_hex
     ∙ ap (λ t. done_with (both_files hex (hex_text flash) name t) line) is_text
     ∙ ap (done_with (both_files hex (hex_text flash) name (spelling cert))) is_line
 
-pub found_in : (files : Option FileMap) (source : List ℕ) (irq : Response) (built : Built) (r : Result Found Failure) → Says files source text_limit (Spells output_of) (seen_built built) → IfOk r (IsFound built.image irq built.hints.items) → IfOk r (IsFoundIn files source irq)
+pub found_in : (files : Option FileMap) (source : List ℕ) (irq : Response) (built : Built) (r : Result Found Failure) → Says files source
+    text_limit IsAssembly (seen_built built) → IfOk r (IsFound built.image irq built.hints.items)
+    → IfOk r (IsFoundIn files source irq)
 found_in files source irq built (Ok found) says is = record {
   output = seen_built built;
   spelled = says;
@@ -88,20 +101,35 @@ found_in files source irq built (Ok found) says is = record {
 }
 found_in files source irq built (Err failure) says is = tt
 
-module _ (files mid after : Option FileMap) (load_fault : Type 0) (source : List ℕ) (irq : Response) (hex name image text line : List ℕ) (came : Status) (same : mid ≡ files) (output : Output) (spelled : Says files source text_limit (Spells output_of) output) (pair : IsPair output.image irq output.hints image text line) where
+module _ (files mid after : Option FileMap) (load_fault : Type 0) (source : List ℕ) (irq : Response) (hex name image text line : List ℕ)
+    (came : Status) (same : mid ≡ files) (output : Output) (spelled : Says files source text_limit IsAssembly output)
+    (pair : IsPair output.image irq output.hints image text line) where
   is_answer : CertifyAnswers files load_fault source irq hex name (done_with (both_files hex image name text) line)
-  is_answer = inr (output, spelled, (Ok pair.cert, pair.allowed, same_pair name hex image text line output.image pair.cert pair.is_hex pair.is_text pair.is_line))
+  is_answer = inr (
+    output,
+    spelled,
+    (
+      Ok pair.cert,
+      pair.allowed,
+      same_pair name hex image text line output.image pair.cert pair.is_hex
+          pair.is_text pair.is_line,
+    ),
+  )
 
-  pub certify_done : (narrow wide : Type 0) (old new : Option (List ℕ)) → (narrow → wide) → WritesAll mid (both_files hex image name text) after → ((f : Option FileMap) → ComesOf (one_line Done line) narrow came (outside f old) (outside f new)) → Outcome (CertifyAnswers files load_fault source irq hex name) NoPart wide came (outside files old) (outside after new)
+  pub certify_done : (narrow wide : Type 0) (old new : Option (List ℕ)) → (narrow → wide) → WritesAll mid (both_files hex image name text)
+      after → ((f : Option FileMap) → ComesOf (one_line Done line) narrow came (outside f old) (outside f new))
+      → Outcome (CertifyAnswers files load_fault source irq hex name) NoPart wide came (outside files old) (outside after new)
   certify_done narrow wide old new widen written comes =
       inr (inl (
         done_with (both_files hex image name text) line,
         is_answer,
         comes_by (done_with (both_files hex image name text) line) came narrow wide (outside files old) (outside after new) widen
-            (comes_all (both_files hex image name text) line narrow came files after old new (subst (λ f. WritesAll f (both_files hex image name text) after) same written) (comes after)),
+            (comes_all (both_files hex image name text) line narrow came files after old new
+            (subst (λ f. WritesAll f (both_files hex image name text) after) same written) (comes after)),
       ))
 
-  pub certify_worth : ((image : Flash) (cert : Cert) → WellFormed cert → Accepts image cert → Certified image cert) → ((cert : Cert) → WellFormed cert → IsCertificateText (spelling cert) cert)
+  pub certify_worth : ((image : Flash) (cert : Cert) → WellFormed cert → Accepts image cert → Certified image cert)
+      → ((cert : Cert) → WellFormed cert → IsCertificateText (spelling cert) cert)
       → hex ≢ name → WritesAll mid (both_files hex image name text) after → FilesCertify files after source irq hex name
   certify_worth sound texts apart (first, wrote, (last, written, end)) = record {
     output = output;
@@ -109,7 +137,8 @@ module _ (files mid after : Option FileMap) (load_fault : Type 0) (source : List
     certificate = pair.cert;
     asked = pair.allowed.2;
     image_text = image;
-    holds_image = subst (λ f. HoldsFile f hex image) (sym end) (holds_after first last hex image name text apart (holds_written mid first hex image wrote) written);
+    holds_image = subst (λ f. HoldsFile f hex image) (sym end) (holds_after first last hex image name text apart
+        (holds_written mid first hex image wrote) written);
     is_hex = pair.reads_back;
     certificate_text = text;
     holds_certificate = subst (λ f. HoldsFile f name text) (sym end) (holds_written first last name text written);
@@ -118,15 +147,29 @@ module _ (files mid after : Option FileMap) (load_fault : Type 0) (source : List
     certified = sound output.image pair.cert pair.allowed.0 pair.allowed.1;
   }
 
-  pub certify_unwritten : (wide : Type 0) (text_out : Option (List ℕ)) → wide → came ≡ Unwritten → WritesPart mid (both_files hex image name text) after → Outcome (CertifyAnswers files load_fault source irq hex name) NoPart wide came (outside files text_out) (outside after text_out)
+  pub certify_unwritten : (wide : Type 0) (text_out : Option (List ℕ)) → wide → came ≡ Unwritten → WritesPart mid
+      (both_files hex image name text) after → Outcome (CertifyAnswers files load_fault source irq hex name) NoPart wide came
+      (outside files text_out) (outside after text_out)
   certify_unwritten wide text_out fault is part =
       inr (inl (
         done_with (both_files hex image name text) line,
         is_answer,
-        inr (inl (inl refl, (is, fault, inl (subst (λ f. WritesPart f (both_files hex image name text) after) same part, takes_none text_out)))),
+        inr (inl (
+          inl refl,
+          (
+            is,
+            fault,
+            inl (
+              subst (λ f. WritesPart f (both_files hex image name text) after) same part,
+              takes_none text_out,
+            ),
+          ),
+        )),
       ))
 
-  pub certify_lacks : (wide : Type 0) (old new : Option (List ℕ)) → came ≡ NoMemory → TakesPrefix old no_memory_line new → WritesPart mid (both_files hex image name text) after → Outcome (CertifyAnswers files load_fault source irq hex name) NoPart wide came (outside files old) (outside after new)
+  pub certify_lacks : (wide : Type 0) (old new : Option (List ℕ)) → came ≡ NoMemory → TakesPrefix old no_memory_line new → WritesPart mid
+      (both_files hex image name text) after → Outcome (CertifyAnswers files load_fault source irq hex name) NoPart wide came
+      (outside files old) (outside after new)
   certify_lacks wide old new is said part =
       inr (inl (
         done_with (both_files hex image name text) line,
@@ -135,30 +178,52 @@ module _ (files mid after : Option FileMap) (load_fault : Type 0) (source : List
       ))
 
 -- no certificate is found
-pub certify_refused : (files after : Option FileMap) (load_fault narrow wide : Type 0) (source : List ℕ) (irq : Response) (hex name : List ℕ) (ending : Ending) (came : Status) (old new : Option (List ℕ)) → after ≡ files → (narrow → wide)
-    → (output : Output) → Says files source text_limit (Spells output_of) output → IsRefusal output.image irq output.hints ending.line.items → ending.status ≡ Refused
-    → ((f : Option FileMap) → ComesOf (answer_of ending) narrow came (outside f old) (outside f new)) → Outcome (CertifyAnswers files load_fault source irq hex name) NoPart wide came (outside files old) (outside after new)
+pub certify_refused : (files after : Option FileMap) (load_fault narrow wide : Type 0) (source : List ℕ) (irq : Response)
+    (hex name : List ℕ) (ending : Ending) (came : Status) (old new : Option (List ℕ)) → after ≡ files → (narrow → wide)
+    → (output : Output) → Says files source text_limit IsAssembly output → IsRefusal output.image irq output.hints ending.line.items
+    → ending.status ≡ Refused
+    → ((f : Option FileMap) → ComesOf (answer_of ending) narrow came (outside f old) (outside f new))
+    → Outcome (CertifyAnswers files load_fault source irq hex name) NoPart wide came (outside files old) (outside after new)
 certify_refused files after load_fault narrow wide source irq hex name ending came old new same widen output spelled refusal is comes =
     run_outcome (CertifyAnswers files load_fault source irq hex name) NoPart (Ok ending) came narrow wide files after old new widen same
-    (inr (output, spelled, (Err refusal.why, refusal.allowed, ap (λ s. one_line s ending.line.items) is ∙ ap (one_line Refused) refusal.is_line))) comes
+    (inr (
+      output,
+      spelled,
+      (
+        Err refusal.why,
+        refusal.allowed,
+        ap (λ s. one_line s ending.line.items) is ∙ ap (one_line Refused)
+            refusal.is_line,
+      ),
+    )) comes
 
 -- a file ends the command
-pub certify_failed : (files after : Option FileMap) (load_fault narrow wide : Type 0) (source : List ℕ) (irq : Response) (hex name : List ℕ) (failure : Failure) (came : Status) (old new : Option (List ℕ)) → after ≡ files → (narrow → wide) → EndsBy (Fails files load_fault source text_limit (Refuses output_of)) failure → ((f : Option FileMap) → ComesOfFailure failure narrow came (outside f old) (outside f new)) → Outcome (CertifyAnswers files load_fault source irq hex name) NoPart wide came (outside files old) (outside after new)
+pub certify_failed : (files after : Option FileMap) (load_fault narrow wide : Type 0) (source : List ℕ) (irq : Response) (hex name : List ℕ)
+    (failure : Failure) (came : Status) (old new : Option (List ℕ)) → after ≡ files → (narrow → wide)
+    → EndsBy (Fails files load_fault source text_limit RefusesSource) failure
+    → ((f : Option FileMap) → ComesOfFailure failure narrow came (outside f old) (outside f new))
+    → Outcome (CertifyAnswers files load_fault source irq hex name) NoPart wide came (outside files old) (outside after new)
 certify_failed files after load_fault narrow wide source irq hex name failure came old new same widen given comes =
     run_outcome (CertifyAnswers files load_fault source irq hex name) NoPart (Err failure) came narrow wide files after old new widen same
-    (ends_by (Fails files load_fault source text_limit (Refuses output_of)) (CertifyAnswers files load_fault source irq hex name) failure (λ answer h. inl h) given) comes
+    (ends_by (Fails files load_fault source text_limit RefusesSource) (CertifyAnswers files load_fault source irq hex name) failure
+    (λ answer h. inl h) given) comes
 
 -- the statuses of `certify`, and the cause of Unread
-pub certify_status : (files : Option FileMap) (load_fault : Type 0) (source : List ℕ) (irq : Response) (hex name : List ℕ) (answer : Answer) → CertifyAnswers files load_fault source irq hex name answer → ((answer.status ≡ Unread) × (load_fault ⊎ LacksFile files source)) ⊎ ((answer.status ≡ BadInput) ⊎ ((answer.status ≡ Refused) ⊎ (answer.status ≡ Done)))
+pub certify_status : (files : Option FileMap) (load_fault : Type 0) (source : List ℕ) (irq : Response) (hex name : List ℕ) (answer : Answer)
+    → CertifyAnswers files load_fault source irq hex name answer → ((answer.status ≡ Unread) × (load_fault ⊎ LacksFile files source))
+    ⊎ ((answer.status ≡ BadInput) ⊎ ((answer.status ≡ Refused) ⊎ (answer.status ≡ Done)))
 certify_status files load_fault source irq hex name answer (inl fails) =
-    elim (fails_status files load_fault source text_limit (Refuses output_of) answer fails) [
+    elim (fails_status files load_fault source text_limit RefusesSource answer fails) [
       | inl unread ↦ inl unread
       | inr bad ↦ inr (inl bad)
     ]
-certify_status files load_fault source irq hex name answer (inr (output, says, (Ok cert, allowed, is))) = inr (inr (inr (ap (λ a. a.status) is)))
-certify_status files load_fault source irq hex name answer (inr (output, says, (Err why, allowed, is))) = inr (inr (inl (ap (λ a. a.status) is)))
+certify_status files load_fault source irq hex name answer (inr (output, says, (Ok cert, allowed, is))) =
+    inr (inr (inr (ap (λ a. a.status) is)))
+certify_status files load_fault source irq hex name answer (inr (output, says, (Err why, allowed, is))) =
+    inr (inr (inl (ap (λ a. a.status) is)))
 
-refusal_not_memory : (image : Flash) (irq : Response) (hints : List SourceHint) (e : NotFound) → Allowed image irq hints (Err e) → e ≢ NoRoomToSearch
+refusal_not_memory : (image : Flash) (irq : Response) (hints : List SourceHint) (e : NotFound) → Allowed image irq hints (Err e)
+    → e ≢ NoRoomToSearch
 refusal_not_memory image irq hints (Stuck trail why) allowed is = absurd (cc is)
 refusal_not_memory image irq hints (Split first second) allowed is = absurd (cc is)
 refusal_not_memory image irq hints (Full count) allowed is = absurd (cc is)
@@ -166,7 +231,8 @@ refusal_not_memory image irq hints (Hint index) allowed is = absurd (cc is)
 refusal_not_memory image irq hints (NoRest count) allowed is = absurd (cc is)
 refusal_not_memory image irq hints NoRoomToSearch allowed is = absurd allowed
 
-refusal_cause : (image : Flash) (irq : Response) (hints : List SourceHint) (e : NotFound) → Allowed image irq hints (Err e) → Cause image irq hints e
+refusal_cause : (image : Flash) (irq : Response) (hints : List SourceHint) (e : NotFound) → Allowed image irq hints (Err e)
+    → Cause image irq hints e
 refusal_cause image irq hints (Stuck trail why) allowed = allowed
 refusal_cause image irq hints (Split first second) allowed = allowed
 refusal_cause image irq hints (Full count) allowed = allowed
@@ -175,19 +241,29 @@ refusal_cause image irq hints (NoRest count) allowed = allowed
 refusal_cause image irq hints NoRoomToSearch allowed = absurd allowed
 
 -- where all is well each answer is done, unless loading met a fault
-pub certify_always : (files : FileMap) (load_fault : Type 0) (source : List ℕ) (irq : Response) (hex name : List ℕ) → CertifySucceeds (Some files) source irq → (load_fault → ⊥) → (answer : Answer) → CertifyAnswers (Some files) load_fault source irq hex name answer → answer.status ≡ Done
-certify_always files load_fault source irq hex name well loads answer (inl fails) =
-    absurd (loads (fails_says files load_fault source text_limit (Spells output_of) (Refuses output_of) (is_reader output_of) load_fault answer well.output fails well.spelled))
-certify_always files load_fault source irq hex name well loads answer (inr (output, says, (Ok cert, allowed, is))) = ap (λ a. a.status) is
-certify_always files load_fault source irq hex name well loads answer (inr (output, says, (Err why, allowed, is))) =
-    let same : output ≡ well.output = says_same files load_fault source text_limit (Spells output_of) (Refuses output_of) (is_reader output_of) output well.output says well.spelled in
+pub certify_always : (readings : Readings) (files : FileMap) (load_fault : Type 0) (source : List ℕ) (irq : Response)
+    (hex name : List ℕ) → CertifySucceeds
+    (Some files) source irq → (load_fault → ⊥) → (answer : Answer) → CertifyAnswers (Some files) load_fault source irq hex name answer
+    → answer.status ≡ Done
+certify_always readings files load_fault source irq hex name well loads answer (inl fails) =
+    absurd (loads (fails_says files load_fault source text_limit IsAssembly RefusesSource readings.source load_fault
+    answer well.output fails well.spelled))
+certify_always readings files load_fault source irq hex name well loads answer (inr (output, says, (Ok cert, allowed, is))) =
+    ap (λ a. a.status) is
+certify_always readings files load_fault source irq hex name well loads answer (inr (output, says, (Err why, allowed, is))) =
+    let same : output ≡ well.output = says_same files load_fault source text_limit IsAssembly RefusesSource
+    readings.source output well.output says well.spelled in
     let refusal = subst (λ (o : Output). Allowed o.image irq o.hints (Err why)) same allowed in
-    absurd (well.free why (refusal_not_memory well.output.image irq well.output.hints why refusal) (refusal_cause well.output.image irq well.output.hints why refusal))
+    absurd (well.free why (refusal_not_memory well.output.image irq well.output.hints why refusal)
+    (refusal_cause well.output.image irq well.output.hints why refusal))
 
 -- loading met a fault, or none is needed for the answer
-pub certify_or_fault : (files : Option FileMap) (load_fault : Type 0) (source : List ℕ) (irq : Response) (hex name : List ℕ) (answer : Answer) → CertifyAnswers files load_fault source irq hex name answer → load_fault ⊎ CertifyAnswers files ⊥ source irq hex name answer
+pub certify_or_fault : (files : Option FileMap) (load_fault : Type 0) (source : List ℕ) (irq : Response) (hex name : List ℕ)
+    (answer : Answer) → CertifyAnswers files load_fault source irq hex name answer → load_fault ⊎ CertifyAnswers files ⊥ source irq hex name
+    answer
 certify_or_fault files load_fault source irq hex name answer h =
-    reads_or_fault files load_fault source text_limit (Spells output_of) (Refuses output_of) (IsCertified irq hex name) (IsCertified irq hex name) answer (λ output h. inr h) h
+    reads_or_fault files load_fault source text_limit IsAssembly RefusesSource (IsCertified irq hex name)
+    (IsCertified irq hex name) answer (λ output h. inr h) h
 
 -- A shelf that tells its files and what the search answered give one answer
 
@@ -200,22 +276,28 @@ one_of : {A : Type 0} → A ⊎ ⊥ → A
 one_of (inl a) = a
 one_of (inr none) = absurd none
 
-module _ (files : FileMap) (source hex name : List ℕ) (answer wanted : Answer) (found : Result Cert NotFound) where
-  same_by : CertifyAnswersBy (Some files) source hex name found answer → CertifyAnswersBy (Some files) source hex name found wanted → answer ≡ wanted
+module _ (readings : Readings) (files : FileMap) (source hex name : List ℕ) (answer wanted : Answer) (found : Result Cert NotFound) where
+  same_by : CertifyAnswersBy (Some files) source hex name found answer → CertifyAnswersBy (Some files) source hex name found wanted
+      → answer ≡ wanted
   same_by p q =
-      one_of (reads_same files ⊥ source text_limit (Spells output_of) (Refuses output_of) (is_reader output_of) (IsCertifiedBy hex name found) (IsCertifiedBy hex name found) answer wanted
+      one_of (reads_same files ⊥ source text_limit IsAssembly RefusesSource readings.source
+      (IsCertifiedBy hex name found) (IsCertifiedBy hex name found) answer wanted
       (λ output x y. inl (x ∙ sym y)) p q)
 
-pub certify_decided : (files : FileMap) (source : List ℕ) (irq : Response) (hex name : List ℕ) (answer : Answer) → CertifyAnswers (Some files) ⊥ source irq hex name answer → CertifyDecided files source irq hex name answer
-certify_decided files source irq hex name answer (inl fails) = record {
+pub certify_decided : (readings : Readings) (files : FileMap) (source : List ℕ) (irq : Response) (hex name : List ℕ) (answer : Answer)
+    → CertifyAnswers
+    (Some files) ⊥ source irq hex name answer → CertifyDecided files source irq hex name answer
+certify_decided readings files source irq hex name answer (inl fails) = record {
   found = Err NoRoomToSearch;
-  allowed = λ output says. fails_says files ⊥ source text_limit (Spells output_of) (Refuses output_of) (is_reader output_of) ⊥ answer output fails says;
-  decided = λ wanted q. same_by files source hex name answer wanted (Err NoRoomToSearch) (inl fails) q;
+  allowed = λ output says. fails_says files ⊥ source text_limit IsAssembly RefusesSource readings.source ⊥ answer output
+      fails says;
+  decided = λ wanted q. same_by readings files source hex name answer wanted (Err NoRoomToSearch) (inl fails) q;
 }
-certify_decided files source irq hex name answer (inr (output, says, (found, allowed, is))) = record {
+certify_decided readings files source irq hex name answer (inr (output, says, (found, allowed, is))) = record {
   found = found;
   allowed = λ other spelled.
-      let same : output ≡ other = says_same files ⊥ source text_limit (Spells output_of) (Refuses output_of) (is_reader output_of) output other says spelled in
+      let same : output ≡ other = says_same files ⊥ source text_limit IsAssembly RefusesSource readings.source output
+      other says spelled in
       subst (λ (o : Output). Allowed o.image irq o.hints found) same allowed;
-  decided = λ wanted q. same_by files source hex name answer wanted found (inr (output, says, is)) q;
+  decided = λ wanted q. same_by readings files source hex name answer wanted found (inr (output, says, is)) q;
 }

@@ -1,7 +1,9 @@
 -- `certify SRC IRQ HEX CERT`: the source is read and assembled, a certificate is searched by its hints, the HEX text of the image and then
--- the certificate are written, and a line tells the lines and clocks of the frame. What the search answers is taken as it comes: no definition
+-- the certificate are written, and a line tells the lines and clocks of the frame. What the search answers is taken as it comes: no
+-- definition
 -- computes it, but it comes only as its promise allows.
-use Rattle.std.specs.Prelude.{◌≡◌, ◌≢◌, ℕ, ◌-◌, List, [], ◌∷◌, ◌++◌, length, codes, decimal, slice_get, Option, option_map, unwrap_or, Result, Ok, Err}
+use Rattle.std.specs.Prelude.{◌≡◌, ◌≢◌, ℕ, ◌-◌, List, [], ◌∷◌, ◌++◌, length, codes, decimal, slice_get, Option, option_map, unwrap_or}
+use Rattle.std.specs.Prelude.{Result, Ok, Err}
 use Rattle.uz_shelf.specs.Files.{FileMap, HoldsFile}
 use Rattle.uz_hex.specs.HexText.{IsHexOf}
 use Rattle.uz_cert.specs.Texts.{IsCertificateText}
@@ -23,9 +25,10 @@ use Rattle.uz_files.specs.declared.status.Status.TheVariants.{Done, Refused}
 use Rattle.uz_files.specs.Answers.{Answer, Write, one_line}
 use Rattle.uz_files.specs.Writing.{hex_file}
 use Rattle.uz_check_command.specs.CheckCommand.{accepted_line, fail_name}
-use Rattle.uz_files.specs.Lines.{hex_word}
-use Rattle.uz_files.specs.Reading.{Reads, Refuses, Says, Spells, text_limit}
-use Rattle.uz_files.specs.SourceFile.{output_of}
+use Rattle.uz_text.specs.Hexadecimals.{hex_word}
+use Rattle.uz_files.specs.Reading.{Reads, Says, text_limit}
+use Rattle.avr_asm.specs.Relation.{IsAssembly}
+use Rattle.uz_files.specs.Formats.{RefusesSource}
 
 -- Lines
 
@@ -45,11 +48,13 @@ last_clock trail = unwrap_or (option_map (λ x. x.clock) (last_of trail)) 0
 -- the places and start clocks are those of the trails' last instances
 abbrev pub stuck_line : List Instance → Fail → List ℕ
 stuck_line trail why =
-    codes "refused stuck pc 0x" ++ hex_word (last_pc trail) ++ codes " line " ++ decimal (last_line trail) ++ codes " clock " ++ decimal (last_clock trail) ++ codes " " ++ fail_name why ++ codes "\n"
+    codes "refused stuck pc 0x" ++ hex_word (last_pc trail) ++ codes " line " ++ decimal (last_line trail) ++ codes " clock "
+    ++ decimal (last_clock trail) ++ codes " " ++ fail_name why ++ codes "\n"
 
 abbrev pub split_line : List Instance → List Instance → List ℕ
 split_line first second =
-    codes "refused split line " ++ decimal (last_line first) ++ codes " clock " ++ decimal (last_clock first) ++ codes " and clock " ++ decimal (last_clock second) ++ codes "\n"
+    codes "refused split line " ++ decimal (last_line first) ++ codes " clock " ++ decimal (last_clock first) ++ codes " and clock "
+    ++ decimal (last_clock second) ++ codes "\n"
 
 abbrev pub number_line : List ℕ → ℕ → List ℕ
 number_line begin number = begin ++ decimal number ++ codes "\n"
@@ -76,7 +81,12 @@ cert_file name cert = record { name = name; bytes = spelling cert }
 
 -- both files are written, HEX before CERT, and then one line is printed; or one line tells why no certificate is found
 abbrev pub certify_answer : List ℕ → List ℕ → Flash → Result Cert NotFound → Answer
-certify_answer hex name image (Ok cert) = record { writes = hex_file hex image ∷ cert_file name cert ∷ []; printed = []; status = Done; line = accepted_line cert }
+certify_answer hex name image (Ok cert) = record {
+  writes = hex_file hex image ∷ cert_file name cert ∷ [];
+  printed = [];
+  status = Done;
+  line = accepted_line cert;
+}
 certify_answer hex name image (Err e) = one_line Refused (not_found_line e)
 
 -- once the source is read
@@ -85,7 +95,8 @@ IsCertified irq hex name output answer =
     (found : Result Cert NotFound) × Allowed output.image irq output.hints found × (answer ≡ certify_answer hex name output.image found)
 
 abbrev pub CertifyAnswers : Option FileMap → Type 0 → List ℕ → Response → List ℕ → List ℕ → Answer → Type 0
-CertifyAnswers files load_fault source irq hex name = Reads files load_fault source text_limit (Spells output_of) (Refuses output_of) (IsCertified irq hex name)
+CertifyAnswers files load_fault source irq hex name = Reads files load_fault source text_limit IsAssembly RefusesSource
+    (IsCertified irq hex name)
 
 -- The same with the search's answer as data: files and printed bytes are a function of the source and of what the search answers
 
@@ -93,18 +104,22 @@ abbrev pub IsCertifiedBy : List ℕ → List ℕ → Result Cert NotFound → Ou
 IsCertifiedBy hex name found output answer = answer ≡ certify_answer hex name output.image found
 
 abbrev pub CertifyAnswersBy : Option FileMap → List ℕ → List ℕ → List ℕ → Result Cert NotFound → Answer → Type 0
-CertifyAnswersBy files source hex name found = Reads files ⊥ source text_limit (Spells output_of) (Refuses output_of) (IsCertifiedBy hex name found)
+CertifyAnswersBy files source hex name found = Reads files ⊥ source text_limit IsAssembly RefusesSource
+    (IsCertifiedBy hex name found)
 
 -- where the source is read, this is what the search's promise allows of it
 abbrev pub AllowedOf : Option FileMap → List ℕ → Response → Result Cert NotFound → Type 0
-AllowedOf files source irq found = (output : Output) → Says files source text_limit (Spells output_of) output → Allowed output.image irq output.hints found
+AllowedOf files source irq found = (output : Output) → Says files source text_limit IsAssembly output → Allowed output.image irq
+    output.hints found
 
--- What a `certify` that is done is worth. The source is assembled; HEX holds Intel HEX of its image, and CERT the text of a certificate with
--- what the hints ask for; the pair is accepted, and from every state that meets the certificate's entry condition, for every list of pads and
+-- What a `certify` that is done is worth. The source is assembled; HEX holds Intel HEX of its image, and CERT the text of a certificate
+-- with
+-- what the hints ask for; the pair is accepted, and from every state that meets the certificate's entry condition, for every list of pads
+-- and
 -- every number of clocks, the machine with that image keeps to the certificate's schedule
 pub record FilesCertify (old new : Option FileMap) (source : List ℕ) (irq : Response) (hex cert : List ℕ) : Type 0 where
   pub output : Output
-  pub spelled : Says old source text_limit (Spells output_of) output
+  pub spelled : Says old source text_limit IsAssembly output
   pub certificate : Cert
   pub asked : IsAsked output.image irq output.hints certificate
   pub image_text : List ℕ
@@ -119,5 +134,5 @@ pub record FilesCertify (old new : Option FileMap) (source : List ℕ) (irq : Re
 -- the source is within its limit, it has an assembly, and the cause of no refusal stands
 pub record CertifySucceeds (files : Option FileMap) (source : List ℕ) (irq : Response) : Type 0 where
   pub output : Output
-  pub spelled : Says files source text_limit (Spells output_of) output
+  pub spelled : Says files source text_limit IsAssembly output
   pub free : (e : NotFound) → e ≢ Memory → Cause output.image irq output.hints e → ⊥

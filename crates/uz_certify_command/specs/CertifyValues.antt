@@ -15,8 +15,8 @@ use Rattle.uz_certify_command.specs.declared.certify_command.Found.TheVariants.{
 use Rattle.uz_files.specs.Answers.{Write}
 use Rattle.uz_certify_command.specs.CertifyCommand.{Allowed, not_found_line}
 use Rattle.uz_check_command.specs.CheckCommand.{accepted_line}
-use Rattle.uz_files.specs.Reading.{Says, Spells, text_limit}
-use Rattle.uz_files.specs.SourceFile.{output_of}
+use Rattle.uz_files.specs.Reading.{Says, text_limit}
+use Rattle.avr_asm.specs.Relation.{IsAssembly}
 
 -- HEX, and then CERT
 abbrev pub both_files : List ℕ → List ℕ → List ℕ → List ℕ → List Write
@@ -24,7 +24,8 @@ both_files hex image name text = record { name = hex; bytes = image } ∷ record
 
 -- what is to be written and printed of a certificate
 abbrev pub IsPairOf : Flash → Cert → Found → Type 0
-IsPairOf image cert (Pair hex text line) = (hex.items ≡ hex_text image) × IsHexOf hex.items image × (text.items ≡ spelling cert) × (line.items ≡ accepted_line cert)
+IsPairOf image cert (Pair hex text line) = (hex.items ≡ hex_text image) × IsHexOf hex.items image × (text.items ≡ spelling cert)
+    × (line.items ≡ accepted_line cert)
 IsPairOf image cert (Refusal line) = ⊥
 
 -- what is to be written and printed of an answer of the search
@@ -48,5 +49,5 @@ IsFound image irq hints (Refusal line) = IsRefusal image irq hints line.items
 -- of the source in this file
 pub record IsFoundIn (files : Option FileMap) (source : List ℕ) (irq : Response) (found : Found) : Type 0 where
   pub output : Output
-  pub spelled : Says files source text_limit (Spells output_of) output
+  pub spelled : Says files source text_limit IsAssembly output
   pub is : IsFound output.image irq output.hints found

@@ -7,8 +7,8 @@ ghost use Rattle.uz_certify_command.specs.CertifyCommand.{CertifyAnswers, FilesC
 ghost use Rattle.uz_schedule.specs.WellFormed.{WellFormed};
 ghost use Rattle.uz_certify_command.specs.CertifyValues.{IsFound, IsFoundIn, IsPairOf, both_files};
 ghost use Rattle.uz_files.specs.Endings.{EndsBy};
-ghost use Rattle.uz_files.specs.Reading.{Fails, Refuses, text_limit};
-ghost use Rattle.uz_files.specs.SourceFile.{output_of};
+ghost use Rattle.uz_files.specs.Reading.{Fails, text_limit};
+ghost use Rattle.uz_files.specs.Formats.{RefusesSource};
 
 use crate::certify_lines::not_found;
 use avr_asm::Built;
@@ -82,7 +82,7 @@ fn prepare<H: Shelf>(
     irq: Response,
 ) -> Result<Found, Failure>
     ensures found { IfOk result (IsFoundIn (H.files shelf.old) source.now irq) }
-    ensures fails { IfErr result (EndsBy (Fails (H.files shelf.old) (Rose (H.load_faults shelf.old) (H.load_faults shelf.new)) source.now text_limit (Refuses output_of))) }
+    ensures fails { IfErr result (EndsBy (Fails (H.files shelf.old) (Rose (H.load_faults shelf.old) (H.load_faults shelf.new)) source.now text_limit RefusesSource)) }
     ensures files { H.files shelf.new ≡ H.files shelf.old }
     ensures load_faults { H.load_faults shelf.old ≤ H.load_faults shelf.new }
     ensures write_faults { H.write_faults shelf.new ≡ H.write_faults shelf.old }

@@ -7,9 +7,9 @@ use itoa::Buffer;
 use std::alloc::{AllocError, Global};
 use uz_check::Fail;
 use uz_check_command::reason_name;
-use uz_files::word_digits;
 use uz_paths::NotFound;
 use uz_schedule::Instance;
+use uz_text::word_digits;
 
 /// The word address of a trail's last instance.
 fn last_pc(trail: &[Instance]) -> u16

@@ -14,10 +14,11 @@ use Rattle.uz_transfer.specs.declared.fail.Fail.{Fail}
 use Rattle.uz_transfer.specs.declared.fail.Fail.TheVariants as fail
 use Rattle.uz_files.specs.declared.status.Status.TheVariants.{Done, Refused}
 use Rattle.uz_files.specs.Answers.{Answer, one_line}
-use Rattle.uz_files.specs.Lines.{hex_word}
-use Rattle.uz_files.specs.Reading.{Reads, Refuses, Says, Spells, certificate_limit, text_limit}
-use Rattle.uz_files.specs.ImageFile.{image_of}
-use Rattle.uz_files.specs.CertificateFile.{certificate_of}
+use Rattle.uz_text.specs.Hexadecimals.{hex_word}
+use Rattle.uz_files.specs.Reading.{Reads, Says, certificate_limit, text_limit}
+use Rattle.uz_hex.specs.HexText.{IsHexOf}
+use Rattle.uz_cert.specs.Texts.{IsCertificateText}
+use Rattle.uz_files.specs.Formats.{RefusesCertificate, RefusesHex}
 
 -- a reason of the local rule is printed by its name
 abbrev pub fail_name : Fail → List ℕ
@@ -49,7 +50,8 @@ refused_line cert (Schedule line clock) = codes "refused schedule line " ++ deci
 refused_line cert (Rest line) = codes "refused rest line " ++ decimal line ++ codes "\n"
 refused_line cert Entry = codes "refused entry\n"
 refused_line cert (Point id l c why) =
-    codes "refused point " ++ decimal id ++ codes " pc 0x" ++ hex_word (point_pc cert id) ++ codes " line " ++ decimal l ++ codes " count " ++ decimal c ++ codes " " ++ fail_name why ++ codes "\n"
+    codes "refused point " ++ decimal id ++ codes " pc 0x" ++ hex_word (point_pc cert id) ++ codes " line " ++ decimal l ++ codes " count "
+    ++ decimal c ++ codes " " ++ fail_name why ++ codes "\n"
 
 abbrev pub verdict_answer : Cert → Option RefusedWhy → Answer
 verdict_answer cert None = one_line Done (accepted_line cert)
@@ -57,33 +59,36 @@ verdict_answer cert (Some why) = one_line Refused (refused_line cert why)
 
 -- once both files are read: the pair is accepted, or this is the first item that refuses it
 abbrev pub IsVerdict : Flash → Cert → Answer → Type 0
-IsVerdict image certificate answer = (why : Option RefusedWhy) × FirstRefusal image certificate why × (answer ≡ verdict_answer certificate why)
+IsVerdict image certificate answer = (why : Option RefusedWhy) × FirstRefusal image certificate why
+    × (answer ≡ verdict_answer certificate why)
 
 -- once the image is read
 abbrev pub CheckAnswersFor : Option FileMap → Type 0 → List ℕ → Flash → Answer → Type 0
-CheckAnswersFor files load_fault cert image = Reads files load_fault cert certificate_limit (Spells certificate_of) (Refuses certificate_of) (IsVerdict image)
+CheckAnswersFor files load_fault cert image = Reads files load_fault cert certificate_limit IsCertificateText RefusesCertificate
+    (IsVerdict image)
 
 abbrev pub CheckAnswers : Option FileMap → Type 0 → List ℕ → List ℕ → Answer → Type 0
-CheckAnswers files load_fault hex cert = Reads files load_fault hex text_limit (Spells image_of) (Refuses image_of) (CheckAnswersFor files load_fault cert)
+CheckAnswers files load_fault hex cert = Reads files load_fault hex text_limit IsHexOf RefusesHex
+    (CheckAnswersFor files load_fault cert)
 
 -- the two files spell an image and a certificate, and from every state that meets the certificate's entry condition, for
 -- every list of pads and every number of clocks, the machine with that image keeps to the certificate's schedule
 pub record FilesCertified (files : Option FileMap) (hex cert : List ℕ) : Type 0 where
   pub image : Flash
   pub certificate : Cert
-  pub spelled_image : Says files hex text_limit (Spells image_of) image
-  pub spelled_certificate : Says files cert certificate_limit (Spells certificate_of) certificate
+  pub spelled_image : Says files hex text_limit IsHexOf image
+  pub spelled_certificate : Says files cert certificate_limit IsCertificateText certificate
   pub certified : Certified image certificate
 
 -- a file that is read isn't there, and the one before it is read
 abbrev pub CheckLacks : Option FileMap → List ℕ → List ℕ → Type 0
 CheckLacks files hex cert =
-    LacksFile files hex ⊎ ((image : Flash) × Says files hex text_limit (Spells image_of) image × LacksFile files cert)
+    LacksFile files hex ⊎ ((image : Flash) × Says files hex text_limit IsHexOf image × LacksFile files cert)
 
 -- both files are within their limits and grammars, and the pair is accepted
 pub record CheckSucceeds (files : Option FileMap) (hex cert : List ℕ) : Type 0 where
   pub image : Flash
   pub certificate : Cert
-  pub spelled_image : Says files hex text_limit (Spells image_of) image
-  pub spelled_certificate : Says files cert certificate_limit (Spells certificate_of) certificate
+  pub spelled_image : Says files hex text_limit IsHexOf image
+  pub spelled_certificate : Says files cert certificate_limit IsCertificateText certificate
   pub accepted : Accepts image certificate

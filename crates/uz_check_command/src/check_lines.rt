@@ -8,7 +8,7 @@ use itoa::Buffer;
 use std::alloc::{AllocError, Global};
 use uz_cert::Cert;
 use uz_check::{Fail, RefusedWhy};
-use uz_files::word_digits;
+use uz_text::word_digits;
 
 /// The name of a reason, as it is printed.
 pub fn reason_name(why: Fail) -> &'static [u8]

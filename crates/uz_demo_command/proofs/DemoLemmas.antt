@@ -32,17 +32,22 @@ use Rattle.uz_demo_command.specs.DemoValues.{IsPlayedOut, IsPrepared, IsPutPart,
 
 -- What a demo begins with
 
-pub ready_found : (image : Flash) (hints : List SourceHint) (cert : Cert) (start : Start) → Allowed image Four hints (Ok cert) → IsPrepared image cert start → IsSearched image hints start
+pub ready_found : (image : Flash) (hints : List SourceHint) (cert : Cert) (start : Start) → Allowed image Four hints (Ok cert)
+    → IsPrepared image cert start → IsSearched image hints start
 ready_found image hints cert (Ready console certificate line) allowed h =
-    subst (λ c. IsReady image hints console c line.items) (sym h.same) (record { allowed = allowed; in_range = h.in_range; stands = h.stands; is_line = h.is_line })
+    subst (λ c. IsReady image hints console c line.items) (sym h.same)
+    (record { allowed = allowed; in_range = h.in_range; stands = h.stands; is_line = h.is_line })
 ready_found image hints cert (Refusal line) allowed h = absurd h
 
 -- The run, once the line of the frame is printed
 
-module _ (line : List ℕ) (cert : Cert) (start : State PadHistory) (wide : Type 0) (came : Status) (files : Option FileMap) (old mid new : Option (List ℕ)) where
-  pub run_after : (captured : Captured) (narrow : Type 0) → (narrow → wide) → IsPlayedOut cert (demo_clocks cert) start captured.end captured.counts → TakesAll old line mid →
+module _ (line : List ℕ) (cert : Cert) (start : State PadHistory) (wide : Type 0) (came : Status) (files : Option FileMap)
+    (old mid new : Option (List ℕ)) where
+  pub run_after : (captured : Captured) (narrow : Type 0) → (narrow → wide) → IsPlayedOut cert (demo_clocks cert) start captured.end
+      captured.counts → TakesAll old line mid →
       ((printed : List ℕ) (f : Option FileMap) (before : Option (List ℕ)) → TakesAll before printed mid →
-      ComesOf (ended printed (end_status captured.end captured.counts) (end_text captured.end captured.counts)) narrow came (outside f before) (outside f new)) →
+      ComesOf (ended printed (end_status captured.end captured.counts) (end_text captured.end captured.counts)) narrow came
+      (outside f before) (outside f new)) →
       Outcome (IsRunAfter line cert start) (IsPutPart line) wide came (outside files old) (outside files new)
   run_after captured narrow widen played takes comes =
       let s = end_status captured.end captured.counts in
@@ -54,17 +59,22 @@ module _ (line : List ℕ) (cert : Cert) (start : State PadHistory) (wide : Type
         comes_by (ended line s text) came narrow wide (outside files old) (outside files new) widen (comes line files old takes),
       ))
 
-  pub put_failed : wide → came ≡ Unwritten → TakesPrefix old line new → Outcome (IsRunAfter line cert start) (IsPutPart line) wide came (outside files old) (outside files new)
-  put_failed fault is part = inr (inr (ended line Unwritten [], refl, inl (is, fault, cut_part line [] files old new new part (takes_none new))))
+  pub put_failed : wide → came ≡ Unwritten → TakesPrefix old line new → Outcome (IsRunAfter line cert start) (IsPutPart line) wide came
+      (outside files old) (outside files new)
+  put_failed fault is part = inr
+      (inr (ended line Unwritten [], refl, inl (is, fault, cut_part line [] files old new new part (takes_none new))))
 
-  pub put_lacks : came ≡ NoMemory → TakesPrefix old line mid → TakesPrefix mid no_memory_line new → Outcome (IsRunAfter line cert start) (IsPutPart line) wide came (outside files old) (outside files new)
+  pub put_lacks : came ≡ NoMemory → TakesPrefix old line mid → TakesPrefix mid no_memory_line new → Outcome (IsRunAfter line cert start)
+      (IsPutPart line) wide came (outside files old) (outside files new)
   put_lacks is part rest = inr (inr (ended line Unwritten [], refl, inr (is, (rest.0, cut_part line _ files old mid new part rest.1))))
 
 -- The whole command
 
 module _ (number : ℕ) (write_fault : Type 0) (came : Status) (old new : Outside) where
-  pub demo_runs : (start : Start) (console : Console) (cert : Cert) (line told : List ℕ) → told ≡ line → (given : IsStart number start) → IsReady (given.output).image (given.output).hints console cert line →
-      Outcome (IsRunAfter told cert (demo_start (given.output).image)) (IsPutPart told) write_fault came old new → Outcome (DemoAnswers number) (DemoParts number) write_fault came old new
+  pub demo_runs : (start : Start) (console : Console) (cert : Cert) (line told : List ℕ) → told ≡ line → (given : IsStart number start)
+      → IsReady (given.output).image (given.output).hints console cert line →
+      Outcome (IsRunAfter told cert (demo_start (given.output).image)) (IsPutPart told) write_fault came old new
+      → Outcome (DemoAnswers number) (DemoParts number) write_fault came old new
   demo_runs start console cert line told same given ready (inl starts) = inl starts
   demo_runs start console cert line told same given ready (inr (inl (answer, run, comes))) =
       inr (inl (
@@ -74,18 +84,31 @@ module _ (number : ℕ) (write_fault : Type 0) (came : Status) (old new : Outsid
           assembles = given.assembles;
           found = Ok cert;
           allowed = ready.allowed;
-          answers = record { played = run.played; run = run.run; told = run.told ∙ ap (λ l. ended l (run.played).status (run.played).line) (same ∙ ready.is_line) };
+          answers = record {
+            played = run.played;
+            run = run.run;
+            told = run.told ∙ ap (λ l. ended l (run.played).status (run.played).line)
+                (same ∙ ready.is_line);
+          };
         },
         comes,
       ))
   demo_runs start console cert line told same given ready (inr (inr (answer, part, cut))) =
       inr (inr (
         answer,
-        record { output = given.output; assembles = given.assembles; cert = cert; allowed = ready.allowed; told = part ∙ ap (λ l. ended l Unwritten []) (same ∙ ready.is_line) },
+        record {
+          output = given.output;
+          assembles = given.assembles;
+          cert = cert;
+          allowed = ready.allowed;
+          told = part ∙ ap (λ l. ended l Unwritten []) (same ∙ ready.is_line);
+        },
         cut,
       ))
 
-  pub demo_refused : (start : Start) (ending : Ending) (given : IsStart number start) → IsRefusal (given.output).image (given.output).hints ending.line.items → ending.status ≡ Refused → ComesOf (answer_of ending) write_fault came old new → Outcome (DemoAnswers number) (DemoParts number) write_fault came old new
+  pub demo_refused : (start : Start) (ending : Ending) (given : IsStart number start) → IsRefusal (given.output).image (given.output).hints
+      ending.line.items → ending.status ≡ Refused → ComesOf (answer_of ending) write_fault came old new → Outcome (DemoAnswers number)
+      (DemoParts number) write_fault came old new
   demo_refused start ending given refusal is comes =
       inr (inl (
         answer_of ending,

@@ -28,31 +28,40 @@ AcceptedHold = (image : Flash) (cert : Cert) → WellFormed cert → Accepts ima
 low_at_reset : (image : Flash) → sync_level (demo_start image).space ≡ 0
 low_at_reset image = ap (λ n. n % 2) (get_or-replicate 4352 37 0 0 (omega arith))
 
-module _ (line : List ℕ) (cert : Cert) (start : State PadHistory) (write_fault : Type 0) (came : Status) (old new : Outside) (outcome : Outcome (IsRunAfter line cert start) (IsPutPart line) write_fault came old new) where
+module _ (line : List ℕ) (cert : Cert) (start : State PadHistory) (write_fault : Type 0) (came : Status) (old new : Outside)
+    (outcome : Outcome (IsRunAfter line cert start) (IsPutPart line) write_fault came old new) where
   done_run : came ≡ status.Done → (answer : Answer) × IsEnteredRun [] cert (demo_clocks cert) start answer
-  done_run is = by_run (from_answer (IsRunAfter line cert start) (IsPutPart line) write_fault came old new status.Done (λ e. cc e) (λ e. cc e) outcome is)
+  done_run is = by_run (from_answer (IsRunAfter line cert start) (IsPutPart line) write_fault came old new status.Done (λ e. cc e)
+      (λ e. cc e) outcome is)
     where
-      by_played : (answer : Answer) → answer.status ≡ status.Done → IsFramedRun [] cert (demo_clocks cert) start answer → (answer : Answer) × IsEnteredRun [] cert (demo_clocks cert) start answer
+      by_played : (answer : Answer) → answer.status ≡ status.Done → IsFramedRun [] cert (demo_clocks cert) start answer → (answer : Answer)
+          × IsEnteredRun [] cert (demo_clocks cert) start answer
       by_played answer e (inl entered) = (answer, entered)
       by_played answer e (inr (inl unentered)) = absurd (cc (ap (λ (a : Answer). a.status) unentered.told, e))
       by_played answer e (inr (inr halted)) = absurd (cc (ap (λ (a : Answer). a.status) halted.told, e))
 
-      by_run : (answer : Answer) × IsRunAfter line cert start answer × (answer.status ≡ status.Done) → (answer : Answer) × IsEnteredRun [] cert (demo_clocks cert) start answer
+      by_run : (answer : Answer) × IsRunAfter line cert start answer × (answer.status ≡ status.Done) → (answer : Answer) × IsEnteredRun []
+          cert (demo_clocks cert) start answer
       by_run (answer, run, e) = by_played run.played (sym (ap (λ (a : Answer). a.status) run.told) ∙ e) run.run
 
   stopped_run : came ≡ status.Stopped → (answer : Answer) × IsHaltedRun [] (demo_clocks cert) start answer
-  stopped_run is = by_run (from_answer (IsRunAfter line cert start) (IsPutPart line) write_fault came old new status.Stopped (λ e. cc e) (λ e. cc e) outcome is)
+  stopped_run is = by_run (from_answer (IsRunAfter line cert start) (IsPutPart line) write_fault came old new status.Stopped (λ e. cc e)
+      (λ e. cc e) outcome is)
     where
-      by_played : (answer : Answer) → answer.status ≡ status.Stopped → IsFramedRun [] cert (demo_clocks cert) start answer → (answer : Answer) × IsHaltedRun [] (demo_clocks cert) start answer
+      by_played : (answer : Answer) → answer.status ≡ status.Stopped → IsFramedRun [] cert (demo_clocks cert) start answer
+          → (answer : Answer) × IsHaltedRun [] (demo_clocks cert) start answer
       by_played answer e (inl entered) = absurd (cc (ap (λ (a : Answer). a.status) entered.told, e))
       by_played answer e (inr (inl unentered)) = absurd (cc (ap (λ (a : Answer). a.status) unentered.told, e))
       by_played answer e (inr (inr halted)) = (answer, halted)
 
-      by_run : (answer : Answer) × IsRunAfter line cert start answer × (answer.status ≡ status.Stopped) → (answer : Answer) × IsHaltedRun [] (demo_clocks cert) start answer
+      by_run : (answer : Answer) × IsRunAfter line cert start answer × (answer.status ≡ status.Stopped) → (answer : Answer) × IsHaltedRun []
+          (demo_clocks cert) start answer
       by_run (answer, run, e) = by_played run.played (sym (ap (λ (a : Answer). a.status) run.told) ∙ e) run.run
 
-module _ (number : ℕ) (begin : Start) (console : Console) (cert : Cert) (line told : List ℕ) (given : IsStart number begin) (ready : IsReady (given.output).image (given.output).hints console cert line) (write_fault : Type 0) (came : Status) (old new : Outside)
-    (outcome : Outcome (IsRunAfter told cert (demo_start (given.output).image)) (IsPutPart told) write_fault came old new) (accepted : AcceptedHold) where
+module _ (number : ℕ) (begin : Start) (console : Console) (cert : Cert) (line told : List ℕ) (given : IsStart number begin)
+    (ready : IsReady (given.output).image (given.output).hints console cert line) (write_fault : Type 0) (came : Status) (old new : Outside)
+    (outcome : Outcome (IsRunAfter told cert (demo_start (given.output).image)) (IsPutPart told) write_fault came old new)
+    (accepted : AcceptedHold) where
   holds : Certified (given.output).image cert
   holds = accepted (given.output).image cert (ready.allowed).0 (ready.allowed).1
 
@@ -73,7 +82,9 @@ module _ (number : ℕ) (begin : Start) (console : Console) (cert : Cert) (line 
         clock = entered.clock;
         position = entered.position;
         enters = entered.enters;
-        keeps = law image cert (demo_start image) (demo_clocks cert) entered.clock entered.position holds ((ready.allowed).1).steady ((ready.allowed).0).schedule ready.in_range (λ i. image) (low_at_reset image) entered.enters entered.edges entered.last entered.run;
+        keeps = law image cert (demo_start image) (demo_clocks cert) entered.clock entered.position holds ((ready.allowed).1).steady
+            ((ready.allowed).0).schedule ready.in_range (λ i. image) (low_at_reset image) entered.enters entered.edges entered.last
+            entered.run;
       }
 
   pub demo_halted : NeverStops → came ≡ status.Stopped → DemoHalted number
@@ -85,5 +96,6 @@ module _ (number : ℕ) (begin : Start) (console : Console) (cert : Cert) (line 
         assembles = given.assembles;
         cert = cert;
         accepted = (ready.allowed).1;
-        unentered = λ clock position enters. law image cert (demo_start image) (demo_clocks cert) clock position holds ready.in_range (λ i. image) enters halted.edges halted.last halted.run;
+        unentered = λ clock position enters. law image cert (demo_start image) (demo_clocks cert) clock position holds ready.in_range
+            (λ i. image) enters halted.edges halted.last halted.run;
       }

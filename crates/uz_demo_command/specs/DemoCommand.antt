@@ -3,7 +3,8 @@
 -- lines tell what `play` tells of such a run. No file is read, and none is written.
 use Rattle.std.specs.Prelude.{◌≡◌, ℕ, ◌*◌, List, [], Result, Ok, Err}
 use Rattle.uz_hex.specs.Reading.{Flash}
-use Rattle.avr_asm.specs.Assembly.{Output, assembly}
+use Rattle.avr_asm.specs.Assembly.{Output}
+use Rattle.avr_asm.specs.Relation.{IsAssembly}
 use Rattle.uz_schedule.specs.declared.certificate.Cert.{Cert}
 use Rattle.uz_schedule.specs.declared.kinds.Response.TheVariants.{Four}
 use Rattle.uz_schedule.specs.Schedule.{frame_of}
@@ -27,7 +28,7 @@ use Rattle.uz_play_command.specs.PlayCommand.{Enters, IsFramedRun}
 
 -- the demo's source has this assembly
 abbrev pub Assembles : ℕ → Output → Type 0
-Assembles number output = assembly (source number) ≡ Ok output
+Assembles number output = IsAssembly (source number) output
 
 -- three frames
 abbrev pub demo_clocks : Cert → ℕ
@@ -89,7 +90,8 @@ pub record DemoSucceeds (number : ℕ) : Type 0 where
   pub runs : (cert : Cert) → Allowed output.image Four output.hints (Ok cert) → RunEnters output.image cert
 
 -- What a demo that is done is worth: a certificate with what the hints ask for is accepted with the image, so that every run from a state
--- that meets its entry condition keeps to its schedule; and from the first such state on, the edges of this run are the schedule's, and each
+-- that meets its entry condition keeps to its schedule; and from the first such state on, the edges of this run are the schedule's, and
+-- each
 -- line of its picture that begins after it is as long as the schedule's
 pub record DemoPlayed (number : ℕ) : Type 0 where
   pub output : Output

@@ -69,7 +69,8 @@ IsPlaying player start = (handed : List ℕ) × Plays player start handed
 -- None: another record is handed out. Some: the run is played to its end
 abbrev pub GoesOn : Player → Player → Option RunEnd → Type 0
 GoesOn old new None = (start : State PadHistory) (handed : List ℕ) → Plays old start handed → IsPlaying new start
-GoesOn old new (Some end) = (start : State PadHistory) (handed : List ℕ) → Plays old start handed → IsPlayedOut (cert_of new) (limit_of new) start end (counts_of new)
+GoesOn old new (Some end) = (start : State PadHistory) (handed : List ℕ) → Plays old start handed → IsPlayedOut (cert_of new) (limit_of new)
+    start end (counts_of new)
 
 -- what `play` answers of the run of three frames, but that no file is written, below what is printed before
 pub record IsRunAfter (printed : List ℕ) (cert : Cert) (start : State PadHistory) (answer : Answer) : Type 0 where

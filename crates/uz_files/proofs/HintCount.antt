@@ -1,5 +1,6 @@
 -- A source has no more hints than bytes.
-use Rattle.std.proofs.Common.{◌≡◌, ◌∙◌, sym, ap, refl, arith, ℕ, suc, ◌<◌, ◌≤◌, ◌^◌, Bool, true, false, cond, List, [], ◌∷◌, length, length-append, map}
+use Rattle.std.proofs.Common.{◌≡◌, ◌∙◌, sym, ap, refl, arith, ℕ, suc, ◌<◌, ◌≤◌, ◌^◌, Bool, true, false, cond, List, [], ◌∷◌, length}
+use Rattle.std.proofs.Common.{length-append, map}
 use Rattle.std.specs.Prelude.{Option, Some, None}
 use Rattle.avr_asm.specs.declared.output.Built.{Built}
 use Rattle.avr_asm.specs.declared.output.Hint.{Hint}
@@ -31,11 +32,13 @@ few_lines : (text : List ℕ) → length (lines_of text) ≤ length text
 few_lines [] = omega arith
 few_lines (b ∷ bs) = by_test (goes_on b) (few_lines bs) (onto_few b (lines_of bs))
   where
-    by_test : (t : Bool) → length (lines_of bs) ≤ length bs → length (onto_first b (lines_of bs)) ≤ suc (length (lines_of bs)) → length (cond t (onto_first b (lines_of bs)) ((b ∷ []) ∷ lines_of bs)) ≤ suc (length bs)
+    by_test : (t : Bool) → length (lines_of bs) ≤ length bs → length (onto_first b (lines_of bs)) ≤ suc (length (lines_of bs))
+        → length (cond t (onto_first b (lines_of bs)) ((b ∷ []) ∷ lines_of bs)) ≤ suc (length bs)
     by_test true h k = omega arith
     by_test false h k = omega arith
 
-pub few_hints : (text : List ℕ) (built : Built) → length text ≤ 1048576 → IsAssembly text (seen_built built) → length built.hints.items < 2 ^ 32
+pub few_hints : (text : List ℕ) (built : Built) → length text ≤ 1048576 → IsAssembly text (seen_built built) → length built.hints.items < 2
+    ^ 32
 few_hints text built short is =
     let hints = ap length is.hints in
     let few = few_of is.statements in

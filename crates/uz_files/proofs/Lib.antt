@@ -2,7 +2,6 @@ pub mod EndingLemmas
 pub mod FaultLemmas
 pub mod HintCount
 pub mod OutcomeLemmas
-pub mod PadLemmas
 pub mod ReadingLemmas
 pub mod ReadsLemmas
 pub mod TextLemmas

@@ -11,7 +11,8 @@ takes_prefix old piece new h =
     (length piece, subst (λ p. TakesAll old p new) (sym all) h)
 
 -- one piece after another
-pub takes_both : (old : Option (List ℕ)) (first second : List ℕ) (mid new : Option (List ℕ)) → TakesAll old first mid → TakesAll mid second new → TakesAll old (first ++ second) new
+pub takes_both : (old : Option (List ℕ)) (first second : List ℕ) (mid new : Option (List ℕ)) → TakesAll old first mid → TakesAll mid second
+    new → TakesAll old (first ++ second) new
 takes_both None first second mid new h k = subst (λ m. TakesAll m second new) h k
 takes_both (Some old) first second mid new h k =
     let goes : TakesAll (Some (old ++ first)) second new = subst (λ m. TakesAll m second new) h k in

@@ -64,11 +64,12 @@ pub record Outside : Type 0 where
 abbrev pub outside : Option FileMap → Option (List ℕ) → Outside
 outside files text = record { files = files; text = text }
 
--- it ended: all files are written and all is printed, but the line of a fault may be cut short
-pub record Ends (answer : Answer) (came : Status) (old new : Outside) : Type 0 where
+-- it ended: all files are written and all is printed, but the line of a fault may be cut short by a fault of writing
+pub record Ends (answer : Answer) (write_fault : Type 0) (came : Status) (old new : Outside) : Type 0 where
   pub status : came ≡ answer.status
   pub files : WritesAll old.files answer.writes new.files
   pub done : answer.status ≡ Done → TakesAll old.text (answer.printed ++ answer.line) new.text
+  pub whole : (write_fault → ⊥) → TakesAll old.text (answer.printed ++ answer.line) new.text
   pub text : (count : ℕ) × TakesAll old.text (answer.printed ++ take count answer.line) new.text
 
 -- it was cut short: some files are written and nothing is printed, or all are written and a prefix is
@@ -94,7 +95,7 @@ WritesMore answer = (answer.status ≡ Done) ⊎ ((answer.printed ≢ []) ⊎ (a
 -- what may come of an answer
 abbrev pub ComesOf : Answer → Type 0 → Status → Outside → Outside → Type 0
 ComesOf answer write_fault came old new =
-    Ends answer came old new
+    Ends answer write_fault came old new
     ⊎ ((WritesMore answer × IsUnwritten answer write_fault came old new) ⊎ LacksMemory answer came old new)
 
 -- memory was lacking before anything was put out

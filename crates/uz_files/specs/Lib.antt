@@ -1,9 +1,7 @@
 pub mod Answers
-pub mod CertificateFile
 pub mod Endings
-pub mod ImageFile
+pub mod Formats
 pub mod Lines
-pub mod PadFile
 pub mod Reading
-pub mod SourceFile
+pub mod TextFaults
 pub mod Writing

@@ -1,5 +1,5 @@
 -- The lines that the commands print. Each ends in LF.
-use Rattle.std.specs.Prelude.{ℕ, ◌+◌, ◌/◌, ◌%◌, nat_lt, if◌then◌else◌, List, [], ◌∷◌, ◌++◌, codes, decimal}
+use Rattle.std.specs.Prelude.{ℕ, ◌+◌, List, ◌++◌, codes, decimal}
 
 abbrev pub usage_line : List ℕ
 usage_line = codes "usage: uzebox asm, dis, trace, certify, check, play, demo, migrate, expand, build, debug\n"
@@ -14,11 +14,3 @@ unread_line name = codes "unread " ++ name ++ codes "\n"
 -- a file that is not in its grammar, with its first faulty line and why
 abbrev pub bad_line : List ℕ → ℕ → List ℕ → List ℕ
 bad_line name line why = codes "bad " ++ name ++ codes " line " ++ decimal line ++ codes " " ++ why ++ codes "\n"
-
--- an upper-case hexadecimal digit
-abbrev pub hex_digit : ℕ → ℕ
-hex_digit n = if nat_lt n 10 then 48 + n else 55 + n
-
--- the four digits of a word
-abbrev pub hex_word : ℕ → List ℕ
-hex_word n = hex_digit (n / 4096 % 16) ∷ hex_digit (n / 256 % 16) ∷ hex_digit (n / 16 % 16) ∷ hex_digit (n % 16) ∷ []

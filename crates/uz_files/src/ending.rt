@@ -1,6 +1,6 @@
 //! How a command ends: its last line and its status.
 
-ghost use Rattle.std.specs.Prelude.{◌≡◌, ◌≢◌, ◌≤◌, List, Option, ℕ};
+ghost use Rattle.std.specs.Prelude.{◌≡◌, ◌≢◌, ◌≤◌, ◌⊎◌, List, Option, ℕ};
 ghost use Rattle.uz_shelf.specs.Files.{FileMap};
 ghost use Rattle.uz_shelf.specs.Faults.{Rose};
 ghost use Rattle.uz_shelf.specs.Text.{TakesPrefix};
@@ -40,11 +40,11 @@ impl From<AllocError> for Failure {
 
 /// Puts a line whose failure isn't told.
 #[tactic(auto, using(crate::proofs::TextLemmas::takes_prefix))]
-pub fn put_last<K: Sink>(alloc: Global, out: &mut K, line: &[u8])
+fn put_last<K: Sink>(alloc: Global, out: &mut K, line: &[u8])
     ensures text { TakesPrefix (K.text out.old) line.now (K.text out.new) }
     ensures faults { K.faults out.old ≤ K.faults out.new }
 {
-    let _ = out.put(alloc, line);
+    let _ = out.put(alloc, line); // the status is the same
 }
 
 /// Says that memory was lacking.
@@ -71,15 +71,19 @@ fn end_done<K: Sink>(alloc: Global, out: &mut K, ending: &Ending) -> Status
     }
 }
 
-/// Prints the line of a fault, whose own failure changes no status.
+/// Prints the line of a fault. A fault of the sink changes no status; want of memory does.
 #[tactic(auto, using(crate::proofs::EndingLemmas::comes_fault))]
-fn end_fault<K: Sink>(alloc: Global, out: &mut K, status: Status, line: &[u8]) -> Status
+pub fn end_fault<K: Sink>(alloc: Global, out: &mut K, status: Status, line: &[u8]) -> Status
     requires { status ≢ Status.Done }
+    ensures status { (result ≡ status) ⊎ (result ≡ Status.NoMemory) }
     ensures comes { (files : Option FileMap) → ComesOf (one_line status line.now) (Rose (K.faults out.old) (K.faults out.new)) result (outside files (K.text out.old)) (outside files (K.text out.new)) }
     ensures faults { K.faults out.old ≤ K.faults out.new }
 {
-    put_last(alloc, out, line);
-    status
+    match out.put(alloc, line) {
+        Ok(()) => status,
+        Err(WriteError::Failed) => status,
+        Err(WriteError::Memory) => put_no_memory(alloc, out),
+    }
 }
 
 /// Prints the line that ends a command.

@@ -29,27 +29,38 @@ use Rattle.uz_files.proofs.TextLemmas.{takes_none}
 
 -- The file is written, and then a text is printed
 
-module _ (frames : List ℕ) (edges : List Edge) (s : Status) (line : List ℕ) (files after : Option FileMap) (written : WritesFile files frames (records (newest_first edges)) after) where
-  cut_framed : (further : List ℕ) (old new : Option (List ℕ)) → IsCut (one_line s line) further (outside after old) (outside after new) → IsCut (framed frames edges s line) further (outside files old) (outside after new)
+module _ (frames : List ℕ) (edges : List Edge) (s : Status) (line : List ℕ) (files after : Option FileMap)
+    (written : WritesFile files frames (records (newest_first edges)) after) where
+  cut_framed : (further : List ℕ) (old new : Option (List ℕ)) → IsCut (one_line s line) further (outside after old) (outside after new)
+      → IsCut (framed frames edges s line) further (outside files old) (outside after new)
   cut_framed further old new (inl (same, text)) = inl (inr (inr (after, written, refl)), text)
   cut_framed further old new (inr (same, text)) = inr ((after, written, refl), text)
 
-  comes_framed : (write_fault : Type 0) (came : Status) (old new : Option (List ℕ)) → ComesOf (one_line s line) write_fault came (outside after old) (outside after new) → ComesOf (framed frames edges s line) write_fault came (outside files old) (outside after new)
+  comes_framed : (write_fault : Type 0) (came : Status) (old new : Option (List ℕ)) → ComesOf (one_line s line) write_fault came
+      (outside after old) (outside after new) → ComesOf (framed frames edges s line) write_fault came (outside files old)
+      (outside after new)
   comes_framed write_fault came old new (inl ends) = inl (record {
     status = ends.status;
     files = (after, written, refl);
     done = ends.done;
+    whole = ends.whole;
     text = ends.text;
   })
-  comes_framed write_fault came old new (inr (inl (more, cut))) = inr (inl (inr (inr (λ none. cc none)), (cut.0, cut.1, cut_framed [] old new cut.2)))
-  comes_framed write_fault came old new (inr (inr lacks)) = inr (inr (lacks.0, (lacks.1.0, cut_framed (take lacks.1.0 no_memory_line) old new lacks.1.1)))
+  comes_framed write_fault came old new (inr (inl (more, cut))) =
+      inr (inl (inr (inr (λ none. cc none)), (cut.0, cut.1, cut_framed [] old new cut.2)))
+  comes_framed write_fault came old new (inr (inr lacks)) =
+      inr (inr (lacks.0, (lacks.1.0, cut_framed (take lacks.1.0 no_memory_line) old new lacks.1.1)))
 
   -- no memory for the text
-  pub lacks_text : (write_fault : Type 0) (came : Status) (old new : Option (List ℕ)) → came ≡ NoMemory → TakesPrefix old no_memory_line new → ComesOf (framed frames edges s line) write_fault came (outside files old) (outside after new)
+  pub lacks_text : (write_fault : Type 0) (came : Status) (old new : Option (List ℕ)) → came ≡ NoMemory → TakesPrefix old no_memory_line new
+      → ComesOf (framed frames edges s line) write_fault came (outside files old) (outside after new)
   lacks_text write_fault came old new is text = inr (inr (is, (text.0, inr ((after, written, refl), (0, text.1)))))
 
-pub comes_of_ending : (ending : Ending) (frames : List ℕ) (edges : List Edge) (s came : Status) (line : List ℕ) (write_fault : Type 0) (files after : Option FileMap) (old new : Option (List ℕ)) → (ending.status ≡ s) × (ending.line.items ≡ line) → WritesFile files frames (records (newest_first edges)) after →
-    ComesOf (answer_of ending) write_fault came (outside after old) (outside after new) → ComesOf (framed frames edges s line) write_fault came (outside files old) (outside after new)
+pub comes_of_ending : (ending : Ending) (frames : List ℕ) (edges : List Edge) (s came : Status) (line : List ℕ) (write_fault : Type 0)
+    (files after : Option FileMap) (old new : Option (List ℕ)) → (ending.status ≡ s) × (ending.line.items ≡ line) → WritesFile files frames
+    (records (newest_first edges)) after →
+    ComesOf (answer_of ending) write_fault came (outside after old) (outside after new) → ComesOf (framed frames edges s line) write_fault
+    came (outside files old) (outside after new)
 comes_of_ending ending frames edges s came line write_fault files after old new same written comes =
     subst (λ l. ComesOf (framed frames edges s l) write_fault came (outside files old) (outside after new)) same.1
     (subst (λ t. ComesOf (framed frames edges t ending.line.items) write_fault came (outside files old) (outside after new)) same.0
@@ -59,14 +70,18 @@ comes_of_ending ending frames edges s came line write_fault files after old new 
 
 same_numbers : (a b c d e v w x y z : ℕ) → a ≡ v → b ≡ w → c ≡ x → d ≡ y → e ≡ z → numbers_line a b c d e ≡ numbers_line v w x y z
 same_numbers a b c d e v w x y z p q r s t =
-    ap (λ n. numbers_line n b c d e) p ∙ (ap (λ n. numbers_line v n c d e) q ∙ (ap (λ n. numbers_line v w n d e) r ∙ (ap (λ n. numbers_line v w x n e) s ∙ ap (λ n. numbers_line v w x y n) t)))
+    ap (λ n. numbers_line n b c d e) p
+    ∙ (ap (λ n. numbers_line v n c d e) q
+    ∙ (ap (λ n. numbers_line v w n d e) r ∙ (ap (λ n. numbers_line v w x n e) s ∙ ap (λ n. numbers_line v w x y n) t)))
 
 counted_text : (counts : Counts) (edges : List Edge) → CountsEdges counts edges → counts_text counts ≡ numbers_of edges
 counted_text counts edges h = same_numbers _ _ _ _ _ _ _ _ _ _ h.frames h.rows h.sync h.pixels h.sounds
 
-run_over : (cert : Cert) (limit : ℕ) (start last : State PadHistory) (edges : List Edge) (counts : Counts) (name : List ℕ) (o : Option (ℕ × ℕ)) → IsClockRun limit start edges last → CountsEdges counts edges → EntersAt cert limit start o →
+run_over : (cert : Cert) (limit : ℕ) (start last : State PadHistory) (edges : List Edge) (counts : Counts) (name : List ℕ)
+    (o : Option (ℕ × ℕ)) → IsClockRun limit start edges last → CountsEdges counts edges → EntersAt cert limit start o →
     IsFramedRun name cert limit start (framed name edges (over_status o) (over_text o counts))
-run_over cert limit start last edges counts name None run counted never = inr (inl (record { edges = edges; last = last; run = run; never = never; told = refl }))
+run_over cert limit start last edges counts name None run counted never =
+    inr (inl (record { edges = edges; last = last; run = run; never = never; told = refl }))
 run_over cert limit start last edges counts name (Some at) run counted entered = inl (record {
   edges = edges;
   last = last;
@@ -82,9 +97,11 @@ run_over cert limit start last edges counts name (Some at) run counted entered =
 -- the file holds the records of its edges, and this is the answer
 abbrev pub IsAnswered : Cert → ℕ → State PadHistory → RunEnd → Counts → Option FileMap → List ℕ → Option FileMap → Type 0
 IsAnswered cert limit start e counts old name new =
-    (edges : List Edge) × WritesFile old name (records (newest_first edges)) new × IsFramedRun name cert limit start (framed name edges (end_status e counts) (end_text e counts))
+    (edges : List Edge) × WritesFile old name (records (newest_first edges)) new × IsFramedRun name cert limit start
+    (framed name edges (end_status e counts) (end_text e counts))
 
-pub captured_answers : (cert : Cert) (limit : ℕ) (start : State PadHistory) (e : RunEnd) (counts : Counts) (old new : Option FileMap) (name : List ℕ) → IsPlayedInto cert limit start e counts old name new → IsAnswered cert limit start e counts old name new
+pub captured_answers : (cert : Cert) (limit : ℕ) (start : State PadHistory) (e : RunEnd) (counts : Counts) (old new : Option FileMap)
+    (name : List ℕ) → IsPlayedInto cert limit start e counts old name new → IsAnswered cert limit start e counts old name new
 captured_answers cert limit start end.Over counts old new name (edges, last, run, whole) =
     (edges, whole.file, run_over cert limit start last edges counts name counts.entered run whole.counted whole.entered)
 captured_answers cert limit start (end.Stopped pc word) counts old new name (edges, last, run, halts, at, is, whole) = (
@@ -95,34 +112,67 @@ captured_answers cert limit start (end.Stopped pc word) counts old new name (edg
     last = last;
     run = run;
     halts = halts;
-    told = ap (λ p. framed name edges Stopped (stopped_at_line p word)) at ∙ ap (λ w. framed name edges Stopped (stopped_at_line last.core.pc w)) is;
+    told = ap (λ p. framed name edges Stopped (stopped_at_line p word)) at
+        ∙ ap (λ w. framed name edges Stopped (stopped_at_line last.core.pc w)) is;
   })),
 )
 
-module _ (cert : Cert) (limit : ℕ) (start : State PadHistory) (old new : Option FileMap) (name : List ℕ) (wide : Type 0) (came : Status) (was now : Option (List ℕ)) where
+module _ (cert : Cert) (limit : ℕ) (start : State PadHistory) (old new : Option FileMap) (name : List ℕ) (wide : Type 0) (came : Status)
+    (was now : Option (List ℕ)) where
   pub run_captured : (captured : Captured) (narrow : Type 0) → (narrow → wide) → IsCaptured cert limit start captured old name new →
       ((frames : List ℕ) (edges : List Edge) (files after : Option FileMap) → WritesFile files frames (records (newest_first edges)) after →
-      ComesOf (framed frames edges (end_status captured.end captured.counts) (end_text captured.end captured.counts)) narrow came (outside files was) (outside after now)) →
+      ComesOf (framed frames edges (end_status captured.end captured.counts) (end_text captured.end captured.counts)) narrow came
+      (outside files was) (outside after now)) →
       Outcome (IsFramedRun name cert limit start) (IsFramedPart name limit start) wide came (outside old was) (outside new now)
   run_captured captured narrow widen played comes =
       let told = captured_answers cert limit start captured.end captured.counts old new name played in
       let answer = framed name told.0 (end_status captured.end captured.counts) (end_text captured.end captured.counts) in
-      inr (inl (answer, told.2, comes_by answer came narrow wide (outside old was) (outside new now) widen (comes name told.0 old new told.1)))
+      inr (inl (
+        answer,
+        told.2,
+        comes_by answer came narrow wide (outside old was) (outside new now) widen
+            (comes name told.0 old new told.1),
+      ))
 
   -- the answer of a part, and what of its file is written
   abbrev IsPartWritten : Type 0
-  IsPartWritten = (edges : List Edge) × IsFramedPart name limit start (framed name edges Unwritten []) × WritesPart old (frames_file name edges ∷ []) new
+  IsPartWritten = (edges : List Edge) × IsFramedPart name limit start (framed name edges Unwritten []) × WritesPart old
+      (frames_file name edges ∷ []) new
 
   part_written : IsCapturePart limit start old name new → IsPartWritten
-  part_written (inl same) = ([], record { edges = []; last = start; run = record { turns = 0; all_edges = []; run = (refl, refl); in_time = refl }; told = refl }, inl same)
-  part_written (inr holds) = (holds.edges, record { edges = holds.edges; last = holds.last; run = holds.part; told = refl }, inr (inl (holds.count, holds.file)))
+  part_written (inl same) = (
+    [],
+    record {
+      edges = [];
+      last = start;
+      run = record {
+        turns = 0;
+        all_edges = [];
+        run = (refl, refl);
+        in_time = refl;
+      };
+      told = refl;
+    },
+    inl same,
+  )
+  part_written (inr holds) = (
+    holds.edges,
+    record { edges = holds.edges; last = holds.last; run = holds.part; told = refl },
+    inr (inl (holds.count, holds.file)),
+  )
 
-  pub run_unwritten : IsCapturePart limit start old name new → wide → came ≡ Unwritten → now ≡ was → Outcome (IsFramedRun name cert limit start) (IsFramedPart name limit start) wide came (outside old was) (outside new now)
+  pub run_unwritten : IsCapturePart limit start old name new → wide → came ≡ Unwritten → now ≡ was
+      → Outcome (IsFramedRun name cert limit start) (IsFramedPart name limit start) wide came (outside old was) (outside new now)
   run_unwritten cut fault is same =
       let part = part_written cut in
-      inr (inr (framed name part.0 Unwritten [], part.1, inl (is, fault, inl (part.2, subst (λ t. TakesAll was [] t) (sym same) (takes_none was)))))
+      inr (inr (
+        framed name part.0 Unwritten [],
+        part.1,
+        inl (is, fault, inl (part.2, subst (λ t. TakesAll was [] t) (sym same) (takes_none was))),
+      ))
 
-  pub run_lacks : IsCapturePart limit start old name new → came ≡ NoMemory → TakesPrefix was no_memory_line now → Outcome (IsFramedRun name cert limit start) (IsFramedPart name limit start) wide came (outside old was) (outside new now)
+  pub run_lacks : IsCapturePart limit start old name new → came ≡ NoMemory → TakesPrefix was no_memory_line now
+      → Outcome (IsFramedRun name cert limit start) (IsFramedPart name limit start) wide came (outside old was) (outside new now)
   run_lacks cut is line =
       let part = part_written cut in
       inr (inr (framed name part.0 Unwritten [], part.1, inr (is, (line.0, inl (part.2, line.1)))))

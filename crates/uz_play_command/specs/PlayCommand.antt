@@ -24,12 +24,12 @@ use Rattle.uz_check.specs.declared.refusal.RefusedWhy.{RefusedWhy}
 use Rattle.uz_files.specs.declared.status.Status.{Status}
 use Rattle.uz_files.specs.declared.status.Status.TheVariants.{Done, NotEntered, Refused, Stopped, Unwritten}
 use Rattle.uz_files.specs.Answers.{Answer, Write, one_line}
-use Rattle.uz_files.specs.Reading.{Reads, Refuses, Says, Spells, certificate_limit, text_limit}
-use Rattle.uz_files.specs.ImageFile.{image_of}
-use Rattle.uz_files.specs.CertificateFile.{certificate_of}
-use Rattle.uz_files.specs.PadFile.{RefusesPads, SpellsPads}
+use Rattle.uz_files.specs.Reading.{Reads, Says, certificate_limit, text_limit}
 use Rattle.uz_check_command.specs.CheckCommand.{refused_line}
 use Rattle.uz_run_commands.specs.TraceCommand.{start_of, stopped_at_line}
+use Rattle.uz_hex.specs.HexText.{IsHexOf}
+use Rattle.uz_cert.specs.Texts.{IsCertificateText}
+use Rattle.uz_files.specs.Formats.{RefusesCertificate, RefusesHex, RefusesPads, SpellsPads}
 
 -- Lines
 
@@ -38,7 +38,8 @@ abbrev pub entered_line : ℕ → ℕ → List ℕ
 entered_line clock line = codes "entered clock " ++ decimal clock ++ codes " line " ++ decimal line ++ codes "\n"
 
 abbrev pub edge_numbers : ℕ → ℕ → ℕ → List ℕ
-edge_numbers sync pixels sounds = codes " sync " ++ decimal sync ++ codes " pixels " ++ decimal pixels ++ codes " sounds " ++ decimal sounds ++ codes "\n"
+edge_numbers sync pixels sounds = codes " sync " ++ decimal sync ++ codes " pixels " ++ decimal pixels ++ codes " sounds " ++ decimal sounds
+    ++ codes "\n"
 
 abbrev pub numbers_line : ℕ → ℕ → ℕ → ℕ → ℕ → List ℕ
 numbers_line frames rows sync pixels sounds =
@@ -48,7 +49,8 @@ numbers_line frames rows sync pixels sounds =
 abbrev pub numbers_of : List Edge → List ℕ
 numbers_of edges =
     let history = newest_first edges in
-    numbers_line (end_records history) (row_records history) (count_of is_sync history) (count_of is_pixel history) (count_of is_sound history)
+    numbers_line (end_records history) (row_records history) (count_of is_sync history) (count_of is_pixel history)
+    (count_of is_sound history)
 
 abbrev pub not_entered_line : List ℕ
 not_entered_line = codes "not entered\n"
@@ -92,7 +94,8 @@ pub record IsHaltedRun (frames : List ℕ) (clocks : ℕ) (start : State PadHist
 
 abbrev pub IsFramedRun : List ℕ → Cert → ℕ → State PadHistory → Answer → Type 0
 IsFramedRun frames certificate clocks start answer =
-    IsEnteredRun frames certificate clocks start answer ⊎ (IsUnenteredRun frames certificate clocks start answer ⊎ IsHaltedRun frames clocks start answer)
+    IsEnteredRun frames certificate clocks start answer ⊎ (IsUnenteredRun frames certificate clocks start answer ⊎ IsHaltedRun frames clocks
+    start answer)
 
 -- once all files are read: the pair is refused, with the first item that refuses it, or it is accepted, and the machine runs
 abbrev pub IsPlay : ℕ → List ℕ → Flash → Cert → List Pad → Answer → Type 0
@@ -102,16 +105,18 @@ IsPlay clocks frames image certificate pads answer =
 
 -- once the certificate is read
 abbrev pub PlayAnswersWith : Option FileMap → Type 0 → List ℕ → ℕ → List ℕ → Flash → Cert → Answer → Type 0
-PlayAnswersWith files load_fault pads clocks frames image certificate = Reads files load_fault pads text_limit SpellsPads RefusesPads (IsPlay clocks frames image certificate)
+PlayAnswersWith files load_fault pads clocks frames image certificate = Reads files load_fault pads text_limit SpellsPads RefusesPads
+    (IsPlay clocks frames image certificate)
 
 -- once the image is read
 abbrev pub PlayAnswersFor : Option FileMap → Type 0 → List ℕ → List ℕ → ℕ → List ℕ → Flash → Answer → Type 0
 PlayAnswersFor files load_fault cert pads clocks frames image =
-    Reads files load_fault cert certificate_limit (Spells certificate_of) (Refuses certificate_of) (PlayAnswersWith files load_fault pads clocks frames image)
+    Reads files load_fault cert certificate_limit IsCertificateText RefusesCertificate
+    (PlayAnswersWith files load_fault pads clocks frames image)
 
 abbrev pub PlayAnswers : Option FileMap → Type 0 → List ℕ → List ℕ → List ℕ → ℕ → List ℕ → Answer → Type 0
 PlayAnswers files load_fault hex cert pads clocks frames =
-    Reads files load_fault hex text_limit (Spells image_of) (Refuses image_of) (PlayAnswersFor files load_fault cert pads clocks frames)
+    Reads files load_fault hex text_limit IsHexOf RefusesHex (PlayAnswersFor files load_fault cert pads clocks frames)
 
 -- a part of the run: the records of its edges; the status of a part is never asked
 pub record IsFramedPart (frames : List ℕ) (clocks : ℕ) (start : State PadHistory) (answer : Answer) : Type 0 where
@@ -121,9 +126,10 @@ pub record IsFramedPart (frames : List ℕ) (clocks : ℕ) (start : State PadHis
   pub told : answer ≡ framed frames edges Unwritten []
 
 -- the three files spell this
-pub record SpellsPlay (files : Option FileMap) (hex cert pads : List ℕ) (image : Flash) (certificate : Cert) (list : List Pad) : Type 0 where
-  pub spelled_image : Says files hex text_limit (Spells image_of) image
-  pub spelled_certificate : Says files cert certificate_limit (Spells certificate_of) certificate
+pub record SpellsPlay (files : Option FileMap) (hex cert pads : List ℕ) (image : Flash) (certificate : Cert) (list : List Pad) : Type
+    0 where
+  pub spelled_image : Says files hex text_limit IsHexOf image
+  pub spelled_certificate : Says files cert certificate_limit IsCertificateText certificate
   pub spelled_pads : Says files pads text_limit SpellsPads list
 
 -- where it is cut short in the midst of the run
@@ -139,8 +145,9 @@ pub record PlayParts (files : Option FileMap) (hex cert pads : List ℕ) (clocks
 abbrev pub PlayLacks : Option FileMap → List ℕ → List ℕ → List ℕ → Type 0
 PlayLacks files hex cert pads =
     LacksFile files hex
-    ⊎ (((image : Flash) × Says files hex text_limit (Spells image_of) image × LacksFile files cert)
-    ⊎ ((image : Flash) × (certificate : Cert) × Says files hex text_limit (Spells image_of) image × Says files cert certificate_limit (Spells certificate_of) certificate × LacksFile files pads))
+    ⊎ (((image : Flash) × Says files hex text_limit IsHexOf image × LacksFile files cert)
+    ⊎ ((image : Flash) × (certificate : Cert) × Says files hex text_limit IsHexOf image × Says files cert certificate_limit
+    IsCertificateText certificate × LacksFile files pads))
 
 -- a state of a run of so many clocks meets the entry condition
 pub record Enters (certificate : Cert) (clocks : ℕ) (start : State PadHistory) : Type 0 where

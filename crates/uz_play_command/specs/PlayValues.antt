@@ -19,19 +19,21 @@ use Rattle.uz_files.specs.declared.status.Status.{Status}
 use Rattle.uz_files.specs.declared.status.Status.TheVariants.{Done, NotEntered, Refused, Stopped}
 use Rattle.uz_files.specs.Answers.{Answer}
 use Rattle.uz_files.specs.Endings.{answer_of}
-use Rattle.uz_files.specs.Reading.{Fails, Refuses, Says, Spells, certificate_limit, text_limit}
-use Rattle.uz_files.specs.ImageFile.{image_of}
-use Rattle.uz_files.specs.CertificateFile.{certificate_of}
-use Rattle.uz_files.specs.PadFile.{RefusesPads}
+use Rattle.uz_files.specs.Reading.{Fails, Says, certificate_limit, text_limit}
 use Rattle.uz_play_command.specs.PlayCommand.{IsPlay, SpellsPlay, edge_numbers, entered_line, not_entered_line, numbers_line}
 use Rattle.uz_run_commands.specs.TraceCommand.{start_of, stopped_at_line}
+use Rattle.uz_hex.specs.HexText.{IsHexOf}
+use Rattle.uz_cert.specs.Texts.{IsCertificateText}
+use Rattle.uz_files.specs.Formats.{RefusesCertificate, RefusesHex, RefusesPads}
 
 -- a file ends the command, and the ones before it are read
 abbrev pub PlayPreface : Option FileMap → Type 0 → List ℕ → List ℕ → List ℕ → Answer → Type 0
 PlayPreface files load_fault hex cert pads answer =
-    Fails files load_fault hex text_limit (Refuses image_of) answer
-    ⊎ (((image : Flash) × Says files hex text_limit (Spells image_of) image × Fails files load_fault cert certificate_limit (Refuses certificate_of) answer)
-    ⊎ ((image : Flash) × (certificate : Cert) × Says files hex text_limit (Spells image_of) image × Says files cert certificate_limit (Spells certificate_of) certificate × Fails files load_fault pads text_limit RefusesPads answer))
+    Fails files load_fault hex text_limit RefusesHex answer
+    ⊎ (((image : Flash) × Says files hex text_limit IsHexOf image × Fails files load_fault cert certificate_limit
+    RefusesCertificate answer)
+    ⊎ ((image : Flash) × (certificate : Cert) × Says files hex text_limit IsHexOf image × Says files cert certificate_limit
+    IsCertificateText certificate × Fails files load_fault pads text_limit RefusesPads answer))
 
 -- the console is at reset with what the three files say, and the pair is accepted
 pub record IsReady (files : Option FileMap) (hex cert pads : List ℕ) (console : Console) (certificate : Cert) : Type 0 where

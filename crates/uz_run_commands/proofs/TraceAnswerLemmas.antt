@@ -19,10 +19,9 @@ use Rattle.uz_files.specs.declared.status.Status.TheVariants.{Done, Unread, BadI
 use Rattle.uz_files.specs.Answers.{Answer, ComesOf, Outcome, ended, outside}
 use Rattle.uz_files.specs.Endings.{ComesOfFailure, EndsBy}
 use Rattle.uz_files.specs.Lines.{no_memory_line}
-use Rattle.uz_files.specs.Reading.{Fails, Refuses, Says, Spells, text_limit}
-use Rattle.uz_files.specs.ImageFile.{image_of}
-use Rattle.uz_files.specs.PadFile.{RefusesPads, SpellsPads}
-use Rattle.uz_run_commands.specs.TraceCommand.{IsTrace, TraceAnswers, TraceLacks, TraceParts, TraceSucceeds, edge_lines, end_line, start_of, stopped_line}
+use Rattle.uz_files.specs.Reading.{Fails, Says, text_limit}
+use Rattle.uz_run_commands.specs.TraceCommand.{IsTrace, TraceAnswers, TraceLacks, TraceParts, TraceSucceeds, edge_lines, end_line, start_of}
+use Rattle.uz_run_commands.specs.TraceCommand.{stopped_line}
 use Rattle.uz_run_commands.specs.TraceValues.{IsPrinted, IsPrintedPart, StartsTrace, TracePreface, end_status, last_line}
 use Rattle.uz_files.proofs.FaultLemmas.{rose_later}
 use Rattle.uz_files.proofs.ReadingLemmas.{ends_by, fails_by}
@@ -30,15 +29,20 @@ use Rattle.uz_files.proofs.ReadsLemmas.{fails_status}
 use Rattle.uz_run_commands.proofs.TraceLemmas.{cut_part}
 use Rattle.uz_files.proofs.TextLemmas.{takes_none}
 use Rattle.uz_files.proofs.EndingLemmas.{comes_by, run_outcome}
+use Rattle.uz_hex.specs.HexText.{IsHexOf}
+use Rattle.uz_files.specs.Formats.{RefusesHex, RefusesPads, SpellsPads}
 
-is_trace_status : (clocks : ℕ) (start : State PadHistory) (answer : Answer) → IsTrace clocks start answer → (answer.status ≡ Done) ⊎ (answer.status ≡ Stopped)
+is_trace_status : (clocks : ℕ) (start : State PadHistory) (answer : Answer) → IsTrace clocks start answer → (answer.status ≡ Done)
+    ⊎ (answer.status ≡ Stopped)
 is_trace_status clocks start answer (inl traced) = inl (ap (λ a. a.status) traced.printed)
 is_trace_status clocks start answer (inr stopped) = inr (ap (λ a. a.status) stopped.printed)
 
 -- the statuses of `trace`, and the cause of Unread
-pub trace_status : (files : Option FileMap) (load_fault : Type 0) (hex pads : List ℕ) (irq : Response) (clocks : ℕ) (answer : Answer) → TraceAnswers files load_fault hex pads irq clocks answer → ((answer.status ≡ Unread) × (load_fault ⊎ TraceLacks files hex pads)) ⊎ ((answer.status ≡ BadInput) ⊎ ((answer.status ≡ Done) ⊎ (answer.status ≡ Stopped)))
+pub trace_status : (files : Option FileMap) (load_fault : Type 0) (hex pads : List ℕ) (irq : Response) (clocks : ℕ) (answer : Answer)
+    → TraceAnswers files load_fault hex pads irq clocks answer → ((answer.status ≡ Unread) × (load_fault ⊎ TraceLacks files hex pads))
+    ⊎ ((answer.status ≡ BadInput) ⊎ ((answer.status ≡ Done) ⊎ (answer.status ≡ Stopped)))
 trace_status files load_fault hex pads irq clocks answer (inl fails) =
-    elim (fails_status files load_fault hex text_limit (Refuses image_of) answer fails) [
+    elim (fails_status files load_fault hex text_limit RefusesHex answer fails) [
       | inl (is, inl fault) ↦ inl (is, inl fault)
       | inl (is, inr lacks) ↦ inl (is, inr (inl lacks))
       | inr bad ↦ inr (inl bad)
@@ -53,20 +57,28 @@ trace_status files load_fault hex pads irq clocks answer (inr (image, says, inr 
     inr (inr (is_trace_status clocks (start_of image list irq) answer trace))
 
 -- where all is well the answer is one that is done
-pub trace_done : (files : Option FileMap) (hex pads : List ℕ) (irq : Response) (clocks : ℕ) → TraceSucceeds files hex pads irq clocks → (answer : Answer) × TraceAnswers files ⊥ hex pads irq clocks answer × (answer.status ≡ Done)
+pub trace_done : (files : Option FileMap) (hex pads : List ℕ) (irq : Response) (clocks : ℕ) → TraceSucceeds files hex pads irq clocks
+    → (answer : Answer) × TraceAnswers files ⊥ hex pads irq clocks answer × (answer.status ≡ Done)
 trace_done files hex pads irq clocks h = (
   ended (edge_lines h.edges) Done (end_line clocks),
-  inr (h.image, h.spelled_image, inr (h.list, h.spelled_pads, inl (record { edges = h.edges; last = h.last; run = h.run; printed = refl }))),
+  inr (
+    h.image,
+    h.spelled_image,
+    inr (h.list, h.spelled_pads, inl (record { edges = h.edges; last = h.last; run = h.run; printed = refl })),
+  ),
   refl,
 )
 
 -- a file ends the command
-preface_answers : (files : Option FileMap) (load_fault : Type 0) (hex pads : List ℕ) (irq : Response) (clocks : ℕ) (answer : Answer) → TracePreface files load_fault hex pads answer → TraceAnswers files load_fault hex pads irq clocks answer
+preface_answers : (files : Option FileMap) (load_fault : Type 0) (hex pads : List ℕ) (irq : Response) (clocks : ℕ) (answer : Answer)
+    → TracePreface files load_fault hex pads answer → TraceAnswers files load_fault hex pads irq clocks answer
 preface_answers files load_fault hex pads irq clocks answer (inl fails) = inl fails
 preface_answers files load_fault hex pads irq clocks answer (inr (image, says, fails)) = inr (image, says, inl fails)
 
 -- the image is read, and the pad file ends the command
-pub preface_without_pads : (files after : Option FileMap) (old mid new : ℕ) (hex pads : List ℕ) (image : Flash) (failure : Failure) → after ≡ files → old ≤ mid → Says files hex text_limit (Spells image_of) image → EndsBy (Fails after (Rose mid new) pads text_limit RefusesPads) failure → EndsBy (TracePreface files (Rose old new) hex pads) failure
+pub preface_without_pads : (files after : Option FileMap) (old mid new : ℕ) (hex pads : List ℕ) (image : Flash) (failure : Failure)
+    → after ≡ files → old ≤ mid → Says files hex text_limit IsHexOf image
+    → EndsBy (Fails after (Rose mid new) pads text_limit RefusesPads) failure → EndsBy (TracePreface files (Rose old new) hex pads) failure
 preface_without_pads files after old mid new hex pads image failure same up says fails =
     ends_by (Fails after (Rose mid new) pads text_limit RefusesPads) (TracePreface files (Rose old new) hex pads) failure
     (λ answer h. inr (
@@ -77,7 +89,9 @@ preface_without_pads files after old mid new hex pads image failure same up says
     )) fails
 
 -- both files are read
-pub starts : (files after : Option FileMap) (hex pads : List ℕ) (irq : Response) (image : Flash) (list : List Pad) (console : Console) → after ≡ files → Says files hex text_limit (Spells image_of) image → Says after pads text_limit SpellsPads list → ((limit : ℕ) → RunsTo limit (start_of image list irq) [] console) → StartsTrace files hex pads irq console
+pub starts : (files after : Option FileMap) (hex pads : List ℕ) (irq : Response) (image : Flash) (list : List Pad) (console : Console)
+    → after ≡ files → Says files hex text_limit IsHexOf image → Says after pads text_limit SpellsPads list
+    → ((limit : ℕ) → RunsTo limit (start_of image list irq) [] console) → StartsTrace files hex pads irq console
 starts files after hex pads irq image list console same says spelled run = record {
   image = image;
   list = list;
@@ -87,12 +101,20 @@ starts files after hex pads irq image list console same says spelled run = recor
 }
 
 -- the whole run is printed
-printed_answers : (files : Option FileMap) (load_fault : Type 0) (hex pads : List ℕ) (irq : Response) (clocks : ℕ) (console : Console) (run_end : RunEnd) (old mid : Option (List ℕ)) → StartsTrace files hex pads irq console → ((start : State PadHistory) → RunsTo clocks start [] console → IsPrinted clocks start run_end old mid) → (printed : List ℕ) × TakesAll old printed mid × TraceAnswers files load_fault hex pads irq clocks (ended printed (end_status run_end) (last_line clocks run_end))
+printed_answers : (files : Option FileMap) (load_fault : Type 0) (hex pads : List ℕ) (irq : Response) (clocks : ℕ) (console : Console)
+    (run_end : RunEnd) (old mid : Option (List ℕ)) → StartsTrace files hex pads irq console
+    → ((start : State PadHistory) → RunsTo clocks start [] console → IsPrinted clocks start run_end old mid) → (printed : List ℕ)
+    × TakesAll old printed mid × TraceAnswers files load_fault hex pads irq clocks
+    (ended printed (end_status run_end) (last_line clocks run_end))
 printed_answers files load_fault hex pads irq clocks console end.Over old mid starts prints =
     let done = prints (start_of starts.image starts.list irq) (starts.run clocks) in (
       edge_lines done.0,
       done.3,
-      inr (starts.image, starts.spelled_image, inr (starts.list, starts.spelled_pads, inl (record { edges = done.0; last = done.1; run = done.2; printed = refl }))),
+      inr (
+        starts.image,
+        starts.spelled_image,
+        inr (starts.list, starts.spelled_pads, inl (record { edges = done.0; last = done.1; run = done.2; printed = refl })),
+      ),
     )
 printed_answers files load_fault hex pads irq clocks console (end.Stopped pc why) old mid starts prints =
     let stop = prints (start_of starts.image starts.list irq) (starts.run clocks) in (
@@ -116,18 +138,28 @@ printed_answers files load_fault hex pads irq clocks console (end.Stopped pc why
       ),
     )
 
-pub trace_outcome : (files after : Option FileMap) (load_fault narrow wide : Type 0) (hex pads : List ℕ) (irq : Response) (clocks : ℕ) (console : Console) (run_end : RunEnd) (came : Status) (old mid new : Option (List ℕ)) → after ≡ files → (narrow → wide) → StartsTrace files hex pads irq console → ((start : State PadHistory) → RunsTo clocks start [] console → IsPrinted clocks start run_end old mid) → ((f : Option FileMap) (was : Option (List ℕ)) (printed : List ℕ) → TakesAll was printed mid → ComesOf (ended printed (end_status run_end) (last_line clocks run_end)) narrow came (outside f was) (outside f new)) → Outcome (TraceAnswers files load_fault hex pads irq clocks) (TraceParts files hex pads irq clocks) wide came (outside files old) (outside after new)
+pub trace_outcome : (files after : Option FileMap) (load_fault narrow wide : Type 0) (hex pads : List ℕ) (irq : Response) (clocks : ℕ)
+    (console : Console) (run_end : RunEnd) (came : Status) (old mid new : Option (List ℕ)) → after ≡ files → (narrow → wide)
+    → StartsTrace files hex pads irq console → ((start : State PadHistory) → RunsTo clocks start [] console → IsPrinted clocks start run_end
+    old mid) → ((f : Option FileMap) (was : Option (List ℕ)) (printed : List ℕ) → TakesAll was printed mid
+    → ComesOf (ended printed (end_status run_end) (last_line clocks run_end)) narrow came (outside f was) (outside f new))
+    → Outcome (TraceAnswers files load_fault hex pads irq clocks) (TraceParts files hex pads irq clocks) wide came (outside files old)
+    (outside after new)
 trace_outcome files after load_fault narrow wide hex pads irq clocks console run_end came old mid new same widen starts prints comes =
     let all = printed_answers files load_fault hex pads irq clocks console run_end old mid starts prints in
-    subst (λ f. Outcome (TraceAnswers files load_fault hex pads irq clocks) (TraceParts files hex pads irq clocks) wide came (outside files old) (outside f new)) (sym same)
+    subst (λ f. Outcome (TraceAnswers files load_fault hex pads irq clocks) (TraceParts files hex pads irq clocks) wide came
+    (outside files old) (outside f new)) (sym same)
     (inr (inl (
       ended all.0 (end_status run_end) (last_line clocks run_end),
       all.2,
-      comes_by (ended all.0 (end_status run_end) (last_line clocks run_end)) came narrow wide (outside files old) (outside files new) widen (comes files old all.0 all.1),
+      comes_by (ended all.0 (end_status run_end) (last_line clocks run_end)) came narrow wide (outside files old) (outside files new) widen
+          (comes files old all.0 all.1),
     )))
 
 -- a part of the run is printed
-part_answers : (files : Option FileMap) (hex pads : List ℕ) (irq : Response) (clocks : ℕ) (console : Console) (old mid : Option (List ℕ)) → StartsTrace files hex pads irq console → ((start : State PadHistory) → RunsTo clocks start [] console → IsPrintedPart clocks start old mid) → (printed : List ℕ) × TakesPrefix old printed mid × TraceParts files hex pads irq clocks (ended printed Unwritten [])
+part_answers : (files : Option FileMap) (hex pads : List ℕ) (irq : Response) (clocks : ℕ) (console : Console) (old mid : Option (List ℕ))
+    → StartsTrace files hex pads irq console → ((start : State PadHistory) → RunsTo clocks start [] console → IsPrintedPart clocks start old
+    mid) → (printed : List ℕ) × TakesPrefix old printed mid × TraceParts files hex pads irq clocks (ended printed Unwritten [])
 part_answers files hex pads irq clocks console old mid starts prints =
     let part = prints (start_of starts.image starts.list irq) (starts.run clocks) in (
       edge_lines part.0,
@@ -141,20 +173,40 @@ part_answers files hex pads irq clocks console old mid starts prints =
       },
     )
 
-pub trace_unwritten : (files after : Option FileMap) (load_fault wide : Type 0) (hex pads : List ℕ) (irq : Response) (clocks : ℕ) (console : Console) (came : Status) (old new : Option (List ℕ)) → after ≡ files → wide → came ≡ Unwritten → StartsTrace files hex pads irq console → ((start : State PadHistory) → RunsTo clocks start [] console → IsPrintedPart clocks start old new) → Outcome (TraceAnswers files load_fault hex pads irq clocks) (TraceParts files hex pads irq clocks) wide came (outside files old) (outside after new)
+pub trace_unwritten : (files after : Option FileMap) (load_fault wide : Type 0) (hex pads : List ℕ) (irq : Response) (clocks : ℕ)
+    (console : Console) (came : Status) (old new : Option (List ℕ)) → after ≡ files → wide → came ≡ Unwritten → StartsTrace files hex pads
+    irq console → ((start : State PadHistory) → RunsTo clocks start [] console → IsPrintedPart clocks start old new)
+    → Outcome (TraceAnswers files load_fault hex pads irq clocks) (TraceParts files hex pads irq clocks) wide came (outside files old)
+    (outside after new)
 trace_unwritten files after load_fault wide hex pads irq clocks console came old new same fault is starts prints =
     let part = part_answers files hex pads irq clocks console old new starts prints in
-    subst (λ f. Outcome (TraceAnswers files load_fault hex pads irq clocks) (TraceParts files hex pads irq clocks) wide came (outside files old) (outside f new)) (sym same)
+    subst (λ f. Outcome (TraceAnswers files load_fault hex pads irq clocks) (TraceParts files hex pads irq clocks) wide came
+    (outside files old) (outside f new)) (sym same)
     (inr (inr (ended part.0 Unwritten [], part.2, inl (is, fault, cut_part part.0 [] files old new new part.1 (takes_none new)))))
 
-pub trace_lacks : (files after : Option FileMap) (load_fault wide : Type 0) (hex pads : List ℕ) (irq : Response) (clocks : ℕ) (console : Console) (came : Status) (old mid new : Option (List ℕ)) → after ≡ files → came ≡ NoMemory → TakesPrefix mid no_memory_line new → StartsTrace files hex pads irq console → ((start : State PadHistory) → RunsTo clocks start [] console → IsPrintedPart clocks start old mid) → Outcome (TraceAnswers files load_fault hex pads irq clocks) (TraceParts files hex pads irq clocks) wide came (outside files old) (outside after new)
+pub trace_lacks : (files after : Option FileMap) (load_fault wide : Type 0) (hex pads : List ℕ) (irq : Response) (clocks : ℕ)
+    (console : Console) (came : Status) (old mid new : Option (List ℕ)) → after ≡ files → came ≡ NoMemory → TakesPrefix mid no_memory_line
+    new → StartsTrace files hex pads irq console → ((start : State PadHistory) → RunsTo clocks start [] console → IsPrintedPart clocks start
+    old mid) → Outcome (TraceAnswers files load_fault hex pads irq clocks) (TraceParts files hex pads irq clocks) wide came
+    (outside files old) (outside after new)
 trace_lacks files after load_fault wide hex pads irq clocks console came old mid new same is line starts prints =
     let part = part_answers files hex pads irq clocks console old mid starts prints in
-    subst (λ f. Outcome (TraceAnswers files load_fault hex pads irq clocks) (TraceParts files hex pads irq clocks) wide came (outside files old) (outside f new)) (sym same)
-    (inr (inr (ended part.0 Unwritten [], part.2, inr (is, (line.0, cut_part part.0 (take line.0 no_memory_line) files old mid new part.1 line.1)))))
+    subst (λ f. Outcome (TraceAnswers files load_fault hex pads irq clocks) (TraceParts files hex pads irq clocks) wide came
+    (outside files old) (outside f new)) (sym same)
+    (inr (inr (
+      ended part.0 Unwritten [],
+      part.2,
+      inr (is, (line.0, cut_part part.0 (take line.0 no_memory_line) files old mid new part.1 line.1)),
+    )))
 
 -- a file ends the command
-pub trace_failed : (files after : Option FileMap) (load_fault narrow wide : Type 0) (hex pads : List ℕ) (irq : Response) (clocks : ℕ) (failure : Failure) (came : Status) (old new : Option (List ℕ)) → after ≡ files → (narrow → wide) → EndsBy (TracePreface files load_fault hex pads) failure → ((f : Option FileMap) → ComesOfFailure failure narrow came (outside f old) (outside f new)) → Outcome (TraceAnswers files load_fault hex pads irq clocks) (TraceParts files hex pads irq clocks) wide came (outside files old) (outside after new)
+pub trace_failed : (files after : Option FileMap) (load_fault narrow wide : Type 0) (hex pads : List ℕ) (irq : Response) (clocks : ℕ)
+    (failure : Failure) (came : Status) (old new : Option (List ℕ)) → after ≡ files → (narrow → wide)
+    → EndsBy (TracePreface files load_fault hex pads) failure → ((f : Option FileMap) → ComesOfFailure failure narrow came (outside f old)
+    (outside f new)) → Outcome (TraceAnswers files load_fault hex pads irq clocks) (TraceParts files hex pads irq clocks) wide came
+    (outside files old) (outside after new)
 trace_failed files after load_fault narrow wide hex pads irq clocks failure came old new same widen given comes =
-    run_outcome (TraceAnswers files load_fault hex pads irq clocks) (TraceParts files hex pads irq clocks) (Err failure) came narrow wide files after old new widen same
-    (ends_by (TracePreface files load_fault hex pads) (TraceAnswers files load_fault hex pads irq clocks) failure (preface_answers files load_fault hex pads irq clocks) given) comes
+    run_outcome (TraceAnswers files load_fault hex pads irq clocks) (TraceParts files hex pads irq clocks) (Err failure) came narrow wide
+    files after old new widen same
+    (ends_by (TracePreface files load_fault hex pads) (TraceAnswers files load_fault hex pads irq clocks) failure
+    (preface_answers files load_fault hex pads irq clocks) given) comes

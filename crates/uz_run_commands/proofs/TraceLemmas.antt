@@ -1,5 +1,6 @@
 -- The lines of a run, printed as it goes.
-use Rattle.std.proofs.Common.{◌≡◌, inl, inr, ℕ, ◌+◌, ◌<◌, List, slice_index_or, [], ◌∷◌, ◌++◌, length, take, refl, sym, ap, subst, ◌∙◌, append_assoc}
+use Rattle.std.proofs.Common.{◌≡◌, inl, inr, ℕ, ◌+◌, ◌<◌, List, slice_index_or, [], ◌∷◌, ◌++◌, length, take, refl, sym, ap, subst, ◌∙◌}
+use Rattle.std.proofs.Common.{append_assoc}
 use Rattle.std.specs.Prelude.{Option, Some, None}
 use Rattle.std.proofs.lemmas.List.{append-nil, take_more}
 use Rattle.std.proofs.Math.Seq.{take-append-add, take-append_seam}
@@ -28,35 +29,51 @@ use Rattle.uz_files.proofs.TextLemmas.{takes_none}
 
 edge_lines-append : (a b : List Edge) → edge_lines (a ++ b) ≡ edge_lines a ++ edge_lines b
 edge_lines-append [] b = refl
-edge_lines-append (x ∷ xs) b = ap (λ t. edge_line x ++ t) (edge_lines-append xs b) ∙ sym (append_assoc (edge_line x) (edge_lines xs) (edge_lines b))
+edge_lines-append (x ∷ xs) b = ap (λ t. edge_line x ++ t) (edge_lines-append xs b)
+    ∙ sym (append_assoc (edge_line x) (edge_lines xs) (edge_lines b))
 
 -- a piece, and then a prefix of another
-takes_then_prefix : (old mid new : Option (List ℕ)) (a b : List ℕ) → TakesAll old a mid → TakesPrefix mid b new → TakesPrefix old (a ++ b) new
-takes_then_prefix old mid new a b whole part =
-    (length a + part.0, subst (λ p. TakesAll old p new) (sym (take-append-add a b part.0)) (takes_both old a (take part.0 b) mid new whole part.1))
+takes_then_prefix : (old mid new : Option (List ℕ)) (a b : List ℕ) → TakesAll old a mid → TakesPrefix mid b new → TakesPrefix old (a ++ b)
+    new
+takes_then_prefix old mid new a b whole part = (
+  length a + part.0,
+  subst (λ p. TakesAll old p new) (sym (take-append-add a b part.0)) (takes_both old a (take part.0 b) mid new whole
+      part.1),
+)
 
 -- a text, of which some bytes wait, that goes on
-flushed : (printed waiting old_waiting more flush : List ℕ) → flush ++ waiting ≡ old_waiting ++ more → (printed ++ flush) ++ waiting ≡ (printed ++ old_waiting) ++ more
-flushed printed waiting old_waiting more flush e = append_assoc printed flush waiting ∙ (ap (λ t. printed ++ t) e ∙ sym (append_assoc printed old_waiting more))
+flushed : (printed waiting old_waiting more flush : List ℕ) → flush ++ waiting ≡ old_waiting ++ more → (printed ++ flush)
+    ++ waiting ≡ (printed ++ old_waiting) ++ more
+flushed printed waiting old_waiting more flush e = append_assoc printed flush waiting
+    ∙ (ap (λ t. printed ++ t) e ∙ sym (append_assoc printed old_waiting more))
 
-pub starts_printed : (limit : ℕ) (start : State PadHistory) (console : Console) (text : Option (List ℕ)) → RunsTo limit start [] console → IsPrintedSoFar limit start console [] text text
+pub starts_printed : (limit : ℕ) (start : State PadHistory) (console : Console) (text : Option (List ℕ)) → RunsTo limit start [] console
+    → IsPrintedSoFar limit start console [] text text
 starts_printed limit start console text run = ([], run, ([], refl, takes_none text))
 
-pub goes_on : (limit : ℕ) (start : State PadHistory) (mid next : Console) (more : List Edge) (waiting waits : List ℕ) (old was new : Option (List ℕ)) → IsPrintedSoFar limit start mid waiting old was → ((s : State PadHistory) (edges : List Edge) → RunsTo limit s edges mid → RunsTo limit s (edges ++ more) next) → TakesAllBut waits was (waiting ++ edge_lines more) new → IsPrintedSoFar limit start next waits old new
+pub goes_on : (limit : ℕ) (start : State PadHistory) (mid next : Console) (more : List Edge) (waiting waits : List ℕ)
+    (old was new : Option (List ℕ)) → IsPrintedSoFar limit start mid waiting old was
+    → ((s : State PadHistory) (edges : List Edge) → RunsTo limit s edges mid → RunsTo limit s (edges ++ more) next) → TakesAllBut waits was
+    (waiting ++ edge_lines more) new → IsPrintedSoFar limit start next waits old new
 goes_on limit start mid next more waiting waits old was new (edges, run, (printed, whole, takes)) step (flush, rest, piece) = (
   edges ++ more,
   step start edges run,
   (
     printed ++ flush,
-    flushed printed waits waiting (edge_lines more) flush rest ∙ (ap (λ t. t ++ edge_lines more) whole ∙ sym (edge_lines-append edges more)),
+    flushed printed waits waiting (edge_lines more) flush rest
+        ∙ (ap (λ t. t ++ edge_lines more) whole ∙ sym (edge_lines-append edges more)),
     takes_both old printed flush was new takes piece,
   ),
 )
 
-pub is_cut : (limit : ℕ) (start : State PadHistory) (mid next : Console) (more : List Edge) (waiting : List ℕ) (old was new : Option (List ℕ)) → IsPrintedSoFar limit start mid waiting old was → ((s : State PadHistory) (edges : List Edge) → RunsTo limit s edges mid → RunsTo limit s (edges ++ more) next) → TakesPrefix was (waiting ++ edge_lines more) new → IsPrintedPart limit start old new
+pub is_cut : (limit : ℕ) (start : State PadHistory) (mid next : Console) (more : List Edge) (waiting : List ℕ)
+    (old was new : Option (List ℕ)) → IsPrintedSoFar limit start mid waiting old was
+    → ((s : State PadHistory) (edges : List Edge) → RunsTo limit s edges mid → RunsTo limit s (edges ++ more) next) → TakesPrefix was
+    (waiting ++ edge_lines more) new → IsPrintedPart limit start old new
 is_cut limit start mid next more waiting old was new (edges, run, (printed, whole, takes)) step piece =
     let goes = step start edges run in
-    let lines : printed ++ (waiting ++ edge_lines more) ≡ edge_lines (edges ++ more) = sym (append_assoc printed waiting (edge_lines more)) ∙ (ap (λ t. t ++ edge_lines more) whole ∙ sym (edge_lines-append edges more)) in (
+    let lines : printed ++ (waiting ++ edge_lines more) ≡ edge_lines (edges ++ more) = sym (append_assoc printed waiting (edge_lines more))
+    ∙ (ap (λ t. t ++ edge_lines more) whole ∙ sym (edge_lines-append edges more)) in (
       edges ++ more,
       goes.0,
       goes.1,
@@ -64,32 +81,56 @@ is_cut limit start mid next more waiting old was new (edges, run, (printed, whol
     )
 
 -- the lines that wait at the run's end are cut
-pub end_is_cut : (limit : ℕ) (start : State PadHistory) (mid : Console) (waiting : List ℕ) (old was new : Option (List ℕ)) → IsPrintedSoFar limit start mid waiting old was → TakesPrefix was waiting new → IsPrintedPart limit start old new
+pub end_is_cut : (limit : ℕ) (start : State PadHistory) (mid : Console) (waiting : List ℕ) (old was new : Option (List ℕ)) → IsPrintedSoFar
+    limit start mid waiting old was → TakesPrefix was waiting new → IsPrintedPart limit start old new
 end_is_cut limit start mid waiting old was new (edges, run, (printed, whole, takes)) piece =
     (edges, run.0, run.1, subst (λ t. TakesPrefix old t new) whole (takes_then_prefix old was new printed waiting takes piece))
 
 -- a run that is over, and one that is stopped
-pub prints_over : (limit : ℕ) (start : State PadHistory) (mid next : Console) (waiting : List ℕ) (old was new : Option (List ℕ)) → IsPrintedSoFar limit start mid waiting old was → ((s : State PadHistory) (edges : List Edge) → RunsTo limit s edges mid → RunIsOver limit s edges next) → TakesAll was waiting new → IsPrinted limit start end.Over old new
+pub prints_over : (limit : ℕ) (start : State PadHistory) (mid next : Console) (waiting : List ℕ) (old was new : Option (List ℕ))
+    → IsPrintedSoFar limit start mid waiting old was → ((s : State PadHistory) (edges : List Edge) → RunsTo limit s edges mid
+    → RunIsOver limit s edges next) → TakesAll was waiting new → IsPrinted limit start end.Over old new
 prints_over limit start mid next waiting old was new (edges, run, (printed, whole, takes)) step piece =
     let over = step start edges run in
     (edges, over.0, over.1, subst (λ t. TakesAll old t new) whole (takes_both old printed waiting was new takes piece))
 
-pub prints_stopped : (limit : ℕ) (start : State PadHistory) (mid next : Console) (pc : ℕ) (why : Why) (waiting : List ℕ) (old was new : Option (List ℕ)) → IsPrintedSoFar limit start mid waiting old was → ((s : State PadHistory) (edges : List Edge) → RunsTo limit s edges mid → (last : State PadHistory) × IsStoppedRun limit s edges last × Halts last why × StandsFor next last) → ((s : State PadHistory) → StandsFor next s → pc ≡ s.core.pc) → TakesAll was waiting new → IsPrinted limit start (end.Stopped pc why) old new
+pub prints_stopped : (limit : ℕ) (start : State PadHistory) (mid next : Console) (pc : ℕ) (why : Why) (waiting : List ℕ)
+    (old was new : Option (List ℕ)) → IsPrintedSoFar limit start mid waiting old was
+    → ((s : State PadHistory) (edges : List Edge) → RunsTo limit s edges mid → (last : State PadHistory) × IsStoppedRun limit s edges last
+    × Halts last why × StandsFor next last) → ((s : State PadHistory) → StandsFor next s → pc ≡ s.core.pc) → TakesAll was waiting new
+    → IsPrinted limit start (end.Stopped pc why) old new
 prints_stopped limit start mid next pc why waiting old was new (edges, run, (printed, whole, takes)) step at piece =
-    let stop = step start edges run in
-    (edges, stop.0, stop.1, stop.2, at stop.0 stop.3, subst (λ t. TakesAll old t new) whole (takes_both old printed waiting was new takes piece))
+    let stop = step start edges run in (
+      edges,
+      stop.0,
+      stop.1,
+      stop.2,
+      at stop.0 stop.3,
+      subst (λ t. TakesAll old t new) whole
+          (takes_both old printed waiting was new takes piece),
+    )
 
 -- what comes after what is printed already
-cut_after : (printed line further : List ℕ) (s : Status) (files : Option FileMap) (old mid new : Option (List ℕ)) → TakesAll old printed mid → IsCut (one_line s line) further (outside files mid) (outside files new) → IsCut (ended printed s line) further (outside files old) (outside files new)
+cut_after : (printed line further : List ℕ) (s : Status) (files : Option FileMap) (old mid new : Option (List ℕ)) → TakesAll old printed mid
+    → IsCut (one_line s line) further (outside files mid) (outside files new) → IsCut (ended printed s line) further (outside files old)
+    (outside files new)
 cut_after printed line further s files old mid new before (inl (same, text)) =
-    inr (refl, (length printed, subst (λ p. TakesAll old (p ++ further) new) (sym (take-append_seam printed line)) (takes_both old printed further mid new before text)))
+    inr (
+      refl,
+      (
+        length printed,
+        subst (λ p. TakesAll old (p ++ further) new) (sym (take-append_seam printed line))
+            (takes_both old printed further mid new before text),
+      ),
+    )
 cut_after printed line further s files old mid new before (inr (same, (count, text))) =
     inr (
       refl,
       (
         length printed + count,
         subst (λ p. TakesAll old (p ++ further) new) (sym (take-append-add printed line count))
-            (subst (λ p. TakesAll old p new) (sym (append_assoc printed (take count line) further)) (takes_both old printed (take count line ++ further) mid new before text)),
+            (subst (λ p. TakesAll old p new) (sym (append_assoc printed (take count line) further))
+            (takes_both old printed (take count line ++ further) mid new before text)),
       ),
     )
 
@@ -98,18 +139,24 @@ writes_more printed line s (inl done) = inl done
 writes_more printed line s (inr (inl none)) = absurd (none refl)
 writes_more printed line s (inr (inr none)) = absurd (none refl)
 
-pub comes_after : (printed line : List ℕ) (s came : Status) (write_fault : Type 0) (files : Option FileMap) (old mid new : Option (List ℕ)) → TakesAll old printed mid → ComesOf (one_line s line) write_fault came (outside files mid) (outside files new) → ComesOf (ended printed s line) write_fault came (outside files old) (outside files new)
+pub comes_after : (printed line : List ℕ) (s came : Status) (write_fault : Type 0) (files : Option FileMap) (old mid new : Option (List ℕ))
+    → TakesAll old printed mid → ComesOf (one_line s line) write_fault came (outside files mid) (outside files new)
+    → ComesOf (ended printed s line) write_fault came (outside files old) (outside files new)
 comes_after printed line s came write_fault files old mid new before (inl ends) = inl (record {
   status = ends.status;
   files = refl;
   done = λ d. takes_both old printed line mid new before (ends.done d);
+  whole = λ none. takes_both old printed line mid new before (ends.whole none);
   text = (ends.text.0, takes_both old printed (take ends.text.0 line) mid new before ends.text.1);
 })
 comes_after printed line s came write_fault files old mid new before (inr (inl (more, cut))) =
     inr (inl (writes_more printed line s more, (cut.0, cut.1, cut_after printed line [] s files old mid new before cut.2)))
-comes_after printed line s came write_fault files old mid new before (inr (inr lacks)) = inr (inr (lacks.0, (lacks.1.0, cut_after printed line (take lacks.1.0 no_memory_line) s files old mid new before lacks.1.1)))
+comes_after printed line s came write_fault files old mid new before (inr (inr lacks)) =
+    inr (inr (lacks.0, (lacks.1.0, cut_after printed line (take lacks.1.0 no_memory_line) s files old mid new before lacks.1.1)))
 
-pub lacks_after : (printed line : List ℕ) (s came : Status) (write_fault : Type 0) (files : Option FileMap) (old mid new : Option (List ℕ)) → TakesAll old printed mid → came ≡ status.NoMemory → TakesPrefix mid no_memory_line new → ComesOf (ended printed s line) write_fault came (outside files old) (outside files new)
+pub lacks_after : (printed line : List ℕ) (s came : Status) (write_fault : Type 0) (files : Option FileMap) (old mid new : Option (List ℕ))
+    → TakesAll old printed mid → came ≡ status.NoMemory → TakesPrefix mid no_memory_line new → ComesOf (ended printed s line) write_fault
+    came (outside files old) (outside files new)
 lacks_after printed line s came write_fault files old mid new before same part =
     inr (inr (
       same,
@@ -119,25 +166,39 @@ lacks_after printed line s came write_fault files old mid new before same part =
           refl,
           (
             length printed,
-            subst (λ p. TakesAll old (p ++ take part.0 no_memory_line) new) (sym (take-append_seam printed line)) (takes_both old printed (take part.0 no_memory_line) mid new before part.1),
+            subst (λ p. TakesAll old (p ++ take part.0 no_memory_line) new) (sym (take-append_seam printed line))
+                (takes_both old printed (take part.0 no_memory_line) mid new before part.1),
           ),
         ),
       ),
     ))
 
 -- a part of the lines is printed, and then it is cut short
-pub cut_part : (printed further : List ℕ) (files : Option FileMap) (old mid new : Option (List ℕ)) → TakesPrefix old printed mid → TakesAll mid further new → IsCut (ended printed status.Unwritten []) further (outside files old) (outside files new)
+pub cut_part : (printed further : List ℕ) (files : Option FileMap) (old mid new : Option (List ℕ)) → TakesPrefix old printed mid
+    → TakesAll mid further new → IsCut (ended printed status.Unwritten []) further (outside files old) (outside files new)
 cut_part printed further files old mid new part rest =
-    inr (refl, (part.0, subst (λ p. TakesAll old (take part.0 p ++ further) new) (sym (append-nil printed)) (takes_both old (take part.0 printed) further mid new part.1 rest)))
+    inr (
+      refl,
+      (
+        part.0,
+        subst (λ p. TakesAll old (take part.0 p ++ further) new) (sym (append-nil printed))
+            (takes_both old (take part.0 printed) further mid new part.1 rest),
+      ),
+    )
 
-pub comes_ended : (ending : Ending) (printed line : List ℕ) (s came : Status) (write_fault : Type 0) (files : Option FileMap) (old mid new : Option (List ℕ)) → (ending.status ≡ s) × (ending.line.items ≡ line) → TakesAll old printed mid → ComesOf (answer_of ending) write_fault came (outside files mid) (outside files new) → ComesOf (ended printed s line) write_fault came (outside files old) (outside files new)
+pub comes_ended : (ending : Ending) (printed line : List ℕ) (s came : Status) (write_fault : Type 0) (files : Option FileMap)
+    (old mid new : Option (List ℕ)) → (ending.status ≡ s) × (ending.line.items ≡ line) → TakesAll old printed mid
+    → ComesOf (answer_of ending) write_fault came (outside files mid) (outside files new) → ComesOf (ended printed s line) write_fault came
+    (outside files old) (outside files new)
 comes_ended ending printed line s came write_fault files old mid new same before comes =
     subst (λ l. ComesOf (ended printed s l) write_fault came (outside files old) (outside files new)) same.1
     (subst (λ t. ComesOf (ended printed t ending.line.items) write_fault came (outside files old) (outside files new)) same.0
     (comes_after printed ending.line.items ending.status came write_fault files old mid new before comes))
 
 -- the lines of one more edge
-pub edge_lines-take : (edges : List Edge) (i : ℕ) (edge : Edge) → i < length edges → edge_lines (take (i + 1) edges) ≡ edge_lines (take i edges) ++ edge_line (slice_index_or edges i edge)
+pub edge_lines-take : (edges : List Edge) (i : ℕ) (edge : Edge) → i < length edges → edge_lines (take (i + 1) edges) ≡ edge_lines
+    (take i edges) ++ edge_line (slice_index_or edges i edge)
 edge_lines-take edges i edge below =
     let more : take (i + 1) edges ≡ take i edges ++ slice_index_or edges i edge ∷ [] = take_more edges i edge below in
-    ap edge_lines more ∙ (edge_lines-append (take i edges) (slice_index_or edges i edge ∷ []) ∙ ap (λ t. edge_lines (take i edges) ++ t) (append-nil (edge_line (slice_index_or edges i edge))))
+    ap edge_lines more ∙ (edge_lines-append (take i edges) (slice_index_or edges i edge ∷ []) ∙ ap (λ t. edge_lines (take i edges) ++ t)
+    (append-nil (edge_line (slice_index_or edges i edge))))

@@ -18,10 +18,10 @@ use Rattle.uz_machine.specs.Run.{IsClockRun, IsRunPart, IsStoppedRun}
 use Rattle.uz_console.specs.Turns.{Halts}
 use Rattle.uz_files.specs.declared.status.Status.TheVariants.{Done, Stopped, Unwritten}
 use Rattle.uz_files.specs.Answers.{Answer, ended}
-use Rattle.uz_files.specs.Lines.{hex_word}
-use Rattle.uz_files.specs.Reading.{Reads, Refuses, Says, Spells, text_limit}
-use Rattle.uz_files.specs.ImageFile.{image_of}
-use Rattle.uz_files.specs.PadFile.{RefusesPads, SpellsPads}
+use Rattle.uz_text.specs.Hexadecimals.{hex_word}
+use Rattle.uz_files.specs.Reading.{Reads, Says, text_limit}
+use Rattle.uz_hex.specs.HexText.{IsHexOf}
+use Rattle.uz_files.specs.Formats.{RefusesHex, RefusesPads, SpellsPads}
 
 abbrev pub kind_text : EdgeKind → List ℕ
 kind_text (Sync level) = codes "sync " ++ decimal level
@@ -88,30 +88,31 @@ IsTraceOf irq clocks image pads = IsTrace clocks (start_of image pads irq)
 
 -- once the image is read
 abbrev pub TraceAnswersFor : Option FileMap → Type 0 → List ℕ → Response → ℕ → Flash → Answer → Type 0
-TraceAnswersFor files load_fault pads irq clocks image = Reads files load_fault pads text_limit SpellsPads RefusesPads (IsTraceOf irq clocks image)
+TraceAnswersFor files load_fault pads irq clocks image = Reads files load_fault pads text_limit SpellsPads RefusesPads
+    (IsTraceOf irq clocks image)
 
 abbrev pub TraceAnswers : Option FileMap → Type 0 → List ℕ → List ℕ → Response → ℕ → Answer → Type 0
 TraceAnswers files load_fault hex pads irq clocks =
-    Reads files load_fault hex text_limit (Spells image_of) (Refuses image_of) (TraceAnswersFor files load_fault pads irq clocks)
+    Reads files load_fault hex text_limit IsHexOf RefusesHex (TraceAnswersFor files load_fault pads irq clocks)
 
 -- where the trace is cut short in the midst of the run: the lines of a part of it
 pub record TraceParts (files : Option FileMap) (hex pads : List ℕ) (irq : Response) (clocks : ℕ) (answer : Answer) : Type 0 where
   pub image : Flash
   pub list : List Pad
-  pub spelled_image : Says files hex text_limit (Spells image_of) image
+  pub spelled_image : Says files hex text_limit IsHexOf image
   pub spelled_pads : Says files pads text_limit SpellsPads list
   pub part : IsTracePart clocks (start_of image list irq) answer
 
 -- a file that is read isn't there, and the one before it is read
 abbrev pub TraceLacks : Option FileMap → List ℕ → List ℕ → Type 0
 TraceLacks files hex pads =
-    LacksFile files hex ⊎ ((image : Flash) × Says files hex text_limit (Spells image_of) image × LacksFile files pads)
+    LacksFile files hex ⊎ ((image : Flash) × Says files hex text_limit IsHexOf image × LacksFile files pads)
 
 -- both files are within their limits and grammars, and the run isn't stopped
 pub record TraceSucceeds (files : Option FileMap) (hex pads : List ℕ) (irq : Response) (clocks : ℕ) : Type 0 where
   pub image : Flash
   pub list : List Pad
-  pub spelled_image : Says files hex text_limit (Spells image_of) image
+  pub spelled_image : Says files hex text_limit IsHexOf image
   pub spelled_pads : Says files pads text_limit SpellsPads list
   pub edges : List Edge
   pub last : State PadHistory

@@ -4,33 +4,49 @@ ghost use Rattle.std.specs.Prelude.{◌≡◌, ◌≤◌, All, IfErr, IfOk};
 ghost use Rattle.uz_shelf.specs.Faults.{Rose};
 ghost use Rattle.uz_debug.specs.Sessions.{IsInRange};
 ghost use Rattle.uz_files.specs.Endings.{EndsBy};
-ghost use Rattle.uz_run_commands.specs.ScriptFile.{RefusesScript, SpellsScript, TellsScriptFault, script_why_name};
 ghost use Rattle.uz_files.specs.Reading.{Fails, Says, text_limit};
+ghost use Rattle.uz_run_commands.specs.ScriptFile.{RefusesScript, SpellsScript};
 
-use std::alloc::{AllocError, Global};
+use std::alloc::Global;
 use uz_debug::{Command, ScriptError, ScriptWhy, read_script};
-use uz_files::{Failure, TEXT_LIMIT, bad_input, load};
+use uz_files::{Failure, Format, TEXT_LIMIT, TextFault, read_file};
 use uz_shelf::Shelf;
 
-/// The name of a why, as it is printed.
-fn why_name(why: ScriptWhy) -> &'static str
-    ensures { result.now ≡ script_why_name why }
-{
-    match why {
-        ScriptWhy::Word => "Word",
-        ScriptWhy::Number => "Number",
-        ScriptWhy::Count => "Count",
-        ScriptWhy::Memory => "Memory",
-    }
-}
+/// A script of the debugger.
+struct Script;
 
-/// The end of a command whose script is refused.
-fn failure_of(alloc: Global, name: &str, error: ScriptError) -> Result<Failure, AllocError>
-    ensures { IfOk result (EndsBy (TellsScriptFault name.now error)) }
-{
-    match error.why {
-        ScriptWhy::Memory => Ok(Failure::Memory),
-        why => Ok(Failure::BadInput(bad_input(alloc, name, error.line, why_name(why))?)),
+impl Format for Script {
+    ghost use Rattle.std.specs.Prelude.{All};
+    ghost use Rattle.uz_debug.specs.Sessions.{IsInRange};
+    ghost use Rattle.uz_files.specs.Reading.{text_limit};
+    ghost use Rattle.uz_run_commands.specs.ScriptFile.{RefusesScript, SpellsScript};
+
+    type Value = Vec<Command>;
+
+    const LIMIT: u32 = TEXT_LIMIT;
+
+    ghost LIMIT = { text_limit };
+
+    ghost spells = { λ text commands. SpellsScript text commands.items };
+
+    ghost refuses = { RefusesScript };
+
+    ghost formed = { λ commands. All IsInRange commands.items };
+
+    fn read(alloc: Global, text: &[u8]) -> Result<Vec<Command>, TextFault> {
+        match read_script(alloc, text) {
+            Ok(commands) => Ok(commands),
+            Err(
+                ScriptError {
+                    why: ScriptWhy::Memory,
+                    ..
+                },
+            ) => Err(TextFault::Memory),
+            Err(ScriptError { line, why }) => Err(TextFault::At {
+                line,
+                why: why.name(),
+            }),
+        }
     }
 }
 
@@ -47,9 +63,5 @@ pub(crate) fn read_script_file<H: Shelf>(
     ensures load_faults { H.load_faults shelf.old ≤ H.load_faults shelf.new }
     ensures write_faults { H.write_faults shelf.new ≡ H.write_faults shelf.old }
 {
-    let text = load(alloc, shelf, name, TEXT_LIMIT)?;
-    match read_script(alloc, text.as_slice()) {
-        Ok(commands) => Ok(commands),
-        Err(error) => Err(failure_of(alloc, name, error)?),
-    }
+    read_file::<Script, H>(alloc, shelf, name)
 }

@@ -6,8 +6,8 @@ ghost use Rattle.uz_run_commands.specs.TraceCommand.{edge_line, edge_lines, end_
 use itoa::Buffer;
 use std::alloc::{AllocError, Global};
 use uz_core::Why;
-use uz_files::word_digits;
 use uz_machine::{Edge, EdgeKind};
+use uz_text::word_digits;
 
 /// Adds a name and a number at the end of a line.
 #[inline(always)]

@@ -1,13 +1,14 @@
 -- What the expansion of a source says: its flat text with the origins, or its first refusal.
-use Rattle.std.specs.Prelude.{◌≡◌, ◌≢◌, ℕ, ◌⊎◌, List, [], ◌∷◌, codes, slice_index_or, Option, Ok, Err}
+use Rattle.std.specs.Prelude.{◌≡◌, ◌≢◌, ℕ, ◌⊎◌, List, [], ◌∷◌, slice_index_or, Option, Ok, Err}
 use Rattle.uz_shelf.specs.Files.{FileMap}
-use Rattle.avr_macro.specs.declared.faults.MacroError.{MacroError}
-use Rattle.avr_macro.specs.declared.faults.MacroWhy.{MacroWhy}
-use Rattle.avr_macro.specs.declared.faults.MacroWhy.TheVariants as why
+use Rattle.avr_macro.specs.declared.errors.MacroError.{MacroError}
+use Rattle.avr_macro.specs.declared.errors.MacroWhy.{MacroWhy}
+use Rattle.avr_macro.specs.declared.errors.MacroWhy.TheVariants as why
 use Rattle.avr_macro.specs.declared.origin.Origin.{Origin}
 use Rattle.avr_macro.specs.Expansion.{End, Expands, FlatText, LacksLast, Refusal}
 use Rattle.uz_files.specs.declared.status.Status.TheVariants.{BadInput, Unread}
 use Rattle.uz_files.specs.Answers.{Answer, one_line}
+use Rattle.avr_macro.specs.WhyNames.{macro_why_name}
 use Rattle.uz_files.specs.Lines.{bad_line, unread_line}
 
 -- the file of an origin, and the last file that was asked for
@@ -18,19 +19,6 @@ abbrev pub last_name : List (List ℕ) → List ℕ
 last_name [] = []
 last_name (name ∷ []) = name
 last_name (name ∷ more ∷ names) = last_name (more ∷ names)
-
--- a why is printed by its name
-abbrev pub macro_why_name : MacroWhy → List ℕ
-macro_why_name why.Unread = codes "Unread"
-macro_why_name why.TooLong = codes "TooLong"
-macro_why_name why.Depth = codes "Depth"
-macro_why_name why.Form = codes "Form"
-macro_why_name why.Unclosed = codes "Unclosed"
-macro_why_name why.Twice = codes "Twice"
-macro_why_name why.Value = codes "Value"
-macro_why_name why.Argument = codes "Argument"
-macro_why_name why.Full = codes "Full"
-macro_why_name why.Memory = codes "Memory"
 
 -- a refusal is told at its line of its file, and a file that can't be read by its name
 abbrev pub bad_at : List (List ℕ) → Origin → List ℕ → Answer
@@ -63,10 +51,10 @@ abbrev pub flat_of : List (List ℕ) → FlatText → End
 flat_of names flat = record { names = names; answer = Ok flat }
 
 -- the source is expanded, and its flat text leads on to the answer; or it ends the command
-abbrev pub ReadsFlat : Option FileMap → Type 0 → List ℕ → (List (List ℕ) → FlatText → Answer) → Answer → Type 0
+abbrev pub ReadsFlat : Option FileMap → Type 0 → List ℕ → (List (List ℕ) → FlatText → Answer → Type 0) → Answer → Type 0
 ReadsFlat files load_fault source next answer =
     ExpandFails files load_fault source answer
-    ⊎ ((names : List (List ℕ)) × (flat : FlatText) × Expands files source (flat_of names flat) × (answer ≡ next names flat))
+    ⊎ ((names : List (List ℕ)) × (flat : FlatText) × Expands files source (flat_of names flat) × next names flat answer)
 
 -- the answer tells the refusal, which isn't want of memory
 abbrev pub TellsRefusal : List (List ℕ) → MacroError → Answer → Type 0

@@ -4,12 +4,12 @@ ghost use Rattle.std.specs.Prelude.{◌≡◌, ◌≤◌, ◌⊎◌, IfErr, IfOk
 ghost use Rattle.std.specs.FinMap as finmap;
 ghost use Rattle.uz_shelf.specs.Faults.{Rose};
 ghost use Rattle.uz_files.specs.Answers.{NoPart, Outcome, WritesFile, outside};
-ghost use Rattle.uz_source_commands.specs.AsmCommand.{AsmAnswers, assembled_line};
+ghost use Rattle.uz_source_commands.specs.AsmCommand.{AsmAnswers, FilesAssembled, assembled_line};
 ghost use Rattle.uz_source_commands.specs.AsmValues.{IsWork};
 ghost use Rattle.uz_files.specs.Writing.{WritesSome};
 ghost use Rattle.uz_files.specs.Endings.{EndsBy};
-ghost use Rattle.uz_files.specs.Reading.{Fails, Refuses, text_limit};
-ghost use Rattle.uz_files.specs.SourceFile.{output_of};
+ghost use Rattle.uz_files.specs.Reading.{Fails, text_limit};
+ghost use Rattle.uz_files.specs.Formats.{RefusesSource};
 
 use itoa::Buffer;
 use std::alloc::{AllocError, Global};
@@ -40,7 +40,7 @@ pub(crate) fn assembled(alloc: Global, image: &Image) -> Result<Vec<u8>, AllocEr
 /// Reads and assembles the source.
 fn prepare<H: Shelf>(alloc: Global, shelf: &mut H, source: &str) -> Result<Work, Failure>
     ensures work { IfOk result (IsWork (H.files shelf.old) source.now) }
-    ensures fails { IfErr result (EndsBy (Fails (H.files shelf.old) (Rose (H.load_faults shelf.old) (H.load_faults shelf.new)) source.now text_limit (Refuses output_of))) }
+    ensures fails { IfErr result (EndsBy (Fails (H.files shelf.old) (Rose (H.load_faults shelf.old) (H.load_faults shelf.new)) source.now text_limit RefusesSource)) }
     ensures files { H.files shelf.new ≡ H.files shelf.old }
     ensures load_faults { H.load_faults shelf.old ≤ H.load_faults shelf.new }
     ensures write_faults { H.write_faults shelf.new ≡ H.write_faults shelf.old }
@@ -59,9 +59,10 @@ pub fn run_asm<H: Shelf, K: Sink>(
     shelf: &mut H,
     out: &mut K,
 ) -> Status
-    ensures { Outcome (AsmAnswers (H.files shelf.old) (Rose (H.load_faults shelf.old) (H.load_faults shelf.new)) source.now hex.now) NoPart
+    ensures outcome { Outcome (AsmAnswers (H.files shelf.old) (Rose (H.load_faults shelf.old) (H.load_faults shelf.new)) source.now hex.now) NoPart
         (Rose (H.write_faults shelf.old) (H.write_faults shelf.new) ⊎ Rose (K.faults out.old) (K.faults out.new))
         result (outside (H.files shelf.old) (K.text out.old)) (outside (H.files shelf.new) (K.text out.new)) }
+    ensures assembled { result ≡ Status.Done → FilesAssembled (H.files shelf.old) (H.files shelf.new) source.now hex.now }
 {
     let work = match prepare(alloc, shelf, source) {
         Ok(work) => work,

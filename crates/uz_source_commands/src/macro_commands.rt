@@ -1,16 +1,18 @@
 //! `expand SRC FLAT` and `build SRC HEX`.
 
-ghost use Rattle.std.specs.Prelude.{◌≡◌, ◌<◌, ◌≤◌, ◌-◌, ◌^◌, ◌⊎◌, IfErr, IfOk, Ok, length};
-ghost use Rattle.avr_asm.specs.Assembly.{assembly, seen_built};
+ghost use Rattle.std.specs.Prelude.{◌≡◌, ◌<◌, ◌≤◌, ◌-◌, ◌^◌, ◌⊎◌, IfErr, IfOk, length};
+ghost use Rattle.avr_asm.specs.Assembly.{seen_built};
+ghost use Rattle.avr_asm.specs.Relation.{IsAssembly};
 ghost use Rattle.avr_macro.specs.Answers.{names_of};
+ghost use Rattle.uz_hex.specs.HexText.{IsHexOf};
 ghost use Rattle.uz_hex.specs.Writing.{hex_text};
 ghost use Rattle.uz_shelf.specs.Faults.{Rose};
-ghost use Rattle.uz_files.specs.Answers.{NoPart, Outcome, outside};
+ghost use Rattle.uz_files.specs.Answers.{NoPart, Outcome, WritesFile, outside};
 ghost use Rattle.uz_source_commands.specs.AsmCommand.{assembled_line};
 ghost use Rattle.uz_files.specs.Endings.{EndsBy};
-ghost use Rattle.uz_source_commands.specs.MacroCommands.{BuildAnswers, ExpandAnswers, build_answer, expand_answer, expanded_line, origin_of as origin_of_line};
+ghost use Rattle.uz_source_commands.specs.MacroCommands.{BuildAnswers, ExpandAnswers, FilesBuilt, IsBuilt, IsExpanded, IsUnbuilt, expanded_line, origin_of as origin_of_line};
 ghost use Rattle.uz_source_commands.specs.MacroSource.{ReadsFlat};
-ghost use Rattle.uz_source_commands.specs.MacroValues.{IsMacroWork, IsUnbuilt, IsWriting, TellsAt};
+ghost use Rattle.uz_source_commands.specs.MacroValues.{IsImageWork, IsMacroWork, IsWriting, TellsAt};
 
 use crate::asm_command::{Work, assembled};
 use crate::macro_source::{Expanded, bad_line_at, expand_file};
@@ -18,9 +20,7 @@ use avr_asm::{AsmError, AsmWhy, Built, assemble};
 use avr_macro::Origin;
 use itoa::Buffer;
 use std::alloc::{AllocError, Global};
-use uz_files::{
-    Ending, Failure, Status, end_with, give_up, put_no_memory, source_why_name, write_file,
-};
+use uz_files::{Ending, Failure, Status, end_with, give_up, put_no_memory, write_file};
 use uz_hex::{Image, write_hex};
 use uz_shelf::{Shelf, Sink, WriteError};
 
@@ -38,6 +38,7 @@ fn expanded(alloc: Global, origins: &[Origin]) -> Result<Vec<u8>, AllocError>
 /// The HEX text of an image, and the line that tells its bytes.
 fn image_work(alloc: Global, image: &Image) -> Result<Work, AllocError>
     ensures text { IfOk result (λ work. work.text.items ≡ hex_text image.now) }
+    ensures reads_back { IfOk result (λ work. IsHexOf work.text.items image.now) }
     ensures line { IfOk result (λ work. work.line.items ≡ assembled_line image.now) }
 {
     let text = write_hex(alloc, image)?;
@@ -53,9 +54,10 @@ fn write_work<H: Shelf, K: Sink>(
     shelf: &mut H,
     out: &mut K,
 ) -> Status
-    ensures { Outcome (IsWriting name.now work.text.items work.line.items) NoPart
+    ensures outcome { Outcome (IsWriting name.now work.text.items work.line.items) NoPart
         (Rose (H.write_faults shelf.old) (H.write_faults shelf.new) ⊎ Rose (K.faults out.old) (K.faults out.new))
         result (outside (H.files shelf.old) (K.text out.old)) (outside (H.files shelf.new) (K.text out.new)) }
+    ensures written { result ≡ Status.Done → WritesFile (H.files shelf.old) name.now work.text.items (H.files shelf.new) }
 {
     match write_file(alloc, shelf, name, work.text.as_slice()) {
         Ok(()) => {
@@ -77,8 +79,8 @@ fn prepare_expansion<H: Shelf>(
     source: &str,
     file: &str,
 ) -> Result<Work, Failure>
-    ensures work { IfOk result (IsMacroWork (H.files shelf.old) source.now file.now (expand_answer file.now)) }
-    ensures fails { IfErr result (EndsBy (ReadsFlat (H.files shelf.old) (Rose (H.load_faults shelf.old) (H.load_faults shelf.new)) source.now (expand_answer file.now))) }
+    ensures work { IfOk result (IsMacroWork (H.files shelf.old) source.now file.now (IsExpanded file.now)) }
+    ensures fails { IfErr result (EndsBy (ReadsFlat (H.files shelf.old) (Rose (H.load_faults shelf.old) (H.load_faults shelf.new)) source.now (IsExpanded file.now))) }
     ensures files { H.files shelf.new ≡ H.files shelf.old }
     ensures load_faults { H.load_faults shelf.old ≤ H.load_faults shelf.new }
     ensures write_faults { H.write_faults shelf.new ≡ H.write_faults shelf.old }
@@ -115,7 +117,7 @@ fn fault_of(alloc: Global, source: &Expanded, error: AsmError) -> Result<Failure
         AsmWhy::Memory => Ok(Failure::Memory),
         why => {
             let at = origin_of(source.flat.origins.as_slice(), error.line);
-            let line = bad_line_at(alloc, source.names.as_slice(), at, source_why_name(why))?;
+            let line = bad_line_at(alloc, source.names.as_slice(), at, why.name())?;
             Ok(Failure::BadInput(line))
         }
     }
@@ -124,7 +126,7 @@ fn fault_of(alloc: Global, source: &Expanded, error: AsmError) -> Result<Failure
 /// Assembles the flat text of a source.
 fn assemble_flat(alloc: Global, source: &Expanded) -> Result<Built, Failure>
     requires { length source.now.flat.text.items < 2 ^ 32 - 1 }
-    ensures built { IfOk result (λ built. assembly source.now.flat.text.items ≡ Ok (seen_built built)) }
+    ensures built { IfOk result (λ built. IsAssembly source.now.flat.text.items (seen_built built)) }
     ensures fails { IfErr result (EndsBy (IsUnbuilt (names_of source.now.names) source.now.flat.origins.items source.now.flat.text.items)) }
 {
     match assemble(alloc, source.flat.text.as_slice()) {
@@ -143,8 +145,9 @@ fn prepare_build<H: Shelf>(
     source: &str,
     hex: &str,
 ) -> Result<Work, Failure>
-    ensures work { IfOk result (IsMacroWork (H.files shelf.old) source.now hex.now (build_answer hex.now)) }
-    ensures fails { IfErr result (EndsBy (ReadsFlat (H.files shelf.old) (Rose (H.load_faults shelf.old) (H.load_faults shelf.new)) source.now (build_answer hex.now))) }
+    ensures work { IfOk result (IsMacroWork (H.files shelf.old) source.now hex.now (IsBuilt hex.now)) }
+    ensures image { IfOk result (IsImageWork (H.files shelf.old) source.now) }
+    ensures fails { IfErr result (EndsBy (ReadsFlat (H.files shelf.old) (Rose (H.load_faults shelf.old) (H.load_faults shelf.new)) source.now (IsBuilt hex.now))) }
     ensures files { H.files shelf.new ≡ H.files shelf.old }
     ensures load_faults { H.load_faults shelf.old ≤ H.load_faults shelf.new }
     ensures write_faults { H.write_faults shelf.new ≡ H.write_faults shelf.old }
@@ -187,9 +190,10 @@ pub fn run_build<H: Shelf, K: Sink>(
     shelf: &mut H,
     out: &mut K,
 ) -> Status
-    ensures { Outcome (BuildAnswers (H.files shelf.old) (Rose (H.load_faults shelf.old) (H.load_faults shelf.new)) source.now hex.now) NoPart
+    ensures outcome { Outcome (BuildAnswers (H.files shelf.old) (Rose (H.load_faults shelf.old) (H.load_faults shelf.new)) source.now hex.now) NoPart
         (Rose (H.write_faults shelf.old) (H.write_faults shelf.new) ⊎ Rose (K.faults out.old) (K.faults out.new))
         result (outside (H.files shelf.old) (K.text out.old)) (outside (H.files shelf.new) (K.text out.new)) }
+    ensures built { result ≡ Status.Done → FilesBuilt (H.files shelf.old) (H.files shelf.new) source.now hex.now }
 {
     match prepare_build(alloc, shelf, source, hex) {
         Ok(work) => write_work(alloc, hex, work, shelf, out),

@@ -6,7 +6,7 @@ ghost use Rattle.avr_macro.specs.Expansion.{Expands};
 ghost use Rattle.uz_shelf.specs.Faults.{Rose};
 ghost use Rattle.uz_files.specs.Endings.{EndsBy};
 ghost use Rattle.uz_files.specs.Lines.{bad_line};
-ghost use Rattle.uz_source_commands.specs.MacroSource.{ExpandFails, TellsRefusal, last_name as last_of, macro_why_name, name_at as name_of};
+ghost use Rattle.uz_source_commands.specs.MacroSource.{ExpandFails, TellsRefusal, last_name as last_of, name_at as name_of};
 
 use avr_macro::{Flat, MacroError, MacroWhy, Origin, expand};
 use std::alloc::{AllocError, Global};
@@ -18,24 +18,6 @@ use uz_shelf::Shelf;
 pub(crate) struct Expanded {
     pub flat: Flat,
     pub names: Vec<String>,
-}
-
-/// The name of a why, as it is printed.
-fn why_name(why: MacroWhy) -> &'static str
-    ensures { result.now ≡ macro_why_name why }
-{
-    match why {
-        MacroWhy::Unread => "Unread",
-        MacroWhy::TooLong => "TooLong",
-        MacroWhy::Depth => "Depth",
-        MacroWhy::Form => "Form",
-        MacroWhy::Unclosed => "Unclosed",
-        MacroWhy::Twice => "Twice",
-        MacroWhy::Value => "Value",
-        MacroWhy::Argument => "Argument",
-        MacroWhy::Full => "Full",
-        MacroWhy::Memory => "Memory",
-    }
 }
 
 /// The name of a file by its place.
@@ -78,7 +60,7 @@ fn refusal_of(alloc: Global, names: &[String], error: MacroError) -> Result<Fail
     match error.why {
         MacroWhy::Memory => Ok(Failure::Memory),
         MacroWhy::Unread => Ok(Failure::Unread(unread(alloc, last_name(names))?)),
-        why => Ok(Failure::BadInput(bad_line_at(alloc, names, error.at, why_name(why))?)),
+        why => Ok(Failure::BadInput(bad_line_at(alloc, names, error.at, why.name())?)),
     }
 }
 

@@ -6,7 +6,9 @@ use Rattle.std.specs.declared.string.String.{String}
 use Rattle.std.specs.declared.alloc.Global.{Global}
 use Rattle.uz_text.specs.Numbers.{number_below, number_within}
 use Rattle.uz_schedule.specs.declared.kinds.Response.{Response}
-use Rattle.uz_top.specs.Words.{Command, Asm, Build, Check, Expand, WritesApart, asm_words, build_words, certify_with, certify_words, check_words, command_of, debug_with, debug_words, demo_with, demo_words, dis_words, expand_words, play_with, play_words, response_of, trace_with, trace_words}
+use Rattle.uz_top.specs.Words.{Command, Asm, Build, Check, Expand, WritesApart, asm_words, build_words, certify_with, certify_words}
+use Rattle.uz_top.specs.Words.{check_words, command_of, debug_with, debug_words, demo_with, demo_words, dis_words, expand_words, play_with}
+use Rattle.uz_top.specs.Words.{play_words, response_of, trace_with, trace_words}
 
 abbrev Apart : Option Command → Type 0
 Apart o = IfSome o WritesApart
@@ -54,7 +56,8 @@ trace_apart [] = tt
 trace_apart (a ∷ []) = tt
 trace_apart (a ∷ b ∷ []) = tt
 trace_apart (a ∷ b ∷ c ∷ []) = tt
-trace_apart (a ∷ b ∷ c ∷ d ∷ []) = by_test (bytes_eq a b) None (trace_with a b (response_of c) (number_within 1 1000000001 d)) tt (trace_with_apart a b (response_of c) (number_within 1 1000000001 d))
+trace_apart (a ∷ b ∷ c ∷ d ∷ []) = by_test (bytes_eq a b) None (trace_with a b (response_of c) (number_within 1 1000000001 d)) tt
+    (trace_with_apart a b (response_of c) (number_within 1 1000000001 d))
 trace_apart (a ∷ b ∷ c ∷ d ∷ e ∷ words) = tt
 
 play_with_apart : (hex cert pads : List ℕ) (clocks : Option ℕ) (frames : List ℕ) → Apart (play_with hex cert pads clocks frames)
@@ -63,7 +66,8 @@ play_with_apart hex cert pads None frames = tt
 
 -- once the first of the four names differs from the others
 abbrev play_names : (hex cert pads clocks frames : List ℕ) → Option Command
-play_names hex cert pads clocks frames = if bytes_eq cert pads || (bytes_eq cert frames || bytes_eq pads frames) then None else play_with hex cert pads (number_within 1 1000000001 clocks) frames
+play_names hex cert pads clocks frames = if bytes_eq cert pads || (bytes_eq cert frames || bytes_eq pads frames) then None else play_with
+    hex cert pads (number_within 1 1000000001 clocks) frames
 
 play_apart : (words : List (List ℕ)) → Apart (play_words words)
 play_apart [] = tt
@@ -73,7 +77,8 @@ play_apart (a ∷ b ∷ c ∷ []) = tt
 play_apart (a ∷ b ∷ c ∷ d ∷ []) = tt
 play_apart (a ∷ b ∷ c ∷ d ∷ e ∷ []) =
     by_test (bytes_eq a b || (bytes_eq a c || bytes_eq a e)) None (play_names a b c d e) tt
-    (by_test (bytes_eq b c || (bytes_eq b e || bytes_eq c e)) None (play_with a b c (number_within 1 1000000001 d) e) tt (play_with_apart a b c (number_within 1 1000000001 d) e))
+    (by_test (bytes_eq b c || (bytes_eq b e || bytes_eq c e)) None (play_with a b c (number_within 1 1000000001 d) e) tt
+    (play_with_apart a b c (number_within 1 1000000001 d) e))
 play_apart (a ∷ b ∷ c ∷ d ∷ e ∷ f ∷ words) = tt
 
 debug_with_apart : (hex pads : List ℕ) (irq : Option Response) (script : List ℕ) → Apart (debug_with hex pads irq script)
@@ -85,7 +90,8 @@ debug_apart [] = tt
 debug_apart (a ∷ []) = tt
 debug_apart (a ∷ b ∷ []) = tt
 debug_apart (a ∷ b ∷ c ∷ []) = tt
-debug_apart (a ∷ b ∷ c ∷ d ∷ []) = by_test (bytes_eq a b || (bytes_eq a d || bytes_eq b d)) None (debug_with a b (response_of c) d) tt (debug_with_apart a b (response_of c) d)
+debug_apart (a ∷ b ∷ c ∷ d ∷ []) = by_test (bytes_eq a b || (bytes_eq a d || bytes_eq b d)) None (debug_with a b (response_of c) d) tt
+    (debug_with_apart a b (response_of c) d)
 debug_apart (a ∷ b ∷ c ∷ d ∷ e ∷ words) = tt
 
 or_last : (a b c : Bool) → c ≡ true → (a || (b || c)) ≡ true
@@ -93,7 +99,8 @@ or_last true b c is = refl
 or_last false true c is = refl
 or_last false false c is = is
 
-certify_with_apart : (same : Bool) (source : List ℕ) (irq : Option Response) (hex cert : List ℕ) → (hex ≡ cert → same ≡ true) → Apart (if same then None else certify_with source irq hex cert)
+certify_with_apart : (same : Bool) (source : List ℕ) (irq : Option Response) (hex cert : List ℕ) → (hex ≡ cert → same ≡ true)
+    → Apart (if same then None else certify_with source irq hex cert)
 certify_with_apart true source irq hex cert told = tt
 certify_with_apart false source (Some irq) hex cert told = λ e. absurd (cc (told e))
 certify_with_apart false source None hex cert told = tt
@@ -161,6 +168,7 @@ command_apart (verb ∷ words) =
     (by_test (bytes_eq verb (codes "demo")) (demo_words words) None (demo_apart words) tt)))))))))
 
 -- what holds of the command where the names of its files differ
-pub holds_apart : (words : List (String Global)) (c : Command) (holds : Command → Type 0) → Some c ≡ command_of (map string_bytes words) → (WritesApart c → holds c) → IfSome (command_of (map string_bytes words)) holds
+pub holds_apart : (words : List (String Global)) (c : Command) (holds : Command → Type 0) → Some c ≡ command_of (map string_bytes words)
+    → (WritesApart c → holds c) → IfSome (command_of (map string_bytes words)) holds
 holds_apart words c holds is given =
     subst (λ o. IfSome o holds) is (given (subst (λ o. IfSome o WritesApart) (sym is) (command_apart (map string_bytes words))))

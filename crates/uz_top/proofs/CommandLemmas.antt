@@ -8,14 +8,16 @@ use Rattle.uz_search.specs.declared.found.NotFound.TheVariants.{Memory as NoRoom
 use Rattle.uz_files.specs.declared.status.Status.{Status}
 use Rattle.uz_files.specs.declared.status.Status.TheVariants as status
 use Rattle.uz_files.specs.Answers.{Answer, Ends, Outside, Outcome}
+use Rattle.uz_files.specs.Formats.{Readings}
 use Rattle.uz_top.specs.Words.{Command, Asm, Build, Certify, Check, Debug, Demo, Dis, Expand, Play, Trace}
 use Rattle.uz_top.specs.Commands.{AllowedFor, Answers, AnswersBy, IsDecided, LacksRead, PartAnswers, Succeeds}
 use Rattle.uz_files.proofs.EndingLemmas.{comes_by}
 use Rattle.uz_files.proofs.OutcomeLemmas.{came_from, from_answer, unwritten_by}
 use Rattle.uz_run_commands.proofs.TraceAnswerLemmas.{trace_status, trace_done}
 use Rattle.uz_run_commands.proofs.TraceSameLemmas.{trace_or_fault, trace_same}
-use Rattle.uz_source_commands.proofs.MacroLemmas.{OneEnd, build_done, build_status, expand_done, expand_status, flat_or_fault, flat_same}
-use Rattle.uz_source_commands.specs.MacroCommands.{build_answer, expand_answer}
+use Rattle.uz_source_commands.proofs.MacroLemmas.{OneEnd, build_done, build_same, build_status, expand_done, expand_same, expand_status}
+use Rattle.uz_source_commands.proofs.MacroLemmas.{flat_or_fault}
+use Rattle.uz_source_commands.specs.MacroCommands.{IsBuilt, IsExpanded}
 use Rattle.uz_play_command.proofs.PlayLemmas.{play_status}
 use Rattle.uz_play_command.proofs.PlaySameLemmas.{play_done, play_or_fault, play_same}
 use Rattle.uz_run_commands.proofs.DebugLemmas.{debug_status, debug_or_fault, debug_same, debug_done}
@@ -25,7 +27,8 @@ use Rattle.uz_certify_command.proofs.CertifyLemmas.{certify_always, certify_deci
 use Rattle.uz_demo_command.proofs.DemoSameLemmas.{demo_allowed, demo_done, demo_same, demo_status}
 use Rattle.uz_check_command.proofs.CheckLemmas.{check_status, check_or_fault, check_same, check_done}
 
-never_usage : (files : Option FileMap) (load_fault : Type 0) (c : Command) (answer : Answer) → Answers files load_fault c answer → answer.status ≢ status.Usage
+never_usage : (files : Option FileMap) (load_fault : Type 0) (c : Command) (answer : Answer) → Answers files load_fault c answer
+    → answer.status ≢ status.Usage
 never_usage files load_fault (Check hex cert) answer h is =
     elim (check_status files load_fault hex cert answer h) [
       | inl (e, cause) ↦ absurd (cc (e, is))
@@ -94,7 +97,8 @@ never_usage files load_fault (Demo number) answer h is =
       | inr (inr (inr e)) ↦ absurd (cc (e, is))
     ]
 
-never_unwritten : (files : Option FileMap) (load_fault : Type 0) (c : Command) (answer : Answer) → Answers files load_fault c answer → answer.status ≢ status.Unwritten
+never_unwritten : (files : Option FileMap) (load_fault : Type 0) (c : Command) (answer : Answer) → Answers files load_fault c answer
+    → answer.status ≢ status.Unwritten
 never_unwritten files load_fault (Check hex cert) answer h is =
     elim (check_status files load_fault hex cert answer h) [
       | inl (e, cause) ↦ absurd (cc (e, is))
@@ -163,7 +167,8 @@ never_unwritten files load_fault (Demo number) answer h is =
       | inr (inr (inr e)) ↦ absurd (cc (e, is))
     ]
 
-unread_cause : (files : Option FileMap) (load_fault : Type 0) (c : Command) (answer : Answer) → Answers files load_fault c answer → answer.status ≡ status.Unread → load_fault ⊎ LacksRead files c
+unread_cause : (files : Option FileMap) (load_fault : Type 0) (c : Command) (answer : Answer) → Answers files load_fault c answer
+    → answer.status ≡ status.Unread → load_fault ⊎ LacksRead files c
 unread_cause files load_fault (Check hex cert) answer h is =
     elim (check_status files load_fault hex cert answer h) [
       | inl (e, cause) ↦ cause
@@ -238,86 +243,122 @@ NoSearch (Certify source irq hex cert) = ⊥
 NoSearch (Demo number) = ⊥
 NoSearch other = Unit {0}
 
-same_answers : (one : OneEnd) (files : FileMap) (found : Result Cert NotFound) (c : Command) (a b : Answer) → NoSearch c → Answers (Some files) ⊥ c a → AnswersBy (Some files) found c b → (a ≡ b) ⊎ ⊥
-same_answers one files found (Check hex cert) a b none p q = check_same files ⊥ hex cert a b p q
-same_answers one files found (Dis hex) a b none p q = dis_same files ⊥ hex a b p q
-same_answers one files found (Asm source hex) a b none p q = asm_same files ⊥ source hex a b p q
-same_answers one files found (Expand source flat) a b none p q = flat_same one files ⊥ source (expand_answer flat) a b p q
-same_answers one files found (Build source hex) a b none p q = flat_same one files ⊥ source (build_answer hex) a b p q
-same_answers one files found (Trace hex pads irq clocks) a b none p q = trace_same files ⊥ hex pads irq clocks a b p q
-same_answers one files found (Play hex cert pads clocks frames) a b none p q = play_same files ⊥ hex cert pads clocks frames a b p q
-same_answers one files found (Debug hex pads irq script) a b none p q = debug_same files ⊥ hex pads irq script a b p q
-same_answers one files found (Certify source irq hex cert) a b none p q = absurd none
-same_answers one files found (Demo number) a b none p q = absurd none
+same_answers : (one : OneEnd) (readings : Readings) (files : FileMap) (found : Result Cert NotFound) (c : Command) (a b : Answer)
+    → NoSearch c
+    → Answers (Some files) ⊥ c a → AnswersBy (Some files) found c b → (a ≡ b) ⊎ ⊥
+same_answers one readings files found (Check hex cert) a b none p q = check_same readings files ⊥ hex cert a b p q
+same_answers one readings files found (Dis hex) a b none p q = dis_same readings files ⊥ hex a b p q
+same_answers one readings files found (Asm source hex) a b none p q = asm_same readings files ⊥ source hex a b p q
+same_answers one readings files found (Expand source flat) a b none p q = expand_same one files ⊥ source flat a b p q
+same_answers one readings files found (Build source hex) a b none p q = build_same one readings files ⊥ source hex a b p q
+same_answers one readings files found (Trace hex pads irq clocks) a b none p q = trace_same readings files ⊥ hex pads irq clocks a b p q
+same_answers one readings files found (Play hex cert pads clocks frames) a b none p q =
+    play_same readings files ⊥ hex cert pads clocks frames a b p q
+same_answers one readings files found (Debug hex pads irq script) a b none p q = debug_same readings files ⊥ hex pads irq script a b p q
+same_answers one readings files found (Certify source irq hex cert) a b none p q = absurd none
+same_answers one readings files found (Demo number) a b none p q = absurd none
 
 -- loading met a fault, or none is needed for the answer
-answers_or_fault : (files : Option FileMap) (load_fault : Type 0) (c : Command) (answer : Answer) → Answers files load_fault c answer → load_fault ⊎ Answers files ⊥ c answer
+answers_or_fault : (files : Option FileMap) (load_fault : Type 0) (c : Command) (answer : Answer) → Answers files load_fault c answer
+    → load_fault ⊎ Answers files ⊥ c answer
 answers_or_fault files load_fault (Check hex cert) answer h = check_or_fault files load_fault hex cert answer h
 answers_or_fault files load_fault (Dis hex) answer h = dis_or_fault files load_fault hex answer h
 answers_or_fault files load_fault (Asm source hex) answer h = asm_or_fault files load_fault source hex answer h
-answers_or_fault files load_fault (Expand source flat) answer h = flat_or_fault files load_fault source (expand_answer flat) answer h
-answers_or_fault files load_fault (Build source hex) answer h = flat_or_fault files load_fault source (build_answer hex) answer h
+answers_or_fault files load_fault (Expand source flat) answer h = flat_or_fault files load_fault source (IsExpanded flat) answer h
+answers_or_fault files load_fault (Build source hex) answer h = flat_or_fault files load_fault source (IsBuilt hex) answer h
 answers_or_fault files load_fault (Trace hex pads irq clocks) answer h = trace_or_fault files load_fault hex pads irq clocks answer h
-answers_or_fault files load_fault (Play hex cert pads clocks frames) answer h = play_or_fault files load_fault hex cert pads clocks frames answer h
+answers_or_fault files load_fault (Play hex cert pads clocks frames) answer h = play_or_fault files load_fault hex cert pads clocks frames
+    answer h
 answers_or_fault files load_fault (Debug hex pads irq script) answer h = debug_or_fault files load_fault hex pads irq script answer h
 answers_or_fault files load_fault (Certify source irq hex cert) answer h = certify_or_fault files load_fault source irq hex cert answer h
 answers_or_fault files load_fault (Demo number) answer h = inr h
 
 -- an answer without a fault of loading is the one that is decided
 
-no_search : (one : OneEnd) (files : FileMap) (c : Command) (answer : Answer) (came : Status) (old new : Outside) → NoSearch c → AllowedFor (Some files) c (Err NoRoomToSearch) → Answers (Some files) ⊥ c answer → Ends answer came old new → IsDecided (Some files) c came old new
-no_search one files c answer came old new none allowed h ends = record {
+no_search : (one : OneEnd) (readings : Readings) (files : FileMap) (write_fault : Type 0) (c : Command) (answer : Answer) (came : Status)
+    (old new : Outside) → NoSearch c → AllowedFor (Some files) c (Err NoRoomToSearch) → Answers (Some files) ⊥ c answer
+    → Ends answer write_fault came old new → IsDecided (Some files) write_fault c came old new
+no_search one readings files write_fault c answer came old new none allowed h ends = record {
   found = Err NoRoomToSearch;
   allowed = allowed;
-  decided = λ wanted q. by_same wanted (same_answers one files (Err NoRoomToSearch) c answer wanted none h q);
+  decided = λ wanted q. by_same wanted (same_answers one readings files (Err NoRoomToSearch) c answer wanted none h q);
 }
   where
-    by_same : (wanted : Answer) → (answer ≡ wanted) ⊎ ⊥ → Ends wanted came old new
-    by_same wanted (inl same) = subst (λ a. Ends a came old new) same ends
+    by_same : (wanted : Answer) → (answer ≡ wanted) ⊎ ⊥ → Ends wanted write_fault came old new
+    by_same wanted (inl same) = subst (λ a. Ends a write_fault came old new) same ends
     by_same wanted (inr none) = absurd none
 
-decided_by : (one : OneEnd) (files : FileMap) (c : Command) (answer : Answer) (came : Status) (old new : Outside) → Answers (Some files) ⊥ c answer → Ends answer came old new → IsDecided (Some files) c came old new
-decided_by one files (Check hex cert) answer came old new = no_search one files (Check hex cert) answer came old new tt tt
-decided_by one files (Dis hex) answer came old new = no_search one files (Dis hex) answer came old new tt tt
-decided_by one files (Asm source hex) answer came old new = no_search one files (Asm source hex) answer came old new tt tt
-decided_by one files (Expand source flat) answer came old new = no_search one files (Expand source flat) answer came old new tt tt
-decided_by one files (Build source hex) answer came old new = no_search one files (Build source hex) answer came old new tt tt
-decided_by one files (Trace hex pads irq clocks) answer came old new = no_search one files (Trace hex pads irq clocks) answer came old new tt tt
-decided_by one files (Play hex cert pads clocks frames) answer came old new = no_search one files (Play hex cert pads clocks frames) answer came old new tt tt
-decided_by one files (Debug hex pads irq script) answer came old new = no_search one files (Debug hex pads irq script) answer came old new tt tt
-decided_by one files (Certify source irq hex cert) answer came old new = λ h ends.
-    let d = certify_decided files source irq hex cert answer h in
+decided_by : (one : OneEnd) (readings : Readings) (files : FileMap) (write_fault : Type 0) (c : Command) (answer : Answer) (came : Status)
+    (old new : Outside) → Answers (Some files) ⊥ c answer → Ends answer write_fault came old new
+    → IsDecided (Some files) write_fault c came old new
+decided_by one readings files write_fault (Check hex cert) answer came old new =
+    no_search one readings files write_fault (Check hex cert) answer came old new tt tt
+decided_by one readings files write_fault (Dis hex) answer came old new =
+    no_search one readings files write_fault (Dis hex) answer came old new tt tt
+decided_by one readings files write_fault (Asm source hex) answer came old new =
+    no_search one readings files write_fault (Asm source hex) answer came old new tt tt
+decided_by one readings files write_fault (Expand source flat) answer came old new =
+    no_search one readings files write_fault (Expand source flat) answer came old new tt tt
+decided_by one readings files write_fault (Build source hex) answer came old new =
+    no_search one readings files write_fault (Build source hex) answer came old new tt tt
+decided_by one readings files write_fault (Trace hex pads irq clocks) answer came old new =
+    no_search one readings files write_fault (Trace hex pads irq clocks) answer came old new
+    tt tt
+decided_by one readings files write_fault (Play hex cert pads clocks frames) answer came old new =
+    no_search one readings files write_fault (Play hex cert pads clocks frames) answer
+    came old new tt tt
+decided_by one readings files write_fault (Debug hex pads irq script) answer came old new =
+    no_search one readings files write_fault (Debug hex pads irq script) answer came old new
+    tt tt
+decided_by one readings files write_fault (Certify source irq hex cert) answer came old new = λ h ends.
+    let d = certify_decided readings files source irq hex cert answer h in
     record {
       found = d.found;
       allowed = d.allowed;
-      decided = λ wanted q. subst (λ a. Ends a came old new) (d.decided wanted q) ends;
+      decided = λ wanted q. subst (λ a. Ends a write_fault came old new) (d.decided wanted q) ends;
     }
-decided_by one files (Demo number) answer came old new = λ h ends. record {
+decided_by one readings files write_fault (Demo number) answer came old new = λ h ends. record {
   found = h.found;
-  allowed = demo_allowed number answer h;
-  decided = λ wanted q. subst (λ a. Ends a came old new) (demo_same number answer wanted h q) ends;
+  allowed = demo_allowed readings number answer h;
+  decided = λ wanted q. subst (λ a. Ends a write_fault came old new) (demo_same readings number answer wanted h q) ends;
 }
 
 -- an answer that is this one, or loading met a fault
-done_as : (load_fault : Type 0) (answer wanted : Answer) → (answer ≡ wanted) ⊎ load_fault → wanted.status ≡ status.Done → (load_fault → ⊥) → answer.status ≡ status.Done
+done_as : (load_fault : Type 0) (answer wanted : Answer) → (answer ≡ wanted) ⊎ load_fault → wanted.status ≡ status.Done → (load_fault → ⊥)
+    → answer.status ≡ status.Done
 done_as load_fault answer wanted (inl same) is loads = ap (λ a. a.status) same ∙ is
 done_as load_fault answer wanted (inr fault) is loads = absurd (loads fault)
 
 -- where all is well each answer is done, unless loading met a fault
-done_always : (one : OneEnd) (told : FileMap) (load_fault : Type 0) (c : Command) → Succeeds (Some told) c → (load_fault → ⊥) → (answer : Answer) → Answers (Some told) load_fault c answer → answer.status ≡ status.Done
-done_always one told load_fault (Check hex cert) h loads answer p = let d = check_done (Some told) hex cert h in done_as load_fault answer d.0 (check_same told load_fault hex cert answer d.0 p d.1) d.2 loads
-done_always one told load_fault (Dis hex) h loads answer p = let d = dis_done (Some told) hex h in done_as load_fault answer d.0 (dis_same told load_fault hex answer d.0 p d.1) d.2 loads
-done_always one told load_fault (Asm source hex) h loads answer p = let d = asm_done_answer (Some told) source hex h in done_as load_fault answer d.0 (asm_same told load_fault source hex answer d.0 p d.1) d.2 loads
-done_always one told load_fault (Expand source flat) h loads answer p =
-    let d = expand_done (Some told) source flat h in done_as load_fault answer d.0 (flat_same one told load_fault source (expand_answer flat) answer d.0 p d.1) d.2 loads
-done_always one told load_fault (Build source hex) h loads answer p =
-    let d = build_done (Some told) source hex h in done_as load_fault answer d.0 (flat_same one told load_fault source (build_answer hex) answer d.0 p d.1) d.2 loads
-done_always one told load_fault (Trace hex pads irq clocks) h loads answer p =
-    let d = trace_done (Some told) hex pads irq clocks h in done_as load_fault answer d.0 (trace_same told load_fault hex pads irq clocks answer d.0 p d.1) d.2 loads
-done_always one told load_fault (Play hex cert pads clocks frames) h loads answer p = play_done told load_fault hex cert pads clocks frames h loads answer p
-done_always one told load_fault (Debug hex pads irq script) h loads answer p = debug_done told load_fault hex pads irq script h loads answer p
-done_always one told load_fault (Certify source irq hex cert) h loads answer p = certify_always told load_fault source irq hex cert h loads answer p
-done_always one told load_fault (Demo number) h loads answer p = demo_done number h answer p
+done_always : (one : OneEnd) (readings : Readings) (told : FileMap) (load_fault : Type 0) (c : Command) → Succeeds (Some told) c
+    → (load_fault → ⊥)
+    → (answer : Answer) → Answers (Some told) load_fault c answer → answer.status ≡ status.Done
+done_always one readings told load_fault (Check hex cert) h loads answer p = let d = check_done (Some told) hex cert h in
+    done_as load_fault answer d.0 (check_same readings told load_fault hex cert answer d.0 p d.1) d.2 loads
+done_always one readings told load_fault (Dis hex) h loads answer p = let d = dis_done (Some told) hex h in
+    done_as load_fault answer d.0 (dis_same readings told load_fault hex answer d.0 p d.1) d.2 loads
+done_always one readings told load_fault (Asm source hex) h loads answer p = let d = asm_done_answer (Some told) source hex h in
+    done_as load_fault answer d.0 (asm_same readings told load_fault source hex answer d.0 p d.1) d.2 loads
+done_always one readings told load_fault (Expand source flat) h loads answer p =
+    let d = expand_done (Some told) source flat h in
+    done_as load_fault answer d.0 (expand_same one told load_fault source flat answer d.0 p d.1) d.2 loads
+done_always one readings told load_fault (Build source hex) h loads answer p =
+    let d = build_done (Some told) source hex h in done_as load_fault answer d.0 (build_same one readings told load_fault source hex
+    answer d.0 p d.1) d.2 loads
+done_always one readings told load_fault (Trace hex pads irq clocks) h loads answer p =
+    let d = trace_done (Some told) hex pads irq clocks h in done_as load_fault answer d.0
+    (trace_same readings told load_fault hex pads irq clocks
+    answer d.0 p d.1) d.2 loads
+done_always one readings told load_fault (Play hex cert pads clocks frames) h loads answer p =
+    play_done readings told load_fault hex cert pads clocks frames
+    h loads answer p
+done_always one readings told load_fault (Debug hex pads irq script) h loads answer p =
+    debug_done readings told load_fault hex pads irq script h loads answer
+    p
+done_always one readings told load_fault (Certify source irq hex cert) h loads answer p =
+    certify_always readings told load_fault source irq hex cert h loads
+    answer p
+done_always one readings told load_fault (Demo number) h loads answer p = demo_done readings number h answer p
 
 usage_not_memory : status.Usage ≢ status.NoMemory
 usage_not_memory e = cc
@@ -334,19 +375,25 @@ unread_not_unwritten e = cc
 module _ (files : Option FileMap) (load_fault write_fault : Type 0) (c : Command) (came : Status) (old new : Outside) where
   not_usage : Outcome (Answers files load_fault c) (PartAnswers files c) write_fault came old new → came ≢ status.Usage
   not_usage h is =
-      let from = from_answer (Answers files load_fault c) (PartAnswers files c) write_fault came old new status.Usage usage_not_memory usage_not_unwritten h is in
+      let from = from_answer (Answers files load_fault c) (PartAnswers files c) write_fault came old new status.Usage usage_not_memory
+      usage_not_unwritten h is in
       never_usage files load_fault c from.0 from.1 from.2
 
-  unread_by : Outcome (Answers files load_fault c) (PartAnswers files c) write_fault came old new → came ≡ status.Unread → load_fault ⊎ LacksRead files c
+  unread_by : Outcome (Answers files load_fault c) (PartAnswers files c) write_fault came old new → came ≡ status.Unread → load_fault
+      ⊎ LacksRead files c
   unread_by h is =
-      let from = from_answer (Answers files load_fault c) (PartAnswers files c) write_fault came old new status.Unread unread_not_memory unread_not_unwritten h is in
+      let from = from_answer (Answers files load_fault c) (PartAnswers files c) write_fault came old new status.Unread unread_not_memory
+      unread_not_unwritten h is in
       unread_cause files load_fault c from.0 from.1 from.2
 
-  pub unwritten : Outcome (Answers files load_fault c) (PartAnswers files c) write_fault came old new → came ≡ status.Unwritten → write_fault
+  pub unwritten : Outcome (Answers files load_fault c) (PartAnswers files c) write_fault came old new → came ≡ status.Unwritten
+      → write_fault
   unwritten = unwritten_by (Answers files load_fault c) (PartAnswers files c) write_fault came old new (never_unwritten files load_fault c)
 
-module _ (one : OneEnd) (told : FileMap) (load_fault write_fault : Type 0) (c : Command) (came : Status) (old new : Outside) where
-  exact : Outcome (Answers (Some told) load_fault c) (PartAnswers (Some told) c) write_fault came old new → (came ≡ status.NoMemory) ⊎ (load_fault ⊎ (((came ≡ status.Unwritten) × write_fault) ⊎ IsDecided (Some told) c came old new))
+module _ (one : OneEnd) (readings : Readings) (told : FileMap) (load_fault write_fault : Type 0) (c : Command) (came : Status)
+    (old new : Outside) where
+  exact : Outcome (Answers (Some told) load_fault c) (PartAnswers (Some told) c) write_fault came old new → (came ≡ status.NoMemory)
+      ⊎ (load_fault ⊎ (((came ≡ status.Unwritten) × write_fault) ⊎ IsDecided (Some told) write_fault c came old new))
   exact h =
       elim (came_from (Answers (Some told) load_fault c) (PartAnswers (Some told) c) write_fault came old new h) [
         | inl none ↦ inl none
@@ -354,54 +401,83 @@ module _ (one : OneEnd) (told : FileMap) (load_fault write_fault : Type 0) (c : 
         | inr (inr given) ↦ ended given.0 given.2 (answers_or_fault (Some told) load_fault c given.0 given.1)
       ]
     where
-      ended : (answer : Answer) → Ends answer came old new → load_fault ⊎ Answers (Some told) ⊥ c answer → (came ≡ status.NoMemory) ⊎ (load_fault ⊎ (((came ≡ status.Unwritten) × write_fault) ⊎ IsDecided (Some told) c came old new))
+      ended : (answer : Answer) → Ends answer write_fault came old new → load_fault ⊎ Answers (Some told) ⊥ c answer
+          → (came ≡ status.NoMemory)
+          ⊎ (load_fault ⊎ (((came ≡ status.Unwritten) × write_fault) ⊎ IsDecided (Some told) write_fault c came old new))
       ended answer ends (inl fault) = inr (inl fault)
-      ended answer ends (inr free) = inr (inr (inr (decided_by one told c answer came old new free ends)))
+      ended answer ends (inr free) = inr (inr (inr (decided_by one readings told write_fault c answer came old new free ends)))
 
-  complete : Outcome (Answers (Some told) load_fault c) (PartAnswers (Some told) c) write_fault came old new → Succeeds (Some told) c → (load_fault → ⊥) → (write_fault → ⊥) → (came ≡ status.Done) ⊎ (came ≡ status.NoMemory)
+  complete : Outcome (Answers (Some told) load_fault c) (PartAnswers (Some told) c) write_fault came old new → Succeeds (Some told) c
+      → (load_fault → ⊥) → (write_fault → ⊥) → (came ≡ status.Done) ⊎ (came ≡ status.NoMemory)
   complete h well loads writes =
       elim (came_from (Answers (Some told) load_fault c) (PartAnswers (Some told) c) write_fault came old new h) [
         | inl none ↦ inr none
         | inr (inl cut) ↦ absurd (writes cut.1)
-        | inr (inr given) ↦ inl (given.2.status ∙ done_always one told load_fault c well loads given.0 given.1)
+        | inr (inr given) ↦ inl (given.2.status ∙ done_always one readings told load_fault c well loads given.0 given.1)
       ]
 
 -- a fault of the sink is one of writing
-pub outcome_wider : (Whole Part : Answer → Type 0) (narrow wide : Type 0) (came : Status) (old new : Outside) → (narrow → wide) → Outcome Whole Part narrow came old new → Outcome Whole Part wide came old new
+pub outcome_wider : (Whole Part : Answer → Type 0) (narrow wide : Type 0) (came : Status) (old new : Outside) → (narrow → wide)
+    → Outcome Whole Part narrow came old new → Outcome Whole Part wide came old new
 outcome_wider Whole Part narrow wide came old new widen (inl starts) = inl starts
-outcome_wider Whole Part narrow wide came old new widen (inr (inl (answer, given, comes))) = inr (inl (answer, given, comes_by answer came narrow wide old new widen comes))
-outcome_wider Whole Part narrow wide came old new widen (inr (inr (answer, given, inl cut))) = inr (inr (answer, given, inl (cut.0, widen cut.1, cut.2)))
+outcome_wider Whole Part narrow wide came old new widen (inr (inl (answer, given, comes))) =
+    inr (inl (answer, given, comes_by answer came narrow wide old new widen comes))
+outcome_wider Whole Part narrow wide came old new widen (inr (inr (answer, given, inl cut))) =
+    inr (inr (answer, given, inl (cut.0, widen cut.1, cut.2)))
 outcome_wider Whole Part narrow wide came old new widen (inr (inr (answer, given, inr lacks))) = inr (inr (answer, given, inr lacks))
 
-pub outcome_at : (k l : Command) (files : Option FileMap) (load_fault write_fault : Type 0) (came : Status) (old new : Outside) → k ≡ l → Outcome (Answers files load_fault l) (PartAnswers files l) write_fault came old new → Outcome (Answers files load_fault k) (PartAnswers files k) write_fault came old new
-outcome_at k l files load_fault write_fault came old new same h = subst (λ c. Outcome (Answers files load_fault c) (PartAnswers files c) write_fault came old new) (sym same) h
+pub outcome_at : (k l : Command) (files : Option FileMap) (load_fault write_fault : Type 0) (came : Status) (old new : Outside) → k ≡ l
+    → Outcome (Answers files load_fault l) (PartAnswers files l) write_fault came old new → Outcome (Answers files load_fault k)
+    (PartAnswers files k) write_fault came old new
+outcome_at k l files load_fault write_fault came old new same h = subst (λ c. Outcome (Answers files load_fault c) (PartAnswers files c)
+    write_fault came old new) (sym same) h
 
 abbrev Exact : Command → Option FileMap → Type 0 → Type 0 → Status → Outside → Outside → Type 0
 Exact c files load_fault write_fault came old new =
-    IfSome files (λ told. (came ≡ status.NoMemory) ⊎ (load_fault ⊎ (((came ≡ status.Unwritten) × write_fault) ⊎ IsDecided files c came old new)))
+    IfSome files (λ told. (came ≡ status.NoMemory)
+    ⊎ (load_fault ⊎ (((came ≡ status.Unwritten) × write_fault) ⊎ IsDecided files write_fault c came old new)))
 
-exact_told : (one : OneEnd) (files : Option FileMap) (load_fault write_fault : Type 0) (c : Command) (came : Status) (old new : Outside) → Outcome (Answers files load_fault c) (PartAnswers files c) write_fault came old new → Exact c files load_fault write_fault came old new
-exact_told one None load_fault write_fault c came old new h = tt
-exact_told one (Some told) load_fault write_fault c came old new h = exact one told load_fault write_fault c came old new h
+exact_told : (one : OneEnd) (readings : Readings) (files : Option FileMap) (load_fault write_fault : Type 0) (c : Command)
+    (came : Status) (old new : Outside)
+    → Outcome (Answers files load_fault c) (PartAnswers files c) write_fault came old new → Exact c files load_fault write_fault came old
+    new
+exact_told one readings None load_fault write_fault c came old new h = tt
+exact_told one readings (Some told) load_fault write_fault c came old new h =
+    exact one readings told load_fault write_fault c came old new h
 
-pub exact_in : (one : OneEnd) (o : Option Command) (c : Command) (files : Option FileMap) (load_fault write_fault : Type 0) (came : Status) (old new : Outside) → Some c ≡ o → Outcome (Answers files load_fault c) (PartAnswers files c) write_fault came old new → IfSome o (λ k. Exact k files load_fault write_fault came old new)
-exact_in one o c files load_fault write_fault came old new is h =
+pub exact_in : (one : OneEnd) (readings : Readings) (o : Option Command) (c : Command) (files : Option FileMap)
+    (load_fault write_fault : Type 0) (came : Status)
+    (old new : Outside) → Some c ≡ o → Outcome (Answers files load_fault c) (PartAnswers files c) write_fault came old new
+    → IfSome o (λ k. Exact k files load_fault write_fault came old new)
+exact_in one readings o c files load_fault write_fault came old new is h =
     subst (λ p. IfSome p (λ k. Exact k files load_fault write_fault came old new)) is
-    (exact_told one files load_fault write_fault c came old new h)
+    (exact_told one readings files load_fault write_fault c came old new h)
 
-pub unread_in : (o : Option Command) (c : Command) (files : Option FileMap) (load_fault write_fault : Type 0) (came : Status) (old new : Outside) → Some c ≡ o → Outcome (Answers files load_fault c) (PartAnswers files c) write_fault came old new → came ≡ status.Unread → IfSome o (λ k. load_fault ⊎ LacksRead files k)
+pub unread_in : (o : Option Command) (c : Command) (files : Option FileMap) (load_fault write_fault : Type 0) (came : Status)
+    (old new : Outside) → Some c ≡ o → Outcome (Answers files load_fault c) (PartAnswers files c) write_fault came old new
+    → came ≡ status.Unread → IfSome o (λ k. load_fault ⊎ LacksRead files k)
 unread_in o c files load_fault write_fault came old new is h unread =
     subst (λ p. IfSome p (λ k. load_fault ⊎ LacksRead files k)) is (unread_by files load_fault write_fault c came old new h unread)
 
-complete_told : (one : OneEnd) (files : Option FileMap) (load_fault write_fault : Type 0) (c : Command) (came : Status) (old new : Outside) → Outcome (Answers files load_fault c) (PartAnswers files c) write_fault came old new → IfSome files (λ told. Succeeds files c → (load_fault → ⊥) → (write_fault → ⊥) → (came ≡ status.Done) ⊎ (came ≡ status.NoMemory))
-complete_told one None load_fault write_fault c came old new h = tt
-complete_told one (Some told) load_fault write_fault c came old new h = complete one told load_fault write_fault c came old new h
+complete_told : (one : OneEnd) (readings : Readings) (files : Option FileMap) (load_fault write_fault : Type 0) (c : Command)
+    (came : Status) (old new : Outside)
+    → Outcome (Answers files load_fault c) (PartAnswers files c) write_fault came old new
+    → IfSome files (λ told. Succeeds files c → (load_fault → ⊥) → (write_fault → ⊥) → (came ≡ status.Done) ⊎ (came ≡ status.NoMemory))
+complete_told one readings None load_fault write_fault c came old new h = tt
+complete_told one readings (Some told) load_fault write_fault c came old new h =
+    complete one readings told load_fault write_fault c came old new h
 
-pub complete_in : (one : OneEnd) (o : Option Command) (c : Command) (files : Option FileMap) (load_fault write_fault : Type 0) (came : Status) (old new : Outside) → Some c ≡ o → Outcome (Answers files load_fault c) (PartAnswers files c) write_fault came old new → IfSome o (λ k. IfSome files (λ told. Succeeds files k → (load_fault → ⊥) → (write_fault → ⊥) → (came ≡ status.Done) ⊎ (came ≡ status.NoMemory)))
-complete_in one o c files load_fault write_fault came old new is h =
-    subst (λ p. IfSome p (λ k. IfSome files (λ told. Succeeds files k → (load_fault → ⊥) → (write_fault → ⊥) → (came ≡ status.Done) ⊎ (came ≡ status.NoMemory)))) is
-    (complete_told one files load_fault write_fault c came old new h)
+pub complete_in : (one : OneEnd) (readings : Readings) (o : Option Command) (c : Command) (files : Option FileMap)
+    (load_fault write_fault : Type 0)
+    (came : Status) (old new : Outside) → Some c ≡ o → Outcome (Answers files load_fault c) (PartAnswers files c) write_fault came old new
+    → IfSome o (λ k. IfSome files (λ told. Succeeds files k → (load_fault → ⊥) → (write_fault → ⊥) → (came ≡ status.Done)
+    ⊎ (came ≡ status.NoMemory)))
+complete_in one readings o c files load_fault write_fault came old new is h =
+    subst (λ p. IfSome p (λ k. IfSome files (λ told. Succeeds files k → (load_fault → ⊥) → (write_fault → ⊥) → (came ≡ status.Done)
+    ⊎ (came ≡ status.NoMemory)))) is
+    (complete_told one readings files load_fault write_fault c came old new h)
 
-pub usage_in : (o : Option Command) (c : Command) (files : Option FileMap) (load_fault write_fault : Type 0) (came : Status) (old new : Outside) → Some c ≡ o → Outcome (Answers files load_fault c) (PartAnswers files c) write_fault came old new → (came ≡ status.Usage → o ≡ None) × (o ≡ None → came ≡ status.Usage)
-usage_in o c files load_fault write_fault came old new is h =
-    ((λ usage. absurd (not_usage files load_fault write_fault c came old new h usage)), (λ none. absurd (cc (is, none))))
+pub usage_in : (o : Option Command) (c : Command) (files : Option FileMap) (load_fault write_fault : Type 0) (came : Status)
+    (old new : Outside) → Some c ≡ o → Outcome (Answers files load_fault c) (PartAnswers files c) write_fault came old new
+    → came ≡ status.Usage → o ≡ None
+usage_in o c files load_fault write_fault came old new is h usage = absurd (not_usage files load_fault write_fault c came old new h usage)

@@ -7,11 +7,11 @@ use Rattle.uz_files.specs.declared.status.Status.{Status}
 use Rattle.uz_files.specs.Answers.{Answer, Ends, NoPart, Outside}
 use Rattle.uz_top.specs.Words.{Command, Asm, Build, Certify, Check, Debug, Demo, Dis, Expand, Play, Trace}
 use Rattle.uz_run_commands.specs.TraceCommand.{TraceAnswers, TraceLacks, TraceParts, TraceSucceeds}
-use Rattle.uz_source_commands.specs.MacroCommands.{BuildAnswers, BuildSucceeds, ExpandAnswers, ExpandSucceeds}
+use Rattle.uz_source_commands.specs.MacroCommands.{BuildAnswers, BuildSucceeds, ExpandAnswers, ExpandSucceeds, FilesBuilt}
 use Rattle.uz_source_commands.specs.MacroSource.{MacroLacks}
 use Rattle.uz_play_command.specs.PlayCommand.{FilesHalted, FilesPlayed, PlayAnswers, PlayLacks, PlayParts, PlaySucceeds}
 use Rattle.uz_run_commands.specs.DebugCommand.{DebugAnswers, DebugLacks, DebugSucceeds}
-use Rattle.uz_source_commands.specs.AsmCommand.{AsmAnswers, AsmSucceeds}
+use Rattle.uz_source_commands.specs.AsmCommand.{AsmAnswers, AsmSucceeds, FilesAssembled}
 use Rattle.uz_source_commands.specs.DisCommand.{DisAnswers, DisSucceeds}
 use Rattle.uz_certify_command.specs.CertifyCommand.{AllowedOf, CertifyAnswers, CertifyAnswersBy, CertifySucceeds, FilesCertify}
 use Rattle.uz_demo_command.specs.DemoCommand.{AllowedOfDemo, DemoAnswers, DemoAnswersBy, DemoHalted, DemoParts, DemoPlayed, DemoSucceeds}
@@ -73,10 +73,10 @@ CreatesNone (Demo number) = Unit {0}
 abbrev pub Certifies : Option FileMap → Option FileMap → Command → Type 0
 Certifies files new (Check hex cert) = FilesCertified files hex cert
 Certifies files new (Dis hex) = Unit {0}
-Certifies files new (Asm source hex) = Unit {0}
+Certifies files new (Asm source hex) = FilesAssembled files new source hex
 Certifies files new (Trace hex pads irq clocks) = Unit {0}
 Certifies files new (Expand source flat) = Unit {0}
-Certifies files new (Build source hex) = Unit {0}
+Certifies files new (Build source hex) = FilesBuilt files new source hex
 Certifies files new (Play hex cert pads clocks frames) = FilesPlayed files hex cert pads clocks
 Certifies files new (Debug hex pads irq script) = Unit {0}
 Certifies files new (Certify source irq hex cert) = FilesCertify files new source irq hex cert
@@ -136,7 +136,7 @@ AllowedFor files (Certify source irq hex cert) found = AllowedOf files source ir
 AllowedFor files (Demo number) found = AllowedOfDemo number found
 
 -- it ended with the one answer that they decide
-pub record IsDecided (files : Option FileMap) (c : Command) (came : Status) (old new : Outside) : Type 0 where
+pub record IsDecided (files : Option FileMap) (write_fault : Type 0) (c : Command) (came : Status) (old new : Outside) : Type 0 where
   pub found : Result Cert NotFound
   pub allowed : AllowedFor files c found
-  pub decided : (wanted : Answer) → AnswersBy files found c wanted → Ends wanted came old new
+  pub decided : (wanted : Answer) → AnswersBy files found c wanted → Ends wanted write_fault came old new

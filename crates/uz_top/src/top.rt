@@ -1,9 +1,9 @@
 //! The commands behind one call.
 
-ghost use Rattle.std.specs.Prelude.{◌≡◌, ◌⊎◌, ◌↔◌, IfSome};
+ghost use Rattle.std.specs.Prelude.{◌≡◌, ◌⊎◌, IfSome, Option};
 ghost use Rattle.uz_shelf.specs.Faults.{Rose};
-ghost use Rattle.uz_shelf.specs.Text.{TakesPrefix};
-ghost use Rattle.uz_files.specs.Answers.{LoadFault, Outcome, WriteFault, outside};
+ghost use Rattle.uz_shelf.specs.Files.{FileMap};
+ghost use Rattle.uz_files.specs.Answers.{ComesOf, LoadFault, Outcome, WriteFault, one_line, outside};
 ghost use Rattle.uz_top.specs.CommandValues.{value_of};
 ghost use Rattle.uz_top.specs.Commands.{Answers, Certifies, CreatesNone, IsDecided, LacksRead, PartAnswers, StopTells, Succeeds};
 ghost use Rattle.uz_files.specs.Lines.{usage_line};
@@ -15,11 +15,25 @@ use std::alloc::Global;
 use uz_certify_command::run_certify;
 use uz_check_command::run_check;
 use uz_demo_command::run_demo;
-use uz_files::{Status, put_last};
+use uz_files::{Status, end_fault, readings_are_unique};
 use uz_play_command::run_play;
 use uz_run_commands::{run_debug, run_trace};
 use uz_shelf::{Shelf, Sink};
 use uz_source_commands::{run_asm, run_build, run_dis, run_expand};
+
+/// Prints the usage line.
+fn end_usage<K: Sink>(alloc: Global, out: &mut K) -> Status
+    ensures status { (result ≡ Status.Usage) ⊎ (result ≡ Status.NoMemory) }
+    ensures comes { (files : Option FileMap) → ComesOf (one_line Status.Usage usage_line) (Rose (K.faults out.old) (K.faults out.new))
+        result (outside files (K.text out.old)) (outside files (K.text out.new)) }
+{
+    end_fault(
+        alloc,
+        out,
+        Status::Usage,
+        b"usage: uzebox asm, dis, trace, certify, check, play, demo, migrate, expand, build, debug\n",
+    )
+}
 
 /// Runs a command.
 fn run<H: Shelf, K: Sink>(
@@ -81,9 +95,12 @@ pub fn uzebox<H: Shelf, K: Sink>(
     shelf: &mut H,
     out: &mut K,
 ) -> Status
-    // The words are no command exactly where the status is Usage. Then no more than the usage line is printed.
-    ensures usage { (result ≡ Status.Usage) ↔ AreNoCommand words.now }
-    ensures usage_line { AreNoCommand words.now → TakesPrefix (K.text out.old) usage_line (K.text out.new) }
+    // The words are no command exactly where the status is Usage, unless memory is lacking. Then the usage line is printed: whole,
+    // unless the sink's count of faults rose or memory was lacking.
+    ensures usage { result ≡ Status.Usage → AreNoCommand words.now }
+    ensures no_command { AreNoCommand words.now → (result ≡ Status.Usage) ⊎ (result ≡ Status.NoMemory) }
+    ensures usage_line { AreNoCommand words.now → ComesOf (one_line Status.Usage usage_line) (Rose (K.faults out.old) (K.faults out.new))
+        result (outside (H.files shelf.old) (K.text out.old)) (outside (H.files shelf.new) (K.text out.new)) }
     ensures usage_files { AreNoCommand words.now → H.files shelf.new ≡ H.files shelf.old }
 
     // The status, what was printed and what was written come of an answer that the words and the loaded bytes give.
@@ -98,7 +115,8 @@ pub fn uzebox<H: Shelf, K: Sink>(
         (result ≡ Status.NoMemory)
         ⊎ (LoadFault (H.load_faults shelf.old) (H.load_faults shelf.new)
         ⊎ (((result ≡ Status.Unwritten) × WriteFault (H.write_faults shelf.old) (H.write_faults shelf.new) (K.faults out.old) (K.faults out.new))
-        ⊎ IsDecided (H.files shelf.old) c result (outside (H.files shelf.old) (K.text out.old)) (outside (H.files shelf.new) (K.text out.new)))))) }
+        ⊎ IsDecided (H.files shelf.old) (WriteFault (H.write_faults shelf.old) (H.write_faults shelf.new) (K.faults out.old) (K.faults out.new)) c
+        result (outside (H.files shelf.old) (K.text out.old)) (outside (H.files shelf.new) (K.text out.new)))))) }
 
     // When each fault from outside comes.
     ensures unread { result ≡ Status.Unread → IfCommand words.now (λ c.
@@ -113,23 +131,17 @@ pub fn uzebox<H: Shelf, K: Sink>(
         → (WriteFault (H.write_faults shelf.old) (H.write_faults shelf.new) (K.faults out.old) (K.faults out.new) → ⊥)
         → (result ≡ Status.Done) ⊎ (result ≡ Status.NoMemory))) }
 
-    // What a command that is done is worth: `check` certifies the image and the certificate that its files spell, `certify` those that
-    // the written files spell, and a run that is played, by `play` or `demo`, keeps to the schedule once a state of it has entered. One that is stopped never
-    // entered.
+    // What a command that is done is worth: after `asm` and `build` the written file is Intel HEX of the image that the source assembles
+    // to, `check` certifies the image and the certificate that its files spell, `certify` those that the written files spell, and a run
+    // that is played, by `play` or `demo`, keeps to the schedule once a state of it has entered. One that is stopped never entered.
     ensures certified { result ≡ Status.Done → IfCommand words.now (Certifies (H.files shelf.old) (H.files shelf.new)) }
     ensures halted { result ≡ Status.Stopped → IfCommand words.now (StopTells (H.files shelf.old)) }
     ensures untouched { IfCommand words.now (λ c. CreatesNone c → H.files shelf.new ≡ H.files shelf.old) }
 {
     expansion_is_unique();
+    readings_are_unique();
     match parse(words) {
         Some(command) => run(alloc, &command, shelf, out),
-        None => {
-            put_last(
-                alloc,
-                out,
-                b"usage: uzebox asm, dis, trace, certify, check, play, demo, migrate, expand, build, debug\n",
-            );
-            Status::Usage
-        }
+        None => end_usage(alloc, out),
     }
 }

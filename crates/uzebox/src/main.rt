@@ -12,7 +12,7 @@ use uz_top::{Status, uzebox};
 fn words(rt: HostRuntime) -> Result<Vec<String>, AllocError> {
     let mut words = Vec::new(rt.alloc());
     if let Ok(mut args) = env::args(&rt) {
-        let _ = args.next();
+        let _ = args.next(); // the program's name
         for word in args {
             words.push(word)?;
         }

@@ -2,4 +2,5 @@ use Rattle.uz_certify_command.proofs.CertifyLemmas.{found_in}
 use Rattle.uz_certify_command.proofs.certify_command.prepare.Goals as goal
 
 pub returns-clause-found : goal.returns-clause-found
-returns-clause-found g c = found_in (g.H.Shelf.files c.args.shelf.now) c.args.source.now c.args.irq c.in_ok-built.built c.search_built.result c.in_ok-built.ensures.said c.search_built.ensures.found
+returns-clause-found g c = found_in (g.H.Shelf.files c.args.shelf.now) c.args.source.now c.args.irq c.in_ok-built.built
+    c.search_built.result c.in_ok-built.ensures.said c.search_built.ensures.found

@@ -15,4 +15,5 @@ returns-in-Over-clause-goes c = λ start handed p.
 
 pub returns-in-Stopped-clause-goes : goal.returns-in-Stopped-clause-goes
 returns-in-Stopped-clause-goes c = λ start handed p.
-    captured_stopped c.args.player.now c.advance.new.self _ _ c.in-Stopped.pc c.in-Stopped.word start None None [] refl refl c.in-Stopped.ensures.next (handed, p, refl)
+    captured_stopped c.args.player.now c.advance.new.self _ _ c.in-Stopped.pc c.in-Stopped.word start None None [] refl refl
+    c.in-Stopped.ensures.next (handed, p, refl)

@@ -16,5 +16,7 @@ records-preserved c = record {
 pub returns-in-Some : goal.returns-in-Some
 returns-in-Some c = λ start h.
     let now = c.records.invariant.plays start h in
-    subst (λ cert. IsPlayedOut cert (limit_of c.args.player.now) start c.in-Some.end (counts_of c.next_end.new.player)) (c.next_end.ensures.cert ∙ c.records.invariant.cert)
-    (subst (λ limit. IsPlayedOut (cert_of c.next_end.new.player) limit start c.in-Some.end (counts_of c.next_end.new.player)) (c.next_end.ensures.limit ∙ c.records.invariant.limit) (c.in-Some.ensures.goes start now.0 now.1))
+    subst (λ cert. IsPlayedOut cert (limit_of c.args.player.now) start c.in-Some.end (counts_of c.next_end.new.player))
+    (c.next_end.ensures.cert ∙ c.records.invariant.cert)
+    (subst (λ limit. IsPlayedOut (cert_of c.next_end.new.player) limit start c.in-Some.end (counts_of c.next_end.new.player))
+    (c.next_end.ensures.limit ∙ c.records.invariant.limit) (c.in-Some.ensures.goes start now.0 now.1))

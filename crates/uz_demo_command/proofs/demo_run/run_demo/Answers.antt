@@ -13,22 +13,27 @@ pub returns-in-Ready-clause-outcome : goal.returns-in-Ready-clause-outcome
 returns-in-Ready-clause-outcome g c = λ files.
     let given = c.in-Ok.ensures in
     let ready = subst (IsSearched (given.output).image (given.output).hints) c.in-Ready.is given.searched in
-    demo_runs c.args.number _ c.play_demo.result _ _ c.in-Ok.start c.in-Ready.console c.in-Ready.cert c.in-Ready.line.items c.as_slice.result.now c.as_slice.ensures.value given ready
+    demo_runs c.args.number _ c.play_demo.result _ _ c.in-Ok.start c.in-Ready.console c.in-Ready.cert c.in-Ready.line.items
+    c.as_slice.result.now c.as_slice.ensures.value given ready
     (c.play_demo.ensures.outcome (demo_start (given.output).image) files ready.stands)
 
 pub returns-in-Ready-clause-played : goal.returns-in-Ready-clause-played
 returns-in-Ready-clause-played g c =
     let given = c.in-Ok.ensures in
     let ready = subst (IsSearched (given.output).image (given.output).hints) c.in-Ready.is given.searched in
-    demo_played c.args.number c.in-Ok.start c.in-Ready.console c.in-Ready.cert c.in-Ready.line.items c.as_slice.result.now given ready _ c.play_demo.result _ _
-    (c.play_demo.ensures.outcome (demo_start (given.output).image) None ready.stands) c.soundness.ensures.certified c.played_runs_keep.ensures.keeps
+    demo_played c.args.number c.in-Ok.start c.in-Ready.console c.in-Ready.cert c.in-Ready.line.items c.as_slice.result.now given ready _
+    c.play_demo.result _ _
+    (c.play_demo.ensures.outcome (demo_start (given.output).image) None ready.stands) c.soundness.ensures.certified
+    c.played_runs_keep.ensures.keeps
 
 pub returns-in-Ready-clause-halted : goal.returns-in-Ready-clause-halted
 returns-in-Ready-clause-halted g c =
     let given = c.in-Ok.ensures in
     let ready = subst (IsSearched (given.output).image (given.output).hints) c.in-Ready.is given.searched in
-    demo_halted c.args.number c.in-Ok.start c.in-Ready.console c.in-Ready.cert c.in-Ready.line.items c.as_slice.result.now given ready _ c.play_demo.result _ _
-    (c.play_demo.ensures.outcome (demo_start (given.output).image) None ready.stands) c.soundness.ensures.certified c.played_runs_keep.ensures.never_stops
+    demo_halted c.args.number c.in-Ok.start c.in-Ready.console c.in-Ready.cert c.in-Ready.line.items c.as_slice.result.now given ready _
+    c.play_demo.result _ _
+    (c.play_demo.ensures.outcome (demo_start (given.output).image) None ready.stands) c.soundness.ensures.certified
+    c.played_runs_keep.ensures.never_stops
 
 pub returns-in-Refusal-clause-outcome : goal.returns-in-Refusal-clause-outcome
 returns-in-Refusal-clause-outcome g c = λ files.

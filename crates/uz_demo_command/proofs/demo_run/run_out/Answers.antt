@@ -11,4 +11,5 @@ returns c = λ start stands.
     let done = c.play_out-end.ensures start (player.plays start stands) in
     subst (λ counts. IsPlayedOut c.args.cert (demo_clocks c.args.cert) start end counts) (sym c.counts.ensures)
     (subst (λ cert. IsPlayedOut cert (demo_clocks c.args.cert) start end (counts_of c.play_out-end.new.player)) player.cert
-    (subst (λ limit. IsPlayedOut (cert_of c.new-player.result) limit start end (counts_of c.play_out-end.new.player)) (player.limit ∙ c.three_frames-clocks.ensures.clocks) done))
+    (subst (λ limit. IsPlayedOut (cert_of c.new-player.result) limit start end (counts_of c.play_out-end.new.player))
+    (player.limit ∙ c.three_frames-clocks.ensures.clocks) done))

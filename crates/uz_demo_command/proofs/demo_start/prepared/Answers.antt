@@ -8,6 +8,7 @@ pub returns : goal.returns
 returns c = record {
   same = refl;
   in_range = c.reset_is_in_range.ensures c.args.image [] Four c.is_flash.ensures;
-  stands = subst (λ list. StandsFor c.in_ok-console.console (start_of c.args.image list Four)) c.new.ensures.items c.in_ok-console.ensures.stands;
+  stands = subst (λ list. StandsFor c.in_ok-console.console (start_of c.args.image list Four)) c.new.ensures.items
+      c.in_ok-console.ensures.stands;
   is_line = c.in_ok-line.ensures;
 }

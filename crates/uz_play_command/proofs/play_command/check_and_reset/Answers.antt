@@ -16,11 +16,13 @@ returns-in_ok-console-in-Ok c =
     record {
       same = cert;
       accepted = c.in-Ok.ensures.accepted.0 refl;
-      certified = subst (λ i. Certified i c.args.cert) c.in-Ok.ensures.same.0 (subst (λ d. Certified c.in-Ok.pair.image d) c.in-Ok.ensures.same.1 c.in-Ok.ensures.certified);
+      certified = subst (λ i. Certified i c.args.cert) c.in-Ok.ensures.same.0
+          (subst (λ d. Certified c.in-Ok.pair.image d) c.in-Ok.ensures.same.1 c.in-Ok.ensures.certified);
       in_range = c.reset_is_in_range.ensures c.args.image (pairs_of c.args.pads.items) c.args.cert.head.irq c.is_flash.ensures;
       stands =
           subst (λ d. StandsFor c.in_ok-console-in-Ok.console (start_of c.args.image c.args.pads.items d.head.irq)) cert
-          (subst (λ i. StandsFor c.in_ok-console-in-Ok.console (start_of i c.args.pads.items c.into_parts-image.result.1.head.irq)) image c.in_ok-console-in-Ok.ensures.stands);
+          (subst (λ i. StandsFor c.in_ok-console-in-Ok.console (start_of i c.args.pads.items c.into_parts-image.result.1.head.irq)) image
+          c.in_ok-console-in-Ok.ensures.stands);
     }
 
 pub returns-in_ok-refused-in-Err : goal.returns-in_ok-refused-in-Err

@@ -15,14 +15,17 @@ returns-in-Err-clause-gives g c =
 pub returns-in-Err-read_script_file-clause-gives : goal.returns-in-Err-read_script_file-clause-gives
 returns-in-Err-read_script_file-clause-gives g c =
     debug_without_script (g.H.Shelf.files c.args.shelf.now) (g.H.Shelf.files c.reset_debugger.new.shelf)
-    (g.H.Shelf.load_faults c.args.shelf.now) (g.H.Shelf.load_faults c.reset_debugger.new.shelf) (g.H.Shelf.load_faults c.read_script_file.new.shelf)
+    (g.H.Shelf.load_faults c.args.shelf.now) (g.H.Shelf.load_faults c.reset_debugger.new.shelf)
+    (g.H.Shelf.load_faults c.read_script_file.new.shelf)
     c.args.hex.now c.args.pads.now c.args.irq c.args.script.now c.in-Ok.debugger c.in-Err-read_script_file.failure
     c.reset_debugger.ensures.files c.reset_debugger.ensures.load_faults c.in-Ok.ensures.starts c.in-Err-read_script_file.ensures.fails
 
 pub returns-clause-gives : goal.returns-clause-gives
 returns-clause-gives g c =
     debug_read (g.H.Shelf.files c.args.shelf.now) (g.H.Shelf.files c.reset_debugger.new.shelf) _
-    c.args.hex.now c.args.pads.now c.args.irq c.args.script.now c.in-Ok.debugger c.session_text.new.debugger c.in-Ok-read_script_file.commands.items c.in_ok-session_text.field-0.items
+    c.args.hex.now c.args.pads.now c.args.irq c.args.script.now c.in-Ok.debugger c.session_text.new.debugger
+    c.in-Ok-read_script_file.commands.items c.in_ok-session_text.field-0.items
     c.reset_debugger.ensures.files c.in-Ok.ensures.starts c.in-Ok-read_script_file.ensures.said
-    (subst (λ (cs : List Command). (start : State PadHistory) (done : List (Command × Reply)) → Debugs start done c.in-Ok.debugger → Prints start (session_of c.in-Ok.debugger) cs c.in_ok-session_text.field-0.items (session_of c.session_text.new.debugger))
+    (subst (λ (cs : List Command). (start : State PadHistory) (done : List (Command × Reply)) → Debugs start done c.in-Ok.debugger
+    → Prints start (session_of c.in-Ok.debugger) cs c.in_ok-session_text.field-0.items (session_of c.session_text.new.debugger))
     c.as_slice.ensures.value c.in_ok-session_text.ensures)

@@ -4,4 +4,5 @@ use Rattle.uz_run_commands.proofs.debug_command.run_debug.Goals as goal
 
 pub returns-clause-outcome : goal.returns-clause-outcome
 returns-clause-outcome g c =
-    run_outcome _ _ c.debug_files-debugged.result c.finish.result _ _ _ _ _ _ inr c.debug_files-debugged.ensures.files c.debug_files-debugged.ensures.gives c.finish.ensures.comes
+    run_outcome _ _ c.debug_files-debugged.result c.finish.result _ _ _ _ _ _ inr c.debug_files-debugged.ensures.files
+    c.debug_files-debugged.ensures.gives c.finish.ensures.comes

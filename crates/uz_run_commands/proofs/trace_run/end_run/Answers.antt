@@ -8,4 +8,5 @@ returns-in-Ok-clause-comes g c = λ files old printed before.
 
 pub returns-in-Err-clause-comes : goal.returns-in-Err-clause-comes
 returns-in-Err-clause-comes g c = λ files old printed before.
-    lacks_after printed (last_line c.args.clocks c.args.run_end) (end_status c.args.run_end) _ _ files old _ _ before c.put_no_memory.ensures.status c.put_no_memory.ensures.text
+    lacks_after printed (last_line c.args.clocks c.args.run_end) (end_status c.args.run_end) _ _ files old _ _ before
+    c.put_no_memory.ensures.status c.put_no_memory.ensures.text

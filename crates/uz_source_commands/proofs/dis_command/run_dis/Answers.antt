@@ -4,4 +4,5 @@ use Rattle.uz_source_commands.proofs.dis_command.run_dis.Goals as goal
 
 pub returns-clause-outcome : goal.returns-clause-outcome
 returns-clause-outcome g c =
-    run_outcome _ _ c.list_file-listed.result c.finish.result _ _ _ _ _ _ inr c.list_file-listed.ensures.files c.list_file-listed.ensures.gives c.finish.ensures.comes
+    run_outcome _ _ c.list_file-listed.result c.finish.result _ _ _ _ _ _ inr c.list_file-listed.ensures.files
+    c.list_file-listed.ensures.gives c.finish.ensures.comes

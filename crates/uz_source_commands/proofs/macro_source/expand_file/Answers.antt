@@ -10,6 +10,9 @@ use Rattle.uz_source_commands.proofs.macro_source.expand_file.Goals as goal
 
 pub returns-in-Ok-refusal_of-clause-fails : goal.returns-in-Ok-refusal_of-clause-fails
 returns-in-Ok-refusal_of-clause-fails g c =
-    source_refused (g.H.Shelf.files c.args.shelf.now) (Rose (g.H.Shelf.load_faults c.args.shelf.now) (g.H.Shelf.load_faults c.expand.new.shelf)) c.args.source.now (names_of c.expand.new.names) c.in-Err.error c.in-Ok-refusal_of.failure
+    source_refused (g.H.Shelf.files c.args.shelf.now) (Rose (g.H.Shelf.load_faults c.args.shelf.now)
+    (g.H.Shelf.load_faults c.expand.new.shelf)) c.args.source.now (names_of c.expand.new.names) c.in-Err.error
+    c.in-Ok-refusal_of.failure
     c.in-Err.ensures.refused
-    (subst (λ (ns : List (String Global)). EndsBy (TellsRefusal (map (λ (n : String Global). string_bytes n) ns) c.in-Err.error) c.in-Ok-refusal_of.failure) c.as_slice.ensures.value c.in-Ok-refusal_of.ensures)
+    (subst (λ (ns : List (String Global)). EndsBy (TellsRefusal (map (λ (n : String Global). string_bytes n) ns) c.in-Err.error)
+    c.in-Ok-refusal_of.failure) c.as_slice.ensures.value c.in-Ok-refusal_of.ensures)

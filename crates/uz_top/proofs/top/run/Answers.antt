@@ -6,51 +6,71 @@ use Rattle.uz_top.proofs.CommandLemmas.{outcome_at, outcome_wider}
 use Rattle.uz_top.proofs.top.run.Goals as goal
 
 pub returns-in-Check-clause-outcome : goal.returns-in-Check-clause-outcome
-returns-in-Check-clause-outcome g c = outcome_at (value_of c.args.command.now) _ _ _ _ _ _ _ (ap value_of c.in-Check.is) c.run_check.ensures.outcome
+returns-in-Check-clause-outcome g c = outcome_at (value_of c.args.command.now) _ _ _ _ _ _ _ (ap value_of c.in-Check.is)
+    c.run_check.ensures.outcome
 
 pub returns-in-Dis-clause-outcome : goal.returns-in-Dis-clause-outcome
-returns-in-Dis-clause-outcome g c = outcome_at (value_of c.args.command.now) _ _ _ _ _ _ _ (ap value_of c.in-Dis.is) c.run_dis.ensures.outcome
+returns-in-Dis-clause-outcome g c = outcome_at (value_of c.args.command.now) _ _ _ _ _ _ _ (ap value_of c.in-Dis.is)
+    c.run_dis.ensures.outcome
 
 pub returns-in-Trace-clause-outcome : goal.returns-in-Trace-clause-outcome
-returns-in-Trace-clause-outcome g c = outcome_at (value_of c.args.command.now) _ _ _ _ _ _ _ (ap value_of c.in-Trace.is) c.run_trace.ensures.outcome
+returns-in-Trace-clause-outcome g c = outcome_at (value_of c.args.command.now) _ _ _ _ _ _ _ (ap value_of c.in-Trace.is)
+    c.run_trace.ensures.outcome
 
 pub returns-in-Debug-clause-outcome : goal.returns-in-Debug-clause-outcome
-returns-in-Debug-clause-outcome g c = outcome_at (value_of c.args.command.now) _ _ _ _ _ _ _ (ap value_of c.in-Debug.is) c.run_debug.ensures.outcome
+returns-in-Debug-clause-outcome g c = outcome_at (value_of c.args.command.now) _ _ _ _ _ _ _ (ap value_of c.in-Debug.is)
+    c.run_debug.ensures.outcome
 
 pub returns-in-Asm-clause-outcome : goal.returns-in-Asm-clause-outcome
-returns-in-Asm-clause-outcome g c = outcome_at (value_of c.args.command.now) _ _ _ _ _ _ _ (ap value_of c.in-Asm.is) c.run_asm.ensures
+returns-in-Asm-clause-outcome g c = outcome_at (value_of c.args.command.now) _ _ _ _ _ _ _ (ap value_of c.in-Asm.is)
+    c.run_asm.ensures.outcome
 
 pub returns-in-Asm-clause-untouched : goal.returns-in-Asm-clause-untouched
 returns-in-Asm-clause-untouched g c = λ none. absurd (subst CreatesNone (ap value_of c.in-Asm.is) none)
 
 pub returns-in-Expand-clause-outcome : goal.returns-in-Expand-clause-outcome
-returns-in-Expand-clause-outcome g c = outcome_at (value_of c.args.command.now) _ _ _ _ _ _ _ (ap value_of c.in-Expand.is) c.run_expand.ensures
+returns-in-Expand-clause-outcome g c = outcome_at (value_of c.args.command.now) _ _ _ _ _ _ _ (ap value_of c.in-Expand.is)
+    c.run_expand.ensures
 
 pub returns-in-Expand-clause-untouched : goal.returns-in-Expand-clause-untouched
 returns-in-Expand-clause-untouched g c = λ none. absurd (subst CreatesNone (ap value_of c.in-Expand.is) none)
 
 pub returns-in-Build-clause-outcome : goal.returns-in-Build-clause-outcome
-returns-in-Build-clause-outcome g c = outcome_at (value_of c.args.command.now) _ _ _ _ _ _ _ (ap value_of c.in-Build.is) c.run_build.ensures
+returns-in-Build-clause-outcome g c = outcome_at (value_of c.args.command.now) _ _ _ _ _ _ _ (ap value_of c.in-Build.is)
+    c.run_build.ensures.outcome
 
 pub returns-in-Build-clause-untouched : goal.returns-in-Build-clause-untouched
 returns-in-Build-clause-untouched g c = λ none. absurd (subst CreatesNone (ap value_of c.in-Build.is) none)
 
 pub returns-in-Play-clause-outcome : goal.returns-in-Play-clause-outcome
-returns-in-Play-clause-outcome g c = outcome_at (value_of c.args.command.now) _ _ _ _ _ _ _ (ap value_of c.in-Play.is) c.run_play.ensures.outcome
+returns-in-Play-clause-outcome g c = outcome_at (value_of c.args.command.now) _ _ _ _ _ _ _ (ap value_of c.in-Play.is)
+    c.run_play.ensures.outcome
 
 pub returns-in-Play-clause-untouched : goal.returns-in-Play-clause-untouched
 returns-in-Play-clause-untouched g c = λ none. absurd (subst CreatesNone (ap value_of c.in-Play.is) none)
 
 pub returns-in-Certify-clause-outcome : goal.returns-in-Certify-clause-outcome
-returns-in-Certify-clause-outcome g c = outcome_at (value_of c.args.command.now) _ _ _ _ _ _ _ (ap value_of c.in-Certify.is) c.run_certify.ensures.outcome
+returns-in-Certify-clause-outcome g c = outcome_at (value_of c.args.command.now) _ _ _ _ _ _ _ (ap value_of c.in-Certify.is)
+    c.run_certify.ensures.outcome
 
 pub returns-in-Certify-clause-untouched : goal.returns-in-Certify-clause-untouched
 returns-in-Certify-clause-untouched g c = λ none. absurd (subst CreatesNone (ap value_of c.in-Certify.is) none)
 
+pub returns-in-Asm-clause-certified : goal.returns-in-Asm-clause-certified
+returns-in-Asm-clause-certified g c = λ done apart.
+    subst (Certifies (g.H.Shelf.files c.args.shelf.now) (g.H.Shelf.files c.run_asm.new.shelf)) (sym (ap value_of c.in-Asm.is))
+    (c.run_asm.ensures.assembled done)
+
+pub returns-in-Build-clause-certified : goal.returns-in-Build-clause-certified
+returns-in-Build-clause-certified g c = λ done apart.
+    subst (Certifies (g.H.Shelf.files c.args.shelf.now) (g.H.Shelf.files c.run_build.new.shelf)) (sym (ap value_of c.in-Build.is))
+    (c.run_build.ensures.built done)
+
 pub returns-in-Certify-clause-certified : goal.returns-in-Certify-clause-certified
 returns-in-Certify-clause-certified g c = λ done apart.
     let same = ap value_of c.in-Certify.is in
-    subst (Certifies (g.H.Shelf.files c.args.shelf.now) (g.H.Shelf.files c.run_certify.new.shelf)) (sym same) (c.run_certify.ensures.certified done (subst WritesApart same apart))
+    subst (Certifies (g.H.Shelf.files c.args.shelf.now) (g.H.Shelf.files c.run_certify.new.shelf)) (sym same)
+    (c.run_certify.ensures.certified done (subst WritesApart same apart))
 
 pub returns-in-Demo-clause-outcome : goal.returns-in-Demo-clause-outcome
 returns-in-Demo-clause-outcome g c =

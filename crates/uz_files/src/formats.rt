@@ -1,0 +1,224 @@
+//! The formats of the files that several commands read.
+
+ghost use Rattle.std.specs.Prelude.{◌≡◌, ◌<◌, ◌≤◌, ◌^◌, IfErr, IfOk, length};
+ghost use Rattle.avr_asm.specs.Assembly.{seen_built};
+ghost use Rattle.avr_asm.specs.Relation.{IsAssembly};
+ghost use Rattle.uz_cert.specs.Texts.{IsCertificateText};
+ghost use Rattle.uz_hex.specs.HexText.{IsHexOf};
+ghost use Rattle.uz_schedule.specs.WellFormed.{WellFormed};
+ghost use Rattle.uz_shelf.specs.Faults.{Rose};
+ghost use Rattle.uz_files.specs.Endings.{EndsBy};
+ghost use Rattle.uz_files.specs.Formats.{RefusesCertificate, RefusesHex, RefusesPads, RefusesSource, SpellsPads};
+ghost use Rattle.uz_files.specs.Reading.{Fails, Says, certificate_limit, text_limit};
+
+use crate::ending::Failure;
+use crate::format::{Format, read_file};
+use crate::loading::{CERTIFICATE_LIMIT, TEXT_LIMIT};
+use crate::text_fault::TextFault;
+use avr_asm::{AsmError, AsmWhy, Built, assemble};
+use std::alloc::Global;
+use uz_cert::{Cert, CertError, CertWhy, read_cert};
+use uz_hex::{HexError, HexWhy, Image, read_hex};
+use uz_pads::{Pad, PadError, PadWhy, read_pads};
+use uz_shelf::Shelf;
+
+/// Source text of the assembler.
+struct Source;
+
+impl Format for Source {
+    ghost use Rattle.std.specs.Prelude.{◌<◌, ◌^◌, length};
+    ghost use Rattle.avr_asm.specs.Assembly.{seen_built};
+    ghost use Rattle.avr_asm.specs.Relation.{IsAssembly};
+    ghost use Rattle.uz_files.specs.Formats.{RefusesSource};
+    ghost use Rattle.uz_files.specs.Reading.{text_limit};
+
+    type Value = Built;
+
+    const LIMIT: u32 = TEXT_LIMIT;
+
+    ghost LIMIT = { text_limit };
+
+    ghost spells = { λ text built. IsAssembly text (seen_built built) };
+
+    ghost refuses = { RefusesSource };
+
+    ghost formed = { λ built. length built.hints.items < 2 ^ 32 };
+
+    #[tactic(auto, using(crate::proofs::HintCount::few_hints))]
+    fn read(alloc: Global, text: &[u8]) -> Result<Built, TextFault> {
+        match assemble(alloc, text) {
+            Ok(built) => Ok(built),
+            Err(
+                AsmError {
+                    why: AsmWhy::Memory,
+                    ..
+                },
+            ) => Err(TextFault::Memory),
+            Err(AsmError { line, why }) => Err(TextFault::At {
+                line,
+                why: why.name(),
+            }),
+        }
+    }
+}
+
+/// Intel HEX.
+struct HexText;
+
+impl Format for HexText {
+    ghost use Rattle.uz_hex.specs.HexText.{IsHexOf};
+    ghost use Rattle.uz_files.specs.Formats.{RefusesHex};
+    ghost use Rattle.uz_files.specs.Reading.{text_limit};
+
+    type Value = Image;
+
+    const LIMIT: u32 = TEXT_LIMIT;
+
+    ghost LIMIT = { text_limit };
+
+    ghost spells = { IsHexOf };
+
+    ghost refuses = { RefusesHex };
+
+    ghost formed = { λ _. Unit {0} };
+
+    fn read(alloc: Global, text: &[u8]) -> Result<Image, TextFault> {
+        match read_hex(alloc, text) {
+            Ok(image) => Ok(image),
+            Err(
+                HexError {
+                    why: HexWhy::Memory,
+                    ..
+                },
+            ) => Err(TextFault::Memory),
+            Err(HexError { line, why }) => Err(TextFault::At {
+                line,
+                why: why.name(),
+            }),
+        }
+    }
+}
+
+/// The text of a certificate.
+struct CertificateText;
+
+impl Format for CertificateText {
+    ghost use Rattle.uz_cert.specs.Texts.{IsCertificateText};
+    ghost use Rattle.uz_schedule.specs.WellFormed.{WellFormed};
+    ghost use Rattle.uz_files.specs.Formats.{RefusesCertificate};
+    ghost use Rattle.uz_files.specs.Reading.{certificate_limit};
+
+    type Value = Cert;
+
+    const LIMIT: u32 = CERTIFICATE_LIMIT;
+
+    ghost LIMIT = { certificate_limit };
+
+    ghost spells = { IsCertificateText };
+
+    ghost refuses = { RefusesCertificate };
+
+    ghost formed = { WellFormed };
+
+    fn read(alloc: Global, text: &[u8]) -> Result<Cert, TextFault> {
+        match read_cert(alloc, text) {
+            Ok(certificate) => Ok(certificate),
+            Err(
+                CertError {
+                    why: CertWhy::Memory,
+                    ..
+                },
+            ) => Err(TextFault::Memory),
+            Err(CertError { line, why }) => Err(TextFault::At {
+                line,
+                why: why.name(),
+            }),
+        }
+    }
+}
+
+/// Pairs of pad words.
+struct PadWords;
+
+impl Format for PadWords {
+    ghost use Rattle.uz_files.specs.Formats.{RefusesPads, SpellsPads};
+    ghost use Rattle.uz_files.specs.Reading.{text_limit};
+
+    type Value = Vec<Pad>;
+
+    const LIMIT: u32 = TEXT_LIMIT;
+
+    ghost LIMIT = { text_limit };
+
+    ghost spells = { λ text pads. SpellsPads text pads.items };
+
+    ghost refuses = { RefusesPads };
+
+    ghost formed = { λ _. Unit {0} };
+
+    fn read(alloc: Global, text: &[u8]) -> Result<Vec<Pad>, TextFault> {
+        match read_pads(alloc, text) {
+            Ok(pads) => Ok(pads),
+            Err(
+                PadError {
+                    why: PadWhy::Memory,
+                    ..
+                },
+            ) => Err(TextFault::Memory),
+            Err(PadError { line, why }) => Err(TextFault::At {
+                line,
+                why: why.name(),
+            }),
+        }
+    }
+}
+
+/// What a source file assembles to.
+pub fn assemble_file<H: Shelf>(alloc: Global, shelf: &mut H, name: &str) -> Result<Built, Failure>
+    ensures said { IfOk result (λ built. Says (H.files shelf.old) name.now text_limit IsAssembly (seen_built built)) }
+    ensures few { IfOk result (λ built. length built.hints.items < 2 ^ 32) }
+    ensures fails { IfErr result (EndsBy (Fails (H.files shelf.old) (Rose (H.load_faults shelf.old) (H.load_faults shelf.new)) name.now text_limit RefusesSource)) }
+    ensures files { H.files shelf.new ≡ H.files shelf.old }
+    ensures load_faults { H.load_faults shelf.old ≤ H.load_faults shelf.new }
+    ensures write_faults { H.write_faults shelf.new ≡ H.write_faults shelf.old }
+{
+    read_file::<Source, H>(alloc, shelf, name)
+}
+
+/// The image that a HEX file spells.
+pub fn read_image<H: Shelf>(alloc: Global, shelf: &mut H, name: &str) -> Result<Image, Failure>
+    ensures said { IfOk result (Says (H.files shelf.old) name.now text_limit IsHexOf) }
+    ensures fails { IfErr result (EndsBy (Fails (H.files shelf.old) (Rose (H.load_faults shelf.old) (H.load_faults shelf.new)) name.now text_limit RefusesHex)) }
+    ensures files { H.files shelf.new ≡ H.files shelf.old }
+    ensures load_faults { H.load_faults shelf.old ≤ H.load_faults shelf.new }
+    ensures write_faults { H.write_faults shelf.new ≡ H.write_faults shelf.old }
+{
+    read_file::<HexText, H>(alloc, shelf, name)
+}
+
+/// The certificate that a file spells.
+pub fn read_certificate<H: Shelf>(alloc: Global, shelf: &mut H, name: &str) -> Result<Cert, Failure>
+    ensures said { IfOk result (Says (H.files shelf.old) name.now certificate_limit IsCertificateText) }
+    ensures well_formed { IfOk result WellFormed }
+    ensures fails { IfErr result (EndsBy (Fails (H.files shelf.old) (Rose (H.load_faults shelf.old) (H.load_faults shelf.new)) name.now certificate_limit RefusesCertificate)) }
+    ensures files { H.files shelf.new ≡ H.files shelf.old }
+    ensures load_faults { H.load_faults shelf.old ≤ H.load_faults shelf.new }
+    ensures write_faults { H.write_faults shelf.new ≡ H.write_faults shelf.old }
+{
+    read_file::<CertificateText, H>(alloc, shelf, name)
+}
+
+/// The pairs of pad words that a file spells.
+pub fn read_pad_file<H: Shelf>(
+    alloc: Global,
+    shelf: &mut H,
+    name: &str,
+) -> Result<Vec<Pad>, Failure>
+    ensures said { IfOk result (λ pads. Says (H.files shelf.old) name.now text_limit SpellsPads pads.items) }
+    ensures fails { IfErr result (EndsBy (Fails (H.files shelf.old) (Rose (H.load_faults shelf.old) (H.load_faults shelf.new)) name.now text_limit RefusesPads)) }
+    ensures files { H.files shelf.new ≡ H.files shelf.old }
+    ensures load_faults { H.load_faults shelf.old ≤ H.load_faults shelf.new }
+    ensures write_faults { H.write_faults shelf.new ≡ H.write_faults shelf.old }
+{
+    read_file::<PadWords, H>(alloc, shelf, name)
+}
