@@ -17,7 +17,8 @@ use Rattle.uz_capture.specs.declared.recording.RunEnd.{RunEnd}
 use Rattle.uz_capture.specs.declared.recording.RunEnd.TheVariants.{Over, Stopped}
 
 -- the file holds just the records of a run's edges, and these are the run's numbers
-pub record IsWhole (cert : Cert) (limit : ℕ) (start : State PadHistory) (edges : List Edge) (counts : Counts) (old : Option FileMap) (name : List ℕ) (new : Option FileMap) : Type 0 where
+pub record IsWhole (cert : Cert) (limit : ℕ) (start : State PadHistory) (edges : List Edge) (counts : Counts) (old : Option FileMap)
+    (name : List ℕ) (new : Option FileMap) : Type 0 where
   pub file : WritesFile old name (records (newest_first edges)) new
   pub counted : CountsEdges counts edges
   pub entered : EntersAt cert limit start counts.entered

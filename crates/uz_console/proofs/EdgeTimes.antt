@@ -33,14 +33,18 @@ timed_part p from to (e ∷ edges) t = chosen (p e) (timed_part p e.clock to edg
 turn_timed : (s next : State PadHistory) (edges : List Edge) → Turn history_wiring s edges next → AreTimed s.clock next.clock edges
 turn_timed s next edges (inl enter) =
     subst (λ x. AreTimed s.clock next.clock x) (sym enter.emits)
-    (subst (λ (n : State PadHistory). AreTimed s.clock n.clock (entry_edges history_wiring s)) (sym enter.goes_to) (omega arith, at_one_clock s.clock (s.clock + s.response) (s.clock + s.response) _ (omega arith) (omega arith)))
+    (subst (λ (n : State PadHistory). AreTimed s.clock n.clock (entry_edges history_wiring s)) (sym enter.goes_to)
+    (omega arith, at_one_clock s.clock (s.clock + s.response) (s.clock + s.response) _ (omega arith) (omega arith)))
 turn_timed s next edges (inr run) =
     subst (λ x. AreTimed s.clock next.clock x) (sym run.emits)
-    (subst (λ (n : State PadHistory). AreTimed s.clock n.clock (instruction_edges history_wiring run.row s)) (sym run.goes_to) (at_one_clock s.clock _ _ _ (omega arith) (omega arith)))
+    (subst (λ (n : State PadHistory). AreTimed s.clock n.clock (instruction_edges history_wiring run.row s)) (sym run.goes_to)
+    (at_one_clock s.clock _ _ _ (omega arith) (omega arith)))
 
 -- where turns without edges come before it
-pub timed_on : (old mid new : Console) (limit : ℕ) (all more : List Edge) → ((start : State PadHistory) (edges : List Edge) → RunsTo limit start edges old → RunsTo limit start edges mid) → clock_of old ≤ clock_of mid →
-    ((s : State PadHistory) → StandsFor mid s → (next : State PadHistory) × Turn history_wiring s all next × StandsFor new next) → more ≡ edges_until limit all →
+pub timed_on : (old mid new : Console) (limit : ℕ) (all more : List Edge) → ((start : State PadHistory) (edges : List Edge)
+    → RunsTo limit start edges old → RunsTo limit start edges mid) → clock_of old ≤ clock_of mid →
+    ((s : State PadHistory) → StandsFor mid s → (next : State PadHistory) × Turn history_wiring s all next × StandsFor new next)
+    → more ≡ edges_until limit all →
     (s : State PadHistory) → StandsFor old s → AreTimed (clock_of old) (clock_of new) more
 timed_on old mid new limit all more run on turn cut s stands =
     let there = run s [] (begins old s limit stands) in

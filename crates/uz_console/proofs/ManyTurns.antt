@@ -37,7 +37,8 @@ leads_on limit watched first old new quiet turn later within apart =
       run = λ start edges run. goes_on_quietly old new limit turn before start edges (quiet.run start edges run);
       quiet = λ origin q. quietly_more limit origin old new (quiet.quiet origin q) turn before;
       unmet = λ cert pc not s stands p meets. apart (ap (λ (core : Core). core.pc) (sym stands.core) ∙ (meets.pc ∙ pc));
-      unentered = λ cert pc not start edges run. unentered_quietly cert old new limit turn before (quiet.unmet cert pc not) start edges (quiet.unentered cert pc not start edges run);
+      unentered = λ cert pc not start edges run. unentered_quietly cert old new limit turn before (quiet.unmet cert pc not) start edges
+          (quiet.unentered cert pc not start edges run);
       time = omega arith;
       before = λ h. within;
       none = λ h. absurd (omega arith);
@@ -45,11 +46,14 @@ leads_on limit watched first old new quiet turn later within apart =
 
 -- where the limit is 0 there are no others before the last
 
-pub one_made : (watched : ℕ) (old new : Console) (edges : List Edge) (answer : Made) → AreMade 0 watched old new edges answer → IsMade old new edges answer
+pub one_made : (watched : ℕ) (old new : Console) (edges : List Edge) (answer : Made) → AreMade 0 watched old new edges answer
+    → IsMade old new edges answer
 one_made watched old new edges answer h = subst (λ mid. IsMade mid new edges answer) ((h.quiet).none (omega arith)) h.last
 
-pub one_shows : (watched : ℕ) (old new : Console) (edges : List Edge) (answer : Made) → AreMade 0 watched old new edges answer → HasSome edges answer
+pub one_shows : (watched : ℕ) (old new : Console) (edges : List Edge) (answer : Made) → AreMade 0 watched old new edges answer
+    → HasSome edges answer
 one_shows watched old new edges answer h = h.some
 
-pub one_takes : (watched : ℕ) (old new : Console) (edges : List Edge) (answer : Made) → AreMade 0 watched old new edges answer → TakesTime old new answer
+pub one_takes : (watched : ℕ) (old new : Console) (edges : List Edge) (answer : Made) → AreMade 0 watched old new edges answer
+    → TakesTime old new answer
 one_takes watched old new edges answer h = subst (λ mid. TakesTime mid new answer) ((h.quiet).none (omega arith)) h.time

@@ -19,7 +19,8 @@ pub begins : (console : Console) (start : State PadHistory) (limit : ℕ) → St
 begins console start limit h = (start, record { turns = 0; all_edges = []; run = (refl, refl); in_time = refl }, h)
 
 -- one more turn
-pub run_more : (limit n : ℕ) (start last next : State PadHistory) (edges more : List Edge) → Run (TurnBefore limit) n start edges last → TurnBefore limit last more next →
+pub run_more : (limit n : ℕ) (start last next : State PadHistory) (edges more : List Edge) → Run (TurnBefore limit) n start edges last
+    → TurnBefore limit last more next →
     Run (TurnBefore limit) (suc n) start (edges ++ more) next
 run_more limit zero start last next edges more run turn = (
   more,
@@ -38,17 +39,20 @@ run_more limit (suc n) start last next edges more (first, mid, rest, turn_first,
   ap (λ es. es ++ more) cut ∙ append_assoc first rest more,
 )
 
-part_more : (limit : ℕ) (start last next : State PadHistory) (edges more : List Edge) → IsRunPart limit start edges last → last.clock < limit → machine.Turn history_wiring last more next →
+part_more : (limit : ℕ) (start last next : State PadHistory) (edges more : List Edge) → IsRunPart limit start edges last
+    → last.clock < limit → machine.Turn history_wiring last more next →
     IsRunPart limit start (edges ++ edges_until limit more) next
 part_more limit start last next edges more part h turn = record {
   turns = suc part.turns;
   all_edges = part.all_edges ++ more;
   run = run_more limit part.turns start last next part.all_edges more part.run (h, turn);
-  in_time = ap (λ es. es ++ edges_until limit more) part.in_time ∙ sym (filter-append (λ (edge : Edge). nat_le edge.clock limit) part.all_edges more);
+  in_time = ap (λ es. es ++ edges_until limit more) part.in_time ∙ sym (filter-append (λ (edge : Edge). nat_le edge.clock limit)
+      part.all_edges more);
 }
 
 pub goes_on : (old new : Console) (limit : ℕ) (all more : List Edge) →
-    ((s : State PadHistory) → StandsFor old s → (next : State PadHistory) × machine.Turn history_wiring s all next × StandsFor new next) → more ≡ edges_until limit all → clock_of old < limit →
+    ((s : State PadHistory) → StandsFor old s → (next : State PadHistory) × machine.Turn history_wiring s all next × StandsFor new next)
+    → more ≡ edges_until limit all → clock_of old < limit →
     (start : State PadHistory) (edges : List Edge) → RunsTo limit start edges old → RunsTo limit start (edges ++ more) new
 goes_on old new limit all more turn e h start edges (last, part, stands) =
     let t = turn last stands in
@@ -57,18 +61,31 @@ goes_on old new limit all more turn e h start edges (last, part, stands) =
 
 -- more turns without edges
 pub goes_on_quietly : (old new : Console) (limit : ℕ) →
-    ((s : State PadHistory) → StandsFor old s → (next : State PadHistory) × machine.Turn history_wiring s [] next × StandsFor new next) → clock_of old < limit →
+    ((s : State PadHistory) → StandsFor old s → (next : State PadHistory) × machine.Turn history_wiring s [] next × StandsFor new next)
+    → clock_of old < limit →
     (start : State PadHistory) (edges : List Edge) → RunsTo limit start edges old → RunsTo limit start edges new
-goes_on_quietly old new limit turn h start edges run = subst (λ es. RunsTo limit start es new) (append-nil edges) (goes_on old new limit [] [] turn refl h start edges run)
+goes_on_quietly old new limit turn h start edges run = subst (λ es. RunsTo limit start es new) (append-nil edges)
+    (goes_on old new limit [] [] turn refl h start edges run)
 
-pub ends : (old : Console) (limit : ℕ) → limit ≤ clock_of old → (start : State PadHistory) (edges : List Edge) → RunsTo limit start edges old → RunIsOver limit start edges old
-ends old limit h start edges (last, part, stands) = (last, record { part = part; over = subst (λ n. limit ≤ n) (sym stands.clock) h }, stands)
+pub ends : (old : Console) (limit : ℕ) → limit ≤ clock_of old → (start : State PadHistory) (edges : List Edge) → RunsTo limit start edges
+    old → RunIsOver limit start edges old
+ends old limit h start edges (last, part, stands) = (
+  last,
+  record { part = part; over = subst (λ n. limit ≤ n) (sym stands.clock) h },
+  stands,
+)
 
-pub stops : (old new : Console) (limit : ℕ) (why : Why) → state_of new ≡ state_of old → ((s : State PadHistory) → StandsFor old s → Halts s why) → clock_of old < limit →
-    (start : State PadHistory) (edges : List Edge) → RunsTo limit start edges old → (last : State PadHistory) × IsStoppedRun limit start edges last × Halts last why × StandsFor new last
+pub stops : (old new : Console) (limit : ℕ) (why : Why) → state_of new ≡ state_of old
+    → ((s : State PadHistory) → StandsFor old s → Halts s why) → clock_of old < limit →
+    (start : State PadHistory) (edges : List Edge) → RunsTo limit start edges old → (last : State PadHistory) × IsStoppedRun limit start
+    edges last × Halts last why × StandsFor new last
 stops old new limit why same halts h start edges (last, part, stands) =
-    let halt = halts last stands in
-    (last, record { part = part; in_run = subst (λ n. n < limit) (sym stands.clock) h; stopped = halt.no_turn }, halt, subst (λ (t : State Pads). StateStandsFor t last) (sym same) stands)
+    let halt = halts last stands in (
+      last,
+      record { part = part; in_run = subst (λ n. n < limit) (sym stands.clock) h; stopped = halt.no_turn },
+      halt,
+      subst (λ (t : State Pads). StateStandsFor t last) (sym same) stands,
+    )
 
 -- Turns without edges
 
@@ -82,14 +99,16 @@ before_limit : (limit : ℕ) (console : Console) (s : State PadHistory) → Stan
 before_limit limit console s stands h = subst (λ n. n < limit) (sym stands.clock) h
 
 pub quietly_more : (limit : ℕ) (first old new : Console) → Quietly limit first old →
-    ((s : State PadHistory) → StandsFor old s → (next : State PadHistory) × machine.Turn history_wiring s [] next × StandsFor new next) → clock_of old < limit → Quietly limit first new
+    ((s : State PadHistory) → StandsFor old s → (next : State PadHistory) × machine.Turn history_wiring s [] next × StandsFor new next)
+    → clock_of old < limit → Quietly limit first new
 quietly_more limit first old new quiet turn h s stands =
     let q = quiet s stands in
     let t = turn q.0 q.2 in
     (t.0, quiet_more limit s q.0 t.0 q.1 (before_limit limit old q.0 q.2 h, t.1), t.2)
 
 pub next_shows : (limit : ℕ) (first old new : Console) (all more : List Edge) → Quietly limit first old →
-    ((s : State PadHistory) → StandsFor old s → (next : State PadHistory) × machine.Turn history_wiring s all next × StandsFor new next) → all ≢ [] → more ≡ edges_until limit all → clock_of old < limit →
+    ((s : State PadHistory) → StandsFor old s → (next : State PadHistory) × machine.Turn history_wiring s all next × StandsFor new next)
+    → all ≢ [] → more ≡ edges_until limit all → clock_of old < limit →
     (s : State PadHistory) → StandsFor first s →
     (mid : State PadHistory) × (shown : List Edge) × (next : State PadHistory) ×
     GoesQuietly limit s mid × TurnBefore limit mid shown next × (shown ≢ []) × (more ≡ edges_until limit shown) × StandsFor new next
@@ -99,13 +118,16 @@ next_shows limit first old new all more quiet turn some e h s stands =
     (q.0, all, t.0, q.1, (before_limit limit old q.0 q.2 h, t.1), some, e, t.2)
 
 pub next_over : (limit : ℕ) (first old : Console) → Quietly limit first old → limit ≤ clock_of old →
-    (s : State PadHistory) → StandsFor first s → (last : State PadHistory) × GoesQuietly limit s last × (limit ≤ last.clock) × StandsFor old last
+    (s : State PadHistory) → StandsFor first s → (last : State PadHistory) × GoesQuietly limit s last × (limit ≤ last.clock) × StandsFor old
+    last
 next_over limit first old quiet h s stands =
     let q = quiet s stands in
     (q.0, q.1, subst (λ n. limit ≤ n) (sym q.2.clock) h, q.2)
 
-pub next_stops : (limit : ℕ) (first old new : Console) (why : Why) → Quietly limit first old → state_of new ≡ state_of old → ((s : State PadHistory) → StandsFor old s → Halts s why) → clock_of old < limit →
-    (s : State PadHistory) → StandsFor first s → (last : State PadHistory) × GoesQuietly limit s last × (last.clock < limit) × Halts last why × StandsFor new last
+pub next_stops : (limit : ℕ) (first old new : Console) (why : Why) → Quietly limit first old → state_of new ≡ state_of old
+    → ((s : State PadHistory) → StandsFor old s → Halts s why) → clock_of old < limit →
+    (s : State PadHistory) → StandsFor first s → (last : State PadHistory) × GoesQuietly limit s last × (last.clock < limit)
+    × Halts last why × StandsFor new last
 next_stops limit first old new why quiet same halts h s stands =
     let q = quiet s stands in
     (q.0, q.1, before_limit limit old q.0 q.2 h, halts q.0 q.2, subst (λ (t : State Pads). StateStandsFor t q.0) (sym same) q.2)

@@ -1,5 +1,6 @@
 -- A turn of the console, from its parts.
-use Rattle.std.proofs.Common.{◌≡◌, ◌≢◌, ℕ, ◌+◌, ◌<◌, ◌≤◌, Bool, true, false, not, ◌&&◌, ◌||◌, if◌then◌else◌, nat_le, List, refl, sym, ◌∙◌, ap, subst, inl, inr, lit<, lit≤, arith, []}
+use Rattle.std.proofs.Common.{◌≡◌, ◌≢◌, ℕ, ◌+◌, ◌<◌, ◌≤◌, Bool, true, false, not, ◌&&◌, ◌||◌, if◌then◌else◌, nat_le, List, refl, sym, ◌∙◌}
+use Rattle.std.proofs.Common.{ap, subst, inl, inr, lit<, lit≤, arith, []}
 use Rattle.std.specs.Ordering.{nat_cmp}
 use Rattle.std.specs.FinMap.{FinMap}
 use Rattle.std.proofs.lemmas.Bool.Decides.{nat_tests}
@@ -21,7 +22,8 @@ use Rattle.uz_machine.specs.Effects.{effect_of}
 use Rattle.uz_machine.specs.Core.{Core, step_result, outcome_of, loaded_bytes, sample_clock, load_addresses, is_core_address, core_byte}
 use Rattle.uz_machine.specs.PadLine.{PadHistory}
 use Rattle.uz_machine.specs.Space.{Space, history_wiring, space_loads, byte_at}
-use Rattle.uz_machine.specs.Turn.{State, state_byte, is_entry, after_entry, entry_edges, after_instruction, instruction_edges, IsEntryTurn, IsInstructionTurn}
+use Rattle.uz_machine.specs.Turn.{State, state_byte, is_entry, after_entry, entry_edges, after_instruction, instruction_edges, IsEntryTurn}
+use Rattle.uz_machine.specs.Turn.{IsInstructionTurn}
 use Rattle.uz_machine.specs.Turn as machine
 use Rattle.uz_machine.proofs.LoadModels.{LoadAlike, ResultAlike, same_effect_result}
 use Rattle.uz_machine.proofs.Wirings.{SpaceAlike, TurnAlike, same_byte, turn_alike, with_space}
@@ -53,15 +55,20 @@ board_alike first = record {
   kept = λ c space at late r. (ap (λ x. (space_loads pads_wiring).content_after x at late) r.0, r.1, r.2);
 }
 
-same_result : (image : FinMap nat_cmp ℕ) (s : Core) (c : BoardContent) (i : Instr) → ResultAlike (Same c) (step_result board_loads image i s c) (step_result (space_loads pads_wiring) image i s c.space)
-same_result image s c i = same_effect_result board_loads (space_loads pads_wiring) (Same c) (board_alike c) image (effect_of i) (words_of i) (clocks_of i) s c c.space (refl, refl, refl)
+same_result : (image : FinMap nat_cmp ℕ) (s : Core) (c : BoardContent) (i : Instr) → ResultAlike (Same c)
+    (step_result board_loads image i s c) (step_result (space_loads pads_wiring) image i s c.space)
+same_result image s c i = same_effect_result board_loads (space_loads pads_wiring) (Same c) (board_alike c) image (effect_of i) (words_of i)
+    (clocks_of i) s c c.space (refl, refl, refl)
 
-pub board_step : (image : FinMap nat_cmp ℕ) (s : Core) (c : BoardContent) (s' : Core) (c' : BoardContent) (stores : List HeldStore) (answer : Step) → IsStep board_loads image s c s' c' stores answer → IsBoardStep image s c s' c' stores answer
+pub board_step : (image : FinMap nat_cmp ℕ) (s : Core) (c : BoardContent) (s' : Core) (c' : BoardContent) (stores : List HeldStore)
+    (answer : Step) → IsStep board_loads image s c s' c' stores answer → IsBoardStep image s c s' c' stores answer
 board_step image s c s' c' stores (step.Took clocks owed returned) h =
     let i = h.0 in
     let r = h.3 in
-    let same : ResultAlike (Same c) (step_result board_loads image i s c) (step_result (space_loads pads_wiring) image i s c.space) = same_result image s c i in
-    let took : step.Took clocks owed returned ≡ step.Took (step_result board_loads image i s c).clocks (step_result board_loads image i s c).owed (step_result board_loads image i s c).returned = r.3 in
+    let same : ResultAlike (Same c) (step_result board_loads image i s c) (step_result (space_loads pads_wiring) image i s c.space) =
+    same_result image s c i in
+    let took : step.Took clocks owed returned ≡ step.Took (step_result board_loads image i s c).clocks
+    (step_result board_loads image i s c).owed (step_result board_loads image i s c).returned = r.3 in
     let clocks_are : clocks ≡ (step_result board_loads image i s c).clocks = cc in
     let owed_is : owed ≡ (step_result board_loads image i s c).owed = cc in
     let returned_is : returned ≡ (step_result board_loads image i s c).returned = cc in (
@@ -87,7 +94,14 @@ board_step image s c s' c' stores (step.Stopped Spm) h = ((h.0, h.1, h.2), h.3, 
 -- the state that a console stands for, over the console's parts
 state_is : (c : Console) (s : State PadHistory) → console.StandsFor c s → s ≡ with_space (state_of c) s.space
 state_is c s h =
-    let by : FinMap nat_cmp ℕ → Core → ℕ → Bool → ℕ → State PadHistory = λ image core response owed clock. record { image = image; core = core; space = s.space; response = response; is_owed = owed; clock = clock } in
+    let by : FinMap nat_cmp ℕ → Core → ℕ → Bool → ℕ → State PadHistory = λ image core response owed clock. record {
+      image = image;
+      core = core;
+      space = s.space;
+      response = response;
+      is_owed = owed;
+      clock = clock;
+    } in
     ap (λ x. by x s.core s.response s.is_owed s.clock) h.image ∙
     (ap (λ x. by (state_of c).image x s.response s.is_owed s.clock) h.core ∙
     (ap (λ x. by (state_of c).image (state_of c).core x s.is_owed s.clock) h.response ∙
@@ -98,10 +112,12 @@ space_is : (c : Console) (s : State PadHistory) → console.StandsFor c s → Sp
 space_is c s h = record { bytes = sym h.bytes; timer = sym h.timer; pads = h.pads }
 
 -- a turn of the console's own state is one of each state that it stands for
-carried : (old new : Console) (edges : List Edge) → machine.Turn pads_wiring (state_of old) edges (state_of new) → (s : State PadHistory) → console.StandsFor old s →
+carried : (old new : Console) (edges : List Edge) → machine.Turn pads_wiring (state_of old) edges (state_of new) → (s : State PadHistory)
+    → console.StandsFor old s →
     (next : State PadHistory) × machine.Turn history_wiring s edges next × console.StandsFor new next
 carried old new edges turn s h =
-    let t : TurnAlike StandsFor history_wiring (state_of old) s.space edges (state_of new) = turn_alike pads_wiring history_wiring StandsFor pads_alike (state_of old) s.space (space_is old s h) edges (state_of new) turn in
+    let t : TurnAlike StandsFor history_wiring (state_of old) s.space edges (state_of new) = turn_alike pads_wiring history_wiring StandsFor
+    pads_alike (state_of old) s.space (space_is old s h) edges (state_of new) turn in
     let next = with_space (state_of new) t.after in (
       next,
       subst (λ x. machine.Turn history_wiring x edges next) (sym (state_is old s h)) t.turn,
@@ -118,10 +134,12 @@ carried old new edges turn s h =
     )
 
 -- a byte of the console's own state is one of each state that it stands for
-pub byte_is : (c : Console) (s : State PadHistory) (at : ℕ) → console.StandsFor c s → state_byte pads_wiring (state_of c) at ≡ state_byte history_wiring s at
+pub byte_is : (c : Console) (s : State PadHistory) (at : ℕ) → console.StandsFor c s → state_byte pads_wiring (state_of c) at ≡ state_byte
+    history_wiring s at
 byte_is c s at h =
     ap (λ core. if is_core_address at then core_byte core at else byte_at pads_wiring (state_of c).space at) (sym h.core) ∙
-    ap (λ x. if is_core_address at then core_byte s.core at else x) (same_byte pads_wiring history_wiring StandsFor pads_alike (state_of c).space s.space at (space_is c s h))
+    ap (λ x. if is_core_address at then core_byte s.core at else x) (same_byte pads_wiring history_wiring StandsFor pads_alike
+    (state_of c).space s.space at (space_is c s h))
 
 entry_is : (c : Console) (s : State PadHistory) → console.StandsFor c s → is_entry s ≡ is_entry (state_of c)
 entry_is c s h =
@@ -131,8 +149,10 @@ entry_is c s h =
 
 -- An entry
 
-pub entered : (old new : Console) (edges : List Edge) → is_entry (state_of old) ≡ true → state_of new ≡ after_entry pads_wiring (state_of old) → edges ≡ entry_edges pads_wiring (state_of old) →
-    (s : State PadHistory) → console.StandsFor old s → (next : State PadHistory) × machine.Turn history_wiring s edges next × console.StandsFor new next
+pub entered : (old new : Console) (edges : List Edge) → is_entry (state_of old) ≡ true → state_of new ≡ after_entry pads_wiring
+    (state_of old) → edges ≡ entry_edges pads_wiring (state_of old) →
+    (s : State PadHistory) → console.StandsFor old s → (next : State PadHistory) × machine.Turn history_wiring s edges next
+    × console.StandsFor new next
 entered old new edges e goes emits = carried old new edges (inl (record { enters = e; goes_to = goes; emits = emits }))
 
 -- an entry is an edge itself
@@ -143,7 +163,8 @@ four_or_five : (irq : Response) → (0 < response_clocks irq) × (response_clock
 four_or_five Four = (lit< tt, lit≤ tt)
 four_or_five Five = (lit< tt, lit≤ tt)
 
-pub entered_time : (old new : Console) → state_of new ≡ after_entry pads_wiring (state_of old) → (console.clock_of old < console.clock_of new) × (console.clock_of new ≤ console.clock_of old + 5)
+pub entered_time : (old new : Console) → state_of new ≡ after_entry pads_wiring (state_of old)
+    → (console.clock_of old < console.clock_of new) × (console.clock_of new ≤ console.clock_of old + 5)
 entered_time old new goes =
     let clock : console.clock_of new ≡ console.clock_of old + response_clocks old.irq = ap (λ s. s.clock) goes in
     let few = four_or_five old.irq in
@@ -153,22 +174,28 @@ entered_time old new goes =
 
 -- its outcome
 abbrev outcome_in : State Pads → Instr → Outcome
-outcome_in s i = outcome_of (effect_of i) s.image (words_of i) (loaded_bytes (space_loads pads_wiring) s.core (sample_clock (effect_of i) (clocks_of i)) s.space (load_addresses (effect_of i) s.core)) s.core
+outcome_in s i = outcome_of (effect_of i) s.image (words_of i) (loaded_bytes (space_loads pads_wiring) s.core
+    (sample_clock (effect_of i) (clocks_of i)) s.space (load_addresses (effect_of i) s.core)) s.core
 
 no_turn : (s : State PadHistory) (why : Why) → is_entry s ≡ false → StopsAt s.image s.core why → HasNoTurn s
 no_turn s why e stops edges next (inl turn) = let enters : is_entry s ≡ true = turn.enters in absurd cc
 no_turn s (Opcode word) e stops edges next (inr turn) = stops.1 turn.row turn.reads
 no_turn s Spm e stops edges next (inr turn) = turn.runs (ap effect_of (stops.1.only turn.row turn.reads) ∙ stops.2)
 
-halts : (c : Console) (s : State PadHistory) (why : Why) → console.StandsFor c s → is_entry (state_of c) ≡ false → StopsAt (state_of c).image (state_of c).core why → Halts s why
+halts : (c : Console) (s : State PadHistory) (why : Why) → console.StandsFor c s → is_entry (state_of c) ≡ false
+    → StopsAt (state_of c).image (state_of c).core why → Halts s why
 halts c s why h e stops =
     let enters : is_entry s ≡ false = entry_is c s h ∙ e in
-    let here : StopsAt s.image s.core why = subst (λ core. StopsAt s.image core why) (sym h.core) (subst (λ image. StopsAt image (state_of c).core why) (sym h.image) stops) in
+    let here : StopsAt s.image s.core why = subst (λ core. StopsAt s.image core why) (sym h.core)
+    (subst (λ image. StopsAt image (state_of c).core why) (sym h.image) stops) in
     record { enters = enters; stops = here; no_turn = no_turn s why enters here }
 
-pub instructed : (old new : Console) (edges : List Edge) (answer : Made) → is_entry (state_of old) ≡ false → IsInstructed (state_of old) (state_of new) edges answer → IsMade old new edges answer
-instructed old new edges made.Quiet e h = carried old new [] (inr (record { enters = e; row = h.0; reads = h.1.reads; runs = h.2; goes_to = h.3; emits = h.4 }))
-instructed old new edges made.Edges e h = carried old new edges (inr (record { enters = e; row = h.0; reads = h.1.reads; runs = h.2; goes_to = h.3; emits = h.4 }))
+pub instructed : (old new : Console) (edges : List Edge) (answer : Made) → is_entry (state_of old) ≡ false → IsInstructed (state_of old)
+    (state_of new) edges answer → IsMade old new edges answer
+instructed old new edges made.Quiet e h = carried old new []
+    (inr (record { enters = e; row = h.0; reads = h.1.reads; runs = h.2; goes_to = h.3; emits = h.4 }))
+instructed old new edges made.Edges e h = carried old new edges
+    (inr (record { enters = e; row = h.0; reads = h.1.reads; runs = h.2; goes_to = h.3; emits = h.4 }))
 instructed old new edges (made.Stopped why) e h = (h.1, λ s stands. halts old s why stands e h.0)
 
 not_stop : (e : Effect) → e ≢ Stop → stops e ≡ false
@@ -178,22 +205,27 @@ not_stop e h = refl
 some_clocks : (b : Bool) (n : ℕ) → b ≡ false → (b || (nat_le 1 n && nat_le n 4)) ≡ true → (0 < n) × (n ≤ 4)
 some_clocks b n e h = (grind (arith, nat_tests), grind (arith, nat_tests))
 
-later : (old new : Console) (i : Instr) → effect_of i ≢ Stop → state_of new ≡ after_instruction pads_wiring i (state_of old) → (console.clock_of old < console.clock_of new) × (console.clock_of new ≤ console.clock_of old + 5)
+later : (old new : Console) (i : Instr) → effect_of i ≢ Stop → state_of new ≡ after_instruction pads_wiring i (state_of old)
+    → (console.clock_of old < console.clock_of new) × (console.clock_of new ≤ console.clock_of old + 5)
 later old new i runs goes =
     let outcome = outcome_in (state_of old) i in
     let clock : console.clock_of new ≡ console.clock_of old + clocks_of i outcome = ap (λ s. s.clock) goes in
-    let few : (0 < clocks_of i outcome) × (clocks_of i outcome ≤ 4) = some_clocks (stops (effect_of i)) (clocks_of i outcome) (not_stop (effect_of i) runs) (clocks_within i outcome) in
+    let few : (0 < clocks_of i outcome) × (clocks_of i outcome ≤ 4) = some_clocks (stops (effect_of i)) (clocks_of i outcome)
+    (not_stop (effect_of i) runs) (clocks_within i outcome) in
     (omega arith, omega arith)
 
-pub instructed_time : (old new : Console) (edges : List Edge) (answer : Made) → IsInstructed (state_of old) (state_of new) edges answer → TakesTime old new answer
+pub instructed_time : (old new : Console) (edges : List Edge) (answer : Made) → IsInstructed (state_of old) (state_of new) edges answer
+    → TakesTime old new answer
 instructed_time old new edges made.Quiet h = later old new h.0 h.2 h.3
 instructed_time old new edges made.Edges h = later old new h.0 h.2 h.3
 instructed_time old new edges (made.Stopped why) h = ap (λ s. s.clock) h.1
 
 -- a turn without edges, as one with an empty list of them
 pub quiet_turn : (old new : Console) (edges : List Edge) → edges ≡ [] →
-    ((s : State PadHistory) → console.StandsFor old s → (next : State PadHistory) × machine.Turn history_wiring s [] next × console.StandsFor new next) →
-    (s : State PadHistory) → console.StandsFor old s → (next : State PadHistory) × machine.Turn history_wiring s edges next × console.StandsFor new next
+    ((s : State PadHistory) → console.StandsFor old s → (next : State PadHistory) × machine.Turn history_wiring s [] next
+    × console.StandsFor new next) →
+    (s : State PadHistory) → console.StandsFor old s → (next : State PadHistory) × machine.Turn history_wiring s edges next
+    × console.StandsFor new next
 quiet_turn old new edges e turn s h = let t = turn s h in (t.0, subst (λ es. machine.Turn history_wiring s es t.0) (sym e) t.1, t.2)
 
 -- a turn whose edges aren't told

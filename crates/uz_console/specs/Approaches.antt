@@ -46,16 +46,19 @@ pub record RunsUnentered (cert : Cert) (limit : ℕ) (start : State PadHistory) 
 -- that run is at its end, and none has
 abbrev pub IsApproach : Cert → ℕ → Console → Console → Approach → Type 0
 IsApproach cert limit old new (Took more) =
-    (start : State PadHistory) (edges : List Edge) → RunsUnentered cert limit start edges old → RunsUnentered cert limit start (edges ++ more.items) new
+    (start : State PadHistory) (edges : List Edge) → RunsUnentered cert limit start edges old → RunsUnentered cert limit start
+    (edges ++ more.items) new
 IsApproach cert limit old new (Entered position) =
     (start : State PadHistory) (edges : List Edge) → RunsUnentered cert limit start edges old →
     RunsUnentered cert limit start edges new × EntersFirst cert limit start (clock_of new) position
 IsApproach cert limit old new Over =
     (start : State PadHistory) (edges : List Edge) → RunsUnentered cert limit start edges old →
-    (last : State PadHistory) × IsClockRun limit start edges last × StandsFor new last × NeverEnters cert limit start × RunsUnentered cert limit start edges new
+    (last : State PadHistory) × IsClockRun limit start edges last × StandsFor new last × NeverEnters cert limit start × RunsUnentered cert
+    limit start edges new
 IsApproach cert limit old new (Stopped why) =
     (start : State PadHistory) (edges : List Edge) → RunsUnentered cert limit start edges old →
-    (last : State PadHistory) × IsStoppedRun limit start edges last × Halts last why × StandsFor new last × NeverEnters cert limit start × RunsUnentered cert limit start edges new
+    (last : State PadHistory) × IsStoppedRun limit start edges last × Halts last why × StandsFor new last × NeverEnters cert limit start
+    × RunsUnentered cert limit start edges new
 
 -- an answer with edges brings the clock nearer to the limit, and the clock never goes back
 abbrev pub ApproachMovesOn : ℕ → Console → Console → Approach → Type 0

@@ -1,5 +1,6 @@
 -- The least position at which a console meets an entry condition, by the parts of the condition.
-use Rattle.std.specs.Prelude.{◌≡◌, Contains, ℕ, ◌+◌, ◌-◌, ◌%◌, ◌<◌, ◌≤◌, nat_lt, true, if◌then◌else◌, List, length, slice_index, Option, Some, None}
+use Rattle.std.specs.Prelude.{◌≡◌, Contains, ℕ, ◌+◌, ◌-◌, ◌%◌, ◌<◌, ◌≤◌, nat_lt, true, if◌then◌else◌, List, length, slice_index, Option}
+use Rattle.std.specs.Prelude.{Some, None}
 use Rattle.uz_schedule.specs.Ends.{Ends}
 use Rattle.uz_schedule.specs.declared.facts.Bit.{Bit}
 use Rattle.uz_schedule.specs.declared.kinds.Kind.TheVariants.{Handler}

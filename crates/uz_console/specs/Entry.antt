@@ -1,6 +1,7 @@
 -- The entry condition: the states at which the claim of a certificate begins. It speaks of the certificate's entry,
 -- schedule and rests and of the machine's state alone, whatever the pads.
-use Rattle.std.specs.Prelude.{◌≡◌, ⊤, Contains, ℕ, suc, ◌+◌, ◌-◌, ◌<◌, ◌≤◌, Bool, true, false, List, [], ◌∷◌, filter, length, slice_index, slice_index_or, Some}
+use Rattle.std.specs.Prelude.{◌≡◌, ⊤, Contains, ℕ, suc, ◌+◌, ◌-◌, ◌<◌, ◌≤◌, Bool, true, false, List, [], ◌∷◌, filter, length, slice_index}
+use Rattle.std.specs.Prelude.{slice_index_or, Some}
 use Rattle.uz_schedule.specs.Ends.{Ends}
 use Rattle.uz_schedule.specs.declared.facts.Bit.{Bit}
 use Rattle.uz_schedule.specs.declared.facts.Bit.TheVariants.{Zero, One, Free, Old}
@@ -95,7 +96,8 @@ pub record EntryCondition {P : Type 0} (cert : Cert) (s : State P) (p : ℕ) : T
   pub pc : s.core.pc ≡ cert.entry.pc
   pub registers : (r : ℕ) → r < 32 → IsIn (ends_at cert.entry.regs r) (register s.core r)
   pub flags : (k : ℕ) → k < 7 → BitHolds (flag_at cert.entry.flags k) (bit_is_set s.core.sreg k)
-  pub stack : (i : ℕ) → i < length cert.entry.stack.items → IsIn (ends_at cert.entry.stack.items i) (slice_index s.space.bytes (s.core.sp + length cert.entry.stack.items - i))
+  pub stack : (i : ℕ) → i < length cert.entry.stack.items → IsIn (ends_at cert.entry.stack.items i)
+      (slice_index s.space.bytes (s.core.sp + length cert.entry.stack.items - i))
   pub cells : CellsHold (tracked cert.head cert.entry.kind) cert.entry.cells.items s.space.bytes
   pub sp : s.core.sp + length cert.entry.stack.items ≡ cert.head.hi
   pub level : level_at cert.schedule p ≡ Some (sync_level s.space)

@@ -22,7 +22,8 @@ pub record LeadsTo (limit watched : ℕ) (first mid : Console) : Type 0 where
   pub run : (start : State PadHistory) (edges : List Edge) → RunsTo limit start edges first → RunsTo limit start edges mid
   pub quiet : (origin : Console) → Quietly limit origin first → Quietly limit origin mid
   pub unmet : (cert : Cert) → cert.entry.pc ≡ watched → IsUnmet cert first → IsUnmet cert mid
-  pub unentered : (cert : Cert) → cert.entry.pc ≡ watched → IsUnmet cert first → (start : State PadHistory) (edges : List Edge) → RunsUnentered cert limit start edges first → RunsUnentered cert limit start edges mid
+  pub unentered : (cert : Cert) → cert.entry.pc ≡ watched → IsUnmet cert first → (start : State PadHistory) (edges : List Edge)
+      → RunsUnentered cert limit start edges first → RunsUnentered cert limit start edges mid
   pub time : clock_of first ≤ clock_of mid
   pub before : clock_of first < limit → clock_of mid < limit
   pub none : limit ≤ clock_of first → mid ≡ first

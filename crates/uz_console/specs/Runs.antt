@@ -25,7 +25,8 @@ RunIsStopped limit start edges console = (last : State PadHistory) × IsStoppedR
 abbrev pub IsProgress : ℕ → Console → Console → Progress → Type 0
 IsProgress limit old new (Took more) =
     (start : State PadHistory) (edges : List Edge) → RunsTo limit start edges old → RunsTo limit start (edges ++ more.items) new
-IsProgress limit old new Over = (start : State PadHistory) (edges : List Edge) → RunsTo limit start edges old → RunIsOver limit start edges new
+IsProgress limit old new Over = (start : State PadHistory) (edges : List Edge) → RunsTo limit start edges old → RunIsOver limit start edges
+    new
 IsProgress limit old new (Stopped why) =
     (start : State PadHistory) (edges : List Edge) → RunsTo limit start edges old →
     (last : State PadHistory) × IsStoppedRun limit start edges last × Halts last why × StandsFor new last
@@ -36,7 +37,8 @@ GoesQuietly limit s last = (n : ℕ) × Run (TurnBefore limit) n s [] last
 
 -- from each state that the first console stands for, turns without edges lead to one that the other stands for
 abbrev pub Quietly : ℕ → Console → Console → Type 0
-Quietly limit first console = (s : State PadHistory) → StandsFor first s → (last : State PadHistory) × GoesQuietly limit s last × StandsFor console last
+Quietly limit first console = (s : State PadHistory) → StandsFor first s → (last : State PadHistory) × GoesQuietly limit s last
+    × StandsFor console last
 
 -- From each state that the old console stands for, turns without edges; then, Took: one with edges, of which these are in
 -- time; Over: no turn, since the limit is reached; Stopped: none, since there is none
@@ -46,9 +48,11 @@ IsNextTurn limit old new (Took more) =
     (mid : State PadHistory) × (all : List Edge) × (next : State PadHistory) ×
     GoesQuietly limit s mid × TurnBefore limit mid all next × (all ≢ []) × (more.items ≡ edges_until limit all) × StandsFor new next
 IsNextTurn limit old new Over =
-    (s : State PadHistory) → StandsFor old s → (last : State PadHistory) × GoesQuietly limit s last × (limit ≤ last.clock) × StandsFor new last
+    (s : State PadHistory) → StandsFor old s → (last : State PadHistory) × GoesQuietly limit s last × (limit ≤ last.clock) × StandsFor new
+    last
 IsNextTurn limit old new (Stopped why) =
-    (s : State PadHistory) → StandsFor old s → (last : State PadHistory) × GoesQuietly limit s last × (last.clock < limit) × Halts last why × StandsFor new last
+    (s : State PadHistory) → StandsFor old s → (last : State PadHistory) × GoesQuietly limit s last × (last.clock < limit) × Halts last why
+    × StandsFor new last
 
 -- an answer with edges brings the clock nearer to the limit, and the clock never goes back
 abbrev pub MovesOn : ℕ → Console → Console → Progress → Type 0

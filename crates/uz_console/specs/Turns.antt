@@ -44,7 +44,8 @@ pub record Halts (s : State PadHistory) (why : Why) : Type 0 where
 -- state after it. Stopped: each such state has no turn, and the console is as before
 abbrev pub IsTurn : Console → Console → Turn → Type 0
 IsTurn old new (Took edges) =
-    (s : State PadHistory) → StandsFor old s → (next : State PadHistory) × machine.Turn history_wiring s edges.items next × StandsFor new next
+    (s : State PadHistory) → StandsFor old s → (next : State PadHistory) × machine.Turn history_wiring s edges.items next × StandsFor new
+    next
 IsTurn old new (Stopped why) = (state_of new ≡ state_of old) × ((s : State PadHistory) → StandsFor old s → Halts s why)
 
 -- a turn takes 1 to 5 clocks, and a console that stops stays
@@ -55,7 +56,8 @@ TurnTakesTime old new (Stopped why) = clock_of new ≡ clock_of old
 -- The same of a turn whose edges aren't told. None: it is made. Some: there is none
 abbrev pub IsPassed : Console → Console → Option Why → Type 0
 IsPassed old new None =
-    (s : State PadHistory) → StandsFor old s → (edges : List Edge) × (next : State PadHistory) × machine.Turn history_wiring s edges next × StandsFor new next
+    (s : State PadHistory) → StandsFor old s → (edges : List Edge) × (next : State PadHistory) × machine.Turn history_wiring s edges next
+    × StandsFor new next
 IsPassed old new (Some why) = (state_of new ≡ state_of old) × ((s : State PadHistory) → StandsFor old s → Halts s why)
 
 abbrev pub PassedTakesTime : Console → Console → Option Why → Type 0

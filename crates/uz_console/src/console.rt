@@ -36,9 +36,9 @@ impl Console {
     ghost use Rattle.uz_console.specs.Consoles.{StandsFor, clock_of, state_of};
     ghost use Rattle.uz_console.specs.Runs.{RunsTo};
 
-    #[tactic(auto, using(crate::proofs::RunLemmas::begins))]
     /// The console at reset, at clock 0: RAM, ports, timer and registers are 0, SP is 0x10FF, and PORTA has had one
     /// value, 0. An interrupt entry takes as many clocks as `irq` says.
+    #[tactic(auto, using(crate::proofs::RunLemmas::begins))]
     pub fn reset(
         alloc: Global,
         image: Image,

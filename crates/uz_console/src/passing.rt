@@ -21,8 +21,8 @@ fn stop_of(made: Made) -> Option<Why>
 }
 
 impl Console {
-    #[tactic(auto, using(crate::proofs::TurnLemmas::passed, crate::proofs::TurnLemmas::passed_time))]
     /// Makes one turn, as `turn` does, and lists no edges. The answer is `None`, or why there is no turn; all is unchanged then.
+    #[tactic(auto, using(crate::proofs::TurnLemmas::passed, crate::proofs::TurnLemmas::passed_time))]
     pub fn pass_turn(&mut self) -> Option<Why>
         requires { clock_of self.old < 2 ^ 62 }
         ensures turn { IsPassed self.old self.new result }

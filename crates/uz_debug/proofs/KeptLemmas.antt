@@ -29,7 +29,8 @@ same_console start a b n m r q =
     record { image = to_b.image ∙ sym to_a.image; pairs = to_b.pairs ∙ sym to_a.pairs; response = to_b.response ∙ sym to_a.response }
 
 -- with no breakpoint heeded a run to a turn that has a state comes there
-pub halts_at_goal : (start : State PadHistory) (from goal at : ℕ) (h : Halt) → IsHalt start set.empty from goal at h → HasState start goal → at ≡ goal
+pub halts_at_goal : (start : State PadHistory) (from goal at : ℕ) (h : Halt) → IsHalt start set.empty from goal at h → HasState start goal
+    → at ≡ goal
 halts_at_goal start from goal at halt.Goal h there = h.0
 halts_at_goal start from goal at halt.Breakpoint h there = absurd (none_heeded start at h.1.here)
 halts_at_goal start from goal at halt.Stuck h there = absurd (goes_before start at goal there.0 h.0 there.1 h.2)

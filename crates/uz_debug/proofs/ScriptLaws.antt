@@ -17,22 +17,31 @@ in_middle : (xs : List (List ℕ)) (y : List ℕ) (ys : List (List ℕ)) → get
 in_middle [] y ys = refl
 in_middle (x ∷ xs) y ys = in_middle xs y ys
 
-no_fault : (kind : Line) (before after : ℕ) (why : ScriptWhy) → IsFault kind before why → is_well_formed kind ≡ true → before + (length (commands_of kind) + after) ≤ 65536 → ⊥
+no_fault : (kind : Line) (before after : ℕ) (why : ScriptWhy) → IsFault kind before why → is_well_formed kind ≡ true
+    → before + (length (commands_of kind) + after) ≤ 65536 → ⊥
 no_fault (line.Faulty fault) before after why wrong good few = absurd cc
 no_fault (line.Command command) before after why wrong good few = omega (arith, wrong.0)
 no_fault line.Blank before after why wrong good few = wrong
 
-not_inside : (earlier : List (List ℕ)) (text : List ℕ) (more : List (List ℕ)) (commands : List Command) (why : ScriptWhy) → IsScript (earlier ++ text ∷ more) commands → IsFault (kind_of text) (length (commands_in earlier)) why → ⊥
+not_inside : (earlier : List (List ℕ)) (text : List ℕ) (more : List (List ℕ)) (commands : List Command) (why : ScriptWhy)
+    → IsScript (earlier ++ text ∷ more) commands → IsFault (kind_of text) (length (commands_in earlier)) why → ⊥
 not_inside earlier text more commands why read fault =
     let good : is_well_formed (kind_of text) ≡ true =
-    subst (λ x. is_well_formed (kind_of x) ≡ true) (in_middle earlier text more) (read.well_formed (length earlier) [] (omega (arith, length-append earlier (text ∷ more)))) in
-    let pairs : commands_in (earlier ++ text ∷ more) ≡ commands_in earlier ++ (commands_of (kind_of text) ++ commands_in more) = commands_in-append earlier (text ∷ more) in
-    let count : length (commands_in (earlier ++ text ∷ more)) ≡ length (commands_in earlier) + (length (commands_of (kind_of text)) + length (commands_in more)) =
-    ap length pairs ∙ (length-append (commands_in earlier) (commands_of (kind_of text) ++ commands_in more) ∙ ap (λ n. length (commands_in earlier) + n) (length-append (commands_of (kind_of text)) (commands_in more))) in
-    no_fault (kind_of text) (length (commands_in earlier)) (length (commands_in more)) why fault good (subst (λ n. n ≤ 65536) count read.few)
+    subst (λ x. is_well_formed (kind_of x) ≡ true) (in_middle earlier text more)
+    (read.well_formed (length earlier) [] (omega (arith, length-append earlier (text ∷ more)))) in
+    let pairs : commands_in (earlier ++ text ∷ more) ≡ commands_in earlier ++ (commands_of (kind_of text) ++ commands_in more) =
+    commands_in-append earlier (text ∷ more) in
+    let count : length (commands_in (earlier ++ text ∷ more)) ≡ length (commands_in earlier) + (length (commands_of (kind_of text)) + length
+    (commands_in more)) =
+    ap length pairs ∙ (length-append (commands_in earlier) (commands_of (kind_of text) ++ commands_in more)
+    ∙ ap (λ n. length (commands_in earlier) + n) (length-append (commands_of (kind_of text)) (commands_in more))) in
+    no_fault (kind_of text) (length (commands_in earlier)) (length (commands_in more)) why fault good
+    (subst (λ n. n ≤ 65536) count read.few)
 
-pub read_or_faulty : (lines : List (List ℕ)) (commands : List Command) (number : ℕ) (why : ScriptWhy) → IsScript lines commands → IsFirstFault lines number why → ⊥
-read_or_faulty lines commands number why read first = not_inside first.earlier first.text first.later commands why (subst (λ ls. IsScript ls commands) first.cut read) first.fault
+pub read_or_faulty : (lines : List (List ℕ)) (commands : List Command) (number : ℕ) (why : ScriptWhy) → IsScript lines commands
+    → IsFirstFault lines number why → ⊥
+read_or_faulty lines commands number why read first = not_inside first.earlier first.text first.later commands why
+    (subst (λ ls. IsScript ls commands) first.cut read) first.fault
 
 -- Two cuts of the same lines: at one place, or one before the other
 
@@ -62,15 +71,19 @@ same_why line.Blank before v w a b = absurd a
 same_why (line.Command command) before v w a b = a.1 ∙ sym b.1
 same_why (line.Faulty fault) before v w a b = sym a ∙ b
 
-decide : (lines : List (List ℕ)) (n m : ℕ) (v w : ScriptWhy) (a : IsFirstFault lines n v) (b : IsFirstFault lines m w) → Cuts a.earlier a.text b.earlier b.text → (n ≡ m) × (v ≡ w)
+decide : (lines : List (List ℕ)) (n m : ℕ) (v w : ScriptWhy) (a : IsFirstFault lines n v) (b : IsFirstFault lines m w) → Cuts a.earlier
+    a.text b.earlier b.text → (n ≡ m) × (v ≡ w)
 decide lines n m v w a b (inl same) = (
   a.number_is ∙ (ap (λ ls. length ls + 1) same.0 ∙ sym b.number_is),
   same_why (kind_of b.text) (length (commands_in b.earlier)) v w
-      (subst (λ l. IsFault (kind_of l) (length (commands_in b.earlier)) v) same.1 (subst (λ ls. IsFault (kind_of a.text) (length (commands_in ls)) v) same.0 a.fault))
+      (subst (λ l. IsFault (kind_of l) (length (commands_in b.earlier)) v) same.1
+      (subst (λ ls. IsFault (kind_of a.text) (length (commands_in ls)) v) same.0 a.fault))
       b.fault,
 )
-decide lines n m v w a b (inr (inl inside)) = absurd (not_inside a.earlier a.text inside.more (commands_in b.earlier) v (subst (λ ls. IsScript ls (commands_in b.earlier)) inside.cut b.read) a.fault)
-decide lines n m v w a b (inr (inr inside)) = absurd (not_inside b.earlier b.text inside.more (commands_in a.earlier) w (subst (λ ls. IsScript ls (commands_in a.earlier)) inside.cut a.read) b.fault)
+decide lines n m v w a b (inr (inl inside)) = absurd (not_inside a.earlier a.text inside.more (commands_in b.earlier) v
+    (subst (λ ls. IsScript ls (commands_in b.earlier)) inside.cut b.read) a.fault)
+decide lines n m v w a b (inr (inr inside)) = absurd (not_inside b.earlier b.text inside.more (commands_in a.earlier) w
+    (subst (λ ls. IsScript ls (commands_in a.earlier)) inside.cut a.read) b.fault)
 
 pub one_fault : (lines : List (List ℕ)) (n m : ℕ) (v w : ScriptWhy) → IsFirstFault lines n v → IsFirstFault lines m w → (n ≡ m) × (v ≡ w)
 one_fault lines n m v w a b = decide lines n m v w a b (two_cuts a.earlier b.earlier a.text b.text a.later b.later (sym a.cut ∙ b.cut))

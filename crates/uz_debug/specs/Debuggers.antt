@@ -30,7 +30,8 @@ pub record Debugs (start : State PadHistory) (done : List (Command × Reply)) (d
 
 -- one command more, by the code
 abbrev pub DoesAct : Debugger → Command → Reply → Debugger → Type 0
-DoesAct old command answer new = (start : State PadHistory) → Keeps start old → Acts start (session_of old) command answer (session_of new) × Keeps start new
+DoesAct old command answer new = (start : State PadHistory) → Keeps start old → Acts start (session_of old) command answer (session_of new)
+    × Keeps start new
 
 -- the reply that fits a run's end
 abbrev pub TellsHalt : State PadHistory → ℕ → Halt → Reply → Type 0

@@ -6,3 +6,4 @@ pub mod SessionText
 pub mod Sessions
 pub mod SlotTurns
 pub mod Timelines
+pub mod WhyNames

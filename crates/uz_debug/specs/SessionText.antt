@@ -1,8 +1,9 @@
 -- The text of a session: a line for each command, and two for `show`.
-use Rattle.std.specs.Prelude.{◌≡◌, ℕ, zero, suc, ◌+◌, ◌/◌, ◌%◌, nat_lt, nat_eq, if◌then◌else◌, List, [], ◌∷◌, ◌++◌, codes, decimal}
+use Rattle.std.specs.Prelude.{◌≡◌, ℕ, zero, suc, ◌+◌, ◌%◌, nat_eq, if◌then◌else◌, List, [], ◌∷◌, ◌++◌, codes, decimal}
 use Rattle.uz_machine.specs.PadLine.{PadHistory}
 use Rattle.uz_machine.specs.Space.{history_wiring}
 use Rattle.uz_machine.specs.Turn.{State, state_byte}
+use Rattle.uz_text.specs.Hexadecimals.{hex_byte, hex_word}
 use Rattle.uz_debug.specs.declared.command.Command.{Command}
 use Rattle.uz_debug.specs.declared.command.Command.TheVariants.{Show, Mem}
 use Rattle.uz_debug.specs.declared.command.DebugWhy.{DebugWhy}
@@ -10,18 +11,6 @@ use Rattle.uz_debug.specs.declared.command.DebugWhy.TheVariants.{Limit, Far, Bre
 use Rattle.uz_debug.specs.declared.command.Reply.{Reply}
 use Rattle.uz_debug.specs.declared.command.Reply.TheVariants as reply
 use Rattle.uz_debug.specs.Sessions.{Session, Acts, IsAfter}
-
--- an upper-case hexadecimal digit
-abbrev pub hex_digit : ℕ → ℕ
-hex_digit n = if nat_lt n 10 then 48 + n else 55 + n
-
--- the two digits of a byte
-abbrev pub hex_byte : ℕ → List ℕ
-hex_byte n = hex_digit (n / 16 % 16) ∷ hex_digit (n % 16) ∷ []
-
--- the four digits of a word
-abbrev pub hex_word : ℕ → List ℕ
-hex_word n = hex_digit (n / 4096 % 16) ∷ hex_digit (n / 256 % 16) ∷ hex_digit (n / 16 % 16) ∷ hex_digit (n % 16) ∷ []
 
 -- where the debugger is, without its LF
 abbrev pub at_text : ℕ → ℕ → ℕ → List ℕ
@@ -50,7 +39,8 @@ bytes_text read at (suc n) = bytes_text read at n ++ gap n ++ hex_byte (read ((a
 
 -- the status register and the stack pointer, by their data addresses (ATmega644 data sheet, "Register Summary")
 abbrev pub status_text : (ℕ → ℕ) → List ℕ
-status_text read = codes " sreg 0x" ++ hex_byte (read 0x5F) ++ (codes " sp 0x" ++ hex_byte (read 0x5E)) ++ hex_byte (read 0x5D) ++ codes "\n"
+status_text read = codes " sreg 0x" ++ hex_byte (read 0x5F) ++ (codes " sp 0x" ++ hex_byte (read 0x5E)) ++ hex_byte (read 0x5D)
+    ++ codes "\n"
 
 -- where the debugger is, with these, and the 32 registers, which are the first bytes of the data space
 abbrev pub show_text : ℕ → ℕ → ℕ → (ℕ → ℕ) → List ℕ
@@ -67,7 +57,8 @@ abbrev pub IsLineOf : State PadHistory → ℕ → Command → Reply → List �
 IsLineOf start turn command (reply.At n clock pc) line = line ≡ at_text n clock pc ++ codes "\n"
 IsLineOf start turn command (reply.Stopped n pc word) line = line ≡ stopped_line n pc word
 IsLineOf start turn command reply.Fine line = line ≡ codes "ok\n"
-IsLineOf start turn command reply.Shown line = (s : State PadHistory) × IsAfter start turn s × (line ≡ shown_text command turn s.clock s.core.pc (state_byte history_wiring s))
+IsLineOf start turn command reply.Shown line = (s : State PadHistory) × IsAfter start turn s
+    × (line ≡ shown_text command turn s.clock s.core.pc (state_byte history_wiring s))
 IsLineOf start turn command (reply.Refused why) line = line ≡ codes "refused " ++ why_name why ++ codes "\n"
 
 -- a text with the line of a reply at its end
@@ -79,4 +70,5 @@ abbrev pub Prints : State PadHistory → Session → List Command → List ℕ �
 Prints start old [] text new = (text ≡ []) × (new ≡ old)
 Prints start old (command ∷ commands) text new =
     (answer : Reply) × (mid : Session) × (line : List ℕ) × (rest : List ℕ) ×
-    Acts start old command answer mid × IsLineOf start mid.turn command answer line × Prints start mid commands rest new × (text ≡ line ++ rest)
+    Acts start old command answer mid × IsLineOf start mid.turn command answer line × Prints start mid commands rest new
+    × (text ≡ line ++ rest)

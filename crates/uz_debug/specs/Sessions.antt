@@ -71,7 +71,8 @@ pub record IsEnd (start : State PadHistory) (stops : set.FinSet nat_cmp) (from c
 
 -- where the debugger is
 abbrev pub TellsPlace : State PadHistory → ℕ → Reply → Type 0
-TellsPlace start at (reply.At turn clock pc) = (turn ≡ at) × (s : State PadHistory) × IsAfter start at s × (clock ≡ s.clock) × (pc ≡ s.core.pc)
+TellsPlace start at (reply.At turn clock pc) = (turn ≡ at) × (s : State PadHistory) × IsAfter start at s × (clock ≡ s.clock)
+    × (pc ≡ s.core.pc)
 TellsPlace start at answer = ⊥
 
 -- where it is, and that no turn goes on from there

@@ -1,5 +1,8 @@
 //! Why a script is refused.
 
+ghost use Rattle.std.specs.Prelude.{◌≡◌};
+ghost use Rattle.uz_debug.specs.WhyNames.{script_why_name};
+
 use std::alloc::{AllocError, AllocFailed};
 
 /// Why a line is refused, in the order of the numbers, from 1.
@@ -13,6 +16,20 @@ pub enum ScriptWhy {
     Count,
     /// Memory ran out. This says nothing of the text.
     Memory,
+}
+
+impl ScriptWhy {
+    /// The name, as it is printed.
+    pub fn name(self) -> &'static str
+        ensures { result.now ≡ script_why_name self }
+    {
+        match self {
+            ScriptWhy::Word => "Word",
+            ScriptWhy::Number => "Number",
+            ScriptWhy::Count => "Count",
+            ScriptWhy::Memory => "Memory",
+        }
+    }
 }
 
 /// The first faulty line, counted from 1, and why it is refused. With `Memory` the line is 0.

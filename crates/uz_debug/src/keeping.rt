@@ -16,7 +16,7 @@ pub(crate) fn add(saves: &mut Vec<Kept>, kept: Kept)
     ensures { (start : State PadHistory) → All (IsKept start) saves.old.items → IsKept start kept → All (IsKept start) saves.new.items }
 {
     make_room(saves, kept.rank());
-    let _ = saves.push(kept);
+    let _ = saves.push(kept); // without memory it isn't kept
 }
 
 /// Drops the oldest of a rank where there are enough of it.
@@ -24,7 +24,7 @@ fn make_room(saves: &mut Vec<Kept>, rank: u32)
     ensures { (start : State PadHistory) → All (IsKept start) saves.old.items → All (IsKept start) saves.new.items }
 {
     if let Some(at) = oldest(saves.as_slice(), rank) {
-        let _ = saves.remove(at);
+        let _ = saves.remove(at); // no longer needed
     }
 }
 

@@ -1,10 +1,11 @@
 //! The text of a session.
 
-ghost use Rattle.std.specs.Prelude.{◌≡◌, ◌<◌, ◌≤◌, ◌++◌, ℕ, List, All, IfOk, OnOk, codes, decimal};
+ghost use Rattle.std.specs.Prelude.{◌≡◌, ◌<◌, ◌++◌, List, All, IfOk, OnOk, codes, decimal};
 ghost use Rattle.uz_machine.specs.PadLine.{PadHistory};
 ghost use Rattle.uz_machine.specs.Turn.{State};
 ghost use Rattle.uz_debug.specs.Debuggers.{Debugs, read_of, session_of};
-ghost use Rattle.uz_debug.specs.SessionText.{AddsLine, Prints, at_text, bytes_text, gap, hex_byte, hex_digit, hex_word, show_text, shown_text, status_text, stopped_at, stopped_line, why_name as name_of_why};
+ghost use Rattle.uz_text.specs.Hexadecimals.{hex_byte, hex_word};
+ghost use Rattle.uz_debug.specs.SessionText.{AddsLine, Prints, at_text, bytes_text, gap, show_text, shown_text, status_text, stopped_at, stopped_line, why_name as name_of_why};
 ghost use Rattle.uz_debug.specs.Sessions.{IsInRange};
 ghost use Rattle.uz_debug.specs.declared.command.Command.{Command};
 ghost use Rattle.uz_debug.specs.declared.command.Reply.{Reply};
@@ -14,6 +15,7 @@ use crate::debugger::Debugger;
 use itoa::Buffer;
 use std::alloc::{AllocError, Global};
 use uz_console::Console;
+use uz_text::{byte_digits, word_digits};
 
 /// The data addresses of SPL, SPH and SREG (ATmega644 data sheet, "Register Summary").
 const SPL: u16 = 0x5D;
@@ -21,32 +23,6 @@ const SPL: u16 = 0x5D;
 const SPH: u16 = 0x5E;
 
 const SREG: u16 = 0x5F;
-
-fn digit(value: u8) -> u8
-    requires { value < 16 }
-    ensures { result ≡ hex_digit value }
-{
-    if value < 10 { b'0' + value } else { 55 + value }
-}
-
-/// The two digits of a byte.
-fn byte_digits(value: u8) -> [u8; 2]
-    ensures { result ≡ hex_byte value }
-{
-    [digit(value / 16 % 16), digit(value % 16)]
-}
-
-/// The four digits of a word.
-fn word_digits(value: u16) -> [u8; 4]
-    ensures { result ≡ hex_word value }
-{
-    [
-        digit((value / 4096 % 16) as u8),
-        digit((value / 256 % 16) as u8),
-        digit((value / 16 % 16) as u8),
-        digit((value % 16) as u8),
-    ]
-}
 
 /// Adds a name and a number in decimal.
 fn add_number(text: &mut Vec<u8>, name: &[u8], value: u64) -> Result<(), AllocError>

@@ -1,10 +1,11 @@
 -- The lines of the sample console, examples/console.asm, cut at the three numbers and the wait that differ from one demo to another.
 use Rattle.std.specs.Prelude.{ℕ, List, [], ◌∷◌, ◌++◌, codes}
+use Prim.Native.Char.{code}
 
 -- each line with an LF (10) after it
 unfoldable pub ended : List (List ℕ) → List ℕ
 ended [] = []
-ended (l ∷ ls) = l ++ (10 ∷ ended ls)
+ended (l ∷ ls) = l ++ (code "\n" ∷ ended ls)
 
 -- names of RAM bytes
 abbrev pub names : List (List ℕ)

@@ -44,7 +44,8 @@ zero_is_change false change = absurd (change refl)
 
 pub zero_falls : (e : Edge) (before : List Edge) → Changes (e ∷ before) → e.kind ≡ Sync 0 → is_fall e before ≡ true
 zero_falls e before changes zero_sync =
-    subst (λ k. (is_high before && not (unwrap_or (level_brought k) (is_high before))) ≡ true) (sym zero_sync) (zero_is_change (is_high before) (subst (λ k. IsChange k (is_high before)) zero_sync changes.0))
+    subst (λ k. (is_high before && not (unwrap_or (level_brought k) (is_high before))) ≡ true) (sym zero_sync)
+    (zero_is_change (is_high before) (subst (λ k. IsChange k (is_high before)) zero_sync changes.0))
 
 -- Since a line's start
 
@@ -65,7 +66,8 @@ pub record Began (edges : List Edge) (from : ℕ) : Type 0 where
 same_some : (a b : ℕ) → Some a ≡ Some b → a ≡ b
 same_some a b h = ap (λ o. unwrap_or o 0) h
 
-began_here : (e : Edge) (before : List Edge) (from : ℕ) (b : Bool) → is_fall e before ≡ b → cond b (Some e.clock) (line_start before) ≡ Some from → (line_start before ≡ Some from → Began before from) → Began (e ∷ before) from
+began_here : (e : Edge) (before : List Edge) (from : ℕ) (b : Bool) → is_fall e before ≡ b → cond b (Some e.clock) (line_start before) ≡ Some
+    from → (line_start before ≡ Some from → Began before from) → Began (e ∷ before) from
 began_here e before from true is h more = record {
   since = [];
   fall = e;
@@ -112,7 +114,8 @@ further e later r = record { edge = r.edge; among = inr r.among; value = r.value
 raised : (value : ℕ) → not (value == 0) ≡ true → value ≢ 0
 raised value h is = grind (arith, nat_tests)
 
-rose_by : (e : Edge) (later : List Edge) (high : Bool) (kind : EdgeKind) → e.kind ≡ kind → unwrap_or (level_brought kind) high ≡ true → (high ≡ true → Rise later) → Rise (e ∷ later)
+rose_by : (e : Edge) (later : List Edge) (high : Bool) (kind : EdgeKind) → e.kind ≡ kind → unwrap_or (level_brought kind) high ≡ true
+    → (high ≡ true → Rise later) → Rise (e ∷ later)
 rose_by e later high (Sync value) is h more = record { edge = e; among = inl refl; value = value; kind = is; high = raised value h }
 rose_by e later high (Pixel value) is h more = further e later (more h)
 rose_by e later high (Sound value) is h more = further e later (more h)

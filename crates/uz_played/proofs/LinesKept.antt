@@ -1,5 +1,6 @@
 -- The lines of a picture whose events are a steady schedule's.
-use Rattle.std.proofs.Common.{◌≡◌, ◌≢◌, ◌⊎◌, inl, inr, All, ℕ, zero, suc, ◌+◌, ◌-◌, ◌%◌, ◌<◌, true, false, cond, List, [], ◌∷◌, length, refl, sym, ◌∙◌, ap, subst, arith}
+use Rattle.std.proofs.Common.{◌≡◌, ◌≢◌, ◌⊎◌, inl, inr, All, ℕ, zero, suc, ◌+◌, ◌-◌, ◌%◌, ◌<◌, true, false, cond, List, [], ◌∷◌, length}
+use Rattle.std.proofs.Common.{refl, sym, ◌∙◌, ap, subst, arith}
 use Rattle.std.specs.Prelude.{Some, slice_index, get_or, ◌==◌}
 use Rattle.std.proofs.Math.Nat.{mod-mod}
 use Rattle.std.proofs.lemmas.Bool.Decides.{eqb_tells, leb_tells}
@@ -10,7 +11,8 @@ use Rattle.uz_schedule.specs.declared.lines.Event.{Event}
 use Rattle.uz_schedule.specs.declared.lines.EventKind.{EventKind}
 use Rattle.uz_schedule.specs.declared.lines.EventKind.TheVariants.{Sync}
 use Rattle.uz_schedule.specs.declared.lines.Schedule.{Schedule}
-use Rattle.uz_schedule.specs.Schedule.{At, event_at, event_from, event_in, event_in_kind, events_of, frame_of, length_of, next_line, start_of}
+use Rattle.uz_schedule.specs.Schedule.{At, event_at, event_from, event_in, event_in_kind, events_of, frame_of, length_of, next_line}
+use Rattle.uz_schedule.specs.Schedule.{start_of}
 use Rattle.uz_soundness.specs.Steady.{IsSteady, IsSteadyLine}
 
 -- What a schedule says of places
@@ -26,8 +28,10 @@ never_in : (events : List Event) (k : ℕ) → All (λ e. e.kind ≢ Sync 0) eve
 never_in [] k none is = absurd (cc is)
 never_in (e ∷ events) k none is =
     elim (eqb_tells e.clock k) [
-      | inl t ↦ absurd (All-head (λ x. x.kind ≢ Sync 0) e events none (kind_of e.kind (ap (λ b. cond b (Some e.kind) (event_in events k)) (sym t.0) ∙ is)))
-      | inr t ↦ never_in events k (All-tail (λ x. x.kind ≢ Sync 0) e events none) (ap (λ b. cond b (Some e.kind) (event_in events k)) (sym t.0) ∙ is)
+      | inl t ↦ absurd (All-head (λ x. x.kind ≢ Sync 0) e events none
+          (kind_of e.kind (ap (λ b. cond b (Some e.kind) (event_in events k)) (sym t.0) ∙ is)))
+      | inr t ↦ never_in events k (All-tail (λ x. x.kind ≢ Sync 0) e events none) (ap (λ b. cond b (Some e.kind) (event_in events k))
+          (sym t.0) ∙ is)
     ]
   where
     kind_of : (kind : EventKind) → Some kind ≡ Some (Sync 0) → kind ≡ Sync 0
@@ -37,14 +41,16 @@ never_in (e ∷ events) k none is =
 in_line : (fall : ℕ) (events : List Event) (k : ℕ) → IsSteadyLine fall events → event_in events k ≡ Some (Sync 0) → k ≡ fall
 in_line fall events k h is = by_test (eqb_tells h.first.clock k) (ap (λ es. event_in es k) (sym h.is) ∙ is)
   where
-    by_test : ((h.first.clock == k) ≡ true) × (h.first.clock ≡ k) ⊎ ((h.first.clock == k) ≡ false) × (h.first.clock ≢ k) → event_in (h.first ∷ h.later) k ≡ Some (Sync 0) → k ≡ fall
+    by_test : ((h.first.clock == k) ≡ true) × (h.first.clock ≡ k) ⊎ ((h.first.clock == k) ≡ false) × (h.first.clock ≢ k)
+        → event_in (h.first ∷ h.later) k ≡ Some (Sync 0) → k ≡ fall
     by_test (inl t) e = sym t.1 ∙ h.clock
     by_test (inr t) e = absurd (never_in h.later k h.once (ap (λ b. cond b (Some h.first.kind) (event_in h.later k)) (sym t.0) ∙ e))
 
 at_fall : (fall : ℕ) (events : List Event) → IsSteadyLine fall events → event_in events fall ≡ Some (Sync 0)
 at_fall fall events h = ap (λ es. event_in es fall) h.is ∙ by_test (eqb_tells h.first.clock fall)
   where
-    by_test : ((h.first.clock == fall) ≡ true) × (h.first.clock ≡ fall) ⊎ ((h.first.clock == fall) ≡ false) × (h.first.clock ≢ fall) → event_in (h.first ∷ h.later) fall ≡ Some (Sync 0)
+    by_test : ((h.first.clock == fall) ≡ true) × (h.first.clock ≡ fall) ⊎ ((h.first.clock == fall) ≡ false) × (h.first.clock ≢ fall)
+        → event_in (h.first ∷ h.later) fall ≡ Some (Sync 0)
     by_test (inl t) = ap (λ b. cond b (Some h.first.kind) (event_in h.later fall)) t.0 ∙ ap (λ k. Some k) h.kind
     by_test (inr t) = absurd (t.1 h.clock)
 
@@ -110,7 +116,8 @@ module _ (s : Schedule) (laws : PlaceLaws s) (fits : ScheduleFits s) (steady : I
           event = ap (λ b. cond b (event_in_kind (events_of s l) k) (event_from s (suc l) count (k - length_of s l))) (sym t.0) ∙ is;
         }
         | inr t ↦
-            let more = found (suc l) count (k - length_of s l) kind (ap (λ b. cond b (event_in_kind (events_of s l) k) (event_from s (suc l) count (k - length_of s l))) (sym t.0) ∙ is) in
+            let more = found (suc l) count (k - length_of s l) kind
+            (ap (λ b. cond b (event_in_kind (events_of s l) k) (event_from s (suc l) count (k - length_of s l))) (sym t.0) ∙ is) in
             let past = t.1 in
             record {
               line = more.line;
@@ -146,10 +153,12 @@ module _ (s : Schedule) (laws : PlaceLaws s) (fits : ScheduleFits s) (steady : I
   -- the next fall is a line's length later
   pub next_falls : (p l : ℕ) → l < length s.lines → At s p l s.fall → event_at s (p + length_of s l) ≡ Some (Sync 0)
   next_falls p l below at =
-      let moved : At s (p + length_of s l) l (length_of s l + s.fall) = subst (λ k. At s (p + length_of s l) l k) (omega arith) (laws.more p l s.fall (length_of s l) at) in
+      let moved : At s (p + length_of s l) l (length_of s l + s.fall) = subst (λ k. At s (p + length_of s l) l k) (omega arith)
+      (laws.more p l s.fall (length_of s l) at) in
       let there = laws.next (p + length_of s l) l s.fall moved in
       laws.here (p + length_of s l) (next_line s l) s.fall there
-      ∙ (laws.by_line (next_line s l) s.fall (next_below l below) (within_line (next_line s l)) ∙ line_has_fall (next_line s l) (next_below l below))
+      ∙ (laws.by_line (next_line s l) s.fall (next_below l below) (within_line (next_line s l)) ∙ line_has_fall (next_line s l)
+      (next_below l below))
 
   -- and none is before it
   pub none_between : (p l k : ℕ) → l < length s.lines → At s p l s.fall → 0 < k → k < length_of s l → event_at s (p + k) ≡ Some (Sync 0) → ⊥
@@ -164,8 +173,10 @@ module _ (s : Schedule) (laws : PlaceLaws s) (fits : ScheduleFits s) (steady : I
             let past = t.1 in
             let rest : s.fall + k ≡ length_of s l + (s.fall + k - length_of s l) = omega arith in
             let there = laws.next (p + k) l (s.fall + k - length_of s l) (subst (λ j. At s (p + k) l j) rest moved) in
-            let few_more : s.fall + k - length_of s l < length_of s (next_line s l) = (let g = within_line (next_line s l) in omega arith) in
-            let event = sym (laws.here (p + k) (next_line s l) (s.fall + k - length_of s l) there ∙ laws.by_line (next_line s l) (s.fall + k - length_of s l) (next_below l below) few_more) ∙ is in
+            let few_more : s.fall + k - length_of s l < length_of s (next_line s l) = (let g = within_line (next_line s l) in
+            omega arith) in
+            let event = sym (laws.here (p + k) (next_line s l) (s.fall + k - length_of s l) there ∙ laws.by_line (next_line s l)
+            (s.fall + k - length_of s l) (next_below l below) few_more) ∙ is in
             let same = fall_of_line (next_line s l) (s.fall + k - length_of s l) (next_below l below) event in
             let inside = within_line l in
             absurd (omega arith)

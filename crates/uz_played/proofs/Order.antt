@@ -44,11 +44,14 @@ among_newest x (e ∷ edges) h =
 
 pub among_oldest : (x : Edge) (edges : List Edge) → Among x edges → Among x (newest_first edges)
 among_oldest x [] none = absurd none
-among_oldest x (e ∷ edges) (inl is) = subst (Among x) (sym (reverse-append (e ∷ []) edges)) (among_right x (newest_first edges) (e ∷ []) (inl is))
-among_oldest x (e ∷ edges) (inr more) = subst (Among x) (sym (reverse-append (e ∷ []) edges)) (among_left x (newest_first edges) (e ∷ []) (among_oldest x edges more))
+among_oldest x (e ∷ edges) (inl is) = subst (Among x) (sym (reverse-append (e ∷ []) edges))
+    (among_right x (newest_first edges) (e ∷ []) (inl is))
+among_oldest x (e ∷ edges) (inr more) = subst (Among x) (sym (reverse-append (e ∷ []) edges))
+    (among_left x (newest_first edges) (e ∷ []) (among_oldest x edges more))
 
 -- a list in the order of time, cut at an edge of its history
-in_order : (edges since earlier : List Edge) (e : Edge) → newest_first edges ≡ since ++ e ∷ earlier → edges ≡ (newest_first earlier ++ e ∷ []) ++ newest_first since
+in_order : (edges since earlier : List Edge) (e : Edge) → newest_first edges ≡ since ++ e ∷ earlier
+    → edges ≡ (newest_first earlier ++ e ∷ []) ++ newest_first since
 in_order edges since earlier e cut =
     sym (reverse-reverse edges)
     ∙ (ap reverse cut
@@ -63,7 +66,8 @@ pub record LineOrder (since earlier later : List Edge) (fall ending : Edge) : Ty
   pub earlier_ones : (x : Edge) → Among x (fall ∷ earlier) → x.clock ≤ fall.clock
   pub later_ones : (x : Edge) → Among x (ending ∷ later) → ending.clock ≤ x.clock
 
-pub line_order : (from to : ℕ) (before since earlier later : List Edge) (fall ending : Edge) → AreTimed from to (before ++ ending ∷ later) → newest_first before ≡ since ++ fall ∷ earlier → LineOrder since earlier later fall ending
+pub line_order : (from to : ℕ) (before since earlier later : List Edge) (fall ending : Edge) → AreTimed from to (before ++ ending ∷ later)
+    → newest_first before ≡ since ++ fall ∷ earlier → LineOrder since earlier later fall ending
 line_order from to before since earlier later fall ending timed cut =
     let one = split from to before (ending ∷ later) timed in
     let ends = (one.rest).0 in
@@ -75,15 +79,19 @@ line_order from to before since earlier later fall ending timed cut =
     let further = timed_ends two.mid one.mid (newest_first since) two.rest in
     record {
       before_end = omega arith;
-      since_fall = λ x h. (let b = bounds two.mid one.mid (newest_first since) x two.rest (among_oldest x since h) in let low = b.0 in omega arith);
-      until_end = λ x h. (let b = bounds two.mid one.mid (newest_first since) x two.rest (among_oldest x since h) in let high = b.1 in omega arith);
+      since_fall = λ x h. (let b = bounds two.mid one.mid (newest_first since) x two.rest (among_oldest x since h) in let low = b.0 in
+          omega arith);
+      until_end = λ x h. (let b = bounds two.mid one.mid (newest_first since) x two.rest (among_oldest x since h) in let high = b.1 in
+          omega arith);
       earlier_ones = λ x h. earlier_one x three.mid falls_after three.first h;
       later_ones = λ x h. later_one x h (one.rest).1;
     }
   where
-    earlier_one : (x : Edge) (mid : ℕ) → mid ≤ fall.clock → AreTimed from mid (newest_first earlier) → Among x (fall ∷ earlier) → x.clock ≤ fall.clock
+    earlier_one : (x : Edge) (mid : ℕ) → mid ≤ fall.clock → AreTimed from mid (newest_first earlier) → Among x (fall ∷ earlier)
+        → x.clock ≤ fall.clock
     earlier_one x mid h t (inl is) = (let same : fall.clock ≡ x.clock = ap (λ (y : Edge). y.clock) is in omega arith)
-    earlier_one x mid h t (inr more) = (let b = bounds from mid (newest_first earlier) x t (among_oldest x earlier more) in let high = b.1 in omega arith)
+    earlier_one x mid h t (inr more) = (let b = bounds from mid (newest_first earlier) x t (among_oldest x earlier more) in
+        let high = b.1 in omega arith)
 
     later_one : (x : Edge) → Among x (ending ∷ later) → AreTimed ending.clock to later → ending.clock ≤ x.clock
     later_one x (inl is) t = (let same : ending.clock ≡ x.clock = ap (λ (y : Edge). y.clock) is in omega arith)

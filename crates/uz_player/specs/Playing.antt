@@ -87,10 +87,13 @@ IsNext old new (Stopped pc word) =
 
 -- Row, End: the next record. None: no edge is left
 abbrev pub IsRecordOf : Player → Player → Option Record → Type 0
-IsRecordOf old new None = (start : State PadHistory) (handed : List ℕ) → Plays old start handed → Plays new start handed × (left_of new ≡ [])
+IsRecordOf old new None = (start : State PadHistory) (handed : List ℕ) → Plays old start handed → Plays new start handed
+    × (left_of new ≡ [])
 IsRecordOf old new (Some (record_is.Row line)) =
-    (start : State PadHistory) (handed row : List ℕ) → Plays old start handed → IsRowOf new.recorder row → Plays new start (handed ++ row_bytes line row)
-IsRecordOf old new (Some (record_is.End frame)) = (start : State PadHistory) (handed : List ℕ) → Plays old start handed → Plays new start (handed ++ end_bytes frame)
+    (start : State PadHistory) (handed row : List ℕ) → Plays old start handed → IsRowOf new.recorder row → Plays new start
+    (handed ++ row_bytes line row)
+IsRecordOf old new (Some (record_is.End frame)) = (start : State PadHistory) (handed : List ℕ) → Plays old start handed → Plays new start
+    (handed ++ end_bytes frame)
 
 -- where no edge is left: None, the run goes on; else it is at its end
 abbrev pub GoesFurther : Player → Player → Option Ending → Type 0

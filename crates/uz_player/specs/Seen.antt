@@ -27,7 +27,8 @@ IsRowOf recorder row = (edges : List Edge) → HasSeen recorder edges → row �
 pub record HasTaken (new : Recorder) (seen : List Edge) (edge : Edge) (given : Option Record) : Type 0 where
   pub seen_more : HasSeen new (seen ++ edge ∷ [])
   pub clock : scanning.clock_of new.scanner ≡ edge.clock
-  pub records : records (newest_first (seen ++ edge ∷ [])) ≡ records (newest_first seen) ++ record_bytes given (last_row (newest_first (seen ++ edge ∷ [])))
+  pub records : records (newest_first (seen ++ edge ∷ [])) ≡ records (newest_first seen) ++ record_bytes given
+      (last_row (newest_first (seen ++ edge ∷ [])))
 
 abbrev pub Takes : Recorder → Recorder → Edge → Option Record → List Edge → Type 0
 Takes old new edge given seen =

@@ -2,7 +2,8 @@
 --
 -- A list of edges is kept newest first: `e ∷ before` is an edge and all those before it. So each word here is a function of
 -- the whole list of edges up to some moment.
-use Rattle.std.specs.Prelude.{ℕ, ◌-◌, Bool, false, not, ◌&&◌, ◌==◌, nat_le, if◌then◌else◌, List, [], ◌∷◌, Option, Some, None, is_some, unwrap_or}
+use Rattle.std.specs.Prelude.{ℕ, ◌-◌, Bool, false, not, ◌&&◌, ◌==◌, nat_le, if◌then◌else◌, List, [], ◌∷◌, Option, Some, None, is_some}
+use Rattle.std.specs.Prelude.{unwrap_or}
 use Rattle.std.specs.Option.{option_map, option_map_or}
 use Rattle.uz_machine.specs.declared.Edge.{Edge}
 use Rattle.uz_machine.specs.declared.EdgeKind.{EdgeKind}
@@ -47,7 +48,8 @@ before_line (e ∷ before) = if is_fall e before then before else before_line be
 abbrev pub low_time : List Edge → Option ℕ
 low_time [] = None
 low_time (e ∷ before) =
-    if is_fall e before then None else (if is_rise e before then option_map (λ start. e.clock - start) (line_start before) else low_time before)
+    if is_fall e before then None else (if is_rise e before then option_map (λ start. e.clock - start) (line_start before) else low_time
+    before)
 
 -- the line that runs has a broad pulse: a low time of 300 clocks or more (this project's profile)
 abbrev pub is_broad : List Edge → Bool

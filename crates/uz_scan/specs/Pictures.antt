@@ -1,5 +1,6 @@
 -- Frames, rows, samples, sound and records: what is seen of a list of edges (newest first, as in Lines).
-use Rattle.std.specs.Prelude.{ℕ, ◌+◌, ◌-◌, ◌*◌, ◌%◌, ◌^◌, ◌≤◌, Bool, not, ◌&&◌, nat_lt, nat_le, if◌then◌else◌, List, [], ◌∷◌, ◌++◌, map, reverse, replicate, Option, Some, None, unwrap_or}
+use Rattle.std.specs.Prelude.{ℕ, ◌+◌, ◌-◌, ◌*◌, ◌%◌, ◌^◌, ◌≤◌, Bool, not, ◌&&◌, nat_lt, nat_le, if◌then◌else◌, List, [], ◌∷◌, ◌++◌, map}
+use Rattle.std.specs.Prelude.{reverse, replicate, Option, Some, None, unwrap_or}
 use Rattle.std.specs.List.{range_with_len}
 use Rattle.byteorder.specs.Endian.{little_bytes}
 use Rattle.uz_machine.specs.declared.Edge.{Edge}
@@ -51,7 +52,8 @@ sound_brought Leave = None
 -- PORTC's value at a clock: the last pixel edge's at or before it, 0 before the first
 abbrev pub pixel_at : ℕ → List Edge → ℕ
 pixel_at clock [] = 0
-pixel_at clock (e ∷ before) = if nat_le e.clock clock then unwrap_or (pixel_brought e.kind) (pixel_at clock before) else pixel_at clock before
+pixel_at clock (e ∷ before) = if nat_le e.clock clock then unwrap_or (pixel_brought e.kind) (pixel_at clock before) else pixel_at clock
+    before
 
 -- the sound value: the last sound edge's, 0 before the first
 abbrev pub sound_of : List Edge → ℕ
@@ -89,7 +91,8 @@ frame_ended before = record { frame = frames before; rows = rows before % 2 ^ 64
 
 -- what the picture has more with an edge
 abbrev pub shown_by : Edge → List Edge → Scan
-shown_by e before = if ends_line e before then Line (line_ended e before) else (if ends_frame e before then Frame (frame_ended before) else More)
+shown_by e before = if ends_line e before then Line (line_ended e before) else (if ends_frame e before then Frame (frame_ended before) else
+    More)
 
 -- Records
 

@@ -9,7 +9,8 @@ use Rattle.uz_capture.proofs.recording.append_records.Given as goal
 
 abbrev pub invariant-records : goal.invariant-records
 invariant-records g l = record {
-  written : (start : State PadHistory) (old : Option FileMap) (name : List ℕ) → Plays l.initial.player start [] → g.H.Shelf.open_file l.initial.shelf ≡ Some name → WritesFile old name [] (g.H.Shelf.files l.initial.shelf) →
+  written : (start : State PadHistory) (old : Option FileMap) (name : List ℕ) → Plays l.initial.player start [] → g.H.Shelf.open_file
+      l.initial.shelf ≡ Some name → WritesFile old name [] (g.H.Shelf.files l.initial.shelf) →
       IsWrittenSoFar l.player start old name (g.H.Shelf.files l.shelf);
   open_file : g.H.Shelf.open_file l.shelf ≡ g.H.Shelf.open_file l.initial.shelf;
   load_faults : g.H.Shelf.load_faults l.shelf ≡ g.H.Shelf.load_faults l.initial.shelf;

@@ -6,4 +6,5 @@ use Rattle.uz_debug.proofs.KeptLemmas.{all_removed}
 use Rattle.uz_debug.proofs.keeping.make_room.Goals as goal
 
 pub returns-in-Some : goal.returns-in-Some
-returns-in-Some c = λ start h. subst (λ (xs : List Kept). All (IsKept start) xs) (sym c.remove.ensures.items) (all_removed (IsKept start) c.args.saves.now.items c.in-Some.at h)
+returns-in-Some c = λ start h. subst (λ (xs : List Kept). All (IsKept start) xs) (sym c.remove.ensures.items)
+    (all_removed (IsKept start) c.args.saves.now.items c.in-Some.at h)

@@ -7,7 +7,8 @@ use Rattle.uz_debug.proofs.run.run_console.Given as goal
 
 abbrev pub invariant-loop-turn : goal.invariant-loop-turn
 invariant-loop-turn l = record {
-  run : (start : State PadHistory) → IsAt start l.from l.fn.console → IsAt start l.turn l.console × Passed start (stops_of l.stops) l.from l.turn;
+  run : (start : State PadHistory) → IsAt start l.from l.fn.console → IsAt start l.turn l.console × Passed start (stops_of l.stops) l.from
+      l.turn;
   clock : clock_of l.console ≤ 5 * l.turn;
   within : l.turn ≤ l.goal;
   onward : l.from ≤ l.turn;

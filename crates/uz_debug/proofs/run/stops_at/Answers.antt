@@ -9,9 +9,11 @@ use Rattle.uz_debug.proofs.run.stops_at.Goals as goal
 
 pub returns-in-Some : goal.returns-in-Some
 returns-in-Some c = λ start turn at.
-    subst (λ (stops : Option (Bor (set.FinSet nat_cmp))). MatchBool c.contains.result (IsBreak start (stops_of stops) turn) (IsBreak start (stops_of stops) turn → ⊥)) (sym c.in-Some.is)
+    subst (λ (stops : Option (Bor (set.FinSet nat_cmp))). MatchBool c.contains.result (IsBreak start (stops_of stops) turn)
+    (IsBreak start (stops_of stops) turn → ⊥)) (sym c.in-Some.is)
     (heeded start c.in-Some.breakpoints.now turn c.pc.result c.contains.result c.args.console.now c.pc.ensures.stands c.contains.ensures at)
 
 pub returns-in-None : goal.returns-in-None
 returns-in-None c = λ start turn at.
-    subst (λ (stops : Option (Bor (set.FinSet nat_cmp))). IsBreak start (stops_of stops) turn → ⊥) (sym c.in-None.is) (none_heeded start turn)
+    subst (λ (stops : Option (Bor (set.FinSet nat_cmp))). IsBreak start (stops_of stops) turn → ⊥) (sym c.in-None.is)
+    (none_heeded start turn)

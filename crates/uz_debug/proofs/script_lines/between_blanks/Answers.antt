@@ -5,4 +5,5 @@ use Rattle.uz_debug.specs.Scripts.{is_gap}
 use Rattle.uz_debug.proofs.script_lines.between_blanks.Goals as goal
 
 pub returns : goal.returns
-returns c = map_from_collect _ c.collect.ensures.ran (YieldsList-from_slice_split _ is_gap c.args.line.now c.split.ensures.rest c.split.ensures.done c.split.ensures.closure (search rules))
+returns c = map_from_collect _ c.collect.ensures.ran (YieldsList-from_slice_split _ is_gap c.args.line.now c.split.ensures.rest
+    c.split.ensures.done c.split.ensures.closure (search rules))

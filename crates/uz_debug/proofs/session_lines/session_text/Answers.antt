@@ -16,13 +16,17 @@ loop-command-preserved c = λ start done h.
     let debugs = c.in_ok-reply.ensures.session start k.0.0 k.0.1 in
     let acts = c.in_ok-reply.ensures.acts start k.0.0 k.0.1 in
     let adds = c.in_ok-add_line.ensures start all debugs in
-    let more : take (c.loop-command.command-index + 1) c.args.commands.now ≡ take c.loop-command.command-index c.args.commands.now ++ made ∷ [] = take_more c.args.commands.now c.loop-command.command-index (command.Step 0) c.loop-command-test.true in (
+    let more : take (c.loop-command.command-index + 1) c.args.commands.now ≡ take c.loop-command.command-index c.args.commands.now
+    ++ made ∷ [] = take_more c.args.commands.now c.loop-command.command-index (command.Step 0) c.loop-command-test.true in (
       (all, debugs),
       subst (λ cs. Prints start (session_of c.args.debugger.now) cs c.add_line.new.text.items (session_of c.act.new.self)) (sym more)
-          (prints_more start (session_of c.args.debugger.now) (session_of c.loop-command.debugger) (session_of c.act.new.self) (take c.loop-command.command-index c.args.commands.now) made c.in_ok-reply.reply c.loop-command.text.items c.add_line.new.text.items k.1 acts adds),
+          (prints_more start (session_of c.args.debugger.now) (session_of c.loop-command.debugger) (session_of c.act.new.self)
+          (take c.loop-command.command-index c.args.commands.now) made c.in_ok-reply.reply c.loop-command.text.items
+          c.add_line.new.text.items k.1 acts adds),
     )
 
 pub returns : goal.returns
 returns c = λ start done h.
     let k = c.loop-command.invariant start done h in
-    subst (λ cs. Prints start (session_of c.args.debugger.now) cs c.loop-command.text.items (session_of c.loop-command.debugger)) (take_all c.loop-command.command-index c.args.commands.now c.loop-command-test.false) k.1
+    subst (λ cs. Prints start (session_of c.args.debugger.now) cs c.loop-command.text.items (session_of c.loop-command.debugger))
+    (take_all c.loop-command.command-index c.args.commands.now c.loop-command-test.false) k.1

@@ -10,4 +10,5 @@ use Rattle.uz_debug.proofs.session_lines.session_text.Given as goal
 -- the text so far is that of the commands so far
 abbrev pub invariant-loop-command : goal.invariant-loop-command
 invariant-loop-command l = (start : State PadHistory) (done : List (Command × Reply)) → Debugs start done l.fn.debugger →
-    ((all : List (Command × Reply)) × Debugs start all l.debugger) × Prints start (session_of l.fn.debugger) (take l.command-index l.commands) l.text.items (session_of l.debugger)
+    ((all : List (Command × Reply)) × Debugs start all l.debugger) × Prints start (session_of l.fn.debugger)
+    (take l.command-index l.commands) l.text.items (session_of l.debugger)

@@ -2,7 +2,8 @@ use Rattle.std.specs.Prelude.{OnErr}
 use Rattle.std.proofs.Common.{Result, Ok, Err, ap, sym, subst, ◌∙◌, ◌++◌, ◌+◌, ◌<◌, length, take, drop, get_or, append_assoc, arith}
 use Rattle.uz_machine.specs.declared.Edge.{Edge}
 use Rattle.uz_machine.specs.declared.EdgeKind.TheVariants.{Sync}
-use Rattle.uz_scan.specs.Pictures.{NeverFalls, end_records, end_records_of, newest_first, record_of, records, row_records, row_records_of, shown_by}
+use Rattle.uz_scan.specs.Pictures.{NeverFalls, end_records, end_records_of, newest_first, record_of, records, row_records, row_records_of}
+use Rattle.uz_scan.specs.Pictures.{shown_by}
 use Rattle.uz_scan.specs.Scanning.{StandsFor}
 use Rattle.uz_scan.proofs.PictureLaws.{never_falls_more, one_more, part_of_records}
 use Rattle.uz_scan.proofs.whole.picture.Goals as goal
@@ -34,15 +35,20 @@ loop-edge-preserved c =
     let row = c.row.ensures _ stands in
     record {
       stands = subst (λ x. StandsFor c.edge-shown.new.self x) (sym more) stands;
-      clocks = subst (λ x. NeverFalls x (drop (i + 1) edges)) (sym c.edge-shown.ensures.clock) (never_falls_more _ edges i no_edge within c.loop-edge.invariant.clocks);
+      clocks = subst (λ x. NeverFalls x (drop (i + 1) edges)) (sym c.edge-shown.ensures.clock)
+          (never_falls_more _ edges i no_edge within c.loop-edge.invariant.clocks);
       records = c.in_ok-add_record.ensures
           ∙ (ap (λ x. x ++ record_of c.edge-shown.result c.row.result.now) c.loop-edge.invariant.records
           ∙ (append_assoc c.args.out.now.items (records before) (record_of c.edge-shown.result c.row.result.now)
           ∙ (ap (λ x. c.args.out.now.items ++ (records before ++ record_of x c.row.result.now)) shown
           ∙ (ap (λ x. c.args.out.now.items ++ (records before ++ record_of (shown_by (get_or edges i no_edge) before) x)) row
           ∙ ap (λ x. c.args.out.now.items ++ records x) (sym more)))));
-      rows = ap (λ x. c.loop-edge.rows + x) (c.records_added-added.ensures.rows ∙ ap row_records_of shown) ∙ (ap (λ x. x + row_records_of (shown_by (get_or edges i no_edge) before)) c.loop-edge.invariant.rows ∙ ap row_records (sym more));
+      rows = ap (λ x. c.loop-edge.rows + x) (c.records_added-added.ensures.rows ∙ ap row_records_of shown)
+          ∙ (ap (λ x. x + row_records_of (shown_by (get_or edges i no_edge) before)) c.loop-edge.invariant.rows ∙ ap row_records
+          (sym more));
       few_rows = omega arith;
       few_ends = omega arith;
-      ends = ap (λ x. c.loop-edge.ends + x) (c.records_added-added.ensures.ends ∙ ap end_records_of shown) ∙ (ap (λ x. x + end_records_of (shown_by (get_or edges i no_edge) before)) c.loop-edge.invariant.ends ∙ ap end_records (sym more));
+      ends = ap (λ x. c.loop-edge.ends + x) (c.records_added-added.ensures.ends ∙ ap end_records_of shown)
+          ∙ (ap (λ x. x + end_records_of (shown_by (get_or edges i no_edge) before)) c.loop-edge.invariant.ends ∙ ap end_records
+          (sym more));
     }

@@ -20,10 +20,13 @@ loop-edges-preserved c =
     let since : clock_of c.loop-edges.self ≤ clock_of made.mid = (made.quiet).time in
     let on : clock_of made.mid < clock_of c.make_turns.new.self = made.time.0 in
     record {
-      run = λ start edges run. goes_on_quietly made.mid c.make_turns.new.self c.args.limit made.last there start edges ((made.quiet).run start edges (c.loop-edges.invariant.run start edges run));
+      run = λ start edges run. goes_on_quietly made.mid c.make_turns.new.self c.args.limit made.last there start edges
+          ((made.quiet).run start edges (c.loop-edges.invariant.run start edges run));
       unentered = λ fits start edges run.
           let not = c.in_default.ensures.none fits in
-          unentered_quietly c.args.cert.now made.mid c.make_turns.new.self c.args.limit made.last there ((made.quiet).unmet c.args.cert.now refl not) start edges ((made.quiet).unentered c.args.cert.now refl not start edges (c.loop-edges.invariant.unentered fits start edges run));
+          unentered_quietly c.args.cert.now made.mid c.make_turns.new.self c.args.limit made.last there
+          ((made.quiet).unmet c.args.cert.now refl not) start edges ((made.quiet).unentered c.args.cert.now refl not start edges
+          (c.loop-edges.invariant.unentered fits start edges run));
       time = omega arith;
     }
 
@@ -40,13 +43,17 @@ returns-in-Edges-clause-run c =
     let before : clock_of c.loop-edges.self < c.args.limit = omega arith in
     λ fits start edges run.
     let not = c.in_default.ensures.none fits in
-    unentered_more c.args.cert.now made.mid c.make_turns.new.self c.args.limit c.make_turns.new.edges.items c.in_time.result.items made.last c.in_time.ensures ((made.quiet).before before) ((made.quiet).unmet c.args.cert.now refl not) start edges ((made.quiet).unentered c.args.cert.now refl not start edges (c.loop-edges.invariant.unentered fits start edges run))
+    unentered_more c.args.cert.now made.mid c.make_turns.new.self c.args.limit c.make_turns.new.edges.items c.in_time.result.items made.last
+    c.in_time.ensures ((made.quiet).before before) ((made.quiet).unmet c.args.cert.now refl not) start edges
+    ((made.quiet).unentered c.args.cert.now refl not start edges (c.loop-edges.invariant.unentered fits start edges run))
 
 pub returns-in-Edges-clause-edges : goal.returns-in-Edges-clause-edges
 returns-in-Edges-clause-edges c =
     let made = c.in-Edges.ensures in
     let since : clock_of c.loop-edges.self ≤ clock_of made.mid = (made.quiet).time in
-    timed_on c.args.self.now made.mid c.make_turns.new.self c.args.limit c.make_turns.new.edges.items c.in_time.result.items (λ start edges run. (made.quiet).run start edges (c.loop-edges.invariant.run start edges run)) (omega arith) made.last c.in_time.ensures
+    timed_on c.args.self.now made.mid c.make_turns.new.self c.args.limit c.make_turns.new.edges.items c.in_time.result.items
+    (λ start edges run. (made.quiet).run start edges (c.loop-edges.invariant.run start edges run)) (omega arith) made.last
+    c.in_time.ensures
 
 pub returns-in-Edges-clause-time : goal.returns-in-Edges-clause-time
 returns-in-Edges-clause-time c =
@@ -61,7 +68,9 @@ returns-in-Stopped-clause-run c =
     let before : clock_of c.loop-edges.self < c.args.limit = omega arith in
     λ fits start edges run.
     let not = c.in_default.ensures.none fits in
-    never_stopped c.args.cert.now made.mid c.make_turns.new.self c.args.limit c.in-Stopped.why made.last.0 made.last.1 ((made.quiet).before before) ((made.quiet).unmet c.args.cert.now refl not) start edges ((made.quiet).unentered c.args.cert.now refl not start edges (c.loop-edges.invariant.unentered fits start edges run))
+    never_stopped c.args.cert.now made.mid c.make_turns.new.self c.args.limit c.in-Stopped.why made.last.0 made.last.1
+    ((made.quiet).before before) ((made.quiet).unmet c.args.cert.now refl not) start edges
+    ((made.quiet).unentered c.args.cert.now refl not start edges (c.loop-edges.invariant.unentered fits start edges run))
 
 pub returns-in-Stopped-clause-time : goal.returns-in-Stopped-clause-time
 returns-in-Stopped-clause-time c =
@@ -73,4 +82,5 @@ returns-in-Stopped-clause-time c =
 pub returns-clause-run : goal.returns-clause-run
 returns-clause-run c =
     let over : c.args.limit ≤ clock_of c.loop-edges.self = omega arith in
-    λ fits start edges run. never_over c.args.cert.now c.loop-edges.self c.args.limit over start edges (c.loop-edges.invariant.unentered fits start edges run)
+    λ fits start edges run. never_over c.args.cert.now c.loop-edges.self c.args.limit over start edges
+    (c.loop-edges.invariant.unentered fits start edges run)

@@ -12,7 +12,8 @@ use Rattle.uz_console.proofs.console.Console.approach.Given as goal
 abbrev pub invariant-loop-edges : goal.invariant-loop-edges
 invariant-loop-edges l = record {
   run : (start : State PadHistory) (edges : List Edge) → RunsTo l.limit start edges l.initial.self → RunsTo l.limit start edges l.self;
-  unentered : WellFormed l.cert → (start : State PadHistory) (edges : List Edge) → RunsUnentered l.cert l.limit start edges l.initial.self → RunsUnentered l.cert l.limit start edges l.self;
+  unentered : WellFormed l.cert → (start : State PadHistory) (edges : List Edge) → RunsUnentered l.cert l.limit start edges l.initial.self
+      → RunsUnentered l.cert l.limit start edges l.self;
   time : clock_of l.initial.self ≤ clock_of l.self;
 }
 

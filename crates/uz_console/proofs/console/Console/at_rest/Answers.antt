@@ -10,4 +10,5 @@ pub returns-else-level_matches : goal.returns-else-level_matches
 returns-else-level_matches c =
     let count = c.phase.ensures ∙ ap (λ (t : Timer). t.count) c.timer.ensures in
     let place = c.position-found.ensures.position ∙ ap (position_of c.args.cert.now.schedule c.args.rest.now.line) count in
-    rest_missed c.args.cert.now (state_of c.args.self.now) c.args.rest.now _ place c.position-found.ensures.in_frame (λ l. false≢true (c.if-level_matches.ensures.1 l))
+    rest_missed c.args.cert.now (state_of c.args.self.now) c.args.rest.now _ place c.position-found.ensures.in_frame
+    (λ l. false≢true (c.if-level_matches.ensures.1 l))

@@ -17,9 +17,11 @@ loop-rest-preserved c =
     let more = take_more items i rest c.loop-rest-test.true ∙ ap (λ (r : Rest). take i items ++ r ∷ []) (sym c.rest-item.is) in
     subst (λ (xs : List Rest). IsLeast (frame_of cert.schedule) (EntersAtOne cert state xs) c.lesser-least.result) (sym more)
     (subst (λ o. IsLeast (frame_of cert.schedule) (EntersAtOne cert state (take i items ++ rest ∷ [])) o) (sym c.lesser-least.ensures)
-    (one_more_rest cert state (frame_of cert.schedule) (take i items) rest c.loop-rest.least c.at_rest.result c.loop-rest.invariant c.at_rest.ensures))
+    (one_more_rest cert state (frame_of cert.schedule) (take i items) rest c.loop-rest.least c.at_rest.result c.loop-rest.invariant
+    c.at_rest.ensures))
 
 pub returns : goal.returns
 returns c =
     let all = take_all c.loop-rest.rest-index c.as_slice-rest-items.result.now (omega arith) ∙ c.as_slice-rest-items.ensures in
-    subst (λ (xs : List Rest). IsLeast (frame_of c.args.cert.now.schedule) (EntersAtOne c.args.cert.now (state_of c.args.self.now) xs) c.loop-rest.least) all c.loop-rest.invariant
+    subst (λ (xs : List Rest). IsLeast (frame_of c.args.cert.now.schedule) (EntersAtOne c.args.cert.now (state_of c.args.self.now) xs)
+    c.loop-rest.least) all c.loop-rest.invariant

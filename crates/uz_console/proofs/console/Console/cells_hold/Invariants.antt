@@ -5,4 +5,5 @@ use Rattle.uz_console.specs.Entry.{CellsHold, tracked, tracks}
 use Rattle.uz_console.proofs.console.Console.cells_hold.Given as goal
 
 abbrev pub invariant-loop-cell : goal.invariant-loop-cell
-invariant-loop-cell l = CellsHold (filter (λ cell. tracks l.kind cell.owner) (drop l.cell-index l.cell-items)) l.left (state_of l.self).space.bytes ↔ CellsHold (tracked l.head l.kind) l.spans (state_of l.self).space.bytes
+invariant-loop-cell l = CellsHold (filter (λ cell. tracks l.kind cell.owner) (drop l.cell-index l.cell-items)) l.left
+    (state_of l.self).space.bytes ↔ CellsHold (tracked l.head l.kind) l.spans (state_of l.self).space.bytes

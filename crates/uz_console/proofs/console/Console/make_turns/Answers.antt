@@ -15,7 +15,8 @@ turns-preserved c =
     let within : clock_of c.make.new.self < c.args.limit = omega arith in
     let apart : (state_of c.make.new.self).core.pc ≢ c.args.watched = λ e. c.if-pc-watched.false (c.pc.ensures.own ∙ e) in
     record {
-      quiet = leads_on c.args.limit c.args.watched c.args.self.now c.turns.self c.make.new.self c.turns.invariant.quiet c.in-Quiet.ensures.turn on within apart;
+      quiet = leads_on c.args.limit c.args.watched c.args.self.now c.turns.self c.make.new.self c.turns.invariant.quiet
+          c.in-Quiet.ensures.turn on within apart;
       clock = omega arith;
     }
 

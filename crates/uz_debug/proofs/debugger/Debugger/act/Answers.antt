@@ -10,6 +10,7 @@ pub returns-clause-session : goal.returns-clause-session
 returns-clause-session c = λ start done h.
     let r = c.reply.ensures start h.keeps in
     record {
-      session = acts_push start session_at_reset (session_of c.args.self.now) (session_of c.reply.new.self) done (c.args.command, c.reply.result) h.session r.0;
+      session = acts_push start session_at_reset (session_of c.args.self.now) (session_of c.reply.new.self) done
+          (c.args.command, c.reply.result) h.session r.0;
       keeps = r.1;
     }

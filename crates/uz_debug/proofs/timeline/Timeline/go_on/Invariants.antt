@@ -7,7 +7,8 @@ use Rattle.uz_debug.proofs.timeline.Timeline.go_on.Given as goal
 
 abbrev pub invariant-loop-self : goal.invariant-loop-self
 invariant-loop-self l = record {
-  run : (start : State PadHistory) → IsTimeline start l.fn.self → IsTimeline start l.self × Passed start (stops_of l.stops) (turn_of l.fn.self) (turn_of l.self);
+  run : (start : State PadHistory) → IsTimeline start l.fn.self → IsTimeline start l.self × Passed start (stops_of l.stops)
+      (turn_of l.fn.self) (turn_of l.self);
   within : turn_of l.self ≤ l.goal;
   onward : turn_of l.fn.self ≤ turn_of l.self;
 }

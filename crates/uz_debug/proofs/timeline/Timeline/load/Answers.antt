@@ -8,7 +8,12 @@ returns-then-self-target-clause-keeps c = λ start h.
     let kept = c.index-kept.result.now in
     let of_turn : IsKept start kept = subst (IsKept start) (sym c.index-kept.ensures) (h.saves c.args.at kept c.requires.place) in
     record {
-      here = (of_turn.0, of_turn.1, c.load.ensures.stands h.here.0 of_turn.0 h.here.2 of_turn.2 (same_console start h.here.0 of_turn.0 c.args.self.now.turn kept.turn h.here.1 of_turn.1));
+      here = (
+        of_turn.0,
+        of_turn.1,
+        c.load.ensures.stands h.here.0 of_turn.0 h.here.2 of_turn.2
+            (same_console start h.here.0 of_turn.0 c.args.self.now.turn kept.turn h.here.1 of_turn.1),
+      );
       first = h.first;
       saves = h.saves;
     }

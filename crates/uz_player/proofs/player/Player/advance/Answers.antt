@@ -8,14 +8,17 @@ use Rattle.uz_player.proofs.player.Player.advance.Goals as goal
 
 pub returns-in-Some-Row-clause-next : goal.returns-in-Some-Row-clause-next
 returns-in-Some-Row-clause-next c =
-    let told : IsRecordOf c.turns.self c.next_record.new.self (Some (Row c.in-Some-Row.line)) = subst (λ r. IsRecordOf c.turns.self c.next_record.new.self (Some r)) c.in-Some-Row.field-0-is c.in-Some-Row.ensures.record in
+    let told : IsRecordOf c.turns.self c.next_record.new.self (Some (Row c.in-Some-Row.line)) =
+    subst (λ r. IsRecordOf c.turns.self c.next_record.new.self (Some r)) c.in-Some-Row.field-0-is c.in-Some-Row.ensures.record in
     λ start handed plays.
     subst (λ bytes. Plays c.next_record.new.self start (handed ++ bytes)) (sym c.row_record.ensures)
-    (told start handed c.row-row.result.now (c.turns.invariant.plays start handed plays) (λ edges seen. c.row-row.ensures (newest_first edges) seen.scanner))
+    (told start handed c.row-row.result.now (c.turns.invariant.plays start handed plays)
+    (λ edges seen. c.row-row.ensures (newest_first edges) seen.scanner))
 
 pub returns-in-Some-End-clause-next : goal.returns-in-Some-End-clause-next
 returns-in-Some-End-clause-next c =
-    let told : IsRecordOf c.turns.self c.next_record.new.self (Some (End c.in-Some-End.frame)) = subst (λ r. IsRecordOf c.turns.self c.next_record.new.self (Some r)) c.in-Some-End.field-0-is c.in-Some-End.ensures.record in
+    let told : IsRecordOf c.turns.self c.next_record.new.self (Some (End c.in-Some-End.frame)) =
+    subst (λ r. IsRecordOf c.turns.self c.next_record.new.self (Some r)) c.in-Some-End.field-0-is c.in-Some-End.ensures.record in
     λ start handed plays.
     subst (λ bytes. Plays c.next_record.new.self start (handed ++ bytes)) (sym c.end_record.ensures)
     (told start handed (c.turns.invariant.plays start handed plays))
@@ -37,4 +40,5 @@ pub returns-in-Some-clause-part : goal.returns-in-Some-clause-part
 returns-in-Some-clause-part c = starts_records c.go_on.new.self
 
 pub returns-in-Some-clause-nearer : goal.returns-in-Some-clause-nearer
-returns-in-Some-clause-nearer c = subst (IsNearer c.args.self.now c.go_on.new.self) (sym c.ended.ensures) (ends_near c.args.self.now c.go_on.new.self c.in-Some.ending)
+returns-in-Some-clause-nearer c = subst (IsNearer c.args.self.now c.go_on.new.self) (sym c.ended.ensures)
+    (ends_near c.args.self.now c.go_on.new.self c.in-Some.ending)

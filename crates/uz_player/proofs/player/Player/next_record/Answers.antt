@@ -14,9 +14,11 @@ pub returns-in-Some-clause-record : goal.returns-in-Some-clause-record
 returns-in-Some-clause-record c =
     let old = c.loop-self.self in
     let within : old.next < length old.edges.items = omega arith in
-    let left = subst (λ (xs : List Edge). drop old.next old.edges.items ≡ get_or xs old.next no_edge ∷ drop (old.next + 1) old.edges.items) (sym c.deref.ensures.0) (drop_more old.edges.items old.next no_edge within) in
+    let left = subst (λ (xs : List Edge). drop old.next old.edges.items ≡ get_or xs old.next no_edge ∷ drop (old.next + 1) old.edges.items)
+    (sym c.deref.ensures.0) (drop_more old.edges.items old.next no_edge within) in
     record_comes c.args.self.now _ c.in-Some.record
-    (λ start handed row plays same. takes_edge old _ (get_or c.deref.result.now old.next no_edge) (Some c.in-Some.record) start handed row refl refl refl c.in-Some.ensures.entered left c.in-Some.ensures.takes same (c.loop-self.invariant.plays start handed plays))
+    (λ start handed row plays same. takes_edge old _ (get_or c.deref.result.now old.next no_edge) (Some c.in-Some.record) start handed row
+    refl refl refl c.in-Some.ensures.entered left c.in-Some.ensures.takes same (c.loop-self.invariant.plays start handed plays))
 
 pub returns-in-Some-clause-nearer : goal.returns-in-Some-clause-nearer
 returns-in-Some-clause-nearer c =
@@ -29,10 +31,13 @@ pub loop-self-preserved : goal.loop-self-preserved
 loop-self-preserved c =
     let old = c.loop-self.self in
     let within : old.next < length old.edges.items = omega arith in
-    let left = subst (λ (xs : List Edge). drop old.next old.edges.items ≡ get_or xs old.next no_edge ∷ drop (old.next + 1) old.edges.items) (sym c.deref.ensures.0) (drop_more old.edges.items old.next no_edge within) in
+    let left = subst (λ (xs : List Edge). drop old.next old.edges.items ≡ get_or xs old.next no_edge ∷ drop (old.next + 1) old.edges.items)
+    (sym c.deref.ensures.0) (drop_more old.edges.items old.next no_edge within) in
     let size = ap (λ (es : List Edge). length es) left in
     record {
-      plays = λ start handed plays. subst (Plays _ start) (append-nil handed) (takes_edge old _ (get_or c.deref.result.now old.next no_edge) None start handed [] refl refl refl c.in_default.ensures.entered left c.in_default.ensures.takes (λ edges seen. refl) (c.loop-self.invariant.plays start handed plays));
+      plays = λ start handed plays. subst (Plays _ start) (append-nil handed) (takes_edge old _ (get_or c.deref.result.now old.next no_edge)
+          None start handed [] refl refl refl c.in_default.ensures.entered left c.in_default.ensures.takes (λ edges seen. refl)
+          (c.loop-self.invariant.plays start handed plays));
       nearer = omega (arith, size, c.loop-self.invariant.nearer);
       console = c.loop-self.invariant.console;
       limit = c.loop-self.invariant.limit;

@@ -15,7 +15,8 @@ returns-in-More-clause-takes c =
     λ seen h few timed.
     let before = newest_first seen in
     let stands = subst (λ x. scanning.StandsFor x before) (sym c.count.ensures.scanner) h.scanner in
-    has_taken c.args.self.now _ c.args.edge None More seen (counts_same _ _ More c.count.ensures.counts refl refl) (c.edge.ensures.stands before stands) c.edge.ensures.clock (c.in-More.ensures.shown before stands) (λ row. refl) h few
+    has_taken c.args.self.now _ c.args.edge None More seen (counts_same _ _ More c.count.ensures.counts refl refl)
+    (c.edge.ensures.stands before stands) c.edge.ensures.clock (c.in-More.ensures.shown before stands) (λ row. refl) h few
 
 pub returns-in-Line-clause-takes : goal.returns-in-Line-clause-takes
 returns-in-Line-clause-takes c =
@@ -23,7 +24,9 @@ returns-in-Line-clause-takes c =
     let before = newest_first seen in
     let stands = subst (λ x. scanning.StandsFor x before) (sym c.count.ensures.scanner) h.scanner in
     let none : nat_lt 0 c.in-Line.line.frame ≡ nat_lt 0 0 = ap (nat_lt 0) c.if-line-eq0.true in
-    has_taken c.args.self.now _ c.args.edge None (Line c.in-Line.line) seen (counts_same _ _ (Line c.in-Line.line) c.count.ensures.counts (ap (λ b. cond b 1 0) none) refl) (c.edge.ensures.stands before stands) c.edge.ensures.clock (c.in-Line.ensures.shown before stands) (λ row. sym (ap (λ b. cond b (row_bytes c.in-Line.line row) []) none)) h few
+    has_taken c.args.self.now _ c.args.edge None (Line c.in-Line.line) seen (counts_same _ _ (Line c.in-Line.line) c.count.ensures.counts
+    (ap (λ b. cond b 1 0) none) refl) (c.edge.ensures.stands before stands) c.edge.ensures.clock (c.in-Line.ensures.shown before stands)
+    (λ row. sym (ap (λ b. cond b (row_bytes c.in-Line.line row) []) none)) h few
 
 pub returns-in-Line-2-clause-takes : goal.returns-in-Line-2-clause-takes
 returns-in-Line-2-clause-takes c =
@@ -31,11 +34,16 @@ returns-in-Line-2-clause-takes c =
     let before = newest_first seen in
     let stands = subst (λ x. scanning.StandsFor x before) (sym c.count.ensures.scanner) h.scanner in
     let some : nat_lt 0 c.in-Line.line.frame ≡ true = positive c.in-Line.line.frame c.if-line-eq0.false in
-    has_taken c.args.self.now _ c.args.edge (Some _) (Line c.in-Line.line) seen (row_counted _ _ (Line c.in-Line.line) c.count.ensures.counts (ap (λ b. cond b 1 0) some) refl) (c.edge.ensures.stands before stands) c.edge.ensures.clock (c.in-Line.ensures.shown before stands) (λ row. sym (ap (λ b. cond b (row_bytes c.in-Line.line row) []) some)) h few
+    has_taken c.args.self.now _ c.args.edge (Some _) (Line c.in-Line.line) seen
+    (row_counted _ _ (Line c.in-Line.line) c.count.ensures.counts (ap (λ b. cond b 1 0) some) refl)
+    (c.edge.ensures.stands before stands) c.edge.ensures.clock (c.in-Line.ensures.shown before stands)
+    (λ row. sym (ap (λ b. cond b (row_bytes c.in-Line.line row) []) some)) h few
 
 pub returns-in-Frame-clause-takes : goal.returns-in-Frame-clause-takes
 returns-in-Frame-clause-takes c =
     λ seen h few timed.
     let before = newest_first seen in
     let stands = subst (λ x. scanning.StandsFor x before) (sym c.count.ensures.scanner) h.scanner in
-    has_taken c.args.self.now _ c.args.edge (Some _) (Frame c.in-Frame.frame) seen (end_counted _ _ (Frame c.in-Frame.frame) c.count.ensures.counts refl refl) (c.edge.ensures.stands before stands) c.edge.ensures.clock (c.in-Frame.ensures.shown before stands) (λ row. refl) h few
+    has_taken c.args.self.now _ c.args.edge (Some _) (Frame c.in-Frame.frame) seen
+    (end_counted _ _ (Frame c.in-Frame.frame) c.count.ensures.counts refl refl) (c.edge.ensures.stands before stands)
+    c.edge.ensures.clock (c.in-Frame.ensures.shown before stands) (λ row. refl) h few
