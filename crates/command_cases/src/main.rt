@@ -14,38 +14,17 @@
 //! Other lines are left out.
 #![tactic(auto)]
 
-mod bench;
-mod script;
+mod case;
 
 use anyhow::Result;
-use bench::Bench;
-use script::Line;
+use case::Case;
 
 fn main(rt: HostRuntime) -> Result<()> {
     let alloc = rt.alloc();
-    let mut bench = Bench::new(alloc)?;
-    for text in rt.lines(alloc) {
-        let text = text?;
-        let line = Line::read(text.as_str());
-        if let Line::Text(text) = line {
-            bench.continue_file(text)?;
-        } else {
-            bench.end_file(alloc)?;
-        }
-        match line {
-            Line::Case(_) => {
-                bench = Bench::new(alloc)?;
-                println!(rt; "{}", text.as_str())?;
-            }
-            Line::Shelf(fail) => bench.plan_shelf(alloc, fail)?,
-            Line::Sink(fail) => bench.plan_sink(fail),
-            Line::File(name) => bench.begin_file(alloc, name)?,
-            Line::Fill(name, count) => bench.fill(alloc, name, count)?,
-            Line::Swap(swap) => bench.swap(alloc, swap)?,
-            Line::Run(words) => bench.run(&rt, alloc, words)?,
-            Line::Show(name) => bench.show(&rt, alloc, name)?,
-            Line::Text(_) | Line::Other => {}
-        }
+    let mut case = Case::new(alloc)?;
+    for line in rt.lines(alloc) {
+        let line = line?;
+        case.line(&rt, alloc, line.as_str())?;
     }
     Ok(())
 }

@@ -20,40 +20,18 @@
 //! Other lines are left out.
 #![tactic(auto)]
 
-mod bench;
-mod script;
+mod case;
 mod tally;
 
 use anyhow::Result;
-use bench::Bench;
-use script::Line;
+use case::Case;
 
 fn main(rt: HostRuntime) -> Result<()> {
     let alloc = rt.alloc();
-    let mut bench = Bench::new(alloc, &[])?;
-    for text in rt.lines(alloc) {
-        let text = text?;
-        let line = Line::read(text.as_str());
-        if !line.is_part() {
-            bench.end_file(alloc)?;
-        }
-        match line {
-            Line::Case => {
-                bench = Bench::new(alloc, &[])?;
-                println!(rt; "{}", text.as_str())?;
-            }
-            Line::Shelf(fail) => bench = Bench::new(alloc, &[fail])?,
-            Line::File(name) => bench.begin_file(alloc, name)?,
-            Line::Text(text) => bench.add_line(text)?,
-            Line::Bytes(count, digits) => bench.add_bytes(alloc, count, digits)?,
-            Line::Swap(swap) => bench.swap(alloc, swap)?,
-            Line::Run(words) => bench.run(&rt, alloc, words)?,
-            Line::Show(name) => bench.show(&rt, name)?,
-            Line::Count(words) => bench.count(&rt, alloc, words)?,
-            Line::Cut(name, words) => bench.cut(&rt, alloc, name, words)?,
-            Line::Change(name, words) => bench.change(&rt, alloc, name, words)?,
-            Line::Other => {}
-        }
+    let mut case = Case::new(alloc)?;
+    for line in rt.lines(alloc) {
+        let line = line?;
+        case.line(&rt, alloc, line.as_str())?;
     }
     Ok(())
 }

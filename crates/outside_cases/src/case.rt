@@ -1,9 +1,8 @@
 //! The files that are there, and what a command asks of the outside.
 
 use anyhow::Result;
+use command_bench::{Answer, Fail, MemoryShelf, run, words_of};
 use std::alloc::Global;
-use uz_shelf::{Fail, MemoryShelf, MemorySink};
-use uz_top::{Status, uzebox};
 
 /// A file that is there before the command.
 #[derive(Drop)]
@@ -23,9 +22,8 @@ pub struct Written {
 /// What a run leaves.
 #[derive(Drop)]
 pub struct Outcome {
-    pub status: Status,
+    pub answer: Answer,
     pub shelf: MemoryShelf,
-    pub sink: MemorySink,
 }
 
 /// The files that are there, and what the command asks of the outside.
@@ -67,19 +65,13 @@ impl Case {
 
     /// The files that the command loads.
     pub fn set_loads(&mut self, alloc: Global, names: &str) -> Result<()> {
-        self.loads.clear();
-        for name in names.split_whitespace() {
-            self.loads.push(String::from_str(alloc, name)?)?;
-        }
+        self.loads = words_of(alloc, names)?;
         Ok(())
     }
 
     /// One more file that the command writes.
     pub fn add_write(&mut self, alloc: Global, words: &str) -> Result<()> {
-        let (name, lengths) = match words.split_once(" ") {
-            Some(parts) => parts,
-            None => (words, ""),
-        };
+        let (name, lengths) = words.split_once(" ").unwrap_or((words, ""));
         let mut pieces = Vec::new(alloc);
         for length in lengths.split_whitespace() {
             pieces.push(length.parse().unwrap_or(usize::MAX))?;
@@ -131,9 +123,12 @@ impl Case {
     }
 
     fn is_written(&self, name: &str) -> bool {
-        self.writes
-            .iter()
-            .any(|written| written.name.as_str() == name)
+        for written in self.writes.as_slice() {
+            if written.name.as_str() == name {
+                return true;
+            }
+        }
+        false
     }
 
     /// How many calls of the shelf the command makes.
@@ -157,13 +152,8 @@ impl Case {
         for held in self.files.as_slice() {
             shelf.add(alloc, held.name.as_str(), held.bytes.as_slice())?;
         }
-        let mut sink = MemorySink::new(alloc, sink_fails)?;
-        let status = uzebox(alloc, words, &mut shelf, &mut sink);
-        Ok(Outcome {
-            status,
-            shelf,
-            sink,
-        })
+        let answer = run(alloc, words, &mut shelf, sink_fails)?;
+        Ok(Outcome { answer, shelf })
     }
 }
 

@@ -1,7 +1,7 @@
 //! What a run is to leave, beside the run that nothing disturbs.
 
 use crate::case::{Case, Outcome, Written};
-use uz_top::Status;
+use command_bench::Status;
 
 /// A fault of the shelf's call of that number, counted from 1, which keeps so many bytes.
 #[derive(Clone, Copy)]
@@ -82,8 +82,8 @@ fn leaves_files(case: &Case, whole: &Outcome, left: &Outcome, fault: Fault) -> b
 
 /// Whether a run is as the one that nothing disturbs.
 pub fn is_undisturbed(case: &Case, whole: &Outcome, left: &Outcome) -> bool {
-    left.status == whole.status
-        && left.sink.text() == whole.sink.text()
+    left.answer.status == whole.answer.status
+        && left.answer.text() == whole.answer.text()
         && has_all_files(case, whole, left)
 }
 
@@ -104,8 +104,8 @@ pub fn is_unread(case: &Case, whole: &Outcome, left: &Outcome, load: usize, coun
     };
     match case.loads.get(load.saturating_sub(1)) {
         Some(name) => {
-            left.status == Status::Unread
-                && is_unread_line(left.sink.text(), name.as_str(), count)
+            left.answer.status == Status::Unread
+                && is_unread_line(left.answer.text(), name.as_str(), count)
                 && leaves_files(case, whole, left, fault)
         }
         None => false,
@@ -117,8 +117,8 @@ pub fn is_wanted(case: &Case, whole: &Outcome, left: &Outcome, fault: Fault) -> 
     if fault.call > case.shelf_calls() {
         is_undisturbed(case, whole, left)
     } else if fault.call > case.loads.len() {
-        left.status == Status::Unwritten
-            && left.sink.text().is_empty()
+        left.answer.status == Status::Unwritten
+            && left.answer.text().is_empty()
             && leaves_files(case, whole, left, fault)
     } else {
         is_unread(case, whole, left, fault.call, usize::MAX)

@@ -29,31 +29,39 @@
 mod case;
 mod ends;
 mod runs;
-mod script;
 
 use anyhow::Result;
 use case::Case;
-use script::Line;
+use std::alloc::Global;
+
+/// Does what a line says.
+fn act(rt: &HostRuntime, alloc: Global, case: &mut Case, word: &str, rest: &str) -> Result<()> {
+    match word {
+        "case" => {
+            *case = Case::new(alloc);
+            println!(rt; "case {}", rest)?;
+            Ok(())
+        }
+        "file" => case.begin_file(alloc, rest),
+        "loads" => case.set_loads(alloc, rest),
+        "writes" => case.add_write(alloc, rest),
+        "run" => runs::run_all(rt, alloc, case, rest),
+        "make" => runs::run_once(rt, alloc, case, rest),
+        "take" => case.take(alloc, rest),
+        _ => Ok(()),
+    }
+}
 
 fn main(rt: HostRuntime) -> Result<()> {
     let alloc = rt.alloc();
     let mut case = Case::new(alloc);
-    for text in rt.lines(alloc) {
-        let text = text?;
-        let line = Line::read(text.as_str());
-        if let Line::Case(_) = line {
-            case = Case::new(alloc);
-            println!(rt; "{}", text.as_str())?;
-        }
-        match line {
-            Line::File(name) => case.begin_file(alloc, name)?,
-            Line::Text(text) => case.continue_file(text)?,
-            Line::Loads(names) => case.set_loads(alloc, names)?,
-            Line::Writes(words) => case.add_write(alloc, words)?,
-            Line::Run(words) => runs::run_all(&rt, alloc, &mut case, words)?,
-            Line::Make(words) => runs::run_once(&rt, alloc, &mut case, words)?,
-            Line::Take(name) => case.take(alloc, name)?,
-            Line::Case(_) | Line::Other => {}
+    for line in rt.lines(alloc) {
+        let line = line?;
+        let line = line.as_str();
+        if let Some(text) = line.strip_prefix("|") {
+            case.continue_file(text)?;
+        } else if let Some((word, rest)) = line.split_once(" ") {
+            act(&rt, alloc, &mut case, word, rest)?;
         }
     }
     Ok(())

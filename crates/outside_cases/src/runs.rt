@@ -3,25 +3,17 @@
 use crate::case::{Case, Outcome};
 use crate::ends::{Fault, front, has_all_files, is_undisturbed, is_unread, is_wanted, last_line};
 use anyhow::Result;
+use command_bench::{Fail, Status, words_of};
 use std::alloc::Global;
-use std::io::{self, Write};
-use uz_shelf::Fail;
-use uz_top::Status;
 
 /// How many bytes a call that fails keeps.
 const KEPT: [u32; 3] = [0, 1, 3];
 
+/// The same without none.
+const SOME_KEPT: [u32; 2] = [1, 3];
+
 /// More calls than any case has.
 const MOST_CALLS: u32 = 1000;
-
-/// The words of a line.
-fn words_of(alloc: Global, words: &str) -> Result<Vec<String>> {
-    let mut list = Vec::new(alloc);
-    for word in words.split_whitespace() {
-        list.push(String::from_str(alloc, word)?)?;
-    }
-    Ok(list)
-}
 
 /// Runs the words undisturbed, and prints them, what was printed, and the status.
 fn run_whole(
@@ -32,9 +24,7 @@ fn run_whole(
     list: &[String],
 ) -> Result<Outcome> {
     let whole = case.run(alloc, list, &[], &[])?;
-    println!(rt; "run {}", words)?;
-    io::writer(rt).write_all(whole.sink.text())?;
-    println!(rt; "status {}", whole.status as u8)?;
+    whole.answer.tell(rt, words)?;
     Ok(whole)
 }
 
@@ -97,8 +87,8 @@ fn try_shelf(
 
 /// The status where the piece of a `put` that begins there fails: the line of a fault changes none.
 fn status_without(whole: &Outcome, start: usize) -> Status {
-    if whole.status != Status::Done && start == last_line(whole.sink.text()) {
-        whole.status
+    if whole.answer.status != Status::Done && start == last_line(whole.answer.text()) {
+        whole.answer.status
     } else {
         Status::Unwritten
     }
@@ -106,8 +96,8 @@ fn status_without(whole: &Outcome, start: usize) -> Status {
 
 /// Whether a run in which the `put` of a piece failed leaves what it is to leave.
 fn is_cut(case: &Case, whole: &Outcome, left: &Outcome, start: usize, length: usize) -> bool {
-    left.status == status_without(whole, start)
-        && left.sink.text() == front(whole.sink.text(), length)
+    left.answer.status == status_without(whole, start)
+        && left.answer.text() == front(whole.answer.text(), length)
         && has_all_files(case, whole, left)
 }
 
@@ -120,28 +110,31 @@ fn try_sink(
     words: &[String],
     whole: &Outcome,
 ) -> Result<()> {
+    let mut left = without_put(alloc, case, words, 1)?;
     let mut start = 0usize;
     let mut puts = 0u32;
     for call in 1..MOST_CALLS {
-        let end = piece_start(alloc, case, words, call.saturating_add(1))?;
-        let first = Fail { call, keep: 0 };
-        let left = case.run(alloc, words, &[], &[first])?;
         if is_undisturbed(case, whole, &left) {
             break;
         }
-        tell(rt, start < end, "empty put", first)?;
-        for keep in KEPT {
+        let next = without_put(alloc, case, words, call.saturating_add(1))?;
+        let end = next.answer.text().len();
+        let fail = Fail { call, keep: 0 };
+        tell(rt, start < end, "empty put", fail)?;
+        tell(rt, is_cut(case, whole, &left, start, start), "sink", fail)?;
+        for keep in SOME_KEPT {
             let fail = Fail { call, keep };
             let left = case.run(alloc, words, &[], &[fail])?;
             let length = start.saturating_add(keep as usize).min(end);
             tell(rt, is_cut(case, whole, &left, start, length), "sink", fail)?;
         }
+        left = next;
         start = end;
         puts = call;
     }
     tell(
         rt,
-        start == whole.sink.text().len(),
+        start == whole.answer.text().len(),
         "puts of",
         Fail {
             call: puts,
@@ -152,10 +145,9 @@ fn try_sink(
     Ok(())
 }
 
-/// Where the piece of the `put` of that number begins: how much was put before. The whole length where there are fewer.
-fn piece_start(alloc: Global, case: &Case, words: &[String], call: u32) -> Result<usize> {
-    let left = case.run(alloc, words, &[], &[Fail { call, keep: 0 }])?;
-    Ok(left.sink.text().len())
+/// What a run leaves where the `put` of that number fails and keeps no byte: as many bytes are printed as were put before.
+fn without_put(alloc: Global, case: &Case, words: &[String], call: u32) -> Result<Outcome> {
+    case.run(alloc, words, &[], &[Fail { call, keep: 0 }])
 }
 
 /// Each load fails in turn, and then the `put` of its line.

@@ -7,7 +7,7 @@ use crate::row::Row;
 use anyhow::Result;
 use std::alloc::Global;
 use uz_cert::read_cert;
-use uz_check::{check, check_counted, verdict};
+use uz_check::{RefusedWhy, check, check_counted, verdict};
 use uz_hex::Image;
 use uz_schedule::Cert;
 
@@ -93,6 +93,16 @@ fn counted(image: Image, cert: Cert, looked: &mut u64) -> (Image, Cert)
     }
 }
 
+/// The first refusal of a pair, if there is one.
+fn first_refusal(image: Image, cert: Cert) -> Option<RefusedWhy>
+    requires { WellFormed cert }
+{
+    match check(image, cert) {
+        Ok(_accepted) => None,
+        Err(refused) => Some(refused.why),
+    }
+}
+
 /// What the three calls answer.
 fn tell_checks(rt: HostRuntime, image: Image, cert: Cert) -> Result<()>
     requires { WellFormed cert }
@@ -100,11 +110,8 @@ fn tell_checks(rt: HostRuntime, image: Image, cert: Cert) -> Result<()>
     let first = verdict(&image, &cert);
     let mut looked = 0;
     let (image, cert) = counted(image, cert, &mut looked);
-    let why = match check(image, cert) {
-        Ok(_accepted) => None,
-        Err(refused) => Some(refused.why),
-    };
-    println!(rt; "{:?} looked {} the same {}", first, looked, first == why)?;
+    let same = first == first_refusal(image, cert);
+    println!(rt; "{:?} looked {} the same {}", first, looked, same)?;
     Ok(())
 }
 

@@ -1,13 +1,15 @@
 //! A ring of two lines, with a point for each line and clock, whose points are joined.
 
+ghost use Rattle.uz_schedule.specs.WellFormed.{WellFormed};
+
 use crate::checked::set_word;
 use anyhow::Result;
 use std::alloc::Global;
 use uz_cert::read_cert;
-use uz_check::check;
+use uz_check::{RefusedWhy, check};
 use uz_hex::Image;
 use uz_join::joined;
-use uz_schedule::{Fact, Point, Span};
+use uz_schedule::{Cert, Fact, Point, Span};
 
 /// The points of a line.
 const COUNT: u32 = 1819;
@@ -64,24 +66,58 @@ fn is_joined(point: &Point) -> bool {
         && point.next.len() == 1
 }
 
+/// How many points stand for both lines.
+fn count_joined(points: &[Point]) -> usize {
+    let mut count = 0usize;
+    for point in points {
+        if is_joined(point) {
+            count = count.saturating_add(1);
+        }
+    }
+    count
+}
+
+/// How many points the ring's certificate has once they are joined, and how many of them stand for both lines.
+fn counts(
+    alloc: Global,
+    image: Image,
+    cert: Cert,
+) -> std::result::Result<(usize, usize), RefusedWhy>
+    requires { WellFormed cert }
+{
+    match check(image, cert) {
+        Ok(accepted) => {
+            let (image, cert) = accepted.into_parts();
+            let cert = joined(alloc, &image, cert);
+            let points = cert.points.as_slice();
+            Ok((points.len(), count_joined(points)))
+        }
+        Err(refused) => Err(refused.why),
+    }
+}
+
 /// How many points the joined certificate has, and how many stand for both lines.
+fn tell_joined(rt: HostRuntime, cert: Cert) -> Result<()>
+    requires { WellFormed cert }
+{
+    match counts(rt.alloc(), image(rt.alloc())?, cert) {
+        Ok((points, both)) => println!(rt; "points {} of both lines {}", points, both)?,
+        Err(why) => println!(rt; "{:?}", why)?,
+    }
+    Ok(())
+}
+
+/// The same of the ring, whose text is read.
 pub fn tell(rt: HostRuntime) -> Result<()> {
     let text = text(rt.alloc())?;
     if text.len() >= 1_000_000 {
         return Ok(());
     }
     match read_cert(rt.alloc(), text.as_bytes()) {
-        Ok(cert) => match check(image(rt.alloc())?, cert) {
-            Ok(accepted) => {
-                let (image, cert) = accepted.into_parts();
-                let cert = joined(rt.alloc(), &image, cert);
-                let points = cert.points.as_slice();
-                let both = points.iter().filter(|point| is_joined(point)).count();
-                println!(rt; "points {} of both lines {}", points.len(), both)?;
-            }
-            Err(refused) => println!(rt; "{:?}", refused.why)?,
-        },
-        Err(error) => println!(rt; "line {} {:?}", error.line, error.why)?,
+        Ok(cert) => tell_joined(rt, cert),
+        Err(error) => {
+            println!(rt; "line {} {:?}", error.line, error.why)?;
+            Ok(())
+        }
     }
-    Ok(())
 }

@@ -81,7 +81,7 @@ fn program(alloc: Global, fall: u16) -> Result<Program, AllocError>
 }
 
 /// What a search comes to.
-#[derive(Clone, Copy, Debug, PartialEq)]
+#[derive(Debug, Drop)]
 enum Answer {
     /// So many instances, with what is shown at the clocks 1, 2 and 3.
     Found(usize, Option<EventKind>, Option<EventKind>, Option<EventKind>),

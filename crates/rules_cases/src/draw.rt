@@ -2,103 +2,13 @@
 
 ghost use Rattle.std.specs.Prelude.{◌≡◌, ◌<◌, ◌≤◌};
 
-use crate::random::Random;
 use arrayvec::ArrayVec;
+use drawn_numbers::{ROWS, Random, place};
 use uz_range::hull;
 use uz_schedule::{Bit, Cell, Head, Instance, Kind, Owner, Response, Span, Val, Wide, tracks};
 
-/// Each line of the instruction table: its fixed bits, and the bits of its fields.
-const ROWS: [(u16, u16); 82] = [
-    (0x0000, 0x0),
-    (0x0100, 0xFF),
-    (0x0200, 0xFF),
-    (0x0300, 0x77),
-    (0x0308, 0x77),
-    (0x0380, 0x77),
-    (0x0388, 0x77),
-    (0x0400, 0x3FF),
-    (0x0800, 0x3FF),
-    (0x0C00, 0x3FF),
-    (0x1000, 0x3FF),
-    (0x1400, 0x3FF),
-    (0x1800, 0x3FF),
-    (0x1C00, 0x3FF),
-    (0x2000, 0x3FF),
-    (0x2400, 0x3FF),
-    (0x2800, 0x3FF),
-    (0x2C00, 0x3FF),
-    (0x3000, 0xFFF),
-    (0x4000, 0xFFF),
-    (0x5000, 0xFFF),
-    (0x6000, 0xFFF),
-    (0x7000, 0xFFF),
-    (0xE000, 0xFFF),
-    (0x8000, 0x2DFF),
-    (0x8200, 0x2DFF),
-    (0x9000, 0x1F0),
-    (0x9001, 0x1F0),
-    (0x9002, 0x1F0),
-    (0x9009, 0x1F0),
-    (0x900A, 0x1F0),
-    (0x900C, 0x1F0),
-    (0x900D, 0x1F0),
-    (0x900E, 0x1F0),
-    (0x9004, 0x1F0),
-    (0x9005, 0x1F0),
-    (0x95C8, 0x0),
-    (0x900F, 0x1F0),
-    (0x9200, 0x1F0),
-    (0x9201, 0x1F0),
-    (0x9202, 0x1F0),
-    (0x9209, 0x1F0),
-    (0x920A, 0x1F0),
-    (0x920C, 0x1F0),
-    (0x920D, 0x1F0),
-    (0x920E, 0x1F0),
-    (0x920F, 0x1F0),
-    (0x9400, 0x1F0),
-    (0x9401, 0x1F0),
-    (0x9402, 0x1F0),
-    (0x9403, 0x1F0),
-    (0x940A, 0x1F0),
-    (0x9405, 0x1F0),
-    (0x9406, 0x1F0),
-    (0x9407, 0x1F0),
-    (0x9408, 0x70),
-    (0x9488, 0x70),
-    (0x9409, 0x0),
-    (0x9509, 0x0),
-    (0x9508, 0x0),
-    (0x9518, 0x0),
-    (0x95E8, 0x0),
-    (0x940C, 0x0),
-    (0x940E, 0x0),
-    (0x9600, 0xFF),
-    (0x9700, 0xFF),
-    (0x9800, 0xFF),
-    (0x9A00, 0xFF),
-    (0x9900, 0xFF),
-    (0x9B00, 0xFF),
-    (0xB000, 0x7FF),
-    (0xB800, 0x7FF),
-    (0xC000, 0xFFF),
-    (0xD000, 0xFFF),
-    (0xF000, 0x3FF),
-    (0xF400, 0x3FF),
-    (0xF800, 0x1F7),
-    (0xFA00, 0x1F7),
-    (0xFC00, 0x1F7),
-    (0xFE00, 0x1F7),
-    (0x9C00, 0x3FF),
-    (0x9588, 0x0),
-];
-
-/// Data addresses that the rules speak of.
-const PLACES: [u16; 34] = [
-    0x20, 0x21, 0x22, 0x23, 0x24, 0x25, 0x26, 0x27, 0x28, 0x2A, 0x36, 0x5D, 0x5E, 0x5F, 0x6F, 0x80,
-    0x81, 0x84, 0x85, 0x88, 0x89, 0xB3, 0x40, 0x1F, 0x100, 0x101, 0x102, 0x103, 0x200, 0xFFF,
-    0x1000, 0x10FF, 0x1100, 0x0FFE,
-];
+/// How many rows of the instruction table are drawn: all but BREAK and WDR, which the expected sums don't have.
+const DRAWN_ROWS: u32 = 82;
 
 /// A range of bytes between two.
 fn between(a: u8, b: u8) -> Span {
@@ -154,11 +64,11 @@ pub fn header() -> Head
 /// The words at the pc.
 pub fn words(random: &mut Random) -> [u16; 3] {
     let is_row = random.below(4) > 0;
-    let (fixed, fields) = ROWS[random.below(82) as usize];
+    let (fixed, fields) = ROWS[random.below(DRAWN_ROWS) as usize];
     let any = random.word();
     let first = if is_row { fixed | (any & fields) } else { any };
     let is_place = random.below(3) > 0;
-    let place = PLACES[random.below(34) as usize];
+    let place = place(random);
     let any = random.word();
     let second = if is_place { place } else { any };
     [first, second, random.word()]
@@ -191,7 +101,7 @@ fn span_of(value: &Val) -> Span {
 fn pair(random: &mut Random, low: &Val, high: &Val) -> Wide {
     let form = random.below(4);
     let a = random.word();
-    let place = PLACES[random.below(34) as usize];
+    let place = place(random);
     let more = random.below(24) as u16;
     match form {
         0 => hull(span_of(low), span_of(high)),
@@ -257,7 +167,7 @@ fn cells(random: &mut Random, head: &Head, kind: Kind) -> ArrayVec<Span, 16> {
 
 /// Where an instance stands.
 #[derive(Drop)]
-struct Place {
+struct Standing {
     pc: u16,
     line: u16,
     clock: u16,
@@ -266,7 +176,7 @@ struct Place {
 }
 
 /// Draws where an instance stands. Main has line and clock 0, and only a handler has a match that waits.
-fn draw_place(random: &mut Random, kind: Kind) -> Place
+fn draw_place(random: &mut Random, kind: Kind) -> Standing
     ensures line { result.line < 3 }
     ensures clock { result.clock < 1820 }
 {
@@ -280,7 +190,7 @@ fn draw_place(random: &mut Random, kind: Kind) -> Place
     let level = random.below(2) as u8;
     let waits = random.below(2) == 1;
     let is_main = kind == Kind::Main;
-    Place {
+    Standing {
         pc,
         line: if is_main { 0 } else { line },
         clock: if is_main { 0 } else { clock },

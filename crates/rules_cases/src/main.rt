@@ -7,13 +7,12 @@
 ghost use Rattle.std.specs.Prelude.{◌≡◌, ◌<◌};
 
 mod draw;
-mod random;
 mod report;
 mod sum;
 mod table;
 
 use anyhow::Result;
-use random::Random;
+use drawn_numbers::Random;
 use sum::Sum;
 use table::{Table, set_word};
 use uz_hex::Image;

@@ -19,20 +19,24 @@ pub fn tell_reason(rt: &HostRuntime, answer: std::result::Result<(), Fail>) -> R
 
 /// Tells a range of bytes.
 fn tell_span(rt: &HostRuntime, span: &Span) -> Result<()> {
-    match (span.lo(), span.hi()) {
-        (0, 255) => print!(rt; "*")?,
-        (lo, hi) if lo == hi => print!(rt; "{}", lo)?,
-        (lo, hi) => print!(rt; "{}..{}", lo, hi)?,
+    if span.lo() == span.hi() {
+        print!(rt; "{}", span.lo())?;
+    } else if span.lo() > 0 || span.hi() < 255 {
+        print!(rt; "{}..{}", span.lo(), span.hi())?;
+    } else {
+        print!(rt; "*")?;
     }
     Ok(())
 }
 
 /// Tells a range of numbers.
 fn tell_wide(rt: &HostRuntime, wide: &Wide) -> Result<()> {
-    match (wide.lo(), wide.hi()) {
-        (0, 65535) => print!(rt; "*")?,
-        (lo, hi) if lo == hi => print!(rt; "{}", lo)?,
-        (lo, hi) => print!(rt; "{}..{}", lo, hi)?,
+    if wide.lo() == wide.hi() {
+        print!(rt; "{}", wide.lo())?;
+    } else if wide.lo() > 0 || wide.hi() < 65535 {
+        print!(rt; "{}..{}", wide.lo(), wide.hi())?;
+    } else {
+        print!(rt; "*")?;
     }
     Ok(())
 }
@@ -57,16 +61,35 @@ fn flag_word(bit: Bit) -> &'static str {
     }
 }
 
+/// The word of an event.
+fn event_word(kind: EventKind) -> &'static str {
+    match kind {
+        EventKind::Sync(_) => "sync",
+        EventKind::Pixel => "pixel",
+        EventKind::Sound => "sound",
+        EventKind::Leave => "leave",
+    }
+}
+
+/// Tells an event, and how many clocks after the instruction's begin it comes.
+fn tell_event(rt: &HostRuntime, clocks: u8, kind: EventKind) -> Result<()> {
+    print!(rt; "{}", event_word(kind))?;
+    if let EventKind::Sync(level) = kind {
+        print!(rt; " {}", level)?;
+    }
+    print!(rt; " after {}", clocks)?;
+    Ok(())
+}
+
 /// Tells what is emitted.
 fn tell_emission(rt: &HostRuntime, emitted: Option<(u8, EventKind)>) -> Result<()> {
     match emitted {
-        None => print!(rt; "nothing")?,
-        Some((clocks, EventKind::Sync(level))) => print!(rt; "sync {} after {}", level, clocks)?,
-        Some((clocks, EventKind::Pixel)) => print!(rt; "pixel after {}", clocks)?,
-        Some((clocks, EventKind::Sound)) => print!(rt; "sound after {}", clocks)?,
-        Some((clocks, EventKind::Leave)) => print!(rt; "leave after {}", clocks)?,
+        Some((clocks, kind)) => tell_event(rt, clocks, kind),
+        None => {
+            print!(rt; "nothing")?;
+            Ok(())
+        }
     }
-    Ok(())
 }
 
 /// Tells where a result stands.
@@ -127,8 +150,8 @@ fn tell_stack(rt: &HostRuntime, old: &[Val], new: &[Val]) -> Result<()> {
 
 /// Tells tracked cells that are known otherwise than before, by their place among those of the kind.
 fn tell_cells(rt: &HostRuntime, old: &[Span], new: &[Span]) -> Result<()> {
-    for (j, (before, after)) in old.iter().zip(new).enumerate() {
-        if before != after {
+    for (j, after) in new.iter().enumerate() {
+        if old.get(j) != Some(after) {
             print!(rt; " m{}=", j)?;
             tell_span(rt, after)?;
         }

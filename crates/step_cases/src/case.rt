@@ -4,7 +4,7 @@ use arrayvec::ArrayVec;
 use uz_schedule::Instance;
 
 /// The registers, and the flags C, Z, N, V, S, H and T from bit 0 on.
-#[derive(Clone, Copy)]
+#[derive(Drop)]
 pub struct Core {
     /// R0 to R31.
     pub regs: [u8; 32],

@@ -14,7 +14,7 @@ use uz_rules::inside;
 use uz_schedule::{Bit, EventKind, Head, Instance, Kind, Span, Val, Wide, tracks};
 
 /// What of a console isn't as it is known to be.
-#[derive(Clone, Copy, Debug, PartialEq, Eq)]
+#[derive(Clone, Copy, Debug)]
 pub enum Fault {
     /// The instance that says all of the console doesn't lie in the known one.
     Outside,

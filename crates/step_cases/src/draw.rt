@@ -3,9 +3,9 @@
 ghost use Rattle.std.specs.Prelude.{◌≡◌, ◌<◌, ◌≤◌};
 
 use crate::case::{Case, Core};
-use crate::random::Random;
 use crate::words::words;
 use arrayvec::ArrayVec;
+use drawn_numbers::{Random, place};
 use uz_range::hull;
 use uz_schedule::{Bit, Cell, Head, Instance, Kind, Owner, Response, Span, Val, Wide, tracks};
 
@@ -15,13 +15,6 @@ const CELLS: [(u16, Owner, u8, u8); 4] = [
     (0x102, Owner::Handler, 5, 20),
     (0x103, Owner::Handler, 0, 255),
     (0x200, Owner::Main, 7, 7),
-];
-
-/// Data addresses that the rules speak of.
-const PLACES: [u16; 34] = [
-    0x20, 0x21, 0x22, 0x23, 0x24, 0x25, 0x26, 0x27, 0x28, 0x2A, 0x36, 0x5D, 0x5E, 0x5F, 0x6F, 0x80,
-    0x81, 0x84, 0x85, 0x88, 0x89, 0xB3, 0x40, 0x1F, 0x100, 0x101, 0x102, 0x103, 0x200, 0xFFF,
-    0x1000, 0x10FF, 0x1100, 0x0FFE,
 ];
 
 /// Bytes at which rules change.
@@ -35,11 +28,6 @@ pub const LINES: u16 = 3;
 
 /// The least count of TCNT1 that a state of main has, so that its timer doesn't go round while it is prepared.
 const LEAST_COUNT: u16 = 40;
-
-/// A data address that the rules speak of.
-pub fn place(random: &mut Random) -> u16 {
-    PLACES[random.below(34) as usize]
-}
 
 /// The header of all instances.
 pub fn header() -> Head
@@ -266,7 +254,7 @@ fn cells(random: &mut Random, kind: Kind) -> ([u8; 4], ArrayVec<Span, 16>) {
 }
 
 /// Where an instance stands in its frame.
-#[derive(Clone, Copy)]
+#[derive(Drop)]
 struct Standing {
     line: u16,
     clock: u16,

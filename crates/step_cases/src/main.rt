@@ -10,7 +10,6 @@ mod case;
 mod compare;
 mod draw;
 mod program;
-mod random;
 mod tally;
 mod trial;
 mod words;
@@ -18,8 +17,8 @@ mod writer;
 
 use anyhow::Result;
 use case::Case;
+use drawn_numbers::Random;
 use program::{CASES, image_of, pc_of, starts};
-use random::Random;
 use tally::Tally;
 use trial::attempt;
 use uz_console::{Console, Response, SaveState};

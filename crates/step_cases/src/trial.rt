@@ -17,7 +17,7 @@ use uz_schedule::{Head, Instance, Kind};
 use uz_transfer::main_emits;
 
 /// How a trial ends.
-#[derive(Clone, Copy, Debug, PartialEq, Eq)]
+#[derive(Clone, Copy, Debug)]
 pub enum Trial {
     /// The instance is refused, so nothing is told of the turn.
     Refused,
