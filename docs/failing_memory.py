@@ -1,0 +1,128 @@
+#!/usr/bin/env python3
+"""Runs commands again and again, and lets one request for memory fail in each run: the first, the second, and so on.
+
+    failing_memory.py UZEBOX EXAMPLES
+
+UZEBOX is the built program, EXAMPLES the folder `examples/`. For each command, and each request that its run makes, one run
+in which that request fails; of a command with more than 400 the first and the last 100, and 100 between. It looks whether
+the status is that of want of memory, whether what is printed is a part of what the command prints otherwise, with the line
+`no memory` or a part of it after it, and whether each file that it writes is absent or a part of the whole one. Where the
+words of the command line can't be had, the answer is that of no words: the usage line. Prints a line for each command.
+Needs a C compiler (`cc`).
+"""
+import os
+import shutil
+import subprocess
+import sys
+import tempfile
+
+USAGE, NO_MEMORY = 1, 8
+
+SHIM = r'''
+#define _GNU_SOURCE
+#include <dlfcn.h>
+#include <stdlib.h>
+#include <stdio.h>
+static long count = -1, at;
+static int fails(void) {
+    if (count < 0) { const char *n = getenv("FAIL_AT"); at = n ? atol(n) : 0; count = 0; }
+    return ++count == at;
+}
+void *malloc(size_t n) {
+    static void *(*real)(size_t);
+    if (!real) real = (void *(*)(size_t))dlsym(RTLD_NEXT, "malloc");
+    return fails() ? NULL : real(n);
+}
+void *realloc(void *p, size_t n) {
+    static void *(*real)(void *, size_t);
+    if (!real) real = (void *(*)(void *, size_t))dlsym(RTLD_NEXT, "realloc");
+    return fails() ? NULL : real(p, n);
+}
+__attribute__((destructor)) static void told(void) {
+    const char *to = getenv("FAIL_COUNT");
+    if (to) { FILE *f = fopen(to, "w"); if (f) { fprintf(f, "%ld", count); fclose(f); } }
+}
+'''
+
+PREPARED = ['asm ring.asm ring.hex', 'asm pulse.asm pulse.hex']
+COMMANDS = [
+    'asm pulse.asm made.hex',
+    'dis pulse.hex',
+    'trace pulse.hex no-pads.txt 4 4000',
+    'expand examples/console-macros.asm made.asm',
+    'build examples/console-macros.asm made.hex',
+    'check pulse.hex pulse.cert',
+    'check ring.hex ring.cert',
+    'certify pulse.asm 4 made.hex made.cert',
+    'play pulse.hex pulse.cert no-pads.txt 4000 made.frames',
+    'debug pulse.hex no-pads.txt 4 script.txt',
+    'demo 0',
+    'nothing',
+]
+
+
+def run(program, shim, folder, words, fail_at):
+    count = os.path.join(folder, 'count')
+    env = dict(os.environ, LD_PRELOAD=shim, FAIL_AT=str(fail_at), FAIL_COUNT=count)
+    made = [w for w in words if w.startswith('made.')]
+    for name in made:
+        if os.path.exists(os.path.join(folder, name)):
+            os.remove(os.path.join(folder, name))
+    ran = subprocess.run([program, *words], cwd=folder, env=env, capture_output=True)
+    files = {}
+    for name in made:
+        path = os.path.join(folder, name)
+        files[name] = open(path, 'rb').read() if os.path.exists(path) else None
+    requests = int(open(count).read()) if os.path.exists(count) else 0
+    return ran.returncode, ran.stdout, files, requests
+
+
+def is_part_with_line(out, whole, line):
+    """A part of the whole, and then a part of the line."""
+    return any(whole.startswith(out[:k]) and line.startswith(out[k:]) for k in range(len(out) + 1))
+
+
+def chosen(requests):
+    if requests <= 400:
+        return list(range(1, requests + 1))
+    middle = [100 + k * (requests - 200) // 100 for k in range(1, 101)]
+    return sorted(set(range(1, 101)) | set(middle) | set(range(requests - 99, requests + 1)))
+
+
+def main():
+    program, examples = os.path.abspath(sys.argv[1]), sys.argv[2]
+    with tempfile.TemporaryDirectory() as folder:
+        shutil.copytree(examples, os.path.join(folder, 'examples'))
+        for name in os.listdir(examples):
+            shutil.copy(os.path.join(examples, name), folder)
+        with open(os.path.join(folder, 'script.txt'), 'w') as out:
+            out.write('step 50\nsave 0\nbreak 60\nrun 100\nback 5\nload 0\nshow\nmem 96 16\nclear 60\n')
+        source, shim = os.path.join(folder, 'shim.c'), os.path.join(folder, 'shim.so')
+        with open(source, 'w') as out:
+            out.write(SHIM)
+        subprocess.run(['cc', '-O2', '-shared', '-fPIC', '-o', shim, source, '-ldl'], check=True)
+        for line in PREPARED:
+            run(program, shim, folder, line.split(), 0)
+        wrong = 0
+        for line in COMMANDS:
+            status, whole, files, requests = run(program, shim, folder, line.split(), 0)
+            usage = run(program, shim, folder, [], 0)[1]
+            done = 0
+            statuses = {}
+            for at in chosen(requests):
+                got, out, made, _ = run(program, shim, folder, line.split(), at)
+                statuses[got] = statuses.get(got, 0) + 1
+                parts = all(v is None or (files[n] or b'').startswith(v) for n, v in made.items())
+                fine = is_part_with_line(out, whole, b'no memory\n') and parts and got in (NO_MEMORY, status)
+                fine = fine or (got == USAGE and out == usage)
+                if not fine:
+                    wrong += 1
+                    print('WRONG', line, 'request', at, 'status', got, out[-80:])
+                done += 1
+            said = ', '.join('status %d: %d' % s for s in sorted(statuses.items()))
+            print('%s: status %d; %d of %d requests failed in turn: %s' % (line, status, done, requests, said))
+        print('%d wrong' % wrong)
+
+
+if __name__ == '__main__':
+    main()
