@@ -3,16 +3,13 @@
 ghost use Rattle.std.specs.Prelude.{◌≡◌, ◌<◌, ◌≤◌, ◌^◌, false, IfOk, length, map};
 ghost use Rattle.avr_operands.specs.Operands.{AllLie, EachLies};
 ghost use Rattle.avr_asm.specs.declared.first_pass.Effect.TheVariants.{Take};
-ghost use Rattle.avr_asm.specs.Lines.{is_equals as is_equals_mark};
 ghost use Rattle.avr_asm.specs.Layout.{is_reserved as is_reserved_name, is_word as is_word_operand, is_start as is_start_shape, is_cell as is_cell_shape, if_shaped as effect_if_shaped, org_effect as org_effect_of, equ_effect as equ_effect_of, directive_effect as directive_effect_of, effect_of as effect_of_line, placed as placed_effect, IsWithin};
 
 use crate::directives::Directive;
-use crate::lines::{Action, is_name};
+use crate::lines::{Action, is_equals, is_name};
 use avr_operands::{AsmWhy, expression, find_pointer, name_of, number, register_number};
 use avr_text::{Symbols, Token, TokenKind};
-
-/// One after the last byte address.
-const FLASH_END: u32 = 65536;
+use uz_hex::FLASH_BYTES;
 
 /// What a line does to the addresses and symbols of the lines after it.
 #[derive(Clone, Copy)]
@@ -92,20 +89,11 @@ fn org_effect(line: &[u8], symbols: &Symbols, parts: &[&[Token]]) -> Result<Effe
     ensures within { IfOk result IsWithin }
 {
     match parts {
-        [to] => match number(0, i64::from(FLASH_END), line, symbols, to) {
+        [to] => match number(0, i64::from(FLASH_BYTES), line, symbols, to) {
             Ok(to) => Ok(Effect::Move(to as u32)),
             Err(why) => Err(why),
         },
         _ => Ok(Effect::Wrong),
-    }
-}
-
-fn is_equals(kind: TokenKind) -> bool
-    ensures { result ≡ is_equals_mark kind }
-{
-    match kind {
-        TokenKind::Mark(b'=') => true,
-        _ => false,
     }
 }
 
@@ -200,7 +188,7 @@ pub fn placed(effect: Effect, address: u32) -> Result<u32, AsmWhy>
         Effect::Move(to) => Ok(to),
         Effect::Wrong => Err(AsmWhy::Directive),
         Effect::Take { bytes, even } => {
-            if bytes > (FLASH_END - address) as usize {
+            if bytes > (FLASH_BYTES - address) as usize {
                 Err(AsmWhy::Past)
             } else if even && address % 2 != 0 {
                 Err(AsmWhy::Directive)

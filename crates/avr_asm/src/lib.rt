@@ -20,4 +20,5 @@ pub use laws::{
     source_or_fault,
 };
 pub use layout::predefined;
+pub use lines::{is_equals, is_name};
 pub use output::{Built, Hint, Placed};

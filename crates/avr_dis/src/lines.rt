@@ -9,11 +9,8 @@ use avr_decode::decode;
 use avr_table::words;
 use itoa::Buffer;
 use std::alloc::{AllocError, Global};
-use uz_hex::Image;
+use uz_hex::{FLASH_WORDS, Image};
 use uz_text::word_digits;
-
-/// How many words the flash has (ATmega644 data sheet: 64 KiB).
-const FLASH_WORDS: u16 = 32768;
 
 /// The listing of a flash image: a line for each word of which a byte is present, in order.
 ///

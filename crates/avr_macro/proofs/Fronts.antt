@@ -2,7 +2,8 @@
 use Rattle.std.proofs.Common.{◌≡◌, ℕ, ◌-◌, Bool, true, false, cond, List, [], ◌∷◌, ◌++◌, length, take, reverse, refl, sym, ◌∙◌, ap, arith}
 use Rattle.std.proofs.lemmas.List.{length-append, reverse-append, reverse-reverse}
 use Rattle.std.proofs.Math.Seq.{take-append_seam}
-use Rattle.avr_text.specs.Characters.{is_blank, is_word}
+use Rattle.uz_text.specs.Lines.{is_blank}
+use Rattle.avr_text.specs.Characters.{is_word}
 use Rattle.avr_macro.specs.Lines.{after_blanks, after_word, word_of}
 use Rattle.std.specs.Prelude.{◌==◌}
 use Rattle.avr_macro.specs.Arguments.{before_comment}

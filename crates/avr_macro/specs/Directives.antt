@@ -1,7 +1,8 @@
 -- What a line is, by the words at its front.
 use Rattle.std.specs.Prelude.{ℕ, ◌==◌, ◌&&◌, ◌||◌, Bool, true, List, [], ◌∷◌, codes, Option, Some, None, slice_index, if◌then◌else◌}
 use Prim.Native.Char.{code}
-use Rattle.avr_text.specs.Characters.{is_blank, begins_name}
+use Rattle.uz_text.specs.Lines.{is_blank}
+use Rattle.avr_text.specs.Characters.{begins_name}
 use Rattle.avr_text.specs.Words.{is_word_named}
 use Rattle.avr_macro.specs.declared.directives.Word.{Word}
 use Rattle.avr_macro.specs.declared.directives.Word.TheVariants.{Macro, EndMacro, Repeat, EndRepeat, If, Else, EndIf, Include, Constant}

@@ -1,11 +1,9 @@
 -- The lines of a file, and the blanks and words at the front of a line.
 use Rattle.std.specs.Prelude.{ℕ, ◌-◌, ◌==◌, Bool, true, List, [], ◌∷◌, ◌++◌, length, take, reverse, slice_index, if◌then◌else◌}
+use Rattle.std.specs.Str.Lines.{strip_carriage_return}
 use Prim.Native.Char.{code}
-use Rattle.avr_text.specs.Characters.{is_blank, is_word}
-
--- the CR of CRLF belongs to the line's end
-abbrev pub without_return : List ℕ → List ℕ
-without_return line = if slice_index line (length line - 1) == code "\r" then take (length line - 1) line else line
+use Rattle.uz_text.specs.Lines.{is_blank}
+use Rattle.avr_text.specs.Characters.{is_word}
 
 -- a last line may lack its LF; where nothing stands after the last LF, no line does
 abbrev pub last_line : List ℕ → List (List ℕ)
@@ -15,7 +13,7 @@ last_line (b ∷ bs) = (b ∷ bs) ∷ []
 -- the lines of a text whose first line began before it
 abbrev pub lines_from : List ℕ → List ℕ → List (List ℕ)
 lines_from begun [] = last_line begun
-lines_from begun (b ∷ bs) = if b == code "\n" then without_return begun ∷ lines_from [] bs else lines_from (begun ++ b ∷ []) bs
+lines_from begun (b ∷ bs) = if b == code "\n" then strip_carriage_return begun ∷ lines_from [] bs else lines_from (begun ++ b ∷ []) bs
 
 -- lines end in LF or CRLF, and are told without their ends
 abbrev pub lines_of : List ℕ → List (List ℕ)

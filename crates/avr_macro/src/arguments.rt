@@ -11,7 +11,7 @@ ghost use Rattle.avr_macro.specs.Views.{lent};
 
 use crate::bodies::Macro;
 use crate::kept_lines::Lines;
-use crate::lines::{after_blanks, is_digit, trimmed};
+use crate::lines::{after_blanks, trimmed};
 use itoa::Buffer;
 use std::alloc::{AllocError, Global};
 

@@ -6,8 +6,8 @@ ghost use Rattle.std.specs.Option.{option_copied};
 ghost use Rattle.avr_macro.specs.Blocks.{same_word as same_word_of};
 ghost use Rattle.avr_macro.specs.Directives.{after_dot as after_dot_in, after_first_word as after_first_word_in, closes_well as closes_well_line, directive_of as directive_of_line, dot_word as dot_word_of, ends_word as ends_word_at, first_word as first_word_of, macro_name as macro_name_of, macro_name_at as macro_name_in, named_word as named_word_of, operands_of as operands_of_line};
 
-use crate::lines::{after_blanks, after_word, begins_name, is_bare, is_blank, word_of};
-use avr_text::is_word_named;
+use crate::lines::{after_blanks, after_word, is_bare, word_of};
+use avr_text::{begins_name, is_word_named};
 
 /// The directives of macros and blocks.
 #[derive(Clone, Copy)]

@@ -1,43 +1,17 @@
 //! The lines of a file, and the blanks and words at the front of a line.
 
 ghost use Rattle.std.specs.Prelude.{◌≡◌, ◌≤◌, IfOk, length, reverse};
-ghost use Rattle.avr_text.specs.Characters.{is_blank as is_blank_byte, is_digit as is_digit_byte, begins_name as begins_name_byte, is_word as is_word_byte};
-ghost use Rattle.avr_macro.specs.Lines.{after_blanks as after_blanks_in, after_word as after_word_in, begins_comment as begins_comment_at, is_bare as is_bare_text, lines_of as lines_of_text, trimmed as trimmed_text, without_return as without_return_in, word_of as word_of_text};
+ghost use Rattle.std.specs.Str.Lines.{strip_carriage_return};
+ghost use Rattle.avr_macro.specs.Lines.{after_blanks as after_blanks_in, after_word as after_word_in, begins_comment as begins_comment_at, is_bare as is_bare_text, lines_of as lines_of_text, trimmed as trimmed_text, word_of as word_of_text};
 
 use crate::kept_lines::Lines;
+use avr_text::is_word;
 use std::alloc::{AllocError, Global};
-
-/// A space or a tab.
-pub(crate) fn is_blank(byte: u8) -> bool
-    ensures { result ≡ is_blank_byte byte }
-{
-    byte == b' ' || byte == b'\t'
-}
-
-/// A decimal digit.
-pub(crate) fn is_digit(byte: u8) -> bool
-    ensures { result ≡ is_digit_byte byte }
-{
-    byte >= b'0' && byte <= b'9'
-}
-
-/// A letter or `_`.
-pub(crate) fn begins_name(byte: u8) -> bool
-    ensures { result ≡ begins_name_byte byte }
-{
-    (byte >= b'A' && byte <= b'Z') || (byte >= b'a' && byte <= b'z') || byte == b'_'
-}
-
-/// A letter, a digit or `_`.
-pub(crate) fn is_word(byte: u8) -> bool
-    ensures { result ≡ is_word_byte byte }
-{
-    begins_name(byte) || is_digit(byte)
-}
+use uz_text::is_blank;
 
 /// A line that ended in LF, without the CR right before it.
 fn cut_return(line: &mut Vec<u8>)
-    ensures { line.new.items ≡ without_return_in line.old.items }
+    ensures { line.new.items ≡ strip_carriage_return line.old.items }
 {
     let len = line.len();
     if len > 0 && line[len - 1] == b'\r' {

@@ -3,10 +3,10 @@
 ghost use Rattle.std.specs.Prelude.{◌≡◌, All, IfOk, IfSome, length};
 ghost use Rattle.std.specs.Option.{option_map};
 ghost use Rattle.avr_text.specs.Tokens.{Lies, tokens_of as tokens_of_text};
-ghost use Rattle.avr_asm.specs.Lines.{is_name as is_name_token, is_equals as is_equals_mark};
 ghost use Rattle.avr_macro.specs.Values.{cut_tokens, set_to as set_to_value, setting_of as setting_of_text, text_value as value_of_text, tokens_setting as setting_of_tokens, tokens_value as value_of_tokens};
 ghost use Rattle.avr_macro.specs.Views.{seen_setting};
 
+use avr_asm::{is_equals, is_name};
 use avr_text::{LexWhy, Symbols, Token, TokenKind, lex, text_of, value};
 use std::alloc::{AllocError, Global};
 
@@ -55,24 +55,6 @@ pub(crate) fn text_value(
 pub(crate) struct Setting {
     pub name: Vec<u8>,
     pub value: i64,
-}
-
-fn is_name(kind: TokenKind) -> bool
-    ensures { result ≡ is_name_token kind }
-{
-    match kind {
-        TokenKind::Name => true,
-        _ => false,
-    }
-}
-
-fn is_equals(kind: TokenKind) -> bool
-    ensures { result ≡ is_equals_mark kind }
-{
-    match kind {
-        TokenKind::Mark(b'=') => true,
-        _ => false,
-    }
 }
 
 /// A name with its value, where it has one.

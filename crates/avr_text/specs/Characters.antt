@@ -2,10 +2,6 @@
 use Rattle.std.specs.Prelude.{ℕ, ◌==◌, ◌&&◌, ◌||◌, not, nat_le, Bool}
 use Prim.Native.Char.{code}
 
--- a space or a tab
-abbrev pub is_blank : ℕ → Bool
-is_blank b = b == code " " || b == code "\t"
-
 -- from 0 to 9
 abbrev pub is_digit : ℕ → Bool
 is_digit b = nat_le (code "0") b && nat_le b (code "9")

@@ -15,6 +15,7 @@ mod values;
 mod waiting;
 mod words;
 
+pub use characters::{begins_name, is_digit, is_word};
 pub use laws::{expression_is_unique, tokens_are_exact, value_is_kept};
 pub use lexer::lex;
 pub use reader::text_of;

@@ -5,9 +5,10 @@ ghost use Rattle.avr_text.specs.Characters.{is_word as is_word_byte, goes_on_lin
 ghost use Rattle.std.specs.List.{prefix_len};
 ghost use Rattle.avr_text.specs.Pieces.{second as second_byte, word_piece as word_piece_of, other_piece as other_piece_of, piece_at as piece_at_front, piece_len};
 
-use crate::characters::{goes_on_line, is_blank, is_digit, is_mark, is_word};
+use crate::characters::{goes_on_line, is_digit, is_mark, is_word};
 use crate::numbers::number_of;
 use crate::tokens::{LexWhy, TokenKind};
+use uz_text::is_blank;
 
 /// What stands at the front of a text, with its length in bytes.
 #[derive(Clone, Copy)]

@@ -10,12 +10,9 @@ ghost use Rattle.uz_machine.specs.OperandRanges.{EffectFits, SkipTestFits, JumpT
 use crate::arithmetic::mul16;
 use crate::operation::{I, T, add_to_pair, binary, bit_is_set, unary, with_bit};
 use crate::{Cpu, Data};
-use uz_hex::Image;
+use uz_hex::{ERASED, Image};
 use uz_machine::address::is_core_address;
 use uz_machine::{AddressMode, BinaryOp, JumpTarget, Operand, SkipTest, UnaryOp};
-
-/// What LPM reads where the flash holds no byte.
-const ERASED: u8 = 255;
 
 impl Cpu {
     /// Reads a byte of the whole data space. The core's own addresses don't reach `space`.

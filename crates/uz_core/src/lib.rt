@@ -19,6 +19,7 @@ pub use arithmetic::{
 pub use cpu::Cpu;
 pub use data::Data;
 pub use effects::effect;
+pub use operation::with_bit;
 pub use program::Program;
 pub use step::{Step, Why};
 pub use uz_machine::Flags;

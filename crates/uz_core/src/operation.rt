@@ -25,7 +25,8 @@ pub(crate) fn bit_is_set(n: u8, k: u8) -> bool
     n >> k & 1 == 1
 }
 
-pub(crate) fn with_bit(k: u8, set: bool, n: u8) -> u8
+/// A byte with bit `k` (0 to 7) set, or cleared.
+pub fn with_bit(k: u8, set: bool, n: u8) -> u8
     requires { k < 8 }
     ensures { result ≡ with_bit k set n }
 {

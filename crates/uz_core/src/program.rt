@@ -6,10 +6,7 @@ ghost use Rattle.uz_core.specs.Programs.{AreReadings, IsReading};
 use crate::decoded::Reading;
 use std::alloc::{AllocError, Global};
 use std::marker::Model;
-use uz_hex::Image;
-
-/// How many words the flash has (ATmega644 data sheet: 32 Ki words).
-const FLASH_WORDS: u16 = 32768;
+use uz_hex::{FLASH_WORDS, Image};
 
 /// The flash of an image, with the instruction that is read at each of its 32,768 words. Contracts see the image: a finite map from
 /// byte addresses to bytes. It can't change, since SPM stops (this project's profile).

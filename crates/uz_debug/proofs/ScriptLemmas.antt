@@ -7,33 +7,13 @@ use Rattle.std.proofs.lemmas.List.{length-append, length-map, length-take-le, ta
 use Rattle.std.proofs.lemmas.List.Elements.{All-append, All-nil, All-cons, filter-append}
 use Rattle.std.proofs.Math.Seq.{take-suc}
 use Rattle.std.proofs.Common.{drop-cons}
-use Rattle.uz_pads.specs.Lines.{without_cr, line_at, lines_of_pieces}
+use Rattle.uz_text.specs.Lines.{line_at, lines_of_pieces}
+use Rattle.uz_text.proofs.TextLines.{line_count, line_here, taken_more}
 use Rattle.uz_debug.specs.declared.command.Command.{Command}
 use Rattle.uz_debug.specs.declared.script_lines.Line.TheVariants as line
 use Rattle.uz_debug.specs.declared.errors.ScriptWhy.{ScriptWhy}
 use Rattle.uz_debug.specs.declared.errors.ScriptWhy.TheVariants.{Word, Count}
 use Rattle.uz_debug.specs.Scripts.{kind_in, kind_of, has_bytes, commands_of, commands_in, is_well_formed, IsScript, IsFault, IsFirstFault}
-
--- the lines are as many as the pieces, each at its place
-
-line_count : (pieces : List (List ℕ)) → length (lines_of_pieces pieces) ≡ length pieces
-line_count [] = refl
-line_count (last ∷ []) = refl
-line_count (piece ∷ next ∷ more) = ap suc (line_count (next ∷ more))
-
-one_on : (at n : ℕ) → nat_lt (suc at + 1) (suc n) ≡ nat_lt (at + 1) n
-one_on at n = grind (arith, nat_tests)
-
-line_here : (pieces : List (List ℕ)) (at : ℕ) → at < length pieces → get_or (lines_of_pieces pieces) at [] ≡ line_at pieces at
-line_here [] at h = absurd (omega arith)
-line_here (last ∷ []) zero h = refl
-line_here (last ∷ []) (suc at) h = absurd (omega arith)
-line_here (piece ∷ next ∷ more) zero h =
-    let more_come : nat_lt (0 + 1) (length (piece ∷ next ∷ more)) ≡ true = grind (arith, nat_tests) in
-    ap (λ b. if b then without_cr piece else piece) (sym more_come)
-line_here (piece ∷ next ∷ more) (suc at) h =
-    line_here (next ∷ more) at (omega arith) ∙
-    ap (λ b. if b then without_cr (get_or (next ∷ more) at []) else get_or (next ∷ more) at []) (sym (one_on at (length (next ∷ more))))
 
 -- commands and good lines of lists of lines
 
@@ -57,18 +37,6 @@ more_read earlier text commands more h e w few =
       few = subst (λ (xs : List Command). length xs ≤ 65536) (sym all) few;
       are = sym all;
     }
-
--- the lines before a place, and that line
-taken_more : (pieces : List (Bor (List ℕ))) (at : ℕ) → at < length pieces →
-    take (at + 1) (lines_of_pieces (map (λ piece. piece.now) pieces)) ≡
-    take at (lines_of_pieces (map (λ piece. piece.now) pieces)) ++ line_at (map (λ piece. piece.now) pieces) at ∷ []
-taken_more pieces at h =
-    let ps = map (λ (piece : Bor (List ℕ)). piece.now) pieces in
-    let fits : at < length ps = omega (arith, length-map pieces (λ (piece : Bor (List ℕ)). piece.now)) in
-    let one : at + 1 ≡ suc at = omega arith in
-    ap (λ n. take n (lines_of_pieces ps)) one ∙
-    (take-suc (lines_of_pieces ps) at [] (omega (arith, line_count ps)) ∙
-    ap (λ text. take at (lines_of_pieces ps) ++ text ∷ []) (line_here ps at fits))
 
 -- nothing is read of no lines
 pub read_none : (pieces : List (Bor (List ℕ))) → IsScript (take 0 (lines_of_pieces (map (λ piece. piece.now) pieces))) []

@@ -11,18 +11,15 @@ use Rattle.uz_debug.specs.declared.script_lines.Line.TheVariants as line
 use Rattle.uz_debug.specs.declared.errors.ScriptWhy.{ScriptWhy}
 use Rattle.uz_debug.specs.declared.errors.ScriptWhy.TheVariants.{Word, Number, Count, Memory}
 use Rattle.uz_debug.specs.Sessions.{IsInRange}
+use Rattle.uz_text.specs.Lines.{is_blank}
 
 -- One line
-
--- a space or a tab
-abbrev pub is_gap : ℕ → Bool
-is_gap byte = byte == code " " || byte == code "\t"
 
 abbrev pub has_bytes : List ℕ → Bool
 has_bytes word = nat_lt 0 (length word)
 
 abbrev pub words_of : List ℕ → List (List ℕ)
-words_of line = filter has_bytes (slice_split is_gap line)
+words_of line = filter has_bytes (slice_split is_blank line)
 
 abbrev pub turns_in : List ℕ → Option ℕ
 turns_in word = number_within 1 100000001 word

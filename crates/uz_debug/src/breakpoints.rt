@@ -5,9 +5,7 @@ ghost use Rattle.std.specs.FinSet as set;
 
 use std::alloc::{AllocError, Global};
 use std::marker::Model;
-
-/// How many words the flash has (ATmega644 data sheet: 32K words of 16 bits).
-const FLASH_WORDS: usize = 32768;
+use uz_hex::FLASH_WORDS;
 
 /// How many breakpoints there may be.
 const MOST: u8 = 64;
@@ -41,7 +39,7 @@ impl Breakpoints {
         ensures { IfOk result (λ breakpoints. breakpoints ≡ set.empty) }
     {
         Ok(Breakpoints {
-            marks: vec![in alloc; false; FLASH_WORDS]?,
+            marks: vec![in alloc; false; FLASH_WORDS as usize]?,
             count: 0,
         })
     }

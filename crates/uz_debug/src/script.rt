@@ -1,8 +1,7 @@
 //! Reading a script.
 
 ghost use Rattle.std.specs.Prelude.{◌≡◌, ◌<◌, ◌-◌, ◌^◌, ◌⊎◌, ◌==◌, ◌≤◌, ◌+◌, ℕ, List, All, IfOk, IfErr, length, map};
-ghost use Rattle.std.specs.List.{slice_split};
-ghost use Rattle.uz_pads.specs.Lines.{line_at, lines_of, lines_of_pieces};
+ghost use Rattle.uz_text.specs.Lines.{lines_of, lines_of_pieces};
 ghost use Rattle.uz_debug.specs.Scripts.{IsFirstFault, IsLineInRange, IsScript, kind_of};
 ghost use Rattle.uz_debug.specs.Sessions.{IsInRange};
 ghost use Rattle.uz_debug.specs.declared.command.Command.{Command};
@@ -11,31 +10,12 @@ ghost use Rattle.uz_debug.specs.declared.errors.ScriptWhy.TheVariants.{Memory};
 
 use crate::command::Command;
 use crate::errors::{ScriptError, ScriptWhy};
-use crate::script_lines::{Line, line_kind, without_cr, words};
+use crate::script_lines::{Line, line_kind, words};
 use std::alloc::{AllocError, Global};
+use uz_text::{line_at, pieces};
 
 /// The greatest number of commands in a script.
 const MOST_COMMANDS: usize = 65_536;
-
-/// The pieces of a text between LF bytes.
-fn pieces(alloc: Global, text: &[u8]) -> Result<Vec<&[u8]>, AllocError>
-    ensures pieces { IfOk result (λ v. map (λ x. x.now) v.items ≡ slice_split (λ b. b == 10) text.now) }
-    ensures count { IfOk result (λ v. length v.items ≤ length text.now + 1) }
-{
-    text.split(|byte| *byte == b'\n').collect(alloc)
-}
-
-/// The line at a place among the pieces: a CR before the LF is no part of it.
-fn line_at<'a>(pieces: &[&'a [u8]], at: usize) -> &'a [u8]
-    requires { at < length pieces.now }
-    ensures { result.now ≡ line_at (map (λ piece. piece.now) pieces.now) at }
-{
-    if at + 1 < pieces.len() {
-        without_cr(pieces[at])
-    } else {
-        pieces[at]
-    }
-}
 
 /// What a line is.
 fn kind(alloc: Global, line: &[u8]) -> Result<Line, AllocError>

@@ -2,15 +2,15 @@
 
 ghost use Rattle.std.specs.Prelude.{◌≡◌, ◌≤◌, ◌<◌, IfOk, IfSome, map, option_map};
 ghost use Rattle.std.specs.List.{slice_split};
-ghost use Rattle.uz_pads.specs.Lines.{without_cr as without_cr_of};
-ghost use Rattle.uz_debug.specs.Scripts.{is_gap, kind_in, line_in, mem_in, one_number_in, one_word_in, slot_in, two_numbers_in, turns_in, address_in, words_of, IsLineInRange};
+ghost use Rattle.uz_text.specs.Lines.{is_blank as is_blank_byte};
+ghost use Rattle.uz_debug.specs.Scripts.{kind_in, line_in, mem_in, one_number_in, one_word_in, slot_in, two_numbers_in, turns_in, address_in, words_of, IsLineInRange};
 ghost use Rattle.uz_debug.specs.Sessions.{IsInRange};
 ghost use Rattle.uz_debug.specs.declared.command.Command.TheVariants.{Step, Run, Back, Break, Clear, Save, Load};
 
 use crate::command::Command;
 use crate::errors::ScriptWhy;
 use std::alloc::{AllocError, Global};
-use uz_text::{number_within, short_number};
+use uz_text::{is_blank, number_within, short_number};
 
 /// What a line of a script is.
 #[derive(Clone, Copy)]
@@ -187,9 +187,9 @@ pub(crate) fn line_kind(words: &[&[u8]]) -> Line
 
 /// The pieces of a line between blanks.
 fn between_blanks(alloc: Global, line: &[u8]) -> Result<Vec<&[u8]>, AllocError>
-    ensures { IfOk result (λ v. map (λ x. x.now) v.items ≡ slice_split is_gap line.now) }
+    ensures { IfOk result (λ v. map (λ x. x.now) v.items ≡ slice_split is_blank_byte line.now) }
 {
-    line.split(|byte| *byte == b' ' || *byte == b'\t')
+    line.split(|byte| is_blank(*byte))
         .collect(alloc)
 }
 
@@ -205,14 +205,4 @@ pub(crate) fn words(alloc: Global, line: &[u8]) -> Result<Vec<&[u8]>, AllocError
         }
     }
     Ok(words)
-}
-
-/// A line that LF ends, without its CR.
-pub(crate) fn without_cr(piece: &[u8]) -> &[u8]
-    ensures { result.now ≡ without_cr_of piece.now }
-{
-    match piece {
-        [front @ .., b'\r'] => front,
-        _ => piece,
-    }
 }

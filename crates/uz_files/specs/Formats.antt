@@ -7,7 +7,8 @@ use Rattle.uz_cert.specs.Texts.{IsCertificateText, IsFirstFault as IsCertificate
 use Rattle.uz_hex.specs.HexText.{IsHexOf, IsFirstFault as IsHexFault}
 use Rattle.uz_hex.specs.WhyNames.{hex_why_name}
 use Rattle.uz_lines.specs.WhyNames.{cert_why_name}
-use Rattle.uz_pads.specs.Lines.{IsFirstFault as IsPadFault, IsRead, lines_of}
+use Rattle.uz_text.specs.Lines.{lines_of}
+use Rattle.uz_pads.specs.Lines.{IsFirstFault as IsPadFault, IsRead}
 use Rattle.uz_pads.specs.WhyNames.{pad_why_name}
 use Rattle.uz_pads.specs.declared.errors.PadWhy.{PadWhy}
 use Rattle.uz_pads.specs.declared.pads.Pad.{Pad}

@@ -17,12 +17,13 @@ use Rattle.hex.proofs.OnLiterals.{hex_on_literals}
 use Rattle.uz_hex.specs.Cells.{IsFlash}
 use Rattle.uz_hex.specs.Records.{Record, code_of, HasLength, record_bytes, Spells, given, given_by, base_after, base_by, value_of, numbered}
 use Rattle.uz_hex.specs.Records.{placed, Gives}
-use Rattle.uz_hex.specs.HexText.{is_blank, trimmed, cleaned, lines_of, Spelled, Holds, IsHexOf}
+use Rattle.uz_hex.specs.HexText.{trimmed, cleaned, lines_of, Spelled, Holds, IsHexOf}
 use Rattle.uz_hex.specs.Writing.{IsDataRecord, records_of, checksum_of, line_of, with_lf, lines_text, hex_text}
 use Rattle.uz_hex.specs.declared.records.RecordType.TheVariants.{Data, EndOfFile}
 use Rattle.uz_hex.proofs.LineSteps.{parts_cons}
 use Rattle.uz_hex.proofs.PlaceLaws.{gives_left, gives_right, numbered_at, agree_held}
 use Rattle.uz_hex.proofs.CutLaws.{records_cut}
+use Rattle.uz_text.specs.Lines.{is_blank}
 
 -- ---- bytes
 

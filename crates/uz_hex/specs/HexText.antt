@@ -9,15 +9,12 @@ use Rattle.std.specs.Str.Lines.{strip_carriage_return}
 use Rattle.std.specs.Ordering.{nat_cmp}
 use Rattle.std.specs.FinMap.{FinMap, get}
 use Rattle.hex.specs.Hex.{decode_of, is_hex_digit}
+use Rattle.uz_text.specs.Lines.{is_blank}
 use Rattle.uz_hex.specs.Records.{Record, HasLength, code_of, Encodes, Spells, given, base_of, placed, Gives}
 use Rattle.uz_hex.specs.declared.records.RecordType.{RecordType}
 use Rattle.uz_hex.specs.declared.records.RecordType.TheVariants.{EndOfFile}
 use Rattle.uz_hex.specs.declared.errors.HexWhy.{HexWhy}
 use Rattle.uz_hex.specs.declared.errors.HexWhy.TheVariants as why
-
--- a space or a tab
-abbrev pub is_blank : ℕ → Bool
-is_blank c = (c == code " ") || (c == code "\t")
 
 -- a line without the blanks at its end
 abbrev pub trimmed : List ℕ → List ℕ

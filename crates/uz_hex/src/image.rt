@@ -8,10 +8,13 @@ use std::alloc::{AllocError, Global};
 use std::marker::Model;
 
 /// How many byte addresses the flash has (ATmega644 data sheet: 64 KiB).
-const FLASH_BYTES: usize = 65536;
+pub const FLASH_BYTES: u32 = 65536;
+
+/// How many word addresses the flash has: two bytes to each.
+pub const FLASH_WORDS: u16 = 32768;
 
 /// What an absent byte reads as: erased flash.
-const ERASED: u8 = 255;
+pub const ERASED: u8 = 255;
 
 /// The flash of an ATmega644, of which some bytes are present.
 ///
@@ -45,7 +48,7 @@ impl Image {
         ensures { IfOk result (λ image. image ≡ map.empty) }
     {
         Ok(Image {
-            cells: vec![in alloc; None; FLASH_BYTES]?,
+            cells: vec![in alloc; None; FLASH_BYTES as usize]?,
         })
     }
 

@@ -10,7 +10,7 @@ mod records;
 mod writing;
 
 pub use errors::{HexError, HexWhy};
-pub use image::Image;
+pub use image::{ERASED, FLASH_BYTES, FLASH_WORDS, Image};
 pub use laws::{hex_or_fault, reader_is_exact};
 pub use reading::read_hex;
 pub use records::{Progress, RecordType};

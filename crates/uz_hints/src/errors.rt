@@ -11,12 +11,9 @@ use crate::words::{
 use avr_asm::Hint;
 use avr_decode::decode;
 use avr_table::Instr;
-use uz_hex::Image;
+use uz_hex::{FLASH_WORDS, Image};
 use uz_schedule::{CLOCK_LIMIT, Kind, MOST_LINES, Response};
 use uz_transfer::word_after;
-
-/// The words of the flash.
-const FLASH_WORDS: u16 = 32768;
 
 /// The lowest and the highest address of RAM in the data space (ATmega644 data sheet).
 const RAM: (u16, u16) = (256, 4351);

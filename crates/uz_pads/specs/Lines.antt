@@ -1,11 +1,11 @@
 -- The text of a pad file: lines that end in LF or CRLF, each blank or a pair of words.
-use Rattle.std.specs.Prelude.{◌≡◌, ℕ, ◌+◌, ◌-◌, ◌*◌, ◌≤◌, Bool, true, false, ◌&&◌, ◌||◌, ◌==◌, if◌then◌else◌, nat_lt, List, [], ◌∷◌}
-use Rattle.std.specs.Prelude.{◌++◌, length, slice_index, take, Option, Some, None, Result, Ok}
+use Rattle.std.specs.Prelude.{◌≡◌, ℕ, ◌+◌, ◌*◌, ◌≤◌, Bool, true, false, ◌&&◌, ◌==◌, if◌then◌else◌, List, [], ◌∷◌}
+use Rattle.std.specs.Prelude.{◌++◌, length, Option, Some, None, Result, Ok}
 use Prim.Native.Char.{code}
-use Rattle.std.specs.List.{slice_split, All}
-use Rattle.std.specs.Prelude.{slice_index_or}
+use Rattle.std.specs.List.{All}
 use Rattle.hex.specs.Hex.{decode_of}
 use Rattle.hex.specs.declared.error.FromHexError.{FromHexError}
+use Rattle.uz_text.specs.Lines.{is_blank}
 use Rattle.uz_pads.specs.declared.pads.Pad.{Pad}
 use Rattle.uz_pads.specs.declared.lines.Line.{Line}
 use Rattle.uz_pads.specs.declared.lines.Line.TheVariants.{Blank, Pair, Faulty}
@@ -33,31 +33,16 @@ pair_in (a ∷ b ∷ c ∷ d ∷ space ∷ e ∷ f ∷ g ∷ h ∷ []) = if spac
 pair_in line = None
 
 -- nothing but spaces and tabs
-abbrev pub is_blank : List ℕ → Bool
-is_blank [] = true
-is_blank (byte ∷ bytes) = (byte == code " " || byte == code "\t") && is_blank bytes
+abbrev pub is_blank_line : List ℕ → Bool
+is_blank_line [] = true
+is_blank_line (byte ∷ bytes) = is_blank byte && is_blank_line bytes
 
 abbrev pub line_of_pair : Option Pad → Line
 line_of_pair (Some pad) = Pair pad
 line_of_pair None = Faulty
 
 abbrev pub kind_of : List ℕ → Line
-kind_of line = if is_blank line then Blank else line_of_pair (pair_in line)
-
--- The lines of a text
-
--- a line that LF ends, without its CR
-abbrev pub without_cr : List ℕ → List ℕ
-without_cr line = if nat_lt 0 (length line) && slice_index line (length line - 1) == code "\r" then take (length line - 1) line else line
-
--- a CR belongs to a line's end only where LF follows; the last line has no LF
-abbrev pub lines_of_pieces : List (List ℕ) → List (List ℕ)
-lines_of_pieces [] = []
-lines_of_pieces (last ∷ []) = last ∷ []
-lines_of_pieces (piece ∷ next ∷ more) = without_cr piece ∷ lines_of_pieces (next ∷ more)
-
-abbrev pub lines_of : List ℕ → List (List ℕ)
-lines_of text = lines_of_pieces (slice_split (λ byte. byte == code "\n") text)
+kind_of line = if is_blank_line line then Blank else line_of_pair (pair_in line)
 
 -- Many lines
 
@@ -96,7 +81,3 @@ pub record IsFirstFault (lines : List (List ℕ)) (number : ℕ) (why : PadWhy) 
   pub number_is : number ≡ length earlier + 1
   pub read : IsRead earlier (pads_in earlier)
   pub fault : IsFault (kind_of line) (length (pads_in earlier)) why
-
--- the line at a place among the pieces of a text
-abbrev pub line_at : List (List ℕ) → ℕ → List ℕ
-line_at pieces at = if nat_lt (at + 1) (length pieces) then without_cr (slice_index_or pieces at []) else slice_index_or pieces at []

@@ -1,28 +1,18 @@
 //! Reading a pad file.
 
 ghost use Rattle.std.specs.Prelude.{◌≡◌, ◌<◌, ◌-◌, ◌^◌, ◌⊎◌, IfOk, IfErr, length, map};
-ghost use Rattle.uz_pads.specs.Lines.{IsRead, IsFirstFault, line_at, lines_of, lines_of_pieces};
+ghost use Rattle.uz_text.specs.Lines.{lines_of, lines_of_pieces};
+ghost use Rattle.uz_pads.specs.Lines.{IsRead, IsFirstFault};
 ghost use Rattle.uz_pads.specs.declared.errors.PadWhy.TheVariants.{Memory};
 
 use crate::errors::{PadError, PadWhy};
-use crate::lines::{Line, line_kind, pieces, without_cr};
+use crate::lines::{Line, line_kind};
 use crate::pads::Pad;
 use std::alloc::Global;
+use uz_text::{line_at, pieces};
 
 /// The greatest number of pairs in a file.
 const MAX_PAIRS: usize = 65_536;
-
-/// The line at a place among the pieces: a CR before the LF is no part of it.
-fn line_at<'a>(pieces: &[&'a [u8]], at: usize) -> &'a [u8]
-    requires { at < length pieces.now }
-    ensures { result.now ≡ line_at (map (λ piece. piece.now) pieces.now) at }
-{
-    if at + 1 < pieces.len() {
-        without_cr(pieces[at])
-    } else {
-        pieces[at]
-    }
-}
 
 /// Reads the lines that pieces of a text are.
 #[tactic(auto, using(crate::proofs::LineLemmas::read_none, crate::proofs::LineLemmas::read_blank, crate::proofs::LineLemmas::read_pair, crate::proofs::LineLemmas::read_all, crate::proofs::LineLemmas::digits_fault, crate::proofs::LineLemmas::count_fault))]

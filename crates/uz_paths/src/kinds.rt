@@ -6,11 +6,8 @@ ghost use Rattle.uz_search.specs.Following.{line_start};
 ghost use Rattle.uz_paths.specs.Kinds.{noted as noted_event, event_here, line_events as events_of_marks, AreApart, IsScheduleOf};
 
 use std::alloc::{AllocError, Global};
-use uz_schedule::{Event, EventKind, LineEvents, Schedule, Sequence};
+use uz_schedule::{Event, EventKind, LineEvents, SCANLINE, Schedule, Sequence};
 use uz_search::Mark;
-
-/// The clocks of a scanline of NTSC, at 28.63636 MHz.
-const SCANLINE: u16 = 1820;
 
 /// What is noted of a position.
 fn noted(marks: &[Option<Mark>], position: usize) -> Option<EventKind>

@@ -6,6 +6,7 @@ ghost use Rattle.uz_range.specs.Containment.{IsWithin, MayBe, Admits};
 ghost use Rattle.uz_range.specs.Rules.{bld_answer, bst_answer};
 
 use crate::answer::{is_fixed, is_set, is_single};
+use uz_core::with_bit;
 use uz_schedule::{Bit, Span};
 
 /// A byte with one bit (0 to 7) set to T (BLD; AVR Instruction Set Manual): every byte, unless the byte and T are known.
@@ -32,20 +33,11 @@ fn bld_by_rule(a: Span, bit: u8, t: Bit) -> Span
     ensures { result ≡ bld_answer a bit t }
 {
     if is_single(&a) && is_fixed(t) {
-        let value = with_bit(a.lo(), bit, is_set(t));
+        let value = with_bit(bit, is_set(t), a.lo());
         Span::between(value, value)
     } else {
         Span::between(0, 255)
     }
-}
-
-/// A byte with one bit set anew.
-fn with_bit(v: u8, bit: u8, set: bool) -> u8
-    requires { bit < 8 }
-    ensures { result ≡ byte_with_bit bit set v }
-{
-    let place = 1u8 << bit;
-    if set { v | place } else { v & (255 - place) }
 }
 
 /// What [`bst`] answers.

@@ -1,55 +1,10 @@
 //! What a point's facts say of bytes and pairs at a line and a count, where its instance isn't made.
 
-ghost use Rattle.std.specs.Prelude.{◌≡◌, ◌<◌, ◌+◌, ◌*◌, ◌%◌, length, map};
-ghost use Rattle.uz_schedule.specs.Instances.{val_of as val_of_fact, span_of_val, cell_span, hull_at, pair_of, pairs_of};
+ghost use Rattle.std.specs.Prelude.{◌≡◌, ◌<◌, ◌+◌, length, map};
+ghost use Rattle.uz_schedule.specs.Instances.{val_of as val_of_fact, cell_span, hull_at, pair_of, pairs_of};
 ghost use Rattle.uz_transfer.specs.Values.{value_at, span_at};
 
-use uz_schedule::{Fact, PairFact, Span, Val, Wide, hull};
-
-/// Every byte.
-fn whole_byte() -> Span
-    ensures { result ≡ record { lo = 0; hi = 255 } }
-{
-    Span::between(0, 255)
-}
-
-/// `factor * n + offset`, modulo 256.
-fn byte_at(factor: u8, n: u16, offset: u8) -> u8
-    ensures { result ≡ (factor * n + offset) % 256 }
-{
-    ((u32::from(factor) * u32::from(n) + u32::from(offset)) % 256) as u8
-}
-
-/// `factor * n + offset`, modulo 65,536.
-fn word_at(factor: u16, n: u16, offset: u16) -> u16
-    ensures { result ≡ (factor * n + offset) % 65536 }
-{
-    ((u32::from(factor) * u32::from(n) + u32::from(offset)) % 65536) as u16
-}
-
-/// What a fact says of a byte at a line and a count.
-fn val_of(fact: &Fact, line: u16, count: u8) -> Val
-    ensures { result ≡ val_of_fact line count fact.now }
-{
-    match *fact {
-        Fact::Any => Val::Range(whole_byte()),
-        Fact::Between(span) => Val::Range(span),
-        Fact::Line(a, b) => Val::Range(Span::single(byte_at(a, line, b))),
-        Fact::Loop(a, b) => Val::Range(Span::single(byte_at(a, u16::from(count), b))),
-        Fact::Old(r) => Val::Old(r),
-        Fact::OldFlags => Val::OldFlags,
-    }
-}
-
-/// The values that a byte may have.
-fn span_of(val: &Val) -> Span
-    ensures { result ≡ span_of_val val.now }
-{
-    match *val {
-        Val::Range(span) => span,
-        _ => whole_byte(),
-    }
-}
+use uz_schedule::{Fact, PairFact, Span, Val, Wide, hull, span_of, val_of, word_at};
 
 /// What facts say of the byte at a place, at a line and a count.
 #[tactic(auto, using(crate::proofs::FactPlaces::value_of_fact))]

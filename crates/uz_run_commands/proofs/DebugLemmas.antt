@@ -5,7 +5,7 @@ use Rattle.uz_shelf.specs.Faults.{Rose}
 use Rattle.uz_shelf.specs.Files.{FileMap}
 use Rattle.uz_hex.specs.Reading.{Flash}
 use Rattle.uz_schedule.specs.declared.kinds.Response.{Response}
-use Rattle.uz_pads.specs.Lines.{lines_of}
+use Rattle.uz_text.specs.Lines.{lines_of}
 use Rattle.uz_pads.specs.declared.pads.Pad.{Pad}
 use Rattle.uz_machine.specs.PadLine.{PadHistory}
 use Rattle.uz_machine.specs.Turn.{State}

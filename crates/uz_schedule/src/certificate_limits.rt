@@ -14,15 +14,13 @@ use crate::limits::{CLOCK_LIMIT, rises as numbers_rise, schedule_fits};
 use crate::ranges::{Span, Wide};
 use crate::states::{Entry, Point, Rest};
 use crate::tracked::tracks;
+use uz_hex::FLASH_WORDS;
 
 /// The lowest and the highest address of RAM in the data space (ATmega644 data sheet).
 const RAM: (u16, u16) = (256, 4351);
 
 /// The most bytes that a kind may push.
 const MOST_SLOTS: u8 = 32;
-
-/// The words of the flash.
-const FLASH_WORDS: u16 = 32768;
 
 /// The most points.
 const MOST_POINTS: usize = 524288;

@@ -1,14 +1,15 @@
 //! What is known of the machine where a point stands, at one line and one count of its box; where runs enter; and where
 //! the handler's next run begins. Instances are made here alone.
 
-ghost use Rattle.std.specs.Prelude.{◌≡◌, ◌<◌, ◌≤◌, ◌+◌, ◌*◌, ◌%◌, ◌+ℤ◌, ◌*ℤ◌, pos, length, map};
+ghost use Rattle.std.specs.Prelude.{◌≡◌, ◌<◌, ◌≤◌, ◌+ℤ◌, ◌*ℤ◌, pos, length, map};
 ghost use Rattle.uz_schedule.specs.Ends.{hull as hull_of};
-ghost use Rattle.uz_schedule.specs.Instances.{val_of as val_of_fact, span_of_val, cell_span, hull_at, pair_of, pairs_of, is_in_box as box_holds, clock_below as below, clock_at as clock_at_count, instance_of as instance_of_point, instance_in, instance_at, level_or_zero as level_of_place, entry_instance, entry_instance_at, old_from, rest_instance, handler_entry as entry_of_handler};
+ghost use Rattle.uz_schedule.specs.Instances.{val_of as val_of_fact, cell_span, hull_at, pair_of, pairs_of, is_in_box as box_holds, clock_below as below, clock_at as clock_at_count, instance_of as instance_of_point, instance_in, instance_at, level_or_zero as level_of_place, entry_instance, entry_instance_at, old_from, rest_instance, handler_entry as entry_of_handler};
 ghost use Rattle.uz_schedule.specs.declared.facts.Val.TheVariants.{Range};
 ghost use Rattle.uz_schedule.specs.Limits.{ScheduleFits};
 ghost use Rattle.uz_schedule.specs.WellFormed.{WellFormed};
 
 use crate::certificate::Cert;
+use crate::fact_values::{span_of, val_of, word_at};
 use crate::facts::{Bit, Fact, PairFact, Val};
 use crate::kinds::Kind;
 use crate::lines::Schedule;
@@ -18,51 +19,6 @@ use arrayvec::ArrayVec;
 
 /// The word address of the vector of timer 1's compare match A (ATmega644 data sheet).
 const VECTOR: u16 = 26;
-
-/// Every byte.
-fn whole_byte() -> Span
-    ensures { result ≡ record { lo = 0; hi = 255 } }
-{
-    Span::between(0, 255)
-}
-
-/// `factor * n + offset`, modulo 256.
-fn byte_at(factor: u8, n: u16, offset: u8) -> u8
-    ensures { result ≡ (factor * n + offset) % 256 }
-{
-    ((u32::from(factor) * u32::from(n) + u32::from(offset)) % 256) as u8
-}
-
-/// `factor * n + offset`, modulo 65,536.
-fn word_at(factor: u16, n: u16, offset: u16) -> u16
-    ensures { result ≡ (factor * n + offset) % 65536 }
-{
-    ((u32::from(factor) * u32::from(n) + u32::from(offset)) % 65536) as u16
-}
-
-/// What a fact says of a byte at a line and a count.
-fn val_of(fact: &Fact, line: u16, count: u8) -> Val
-    ensures { result ≡ val_of_fact line count fact.now }
-{
-    match *fact {
-        Fact::Any => Val::Range(whole_byte()),
-        Fact::Between(span) => Val::Range(span),
-        Fact::Line(a, b) => Val::Range(Span::single(byte_at(a, line, b))),
-        Fact::Loop(a, b) => Val::Range(Span::single(byte_at(a, u16::from(count), b))),
-        Fact::Old(r) => Val::Old(r),
-        Fact::OldFlags => Val::OldFlags,
-    }
-}
-
-/// The values that a byte may have.
-fn span_of(val: &Val) -> Span
-    ensures { result ≡ span_of_val val.now }
-{
-    match *val {
-        Val::Range(span) => span,
-        _ => whole_byte(),
-    }
-}
 
 /// What facts say of the registers.
 fn registers_of(facts: &[Fact; 32], line: u16, count: u8) -> [Val; 32]

@@ -4,6 +4,7 @@
 
 mod certificate;
 mod certificate_limits;
+mod fact_values;
 mod facts;
 mod frame;
 mod header;
@@ -22,6 +23,7 @@ mod tracked;
 
 pub use certificate::Cert;
 pub use certificate_limits::well_formed;
+pub use fact_values::{span_of, val_of, word_at};
 pub use facts::{Bit, Fact, PairFact, Val};
 pub use header::{Cell, Head};
 pub use instances::{entry_state, handler_entry};
@@ -32,7 +34,7 @@ pub use laws::{
 };
 pub use limits::{CLOCK_LIMIT, MOST_EVENTS, MOST_LINES, clocks_rise, rises, schedule_fits};
 pub use line_events::LineEvents;
-pub use line_order::LineOrder;
+pub use line_order::{LineOrder, SCANLINE};
 pub use lines::{Event, EventKind, Schedule};
 pub use ranges::{Span, Wide, hull};
 pub use sequence::Sequence;

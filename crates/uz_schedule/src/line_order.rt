@@ -4,7 +4,7 @@ ghost use Rattle.std.specs.Prelude.{◌≡◌, ◌<◌};
 ghost use Rattle.uz_schedule.specs.Lines.{uniform, line_after, clock_after};
 
 /// The clocks of a scanline of NTSC, at 28.63636 MHz.
-pub(crate) const SCANLINE: u16 = 1820;
+pub const SCANLINE: u16 = 1820;
 
 /// The lines of a frame as they follow each other: how many clocks each has, and which line comes after it.
 #[derive(Clone, Copy, Debug, PartialEq, Eq)]

@@ -4,10 +4,7 @@ ghost use Rattle.std.specs.Prelude.{◌≡◌, ◌<◌, ◌-◌, nat_lt, if◌th
 ghost use Rattle.uz_schedule.specs.Schedule.{scanline};
 ghost use Rattle.uz_search.specs.Following.{clocks_between as between, most_clocks as most_of, place_of, line_start as start_of_line, shown_at};
 
-use uz_schedule::{EventKind, Instance};
-
-/// The clocks of a scanline of NTSC, at 28.63636 MHz.
-const SCANLINE: u16 = 1820;
+use uz_schedule::{EventKind, Instance, SCANLINE};
 
 /// The position at which a line begins, in clocks from the frame's begin; also of the line past the last one, which is the frame's length.
 pub(crate) fn line_start(line: u16) -> u32

@@ -1,3 +1,4 @@
 pub mod Cuts
 pub mod NumberWords
 pub mod Plain
+pub mod TextLines

@@ -1,3 +1,4 @@
 pub mod Cutting
 pub mod Hexadecimals
+pub mod Lines
 pub mod Numbers
