@@ -5,7 +5,7 @@ use Rattle.std.specs.Prelude.{Ok, Err}
 use Rattle.std.proofs.lemmas.List.{drop_all}
 use Rattle.avr_text.specs.Names.{NameMap}
 use Rattle.avr_operands.specs.declared.errors.AsmWhy.{AsmWhy}
-use Rattle.avr_operands.specs.Faults.{Outcome}
+use Rattle.avr_operands.specs.Faults.{OrFault}
 use Rattle.avr_asm.specs.Layout.{is_instruction_line}
 use Rattle.avr_asm.specs.Assembly.{Output, following, at_line, output_from, with_line}
 
@@ -82,7 +82,7 @@ output_more symbols out next ls xs i d f h same is_f is_next =
     (following (drop (i + 1) (map (λ (l : Bor (List ℕ)). l.now) ls)) (drop (i + 1) xs)) out ≡ Ok next =
     ap (λ g. with_line (get_or ls i d).now symbols (i + 1) (get_or xs i 0) g out) (sym is_f) ∙ is_next in
     sym (output_here (i + 1) symbols out ls xs i d h (omega arith)
-    ∙ ap (λ (o : Outcome Output). at_line (i + 1) o
+    ∙ ap (λ (o : OrFault Output). at_line (i + 1) o
     (λ n. output_from (i + 1 + 1) symbols n (drop (i + 1) (map (λ (l : Bor (List ℕ)). l.now) ls)) (drop (i + 1) xs))) step)
 
 -- a line with a fault
@@ -96,7 +96,7 @@ output_fault symbols out ls xs i d f why h same is_f is_fault =
     (following (drop (i + 1) (map (λ (l : Bor (List ℕ)). l.now) ls)) (drop (i + 1) xs)) out ≡ Err why =
     ap (λ g. with_line (get_or ls i d).now symbols (i + 1) (get_or xs i 0) g out) (sym is_f) ∙ is_fault in
     output_here (i + 1) symbols out ls xs i d h (omega arith)
-    ∙ ap (λ (o : Outcome Output). at_line (i + 1) o
+    ∙ ap (λ (o : OrFault Output). at_line (i + 1) o
     (λ n. output_from (i + 1 + 1) symbols n (drop (i + 1) (map (λ (l : Bor (List ℕ)). l.now) ls)) (drop (i + 1) xs))) step
 
 -- no line is left

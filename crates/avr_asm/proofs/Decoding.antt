@@ -17,7 +17,7 @@ use Rattle.avr_asm.specs.declared.lines.Action.{Action}
 use Rattle.avr_asm.specs.declared.lines.Action.TheVariants as action
 use Rattle.avr_asm.specs.declared.output.Placed.{Placed}
 use Rattle.avr_asm.specs.Emission.{Flash, put, byte_data, word_data, instruction_bytes}
-use Rattle.avr_operands.specs.Faults.{Outcome, ◌>>=◌}
+use Rattle.avr_operands.specs.Faults.{OrFault, ◌>>=◌}
 use Rattle.avr_asm.specs.Hints.{hint_of, mapped}
 use Rattle.avr_operands.specs.Instructions.{instruction_of}
 use Rattle.avr_asm.specs.Layout.{arguments_in, is_instruction, is_instruction_in, is_instruction_line}
@@ -72,7 +72,7 @@ put_holds at (b ∷ bs) old new e = by_case (nat_le 65536 at) (is_some (map.get 
 abbrev pub IsOfInstruction : Bool → LineOutput → Type 0
 IsOfInstruction is o = (i : Instr) → o.instruction ≡ Some i → (o.bytes ≡ instruction_bytes i) × (is ≡ true)
 
-no_instruction : {X : Type 0} (is : Bool) (x : Outcome X) (f : X → LineOutput) (o : LineOutput) → ((v : X) → (f v).instruction ≡ None)
+no_instruction : {X : Type 0} (is : Bool) (x : OrFault X) (f : X → LineOutput) (o : LineOutput) → ((v : X) → (f v).instruction ≡ None)
     → mapped x f ≡ Ok o → IsOfInstruction is o
 no_instruction is x f o none e i some =
     let it = made x f o e in
@@ -100,7 +100,7 @@ directive_has_none directive.Cell is line symbols after parts o e = no_instructi
 directive_has_none directive.Fact is line symbols after parts o e = no_instruction is (hint_of directive.Fact line symbols parts after)
     hint_output o (λ v. refl) e
 
-nothing_out : (is : Bool) (o : LineOutput) → ◌≡◌ {A = Outcome LineOutput} (Ok no_output) (Ok o) → IsOfInstruction is o
+nothing_out : (is : Bool) (o : LineOutput) → ◌≡◌ {A = OrFault LineOutput} (Ok no_output) (Ok o) → IsOfInstruction is o
 nothing_out is o e i some =
     let same : no_output ≡ o = ok_same no_output o e in
     let no : Some i ≡ None = sym some ∙ sym (ap (λ (p : LineOutput). p.instruction) same) in
@@ -124,7 +124,7 @@ pub line_of_instruction : (line : List ℕ) (symbols : NameMap) (address after :
 unfolding line_output is_instruction_line
 line_of_instruction line symbols address after o e = by_case (content_of line) e
   where
-    by_case : (c : Outcome (List Token)) → (c >>= tokens_output line symbols address after) ≡ Ok o → IsOfInstruction
+    by_case : (c : OrFault (List Token)) → (c >>= tokens_output line symbols address after) ≡ Ok o → IsOfInstruction
         (is_instruction_in line c) o
     by_case (Ok tokens) e' = action_of_instruction (action_of line (body_of tokens)) line symbols address after
         (parts_of (arguments_in line tokens)) o e'
@@ -180,7 +180,7 @@ abbrev pub EachEven : List (List ℕ) → List ℕ → Type 0
 EachEven (line ∷ lines) (a ∷ addresses) = (is_instruction_line line ≡ true → a % 2 ≡ 0) × EachEven lines addresses
 EachEven lines addresses = Unit {0}
 
-pub at_line_ok : (k : ℕ) (o : Outcome Output) (f : Output → Result Output AsmError) (last : Output) → at_line k o f ≡ Ok last
+pub at_line_ok : (k : ℕ) (o : OrFault Output) (f : Output → Result Output AsmError) (last : Output) → at_line k o f ≡ Ok last
     → (next : Output) × (o ≡ Ok next) × (f next ≡ Ok last)
 at_line_ok k (Ok next) f last e = (next, refl, e)
 at_line_ok k (Err fault) f last e = absurd cc

@@ -7,7 +7,7 @@ use Rattle.std.proofs.lemmas.Bool.Decides.{nat_tests}
 use Rattle.avr_text.specs.declared.tokens.Token.{Token}
 use Rattle.avr_text.specs.Names.{NameMap}
 use Rattle.avr_operands.specs.declared.errors.AsmWhy.TheVariants.{Past, Overlap}
-use Rattle.avr_operands.specs.Faults.{Outcome}
+use Rattle.avr_operands.specs.Faults.{OrFault}
 use Rattle.avr_asm.specs.Emission.{data_value, with_number, data_from, put, Flash}
 
 part_there : (ls : List (Bor (List Token))) (i : ℕ) (d : Bor (List Token)) → i < length ls → get_or (map (λ l. l.now) ls) i
@@ -20,7 +20,7 @@ parts_len : (ls : List (Bor (List Token))) → length (map (λ l. l.now) ls) ≡
 parts_len [] = refl
 parts_len (l ∷ ls) = ap suc (parts_len ls)
 
-pub data_more : (wide : Bool) (line : List ℕ) (symbols : NameMap) (old new : Outcome (List ℕ)) (ls : List (Bor (List Token))) (i : ℕ)
+pub data_more : (wide : Bool) (line : List ℕ) (symbols : NameMap) (old new : OrFault (List ℕ)) (ls : List (Bor (List Token))) (i : ℕ)
     (d : Bor (List Token)) → i < length ls
     → new ≡ with_number wide old (data_value wide line symbols (get_or ls i d).now)
     → data_from wide line symbols new (drop (i + 1) (map (λ l. l.now) ls)) ≡ data_from wide line symbols old (drop i (map (λ l. l.now) ls))

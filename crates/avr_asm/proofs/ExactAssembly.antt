@@ -23,9 +23,9 @@ use Rattle.avr_asm.specs.declared.first_pass.Effect.TheVariants.{Nothing, Move, 
 use Rattle.avr_asm.specs.declared.layout.Place.{Place}
 use Rattle.avr_asm.specs.declared.output.Built.{Built}
 use Rattle.avr_asm.specs.Emission.{Flash, put}
-use Rattle.avr_operands.specs.Faults.{Outcome, ◌>>=◌}
+use Rattle.avr_operands.specs.Faults.{OrFault, ◌>>=◌}
 use Rattle.avr_asm.specs.Hints.{mapped}
-use Rattle.avr_asm.specs.Layout.{is_reserved, defined, with_symbols, labelled, named, at_address, placed, applied, arguments_in, effect_in}
+use Rattle.avr_asm.specs.Layout.{is_reserved, defined, with_symbols, labelled, named, at_address, address_after, applied, arguments_in, effect_in}
 use Rattle.avr_asm.specs.Layout.{after_line, is_instruction_line, with_address, at_line as at_laid, layout_from, layout_of, start}
 use Rattle.avr_asm.specs.Layout.{GivesLayout}
 use Rattle.avr_asm.specs.Lines.{lines_of, label_of, first_text, body_of, action_of, parts_of}
@@ -175,13 +175,13 @@ statement_laid symbols before s after ys is free once =
     (subst (λ xs. Once xs) regroup once) in
     let equ = equ_gives s.effect name s.address (es ++ labels) ys (free_back labels equs free)
     (subst (λ xs. Once xs) (regroup ∙ sym (append_assoc (es ++ labels) equs ys)) once) in
-    ap (λ (o : Outcome (List Token)). o >>= (λ tokens. effect_in s.source (from_entries es) follows tokens >>=
+    ap (λ (o : OrFault (List Token)). o >>= (λ tokens. effect_in s.source (from_entries es) follows tokens >>=
     (λ effect. applied (label_of s.source tokens) (first_text s.source (arguments_in s.source tokens)) effect (place_of s.address es))))
     is.read
-    ∙ ap (λ (o : Outcome Effect). o >>= (λ effect. applied (label_of s.source s.tokens) name effect (place_of s.address es))) is.known
-    ∙ ap (λ (o : Outcome Place). o >>=
-    (λ first. named s.effect name first >>= (λ second. at_address second.symbols (placed s.effect second.address)))) label
-    ∙ ap (λ (o : Outcome Place). o >>= (λ second. at_address second.symbols (placed s.effect second.address))) equ
+    ∙ ap (λ (o : OrFault Effect). o >>= (λ effect. applied (label_of s.source s.tokens) name effect (place_of s.address es))) is.known
+    ∙ ap (λ (o : OrFault Place). o >>=
+    (λ first. named s.effect name first >>= (λ second. at_address second.symbols (address_after s.effect second.address)))) label
+    ∙ ap (λ (o : OrFault Place). o >>= (λ second. at_address second.symbols (address_after s.effect second.address))) equ
     ∙ ap (at_address (from_entries ((es ++ labels) ++ equs))) is.fits
     ∙ ap (λ xs. Ok (place_of (end_by s.effect s.address s.output.bytes) xs)) (append_assoc es labels equs ∙ names_more before s)
 
@@ -206,7 +206,7 @@ all_laid symbols k address before (s ∷ ss) chain at free once =
     let rest = all_laid symbols (k + 1) (end_by s.effect s.address s.output.bytes) (before ++ s ∷ []) ss chain.1 next
     (free_back (definitions_in s) (definitions_of ss) free) (subst (λ bs. Once (names_of bs)) (sym front) once) in
     ap (λ a. layout_from k (place_of a (names_of before)) (s.source ∷ map (λ (t : Statement). t.source) ss)) here
-    ∙ ap (λ (o : Outcome Place). at_laid k o
+    ∙ ap (λ (o : OrFault Place). at_laid k o
     (λ next. with_address s.address (layout_from (k + 1) next (map (λ (t : Statement). t.source) ss)))) step
     ∙ ap (with_address s.address) rest
     ∙ ap (λ bs. Ok (record { addresses = s.address ∷ map (λ (t : Statement). t.address) ss; symbols = from_entries (names_of bs) })) front
@@ -245,9 +245,9 @@ statement_put counts symbols k before s after ys out is number image once =
     let bytes = is_put_at s.address s.output.bytes out.image (bytes_of before) ys image once
     (within_flash counts symbols before s after is) in
     line_put s.source symbols k s.address next out
-    ∙ ap (λ (o : Outcome (List Token)). (o >>= tokens_output s.source symbols s.address next) >>= with_output k s.address out) is.read
-    ∙ ap (λ (o : Outcome LineOutput). o >>= with_output k s.address out) is.puts
-    ∙ ap (λ (o : Outcome Flash). mapped o (λ image. record {
+    ∙ ap (λ (o : OrFault (List Token)). (o >>= tokens_output s.source symbols s.address next) >>= with_output k s.address out) is.read
+    ∙ ap (λ (o : OrFault LineOutput). o >>= with_output k s.address out) is.puts
+    ∙ ap (λ (o : OrFault Flash). mapped o (λ image. record {
       image = image;
       items = out.items ++ item_of k s.address s.output.instruction;
       hints = out.hints ++ hint_list s.output.hint;
@@ -294,7 +294,7 @@ all_put counts symbols k before (s ∷ ss) out chain count image once =
     let more : k + 1 ≡ length (before ++ s ∷ []) + 1 = omega (arith, count, length-append before (s ∷ [])) in
     let rest = all_put counts symbols (k + 1) (before ++ s ∷ []) ss next chain.1 more refl
     (subst (λ bs. Once (bytes_of bs)) (sym front) once) in
-    ap (λ (o : Outcome Output). at_line k o (λ n. output_from (k + 1) symbols n (map (λ (t : Statement). t.source) ss)
+    ap (λ (o : OrFault Output). at_line k o (λ n. output_from (k + 1) symbols n (map (λ (t : Statement). t.source) ss)
     (map (λ (t : Statement). t.address) ss))) step
     ∙ rest
     ∙ (λ i. Ok (record {

@@ -16,7 +16,7 @@ use Rattle.avr_text.specs.Reading.{is_mark_of, value_of}
 use Rattle.avr_text.specs.Tokens.{tokens_of}
 use Rattle.avr_operands.specs.declared.errors.AsmWhy.{AsmWhy}
 use Rattle.avr_operands.specs.declared.errors.AsmWhy.TheVariants as why
-use Rattle.avr_operands.specs.Faults.{Outcome, ◌>>=◌, number_of}
+use Rattle.avr_operands.specs.Faults.{OrFault, ◌>>=◌, number_of}
 use Rattle.avr_operands.specs.Operands.{expression, number, line_fault, within}
 use Rattle.avr_asm.specs.declared.directives.Directive.TheVariants as directive
 use Rattle.avr_asm.specs.declared.first_pass.Effect.{Effect}
@@ -26,17 +26,17 @@ use Rattle.avr_asm.specs.declared.lines.Action.{Action}
 use Rattle.avr_asm.specs.declared.lines.Action.TheVariants as action
 use Rattle.avr_asm.specs.FirstFault.{IsLeast, OrgFault, EquFault, ValueFault, LacksValue, IsTaken, DefinesTaken, TakesTooMuch, IsMisplaced}
 use Rattle.avr_asm.specs.FirstFault.{InFirstPass}
-use Rattle.avr_asm.specs.Layout.{is_reserved, defined, moved, set, org_effect, equ_effect, effect_of, effect_in, placed, with_symbols}
+use Rattle.avr_asm.specs.Layout.{is_reserved, defined, moved, set, org_effect, equ_effect, effect_of, effect_in, address_after, with_symbols}
 use Rattle.avr_asm.specs.Layout.{labelled, named, at_address, applied, arguments_in, after_line}
 use Rattle.avr_asm.specs.Lines.{content_of, content, label_of, body_of, action_of, parts_of, is_name, first_text}
 use Rattle.avr_asm.proofs.EntryLists.{same_key}
 use Rattle.avr_asm.proofs.LaidLines.{label_keeps, name_keeps}
 use Rattle.avr_asm.proofs.OutcomeLemmas.{ok_same}
 
-pub err_same : {X : Type 0} (v w : AsmWhy) → ◌≡◌ {A = Outcome X} (Err v) (Err w) → v ≡ w
+pub err_same : {X : Type 0} (v w : AsmWhy) → ◌≡◌ {A = OrFault X} (Err v) (Err w) → v ≡ w
 err_same v w e = cc
 
-pub unbound : {X Y : Type 0} (o : Outcome X) (f : X → Outcome Y) (w : AsmWhy) → (o >>= f) ≡ Err w → (o ≡ Err w)
+pub unbound : {X Y : Type 0} (o : OrFault X) (f : X → OrFault Y) (w : AsmWhy) → (o >>= f) ≡ Err w → (o ≡ Err w)
     ⊎ ((x : X) × (o ≡ Ok x) × (f x ≡ Err w))
 unbound {X} {Y} (Ok x) f w e = inr (x, refl, e)
 unbound {X} {Y} (Err v) f w e = inl (ap (λ u. Err u) (err_same {X = Y} v w e))
@@ -49,11 +49,11 @@ IsValueWhy why.Range = Unit {0}
 IsValueWhy why.Symbol = Unit {0}
 IsValueWhy other = ⊥
 
-moved_err : (o : Outcome ℤ) (w : AsmWhy) → moved o ≡ Err w → o ≡ Err w
+moved_err : (o : OrFault ℤ) (w : AsmWhy) → moved o ≡ Err w → o ≡ Err w
 moved_err (Ok to) w e = absurd cc
 moved_err (Err v) w e = ap (λ u. Err u) (err_same {X = Effect} v w e)
 
-set_err : (o : Outcome ℤ) (w : AsmWhy) → set o ≡ Err w → o ≡ Err w
+set_err : (o : OrFault ℤ) (w : AsmWhy) → set o ≡ Err w → o ≡ Err w
 set_err (Ok to) w e = absurd cc
 set_err (Err v) w e = ap (λ u. Err u) (err_same {X = Effect} v w e)
 
@@ -134,7 +134,7 @@ expression_why (Err value_why.Unknown) w e = subst IsValueWhy (err_same {X = ℤ
 expression_why (Err value_why.Overflow) w e = subst IsValueWhy (err_same {X = ℤ} why.Range w e) tt
 expression_why (Err value_why.ZeroDivisor) w e = subst IsValueWhy (err_same {X = ℤ} why.Range w e) tt
 
-within_why : (low high : ℤ) (o : Outcome ℤ) (w : AsmWhy) → ((v : AsmWhy) → o ≡ Err v → IsValueWhy v) → within low high o ≡ Err w
+within_why : (low high : ℤ) (o : OrFault ℤ) (w : AsmWhy) → ((v : AsmWhy) → o ≡ Err v → IsValueWhy v) → within low high o ≡ Err w
     → IsValueWhy w
 within_why low high (Err v) w h e = h w e
 within_why low high (Ok x) w h e = go _ e
@@ -268,11 +268,11 @@ taken_back symbols name other value (inr there) = go (eq_by_cmp (slice_cmp nat_c
     go true e f = inr (sym (same_key (slice_cmp-IsAntisymmetric nat_cmp-IsAntisymmetric) other name e))
     go false e f = inl (inr (there.0, f))
 
-with_err : (address : ℕ) (o : Outcome NameMap) (w : AsmWhy) → with_symbols address o ≡ Err w → o ≡ Err w
+with_err : (address : ℕ) (o : OrFault NameMap) (w : AsmWhy) → with_symbols address o ≡ Err w → o ≡ Err w
 with_err address (Ok symbols) w e = absurd cc
 with_err address (Err v) w e = ap (λ u. Err u) (err_same {X = Place} v w e)
 
-with_ok : (address : ℕ) (o : Outcome NameMap) (next : Place) → with_symbols address o ≡ Ok next → o ≡ Ok next.symbols
+with_ok : (address : ℕ) (o : OrFault NameMap) (next : Place) → with_symbols address o ≡ Ok next → o ≡ Ok next.symbols
 with_ok address (Ok symbols) next e = ap (λ (p : Place). Ok p.symbols) (ok_same (record { address = address; symbols = symbols }) next e)
 with_ok address (Err v) next e = absurd cc
 
@@ -322,7 +322,7 @@ onto_label (Some label) place first name e taken =
 
 -- ---- addresses
 
-address_err : (symbols : NameMap) (o : Outcome ℕ) (w : AsmWhy) → at_address symbols o ≡ Err w → o ≡ Err w
+address_err : (symbols : NameMap) (o : OrFault ℕ) (w : AsmWhy) → at_address symbols o ≡ Err w → o ≡ Err w
 address_err symbols (Ok address) w e = absurd cc
 address_err symbols (Err v) w e = ap (λ u. Err u) (err_same {X = Place} v w e)
 
@@ -332,7 +332,7 @@ NoPlace effect address w =
     ((w ≡ why.Past) × (n : ℕ) × (even : Bool) × (effect ≡ Take n even) × (65536 < address + n))
     ⊎ ((w ≡ why.Directive) × ((effect ≡ Wrong) ⊎ ((n : ℕ) × (effect ≡ Take n true) × (address % 2 ≡ 1))))
 
-pub no_place : (effect : Effect) (address : ℕ) (w : AsmWhy) → placed effect address ≡ Err w → NoPlace effect address w
+pub no_place : (effect : Effect) (address : ℕ) (w : AsmWhy) → address_after effect address ≡ Err w → NoPlace effect address w
 no_place Nothing address w e = absurd cc
 no_place (Move to) address w e = absurd cc
 no_place (Define value) address w e = absurd cc
@@ -391,11 +391,11 @@ refused_stands follows line place w e =
     with_effect tokens effect is does e' =
         let name = first_text line (arguments_in line tokens) in
         elim (unbound (labelled (label_of line tokens) place)
-        (λ first. named effect name first >>= (λ second. at_address second.symbols (placed effect second.address))) w e') [
+        (λ first. named effect name first >>= (λ second. at_address second.symbols (address_after effect second.address))) w e') [
           | inl l ↦
               let it = label_err (label_of line tokens) place w l in
               subst (InFirstPass follows line place) (sym it.0) (tokens, is, inl (it.1, it.2, it.3))
-          | inr f ↦ elim (unbound (named effect name f.0) (λ second. at_address second.symbols (placed effect second.address)) w f.2) [
+          | inr f ↦ elim (unbound (named effect name f.0) (λ second. at_address second.symbols (address_after effect second.address)) w f.2) [
             | inl n ↦
                 let it = name_err effect name f.0 w n in
                 subst (InFirstPass follows line place) (sym it.0)
@@ -404,7 +404,7 @@ refused_stands follows line place w e =
                 let at = name_keeps effect name f.0 s.0 s.1 ∙ label_keeps (label_of line tokens) place f.0 f.1 in
                 of_address tokens effect is does
                 (subst (λ a. NoPlace effect a w) at
-                (no_place effect s.0.address w (address_err s.0.symbols (placed effect s.0.address) w s.2)))
+                (no_place effect s.0.address w (address_err s.0.symbols (address_after effect s.0.address) w s.2)))
           ]
         ]
 
@@ -424,17 +424,17 @@ refused_stands follows line place w e =
         ]
 
 -- where a why stands the line is refused, for that one or one of a lesser number
-abbrev pub Tells : {X : Type 0} → Outcome X → AsmWhy → Type 0
+abbrev pub Tells : {X : Type 0} → OrFault X → AsmWhy → Type 0
 Tells (Ok x) w = ⊥
 Tells (Err v) w = number_of v ≤ number_of w
 
-tells_bound : {X Y : Type 0} (o : Outcome X) (f : X → Outcome Y) (w : AsmWhy) → ((v : AsmWhy) → o ≡ Err v → number_of v ≤ number_of w)
+tells_bound : {X Y : Type 0} (o : OrFault X) (f : X → OrFault Y) (w : AsmWhy) → ((v : AsmWhy) → o ≡ Err v → number_of v ≤ number_of w)
     → ((x : X) → o ≡ Ok x → Tells (f x) w) → Tells (o >>= f) w
 tells_bound (Ok x) f w a b = b x refl
 tells_bound (Err v) f w a b = a v refl
 
-tells_is : {X : Type 0} (o : Outcome X) (w : AsmWhy) → o ≡ Err w → Tells o w
-tells_is {X} o w e = subst (λ (p : Outcome X). Tells p w) (sym e) (omega arith)
+tells_is : {X : Type 0} (o : OrFault X) (w : AsmWhy) → o ≡ Err w → Tells o w
+tells_is {X} o w e = subst (λ (p : OrFault X). Tells p w) (sym e) (omega arith)
 
 effect_low : (follows : Bool) (line : List ℕ) (symbols : NameMap) (tokens : List Token) (w : AsmWhy) → effect_in line symbols follows
     tokens ≡ Err w → number_of w ≤ 5
@@ -450,20 +450,20 @@ name_six : (effect : Effect) (name : List ℕ) (place : Place) (w : AsmWhy) → 
 name_six effect name place w e = subst (λ v. number_of v ≤ 6) (sym (name_err effect name place w e).0) (omega arith)
 
 -- a fault of the address
-address_told : (effect : Effect) (symbols : NameMap) (address : ℕ) (w : AsmWhy) → Tells (placed effect address) w
-    → Tells (at_address symbols (placed effect address)) w
-address_told effect symbols address w h = go (placed effect address) h
+address_told : (effect : Effect) (symbols : NameMap) (address : ℕ) (w : AsmWhy) → Tells (address_after effect address) w
+    → Tells (at_address symbols (address_after effect address)) w
+address_told effect symbols address w h = go (address_after effect address) h
   where
-    go : (o : Outcome ℕ) → Tells o w → Tells (at_address symbols o) w
+    go : (o : OrFault ℕ) → Tells o w → Tells (at_address symbols o) w
     go (Ok next) t = absurd t
     go (Err v) t = t
 
-past_told : (n : ℕ) (even : Bool) (address : ℕ) → 65536 < address + n → placed (Take n even) address ≡ Err why.Past
+past_told : (n : ℕ) (even : Bool) (address : ℕ) → 65536 < address + n → address_after (Take n even) address ≡ Err why.Past
 past_told n even address h =
     let past : nat_lt 65536 (address + n) ≡ true = grind (arith, nat_tests) in
     ap (λ t. cond t (Err why.Past) (cond (even && not (address % 2 == 0)) (Err why.Directive) (Ok (address + n)))) past
 
-odd_told : (n address : ℕ) → address % 2 ≡ 1 → Tells (placed (Take n true) address) why.Directive
+odd_told : (n address : ℕ) → address % 2 ≡ 1 → Tells (address_after (Take n true) address) why.Directive
 odd_told n address odd = go (nat_lt 65536 (address + n)) (address % 2 == 0) (let t : (address % 2 == 0) ≡ false =
     grind (arith, nat_tests) in t)
   where
@@ -481,8 +481,8 @@ module _ (follows : Bool) (line : List ℕ) (place : Place) where
       → Tells (after_line follows line place) w
   unfolding after_line
   cut_told tokens w is h =
-      subst (λ (o : Outcome Place). Tells o w)
-      (sym (ap (λ (o : Outcome (List Token)). o >>= (λ ts. effect_in line place.symbols follows ts >>=
+      subst (λ (o : OrFault Place). Tells o w)
+      (sym (ap (λ (o : OrFault (List Token)). o >>= (λ ts. effect_in line place.symbols follows ts >>=
       (λ effect. applied (label_of line ts) (first_text line (arguments_in line ts)) effect place))) is)) h
 
   effect_told : (tokens : List Token) (w : AsmWhy) → content_of line ≡ Ok tokens → effect_in line place.symbols follows tokens ≡ Err w
@@ -491,7 +491,7 @@ module _ (follows : Bool) (line : List ℕ) (place : Place) where
       cut_told tokens w is
       (tells_is (effect_in line place.symbols follows tokens >>=
       (λ effect. applied (label_of line tokens) (first_text line (arguments_in line tokens)) effect place)) w
-      (ap (λ (o : Outcome Effect). o >>= (λ effect. applied (label_of line tokens) (first_text line (arguments_in line tokens)) effect
+      (ap (λ (o : OrFault Effect). o >>= (λ effect. applied (label_of line tokens) (first_text line (arguments_in line tokens)) effect
       place)) e))
 
   value_told : (w : AsmWhy) → LacksValue line place.symbols w → Tells (after_line follows line place) w
@@ -506,22 +506,22 @@ module _ (follows : Bool) (line : List ℕ) (place : Place) where
       → Tells (after_line follows line place) w
   effect_is tokens effect w is does h =
       cut_told tokens w is
-      (subst (λ (o : Outcome Place). Tells o w)
-      (sym (ap (λ (o : Outcome Effect). o >>= (λ f. applied (label_of line tokens) (first_text line (arguments_in line tokens)) f
+      (subst (λ (o : OrFault Place). Tells o w)
+      (sym (ap (λ (o : OrFault Effect). o >>= (λ f. applied (label_of line tokens) (first_text line (arguments_in line tokens)) f
       place)) does)) h)
 
   -- past the label and the name
   names_passed : (label : Option (List ℕ)) (name : List ℕ) (effect : Effect) (w : AsmWhy) → 6 ≤ number_of w
-      → Tells (placed effect place.address) w → Tells (applied label name effect place) w
+      → Tells (address_after effect place.address) w → Tells (applied label name effect place) w
   unfolding applied
   names_passed label name effect w low h =
       tells_bound (labelled label place)
-      (λ first. named effect name first >>= (λ second. at_address second.symbols (placed effect second.address))) w
+      (λ first. named effect name first >>= (λ second. at_address second.symbols (address_after effect second.address))) w
       (λ v e. let six = label_six label place v e in omega arith)
-      (λ first e. tells_bound (named effect name first) (λ second. at_address second.symbols (placed effect second.address)) w
+      (λ first e. tells_bound (named effect name first) (λ second. at_address second.symbols (address_after effect second.address)) w
       (λ v f. let six = name_six effect name first v f in omega arith)
       (λ second f. address_told effect second.symbols second.address w
-      (subst (λ a. Tells (placed effect a) w) (sym (name_keeps effect name first second f ∙ label_keeps label place first e)) h)))
+      (subst (λ a. Tells (address_after effect a) w) (sym (name_keeps effect name first second f ∙ label_keeps label place first e)) h)))
 
   twice_told : (tokens : List Token) → content_of line ≡ Ok tokens → DefinesTaken follows line place tokens
       → Tells (after_line follows line place) why.Twice
@@ -532,26 +532,26 @@ module _ (follows : Bool) (line : List ℕ) (place : Place) where
       (λ effect. applied (label_of line tokens) (first_text line (arguments_in line tokens)) effect place) why.Twice
       (λ v e. let five = effect_low follows line place.symbols tokens v e in omega arith)
       (λ effect e. tells_is (applied (label_of line tokens) (first_text line (arguments_in line tokens)) effect place) why.Twice
-      (ap (λ (o : Outcome Place). o >>= (λ first. named effect (first_text line (arguments_in line tokens)) first >>=
-      (λ second. at_address second.symbols (placed effect second.address))))
+      (ap (λ (o : OrFault Place). o >>= (λ first. named effect (first_text line (arguments_in line tokens)) first >>=
+      (λ second. at_address second.symbols (address_after effect second.address))))
       (ap (λ l. labelled l place) label ∙ ap (with_symbols place.address) (taken_err name (pos place.address) place.symbols taken)))))
   twice_told tokens is (inr (value, does, taken)) =
       let name = first_text line (arguments_in line tokens) in
       effect_is tokens (Define value) why.Twice is does
       (tells_bound (labelled (label_of line tokens) place)
-      (λ first. named (Define value) name first >>= (λ second. at_address second.symbols (placed (Define value) second.address)))
+      (λ first. named (Define value) name first >>= (λ second. at_address second.symbols (address_after (Define value) second.address)))
       why.Twice
       (λ v e. label_six (label_of line tokens) place v e)
       (λ first e. tells_is (named (Define value) name first >>=
-      (λ second. at_address second.symbols (placed (Define value) second.address))) why.Twice
-      (ap (λ (o : Outcome Place). o >>= (λ second. at_address second.symbols (placed (Define value) second.address)))
+      (λ second. at_address second.symbols (address_after (Define value) second.address))) why.Twice
+      (ap (λ (o : OrFault Place). o >>= (λ second. at_address second.symbols (address_after (Define value) second.address)))
       (ap (with_symbols first.address) (taken_err name value first.symbols (onto_label (label_of line tokens) place first name e taken))))))
 
   pub stands_told : (w : AsmWhy) → InFirstPass follows line place w → Tells (after_line follows line place) w
   unfolding after_line effect_in
   stands_told why.Lex lex =
       tells_is (after_line follows line place) why.Lex
-      (ap (λ (o : Outcome (List Token)). o >>= (λ ts. effect_in line place.symbols follows ts >>=
+      (ap (λ (o : OrFault (List Token)). o >>= (λ ts. effect_in line place.symbols follows ts >>=
       (λ effect. applied (label_of line ts) (first_text line (arguments_in line ts)) effect place))) lex)
   stands_told why.Mnemonic (tokens, is, unknown) =
       effect_told tokens why.Mnemonic is
@@ -564,11 +564,11 @@ module _ (follows : Bool) (line : List ℕ) (place : Place) where
   stands_told why.Past (tokens, is, (n, even, does, past)) =
       effect_is tokens (Take n even) why.Past is does
       (names_passed (label_of line tokens) (first_text line (arguments_in line tokens)) (Take n even) why.Past (omega arith)
-      (tells_is (placed (Take n even) place.address) why.Past (past_told n even place.address past)))
+      (tells_is (address_after (Take n even) place.address) why.Past (past_told n even place.address past)))
   stands_told why.Directive (tokens, is, inl wrong) =
       effect_is tokens Wrong why.Directive is wrong
       (names_passed (label_of line tokens) (first_text line (arguments_in line tokens)) Wrong why.Directive (omega arith)
-      (tells_is (placed Wrong place.address) why.Directive refl))
+      (tells_is (address_after Wrong place.address) why.Directive refl))
   stands_told why.Directive (tokens, is, inr (n, does, odd)) =
       effect_is tokens (Take n true) why.Directive is does
       (names_passed (label_of line tokens) (first_text line (arguments_in line tokens)) (Take n true) why.Directive (omega arith)
@@ -577,11 +577,11 @@ module _ (follows : Bool) (line : List ℕ) (place : Place) where
 
   -- what the first pass makes of a line: no why stands, or the least one is told
   pub sound_line : (next : Place) → after_line follows line place ≡ Ok next → (w : AsmWhy) → ¬ InFirstPass follows line place w
-  sound_line next e w h = subst (λ (o : Outcome Place). Tells o w) e (stands_told w h)
+  sound_line next e w h = subst (λ (o : OrFault Place). Tells o w) e (stands_told w h)
 
   pub least_line : (w : AsmWhy) → after_line follows line place ≡ Err w → IsLeast (InFirstPass follows line place) w
   least_line w e = record {
     stands = refused_stands follows line place w e;
-    least = λ v h. subst (λ (o : Outcome Place). Tells o v) e
+    least = λ v h. subst (λ (o : OrFault Place). Tells o v) e
         (stands_told v h);
   }

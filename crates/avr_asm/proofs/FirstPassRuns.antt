@@ -10,14 +10,14 @@ use Rattle.std.proofs.lemmas.Bool.Decides.{nat_tests}
 use Rattle.avr_text.specs.declared.tokens.Token.{Token}
 use Rattle.avr_operands.specs.declared.errors.AsmWhy.{AsmWhy}
 use Rattle.avr_operands.specs.declared.errors.AsmWhy.TheVariants as why
-use Rattle.avr_operands.specs.Faults.{Outcome, number_of}
+use Rattle.avr_operands.specs.Faults.{OrFault, number_of}
 use Rattle.avr_asm.specs.declared.errors.AsmError.{AsmError}
 use Rattle.avr_asm.specs.declared.first_pass.Effect.{Effect}
 use Rattle.avr_asm.specs.declared.first_pass.Effect.TheVariants.{Nothing, Move, Define, Take, Wrong}
 use Rattle.avr_asm.specs.declared.layout.Place.{Place}
 use Rattle.avr_asm.specs.FirstFault.{IsLeast, Laid, end_after, end_from, names_in, names_by, place_after, InFirstPass, IsLaid, AreLaid}
 use Rattle.avr_asm.specs.FirstFault.{FirstPassFault}
-use Rattle.avr_asm.specs.Layout.{Layout, arguments_in, effect_in, placed, after_line, is_instruction_line, with_address, at_line}
+use Rattle.avr_asm.specs.Layout.{Layout, arguments_in, effect_in, address_after, after_line, is_instruction_line, with_address, at_line}
 use Rattle.avr_asm.specs.Layout.{layout_from, layout_of, start}
 use Rattle.avr_asm.specs.Lines.{content_of, label_of, first_text}
 use Rattle.avr_asm.specs.Relation.{label_entries, equ_entries, predefined_names}
@@ -76,7 +76,7 @@ names_more : (before : List Laid) (l : Laid) → names_by (before ++ l ∷ []) �
 names_more [] l = append-nil (names_in l)
 names_more (b ∷ bs) l = ap (λ ns. names_in b ++ ns) (names_more bs l) ∙ sym (append_assoc (names_in b) (names_by bs) (names_in l))
 
-placed_end : (effect : Effect) (address next : ℕ) → placed effect address ≡ Ok next → next ≡ end_after effect address
+placed_end : (effect : Effect) (address next : ℕ) → address_after effect address ≡ Ok next → next ≡ end_after effect address
 placed_end Nothing address next e = sym (ok_same address next e)
 placed_end (Move to) address next e = sym (ok_same to next e)
 placed_end (Define value) address next e = sym (ok_same address next e)
@@ -136,7 +136,7 @@ passed before l follows place is a = go (after_line follows l.source place) refl
         let at : place.address ≡ l.address = a.address ∙ sym is.located in
         λ i. record { source = l.source; address = at i; tokens = t i; effect = e i }
 
-    go : (o : Outcome Place) → after_line follows l.source place ≡ o → IsPassed before l follows place
+    go : (o : OrFault Place) → after_line follows l.source place ≡ o → IsPassed before l follows place
     go (Err w) e = absurd (is.sound w (subst (λ p. InFirstPass follows l.source p w) (same_place before place a)
         (refused_stands follows l.source place w e)))
     go (Ok next) e =
@@ -199,7 +199,7 @@ one_more_says before l k lines (Err e) is h = record {
 
 line_says : (before : List Laid) (line : List ℕ) (k : ℕ) (place : Place) (lines : List (List ℕ)) → IsAfter before place
     → ((bs : List Laid) (next : Place) → IsAfter bs next → LayoutSays bs (k + 1) lines (layout_from (k + 1) next lines))
-    → (o : Outcome Place) → after_line (list_any is_instruction_line lines) line place ≡ o
+    → (o : OrFault Place) → after_line (list_any is_instruction_line lines) line place ≡ o
     → LayoutSays before k (line ∷ lines) (at_line k o (λ next. with_address place.address (layout_from (k + 1) next lines)))
 line_says before line k place lines a more (Err w) e = record {
   more = [];
@@ -292,7 +292,7 @@ all_passed before (l ∷ ls) k place after a laid =
       next = rest.next;
       ends = subst (λ xs. IsAfter xs rest.next) (append_assoc before (l ∷ []) ls) rest.ends;
       goes =
-          ap (λ (o : Outcome Place). at_line k o (λ next. with_address place.address (layout_from (k + 1) next lines))) here.goes
+          ap (λ (o : OrFault Place). at_line k o (λ next. with_address place.address (layout_from (k + 1) next lines))) here.goes
           ∙ ap (λ (n : ℕ). with_address n (layout_from (k + 1) here.next lines)) at
           ∙ ap (with_address l.address) rest.goes
           ∙ front_more l.address (map (λ (x : Laid). x.address) ls) (layout_from (k + 1 + length ls) rest.next after)
@@ -304,7 +304,7 @@ fault_refused : (follows : Bool) (line : List ℕ) (place : Place) (w : AsmWhy) 
     → after_line follows line place ≡ Err w
 fault_refused follows line place w is = go (after_line follows line place) refl
   where
-    go : (o : Outcome Place) → after_line follows line place ≡ o → o ≡ Err w
+    go : (o : OrFault Place) → after_line follows line place ≡ o → o ≡ Err w
     go (Ok next) e = absurd (sound_line follows line place next e w is.stands)
     go (Err v) e = ap (λ u. Err u) (same_least (InFirstPass follows line place) v w (least_line follows line place v e) is)
 
@@ -318,7 +318,7 @@ fault_laid lines n w f =
     (sym (same_place f.before p.next p.ends)) f.fault) in
     let count : 1 + length f.before ≡ n = omega (arith, f.numbered) in
     ap layout_of f.cut ∙ p.goes
-    ∙ ap (λ (o : Outcome Place). with_front (map (λ (x : Laid). x.address) f.before)
+    ∙ ap (λ (o : OrFault Place). with_front (map (λ (x : Laid). x.address) f.before)
     (at_line (1 + length f.before) o (λ next. with_address p.next.address (layout_from (1 + length f.before + 1) next f.after))))
     refused
     ∙ ap (λ m. Err (record { line = m; why = w })) count
@@ -333,16 +333,16 @@ all_laid_out ls laid =
     ∙ (λ i. Ok (record { addresses = append-nil (map (λ (x : Laid). x.address) ls) i; symbols = p.ends.made.is i }))
 
 -- where a line without fault ends
-pub placed_laid : (front : List Laid) (l : Laid) (follows : Bool) → IsLaid front l follows → placed l.effect l.address ≡ Ok
+pub placed_laid : (front : List Laid) (l : Laid) (follows : Bool) → IsLaid front l follows → address_after l.effect l.address ≡ Ok
     (end_after l.effect l.address)
-placed_laid front l follows is = subst (λ a. placed l.effect a ≡ Ok (end_after l.effect a)) (sym is.located)
-    (go (placed l.effect (end_from 0 front)) refl)
+placed_laid front l follows is = subst (λ a. address_after l.effect a ≡ Ok (end_after l.effect a)) (sym is.located)
+    (go (address_after l.effect (end_from 0 front)) refl)
   where
     none_stands : (w : AsmWhy) → NoPlace l.effect (end_from 0 front) w → ⊥
     none_stands w (inl past) = is.sound why.Past (l.tokens, is.read, (past.1, past.2, is.does ∙ ap (λ f. Ok f) past.3, past.4))
     none_stands w (inr (is_w, inl wrong)) = is.sound why.Directive (l.tokens, is.read, inl (is.does ∙ ap (λ f. Ok f) wrong))
     none_stands w (inr (is_w, inr odd)) = is.sound why.Directive (l.tokens, is.read, inr (odd.0, is.does ∙ ap (λ f. Ok f) odd.1, odd.2))
 
-    go : (o : Outcome ℕ) → placed l.effect (end_from 0 front) ≡ o → o ≡ Ok (end_after l.effect (end_from 0 front))
+    go : (o : OrFault ℕ) → address_after l.effect (end_from 0 front) ≡ o → o ≡ Ok (end_after l.effect (end_from 0 front))
     go (Ok next) e = ap (λ n. Ok n) (placed_end l.effect (end_from 0 front) next e)
     go (Err w) e = absurd (none_stands w (no_place l.effect (end_from 0 front) w e))

@@ -14,7 +14,7 @@ use Rattle.avr_asm.specs.declared.first_pass.Effect.{Effect}
 use Rattle.avr_asm.specs.declared.first_pass.Effect.TheVariants.{Wrong}
 use Rattle.avr_asm.specs.declared.lines.Action.{Action}
 use Rattle.avr_asm.specs.declared.lines.Action.TheVariants as action
-use Rattle.avr_operands.specs.Faults.{Outcome}
+use Rattle.avr_operands.specs.Faults.{OrFault}
 use Rattle.avr_asm.specs.Layout.{moved, set, org_effect, equ_effect, directive_effect, effect_of, effect_in, arguments_in}
 use Rattle.avr_asm.specs.Lines.{is_name, body_of, action_of, parts_of}
 use Rattle.avr_operands.specs.Operands.{line_fault, expression, within, number}
@@ -38,7 +38,7 @@ module _ (stay : ValuesStay) (symbols more : NameMap) (keeps : Keeps symbols mor
       line more tokens ≡ Ok v
   number_stays low high line tokens v e = by_case (expression line symbols None tokens) refl e
     where
-      by_case : (o : Outcome ℤ) → expression line symbols None tokens ≡ o → within low high o ≡ Ok v → within low high
+      by_case : (o : OrFault ℤ) → expression line symbols None tokens ≡ o → within low high o ≡ Ok v → within low high
           (expression line more None tokens) ≡ Ok v
       by_case (Ok x) is e' = ap (within low high) (expression_stays line None tokens x is) ∙ e'
       by_case (Err why) is e' = absurd cc
@@ -48,7 +48,7 @@ module _ (stay : ValuesStay) (symbols more : NameMap) (keeps : Keeps symbols mor
   org_stays line [] effect e = e
   org_stays line (p ∷ []) effect e = by_case (number (pos 0) (pos 65536) line symbols p) refl e
     where
-      by_case : (o : Outcome ℤ) → number (pos 0) (pos 65536) line symbols p ≡ o → moved o ≡ Ok effect
+      by_case : (o : OrFault ℤ) → number (pos 0) (pos 65536) line symbols p ≡ o → moved o ≡ Ok effect
           → moved (number (pos 0) (pos 65536) line more p) ≡ Ok effect
       by_case (Ok x) is e' = ap moved (number_stays (pos 0) (pos 65536) line p x is) ∙ e'
       by_case (Err why) is e' = absurd cc
@@ -60,7 +60,7 @@ module _ (stay : ValuesStay) (symbols more : NameMap) (keeps : Keeps symbols mor
   equ_stays line (n ∷ []) effect e = e
   equ_stays line (n ∷ m ∷ rest) effect e = by_case (is_name n.kind && is_mark_of 61 m.kind) e
     where
-      valued : (o : Outcome ℤ) → expression line symbols None rest ≡ o → set o ≡ Ok effect → set (expression line more None rest) ≡ Ok
+      valued : (o : OrFault ℤ) → expression line symbols None rest ≡ o → set o ≡ Ok effect → set (expression line more None rest) ≡ Ok
           effect
       valued (Ok x) is e' = ap set (expression_stays line None rest x is) ∙ e'
       valued (Err why) is e' = absurd cc

@@ -13,8 +13,8 @@ use Rattle.avr_asm.specs.declared.first_pass.Effect.TheVariants.{Nothing, Move, 
 use Rattle.avr_asm.specs.declared.layout.Place.{Place}
 use Rattle.avr_asm.specs.declared.lines.Action.{Action}
 use Rattle.avr_asm.specs.declared.lines.Action.TheVariants as action
-use Rattle.avr_operands.specs.Faults.{Outcome, ◌>>=◌}
-use Rattle.avr_asm.specs.Layout.{Layout, with_symbols, defined, labelled, named, at_address, placed, applied, arguments_in, effect_of}
+use Rattle.avr_operands.specs.Faults.{OrFault, ◌>>=◌}
+use Rattle.avr_asm.specs.Layout.{Layout, with_symbols, defined, labelled, named, at_address, address_after, applied, arguments_in, effect_of}
 use Rattle.avr_asm.specs.Layout.{effect_in, after_line, is_instruction, is_instruction_in, is_instruction_line, with_address, at_line}
 use Rattle.avr_asm.specs.Layout.{layout_from}
 use Rattle.avr_asm.specs.Lines.{content_of, label_of, body_of, action_of, parts_of, first_text}
@@ -33,10 +33,10 @@ pub record LaidLine (follows : Bool) (line : List ℕ) (place next : Place) : Ty
   pub second : Place
   pub is_named : named effect (first_text line (arguments_in line tokens)) first ≡ Ok second
   pub second_at : second.address ≡ place.address
-  pub is_placed : placed effect place.address ≡ Ok next.address
+  pub is_placed : address_after effect place.address ≡ Ok next.address
   pub has_symbols : next.symbols ≡ second.symbols
 
-with_symbols_keeps : (address : ℕ) (o : Outcome NameMap) (next : Place) → with_symbols address o ≡ Ok next → next.address ≡ address
+with_symbols_keeps : (address : ℕ) (o : OrFault NameMap) (next : Place) → with_symbols address o ≡ Ok next → next.address ≡ address
 with_symbols_keeps address (Ok symbols) next e = let same : record { address = address; symbols = symbols } ≡ next =
     ok_same (record { address = address; symbols = symbols }) next e in sym (ap (λ (p : Place). p.address) same)
 with_symbols_keeps address (Err fault) next e = absurd cc
@@ -52,7 +52,7 @@ name_keeps (Move to) name place next e = let same : place ≡ next = ok_same pla
 name_keeps (Take bytes even) name place next e = let same : place ≡ next = ok_same place next e in sym (ap (λ (p : Place). p.address) same)
 name_keeps Wrong name place next e = let same : place ≡ next = ok_same place next e in sym (ap (λ (p : Place). p.address) same)
 
-at_address_ok : (symbols : NameMap) (o : Outcome ℕ) (next : Place) → at_address symbols o ≡ Ok next → (o ≡ Ok next.address)
+at_address_ok : (symbols : NameMap) (o : OrFault ℕ) (next : Place) → at_address symbols o ≡ Ok next → (o ≡ Ok next.address)
     × (next.symbols ≡ symbols)
 at_address_ok symbols (Ok address) next e =
     let same : record { address = address; symbols = symbols } ≡ next = ok_same (record { address = address; symbols = symbols }) next e in
@@ -69,10 +69,10 @@ laid_line follows line place next e =
     let f = bound (effect_in line place.symbols follows t.0)
     (λ effect. applied (label_of line t.0) (first_text line (arguments_in line t.0)) effect place) next t.2 in
     let a = bound (labelled (label_of line t.0) place) (λ first. named f.0 (first_text line (arguments_in line t.0)) first >>=
-    (λ second. at_address second.symbols (placed f.0 second.address))) next f.2 in
+    (λ second. at_address second.symbols (address_after f.0 second.address))) next f.2 in
     let b = bound (named f.0 (first_text line (arguments_in line t.0)) a.0)
-    (λ second. at_address second.symbols (placed f.0 second.address)) next a.2 in
-    let c = at_address_ok b.0.symbols (placed f.0 b.0.address) next b.2 in
+    (λ second. at_address second.symbols (address_after f.0 second.address)) next a.2 in
+    let c = at_address_ok b.0.symbols (address_after f.0 b.0.address) next b.2 in
     let first_at = label_keeps (label_of line t.0) place a.0 a.1 in
     let second_at = name_keeps f.0 (first_text line (arguments_in line t.0)) a.0 b.0 b.1 ∙ first_at in
     record {
@@ -86,7 +86,7 @@ laid_line follows line place next e =
       second = b.0;
       is_named = b.1;
       second_at = second_at;
-      is_placed = ap (placed f.0) (sym second_at) ∙ c.0;
+      is_placed = ap (address_after f.0) (sym second_at) ∙ c.0;
       has_symbols = c.1;
     }
 
@@ -99,7 +99,7 @@ pub record LaidLines (k : ℕ) (place : Place) (line : List ℕ) (lines : List (
   pub addresses : layout.addresses ≡ place.address ∷ rest.addresses
   pub symbols : layout.symbols ≡ rest.symbols
 
-at_line_laid : (k : ℕ) (o : Outcome Place) (f : Place → Result Layout AsmError) (layout : Layout) → at_line k o f ≡ Ok layout
+at_line_laid : (k : ℕ) (o : OrFault Place) (f : Place → Result Layout AsmError) (layout : Layout) → at_line k o f ≡ Ok layout
     → (next : Place) × (o ≡ Ok next) × (f next ≡ Ok layout)
 at_line_laid k (Ok next) f layout e = (next, refl, e)
 at_line_laid k (Err fault) f layout e = absurd cc
@@ -146,7 +146,7 @@ takes_even (action.Directive d) line symbols arguments parts follows effect is e
 takes_even (action.Instruction m) line symbols arguments parts follows effect is e =
     (2 * words_of m, ok_same (Take (2 * words_of m) true) effect e)
 
-even_placed : (n address next : ℕ) → placed (Take n true) address ≡ Ok next → address % 2 ≡ 0
+even_placed : (n address next : ℕ) → address_after (Take n true) address ≡ Ok next → address % 2 ≡ 0
 even_placed n address next e = by_case (nat_lt 65536 (address + n)) (address % 2 == 0) refl e
   where
     by_case : (past even : Bool) → (address % 2 == 0) ≡ even → cond past (Err why.Past)
@@ -162,7 +162,7 @@ even_here follows line place next l is =
     let here : is_instruction (action_of line (body_of l.tokens)) ≡ true = sym (ap (is_instruction_in line) l.is_content) ∙ is in
     let takes = takes_even (action_of line (body_of l.tokens)) line place.symbols (arguments_in line l.tokens)
     (parts_of (arguments_in line l.tokens)) follows l.effect here l.is_effect in
-    even_placed takes.0 place.address next.address (ap (λ effect. placed effect place.address) takes.1 ∙ l.is_placed)
+    even_placed takes.0 place.address next.address (ap (λ effect. address_after effect place.address) takes.1 ∙ l.is_placed)
 
 pub each_even : (k : ℕ) (place : Place) (lines : List (List ℕ)) (layout : Layout) → layout_from k place lines ≡ Ok layout → EachEven lines
     layout.addresses

@@ -9,7 +9,7 @@ use Rattle.avr_asm.specs.declared.errors.AsmError.{AsmError}
 use Rattle.avr_operands.specs.declared.errors.AsmWhy.{AsmWhy}
 use Rattle.avr_operands.specs.declared.errors.AsmWhy.TheVariants.{Memory}
 use Rattle.avr_asm.specs.declared.layout.Place.{Place}
-use Rattle.avr_operands.specs.Faults.{Outcome}
+use Rattle.avr_operands.specs.Faults.{OrFault}
 use Rattle.avr_asm.specs.Layout.{Layout, with_address, at_line, layout_from, after_line, is_instruction_line, IsLast}
 
 -- addresses in front of those of a layout
@@ -47,7 +47,7 @@ more_lines i place next lines line follows front more h e is_follows is_next is_
     ap (λ xs. with_addresses xs (layout_from (i + 1 + 1) next (drop (i + 1) lines))) is_more
     ∙ with_more front place.address (layout_from (i + 1 + 1) next (drop (i + 1) lines))
     ∙ sym (ap (with_addresses front)
-    (there ∙ ap (λ (o : Outcome Place). at_line (i + 1) o
+    (there ∙ ap (λ (o : OrFault Place). at_line (i + 1) o
     (λ n. with_address place.address (layout_from (i + 1 + 1) n (drop (i + 1) lines)))) step))
 
 -- a line with a fault
@@ -60,7 +60,7 @@ faulty_line i place lines line follows front why h e is_follows is_fault =
     let step : after_line (list_any is_instruction_line (drop (i + 1) lines)) line place ≡ Err why = ap (λ f. after_line f line place)
     (sym is_follows) ∙ is_fault in
     ap (with_addresses front) (there
-    ∙ ap (λ (o : Outcome Place). at_line (i + 1) o (λ n. with_address place.address (layout_from (i + 1 + 1) n (drop (i + 1) lines))))
+    ∙ ap (λ (o : OrFault Place). at_line (i + 1) o (λ n. with_address place.address (layout_from (i + 1 + 1) n (drop (i + 1) lines))))
     step)
 
 -- no line is left
@@ -178,7 +178,7 @@ none_last_from lines zero h e = none_last lines e
 none_last_from lines (suc i) h e = absurd (omega arith)
 
 -- a line's fault is told with its line, and want of memory with none
-pub told_fault : {X Y : Type 0} (k : ℕ) (why : AsmWhy) (told : AsmError) (says : Outcome X) (whole : Result Y AsmError) → (why ≡ Memory)
+pub told_fault : {X Y : Type 0} (k : ℕ) (why : AsmWhy) (told : AsmError) (says : OrFault X) (whole : Result Y AsmError) → (why ≡ Memory)
     ⊎ (says ≡ Err why) → (says ≡ Err why → whole ≡ Err (record { line = k; why = why }))
     → told.why ≡ why → (why ≡ Memory) ⊎ (told.line ≡ k) → (told.why ≡ Memory) ⊎ (whole ≡ Err told)
 told_fault k why told says whole (inl m) f w l = inl (w ∙ m)

@@ -22,10 +22,10 @@ use Rattle.avr_asm.specs.declared.output.Hint.{Hint}
 use Rattle.avr_asm.specs.Codes.{first_word, second_word}
 use Rattle.avr_asm.specs.Emission.{bytes_of_number, data_value, with_number, data_from, padded, padded_outcome, byte_data, word_data}
 use Rattle.avr_asm.specs.Emission.{word_bytes, instruction_bytes}
-use Rattle.avr_operands.specs.Faults.{Outcome}
+use Rattle.avr_operands.specs.Faults.{OrFault}
 use Rattle.avr_asm.specs.Hints.{hint_of, mapped}
 use Rattle.avr_operands.specs.Instructions.{instruction_of}
-use Rattle.avr_asm.specs.Layout.{is_start, is_cell, moved, set, org_effect, equ_effect, directive_effect, effect_of, placed}
+use Rattle.avr_asm.specs.Layout.{is_start, is_cell, moved, set, org_effect, equ_effect, directive_effect, effect_of, address_after}
 use Rattle.avr_asm.specs.LineOutputs.{LineOutput, no_output, instruction_output, data_output, hint_output, directive_output, action_output}
 use Rattle.avr_asm.specs.Lines.{is_name}
 use Rattle.avr_operands.specs.Mnemonics.{words_of}
@@ -42,7 +42,7 @@ number_size : (wide : Bool) (x : ℤ) → length (bytes_of_number wide x) ≡ wi
 number_size false x = refl
 number_size true x = refl
 
-no_data : (wide : Bool) (line : List ℕ) (symbols : NameMap) (o : Outcome (List ℕ)) (x : Outcome ℤ) (bytes : List ℕ) → with_number wide o
+no_data : (wide : Bool) (line : List ℕ) (symbols : NameMap) (o : OrFault (List ℕ)) (x : OrFault ℤ) (bytes : List ℕ) → with_number wide o
     x ≡ Ok bytes → (sofar : List ℕ) × (o ≡ Ok sofar) × (length bytes ≡ length sofar + wide_size wide)
 no_data wide line symbols (Ok sofar) (Ok x) bytes e = (
   sofar,
@@ -54,7 +54,7 @@ no_data wide line symbols (Ok sofar) (Err fault) bytes e = absurd cc
 no_data wide line symbols (Err fault) (Ok x) bytes e = absurd cc
 no_data wide line symbols (Err fault) (Err other) bytes e = absurd cc
 
-data_size : (wide : Bool) (line : List ℕ) (symbols : NameMap) (o : Outcome (List ℕ)) (parts : List (List Token)) (bytes : List ℕ)
+data_size : (wide : Bool) (line : List ℕ) (symbols : NameMap) (o : OrFault (List ℕ)) (parts : List (List Token)) (bytes : List ℕ)
     → data_from wide line symbols o parts ≡ Ok bytes
     → (sofar : List ℕ) × (o ≡ Ok sofar) × (length bytes ≡ length sofar + wide_size wide * length parts)
 data_size wide line symbols o [] bytes e = (bytes, e, omega arith)
@@ -80,7 +80,7 @@ byte_size : (line : List ℕ) (symbols : NameMap) (parts : List (List Token)) (b
     → length bytes ≡ length parts + length parts % 2
 byte_size line symbols parts bytes e = by_case (data_from false line symbols (Ok []) parts) refl e
   where
-    by_case : (o : Outcome (List ℕ)) → data_from false line symbols (Ok []) parts ≡ o → padded_outcome o ≡ Ok bytes → length bytes ≡ length
+    by_case : (o : OrFault (List ℕ)) → data_from false line symbols (Ok []) parts ≡ o → padded_outcome o ≡ Ok bytes → length bytes ≡ length
         parts + length parts % 2
     by_case (Err fault) is e' = absurd cc
     by_case (Ok front) is e' =
@@ -111,7 +111,7 @@ code_size i = by_case (nat_le (length (places (row i).pattern)) 16)
     by_case false = refl
 
 -- where the first pass ends a line
-take_end : (n : ℕ) (even : Bool) (address next : ℕ) → placed (Take n even) address ≡ Ok next → address + n ≡ next
+take_end : (n : ℕ) (even : Bool) (address next : ℕ) → address_after (Take n even) address ≡ Ok next → address + n ≡ next
 take_end n even address next e = by_case (nat_lt 65536 (address + n)) (even && not (address % 2 == 0)) e
   where
     by_case : (past odd : Bool) → cond past (Err why.Past) (cond odd (Err why.Directive) (Ok (address + n))) ≡ Ok next → address + n ≡ next
@@ -127,7 +127,7 @@ abbrev TakesNone : Effect → Type 0
 TakesNone (Take n even) = ⊥
 TakesNone effect = Unit {0}
 
-none_ends : (effect : Effect) (address next : ℕ) (bytes : List ℕ) → TakesNone effect → bytes ≡ [] → placed effect address ≡ Ok next
+none_ends : (effect : Effect) (address next : ℕ) (bytes : List ℕ) → TakesNone effect → bytes ≡ [] → address_after effect address ≡ Ok next
     → end_by effect address bytes ≡ next
 none_ends Nothing address next bytes t b e = ap (λ xs. address + length xs) b ∙ omega (arith, ok_same address next e)
 none_ends (Move to) address next bytes t b e = ok_same to next e
@@ -135,12 +135,12 @@ none_ends (Define value) address next bytes t b e = ap (λ xs. address + length 
 none_ends (Take n even) address next bytes t b e = absurd t
 none_ends Wrong address next bytes t b e = absurd cc
 
-none_end : (effect : Effect) (address next : ℕ) (bytes : List ℕ) → TakesNone effect → bytes ≡ [] → placed effect address ≡ Ok next
+none_end : (effect : Effect) (address next : ℕ) (bytes : List ℕ) → TakesNone effect → bytes ≡ [] → address_after effect address ≡ Ok next
     → EndsAt effect address next bytes
 none_end effect address next bytes t b e =
     (none_ends effect address next bytes t b e, λ some. absurd (let none : length bytes ≡ 0 = ap length b in omega (arith, none, some)))
 
-take_within : (n : ℕ) (even : Bool) (address next : ℕ) → placed (Take n even) address ≡ Ok next → address + n ≤ 65536
+take_within : (n : ℕ) (even : Bool) (address next : ℕ) → address_after (Take n even) address ≡ Ok next → address + n ≤ 65536
 take_within n even address next e = by_case (nat_lt 65536 (address + n)) (even && not (address % 2 == 0)) refl e
   where
     by_case : (past odd : Bool) → nat_lt 65536 (address + n) ≡ past → cond past (Err why.Past)
@@ -149,31 +149,31 @@ take_within n even address next e = by_case (nat_lt 65536 (address + n)) (even &
     by_case false odd is e' = grind (arith, nat_tests)
 
 some_end : (effect : Effect) (n : ℕ) (even : Bool) (address next : ℕ) (bytes : List ℕ) → Take n even ≡ effect → length bytes ≡ n
-    → placed effect address ≡ Ok next → EndsAt effect address next bytes
+    → address_after effect address ≡ Ok next → EndsAt effect address next bytes
 some_end effect n even address next bytes is size e =
-    let at : placed (Take n even) address ≡ Ok next = ap (λ f. placed f address) is ∙ e in (
+    let at : address_after (Take n even) address ≡ Ok next = ap (λ f. address_after f address) is ∙ e in (
       subst (λ f. end_by f address bytes ≡ next) is (ap (λ k. address + k) size ∙ take_end n even address next at),
       λ some. subst (λ k. address + k ≤ 65536) (sym size) (take_within n even address next at),
     )
 
 -- data takes its bytes, or its line has the wrong operands
-shaped_end : (shape even : Bool) (n : ℕ) (effect : Effect) (address next : ℕ) (bytes : List ℕ) → ◌≡◌ {A = Outcome Effect}
-    (Ok (cond shape (Take n even) Wrong)) (Ok effect) → length bytes ≡ n → placed effect address ≡ Ok next → EndsAt effect address next
+shaped_end : (shape even : Bool) (n : ℕ) (effect : Effect) (address next : ℕ) (bytes : List ℕ) → ◌≡◌ {A = OrFault Effect}
+    (Ok (cond shape (Take n even) Wrong)) (Ok effect) → length bytes ≡ n → address_after effect address ≡ Ok next → EndsAt effect address next
     bytes
 shaped_end true even n effect address next bytes is size e = some_end effect n even address next bytes (ok_same (Take n even) effect is)
     size e
-shaped_end false even n effect address next bytes is size e = let no : placed Wrong address ≡ Ok next = ap (λ f. placed f address)
+shaped_end false even n effect address next bytes is size e = let no : address_after Wrong address ≡ Ok next = ap (λ f. address_after f address)
     (ok_same Wrong effect is) ∙ e in absurd cc
 
-shaped_none : (shape : Bool) (effect : Effect) → ◌≡◌ {A = Outcome Effect} (Ok (cond shape Nothing Wrong)) (Ok effect) → TakesNone effect
+shaped_none : (shape : Bool) (effect : Effect) → ◌≡◌ {A = OrFault Effect} (Ok (cond shape Nothing Wrong)) (Ok effect) → TakesNone effect
 shaped_none true effect is = subst TakesNone (ok_same Nothing effect is) tt
 shaped_none false effect is = subst TakesNone (ok_same Wrong effect is) tt
 
-moved_none : (o : Outcome ℤ) (effect : Effect) → moved o ≡ Ok effect → TakesNone effect
+moved_none : (o : OrFault ℤ) (effect : Effect) → moved o ≡ Ok effect → TakesNone effect
 moved_none (Ok to) effect is = subst TakesNone (ok_same (Move (unsigned_abs to)) effect is) tt
 moved_none (Err fault) effect is = absurd cc
 
-set_none : (o : Outcome ℤ) (effect : Effect) → set o ≡ Ok effect → TakesNone effect
+set_none : (o : OrFault ℤ) (effect : Effect) → set o ≡ Ok effect → TakesNone effect
 set_none (Ok value) effect is = subst TakesNone (ok_same (Define value) effect is) tt
 set_none (Err fault) effect is = absurd cc
 
@@ -193,13 +193,13 @@ equ_none line symbols (n ∷ e ∷ rest) effect is = by_case (is_name n.kind && 
     by_case true is' = set_none (expression line symbols None rest) effect is'
     by_case false is' = subst TakesNone (ok_same Wrong effect is') tt
 
-hint_empty : (o : Outcome (Option Hint)) (out : LineOutput) → mapped o hint_output ≡ Ok out → out.bytes ≡ []
+hint_empty : (o : OrFault (Option Hint)) (out : LineOutput) → mapped o hint_output ≡ Ok out → out.bytes ≡ []
 hint_empty o out e = let it = made o hint_output out e in sym (ap (λ (p : LineOutput). p.bytes) it.2)
 
 directive_end : (d : Directive) (line : List ℕ) (known symbols : NameMap) (arguments : List Token) (parts : List (List Token))
     (follows : Bool) (address following next : ℕ) (effect : Effect) (out : LineOutput)
     → directive_effect d line known arguments parts follows ≡ Ok effect → directive_output d line symbols following parts ≡ Ok out
-    → placed effect address ≡ Ok next → EndsAt effect address next out.bytes
+    → address_after effect address ≡ Ok next → EndsAt effect address next out.bytes
 directive_end directive.Org line known symbols arguments parts follows address following next effect out is puts e = none_end effect address
     next out.bytes (org_none line known parts effect is) (hint_empty (hint_of directive.Org line symbols parts following) out puts) e
 directive_end directive.Equ line known symbols arguments parts follows address following next effect out is puts e = none_end effect address
@@ -231,13 +231,13 @@ directive_end directive.Fact line known symbols arguments parts follows address 
 pub line_end : (counts : WordsByName) (a : Action) (line : List ℕ) (known symbols : NameMap) (arguments : List Token)
     (parts : List (List Token)) (follows : Bool) (address following next : ℕ) (effect : Effect) (out : LineOutput)
     → effect_of a line known arguments parts follows ≡ Ok effect → action_output a line symbols address following parts ≡ Ok out
-    → placed effect address ≡ Ok next → EndsAt effect address next out.bytes
+    → address_after effect address ≡ Ok next → EndsAt effect address next out.bytes
 line_end counts action.Empty line known symbols arguments parts follows address following next effect out is puts e =
     none_end effect address next out.bytes (subst TakesNone (ok_same Nothing effect is) tt)
     (sym (ap (λ (p : LineOutput). p.bytes) (ok_same no_output out puts))) e
 line_end counts action.Unknown line known symbols arguments parts follows address following next effect out is puts e = absurd cc
 line_end counts action.NoDirective line known symbols arguments parts follows address following next effect out is puts e =
-    let no : placed Wrong address ≡ Ok next = ap (λ f. placed f address) (ok_same Wrong effect is) ∙ e in absurd cc
+    let no : address_after Wrong address ≡ Ok next = ap (λ f. address_after f address) (ok_same Wrong effect is) ∙ e in absurd cc
 line_end counts (action.Instruction name) line known symbols arguments parts follows address following next effect out is puts e =
     let it = made (instruction_of name (record { line = line; symbols = symbols; next = address + 2; parts = parts })) instruction_output
     out puts in

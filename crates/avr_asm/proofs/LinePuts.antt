@@ -12,7 +12,7 @@ use Rattle.avr_asm.specs.declared.lines.Action.TheVariants as action
 use Rattle.avr_asm.specs.declared.output.Hint.{Hint}
 use Rattle.avr_asm.specs.declared.output.Placed.{Placed}
 use Rattle.avr_asm.specs.Emission.{Flash, put, byte_data, word_data, instruction_bytes}
-use Rattle.avr_operands.specs.Faults.{Outcome, ◌>>=◌}
+use Rattle.avr_operands.specs.Faults.{OrFault, ◌>>=◌}
 use Rattle.avr_asm.specs.Hints.{hint_of, mapped}
 use Rattle.avr_operands.specs.Instructions.{instruction_of}
 use Rattle.avr_asm.specs.Layout.{arguments_in}
@@ -24,7 +24,7 @@ use Rattle.avr_asm.specs.LineOutputs.{LineOutput, instruction_output, data_outpu
 use Rattle.avr_asm.specs.LineOutputs.{tokens_output, line_output}
 
 -- what is there, with a line's output put at its address
-abbrev pub with_output : ℕ → ℕ → Output → LineOutput → Outcome Output
+abbrev pub with_output : ℕ → ℕ → Output → LineOutput → OrFault Output
 with_output k address out o =
     mapped (put address o.bytes out.image) (λ image. record {
       image = image;
@@ -34,11 +34,11 @@ with_output k address out o =
 
 -- nothing more is what was there
 same_lists : (out : Output) (image : Flash) (items : List Placed) (hints : List Hint) → items ≡ out.items → hints ≡ out.hints
-    → ◌≡◌ {A = Outcome Output} (Ok (record { image = image; items = items; hints = hints }))
+    → ◌≡◌ {A = OrFault Output} (Ok (record { image = image; items = items; hints = hints }))
     (Ok (record { image = image; items = out.items; hints = out.hints }))
 same_lists out image items hints e f = λ i. Ok (record { image = image; items = e i; hints = f i })
 
-unchanged : (out : Output) → ◌≡◌ {A = Outcome Output} (Ok (record { image = out.image; items = out.items ++ []; hints = out.hints ++ [] }))
+unchanged : (out : Output) → ◌≡◌ {A = OrFault Output} (Ok (record { image = out.image; items = out.items ++ []; hints = out.hints ++ [] }))
     (Ok out)
 unchanged out = same_lists out out.image (out.items ++ []) (out.hints ++ []) (append-nil out.items) (append-nil out.hints)
 
@@ -46,7 +46,7 @@ item_put : (k address : ℕ) (out : Output) (i : Instr) → with_instruction k a
 unfolding with_instruction
 item_put k address out i = by_case (put address (instruction_bytes i) out.image)
   where
-    by_case : (p : Outcome Flash) → with_item out (record { at = address / 2; line = k; instr = i }) p
+    by_case : (p : OrFault Flash) → with_item out (record { at = address / 2; line = k; instr = i }) p
         ≡ mapped p (λ image. record {
           image = image;
           items = out.items ++ record { at = address / 2; line = k; instr = i } ∷ [];
@@ -63,7 +63,7 @@ data_put : (k address : ℕ) (out : Output) (bytes : List ℕ) → with_data add
 unfolding with_data
 data_put k address out bytes = by_case (put address bytes out.image)
   where
-    by_case : (p : Outcome Flash) → with_image out p ≡ mapped p
+    by_case : (p : OrFault Flash) → with_image out p ≡ mapped p
         (λ image. record { image = image; items = out.items ++ []; hints = out.hints ++ [] })
     by_case (Ok image) = sym (same_lists out image (out.items ++ []) (out.hints ++ []) (append-nil out.items) (append-nil out.hints))
     by_case (Err fault) = refl
@@ -74,7 +74,7 @@ hint_put k address out (Some hint) = ap (λ is. Ok (record { image = out.image; 
     (sym (append-nil out.items))
 
 -- a step on a value is one on what is made of it
-on_mapped : {X : Type 0} (o : Outcome X) (f : X → LineOutput) (g : X → Outcome Output) (h : LineOutput → Outcome Output)
+on_mapped : {X : Type 0} (o : OrFault X) (f : X → LineOutput) (g : X → OrFault Output) (h : LineOutput → OrFault Output)
     → ((x : X) → g x ≡ h (f x)) → (o >>= g) ≡ (mapped o f >>= h)
 on_mapped (Ok x) f g h e = e x
 on_mapped (Err fault) f g h e = refl
@@ -117,7 +117,7 @@ pub line_put : (line : List ℕ) (symbols : NameMap) (k address following : ℕ)
 unfolding with_line line_output
 line_put line symbols k address following out = by_case (content_of line)
   where
-    by_case : (o : Outcome (List Token)) → (o >>= with_tokens line symbols k address following out)
+    by_case : (o : OrFault (List Token)) → (o >>= with_tokens line symbols k address following out)
         ≡ ((o >>= tokens_output line symbols address following) >>= with_output k address out)
     by_case (Ok tokens) = action_put (action_of line (body_of tokens)) line symbols k address following
         (parts_of (arguments_in line tokens)) out

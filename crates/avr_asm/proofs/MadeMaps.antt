@@ -15,7 +15,7 @@ use Rattle.avr_asm.specs.declared.first_pass.Effect.{Effect}
 use Rattle.avr_asm.specs.declared.first_pass.Effect.TheVariants.{Nothing, Move, Define, Take, Wrong}
 use Rattle.avr_asm.specs.declared.layout.Place.{Place}
 use Rattle.avr_asm.specs.Emission.{Flash, put}
-use Rattle.avr_operands.specs.Faults.{Outcome}
+use Rattle.avr_operands.specs.Faults.{OrFault}
 use Rattle.avr_asm.specs.Layout.{is_reserved, defined, with_symbols, labelled, named, with_value, with_values, port_names, core_names}
 use Rattle.avr_asm.specs.Layout.{data_names, with_ports, with_core, with_data, predefined}
 use Rattle.avr_asm.specs.Relation.{bytes_from, label_entries, equ_entries, predefined_names}
@@ -71,13 +71,13 @@ defined_made name value old new es e made =
       (d.free, tt),
     )
 
-with_symbols_ok : (address : ℕ) (o : Outcome NameMap) (next : Place) → with_symbols address o ≡ Ok next → o ≡ Ok next.symbols
+with_symbols_ok : (address : ℕ) (o : OrFault NameMap) (next : Place) → with_symbols address o ≡ Ok next → o ≡ Ok next.symbols
 with_symbols_ok address (Ok symbols) next e =
     let same : record { address = address; symbols = symbols } ≡ next = ok_same (record { address = address; symbols = symbols }) next e in
     ap (λ (p : Place). Ok p.symbols) same
 with_symbols_ok address (Err fault) next e = absurd cc
 
-unchanged_made : (old new : Place) (es : List (List ℕ × ℤ)) → ◌≡◌ {A = Outcome Place} (Ok old) (Ok new) → IsMadeOf old.symbols es
+unchanged_made : (old new : Place) (es : List (List ℕ × ℤ)) → ◌≡◌ {A = OrFault Place} (Ok old) (Ok new) → IsMadeOf old.symbols es
     → IsMadeOf new.symbols (es ++ [])
 unchanged_made old new es e made = subst (IsMadeOf new.symbols) (sym (append-nil es))
     (subst (λ (p : Place). IsMadeOf p.symbols es) (ok_same old new e) made)

@@ -10,7 +10,7 @@ use Rattle.avr_text.specs.declared.tokens.Token.{Token}
 use Rattle.avr_text.specs.Names.{NameMap}
 use Rattle.avr_operands.specs.declared.errors.AsmWhy.{AsmWhy}
 use Rattle.avr_operands.specs.declared.errors.AsmWhy.TheVariants as why
-use Rattle.avr_operands.specs.Faults.{Outcome, ◌>>=◌, number_of}
+use Rattle.avr_operands.specs.Faults.{OrFault, ◌>>=◌, number_of}
 use Rattle.avr_asm.specs.declared.errors.AsmError.{AsmError}
 use Rattle.avr_asm.specs.Assembly.{Output, following, with_line, at_line, output_from}
 use Rattle.avr_asm.specs.Emission.{Flash, put}
@@ -35,11 +35,11 @@ get_other : (m : Flash) (k v q : ℕ) → ¬ (q ≡ k) → get (insert m k v) q 
 get_other m k v q h = grind (arith, gets, nat_tests)
 
 -- bytes within the flash fall on free addresses, or one of them on another byte
-abbrev PutSays : ℕ → List ℕ → Flash → Outcome Flash → Type 0
+abbrev PutSays : ℕ → List ℕ → Flash → OrFault Flash → Type 0
 PutSays at bytes image (Ok next) = (i : ℕ) → i < length bytes → get image (at + i) ≡ None
 PutSays at bytes image (Err w) = (w ≡ why.Overlap) × (i : ℕ) × (i < length bytes) × (byte : ℕ) × (get image (at + i) ≡ Some byte)
 
-more_says : (at b : ℕ) (bs : List ℕ) (image : Flash) (r : Outcome Flash) → get image at ≡ None → PutSays (at + 1) bs (insert image at b) r
+more_says : (at b : ℕ) (bs : List ℕ) (image : Flash) (r : OrFault Flash) → get image at ≡ None → PutSays (at + 1) bs (insert image at b) r
     → PutSays at (b ∷ bs) image r
 more_says at b bs image (Ok next) free h = go
   where
@@ -92,7 +92,7 @@ unfolding line_output
 line_is symbols front l follows after k out is =
     let next = following (map (λ (x : Laid). x.source) after) (map (λ (x : Laid). x.address) after) in
     line_put l.source symbols k l.address next out
-    ∙ ap (λ (o : Outcome (List Token)). (o >>= tokens_output l.source symbols l.address next) >>= with_output k l.address out) is.read
+    ∙ ap (λ (o : OrFault (List Token)). (o >>= tokens_output l.source symbols l.address next) >>= with_output k l.address out) is.read
 
 -- what comes of a line
 record Goes (symbols : NameMap) (before : List Filled) (l : Laid) (after : List Laid) (next : Output) : Type 0 where
@@ -100,7 +100,7 @@ record Goes (symbols : NameMap) (before : List Filled) (l : Laid) (after : List 
   pub filled : IsFilled symbols before (record { laid = l; output = output }) after
   pub made : IsMadeOf next.image (bytes_by (before ++ record { laid = l; output = output } ∷ []))
 
-abbrev LineSays : NameMap → List Filled → Laid → List Laid → Outcome Output → Type 0
+abbrev LineSays : NameMap → List Filled → Laid → List Laid → OrFault Output → Type 0
 LineSays symbols before l after (Ok next) = Goes symbols before l after next
 LineSays symbols before l after (Err w) = IsLeast (InSecondPass symbols (from_entries (bytes_by before)) l after) w
 
@@ -117,10 +117,10 @@ no_output_says symbols before l after w e = record { stands = inl e; least = lea
     least : (v : AsmWhy) → InSecondPass symbols (from_entries (bytes_by before)) l after v → number_of w ≤ number_of v
     least v (inl f) = let same : w ≡ v = err_same {X = LineOutput} w v (sym e ∙ f) in subst (λ u. number_of w ≤ number_of u) same
         (omega arith)
-    least v (inr (is_v, over)) = let no : ◌≡◌ {A = Outcome LineOutput} (Err w) (Ok over.0) = sym e ∙ over.1 in absurd cc
+    least v (inr (is_v, over)) = let no : ◌≡◌ {A = OrFault LineOutput} (Err w) (Ok over.0) = sym e ∙ over.1 in absurd cc
 
 output_says : (symbols : NameMap) (before : List Filled) (l : Laid) (after : List Laid) (k : ℕ) (out : Output) (o : LineOutput)
-    (p : Outcome Flash) → puts_out symbols l after ≡ Ok o
+    (p : OrFault Flash) → puts_out symbols l after ≡ Ok o
     → put l.address o.bytes out.image ≡ p → IsMadeOf out.image (bytes_by before) → PutSays l.address o.bytes out.image p
     → LineSays symbols before l after
     (mapped p (λ image. record {
@@ -137,7 +137,7 @@ output_says symbols before l after k out o (Ok image) puts e made says = record 
 }
   where
     sound : (w : AsmWhy) → ¬ InSecondPass symbols (from_entries (bytes_by before)) l after w
-    sound w (inl f) = let no : ◌≡◌ {A = Outcome LineOutput} (Ok o) (Err w) = sym puts ∙ f in cc
+    sound w (inl f) = let no : ◌≡◌ {A = OrFault LineOutput} (Ok o) (Err w) = sym puts ∙ f in cc
     sound w (inr (is_w, (other, f, i, lt, byte, held))) =
         let same : other ≡ o = ok_same other o (sym f ∙ puts) in
         let none : get out.image (l.address + i) ≡ None = says i (subst (λ (x : LineOutput). i < length x.bytes) same lt) in
@@ -150,7 +150,7 @@ output_says symbols before l after k out o (Err v) puts e made says = record {
 }
   where
     least : (w : AsmWhy) → InSecondPass symbols (from_entries (bytes_by before)) l after w → number_of v ≤ number_of w
-    least w (inl f) = let no : ◌≡◌ {A = Outcome LineOutput} (Ok o) (Err w) = sym puts ∙ f in absurd cc
+    least w (inl f) = let no : ◌≡◌ {A = OrFault LineOutput} (Ok o) (Err w) = sym puts ∙ f in absurd cc
     least w (inr (is_w, rest)) = subst (λ u. number_of v ≤ number_of u) (says.0 ∙ sym is_w) (omega arith)
 
 line_says : (counts : WordsByName) (symbols : NameMap) (front : List Laid) (before : List Filled) (l : Laid) (follows : Bool)
@@ -160,7 +160,7 @@ line_says : (counts : WordsByName) (symbols : NameMap) (front : List Laid) (befo
 line_says counts symbols front before l follows after k out is made =
     subst (LineSays symbols before l after) (sym (line_is symbols front l follows after k out is)) (go (puts_out symbols l after) refl)
   where
-    go : (p : Outcome LineOutput) → puts_out symbols l after ≡ p → LineSays symbols before l after (p >>= with_output k l.address out)
+    go : (p : OrFault LineOutput) → puts_out symbols l after ≡ p → LineSays symbols before l after (p >>= with_output k l.address out)
     go (Err w) e = no_output_says symbols before l after w e
     go (Ok o) e =
         output_says symbols before l after k out o (put l.address o.bytes out.image) e refl made
@@ -197,7 +197,7 @@ one_more_says symbols before f k ls (Err e) is h = record {
       (append_assoc before (f ∷ []) h.more) h.fault;
 }
 
-lines_say_from : (symbols : NameMap) (before : List Filled) (l : Laid) (k : ℕ) (ls : List Laid) (o : Outcome Output) → LineSays symbols
+lines_say_from : (symbols : NameMap) (before : List Filled) (l : Laid) (k : ℕ) (ls : List Laid) (o : OrFault Output) → LineSays symbols
     before l ls o
     → ((bs : List Filled) (next : Output) → IsMadeOf next.image (bytes_by bs) → OutputSays symbols bs (k + 1) ls
     (output_from (k + 1) symbols next (map (λ x. x.source) ls) (map (λ x. x.address) ls)))
@@ -245,7 +245,7 @@ filled_put counts symbols front before f follows after k out laid made is =
     go (with_line f.laid.source symbols k f.laid.address next out) refl (line_says counts symbols front before f.laid follows after k out
     laid made)
   where
-    go : (o : Outcome Output) → with_line f.laid.source symbols k f.laid.address (following (map (λ (x : Laid). x.source) after)
+    go : (o : OrFault Output) → with_line f.laid.source symbols k f.laid.address (following (map (λ (x : Laid). x.source) after)
         (map (λ (x : Laid). x.address) after)) out ≡ o
         → LineSays symbols before f.laid after o → IsPut symbols before f after k out
     go (Err w) e says = absurd (is.sound w says.stands)
@@ -290,7 +290,7 @@ all_put counts symbols (f ∷ fs) after front before k out laid filled made =
       made = subst (λ bs. IsMadeOf rest.next.image (bytes_by bs)) (append_assoc before (f ∷ []) fs) rest.made;
       laid = subst (λ xs. AreLaid xs after []) (append_assoc front (f.laid ∷ []) (map (λ (g : Filled). g.laid) fs)) rest.laid;
       goes =
-          ap (λ (o : Outcome Output). at_line k o (λ next. output_from (k + 1) symbols next (map (λ (x : Laid). x.source) ls)
+          ap (λ (o : OrFault Output). at_line k o (λ next. output_from (k + 1) symbols next (map (λ (x : Laid). x.source) ls)
           (map (λ (x : Laid). x.address) ls))) here.goes
           ∙ rest.goes
           ∙ ap (λ n. output_from n symbols rest.next (map (λ (x : Laid). x.source) after) (map (λ (x : Laid). x.address) after)) count;
@@ -307,11 +307,11 @@ fault_put counts symbols fs l after k out w laid filled made fault =
     let p = all_put counts symbols fs (l ∷ after) [] [] k out laid filled made in
     let says = line_says counts symbols (map (λ (f : Filled). f.laid) fs) fs l
     (list_any is_instruction_line (map (λ (x : Laid). x.source) after ++ [])) after (k + length fs) p.next p.laid.0 p.made in
-    p.goes ∙ ap (λ (o : Outcome Output). at_line (k + length fs) o (λ next. output_from (k + length fs + 1) symbols next
+    p.goes ∙ ap (λ (o : OrFault Output). at_line (k + length fs) o (λ next. output_from (k + length fs + 1) symbols next
     (map (λ (x : Laid). x.source) after) (map (λ (x : Laid). x.address) after)))
     (refused (with_line l.source symbols (k + length fs) l.address (following (map (λ (x : Laid). x.source) after)
     (map (λ (x : Laid). x.address) after)) p.next) says)
   where
-    refused : (o : Outcome Output) → LineSays symbols fs l after o → o ≡ Err w
+    refused : (o : OrFault Output) → LineSays symbols fs l after o → o ≡ Err w
     refused (Ok next) says = absurd (says.filled.sound w fault.stands)
     refused (Err v) says = ap (λ u. Err u) (same_least (InSecondPass symbols (from_entries (bytes_by fs)) l after) v w says fault)

@@ -14,7 +14,7 @@ use Rattle.avr_asm.specs.declared.errors.AsmError.{AsmError}
 use Rattle.avr_asm.specs.declared.layout.Place.{Place}
 use Rattle.avr_asm.specs.declared.output.Built.{Built}
 use Rattle.avr_asm.specs.Emission.{put}
-use Rattle.avr_operands.specs.Faults.{Outcome, ◌>>=◌}
+use Rattle.avr_operands.specs.Faults.{OrFault, ◌>>=◌}
 use Rattle.avr_asm.specs.Layout.{Layout, start, layout_from, arguments_in, is_reserved, effect_in, is_instruction_line, GivesLayout}
 use Rattle.avr_asm.specs.Lines.{lines_of, content_of, label_of, first_text, body_of, action_of, parts_of}
 use Rattle.avr_asm.specs.LineOutputs.{LineOutput, tokens_output, line_output}
@@ -114,7 +114,7 @@ statement {line = line} {place = place} k l o = record {
 tokens_put : (line : List ℕ) (symbols : NameMap) (address next : ℕ) (tokens : List Token) (o : LineOutput) → content_of line ≡ Ok tokens
     → line_output symbols address next line ≡ Ok o → tokens_output line symbols address next tokens ≡ Ok o
 unfolding line_output
-tokens_put line symbols address next tokens o is e = sym (ap (λ (c : Outcome (List Token)). c >>= tokens_output line symbols address next)
+tokens_put line symbols address next tokens o is e = sym (ap (λ (c : OrFault (List Token)). c >>= tokens_output line symbols address next)
     is) ∙ e
 
 ended : (counts : WordsByName) (follows : Bool) (line : List ℕ) (place next : Place) (all : NameMap) (after : ℕ)

@@ -13,7 +13,7 @@ use Rattle.avr_asm.specs.declared.output.Built.{Built}
 use Rattle.avr_asm.specs.declared.output.Hint.{Hint}
 use Rattle.avr_asm.specs.declared.output.Placed.{Placed}
 use Rattle.avr_asm.specs.Emission.{Flash, put, byte_data, word_data, instruction_bytes}
-use Rattle.avr_operands.specs.Faults.{Outcome, ◌>>=◌}
+use Rattle.avr_operands.specs.Faults.{OrFault, ◌>>=◌}
 use Rattle.avr_asm.specs.Hints.{hint_of}
 use Rattle.avr_operands.specs.Instructions.{instruction_of}
 use Rattle.avr_asm.specs.Layout.{Layout, layout_of, arguments_in, is_instruction_line}
@@ -28,35 +28,35 @@ pub record Output : Type 0 where
 abbrev pub nothing : Output
 nothing = record { image = map.empty; items = []; hints = [] }
 
-abbrev pub with_image : Output → Outcome Flash → Outcome Output
+abbrev pub with_image : Output → OrFault Flash → OrFault Output
 with_image out (Ok image) = Ok (record { image = image; items = out.items; hints = out.hints })
 with_image out (Err fault) = Err fault
 
-abbrev pub with_item : Output → Placed → Outcome Flash → Outcome Output
+abbrev pub with_item : Output → Placed → OrFault Flash → OrFault Output
 with_item out item (Ok image) = Ok (record { image = image; items = out.items ++ item ∷ []; hints = out.hints })
 with_item out item (Err fault) = Err fault
 
 -- an instruction of a line at an address
-unfoldable pub with_instruction : ℕ → ℕ → Output → Instr → Outcome Output
+unfoldable pub with_instruction : ℕ → ℕ → Output → Instr → OrFault Output
 with_instruction k address out i = with_item out (record { at = address / 2; line = k; instr = i })
     (put address (instruction_bytes i) out.image)
 
 -- bytes of data at an address
-unfoldable pub with_data : ℕ → Output → List ℕ → Outcome Output
+unfoldable pub with_data : ℕ → Output → List ℕ → OrFault Output
 with_data address out bytes = with_image out (put address bytes out.image)
 
-abbrev pub with_hint : Output → Option Hint → Outcome Output
+abbrev pub with_hint : Output → Option Hint → OrFault Output
 with_hint out None = Ok out
 with_hint out (Some hint) = Ok (record { image = out.image; items = out.items; hints = out.hints ++ hint ∷ [] })
 
 -- a directive's data or hint
-abbrev pub with_directive : Directive → List ℕ → NameMap → ℕ → ℕ → List (List Token) → Output → Outcome Output
+abbrev pub with_directive : Directive → List ℕ → NameMap → ℕ → ℕ → List (List Token) → Output → OrFault Output
 with_directive directive.Db line symbols address following parts out = byte_data line symbols parts >>= with_data address out
 with_directive directive.Dw line symbols address following parts out = word_data line symbols parts >>= with_data address out
 with_directive d line symbols address following parts out = hint_of d line symbols parts following >>= with_hint out
 
 -- what a line's action puts out
-abbrev pub with_action : Action → List ℕ → NameMap → ℕ → ℕ → ℕ → List (List Token) → Output → Outcome Output
+abbrev pub with_action : Action → List ℕ → NameMap → ℕ → ℕ → ℕ → List (List Token) → Output → OrFault Output
 with_action (action.Instruction mnemonic) line symbols k address following parts out =
     instruction_of mnemonic (record { line = line; symbols = symbols; next = address + 2; parts = parts }) >>= with_instruction k address
     out
@@ -64,11 +64,11 @@ with_action (action.Directive d) line symbols k address following parts out = wi
 with_action other line symbols k address following parts out = Ok out
 
 -- the k-th line, at its address; a `.fact` speaks of the word address that follows
-abbrev pub with_tokens : List ℕ → NameMap → ℕ → ℕ → ℕ → Output → List Token → Outcome Output
+abbrev pub with_tokens : List ℕ → NameMap → ℕ → ℕ → ℕ → Output → List Token → OrFault Output
 with_tokens line symbols k address following out tokens =
     with_action (action_of line (body_of tokens)) line symbols k address following (parts_of (arguments_in line tokens)) out
 
-unfoldable pub with_line : List ℕ → NameMap → ℕ → ℕ → ℕ → Output → Outcome Output
+unfoldable pub with_line : List ℕ → NameMap → ℕ → ℕ → ℕ → Output → OrFault Output
 with_line line symbols k address following out = content_of line >>= with_tokens line symbols k address following out
 
 -- the word address of the first instruction line of some lines
@@ -76,7 +76,7 @@ abbrev pub following : List (List ℕ) → List ℕ → ℕ
 following (line ∷ lines) (a ∷ addresses) = if is_instruction_line line then a / 2 else following lines addresses
 following lines addresses = 0
 
-abbrev pub at_line : ℕ → Outcome Output → (Output → Result Output AsmError) → Result Output AsmError
+abbrev pub at_line : ℕ → OrFault Output → (Output → Result Output AsmError) → Result Output AsmError
 at_line k (Ok out) f = f out
 at_line k (Err fault) f = Err (record { line = k; why = fault })
 

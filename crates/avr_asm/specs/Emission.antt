@@ -11,7 +11,7 @@ use Rattle.avr_text.specs.Names.{NameMap}
 use Rattle.avr_operands.specs.declared.errors.AsmWhy.{AsmWhy}
 use Rattle.avr_operands.specs.declared.errors.AsmWhy.TheVariants as why
 use Rattle.avr_asm.specs.Codes.{first_word, second_word, word_count}
-use Rattle.avr_operands.specs.Faults.{Outcome, least}
+use Rattle.avr_operands.specs.Faults.{OrFault, least}
 use Rattle.avr_operands.specs.Operands.{number}
 
 -- bits 0 to 7 of a number, and for a word bits 8 to 15 after them
@@ -23,18 +23,18 @@ bytes_of_number false x = low_byte x ∷ []
 bytes_of_number true x = low_byte x ∷ low_byte (int_shr x 8) ∷ []
 
 -- an operand of `.db`, or of `.dw`
-abbrev pub data_value : Bool → List ℕ → NameMap → List Token → Outcome ℤ
+abbrev pub data_value : Bool → List ℕ → NameMap → List Token → OrFault ℤ
 data_value false line symbols tokens = number (negsuc 127) (pos 255) line symbols tokens
 data_value true line symbols tokens = number (negsuc 32767) (pos 65535) line symbols tokens
 
 -- the bytes so far with one more operand's, or the least fault
-abbrev pub with_number : Bool → Outcome (List ℕ) → Outcome ℤ → Outcome (List ℕ)
+abbrev pub with_number : Bool → OrFault (List ℕ) → OrFault ℤ → OrFault (List ℕ)
 with_number wide (Ok bytes) (Ok x) = Ok (bytes ++ bytes_of_number wide x)
 with_number wide (Ok bytes) (Err fault) = Err fault
 with_number wide (Err fault) (Ok x) = Err fault
 with_number wide (Err fault) (Err other) = Err (least fault other)
 
-abbrev pub data_from : Bool → List ℕ → NameMap → Outcome (List ℕ) → List (List Token) → Outcome (List ℕ)
+abbrev pub data_from : Bool → List ℕ → NameMap → OrFault (List ℕ) → List (List Token) → OrFault (List ℕ)
 data_from wide line symbols sofar [] = sofar
 data_from wide line symbols sofar (part ∷ parts) = data_from wide line symbols (with_number wide sofar (data_value wide line symbols part))
     parts
@@ -44,7 +44,7 @@ least_of_faults None other = other
 least_of_faults (Some fault) other = least fault other
 
 -- as the program keeps them
-abbrev pub data_state : Option AsmWhy → List ℕ → Outcome (List ℕ)
+abbrev pub data_state : Option AsmWhy → List ℕ → OrFault (List ℕ)
 data_state None bytes = Ok bytes
 data_state (Some fault) bytes = Err fault
 
@@ -52,15 +52,15 @@ data_state (Some fault) bytes = Err fault
 abbrev pub padded : List ℕ → List ℕ
 padded bytes = if length bytes % 2 == 0 then bytes else bytes ++ 0 ∷ []
 
-abbrev pub padded_outcome : Outcome (List ℕ) → Outcome (List ℕ)
+abbrev pub padded_outcome : OrFault (List ℕ) → OrFault (List ℕ)
 padded_outcome (Ok bytes) = Ok (padded bytes)
 padded_outcome (Err fault) = Err fault
 
 -- the bytes of `.db` and of `.dw`
-abbrev pub byte_data : List ℕ → NameMap → List (List Token) → Outcome (List ℕ)
+abbrev pub byte_data : List ℕ → NameMap → List (List Token) → OrFault (List ℕ)
 byte_data line symbols parts = padded_outcome (data_from false line symbols (Ok []) parts)
 
-abbrev pub word_data : List ℕ → NameMap → List (List Token) → Outcome (List ℕ)
+abbrev pub word_data : List ℕ → NameMap → List (List Token) → OrFault (List ℕ)
 word_data line symbols parts = data_from true line symbols (Ok []) parts
 
 -- the bytes of an instruction: its words, low byte first
@@ -74,7 +74,7 @@ instruction_bytes i = if word_count i == 2 then word_bytes (first_word i) ++ wor
 abbrev pub Flash : Type 0
 Flash = FinMap nat_cmp ℕ
 
-abbrev pub put : ℕ → List ℕ → Flash → Outcome Flash
+abbrev pub put : ℕ → List ℕ → Flash → OrFault Flash
 put at [] flash = Ok flash
 put at (b ∷ bs) flash =
     if nat_le 65536 at then Err why.Past

@@ -11,28 +11,28 @@ use Rattle.avr_asm.specs.declared.output.Hint.{Hint}
 use Rattle.avr_asm.specs.declared.output.Hint.TheVariants as hint
 use Rattle.avr_operands.specs.declared.pointers.Pointer.{Pointer}
 use Rattle.avr_operands.specs.declared.pointers.Pointer.TheVariants.{X, Y, Z}
-use Rattle.avr_operands.specs.Faults.{Outcome}
+use Rattle.avr_operands.specs.Faults.{OrFault}
 use Rattle.avr_operands.specs.Instructions.{pointer_named}
 use Rattle.avr_asm.specs.Layout.{is_word}
 use Rattle.avr_operands.specs.Operands.{both, name_of, number, register_of}
 
-abbrev pub natural : Outcome ℤ → Outcome ℕ
+abbrev pub natural : OrFault ℤ → OrFault ℕ
 natural (Ok x) = Ok (unsigned_abs x)
 natural (Err fault) = Err fault
 
 -- numbers of 16 and of 8 bits
-abbrev pub short : List ℕ → NameMap → List Token → Outcome ℕ
+abbrev pub short : List ℕ → NameMap → List Token → OrFault ℕ
 short line symbols tokens = natural (number (pos 0) (pos 65535) line symbols tokens)
 
-abbrev pub byte : List ℕ → NameMap → List Token → Outcome ℕ
+abbrev pub byte : List ℕ → NameMap → List Token → OrFault ℕ
 byte line symbols tokens = natural (number (pos 0) (pos 255) line symbols tokens)
 
 -- an even byte address as a word address
-abbrev pub in_words : Outcome ℕ → Outcome ℕ
+abbrev pub in_words : OrFault ℕ → OrFault ℕ
 in_words (Ok n) = if n % 2 == 0 then Ok (n / 2) else Err why.Range
 in_words (Err fault) = Err fault
 
-abbrev pub word_address : List ℕ → NameMap → List Token → Outcome ℕ
+abbrev pub word_address : List ℕ → NameMap → List Token → OrFault ℕ
 word_address line symbols tokens = in_words (short line symbols tokens)
 
 -- a register by its number, and X, Y and Z as 32, 33 and 34
@@ -41,28 +41,28 @@ pointer_place X = 32
 pointer_place Y = 33
 pointer_place Z = 34
 
-abbrev pub register_or_pointer : Option ℕ → Option Pointer → Outcome ℕ
+abbrev pub register_or_pointer : Option ℕ → Option Pointer → OrFault ℕ
 register_or_pointer (Some n) pointer = Ok n
 register_or_pointer None (Some pointer) = Ok (pointer_place pointer)
 register_or_pointer None None = Err why.Operand
 
-abbrev pub place_named : Option (List ℕ) → Outcome ℕ
+abbrev pub place_named : Option (List ℕ) → OrFault ℕ
 place_named None = Err why.Operand
 place_named (Some word) = register_or_pointer (register_of word) (pointer_named word)
 
-abbrev pub place_of : List ℕ → List Token → Outcome ℕ
+abbrev pub place_of : List ℕ → List Token → OrFault ℕ
 place_of line tokens = place_named (name_of line tokens)
 
-abbrev pub mapped : {X Y : Type 0} → Outcome X → (X → Y) → Outcome Y
+abbrev pub mapped : {X Y : Type 0} → OrFault X → (X → Y) → OrFault Y
 mapped (Ok x) f = Ok (f x)
 mapped (Err fault) f = Err fault
 
-abbrev pub start_hint : List ℕ → NameMap → List (List Token) → Outcome Hint
+abbrev pub start_hint : List ℕ → NameMap → List (List Token) → OrFault Hint
 start_hint line symbols (w ∷ at ∷ []) =
     mapped (word_address line symbols at) (λ a. hint.Start (if is_word (codes "main") line w then Main else Alone) a)
 start_hint line symbols other = Err why.Directive
 
-abbrev pub lines_hint : List ℕ → NameMap → List (List Token) → Outcome Hint
+abbrev pub lines_hint : List ℕ → NameMap → List (List Token) → OrFault Hint
 lines_hint line symbols (lines ∷ fall ∷ []) = mapped (both (short line symbols lines) (short line symbols fall)) (λ p. hint.Lines p.0 p.1)
 lines_hint line symbols other = Err why.Directive
 
@@ -70,37 +70,37 @@ lines_hint line symbols other = Err why.Directive
 abbrev pub part_at : List (List Token) → ℕ → List Token
 part_at parts place = slice_index_or parts place []
 
-abbrev pub shorts_at : List ℕ → NameMap → List (List Token) → ℕ → Outcome (ℕ × ℕ)
+abbrev pub shorts_at : List ℕ → NameMap → List (List Token) → ℕ → OrFault (ℕ × ℕ)
 shorts_at line symbols parts place = both (short line symbols (part_at parts place)) (short line symbols (part_at parts (place + 1)))
 
-abbrev pub bytes_at : List ℕ → NameMap → List (List Token) → ℕ → Outcome (ℕ × ℕ)
+abbrev pub bytes_at : List ℕ → NameMap → List (List Token) → ℕ → OrFault (ℕ × ℕ)
 bytes_at line symbols parts place = both (byte line symbols (part_at parts place)) (byte line symbols (part_at parts (place + 1)))
 
-abbrev pub stack_hint : List ℕ → NameMap → List (List Token) → Outcome Hint
+abbrev pub stack_hint : List ℕ → NameMap → List (List Token) → OrFault Hint
 stack_hint line symbols parts =
     mapped (both (shorts_at line symbols parts 0) (bytes_at line symbols parts 2)) (λ p. hint.Stack p.0.0 p.0.1 p.1.0 p.1.1)
 
 -- main's cells have an address and a range, the handler's a first value too
-unfoldable pub ranged : List ℕ → NameMap → List (List Token) → Outcome (ℕ × (ℕ × ℕ))
+unfoldable pub ranged : List ℕ → NameMap → List (List Token) → OrFault (ℕ × (ℕ × ℕ))
 ranged line symbols parts = both (short line symbols (part_at parts 0)) (bytes_at line symbols parts 2)
 
-abbrev pub main_cell_hint : List ℕ → NameMap → List (List Token) → Outcome Hint
+abbrev pub main_cell_hint : List ℕ → NameMap → List (List Token) → OrFault Hint
 main_cell_hint line symbols parts = mapped (ranged line symbols parts) (λ p. hint.Cell p.0 Main p.1.0 p.1.1 0)
 
-abbrev pub handler_cell_hint : List ℕ → NameMap → List (List Token) → Outcome Hint
+abbrev pub handler_cell_hint : List ℕ → NameMap → List (List Token) → OrFault Hint
 handler_cell_hint line symbols parts =
     mapped (both (ranged line symbols parts) (byte line symbols (part_at parts 4))) (λ p. hint.Cell p.0.0 Handler p.0.1.0 p.0.1.1 p.1)
 
-abbrev pub cell_hint : List ℕ → NameMap → List (List Token) → Outcome Hint
+abbrev pub cell_hint : List ℕ → NameMap → List (List Token) → OrFault Hint
 cell_hint line symbols parts = if length parts == 4 then main_cell_hint line symbols parts else handler_cell_hint line symbols parts
 
-abbrev pub fact_hint : List ℕ → NameMap → List (List Token) → ℕ → Outcome Hint
+abbrev pub fact_hint : List ℕ → NameMap → List (List Token) → ℕ → OrFault Hint
 fact_hint line symbols (place ∷ lo ∷ hi ∷ []) following =
     mapped (both (place_of line place) (both (short line symbols lo) (short line symbols hi))) (λ p. hint.Fact following p.0 p.1.0 p.1.1)
 fact_hint line symbols other following = Err why.Directive
 
 -- the hint of a directive, where it is one
-abbrev pub hint_of : Directive → List ℕ → NameMap → List (List Token) → ℕ → Outcome (Option Hint)
+abbrev pub hint_of : Directive → List ℕ → NameMap → List (List Token) → ℕ → OrFault (Option Hint)
 hint_of directive.Start line symbols parts following = mapped (start_hint line symbols parts) (λ h. Some h)
 hint_of directive.Lines line symbols parts following = mapped (lines_hint line symbols parts) (λ h. Some h)
 hint_of directive.Stack line symbols parts following = mapped (stack_hint line symbols parts) (λ h. Some h)

@@ -20,7 +20,7 @@ use Rattle.avr_asm.specs.declared.first_pass.Effect.{Effect}
 use Rattle.avr_asm.specs.declared.first_pass.Effect.TheVariants.{Nothing, Move, Define, Take, Wrong}
 use Rattle.avr_asm.specs.declared.lines.Action.{Action}
 use Rattle.avr_asm.specs.declared.lines.Action.TheVariants as action
-use Rattle.avr_operands.specs.Faults.{Outcome, ◌>>=◌}
+use Rattle.avr_operands.specs.Faults.{OrFault, ◌>>=◌}
 use Rattle.avr_operands.specs.Instructions.{pointer_named}
 use Rattle.avr_asm.specs.Lines.{content_of, label_of, body_of, action_of, arguments_of, parts_of, is_name, is_equals, first_text}
 use Rattle.avr_operands.specs.Mnemonics.{words_of}
@@ -31,7 +31,7 @@ abbrev pub is_reserved : List ℕ → Bool
 is_reserved word = is_some (register_of word) || is_some (pointer_named word)
 
 -- a name gets its value once
-abbrev pub defined : List ℕ → ℤ → NameMap → Outcome NameMap
+abbrev pub defined : List ℕ → ℤ → NameMap → OrFault NameMap
 defined name value symbols =
     if is_reserved name then Err why.Twice
     else if is_some (map.get symbols name) then Err why.Twice
@@ -59,28 +59,28 @@ is_cell line other = false
 abbrev pub if_shaped : Bool → Effect → Effect
 if_shaped shaped effect = if shaped then effect else Wrong
 
-abbrev pub moved : Outcome ℤ → Outcome Effect
+abbrev pub moved : OrFault ℤ → OrFault Effect
 moved (Ok to) = Ok (Move (unsigned_abs to))
 moved (Err fault) = Err fault
 
-abbrev pub set : Outcome ℤ → Outcome Effect
+abbrev pub set : OrFault ℤ → OrFault Effect
 set (Ok value) = Ok (Define value)
 set (Err fault) = Err fault
 
 -- `.org E`: its names have values from earlier lines
-abbrev pub org_effect : List ℕ → NameMap → List (List Token) → Outcome Effect
+abbrev pub org_effect : List ℕ → NameMap → List (List Token) → OrFault Effect
 org_effect line symbols (e ∷ []) = moved (number (pos 0) (pos 65536) line symbols e)
 org_effect line symbols other = Ok Wrong
 
 -- `.equ NAME = E`: the same
-abbrev pub equ_effect : List ℕ → NameMap → List Token → Outcome Effect
+abbrev pub equ_effect : List ℕ → NameMap → List Token → OrFault Effect
 equ_effect line symbols (n ∷ e ∷ rest) =
     if is_name n.kind && is_equals e.kind then set (expression line symbols None rest) else Ok Wrong
 equ_effect line symbols other = Ok Wrong
 
 -- what a directive does: `.db` takes bytes in pairs and `.dw` words; a hint takes none, and a `.fact` has to be followed by
 -- an instruction line
-abbrev pub directive_effect : Directive → List ℕ → NameMap → List Token → List (List Token) → Bool → Outcome Effect
+abbrev pub directive_effect : Directive → List ℕ → NameMap → List Token → List (List Token) → Bool → OrFault Effect
 directive_effect Org line symbols arguments parts follows = org_effect line symbols parts
 directive_effect Db line symbols arguments parts follows =
     Ok (if_shaped (nat_lt 0 (length parts)) (Take (length parts + length parts % 2) false))
@@ -93,7 +93,7 @@ directive_effect Cell line symbols arguments parts follows = Ok (if_shaped (is_c
 directive_effect Fact line symbols arguments parts follows = Ok (if_shaped ((length parts == 3) && follows) Nothing)
 
 -- what a line does, or the fault that goes before those of its names and places
-abbrev pub effect_of : Action → List ℕ → NameMap → List Token → List (List Token) → Bool → Outcome Effect
+abbrev pub effect_of : Action → List ℕ → NameMap → List Token → List (List Token) → Bool → OrFault Effect
 effect_of action.Empty line symbols arguments parts follows = Ok Nothing
 effect_of action.Unknown line symbols arguments parts follows = Err why.Mnemonic
 effect_of action.NoDirective line symbols arguments parts follows = Ok Wrong
@@ -102,50 +102,50 @@ effect_of (action.Directive directive) line symbols arguments parts follows = di
     follows
 
 -- the next line's address: bytes lie below 65,536, and instructions at even addresses
-abbrev pub placed : Effect → ℕ → Outcome ℕ
-placed Nothing address = Ok address
-placed (Move to) address = Ok to
-placed (Define value) address = Ok address
-placed (Take bytes even) address =
+abbrev pub address_after : Effect → ℕ → OrFault ℕ
+address_after Nothing address = Ok address
+address_after (Move to) address = Ok to
+address_after (Define value) address = Ok address
+address_after (Take bytes even) address =
     if nat_lt 65536 (address + bytes) then Err why.Past
     else if even && not (address % 2 == 0) then Err why.Directive
     else Ok (address + bytes)
-placed Wrong address = Err why.Directive
+address_after Wrong address = Err why.Directive
 
-abbrev pub with_symbols : ℕ → Outcome NameMap → Outcome Place
+abbrev pub with_symbols : ℕ → OrFault NameMap → OrFault Place
 with_symbols address (Ok symbols) = Ok (record { address = address; symbols = symbols })
 with_symbols address (Err fault) = Err fault
 
 -- a label's value is its line's address, also before an `.org` of its own line
-abbrev pub labelled : Option (List ℕ) → Place → Outcome Place
+abbrev pub labelled : Option (List ℕ) → Place → OrFault Place
 labelled None place = Ok place
 labelled (Some name) place = with_symbols place.address (defined name (pos place.address) place.symbols)
 
 -- an `.equ` name's value is its expression's
-abbrev pub named : Effect → List ℕ → Place → Outcome Place
+abbrev pub named : Effect → List ℕ → Place → OrFault Place
 named (Define value) name place = with_symbols place.address (defined name value place.symbols)
 named other name place = Ok place
 
-abbrev pub at_address : NameMap → Outcome ℕ → Outcome Place
+abbrev pub at_address : NameMap → OrFault ℕ → OrFault Place
 at_address symbols (Ok address) = Ok (record { address = address; symbols = symbols })
 at_address symbols (Err fault) = Err fault
 
-unfoldable pub applied : Option (List ℕ) → List ℕ → Effect → Place → Outcome Place
+unfoldable pub applied : Option (List ℕ) → List ℕ → Effect → Place → OrFault Place
 applied label name effect place = do
   first ← labelled label place
   second ← named effect name first
-  at_address second.symbols (placed effect second.address)
+  at_address second.symbols (address_after effect second.address)
 
 -- the tokens after a line's name, and what the line does
 abbrev pub arguments_in : List ℕ → List Token → List Token
 arguments_in line tokens = arguments_of (action_of line (body_of tokens)) (body_of tokens)
 
-unfoldable pub effect_in : List ℕ → NameMap → Bool → List Token → Outcome Effect
+unfoldable pub effect_in : List ℕ → NameMap → Bool → List Token → OrFault Effect
 effect_in line symbols follows tokens =
     effect_of (action_of line (body_of tokens)) line symbols (arguments_in line tokens) (parts_of (arguments_in line tokens)) follows
 
 -- the place after a line; whether an instruction line follows decides on a `.fact`
-unfoldable pub after_line : Bool → List ℕ → Place → Outcome Place
+unfoldable pub after_line : Bool → List ℕ → Place → OrFault Place
 after_line follows line place = do
   tokens ← content_of line
   effect ← effect_in line place.symbols follows tokens
@@ -156,7 +156,7 @@ abbrev pub is_instruction : Action → Bool
 is_instruction (action.Instruction mnemonic) = true
 is_instruction other = false
 
-abbrev pub is_instruction_in : List ℕ → Outcome (List Token) → Bool
+abbrev pub is_instruction_in : List ℕ → OrFault (List Token) → Bool
 is_instruction_in line (Ok tokens) = is_instruction (action_of line (body_of tokens))
 is_instruction_in line (Err fault) = false
 
@@ -173,7 +173,7 @@ abbrev pub with_address : ℕ → Result Layout AsmError → Result Layout AsmEr
 with_address address (Ok layout) = Ok (record { addresses = address ∷ layout.addresses; symbols = layout.symbols })
 with_address address (Err fault) = Err fault
 
-abbrev pub at_line : {X : Type 0} → ℕ → Outcome X → (X → Result Layout AsmError) → Result Layout AsmError
+abbrev pub at_line : {X : Type 0} → ℕ → OrFault X → (X → Result Layout AsmError) → Result Layout AsmError
 at_line k (Ok x) f = f x
 at_line k (Err fault) f = Err (record { line = k; why = fault })
 

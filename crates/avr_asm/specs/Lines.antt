@@ -15,7 +15,7 @@ use Rattle.avr_asm.specs.declared.lines.Action.{Action}
 use Rattle.avr_asm.specs.declared.lines.Action.TheVariants as action
 use Rattle.avr_operands.specs.declared.mnemonics.Mnemonic.{Mnemonic}
 use Rattle.avr_asm.specs.Directives.{directive_of}
-use Rattle.avr_operands.specs.Faults.{Outcome}
+use Rattle.avr_operands.specs.Faults.{OrFault}
 use Rattle.avr_operands.specs.Mnemonics.{mnemonic_of}
 
 -- a line goes to its LF, which a last line may lack
@@ -43,12 +43,12 @@ is_end other = false
 abbrev pub is_content : Token → Bool
 is_content token = not (is_end token.kind)
 
-abbrev pub content : Result (List Token) LexError → Outcome (List Token)
+abbrev pub content : Result (List Token) LexError → OrFault (List Token)
 content (Ok tokens) = Ok (take_while is_content tokens)
 content (Err fault) = Err Lex
 
 -- the tokens that a line holds
-unfoldable pub content_of : List ℕ → Outcome (List Token)
+unfoldable pub content_of : List ℕ → OrFault (List Token)
 content_of line = content (tokens_of line)
 
 -- `name:` at the front is a label

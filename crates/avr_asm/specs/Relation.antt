@@ -16,7 +16,7 @@ use Rattle.avr_asm.specs.declared.first_pass.Effect.{Effect}
 use Rattle.avr_asm.specs.declared.first_pass.Effect.TheVariants.{Move, Define}
 use Rattle.avr_asm.specs.declared.output.Hint.{Hint}
 use Rattle.avr_asm.specs.declared.output.Placed.{Placed}
-use Rattle.avr_asm.specs.Layout.{port_names, core_names, data_names, is_reserved, placed, arguments_in, effect_in, is_instruction_line}
+use Rattle.avr_asm.specs.Layout.{port_names, core_names, data_names, is_reserved, address_after, arguments_in, effect_in, is_instruction_line}
 use Rattle.avr_asm.specs.Lines.{lines_of, content_of, label_of, first_text}
 use Rattle.avr_asm.specs.LineOutputs.{LineOutput, tokens_output}
 use Rattle.avr_asm.specs.Assembly.{Output, following}
@@ -121,7 +121,7 @@ pub record IsStatement (symbols : NameMap) (before : List Statement) (s : Statem
   -- and its value is that by all names
   pub does : effect_in s.source symbols (list_any is_instruction_line (map (λ t. t.source) after)) s.tokens ≡ Ok s.effect
   -- its bytes end within the flash, an instruction stands at an even address, and a directive has its operands
-  pub fits : placed s.effect s.address ≡ Ok (end_by s.effect s.address s.output.bytes)
+  pub fits : address_after s.effect s.address ≡ Ok (end_by s.effect s.address s.output.bytes)
   -- what it puts out is by the values of all names; a `.fact` speaks of the first instruction line after it
   pub puts : tokens_output s.source symbols s.address (following (map (λ t. t.source) after) (map (λ t. t.address) after)) s.tokens ≡ Ok
       s.output

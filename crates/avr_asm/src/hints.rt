@@ -98,7 +98,7 @@ fn start_of(line: &[u8], symbols: &Symbols, parts: &[&[Token]]) -> Result<Hint, 
     }
 }
 
-fn lines_of(line: &[u8], symbols: &Symbols, parts: &[&[Token]]) -> Result<Hint, AsmWhy>
+fn hint_of_lines(line: &[u8], symbols: &Symbols, parts: &[&[Token]]) -> Result<Hint, AsmWhy>
     requires { EachLies (length line.now) parts.now }
     ensures { result ≡ lines_hint line.now symbols.now (map (λ p. p.now) parts.now) }
 {
@@ -270,7 +270,7 @@ pub fn hint_of(
 {
     let hint = match directive {
         Directive::Start => start_of(line, symbols, parts),
-        Directive::Lines => lines_of(line, symbols, parts),
+        Directive::Lines => hint_of_lines(line, symbols, parts),
         Directive::Stack => stack_of(line, symbols, parts),
         Directive::Cell => cell_of(line, symbols, parts),
         Directive::Fact => fact_of(line, symbols, parts, following),

@@ -9,7 +9,7 @@ ghost use Rattle.avr_asm.specs.Layout.{with_value, with_ports, with_core, with_d
 ghost use Rattle.avr_asm.specs.Lines.{first_text};
 
 use crate::errors::AsmError;
-use crate::first_pass::{Effect, effect_of, is_reserved, placed};
+use crate::first_pass::{Effect, address_after, effect_of, is_reserved};
 use crate::lines::{Action, action_of, arguments_of, body_of, content_of, label_of, parts_of};
 use avr_operands::AsmWhy;
 use avr_text::{Symbols, Token, text_of};
@@ -144,7 +144,7 @@ fn apply(
 {
     define_label(alloc, place, label)?;
     define_name(alloc, place, effect, name)?;
-    place.address = placed(effect, place.address)?;
+    place.address = address_after(effect, place.address)?;
     Ok(())
 }
 

@@ -1,13 +1,13 @@
 -- The expressions of directives, over the predefined names and the constants.
 use Rattle.std.specs.Prelude.{ℕ, ℤ, List, ◌∷◌, Option, Some, None, Ok, Err, if◌then◌else◌}
 use Rattle.avr_text.specs.declared.tokens.Token.{Token}
-use Rattle.avr_text.specs.Arithmetic.{Outcome}
+use Rattle.avr_text.specs.Arithmetic.{ValueOrWhy}
 use Rattle.avr_text.specs.Names.{NameMap}
 use Rattle.avr_text.specs.Reading.{value_of}
 use Rattle.avr_text.specs.Tokens.{Cut, text_of, tokens_of}
 use Rattle.avr_asm.specs.Lines.{is_name, is_equals}
 
-abbrev pub if_valued : Outcome → Option ℤ
+abbrev pub if_valued : ValueOrWhy → Option ℤ
 if_valued (Ok x) = Some x
 if_valued (Err why) = None
 

@@ -5,16 +5,16 @@ use Rattle.avr_table.specs.declared.Instr.{Instr}
 use Rattle.avr_table.specs.declared.Instr.TheVariants as i
 use Rattle.avr_table.specs.Rows.{words_of as row_words}
 use Rattle.avr_text.specs.declared.tokens.Token.{Token}
-use Rattle.avr_operands.specs.declared.instructions.Forms.{Forms}
-use Rattle.avr_operands.specs.declared.instructions.Forms.TheVariants.{Zero, One, Two, Load, Store, LoadDisplaced, StoreDisplaced}
-use Rattle.avr_operands.specs.declared.instructions.Forms.TheVariants.{ProgramMemory}
+use Rattle.avr_operands.specs.declared.instructions.OperandForms.{OperandForms}
+use Rattle.avr_operands.specs.declared.instructions.OperandForms.TheVariants.{Zero, One, Two, Load, Store, LoadDisplaced, StoreDisplaced}
+use Rattle.avr_operands.specs.declared.instructions.OperandForms.TheVariants.{ProgramMemory}
 use Rattle.avr_operands.specs.declared.mnemonics.Mnemonic.{Mnemonic}
 use Rattle.avr_operands.specs.declared.mnemonics.Mnemonic.TheVariants as m
 use Rattle.avr_operands.specs.declared.pointers.Pointer.{Pointer}
 use Rattle.avr_operands.specs.declared.pointers.Pointer.TheVariants.{X, Y, Z}
 use Rattle.avr_operands.specs.declared.pointers.Step.{Step}
 use Rattle.avr_operands.specs.declared.pointers.Step.TheVariants.{Plain, Increment, Decrement}
-use Rattle.avr_operands.specs.Faults.{Outcome}
+use Rattle.avr_operands.specs.Faults.{OrFault}
 use Rattle.avr_operands.specs.Fields.{field}
 use Rattle.avr_operands.specs.Instructions.{none_of, mapped, load, store, at_address, loaded, stored, displaced, displaced_of}
 use Rattle.avr_operands.specs.Instructions.{loaded_displaced, stored_displaced, program_row, from_program, loaded_from_program}
@@ -23,7 +23,7 @@ use Rattle.avr_operands.specs.Mnemonics.{words_of}
 use Rattle.avr_operands.specs.Operands.{Operands, both, number, register, one_value, two_values, pair_of}
 
 -- an instruction, if there is one, has n words
-abbrev pub HasWords : ℕ → Outcome Instr → Type 0
+abbrev pub HasWords : ℕ → OrFault Instr → Type 0
 HasWords n outcome = IfOk outcome (λ i. row_words i ≡ n)
 
 pub words_of_row : (name : Mnemonic) (x y : ℤ) → row_words (row_of name x y) ≡ words_of name
@@ -56,7 +56,7 @@ words_of_store r Z Increment = refl
 words_of_store r Z Decrement = refl
 
 -- from an outcome to the row that it gives
-of_mapped : {A : Type 0} (n : ℕ) (f : A → Instr) → ((a : A) → row_words (f a) ≡ n) → (o : Outcome A) → HasWords n (mapped o f)
+of_mapped : {A : Type 0} (n : ℕ) (f : A → Instr) → ((a : A) → row_words (f a) ≡ n) → (o : OrFault A) → HasWords n (mapped o f)
 of_mapped n f h (Ok x) = h x
 of_mapped n f h (Err why) = tt
 
@@ -65,7 +65,7 @@ of_none instr [] = refl
 of_none instr (p ∷ ps) = tt
 
 of_address : (f : ℤ → Pointer → Step → Instr) → ((x : ℤ) (pointer : Pointer) (step : Step) → row_words (f x pointer step) ≡ 1)
-    → (x : Outcome ℤ) (address : Option (Pointer × Step)) → HasWords 1 (at_address x address f)
+    → (x : OrFault ℤ) (address : Option (Pointer × Step)) → HasWords 1 (at_address x address f)
 of_address f h (Err why) address = tt
 of_address f h (Ok x) None = tt
 of_address f h (Ok x) (Some a) = h x a.0 a.1
@@ -78,7 +78,7 @@ of_stored : (line : List ℕ) (pair : Option (List Token × List Token)) → Has
 of_stored line None = tt
 of_stored line (Some p) = of_address store words_of_store _ _
 
-of_displaced : (f : ℤ → ℤ → ℤ → Instr) → ((x y q : ℤ) → row_words (f x y q) ≡ 1) → (x : Outcome ℤ) (d : Option (ℤ × List Token))
+of_displaced : (f : ℤ → ℤ → ℤ → Instr) → ((x y q : ℤ) → row_words (f x y q) ≡ 1) → (x : OrFault ℤ) (d : Option (ℤ × List Token))
     (o : Operands) → HasWords 1 (displaced x d o f)
 of_displaced f h x None o = tt
 of_displaced f h x (Some d) o = of_mapped 1 (λ (p : ℤ × ℤ). f p.0 d.0 p.1) (λ p. h p.0 d.0 p.1)
@@ -102,7 +102,7 @@ of_program_row d (Some (Z, Plain)) = refl
 of_program_row d (Some (Z, Increment)) = refl
 of_program_row d (Some (Z, Decrement)) = tt
 
-of_from_program : (x : Outcome ℤ) (address : Option (Pointer × Step)) → HasWords 1 (from_program x address)
+of_from_program : (x : OrFault ℤ) (address : Option (Pointer × Step)) → HasWords 1 (from_program x address)
 of_from_program (Err why) address = tt
 of_from_program (Ok d) address = of_program_row d address
 
@@ -115,13 +115,13 @@ of_program_memory line [] = refl
 of_program_memory line (p ∷ ps) = of_pair_from_program line (pair_of (p ∷ ps))
 
 -- the forms whose row has the operands' numbers
-abbrev is_by_number : Forms → Bool
+abbrev is_by_number : OperandForms → Bool
 is_by_number Zero = true
 is_by_number (One form) = true
 is_by_number (Two form other) = true
 is_by_number forms = false
 
-of_numbers : (forms : Forms) (name : Mnemonic) (o : Operands) → is_by_number forms ≡ true → HasWords (words_of name) (by_forms forms name o)
+of_numbers : (forms : OperandForms) (name : Mnemonic) (o : Operands) → is_by_number forms ≡ true → HasWords (words_of name) (by_forms forms name o)
 of_numbers Zero name o h = subst (λ n. HasWords n (none_of (row_of name (pos 0) (pos 0)) o.parts)) (words_of_row name (pos 0) (pos 0))
     (of_none (row_of name (pos 0) (pos 0)) o.parts)
 of_numbers (One form) name o h = of_mapped (words_of name) (λ x. row_of name x (pos 0)) (λ x. words_of_row name x (pos 0))
@@ -144,7 +144,7 @@ words_of_instruction m.Lpm o = of_program_memory o.line o.parts
 words_of_instruction name o = of_numbers (forms_of name) name o refl
 
 -- the same of what a call gave
-pub words_of_result : (name : Mnemonic) (o : Operands) (result : Outcome Instr) → result ≡ instruction_of name o → HasWords (words_of name)
+pub words_of_result : (name : Mnemonic) (o : Operands) (result : OrFault Instr) → result ≡ instruction_of name o → HasWords (words_of name)
     result
 words_of_result name o result e = subst (HasWords (words_of name)) (sym e) (words_of_instruction name o)
 

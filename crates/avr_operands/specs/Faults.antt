@@ -30,15 +30,15 @@ why_of Overflow = Range
 why_of ZeroDivisor = Range
 
 -- what a step of the definition gives: a value, or the line's fault
-abbrev pub Outcome : Type 0 → Type 0
-Outcome X = Result X AsmWhy
+abbrev pub OrFault : Type 0 → Type 0
+OrFault X = Result X AsmWhy
 
 infixl 10 ◌>>=◌
-abbrev pub ◌>>=◌ : {X Y : Type 0} → Outcome X → (X → Outcome Y) → Outcome Y
+abbrev pub ◌>>=◌ : {X Y : Type 0} → OrFault X → (X → OrFault Y) → OrFault Y
 (Ok x) >>= f = f x
 (Err why) >>= f = Err why
 
 -- what a call gave is what the definition says, unless memory ran out
-abbrev pub Gives : {X Y : Type 0} → (X → Y) → Result X AsmWhy → Outcome Y → Type 0
+abbrev pub Gives : {X Y : Type 0} → (X → Y) → Result X AsmWhy → OrFault Y → Type 0
 Gives view (Ok x) says = says ≡ Ok (view x)
 Gives view (Err why) says = (why ≡ Memory) ⊎ (says ≡ Err why)

@@ -18,34 +18,34 @@ use Rattle.avr_operands.specs.declared.pointers.Step.TheVariants.{Plain, Increme
 use Rattle.avr_operands.specs.declared.mnemonics.Mnemonic.{Mnemonic}
 use Rattle.avr_operands.specs.declared.mnemonics.Mnemonic.TheVariants as m
 use Rattle.avr_text.specs.Arithmetic.{complement_of}
-use Rattle.avr_operands.specs.declared.instructions.Forms.{Forms}
-use Rattle.avr_operands.specs.declared.instructions.Forms.TheVariants.{Zero, One, Two, Load, Store, LoadDisplaced, StoreDisplaced}
-use Rattle.avr_operands.specs.declared.instructions.Forms.TheVariants.{ProgramMemory}
-use Rattle.avr_operands.specs.declared.operands.Form.{Form}
-use Rattle.avr_operands.specs.declared.operands.Form.TheVariants.{Register, UpperRegister, MiddleRegister, Pair, UpperPair, Byte, SixBits}
-use Rattle.avr_operands.specs.declared.operands.Form.TheVariants.{FiveBits, ThreeBits, Word, Relative7, Relative12, Absolute}
-use Rattle.avr_operands.specs.Faults.{Outcome}
+use Rattle.avr_operands.specs.declared.instructions.OperandForms.{OperandForms}
+use Rattle.avr_operands.specs.declared.instructions.OperandForms.TheVariants.{Zero, One, Two, Load, Store, LoadDisplaced, StoreDisplaced}
+use Rattle.avr_operands.specs.declared.instructions.OperandForms.TheVariants.{ProgramMemory}
+use Rattle.avr_operands.specs.declared.operands.OperandForm.{OperandForm}
+use Rattle.avr_operands.specs.declared.operands.OperandForm.TheVariants.{Register, UpperRegister, MiddleRegister, Pair, UpperPair, Byte, SixBits}
+use Rattle.avr_operands.specs.declared.operands.OperandForm.TheVariants.{FiveBits, ThreeBits, Word, Relative7, Relative12, Absolute}
+use Rattle.avr_operands.specs.Faults.{OrFault}
 use Rattle.avr_operands.specs.Fields.{field}
 use Rattle.avr_operands.specs.Operands.{Operands, register, number, both, one_value, pair_of, two_values}
 
 -- no operand
-abbrev pub none_of : Instr → List (List Token) → Outcome Instr
+abbrev pub none_of : Instr → List (List Token) → OrFault Instr
 none_of instr [] = Ok instr
 none_of instr other = Err Operand
 
-abbrev pub none : Instr → Operands → Outcome Instr
+abbrev pub none : Instr → Operands → OrFault Instr
 none instr o = none_of instr o.parts
 
-abbrev pub mapped : {X : Type 0} → Outcome X → (X → Instr) → Outcome Instr
+abbrev pub mapped : {X : Type 0} → OrFault X → (X → Instr) → OrFault Instr
 mapped (Ok x) f = Ok (f x)
 mapped (Err why) f = Err why
 
 -- one operand
-abbrev pub one : Form → Operands → (ℤ → Instr) → Outcome Instr
+abbrev pub one : OperandForm → Operands → (ℤ → Instr) → OrFault Instr
 one form o f = mapped (one_value form o o.parts) f
 
 -- two operands
-abbrev pub two : Form → Form → Operands → (ℤ → ℤ → Instr) → Outcome Instr
+abbrev pub two : OperandForm → OperandForm → Operands → (ℤ → ℤ → Instr) → OrFault Instr
 two form other o f = mapped (two_values form other o (pair_of o.parts)) (λ p. f p.0 p.1)
 
 -- the pointers, in either case
@@ -113,53 +113,53 @@ store r Z Plain = i.Std (field 1 (pos 0)) (field 6 (pos 0)) (field 5 r)
 store r Z Increment = i.StZInc (field 5 r)
 store r Z Decrement = i.StZDec (field 5 r)
 
-abbrev pub at_address : Outcome ℤ → Option (Pointer × Step) → (ℤ → Pointer → Step → Instr) → Outcome Instr
+abbrev pub at_address : OrFault ℤ → Option (Pointer × Step) → (ℤ → Pointer → Step → Instr) → OrFault Instr
 at_address (Err why) address f = Err why
 at_address (Ok x) None f = Err Operand
 at_address (Ok x) (Some address) f = Ok (f x address.0 address.1)
 
-abbrev pub loaded : List ℕ → Option (List Token × List Token) → Outcome Instr
+abbrev pub loaded : List ℕ → Option (List Token × List Token) → OrFault Instr
 loaded line None = Err Operand
 loaded line (Some p) = at_address (register line p.0) (address_of line p.1) load
 
-abbrev pub stored : List ℕ → Option (List Token × List Token) → Outcome Instr
+abbrev pub stored : List ℕ → Option (List Token × List Token) → OrFault Instr
 stored line None = Err Operand
 stored line (Some p) = at_address (register line p.1) (address_of line p.0) store
 
-abbrev pub displaced : Outcome ℤ → Option (ℤ × List Token) → Operands → (ℤ → ℤ → ℤ → Instr) → Outcome Instr
+abbrev pub displaced : OrFault ℤ → Option (ℤ × List Token) → Operands → (ℤ → ℤ → ℤ → Instr) → OrFault Instr
 displaced x None o f = Err Operand
 displaced x (Some d) o f = mapped (both x (number (pos 0) (pos 63) o.line o.symbols d.1)) (λ p. f p.0 d.0 p.1)
 
-abbrev pub loaded_displaced : Operands → Option (List Token × List Token) → Outcome Instr
+abbrev pub loaded_displaced : Operands → Option (List Token × List Token) → OrFault Instr
 loaded_displaced o None = Err Operand
 loaded_displaced o (Some p) =
     displaced (register o.line p.0) (displaced_of o.line p.1) o (λ d y q. i.Ldd (field 5 d) (field 1 y) (field 6 q))
 
-abbrev pub stored_displaced : Operands → Option (List Token × List Token) → Outcome Instr
+abbrev pub stored_displaced : Operands → Option (List Token × List Token) → OrFault Instr
 stored_displaced o None = Err Operand
 stored_displaced o (Some p) =
     displaced (register o.line p.1) (displaced_of o.line p.0) o (λ r y q. i.Std (field 1 y) (field 6 q) (field 5 r))
 
 -- LPM: alone, or with a register and Z or Z+
-abbrev pub program_row : ℤ → Option (Pointer × Step) → Outcome Instr
+abbrev pub program_row : ℤ → Option (Pointer × Step) → OrFault Instr
 program_row d (Some (Z, Plain)) = Ok (i.LpmZ (field 5 d))
 program_row d (Some (Z, Increment)) = Ok (i.LpmZInc (field 5 d))
 program_row d address = Err Operand
 
-abbrev pub from_program : Outcome ℤ → Option (Pointer × Step) → Outcome Instr
+abbrev pub from_program : OrFault ℤ → Option (Pointer × Step) → OrFault Instr
 from_program (Err why) address = Err why
 from_program (Ok d) address = program_row d address
 
-abbrev pub loaded_from_program : List ℕ → Option (List Token × List Token) → Outcome Instr
+abbrev pub loaded_from_program : List ℕ → Option (List Token × List Token) → OrFault Instr
 loaded_from_program line None = Err Operand
 loaded_from_program line (Some p) = from_program (register line p.0) (address_of line p.1)
 
-abbrev pub program_memory : List ℕ → List (List Token) → Outcome Instr
+abbrev pub program_memory : List ℕ → List (List Token) → OrFault Instr
 program_memory line [] = Ok i.Lpm
 program_memory line (first ∷ others) = loaded_from_program line (pair_of (first ∷ others))
 
 -- what each name wants of its operands
-abbrev pub forms_of : Mnemonic → Forms
+abbrev pub forms_of : Mnemonic → OperandForms
 forms_of m.Add = Two Register Register
 forms_of m.Adc = Two Register Register
 forms_of m.Adiw = Two UpperPair SixBits
@@ -329,7 +329,7 @@ row_of (m.BranchIfSet s) x y = i.Brbs (field 3 (pos s)) (field 7 x)
 row_of (m.BranchIfClear s) x y = i.Brbc (field 3 (pos s)) (field 7 x)
 
 -- the instruction of a name with its operands
-abbrev pub by_forms : Forms → Mnemonic → Operands → Outcome Instr
+abbrev pub by_forms : OperandForms → Mnemonic → Operands → OrFault Instr
 by_forms Zero mnemonic o = none (row_of mnemonic (pos 0) (pos 0)) o
 by_forms (One form) mnemonic o = one form o (λ x. row_of mnemonic x (pos 0))
 by_forms (Two form other) mnemonic o = two form other o (row_of mnemonic)
@@ -339,5 +339,5 @@ by_forms LoadDisplaced mnemonic o = loaded_displaced o (pair_of o.parts)
 by_forms StoreDisplaced mnemonic o = stored_displaced o (pair_of o.parts)
 by_forms ProgramMemory mnemonic o = program_memory o.line o.parts
 
-unfoldable pub instruction_of : Mnemonic → Operands → Outcome Instr
+unfoldable pub instruction_of : Mnemonic → Operands → OrFault Instr
 instruction_of mnemonic o = by_forms (forms_of mnemonic) mnemonic o

@@ -13,10 +13,10 @@ use Rattle.avr_text.specs.Arithmetic as text
 use Rattle.avr_text.specs.Tokens.{Lies, text_of}
 use Rattle.avr_operands.specs.declared.errors.AsmWhy.TheVariants.{Operand, Range}
 use Rattle.avr_operands.specs.declared.operands.Operands as source
-use Rattle.avr_operands.specs.declared.operands.Form.{Form}
-use Rattle.avr_operands.specs.declared.operands.Form.TheVariants.{Register, UpperRegister, MiddleRegister, Pair, UpperPair, Byte, SixBits}
-use Rattle.avr_operands.specs.declared.operands.Form.TheVariants.{FiveBits, ThreeBits, Word, Relative7, Relative12, Absolute}
-use Rattle.avr_operands.specs.Faults.{Outcome, least, why_of}
+use Rattle.avr_operands.specs.declared.operands.OperandForm.{OperandForm}
+use Rattle.avr_operands.specs.declared.operands.OperandForm.TheVariants.{Register, UpperRegister, MiddleRegister, Pair, UpperPair, Byte, SixBits}
+use Rattle.avr_operands.specs.declared.operands.OperandForm.TheVariants.{FiveBits, ThreeBits, Word, Relative7, Relative12, Absolute}
+use Rattle.avr_operands.specs.Faults.{OrFault, least, why_of}
 
 -- each token lies in a line of a length
 abbrev pub AllLie : ℕ → List Token → Type 0
@@ -50,20 +50,20 @@ abbrev pub name_of : List ℕ → List Token → Option (List ℕ)
 name_of line (token ∷ []) = name_if token.kind (text_of line token)
 name_of line other = None
 
-abbrev pub or_operand : Option ℕ → Outcome ℤ
+abbrev pub or_operand : Option ℕ → OrFault ℤ
 or_operand None = Err Operand
 or_operand (Some n) = Ok (pos n)
 
-abbrev pub register_named : Option (List ℕ) → Outcome ℤ
+abbrev pub register_named : Option (List ℕ) → OrFault ℤ
 register_named None = Err Operand
 register_named (Some word) = or_operand (register_of word)
 
 -- the number of the register that an operand is: what has to be a register and isn't one is Operand
-abbrev pub register : List ℕ → List Token → Outcome ℤ
+abbrev pub register : List ℕ → List Token → OrFault ℤ
 register line tokens = register_named (name_of line tokens)
 
 -- a value from low to high
-abbrev pub within : ℤ → ℤ → Outcome ℤ → Outcome ℤ
+abbrev pub within : ℤ → ℤ → OrFault ℤ → OrFault ℤ
 within low high (Err why) = Err why
 within low high (Ok x) = if int_le low x && int_le x high then Ok x else Err Range
 
@@ -72,32 +72,32 @@ is_zero (pos n) = n == 0
 is_zero other = false
 
 -- half of a value that is even
-abbrev pub half : Outcome ℤ → Outcome ℤ
+abbrev pub half : OrFault ℤ → OrFault ℤ
 half (Err why) = Err why
 half (Ok x) = if is_zero (int_rem_euclid x (pos 2)) then Ok (int_shr x 1) else Err Range
 
-abbrev pub line_fault : text.Outcome → Outcome ℤ
+abbrev pub line_fault : text.Outcome → OrFault ℤ
 line_fault (Ok x) = Ok x
 line_fault (Err why) = Err (why_of why)
 
 -- the value of an expression
-abbrev pub expression : List ℕ → NameMap → Option ℤ → List Token → Outcome ℤ
+abbrev pub expression : List ℕ → NameMap → Option ℤ → List Token → OrFault ℤ
 expression line symbols dot tokens = line_fault (value_of line tokens symbols dot)
 
-abbrev pub number : ℤ → ℤ → List ℕ → NameMap → List Token → Outcome ℤ
+abbrev pub number : ℤ → ℤ → List ℕ → NameMap → List Token → OrFault ℤ
 number low high line symbols tokens = within low high (expression line symbols None tokens)
 
 -- the distance of a target from the following instruction
-abbrev pub distance : ℤ → ℤ → ℤ → Outcome ℤ → Outcome ℤ
+abbrev pub distance : ℤ → ℤ → ℤ → OrFault ℤ → OrFault ℤ
 distance low high next (Err why) = Err why
 distance low high next (Ok target) = half (within low high (Ok (target -ℤ next)))
 
 -- the target of a jump that is relative: `.` is the byte address of the following instruction
-abbrev pub relative : ℤ → ℤ → List ℕ → NameMap → ℕ → List Token → Outcome ℤ
+abbrev pub relative : ℤ → ℤ → List ℕ → NameMap → ℕ → List Token → OrFault ℤ
 relative low high line symbols next tokens = distance low high (pos next) (expression line symbols (Some (pos next)) tokens)
 
 -- the number that an operand gives an instruction
-abbrev pub operand : Form → List ℕ → NameMap → ℕ → List Token → Outcome ℤ
+abbrev pub operand : OperandForm → List ℕ → NameMap → ℕ → List Token → OrFault ℤ
 operand Register line symbols next tokens = register line tokens
 operand UpperRegister line symbols next tokens = within (pos 16) (pos 31) (register line tokens)
 operand MiddleRegister line symbols next tokens = within (pos 16) (pos 23) (register line tokens)
@@ -113,7 +113,7 @@ operand Relative12 line symbols next tokens = relative (negsuc 4095) (pos 4094) 
 operand Absolute line symbols next tokens = half (number (pos 0) (pos 65535) line symbols tokens)
 
 -- two values, or the lesser of two faults
-abbrev pub both : {X Y : Type 0} → Outcome X → Outcome Y → Outcome (X × Y)
+abbrev pub both : {X Y : Type 0} → OrFault X → OrFault Y → OrFault (X × Y)
 both (Ok x) (Ok y) = Ok (x, y)
 both (Ok x) (Err why) = Err why
 both (Err why) (Ok y) = Err why
@@ -128,7 +128,7 @@ pub record Operands : Type 0 where
   pub parts : List (List Token)
 
 -- one operand's number
-abbrev pub one_value : Form → Operands → List (List Token) → Outcome ℤ
+abbrev pub one_value : OperandForm → Operands → List (List Token) → OrFault ℤ
 one_value form o (first ∷ []) = operand form o.line o.symbols o.next first
 one_value form o other = Err Operand
 
@@ -138,7 +138,7 @@ pair_of (first ∷ second ∷ []) = Some (first, second)
 pair_of other = None
 
 -- their numbers
-abbrev pub two_values : Form → Form → Operands → Option (List Token × List Token) → Outcome (ℤ × ℤ)
+abbrev pub two_values : OperandForm → OperandForm → Operands → Option (List Token × List Token) → OrFault (ℤ × ℤ)
 two_values form other o None = Err Operand
 two_values form other o (Some p) = both (operand form o.line o.symbols o.next p.0) (operand other o.line o.symbols o.next p.1)
 

@@ -9,19 +9,19 @@ ghost use Rattle.avr_operands.specs.Instructions.{none as no_operand, load as lo
 use crate::errors::AsmWhy;
 use crate::fields::field;
 use crate::mnemonics::Mnemonic;
-use crate::operands::{Form, Operands, both, number, register};
+use crate::operands::{OperandForm, Operands, both, number, register};
 use crate::pointers::{Pointer, Step, address_of, displaced};
 use avr_table::Instr;
 
 /// What an instruction wants of its operands.
 #[derive(Clone, Copy)]
-pub enum Forms {
+pub enum OperandForms {
     /// No operand.
     Zero,
     /// One.
-    One(Form),
+    One(OperandForm),
     /// Two.
-    Two(Form, Form),
+    Two(OperandForm, OperandForm),
     /// A register and a pointer.
     Load,
     /// A pointer and a register.
@@ -35,7 +35,7 @@ pub enum Forms {
 }
 
 /// What a name wants of its operands.
-fn forms_of(mnemonic: Mnemonic) -> Forms
+fn forms_of(mnemonic: Mnemonic) -> OperandForms
     ensures { result ≡ forms_of_name mnemonic }
 {
     match mnemonic {
@@ -50,15 +50,18 @@ fn forms_of(mnemonic: Mnemonic) -> Forms
         | Mnemonic::Cpse
         | Mnemonic::Cp
         | Mnemonic::Cpc
-        | Mnemonic::Mov => Forms::Two(Form::Register, Form::Register),
-        Mnemonic::Adiw | Mnemonic::Sbiw => Forms::Two(Form::UpperPair, Form::SixBits),
+        | Mnemonic::Mov => OperandForms::Two(OperandForm::Register, OperandForm::Register),
+        Mnemonic::Adiw | Mnemonic::Sbiw => OperandForms::Two(
+            OperandForm::UpperPair,
+            OperandForm::SixBits,
+        ),
         Mnemonic::Subi
         | Mnemonic::Sbci
         | Mnemonic::Andi
         | Mnemonic::Ori
         | Mnemonic::Cpi
         | Mnemonic::Ldi
-        | Mnemonic::Cbr => Forms::Two(Form::UpperRegister, Form::Byte),
+        | Mnemonic::Cbr => OperandForms::Two(OperandForm::UpperRegister, OperandForm::Byte),
         Mnemonic::Com
         | Mnemonic::Neg
         | Mnemonic::Inc
@@ -72,13 +75,13 @@ fn forms_of(mnemonic: Mnemonic) -> Forms
         | Mnemonic::Lsl
         | Mnemonic::Rol
         | Mnemonic::Tst
-        | Mnemonic::Clr => Forms::One(Form::Register),
-        Mnemonic::Muls => Forms::Two(Form::UpperRegister, Form::UpperRegister),
-        Mnemonic::Mulsu | Mnemonic::Fmul | Mnemonic::Fmuls | Mnemonic::Fmulsu => Forms::Two(
-            Form::MiddleRegister,
-            Form::MiddleRegister,
+        | Mnemonic::Clr => OperandForms::One(OperandForm::Register),
+        Mnemonic::Muls => OperandForms::Two(OperandForm::UpperRegister, OperandForm::UpperRegister),
+        Mnemonic::Mulsu | Mnemonic::Fmul | Mnemonic::Fmuls | Mnemonic::Fmulsu => OperandForms::Two(
+            OperandForm::MiddleRegister,
+            OperandForm::MiddleRegister,
         ),
-        Mnemonic::Rjmp | Mnemonic::Rcall => Forms::One(Form::Relative12),
+        Mnemonic::Rjmp | Mnemonic::Rcall => OperandForms::One(OperandForm::Relative12),
         Mnemonic::Ijmp
         | Mnemonic::Icall
         | Mnemonic::Ret
@@ -89,30 +92,35 @@ fn forms_of(mnemonic: Mnemonic) -> Forms
         | Mnemonic::Sleep
         | Mnemonic::Wdr
         | Mnemonic::SetFlag(_)
-        | Mnemonic::ClearFlag(_) => Forms::Zero,
-        Mnemonic::Jmp | Mnemonic::Call => Forms::One(Form::Absolute),
-        Mnemonic::Sbrc | Mnemonic::Sbrs | Mnemonic::Bst | Mnemonic::Bld => Forms::Two(
-            Form::Register,
-            Form::ThreeBits,
+        | Mnemonic::ClearFlag(_) => OperandForms::Zero,
+        Mnemonic::Jmp | Mnemonic::Call => OperandForms::One(OperandForm::Absolute),
+        Mnemonic::Sbrc | Mnemonic::Sbrs | Mnemonic::Bst | Mnemonic::Bld => OperandForms::Two(
+            OperandForm::Register,
+            OperandForm::ThreeBits,
         ),
-        Mnemonic::Sbic | Mnemonic::Sbis | Mnemonic::Sbi | Mnemonic::Cbi => Forms::Two(
-            Form::FiveBits,
-            Form::ThreeBits,
+        Mnemonic::Sbic | Mnemonic::Sbis | Mnemonic::Sbi | Mnemonic::Cbi => OperandForms::Two(
+            OperandForm::FiveBits,
+            OperandForm::ThreeBits,
         ),
-        Mnemonic::Brbs | Mnemonic::Brbc => Forms::Two(Form::ThreeBits, Form::Relative7),
-        Mnemonic::Movw => Forms::Two(Form::Pair, Form::Pair),
-        Mnemonic::Ld => Forms::Load,
-        Mnemonic::Ldd => Forms::LoadDisplaced,
-        Mnemonic::Lds => Forms::Two(Form::Register, Form::Word),
-        Mnemonic::St => Forms::Store,
-        Mnemonic::Std => Forms::StoreDisplaced,
-        Mnemonic::Sts => Forms::Two(Form::Word, Form::Register),
-        Mnemonic::Lpm => Forms::ProgramMemory,
-        Mnemonic::In => Forms::Two(Form::Register, Form::SixBits),
-        Mnemonic::Out => Forms::Two(Form::SixBits, Form::Register),
-        Mnemonic::Bset | Mnemonic::Bclr => Forms::One(Form::ThreeBits),
-        Mnemonic::Ser => Forms::One(Form::UpperRegister),
-        Mnemonic::BranchIfSet(_) | Mnemonic::BranchIfClear(_) => Forms::One(Form::Relative7),
+        Mnemonic::Brbs | Mnemonic::Brbc => OperandForms::Two(
+            OperandForm::ThreeBits,
+            OperandForm::Relative7,
+        ),
+        Mnemonic::Movw => OperandForms::Two(OperandForm::Pair, OperandForm::Pair),
+        Mnemonic::Ld => OperandForms::Load,
+        Mnemonic::Ldd => OperandForms::LoadDisplaced,
+        Mnemonic::Lds => OperandForms::Two(OperandForm::Register, OperandForm::Word),
+        Mnemonic::St => OperandForms::Store,
+        Mnemonic::Std => OperandForms::StoreDisplaced,
+        Mnemonic::Sts => OperandForms::Two(OperandForm::Word, OperandForm::Register),
+        Mnemonic::Lpm => OperandForms::ProgramMemory,
+        Mnemonic::In => OperandForms::Two(OperandForm::Register, OperandForm::SixBits),
+        Mnemonic::Out => OperandForms::Two(OperandForm::SixBits, OperandForm::Register),
+        Mnemonic::Bset | Mnemonic::Bclr => OperandForms::One(OperandForm::ThreeBits),
+        Mnemonic::Ser => OperandForms::One(OperandForm::UpperRegister),
+        Mnemonic::BranchIfSet(_) | Mnemonic::BranchIfClear(_) => OperandForms::One(
+            OperandForm::Relative7,
+        ),
     }
 }
 
@@ -532,20 +540,20 @@ impl Operands<'_> {
         ensures { result ≡ instruction_of mnemonic (seen self.now) }
     {
         match forms_of(mnemonic) {
-            Forms::Zero => self.none(row_of(mnemonic, 0, 0)),
-            Forms::One(form) => {
+            OperandForms::Zero => self.none(row_of(mnemonic, 0, 0)),
+            OperandForms::One(form) => {
                 let x = self.one(form)?;
                 Ok(row_of(mnemonic, x, 0))
             }
-            Forms::Two(form, other) => {
+            OperandForms::Two(form, other) => {
                 let (x, y) = self.two(form, other)?;
                 Ok(row_of(mnemonic, x, y))
             }
-            Forms::Load => self.load(),
-            Forms::Store => self.store(),
-            Forms::LoadDisplaced => self.load_displaced(),
-            Forms::StoreDisplaced => self.store_displaced(),
-            Forms::ProgramMemory => self.load_program_memory(),
+            OperandForms::Load => self.load(),
+            OperandForms::Store => self.store(),
+            OperandForms::LoadDisplaced => self.load_displaced(),
+            OperandForms::StoreDisplaced => self.store_displaced(),
+            OperandForms::ProgramMemory => self.load_program_memory(),
         }
     }
     /// The instruction that a name and these operands are, or why the line is refused.

@@ -9,7 +9,7 @@ use avr_text::{Symbols, Token, TokenKind, text_of, value};
 
 /// What an instruction wants of an operand.
 #[derive(Clone, Copy)]
-pub enum Form {
+pub enum OperandForm {
     /// r0 to r31.
     Register,
     /// r16 to r31.
@@ -170,7 +170,7 @@ fn relative(
 
 /// The number that an operand gives an instruction.
 pub fn operand(
-    form: Form,
+    form: OperandForm,
     line: &[u8],
     symbols: &Symbols,
     next: u32,
@@ -180,19 +180,19 @@ pub fn operand(
     ensures { result ≡ operand_by_form form line.now symbols.now next tokens.now }
 {
     match form {
-        Form::Register => register(line, tokens),
-        Form::UpperRegister => within(16, 31, register(line, tokens)),
-        Form::MiddleRegister => within(16, 23, register(line, tokens)),
-        Form::Pair => half(register(line, tokens)),
-        Form::UpperPair => half(within(24, 31, register(line, tokens))),
-        Form::Byte => number(-128, 255, line, symbols, tokens),
-        Form::SixBits => number(0, 63, line, symbols, tokens),
-        Form::FiveBits => number(0, 31, line, symbols, tokens),
-        Form::ThreeBits => number(0, 7, line, symbols, tokens),
-        Form::Word => number(0, 65535, line, symbols, tokens),
-        Form::Relative7 => relative(-128, 126, line, symbols, next, tokens),
-        Form::Relative12 => relative(-4096, 4094, line, symbols, next, tokens),
-        Form::Absolute => half(number(0, 65535, line, symbols, tokens)),
+        OperandForm::Register => register(line, tokens),
+        OperandForm::UpperRegister => within(16, 31, register(line, tokens)),
+        OperandForm::MiddleRegister => within(16, 23, register(line, tokens)),
+        OperandForm::Pair => half(register(line, tokens)),
+        OperandForm::UpperPair => half(within(24, 31, register(line, tokens))),
+        OperandForm::Byte => number(-128, 255, line, symbols, tokens),
+        OperandForm::SixBits => number(0, 63, line, symbols, tokens),
+        OperandForm::FiveBits => number(0, 31, line, symbols, tokens),
+        OperandForm::ThreeBits => number(0, 7, line, symbols, tokens),
+        OperandForm::Word => number(0, 65535, line, symbols, tokens),
+        OperandForm::Relative7 => relative(-128, 126, line, symbols, next, tokens),
+        OperandForm::Relative12 => relative(-4096, 4094, line, symbols, next, tokens),
+        OperandForm::Absolute => half(number(0, 65535, line, symbols, tokens)),
     }
 }
 
@@ -230,7 +230,7 @@ pub struct Operands<'a> {
 
 impl Operands<'_> {
     /// The number that the only operand gives.
-    pub(crate) fn one(&self, form: Form) -> Result<i64, AsmWhy>
+    pub(crate) fn one(&self, form: OperandForm) -> Result<i64, AsmWhy>
         requires { EachLies (length self.now.line.now) self.now.parts.now }
         ensures { result ≡ one_value form (seen self.now) (seen self.now).parts }
     {
@@ -253,7 +253,7 @@ impl Operands<'_> {
     }
 
     /// The numbers that two operands give.
-    pub(crate) fn two(&self, form: Form, other: Form) -> Result<(i64, i64), AsmWhy>
+    pub(crate) fn two(&self, form: OperandForm, other: OperandForm) -> Result<(i64, i64), AsmWhy>
         requires { EachLies (length self.now.line.now) self.now.parts.now }
         ensures { result ≡ two_values form other (seen self.now) (pair_of (seen self.now).parts) }
     {

@@ -17,7 +17,7 @@ use Rattle.avr_text.specs.declared.tokens.TokenKind.{TokenKind}
 use Rattle.avr_text.specs.declared.tokens.TokenKind.TheVariants.{Name, Number, Mark, ShiftLeft, ShiftRight, LineEnd}
 use Rattle.avr_text.specs.declared.tokens.Token.{Token}
 use Rattle.avr_text.specs.declared.values.ValueWhy.TheVariants.{Form}
-use Rattle.avr_text.specs.Arithmetic.{Outcome}
+use Rattle.avr_text.specs.Arithmetic.{ValueOrWhy}
 use Rattle.avr_text.specs.Names.{NameMap, Keeps, known}
 use Rattle.avr_text.specs.Operators.{level_of, applied_to, combined, binary_of, sign_value, sign_applied, bracket_value, bracket_applied}
 use Rattle.avr_text.specs.Tokens.{text_of}
@@ -27,39 +27,39 @@ use Rattle.avr_text.specs.Reading.{closed, operand_step, waits, waiting, is_mark
 use Rattle.avr_text.specs.Reading.{step, run, finished_in, value_of}
 
 -- a number that is found stays
-abbrev pub Stays : Outcome → Outcome → Type 0
+abbrev pub Stays : ValueOrWhy → ValueOrWhy → Type 0
 Stays (Ok x) after = after ≡ Ok x
 Stays (Err why) after = Unit {0}
 
-stays_same : (a : Outcome) → Stays a a
+stays_same : (a : ValueOrWhy) → Stays a a
 stays_same (Ok x) = refl
 stays_same (Err why) = tt
 
-stays_equal : (a b : Outcome) → b ≡ a → Stays a b
+stays_equal : (a b : ValueOrWhy) → b ≡ a → Stays a b
 stays_equal a b e = subst (λ x. Stays a x) (sym e) (stays_same a)
 
-stays_combined : (op : Binary) (a b c d : Outcome) → Stays a b → Stays c d → Stays (combined op a c) (combined op b d)
+stays_combined : (op : Binary) (a b c d : ValueOrWhy) → Stays a b → Stays c d → Stays (combined op a c) (combined op b d)
 stays_combined op (Err why) b c d h k = tt
 stays_combined op (Ok x) b (Err why) d h k = tt
 stays_combined op (Ok x) b (Ok y) d h k = stays_equal (applied_to op x y) (combined op b d)
     (ap (λ o. combined op o d) h ∙ ap (combined op (Ok x)) k)
 
-stays_sign : (kind : TokenKind) (a b : Outcome) → Stays a b → Stays (sign_applied kind a) (sign_applied kind b)
+stays_sign : (kind : TokenKind) (a b : ValueOrWhy) → Stays a b → Stays (sign_applied kind a) (sign_applied kind b)
 stays_sign kind (Err why) b h = tt
 stays_sign kind (Ok x) b h = stays_equal (sign_value kind x) (sign_applied kind b) (ap (sign_applied kind) h)
 
-stays_signed : (ts : List Token) (a b : Outcome) → Stays a b → Stays (signed ts a) (signed ts b)
+stays_signed : (ts : List Token) (a b : ValueOrWhy) → Stays a b → Stays (signed ts a) (signed ts b)
 stays_signed [] a b h = h
 stays_signed (t ∷ ts) a b h = stays_sign t.kind (signed ts a) (signed ts b) (stays_signed ts a b h)
 
-stays_bracket : (bracket : Bracket) (a b : Outcome) → Stays a b → Stays (bracket_applied bracket a) (bracket_applied bracket b)
+stays_bracket : (bracket : Bracket) (a b : ValueOrWhy) → Stays a b → Stays (bracket_applied bracket a) (bracket_applied bracket b)
 stays_bracket bracket (Err why) b h = tt
 stays_bracket bracket (Ok x) b h = stays_equal (bracket_value bracket x) (bracket_applied bracket b) (ap (bracket_applied bracket) h)
 
 -- what waits is alike but for values
 data Alike : List Entry → List Entry → Type 0 where
   both_empty : Alike [] []
-  both_wait : {a b : Outcome} {op : Binary} {es fs : List Entry} → Stays a b → Alike es fs → Alike (Waiting a op ∷ es) (Waiting b op ∷ fs)
+  both_wait : {a b : ValueOrWhy} {op : Binary} {es fs : List Entry} → Stays a b → Alike es fs → Alike (Waiting a op ∷ es) (Waiting b op ∷ fs)
   both_open : {bracket : Bracket} {from at : ℕ} {es fs : List Entry} → Alike es fs → Alike (Open bracket from at ∷ es)
       (Open bracket from at ∷ fs)
 
@@ -68,11 +68,11 @@ alike_length both_empty = refl
 alike_length (both_wait h k) = ap (λ n. suc n) (alike_length k)
 alike_length (both_open k) = ap (λ n. suc n) (alike_length k)
 
-record Both (r s : Outcome × List Entry) : Type 0 where
+record Both (r s : ValueOrWhy × List Entry) : Type 0 where
   pub value : Stays r.0 s.0
   pub stack : Alike r.1 s.1
 
-reduced_alike : (level : ℕ) (a b : Outcome) {es fs : List Entry} → Stays a b → Alike es fs → Both (reduced level a es) (reduced level b fs)
+reduced_alike : (level : ℕ) (a b : ValueOrWhy) {es fs : List Entry} → Stays a b → Alike es fs → Both (reduced level a es) (reduced level b fs)
 reduced_alike level a b h both_empty = record { value = h; stack = both_empty }
 reduced_alike level a b h (both_open k) = record { value = h; stack = both_open k }
 reduced_alike level a b h (both_wait {a = l} {b = m} {op = op} {es = es} {fs = fs} w k) =
@@ -85,7 +85,7 @@ reduced_alike level a b h (both_wait {a = l} {b = m} {op = op} {es = es} {fs = f
 data AlikeMode : Mode → Mode → Type 0 where
   both_operand : (from : ℕ) → AlikeMode (mode.Operand from) (mode.Operand from)
   both_parenthesis : (bracket : Bracket) (from at : ℕ) → AlikeMode (mode.Parenthesis bracket from at) (mode.Parenthesis bracket from at)
-  both_operator : {a b : Outcome} → Stays a b → AlikeMode (mode.Operator a) (mode.Operator b)
+  both_operator : {a b : ValueOrWhy} → Stays a b → AlikeMode (mode.Operator a) (mode.Operator b)
   both_refused : AlikeMode mode.Refused mode.Refused
 
 record AlikeReader (s t : Reader) : Type 0 where
@@ -113,7 +113,7 @@ opened_alike bracket from at next s t h =
     (refused_alike s t h)
     (record { stack = both_open h.stack; depth = ap (λ n. n + 1) h.depth; mode = both_operand next })
 
-closed_at_alike : (tokens : List Token) (a b : Outcome) (s t : Reader) {es fs : List Entry} → Stays a b → s.depth ≡ t.depth → Alike es fs
+closed_at_alike : (tokens : List Token) (a b : ValueOrWhy) (s t : Reader) {es fs : List Entry} → Stays a b → s.depth ≡ t.depth → Alike es fs
     → AlikeReader (closed_at tokens a es s) (closed_at tokens b fs t)
 closed_at_alike tokens a b s t h d both_empty = record { stack = both_empty; depth = d; mode = both_refused }
 closed_at_alike tokens a b s t h d (both_wait w k) = record { stack = k; depth = d; mode = both_refused }
@@ -124,18 +124,18 @@ closed_at_alike tokens a b s t h d (both_open {bracket = bracket} {from = from} 
       (stays_bracket bracket a b h));
 }
 
-closed_alike : (tokens : List Token) (a b : Outcome) (s t : Reader) → Stays a b → AlikeReader s t → AlikeReader (closed tokens a s)
+closed_alike : (tokens : List Token) (a b : ValueOrWhy) (s t : Reader) → Stays a b → AlikeReader s t → AlikeReader (closed tokens a s)
     (closed tokens b t)
 closed_alike tokens a b s t h k =
     let r = reduced_alike 0 a b h k.stack in
     closed_at_alike tokens (reduced 0 a s.stack).0 (reduced 0 b t.stack).0 s t r.value k.depth r.stack
 
-waiting_alike : (op : Binary) (a b : Outcome) (next : ℕ) (s t : Reader) → Stays a b → AlikeReader s t → AlikeReader (waiting op a next s)
+waiting_alike : (op : Binary) (a b : ValueOrWhy) (next : ℕ) (s t : Reader) → Stays a b → AlikeReader s t → AlikeReader (waiting op a next s)
     (waiting op b next t)
 waiting_alike op a b next s t h k = go (reduced (level_of op) a s.stack) (reduced (level_of op) b t.stack)
     (reduced_alike (level_of op) a b h k.stack)
   where
-    go : (q r : Outcome × List Entry) → Both q r → AlikeReader (waits op q.0 next q.1 s) (waits op r.0 next r.1 t)
+    go : (q r : ValueOrWhy × List Entry) → Both q r → AlikeReader (waits op q.0 next q.1 s) (waits op r.0 next r.1 t)
     go q r w = choose_alike (length q.1 == 256) (length r.1 == 256)
         (record { stack = q.1; depth = s.depth; mode = mode.Refused }) (record { stack = r.1; depth = t.depth; mode = mode.Refused })
         (record { stack = Waiting q.0 op ∷ q.1; depth = s.depth; mode = mode.Operand next })
@@ -144,12 +144,12 @@ waiting_alike op a b next s t h k = go (reduced (level_of op) a s.stack) (reduce
         (record { stack = w.stack; depth = k.depth; mode = both_refused })
         (record { stack = both_wait w.value w.stack; depth = k.depth; mode = both_operand next })
 
-operator_alike : (o : Option Binary) (a b : Outcome) (next : ℕ) (s t : Reader) → Stays a b → AlikeReader s t
+operator_alike : (o : Option Binary) (a b : ValueOrWhy) (next : ℕ) (s t : Reader) → Stays a b → AlikeReader s t
     → AlikeReader (operator_or_none o a next s) (operator_or_none o b next t)
 operator_alike None a b next s t h k = refused_alike s t k
 operator_alike (Some op) a b next s t h k = waiting_alike op a b next s t h k
 
-operator_step_alike : (kind : TokenKind) (tokens : List Token) (at : ℕ) (a b : Outcome) (s t : Reader) → Stays a b → AlikeReader s t
+operator_step_alike : (kind : TokenKind) (tokens : List Token) (at : ℕ) (a b : ValueOrWhy) (s t : Reader) → Stays a b → AlikeReader s t
     → AlikeReader (operator_step kind tokens at a s) (operator_step kind tokens at b t)
 operator_step_alike kind tokens at a b s t h k =
     choose_alike (is_mark_of 41 kind) (is_mark_of 41 kind) (closed tokens a s) (closed tokens b t)
@@ -163,14 +163,14 @@ bracket_step_alike kind bracket from at next s t k =
     (in_mode mode.Refused s) (in_mode mode.Refused t) refl (opened_alike bracket from at next s t k) (refused_alike s t k)
 
 data AlikeOperand : Operand → Operand → Type 0 where
-  both_value : {a b : Outcome} → Stays a b → AlikeOperand (Value a) (Value b)
+  both_value : {a b : ValueOrWhy} → Stays a b → AlikeOperand (Value a) (Value b)
   both_same : (o : Operand) → AlikeOperand o o
 
 known_stays : (a b : Option ℤ) → ((x : ℤ) → a ≡ Some x → b ≡ Some x) → Stays (known a) (known b)
 known_stays None b h = tt
 known_stays (Some x) b h = ap known (h x refl)
 
-name_alike : (o : Option Bracket) (a b : Outcome) → Stays a b → AlikeOperand (word_or_value o a) (word_or_value o b)
+name_alike : (o : Option Bracket) (a b : ValueOrWhy) → Stays a b → AlikeOperand (word_or_value o a) (word_or_value o b)
 name_alike None a b h = both_value h
 name_alike (Some bracket) a b h = both_same (Word bracket)
 
@@ -228,7 +228,7 @@ run_alike text tokens symbols more dot at (u ∷ us) s t keeps k =
     run_alike text tokens symbols more dot (at + 1) us (step text tokens symbols dot at u s) (step text tokens more dot at u t) keeps
     (step_in_alike text tokens symbols more dot at u s t keeps k k.mode)
 
-choose_stays : (p q : Bool) (a b c d : Outcome) → p ≡ q → Stays a b → Stays c d → Stays (cond p a c) (cond q b d)
+choose_stays : (p q : Bool) (a b c d : ValueOrWhy) → p ≡ q → Stays a b → Stays c d → Stays (cond p a c) (cond q b d)
 choose_stays true true a b c d e h k = h
 choose_stays true false a b c d e h k = absurd cc
 choose_stays false true a b c d e h k = absurd cc

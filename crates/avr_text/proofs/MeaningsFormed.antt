@@ -11,7 +11,7 @@ use Rattle.avr_text.specs.declared.tokens.TokenKind.{TokenKind}
 use Rattle.avr_text.specs.declared.tokens.TokenKind.TheVariants.{Name, Number, Mark, ShiftLeft, ShiftRight, LineEnd}
 use Rattle.avr_text.specs.declared.tokens.Token.{Token}
 use Rattle.avr_text.specs.declared.values.ValueWhy.TheVariants.{Form, Unknown, Overflow, ZeroDivisor}
-use Rattle.avr_text.specs.Arithmetic.{Outcome, fits, checked, is_zero, with_count, negated_of, complement_of}
+use Rattle.avr_text.specs.Arithmetic.{ValueOrWhy, fits, checked, is_zero, with_count, negated_of, complement_of}
 use Rattle.avr_text.specs.Names.{NameMap, known}
 use Rattle.avr_text.specs.Operators.{applied_to, combined, sign_value, sign_applied, bracket_applied}
 use Rattle.avr_text.specs.Reading.{value_of}
@@ -20,21 +20,21 @@ use Rattle.avr_text.specs.Expressions.{dot_value, meaning, FormUnless, IsExpress
 use Rattle.avr_text.proofs.TreesRead.{reads_whole}
 use Rattle.avr_text.proofs.TreesFound.{tree_found}
 
-abbrev is_form : Outcome → Bool
+abbrev is_form : ValueOrWhy → Bool
 is_form (Ok x) = false
 is_form (Err Form) = true
 is_form (Err Unknown) = false
 is_form (Err Overflow) = false
 is_form (Err ZeroDivisor) = false
 
-choose_formed : (b : Bool) (v w : Outcome) → is_form v ≡ false → is_form w ≡ false → is_form (cond b v w) ≡ false
+choose_formed : (b : Bool) (v w : ValueOrWhy) → is_form v ≡ false → is_form w ≡ false → is_form (cond b v w) ≡ false
 choose_formed true v w h k = h
 choose_formed false v w h k = k
 
 checked_formed : (z : ℤ) → is_form (checked z) ≡ false
 checked_formed z = choose_formed (fits z) (Ok z) (Err Overflow) refl refl
 
-count_formed : (y : ℤ) (f : ℕ → Outcome) → ((n : ℕ) → is_form (f n) ≡ false) → is_form (with_count y f) ≡ false
+count_formed : (y : ℤ) (f : ℕ → ValueOrWhy) → ((n : ℕ) → is_form (f n) ≡ false) → is_form (with_count y f) ≡ false
 count_formed (pos n) f h = choose_formed (nat_lt n 64) (f n) (Err Overflow) (h n) refl
 count_formed (negsuc n) f h = refl
 
@@ -50,7 +50,7 @@ applied_formed Multiply x y = checked_formed (x *ℤ y)
 applied_formed Divide x y = choose_formed (is_zero y) (Err ZeroDivisor) (checked (int_div x y)) refl (checked_formed (int_div x y))
 applied_formed Remainder x y = choose_formed (is_zero y) (Err ZeroDivisor) (checked (int_rem x y)) refl (checked_formed (int_rem x y))
 
-combined_formed : (op : Binary) (v w : Outcome) → is_form v ≡ false → is_form w ≡ false → is_form (combined op v w) ≡ false
+combined_formed : (op : Binary) (v w : ValueOrWhy) → is_form v ≡ false → is_form w ≡ false → is_form (combined op v w) ≡ false
 combined_formed op (Err why) w h k = h
 combined_formed op (Ok x) (Err why) h k = k
 combined_formed op (Ok x) (Ok y) h k = applied_formed op x y
@@ -64,11 +64,11 @@ sign_value_formed ShiftLeft x = refl
 sign_value_formed ShiftRight x = refl
 sign_value_formed LineEnd x = refl
 
-sign_formed : (kind : TokenKind) (v : Outcome) → is_form v ≡ false → is_form (sign_applied kind v) ≡ false
+sign_formed : (kind : TokenKind) (v : ValueOrWhy) → is_form v ≡ false → is_form (sign_applied kind v) ≡ false
 sign_formed kind (Err why) h = h
 sign_formed kind (Ok x) h = sign_value_formed kind x
 
-bracket_formed : (bracket : Bracket) (v : Outcome) → is_form v ≡ false → is_form (bracket_applied bracket v) ≡ false
+bracket_formed : (bracket : Bracket) (v : ValueOrWhy) → is_form v ≡ false → is_form (bracket_applied bracket v) ≡ false
 bracket_formed bracket (Err why) h = h
 bracket_formed Plain (Ok x) h = refl
 bracket_formed Low (Ok x) h = refl
@@ -91,7 +91,7 @@ formed text dot symbols depth level _ _ (spells_binary {left = left} {right = ri
     combined_formed op (meaning symbols dot x) (meaning symbols dot y) (formed text dot symbols depth _ left x d)
     (formed text dot symbols depth _ right y e)
 
-not_form : (v : Outcome) → is_form v ≡ false → v ≢ Err Form
+not_form : (v : ValueOrWhy) → is_form v ≡ false → v ≢ Err Form
 not_form v h e = let no : true ≡ false = subst (λ w. is_form w ≡ false) e h in absurd cc
 
 spelled_not_form : (text : List ℕ) (tokens : List Token) (symbols : NameMap) (dot : Option ℤ) (x : Tree) → Spells text dot 0 1 tokens x
@@ -105,7 +105,7 @@ form_or_tree text tokens symbols dot (inl e) = inl (e, λ t. spelled_not_form te
 form_or_tree text tokens symbols dot (inr t) = inr (spelled_not_form text tokens symbols dot t.0 t.1, t)
 
 -- Form exactly where the tokens are no expression
-pub form_unless : (text : List ℕ) (tokens : List Token) (symbols : NameMap) (dot : Option ℤ) (v : Outcome) → v ≡ value_of text tokens
+pub form_unless : (text : List ℕ) (tokens : List Token) (symbols : NameMap) (dot : Option ℤ) (v : ValueOrWhy) → v ≡ value_of text tokens
     symbols dot → FormUnless (IsExpression text dot tokens) v
 form_unless text tokens symbols dot v e = subst (FormUnless (IsExpression text dot tokens)) (sym e)
     (form_or_tree text tokens symbols dot (tree_found text dot tokens symbols))

@@ -6,11 +6,11 @@ use Rattle.std.proofs.lemmas.Bool.{ltb-true}
 use Rattle.std.specs.Prelude.{true, nat_lt}
 use Rattle.std.specs.List.{slice_range}
 use Rattle.avr_text.specs.declared.tokens.Token.{Token}
-use Rattle.avr_text.specs.Arithmetic.{Outcome}
+use Rattle.avr_text.specs.Arithmetic.{ValueOrWhy}
 use Rattle.avr_text.specs.Operators.{sign_applied}
 use Rattle.avr_text.specs.Reading.{signed}
 
-signed-append : (ts : List Token) (t : Token) (v : Outcome) → signed (ts ++ t ∷ []) v ≡ signed ts (sign_applied t.kind v)
+signed-append : (ts : List Token) (t : Token) (v : ValueOrWhy) → signed (ts ++ t ∷ []) v ≡ signed ts (sign_applied t.kind v)
 signed-append [] t v = refl
 signed-append (x ∷ ts) t v = ap (sign_applied x.kind) (signed-append ts t v)
 
@@ -21,7 +21,7 @@ range_more ts from i d le lt =
     let e : suc i - from ≡ suc (i - from) = omega arith in
     ap (λ n. take n (drop from ts)) e ∙ take-suc (drop from ts) (i - from) d (omega (arith, length-drop from ts))
 
-pub signed_more : (ts : List Token) (from i : ℕ) (t : Token) (v : Outcome) → from ≤ i → i < length ts → t ≡ get_or ts i t
+pub signed_more : (ts : List Token) (from i : ℕ) (t : Token) (v : ValueOrWhy) → from ≤ i → i < length ts → t ≡ get_or ts i t
     → signed (slice_range ts from i) (sign_applied t.kind v) ≡ signed (slice_range ts from (suc i)) v
 signed_more ts from i t v le lt e =
     let k : from + (i - from) ≡ i = omega arith in
@@ -30,7 +30,7 @@ signed_more ts from i t v le lt e =
     v ∙ ap (λ (x : Token). signed (slice_range ts from i) (sign_applied x.kind v)) there)
 
 -- as the loop counts
-pub signed_step : (ts : List Token) (from k : ℕ) (t : Token) (v w : Outcome) → from < k → true ≡ nat_lt (k - 1) (length ts) → t ≡ get_or ts
+pub signed_step : (ts : List Token) (from k : ℕ) (t : Token) (v w : ValueOrWhy) → from < k → true ≡ nat_lt (k - 1) (length ts) → t ≡ get_or ts
     (k - 1) t → w ≡ sign_applied t.kind v → signed (slice_range ts from (k - 1)) w ≡ signed (slice_range ts from k) v
 signed_step ts from k t v w lt test e is =
     let last : suc (k - 1) ≡ k = omega arith in

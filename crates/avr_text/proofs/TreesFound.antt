@@ -19,7 +19,7 @@ use Rattle.avr_text.specs.declared.tokens.TokenKind.{TokenKind}
 use Rattle.avr_text.specs.declared.tokens.TokenKind.TheVariants.{Name, Number, Mark, ShiftLeft, ShiftRight, LineEnd}
 use Rattle.avr_text.specs.declared.tokens.Token.{Token}
 use Rattle.avr_text.specs.declared.values.ValueWhy.TheVariants.{Form}
-use Rattle.avr_text.specs.Arithmetic.{Outcome}
+use Rattle.avr_text.specs.Arithmetic.{ValueOrWhy}
 use Rattle.avr_text.specs.Names.{NameMap, known}
 use Rattle.avr_text.specs.Operators.{level_of, combined, binary_of, is_sign}
 use Rattle.avr_text.specs.Tokens.{text_of}
@@ -68,7 +68,7 @@ module _ (text : List ℕ) (dot : Option ℤ) where
   -- tokens that end where an operand or its signs may begin, with what waits there
   data Left : ℕ → List Entry → List Token → Type 0 where
     left_start : Left 0 [] []
-    left_wait : {depth : ℕ} {stack : List Entry} {front ts : List Token} {op : Binary} {value : Outcome} {x : Tree} (t : Token)
+    left_wait : {depth : ℕ} {stack : List Entry} {front ts : List Token} {op : Binary} {value : ValueOrWhy} {x : Tree} (t : Token)
         → Left depth stack front → Below (level_of op) stack → Spells text dot depth (level_of op) ts x → binary_of t.kind ≡ Some op
         → Left depth (Waiting value op ∷ stack) (front ++ (ts ++ t ∷ []))
     left_open : {depth : ℕ} {stack : List Entry} {front opening : List Token} {bracket : Bracket} {from at : ℕ} (signs : List Token)
@@ -91,12 +91,12 @@ module _ (text : List ℕ) (dot : Option ℤ) where
   lt_of : (k n : ℕ) → nat_le k n ≡ false → n < k
   lt_of k n e = grind (arith, nat_tests)
 
-  choose_reduced : (b : Bool) (depth k n : ℕ) (p q : Outcome × List Entry) (read : List Token) → nat_le k n ≡ b
+  choose_reduced : (b : Bool) (depth k n : ℕ) (p q : ValueOrWhy × List Entry) (read : List Token) → nat_le k n ≡ b
       → (k ≤ n → Reduced depth k p.1 read) → (n < k → Reduced depth k q.1 read) → Reduced depth k (cond b p q).1 read
   choose_reduced true depth k n p q read e f g = f (le_of k n e)
   choose_reduced false depth k n p q read e f g = g (lt_of k n e)
 
-  reduces : (k level : ℕ) (v : Outcome) (depth : ℕ) (stack : List Entry) (front ts : List Token) (x : Tree) → Left depth stack front
+  reduces : (k level : ℕ) (v : ValueOrWhy) (depth : ℕ) (stack : List Entry) (front ts : List Token) (x : Tree) → Left depth stack front
       → Below level stack → k ≤ level → Spells text dot depth level ts x → Reduced depth k (reduced k v stack).1 (front ++ ts)
   reduces k level v _ _ _ ts x left_start below h d = record {
     front = [];
@@ -185,7 +185,7 @@ module _ (text : List ℕ) (dot : Option ℤ) where
   Says operand.Parenthesis t = t.kind ≡ Mark 40
   Says Nothing t = Unit {0}
 
-  says_name : (t : Token) (v : Outcome) (o : Option Bracket) → t.kind ≡ Name → bracket_word (text_of text t) ≡ o → Says (word_or_value o v)
+  says_name : (t : Token) (v : ValueOrWhy) (o : Option Bracket) → t.kind ≡ Name → bracket_word (text_of text t) ≡ o → Says (word_or_value o v)
       t
   says_name t v None e f = (name_tree (text_of text t), λ depth. spells_name e f)
   says_name t v (Some bracket) e f = (e, f)
@@ -306,7 +306,7 @@ module _ (text : List ℕ) (dot : Option ℤ) where
       subst (λ n. AtOperator n stack (((front ++ (signs ++ opening)) ++ ts) ++ t ∷ [])) one
       (record { front = front; ts = signs ++ (opening ++ (ts ++ t ∷ [])); x = r.0; left = l; spelled = r.1; joined = joins })
 
-  closed_at_holds : (tokens : List Token) (v : Outcome) (entries : List Entry) (t : Token) (s : Reader) (read : List Token) → t.kind ≡ Mark
+  closed_at_holds : (tokens : List Token) (v : ValueOrWhy) (entries : List Entry) (t : Token) (s : Reader) (read : List Token) → t.kind ≡ Mark
       41 → Reduced s.depth 0 entries read → Holds (closed_at tokens v entries s) (read ++ t ∷ [])
   closed_at_holds tokens v [] t s read e r = tt
   closed_at_holds tokens v (Waiting w op ∷ entries) t s read e r = tt
@@ -314,7 +314,7 @@ module _ (text : List ℕ) (dot : Option ℤ) where
       subst (λ u. AtOperator (s.depth - 1) entries (u ++ t ∷ [])) r.joined (close_holds bracket from at s.depth entries r.front r.ts r.x t e
       r.spelled r.left)
 
-  waits_holds : (op : Binary) (p : Outcome × List Entry) (next : ℕ) (t : Token) (s : Reader) (read : List Token) → binary_of t.kind ≡ Some
+  waits_holds : (op : Binary) (p : ValueOrWhy × List Entry) (next : ℕ) (t : Token) (s : Reader) (read : List Token) → binary_of t.kind ≡ Some
       op → Reduced s.depth (level_of op) p.1 read → Holds (waits op p.0 next p.1 s) (read ++ t ∷ [])
   waits_holds op p next t s read e r =
       choose_holds (length p.1 == 256) (record { stack = p.1; depth = s.depth; mode = mode.Refused })
@@ -328,19 +328,19 @@ module _ (text : List ℕ) (dot : Option ℤ) where
         joined = append-nil (r.front ++ (r.ts ++ t ∷ [])) ∙ sym (append_assoc r.front r.ts (t ∷ [])) ∙ ap (λ u. u ++ t ∷ []) r.joined;
       })
 
-  turned : (k : ℕ) (v : Outcome) (depth : ℕ) (stack : List Entry) (read : List Token) → k ≤ 7 → AtOperator depth stack read → Reduced depth
+  turned : (k : ℕ) (v : ValueOrWhy) (depth : ℕ) (stack : List Entry) (read : List Token) → k ≤ 7 → AtOperator depth stack read → Reduced depth
       k (reduced k v stack).1 read
   turned k v depth stack read h q = subst (λ u. Reduced depth k (reduced k v stack).1 u) q.joined
       (reduces k 7 v depth stack q.front q.ts q.x q.left (below_seven stack) h q.spelled)
 
-  operator_holds : (o : Option Binary) (v : Outcome) (next : ℕ) (t : Token) (s : Reader) (read : List Token) → binary_of t.kind ≡ o
+  operator_holds : (o : Option Binary) (v : ValueOrWhy) (next : ℕ) (t : Token) (s : Reader) (read : List Token) → binary_of t.kind ≡ o
       → AtOperator s.depth s.stack read → Holds (operator_or_none o v next s) (read ++ t ∷ [])
   operator_holds None v next t s read e q = tt
   operator_holds (Some op) v next t s read e q =
       let m = level_most op in
       waits_holds op (reduced (level_of op) v s.stack) next t s read e (turned (level_of op) v s.depth s.stack read (omega arith) q)
 
-  operator_step_holds : (tokens : List Token) (at : ℕ) (v : Outcome) (t : Token) (s : Reader) (read : List Token) → AtOperator s.depth
+  operator_step_holds : (tokens : List Token) (at : ℕ) (v : ValueOrWhy) (t : Token) (s : Reader) (read : List Token) → AtOperator s.depth
       s.stack read → Holds (operator_step t.kind tokens at v s) (read ++ t ∷ [])
   operator_step_holds tokens at v t s read q =
       choose_holds (is_mark_of 41 t.kind) (closed tokens v s) (operator_or_none (binary_of t.kind) v (at + 1) s) (read ++ t ∷ [])
@@ -367,7 +367,7 @@ module _ (text : List ℕ) (dot : Option ℤ) where
   not_empty : (n : ℕ) → (suc n == 0) ≡ false
   not_empty n = grind (arith, nat_tests)
 
-  end_found : (tokens : List Token) (v : Outcome) (depth : ℕ) (entries : List Entry) (front ts : List Token) (x : Tree) → front
+  end_found : (tokens : List Token) (v : ValueOrWhy) (depth : ℕ) (entries : List Entry) (front ts : List Token) (x : Tree) → front
       ++ ts ≡ tokens → Spells text dot depth 0 ts x → Left depth entries front → (emptied (v, entries) ≡ Err Form)
       ⊎ ((y : Tree) × Spells text dot 0 1 tokens y)
   end_found tokens v _ _ _ ts x joined d left_start = inr (x, subst (λ us. Spells text dot 0 1 us x) joined (from_loosest 0 ts x d))

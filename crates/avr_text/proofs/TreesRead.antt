@@ -22,7 +22,7 @@ use Rattle.avr_text.specs.declared.reader.Reader.{Reader}
 use Rattle.avr_text.specs.declared.tokens.TokenKind.{TokenKind}
 use Rattle.avr_text.specs.declared.tokens.TokenKind.TheVariants.{Name, Number, Mark, ShiftLeft, ShiftRight, LineEnd}
 use Rattle.avr_text.specs.declared.tokens.Token.{Token}
-use Rattle.avr_text.specs.Arithmetic.{Outcome}
+use Rattle.avr_text.specs.Arithmetic.{ValueOrWhy}
 use Rattle.avr_text.specs.Names.{NameMap, known}
 use Rattle.avr_text.specs.Operators.{level_of, combined, binary_mark, binary_of, is_sign, bracket_applied}
 use Rattle.avr_text.specs.Tokens.{text_of}
@@ -51,7 +51,7 @@ not_le k n h = grind (arith, nat_tests)
 pub is_le : (k n : ℕ) → k ≤ n → nat_le k n ≡ true
 is_le k n h = grind (arith, nat_tests)
 
-pub stays_put : (k : ℕ) (v : Outcome) (entries : List Entry) → Below k entries → reduced k v entries ≡ (v, entries)
+pub stays_put : (k : ℕ) (v : ValueOrWhy) (entries : List Entry) → Below k entries → reduced k v entries ≡ (v, entries)
 stays_put k v [] h = refl
 stays_put k v (Waiting value operator ∷ entries) h = ap (λ b. cond b (reduced k (combined operator value v) entries)
     (v, Waiting value operator ∷ entries)) (not_le k (level_of operator) h)
@@ -127,7 +127,7 @@ not_closing LineEnd op h = refl
 abbrev before : List Entry → ℕ → ℕ → Reader
 before stack depth from = record { stack = stack; depth = depth; mode = mode.Operand from }
 
-abbrev after : List Entry → ℕ → Outcome → Reader
+abbrev after : List Entry → ℕ → ValueOrWhy → Reader
 after stack depth value = record { stack = stack; depth = depth; mode = mode.Operator value }
 
 room_left : (depth n : ℕ) → depth < 32 → n < 256 → (nat_le 32 depth || n == 256) ≡ false
@@ -157,7 +157,7 @@ module _ (text : List ℕ) (tokens : List Token) (symbols : NameMap) (dot : Opti
 
   -- what the machine has where it ends
   record Reaches (depth level at from : ℕ) (ts rest : List Token) (stack : List Entry) (x : Tree) : Type 0 where
-    pub value : Outcome
+    pub value : ValueOrWhy
     pub entries : List Entry
     pub runs : run text tokens symbols dot at (ts ++ rest) (before stack depth from) ≡ run text tokens symbols dot (at + length ts) rest
         (after entries depth value)
@@ -211,19 +211,19 @@ module _ (text : List ℕ) (tokens : List Token) (symbols : NameMap) (dot : Opti
       stack h k)
       ∙ ap (λ n. run text tokens symbols dot n us (before (Open bracket from at ∷ stack) (suc depth) n)) two
 
-  closing_runs : (depth at from place : ℕ) (t : Token) (rest : List Token) (stack entries : List Entry) (bracket : Bracket) (v w : Outcome)
+  closing_runs : (depth at from place : ℕ) (t : Token) (rest : List Token) (stack entries : List Entry) (bracket : Bracket) (v w : ValueOrWhy)
       → t.kind ≡ Mark 41 → reduced 0 v entries ≡ (w, Open bracket from place ∷ stack)
       → run text tokens symbols dot at (t ∷ rest) (after entries (suc depth) v) ≡ run text tokens symbols dot (at + 1) rest
       (after stack depth (signed (slice_range tokens from place) (bracket_applied bracket w)))
   closing_runs depth at from place t rest stack entries bracket v w e r =
       let one : suc depth - 1 ≡ depth = omega arith in
       ap (λ kind. run text tokens symbols dot (at + 1) rest (operator_step kind tokens at v (after entries (suc depth) v))) e
-      ∙ ap (λ (p : Outcome × List Entry). run text tokens symbols dot (at + 1) rest
+      ∙ ap (λ (p : ValueOrWhy × List Entry). run text tokens symbols dot (at + 1) rest
       (closed_at tokens p.0 p.1 (after entries (suc depth) v))) r
       ∙ ap (λ n. run text tokens symbols dot (at + 1) rest
       (after stack n (signed (slice_range tokens from place) (bracket_applied bracket w)))) one
 
-  operator_runs : (depth at : ℕ) (t : Token) (rest : List Token) (stack entries : List Entry) (op : Binary) (v w : Outcome)
+  operator_runs : (depth at : ℕ) (t : Token) (rest : List Token) (stack entries : List Entry) (op : Binary) (v w : ValueOrWhy)
       → binary_of t.kind ≡ Some op → length stack < 256 → reduced (level_of op) v entries ≡ (w, stack)
       → run text tokens symbols dot at (t ∷ rest) (after entries depth v) ≡ run text tokens symbols dot (at + 1) rest
       (before (Waiting w op ∷ stack) depth (at + 1))
@@ -231,7 +231,7 @@ module _ (text : List ℕ) (tokens : List Token) (symbols : NameMap) (dot : Opti
       ap (λ b. run text tokens symbols dot (at + 1) rest (cond b (closed tokens v (after entries depth v))
       (operator_or_none (binary_of t.kind) v (at + 1) (after entries depth v)))) (not_closing t.kind op e)
       ∙ ap (λ o. run text tokens symbols dot (at + 1) rest (operator_or_none o v (at + 1) (after entries depth v))) e
-      ∙ ap (λ (p : Outcome × List Entry). run text tokens symbols dot (at + 1) rest (waits op p.0 (at + 1) p.1 (after entries depth v))) r
+      ∙ ap (λ (p : ValueOrWhy × List Entry). run text tokens symbols dot (at + 1) rest (waits op p.0 (at + 1) p.1 (after entries depth v))) r
       ∙ ap (λ b. run text tokens symbols dot (at + 1) rest (cond b (record { stack = stack; depth = depth; mode = mode.Refused })
       (before (Waiting w op ∷ stack) depth (at + 1)))) (not_full (length stack) h)
 

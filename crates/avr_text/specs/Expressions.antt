@@ -13,7 +13,7 @@ use Rattle.avr_text.specs.declared.tokens.TokenKind.{TokenKind}
 use Rattle.avr_text.specs.declared.tokens.TokenKind.TheVariants.{Name, Number, Mark}
 use Rattle.avr_text.specs.declared.tokens.Token.{Token}
 use Rattle.avr_text.specs.declared.values.ValueWhy.TheVariants.{Form}
-use Rattle.avr_text.specs.Arithmetic.{Outcome}
+use Rattle.avr_text.specs.Arithmetic.{ValueOrWhy}
 use Rattle.avr_text.specs.Names.{NameMap, known}
 use Rattle.avr_text.specs.Operators.{level_of, combined, binary_of, is_sign, sign_applied, bracket_applied}
 use Rattle.avr_text.specs.Words.{bracket_word}
@@ -54,12 +54,12 @@ pub data Spells (text : List ℕ) (dot : Option ℤ) : ℕ → ℕ → List Toke
       → Spells text dot depth level (left ++ t ∷ right) (binary_tree operator x y)
 
 -- what `.` stands for
-abbrev pub dot_value : Option ℤ → Outcome
+abbrev pub dot_value : Option ℤ → ValueOrWhy
 dot_value None = Err Form
 dot_value (Some x) = Ok x
 
 -- the value of a tree: an operator's left operand is evaluated first, then the right one, then the operator
-abbrev pub meaning : NameMap → Option ℤ → Tree → Outcome
+abbrev pub meaning : NameMap → Option ℤ → Tree → ValueOrWhy
 meaning symbols dot (number_tree n) = Ok n
 meaning symbols dot (name_tree name) = known (map.get symbols name)
 meaning symbols dot dot_tree = dot_value dot
@@ -75,5 +75,5 @@ abbrev pub IsExpression : List ℕ → Option ℤ → List Token → Type 0
 IsExpression text dot tokens = (tree : Tree) × IsExpressionOf text dot tokens tree
 
 -- the outcome is Form exactly where there is no expression
-abbrev pub FormUnless : Type 0 → Outcome → Type 0
+abbrev pub FormUnless : Type 0 → ValueOrWhy → Type 0
 FormUnless expression outcome = ((outcome ≡ Err Form) × ¬ expression) ⊎ ((outcome ≢ Err Form) × expression)

@@ -5,7 +5,7 @@ use Rattle.std.specs.Ordering.{nat_cmp}
 use Rattle.std.specs.Cmp.Lexicographic.{slice_cmp}
 use Rattle.std.specs.FinMap.{FinMap, get}
 use Rattle.avr_text.specs.declared.values.ValueWhy.TheVariants.{Unknown}
-use Rattle.avr_text.specs.Arithmetic.{Outcome}
+use Rattle.avr_text.specs.Arithmetic.{ValueOrWhy}
 
 -- names as lists of bytes
 abbrev pub named : List (Vec ℕ Global × ℤ) → List (List ℕ × ℤ)
@@ -16,7 +16,7 @@ abbrev pub NameMap : Type 0
 NameMap = FinMap {K = List ℕ} (slice_cmp nat_cmp) ℤ
 
 -- the value of a name, where it has one
-abbrev pub known : Option ℤ → Outcome
+abbrev pub known : Option ℤ → ValueOrWhy
 known None = Err Unknown
 known (Some x) = Ok x
 

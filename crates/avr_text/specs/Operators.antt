@@ -8,7 +8,7 @@ use Rattle.avr_text.specs.declared.operators.Bracket.{Bracket}
 use Rattle.avr_text.specs.declared.operators.Bracket.TheVariants.{Plain, Low, High}
 use Rattle.avr_text.specs.declared.tokens.TokenKind.{TokenKind}
 use Rattle.avr_text.specs.declared.tokens.TokenKind.TheVariants.{Mark, ShiftLeft, ShiftRight}
-use Rattle.avr_text.specs.Arithmetic.{Outcome, sum_of, difference_of, product_of, quotient_of, remainder_of, shifted_left, shifted_right}
+use Rattle.avr_text.specs.Arithmetic.{ValueOrWhy, sum_of, difference_of, product_of, quotient_of, remainder_of, shifted_left, shifted_right}
 use Rattle.avr_text.specs.Arithmetic.{or_of, xor_of, and_of, negated_of, complement_of, low_of, high_of}
 
 -- from the loosest: | ^ & then << >> then + - then * / %
@@ -24,7 +24,7 @@ level_of Multiply = 6
 level_of Divide = 6
 level_of Remainder = 6
 
-abbrev pub applied_to : Binary → ℤ → ℤ → Outcome
+abbrev pub applied_to : Binary → ℤ → ℤ → ValueOrWhy
 applied_to Or x y = Ok (or_of x y)
 applied_to Xor x y = Ok (xor_of x y)
 applied_to And x y = Ok (and_of x y)
@@ -37,7 +37,7 @@ applied_to Divide x y = quotient_of x y
 applied_to Remainder x y = remainder_of x y
 
 -- the left operand's fault goes before the right one's, and both before the operator's own
-abbrev pub combined : Binary → Outcome → Outcome → Outcome
+abbrev pub combined : Binary → ValueOrWhy → ValueOrWhy → ValueOrWhy
 combined operator (Err why) right = Err why
 combined operator (Ok x) (Err why) = Err why
 combined operator (Ok x) (Ok y) = applied_to operator x y
@@ -66,20 +66,20 @@ abbrev pub is_sign : TokenKind → Bool
 is_sign (Mark b) = b == code "-" || b == code "~"
 is_sign other = false
 
-abbrev pub sign_value : TokenKind → ℤ → Outcome
+abbrev pub sign_value : TokenKind → ℤ → ValueOrWhy
 sign_value (Mark b) x = if b == code "-" then negated_of x else if b == code "~" then Ok (complement_of x) else Ok x
 sign_value other x = Ok x
 
-abbrev pub sign_applied : TokenKind → Outcome → Outcome
+abbrev pub sign_applied : TokenKind → ValueOrWhy → ValueOrWhy
 sign_applied kind (Err why) = Err why
 sign_applied kind (Ok x) = sign_value kind x
 
 -- what parentheses do, and lo8 and hi8 with theirs
-abbrev pub bracket_value : Bracket → ℤ → Outcome
+abbrev pub bracket_value : Bracket → ℤ → ValueOrWhy
 bracket_value Plain x = Ok x
 bracket_value Low x = Ok (low_of x)
 bracket_value High x = Ok (high_of x)
 
-abbrev pub bracket_applied : Bracket → Outcome → Outcome
+abbrev pub bracket_applied : Bracket → ValueOrWhy → ValueOrWhy
 bracket_applied bracket (Err why) = Err why
 bracket_applied bracket (Ok x) = bracket_value bracket x

@@ -22,26 +22,26 @@ use Rattle.avr_text.specs.declared.tokens.TokenKind.{TokenKind}
 use Rattle.avr_text.specs.declared.tokens.TokenKind.TheVariants.{Name, Number, Mark}
 use Rattle.avr_text.specs.declared.tokens.Token.{Token}
 use Rattle.avr_text.specs.declared.values.ValueWhy.TheVariants.{Form}
-use Rattle.avr_text.specs.Arithmetic.{Outcome}
+use Rattle.avr_text.specs.Arithmetic.{ValueOrWhy}
 use Rattle.avr_text.specs.Names.{NameMap, known}
 use Rattle.avr_text.specs.Operators.{level_of, combined, binary_of, is_sign, sign_applied, bracket_applied}
 use Rattle.avr_text.specs.Tokens.{text_of}
 use Rattle.avr_text.specs.Words.{bracket_word}
 
 -- signs before an operand: the last one is applied first
-abbrev pub signed : List Token → Outcome → Outcome
+abbrev pub signed : List Token → ValueOrWhy → ValueOrWhy
 signed [] value = value
 signed (t ∷ ts) value = sign_applied t.kind (signed ts value)
 
 -- the operators that bind at least as tightly as a level take their right operand
-abbrev pub reduced : ℕ → Outcome → List Entry → Outcome × List Entry
+abbrev pub reduced : ℕ → ValueOrWhy → List Entry → ValueOrWhy × List Entry
 reduced level value [] = (value, [])
 reduced level value (Open bracket from at ∷ entries) = (value, Open bracket from at ∷ entries)
 reduced level value (Waiting left operator ∷ entries) =
     if nat_le level (level_of operator) then reduced level (combined operator left value) entries
     else (value, Waiting left operator ∷ entries)
 
-abbrev pub word_or_value : Option Bracket → Outcome → Operand
+abbrev pub word_or_value : Option Bracket → ValueOrWhy → Operand
 word_or_value None value = Value value
 word_or_value (Some bracket) value = Word bracket
 
@@ -82,7 +82,7 @@ opened bracket from at next s =
     else record { stack = Open bracket from at ∷ s.stack; depth = s.depth + 1; mode = mode.Operand next }
 
 -- the parenthesis at the top is closed
-abbrev pub closed_at : List Token → Outcome → List Entry → Reader → Reader
+abbrev pub closed_at : List Token → ValueOrWhy → List Entry → Reader → Reader
 closed_at tokens value [] s = record { stack = []; depth = s.depth; mode = mode.Refused }
 closed_at tokens value (Waiting left operator ∷ entries) s = record { stack = entries; depth = s.depth; mode = mode.Refused }
 closed_at tokens value (Open bracket from at ∷ entries) s =
@@ -92,7 +92,7 @@ closed_at tokens value (Open bracket from at ∷ entries) s =
       mode = mode.Operator (signed (slice_range tokens from at) (bracket_applied bracket value));
     }
 
-abbrev pub closed : List Token → Outcome → Reader → Reader
+abbrev pub closed : List Token → ValueOrWhy → Reader → Reader
 closed tokens value s = closed_at tokens (reduced 0 value s.stack).0 (reduced 0 value s.stack).1 s
 
 -- a token where an operand may begin
@@ -104,12 +104,12 @@ operand_step operand.Parenthesis tokens from at s = opened Plain from at (at + 1
 operand_step Nothing tokens from at s = in_mode mode.Refused s
 
 -- an operator waits for its right operand
-abbrev pub waits : Binary → Outcome → ℕ → List Entry → Reader → Reader
+abbrev pub waits : Binary → ValueOrWhy → ℕ → List Entry → Reader → Reader
 waits operator left next entries s =
     if length entries == 256 then record { stack = entries; depth = s.depth; mode = mode.Refused }
     else record { stack = Waiting left operator ∷ entries; depth = s.depth; mode = mode.Operand next }
 
-abbrev pub waiting : Binary → Outcome → ℕ → Reader → Reader
+abbrev pub waiting : Binary → ValueOrWhy → ℕ → Reader → Reader
 waiting operator value next s = waits operator (reduced (level_of operator) value s.stack).0 next
     (reduced (level_of operator) value s.stack).1 s
 
@@ -117,12 +117,12 @@ abbrev pub is_mark_of : ℕ → TokenKind → Bool
 is_mark_of b (Mark c) = c == b
 is_mark_of b other = false
 
-abbrev pub operator_or_none : Option Binary → Outcome → ℕ → Reader → Reader
+abbrev pub operator_or_none : Option Binary → ValueOrWhy → ℕ → Reader → Reader
 operator_or_none None value next s = in_mode mode.Refused s
 operator_or_none (Some operator) value next s = waiting operator value next s
 
 -- a token after an operand
-abbrev pub operator_step : TokenKind → List Token → ℕ → Outcome → Reader → Reader
+abbrev pub operator_step : TokenKind → List Token → ℕ → ValueOrWhy → Reader → Reader
 operator_step kind tokens at value s = if is_mark_of (code ")") kind then closed tokens value s else operator_or_none (binary_of kind) value
     (at + 1) s
 
@@ -146,16 +146,16 @@ run text tokens symbols dot at [] s = s
 run text tokens symbols dot at (t ∷ ts) s = run text tokens symbols dot (at + 1) ts (step text tokens symbols dot at t s)
 
 -- nothing may be left waiting
-abbrev pub emptied : Outcome × List Entry → Outcome
+abbrev pub emptied : ValueOrWhy × List Entry → ValueOrWhy
 emptied r = if length r.1 == 0 then r.0 else Err Form
 
-abbrev pub finished_in : Mode → List Entry → Outcome
+abbrev pub finished_in : Mode → List Entry → ValueOrWhy
 finished_in (mode.Operator value) entries = emptied (reduced 0 value entries)
 finished_in other entries = Err Form
 
-abbrev pub finished : Reader → Outcome
+abbrev pub finished : Reader → ValueOrWhy
 finished s = finished_in s.mode s.stack
 
 -- the value of an expression, or why it has none
-abbrev pub value_of : List ℕ → List Token → NameMap → Option ℤ → Outcome
+abbrev pub value_of : List ℕ → List Token → NameMap → Option ℤ → ValueOrWhy
 value_of text tokens symbols dot = finished (run text tokens symbols dot 0 tokens beginning)

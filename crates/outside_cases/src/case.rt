@@ -21,7 +21,7 @@ pub struct Written {
 
 /// What a run leaves.
 #[derive(Drop)]
-pub struct Outcome {
+pub struct RunEnd {
     pub answer: Answer,
     pub shelf: MemoryShelf,
 }
@@ -32,7 +32,7 @@ pub struct Case {
     files: Vec<Held>,
     pub loads: Vec<String>,
     pub writes: Vec<Written>,
-    last: Option<Outcome>,
+    last: Option<RunEnd>,
 }
 
 impl Case {
@@ -82,7 +82,7 @@ impl Case {
     }
 
     /// The run that nothing disturbed.
-    pub fn remember(&mut self, outcome: Outcome) {
+    pub fn remember(&mut self, outcome: RunEnd) {
         self.last = Some(outcome);
     }
 
@@ -147,13 +147,13 @@ impl Case {
         words: &[String],
         shelf_fails: &[Fail],
         sink_fails: &[Fail],
-    ) -> Result<Outcome> {
+    ) -> Result<RunEnd> {
         let mut shelf = MemoryShelf::new(alloc, shelf_fails)?;
         for held in self.files.as_slice() {
             shelf.add(alloc, held.name.as_str(), held.bytes.as_slice())?;
         }
         let answer = run(alloc, words, &mut shelf, sink_fails)?;
-        Ok(Outcome { answer, shelf })
+        Ok(RunEnd { answer, shelf })
     }
 }
 

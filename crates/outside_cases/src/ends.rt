@@ -1,6 +1,6 @@
 //! What a run is to leave, beside the run that nothing disturbs.
 
-use crate::case::{Case, Outcome, Written};
+use crate::case::{Case, RunEnd, Written};
 use command_bench::Status;
 
 /// A fault of the shelf's call of that number, counted from 1, which keeps so many bytes.
@@ -63,7 +63,7 @@ impl Extent {
 }
 
 /// Whether a run in which the shelf's call failed leaves the files that it is to leave.
-fn leaves_files(case: &Case, whole: &Outcome, left: &Outcome, fault: Fault) -> bool {
+fn leaves_files(case: &Case, whole: &RunEnd, left: &RunEnd, fault: Fault) -> bool {
     let mut number = fault.call.saturating_sub(case.loads.len());
     for written in case.writes.as_slice() {
         let name = written.name.as_str();
@@ -81,14 +81,14 @@ fn leaves_files(case: &Case, whole: &Outcome, left: &Outcome, fault: Fault) -> b
 }
 
 /// Whether a run is as the one that nothing disturbs.
-pub fn is_undisturbed(case: &Case, whole: &Outcome, left: &Outcome) -> bool {
+pub fn is_undisturbed(case: &Case, whole: &RunEnd, left: &RunEnd) -> bool {
     left.answer.status == whole.answer.status
         && left.answer.text() == whole.answer.text()
         && has_all_files(case, whole, left)
 }
 
 /// Whether all files are written.
-pub fn has_all_files(case: &Case, whole: &Outcome, left: &Outcome) -> bool {
+pub fn has_all_files(case: &Case, whole: &RunEnd, left: &RunEnd) -> bool {
     let fault = Fault {
         call: usize::MAX,
         keep: 0,
@@ -97,7 +97,7 @@ pub fn has_all_files(case: &Case, whole: &Outcome, left: &Outcome) -> bool {
 }
 
 /// Whether a run in which a load failed leaves what it is to leave, where so many bytes of its line could be put.
-pub fn is_unread(case: &Case, whole: &Outcome, left: &Outcome, load: usize, count: usize) -> bool {
+pub fn is_unread(case: &Case, whole: &RunEnd, left: &RunEnd, load: usize, count: usize) -> bool {
     let fault = Fault {
         call: load,
         keep: 0,
@@ -113,7 +113,7 @@ pub fn is_unread(case: &Case, whole: &Outcome, left: &Outcome, load: usize, coun
 }
 
 /// Whether a run in which the shelf's call failed leaves what it is to leave.
-pub fn is_wanted(case: &Case, whole: &Outcome, left: &Outcome, fault: Fault) -> bool {
+pub fn is_wanted(case: &Case, whole: &RunEnd, left: &RunEnd, fault: Fault) -> bool {
     if fault.call > case.shelf_calls() {
         is_undisturbed(case, whole, left)
     } else if fault.call > case.loads.len() {

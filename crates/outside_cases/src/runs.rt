@@ -1,6 +1,6 @@
 //! A command, run in all ways.
 
-use crate::case::{Case, Outcome};
+use crate::case::{Case, RunEnd};
 use crate::ends::{Fault, front, has_all_files, is_undisturbed, is_unread, is_wanted, last_line};
 use anyhow::Result;
 use command_bench::{Fail, Status, words_of};
@@ -22,7 +22,7 @@ fn run_whole(
     case: &Case,
     words: &str,
     list: &[String],
-) -> Result<Outcome> {
+) -> Result<RunEnd> {
     let whole = case.run(alloc, list, &[], &[])?;
     whole.answer.tell(rt, words)?;
     Ok(whole)
@@ -61,7 +61,7 @@ fn try_shelf(
     alloc: Global,
     case: &Case,
     words: &[String],
-    whole: &Outcome,
+    whole: &RunEnd,
 ) -> Result<()> {
     let mut failed = 0u32;
     for call in 1..MOST_CALLS {
@@ -86,7 +86,7 @@ fn try_shelf(
 }
 
 /// The status where the piece of a `put` that begins there fails: the line of a fault changes none.
-fn status_without(whole: &Outcome, start: usize) -> Status {
+fn status_without(whole: &RunEnd, start: usize) -> Status {
     if whole.answer.status != Status::Done && start == last_line(whole.answer.text()) {
         whole.answer.status
     } else {
@@ -95,7 +95,7 @@ fn status_without(whole: &Outcome, start: usize) -> Status {
 }
 
 /// Whether a run in which the `put` of a piece failed leaves what it is to leave.
-fn is_cut(case: &Case, whole: &Outcome, left: &Outcome, start: usize, length: usize) -> bool {
+fn is_cut(case: &Case, whole: &RunEnd, left: &RunEnd, start: usize, length: usize) -> bool {
     left.answer.status == status_without(whole, start)
         && left.answer.text() == front(whole.answer.text(), length)
         && has_all_files(case, whole, left)
@@ -108,7 +108,7 @@ fn try_sink(
     alloc: Global,
     case: &Case,
     words: &[String],
-    whole: &Outcome,
+    whole: &RunEnd,
 ) -> Result<()> {
     let mut left = without_put(alloc, case, words, 1)?;
     let mut start = 0usize;
@@ -146,7 +146,7 @@ fn try_sink(
 }
 
 /// What a run leaves where the `put` of that number fails and keeps no byte: as many bytes are printed as were put before.
-fn without_put(alloc: Global, case: &Case, words: &[String], call: u32) -> Result<Outcome> {
+fn without_put(alloc: Global, case: &Case, words: &[String], call: u32) -> Result<RunEnd> {
     case.run(alloc, words, &[], &[Fail { call, keep: 0 }])
 }
 
@@ -156,7 +156,7 @@ fn try_both(
     alloc: Global,
     case: &Case,
     words: &[String],
-    whole: &Outcome,
+    whole: &RunEnd,
 ) -> Result<()> {
     let mut call = 0u32;
     for _ in case.loads.as_slice() {

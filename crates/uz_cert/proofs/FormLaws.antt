@@ -13,7 +13,7 @@ use Rattle.uz_lines.specs.Why.{◌>>=◌}
 use Rattle.uz_lines.specs.Grammar.{Words, rest_of, first_as, next_as, fixed_of, number_of, choice_of, slope_of, end_of}
 use Rattle.uz_lines.specs.Values.{raw_of, ends_of, is_ordered}
 use Rattle.uz_lines.specs.Items.{read_items}
-use Rattle.uz_lines.specs.Forms.{span_forms, span_of, with_span, spans_of, Form, fixed, number, choice, slope, spans, items, finish, reads}
+use Rattle.uz_lines.specs.Forms.{span_forms, span_of, with_span, spans_of, LineForm, fixed, number, choice, slope, spans, items, finish, reads}
 use Rattle.uz_lines.specs.declared.items.Shape.{Shape}
 use Rattle.uz_lines.specs.declared.items.Facts.{Facts}
 use Rattle.uz_lines.specs.declared.lines.Said.{Said}
@@ -30,7 +30,7 @@ abbrev pub Ranges : List Cell → Type 0
 Ranges cells = All (λ m. RangeFits 255 m.range) cells
 
 -- P holds of whatever a line of this form may say
-abbrev pub Ensures : (Said → Type 0) → Form → Type 0
+abbrev pub Ensures : (Said → Type 0) → LineForm → Type 0
 Ensures P (fixed wanted form) = Ensures P form
 Ensures P (number a form) = (n : ℕ) → NumberFits a n → Ensures P (form n)
 Ensures P (choice wanted form) = (n : ℕ) → Ensures P (form n)
@@ -135,7 +135,7 @@ spans_read (m ∷ ms) words p h e =
 
 -- whole lines
 
-pub ensured : (P : Said → Type 0) (form : Form) (words : Words) (said : Said) → Ensures P form → reads form words ≡ Ok said → P said
+pub ensured : (P : Said → Type 0) (form : LineForm) (words : Words) (said : Said) → Ensures P form → reads form words ≡ Ok said → P said
 ensured P (fixed wanted form) words said h e =
     let m = bind_ok (next_as (fixed_of wanted) words) (λ n. reads form (rest_of words)) said e in
     ensured P form (rest_of words) said h m.2

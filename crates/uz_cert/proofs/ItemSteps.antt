@@ -25,7 +25,7 @@ use Rattle.uz_lines.specs.Items.{in_order, is_handler, bytes_forms, register_set
 use Rattle.uz_lines.specs.Items.{take_pair, flag_set, take_flag, slot_set, slot_room, take_slot, tracked_before, with_number, cell_at}
 use Rattle.uz_lines.specs.Items.{cell_forms, numbered, cell_set, cell_value, take_cell, successor_set, take_successor, names_c_or_z}
 use Rattle.uz_lines.specs.Items.{any_names, is_flag_z, take_letter, take_keyed, take_cut, take_named, take_second, take_item}
-use Rattle.uz_lines.specs.declared.values.Forms.{Forms}
+use Rattle.uz_lines.specs.declared.values.FactForms.{FactForms}
 use Rattle.uz_lines.specs.declared.values.Raw.{Raw}
 use Rattle.uz_lines.specs.declared.values.Raw.TheVariants as raw
 use Rattle.uz_lines.specs.declared.items.Shape.{Shape}
@@ -217,10 +217,10 @@ within_is e r a b = and_is (leb r.lo e.lo) (leb e.hi r.hi) (le-leb r.lo e.lo a) 
     and_is true t h k = k
     and_is false t h k = absurd cc
 
-abbrev range_forms : Ends → Forms
+abbrev range_forms : Ends → FactForms
 range_forms range = record { low = range.lo; limit = range.hi + 1; top = 255; sloped = false; old = false }
 
-abbrev fact_forms : Forms
+abbrev fact_forms : FactForms
 fact_forms = record { low = 0; limit = 256; top = 255; sloped = true; old = false }
 
 -- a range of an entry is within the one of the header

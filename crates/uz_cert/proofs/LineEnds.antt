@@ -8,7 +8,7 @@ use Rattle.uz_schedule.specs.declared.header.Cell.{Cell}
 use Rattle.uz_lines.specs.Why.{◌>>=◌}
 use Rattle.uz_lines.specs.Grammar.{Words, rest_of, next_as, fixed_of, number_of, choice_of, slope_of, end_of}
 use Rattle.uz_lines.specs.Items.{first_facts, take_item, items_end, items_from, read_items}
-use Rattle.uz_lines.specs.Forms.{span_of, with_span, spans_of, Form, fixed, number, choice, slope, spans, items, finish, reads}
+use Rattle.uz_lines.specs.Forms.{span_of, with_span, spans_of, LineForm, fixed, number, choice, slope, spans, items, finish, reads}
 use Rattle.uz_lines.specs.declared.items.Shape.{Shape}
 use Rattle.uz_lines.specs.declared.items.Facts.{Facts}
 use Rattle.uz_lines.specs.declared.lines.Said.{Said}
@@ -45,7 +45,7 @@ spans_ended (m ∷ ms) words p e = by (tracks Handler m.owner) e (λ rest q g. s
         let b = bind_ok (spans_of ms (rest_of words)) (λ q. Ok (a.0 ∷ q.0, q.1)) p a.2 in
         sym (ap (λ q. q.1.ended) (ok_same (a.0 ∷ b.0.0, b.0.1) p b.2)) ∙ later (rest_of words) b.0 b.1
 
-pub line_ended : (form : Form) (words : Words) (said : Said) → reads form words ≡ Ok said → words.ended ≡ true
+pub line_ended : (form : LineForm) (words : Words) (said : Said) → reads form words ≡ Ok said → words.ended ≡ true
 line_ended (fixed wanted form) words said e =
     let m = bind_ok (next_as (fixed_of wanted) words) (λ n. reads form (rest_of words)) said e in
     line_ended form (rest_of words) said m.2

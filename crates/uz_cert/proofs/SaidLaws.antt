@@ -22,7 +22,7 @@ use Rattle.uz_schedule.specs.declared.facts.Fact.TheVariants as fact
 use Rattle.uz_lines.specs.Grammar.{Words}
 use Rattle.uz_schedule.specs.declared.lines.EventKind.{EventKind}
 use Rattle.uz_schedule.specs.declared.lines.EventKind.TheVariants as event
-use Rattle.uz_lines.specs.Forms.{Form, number, finish, reads}
+use Rattle.uz_lines.specs.Forms.{LineForm, number, finish, reads}
 use Rattle.uz_lines.specs.Lines.{within, one_of, rising, least_of, response_of, owner_of, off_stack, event_after, none_in_main, shape_of}
 use Rattle.uz_lines.specs.Lines.{span_of_fact, spans_of_facts, entry_of, entry_kind, point_kind, pending_limit, count_limit, point_of}
 use Rattle.uz_lines.specs.Lines.{point_after}
@@ -120,11 +120,11 @@ unfolding form_of
 kind_said d body none room n h = record { body = body; none_owed = none; room = room; some = h.low; few = omega (arith, h.limit) }
 
 -- a test leads to one of two forms
-choose_form : (P : Said → Type 0) (t : Bool) (x y : Form) → Ensures P x → Ensures P y → Ensures P (cond t x y)
+choose_form : (P : Said → Type 0) (t : Bool) (x y : LineForm) → Ensures P x → Ensures P y → Ensures P (cond t x y)
 choose_form P true x y h k = h
 choose_form P false x y h k = k
 
-abbrev event_told : ℕ → EventKind → Form
+abbrev event_told : ℕ → EventKind → LineForm
 event_told clock kind = finish (said.Event (record { clock = clock; kind = kind }))
 
 event_said : (d : Draft) → 4 ≤ d.read → 1 ≤ d.owed → Ensures (SaidFits d) (form_of d due.Event)

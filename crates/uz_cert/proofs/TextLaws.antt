@@ -7,7 +7,7 @@ use Rattle.uz_schedule.specs.declared.states.Entry.{Entry}
 use Rattle.uz_schedule.specs.declared.certificate.Cert.{Cert}
 use Rattle.uz_lines.specs.Why.{◌>>=◌}
 use Rattle.uz_lines.specs.Grammar.{Words}
-use Rattle.uz_lines.specs.Forms.{Form, reads}
+use Rattle.uz_lines.specs.Forms.{LineForm, reads}
 use Rattle.uz_lines.specs.FirstFault.{Allows, HasFirstFault}
 use Rattle.uz_lines.specs.declared.lines.Said.{Said}
 use Rattle.uz_lines.specs.declared.why.CertWhy.{CertWhy}
@@ -27,10 +27,10 @@ use Rattle.uz_cert.proofs.Pieces.{some_piece}
 
 -- what is known of one line
 pub record LineLaw : Type 0 where
-  pub read : (form : Form) (words : Words) (s : Said) → reads form words ≡ Ok s → Allows form words s
-  pub allowed : (form : Form) (words : Words) (s : Said) → Allows form words s → reads form words ≡ Ok s
-  pub refused : (form : Form) (words : Words) (w : CertWhy) → reads form words ≡ Err w → HasFirstFault form words w
-  pub faulty : (form : Form) (words : Words) (w : CertWhy) → HasFirstFault form words w → reads form words ≡ Err w
+  pub read : (form : LineForm) (words : Words) (s : Said) → reads form words ≡ Ok s → Allows form words s
+  pub allowed : (form : LineForm) (words : Words) (s : Said) → Allows form words s → reads form words ≡ Ok s
+  pub refused : (form : LineForm) (words : Words) (w : CertWhy) → reads form words ≡ Err w → HasFirstFault form words w
+  pub faulty : (form : LineForm) (words : Words) (w : CertWhy) → HasFirstFault form words w → reads form words ≡ Err w
 
 abbrev told : Cert → Result Cert Fault
 told c = Ok c

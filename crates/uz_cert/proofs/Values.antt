@@ -19,7 +19,7 @@ use Rattle.uz_lines.specs.Why.{◌>>=◌}
 use Rattle.uz_lines.specs.Values.{digits, one_or, one_number, both, two_numbers, whole, slope, sloped_parts, sloped_cut, sloped, old}
 use Rattle.uz_lines.specs.Values.{range_parts, range_cut, range, raw_of, is_ordered, fact_of, pair_of, ends_of, bit_of}
 use Rattle.uz_lines.specs.Items.{is_handler}
-use Rattle.uz_lines.specs.declared.values.Forms.{Forms}
+use Rattle.uz_lines.specs.declared.values.FactForms.{FactForms}
 use Rattle.uz_lines.specs.declared.values.Raw.{Raw}
 use Rattle.uz_lines.specs.declared.values.Raw.TheVariants as raw
 use Rattle.uz_lines.specs.declared.why.CertWhy.{CertWhy}
@@ -27,12 +27,12 @@ use Rattle.uz_lines.specs.declared.why.CertWhy.TheVariants as why
 use Rattle.uz_cert.proofs.Numbers.{bind_ok, and_true, chosen_ok, ok_same, within_limits, within_decimal}
 
 -- a number of these forms
-pub record Among (f : Forms) (low n : ℕ) : Type 0 where
+pub record Among (f : FactForms) (low n : ℕ) : Type 0 where
   pub low_is : low ≤ n
   pub limit : n < f.limit
 
 -- a word that is read is within its forms
-abbrev pub RawFits : Forms → List ℕ → Raw → Type 0
+abbrev pub RawFits : FactForms → List ℕ → Raw → Type 0
 RawFits f v raw.All = (f.low ≡ 0) × (f.top < f.limit)
 RawFits f v (raw.One n) = Among f f.low n × (f.limit ≤ 2 ^ 32 → v ≡ decimal n)
 RawFits f v (raw.Two a b) = Among f f.low a × Among f f.low b
@@ -75,36 +75,36 @@ two_limits low_a low_b limit a b p e =
     let o = both_of (number_within low_a limit a) (number_within low_b limit b) p n.1 in
     (within_limits low_a limit p.0 a o.0, within_limits low_b limit p.1 b o.1)
 
-whole_raw : (f : Forms) (v w : List ℕ) (r : Raw) → whole f w ≡ Ok r → RawFits f v r
+whole_raw : (f : FactForms) (v w : List ℕ) (r : Raw) → whole f w ≡ Ok r → RawFits f v r
 whole_raw f v [] r e =
     let p = chosen_ok (eqb f.low 0 && ltb f.top f.limit) why.Limit (Ok raw.All) r e in
     let t = and_true (eqb f.low 0) (ltb f.top f.limit) p.0 in
     subst (RawFits f v) (ok_same raw.All r p.1) (eqb-true f.low 0 t.0, ltb-true f.top f.limit t.1)
 whole_raw f v (c ∷ cs) r e = absurd cc
 
-slope_raw : (f : Forms) (v : List ℕ) (line : Bool) (n : ℕ × ℕ) → f.sloped ≡ true → ((1 ≤ n.0) × (n.0 < f.limit))
+slope_raw : (f : FactForms) (v : List ℕ) (line : Bool) (n : ℕ × ℕ) → f.sloped ≡ true → ((1 ≤ n.0) × (n.0 < f.limit))
     × ((0 ≤ n.1) × (n.1 < f.limit)) → RawFits f v (slope line n)
 slope_raw f v true n s h = (record { low_is = h.0.0; limit = h.0.1 }, record { low_is = h.1.0; limit = h.1.1 }, s)
 slope_raw f v false n s h = (record { low_is = h.0.0; limit = h.0.1 }, record { low_is = h.1.0; limit = h.1.1 }, s)
 
-parts_raw : (f : Forms) (v : List ℕ) (line : Bool) (o : Option (List ℕ × List ℕ)) (r : Raw) → f.sloped ≡ true → sloped_parts line f o ≡ Ok r
+parts_raw : (f : FactForms) (v : List ℕ) (line : Bool) (o : Option (List ℕ × List ℕ)) (r : Raw) → f.sloped ≡ true → sloped_parts line f o ≡ Ok r
     → RawFits f v r
 parts_raw f v line None r s e = absurd cc
 parts_raw f v line (Some p) r s e =
     let m = bind_ok (two_numbers 1 0 f.limit p.0 p.1) (λ n. Ok (slope line n)) r e in
     subst (RawFits f v) (ok_same (slope line m.0) r m.2) (slope_raw f v line m.0 s (two_limits 1 0 f.limit p.0 p.1 m.0 m.1))
 
-cut_raw : (f : Forms) (v : List ℕ) (line : Bool) (w : List ℕ) (r : Raw) → f.sloped ≡ true → sloped_cut line f w ≡ Ok r → RawFits f v r
+cut_raw : (f : FactForms) (v : List ℕ) (line : Bool) (w : List ℕ) (r : Raw) → f.sloped ≡ true → sloped_cut line f w ≡ Ok r → RawFits f v r
 unfolding sloped_cut
 cut_raw f v line w r s e = parts_raw f v line (cut_at 43 w) r s e
 
-sloped_raw : (f : Forms) (v : List ℕ) (line : Bool) (w : List ℕ) (r : Raw) → sloped line f w ≡ Ok r → RawFits f v r
+sloped_raw : (f : FactForms) (v : List ℕ) (line : Bool) (w : List ℕ) (r : Raw) → sloped line f w ≡ Ok r → RawFits f v r
 sloped_raw f v line [] r e = absurd cc
 sloped_raw f v line (c ∷ cs) r e =
     let p = chosen_ok (eqb c 42 && f.sloped) why.Word (sloped_cut line f cs) r e in
     cut_raw f v line cs r (and_true (eqb c 42) f.sloped p.0).1 p.1
 
-old_raw : (f : Forms) (v w : List ℕ) (r : Raw) → old f w ≡ Ok r → RawFits f v r
+old_raw : (f : FactForms) (v w : List ℕ) (r : Raw) → old f w ≡ Ok r → RawFits f v r
 old_raw f v w r e =
     let p = chosen_ok f.old why.Word (cond (bytes_eq w (codes "f")) (Ok raw.OldFlags) (one_number 0 32 w >>= (λ n. Ok (raw.Old n)))) r e in
     by_test (bytes_eq w (codes "f")) p.0 p.1
@@ -115,7 +115,7 @@ old_raw f v w r e =
         let m = bind_ok (one_number 0 32 w) (λ n. Ok (raw.Old n)) r h in
         subst (RawFits f v) (ok_same (raw.Old m.0) r m.2) ((one_limits 0 32 m.0 w m.1).1, o)
 
-range_raw : (f : Forms) (w : List ℕ) (o : Option (List ℕ × List ℕ)) (r : Raw) → range_cut f w o ≡ Ok r → RawFits f w r
+range_raw : (f : FactForms) (w : List ℕ) (o : Option (List ℕ × List ℕ)) (r : Raw) → range_cut f w o ≡ Ok r → RawFits f w r
 range_raw f w None r e =
     let m = bind_ok (one_number f.low f.limit w) (λ n. Ok (raw.One n)) r e in
     let l = one_limits f.low f.limit m.0 w m.1 in
@@ -133,16 +133,16 @@ range_raw f w (Some p) r e = ends_raw p.0 p.1 e
           record { low_is = l.1.0; limit = l.1.1 },
         )
 
-whole_range : (f : Forms) (w : List ℕ) (r : Raw) → range f w ≡ Ok r → RawFits f w r
+whole_range : (f : FactForms) (w : List ℕ) (r : Raw) → range f w ≡ Ok r → RawFits f w r
 unfolding range
 whole_range f w r e = range_raw f w (cut_at 46 w) r e
 
-either_raw : (f : Forms) (v : List ℕ) (t : Bool) (x y : Result Raw CertWhy) (r : Raw) → (x ≡ Ok r → RawFits f v r)
+either_raw : (f : FactForms) (v : List ℕ) (t : Bool) (x y : Result Raw CertWhy) (r : Raw) → (x ≡ Ok r → RawFits f v r)
     → (y ≡ Ok r → RawFits f v r) → cond t x y ≡ Ok r → RawFits f v r
 either_raw f v true x y r h k e = h e
 either_raw f v false x y r h k e = k e
 
-pub raw_fits : (f : Forms) (w : List ℕ) (r : Raw) → raw_of f w ≡ Ok r → RawFits f w r
+pub raw_fits : (f : FactForms) (w : List ℕ) (r : Raw) → raw_of f w ≡ Ok r → RawFits f w r
 unfolding raw_of
 raw_fits f [] r e = absurd cc
 raw_fits f (c ∷ cs) r e =
@@ -188,11 +188,11 @@ part_of_two top lo hi h e =
     by false t p q f = inl (omega (arith, eqb-false lo 0 p))
 
 -- the forms of a byte
-pub record ByteForms (f : Forms) (kind : Kind) : Type 0 where
+pub record ByteForms (f : FactForms) (kind : Kind) : Type 0 where
   pub limit : f.limit ≤ 256
   pub old : f.old ≡ true → kind ≡ Handler
 
-pub fact_fits : (f : Forms) (v : List ℕ) (kind : Kind) (r : Raw) (fact : Fact) → ByteForms f kind → RawFits f v r → fact_of r ≡ Ok fact
+pub fact_fits : (f : FactForms) (v : List ℕ) (kind : Kind) (r : Raw) (fact : Fact) → ByteForms f kind → RawFits f v r → fact_of r ≡ Ok fact
     → FactFits kind fact
 fact_fits f v kind raw.All fact b h e = subst (FactFits kind) (ok_same Any fact e) tt
 fact_fits f v kind (raw.One n) fact b h e =
@@ -218,7 +218,7 @@ fact_fits f v kind (raw.Old r) fact b h e = subst (FactFits kind) (ok_same (Old 
 fact_fits f v kind raw.OldFlags fact b h e = subst (FactFits kind) (ok_same OldFlags fact e) (b.old h)
 
 -- no old value, where the forms have none
-pub cell_fact_fits : (f : Forms) (v : List ℕ) (r : Raw) (fact : Fact) → f.limit ≤ 256 → f.old ≡ false → RawFits f v r → fact_of r ≡ Ok fact
+pub cell_fact_fits : (f : FactForms) (v : List ℕ) (r : Raw) (fact : Fact) → f.limit ≤ 256 → f.old ≡ false → RawFits f v r → fact_of r ≡ Ok fact
     → CellFactFits fact
 cell_fact_fits f v raw.All fact b o h e = subst CellFactFits (ok_same Any fact e) tt
 cell_fact_fits f v (raw.One n) fact b o h e =
@@ -243,7 +243,7 @@ cell_fact_fits f v (raw.Old r) fact b o h e = absurd (cc (o, h.1))
 cell_fact_fits f v raw.OldFlags fact b o h e = absurd (cc (o, h))
 
 -- where the forms have neither slopes nor old values
-pub plain_fact : (f : Forms) (v : List ℕ) (r : Raw) (fact : Fact) → f.sloped ≡ false → f.old ≡ false → RawFits f v r → fact_of r ≡ Ok fact
+pub plain_fact : (f : FactForms) (v : List ℕ) (r : Raw) (fact : Fact) → f.sloped ≡ false → f.old ≡ false → RawFits f v r → fact_of r ≡ Ok fact
     → IsPlain fact
 plain_fact f v raw.All fact s o h e = subst IsPlain (ok_same Any fact e) tt
 plain_fact f v (raw.One n) fact s o h e = subst IsPlain (ok_same (Between (record { lo = n; hi = n })) fact e) tt
@@ -255,7 +255,7 @@ plain_fact f v (raw.Loop a c) fact s o h e = absurd (cc (s, h.2))
 plain_fact f v (raw.Old r) fact s o h e = absurd (cc (o, h.1))
 plain_fact f v raw.OldFlags fact s o h e = absurd (cc (o, h))
 
-pub pair_fits : (f : Forms) (v : List ℕ) (r : Raw) (fact : PairFact) → f.limit ≡ 65536 → RawFits f v r → pair_of r ≡ Ok fact → PairFits fact
+pub pair_fits : (f : FactForms) (v : List ℕ) (r : Raw) (fact : PairFact) → f.limit ≡ 65536 → RawFits f v r → pair_of r ≡ Ok fact → PairFits fact
 pair_fits f v raw.All fact b h e = subst PairFits (ok_same any_pair.Any fact e) tt
 pair_fits f v (raw.One n) fact b h e =
     subst PairFits (ok_same (any_pair.Between (record { lo = n; hi = n })) fact e) (part_of_one 65535 n (omega (arith, h.0.limit, b))

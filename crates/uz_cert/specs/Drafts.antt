@@ -5,7 +5,7 @@ use Rattle.uz_schedule.specs.WellFormed.{instances_of}
 use Rattle.uz_schedule.specs.declared.kinds.Response.TheVariants.{Four}
 use Rattle.uz_schedule.specs.declared.lines.Event.{Event}
 use Rattle.uz_schedule.specs.declared.states.Entry.{Entry}
-use Rattle.uz_lines.specs.Forms.{Form}
+use Rattle.uz_lines.specs.Forms.{LineForm}
 use Rattle.uz_lines.specs.Lines.{size_form, irq_form, stack_form, cell_form, kind_form, event_form, fall_form, run_form, rest_form}
 use Rattle.uz_lines.specs.Lines.{entry_form, point_form, end_form}
 use Rattle.uz_lines.specs.declared.lines.Said.{Said}
@@ -68,7 +68,7 @@ due_of d =
     else due_of_schedule d)))
 
 -- the form of the line that is due
-unfoldable pub form_of : Draft → Due → Form
+unfoldable pub form_of : Draft → Due → LineForm
 form_of d due.Size = size_form
 form_of d due.Irq = irq_form
 form_of d due.Stack = stack_form

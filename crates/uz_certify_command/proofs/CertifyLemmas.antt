@@ -25,7 +25,7 @@ use Rattle.uz_files.specs.declared.ending.Ending.{Ending}
 use Rattle.uz_files.specs.declared.ending.Failure.{Failure}
 use Rattle.uz_files.specs.declared.status.Status.{Status}
 use Rattle.uz_files.specs.declared.status.Status.TheVariants.{Done, Unread, BadInput, Refused, Unwritten, NoMemory}
-use Rattle.uz_files.specs.Answers.{Answer, ComesOf, IsCut, NoPart, Outcome, Write, WritesAll, WritesPart, one_line, outside}
+use Rattle.uz_files.specs.Answers.{Answer, ComesOf, IsCut, NoPart, MayCome, Write, WritesAll, WritesPart, one_line, outside}
 use Rattle.uz_files.specs.Lines.{no_memory_line}
 use Rattle.uz_files.specs.Endings.{ComesOfFailure, EndsBy, answer_of}
 use Rattle.uz_files.specs.Reading.{Fails, Says, text_limit}
@@ -118,7 +118,7 @@ module _ (files mid after : Option FileMap) (load_fault : Type 0) (source : List
 
   pub certify_done : (narrow wide : Type 0) (old new : Option (List ℕ)) → (narrow → wide) → WritesAll mid (both_files hex image name text)
       after → ((f : Option FileMap) → ComesOf (one_line Done line) narrow came (outside f old) (outside f new))
-      → Outcome (CertifyAnswers files load_fault source irq hex name) NoPart wide came (outside files old) (outside after new)
+      → MayCome (CertifyAnswers files load_fault source irq hex name) NoPart wide came (outside files old) (outside after new)
   certify_done narrow wide old new widen written comes =
       inr (inl (
         done_with (both_files hex image name text) line,
@@ -148,7 +148,7 @@ module _ (files mid after : Option FileMap) (load_fault : Type 0) (source : List
   }
 
   pub certify_unwritten : (wide : Type 0) (text_out : Option (List ℕ)) → wide → came ≡ Unwritten → WritesPart mid
-      (both_files hex image name text) after → Outcome (CertifyAnswers files load_fault source irq hex name) NoPart wide came
+      (both_files hex image name text) after → MayCome (CertifyAnswers files load_fault source irq hex name) NoPart wide came
       (outside files text_out) (outside after text_out)
   certify_unwritten wide text_out fault is part =
       inr (inl (
@@ -168,7 +168,7 @@ module _ (files mid after : Option FileMap) (load_fault : Type 0) (source : List
       ))
 
   pub certify_lacks : (wide : Type 0) (old new : Option (List ℕ)) → came ≡ NoMemory → TakesPrefix old no_memory_line new → WritesPart mid
-      (both_files hex image name text) after → Outcome (CertifyAnswers files load_fault source irq hex name) NoPart wide came
+      (both_files hex image name text) after → MayCome (CertifyAnswers files load_fault source irq hex name) NoPart wide came
       (outside files old) (outside after new)
   certify_lacks wide old new is said part =
       inr (inl (
@@ -183,7 +183,7 @@ pub certify_refused : (files after : Option FileMap) (load_fault narrow wide : T
     → (output : Output) → Says files source text_limit IsAssembly output → IsRefusal output.image irq output.hints ending.line.items
     → ending.status ≡ Refused
     → ((f : Option FileMap) → ComesOf (answer_of ending) narrow came (outside f old) (outside f new))
-    → Outcome (CertifyAnswers files load_fault source irq hex name) NoPart wide came (outside files old) (outside after new)
+    → MayCome (CertifyAnswers files load_fault source irq hex name) NoPart wide came (outside files old) (outside after new)
 certify_refused files after load_fault narrow wide source irq hex name ending came old new same widen output spelled refusal is comes =
     run_outcome (CertifyAnswers files load_fault source irq hex name) NoPart (Ok ending) came narrow wide files after old new widen same
     (inr (
@@ -202,7 +202,7 @@ pub certify_failed : (files after : Option FileMap) (load_fault narrow wide : Ty
     (failure : Failure) (came : Status) (old new : Option (List ℕ)) → after ≡ files → (narrow → wide)
     → EndsBy (Fails files load_fault source text_limit RefusesSource) failure
     → ((f : Option FileMap) → ComesOfFailure failure narrow came (outside f old) (outside f new))
-    → Outcome (CertifyAnswers files load_fault source irq hex name) NoPart wide came (outside files old) (outside after new)
+    → MayCome (CertifyAnswers files load_fault source irq hex name) NoPart wide came (outside files old) (outside after new)
 certify_failed files after load_fault narrow wide source irq hex name failure came old new same widen given comes =
     run_outcome (CertifyAnswers files load_fault source irq hex name) NoPart (Err failure) came narrow wide files after old new widen same
     (ends_by (Fails files load_fault source text_limit RefusesSource) (CertifyAnswers files load_fault source irq hex name) failure

@@ -2,7 +2,7 @@
 
 ghost use Rattle.std.specs.Prelude.{◌≡◌, ◌≢◌, ◌<◌, ◌≤◌, ◌⊎◌, ◌^◌, IfErr, IfOk, IsErrOf, OnErr, OnOk, length};
 ghost use Rattle.uz_shelf.specs.Faults.{Rose};
-ghost use Rattle.uz_files.specs.Answers.{NoPart, Outcome, WritesAll, WritesPart, outside};
+ghost use Rattle.uz_files.specs.Answers.{NoPart, MayCome, WritesAll, WritesPart, outside};
 ghost use Rattle.uz_certify_command.specs.CertifyCommand.{CertifyAnswers, FilesCertify};
 ghost use Rattle.uz_schedule.specs.WellFormed.{WellFormed};
 ghost use Rattle.uz_certify_command.specs.CertifyValues.{IsFound, IsFoundIn, IsPairOf, both_files};
@@ -125,7 +125,7 @@ pub fn run_certify<H: Shelf, K: Sink>(
     shelf: &mut H,
     out: &mut K,
 ) -> Status
-    ensures outcome { Outcome (CertifyAnswers (H.files shelf.old) (Rose (H.load_faults shelf.old) (H.load_faults shelf.new)) source.now irq hex.now cert.now) NoPart
+    ensures outcome { MayCome (CertifyAnswers (H.files shelf.old) (Rose (H.load_faults shelf.old) (H.load_faults shelf.new)) source.now irq hex.now cert.now) NoPart
         (Rose (H.write_faults shelf.old) (H.write_faults shelf.new) ⊎ Rose (K.faults out.old) (K.faults out.new))
         result (outside (H.files shelf.old) (K.text out.old)) (outside (H.files shelf.new) (K.text out.new)) }
     ensures certified { result ≡ Status.Done → hex.now ≢ cert.now → FilesCertify (H.files shelf.old) (H.files shelf.new) source.now irq hex.now cert.now }

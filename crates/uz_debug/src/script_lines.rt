@@ -189,8 +189,7 @@ pub(crate) fn line_kind(words: &[&[u8]]) -> Line
 fn between_blanks(alloc: Global, line: &[u8]) -> Result<Vec<&[u8]>, AllocError>
     ensures { IfOk result (λ v. map (λ x. x.now) v.items ≡ slice_split is_blank_byte line.now) }
 {
-    line.split(|byte| is_blank(*byte))
-        .collect(alloc)
+    line.split(|byte| is_blank(*byte)).collect(alloc)
 }
 
 /// The words of a line, which stand apart by spaces and tabs.

@@ -14,7 +14,7 @@ use Rattle.uz_capture.specs.declared.recording.Captured.{Captured}
 use Rattle.uz_files.specs.declared.ending.Ending.{Ending}
 use Rattle.uz_files.specs.declared.status.Status.{Status}
 use Rattle.uz_files.specs.declared.status.Status.TheVariants.{NoMemory, Refused, Unwritten}
-use Rattle.uz_files.specs.Answers.{Answer, ComesOf, Outcome, Outside, ended, one_line, outside}
+use Rattle.uz_files.specs.Answers.{Answer, ComesOf, MayCome, Outside, ended, one_line, outside}
 use Rattle.uz_files.specs.Endings.{answer_of}
 use Rattle.uz_files.specs.Lines.{no_memory_line}
 use Rattle.uz_files.proofs.EndingLemmas.{comes_by}
@@ -48,7 +48,7 @@ module _ (line : List ℕ) (cert : Cert) (start : State PadHistory) (wide : Type
       ((printed : List ℕ) (f : Option FileMap) (before : Option (List ℕ)) → TakesAll before printed mid →
       ComesOf (ended printed (end_status captured.end captured.counts) (end_text captured.end captured.counts)) narrow came
       (outside f before) (outside f new)) →
-      Outcome (IsRunAfter line cert start) (IsPutPart line) wide came (outside files old) (outside files new)
+      MayCome (IsRunAfter line cert start) (IsPutPart line) wide came (outside files old) (outside files new)
   run_after captured narrow widen played takes comes =
       let s = end_status captured.end captured.counts in
       let text = end_text captured.end captured.counts in
@@ -59,12 +59,12 @@ module _ (line : List ℕ) (cert : Cert) (start : State PadHistory) (wide : Type
         comes_by (ended line s text) came narrow wide (outside files old) (outside files new) widen (comes line files old takes),
       ))
 
-  pub put_failed : wide → came ≡ Unwritten → TakesPrefix old line new → Outcome (IsRunAfter line cert start) (IsPutPart line) wide came
+  pub put_failed : wide → came ≡ Unwritten → TakesPrefix old line new → MayCome (IsRunAfter line cert start) (IsPutPart line) wide came
       (outside files old) (outside files new)
   put_failed fault is part = inr
       (inr (ended line Unwritten [], refl, inl (is, fault, cut_part line [] files old new new part (takes_none new))))
 
-  pub put_lacks : came ≡ NoMemory → TakesPrefix old line mid → TakesPrefix mid no_memory_line new → Outcome (IsRunAfter line cert start)
+  pub put_lacks : came ≡ NoMemory → TakesPrefix old line mid → TakesPrefix mid no_memory_line new → MayCome (IsRunAfter line cert start)
       (IsPutPart line) wide came (outside files old) (outside files new)
   put_lacks is part rest = inr (inr (ended line Unwritten [], refl, inr (is, (rest.0, cut_part line _ files old mid new part rest.1))))
 
@@ -73,8 +73,8 @@ module _ (line : List ℕ) (cert : Cert) (start : State PadHistory) (wide : Type
 module _ (number : ℕ) (write_fault : Type 0) (came : Status) (old new : Outside) where
   pub demo_runs : (start : Start) (console : Console) (cert : Cert) (line told : List ℕ) → told ≡ line → (given : IsStart number start)
       → IsReady (given.output).image (given.output).hints console cert line →
-      Outcome (IsRunAfter told cert (demo_start (given.output).image)) (IsPutPart told) write_fault came old new
-      → Outcome (DemoAnswers number) (DemoParts number) write_fault came old new
+      MayCome (IsRunAfter told cert (demo_start (given.output).image)) (IsPutPart told) write_fault came old new
+      → MayCome (DemoAnswers number) (DemoParts number) write_fault came old new
   demo_runs start console cert line told same given ready (inl starts) = inl starts
   demo_runs start console cert line told same given ready (inr (inl (answer, run, comes))) =
       inr (inl (
@@ -107,7 +107,7 @@ module _ (number : ℕ) (write_fault : Type 0) (came : Status) (old new : Outsid
       ))
 
   pub demo_refused : (start : Start) (ending : Ending) (given : IsStart number start) → IsRefusal (given.output).image (given.output).hints
-      ending.line.items → ending.status ≡ Refused → ComesOf (answer_of ending) write_fault came old new → Outcome (DemoAnswers number)
+      ending.line.items → ending.status ≡ Refused → ComesOf (answer_of ending) write_fault came old new → MayCome (DemoAnswers number)
       (DemoParts number) write_fault came old new
   demo_refused start ending given refusal is comes =
       inr (inl (

@@ -12,7 +12,7 @@ use Rattle.uz_soundness.specs.Acceptance.{Accepts}
 use Rattle.uz_soundness.specs.Certified.{Certified}
 use Rattle.uz_files.specs.declared.status.Status.{Status}
 use Rattle.uz_files.specs.declared.status.Status.TheVariants as status
-use Rattle.uz_files.specs.Answers.{Answer, Outcome, Outside}
+use Rattle.uz_files.specs.Answers.{Answer, MayCome, Outside}
 use Rattle.uz_files.proofs.OutcomeLemmas.{from_answer}
 use Rattle.uz_play_command.specs.PlayCommand.{IsEnteredRun, IsFramedRun, IsHaltedRun}
 use Rattle.uz_play_command.proofs.PlayWorthLemmas.{NeverStops, RunsKeep}
@@ -29,7 +29,7 @@ low_at_reset : (image : Flash) → sync_level (demo_start image).space ≡ 0
 low_at_reset image = ap (λ n. n % 2) (get_or-replicate 4352 37 0 0 (omega arith))
 
 module _ (line : List ℕ) (cert : Cert) (start : State PadHistory) (write_fault : Type 0) (came : Status) (old new : Outside)
-    (outcome : Outcome (IsRunAfter line cert start) (IsPutPart line) write_fault came old new) where
+    (outcome : MayCome (IsRunAfter line cert start) (IsPutPart line) write_fault came old new) where
   done_run : came ≡ status.Done → (answer : Answer) × IsEnteredRun [] cert (demo_clocks cert) start answer
   done_run is = by_run (from_answer (IsRunAfter line cert start) (IsPutPart line) write_fault came old new status.Done (λ e. cc e)
       (λ e. cc e) outcome is)
@@ -60,7 +60,7 @@ module _ (line : List ℕ) (cert : Cert) (start : State PadHistory) (write_fault
 
 module _ (number : ℕ) (begin : Start) (console : Console) (cert : Cert) (line told : List ℕ) (given : IsStart number begin)
     (ready : IsReady (given.output).image (given.output).hints console cert line) (write_fault : Type 0) (came : Status) (old new : Outside)
-    (outcome : Outcome (IsRunAfter told cert (demo_start (given.output).image)) (IsPutPart told) write_fault came old new)
+    (outcome : MayCome (IsRunAfter told cert (demo_start (given.output).image)) (IsPutPart told) write_fault came old new)
     (accepted : AcceptedHold) where
   holds : Certified (given.output).image cert
   holds = accepted (given.output).image cert (ready.allowed).0 (ready.allowed).1

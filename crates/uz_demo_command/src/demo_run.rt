@@ -4,7 +4,7 @@ ghost use Rattle.std.specs.Prelude.{◌≡◌, ◌<◌, ◌≤◌, [], IfNone, L
 ghost use Rattle.uz_console.specs.Consoles.{StandsFor, clock_of as console_clock};
 ghost use Rattle.uz_demo_command.specs.DemoCommand.{DemoAnswers, DemoHalted, DemoParts, DemoPlayed, demo_clocks};
 ghost use Rattle.uz_demo_command.specs.DemoValues.{GoesOn, IsPlayedOut, IsPutPart, IsRunAfter};
-ghost use Rattle.uz_files.specs.Answers.{ComesOf, Outcome, ended, outside};
+ghost use Rattle.uz_files.specs.Answers.{ComesOf, MayCome, ended, outside};
 ghost use Rattle.uz_machine.specs.PadLine.{PadHistory};
 ghost use Rattle.uz_machine.specs.Turn.{State};
 ghost use Rattle.uz_play_command.specs.PlayValues.{end_status, end_text};
@@ -101,7 +101,7 @@ fn play_demo<K: Sink>(
     requires fits { WellFormed cert }
     requires clock { console_clock console ≡ 0 }
     ensures outcome { (start : State PadHistory) (files : Option FileMap) → StandsFor console start →
-        Outcome (IsRunAfter line.now cert start) (IsPutPart line.now) (Rose (K.faults out.old) (K.faults out.new)) result (outside files (K.text out.old)) (outside files (K.text out.new)) }
+        MayCome (IsRunAfter line.now cert start) (IsPutPart line.now) (Rose (K.faults out.old) (K.faults out.new)) result (outside files (K.text out.old)) (outside files (K.text out.new)) }
     ensures faults { K.faults out.old ≤ K.faults out.new }
 {
     match out.put(alloc, line) {
@@ -119,7 +119,7 @@ fn play_demo<K: Sink>(
 /// Where it is done, the image is certified with the certificate that was found, and the run keeps to its schedule once a
 /// state of it has entered.
 pub fn run_demo<K: Sink>(alloc: Global, number: u16, out: &mut K) -> Status
-    ensures outcome { (files : Option FileMap) → Outcome (DemoAnswers number) (DemoParts number) (Rose (K.faults out.old) (K.faults out.new)) result (outside files (K.text out.old)) (outside files (K.text out.new)) }
+    ensures outcome { (files : Option FileMap) → MayCome (DemoAnswers number) (DemoParts number) (Rose (K.faults out.old) (K.faults out.new)) result (outside files (K.text out.old)) (outside files (K.text out.new)) }
     ensures played { result ≡ Status.Done → DemoPlayed number }
     ensures halted { result ≡ Status.Stopped → DemoHalted number }
 {

@@ -6,7 +6,7 @@ use Rattle.uz_shelf.specs.Files.{FileMap}
 use Rattle.uz_shelf.specs.Text.{TakesAll, TakesPrefix}
 use Rattle.uz_files.specs.declared.status.Status.{Status}
 use Rattle.uz_files.specs.declared.status.Status.TheVariants as status
-use Rattle.uz_files.specs.Answers.{Answer, Outside, ComesOf, Outcome, outside, one_line}
+use Rattle.uz_files.specs.Answers.{Answer, Outside, ComesOf, MayCome, outside, one_line}
 use Rattle.uz_files.specs.declared.ending.Ending.{Ending}
 use Rattle.uz_files.specs.declared.ending.Failure.{Failure}
 use Rattle.uz_files.specs.declared.ending.Failure.TheVariants.{Unread as UnreadFile, BadInput as BadFile, Memory as NoRoom}
@@ -61,13 +61,13 @@ comes_by answer came narrow wide old new widen (inr (inl (more, cut))) = inr (in
 comes_by answer came narrow wide old new widen (inr (inr lacks)) = inr (inr lacks)
 
 some_answer : (P Part : Answer → Type 0) (answer : Answer) (came : Status) (narrow wide : Type 0) (old new : Outside) → (narrow → wide)
-    → P answer → ComesOf answer narrow came old new → Outcome P Part wide came old new
+    → P answer → ComesOf answer narrow came old new → MayCome P Part wide came old new
 some_answer P Part answer came narrow wide old new widen given comes =
     inr (inl (answer, given, comes_by answer came narrow wide old new widen comes))
 
 -- how the work ended, and what came of printing it
 pub outcome_of : (P Part : Answer → Type 0) (worked : Result Ending Failure) (came : Status) (narrow wide : Type 0) (old new : Outside)
-    → (narrow → wide) → Gives P worked → ComesOfWork worked narrow came old new → Outcome P Part wide came old new
+    → (narrow → wide) → Gives P worked → ComesOfWork worked narrow came old new → MayCome P Part wide came old new
 outcome_of P Part (Ok ending) came narrow wide old new widen given comes = some_answer P Part (answer_of ending) came narrow wide old new
     widen given comes
 outcome_of P Part (Err (UnreadFile line)) came narrow wide old new widen given comes = some_answer P Part
@@ -130,8 +130,8 @@ comes_of_ok worked ending write_fault came old new is h = subst (λ w. ComesOfWo
 -- the work leaves the files, and printing reaches none
 pub run_outcome : (P Part : Answer → Type 0) (worked : Result Ending Failure) (came : Status) (narrow wide : Type 0)
     (files after : Option FileMap) (old new : Option (List ℕ)) → (narrow → wide) → after ≡ files → Gives P worked
-    → ((f : Option FileMap) → ComesOfWork worked narrow came (outside f old) (outside f new)) → Outcome P Part wide came (outside files old)
+    → ((f : Option FileMap) → ComesOfWork worked narrow came (outside f old) (outside f new)) → MayCome P Part wide came (outside files old)
     (outside after new)
 run_outcome P Part worked came narrow wide files after old new widen same given comes =
-    subst (λ f. Outcome P Part wide came (outside files old) (outside f new)) (sym same)
+    subst (λ f. MayCome P Part wide came (outside files old) (outside f new)) (sym same)
     (outcome_of P Part worked came narrow wide (outside files old) (outside files new) widen given (comes files))

@@ -12,7 +12,7 @@ use Rattle.uz_shelf.proofs.HeldLemmas.{insert_again}
 use Rattle.uz_files.specs.declared.ending.Failure.{Failure}
 use Rattle.uz_files.specs.declared.status.Status.{Status}
 use Rattle.uz_files.specs.declared.status.Status.TheVariants.{Done, Unread, BadInput, Unwritten, NoMemory}
-use Rattle.uz_files.specs.Answers.{Answer, ComesOf, IsCut, NoPart, Outcome, WritesFile, WritesPart, one_line, outside}
+use Rattle.uz_files.specs.Answers.{Answer, ComesOf, IsCut, NoPart, MayCome, WritesFile, WritesPart, one_line, outside}
 use Rattle.uz_files.specs.Lines.{no_memory_line}
 use Rattle.uz_files.specs.Writing.{written_then}
 use Rattle.uz_files.specs.Writing.{WritesSome}

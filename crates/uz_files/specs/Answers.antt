@@ -110,8 +110,8 @@ NoPart answer = ⊥
 
 -- What may come of a command that has such answers, and such parts of answers where it is cut short in the midst of its
 -- work: memory was lacking from the start, or it came to an answer, or a part of one was cut short
-abbrev pub Outcome : (Answer → Type 0) → (Answer → Type 0) → Type 0 → Status → Outside → Outside → Type 0
-Outcome Whole Part write_fault came old new =
+abbrev pub MayCome : (Answer → Type 0) → (Answer → Type 0) → Type 0 → Status → Outside → Outside → Type 0
+MayCome Whole Part write_fault came old new =
     StartsWithoutMemory came old new
     ⊎ (((answer : Answer) × Whole answer × ComesOf answer write_fault came old new)
     ⊎ ((answer : Answer) × Part answer × (IsUnwritten answer write_fault came old new ⊎ LacksMemory answer came old new)))

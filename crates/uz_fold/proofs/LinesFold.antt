@@ -8,7 +8,7 @@ use Rattle.std.specs.FinMap.{FinMap}
 use Rattle.std.proofs.lemmas.Bool.Decides.{nat_tests}
 use Rattle.avr_table.specs.declared.Instr.{Instr}
 use Rattle.uz_machine.specs.Effects.{effect_of}
-use Rattle.uz_schedule.specs.Lines.{lines_of}
+use Rattle.uz_schedule.specs.Lines.{order_of}
 use Rattle.uz_schedule.specs.Schedule.{length_of, start_of, next_line, event_at, level_at}
 use Rattle.uz_schedule.specs.Instances.{instance_in, instance_at}
 use Rattle.uz_schedule.specs.declared.lines.EventKind.{EventKind}
@@ -134,10 +134,10 @@ each_same f g (x ∷ xs) same = ap (λ b. b && each_exit f xs) (same x) ∙ ap (
 of_result : {A : Type 0} (s : Schedule) (l : ℕ) (i : Instance) (step : Step) (asked : Instance → A)
     → length_of s (next_line s l) ≡ length_of s l → ((r : Instance) → asked (at_line l r) ≡ asked (at_line (next_line s l) r))
     → ((r : Instance) → asked (at_line (next_line s l) r) ≡ asked (at_line (next_line s (next_line s l)) r))
-    → (x : Exit) → asked (successor (lines_of s) (at_line l i) step x) ≡ asked (successor (lines_of s) (at_line (next_line s l) i)
+    → (x : Exit) → asked (successor (order_of s) (at_line l i) step x) ≡ asked (successor (order_of s) (at_line (next_line s l) i)
     (step_at (next_line s l) step) x)
 of_result s l i step asked long first second x =
-    let lines = lines_of s in
+    let lines = order_of s in
     let m = next_line s l in
     let n = next_line s m in
     let r = successor lines (at_line l i) step x in
@@ -230,8 +230,8 @@ successors_same : (cert : Cert) (next : List ℕ) (l : ℕ) (i : Instance) (step
 successors_same cert next l i step same named =
     let s = cert.schedule in
     let m = next_line s l in
-    each_same (λ x. lies_in_any cert next (successor (lines_of s) (at_line l i) step x))
-    (λ x. lies_in_any cert next (successor (lines_of s) (at_line m i) (step_at m step) x)) step.exits.items
+    each_same (λ x. lies_in_any cert next (successor (order_of s) (at_line l i) step x))
+    (λ x. lies_in_any cert next (successor (order_of s) (at_line m i) (step_at m step) x)) step.exits.items
     (of_result s l i step (lies_in_any cert next) same.first.lengths (λ r. any_first cert l r next same named)
     (λ r. any_second cert l r next same named))
 

@@ -39,7 +39,7 @@ use Rattle.uz_transfer.specs.Transfer.{transfer}
 use Rattle.uz_transfer.specs.Exits.{outcomes, targets}
 use Rattle.uz_transfer.specs.Emission.{emission, main_emits, level_after}
 use Rattle.uz_transfer.specs.Refusals.{fail_of}
-use Rattle.uz_transfer.specs.Step.{exits_of, clears_flag, following_of, sampled_of, step_unless, step_of, step_of_row, placed}
+use Rattle.uz_transfer.specs.Step.{exits_of, clears_flag, following_of, sampled_of, step_unless, step_of, step_of_row, at_exit}
 use Rattle.uz_rules.specs.Local.{is_stop}
 
 -- the same instance at line m
@@ -233,9 +233,9 @@ landed main k length l next = if main then l else (if nat_lt k length then l els
 
 pub placed_moves : (lines : Lines) (m : ℕ) (inst draft : Instance) (emitted : Option EventKind) (clears : Bool) (x : Exit)
     → lines.length m ≡ lines.length inst.line
-    → placed lines (at_line m inst) (at_line m draft) emitted clears x
+    → at_exit lines (at_line m inst) (at_line m draft) emitted clears x
     ≡ at_line (landed (is_main inst.kind) (inst.clock + x.clocks) (lines.length inst.line) m (lines.next m))
-    (placed lines inst draft emitted clears x)
+    (at_exit lines inst draft emitted clears x)
 placed_moves lines m inst draft emitted clears x h =
     ap (λ n. record {
       kind = inst.kind;

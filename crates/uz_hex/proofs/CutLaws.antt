@@ -9,7 +9,7 @@ use Rattle.std.specs.FinMap.{FinMap, empty, entries, put, entries-insert, len-en
 use Rattle.std.proofs.lemmas.Bool.Decides.{nat_tests}
 use Rattle.std.proofs.lemmas.List.{append-nil}
 use Rattle.uz_hex.specs.Cells.{present, held_from}
-use Rattle.uz_hex.specs.Records.{Record, numbered, placed, Gives}
+use Rattle.uz_hex.specs.Records.{Record, numbered, placed, HoldsByteAt}
 use Rattle.uz_hex.specs.HexText.{Holds}
 use Rattle.uz_hex.specs.Writing.{data_record, closed, goes_on, cut, records_of, IsDataRecord, FullBefore, IsCutOf}
 use Rattle.uz_hex.proofs.CellsLemmas.{get-present_0}
@@ -34,7 +34,7 @@ entries-present (Some b ∷ cells) at =
     (suc at) at b (omega arith))
 
 -- the bytes of cells are those that the list gives
-held_gives : (cells : List (Option ℕ)) (from at byte : ℕ) → Gives (held_from from cells) at byte → (k : ℕ) × (at ≡ from + k)
+held_gives : (cells : List (Option ℕ)) (from at byte : ℕ) → HoldsByteAt (held_from from cells) at byte → (k : ℕ) × (at ≡ from + k)
     × (get_or cells k None ≡ Some byte)
 held_gives [] from at byte g = absurd g
 held_gives (None ∷ cells) from at byte g = let r = held_gives cells (suc from) at byte g in let e = r.1 in (suc r.0, omega arith, r.2)
@@ -42,7 +42,7 @@ held_gives (Some b ∷ cells) from at byte (inl here) = let e = here.0 in (0, om
 held_gives (Some b ∷ cells) from at byte (inr later) = let r = held_gives cells (suc from) at byte later in let e = r.1 in
     (suc r.0, omega arith, r.2)
 
-gives_held : (cells : List (Option ℕ)) (from k byte at : ℕ) → at ≡ from + k → get_or cells k None ≡ Some byte → Gives (held_from from cells)
+gives_held : (cells : List (Option ℕ)) (from k byte at : ℕ) → at ≡ from + k → get_or cells k None ≡ Some byte → HoldsByteAt (held_from from cells)
     at byte
 gives_held [] from k byte at e h = cc h
 gives_held (None ∷ cells) from zero byte at e h = cc h
@@ -52,10 +52,10 @@ gives_held (Some b ∷ cells) from (suc k) byte at e h = inr (gives_held cells (
 
 pub holds-present : (cells : List (Option ℕ)) → Holds (present 0 cells) (entries (present 0 cells))
 holds-present cells at byte = (
-  λ g. subst (λ es. Gives es at byte) (sym (entries-present cells 0)) (gives_held cells 0 at byte at (sym (zero-add at))
+  λ g. subst (λ es. HoldsByteAt es at byte) (sym (entries-present cells 0)) (gives_held cells 0 at byte at (sym (zero-add at))
       (sym (get-present_0 cells at) ∙ g)),
   λ g.
-      let r = held_gives cells 0 at byte (subst (λ es. Gives es at byte) (entries-present cells 0) g) in
+      let r = held_gives cells 0 at byte (subst (λ es. HoldsByteAt es at byte) (entries-present cells 0) g) in
       let e = r.1 in
       let same : at ≡ r.0 = omega arith in
       get-present_0 cells at ∙ (ap (λ k. get_or cells k None) same ∙ r.2),

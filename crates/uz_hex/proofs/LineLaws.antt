@@ -69,10 +69,10 @@ Went base flash es line next held = ((line ≡ []) × (next ≡ base) × (held �
     ⊎ ((r : Record) × Spells line r × (r.kind ≢ EndOfFile) × (next ≡ base_after base r) × Holds held (es ++ given base r)
     × InFlash (given base r))
 
-abbrev pub Outcome : ℕ → Flash → List (ℕ × ℕ) → List ℕ → Result (Progress × Flash) HexWhy → Type 0
-Outcome base flash es line (Ok (More next, held)) = Went base flash es line next held
-Outcome base flash es line (Ok (Ended, held)) = (r : Record) × Spells line r × (r.kind ≡ EndOfFile) × (held ≡ flash)
-Outcome base flash es line (Err w) = IsLeast base es line w
+abbrev pub LineEffect : ℕ → Flash → List (ℕ × ℕ) → List ℕ → Result (Progress × Flash) HexWhy → Type 0
+LineEffect base flash es line (Ok (More next, held)) = Went base flash es line next held
+LineEffect base flash es line (Ok (Ended, held)) = (r : Record) × Spells line r × (r.kind ≡ EndOfFile) × (held ≡ flash)
+LineEffect base flash es line (Err w) = IsLeast base es line w
 
 -- nothing is added
 holds_nil : (flash : Flash) (es : List (ℕ × ℕ)) → Holds flash es → Holds flash (es ++ [])
@@ -84,7 +84,7 @@ in_flash_nil at b g = absurd g
 placed_outcome : (base : ℕ) (flash : Flash) (es : List (ℕ × ℕ)) (line : List ℕ) (r : Record) (result : Result Flash HexWhy) → Holds flash es
     → Spells line r → r.kind ≡ Data
     → given base r ≡ numbered (base + r.address) r.bytes → base_after base r ≡ base
-    → place flash (base + r.address) r.bytes ≡ result → Outcome base flash es line (and_more base result)
+    → place flash (base + r.address) r.bytes ≡ result → LineEffect base flash es line (and_more base result)
 placed_outcome base flash es line r (Ok held) h s data' given_is base_is is =
     let ok = place_ok r.bytes (base + r.address) flash held es is h in
     inr (
@@ -110,7 +110,7 @@ placed_outcome base flash es line r (Err w) h s data' given_is base_is is =
     ]
 
 record_outcome : (base : ℕ) (flash : Flash) (es : List (ℕ × ℕ)) (line bytes : List ℕ) (kind : RecordType) → Holds flash es
-    → Spells line (record { address = address_of bytes; kind = kind; bytes = data_of bytes }) → Outcome base flash es line
+    → Spells line (record { address = address_of bytes; kind = kind; bytes = data_of bytes }) → LineEffect base flash es line
     (after_record base flash bytes kind)
 record_outcome base flash es line bytes Data h s = placed_outcome base flash es line _
     (place flash (base + address_of bytes) (data_of bytes)) h s refl refl refl refl
@@ -121,7 +121,7 @@ record_outcome base flash es line bytes ExtendedLinear h s = inr (_, s, (λ e. c
 record_outcome base flash es line bytes StartLinear h s = inr (_, s, (λ e. cc e), refl, holds_nil flash es h, in_flash_nil)
 
 kind_outcome : (base : ℕ) (flash : Flash) (es : List (ℕ × ℕ)) (line bytes : List ℕ) (result : Result RecordType HexWhy) → Holds flash es
-    → Encodes line bytes → slice_index bytes 0 + 5 ≡ length bytes → kind_of bytes ≡ result → Outcome base flash es line
+    → Encodes line bytes → slice_index bytes 0 + 5 ≡ length bytes → kind_of bytes ≡ result → LineEffect base flash es line
     (result >>= after_record base flash bytes)
 kind_outcome base flash es line bytes (Ok kind) h e counts is =
     let k = kind_ok bytes kind is in
@@ -129,14 +129,14 @@ kind_outcome base flash es line bytes (Ok kind) h e counts is =
 kind_outcome base flash es line bytes (Err w) h e counts is = kind_err base es line bytes w e counts is
 
 filled_outcome : (base : ℕ) (flash : Flash) (es : List (ℕ × ℕ)) (c : ℕ) (line : List ℕ) (result : Result (List ℕ) HexWhy) → Holds flash es
-    → bytes_of (c ∷ line) ≡ result → Outcome base flash es (c ∷ line)
+    → bytes_of (c ∷ line) ≡ result → LineEffect base flash es (c ∷ line)
     (result >>= (λ bytes. kind_of bytes >>= after_record base flash bytes))
 filled_outcome base flash es c line (Ok bytes) h is =
     let ok = bytes_ok c line bytes is in
     kind_outcome base flash es (c ∷ line) bytes (kind_of bytes) h ok.0 ok.1 refl
 filled_outcome base flash es c line (Err w) h is = bytes_err base es c line w is
 
-pub outcome : (base : ℕ) (flash : Flash) (es : List (ℕ × ℕ)) (line : List ℕ) → Holds flash es → Outcome base flash es line
+pub outcome : (base : ℕ) (flash : Flash) (es : List (ℕ × ℕ)) (line : List ℕ) → Holds flash es → LineEffect base flash es line
     (after_line base flash line)
 outcome base flash es [] h = inl (refl, refl, refl)
 outcome base flash es (c ∷ line) h = filled_outcome base flash es c line (bytes_of (c ∷ line)) h refl
@@ -147,7 +147,7 @@ spells_filled : (line : List ℕ) (r : Record) → Spells line r → line ≢ []
 spells_filled line r s e = cc (sym e ∙ s.encoded.1)
 
 went_on : (base : ℕ) (flash : Flash) (es : List (ℕ × ℕ)) (line : List ℕ) (r : Record) (result : Result (Progress × Flash) HexWhy)
-    → Spells line r → r.kind ≢ EndOfFile → InFlash (given base r) → Agree (es ++ given base r) → Outcome base flash es line result
+    → Spells line r → r.kind ≢ EndOfFile → InFlash (given base r) → Agree (es ++ given base r) → LineEffect base flash es line result
     → (held : Flash) × (result ≡ Ok (More (base_after base r), held)) × Holds held (es ++ given base r)
 went_on base flash es line r (Ok (More next, held)) s more flash_ok agree (inl blank) = absurd (spells_filled line r s blank.0)
 went_on base flash es line r (Ok (More next, held)) s more flash_ok agree (inr came) =
@@ -176,7 +176,7 @@ end_clear base flash es line r h s e = sound_clear base es line r s (subst InFla
 
 ended_by : (base : ℕ) (flash : Flash) (es : List (ℕ × ℕ)) (line : List ℕ) (r : Record) (result : Result (Progress × Flash) HexWhy)
     → Holds flash es
-    → Spells line r → r.kind ≡ EndOfFile → Outcome base flash es line result → result ≡ Ok (Ended, flash)
+    → Spells line r → r.kind ≡ EndOfFile → LineEffect base flash es line result → result ≡ Ok (Ended, flash)
 ended_by base flash es line r (Ok (More next, held)) h s e (inl blank) = absurd (spells_filled line r s blank.0)
 ended_by base flash es line r (Ok (More next, held)) h s e (inr came) =
     let same = spells_same line came.0 r came.1 s in
@@ -191,7 +191,7 @@ ends base flash es line r h s e = ended_by base flash es line r (after_line base
 
 failed_by : (base : ℕ) (flash : Flash) (es : List (ℕ × ℕ)) (line : List ℕ) (w : HexWhy) (result : Result (Progress × Flash) HexWhy)
     → Holds flash es
-    → IsLeast base es line w → Outcome base flash es line result → result ≡ Err w
+    → IsLeast base es line w → LineEffect base flash es line result → result ≡ Err w
 failed_by base flash es line w (Ok (More next, held)) h least (inl blank) =
     absurd (blank_stands base es w (subst (λ l. Stands base es l w) blank.0 least.stands))
 failed_by base flash es line w (Ok (More next, held)) h least (inr came) =

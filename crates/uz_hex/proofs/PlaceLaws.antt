@@ -6,7 +6,7 @@ use Rattle.std.proofs.lemmas.Bool.{eqb-true, eqb-false}
 use Rattle.std.proofs.lemmas.Bool.Decides.{nat_tests, eqb_tells}
 use Rattle.std.proofs.lemmas.List.{append-nil}
 use Rattle.std.specs.FinMap.{get, insert}
-use Rattle.uz_hex.specs.Records.{numbered, Gives}
+use Rattle.uz_hex.specs.Records.{numbered, HoldsByteAt}
 use Rattle.uz_hex.specs.HexText.{InFlash, Agree, Holds}
 use Rattle.uz_hex.specs.Reading.{Flash, takes, with_bytes, place}
 use Rattle.uz_hex.specs.declared.errors.HexWhy.{HexWhy}
@@ -16,27 +16,27 @@ use Rattle.uz_hex.proofs.DigitLaws.{chosen}
 
 -- ---- entries
 
-pub gives_left : (xs ys : List (ℕ × ℕ)) (at b : ℕ) → Gives xs at b → Gives (xs ++ ys) at b
+pub gives_left : (xs ys : List (ℕ × ℕ)) (at b : ℕ) → HoldsByteAt xs at b → HoldsByteAt (xs ++ ys) at b
 gives_left [] ys at b h = absurd h
 gives_left (x ∷ xs) ys at b (inl here) = inl here
 gives_left (x ∷ xs) ys at b (inr later) = inr (gives_left xs ys at b later)
 
-pub gives_right : (xs ys : List (ℕ × ℕ)) (at b : ℕ) → Gives ys at b → Gives (xs ++ ys) at b
+pub gives_right : (xs ys : List (ℕ × ℕ)) (at b : ℕ) → HoldsByteAt ys at b → HoldsByteAt (xs ++ ys) at b
 gives_right [] ys at b h = h
 gives_right (x ∷ xs) ys at b h = inr (gives_right xs ys at b h)
 
-pub gives_either : (xs ys : List (ℕ × ℕ)) (at b : ℕ) → Gives (xs ++ ys) at b → Gives xs at b ⊎ Gives ys at b
+pub gives_either : (xs ys : List (ℕ × ℕ)) (at b : ℕ) → HoldsByteAt (xs ++ ys) at b → HoldsByteAt xs at b ⊎ HoldsByteAt ys at b
 gives_either [] ys at b h = inr h
 gives_either (x ∷ xs) ys at b (inl here) = inl (inl here)
 gives_either (x ∷ xs) ys at b (inr later) = elim (gives_either xs ys at b later) [ inl l ↦ inl (inr l) | inr r ↦ inr r ]
 
-numbered_within : (at : ℕ) (bytes : List ℕ) (x b : ℕ) → Gives (numbered at bytes) x b → (at ≤ x) × (x < at + length bytes)
+numbered_within : (at : ℕ) (bytes : List ℕ) (x b : ℕ) → HoldsByteAt (numbered at bytes) x b → (at ≤ x) × (x < at + length bytes)
 numbered_within at [] x b h = absurd h
 numbered_within at (byte ∷ bytes) x b (inl here) = let e = here.0 in (omega arith, omega arith)
 numbered_within at (byte ∷ bytes) x b (inr later) = let r = numbered_within (suc at) bytes x b later in
     (omega (arith, r.0), omega (arith, r.1))
 
-pub numbered_at : (at : ℕ) (bytes : List ℕ) (k x : ℕ) → k < length bytes → x ≡ at + k → Gives (numbered at bytes) x (get_or bytes k 0)
+pub numbered_at : (at : ℕ) (bytes : List ℕ) (k x : ℕ) → k < length bytes → x ≡ at + k → HoldsByteAt (numbered at bytes) x (get_or bytes k 0)
 numbered_at at [] k x h e = absurd (omega arith)
 numbered_at at (byte ∷ bytes) zero x h e = inl (omega arith, refl)
 numbered_at at (byte ∷ bytes) (suc k) x h e = inr (numbered_at (suc at) bytes k x (omega arith) (omega arith))
@@ -84,11 +84,11 @@ holds_insert flash es at byte t h x b = elim (eqb_tells x at) [
       )
 ]
   where
-    only_byte : Gives ((at, byte) ∷ []) x b → byte ≡ b
+    only_byte : HoldsByteAt ((at, byte) ∷ []) x b → byte ≡ b
     only_byte (inl e) = e.1
     only_byte (inr e) = absurd e
 
-    only_at : Gives ((at, byte) ∷ []) x b → at ≡ x
+    only_at : HoldsByteAt ((at, byte) ∷ []) x b → at ≡ x
     only_at (inl e) = e.0
     only_at (inr e) = absurd e
 
@@ -108,7 +108,7 @@ with_bytes_ok (byte ∷ bytes) at flash held es r h =
 
 -- two bytes of one address
 abbrev pub Clash : List (ℕ × ℕ) → Type 0
-Clash es = (at b c : ℕ) × Gives es at b × Gives es at c × (b ≢ c)
+Clash es = (at b c : ℕ) × HoldsByteAt es at b × HoldsByteAt es at c × (b ≢ c)
 
 with_bytes_err : (bytes : List ℕ) (at : ℕ) (flash : Flash) (w : HexWhy) (es : List (ℕ × ℕ)) → with_bytes flash at bytes ≡ Err w
     → Holds flash es
@@ -159,7 +159,7 @@ place_ok bytes at flash held es r h =
 
 -- a byte past the flash
 abbrev pub Past : List (ℕ × ℕ) → Type 0
-Past es = (at b : ℕ) × Gives es at b × (65536 ≤ at)
+Past es = (at b : ℕ) × HoldsByteAt es at b × (65536 ≤ at)
 
 pub place_err : (bytes : List ℕ) (at : ℕ) (flash : Flash) (w : HexWhy) (es : List (ℕ × ℕ)) → place flash at bytes ≡ Err w → Holds flash es
     → ((w ≡ why.Range) × Past (numbered at bytes)) ⊎ ((w ≡ why.Conflict) × InFlash (numbered at bytes) × Clash (es ++ numbered at bytes))

@@ -16,7 +16,7 @@ use Rattle.hex.proofs.HexLemmas.{decode_of-encode_upper, IsDigits-upper_digits}
 use Rattle.hex.proofs.OnLiterals.{hex_on_literals}
 use Rattle.uz_hex.specs.Cells.{IsFlash}
 use Rattle.uz_hex.specs.Records.{Record, code_of, HasLength, record_bytes, Spells, given, given_by, base_after, base_by, value_of, numbered}
-use Rattle.uz_hex.specs.Records.{placed, Gives}
+use Rattle.uz_hex.specs.Records.{placed, HoldsByteAt}
 use Rattle.uz_hex.specs.HexText.{trimmed, cleaned, lines_of, Spelled, Holds, IsHexOf}
 use Rattle.uz_hex.specs.Writing.{IsDataRecord, records_of, checksum_of, line_of, with_lf, lines_text, hex_text}
 use Rattle.uz_hex.specs.declared.records.RecordType.TheVariants.{Data, EndOfFile}
@@ -161,13 +161,13 @@ base_stays r e = ap (λ k. base_by k 0 (value_of r.bytes)) e
 
 -- each byte that is given is one of the flash
 abbrev FlashBytes : List (ℕ × ℕ) → Type 0
-FlashBytes es = (at b : ℕ) → Gives es at b → (at < 65536) × (b < 256)
+FlashBytes es = (at b : ℕ) → HoldsByteAt es at b → (at < 65536) × (b < 256)
 
 written_one : (r : Record) (records : List Record) → IsDataRecord r → FlashBytes (placed 0 (r ∷ records)) → IsWritten r
 written_one r records shape flash =
-    let gives : (k : ℕ) → k < length r.bytes → Gives (placed 0 (r ∷ records)) (r.address + k) (get_or r.bytes k 0) = λ k h.
+    let gives : (k : ℕ) → k < length r.bytes → HoldsByteAt (placed 0 (r ∷ records)) (r.address + k) (get_or r.bytes k 0) = λ k h.
     gives_left (given 0 r) (placed (base_after 0 r) records) (r.address + k) (get_or r.bytes k 0)
-    (subst (λ es. Gives es (r.address + k) (get_or r.bytes k 0)) (numbered_given r shape.kind)
+    (subst (λ es. HoldsByteAt es (r.address + k) (get_or r.bytes k 0)) (numbered_given r shape.kind)
     (numbered_at r.address r.bytes k (r.address + k) h refl)) in
     let some = shape.some in
     let first = flash (r.address + 0) (get_or r.bytes 0 0) (gives 0 (omega arith)) in
@@ -182,7 +182,7 @@ written_one r records shape flash =
 
 written_rest : (r : Record) (records : List Record) → IsDataRecord r → FlashBytes (placed 0 (r ∷ records)) → FlashBytes (placed 0 records)
 written_rest r records shape flash at b g = flash at b (gives_right (given 0 r) (placed (base_after 0 r) records) at b
-    (subst (λ base. Gives (placed base records) at b) (sym (base_stays r shape.kind)) g))
+    (subst (λ base. HoldsByteAt (placed base records) at b) (sym (base_stays r shape.kind)) g))
 
 records_written : (records : List Record) → AllByRecursion IsDataRecord records → FlashBytes (placed 0 records) → AllByRecursion IsWritten
     records

@@ -15,7 +15,7 @@ use Rattle.uz_hex.specs.declared.records.Progress.TheVariants.{More, Ended}
 use Rattle.uz_hex.specs.declared.errors.HexWhy.{HexWhy}
 use Rattle.uz_hex.specs.declared.errors.HexWhy.TheVariants as why
 use Rattle.uz_hex.proofs.PlaceLaws.{gives_left, gives_right, gives_either, agree_held}
-use Rattle.uz_hex.proofs.LineLaws.{Outcome, outcome, goes_on, ends, fails}
+use Rattle.uz_hex.proofs.LineLaws.{LineEffect, outcome, goes_on, ends, fails}
 
 abbrev Entries : Type 0
 Entries = List (ℕ × ℕ)
@@ -201,7 +201,7 @@ answers_more k base es c line lines r (Err fault) s goes a = fault_more k base e
 -- what comes after a line that isn't blank
 after_filled : (k base : ℕ) (es : Entries) (flash : Flash) (c : ℕ) (line : List ℕ) (lines : List (List ℕ))
     (came : Result (Progress × Flash) HexWhy)
-    → InFlash es → Holds flash es → Outcome base flash es (c ∷ line) came
+    → InFlash es → Holds flash es → LineEffect base flash es (c ∷ line) came
     → ((next : ℕ) (held : Flash) (ys : Entries) → InFlash ys → Holds held ys → Answers (suc k) next ys lines
     (read_lines (suc k) next held lines))
     → Answers k base es ((c ∷ line) ∷ lines) (go_on (suc k) came (λ next held. read_lines (suc k) next held lines))

@@ -10,7 +10,7 @@ use Rattle.std.specs.Ordering.{nat_cmp}
 use Rattle.std.specs.FinMap.{FinMap, get}
 use Rattle.hex.specs.Hex.{decode_of, is_hex_digit}
 use Rattle.uz_text.specs.Lines.{is_blank}
-use Rattle.uz_hex.specs.Records.{Record, HasLength, code_of, Encodes, Spells, given, base_of, placed, Gives}
+use Rattle.uz_hex.specs.Records.{Record, HasLength, code_of, Encodes, Spells, given, base_of, placed, HoldsByteAt}
 use Rattle.uz_hex.specs.declared.records.RecordType.{RecordType}
 use Rattle.uz_hex.specs.declared.records.RecordType.TheVariants.{EndOfFile}
 use Rattle.uz_hex.specs.declared.errors.HexWhy.{HexWhy}
@@ -40,11 +40,11 @@ Spelled ((c ∷ line) ∷ lines) (r ∷ records) = Spells (c ∷ line) r × (r.k
 
 -- each address is one of the flash
 abbrev pub InFlash : List (ℕ × ℕ) → Type 0
-InFlash entries = (at byte : ℕ) → Gives entries at byte → at < 65536
+InFlash entries = (at byte : ℕ) → HoldsByteAt entries at byte → at < 65536
 
 -- no address has two different bytes
 abbrev pub Agree : List (ℕ × ℕ) → Type 0
-Agree entries = (at b c : ℕ) → Gives entries at b → Gives entries at c → b ≡ c
+Agree entries = (at b c : ℕ) → HoldsByteAt entries at b → HoldsByteAt entries at c → b ≡ c
 
 -- lines before the end record that have no fault
 pub record Sound (lines : List (List ℕ)) (records : List Record) : Type 0 where
@@ -54,7 +54,7 @@ pub record Sound (lines : List (List ℕ)) (records : List Record) : Type 0 wher
 
 -- the map has just these bytes
 abbrev pub Holds : FinMap nat_cmp ℕ → List (ℕ × ℕ) → Type 0
-Holds image entries = (at byte : ℕ) → (get image at ≡ Some byte) ↔ Gives entries at byte
+Holds image entries = (at byte : ℕ) → (get image at ≡ Some byte) ↔ HoldsByteAt entries at byte
 
 -- lines that make an image: sound ones, an end record, and lines that don't matter
 pub record MakesImage (lines : List (List ℕ)) (image : FinMap nat_cmp ℕ) : Type 0 where
@@ -83,9 +83,9 @@ Stands base earlier line why.Sum = (bytes : List ℕ) × Encodes line bytes × (
 Stands base earlier line why.Kind = (bytes : List ℕ) × Encodes line bytes × (5 < slice_index bytes 3)
 Stands base earlier line why.Length = (bytes : List ℕ) × (kind : RecordType) × Encodes line bytes × (code_of kind ≡ slice_index bytes 3)
     × ¬ HasLength kind (slice_index bytes 0)
-Stands base earlier line why.Range = (r : Record) × Spells line r × (at byte : ℕ) × Gives (given base r) at byte × (65536 ≤ at)
+Stands base earlier line why.Range = (r : Record) × Spells line r × (at byte : ℕ) × HoldsByteAt (given base r) at byte × (65536 ≤ at)
 Stands base earlier line why.Conflict = (r : Record) × Spells line r
-    × (at b c : ℕ) × Gives (earlier ++ given base r) at b × Gives (earlier ++ given base r) at c × (b ≢ c)
+    × (at b c : ℕ) × HoldsByteAt (earlier ++ given base r) at b × HoldsByteAt (earlier ++ given base r) at c × (b ≢ c)
 Stands base earlier line why.NoEnd = ⊥
 Stands base earlier line why.Memory = ⊥
 

@@ -82,6 +82,6 @@ placed base [] = []
 placed base (r ∷ records) = given base r ++ placed (base_after base r) records
 
 -- among these there is this byte at this address
-abbrev pub Gives : List (ℕ × ℕ) → ℕ → ℕ → Type 0
-Gives [] at byte = ⊥
-Gives (entry ∷ entries) at byte = ((entry.0 ≡ at) × (entry.1 ≡ byte)) ⊎ Gives entries at byte
+abbrev pub HoldsByteAt : List (ℕ × ℕ) → ℕ → ℕ → Type 0
+HoldsByteAt [] at byte = ⊥
+HoldsByteAt (entry ∷ entries) at byte = ((entry.0 ≡ at) × (entry.1 ≡ byte)) ⊎ HoldsByteAt entries at byte

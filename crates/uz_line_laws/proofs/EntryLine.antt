@@ -19,9 +19,9 @@ use Rattle.uz_lines.specs.Why.{◌>>=◌}
 use Rattle.uz_lines.specs.Grammar.{Words, choice_of}
 use Rattle.uz_lines.specs.Defaults.{is_any_pair, range_fact}
 use Rattle.uz_lines.specs.Items.{is_handler, bytes_forms, read_items}
-use Rattle.uz_lines.specs.Forms.{Form, number, items, reads}
+use Rattle.uz_lines.specs.Forms.{LineForm, number, items, reads}
 use Rattle.uz_lines.specs.Lines.{within, one_of, none_in_main, shape_of, span_of_fact, entry_of, entry_kind, entry_form}
-use Rattle.uz_lines.specs.declared.values.Forms.{Forms}
+use Rattle.uz_lines.specs.declared.values.FactForms.{FactForms}
 use Rattle.uz_lines.specs.declared.items.Facts.{Facts}
 use Rattle.uz_lines.specs.declared.lines.Said.{Said}
 use Rattle.uz_lines.specs.declared.lines.Said.TheVariants as said
@@ -47,7 +47,7 @@ use Rattle.uz_line_laws.proofs.RestLine.{bytes_of, one_so}
 
 -- an entry after the word for its kind
 
-abbrev entry_after : Head → ℕ → ℕ → Kind → Form
+abbrev entry_after : Head → ℕ → ℕ → Kind → LineForm
 entry_after h lines points kind =
     number (one_of points) (λ id. number (within 0 32768) (λ pc.
     number (within 0 (none_in_main kind lines)) (λ line. number (within 0 (none_in_main kind 1820)) (λ clock.
@@ -93,7 +93,7 @@ entry_sayable h lines points e f =
       stack_fit = facts e.stack.items f.stack;
       cells_fit = each_other (λ p x. FactIn (entry_cell p.1) x) (λ p x. FactIn (cell_form shape p.1) x)
           (numbered_cells e.kind 0 h.cells.items) (range_facts e.cells.items)
-          (λ p x i. subst (λ (g : Forms). FactIn g x) (sym (entry_form_is shape p.1 refl)) i)
+          (λ p x i. subst (λ (g : FactForms). FactIn g x) (sym (entry_form_is shape p.1 refl)) i)
           (spans_in e.kind 0 h.cells.items e.cells.items f.cells.ranges f.cells.within);
       next_fit = (refl, All-nil (λ id. id < points), lit≤ tt, λ _. refl);
       plain_fit = λ _. any_three;
@@ -271,7 +271,7 @@ facts_said h kind points f r =
     let cells = spans_out kind 0 h.cells.items f.cells.items
     (each_other (λ p x. FactIn (cell_form shape p.1) x) (λ p x. FactIn (entry_cell p.1) x) (numbered_cells kind 0 h.cells.items)
     f.cells.items
-    (λ p x i. subst (λ (g : Forms). FactIn g x) (entry_form_is shape p.1 refl) i) r.tracked_cells) in
+    (λ p x i. subst (λ (g : FactForms). FactIn g x) (entry_form_is shape p.1 refl) i) r.tracked_cells) in
     record {
       regs_back = back f.regs regs;
       regs_fit = fit f.regs regs;

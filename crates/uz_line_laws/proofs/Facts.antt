@@ -15,7 +15,7 @@ use Rattle.uz_schedule.specs.declared.facts.Bit.TheVariants.{Zero, One, Free, Ol
 use Rattle.uz_lines.specs.Why.{◌>>=◌}
 use Rattle.uz_lines.specs.Values.{raw_of, is_ordered, ends, fact_of, pair_of, ends_of, bit_of}
 use Rattle.uz_lines.specs.Forms.{span_forms, span_of}
-use Rattle.uz_lines.specs.declared.values.Forms.{Forms}
+use Rattle.uz_lines.specs.declared.values.FactForms.{FactForms}
 use Rattle.uz_lines.specs.declared.values.Raw.{Raw}
 use Rattle.uz_lines.specs.declared.values.Raw.TheVariants as raw
 use Rattle.uz_lines.specs.declared.why.CertWhy.TheVariants as why
@@ -98,7 +98,7 @@ ordered_two top e h f =
 -- facts of bytes
 
 -- the forms let this fact of a byte in
-abbrev pub FactIn : Forms → Fact → Type 0
+abbrev pub FactIn : FactForms → Fact → Type 0
 FactIn f Any = (f.low ≡ 0) × (f.top < f.limit)
 FactIn f (Between e) = PartFits 255 e × (f.low ≤ e.lo) × (e.hi < f.limit)
 FactIn f (Line a b) = (f.sloped ≡ true) × (1 ≤ a) × (a < f.limit) × (b < f.limit)
@@ -106,13 +106,13 @@ FactIn f (Loop a b) = (f.sloped ≡ true) × (1 ≤ a) × (a < f.limit) × (b < 
 FactIn f (Old r) = (f.old ≡ true) × (r < 32)
 FactIn f OldFlags = f.old ≡ true
 
-abbrev Gives : Forms → List ℕ → Fact → Type 0
-Gives f w fact = (w ≡ fact_word fact) × FactIn f fact
+abbrev ReadsAs : FactForms → List ℕ → Fact → Type 0
+ReadsAs f w fact = (w ≡ fact_word fact) × FactIn f fact
 
-gives_at : (f : Forms) (w : List ℕ) (a b : Fact) → a ≡ b → Gives f w a → Gives f w b
-gives_at f w a b e h = subst (λ (x : Fact). Gives f w x) e h
+gives_at : (f : FactForms) (w : List ℕ) (a b : Fact) → a ≡ b → ReadsAs f w a → ReadsAs f w b
+gives_at f w a b e h = subst (λ (x : Fact). ReadsAs f w x) e h
 
-fact_by : (f : Forms) (w : List ℕ) (r : Raw) (fact : Fact) → f.limit ≤ 256 → w ≡ raw_word r → RawFits f r → fact_of r ≡ Ok fact
+fact_by : (f : FactForms) (w : List ℕ) (r : Raw) (fact : Fact) → f.limit ≤ 256 → w ≡ raw_word r → RawFits f r → fact_of r ≡ Ok fact
     → (w ≡ fact_word fact) × FactIn f fact
 fact_by f w raw.All fact h e i g = gives_at f w Any fact (fine_is Any fact g) (e, i)
 fact_by f w (raw.One n) fact h e i g =
@@ -128,7 +128,7 @@ fact_by f w (raw.Old r) fact h e i g = gives_at f w (Old r) fact (fine_is (Old r
 fact_by f w raw.OldFlags fact h e i g = gives_at f w OldFlags fact (fine_is OldFlags fact g) (e, i)
 
 -- a fact's word is read only as it is spelled
-pub fact_only : (f : Forms) (w : List ℕ) (r : Raw) (fact : Fact) → f.limit ≤ 256 → raw_of f w ≡ Ok r → fact_of r ≡ Ok fact
+pub fact_only : (f : FactForms) (w : List ℕ) (r : Raw) (fact : Fact) → f.limit ≤ 256 → raw_of f w ≡ Ok r → fact_of r ≡ Ok fact
     → (w ≡ fact_word fact) × FactIn f fact
 fact_only f w r fact h e g =
     let two = raw_only f w r (omega arith) e in
@@ -146,7 +146,7 @@ fact_raw OldFlags = raw.OldFlags
 part_raw : (top : ℕ) (e : Ends) → PartFits top e → ends_word top e ≡ raw_word (raw_by false (eqb e.lo e.hi) e)
 part_raw top e h = ends_are top e ∙ ap (λ t. raw_word (raw_by t (eqb e.lo e.hi) e)) (part_not_whole top e h)
 
-raw_in : (f : Forms) (top : ℕ) (e : Ends) → PartFits top e → f.low ≤ e.lo → e.hi < f.limit → RawFits f (raw_by false (eqb e.lo e.hi) e)
+raw_in : (f : FactForms) (top : ℕ) (e : Ends) → PartFits top e → f.low ≤ e.lo → e.hi < f.limit → RawFits f (raw_by false (eqb e.lo e.hi) e)
 raw_in f top e h l k = by_test (eqb e.lo e.hi)
   where
     order : e.lo ≤ e.hi
@@ -166,7 +166,7 @@ part_fact e h = by_test (eqb e.lo e.hi) refl
     by_test true t = ap (λ x. fine (Between x)) (one_is e t)
     by_test false t = so (is_ordered 255 e.lo e.hi) (Ok (Between e)) (Err why.Order) (ordered_two 255 e h t)
 
-fact_spelled : (f : Forms) (fact : Fact) → FactIn f fact → fact_word fact ≡ raw_word (fact_raw fact)
+fact_spelled : (f : FactForms) (fact : Fact) → FactIn f fact → fact_word fact ≡ raw_word (fact_raw fact)
 fact_spelled f Any i = refl
 fact_spelled f (Between e) i = part_raw 255 e i.0
 fact_spelled f (Line a b) i = refl
@@ -174,7 +174,7 @@ fact_spelled f (Loop a b) i = refl
 fact_spelled f (Old r) i = refl
 fact_spelled f OldFlags i = refl
 
-fact_fits : (f : Forms) (fact : Fact) → FactIn f fact → RawFits f (fact_raw fact)
+fact_fits : (f : FactForms) (fact : Fact) → FactIn f fact → RawFits f (fact_raw fact)
 fact_fits f Any i = i
 fact_fits f (Between e) i = raw_in f 255 e i.0 i.1 i.2
 fact_fits f (Line a b) i = i
@@ -182,7 +182,7 @@ fact_fits f (Loop a b) i = i
 fact_fits f (Old r) i = i
 fact_fits f OldFlags i = i
 
-fact_again : (f : Forms) (fact : Fact) → FactIn f fact → fact_of (fact_raw fact) ≡ Ok fact
+fact_again : (f : FactForms) (fact : Fact) → FactIn f fact → fact_of (fact_raw fact) ≡ Ok fact
 fact_again f Any i = refl
 fact_again f (Between e) i = part_fact e i.0
 fact_again f (Line a b) i = refl
@@ -191,26 +191,26 @@ fact_again f (Old r) i = refl
 fact_again f OldFlags i = refl
 
 -- a fact's word is read again
-pub fact_so : (f : Forms) (fact : Fact) → f.limit ≤ 256 → FactIn f fact
+pub fact_so : (f : FactForms) (fact : Fact) → f.limit ≤ 256 → FactIn f fact
     → (raw_of f (fact_word fact) ≡ Ok (fact_raw fact)) × (fact_of (fact_raw fact) ≡ Ok fact)
 fact_so f fact h i =
     (ap (raw_of f) (fact_spelled f fact i) ∙ raw_so f (fact_raw fact) (omega arith) (fact_fits f fact i), fact_again f fact i)
 
 -- facts of pairs
 
-abbrev pub PairIn : Forms → PairFact → Type 0
+abbrev pub PairIn : FactForms → PairFact → Type 0
 PairIn f AnyPair = (f.low ≡ 0) × (f.top < f.limit)
 PairIn f (BetweenPair e) = PartFits 65535 e × (f.low ≤ e.lo) × (e.hi < f.limit)
 PairIn f (LinePair a b) = (f.sloped ≡ true) × (1 ≤ a) × (a < f.limit) × (b < f.limit)
 PairIn f (LoopPair a b) = (f.sloped ≡ true) × (1 ≤ a) × (a < f.limit) × (b < f.limit)
 
-abbrev GivesPair : Forms → List ℕ → PairFact → Type 0
-GivesPair f w fact = (w ≡ pair_word fact) × PairIn f fact
+abbrev ReadsAsPair : FactForms → List ℕ → PairFact → Type 0
+ReadsAsPair f w fact = (w ≡ pair_word fact) × PairIn f fact
 
-pair_at : (f : Forms) (w : List ℕ) (a b : PairFact) → a ≡ b → GivesPair f w a → GivesPair f w b
-pair_at f w a b e h = subst (λ (x : PairFact). GivesPair f w x) e h
+pair_at : (f : FactForms) (w : List ℕ) (a b : PairFact) → a ≡ b → ReadsAsPair f w a → ReadsAsPair f w b
+pair_at f w a b e h = subst (λ (x : PairFact). ReadsAsPair f w x) e h
 
-pair_by : (f : Forms) (w : List ℕ) (r : Raw) (fact : PairFact) → f.limit ≤ 65536 → w ≡ raw_word r → RawFits f r → pair_of r ≡ Ok fact
+pair_by : (f : FactForms) (w : List ℕ) (r : Raw) (fact : PairFact) → f.limit ≤ 65536 → w ≡ raw_word r → RawFits f r → pair_of r ≡ Ok fact
     → (w ≡ pair_word fact) × PairIn f fact
 pair_by f w raw.All fact h e i g = pair_at f w AnyPair fact (fine_is AnyPair fact g) (e, i)
 pair_by f w (raw.One n) fact h e i g =
@@ -225,7 +225,7 @@ pair_by f w (raw.Loop a b) fact h e i g = pair_at f w (LoopPair a b) fact (fine_
 pair_by f w (raw.Old r) fact h e i g = absurd cc
 pair_by f w raw.OldFlags fact h e i g = absurd cc
 
-pub pair_only : (f : Forms) (w : List ℕ) (r : Raw) (fact : PairFact) → f.limit ≤ 65536 → raw_of f w ≡ Ok r → pair_of r ≡ Ok fact
+pub pair_only : (f : FactForms) (w : List ℕ) (r : Raw) (fact : PairFact) → f.limit ≤ 65536 → raw_of f w ≡ Ok r → pair_of r ≡ Ok fact
     → (w ≡ pair_word fact) × PairIn f fact
 pair_only f w r fact h e g =
     let two = raw_only f w r (omega arith) e in
@@ -244,25 +244,25 @@ part_pair e h = by_test (eqb e.lo e.hi) refl
     by_test true t = ap (λ x. fine (BetweenPair x)) (one_is e t)
     by_test false t = so (is_ordered 65535 e.lo e.hi) (Ok (BetweenPair e)) (Err why.Order) (ordered_two 65535 e h t)
 
-pair_spelled : (f : Forms) (fact : PairFact) → PairIn f fact → pair_word fact ≡ raw_word (pair_raw fact)
+pair_spelled : (f : FactForms) (fact : PairFact) → PairIn f fact → pair_word fact ≡ raw_word (pair_raw fact)
 pair_spelled f AnyPair i = refl
 pair_spelled f (BetweenPair e) i = part_raw 65535 e i.0
 pair_spelled f (LinePair a b) i = refl
 pair_spelled f (LoopPair a b) i = refl
 
-pair_fits : (f : Forms) (fact : PairFact) → PairIn f fact → RawFits f (pair_raw fact)
+pair_fits : (f : FactForms) (fact : PairFact) → PairIn f fact → RawFits f (pair_raw fact)
 pair_fits f AnyPair i = i
 pair_fits f (BetweenPair e) i = raw_in f 65535 e i.0 i.1 i.2
 pair_fits f (LinePair a b) i = i
 pair_fits f (LoopPair a b) i = i
 
-pair_again : (f : Forms) (fact : PairFact) → PairIn f fact → pair_of (pair_raw fact) ≡ Ok fact
+pair_again : (f : FactForms) (fact : PairFact) → PairIn f fact → pair_of (pair_raw fact) ≡ Ok fact
 pair_again f AnyPair i = refl
 pair_again f (BetweenPair e) i = part_pair e i.0
 pair_again f (LinePair a b) i = refl
 pair_again f (LoopPair a b) i = refl
 
-pub pair_so : (f : Forms) (fact : PairFact) → f.limit ≤ 65536 → PairIn f fact
+pub pair_so : (f : FactForms) (fact : PairFact) → f.limit ≤ 65536 → PairIn f fact
     → (raw_of f (pair_word fact) ≡ Ok (pair_raw fact)) × (pair_of (pair_raw fact) ≡ Ok fact)
 pair_so f fact h i =
     (ap (raw_of f) (pair_spelled f fact i) ∙ raw_so f (pair_raw fact) (omega arith) (pair_fits f fact i), pair_again f fact i)

@@ -20,7 +20,7 @@ use Rattle.uz_schedule.specs.declared.facts.Bit.TheVariants.{Zero, One, Free, Ol
 use Rattle.uz_lines.specs.Defaults.{range_fact}
 use Rattle.uz_lines.specs.Items.{is_handler, bytes_forms, pair_forms}
 use Rattle.uz_lines.specs.Lines.{none_in_main, span_of_fact}
-use Rattle.uz_lines.specs.declared.values.Forms.{Forms}
+use Rattle.uz_lines.specs.declared.values.FactForms.{FactForms}
 use Rattle.uz_lines.specs.declared.items.Shape.{Shape}
 use Rattle.uz_line_laws.proofs.Tests.{and_true, both_true, true_not, le_is, is_le, else_so, number_is, not_le}
 use Rattle.uz_line_laws.proofs.Facts.{FactIn, PairIn, BitIn, part_from, part_not_whole, whole_ends}
@@ -84,12 +84,12 @@ fact_out shape (Old r) h = (handler_is shape.kind (and_true (is_handler shape.ki
 fact_out shape OldFlags h = handler_is shape.kind (and_true (is_handler shape.kind) (not shape.plain) h).0
 
 -- the forms of a cell of a point
-abbrev pub point_cell : Forms
+abbrev pub point_cell : FactForms
 point_cell = record { low = 0; limit = 256; top = 255; sloped = true; old = false }
 
 pub cell_form_is : (shape : Shape) (c : Cell) → shape.plain ≡ false → cell_form shape c ≡ point_cell
 cell_form_is shape c p =
-    ap (λ t. cond {A = Forms} t (record { low = c.range.lo; limit = c.range.hi + 1; top = 255; sloped = false; old = false }) point_cell) p
+    ap (λ t. cond {A = FactForms} t (record { low = c.range.lo; limit = c.range.hi + 1; top = 255; sloped = false; old = false }) point_cell) p
 
 cell_in : (f : Fact) → CellFactFits f → FactIn point_cell f
 cell_in Any h = (refl, lit< tt)
@@ -122,7 +122,7 @@ pub cells_in : (shape : Shape) (cells : List Cell) (fs : List Fact) → shape.pl
     → All CellFactFits fs → Each (λ p x. FactIn (cell_form shape p.1) x) (numbered_cells shape.kind 0 cells) fs
 cells_in shape cells fs p e h =
     each_other (λ k x. CellFactFits x) (λ q x. FactIn (cell_form shape q.1) x) (numbered_cells shape.kind 0 cells) fs
-    (λ q x i. subst (λ (f : Forms). FactIn f x) (sym (cell_form_is shape q.1 p)) (cell_in x i))
+    (λ q x i. subst (λ (f : FactForms). FactIn f x) (sym (cell_form_is shape q.1 p)) (cell_in x i))
     (each_of_all CellFactFits (numbered_cells shape.kind 0 cells) fs (e ∙ sym (numbered_length shape.kind 0 cells)) h)
 
 pub cells_out : (shape : Shape) (cells : List Cell) (fs : List Fact) → shape.plain ≡ false
@@ -132,7 +132,7 @@ cells_out shape cells fs p h = (
   each_length (λ q x. FactIn (cell_form shape q.1) x) (numbered_cells shape.kind 0 cells) fs h ∙ numbered_length shape.kind 0 cells,
   all_of_each CellFactFits (numbered_cells shape.kind 0 cells) fs
       (each_other (λ q x. FactIn (cell_form shape q.1) x) (λ k x. CellFactFits x) (numbered_cells shape.kind 0 cells) fs
-      (λ q x i. cell_out x (subst (λ (f : Forms). FactIn f x) (cell_form_is shape q.1 p) i)) h),
+      (λ q x i. cell_out x (subst (λ (f : FactForms). FactIn f x) (cell_form_is shape q.1 p) i)) h),
 )
 
 pub pair_in : (f : PairFact) → PairFits f → PairIn pair_forms f
@@ -161,7 +161,7 @@ bit_out kind OldBit h = handler_is kind h
 
 -- ranges of entries
 
-pub range_in : (f : Forms) (e : Ends) → f.top ≡ 255 → RangeFits 255 e → f.low ≤ e.lo → e.hi < f.limit → FactIn f (range_fact e)
+pub range_in : (f : FactForms) (e : Ends) → f.top ≡ 255 → RangeFits 255 e → f.low ≤ e.lo → e.hi < f.limit → FactIn f (range_fact e)
 range_in f e t h l k = by_whole (eqb e.lo 0 && eqb e.hi 255) refl
   where
     by_whole : (w : Bool) → (eqb e.lo 0 && eqb e.hi 255) ≡ w → FactIn f (cond w Any (Between e))
@@ -171,13 +171,13 @@ range_in f e t h l k = by_whole (eqb e.lo 0 && eqb e.hi 255) refl
     by_whole false w = (part_from e h w, l, k)
 
 -- what a fact without slopes and old values says as a range
-pub record SaysRange (f : Forms) (x : Fact) : Type 0 where
+pub record SaysRange (f : FactForms) (x : Fact) : Type 0 where
   pub back : range_fact (span_of_fact x) ≡ x
   pub fits : RangeFits 255 (span_of_fact x)
   pub low : f.low ≤ (span_of_fact x).lo
   pub high : (span_of_fact x).hi < f.limit
 
-pub says_range : (f : Forms) (x : Fact) → f.top ≡ 255 → f.sloped ≡ false → f.old ≡ false → FactIn f x → SaysRange f x
+pub says_range : (f : FactForms) (x : Fact) → f.top ≡ 255 → f.sloped ≡ false → f.old ≡ false → FactIn f x → SaysRange f x
 says_range f Any t s o h = record {
   back = refl;
   fits = record { order = lit≤ tt; high = lit≤ tt };
@@ -205,11 +205,11 @@ span_back e = by_whole (eqb e.lo 0 && eqb e.hi 255) refl
 
 -- ranges of cells in entries
 
-abbrev pub entry_cell : Cell → Forms
+abbrev pub entry_cell : Cell → FactForms
 entry_cell c = record { low = c.range.lo; limit = c.range.hi + 1; top = 255; sloped = false; old = false }
 
 pub entry_form_is : (shape : Shape) (c : Cell) → shape.plain ≡ true → cell_form shape c ≡ entry_cell c
-entry_form_is shape c p = ap (λ t. cond {A = Forms} t (entry_cell c) point_cell) p
+entry_form_is shape c p = ap (λ t. cond {A = FactForms} t (entry_cell c) point_cell) p
 
 pub spans_in : (kind : Kind) (i : ℕ) (cs : List Cell) (spans : List Ends) → All (RangeFits 255) spans
     → spans_fit (filter (λ c. tracks kind c.owner) cs) spans ≡ true

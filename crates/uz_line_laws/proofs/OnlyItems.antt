@@ -22,7 +22,7 @@ use Rattle.uz_lines.specs.Grammar.{Words}
 use Rattle.uz_lines.specs.Defaults.{is_default}
 use Rattle.uz_lines.specs.Items.{first_facts, default_regs, default_flag, is_handler, bytes_forms, pair_forms, names_c_or_z, any_names}
 use Rattle.uz_lines.specs.Items.{is_flag_z, tracked_count, take_item, items_from, read_items}
-use Rattle.uz_lines.specs.declared.values.Forms.{Forms}
+use Rattle.uz_lines.specs.declared.values.FactForms.{FactForms}
 use Rattle.uz_lines.specs.declared.items.Shape.{Shape}
 use Rattle.uz_lines.specs.declared.items.Facts.{Facts}
 use Rattle.uz_lines.specs.declared.why.CertWhy.TheVariants as why
@@ -43,7 +43,7 @@ pub record ShapeFits (shape : Shape) (cells : List Cell) : Type 0 where
   pub whole : shape.kind ≡ Handler → shape.plain ≡ false
   pub ranges : All (λ c. RangeFits 255 c.range) cells
 
-own_each : (f : Forms) (r n : ℕ) → f.old ≡ true → r + n ≤ 32 → Each (λ r x. FactIn f x) (count_from r n)
+own_each : (f : FactForms) (r n : ℕ) → f.old ≡ true → r + n ≤ 32 → Each (λ r x. FactIn f x) (count_from r n)
     (map (usual_fact Handler) (count_from r n))
 own_each f r zero o h = tt
 own_each f r (suc n) o h = ((o, omega arith), own_each f (suc r) n o (omega arith))
@@ -61,7 +61,7 @@ first_bit Handler = refl
 first_bit Alone = tt
 
 form_in : (plain : Bool) (range : Ends) → RangeFits 255 range → (whole : Bool) → (eqb range.lo 0 && eqb range.hi 255) ≡ whole
-    → FactIn (cond {A = Forms} plain (record { low = range.lo; limit = range.hi + 1; top = 255; sloped = false; old = false })
+    → FactIn (cond {A = FactForms} plain (record { low = range.lo; limit = range.hi + 1; top = 255; sloped = false; old = false })
     (record { low = 0; limit = 256; top = 255; sloped = true; old = false })) (cond whole Any (Between range))
 form_in true range h true e =
     let two = and_true (eqb range.lo 0) (eqb range.hi 255) e in

@@ -13,7 +13,7 @@ use Rattle.uz_schedule.specs.declared.states.Point.{Point}
 use Rattle.uz_lines.specs.Why.{◌>>=◌}
 use Rattle.uz_lines.specs.Grammar.{Words, choice_of}
 use Rattle.uz_lines.specs.Items.{is_handler, bytes_forms, pair_forms, read_items}
-use Rattle.uz_lines.specs.Forms.{Form, number, slope, items, reads}
+use Rattle.uz_lines.specs.Forms.{LineForm, number, slope, items, reads}
 use Rattle.uz_lines.specs.Lines.{within, none_in_main, shape_of, point_kind, pending_limit, count_limit, point_of, point_after, point_form}
 use Rattle.uz_lines.specs.declared.items.Facts.{Facts}
 use Rattle.uz_lines.specs.declared.lines.Said.{Said}
@@ -149,7 +149,7 @@ point_after_again h lines points left p a small f fits =
     let f4 = form_rest f3 p.c0 in
     let f5 = form_rest f4 p.c1 in
     let say : ℕ → Facts → Said = λ n x. said.Point (point_of kind p.pc p.l0 p.l1 p.c0 p.c1 p.clock p.slope n x) in
-    let after_slope : ℤ → Form = λ s. number (within 0 (pending_limit kind))
+    let after_slope : ℤ → LineForm = λ s. number (within 0 (pending_limit kind))
     (λ n. items shape cells (λ x. said.Point (point_of kind p.pc p.l0 p.l1 p.c0 p.c1 p.clock s n x))) in
     let f7 = after_slope p.slope in
     let lines_small = none_small kind lines (omega arith) in
@@ -359,12 +359,12 @@ instances_are kind pc l0 l1 c0 c1 clock steps n left f h = h
 
 -- a point's words one after another: what is left to read after each part
 
-abbrev after_clock : Head → ℕ → Kind → ℕ → ℕ → ℕ → ℕ → ℕ → ℕ → Form
+abbrev after_clock : Head → ℕ → Kind → ℕ → ℕ → ℕ → ℕ → ℕ → ℕ → LineForm
 after_clock h points kind pc l0 l1 c0 c1 clock =
     slope (none_in_main kind 1820) (λ s. number (within 0 (pending_limit kind)) (λ n.
     items (shape_of h kind false points) h.cells.items (λ f. said.Point (point_of kind pc l0 l1 c0 c1 clock s n f))))
 
-abbrev after_lines : Head → ℕ → ℕ → Kind → ℕ → ℕ → ℕ → Form
+abbrev after_lines : Head → ℕ → ℕ → Kind → ℕ → ℕ → ℕ → LineForm
 after_lines h points left kind pc l0 l1 =
     number (within 0 (none_in_main kind 256)) (λ c0. number (within c0 (count_limit kind left l0 l1 c0)) (λ c1.
     number (within 0 (none_in_main kind 1820)) (λ clock. after_clock h points kind pc l0 l1 c0 c1 clock)))
@@ -495,7 +495,7 @@ state_read h lines points kind pc l0 l1 c0 c1 clock list ended says a e =
     let cells = h.cells.items in
     let shape = shape_of h kind false points in
     let clocks_small = none_small kind 1820 (lit≤ tt) in
-    let after_slope : ℤ → Form = λ s. number (within 0 (pending_limit kind))
+    let after_slope : ℤ → LineForm = λ s. number (within 0 (pending_limit kind))
     (λ n. items shape cells (λ x. said.Point (point_of kind pc l0 l1 c0 c1 clock s n x))) in
     let s = slope_step (none_in_main kind 1820) after_slope list ended says (omega (arith, clocks_small)) e in
     let w = retreat (after_slope s.0) s.1 ended says tt s.4 in

@@ -7,7 +7,7 @@ use Rattle.uz_text.proofs.Cuts.{cut_read, cut_again}
 use Rattle.uz_lines.specs.Why.{◌>>=◌}
 use Rattle.uz_lines.specs.Values.{one_number, two_numbers, whole, slope, sloped_parts, sloped_cut, sloped, old, range_parts, range_cut}
 use Rattle.uz_lines.specs.Values.{range, raw_of}
-use Rattle.uz_lines.specs.declared.values.Forms.{Forms}
+use Rattle.uz_lines.specs.declared.values.FactForms.{FactForms}
 use Rattle.uz_lines.specs.declared.values.Raw.{Raw}
 use Rattle.uz_lines.specs.declared.values.Raw.TheVariants as raw
 use Rattle.uz_lines.specs.declared.why.CertWhy.{CertWhy}
@@ -26,11 +26,11 @@ raw_word (raw.Loop a b) = slope_word (codes "c") a b
 raw_word (raw.Old r) = 111 ∷ decimal r
 raw_word raw.OldFlags = codes "of"
 
-abbrev pub InForms : Forms → ℕ → Type 0
+abbrev pub InForms : FactForms → ℕ → Type 0
 InForms f n = (f.low ≤ n) × (n < f.limit)
 
 -- the forms let this in
-abbrev pub RawFits : Forms → Raw → Type 0
+abbrev pub RawFits : FactForms → Raw → Type 0
 RawFits f raw.All = (f.low ≡ 0) × (f.top < f.limit)
 RawFits f (raw.One n) = InForms f n
 RawFits f (raw.Two lo hi) = InForms f lo × InForms f hi
@@ -41,13 +41,13 @@ RawFits f raw.OldFlags = f.old ≡ true
 
 -- only what is written is read
 
-abbrev Reads : Forms → List ℕ → Raw → Type 0
+abbrev Reads : FactForms → List ℕ → Raw → Type 0
 Reads f w r = (w ≡ raw_word r) × RawFits f r
 
-reads_at : (f : Forms) (w : List ℕ) (r s : Raw) → r ≡ s → Reads f w r → Reads f w s
+reads_at : (f : FactForms) (w : List ℕ) (r s : Raw) → r ≡ s → Reads f w r → Reads f w s
 reads_at f w r s e h = subst (λ (x : Raw). Reads f w x) e h
 
-whole_only : (f : Forms) (cs : List ℕ) (r : Raw) → whole f cs ≡ Ok r → Reads f (42 ∷ cs) r
+whole_only : (f : FactForms) (cs : List ℕ) (r : Raw) → whole f cs ≡ Ok r → Reads f (42 ∷ cs) r
 whole_only f (c ∷ cs) r e = absurd cc
 whole_only f [] r e =
     let p = passed ((eqb f.low 0) && ltb f.top f.limit) (Ok raw.All) why.Limit r e in
@@ -60,7 +60,7 @@ plus_parts a b w m n e f h c =
     ap (λ t. c ∷ 42 ∷ t) (h ∙ ap (λ t. t ++ 43 ∷ b) e ∙ ap (λ t. decimal m ++ 43 ∷ t) f)
     ∙ ap (λ t. c ∷ 42 ∷ t) (sym (append_assoc (decimal m) (43 ∷ []) (decimal n)))
 
-sloped_numbers : (is_line : Bool) (f : Forms) (w : List ℕ) (r : Raw) → f.limit ≤ 2 ^ 32 → sloped_cut is_line f w ≡ Ok r
+sloped_numbers : (is_line : Bool) (f : FactForms) (w : List ℕ) (r : Raw) → f.limit ≤ 2 ^ 32 → sloped_cut is_line f w ≡ Ok r
     → (n : ℕ × ℕ) × (slope is_line n ≡ r) × ((c : ℕ) → c ∷ 42 ∷ w ≡ slope_word (c ∷ []) n.0 n.1) × (1 ≤ n.0) × (n.0 < f.limit)
     × (n.1 < f.limit)
 unfolding sloped_cut
@@ -84,7 +84,7 @@ sloped_numbers is_line f w r h e = by_cut (cut_at 43 w) refl e
         cut_is : cut_at 43 w ≡ Some p
         cut_is = c
 
-line_only : (f : Forms) (cs : List ℕ) (r : Raw) → f.limit ≤ 2 ^ 32 → sloped true f cs ≡ Ok r → Reads f (108 ∷ cs) r
+line_only : (f : FactForms) (cs : List ℕ) (r : Raw) → f.limit ≤ 2 ^ 32 → sloped true f cs ≡ Ok r → Reads f (108 ∷ cs) r
 line_only f [] r h e = absurd cc
 line_only f (c ∷ cs) r h e =
     let p = passed ((eqb c 42) && f.sloped) (sloped_cut true f cs) why.Word r e in
@@ -93,7 +93,7 @@ line_only f (c ∷ cs) r h e =
     reads_at f (108 ∷ c ∷ cs) (raw.Line n.0.0 n.0.1) r n.1
     (ap (λ b. 108 ∷ b ∷ cs) (number_is c 42 two.0) ∙ n.2 108, (two.1, n.3, n.4, n.5))
 
-loop_only : (f : Forms) (cs : List ℕ) (r : Raw) → f.limit ≤ 2 ^ 32 → sloped false f cs ≡ Ok r → Reads f (99 ∷ cs) r
+loop_only : (f : FactForms) (cs : List ℕ) (r : Raw) → f.limit ≤ 2 ^ 32 → sloped false f cs ≡ Ok r → Reads f (99 ∷ cs) r
 loop_only f [] r h e = absurd cc
 loop_only f (c ∷ cs) r h e =
     let p = passed ((eqb c 42) && f.sloped) (sloped_cut false f cs) why.Word r e in
@@ -102,7 +102,7 @@ loop_only f (c ∷ cs) r h e =
     reads_at f (99 ∷ c ∷ cs) (raw.Loop n.0.0 n.0.1) r n.1
     (ap (λ b. 99 ∷ b ∷ cs) (number_is c 42 two.0) ∙ n.2 99, (two.1, n.3, n.4, n.5))
 
-old_only : (f : Forms) (cs : List ℕ) (r : Raw) → old f cs ≡ Ok r → Reads f (111 ∷ cs) r
+old_only : (f : FactForms) (cs : List ℕ) (r : Raw) → old f cs ≡ Ok r → Reads f (111 ∷ cs) r
 old_only f cs r e =
     let p = passed f.old (cond (bytes_eq cs (codes "f")) (Ok raw.OldFlags) (one_number 0 32 cs >>= (λ n. Ok (raw.Old n)))) why.Word r e in
     by_flags (bytes_eq cs (codes "f")) refl p.0 p.1
@@ -124,7 +124,7 @@ point_parts lo hi w c m n e f g h =
     h ∙ ap (λ t. t ++ 46 ∷ (c ∷ hi)) e ∙ ap (λ t. decimal m ++ 46 ∷ (t ∷ hi)) g ∙ ap (λ t. decimal m ++ 46 ∷ (46 ∷ t)) f
     ∙ sym (append_assoc (decimal m) (codes "..") (decimal n))
 
-range_only : (f : Forms) (w : List ℕ) (r : Raw) → f.limit ≤ 2 ^ 32 → range f w ≡ Ok r → Reads f w r
+range_only : (f : FactForms) (w : List ℕ) (r : Raw) → f.limit ≤ 2 ^ 32 → range f w ≡ Ok r → Reads f w r
 unfolding range
 range_only f w r h e = by_cut (cut_at 46 w) refl e
   where
@@ -146,10 +146,10 @@ range_only f w r h e = by_cut (cut_at 46 w) refl e
         reads_at f w (raw.One m.0) r (fine_is (raw.One m.0) r m.2) (n.0, (n.1, n.2))
     by_cut (Some p) c e = by_two p.0 p.1 c e
 
-head_is : (c b : ℕ) (cs : List ℕ) (f : Forms) (r : Raw) → eqb c b ≡ true → Reads f (b ∷ cs) r → Reads f (c ∷ cs) r
+head_is : (c b : ℕ) (cs : List ℕ) (f : FactForms) (r : Raw) → eqb c b ≡ true → Reads f (b ∷ cs) r → Reads f (c ∷ cs) r
 head_is c b cs f r e h = subst (λ x. Reads f (x ∷ cs) r) (sym (number_is c b e)) h
 
-pub raw_only : (f : Forms) (w : List ℕ) (r : Raw) → f.limit ≤ 2 ^ 32 → raw_of f w ≡ Ok r → (w ≡ raw_word r) × RawFits f r
+pub raw_only : (f : FactForms) (w : List ℕ) (r : Raw) → f.limit ≤ 2 ^ 32 → raw_of f w ≡ Ok r → (w ≡ raw_word r) × RawFits f r
 unfolding raw_of
 raw_only f [] r h e = absurd cc
 raw_only f (c ∷ cs) r h e = star (eqb c 42) refl e
@@ -178,7 +178,7 @@ raw_only f (c ∷ cs) r h e = star (eqb c 42) refl e
 
 -- what is written is read
 
-digit_first : (f : Forms) (w : List ℕ) (r : Result Raw CertWhy)
+digit_first : (f : FactForms) (w : List ℕ) (r : Result Raw CertWhy)
     → (c : ℕ) × (cs : List ℕ) × (w ≡ c ∷ cs) × (48 ≤ c) × (c ≤ 57) → range f w ≡ r → raw_of f w ≡ r
 unfolding raw_of
 digit_first f [] r d e = absurd cc
@@ -202,7 +202,7 @@ digit_first f (b ∷ bs) r d e =
     apart_below : (b c : ℕ) → b ≤ 57 → 57 < c → b ≢ c
     apart_below b c h k e = omega arith
 
-pub one_raw : (f : Forms) (n : ℕ) → f.limit ≤ 2 ^ 32 → InForms f n → raw_of f (decimal n) ≡ Ok (raw.One n)
+pub one_raw : (f : FactForms) (n : ℕ) → f.limit ≤ 2 ^ 32 → InForms f n → raw_of f (decimal n) ≡ Ok (raw.One n)
 unfolding range
 one_raw f n h i = digit_first f (decimal n) (Ok (raw.One n)) (first_digit n (omega arith)) in_range
   where
@@ -215,7 +215,7 @@ first_of : (w v : List ℕ) → (c : ℕ) × (cs : List ℕ) × (w ≡ c ∷ cs)
     → (c : ℕ) × (cs : List ℕ) × (w ++ v ≡ c ∷ cs) × (48 ≤ c) × (c ≤ 57)
 first_of w v d = (d.0, d.1 ++ v, ap (λ t. t ++ v) d.2, d.3, d.4)
 
-pub two_raw : (f : Forms) (lo hi : ℕ) → f.limit ≤ 2 ^ 32 → InForms f lo → InForms f hi
+pub two_raw : (f : FactForms) (lo hi : ℕ) → f.limit ≤ 2 ^ 32 → InForms f lo → InForms f hi
     → raw_of f (decimal lo ++ codes ".." ++ decimal hi) ≡ Ok (raw.Two lo hi)
 unfolding range
 two_raw f lo hi h i k =
@@ -230,7 +230,7 @@ two_raw f lo hi h i k =
         ∙ then (two_numbers f.low f.low f.limit (decimal lo) (decimal hi)) (λ n. Ok (raw.Two n.0 n.1)) (lo, hi) (Ok (raw.Two lo hi))
         (two_so f.low f.low f.limit lo hi h i.0 i.1 k.0 k.1) refl
 
-sloped_raw : (is_line : Bool) (f : Forms) (a b : ℕ) → f.limit ≤ 2 ^ 32 → (1 ≤ a) → (a < f.limit) → (b < f.limit)
+sloped_raw : (is_line : Bool) (f : FactForms) (a b : ℕ) → f.limit ≤ 2 ^ 32 → (1 ≤ a) → (a < f.limit) → (b < f.limit)
     → sloped_cut is_line f (decimal a ++ codes "+" ++ decimal b) ≡ Ok (slope is_line (a, b))
 unfolding sloped_cut
 sloped_raw is_line f a b h s ka kb =
@@ -239,15 +239,15 @@ sloped_raw is_line f a b h s ka kb =
     ∙ then (two_numbers 1 0 f.limit (decimal a) (decimal b)) (λ n. Ok (slope is_line n)) (a, b) (Ok (slope is_line (a, b)))
     (two_so 1 0 f.limit a b h s ka (omega arith) kb) refl
 
-with_star : (is_line : Bool) (f : Forms) (cs : List ℕ) → f.sloped ≡ true → sloped is_line f (42 ∷ cs) ≡ sloped_cut is_line f cs
+with_star : (is_line : Bool) (f : FactForms) (cs : List ℕ) → f.sloped ≡ true → sloped is_line f (42 ∷ cs) ≡ sloped_cut is_line f cs
 with_star is_line f cs e = ap (λ t. cond t (sloped_cut is_line f cs) (Err why.Word)) e
 
-pub line_raw : (f : Forms) (a b : ℕ) → f.limit ≤ 2 ^ 32 → RawFits f (raw.Line a b) → raw_of f (slope_word (codes "l") a b) ≡ Ok
+pub line_raw : (f : FactForms) (a b : ℕ) → f.limit ≤ 2 ^ 32 → RawFits f (raw.Line a b) → raw_of f (slope_word (codes "l") a b) ≡ Ok
     (raw.Line a b)
 unfolding raw_of
 line_raw f a b h i = with_star true f (decimal a ++ codes "+" ++ decimal b) i.0 ∙ sloped_raw true f a b h i.1 i.2 i.3
 
-pub loop_raw : (f : Forms) (a b : ℕ) → f.limit ≤ 2 ^ 32 → RawFits f (raw.Loop a b) → raw_of f (slope_word (codes "c") a b) ≡ Ok
+pub loop_raw : (f : FactForms) (a b : ℕ) → f.limit ≤ 2 ^ 32 → RawFits f (raw.Loop a b) → raw_of f (slope_word (codes "c") a b) ≡ Ok
     (raw.Loop a b)
 unfolding raw_of
 loop_raw f a b h i = with_star false f (decimal a ++ codes "+" ++ decimal b) i.0 ∙ sloped_raw false f a b h i.1 i.2 i.3
@@ -264,7 +264,7 @@ not_f w d = by_test (bytes_eq w (codes "f")) refl
         absurd (omega (arith, same, d.4))
     by_test false e = refl
 
-pub old_raw : (f : Forms) (r : ℕ) → RawFits f (raw.Old r) → raw_of f (111 ∷ decimal r) ≡ Ok (raw.Old r)
+pub old_raw : (f : FactForms) (r : ℕ) → RawFits f (raw.Old r) → raw_of f (111 ∷ decimal r) ≡ Ok (raw.Old r)
 unfolding raw_of
 old_raw f r i =
     so f.old (cond (bytes_eq (decimal r) (codes "f")) (Ok raw.OldFlags) (one_number 0 32 (decimal r) >>= (λ n. Ok (raw.Old n))))
@@ -273,17 +273,17 @@ old_raw f r i =
     (not_f (decimal r) (first_digit r (omega arith)))
     ∙ then (one_number 0 32 (decimal r)) (λ n. Ok (raw.Old n)) r (Ok (raw.Old r)) (one_so 0 32 r (lit≤ tt) (omega arith) i.1) refl
 
-pub flags_raw : (f : Forms) → f.old ≡ true → raw_of f (codes "of") ≡ Ok raw.OldFlags
+pub flags_raw : (f : FactForms) → f.old ≡ true → raw_of f (codes "of") ≡ Ok raw.OldFlags
 unfolding raw_of
 flags_raw f e = so f.old (Ok raw.OldFlags) (Err why.Word) e
 
-pub all_raw : (f : Forms) → f.low ≡ 0 → f.top < f.limit → raw_of f (codes "*") ≡ Ok raw.All
+pub all_raw : (f : FactForms) → f.low ≡ 0 → f.top < f.limit → raw_of f (codes "*") ≡ Ok raw.All
 unfolding raw_of
 all_raw f e h =
     so ((eqb f.low 0) && ltb f.top f.limit) (Ok raw.All) (Err why.Limit)
     (both_true (eqb f.low 0) (ltb f.top f.limit) (ap (λ n. eqb n 0) e) (is_lt f.top f.limit h))
 
-pub raw_so : (f : Forms) (r : Raw) → f.limit ≤ 2 ^ 32 → RawFits f r → raw_of f (raw_word r) ≡ Ok r
+pub raw_so : (f : FactForms) (r : Raw) → f.limit ≤ 2 ^ 32 → RawFits f r → raw_of f (raw_word r) ≡ Ok r
 raw_so f raw.All h i = all_raw f i.0 i.1
 raw_so f (raw.One n) h i = one_raw f n h i
 raw_so f (raw.Two lo hi) h i = two_raw f lo hi h i.0 i.1

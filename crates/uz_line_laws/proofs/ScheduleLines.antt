@@ -7,7 +7,7 @@ use Rattle.uz_schedule.specs.declared.lines.Event.{Event}
 use Rattle.uz_schedule.specs.declared.lines.EventKind.{EventKind}
 use Rattle.uz_schedule.specs.declared.lines.EventKind.TheVariants.{Sync, Pixel, Sound, Leave}
 use Rattle.uz_lines.specs.Grammar.{Words, choice_of}
-use Rattle.uz_lines.specs.Forms.{Form, choice, reads}
+use Rattle.uz_lines.specs.Forms.{LineForm, choice, reads}
 use Rattle.uz_lines.specs.Lines.{within, one_of, rising, kind_form, event_after, event_form, fall_form, run_form, end_form}
 use Rattle.uz_lines.specs.declared.lines.Run.{Run}
 use Rattle.uz_lines.specs.declared.lines.Said.{Said}
@@ -71,7 +71,7 @@ leave_choice : choice_of event_choices (codes "leave") ≡ Ok 3
 unfolding choice_of
 leave_choice = refl
 
-abbrev kind_choice : ℕ → Form
+abbrev kind_choice : ℕ → LineForm
 kind_choice clock = choice event_choices (λ n. event_after clock n)
 
 event_kind_again : (clock : ℕ) (kind : EventKind) → KindFits kind

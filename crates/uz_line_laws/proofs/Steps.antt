@@ -4,7 +4,7 @@ use Rattle.std.proofs.Common.{sym, ◌∙◌, ap, arith}
 use Rattle.std.specs.Prelude.{⊤, Some, Result, Ok, Err, slice_get}
 use Rattle.uz_schedule.specs.WellFormed.{magnitude}
 use Rattle.uz_lines.specs.Grammar.{Words, rest_of, next_as, fixed_of, number_of, choice_from, choice_of, slope_of, end_of}
-use Rattle.uz_lines.specs.Forms.{Form, fixed, number, choice, slope, spans, items, finish, reads}
+use Rattle.uz_lines.specs.Forms.{LineForm, fixed, number, choice, slope, spans, items, finish, reads}
 use Rattle.uz_lines.specs.Lines.{within, least_of}
 use Rattle.uz_lines.specs.declared.lines.Said.{Said}
 use Rattle.uz_lines.specs.declared.why.CertWhy.{CertWhy}
@@ -22,7 +22,7 @@ line_same list ws ended e f = ap (λ (l : List (List ℕ)). words_in l ended) e 
 
 -- the form after a word that is read as this number
 
-abbrev pub form_rest : Form → ℕ → Form
+abbrev pub form_rest : LineForm → ℕ → LineForm
 form_rest (fixed wanted form) n = form
 form_rest (number a form) n = form n
 form_rest (choice wanted form) n = form n
@@ -32,7 +32,7 @@ form_rest (items shape cells say) n = items shape cells say
 form_rest (finish says) n = finish says
 
 -- a word that is read as a number where this form is due
-abbrev pub Step : Form → List ℕ → ℕ → Type 0
+abbrev pub Step : LineForm → List ℕ → ℕ → Type 0
 Step (fixed wanted form) w n = fixed_of wanted w ≡ Ok n
 Step (number a form) w n = number_of a w ≡ Ok n
 Step (choice wanted form) w n = choice_of wanted w ≡ Ok n
@@ -41,7 +41,7 @@ Step (spans cells form) w n = ⊥
 Step (items shape cells say) w n = ⊥
 Step (finish says) w n = ⊥
 
-abbrev pub IsStep : Form → Type 0
+abbrev pub IsStep : LineForm → Type 0
 IsStep (fixed wanted form) = ⊤
 IsStep (number a form) = ⊤
 IsStep (choice wanted form) = ⊤
@@ -52,7 +52,7 @@ IsStep (finish says) = ⊥
 
 -- again
 
-pub advance : (form : Form) (w : List ℕ) (ws : List (List ℕ)) (n : ℕ) (r : Result Said CertWhy) → Step form w n
+pub advance : (form : LineForm) (w : List ℕ) (ws : List (List ℕ)) (n : ℕ) (r : Result Said CertWhy) → Step form w n
     → reads (form_rest form n) (line ws) ≡ r → reads form (line (w ∷ ws)) ≡ r
 advance (fixed wanted form) w ws n r s e = then (fixed_of wanted w) (λ n. reads form (line ws)) n r s e
 advance (number a form) w ws n r s e = then (number_of a w) (λ n. reads (form n) (line ws)) n r s e
@@ -66,7 +66,7 @@ pub fixed_word : (wanted : List ℕ) → fixed_of wanted wanted ≡ Ok 0
 unfolding fixed_of
 fixed_word wanted = so (bytes_eq wanted wanted) (Ok 0) (Err why.Word) (same_word wanted)
 
-pub slope_again : (limit : ℕ) (form : ℤ → Form) (z : ℤ) (ws : List (List ℕ)) (r : Result Said CertWhy) → limit ≤ 2 ^ 32
+pub slope_again : (limit : ℕ) (form : ℤ → LineForm) (z : ℤ) (ws : List (List ℕ)) (r : Result Said CertWhy) → limit ≤ 2 ^ 32
     → magnitude z < limit
     → reads (form z) (line ws) ≡ r → reads (slope limit form) (line (signed_word z ∷ ws)) ≡ r
 slope_again limit form z ws r l m e = then (slope_of limit (signed_word z)) (λ n. reads (form n) (line ws)) z r (slope_so limit z l m) e
@@ -84,7 +84,7 @@ rest_is : (list ws : List (List ℕ)) (w : List ℕ) (ended : Bool) → list ≡
 rest_is list ws w ended e = ap (λ (l : List (List ℕ)). rest_of (words_in l ended)) e
 
 -- a word, what it is read as, and the words after it
-pub record Went (form : Form) (list : List (List ℕ)) (ended : Bool) (said : Said) : Type 0 where
+pub record Went (form : LineForm) (list : List (List ℕ)) (ended : Bool) (said : Said) : Type 0 where
   pub number : ℕ
   pub word : List ℕ
   pub left : List (List ℕ)
@@ -92,7 +92,7 @@ pub record Went (form : Form) (list : List (List ℕ)) (ended : Bool) (said : Sa
   pub is : Step form word number
   pub rest : reads (form_rest form number) (words_in left ended) ≡ Ok said
 
-pub retreat : (form : Form) (list : List (List ℕ)) (ended : Bool) (said : Said) → IsStep form → reads form (words_in list ended) ≡ Ok said
+pub retreat : (form : LineForm) (list : List (List ℕ)) (ended : Bool) (said : Said) → IsStep form → reads form (words_in list ended) ≡ Ok said
     → Went form list ended said
 retreat (fixed wanted form) list ended said i e =
     let m = bind_ok (next_as (fixed_of wanted) (words_in list ended)) (λ n. reads form (rest_of (words_in list ended))) said e in
@@ -158,7 +158,7 @@ choice_is wanted w n e =
     let k = choice_there wanted w 0 n e in
     ap (slice_get wanted) (omega (arith, k.1)) ∙ k.2
 
-pub slope_step : (limit : ℕ) (form : ℤ → Form) (list : List (List ℕ)) (ended : Bool) (said : Said) → limit ≤ 2 ^ 32
+pub slope_step : (limit : ℕ) (form : ℤ → LineForm) (list : List (List ℕ)) (ended : Bool) (said : Said) → limit ≤ 2 ^ 32
     → reads (slope limit form) (words_in list ended) ≡ Ok said
     → (z : ℤ) × (ws : List (List ℕ)) × (list ≡ signed_word z ∷ ws) × (magnitude z < limit) × (reads (form z) (words_in ws ended) ≡ Ok said)
 slope_step limit form list ended said l e =

@@ -23,7 +23,7 @@ use Rattle.uz_lines.specs.Items.{numbered}
 use Rattle.uz_lines.specs.Items.{cell_set, cell_value, take_cell, successor_set, take_successor, is_flag_z, take_letter, take_keyed}
 use Rattle.uz_lines.specs.Items.{take_cut}
 use Rattle.uz_lines.specs.Items.{take_named, take_second, take_item}
-use Rattle.uz_lines.specs.declared.values.Forms.{Forms}
+use Rattle.uz_lines.specs.declared.values.FactForms.{FactForms}
 use Rattle.uz_lines.specs.declared.values.Raw.{Raw}
 use Rattle.uz_lines.specs.declared.items.Shape.{Shape}
 use Rattle.uz_lines.specs.declared.items.Facts.{Facts}
@@ -95,7 +95,7 @@ pub record TakesSlot (shape : Shape) (facts : Facts) (w : List ℕ) (f : Fact) :
   pub room : length facts.stack.items < shape.depth
   pub order : facts.least ≤ 42
 
-abbrev pub cell_form : Shape → Cell → Forms
+abbrev pub cell_form : Shape → Cell → FactForms
 cell_form shape c = cell_forms shape (Some (0, c))
 
 pub record TakesCell (shape : Shape) (cells : List Cell) (facts : Facts) (w : List ℕ) (i : ℕ) (c : Cell) (f : Fact) : Type 0 where
@@ -249,7 +249,7 @@ pub cell_limit : (shape : Shape) (c : Cell) → c.range.hi ≤ 255 → (cell_for
 cell_limit shape c h = by_plain shape.plain
   where
     by_plain : (t : Bool)
-        → (cond {A = Forms} t (record { low = c.range.lo; limit = c.range.hi + 1; top = 255; sloped = false; old = false })
+        → (cond {A = FactForms} t (record { low = c.range.lo; limit = c.range.hi + 1; top = 255; sloped = false; old = false })
         (record { low = 0; limit = 256; top = 255; sloped = true; old = false })).limit ≤ 256
     by_plain true = omega arith
     by_plain false = lit≤ tt

@@ -5,7 +5,7 @@ use Rattle.uz_schedule.specs.Ends.{Ends}
 use Rattle.uz_lines.specs.Why.{◌>>=◌}
 use Rattle.uz_lines.specs.Grammar.{Words, rest_of, missing, first_as, next_as, fixed_of, number_of, choice_of, slope_of, end_of}
 use Rattle.uz_lines.specs.Items.{read_items}
-use Rattle.uz_lines.specs.Forms.{Form, fixed, number, choice, slope, spans, items, finish, spans_of, reads}
+use Rattle.uz_lines.specs.Forms.{LineForm, fixed, number, choice, slope, spans, items, finish, spans_of, reads}
 use Rattle.uz_lines.specs.FirstFault.{NextIs, NextHasFault, IsMissing, NextFails, Allows, HasFirstFault}
 use Rattle.uz_lines.proofs.ItemLaws.{items_say, say_items, items_fail, fail_items}
 use Rattle.uz_lines.proofs.Steps.{bind_ok, bind_err, refusal}
@@ -55,7 +55,7 @@ end_zero false (w ∷ ws) n e = absurd cc
 
 -- what is read is allowed, and what is allowed is read
 
-pub read_allowed : (form : Form) (words : Words) (said : Said) → reads form words ≡ Ok said → Allows form words said
+pub read_allowed : (form : LineForm) (words : Words) (said : Said) → reads form words ≡ Ok said → Allows form words said
 read_allowed (fixed wanted form) words said e =
     let m = bind_ok (next_as (fixed_of wanted) words) (λ n. reads form (rest_of words)) said e in
     (m.0, next_is (fixed_of wanted) words m.0 m.1, read_allowed form (rest_of words) said m.2)
@@ -85,7 +85,7 @@ read_allowed (finish says) words said e =
     ok_same : (a b : Said) → answer a ≡ answer b → a ≡ b
     ok_same a b e = cc
 
-pub allowed_read : (form : Form) (words : Words) (said : Said) → Allows form words said → reads form words ≡ Ok said
+pub allowed_read : (form : LineForm) (words : Words) (said : Said) → Allows form words said → reads form words ≡ Ok said
 allowed_read (fixed wanted form) words said h =
     ap (λ m. m >>= (λ n. reads form (rest_of words))) (is_next (fixed_of wanted) words h.0 h.1) ∙ allowed_read form (rest_of words) said h.2
 allowed_read (number a form) words said h =
@@ -106,7 +106,7 @@ allowed_read (finish says) words said h =
 
 -- what is refused has this first fault, and what has it is refused
 
-pub refused_faulty : (form : Form) (words : Words) (w : CertWhy) → reads form words ≡ Err w → HasFirstFault form words w
+pub refused_faulty : (form : LineForm) (words : Words) (w : CertWhy) → reads form words ≡ Err w → HasFirstFault form words w
 refused_faulty (fixed wanted form) words w e =
     elim (bind_err (next_as (fixed_of wanted) words) (λ n. reads form (rest_of words)) w e) [
       | inl m ↦ inl (next_fails (fixed_of wanted) words w m)
@@ -146,7 +146,7 @@ refused_faulty (finish says) words w e =
     ok_not_err : (a : Said) (v : CertWhy) → Ok a ≡ Err v → ⊥
     ok_not_err a v e = cc
 
-pub faulty_refused : (form : Form) (words : Words) (w : CertWhy) → HasFirstFault form words w → reads form words ≡ Err w
+pub faulty_refused : (form : LineForm) (words : Words) (w : CertWhy) → HasFirstFault form words w → reads form words ≡ Err w
 faulty_refused (fixed wanted form) words w h =
     elim h [
       | inl f ↦ ap (λ m. m >>= (λ n. reads form (rest_of words))) (fails_next (fixed_of wanted) words w f)
@@ -181,7 +181,7 @@ faulty_refused (finish says) words w h = ap (λ m. m >>= (λ n. Ok says)) h
 
 -- each line is allowed or has a first fault
 
-pub decided : (form : Form) (words : Words) → ((said : Said) × Allows form words said) ⊎ ((w : CertWhy) × HasFirstFault form words w)
+pub decided : (form : LineForm) (words : Words) → ((said : Said) × Allows form words said) ⊎ ((w : CertWhy) × HasFirstFault form words w)
 decided form words = by_answer (reads form words) refl
   where
     by_answer : (r : Result Said CertWhy) → reads form words ≡ r
@@ -189,19 +189,19 @@ decided form words = by_answer (reads form words) refl
     by_answer (Ok said) e = inl (said, read_allowed form words said e)
     by_answer (Err w) e = inr (w, refused_faulty form words w e)
 
-pub one_said : (form : Form) (words : Words) (a b : Said) → Allows form words a → Allows form words b → a ≡ b
+pub one_said : (form : LineForm) (words : Words) (a b : Said) → Allows form words a → Allows form words b → a ≡ b
 one_said form words a b p q = ok_same a b (sym (allowed_read form words a p) ∙ allowed_read form words b q)
   where
     ok_same : (a b : Said) → answer a ≡ answer b → a ≡ b
     ok_same a b e = cc
 
-pub one_fault : (form : Form) (words : Words) (v w : CertWhy) → HasFirstFault form words v → HasFirstFault form words w → v ≡ w
+pub one_fault : (form : LineForm) (words : Words) (v w : CertWhy) → HasFirstFault form words v → HasFirstFault form words w → v ≡ w
 one_fault form words v w p q = err_same v w (sym (faulty_refused form words v p) ∙ faulty_refused form words w q)
   where
     err_same : (a b : CertWhy) → refusal Said a ≡ refusal Said b → a ≡ b
     err_same a b e = cc
 
-pub not_both : (form : Form) (words : Words) (said : Said) (w : CertWhy) → Allows form words said → HasFirstFault form words w → ⊥
+pub not_both : (form : LineForm) (words : Words) (said : Said) (w : CertWhy) → Allows form words said → HasFirstFault form words w → ⊥
 not_both form words said w p q = ok_not_err said w (sym (allowed_read form words said p) ∙ faulty_refused form words w q)
   where
     ok_not_err : (a : Said) (v : CertWhy) → Ok a ≡ Err v → ⊥

@@ -5,7 +5,7 @@ use Rattle.std.specs.Prelude.{◌≡◌, ◌⊎◌, ℕ, ℤ, Bool, true, false,
 use Rattle.uz_schedule.specs.Ends.{Ends}
 use Rattle.uz_lines.specs.Grammar.{Words, rest_of, missing, fixed_of, number_of, choice_of, slope_of, end_of}
 use Rattle.uz_lines.specs.Items.{first_facts, take_item}
-use Rattle.uz_lines.specs.Forms.{Form, fixed, number, choice, slope, spans, items, finish, spans_of}
+use Rattle.uz_lines.specs.Forms.{LineForm, fixed, number, choice, slope, spans, items, finish, spans_of}
 use Rattle.uz_lines.specs.declared.items.Facts.{Facts}
 use Rattle.uz_lines.specs.declared.lines.Said.{Said}
 use Rattle.uz_lines.specs.declared.items.Shape.{Shape}
@@ -49,7 +49,7 @@ ItemsFail shape cells ended facts (w ∷ ws) why =
     ⊎ ((more : Facts) × (take_item shape cells facts w ws ≡ Ok more) × ItemsFail shape cells ended more ws why)
 
 -- all words of a line are as its form asks, and say this
-abbrev pub Allows : Form → Words → Said → Type 0
+abbrev pub Allows : LineForm → Words → Said → Type 0
 Allows (fixed wanted form) words said = (n : ℕ) × NextIs (fixed_of wanted) words n × Allows form (rest_of words) said
 Allows (number a form) words said = (n : ℕ) × NextIs (number_of a) words n × Allows (form n) (rest_of words) said
 Allows (choice wanted form) words said = (n : ℕ) × NextIs (choice_of wanted) words n × Allows (form n) (rest_of words) said
@@ -60,7 +60,7 @@ Allows (items shape cells say) words said =
 Allows (finish says) words said = (end_of words.ended words.list ≡ Ok 0) × (said ≡ says)
 
 -- the words before one are as the form asks, and that one has this fault
-abbrev pub HasFirstFault : Form → Words → CertWhy → Type 0
+abbrev pub HasFirstFault : LineForm → Words → CertWhy → Type 0
 HasFirstFault (fixed wanted form) words why =
     NextFails (fixed_of wanted) words why ⊎ ((n : ℕ) × NextIs (fixed_of wanted) words n × HasFirstFault form (rest_of words) why)
 HasFirstFault (number a form) words why =

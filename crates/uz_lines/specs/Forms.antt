@@ -9,14 +9,14 @@ use Rattle.uz_lines.specs.Values.{raw_of, ends_of}
 use Rattle.uz_lines.specs.Items.{read_items}
 use Rattle.uz_schedule.specs.Tracked.{tracks}
 use Rattle.uz_lines.specs.declared.words.Asked.{Asked}
-use Rattle.uz_lines.specs.declared.values.Forms.{Forms}
+use Rattle.uz_lines.specs.declared.values.FactForms.{FactForms}
 use Rattle.uz_lines.specs.declared.items.Shape.{Shape}
 use Rattle.uz_lines.specs.declared.items.Facts.{Facts}
 use Rattle.uz_lines.specs.declared.lines.Said.{Said}
 use Rattle.uz_lines.specs.declared.why.CertWhy.{CertWhy}
 
 -- the forms of a range within another
-abbrev pub span_forms : Ends → Forms
+abbrev pub span_forms : Ends → FactForms
 span_forms range = record { low = range.lo; limit = range.hi + 1; top = 255; sloped = false; old = false }
 
 unfoldable pub span_of : Ends → List ℕ → Result Ends CertWhy
@@ -34,16 +34,16 @@ spans_of (c ∷ cs) words =
     then next_as (span_of c.range) words >>= (λ e. with_span e (spans_of cs (rest_of words)))
     else spans_of cs words
 
-pub data Form : Type 0 where
-  fixed : List ℕ → Form → Form
-  number : Asked → (ℕ → Form) → Form
-  choice : List (List ℕ) → (ℕ → Form) → Form
-  slope : ℕ → (ℤ → Form) → Form
-  spans : List Cell → (List Ends → Form) → Form
-  items : Shape → List Cell → (Facts → Said) → Form
-  finish : Said → Form
+pub data LineForm : Type 0 where
+  fixed : List ℕ → LineForm → LineForm
+  number : Asked → (ℕ → LineForm) → LineForm
+  choice : List (List ℕ) → (ℕ → LineForm) → LineForm
+  slope : ℕ → (ℤ → LineForm) → LineForm
+  spans : List Cell → (List Ends → LineForm) → LineForm
+  items : Shape → List Cell → (Facts → Said) → LineForm
+  finish : Said → LineForm
 
-abbrev pub reads : Form → Words → Result Said CertWhy
+abbrev pub reads : LineForm → Words → Result Said CertWhy
 reads (fixed wanted form) words = next_as (fixed_of wanted) words >>= (λ n. reads form (rest_of words))
 reads (number a form) words = next_as (number_of a) words >>= (λ n. reads (form n) (rest_of words))
 reads (choice wanted form) words = next_as (choice_of wanted) words >>= (λ n. reads (form n) (rest_of words))

@@ -20,7 +20,7 @@ use Rattle.uz_lines.specs.Grammar.{Words}
 use Rattle.uz_lines.specs.Defaults.{is_default, is_any_pair, is_range, range_fact}
 use Rattle.uz_schedule.specs.Tracked.{tracks}
 use Rattle.uz_schedule.specs.WellFormed.{is_default_flag}
-use Rattle.uz_lines.specs.declared.values.Forms.{Forms}
+use Rattle.uz_lines.specs.declared.values.FactForms.{FactForms}
 use Rattle.uz_lines.specs.declared.values.Raw.{Raw}
 use Rattle.uz_lines.specs.declared.items.Shape.{Shape}
 use Rattle.uz_lines.specs.declared.items.Facts.{Facts}
@@ -76,7 +76,7 @@ is_handler Handler = true
 is_handler Alone = false
 
 -- the forms of a byte's word
-abbrev pub bytes_forms : Shape → Forms
+abbrev pub bytes_forms : Shape → FactForms
 bytes_forms shape = record { low = 0; limit = 256; top = 255; sloped = not shape.plain; old = is_handler shape.kind && not shape.plain }
 
 -- registers
@@ -95,7 +95,7 @@ take_register shape facts key value = register_key shape facts value (number_bel
 
 -- pairs
 
-abbrev pub pair_forms : Forms
+abbrev pub pair_forms : FactForms
 pair_forms = record { low = 0; limit = 65536; top = 65535; sloped = true; old = false }
 
 abbrev pub pair_set : Facts → ℕ → PairFact → Result Facts CertWhy
@@ -150,7 +150,7 @@ cell_at cells None = None
 cell_at cells (Some i) = with_number i (slice_get cells i)
 
 -- in an entry a cell's range is within the one of the header
-abbrev pub cell_forms : Shape → Option (ℕ × Cell) → Forms
+abbrev pub cell_forms : Shape → Option (ℕ × Cell) → FactForms
 cell_forms shape None = bytes_forms shape
 cell_forms shape (Some p) =
     if shape.plain then record { low = p.1.range.lo; limit = p.1.range.hi + 1; top = 255; sloped = false; old = false }

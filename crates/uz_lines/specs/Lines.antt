@@ -17,7 +17,7 @@ use Rattle.uz_schedule.specs.declared.states.Entry.{Entry}
 use Rattle.uz_schedule.specs.declared.states.Point.{Point}
 use Rattle.uz_schedule.specs.Tracked.{depth_of}
 use Rattle.uz_lines.specs.Values.{ends}
-use Rattle.uz_lines.specs.Forms.{Form, fixed, number, choice, slope, spans, items, finish}
+use Rattle.uz_lines.specs.Forms.{LineForm, fixed, number, choice, slope, spans, items, finish}
 use Rattle.uz_lines.specs.declared.words.Asked.{Asked}
 use Rattle.uz_lines.specs.declared.items.Shape.{Shape}
 use Rattle.uz_lines.specs.declared.items.Facts.{Facts}
@@ -41,7 +41,7 @@ abbrev pub least_of : ℕ → ℕ → ℕ
 least_of a b = if nat_lt a b then a else b
 
 -- size KINDS LINES RESTS POINTS CELLS
-abbrev pub size_form : Form
+abbrev pub size_form : LineForm
 size_form =
     fixed (codes "size") (number (within 1 526) (λ kinds. number (within 1 526) (λ lines. number (within 0 (lines + 1)) (λ rests.
     number (within 1 524289) (λ points. number (within 0 17) (λ cells.
@@ -51,11 +51,11 @@ abbrev pub response_of : ℕ → Response
 response_of n = if n == 4 then Four else Five
 
 -- irq R
-abbrev pub irq_form : Form
+abbrev pub irq_form : LineForm
 irq_form = fixed (codes "irq") (number (within 4 6) (λ r. finish (said.Irq (response_of r))))
 
 -- stack LO HI MAIN HANDLER: the stack has room for what main and handler push and a return address
-abbrev pub stack_form : Form
+abbrev pub stack_form : LineForm
 stack_form =
     fixed (codes "stack") (number (within 256 4351) (λ lo. number (within (lo + 1) 4352) (λ hi.
     number (within 0 (least_of 33 (hi - lo))) (λ main. number (within 0 (least_of 33 (hi - lo - main))) (λ handler.
@@ -69,41 +69,41 @@ abbrev pub off_stack : ℕ → ℕ → ℕ → Asked
 off_stack lo hi least = record (within 256 4352) { hole = lo; hole_end = hi + 1; least = least }
 
 -- cell ADDRESS OWNER LO HI
-abbrev pub cell_form : ℕ → ℕ → ℕ → Form
+abbrev pub cell_form : ℕ → ℕ → ℕ → LineForm
 cell_form lo hi least =
     fixed (codes "cell") (number (off_stack lo hi least) (λ at. choice (codes "main" ∷ codes "handler" ∷ []) (λ owner.
     number (within 0 256) (λ low. number (within low 256) (λ high.
     finish (said.Cell (record { at = at; owner = owner_of owner; range = ends low high })))))))
 
 -- kind EVENTS
-abbrev pub kind_form : Form
+abbrev pub kind_form : LineForm
 kind_form = fixed (codes "kind") (number (within 1 1821) (λ events. finish (said.Kind events)))
 
 -- CLOCK sync V | pixel | sound | leave
-abbrev pub event_after : ℕ → ℕ → Form
+abbrev pub event_after : ℕ → ℕ → LineForm
 event_after clock n =
     if n == 0 then number (within 0 2) (λ level. finish (said.Event (record { clock = clock; kind = Sync level })))
     else (if n == 1 then finish (said.Event (record { clock = clock; kind = Pixel }))
     else (if n == 2 then finish (said.Event (record { clock = clock; kind = Sound }))
     else finish (said.Event (record { clock = clock; kind = Leave }))))
 
-abbrev pub event_form : ℕ → Form
+abbrev pub event_form : ℕ → LineForm
 event_form least =
     number (rising least (within 0 1820)) (λ clock.
     choice (codes "sync" ∷ codes "pixel" ∷ codes "sound" ∷ codes "leave" ∷ []) (λ n. event_after clock n))
 
 -- fall CLOCK
-abbrev pub fall_form : Form
+abbrev pub fall_form : LineForm
 fall_form = fixed (codes "fall") (number (within 1 1820) (λ clock. finish (said.Fall clock)))
 
 -- run COUNT KIND, of at most so many lines, and not the kind of the run before
-abbrev pub run_form : ℕ → ℕ → ℕ → Form
+abbrev pub run_form : ℕ → ℕ → ℕ → LineForm
 run_form kinds left before =
     fixed (codes "run") (number (within 1 (left + 1)) (λ count. number (record (one_of kinds) { other = before }) (λ kind.
     finish (said.Run (record { count = count; kind = kind })))))
 
 -- rest LINE CLOCK VECTOR SPANS
-abbrev pub rest_form : ℕ → ℕ → List Cell → ℕ → Form
+abbrev pub rest_form : ℕ → ℕ → List Cell → ℕ → LineForm
 rest_form lines points cells least =
     fixed (codes "rest") (number (rising least (within 0 lines)) (λ line. number (within 0 1820) (λ clock. number (one_of points) (λ vector.
     spans cells (λ es. finish (said.Rest (record { line = line; clock = clock; vector = vector; cells = record { items = es } })))))))
@@ -146,7 +146,7 @@ abbrev pub entry_kind : ℕ → Kind
 entry_kind n = if n == 0 then Main else Alone
 
 -- entry KIND ID PC LINE CLOCK ITEMS
-abbrev pub entry_form : Head → ℕ → ℕ → Form
+abbrev pub entry_form : Head → ℕ → ℕ → LineForm
 entry_form h lines points =
     fixed (codes "entry") (choice (codes "main" ∷ codes "alone" ∷ []) (λ n. number (one_of points) (λ id. number (within 0 32768) (λ pc.
     number (within 0 (none_in_main (entry_kind n) lines)) (λ line. number (within 0 (none_in_main (entry_kind n) 1820)) (λ clock.
@@ -185,7 +185,7 @@ point_of kind pc l0 l1 c0 c1 clock steps pending f = record {
 }
 
 -- point KIND PC L0 L1 C0 C1 CLOCK SLOPE PENDING ITEMS
-unfoldable pub point_after : Head → ℕ → ℕ → ℕ → Kind → Form
+unfoldable pub point_after : Head → ℕ → ℕ → ℕ → Kind → LineForm
 point_after h lines points left kind =
     number (within 0 32768) (λ pc. number (within 0 (none_in_main kind lines)) (λ l0. number (within l0 (none_in_main kind lines)) (λ l1.
     number (within 0 (none_in_main kind 256)) (λ c0. number (within c0 (count_limit kind left l0 l1 c0)) (λ c1.
@@ -193,11 +193,11 @@ point_after h lines points left kind =
     number (within 0 (pending_limit kind)) (λ pending.
     items (shape_of h kind false points) h.cells.items (λ f. said.Point (point_of kind pc l0 l1 c0 c1 clock s pending f))))))))))
 
-abbrev pub point_form : Head → ℕ → ℕ → ℕ → Form
+abbrev pub point_form : Head → ℕ → ℕ → ℕ → LineForm
 point_form h lines points left =
     fixed (codes "point") (choice (codes "main" ∷ codes "handler" ∷ codes "alone" ∷ []) (λ n.
     point_after h lines points left (point_kind n)))
 
 -- end
-abbrev pub end_form : Form
+abbrev pub end_form : LineForm
 end_form = fixed (codes "end") (finish said.End)

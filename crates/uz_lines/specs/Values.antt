@@ -13,7 +13,7 @@ use Rattle.uz_schedule.specs.declared.facts.PairFact.TheVariants.{Loop as LoopPa
 use Rattle.uz_schedule.specs.declared.facts.Bit.{Bit}
 use Rattle.uz_schedule.specs.declared.facts.Bit.TheVariants.{Zero, One, Free, Old as OldBit}
 use Rattle.uz_lines.specs.Why.{◌>>=◌}
-use Rattle.uz_lines.specs.declared.values.Forms.{Forms}
+use Rattle.uz_lines.specs.declared.values.FactForms.{FactForms}
 use Rattle.uz_lines.specs.declared.values.Raw.{Raw}
 use Rattle.uz_lines.specs.declared.values.Raw.TheVariants as raw
 use Rattle.uz_lines.specs.declared.why.CertWhy.{CertWhy}
@@ -44,7 +44,7 @@ two_numbers low_a low_b limit a b =
     else Err why.Word
 
 -- `*`, of which this follows the `*`
-abbrev pub whole : Forms → List ℕ → Result Raw CertWhy
+abbrev pub whole : FactForms → List ℕ → Result Raw CertWhy
 whole f [] = if (f.low == 0) && nat_lt f.top f.limit then Ok raw.All else Err why.Limit
 whole f (c ∷ cs) = Err why.Word
 
@@ -53,34 +53,34 @@ abbrev pub slope : Bool → ℕ × ℕ → Raw
 slope true n = raw.Line n.0 n.1
 slope false n = raw.Loop n.0 n.1
 
-abbrev pub sloped_parts : Bool → Forms → Option (List ℕ × List ℕ) → Result Raw CertWhy
+abbrev pub sloped_parts : Bool → FactForms → Option (List ℕ × List ℕ) → Result Raw CertWhy
 sloped_parts is_line f None = Err why.Word
 sloped_parts is_line f (Some p) = two_numbers 1 0 f.limit p.0 p.1 >>= (λ n. Ok (slope is_line n))
 
-unfoldable pub sloped_cut : Bool → Forms → List ℕ → Result Raw CertWhy
+unfoldable pub sloped_cut : Bool → FactForms → List ℕ → Result Raw CertWhy
 sloped_cut is_line f w = sloped_parts is_line f (cut_at (code "+") w)
 
-abbrev pub sloped : Bool → Forms → List ℕ → Result Raw CertWhy
+abbrev pub sloped : Bool → FactForms → List ℕ → Result Raw CertWhy
 sloped is_line f [] = Err why.Word
 sloped is_line f (c ∷ cs) = if (c == code "*") && f.sloped then sloped_cut is_line f cs else Err why.Word
 
 -- `oR` and `of`, of which this follows the `o`
-abbrev pub old : Forms → List ℕ → Result Raw CertWhy
+abbrev pub old : FactForms → List ℕ → Result Raw CertWhy
 old f w = if f.old then (if bytes_eq w (codes "f") then Ok raw.OldFlags else one_number 0 32 w >>= (λ r. Ok (raw.Old r))) else Err why.Word
 
 -- `n` and `lo..hi`
-abbrev pub range_parts : Forms → List ℕ → List ℕ → Result Raw CertWhy
+abbrev pub range_parts : FactForms → List ℕ → List ℕ → Result Raw CertWhy
 range_parts f lo [] = Err why.Word
 range_parts f lo (c ∷ hi) = if c == code "." then two_numbers f.low f.low f.limit lo hi >>= (λ n. Ok (raw.Two n.0 n.1)) else Err why.Word
 
-abbrev pub range_cut : Forms → List ℕ → Option (List ℕ × List ℕ) → Result Raw CertWhy
+abbrev pub range_cut : FactForms → List ℕ → Option (List ℕ × List ℕ) → Result Raw CertWhy
 range_cut f w None = one_number f.low f.limit w >>= (λ n. Ok (raw.One n))
 range_cut f w (Some p) = range_parts f p.0 p.1
 
-unfoldable pub range : Forms → List ℕ → Result Raw CertWhy
+unfoldable pub range : FactForms → List ℕ → Result Raw CertWhy
 range f w = range_cut f w (cut_at (code ".") w)
 
-unfoldable pub raw_of : Forms → List ℕ → Result Raw CertWhy
+unfoldable pub raw_of : FactForms → List ℕ → Result Raw CertWhy
 raw_of f [] = Err why.Word
 raw_of f (c ∷ cs) =
     if c == code "*" then whole f cs

@@ -19,7 +19,7 @@ ghost use Rattle.uz_lines.specs.Items.{take_successor as successor_taken, names_
 ghost use Rattle.uz_lines.specs.Items.{take_letter as letter_taken, take_keyed as keyed_taken, take_named as named_taken};
 ghost use Rattle.uz_lines.specs.Items.{take_second as second_taken, take_item as item_taken, read_items as items_read};
 
-use crate::values::{Forms, Raw, bit_of, digits, fact_of, pair_of, raw_of};
+use crate::values::{FactForms, Raw, bit_of, digits, fact_of, pair_of, raw_of};
 use crate::why::CertWhy;
 use crate::words::Words;
 use arrayvec::ArrayVec;
@@ -198,11 +198,11 @@ fn is_handler(kind: Kind) -> bool
 }
 
 /// The forms of a byte's word.
-fn bytes_forms(shape: Shape) -> Forms
+fn bytes_forms(shape: Shape) -> FactForms
     ensures forms { result ≡ bytes_forms_of shape }
     ensures limit { result.limit ≡ 256 }
 {
-    Forms {
+    FactForms {
         low: 0,
         limit: 256,
         top: 255,
@@ -361,10 +361,10 @@ fn pair_set(facts: &mut Facts, k: u32, fact: PairFact) -> Result<(), CertWhy>
 }
 
 /// The forms of a pair's word.
-fn pair_forms() -> Forms
+fn pair_forms() -> FactForms
     ensures { result ≡ forms_of_pairs }
 {
-    Forms {
+    FactForms {
         low: 0,
         limit: 65536,
         top: 65535,
@@ -466,14 +466,14 @@ fn cell_at(cells: &[Cell], number: Option<u32>) -> Option<(u32, Cell)>
 }
 
 /// The forms of a cell's word: in an entry its range is within the one of the header.
-fn cell_forms(shape: Shape, cell: Option<(u32, Cell)>) -> Forms
+fn cell_forms(shape: Shape, cell: Option<(u32, Cell)>) -> FactForms
     ensures forms { result ≡ forms_of_cell shape cell }
     ensures limit { result.limit ≤ 256 }
 {
     match cell {
         Some((_, cell)) => {
             if shape.plain {
-                Forms {
+                FactForms {
                     low: u32::from(cell.range.lo()),
                     limit: u32::from(cell.range.hi()) + 1,
                     top: 255,
@@ -481,7 +481,7 @@ fn cell_forms(shape: Shape, cell: Option<(u32, Cell)>) -> Forms
                     old: false,
                 }
             } else {
-                Forms {
+                FactForms {
                     low: 0,
                     limit: 256,
                     top: 255,

@@ -13,7 +13,7 @@ use uz_schedule::{Bit, Fact, PairFact, Span, Wide};
 
 /// The forms that a fact's word may have.
 #[derive(Clone, Copy, Debug)]
-pub struct Forms {
+pub struct FactForms {
     /// The least number.
     pub low: u32,
     /// The least number that is too great, at most 65,536.
@@ -113,7 +113,7 @@ fn two_numbers(
 }
 
 /// `*`, of which this follows the `*`.
-fn whole(forms: Forms, rest: &[u8]) -> Result<Raw, CertWhy>
+fn whole(forms: FactForms, rest: &[u8]) -> Result<Raw, CertWhy>
     ensures raw { result ≡ whole_of forms rest.now }
     ensures below { IfOk result (λ r. RawBelow forms.limit r) }
 {
@@ -129,7 +129,7 @@ fn whole(forms: Forms, rest: &[u8]) -> Result<Raw, CertWhy>
 
 /// `A+B`.
 #[tactic(auto, unfolding(crate::specs::Values::sloped_cut))]
-fn sloped_cut(is_line: bool, forms: Forms, word: &[u8]) -> Result<Raw, CertWhy>
+fn sloped_cut(is_line: bool, forms: FactForms, word: &[u8]) -> Result<Raw, CertWhy>
     ensures raw { result ≡ sloped_of_cut is_line forms word.now }
     ensures below { IfOk result (λ r. RawBelow forms.limit r) }
 {
@@ -147,7 +147,7 @@ fn sloped_cut(is_line: bool, forms: Forms, word: &[u8]) -> Result<Raw, CertWhy>
 }
 
 /// `l*A+B` and `c*A+B`, of which this follows the letter.
-fn sloped(is_line: bool, forms: Forms, rest: &[u8]) -> Result<Raw, CertWhy>
+fn sloped(is_line: bool, forms: FactForms, rest: &[u8]) -> Result<Raw, CertWhy>
     ensures raw { result ≡ sloped_of is_line forms rest.now }
     ensures below { IfOk result (λ r. RawBelow forms.limit r) }
 {
@@ -164,7 +164,7 @@ fn sloped(is_line: bool, forms: Forms, rest: &[u8]) -> Result<Raw, CertWhy>
 }
 
 /// `oR` and `of`, of which this follows the `o`.
-fn old(forms: Forms, rest: &[u8]) -> Result<Raw, CertWhy>
+fn old(forms: FactForms, rest: &[u8]) -> Result<Raw, CertWhy>
     ensures raw { result ≡ old_of forms rest.now }
     ensures below { IfOk result (λ r. RawBelow forms.limit r) }
 {
@@ -179,7 +179,7 @@ fn old(forms: Forms, rest: &[u8]) -> Result<Raw, CertWhy>
 }
 
 /// `lo..hi`, of which this follows the first point.
-fn range_parts(forms: Forms, lo: &[u8], rest: &[u8]) -> Result<Raw, CertWhy>
+fn range_parts(forms: FactForms, lo: &[u8], rest: &[u8]) -> Result<Raw, CertWhy>
     ensures raw { result ≡ range_of_parts forms lo.now rest.now }
     ensures below { IfOk result (λ r. RawBelow forms.limit r) }
 {
@@ -198,7 +198,7 @@ fn range_parts(forms: Forms, lo: &[u8], rest: &[u8]) -> Result<Raw, CertWhy>
 
 /// `n` and `lo..hi`.
 #[tactic(auto, unfolding(crate::specs::Values::range))]
-fn range(forms: Forms, word: &[u8]) -> Result<Raw, CertWhy>
+fn range(forms: FactForms, word: &[u8]) -> Result<Raw, CertWhy>
     ensures raw { result ≡ range_of forms word.now }
     ensures below { IfOk result (λ r. RawBelow forms.limit r) }
 {
@@ -213,7 +213,7 @@ fn range(forms: Forms, word: &[u8]) -> Result<Raw, CertWhy>
 
 /// A fact's word.
 #[tactic(auto, unfolding(crate::specs::Values::raw_of))]
-pub(crate) fn raw_of(forms: Forms, word: &[u8]) -> Result<Raw, CertWhy>
+pub(crate) fn raw_of(forms: FactForms, word: &[u8]) -> Result<Raw, CertWhy>
     ensures raw { result ≡ raw_of_word forms word.now }
     ensures below { IfOk result (λ r. RawBelow forms.limit r) }
 {

@@ -8,7 +8,7 @@ ghost use Rattle.uz_text.specs.Numbers.{is_numeral, number_below};
 ghost use Rattle.uz_lines.specs.Items.{any_names as any_names_of};
 
 use crate::items::names_c_or_z;
-use crate::values::{self, Forms, raw_of};
+use crate::values::{self, FactForms, raw_of};
 use crate::why::CertWhy;
 use std::marker::Model;
 use uz_schedule::Span;
@@ -326,11 +326,11 @@ fn slope_of_word(word: &[u8], limit: u32) -> Result<i16, CertWhy>
 }
 
 /// A range within another.
-#[tactic(auto, unfolding(crate::specs::Forms::span_of))]
+#[tactic(auto, unfolding(crate::specs::FactForms::span_of))]
 fn span_of_word(word: &[u8], range: Span) -> Result<Span, CertWhy>
     ensures { result ≡ span_of range word.now }
 {
-    let forms = Forms {
+    let forms = FactForms {
         low: u32::from(range.lo()),
         limit: u32::from(range.hi()) + 1,
         top: 255,

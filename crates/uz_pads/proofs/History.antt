@@ -12,7 +12,7 @@ use Rattle.uz_pads.specs.declared.pads.Pad.{Pad}
 use Rattle.uz_pads.specs.declared.pads.Pads.{Pads}
 use Rattle.uz_pads.specs.declared.pads.PadState.{PadState}
 use Rattle.uz_pads.specs.Pads.{StandsFor, StateStandsFor, pairs_of, list_of, with_pad_state, latched_pad, no_pad, pads_loaded, pads_after}
-use Rattle.uz_pads.specs.Pads.{pads_lines, lines_of}
+use Rattle.uz_pads.specs.Pads.{pads_lines, data_lines_of}
 
 -- A latch by its parts
 
@@ -151,10 +151,10 @@ stands_after p history value h = after_levels p history.pairs history.levels val
 -- The lines
 
 in_time : (c : Bool) (pad : Pad) (m k : ℕ) → nat_lt k 12 ≡ c → nat_lt m 12 ≡ c → (c ≡ true → k ≡ m) →
-    lines_of (Some pad) k ≡ bit_value (not (nat_lt m 12 && bit_is_set pad.one m)) + bit_value (not (nat_lt m 12 && bit_is_set pad.two m))
+    data_lines_of (Some pad) k ≡ bit_value (not (nat_lt m 12 && bit_is_set pad.one m)) + bit_value (not (nat_lt m 12 && bit_is_set pad.two m))
     * 2
 in_time true pad m k e f g =
-    ap (λ x. lines_of (Some pad) x) (g refl) ∙
+    ap (λ x. data_lines_of (Some pad) x) (g refl) ∙
     (ap (λ b. if b then bit_value (not (bit_is_set pad.one m)) + bit_value (not (bit_is_set pad.two m)) * 2 else 3) f ∙
     ap (λ b. bit_value (not (b && bit_is_set pad.one m)) + bit_value (not (b && bit_is_set pad.two m)) * 2) (sym f))
 in_time false pad m k e f g =
@@ -168,7 +168,7 @@ same_min : (m : ℕ) → nat_lt m 12 ≡ true → min m 12 ≡ m
 same_min m h = grind (arith, nat_tests)
 
 by_tests : (a b : Bool) (pad : Pad) (m : ℕ) →
-    lines_of (if a then (if b then Some pad else None) else None) (min m 12) ≡
+    data_lines_of (if a then (if b then Some pad else None) else None) (min m 12) ≡
     bit_value (not (a && b && nat_lt m 12 && bit_is_set pad.one m)) + bit_value (not (a && b && nat_lt m 12 && bit_is_set pad.two m)) * 2
 by_tests true true pad m = in_time (nat_lt m 12) pad m (min m 12) (below_min m) refl (same_min m)
 by_tests true false pad m = refl
@@ -189,7 +189,7 @@ one_count list = length-map (pairs_of list) (λ (pair : ℕ × ℕ). pair.0) ∙
 two_count : (list : List Pad) → length (map (λ pair. pair.1) (pairs_of list)) ≡ length list
 two_count list = length-map (pairs_of list) (λ (pair : ℕ × ℕ). pair.1) ∙ length-map list (λ (pad : Pad). (pad.one, pad.two))
 
-line_of_list : (list : List Pad) (n m : ℕ) → lines_of (latched_pad n list) (min m 12) ≡
+line_of_list : (list : List Pad) (n m : ℕ) → data_lines_of (latched_pad n list) (min m 12) ≡
     (let words = map (λ pair. pair.0) (pairs_of list) in
     bit_value (not (nat_le 1 n && nat_le n (length words) && nat_lt m 12 && bit_is_set (slice_index words (n - 1)) m))) +
     (let words = map (λ pair. pair.1) (pairs_of list) in
@@ -207,8 +207,8 @@ line_of_list list n m =
 
 pub lines_stand : (p : Pads) (history : PadHistory) → StandsFor p history → pads_lines p ≡ pad_lines history
 lines_stand p history h =
-    ap (λ current. lines_of current p.moves) h.current ∙
-    (ap (λ k. lines_of (latched_pad (latches history.levels) p.list.items) k) h.moves ∙
+    ap (λ current. data_lines_of current p.moves) h.current ∙
+    (ap (λ k. data_lines_of (latched_pad (latches history.levels) p.list.items) k) h.moves ∙
     (line_of_list p.list.items (latches history.levels) (moves history.levels) ∙
     ap (λ pairs. pad_lines (record { pairs = pairs; levels = history.levels })) (sym h.pairs)))
 

@@ -75,12 +75,12 @@ pads_after value p =
 abbrev pub shown_bit : ℕ → ℕ → ℕ
 shown_bit word at = bit_value (not (bit_is_set word at))
 
-abbrev pub lines_of : Option Pad → ℕ → ℕ
-lines_of None at = 3
-lines_of (Some pad) at = if nat_lt at 12 then shown_bit pad.one at + shown_bit pad.two at * 2 else 3
+abbrev pub data_lines_of : Option Pad → ℕ → ℕ
+data_lines_of None at = 3
+data_lines_of (Some pad) at = if nat_lt at 12 then shown_bit pad.one at + shown_bit pad.two at * 2 else 3
 
 abbrev pub pads_lines : Pads → ℕ
-pads_lines p = lines_of p.current p.moves
+pads_lines p = data_lines_of p.current p.moves
 
 -- how these pads hang on PORTA
 abbrev pub pads_wiring : PadWiring Pads

@@ -119,11 +119,11 @@ box_true a b c d e f g h = λ i. (e i && f i) && (g i && h i)
 -- Where points stand
 
 -- at a line and a count of its box, where there is this level at this clock
-pub placed : (cert : Cert) (id l c clock level : ℕ) (p : Point) → slice_get cert.points id ≡ Some p → is_in_box p l c ≡ true
+pub instance_placed : (cert : Cert) (id l c clock level : ℕ) (p : Point) → slice_get cert.points id ≡ Some p → is_in_box p l c ≡ true
     → pos p.clock +ℤ p.slope *ℤ pos c ≡ pos clock → clock < 1820
     → level_at cert.schedule (start_of cert.schedule l + clock) ≡ Some level → instance_at cert id l c ≡ Some
     (instance_of p l c clock level)
-placed cert id l c clock level p at inside is less there =
+instance_placed cert id l c clock level p at inside is less there =
     ap (λ o. option_and_then (λ q. instance_in cert.schedule q l c) o) at
     ∙ (ap (λ b. if b then option_and_then (instance_at_clock cert.schedule p l c)
     (clock_below (length_of cert.schedule l) (pos p.clock +ℤ p.slope *ℤ pos c)) else None) inside
@@ -155,7 +155,7 @@ pub own_instance : (cert : Cert) (id : ℕ) (x : Instance) (next : List ℕ) →
     → length x.pairs ≡ 3 → x.clock < 1820
     → level_at cert.schedule (start_of cert.schedule x.line + x.clock) ≡ Some x.level → instance_at cert id x.line 0 ≡ Some x
 own_instance cert id x next at three less level =
-    placed cert id x.line 0 x.clock x.level (point_of x next) at
+    instance_placed cert id x.line 0 x.clock x.level (point_of x next) at
     (box_true (nat_le x.line x.line) (nat_le x.line x.line) (nat_le 0 0) (nat_le 0 0) (le_true x.line x.line (omega arith))
     (le_true x.line x.line (omega arith)) refl refl)
     clock less level
@@ -190,7 +190,7 @@ pub vector_instance : (cert : Cert) (id : ℕ) (cells : List Ends) (line respons
     → level_at cert.schedule (start_of cert.schedule line + (c + response)) ≡ Some level → instance_at cert id line c ≡ Some
     (handler_entry cells line (c + response) level)
 vector_instance cert id cells line response c level next at few less there =
-    placed cert id line c (c + response) level (vector_point cells line response next) at
+    instance_placed cert id line c (c + response) level (vector_point cells line response next) at
     (box_true (nat_le line line) (nat_le line line) (nat_le 0 c) (nat_le c 3) (le_true line line (omega arith))
     (le_true line line (omega arith)) (le_true 0 c (omega arith)) (le_true c 3 few))
     clock less there

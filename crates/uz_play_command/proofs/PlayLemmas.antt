@@ -17,7 +17,7 @@ use Rattle.uz_play_command.specs.declared.play_command.Start.{Start}
 use Rattle.uz_play_command.specs.declared.play_command.Start.TheVariants.{Ready, Refused as RefusedPair}
 use Rattle.uz_files.specs.declared.status.Status.{Status}
 use Rattle.uz_files.specs.declared.status.Status.TheVariants.{Unread, BadInput, Refused, Done, Stopped, NotEntered}
-use Rattle.uz_files.specs.Answers.{Answer, ComesOf, Outcome, Outside, outside}
+use Rattle.uz_files.specs.Answers.{Answer, ComesOf, MayCome, Outside, outside}
 use Rattle.uz_files.specs.Endings.{ComesOfFailure, EndsBy, answer_of}
 use Rattle.uz_files.specs.Reading.{Fails, Says, certificate_limit, text_limit}
 use Rattle.uz_play_command.specs.PlayCommand.{IsFramedPart, IsFramedRun, IsPlay, PlayAnswers, PlayLacks, PlayParts, SpellsPlay}
@@ -118,7 +118,7 @@ pub play_failed : (files after : Option FileMap) (load_fault narrow wide : Type 
     (failure : Failure) (came : Status) (old new : Option (List ℕ)) → after ≡ files → (narrow → wide)
     → EndsBy (PlayPreface files load_fault hex cert pads) failure
     → ((f : Option FileMap) → ComesOfFailure failure narrow came (outside f old) (outside f new)) →
-    Outcome (PlayAnswers files load_fault hex cert pads clocks frames) (PlayParts files hex cert pads clocks frames) wide came
+    MayCome (PlayAnswers files load_fault hex cert pads clocks frames) (PlayParts files hex cert pads clocks frames) wide came
     (outside files old) (outside after new)
 play_failed files after load_fault narrow wide hex cert pads clocks frames failure came old new same widen given comes =
     run_outcome (PlayAnswers files load_fault hex cert pads clocks frames) (PlayParts files hex cert pads clocks frames) (Err failure) came
@@ -137,10 +137,10 @@ answers_with files load_fault hex cert pads clocks frames image certificate list
 pub play_refused : (files after : Option FileMap) (load_fault narrow wide : Type 0) (hex cert pads : List ℕ) (clocks : ℕ) (frames : List ℕ)
     (ending : Ending) (came : Status) (old new : Option (List ℕ)) → after ≡ files → (narrow → wide) → IsRefusedPlay files hex cert pads
     (answer_of ending) → ((f : Option FileMap) → ComesOf (answer_of ending) narrow came (outside f old) (outside f new)) →
-    Outcome (PlayAnswers files load_fault hex cert pads clocks frames) (PlayParts files hex cert pads clocks frames) wide came
+    MayCome (PlayAnswers files load_fault hex cert pads clocks frames) (PlayParts files hex cert pads clocks frames) wide came
     (outside files old) (outside after new)
 play_refused files after load_fault narrow wide hex cert pads clocks frames ending came old new same widen refused comes =
-    subst (λ f. Outcome (PlayAnswers files load_fault hex cert pads clocks frames) (PlayParts files hex cert pads clocks frames) wide came
+    subst (λ f. MayCome (PlayAnswers files load_fault hex cert pads clocks frames) (PlayParts files hex cert pads clocks frames) wide came
     (outside files old) (outside f new)) (sym same)
     (inr (inl (
       answer_of ending,
@@ -150,8 +150,8 @@ play_refused files after load_fault narrow wide hex cert pads clocks frames endi
     )))
 
 lifted : (Whole Part P Q : Answer → Type 0) (narrow wide : Type 0) (came : Status) (old new : Outside)
-    → ((answer : Answer) → Whole answer → P answer) → ((answer : Answer) → Part answer → Q answer) → (narrow → wide) → Outcome Whole Part
-    narrow came old new → Outcome P Q wide came old new
+    → ((answer : Answer) → Whole answer → P answer) → ((answer : Answer) → Part answer → Q answer) → (narrow → wide) → MayCome Whole Part
+    narrow came old new → MayCome P Q wide came old new
 lifted Whole Part P Q narrow wide came old new whole part widen (inl starts) = inl starts
 lifted Whole Part P Q narrow wide came old new whole part widen (inr (inl (answer, given, comes))) =
     inr (inl (answer, whole answer given, comes_by answer came narrow wide old new widen comes))
@@ -163,13 +163,13 @@ lifted Whole Part P Q narrow wide came old new whole part widen (inr (inr (answe
 pub play_runs : (files mid after : Option FileMap) (load_fault narrow wide : Type 0) (hex cert pads : List ℕ) (clocks : ℕ) (frames : List ℕ)
     (console : Console) (certificate : Cert) (came : Status) (old new : Option (List ℕ)) → mid ≡ files → (narrow → wide)
     → (ready : IsReady files hex cert pads console certificate) →
-    Outcome (IsFramedRun frames certificate clocks (start_of ready.image ready.list certificate.head.irq))
+    MayCome (IsFramedRun frames certificate clocks (start_of ready.image ready.list certificate.head.irq))
     (IsFramedPart frames clocks (start_of ready.image ready.list certificate.head.irq)) narrow came (outside mid old)
     (outside after new) →
-    Outcome (PlayAnswers files load_fault hex cert pads clocks frames) (PlayParts files hex cert pads clocks frames) wide came
+    MayCome (PlayAnswers files load_fault hex cert pads clocks frames) (PlayParts files hex cert pads clocks frames) wide came
     (outside files old) (outside after new)
 play_runs files mid after load_fault narrow wide hex cert pads clocks frames console certificate came old new same widen ready outcome =
-    subst (λ f. Outcome (PlayAnswers files load_fault hex cert pads clocks frames) (PlayParts files hex cert pads clocks frames) wide came
+    subst (λ f. MayCome (PlayAnswers files load_fault hex cert pads clocks frames) (PlayParts files hex cert pads clocks frames) wide came
     (outside f old) (outside after new)) same
     (lifted (IsFramedRun frames certificate clocks (start_of ready.image ready.list certificate.head.irq))
     (IsFramedPart frames clocks (start_of ready.image ready.list certificate.head.irq))

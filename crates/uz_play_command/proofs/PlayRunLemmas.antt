@@ -18,7 +18,7 @@ use Rattle.uz_capture.specs.Captures.{IsCapturePart, IsCaptured, IsPlayedInto}
 use Rattle.uz_files.specs.declared.ending.Ending.{Ending}
 use Rattle.uz_files.specs.declared.status.Status.{Status}
 use Rattle.uz_files.specs.declared.status.Status.TheVariants.{Done, Stopped, Unwritten, NoMemory}
-use Rattle.uz_files.specs.Answers.{ComesOf, IsCut, Outcome, WritesPart, one_line, outside}
+use Rattle.uz_files.specs.Answers.{ComesOf, IsCut, MayCome, WritesPart, one_line, outside}
 use Rattle.uz_files.specs.Endings.{answer_of}
 use Rattle.uz_files.specs.Lines.{no_memory_line}
 use Rattle.uz_play_command.specs.PlayCommand.{IsFramedPart, IsFramedRun, entered_line, framed, frames_file, numbers_line, numbers_of}
@@ -123,7 +123,7 @@ module _ (cert : Cert) (limit : ℕ) (start : State PadHistory) (old new : Optio
       ((frames : List ℕ) (edges : List Edge) (files after : Option FileMap) → WritesFile files frames (records (newest_first edges)) after →
       ComesOf (framed frames edges (end_status captured.end captured.counts) (end_text captured.end captured.counts)) narrow came
       (outside files was) (outside after now)) →
-      Outcome (IsFramedRun name cert limit start) (IsFramedPart name limit start) wide came (outside old was) (outside new now)
+      MayCome (IsFramedRun name cert limit start) (IsFramedPart name limit start) wide came (outside old was) (outside new now)
   run_captured captured narrow widen played comes =
       let told = captured_answers cert limit start captured.end captured.counts old new name played in
       let answer = framed name told.0 (end_status captured.end captured.counts) (end_text captured.end captured.counts) in
@@ -162,7 +162,7 @@ module _ (cert : Cert) (limit : ℕ) (start : State PadHistory) (old new : Optio
   )
 
   pub run_unwritten : IsCapturePart limit start old name new → wide → came ≡ Unwritten → now ≡ was
-      → Outcome (IsFramedRun name cert limit start) (IsFramedPart name limit start) wide came (outside old was) (outside new now)
+      → MayCome (IsFramedRun name cert limit start) (IsFramedPart name limit start) wide came (outside old was) (outside new now)
   run_unwritten cut fault is same =
       let part = part_written cut in
       inr (inr (
@@ -172,7 +172,7 @@ module _ (cert : Cert) (limit : ℕ) (start : State PadHistory) (old new : Optio
       ))
 
   pub run_lacks : IsCapturePart limit start old name new → came ≡ NoMemory → TakesPrefix was no_memory_line now
-      → Outcome (IsFramedRun name cert limit start) (IsFramedPart name limit start) wide came (outside old was) (outside new now)
+      → MayCome (IsFramedRun name cert limit start) (IsFramedPart name limit start) wide came (outside old was) (outside new now)
   run_lacks cut is line =
       let part = part_written cut in
       inr (inr (framed name part.0 Unwritten [], part.1, inr (is, (line.0, inl (part.2, line.1)))))

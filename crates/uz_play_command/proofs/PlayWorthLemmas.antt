@@ -23,7 +23,7 @@ use Rattle.uz_files.specs.declared.ending.Failure.{Failure}
 use Rattle.uz_files.specs.declared.ending.Failure.TheVariants.{Unread as UnreadFile, BadInput as BadFile, Memory as NoRoom}
 use Rattle.uz_files.specs.declared.status.Status.{Status}
 use Rattle.uz_files.specs.declared.status.Status.TheVariants as status
-use Rattle.uz_files.specs.Answers.{Answer, ComesOf, NoPart, Outcome, Outside}
+use Rattle.uz_files.specs.Answers.{Answer, ComesOf, NoPart, MayCome, Outside}
 use Rattle.uz_files.specs.Endings.{ComesOfFailure, answer_of}
 use Rattle.uz_play_command.specs.PlayCommand.{FilesHalted, FilesPlayed, IsEnteredRun, IsFramedPart, IsFramedRun, IsHaltedRun}
 use Rattle.uz_play_command.specs.PlayValues.{IsReady}
@@ -45,7 +45,7 @@ stopped_not_unwritten : status.Stopped ≢ status.Unwritten
 stopped_not_unwritten e = cc
 
 module _ (frames : List ℕ) (cert : Cert) (clocks : ℕ) (start : State PadHistory) (write_fault : Type 0) (came : Status) (old new : Outside)
-    (outcome : Outcome (IsFramedRun frames cert clocks start) (IsFramedPart frames clocks start) write_fault came old new) where
+    (outcome : MayCome (IsFramedRun frames cert clocks start) (IsFramedPart frames clocks start) write_fault came old new) where
   done_run : came ≡ status.Done → (answer : Answer) × IsEnteredRun frames cert clocks start answer
   done_run is = by_run (from_answer (IsFramedRun frames cert clocks start) (IsFramedPart frames clocks start) write_fault came old new
       status.Done done_not_memory done_not_unwritten outcome is)
@@ -128,7 +128,7 @@ low_at_reset image list irq = ap (λ n. n % 2) (get_or-replicate 4352 37 0 0 (om
 
 module _ (files : Option FileMap) (hex cert pads frames : List ℕ) (clocks : ℕ) (console : Console) (certificate : Cert)
     (ready : IsReady files hex cert pads console certificate) (write_fault : Type 0) (came : Status) (old new : Outside)
-    (outcome : Outcome (IsFramedRun frames certificate clocks (start_of ready.image ready.list certificate.head.irq))
+    (outcome : MayCome (IsFramedRun frames certificate clocks (start_of ready.image ready.list certificate.head.irq))
     (IsFramedPart frames clocks (start_of ready.image ready.list certificate.head.irq)) write_fault came old new) where
   pub is_played : RunsKeep → came ≡ status.Done → FilesPlayed files hex cert pads clocks
   is_played law is =

@@ -9,7 +9,7 @@ ghost use Rattle.uz_shelf.specs.Faults.{Rose};
 ghost use Rattle.uz_shelf.specs.Files.{FileMap, WritesFile};
 ghost use Rattle.uz_scan.specs.Pictures.{newest_first, records};
 ghost use Rattle.uz_machine.specs.declared.Edge.{Edge};
-ghost use Rattle.uz_files.specs.Answers.{ComesOf, Outcome, outside};
+ghost use Rattle.uz_files.specs.Answers.{ComesOf, MayCome, outside};
 ghost use Rattle.uz_play_command.specs.PlayCommand.{FilesHalted, FilesPlayed, IsFramedPart, IsFramedRun, PlayAnswers, PlayParts, framed};
 ghost use Rattle.uz_play_command.specs.PlayValues.{end_status, end_text, over_status};
 
@@ -76,7 +76,7 @@ fn play_on<H: Shelf, K: Sink>(
 ) -> Status
     requires fits { WellFormed cert }
     requires clock { console_clock console ≡ 0 }
-    ensures outcome { (start : State PadHistory) → StandsFor console start → Outcome (IsFramedRun frames.now cert clocks.count start) (IsFramedPart frames.now clocks.count start)
+    ensures outcome { (start : State PadHistory) → StandsFor console start → MayCome (IsFramedRun frames.now cert clocks.count start) (IsFramedPart frames.now clocks.count start)
         (Rose (H.write_faults shelf.old) (H.write_faults shelf.new) ⊎ Rose (K.faults out.old) (K.faults out.new))
         result (outside (H.files shelf.old) (K.text out.old)) (outside (H.files shelf.new) (K.text out.new)) }
     ensures load_faults { H.load_faults shelf.new ≡ H.load_faults shelf.old }
@@ -100,7 +100,7 @@ pub fn run_play<H: Shelf, K: Sink>(
     shelf: &mut H,
     out: &mut K,
 ) -> Status
-    ensures outcome { Outcome (PlayAnswers (H.files shelf.old) (Rose (H.load_faults shelf.old) (H.load_faults shelf.new)) hex.now cert.now pads.now clocks.count frames.now)
+    ensures outcome { MayCome (PlayAnswers (H.files shelf.old) (Rose (H.load_faults shelf.old) (H.load_faults shelf.new)) hex.now cert.now pads.now clocks.count frames.now)
         (PlayParts (H.files shelf.old) hex.now cert.now pads.now clocks.count frames.now)
         (Rose (H.write_faults shelf.old) (H.write_faults shelf.new) ⊎ Rose (K.faults out.old) (K.faults out.new))
         result (outside (H.files shelf.old) (K.text out.old)) (outside (H.files shelf.new) (K.text out.new)) }

@@ -14,7 +14,7 @@ use Rattle.uz_schedule.specs.declared.states.Point.{Point}
 use Rattle.uz_schedule.specs.declared.states.Rest.{Rest}
 use Rattle.uz_schedule.specs.declared.certificate.Cert.{Cert}
 use Rattle.uz_schedule.specs.Schedule.{length_of}
-use Rattle.uz_schedule.specs.Lines.{lines_of}
+use Rattle.uz_schedule.specs.Lines.{order_of}
 use Rattle.uz_schedule.specs.Instances.{instance_at}
 use Rattle.uz_transfer.specs.declared.fail.Fail.{Fail}
 use Rattle.uz_transfer.specs.declared.fail.Fail.TheVariants.{Opcode, Box, Edge, Clock, Successor, Restore}
@@ -64,13 +64,13 @@ first_exit [] = record { pc = 0; clocks = 0 }
 first_exit (exit ∷ exits) = exit
 
 abbrev pub end_of : Cert → Instance → Step → Instance
-end_of cert inst step = successor (lines_of cert.schedule) inst step (first_exit step.exits.items)
+end_of cert inst step = successor (order_of cert.schedule) inst step (first_exit step.exits.items)
 
 -- Results
 
 -- each result lies in an instance of a named successor
 abbrev pub has_successors : Cert → List ℕ → Instance → Step → Bool
-has_successors cert next inst step = each_exit (λ exit. lies_in_any cert next (successor (lines_of cert.schedule) inst step exit))
+has_successors cert next inst step = each_exit (λ exit. lies_in_any cert next (successor (order_of cert.schedule) inst step exit))
     step.exits.items
 
 abbrev pub result_fail : Cert → List ℕ → Instance → Step → Option Fail

@@ -3,8 +3,8 @@
 ghost use Rattle.std.specs.Prelude.{◌≡◌, ◌<◌, Ok, Some, length, slice_get};
 ghost use Rattle.uz_schedule.specs.Instances.{instance_at};
 ghost use Rattle.uz_schedule.specs.WellFormed.{WellFormed};
-ghost use Rattle.uz_schedule.specs.Lines.{lines_of};
-ghost use Rattle.uz_transfer.specs.Step.{IsReadAt, placed};
+ghost use Rattle.uz_schedule.specs.Lines.{order_of};
+ghost use Rattle.uz_transfer.specs.Step.{IsReadAt, at_exit};
 ghost use Rattle.uz_rules.specs.EdgeRule.{each_exit};
 ghost use Rattle.uz_rules.specs.Successors.{lies_in_any as lies_in_one};
 ghost use Rattle.uz_transfer.specs.Kinds.{is_main as is_main_kind};
@@ -107,7 +107,7 @@ fn lie_in_successors(
 ) -> bool
     requires fits { WellFormed cert.now }
     requires limits { InstanceLimits cert.now at.now }
-    ensures { result ≡ each_exit (λ exit. lies_in_one cert.now next.now (placed (lines_of cert.now.schedule) at.now draft.old emitted clears exit)) exits.now }
+    ensures { result ≡ each_exit (λ exit. lies_in_one cert.now next.now (at_exit (order_of cert.now.schedule) at.now draft.old emitted clears exit)) exits.now }
 {
     for exit in exits {
         put_at(draft, cert.schedule.order(), at, emitted, clears, *exit);

@@ -3,7 +3,7 @@
 ghost use Rattle.std.specs.Prelude.{◌≡◌, ◌<◌, ◌≤◌, Ok, Err, OnOk, IfErr, length, map};
 ghost use Rattle.uz_schedule.specs.Lines.{uniform};
 ghost use Rattle.uz_transfer.specs.Kinds.{depth_limit};
-ghost use Rattle.uz_transfer.specs.Step.{placed};
+ghost use Rattle.uz_transfer.specs.Step.{at_exit};
 ghost use Rattle.uz_rules.specs.After.{timed as timed_event, next_of, IsAfter};
 
 use crate::local_rule::first_exit;
@@ -34,7 +34,7 @@ fn result_at(
 ) -> Instance
     requires line { at.now.line < order.count }
     requires clock { at.now.clock ≤ 1820 }
-    ensures { result ≡ placed (uniform order.count) at.now draft.now emitted clears exit }
+    ensures { result ≡ at_exit (uniform order.count) at.now draft.now emitted clears exit }
 {
     let mut result = copied(draft);
     put_at(&mut result, order, at, emitted, clears, exit);
@@ -54,7 +54,7 @@ fn put_results(
     requires line { at.now.line < order.count }
     requires clock { at.now.clock ≤ 1820 }
     requires few { length exits.now ≤ 16 }
-    ensures { out.new.items ≡ map (λ exit. placed (uniform order.count) at.now draft.now emitted clears exit) exits.now }
+    ensures { out.new.items ≡ map (λ exit. at_exit (uniform order.count) at.now draft.now emitted clears exit) exits.now }
 {
     out.clear();
     for exit in exits {

@@ -16,7 +16,7 @@ use Rattle.uz_run_commands.specs.declared.trace_command.RunEnd.{RunEnd}
 use Rattle.uz_run_commands.specs.declared.trace_command.RunEnd.TheVariants as end
 use Rattle.uz_files.specs.declared.status.Status.{Status}
 use Rattle.uz_files.specs.declared.status.Status.TheVariants.{Done, Unread, BadInput, Stopped, Unwritten, NoMemory}
-use Rattle.uz_files.specs.Answers.{Answer, ComesOf, Outcome, ended, outside}
+use Rattle.uz_files.specs.Answers.{Answer, ComesOf, MayCome, ended, outside}
 use Rattle.uz_files.specs.Endings.{ComesOfFailure, EndsBy}
 use Rattle.uz_files.specs.Lines.{no_memory_line}
 use Rattle.uz_files.specs.Reading.{Fails, Says, text_limit}
@@ -143,11 +143,11 @@ pub trace_outcome : (files after : Option FileMap) (load_fault narrow wide : Typ
     → StartsTrace files hex pads irq console → ((start : State PadHistory) → RunsTo clocks start [] console → IsPrinted clocks start run_end
     old mid) → ((f : Option FileMap) (was : Option (List ℕ)) (printed : List ℕ) → TakesAll was printed mid
     → ComesOf (ended printed (end_status run_end) (last_line clocks run_end)) narrow came (outside f was) (outside f new))
-    → Outcome (TraceAnswers files load_fault hex pads irq clocks) (TraceParts files hex pads irq clocks) wide came (outside files old)
+    → MayCome (TraceAnswers files load_fault hex pads irq clocks) (TraceParts files hex pads irq clocks) wide came (outside files old)
     (outside after new)
 trace_outcome files after load_fault narrow wide hex pads irq clocks console run_end came old mid new same widen starts prints comes =
     let all = printed_answers files load_fault hex pads irq clocks console run_end old mid starts prints in
-    subst (λ f. Outcome (TraceAnswers files load_fault hex pads irq clocks) (TraceParts files hex pads irq clocks) wide came
+    subst (λ f. MayCome (TraceAnswers files load_fault hex pads irq clocks) (TraceParts files hex pads irq clocks) wide came
     (outside files old) (outside f new)) (sym same)
     (inr (inl (
       ended all.0 (end_status run_end) (last_line clocks run_end),
@@ -176,22 +176,22 @@ part_answers files hex pads irq clocks console old mid starts prints =
 pub trace_unwritten : (files after : Option FileMap) (load_fault wide : Type 0) (hex pads : List ℕ) (irq : Response) (clocks : ℕ)
     (console : Console) (came : Status) (old new : Option (List ℕ)) → after ≡ files → wide → came ≡ Unwritten → StartsTrace files hex pads
     irq console → ((start : State PadHistory) → RunsTo clocks start [] console → IsPrintedPart clocks start old new)
-    → Outcome (TraceAnswers files load_fault hex pads irq clocks) (TraceParts files hex pads irq clocks) wide came (outside files old)
+    → MayCome (TraceAnswers files load_fault hex pads irq clocks) (TraceParts files hex pads irq clocks) wide came (outside files old)
     (outside after new)
 trace_unwritten files after load_fault wide hex pads irq clocks console came old new same fault is starts prints =
     let part = part_answers files hex pads irq clocks console old new starts prints in
-    subst (λ f. Outcome (TraceAnswers files load_fault hex pads irq clocks) (TraceParts files hex pads irq clocks) wide came
+    subst (λ f. MayCome (TraceAnswers files load_fault hex pads irq clocks) (TraceParts files hex pads irq clocks) wide came
     (outside files old) (outside f new)) (sym same)
     (inr (inr (ended part.0 Unwritten [], part.2, inl (is, fault, cut_part part.0 [] files old new new part.1 (takes_none new)))))
 
 pub trace_lacks : (files after : Option FileMap) (load_fault wide : Type 0) (hex pads : List ℕ) (irq : Response) (clocks : ℕ)
     (console : Console) (came : Status) (old mid new : Option (List ℕ)) → after ≡ files → came ≡ NoMemory → TakesPrefix mid no_memory_line
     new → StartsTrace files hex pads irq console → ((start : State PadHistory) → RunsTo clocks start [] console → IsPrintedPart clocks start
-    old mid) → Outcome (TraceAnswers files load_fault hex pads irq clocks) (TraceParts files hex pads irq clocks) wide came
+    old mid) → MayCome (TraceAnswers files load_fault hex pads irq clocks) (TraceParts files hex pads irq clocks) wide came
     (outside files old) (outside after new)
 trace_lacks files after load_fault wide hex pads irq clocks console came old mid new same is line starts prints =
     let part = part_answers files hex pads irq clocks console old mid starts prints in
-    subst (λ f. Outcome (TraceAnswers files load_fault hex pads irq clocks) (TraceParts files hex pads irq clocks) wide came
+    subst (λ f. MayCome (TraceAnswers files load_fault hex pads irq clocks) (TraceParts files hex pads irq clocks) wide came
     (outside files old) (outside f new)) (sym same)
     (inr (inr (
       ended part.0 Unwritten [],
@@ -203,7 +203,7 @@ trace_lacks files after load_fault wide hex pads irq clocks console came old mid
 pub trace_failed : (files after : Option FileMap) (load_fault narrow wide : Type 0) (hex pads : List ℕ) (irq : Response) (clocks : ℕ)
     (failure : Failure) (came : Status) (old new : Option (List ℕ)) → after ≡ files → (narrow → wide)
     → EndsBy (TracePreface files load_fault hex pads) failure → ((f : Option FileMap) → ComesOfFailure failure narrow came (outside f old)
-    (outside f new)) → Outcome (TraceAnswers files load_fault hex pads irq clocks) (TraceParts files hex pads irq clocks) wide came
+    (outside f new)) → MayCome (TraceAnswers files load_fault hex pads irq clocks) (TraceParts files hex pads irq clocks) wide came
     (outside files old) (outside after new)
 trace_failed files after load_fault narrow wide hex pads irq clocks failure came old new same widen given comes =
     run_outcome (TraceAnswers files load_fault hex pads irq clocks) (TraceParts files hex pads irq clocks) (Err failure) came narrow wide

@@ -4,7 +4,7 @@ ghost use Rattle.std.specs.Prelude.{◌≡◌, ◌≤◌, ◌⊎◌, List, Optio
 ghost use Rattle.uz_shelf.specs.Faults.{Rose};
 ghost use Rattle.uz_shelf.specs.Files.{FileMap};
 ghost use Rattle.uz_shelf.specs.Text.{TakesAll};
-ghost use Rattle.uz_files.specs.Answers.{ComesOf, Outcome, ended, outside};
+ghost use Rattle.uz_files.specs.Answers.{ComesOf, MayCome, ended, outside};
 ghost use Rattle.uz_run_commands.specs.TraceCommand.{TraceAnswers, TraceParts};
 ghost use Rattle.uz_run_commands.specs.TraceValues.{end_status, last_line};
 
@@ -36,7 +36,7 @@ pub fn run_trace<H: Shelf, K: Sink>(
     shelf: &mut H,
     out: &mut K,
 ) -> Status
-    ensures outcome { Outcome (TraceAnswers (H.files shelf.old) (Rose (H.load_faults shelf.old) (H.load_faults shelf.new)) hex.now pads.now irq clocks)
+    ensures outcome { MayCome (TraceAnswers (H.files shelf.old) (Rose (H.load_faults shelf.old) (H.load_faults shelf.new)) hex.now pads.now irq clocks)
         (TraceParts (H.files shelf.old) hex.now pads.now irq clocks)
         (Rose (H.write_faults shelf.old) (H.write_faults shelf.new) ⊎ Rose (K.faults out.old) (K.faults out.new))
         result (outside (H.files shelf.old) (K.text out.old)) (outside (H.files shelf.new) (K.text out.new)) }

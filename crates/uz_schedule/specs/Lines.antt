@@ -8,8 +8,8 @@ pub record Lines : Type 0 where
   pub length : ℕ → ℕ
   pub next : ℕ → ℕ
 
-abbrev pub lines_of : Schedule → Lines
-lines_of s = record { length = length_of s; next = next_line s }
+abbrev pub order_of : Schedule → Lines
+order_of s = record { length = length_of s; next = next_line s }
 
 -- n lines of a scanline's length, the first of which follows the last
 abbrev pub uniform : ℕ → Lines

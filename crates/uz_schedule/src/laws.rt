@@ -9,7 +9,7 @@ ghost use Rattle.uz_schedule.specs.declared.certificate.Cert.{Cert};
 ghost use Rattle.uz_schedule.specs.WellFormed.{WellFormed};
 ghost use Rattle.uz_schedule.specs.Instances.{instance_at};
 ghost use Rattle.uz_schedule.specs.InstanceLimits.{InstanceFits};
-ghost use Rattle.uz_schedule.specs.Lines.{Lines, lines_of, uniform, line_after, clock_after};
+ghost use Rattle.uz_schedule.specs.Lines.{Lines, order_of, uniform, line_after, clock_after};
 
 use crate::states::Instance;
 
@@ -32,11 +32,11 @@ pub fn positions_go_round()
 pub fn places_go_on()
     ensures more { (s : Schedule) (p l k c : ℕ) → At s p l k → At s (p + c) l (k + c) }
     ensures next { (s : Schedule) (p l k : ℕ) → At s p l (length_of s l + k) → At s p (next_line s l) k }
-    ensures after { (s : Schedule) (p l k : ℕ) → At s p l k → At s p (line_after (lines_of s) l k) (clock_after (lines_of s) l k) }
+    ensures after { (s : Schedule) (p l k : ℕ) → At s p l k → At s p (line_after (order_of s) l k) (clock_after (order_of s) l k) }
     ensures events { (s : Schedule) (p l k : ℕ) → At s p l k → event_at s p ≡ event_at s (start_of s l + k) }
     ensures levels { (s : Schedule) (p l k : ℕ) → At s p l k → level_at s p ≡ level_at s (start_of s l + k) }
     ensures inside { (s : Schedule) (l k : ℕ) → l < length s.lines → k < length_of s l → start_of s l + k < frame_of s }
-    ensures order { (s : Schedule) → lines_of s ≡ uniform (length s.lines) }
+    ensures order { (s : Schedule) → order_of s ≡ uniform (length s.lines) }
 {}
 
 /// From one position to the next the level is what is set there, and else stays.

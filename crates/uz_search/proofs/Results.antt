@@ -15,14 +15,14 @@ use Rattle.uz_transfer.specs.declared.step.Exit.{Exit}
 use Rattle.uz_transfer.specs.Emission.{emission, emission_at, level_after}
 use Rattle.uz_transfer.specs.Exits.{outcomes}
 use Rattle.uz_transfer.specs.Kinds.{is_main, is_handler}
-use Rattle.uz_transfer.specs.Step.{clears_flag, ends_line, following_of, placed}
+use Rattle.uz_transfer.specs.Step.{clears_flag, ends_line, following_of, at_exit}
 use Rattle.uz_transfer.specs.Values.{pair_range}
 use Rattle.uz_rules.specs.declared.next.Next.{Next}
 use Rattle.uz_rules.specs.After.{timed}
 use Rattle.uz_rules.specs.Local.{first_exit}
 use Rattle.uz_search.specs.declared.program.Program.{Program}
 use Rattle.uz_search.specs.Fitting.{Stands}
-use Rattle.uz_search.specs.Following.{Among, Flash, lines_of, clocks_between}
+use Rattle.uz_search.specs.Following.{Among, Flash, order_of_program, clocks_between}
 use Rattle.uz_search.proofs.OneResult.{Steps, exits_at, draft_at}
 use Rattle.uz_search.proofs.Lists.{in_map, of_map, kind_cases, bool_cases}
 use Rattle.uz_search.proofs.Exits.{exit_clocks, first_exit_of, emits_one, returns_one, OneExit}
@@ -40,14 +40,14 @@ pub record AtExit (image : Flash) (program : Program) (x : Instance) (next : Nex
     0 where
   pub exit : Exit
   pub there : Among (exits_at image x s.row) exit
-  pub is : placed (lines_of program) x (draft_at image program x s.row) s.emitted (clears_flag (effect_of s.row) x) exit ≡ y
+  pub is : at_exit (order_of_program program) x (draft_at image program x s.row) s.emitted (clears_flag (effect_of s.row) x) exit ≡ y
   pub some : 1 ≤ exit.clocks
   pub few : exit.clocks ≤ 4
 
 module _ (image : Flash) (program : Program) (x : Instance) (next : Next) (s : Steps image program x next) where
   pub result : (y : Instance) → Among next.out.items y → AtExit image program x next s y
   result y h =
-      let at = of_map (placed (lines_of program) x (draft_at image program x s.row) s.emitted (clears_flag (effect_of s.row) x))
+      let at = of_map (at_exit (order_of_program program) x (draft_at image program x s.row) s.emitted (clears_flag (effect_of s.row) x))
       (exits_at image x s.row) h.0 y
       (ap (λ l. slice_get l h.0) (sym s.out) ∙ h.1) in
       let clocks = exit_clocks image program.head s.row x (following_of (words_of s.row) x)
@@ -58,8 +58,8 @@ module _ (image : Flash) (program : Program) (x : Instance) (next : Next) (s : S
   pub some_result : (pair_range x 30).lo ≤ (pair_range x 30).hi → (y : Instance) × (slice_get next.out.items 0 ≡ Some y)
   some_result order =
       let exit = first_exit_of image (effect_of s.row) (clocks_of s.row) (following_of (words_of s.row) x) x order in (
-        placed (lines_of program) x (draft_at image program x s.row) s.emitted (clears_flag (effect_of s.row) x) exit.0,
-        ap (λ l. slice_get l 0) s.out ∙ in_map (placed (lines_of program) x (draft_at image program x s.row) s.emitted
+        at_exit (order_of_program program) x (draft_at image program x s.row) s.emitted (clears_flag (effect_of s.row) x) exit.0,
+        ap (λ l. slice_get l 0) s.out ∙ in_map (at_exit (order_of_program program) x (draft_at image program x s.row) s.emitted
             (clears_flag (effect_of s.row) x)) (exits_at image x s.row) 0 exit.0 exit.1,
       )
 
@@ -79,7 +79,7 @@ module _ (image : Flash) (program : Program) (x : Instance) (next : Next) (s : S
       ap (λ l. slice_get l 0) out ∙ at_zero (f one.exit) i here
     where
       f : Exit → Instance
-      f = placed (lines_of program) x (draft_at image program x s.row) s.emitted (clears_flag (effect_of s.row) x)
+      f = at_exit (order_of_program program) x (draft_at image program x s.row) s.emitted (clears_flag (effect_of s.row) x)
 
       at_zero : (z : Instance) (i : ℕ) → slice_get (z ∷ []) i ≡ Some y → Some z ≡ Some y
       at_zero z zero e = e
@@ -123,15 +123,15 @@ module _ (image : Flash) (program : Program) (x : Instance) (stands : Stands pro
       let k : ℕ = r.exit.clocks in
       let some = r.some in
       let few = r.few in
-      let line : line_after (lines_of program) x.line (x.clock + k) ≡ y.line =
-      sym (ap (λ b. if b then x.line else line_after (lines_of program) x.line (x.clock + k)) main_not) ∙ ap (λ (z : Instance). z.line)
+      let line : line_after (order_of_program program) x.line (x.clock + k) ≡ y.line =
+      sym (ap (λ b. if b then x.line else line_after (order_of_program program) x.line (x.clock + k)) main_not) ∙ ap (λ (z : Instance). z.line)
       r.is in
-      let clock : clock_after (lines_of program) x.line (x.clock + k) ≡ y.clock =
-      sym (ap (λ b. if b then x.clock else clock_after (lines_of program) x.line (x.clock + k)) main_not) ∙ ap (λ (z : Instance). z.clock)
+      let clock : clock_after (order_of_program program) x.line (x.clock + k) ≡ y.clock =
+      sym (ap (λ b. if b then x.clock else clock_after (order_of_program program) x.line (x.clock + k)) main_not) ∙ ap (λ (z : Instance). z.clock)
       r.is in
       let reach : Reaches program.lines x.line x.clock k y.line y.clock =
       subst (λ q. Reaches program.lines x.line x.clock k y.line q) clock
-      (subst (λ l. Reaches program.lines x.line x.clock k l (clock_after (lines_of program) x.line (x.clock + k))) line
+      (subst (λ l. Reaches program.lines x.line x.clock k l (clock_after (order_of_program program) x.line (x.clock + k))) line
       (reach_after program.lines x.line x.clock k stands.line stands.clock (omega (arith, few)))) in
       (between_of program.lines x.line x.clock k y.line y.clock reach stands.clock some (omega (arith, few)), reach)
 
@@ -241,9 +241,9 @@ module _ (image : Flash) (program : Program) (x : Instance) (stands : Stands pro
   main_line main y h =
       let r = result image program x next s y h in
       let k : ℕ = x.clock + r.exit.clocks in (
-        ap (λ (z : Instance). z.line) (sym r.is) ∙ ap (λ b. if b then x.line else line_after (lines_of program) x.line k)
+        ap (λ (z : Instance). z.line) (sym r.is) ∙ ap (λ b. if b then x.line else line_after (order_of_program program) x.line k)
             (main_is x.kind main),
-        ap (λ (z : Instance). z.clock) (sym r.is) ∙ ap (λ b. if b then x.clock else clock_after (lines_of program) x.line k)
+        ap (λ (z : Instance). z.clock) (sym r.is) ∙ ap (λ b. if b then x.clock else clock_after (order_of_program program) x.line k)
             (main_is x.kind main),
         ap (λ (z : Instance). z.level) (sym r.is) ∙ ap (λ b. if b then x.level else level_after s.emitted (x.level % 2))
             (main_is x.kind main),
@@ -280,7 +280,7 @@ module _ (image : Flash) (program : Program) (x : Instance) (stands : Stands pro
       pending other =
           let not_handler : x.kind ≢ Handler = λ e. other (kind ∙ e) in
           ap (λ (z : Instance). z.pending) (sym r.is) ∙ ap (λ b. if b then not (clears_flag (effect_of s.row) x)
-          && (x.pending || ends_line (lines_of program) x.line (x.clock + r.exit.clocks)) else x.pending)
+          && (x.pending || ends_line (order_of_program program) x.line (x.clock + r.exit.clocks)) else x.pending)
           (handler_not x.kind not_handler) ∙ stands.pending not_handler
 
       of_main : x.kind ≡ Main → Stands program y

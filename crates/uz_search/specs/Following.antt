@@ -25,18 +25,18 @@ abbrev pub Flash : Type 0
 Flash = FinMap nat_cmp ℕ
 
 -- the lines of the frame
-abbrev pub lines_of : Program → Lines
-lines_of p = uniform p.lines
+abbrev pub order_of_program : Program → Lines
+order_of_program p = uniform p.lines
 
 -- Results
 
 -- the abstract results of an instance, or why it has none
 abbrev pub After : Flash → Program → Instance → Result Next Fail → Type 0
-After image p x result = IsAfter p.head (lines_of p) image x result
+After image p x result = IsAfter p.head (order_of_program p) image x result
 
 -- the handler's first state after a return that ends so, where the interrupt is taken at clock c of the next line
 abbrev pub entry_at : Program → Instance → ℕ → Instance
-entry_at p end c = handler_entry end.cells.items ((lines_of p).next end.line) (c + response_clocks p.head.irq) end.level
+entry_at p end c = handler_entry end.cells.items ((order_of_program p).next end.line) (c + response_clocks p.head.irq) end.level
 
 -- an interrupt may be taken at the clocks 0 to 3
 abbrev pub entries : Program → Instance → List Instance

@@ -13,7 +13,7 @@ use Rattle.uz_rules.specs.declared.next.Next.{Next}
 use Rattle.uz_rules.specs.Inside.{restored}
 use Rattle.uz_rules.specs.Local.{row_emits_in_main}
 use Rattle.uz_search.specs.declared.program.Program.{Program}
-use Rattle.uz_search.specs.Following.{Among, Flash, After, lines_of, most_clocks, shown_at}
+use Rattle.uz_search.specs.Following.{Among, Flash, After, order_of_program, most_clocks, shown_at}
 
 -- it is main, and stores what is seen outside
 pub record EmitsInMain (image : Flash) (x : Instance) : Type 0 where
@@ -42,7 +42,7 @@ pub record PassesUnsteady (p : Program) (x : Instance) (next : Next) : Type 0 wh
   pub clocks : ℕ
   pub some : 1 ≤ clocks
   pub few : clocks ≤ most_clocks x next.out.items
-  pub unsteady : IsUnsteady p.fall (clock_after (lines_of p) x.line (x.clock + clocks)) (shown_at next.emit clocks)
+  pub unsteady : IsUnsteady p.fall (clock_after (order_of_program p) x.line (x.clock + clocks)) (shown_at next.emit clocks)
 
 -- why an instance that has results is refused
 abbrev pub StuckWith : Flash → Program → Instance → Next → Fail → Type 0

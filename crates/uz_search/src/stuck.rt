@@ -9,7 +9,7 @@ ghost use Rattle.uz_schedule.specs.declared.lines.EventKind.{EventKind};
 ghost use Rattle.uz_transfer.specs.declared.fail.Fail.{Fail};
 ghost use Rattle.uz_transfer.specs.Step.{IsReadAt};
 ghost use Rattle.uz_rules.specs.Local.{row_emits_in_main};
-ghost use Rattle.uz_search.specs.Following.{Among, most_clocks as most_of, shown_at, lines_of};
+ghost use Rattle.uz_search.specs.Following.{Among, most_clocks as most_of, shown_at, order_of_program};
 ghost use Rattle.uz_search.specs.Stuck.{EmitsInMain, IsUnrestored, IsUnsteady, PassesUnsteady, StuckWith};
 ghost use Rattle.uz_search.specs.Tests.{is_fall as falls, is_clear_at, is_clear_way};
 ghost use Rattle.uz_schedule.specs.declared.states.Instance.{Instance};
@@ -86,7 +86,7 @@ fn is_clear(fall: u32, clock: u32, shown: Option<EventKind>) -> bool
 /// Whether it is so that many clocks after an instance.
 fn is_clear_after(program: &Program, at: &Instance, next: &Next, clocks: u32) -> bool
     requires { clocks ≤ 70000 }
-    ensures { result ≡ is_clear_at program.now.fall (clock_after (lines_of program.now) at.now.line (at.now.clock + clocks)) (shown_at next.now.emit clocks) }
+    ensures { result ≡ is_clear_at program.now.fall (clock_after (order_of_program program.now) at.now.line (at.now.clock + clocks)) (shown_at next.now.emit clocks) }
 {
     let start = at.clock;
     let clock = line_clock(u32::from(start) + clocks);

@@ -11,7 +11,7 @@ use Rattle.uz_machine.specs.Effects.{effect_of}
 use Rattle.uz_machine.specs.declared.Effect.{Effect}
 use Rattle.uz_machine.specs.declared.Effect.TheVariants.{NoOperation, Stop}
 use Rattle.uz_schedule.specs.Ends.{Ends}
-use Rattle.uz_schedule.specs.Lines.{Lines, uniform, line_after, clock_after, lines_of as lines_of_schedule}
+use Rattle.uz_schedule.specs.Lines.{Lines, uniform, line_after, clock_after, order_of as lines_of_schedule}
 use Rattle.uz_schedule.specs.Schedule.{event_at}
 use Rattle.uz_schedule.proofs.Starts.{start_is}
 use Rattle.uz_schedule.specs.declared.certificate.Cert.{Cert}
@@ -42,7 +42,7 @@ use Rattle.uz_rules.proofs.LocalLaws.{decoded_same}
 use Rattle.uz_search.specs.declared.found.Found.{Found}
 use Rattle.uz_search.specs.declared.program.Program.{Program}
 use Rattle.uz_search.specs.Fitting.{ProgramFits, Stands}
-use Rattle.uz_search.specs.Following.{Among, Flash, lines_of, frame_of, most_clocks, clocks_between, shown_at, place_of}
+use Rattle.uz_search.specs.Following.{Among, Flash, order_of_program, frame_of, most_clocks, clocks_between, shown_at, place_of}
 use Rattle.uz_search.specs.Searching.{IsEnded, Treated}
 use Rattle.uz_search.proofs.FramePlaces.{Reaches, reach_after, between_of}
 use Rattle.uz_search.proofs.Lists.{in_map, kind_cases, bool_cases}
@@ -110,9 +110,9 @@ record HasStep (program : Program) (x : Instance) (next : Next) (result : Result
   is : result ≡ Ok step
   emit : next.emit ≡ timed step.emit (first_exit step.exits.items).clocks
   back : next.back ≡ step.back
-  out : next.out.items ≡ map (successor (lines_of program) x step) step.exits.items
+  out : next.out.items ≡ map (successor (order_of_program program) x step) step.exits.items
 
-has_step : (program : Program) (x : Instance) (next : Next) (result : Result Step Fail) → Ok next ≡ next_of (lines_of program) x result
+has_step : (program : Program) (x : Instance) (next : Next) (result : Result Step Fail) → Ok next ≡ next_of (order_of_program program) x result
     → HasStep program x next result
 has_step program x next (Err why) h = cc
 has_step program x next (Ok step) h = let same = ok_is next _ h in record {
@@ -151,18 +151,18 @@ exit_bounds head image x (Some i) step h exit there =
 
 -- the clocks to the result at an exit are the exit's
 between_exit : (program : Program) (x : Instance) (step : Step) (exit : Exit) → Stands program x → x.kind ≢ Main → 1 ≤ exit.clocks
-    → exit.clocks ≤ 4 → clocks_between x (successor (lines_of program) x step exit) ≡ exit.clocks
+    → exit.clocks ≤ 4 → clocks_between x (successor (order_of_program program) x step exit) ≡ exit.clocks
 between_exit program x step exit stands apart some few =
-    let y : Instance = successor (lines_of program) x step exit in
+    let y : Instance = successor (order_of_program program) x step exit in
     let k : ℕ = x.clock + exit.clocks in
     let main_not = apart_main x.kind apart in
-    let line : line_after (lines_of program) x.line k ≡ y.line = sym (ap (λ b. if b then x.line else line_after (lines_of program) x.line k)
+    let line : line_after (order_of_program program) x.line k ≡ y.line = sym (ap (λ b. if b then x.line else line_after (order_of_program program) x.line k)
     main_not) in
-    let clock : clock_after (lines_of program) x.line k ≡ y.clock =
-    sym (ap (λ b. if b then x.clock else clock_after (lines_of program) x.line k) main_not) in
+    let clock : clock_after (order_of_program program) x.line k ≡ y.clock =
+    sym (ap (λ b. if b then x.clock else clock_after (order_of_program program) x.line k) main_not) in
     let reach : Reaches program.lines x.line x.clock exit.clocks y.line y.clock =
     subst (λ q. Reaches program.lines x.line x.clock exit.clocks y.line q) clock
-    (subst (λ l. Reaches program.lines x.line x.clock exit.clocks l (clock_after (lines_of program) x.line k)) line
+    (subst (λ l. Reaches program.lines x.line x.clock exit.clocks l (clock_after (order_of_program program) x.line k)) line
     (reach_after program.lines x.line x.clock exit.clocks stands.line stands.clock (omega (arith, few)))) in
     between_of program.lines x.line x.clock exit.clocks y.line y.clock reach stands.clock some (omega (arith, few))
 
@@ -188,7 +188,7 @@ module _ (image : Flash) (program : Program) (fits : ProgramFits program) (found
   stands = cover.stands image program fits found.nodes.keys found.parents.items found.marks.items found.returns.items ended x node
 
   -- the lines are the program's
-  lines_same : lines_of_schedule cert.schedule ≡ lines_of program
+  lines_same : lines_of_schedule cert.schedule ≡ order_of_program program
   lines_same = ap uniform made.schedule.lines
 
   module _ (row : Option Instr) (reads : IsReadAt image x.pc row)
@@ -207,13 +207,13 @@ module _ (image : Flash) (program : Program) (fits : ProgramFits program) (found
     edge_at apart exit there = λ i. quiet i && last i
       where
         y : Instance
-        y = successor (lines_of program) x s.step exit
+        y = successor (order_of_program program) x s.step exit
 
         o : Owes program x t.next
         o = cover.owed image program fits found.nodes.keys found.parents.items found.marks.items found.returns.items ended x node apart
 
         y_there : slice_get t.next.out.items there.0 ≡ Some y
-        y_there = ap (λ l. slice_get l there.0) s.out ∙ in_map (successor (lines_of program) x s.step) s.step.exits.items there.0 exit
+        y_there = ap (λ l. slice_get l there.0) s.out ∙ in_map (successor (order_of_program program) x s.step) s.step.exits.items there.0 exit
             there.1
 
         c : ℕ
@@ -280,9 +280,9 @@ module _ (image : Flash) (program : Program) (fits : ProgramFits program) (found
     goes_on back = each_all (λ exit. lies_in_any cert ids (successor (lines_of_schedule cert.schedule) x s.step exit)) s.step.exits.items
         (λ exit there.
         subst (λ (l : Lines). lies_in_any cert ids (successor l x s.step exit) ≡ true) (sym lines_same)
-        (lies t.next (successor (lines_of program) x s.step exit) t.after back (
+        (lies t.next (successor (order_of_program program) x s.step exit) t.after back (
           there.0,
-          ap (λ l. slice_get l there.0) s.out ∙ in_map (successor (lines_of program) x s.step) s.step.exits.items there.0 exit
+          ap (λ l. slice_get l there.0) s.out ∙ in_map (successor (order_of_program program) x s.step) s.step.exits.items there.0 exit
               there.1,
         )))
 
@@ -300,7 +300,7 @@ module _ (image : Flash) (program : Program) (fits : ProgramFits program) (found
 
         end_is : end_of cert x s.step ≡ end
         end_is = ap (λ (l : Lines). successor l x s.step (first_exit s.step.exits.items)) lines_same
-            ∙ first s.step.exits.items (successor (lines_of program) x s.step) (ap (λ l. slice_get l 0) (sym s.out) ∙ t.some.1)
+            ∙ first s.step.exits.items (successor (order_of_program program) x s.step) (ap (λ l. slice_get l 0) (sym s.out) ∙ t.some.1)
 
         here : return_fail (rest_in cert.rests end.line) end ≡ None
         here =
@@ -355,6 +355,6 @@ passes_local image p found cert ids row x fits ended made node lies reads =
         let a = (cover.treated image p fits found.nodes.keys found.parents.items found.marks.items found.returns.items ended x
         node).after in
         has_step p x _ (step_of_row cert.head 1820 image row x)
-        (a.is ∙ ap (λ (r : Option Instr). next_of (lines_of p) x (step_of_row p.head 1820 image r x))
+        (a.is ∙ ap (λ (r : Option Instr). next_of (order_of_program p) x (step_of_row p.head 1820 image r x))
         (decoded_same _ _ a.row row a.reads reads)
-        ∙ ap (λ (h : Head). next_of (lines_of p) x (step_of_row h 1820 image row x)) (sym made.head))
+        ∙ ap (λ (h : Head). next_of (order_of_program p) x (step_of_row h 1820 image row x)) (sym made.head))

@@ -13,7 +13,7 @@ use Rattle.uz_rules.specs.declared.next.Next.{Next}
 use Rattle.uz_schedule.specs.Lines.{clock_after}
 use Rattle.uz_search.specs.declared.program.Program.{Program}
 use Rattle.uz_search.specs.Fitting.{Stands, ProgramFits}
-use Rattle.uz_search.specs.Following.{Among, Flash, After, entries, entry_at, lines_of, most_clocks, clocks_between, shown_at}
+use Rattle.uz_search.specs.Following.{Among, Flash, After, entries, entry_at, order_of_program, most_clocks, clocks_between, shown_at}
 use Rattle.uz_search.specs.Stuck.{StuckWith, IsUnsteady}
 use Rattle.uz_search.proofs.FramePlaces.{IsNext, Reaches, next_is, reach_clock}
 use Rattle.uz_search.proofs.OneResult.{Steps, steps}
@@ -95,10 +95,10 @@ cleared image program x next stands apart clear = record {
       (cases_eq q program.fall);
 }
   where
-    at : (l q k : ℕ) → Reaches program.lines x.line x.clock k l q → clock_after (lines_of program) x.line (x.clock + k) ≡ q
+    at : (l q k : ℕ) → Reaches program.lines x.line x.clock k l q → clock_after (order_of_program program) x.line (x.clock + k) ≡ q
     at l q k reach = reach_clock program.lines x.line x.clock k l q stands.clock reach
 
-    no : (k : ℕ) → 1 ≤ k → k ≤ most_clocks x next.out.items → (q : ℕ) → clock_after (lines_of program) x.line (x.clock + k) ≡ q
+    no : (k : ℕ) → 1 ≤ k → k ≤ most_clocks x next.out.items → (q : ℕ) → clock_after (order_of_program program) x.line (x.clock + k) ≡ q
         → IsUnsteady program.fall q (shown_at next.emit k) → ⊥
     no k some few q at_q unsteady = clear Edge (inl (
       refl,

@@ -39,7 +39,7 @@ use Rattle.uz_rules.specs.declared.next.Next.{Next}
 use Rattle.uz_search.specs.declared.program.Program.{Program}
 use Rattle.uz_search.specs.declared.widening.Widening.{Widening}
 use Rattle.uz_search.specs.declared.widening.Widening.TheVariants.{Register, Pair}
-use Rattle.uz_search.specs.Following.{Among, Flash, Follows, entries, lines_of}
+use Rattle.uz_search.specs.Following.{Among, Flash, Follows, entries, order_of_program}
 use Rattle.uz_search.specs.Widenings.{facts_at, is_whole, widened, widened_all, widened_by, widened_pair, widened_value}
 use Rattle.uz_search.proofs.Lists.{append_cases, bool_cases, choose, of_flat, of_map}
 use Rattle.uz_search.proofs.OneResult.{Steps, steps}
@@ -326,7 +326,7 @@ within_next image p x next fits h s y there =
     let r = result image p x next s y there in
     let e : Effect = effect_of s.row in
     let known = transfer_known p.head x (known_of p x h) image (following_of (words_of s.row) x)
-    (sampled_of ((lines_of p).length x.line) e (clocks_of s.row) x) e fits s.fails in
+    (sampled_of ((order_of_program p).length x.line) e (clocks_of s.row) x) e fits s.fails in
     let placed_known : Known p.head x.kind y = subst (Known p.head x.kind) r.is (record {
       register_count = known.register_count;
       registers = known.registers;

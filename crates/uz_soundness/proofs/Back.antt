@@ -35,7 +35,7 @@ use Rattle.uz_transfer.specs.Step.{successor, ends_line}
 use Rattle.uz_schedule.specs.Lines.{line_after, clock_after}
 use Rattle.uz_rules.specs.Meets.{TimerMeets, TimerCounts, LevelMeets}
 use Rattle.uz_soundness.specs.Claim.{scheduled, InTime}
-use Rattle.uz_schedule.specs.Lines.{lines_of}
+use Rattle.uz_schedule.specs.Lines.{order_of}
 use Rattle.uz_rules.specs.EdgeRule.{position_of}
 use Rattle.uz_soundness.proofs.Premises.{EdgeHolds, Returns, LocalHolds, Premises}
 use Rattle.uz_soundness.specs.Invariant.{RunsMain, RunsHandler, HandlerRuns, pushed}
@@ -83,9 +83,9 @@ leave_edge s = record { clock = s.clock + 4; kind = LeaveEdge } ∷ []
 
 -- RETI's end as the rules place it
 record Placed (cert : Cert) (inst : Instance) (step : Step) (exit : Exit) (s : State PadHistory) : Type 0 where
-  line : (successor (lines_of cert.schedule) inst step exit).line ≡ line_after (lines_of cert.schedule) inst.line (inst.clock + 4)
-  clock : (successor (lines_of cert.schedule) inst step exit).clock ≡ clock_after (lines_of cert.schedule) inst.line (inst.clock + 4)
-  pending : (successor (lines_of cert.schedule) inst step exit).pending ≡ (inst.pending || ends_line (lines_of cert.schedule) inst.line
+  line : (successor (order_of cert.schedule) inst step exit).line ≡ line_after (order_of cert.schedule) inst.line (inst.clock + 4)
+  clock : (successor (order_of cert.schedule) inst step exit).clock ≡ clock_after (order_of cert.schedule) inst.line (inst.clock + 4)
+  pending : (successor (order_of cert.schedule) inst step exit).pending ≡ (inst.pending || ends_line (order_of cert.schedule) inst.line
       (inst.clock + 4))
   four : exit.clocks ≡ 4
 
@@ -118,7 +118,7 @@ returned_follows image cert p s inst main o was local h then_state flash level r
     let fits = is_placed cert h.limits runs.stands.id runs.stands.l runs.stands.c inst runs.stands.is in
     let kind = runs.stands.of_kind in
     let meets = runs.stands.meets in
-    let r = successor (lines_of z) inst local.step back.exit in
+    let r = successor (order_of z) inst local.step back.exit in
     let only = one_exit local.step.exits.items back.exit (record { pc = inst.pc % 32768; clocks = 4 }) reti.exits back.is_exit in
     let end = placed_back cert inst local.step back.exit s kind reti.clears (sym (ap (λ (x : Exit). x.clocks) only)) in
     let t = s.space.timer in
@@ -238,7 +238,7 @@ handler_back image cert p s inst main o was local h then_state flash level runs 
     let meets = runs.stands.meets in
     let main_fits = is_placed cert h.limits runs.main_stands.id runs.main_stands.l runs.main_stands.c main runs.main_stands.is in
     let depth = main_slots cert main main_fits runs.main_stands.of_kind in
-    let r = successor (lines_of z) inst local.step back.exit in
+    let r = successor (order_of z) inst local.step back.exit in
     let draft : CoreMeets r was.core s.core = subst (λ d. CoreMeets (record r { regs = d.regs; pairs = d.pairs; flags = d.flags }) was.core
     s.core) (sym reti.draft) (record { regs = meets.core.regs; pairs = meets.core.pairs; flags = meets.core.flags }) in
     let given = given_back r was.core s.core back.restored draft in

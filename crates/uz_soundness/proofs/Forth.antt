@@ -32,7 +32,7 @@ use Rattle.uz_schedule.specs.Lines.{line_after, clock_after}
 use Rattle.uz_rules.specs.Meets.{LevelMeets}
 use Rattle.uz_rules.specs.OneStep.{MainTimer as RunsOn, OneStep}
 use Rattle.uz_soundness.specs.Claim.{scheduled, InTime}
-use Rattle.uz_schedule.specs.Lines.{lines_of}
+use Rattle.uz_schedule.specs.Lines.{order_of}
 use Rattle.uz_rules.specs.EdgeRule.{position_of}
 use Rattle.uz_soundness.proofs.Fits.{IsPlaced}
 use Rattle.uz_soundness.proofs.Premises.{IsCovered, EdgeHolds, Succeeds, LocalHolds, RestHolds, Premises}
@@ -58,15 +58,15 @@ level_of_instance cert p v inst h level place = some_same v inst.level
 -- The place of a result
 
 placed_line : (cert : Cert) (inst : Instance) (step : Step) (exit : Exit) → is_main inst.kind ≡ false
-    → (successor (lines_of cert.schedule) inst step exit).line ≡ line_after (lines_of cert.schedule) inst.line (inst.clock + exit.clocks)
+    → (successor (order_of cert.schedule) inst step exit).line ≡ line_after (order_of cert.schedule) inst.line (inst.clock + exit.clocks)
 placed_line cert inst step exit e = rw e refl
 
 placed_clock : (cert : Cert) (inst : Instance) (step : Step) (exit : Exit) → is_main inst.kind ≡ false
-    → (successor (lines_of cert.schedule) inst step exit).clock ≡ clock_after (lines_of cert.schedule) inst.line (inst.clock + exit.clocks)
+    → (successor (order_of cert.schedule) inst step exit).clock ≡ clock_after (order_of cert.schedule) inst.line (inst.clock + exit.clocks)
 placed_clock cert inst step exit e = rw e refl
 
 placed_level : (cert : Cert) (inst : Instance) (step : Step) (exit : Exit) → is_main inst.kind ≡ false
-    → (successor (lines_of cert.schedule) inst step exit).level ≡ level_after step.emit (inst.level % 2)
+    → (successor (order_of cert.schedule) inst step exit).level ≡ level_after step.emit (inst.level % 2)
 placed_level cert inst step exit e = rw e refl
 
 pub level_is : (kind : Kind) (level sync : ℕ) → is_main kind ≡ false → LevelMeets kind level sync → sync ≡ level
@@ -89,10 +89,10 @@ keeps : (image : FinMap nat_cmp ℕ) (cert : Cert) (p : ℕ) (s new : State PadH
     → level_at cert.schedule p ≡ Some (sync_level s.space) → At cert.schedule p inst.line inst.clock
     → scheduled (event_at cert.schedule) (position_of cert.schedule inst) s.clock exit.clocks ≡ listed
     (shown_at step.emit (s.clock + exit.clocks)) → shown edges ≡ listed (shown_at step.emit (s.clock + exit.clocks))
-    → LevelMeets inst.kind inst.level (sync_level s.space) → LevelMeets inst.kind (successor (lines_of cert.schedule) inst step exit).level
+    → LevelMeets inst.kind inst.level (sync_level s.space) → LevelMeets inst.kind (successor (order_of cert.schedule) inst step exit).level
     (sync_level new.space)
-    → Keeps cert p s new edges exit.clocks (successor (lines_of cert.schedule) inst step exit).line
-    (successor (lines_of cert.schedule) inst step exit).clock
+    → Keeps cert p s new edges exit.clocks (successor (order_of cert.schedule) inst step exit).line
+    (successor (order_of cert.schedule) inst step exit).clock
 keeps image cert p s new edges inst step exit h other level place edge emits before after =
     let z = cert.schedule in
     let c = exit.clocks in
@@ -108,7 +108,7 @@ keeps image cert p s new edges inst step exit h other level place edge emits bef
           ∙ (ap (λ es. last_in es (level_at z p)) stretch
           ∙ (ap (last_in (listed (shown_at step.emit (s.clock + c)))) level
           ∙ (last_in_listed step.emit (s.clock + c) (sync_level s.space) ∙ ap (λ v. Some v) sync)));
-      place = at_same z (p + c) _ (successor (lines_of z) inst step exit).line _ (successor (lines_of z) inst step exit).clock
+      place = at_same z (p + c) _ (successor (order_of z) inst step exit).line _ (successor (order_of z) inst step exit).clock
           (sym (placed_line cert inst step exit other)) (sym (placed_clock cert inst step exit other))
           (at_after z (p + c) inst.line (inst.clock + c) (at_more z p inst.line inst.clock c place));
       exact = emits ∙ sym stretch;
@@ -133,10 +133,10 @@ outside : (image : FinMap nat_cmp ℕ) (cert : Cert) (p : ℕ) (s : State PadHis
     → level_at cert.schedule p ≡ Some (sync_level s.space) → Stands cert kind o d inst s → At cert.schedule p inst.line inst.clock
     → ((exit : Exit) → Contains step.exits.items exit → 1 ≤ exit.clocks → scheduled (event_at cert.schedule)
     (position_of cert.schedule inst) s.clock exit.clocks ≡ listed (shown_at step.emit (s.clock + exit.clocks)))
-    → ((exit : Exit) → Contains step.exits.items exit → IsCovered cert (successor (lines_of cert.schedule) inst step exit))
-    → (one : OneStep cert.head (lines_of cert.schedule) inst o d step s edges new) → Outside cert kind o d p s new edges one.exit.clocks
+    → ((exit : Exit) → Contains step.exits.items exit → IsCovered cert (successor (order_of cert.schedule) inst step exit))
+    → (one : OneStep cert.head (order_of cert.schedule) inst o d step s edges new) → Outside cert kind o d p s new edges one.exit.clocks
 outside image cert p s kind inst o d edges new step h then_state other level stands place edge covers one =
-    let r = successor (lines_of cert.schedule) inst step one.exit in
+    let r = successor (order_of cert.schedule) inst step one.exit in
     let not_main : is_main inst.kind ≡ false = ap is_main stands.of_kind ∙ other in
     let kept = keeps image cert p s new edges inst step one.exit h not_main level place (edge one.exit one.is_exit one.at_least_one)
     one.events stands.meets.level one.meets.level in
@@ -159,7 +159,7 @@ pub alone_forth : (image : FinMap nat_cmp ℕ) (cert : Cert) (p : ℕ) (s : Stat
     (new : State PadHistory) (local : LocalHolds image cert inst)
     → Premises image cert → Carries image edges new → All (λ e. IsPlain e.kind) edges → level_at cert.schedule p ≡ Some (sync_level s.space)
     → (runs : AloneRuns cert p s inst o) → local.step.back ≡ false
-    → OneStep cert.head (lines_of cert.schedule) inst o 0 local.step s edges new → Turned image cert p s (RunsAlone inst o) edges new
+    → OneStep cert.head (order_of cert.schedule) inst o 0 local.step s edges new → Turned image cert p s (RunsAlone inst o) edges new
 alone_forth image cert p s inst o edges new local h carries plain level runs forth one =
     let covers : Succeeds cert inst local.step false = subst (Succeeds cert inst local.step) forth local.successor in
     let edge : EdgeHolds image cert Alone inst local.step = subst (λ k. EdgeHolds image cert k inst local.step) runs.stands.of_kind
@@ -204,7 +204,7 @@ pub handler_forth : (image : FinMap nat_cmp ℕ) (cert : Cert) (p : ℕ) (s : St
     (was : State PadHistory) (edges : List Edge) (new : State PadHistory) (local : LocalHolds image cert inst)
     → Premises image cert → Carries image edges new → All (λ e. IsPlain e.kind) edges → level_at cert.schedule p ≡ Some (sync_level s.space)
     → HandlerRuns cert p s inst main o was → local.step.back ≡ false
-    → OneStep cert.head (lines_of cert.schedule) inst was.core (depth_of main) local.step s edges new → Turned image cert p s
+    → OneStep cert.head (order_of cert.schedule) inst was.core (depth_of main) local.step s edges new → Turned image cert p s
     (RunsHandler inst main o was) edges new
 handler_forth image cert p s inst main o was edges new local h carries plain level runs forth one =
     let covers : Succeeds cert inst local.step false = subst (Succeeds cert inst local.step) forth local.successor in
@@ -330,11 +330,11 @@ pub main_forth : (image : FinMap nat_cmp ℕ) (cert : Cert) (p : ℕ) (s : State
     (edges : List Edge) (new : State PadHistory) (local : LocalHolds image cert inst)
     → Premises image cert → Carries image edges new → All (λ e. IsPlain e.kind) edges → level_at cert.schedule p ≡ Some (sync_level s.space)
     → (runs : MainRuns cert p s inst o rest) → Before cert p s rest → local.step.back ≡ false
-    → OneStep cert.head (lines_of cert.schedule) inst o 0 local.step s edges new → Turned image cert p s (RunsMain inst o rest) edges new
+    → OneStep cert.head (order_of cert.schedule) inst o 0 local.step s edges new → Turned image cert p s (RunsMain inst o rest) edges new
 main_forth image cert p s inst o rest edges new local h carries plain level runs before forth one =
     let z = cert.schedule in
     let c = one.exit.clocks in
-    let r = successor (lines_of z) inst local.step one.exit in
+    let r = successor (order_of z) inst local.step one.exit in
     let kind = runs.stands.of_kind in
     let rule = h.rests rest runs.rests.is_rest in
     let long = line_long z rest.line h.limits.schedule (h.limits.rests rest runs.rests.is_rest).line in

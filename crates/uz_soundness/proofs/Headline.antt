@@ -31,7 +31,7 @@ use Rattle.uz_rules.specs.Meets.{TimerCounts}
 use Rattle.uz_rules.specs.OneStep.{Contained, InstructionBegins as Begins}
 use Rattle.uz_soundness.specs.Claim.{InTime}
 use Rattle.uz_soundness.specs.Certified.{clock_of}
-use Rattle.uz_schedule.specs.Lines.{lines_of}
+use Rattle.uz_schedule.specs.Lines.{order_of}
 use Rattle.uz_soundness.proofs.Premises.{EdgeHolds, Returns, Succeeds, LocalHolds, Premises}
 use Rattle.uz_soundness.specs.Ways.{IsPlain, EveryTurnGoes}
 use Rattle.uz_soundness.specs.Invariant.{Stands, Running, RunsAlone, RunsMain, RunsHandler, AloneRuns, MainRuns, HandlerRuns, Runs}
@@ -74,7 +74,7 @@ not_entry false h = refl
 
 begins : (image : FinMap nat_cmp ℕ) (cert : Cert) (s : State PadHistory) (kind : Kind) (o : Core) (d : ℕ) (inst : Instance)
     (local : LocalHolds image cert inst) → Premises image cert → IsState s → s.image ≡ image
-    → Stands cert kind o d inst s → d ≤ cert.head.main → local.step.back ≡ false → Begins cert.head (lines_of cert.schedule) image inst o d
+    → Stands cert kind o d inst s → d ≤ cert.head.main → local.step.back ≡ false → Begins cert.head (order_of cert.schedule) image inst o d
     local.step s
 begins image cert s kind o d inst local h is_state flash stands few forth =
     let fits = is_placed cert h.limits stands.id stands.l stands.c inst stands.is in
@@ -92,29 +92,29 @@ begins image cert s kind o d inst local h is_state flash stands few forth =
 alone_goes : (image : FinMap nat_cmp ℕ) (cert : Cert) (p : ℕ) (s : State PadHistory) (inst : Instance) (o : Core)
     (local : LocalHolds image cert inst) → Premises image cert → IsState s → s.image ≡ image → (runs : AloneRuns cert p s inst o)
     → local.step.back ≡ false
-    → Contained cert.head (lines_of cert.schedule) inst o 0 local.step s
+    → Contained cert.head (order_of cert.schedule) inst o 0 local.step s
 alone_goes image cert p s inst o local h is_state flash runs forth =
-    h.laws.alone cert.head (lines_of cert.schedule) image inst o 0 local.step s runs.stands.of_kind
+    h.laws.alone cert.head (order_of cert.schedule) image inst o 0 local.step s runs.stands.of_kind
     (begins image cert s Alone o 0 inst local h is_state flash runs.stands (omega arith) forth)
 
 main_goes : (image : FinMap nat_cmp ℕ) (cert : Cert) (p : ℕ) (s : State PadHistory) (inst : Instance) (o : Core) (rest : Rest)
     (local : LocalHolds image cert inst) → Premises image cert → IsState s → s.image ≡ image → (runs : MainRuns cert p s inst o rest)
-    → is_entry s ≡ false → local.step.back ≡ false → Contained cert.head (lines_of cert.schedule) inst o 0 local.step s
+    → is_entry s ≡ false → local.step.back ≡ false → Contained cert.head (order_of cert.schedule) inst o 0 local.step s
 main_goes image cert p s inst o rest local h is_state flash runs later forth =
     let silent : EdgeHolds image cert Main inst local.step = subst (λ k. EdgeHolds image cert k inst local.step) runs.stands.of_kind
     local.edge in
-    h.laws.main cert.head (lines_of cert.schedule) image inst o 0 local.step s runs.stands.of_kind later silent
+    h.laws.main cert.head (order_of cert.schedule) image inst o 0 local.step s runs.stands.of_kind later silent
     (begins image cert s Main o 0 inst local h is_state flash runs.stands (omega arith) forth)
 
 handler_goes : (image : FinMap nat_cmp ℕ) (cert : Cert) (p : ℕ) (s : State PadHistory) (inst main : Instance) (o : Core)
     (was : State PadHistory) (local : LocalHolds image cert inst) → Premises image cert → IsState s → s.image ≡ image → HandlerRuns cert p s
     inst main o was
-    → local.step.back ≡ false → Contained cert.head (lines_of cert.schedule) inst was.core (depth_of main) local.step s
+    → local.step.back ≡ false → Contained cert.head (order_of cert.schedule) inst was.core (depth_of main) local.step s
 handler_goes image cert p s inst main o was local h is_state flash runs forth =
     let fits = is_placed cert h.limits runs.stands.id runs.stands.l runs.stands.c inst runs.stands.is in
     let main_fits = is_placed cert h.limits runs.main_stands.id runs.main_stands.l runs.main_stands.c main runs.main_stands.is in
     let long = line_long cert.schedule inst.line h.limits.schedule fits.line in
-    h.laws.handler cert.head (lines_of cert.schedule) image inst was.core (depth_of main) local.step s runs.stands.of_kind (omega arith)
+    h.laws.handler cert.head (order_of cert.schedule) image inst was.core (depth_of main) local.step s runs.stands.of_kind (omega arith)
     fits.clock (omega (arith, long))
     (begins image cert s Handler was.core (depth_of main) inst local h is_state flash runs.stands
     (main_slots cert main main_fits runs.main_stands.of_kind) forth)

@@ -5,7 +5,7 @@ use Rattle.std.proofs.lemmas.Bool.Decides.{eqb_tells, leb_tells}
 use Rattle.uz_schedule.specs.declared.lines.Schedule.{Schedule}
 use Rattle.uz_schedule.specs.Schedule.{length_of, start_of, frame_of, next_line, At, event_at, level_at}
 use Rattle.uz_schedule.specs.Lines.{line_after, clock_after}
-use Rattle.uz_schedule.specs.Lines.{lines_of}
+use Rattle.uz_schedule.specs.Lines.{order_of}
 use Rattle.uz_soundness.proofs.Level.{event_at_mod, mod_shift, level_mod}
 
 pub at_more : (s : Schedule) (p l k c : ℕ) → At s p l k → At s (p + c) l (k + c)
@@ -25,7 +25,7 @@ next_start s l k =
 pub at_next : (s : Schedule) (p l k : ℕ) → At s p l (length_of s l + k) → At s p (next_line s l) k
 at_next s p l k e = e ∙ sym (next_start s l k)
 
-pub at_after : (s : Schedule) (p l k : ℕ) → At s p l k → At s p (line_after (lines_of s) l k) (clock_after (lines_of s) l k)
+pub at_after : (s : Schedule) (p l k : ℕ) → At s p l k → At s p (line_after (order_of s) l k) (clock_after (order_of s) l k)
 at_after s p l k e =
     elim (leb_tells (suc k) (length_of s l)) [
       | inl t ↦ rw t.0 e

@@ -12,7 +12,7 @@ use Rattle.avr_decode.specs.Decoded.{Decoded}
 use Rattle.avr_decode.proofs.Unique.{unique}
 use Rattle.uz_machine.specs.Effects.{effect_of}
 use Rattle.uz_schedule.specs.Instances.{instance_in, instance_at}
-use Rattle.uz_schedule.specs.Lines.{lines_of}
+use Rattle.uz_schedule.specs.Lines.{order_of}
 use Rattle.uz_schedule.specs.Schedule.{length_of, event_at}
 use Rattle.uz_schedule.specs.declared.kinds.Kind.{Kind}
 use Rattle.uz_schedule.specs.declared.kinds.Kind.TheVariants.{Main, Handler, Alone}
@@ -213,8 +213,8 @@ result_tells laws image cert next inst step is true back e =
     }
 result_tells laws image cert next inst step is false back e =
     let passes = not_false _ (unrefused _ _ _ e).0 in
-    λ exit has. any_covered laws cert next (successor (lines_of cert.schedule) inst step exit)
-    (exit_tells (λ x. lies_in_any cert next (successor (lines_of cert.schedule) inst step x)) step.exits.items exit passes has)
+    λ exit has. any_covered laws cert next (successor (order_of cert.schedule) inst step exit)
+    (exit_tells (λ x. lies_in_any cert next (successor (order_of cert.schedule) inst step x)) step.exits.items exit passes has)
 
 main_silent : (row : Option Instr) (inst : Instance) (i : Instr) (first second : ℕ) → is_main inst.kind ≡ true → row_emits_in_main row
     inst ≡ false → (row ≡ None → ⊥) → ((j : Instr) → row ≡ Some j → i ≡ j) → main_emits (effect_of i) inst ≡ false

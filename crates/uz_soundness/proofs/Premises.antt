@@ -21,7 +21,7 @@ use Rattle.uz_transfer.specs.Step.{IsStep, successor}
 use Rattle.uz_rules.specs.OneStep.{AloneContained, HandlerContained, MainContained}
 use Rattle.uz_transfer.specs.Emission.{main_emits}
 use Rattle.uz_soundness.specs.Claim.{scheduled}
-use Rattle.uz_schedule.specs.Lines.{lines_of}
+use Rattle.uz_schedule.specs.Lines.{order_of}
 use Rattle.uz_rules.specs.EdgeRule.{position_of}
 use Rattle.uz_schedule.specs.Instances.{instance_at, entry_instance, rest_instance}
 use Rattle.uz_soundness.proofs.Fits.{Limits}
@@ -42,9 +42,9 @@ pub record Returns (cert : Cert) (inst : Instance) (step : Step) : Type 0 where
   pub is_rest : Contains cert.rests rest
   pub exit : Exit
   pub is_exit : Contains step.exits.items exit
-  pub restored : restored (successor (lines_of cert.schedule) inst step exit) ≡ true
-  pub line : (successor (lines_of cert.schedule) inst step exit).line ≡ rest.line
-  pub clock : (successor (lines_of cert.schedule) inst step exit).clock ≡ rest.clock
+  pub restored : restored (successor (order_of cert.schedule) inst step exit) ≡ true
+  pub line : (successor (order_of cert.schedule) inst step exit).line ≡ rest.line
+  pub clock : (successor (order_of cert.schedule) inst step exit).clock ≡ rest.clock
   pub cells : cells_inside step.draft.cells.items rest.cells.items ≡ true
 
 -- the events that the schedule has on the way to each exit are just what is emitted. Main stores nothing that is seen
@@ -60,7 +60,7 @@ EdgeHolds image cert Alone inst step =
 
 abbrev pub Succeeds : Cert → Instance → Step → Bool → Type 0
 Succeeds cert inst step false = (exit : Exit) → Contains step.exits.items exit → IsCovered cert
-    (successor (lines_of cert.schedule) inst step exit)
+    (successor (order_of cert.schedule) inst step exit)
 Succeeds cert inst step true = Returns cert inst step
 
 pub record LocalHolds (image : FinMap nat_cmp ℕ) (cert : Cert) (inst : Instance) : Type 0 where

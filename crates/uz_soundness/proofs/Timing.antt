@@ -12,12 +12,12 @@ use Rattle.uz_machine.specs.Timer.{Timer, is_counting, timer_after}
 use Rattle.uz_schedule.specs.Lines.{clock_after}
 use Rattle.uz_transfer.specs.Step.{ends_line}
 use Rattle.uz_rules.specs.Meets.{TimerMeets}
-use Rattle.uz_schedule.specs.Lines.{lines_of}
+use Rattle.uz_schedule.specs.Lines.{order_of}
 use Rattle.uz_soundness.proofs.Timer.{count_within, count_over, count_counting, matched_within, matched_over}
 
 pub record Timed (z : Schedule) (inst : Instance) (t : Timer) (c : ℕ) : Type 0 where
-  pub count : (timer_after c t).count ≡ clock_after (lines_of z) inst.line (inst.clock + c)
-  pub matched : (timer_after c t).matched ≡ (inst.pending || ends_line (lines_of z) inst.line (inst.clock + c))
+  pub count : (timer_after c t).count ≡ clock_after (order_of z) inst.line (inst.clock + c)
+  pub matched : (timer_after c t).matched ≡ (inst.pending || ends_line (order_of z) inst.line (inst.clock + c))
 
 pub timed : (z : Schedule) (inst : Instance) (t : Timer) (c : ℕ) → is_counting t ≡ true → TimerMeets Handler inst t → suc t.top ≡ length_of
     z inst.line → inst.clock < length_of z inst.line → c < length_of z inst.line → Timed z inst t c

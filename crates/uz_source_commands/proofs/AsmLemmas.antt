@@ -7,7 +7,7 @@ use Rattle.uz_source_commands.specs.declared.asm_command.Work.{Work}
 use Rattle.uz_files.specs.declared.ending.Failure.{Failure}
 use Rattle.uz_files.specs.declared.status.Status.{Status}
 use Rattle.uz_files.specs.declared.status.Status.TheVariants.{Done, Unread, BadInput, Unwritten, NoMemory}
-use Rattle.uz_files.specs.Answers.{Answer, ComesOf, NoPart, Outcome, WritesFile, one_line, outside}
+use Rattle.uz_files.specs.Answers.{Answer, ComesOf, NoPart, MayCome, WritesFile, one_line, outside}
 use Rattle.uz_files.specs.Lines.{no_memory_line}
 use Rattle.uz_files.specs.Endings.{ComesOfFailure, EndsBy}
 use Rattle.uz_files.specs.Reading.{Fails, text_limit}
@@ -35,7 +35,7 @@ module _ (files mid after : Option FileMap) (load_fault : Type 0) (source hex : 
 
   pub asm_done : (narrow wide : Type 0) (old new : Option (List ℕ)) → (narrow → wide) → WritesFile mid hex work.text.items after
       → ((f : Option FileMap) → ComesOf (one_line Done work.line.items) narrow came (outside f old) (outside f new))
-      → Outcome (AsmAnswers files load_fault source hex) NoPart wide came (outside files old) (outside after new)
+      → MayCome (AsmAnswers files load_fault source hex) NoPart wide came (outside files old) (outside after new)
   asm_done narrow wide old new widen written comes =
       inr (inl (
         written_then (record { name = hex; bytes = work.text.items }) work.line.items,
@@ -56,7 +56,7 @@ module _ (files mid after : Option FileMap) (load_fault : Type 0) (source hex : 
   }
 
   pub asm_unwritten : (wide : Type 0) (text : Option (List ℕ)) → wide → came ≡ Unwritten → WritesSome mid hex work.text.items after
-      → Outcome (AsmAnswers files load_fault source hex) NoPart wide came (outside files text) (outside after text)
+      → MayCome (AsmAnswers files load_fault source hex) NoPart wide came (outside files text) (outside after text)
   asm_unwritten wide text fault is part =
       inr (inl (
         written_then (record { name = hex; bytes = work.text.items }) work.line.items,
@@ -76,7 +76,7 @@ module _ (files mid after : Option FileMap) (load_fault : Type 0) (source hex : 
       ))
 
   pub asm_lacks : (wide : Type 0) (old new : Option (List ℕ)) → came ≡ NoMemory → TakesPrefix old no_memory_line new → WritesSome mid hex
-      work.text.items after → Outcome (AsmAnswers files load_fault source hex) NoPart wide came (outside files old) (outside after new)
+      work.text.items after → MayCome (AsmAnswers files load_fault source hex) NoPart wide came (outside files old) (outside after new)
   asm_lacks wide old new is line part =
       inr (inl (
         written_then (record { name = hex; bytes = work.text.items }) work.line.items,
@@ -98,7 +98,7 @@ module _ (files mid after : Option FileMap) (load_fault : Type 0) (source hex : 
 pub asm_failed : (files after : Option FileMap) (load_fault narrow wide : Type 0) (source hex : List ℕ) (failure : Failure) (came : Status)
     (old new : Option (List ℕ)) → after ≡ files → (narrow → wide) → EndsBy (Fails files load_fault source text_limit RefusesSource)
     failure → ((f : Option FileMap) → ComesOfFailure failure narrow came (outside f old) (outside f new))
-    → Outcome (AsmAnswers files load_fault source hex) NoPart wide came (outside files old) (outside after new)
+    → MayCome (AsmAnswers files load_fault source hex) NoPart wide came (outside files old) (outside after new)
 asm_failed files after load_fault narrow wide source hex failure came old new same widen given comes =
     run_outcome (AsmAnswers files load_fault source hex) NoPart (Err failure) came narrow wide files after old new widen same
     (ends_by (Fails files load_fault source text_limit RefusesSource) (AsmAnswers files load_fault source hex) failure

@@ -19,7 +19,7 @@ use Rattle.uz_source_commands.specs.declared.asm_command.Work.{Work}
 use Rattle.uz_files.specs.declared.ending.Failure.{Failure}
 use Rattle.uz_files.specs.declared.status.Status.{Status}
 use Rattle.uz_files.specs.declared.status.Status.TheVariants.{Done, Unread, BadInput, Unwritten, NoMemory}
-use Rattle.uz_files.specs.Answers.{Answer, ComesOf, NoPart, Outcome, Outside, WritesFile, one_line, outside}
+use Rattle.uz_files.specs.Answers.{Answer, ComesOf, NoPart, MayCome, Outside, WritesFile, one_line, outside}
 use Rattle.uz_files.specs.Lines.{no_memory_line}
 use Rattle.uz_files.specs.Endings.{ComesOfFailure, EndsBy}
 use Rattle.uz_source_commands.specs.AsmCommand.{assembled_line}
@@ -43,7 +43,7 @@ use Rattle.uz_files.proofs.TextLemmas.{takes_none}
 module _ (files after : Option FileMap) (name bytes line : List ℕ) (came : Status) where
   pub writing_done : (narrow wide : Type 0) (old new : Option (List ℕ)) → (narrow → wide) → WritesFile files name bytes after
       → ((f : Option FileMap) → ComesOf (one_line Done line) narrow came (outside f old) (outside f new))
-      → Outcome (IsWriting name bytes line) NoPart wide came (outside files old) (outside after new)
+      → MayCome (IsWriting name bytes line) NoPart wide came (outside files old) (outside after new)
   writing_done narrow wide old new widen written comes =
       inr (inl (
         written_then (record { name = name; bytes = bytes }) line,
@@ -53,7 +53,7 @@ module _ (files after : Option FileMap) (name bytes line : List ℕ) (came : Sta
       ))
 
   pub writing_cut : (wide : Type 0) (text : Option (List ℕ)) → wide → came ≡ Unwritten → WritesSome files name bytes after
-      → Outcome (IsWriting name bytes line) NoPart wide came (outside files text) (outside after text)
+      → MayCome (IsWriting name bytes line) NoPart wide came (outside files text) (outside after text)
   writing_cut wide text fault is part =
       inr (inl (
         written_then (record { name = name; bytes = bytes }) line,
@@ -62,7 +62,7 @@ module _ (files after : Option FileMap) (name bytes line : List ℕ) (came : Sta
       ))
 
   pub writing_lacks : (wide : Type 0) (old new : Option (List ℕ)) → came ≡ NoMemory → TakesPrefix old no_memory_line new → WritesSome files
-      name bytes after → Outcome (IsWriting name bytes line) NoPart wide came (outside files old) (outside after new)
+      name bytes after → MayCome (IsWriting name bytes line) NoPart wide came (outside files old) (outside after new)
   writing_lacks wide old new is text part =
       inr (inl (
         written_then (record { name = name; bytes = bytes }) line,
@@ -72,7 +72,7 @@ module _ (files after : Option FileMap) (name bytes line : List ℕ) (came : Sta
 
 -- an outcome of some answers is one of others
 outcome_map : (P Q : Answer → Type 0) (narrow wide : Type 0) (came : Status) (old new : Outside) → (narrow → wide)
-    → ((answer : Answer) → P answer → Q answer) → Outcome P NoPart narrow came old new → Outcome Q NoPart wide came old new
+    → ((answer : Answer) → P answer → Q answer) → MayCome P NoPart narrow came old new → MayCome Q NoPart wide came old new
 outcome_map P Q narrow wide came old new widen leads (inl starts) = inl starts
 outcome_map P Q narrow wide came old new widen leads (inr (inl (answer, given, comes))) =
     inr (inl (answer, leads answer given, comes_by answer came narrow wide old new widen comes))
@@ -83,13 +83,13 @@ pub macro_written : (files mid after : Option FileMap) (load_fault narrow wide :
     (next : List (List ℕ) → FlatText → Answer → Type 0) (work : Work) (came : Status) (old new : Option (List ℕ)) → mid ≡ files
     → (narrow → wide)
     → IsMacroWork files source name next work
-    → Outcome (IsWriting name work.text.items work.line.items) NoPart narrow came (outside mid old) (outside after new)
-    → Outcome (ReadsFlat files load_fault source next) NoPart wide came (outside files old) (outside after new)
+    → MayCome (IsWriting name work.text.items work.line.items) NoPart narrow came (outside mid old) (outside after new)
+    → MayCome (ReadsFlat files load_fault source next) NoPart wide came (outside files old) (outside after new)
 macro_written files mid after load_fault narrow wide source name next work came old new same widen given h =
     outcome_map (IsWriting name work.text.items work.line.items) (ReadsFlat files load_fault source next) narrow wide came
     (outside files old) (outside after new) widen
     (λ answer e. inr (given.names, given.flat, given.expands, subst (next given.names given.flat) (sym e) given.written))
-    (subst (λ f. Outcome (IsWriting name work.text.items work.line.items) NoPart narrow came (outside f old) (outside after new)) same h)
+    (subst (λ f. MayCome (IsWriting name work.text.items work.line.items) NoPart narrow came (outside f old) (outside after new)) same h)
 
 -- the HEX text of an image is written
 pub build_worth : (files mid after : Option FileMap) (source hex : List ℕ) (work : Work) → IsImageWork files source work
@@ -109,7 +109,7 @@ build_worth files mid after source hex work given written = record {
 pub macro_failed : (files after : Option FileMap) (load_fault narrow wide : Type 0) (source : List ℕ) (next : List (List ℕ) → FlatText
     → Answer → Type 0) (failure : Failure) (came : Status) (old new : Option (List ℕ)) → after ≡ files → (narrow → wide)
     → EndsBy (ReadsFlat files load_fault source next) failure → ((f : Option FileMap) → ComesOfFailure failure narrow came (outside f old)
-    (outside f new)) → Outcome (ReadsFlat files load_fault source next) NoPart wide came (outside files old) (outside after new)
+    (outside f new)) → MayCome (ReadsFlat files load_fault source next) NoPart wide came (outside files old) (outside after new)
 macro_failed files after load_fault narrow wide source next failure came old new same widen given comes =
     run_outcome (ReadsFlat files load_fault source next) NoPart (Err failure) came narrow wide files after old new widen same given comes
 

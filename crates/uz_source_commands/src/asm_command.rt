@@ -3,7 +3,7 @@
 ghost use Rattle.std.specs.Prelude.{◌≡◌, ◌≤◌, ◌⊎◌, IfErr, IfOk, IsErrOf, OnErr, OnOk};
 ghost use Rattle.std.specs.FinMap as finmap;
 ghost use Rattle.uz_shelf.specs.Faults.{Rose};
-ghost use Rattle.uz_files.specs.Answers.{NoPart, Outcome, WritesFile, outside};
+ghost use Rattle.uz_files.specs.Answers.{NoPart, MayCome, WritesFile, outside};
 ghost use Rattle.uz_source_commands.specs.AsmCommand.{AsmAnswers, FilesAssembled, assembled_line};
 ghost use Rattle.uz_source_commands.specs.AsmValues.{IsWork};
 ghost use Rattle.uz_files.specs.Writing.{WritesSome};
@@ -59,7 +59,7 @@ pub fn run_asm<H: Shelf, K: Sink>(
     shelf: &mut H,
     out: &mut K,
 ) -> Status
-    ensures outcome { Outcome (AsmAnswers (H.files shelf.old) (Rose (H.load_faults shelf.old) (H.load_faults shelf.new)) source.now hex.now) NoPart
+    ensures outcome { MayCome (AsmAnswers (H.files shelf.old) (Rose (H.load_faults shelf.old) (H.load_faults shelf.new)) source.now hex.now) NoPart
         (Rose (H.write_faults shelf.old) (H.write_faults shelf.new) ⊎ Rose (K.faults out.old) (K.faults out.new))
         result (outside (H.files shelf.old) (K.text out.old)) (outside (H.files shelf.new) (K.text out.new)) }
     ensures assembled { result ≡ Status.Done → FilesAssembled (H.files shelf.old) (H.files shelf.new) source.now hex.now }

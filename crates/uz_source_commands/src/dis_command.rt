@@ -2,7 +2,7 @@
 
 ghost use Rattle.std.specs.Prelude.{◌≡◌, ◌≤◌, ◌⊎◌};
 ghost use Rattle.uz_shelf.specs.Faults.{Rose};
-ghost use Rattle.uz_files.specs.Answers.{NoPart, Outcome, outside};
+ghost use Rattle.uz_files.specs.Answers.{NoPart, MayCome, outside};
 ghost use Rattle.uz_source_commands.specs.DisCommand.{DisAnswers};
 ghost use Rattle.uz_files.specs.Endings.{Gives};
 
@@ -27,7 +27,7 @@ fn list_file<H: Shelf>(alloc: Global, shelf: &mut H, hex: &str) -> Result<Ending
 
 /// `dis HEX`.
 pub fn run_dis<H: Shelf, K: Sink>(alloc: Global, hex: &str, shelf: &mut H, out: &mut K) -> Status
-    ensures outcome { Outcome (DisAnswers (H.files shelf.old) (Rose (H.load_faults shelf.old) (H.load_faults shelf.new)) hex.now) NoPart
+    ensures outcome { MayCome (DisAnswers (H.files shelf.old) (Rose (H.load_faults shelf.old) (H.load_faults shelf.new)) hex.now) NoPart
         (Rose (H.write_faults shelf.old) (H.write_faults shelf.new) ⊎ Rose (K.faults out.old) (K.faults out.new))
         result (outside (H.files shelf.old) (K.text out.old)) (outside (H.files shelf.new) (K.text out.new)) }
     ensures files { H.files shelf.new ≡ H.files shelf.old }

@@ -7,7 +7,7 @@ ghost use Rattle.avr_macro.specs.Answers.{names_of};
 ghost use Rattle.uz_hex.specs.HexText.{IsHexOf};
 ghost use Rattle.uz_hex.specs.Writing.{hex_text};
 ghost use Rattle.uz_shelf.specs.Faults.{Rose};
-ghost use Rattle.uz_files.specs.Answers.{NoPart, Outcome, WritesFile, outside};
+ghost use Rattle.uz_files.specs.Answers.{NoPart, MayCome, WritesFile, outside};
 ghost use Rattle.uz_source_commands.specs.AsmCommand.{assembled_line};
 ghost use Rattle.uz_files.specs.Endings.{EndsBy};
 ghost use Rattle.uz_source_commands.specs.MacroCommands.{BuildAnswers, ExpandAnswers, FilesBuilt, IsBuilt, IsExpanded, IsUnbuilt, expanded_line, origin_of as origin_of_line};
@@ -54,7 +54,7 @@ fn write_work<H: Shelf, K: Sink>(
     shelf: &mut H,
     out: &mut K,
 ) -> Status
-    ensures outcome { Outcome (IsWriting name.now work.text.items work.line.items) NoPart
+    ensures outcome { MayCome (IsWriting name.now work.text.items work.line.items) NoPart
         (Rose (H.write_faults shelf.old) (H.write_faults shelf.new) ⊎ Rose (K.faults out.old) (K.faults out.new))
         result (outside (H.files shelf.old) (K.text out.old)) (outside (H.files shelf.new) (K.text out.new)) }
     ensures written { result ≡ Status.Done → WritesFile (H.files shelf.old) name.now work.text.items (H.files shelf.new) }
@@ -172,7 +172,7 @@ pub fn run_expand<H: Shelf, K: Sink>(
     shelf: &mut H,
     out: &mut K,
 ) -> Status
-    ensures { Outcome (ExpandAnswers (H.files shelf.old) (Rose (H.load_faults shelf.old) (H.load_faults shelf.new)) source.now file.now) NoPart
+    ensures { MayCome (ExpandAnswers (H.files shelf.old) (Rose (H.load_faults shelf.old) (H.load_faults shelf.new)) source.now file.now) NoPart
         (Rose (H.write_faults shelf.old) (H.write_faults shelf.new) ⊎ Rose (K.faults out.old) (K.faults out.new))
         result (outside (H.files shelf.old) (K.text out.old)) (outside (H.files shelf.new) (K.text out.new)) }
 {
@@ -190,7 +190,7 @@ pub fn run_build<H: Shelf, K: Sink>(
     shelf: &mut H,
     out: &mut K,
 ) -> Status
-    ensures outcome { Outcome (BuildAnswers (H.files shelf.old) (Rose (H.load_faults shelf.old) (H.load_faults shelf.new)) source.now hex.now) NoPart
+    ensures outcome { MayCome (BuildAnswers (H.files shelf.old) (Rose (H.load_faults shelf.old) (H.load_faults shelf.new)) source.now hex.now) NoPart
         (Rose (H.write_faults shelf.old) (H.write_faults shelf.new) ⊎ Rose (K.faults out.old) (K.faults out.new))
         result (outside (H.files shelf.old) (K.text out.old)) (outside (H.files shelf.new) (K.text out.new)) }
     ensures built { result ≡ Status.Done → FilesBuilt (H.files shelf.old) (H.files shelf.new) source.now hex.now }

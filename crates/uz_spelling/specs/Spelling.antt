@@ -218,11 +218,11 @@ abbrev pub schedule_lines : Schedule → List (List ℕ) → List (List ℕ)
 schedule_lines s others =
     kinds_then s.kinds (line_of (fall_words s) ∷ (map (λ r. line_of (run_words r)) (runs_of s.lines) ++ others))
 
-abbrev pub lines_of : Cert → List (List ℕ)
-lines_of c =
+abbrev pub lines_of_certificate : Cert → List (List ℕ)
+lines_of_certificate c =
     codes "uzcert 1" ∷ line_of (size_words c) ∷ line_of (irq_words c.head) ∷ line_of (stack_words c.head)
     ∷ (map (λ m. line_of (cell_words m)) c.head.cells.items
     ++ schedule_lines c.schedule (map (λ r. line_of (rest_words r)) c.rests ++ state_lines c.head.cells.items c.entry c.points))
 
 abbrev pub spelling : Cert → List ℕ
-spelling c = join_with_byte (code "\n") (lines_of c)
+spelling c = join_with_byte (code "\n") (lines_of_certificate c)

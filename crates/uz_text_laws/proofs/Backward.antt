@@ -10,7 +10,7 @@ use Rattle.uz_schedule.specs.declared.states.Rest.{Rest}
 use Rattle.uz_schedule.specs.declared.states.Entry.{Entry}
 use Rattle.uz_schedule.specs.declared.states.Point.{Point}
 use Rattle.uz_schedule.specs.declared.certificate.Cert.{Cert}
-use Rattle.uz_spelling.specs.Spelling.{line_of, cell_words, event_words, kinds_then, runs_of, lines_of}
+use Rattle.uz_spelling.specs.Spelling.{line_of, cell_words, event_words, kinds_then, runs_of, lines_of_certificate}
 use Rattle.uz_lines.specs.declared.lines.Sizes.{Sizes}
 use Rattle.uz_lines.specs.declared.lines.StackLine.{StackLine}
 use Rattle.uz_lines.specs.declared.lines.Said.{Said}
@@ -543,7 +543,7 @@ made_lines : (s : Sizes) (r : Response) (t : StackLine) (cells : List Cell) (kin
     (rs : List Rest) (e : Entry) (ps : List Point)
     → s ≡ record { kinds = length kinds; lines = length (expand runs); rests = length rs; points = length ps; cells = length cells }
     → runs_of (expand runs) ≡ runs
-    → head_line ∷ spelled first_draft.head (said.Size s) ∷ parts_after r t cells kinds (fall_lines clock runs cells rs e ps) ≡ lines_of
+    → head_line ∷ spelled first_draft.head (said.Size s) ∷ parts_after r t cells kinds (fall_lines clock runs cells rs e ps) ≡ lines_of_certificate
     (made r t cells kinds clock runs rs e ps)
 made_lines s r t cells kinds clock runs rs e ps sizes same =
     ap (λ n. head_line ∷ spelled first_draft.head (said.Size n) ∷ parts_after r t cells kinds (fall_lines clock runs cells rs e ps)) sizes
@@ -559,13 +559,13 @@ made_lines s r t cells kinds clock runs rs e ps sizes same =
 
 late_lines : (s : Sizes) (r : Response) (t : StackLine) (cells : List Cell) (kinds : List (List Event)) (pieces : List (List ℕ)) (c : Cert)
     → length cells ≡ s.cells → length kinds ≡ s.kinds → LateBack s r t cells kinds pieces c
-    → head_line ∷ spelled first_draft.head (said.Size s) ∷ parts_after r t cells kinds pieces ≡ lines_of c
+    → head_line ∷ spelled first_draft.head (said.Size s) ∷ parts_after r t cells kinds pieces ≡ lines_of_certificate c
 late_lines s r t cells kinds pieces c cell_count kind_count x =
     ap (λ late. head_line ∷ spelled first_draft.head (said.Size s) ∷ parts_after r t cells kinds late) x.parts
     ∙ (made_lines s r t cells kinds x.clock x.runs x.rs x.e x.ps
     (sizes_same s (length kinds) (length (expand x.runs)) (length x.rs) (length x.ps) (length cells) kind_count x.lines x.rests x.points
     cell_count) x.same
-    ∙ ap lines_of (sym x.is))
+    ∙ ap lines_of_certificate (sym x.is))
 
 abbrev opening : Sizes → Response → StackLine → List (List ℕ) → List (List ℕ)
 opening s r t others = head_line ∷ spelled first_draft.head (said.Size s) ∷ spelled first_draft.head (said.Irq r) ∷ spelled first_draft.head
@@ -573,26 +573,26 @@ opening s r t others = head_line ∷ spelled first_draft.head (said.Size s) ∷ 
 
 middle_lines : (s : Sizes) (r : Response) (t : StackLine) (cells : List Cell) (pieces : List (List ℕ)) (c : Cert) → length cells ≡ s.cells
     → MiddleBack s r t cells pieces c
-    → opening s r t (map (λ x. line_of (cell_words x)) cells ++ pieces) ≡ lines_of c
+    → opening s r t (map (λ x. line_of (cell_words x)) cells ++ pieces) ≡ lines_of_certificate c
 middle_lines s r t cells pieces c cell_count x =
     ap (λ others. opening s r t (map (λ m. line_of (cell_words m)) cells ++ others)) x.parts ∙ late_lines s r t cells x.kinds x.rest c
     cell_count x.count x.later
 
 others_lines : (s : Sizes) (r : Response) (t : StackLine) (pieces : List (List ℕ)) (c : Cert) → OthersBack s r t pieces c → opening s r t
-    pieces ≡ lines_of c
+    pieces ≡ lines_of_certificate c
 others_lines s r t pieces c x = ap (opening s r t) x.parts ∙ middle_lines s r t x.cells x.rest c x.count x.later
 
 stack_lines : (s : Sizes) (r : Response) (pieces : List (List ℕ)) (c : Cert) → StackBack s r pieces c
-    → head_line ∷ spelled first_draft.head (said.Size s) ∷ spelled first_draft.head (said.Irq r) ∷ pieces ≡ lines_of c
+    → head_line ∷ spelled first_draft.head (said.Size s) ∷ spelled first_draft.head (said.Irq r) ∷ pieces ≡ lines_of_certificate c
 stack_lines s r pieces c x =
     ap (λ ls. head_line ∷ spelled first_draft.head (said.Size s) ∷ spelled first_draft.head (said.Irq r) ∷ ls) x.parts ∙ others_lines s r
     x.t x.rest c x.later
 
 irq_lines : (s : Sizes) (pieces : List (List ℕ)) (c : Cert) → IrqBack s pieces c → head_line ∷ spelled first_draft.head
-    (said.Size s) ∷ pieces ≡ lines_of c
+    (said.Size s) ∷ pieces ≡ lines_of_certificate c
 irq_lines s pieces c x = ap (λ ls. head_line ∷ spelled first_draft.head (said.Size s) ∷ ls) x.parts ∙ stack_lines s x.r x.rest c x.later
 
-size_lines : (l : LineSpelling) (pieces : List (List ℕ)) (c : Cert) → NextRead first_draft due.Size pieces c → head_line ∷ pieces ≡ lines_of
+size_lines : (l : LineSpelling) (pieces : List (List ℕ)) (c : Cert) → NextRead first_draft due.Size pieces c → head_line ∷ pieces ≡ lines_of_certificate
     c
 size_lines l pieces c x =
     let next = size_next first_draft x.value in
@@ -601,5 +601,5 @@ size_lines l pieces c x =
 
 -- the lines after the first of what is read to its end are those of its certificate
 pub lines_back : (l : LineSpelling) (pieces : List (List ℕ)) (c : Cert) → read_from first_draft pieces ≡ told c
-    → head_line ∷ pieces ≡ lines_of c
+    → head_line ∷ pieces ≡ lines_of_certificate c
 lines_back l pieces c h = size_lines l pieces c (next_read l first_draft due.Size pieces c first_kept (due_size first_draft refl) h)

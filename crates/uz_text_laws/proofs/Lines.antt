@@ -16,7 +16,7 @@ use Rattle.uz_schedule.specs.declared.states.Rest.{Rest}
 use Rattle.uz_schedule.specs.declared.states.Entry.{Entry}
 use Rattle.uz_schedule.specs.declared.states.Point.{Point}
 use Rattle.uz_lines.specs.Grammar.{Words}
-use Rattle.uz_lines.specs.Forms.{Form, reads}
+use Rattle.uz_lines.specs.Forms.{LineForm, reads}
 use Rattle.uz_lines.specs.Lines.{size_form, irq_form, stack_form, cell_form, kind_form, event_form, fall_form, run_form, rest_form}
 use Rattle.uz_lines.specs.Lines.{entry_form, point_form, end_form}
 use Rattle.uz_lines.specs.declared.lines.Run.{Run}
@@ -188,7 +188,7 @@ cut_again : (b : ℕ) (w : List ℕ) (ws : List (List ℕ)) → EachPlain ((b �
     ((b ∷ w) ∷ ws)
 cut_again b w ws h = ap line (words_again b w ws h)
 
-read_again : (form : Form) (b : ℕ) (w : List ℕ) (ws : List (List ℕ)) (s : Said) → EachPlain ((b ∷ w) ∷ ws)
+read_again : (form : LineForm) (b : ℕ) (w : List ℕ) (ws : List (List ℕ)) (s : Said) → EachPlain ((b ∷ w) ∷ ws)
     → reads form (line ((b ∷ w) ∷ ws)) ≡ Ok s
     → reads form (words_in (line_of ((b ∷ w) ∷ ws)) true) ≡ Ok s
 read_again form b w ws s h e = ap (reads form) (cut_again b w ws h) ∙ e
@@ -199,7 +199,7 @@ starts [] = false
 starts ([] ∷ ws) = false
 starts ((b ∷ w) ∷ ws) = true
 
-read_words : (form : Form) (ws : List (List ℕ)) (s : Said) → starts ws ≡ true → EachPlain ws → reads form (line ws) ≡ Ok s
+read_words : (form : LineForm) (ws : List (List ℕ)) (s : Said) → starts ws ≡ true → EachPlain ws → reads form (line ws) ≡ Ok s
     → reads form (words_in (line_of ws) true) ≡ Ok s
 read_words form [] s h p e = absurd cc
 read_words form ([] ∷ ws) s h p e = absurd cc
@@ -216,7 +216,7 @@ decimal_some n h = by (decimal n) (decimal_nonempty n (below n h (lit≤ tt)))
     by [] g = absurd (omega (arith, g))
     by (b ∷ w) g = (b, w, refl)
 
-event_again : (form : Form) (e : Event) (s : Said) → EventFits e → reads form (line (event_words e)) ≡ Ok s
+event_again : (form : LineForm) (e : Event) (s : Said) → EventFits e → reads form (line (event_words e)) ≡ Ok s
     → reads form (words_in (line_of (event_words e)) true) ≡ Ok s
 event_again form e s f h =
     let clock = f.clock in

@@ -11,7 +11,7 @@ use Rattle.uz_schedule.specs.WellFormed.{StackFits, CellFits, WellFormed}
 use Rattle.uz_schedule.specs.declared.header.Cell.{Cell}
 use Rattle.uz_schedule.specs.declared.header.Head.{Head}
 use Rattle.uz_schedule.specs.declared.certificate.Cert.{Cert}
-use Rattle.uz_spelling.specs.Spelling.{kinds_then, runs_of, lines_of, spelling}
+use Rattle.uz_spelling.specs.Spelling.{kinds_then, runs_of, lines_of_certificate, spelling}
 use Rattle.uz_lines.specs.declared.lines.Sizes.{Sizes}
 use Rattle.uz_lines.specs.declared.lines.StackLine.{StackLine}
 use Rattle.uz_lines.specs.declared.lines.Said.TheVariants as said
@@ -163,7 +163,7 @@ head_of line rest c e = by (bytes_eq line head_line) refl (is_more rest) e
     by true is false h = absurd cc
     by false is m h = absurd cc
 
-pieces_spelled : (l : LineSpelling) (pieces : List (List ℕ)) (c : Cert) → read_pieces pieces ≡ told c → pieces ≡ lines_of c
+pieces_spelled : (l : LineSpelling) (pieces : List (List ℕ)) (c : Cert) → read_pieces pieces ≡ told c → pieces ≡ lines_of_certificate c
 pieces_spelled l [] c e = absurd cc
 pieces_spelled l (line ∷ rest) c e =
     let h = head_of line rest c e in

@@ -7,7 +7,7 @@ use Rattle.uz_search.specs.declared.found.NotFound.{NotFound}
 use Rattle.uz_search.specs.declared.found.NotFound.TheVariants.{Memory as NoRoomToSearch}
 use Rattle.uz_files.specs.declared.status.Status.{Status}
 use Rattle.uz_files.specs.declared.status.Status.TheVariants as status
-use Rattle.uz_files.specs.Answers.{Answer, Ends, Outside, Outcome}
+use Rattle.uz_files.specs.Answers.{Answer, Ends, Outside, MayCome}
 use Rattle.uz_files.specs.Formats.{Readings}
 use Rattle.uz_top.specs.Words.{Command, Asm, Build, Certify, Check, Debug, Demo, Dis, Expand, Play, Trace}
 use Rattle.uz_top.specs.Commands.{AllowedFor, Answers, AnswersBy, IsDecided, LacksRead, PartAnswers, Succeeds}
@@ -373,26 +373,26 @@ unread_not_unwritten : status.Unread ≢ status.Unwritten
 unread_not_unwritten e = cc
 
 module _ (files : Option FileMap) (load_fault write_fault : Type 0) (c : Command) (came : Status) (old new : Outside) where
-  not_usage : Outcome (Answers files load_fault c) (PartAnswers files c) write_fault came old new → came ≢ status.Usage
+  not_usage : MayCome (Answers files load_fault c) (PartAnswers files c) write_fault came old new → came ≢ status.Usage
   not_usage h is =
       let from = from_answer (Answers files load_fault c) (PartAnswers files c) write_fault came old new status.Usage usage_not_memory
       usage_not_unwritten h is in
       never_usage files load_fault c from.0 from.1 from.2
 
-  unread_by : Outcome (Answers files load_fault c) (PartAnswers files c) write_fault came old new → came ≡ status.Unread → load_fault
+  unread_by : MayCome (Answers files load_fault c) (PartAnswers files c) write_fault came old new → came ≡ status.Unread → load_fault
       ⊎ LacksRead files c
   unread_by h is =
       let from = from_answer (Answers files load_fault c) (PartAnswers files c) write_fault came old new status.Unread unread_not_memory
       unread_not_unwritten h is in
       unread_cause files load_fault c from.0 from.1 from.2
 
-  pub unwritten : Outcome (Answers files load_fault c) (PartAnswers files c) write_fault came old new → came ≡ status.Unwritten
+  pub unwritten : MayCome (Answers files load_fault c) (PartAnswers files c) write_fault came old new → came ≡ status.Unwritten
       → write_fault
   unwritten = unwritten_by (Answers files load_fault c) (PartAnswers files c) write_fault came old new (never_unwritten files load_fault c)
 
 module _ (one : OneEnd) (readings : Readings) (told : FileMap) (load_fault write_fault : Type 0) (c : Command) (came : Status)
     (old new : Outside) where
-  exact : Outcome (Answers (Some told) load_fault c) (PartAnswers (Some told) c) write_fault came old new → (came ≡ status.NoMemory)
+  exact : MayCome (Answers (Some told) load_fault c) (PartAnswers (Some told) c) write_fault came old new → (came ≡ status.NoMemory)
       ⊎ (load_fault ⊎ (((came ≡ status.Unwritten) × write_fault) ⊎ IsDecided (Some told) write_fault c came old new))
   exact h =
       elim (came_from (Answers (Some told) load_fault c) (PartAnswers (Some told) c) write_fault came old new h) [
@@ -407,7 +407,7 @@ module _ (one : OneEnd) (readings : Readings) (told : FileMap) (load_fault write
       ended answer ends (inl fault) = inr (inl fault)
       ended answer ends (inr free) = inr (inr (inr (decided_by one readings told write_fault c answer came old new free ends)))
 
-  complete : Outcome (Answers (Some told) load_fault c) (PartAnswers (Some told) c) write_fault came old new → Succeeds (Some told) c
+  complete : MayCome (Answers (Some told) load_fault c) (PartAnswers (Some told) c) write_fault came old new → Succeeds (Some told) c
       → (load_fault → ⊥) → (write_fault → ⊥) → (came ≡ status.Done) ⊎ (came ≡ status.NoMemory)
   complete h well loads writes =
       elim (came_from (Answers (Some told) load_fault c) (PartAnswers (Some told) c) write_fault came old new h) [
@@ -418,7 +418,7 @@ module _ (one : OneEnd) (readings : Readings) (told : FileMap) (load_fault write
 
 -- a fault of the sink is one of writing
 pub outcome_wider : (Whole Part : Answer → Type 0) (narrow wide : Type 0) (came : Status) (old new : Outside) → (narrow → wide)
-    → Outcome Whole Part narrow came old new → Outcome Whole Part wide came old new
+    → MayCome Whole Part narrow came old new → MayCome Whole Part wide came old new
 outcome_wider Whole Part narrow wide came old new widen (inl starts) = inl starts
 outcome_wider Whole Part narrow wide came old new widen (inr (inl (answer, given, comes))) =
     inr (inl (answer, given, comes_by answer came narrow wide old new widen comes))
@@ -427,9 +427,9 @@ outcome_wider Whole Part narrow wide came old new widen (inr (inr (answer, given
 outcome_wider Whole Part narrow wide came old new widen (inr (inr (answer, given, inr lacks))) = inr (inr (answer, given, inr lacks))
 
 pub outcome_at : (k l : Command) (files : Option FileMap) (load_fault write_fault : Type 0) (came : Status) (old new : Outside) → k ≡ l
-    → Outcome (Answers files load_fault l) (PartAnswers files l) write_fault came old new → Outcome (Answers files load_fault k)
+    → MayCome (Answers files load_fault l) (PartAnswers files l) write_fault came old new → MayCome (Answers files load_fault k)
     (PartAnswers files k) write_fault came old new
-outcome_at k l files load_fault write_fault came old new same h = subst (λ c. Outcome (Answers files load_fault c) (PartAnswers files c)
+outcome_at k l files load_fault write_fault came old new same h = subst (λ c. MayCome (Answers files load_fault c) (PartAnswers files c)
     write_fault came old new) (sym same) h
 
 abbrev Exact : Command → Option FileMap → Type 0 → Type 0 → Status → Outside → Outside → Type 0
@@ -439,7 +439,7 @@ Exact c files load_fault write_fault came old new =
 
 exact_told : (one : OneEnd) (readings : Readings) (files : Option FileMap) (load_fault write_fault : Type 0) (c : Command)
     (came : Status) (old new : Outside)
-    → Outcome (Answers files load_fault c) (PartAnswers files c) write_fault came old new → Exact c files load_fault write_fault came old
+    → MayCome (Answers files load_fault c) (PartAnswers files c) write_fault came old new → Exact c files load_fault write_fault came old
     new
 exact_told one readings None load_fault write_fault c came old new h = tt
 exact_told one readings (Some told) load_fault write_fault c came old new h =
@@ -447,21 +447,21 @@ exact_told one readings (Some told) load_fault write_fault c came old new h =
 
 pub exact_in : (one : OneEnd) (readings : Readings) (o : Option Command) (c : Command) (files : Option FileMap)
     (load_fault write_fault : Type 0) (came : Status)
-    (old new : Outside) → Some c ≡ o → Outcome (Answers files load_fault c) (PartAnswers files c) write_fault came old new
+    (old new : Outside) → Some c ≡ o → MayCome (Answers files load_fault c) (PartAnswers files c) write_fault came old new
     → IfSome o (λ k. Exact k files load_fault write_fault came old new)
 exact_in one readings o c files load_fault write_fault came old new is h =
     subst (λ p. IfSome p (λ k. Exact k files load_fault write_fault came old new)) is
     (exact_told one readings files load_fault write_fault c came old new h)
 
 pub unread_in : (o : Option Command) (c : Command) (files : Option FileMap) (load_fault write_fault : Type 0) (came : Status)
-    (old new : Outside) → Some c ≡ o → Outcome (Answers files load_fault c) (PartAnswers files c) write_fault came old new
+    (old new : Outside) → Some c ≡ o → MayCome (Answers files load_fault c) (PartAnswers files c) write_fault came old new
     → came ≡ status.Unread → IfSome o (λ k. load_fault ⊎ LacksRead files k)
 unread_in o c files load_fault write_fault came old new is h unread =
     subst (λ p. IfSome p (λ k. load_fault ⊎ LacksRead files k)) is (unread_by files load_fault write_fault c came old new h unread)
 
 complete_told : (one : OneEnd) (readings : Readings) (files : Option FileMap) (load_fault write_fault : Type 0) (c : Command)
     (came : Status) (old new : Outside)
-    → Outcome (Answers files load_fault c) (PartAnswers files c) write_fault came old new
+    → MayCome (Answers files load_fault c) (PartAnswers files c) write_fault came old new
     → IfSome files (λ told. Succeeds files c → (load_fault → ⊥) → (write_fault → ⊥) → (came ≡ status.Done) ⊎ (came ≡ status.NoMemory))
 complete_told one readings None load_fault write_fault c came old new h = tt
 complete_told one readings (Some told) load_fault write_fault c came old new h =
@@ -469,7 +469,7 @@ complete_told one readings (Some told) load_fault write_fault c came old new h =
 
 pub complete_in : (one : OneEnd) (readings : Readings) (o : Option Command) (c : Command) (files : Option FileMap)
     (load_fault write_fault : Type 0)
-    (came : Status) (old new : Outside) → Some c ≡ o → Outcome (Answers files load_fault c) (PartAnswers files c) write_fault came old new
+    (came : Status) (old new : Outside) → Some c ≡ o → MayCome (Answers files load_fault c) (PartAnswers files c) write_fault came old new
     → IfSome o (λ k. IfSome files (λ told. Succeeds files k → (load_fault → ⊥) → (write_fault → ⊥) → (came ≡ status.Done)
     ⊎ (came ≡ status.NoMemory)))
 complete_in one readings o c files load_fault write_fault came old new is h =
@@ -478,6 +478,6 @@ complete_in one readings o c files load_fault write_fault came old new is h =
     (complete_told one readings files load_fault write_fault c came old new h)
 
 pub usage_in : (o : Option Command) (c : Command) (files : Option FileMap) (load_fault write_fault : Type 0) (came : Status)
-    (old new : Outside) → Some c ≡ o → Outcome (Answers files load_fault c) (PartAnswers files c) write_fault came old new
+    (old new : Outside) → Some c ≡ o → MayCome (Answers files load_fault c) (PartAnswers files c) write_fault came old new
     → came ≡ status.Usage → o ≡ None
 usage_in o c files load_fault write_fault came old new is h usage = absurd (not_usage files load_fault write_fault c came old new h usage)

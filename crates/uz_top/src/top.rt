@@ -3,7 +3,7 @@
 ghost use Rattle.std.specs.Prelude.{◌≡◌, ◌⊎◌, IfSome, Option};
 ghost use Rattle.uz_shelf.specs.Faults.{Rose};
 ghost use Rattle.uz_shelf.specs.Files.{FileMap};
-ghost use Rattle.uz_files.specs.Answers.{ComesOf, LoadFault, Outcome, WriteFault, one_line, outside};
+ghost use Rattle.uz_files.specs.Answers.{ComesOf, LoadFault, MayCome, WriteFault, one_line, outside};
 ghost use Rattle.uz_top.specs.CommandValues.{value_of};
 ghost use Rattle.uz_top.specs.Commands.{Answers, Certifies, CreatesNone, IsDecided, LacksRead, PartAnswers, StopTells, Succeeds};
 ghost use Rattle.uz_files.specs.Lines.{usage_line};
@@ -42,7 +42,7 @@ fn run<H: Shelf, K: Sink>(
     shelf: &mut H,
     out: &mut K,
 ) -> Status
-    ensures outcome { Outcome (Answers (H.files shelf.old) (Rose (H.load_faults shelf.old) (H.load_faults shelf.new)) (value_of command.now)) (PartAnswers (H.files shelf.old) (value_of command.now))
+    ensures outcome { MayCome (Answers (H.files shelf.old) (Rose (H.load_faults shelf.old) (H.load_faults shelf.new)) (value_of command.now)) (PartAnswers (H.files shelf.old) (value_of command.now))
         (Rose (H.write_faults shelf.old) (H.write_faults shelf.new) ⊎ Rose (K.faults out.old) (K.faults out.new))
         result (outside (H.files shelf.old) (K.text out.old)) (outside (H.files shelf.new) (K.text out.new)) }
     ensures certified { result ≡ Status.Done → WritesApart (value_of command.now) → Certifies (H.files shelf.old) (H.files shelf.new) (value_of command.now) }
@@ -105,7 +105,7 @@ pub fn uzebox<H: Shelf, K: Sink>(
 
     // The status, what was printed and what was written come of an answer that the words and the loaded bytes give.
     ensures answered { IfCommand words.now (λ c.
-        Outcome (Answers (H.files shelf.old) (LoadFault (H.load_faults shelf.old) (H.load_faults shelf.new)) c) (PartAnswers (H.files shelf.old) c)
+        MayCome (Answers (H.files shelf.old) (LoadFault (H.load_faults shelf.old) (H.load_faults shelf.new)) c) (PartAnswers (H.files shelf.old) c)
         (WriteFault (H.write_faults shelf.old) (H.write_faults shelf.new) (K.faults out.old) (K.faults out.new))
         result (outside (H.files shelf.old) (K.text out.old)) (outside (H.files shelf.new) (K.text out.new))) }
 

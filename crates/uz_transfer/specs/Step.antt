@@ -72,8 +72,8 @@ ends_line lines l k = nat_le (lines.length l) k
 -- The instance at an exit, by what is known after the instruction, what it emits and whether it clears the match. Main keeps its line,
 -- clock and level,
 -- and a handler alone has a pending match
-abbrev pub placed : Lines → Instance → Instance → Option EventKind → Bool → Exit → Instance
-placed lines inst draft emitted clears exit = record {
+abbrev pub at_exit : Lines → Instance → Instance → Option EventKind → Bool → Exit → Instance
+at_exit lines inst draft emitted clears exit = record {
   kind = inst.kind;
   pc = exit.pc;
   line = if is_main inst.kind then inst.line else line_after lines inst.line (inst.clock + exit.clocks);
@@ -89,7 +89,7 @@ placed lines inst draft emitted clears exit = record {
 }
 
 abbrev pub successor : Lines → Instance → Step → Exit → Instance
-successor lines inst step exit = placed lines inst step.draft step.emit step.clears exit
+successor lines inst step exit = at_exit lines inst step.draft step.emit step.clears exit
 
 -- Which words are read at a pc
 

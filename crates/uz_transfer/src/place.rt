@@ -4,7 +4,7 @@ ghost use Rattle.std.specs.Prelude.{◌≡◌, ◌<◌, ◌≤◌, ◌+◌, ◌%
 ghost use Rattle.uz_schedule.specs.Lines.{uniform, line_after, clock_after};
 ghost use Rattle.uz_transfer.specs.Kinds.{is_main as is_main_kind, is_handler as is_handler_kind};
 ghost use Rattle.uz_transfer.specs.Emission.{level_after as level_of_event};
-ghost use Rattle.uz_transfer.specs.Step.{ends_line as line_ends, placed};
+ghost use Rattle.uz_transfer.specs.Step.{ends_line as line_ends, at_exit};
 
 use crate::memory::{is_handler, is_main};
 use crate::step::Exit;
@@ -77,7 +77,7 @@ pub fn put_at(
 )
     requires line { at.now.line < order.count }
     requires clock { at.now.clock ≤ 1820 }
-    ensures { draft.new ≡ placed (uniform order.count) at.now draft.old emitted clears exit }
+    ensures { draft.new ≡ at_exit (uniform order.count) at.now draft.old emitted clears exit }
 {
     let (line, clock) = place(order, at, exit.clocks);
     draft.kind = at.kind;
