@@ -3,6 +3,7 @@ pub mod FirstWords
 pub mod GatheredLemmas
 pub mod Leaves
 pub mod Letters
+pub mod ReadWords
 pub mod SameWords
 pub mod ScatteredLemmas
 pub mod Unique

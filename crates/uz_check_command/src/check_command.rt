@@ -11,7 +11,7 @@ ghost use Rattle.uz_files.specs.Endings.{Gives, answer_of};
 use crate::check_lines::{accepted, refused};
 use std::alloc::{AllocError, Global};
 use uz_cert::Cert;
-use uz_check::check;
+use uz_check::{check, verdict_is_unique};
 use uz_files::{Ending, Failure, Status, finish, read_certificate, read_image};
 use uz_hex::Image;
 use uz_shelf::{Shelf, Sink};
@@ -22,6 +22,7 @@ fn check_pair(alloc: Global, image: Image, cert: Cert) -> Result<Ending, AllocEr
     ensures answer { IfOk result (λ e. IsVerdict image cert (answer_of e)) }
     ensures certified { IfOk result (λ e. e.status ≡ Status.Done → Certified image cert) }
 {
+    verdict_is_unique();
     match check(image, cert) {
         Ok(pair) => Ok(Ending {
             status: Status::Done,

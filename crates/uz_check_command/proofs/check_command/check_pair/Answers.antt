@@ -1,6 +1,5 @@
 use Rattle.std.proofs.Common.{refl, ◌∙◌, ap, subst}
 use Rattle.std.specs.Prelude.{None, Some}
-use Rattle.uz_check.proofs.OneVerdict.{accepted_none}
 use Rattle.uz_soundness.specs.Certified.{Certified}
 use Rattle.uz_files.specs.Answers.{one_line}
 use Rattle.uz_check_command.specs.CheckCommand.{accepted_line, refused_line}
@@ -15,7 +14,7 @@ returns-in_ok-accepted-in-Ok-clause-certified c = λ _.
 pub returns-in_ok-accepted-in-Ok-clause-answer : goal.returns-in_ok-accepted-in-Ok-clause-answer
 returns-in_ok-accepted-in-Ok-clause-answer c =
     let line = c.in_ok-accepted-in-Ok.ensures ∙ ap accepted_line (c.cert.ensures.same ∙ c.in-Ok.ensures.same.1) in
-    (None, accepted_none c.args.image c.args.cert (c.in-Ok.ensures.accepted.0 refl), ap (one_line Done) line)
+    (None, c.verdict_is_unique.ensures.none c.args.image c.args.cert (c.in-Ok.ensures.accepted.0 refl), ap (one_line Done) line)
 
 pub returns-in_ok-refused-in-Err-clause-answer : goal.returns-in_ok-refused-in-Err-clause-answer
 returns-in_ok-refused-in-Err-clause-answer c =
