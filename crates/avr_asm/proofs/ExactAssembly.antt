@@ -25,7 +25,8 @@ use Rattle.avr_asm.specs.declared.output.Built.{Built}
 use Rattle.avr_asm.specs.Emission.{Flash, put}
 use Rattle.avr_operands.specs.Faults.{OrFault, ◌>>=◌}
 use Rattle.avr_asm.specs.Hints.{mapped}
-use Rattle.avr_asm.specs.Layout.{is_reserved, defined, with_symbols, labelled, named, at_address, address_after, applied, arguments_in, effect_in}
+use Rattle.avr_asm.specs.Layout.{is_reserved, defined, with_symbols, labelled, named, at_address, address_after, applied, arguments_in}
+use Rattle.avr_asm.specs.Layout.{effect_in}
 use Rattle.avr_asm.specs.Layout.{after_line, is_instruction_line, with_address, at_line as at_laid, layout_from, layout_of, start}
 use Rattle.avr_asm.specs.Layout.{GivesLayout}
 use Rattle.avr_asm.specs.Lines.{lines_of, label_of, first_text, body_of, action_of, parts_of}

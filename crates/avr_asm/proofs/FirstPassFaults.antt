@@ -26,7 +26,8 @@ use Rattle.avr_asm.specs.declared.lines.Action.{Action}
 use Rattle.avr_asm.specs.declared.lines.Action.TheVariants as action
 use Rattle.avr_asm.specs.FirstFault.{IsLeast, OrgFault, EquFault, ValueFault, LacksValue, IsTaken, DefinesTaken, TakesTooMuch, IsMisplaced}
 use Rattle.avr_asm.specs.FirstFault.{InFirstPass}
-use Rattle.avr_asm.specs.Layout.{is_reserved, defined, moved, set, org_effect, equ_effect, effect_of, effect_in, address_after, with_symbols}
+use Rattle.avr_asm.specs.Layout.{is_reserved, defined, moved, set, org_effect, equ_effect, effect_of, effect_in, address_after}
+use Rattle.avr_asm.specs.Layout.{with_symbols}
 use Rattle.avr_asm.specs.Layout.{labelled, named, at_address, applied, arguments_in, after_line}
 use Rattle.avr_asm.specs.Lines.{content_of, content, label_of, body_of, action_of, parts_of, is_name, first_text}
 use Rattle.avr_asm.proofs.EntryLists.{same_key}
@@ -395,17 +396,18 @@ refused_stands follows line place w e =
           | inl l ↦
               let it = label_err (label_of line tokens) place w l in
               subst (InFirstPass follows line place) (sym it.0) (tokens, is, inl (it.1, it.2, it.3))
-          | inr f ↦ elim (unbound (named effect name f.0) (λ second. at_address second.symbols (address_after effect second.address)) w f.2) [
-            | inl n ↦
-                let it = name_err effect name f.0 w n in
-                subst (InFirstPass follows line place) (sym it.0)
-                (tokens, is, inr (it.1, does ∙ ap (λ g. Ok g) it.2, past_label (label_of line tokens) place f.0 name f.1 it.3))
-            | inr s ↦
-                let at = name_keeps effect name f.0 s.0 s.1 ∙ label_keeps (label_of line tokens) place f.0 f.1 in
-                of_address tokens effect is does
-                (subst (λ a. NoPlace effect a w) at
-                (no_place effect s.0.address w (address_err s.0.symbols (address_after effect s.0.address) w s.2)))
-          ]
+          | inr f ↦ elim (unbound (named effect name f.0) (λ second. at_address second.symbols
+              (address_after effect second.address)) w f.2) [
+                | inl n ↦
+                    let it = name_err effect name f.0 w n in
+                    subst (InFirstPass follows line place) (sym it.0)
+                    (tokens, is, inr (it.1, does ∙ ap (λ g. Ok g) it.2, past_label (label_of line tokens) place f.0 name f.1 it.3))
+                | inr s ↦
+                    let at = name_keeps effect name f.0 s.0 s.1 ∙ label_keeps (label_of line tokens) place f.0 f.1 in
+                    of_address tokens effect is does
+                    (subst (λ a. NoPlace effect a w) at
+                    (no_place effect s.0.address w (address_err s.0.symbols (address_after effect s.0.address) w s.2)))
+              ]
         ]
 
     with_tokens : (tokens : List Token) → content_of line ≡ Ok tokens

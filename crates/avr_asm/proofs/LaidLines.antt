@@ -14,7 +14,8 @@ use Rattle.avr_asm.specs.declared.layout.Place.{Place}
 use Rattle.avr_asm.specs.declared.lines.Action.{Action}
 use Rattle.avr_asm.specs.declared.lines.Action.TheVariants as action
 use Rattle.avr_operands.specs.Faults.{OrFault, ◌>>=◌}
-use Rattle.avr_asm.specs.Layout.{Layout, with_symbols, defined, labelled, named, at_address, address_after, applied, arguments_in, effect_of}
+use Rattle.avr_asm.specs.Layout.{Layout, with_symbols, defined, labelled, named, at_address, address_after, applied, arguments_in}
+use Rattle.avr_asm.specs.Layout.{effect_of}
 use Rattle.avr_asm.specs.Layout.{effect_in, after_line, is_instruction, is_instruction_in, is_instruction_line, with_address, at_line}
 use Rattle.avr_asm.specs.Layout.{layout_from}
 use Rattle.avr_asm.specs.Lines.{content_of, label_of, body_of, action_of, parts_of, first_text}

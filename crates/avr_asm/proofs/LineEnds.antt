@@ -158,11 +158,13 @@ some_end effect n even address next bytes is size e =
 
 -- data takes its bytes, or its line has the wrong operands
 shaped_end : (shape even : Bool) (n : ℕ) (effect : Effect) (address next : ℕ) (bytes : List ℕ) → ◌≡◌ {A = OrFault Effect}
-    (Ok (cond shape (Take n even) Wrong)) (Ok effect) → length bytes ≡ n → address_after effect address ≡ Ok next → EndsAt effect address next
+    (Ok (cond shape (Take n even) Wrong)) (Ok effect) → length bytes ≡ n → address_after effect address ≡ Ok next
+    → EndsAt effect address next
     bytes
 shaped_end true even n effect address next bytes is size e = some_end effect n even address next bytes (ok_same (Take n even) effect is)
     size e
-shaped_end false even n effect address next bytes is size e = let no : address_after Wrong address ≡ Ok next = ap (λ f. address_after f address)
+shaped_end false even n effect address next bytes is size e = let no : address_after Wrong address ≡ Ok next =
+    ap (λ f. address_after f address)
     (ok_same Wrong effect is) ∙ e in absurd cc
 
 shaped_none : (shape : Bool) (effect : Effect) → ◌≡◌ {A = OrFault Effect} (Ok (cond shape Nothing Wrong)) (Ok effect) → TakesNone effect

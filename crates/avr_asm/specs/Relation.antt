@@ -16,7 +16,8 @@ use Rattle.avr_asm.specs.declared.first_pass.Effect.{Effect}
 use Rattle.avr_asm.specs.declared.first_pass.Effect.TheVariants.{Move, Define}
 use Rattle.avr_asm.specs.declared.output.Hint.{Hint}
 use Rattle.avr_asm.specs.declared.output.Placed.{Placed}
-use Rattle.avr_asm.specs.Layout.{port_names, core_names, data_names, is_reserved, address_after, arguments_in, effect_in, is_instruction_line}
+use Rattle.avr_asm.specs.Layout.{port_names, core_names, data_names, is_reserved, address_after, arguments_in, effect_in}
+use Rattle.avr_asm.specs.Layout.{is_instruction_line}
 use Rattle.avr_asm.specs.Lines.{lines_of, content_of, label_of, first_text}
 use Rattle.avr_asm.specs.LineOutputs.{LineOutput, tokens_output}
 use Rattle.avr_asm.specs.Assembly.{Output, following}

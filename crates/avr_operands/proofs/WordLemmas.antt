@@ -121,7 +121,8 @@ is_by_number (One form) = true
 is_by_number (Two form other) = true
 is_by_number forms = false
 
-of_numbers : (forms : OperandForms) (name : Mnemonic) (o : Operands) → is_by_number forms ≡ true → HasWords (words_of name) (by_forms forms name o)
+of_numbers : (forms : OperandForms) (name : Mnemonic) (o : Operands) → is_by_number forms ≡ true
+    → HasWords (words_of name) (by_forms forms name o)
 of_numbers Zero name o h = subst (λ n. HasWords n (none_of (row_of name (pos 0) (pos 0)) o.parts)) (words_of_row name (pos 0) (pos 0))
     (of_none (row_of name (pos 0) (pos 0)) o.parts)
 of_numbers (One form) name o h = of_mapped (words_of name) (λ x. row_of name x (pos 0)) (λ x. words_of_row name x (pos 0))

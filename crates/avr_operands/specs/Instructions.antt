@@ -22,7 +22,8 @@ use Rattle.avr_operands.specs.declared.instructions.OperandForms.{OperandForms}
 use Rattle.avr_operands.specs.declared.instructions.OperandForms.TheVariants.{Zero, One, Two, Load, Store, LoadDisplaced, StoreDisplaced}
 use Rattle.avr_operands.specs.declared.instructions.OperandForms.TheVariants.{ProgramMemory}
 use Rattle.avr_operands.specs.declared.operands.OperandForm.{OperandForm}
-use Rattle.avr_operands.specs.declared.operands.OperandForm.TheVariants.{Register, UpperRegister, MiddleRegister, Pair, UpperPair, Byte, SixBits}
+use Rattle.avr_operands.specs.declared.operands.OperandForm.TheVariants.{Register, UpperRegister, MiddleRegister, Pair, UpperPair, Byte}
+use Rattle.avr_operands.specs.declared.operands.OperandForm.TheVariants.{SixBits}
 use Rattle.avr_operands.specs.declared.operands.OperandForm.TheVariants.{FiveBits, ThreeBits, Word, Relative7, Relative12, Absolute}
 use Rattle.avr_operands.specs.Faults.{OrFault}
 use Rattle.avr_operands.specs.Fields.{field}

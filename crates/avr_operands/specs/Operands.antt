@@ -14,7 +14,8 @@ use Rattle.avr_text.specs.Tokens.{Lies, text_of}
 use Rattle.avr_operands.specs.declared.errors.AsmWhy.TheVariants.{Operand, Range}
 use Rattle.avr_operands.specs.declared.operands.Operands as source
 use Rattle.avr_operands.specs.declared.operands.OperandForm.{OperandForm}
-use Rattle.avr_operands.specs.declared.operands.OperandForm.TheVariants.{Register, UpperRegister, MiddleRegister, Pair, UpperPair, Byte, SixBits}
+use Rattle.avr_operands.specs.declared.operands.OperandForm.TheVariants.{Register, UpperRegister, MiddleRegister, Pair, UpperPair, Byte}
+use Rattle.avr_operands.specs.declared.operands.OperandForm.TheVariants.{SixBits}
 use Rattle.avr_operands.specs.declared.operands.OperandForm.TheVariants.{FiveBits, ThreeBits, Word, Relative7, Relative12, Absolute}
 use Rattle.avr_operands.specs.Faults.{OrFault, least, why_of}
 

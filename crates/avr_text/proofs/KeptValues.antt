@@ -59,7 +59,8 @@ stays_bracket bracket (Ok x) b h = stays_equal (bracket_value bracket x) (bracke
 -- what waits is alike but for values
 data Alike : List Entry → List Entry → Type 0 where
   both_empty : Alike [] []
-  both_wait : {a b : ValueOrWhy} {op : Binary} {es fs : List Entry} → Stays a b → Alike es fs → Alike (Waiting a op ∷ es) (Waiting b op ∷ fs)
+  both_wait : {a b : ValueOrWhy} {op : Binary} {es fs : List Entry} → Stays a b → Alike es fs
+      → Alike (Waiting a op ∷ es) (Waiting b op ∷ fs)
   both_open : {bracket : Bracket} {from at : ℕ} {es fs : List Entry} → Alike es fs → Alike (Open bracket from at ∷ es)
       (Open bracket from at ∷ fs)
 
@@ -72,7 +73,8 @@ record Both (r s : ValueOrWhy × List Entry) : Type 0 where
   pub value : Stays r.0 s.0
   pub stack : Alike r.1 s.1
 
-reduced_alike : (level : ℕ) (a b : ValueOrWhy) {es fs : List Entry} → Stays a b → Alike es fs → Both (reduced level a es) (reduced level b fs)
+reduced_alike : (level : ℕ) (a b : ValueOrWhy) {es fs : List Entry} → Stays a b → Alike es fs
+    → Both (reduced level a es) (reduced level b fs)
 reduced_alike level a b h both_empty = record { value = h; stack = both_empty }
 reduced_alike level a b h (both_open k) = record { value = h; stack = both_open k }
 reduced_alike level a b h (both_wait {a = l} {b = m} {op = op} {es = es} {fs = fs} w k) =

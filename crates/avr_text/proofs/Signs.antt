@@ -30,7 +30,8 @@ signed_more ts from i t v le lt e =
     v ∙ ap (λ (x : Token). signed (slice_range ts from i) (sign_applied x.kind v)) there)
 
 -- as the loop counts
-pub signed_step : (ts : List Token) (from k : ℕ) (t : Token) (v w : ValueOrWhy) → from < k → true ≡ nat_lt (k - 1) (length ts) → t ≡ get_or ts
+pub signed_step : (ts : List Token) (from k : ℕ) (t : Token) (v w : ValueOrWhy) → from < k → true ≡ nat_lt (k - 1) (length ts)
+    → t ≡ get_or ts
     (k - 1) t → w ≡ sign_applied t.kind v → signed (slice_range ts from (k - 1)) w ≡ signed (slice_range ts from k) v
 signed_step ts from k t v w lt test e is =
     let last : suc (k - 1) ≡ k = omega arith in

@@ -185,7 +185,8 @@ module _ (text : List ℕ) (dot : Option ℤ) where
   Says operand.Parenthesis t = t.kind ≡ Mark 40
   Says Nothing t = Unit {0}
 
-  says_name : (t : Token) (v : ValueOrWhy) (o : Option Bracket) → t.kind ≡ Name → bracket_word (text_of text t) ≡ o → Says (word_or_value o v)
+  says_name : (t : Token) (v : ValueOrWhy) (o : Option Bracket) → t.kind ≡ Name → bracket_word (text_of text t) ≡ o
+      → Says (word_or_value o v)
       t
   says_name t v None e f = (name_tree (text_of text t), λ depth. spells_name e f)
   says_name t v (Some bracket) e f = (e, f)
@@ -306,7 +307,8 @@ module _ (text : List ℕ) (dot : Option ℤ) where
       subst (λ n. AtOperator n stack (((front ++ (signs ++ opening)) ++ ts) ++ t ∷ [])) one
       (record { front = front; ts = signs ++ (opening ++ (ts ++ t ∷ [])); x = r.0; left = l; spelled = r.1; joined = joins })
 
-  closed_at_holds : (tokens : List Token) (v : ValueOrWhy) (entries : List Entry) (t : Token) (s : Reader) (read : List Token) → t.kind ≡ Mark
+  closed_at_holds : (tokens : List Token) (v : ValueOrWhy) (entries : List Entry) (t : Token) (s : Reader) (read : List Token)
+      → t.kind ≡ Mark
       41 → Reduced s.depth 0 entries read → Holds (closed_at tokens v entries s) (read ++ t ∷ [])
   closed_at_holds tokens v [] t s read e r = tt
   closed_at_holds tokens v (Waiting w op ∷ entries) t s read e r = tt
@@ -314,7 +316,8 @@ module _ (text : List ℕ) (dot : Option ℤ) where
       subst (λ u. AtOperator (s.depth - 1) entries (u ++ t ∷ [])) r.joined (close_holds bracket from at s.depth entries r.front r.ts r.x t e
       r.spelled r.left)
 
-  waits_holds : (op : Binary) (p : ValueOrWhy × List Entry) (next : ℕ) (t : Token) (s : Reader) (read : List Token) → binary_of t.kind ≡ Some
+  waits_holds : (op : Binary) (p : ValueOrWhy × List Entry) (next : ℕ) (t : Token) (s : Reader) (read : List Token)
+      → binary_of t.kind ≡ Some
       op → Reduced s.depth (level_of op) p.1 read → Holds (waits op p.0 next p.1 s) (read ++ t ∷ [])
   waits_holds op p next t s read e r =
       choose_holds (length p.1 == 256) (record { stack = p.1; depth = s.depth; mode = mode.Refused })
@@ -328,7 +331,8 @@ module _ (text : List ℕ) (dot : Option ℤ) where
         joined = append-nil (r.front ++ (r.ts ++ t ∷ [])) ∙ sym (append_assoc r.front r.ts (t ∷ [])) ∙ ap (λ u. u ++ t ∷ []) r.joined;
       })
 
-  turned : (k : ℕ) (v : ValueOrWhy) (depth : ℕ) (stack : List Entry) (read : List Token) → k ≤ 7 → AtOperator depth stack read → Reduced depth
+  turned : (k : ℕ) (v : ValueOrWhy) (depth : ℕ) (stack : List Entry) (read : List Token) → k ≤ 7 → AtOperator depth stack read
+      → Reduced depth
       k (reduced k v stack).1 read
   turned k v depth stack read h q = subst (λ u. Reduced depth k (reduced k v stack).1 u) q.joined
       (reduces k 7 v depth stack q.front q.ts q.x q.left (below_seven stack) h q.spelled)

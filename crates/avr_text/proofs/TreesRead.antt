@@ -211,7 +211,8 @@ module _ (text : List ℕ) (tokens : List Token) (symbols : NameMap) (dot : Opti
       stack h k)
       ∙ ap (λ n. run text tokens symbols dot n us (before (Open bracket from at ∷ stack) (suc depth) n)) two
 
-  closing_runs : (depth at from place : ℕ) (t : Token) (rest : List Token) (stack entries : List Entry) (bracket : Bracket) (v w : ValueOrWhy)
+  closing_runs : (depth at from place : ℕ) (t : Token) (rest : List Token) (stack entries : List Entry) (bracket : Bracket)
+      (v w : ValueOrWhy)
       → t.kind ≡ Mark 41 → reduced 0 v entries ≡ (w, Open bracket from place ∷ stack)
       → run text tokens symbols dot at (t ∷ rest) (after entries (suc depth) v) ≡ run text tokens symbols dot (at + 1) rest
       (after stack depth (signed (slice_range tokens from place) (bracket_applied bracket w)))
@@ -231,7 +232,8 @@ module _ (text : List ℕ) (tokens : List Token) (symbols : NameMap) (dot : Opti
       ap (λ b. run text tokens symbols dot (at + 1) rest (cond b (closed tokens v (after entries depth v))
       (operator_or_none (binary_of t.kind) v (at + 1) (after entries depth v)))) (not_closing t.kind op e)
       ∙ ap (λ o. run text tokens symbols dot (at + 1) rest (operator_or_none o v (at + 1) (after entries depth v))) e
-      ∙ ap (λ (p : ValueOrWhy × List Entry). run text tokens symbols dot (at + 1) rest (waits op p.0 (at + 1) p.1 (after entries depth v))) r
+      ∙ ap (λ (p : ValueOrWhy × List Entry). run text tokens symbols dot (at + 1) rest (waits op p.0 (at + 1) p.1
+      (after entries depth v))) r
       ∙ ap (λ b. run text tokens symbols dot (at + 1) rest (cond b (record { stack = stack; depth = depth; mode = mode.Refused })
       (before (Waiting w op ∷ stack) depth (at + 1)))) (not_full (length stack) h)
 

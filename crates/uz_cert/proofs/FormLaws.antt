@@ -13,7 +13,8 @@ use Rattle.uz_lines.specs.Why.{◌>>=◌}
 use Rattle.uz_lines.specs.Grammar.{Words, rest_of, first_as, next_as, fixed_of, number_of, choice_of, slope_of, end_of}
 use Rattle.uz_lines.specs.Values.{raw_of, ends_of, is_ordered}
 use Rattle.uz_lines.specs.Items.{read_items}
-use Rattle.uz_lines.specs.Forms.{span_forms, span_of, with_span, spans_of, LineForm, fixed, number, choice, slope, spans, items, finish, reads}
+use Rattle.uz_lines.specs.Forms.{span_forms, span_of, with_span, spans_of, LineForm, fixed, number, choice, slope, spans, items, finish}
+use Rattle.uz_lines.specs.Forms.{reads}
 use Rattle.uz_lines.specs.declared.items.Shape.{Shape}
 use Rattle.uz_lines.specs.declared.items.Facts.{Facts}
 use Rattle.uz_lines.specs.declared.lines.Said.{Said}

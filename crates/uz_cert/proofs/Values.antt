@@ -87,7 +87,8 @@ slope_raw : (f : FactForms) (v : List ℕ) (line : Bool) (n : ℕ × ℕ) → f.
 slope_raw f v true n s h = (record { low_is = h.0.0; limit = h.0.1 }, record { low_is = h.1.0; limit = h.1.1 }, s)
 slope_raw f v false n s h = (record { low_is = h.0.0; limit = h.0.1 }, record { low_is = h.1.0; limit = h.1.1 }, s)
 
-parts_raw : (f : FactForms) (v : List ℕ) (line : Bool) (o : Option (List ℕ × List ℕ)) (r : Raw) → f.sloped ≡ true → sloped_parts line f o ≡ Ok r
+parts_raw : (f : FactForms) (v : List ℕ) (line : Bool) (o : Option (List ℕ × List ℕ)) (r : Raw) → f.sloped ≡ true
+    → sloped_parts line f o ≡ Ok r
     → RawFits f v r
 parts_raw f v line None r s e = absurd cc
 parts_raw f v line (Some p) r s e =
@@ -218,7 +219,8 @@ fact_fits f v kind (raw.Old r) fact b h e = subst (FactFits kind) (ok_same (Old 
 fact_fits f v kind raw.OldFlags fact b h e = subst (FactFits kind) (ok_same OldFlags fact e) (b.old h)
 
 -- no old value, where the forms have none
-pub cell_fact_fits : (f : FactForms) (v : List ℕ) (r : Raw) (fact : Fact) → f.limit ≤ 256 → f.old ≡ false → RawFits f v r → fact_of r ≡ Ok fact
+pub cell_fact_fits : (f : FactForms) (v : List ℕ) (r : Raw) (fact : Fact) → f.limit ≤ 256 → f.old ≡ false → RawFits f v r
+    → fact_of r ≡ Ok fact
     → CellFactFits fact
 cell_fact_fits f v raw.All fact b o h e = subst CellFactFits (ok_same Any fact e) tt
 cell_fact_fits f v (raw.One n) fact b o h e =
@@ -243,7 +245,8 @@ cell_fact_fits f v (raw.Old r) fact b o h e = absurd (cc (o, h.1))
 cell_fact_fits f v raw.OldFlags fact b o h e = absurd (cc (o, h))
 
 -- where the forms have neither slopes nor old values
-pub plain_fact : (f : FactForms) (v : List ℕ) (r : Raw) (fact : Fact) → f.sloped ≡ false → f.old ≡ false → RawFits f v r → fact_of r ≡ Ok fact
+pub plain_fact : (f : FactForms) (v : List ℕ) (r : Raw) (fact : Fact) → f.sloped ≡ false → f.old ≡ false → RawFits f v r
+    → fact_of r ≡ Ok fact
     → IsPlain fact
 plain_fact f v raw.All fact s o h e = subst IsPlain (ok_same Any fact e) tt
 plain_fact f v (raw.One n) fact s o h e = subst IsPlain (ok_same (Between (record { lo = n; hi = n })) fact e) tt
@@ -255,7 +258,8 @@ plain_fact f v (raw.Loop a c) fact s o h e = absurd (cc (s, h.2))
 plain_fact f v (raw.Old r) fact s o h e = absurd (cc (o, h.1))
 plain_fact f v raw.OldFlags fact s o h e = absurd (cc (o, h))
 
-pub pair_fits : (f : FactForms) (v : List ℕ) (r : Raw) (fact : PairFact) → f.limit ≡ 65536 → RawFits f v r → pair_of r ≡ Ok fact → PairFits fact
+pub pair_fits : (f : FactForms) (v : List ℕ) (r : Raw) (fact : PairFact) → f.limit ≡ 65536 → RawFits f v r → pair_of r ≡ Ok fact
+    → PairFits fact
 pair_fits f v raw.All fact b h e = subst PairFits (ok_same any_pair.Any fact e) tt
 pair_fits f v (raw.One n) fact b h e =
     subst PairFits (ok_same (any_pair.Between (record { lo = n; hi = n })) fact e) (part_of_one 65535 n (omega (arith, h.0.limit, b))

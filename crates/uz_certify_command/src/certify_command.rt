@@ -23,7 +23,7 @@ use uz_paths::{NotFound, find};
 use uz_schedule::Response;
 use uz_shelf::{Shelf, Sink, WriteError};
 use uz_soundness::soundness;
-use uz_text_laws::one_text;
+use uz_text_laws::text_is_unique;
 
 /// What comes of a search.
 #[derive(Debug, Drop)]
@@ -131,7 +131,7 @@ pub fn run_certify<H: Shelf, K: Sink>(
     ensures certified { result ≡ Status.Done → hex.now ≢ cert.now → FilesCertify (H.files shelf.old) (H.files shelf.new) source.now irq hex.now cert.now }
 {
     soundness();
-    one_text();
+    text_is_unique();
     let found = match prepare(alloc, shelf, source, irq) {
         Ok(found) => found,
         Err(failure) => return give_up(alloc, out, &failure),

@@ -17,6 +17,6 @@ mod timeline;
 pub use command::{Command, DebugWhy, Reply};
 pub use debugger::Debugger;
 pub use errors::{ScriptError, ScriptWhy};
-pub use laws::session_is_unique;
-pub use script::{read_script, reading_is_unique};
+pub use laws::{reading_is_unique, session_is_unique};
+pub use script::read_script;
 pub use session_lines::session_text;

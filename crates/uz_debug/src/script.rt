@@ -1,11 +1,9 @@
 //! Reading a script.
 
-ghost use Rattle.std.specs.Prelude.{◌≡◌, ◌<◌, ◌-◌, ◌^◌, ◌⊎◌, ◌==◌, ◌≤◌, ◌+◌, ℕ, List, All, IfOk, IfErr, length, map};
+ghost use Rattle.std.specs.Prelude.{◌≡◌, ◌<◌, ◌-◌, ◌^◌, ◌⊎◌, All, IfOk, IfErr, length, map};
 ghost use Rattle.uz_text.specs.Lines.{lines_of, lines_of_pieces};
 ghost use Rattle.uz_debug.specs.Scripts.{IsFirstFault, IsLineInRange, IsScript, kind_of};
 ghost use Rattle.uz_debug.specs.Sessions.{IsInRange};
-ghost use Rattle.uz_debug.specs.declared.command.Command.{Command};
-ghost use Rattle.uz_debug.specs.declared.errors.ScriptWhy.{ScriptWhy};
 ghost use Rattle.uz_debug.specs.declared.errors.ScriptWhy.TheVariants.{Memory};
 
 use crate::command::Command;
@@ -70,10 +68,3 @@ pub fn read_script(alloc: Global, text: &[u8]) -> Result<Vec<Command>, ScriptErr
     let pieces = pieces(alloc, text)?;
     read_pieces(alloc, pieces.as_slice())
 }
-
-/// The law that lines give one list of commands or have one first fault, and not both. Does nothing.
-pub fn reading_is_unique()
-    ensures list { (lines : List (List ℕ)) (a b : List Command) → IsScript lines a → IsScript lines b → a ≡ b }
-    ensures fault { (lines : List (List ℕ)) (n m : ℕ) (v w : ScriptWhy) → IsFirstFault lines n v → IsFirstFault lines m w → (n ≡ m) × (v ≡ w) }
-    ensures apart { (lines : List (List ℕ)) (commands : List Command) (number : ℕ) (why : ScriptWhy) → IsScript lines commands → IsFirstFault lines number why → ⊥ }
-{}

@@ -42,7 +42,8 @@ held_gives (Some b ∷ cells) from at byte (inl here) = let e = here.0 in (0, om
 held_gives (Some b ∷ cells) from at byte (inr later) = let r = held_gives cells (suc from) at byte later in let e = r.1 in
     (suc r.0, omega arith, r.2)
 
-gives_held : (cells : List (Option ℕ)) (from k byte at : ℕ) → at ≡ from + k → get_or cells k None ≡ Some byte → HoldsByteAt (held_from from cells)
+gives_held : (cells : List (Option ℕ)) (from k byte at : ℕ) → at ≡ from + k → get_or cells k None ≡ Some byte
+    → HoldsByteAt (held_from from cells)
     at byte
 gives_held [] from k byte at e h = cc h
 gives_held (None ∷ cells) from zero byte at e h = cc h

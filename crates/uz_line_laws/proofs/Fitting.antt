@@ -89,7 +89,14 @@ point_cell = record { low = 0; limit = 256; top = 255; sloped = true; old = fals
 
 pub cell_form_is : (shape : Shape) (c : Cell) → shape.plain ≡ false → cell_form shape c ≡ point_cell
 cell_form_is shape c p =
-    ap (λ t. cond {A = FactForms} t (record { low = c.range.lo; limit = c.range.hi + 1; top = 255; sloped = false; old = false }) point_cell) p
+    ap (λ t. cond {A = FactForms} t (record {
+      low = c.range.lo;
+      limit = c.range.hi + 1;
+      top = 255;
+      sloped = false;
+      old =
+          false;
+    }) point_cell) p
 
 cell_in : (f : Fact) → CellFactFits f → FactIn point_cell f
 cell_in Any h = (refl, lit< tt)

@@ -92,7 +92,8 @@ pub record Went (form : LineForm) (list : List (List ℕ)) (ended : Bool) (said 
   pub is : Step form word number
   pub rest : reads (form_rest form number) (words_in left ended) ≡ Ok said
 
-pub retreat : (form : LineForm) (list : List (List ℕ)) (ended : Bool) (said : Said) → IsStep form → reads form (words_in list ended) ≡ Ok said
+pub retreat : (form : LineForm) (list : List (List ℕ)) (ended : Bool) (said : Said) → IsStep form
+    → reads form (words_in list ended) ≡ Ok said
     → Went form list ended said
 retreat (fixed wanted form) list ended said i e =
     let m = bind_ok (next_as (fixed_of wanted) (words_in list ended)) (λ n. reads form (rest_of (words_in list ended))) said e in

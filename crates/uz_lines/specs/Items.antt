@@ -222,7 +222,8 @@ unfoldable pub take_letter : Shape → Facts → ℕ → List ℕ → List (List
 take_letter shape facts letter value later =
     if letter == code "x" then take_pair shape facts 0 value
     else (if letter == code "y" then take_pair shape facts 1 value
-    else (if letter == code "z" then (if is_flag_z shape facts value later then take_flag shape facts 1 value else take_pair shape facts 2 value)
+    else (if letter == code "z" then
+    (if is_flag_z shape facts value later then take_flag shape facts 1 value else take_pair shape facts 2 value)
     else (if letter == code "c" then take_flag shape facts 0 value
     else (if letter == code "n" then take_flag shape facts 2 value
     else (if letter == code "v" then take_flag shape facts 3 value
@@ -247,7 +248,8 @@ take_named shape cells facts word later = take_cut shape cells facts (cut_at (co
 
 abbrev pub take_second : Shape → List Cell → Facts → List ℕ → List ℕ → List (List ℕ) → Result Facts CertWhy
 take_second shape cells facts word [] later = take_named shape cells facts word later
-take_second shape cells facts word (c ∷ cs) later = if c == code ":" then take_slot shape facts cs else take_named shape cells facts word later
+take_second shape cells facts word (c ∷ cs) later =
+    if c == code ":" then take_slot shape facts cs else take_named shape cells facts word later
 
 unfoldable pub take_item : Shape → List Cell → Facts → List ℕ → List (List ℕ) → Result Facts CertWhy
 take_item shape cells facts [] later = Err why.Word

@@ -151,7 +151,8 @@ stands_after p history value h = after_levels p history.pairs history.levels val
 -- The lines
 
 in_time : (c : Bool) (pad : Pad) (m k : ℕ) → nat_lt k 12 ≡ c → nat_lt m 12 ≡ c → (c ≡ true → k ≡ m) →
-    data_lines_of (Some pad) k ≡ bit_value (not (nat_lt m 12 && bit_is_set pad.one m)) + bit_value (not (nat_lt m 12 && bit_is_set pad.two m))
+    data_lines_of (Some pad) k ≡ bit_value (not (nat_lt m 12 && bit_is_set pad.one m)) + bit_value (not
+    (nat_lt m 12 && bit_is_set pad.two m))
     * 2
 in_time true pad m k e f g =
     ap (λ x. data_lines_of (Some pad) x) (g refl) ∙

@@ -25,7 +25,8 @@ use Rattle.uz_search.specs.Following.{Flash, After, order_of_program}
 pub one_result : (image : Flash) (program : Program) (x : Instance) (a b : Result Next Fail) → After image program x a → After image program
     x b → a ≡ b
 one_result image program x a b h k =
-    h.is ∙ ap (λ row. next_of (order_of_program program) x (step_of_row program.head ((order_of_program program).length x.line) image row x))
+    h.is ∙ ap (λ row. next_of (order_of_program program) x (step_of_row program.head
+    ((order_of_program program).length x.line) image row x))
     (decoded_same _ _ h.row k.row h.reads k.reads) ∙ sym k.is
 
 ok_is : (a b : Next) → ◌≡◌ {A = Result Next Fail} (Ok a) (Ok b) → a ≡ b
@@ -42,7 +43,8 @@ exits_at image x i = exits_of (effect_of i) (clocks_of i) (following_of (words_o
     (outcomes image (following_of (words_of i) x) (effect_of i) x)
 
 abbrev pub draft_at : Flash → Program → Instance → Instr → Instance
-draft_at image program x i = transfer program.head image (following_of (words_of i) x) (sampled_of ((order_of_program program).length x.line)
+draft_at image program x i = transfer program.head image (following_of (words_of i) x) (sampled_of
+    ((order_of_program program).length x.line)
     (effect_of i) (clocks_of i) x) (effect_of i) x
 
 -- the row that is read, and what it makes of the instance
@@ -53,7 +55,8 @@ pub record Steps (image : Flash) (program : Program) (x : Instance) (next : Next
   pub emits : emission (effect_of row) x ≡ Some emitted
   pub emit : next.emit ≡ timed emitted (first_exit (exits_at image x row)).clocks
   pub back : next.back ≡ returns_from_interrupt (effect_of row)
-  pub out : next.out.items ≡ map (at_exit (order_of_program program) x (draft_at image program x row) emitted (clears_flag (effect_of row) x))
+  pub out : next.out.items ≡ map (at_exit (order_of_program program) x (draft_at image program x row) emitted (clears_flag
+      (effect_of row) x))
       (exits_at image x row)
 
 -- of a step with this reason and emission
@@ -71,7 +74,8 @@ unless lines x None None step next h = cc
 unless lines x None (Some emitted) step next h = record { emitted = emitted; fails = refl; emits = refl; is = h }
 
 steps_row : (image : Flash) (program : Program) (x : Instance) (next : Next) (row : Option Instr)
-    → Ok next ≡ next_of (order_of_program program) x (step_of_row program.head ((order_of_program program).length x.line) image row x) → Steps image program
+    → Ok next ≡ next_of (order_of_program program) x (step_of_row program.head ((order_of_program program).length x.line) image row x)
+    → Steps image program
     x next
 steps_row image program x next None h = cc
 steps_row image program x next (Some i) h = record {

@@ -124,10 +124,12 @@ module _ (image : Flash) (program : Program) (x : Instance) (stands : Stands pro
       let some = r.some in
       let few = r.few in
       let line : line_after (order_of_program program) x.line (x.clock + k) ≡ y.line =
-      sym (ap (λ b. if b then x.line else line_after (order_of_program program) x.line (x.clock + k)) main_not) ∙ ap (λ (z : Instance). z.line)
+      sym (ap (λ b. if b then x.line else line_after (order_of_program program) x.line (x.clock + k)) main_not)
+      ∙ ap (λ (z : Instance). z.line)
       r.is in
       let clock : clock_after (order_of_program program) x.line (x.clock + k) ≡ y.clock =
-      sym (ap (λ b. if b then x.clock else clock_after (order_of_program program) x.line (x.clock + k)) main_not) ∙ ap (λ (z : Instance). z.clock)
+      sym (ap (λ b. if b then x.clock else clock_after (order_of_program program) x.line (x.clock + k)) main_not)
+      ∙ ap (λ (z : Instance). z.clock)
       r.is in
       let reach : Reaches program.lines x.line x.clock k y.line y.clock =
       subst (λ q. Reaches program.lines x.line x.clock k y.line q) clock

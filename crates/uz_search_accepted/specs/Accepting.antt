@@ -34,7 +34,8 @@ pub record IsRestOf (found : Found) (cert : Cert) (rest : Rest) : Type 0 where
   pub at : ReturnAt found.returns.items rest.line noted
   pub clock : rest.clock ≡ noted.clock
   pub cells : rest.cells.items ≡ noted.cells.items
-  pub vector : (c : ℕ) → c ≤ 3 → Among found.nodes.keys (rest_instance cert rest c) → lies_in_point cert rest.vector (rest_instance cert rest c) ≡ true
+  pub vector : (c : ℕ) → c ≤ 3 → Among found.nodes.keys (rest_instance cert rest c)
+      → lies_in_point cert rest.vector (rest_instance cert rest c) ≡ true
 
 pub record ArePointsOf (image : Flash) (p : Program) (found : Found) (cert : Cert) : Type 0 where
   pub points : (id l c : ℕ) (point : Point) → slice_get cert.points id ≡ Some point → is_in_box point l c ≡ true → StandsFor image p found

@@ -112,7 +112,8 @@ record HasStep (program : Program) (x : Instance) (next : Next) (result : Result
   back : next.back ≡ step.back
   out : next.out.items ≡ map (successor (order_of_program program) x step) step.exits.items
 
-has_step : (program : Program) (x : Instance) (next : Next) (result : Result Step Fail) → Ok next ≡ next_of (order_of_program program) x result
+has_step : (program : Program) (x : Instance) (next : Next) (result : Result Step Fail)
+    → Ok next ≡ next_of (order_of_program program) x result
     → HasStep program x next result
 has_step program x next (Err why) h = cc
 has_step program x next (Ok step) h = let same = ok_is next _ h in record {
@@ -156,7 +157,8 @@ between_exit program x step exit stands apart some few =
     let y : Instance = successor (order_of_program program) x step exit in
     let k : ℕ = x.clock + exit.clocks in
     let main_not = apart_main x.kind apart in
-    let line : line_after (order_of_program program) x.line k ≡ y.line = sym (ap (λ b. if b then x.line else line_after (order_of_program program) x.line k)
+    let line : line_after (order_of_program program) x.line k ≡ y.line =
+    sym (ap (λ b. if b then x.line else line_after (order_of_program program) x.line k)
     main_not) in
     let clock : clock_after (order_of_program program) x.line k ≡ y.clock =
     sym (ap (λ b. if b then x.clock else clock_after (order_of_program program) x.line k) main_not) in
@@ -213,7 +215,8 @@ module _ (image : Flash) (program : Program) (fits : ProgramFits program) (found
         o = cover.owed image program fits found.nodes.keys found.parents.items found.marks.items found.returns.items ended x node apart
 
         y_there : slice_get t.next.out.items there.0 ≡ Some y
-        y_there = ap (λ l. slice_get l there.0) s.out ∙ in_map (successor (order_of_program program) x s.step) s.step.exits.items there.0 exit
+        y_there = ap (λ l. slice_get l there.0) s.out ∙ in_map (successor
+            (order_of_program program) x s.step) s.step.exits.items there.0 exit
             there.1
 
         c : ℕ

@@ -38,7 +38,8 @@ EndedFallsOnce = (image : Flash) (p : Program) (found : Found) (s : Schedule) �
 
 -- a marked level is 0 or 1
 abbrev pub EndedLevelsFit : Type 0
-EndedLevelsFit = (image : Flash) (p : Program) (found : Found) (y v : ℕ) (m : Mark) → ProgramFits p → IsEnded image p found → MarkAt found.marks.items y m → m.event ≡ Some (Sync v) → v ≤ 1
+EndedLevelsFit = (image : Flash) (p : Program) (found : Found) (y v : ℕ) (m : Mark) → ProgramFits p → IsEnded image p found
+    → MarkAt found.marks.items y m → m.event ≡ Some (Sync v) → v ≤ 1
 
 -- a return leaves at its clock, nothing stands after it on its line, nor on the next line up to the latest end of an interrupt's entry
 pub record IsQuietRest (p : Program) (s : Schedule) (l : ℕ) (r : Return) : Type 0 where

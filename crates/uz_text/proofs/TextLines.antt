@@ -26,7 +26,8 @@ line_here (piece ∷ next ∷ more) zero h =
     ap (λ b. if b then strip_carriage_return piece else piece) (sym more_come)
 line_here (piece ∷ next ∷ more) (suc at) h =
     line_here (next ∷ more) at (omega arith) ∙
-    ap (λ b. if b then strip_carriage_return (get_or (next ∷ more) at []) else get_or (next ∷ more) at []) (sym (one_on at (length (next ∷ more))))
+    ap (λ b. if b then strip_carriage_return (get_or (next ∷ more) at []) else get_or (next ∷ more) at []) (sym (one_on at (length
+    (next ∷ more))))
 
 -- the lines before a place, and that line
 pub taken_more : (pieces : List (Bor (List ℕ))) (at : ℕ) → at < length pieces →

@@ -20,4 +20,7 @@ lines_of text = lines_of_pieces (slice_split (λ byte. byte == code "\n") text)
 
 -- the line at a place among the pieces of a text
 abbrev pub line_at : List (List ℕ) → ℕ → List ℕ
-line_at pieces at = if nat_lt (at + 1) (length pieces) then strip_carriage_return (slice_index_or pieces at []) else slice_index_or pieces at []
+line_at pieces at =
+    if nat_lt (at + 1) (length pieces)
+    then strip_carriage_return (slice_index_or pieces at [])
+    else slice_index_or pieces at []

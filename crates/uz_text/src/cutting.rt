@@ -1,6 +1,6 @@
 //! Texts cut apart at a byte.
 
-ghost use Rattle.std.specs.Prelude.{◌≡◌, ◌==◌, ℕ, List, ◌∷◌, ◌++◌, All, false, IfOk, Some, map, option_map};
+ghost use Rattle.std.specs.Prelude.{◌≡◌, ◌==◌, IfOk, map, option_map};
 ghost use Rattle.std.specs.List.{slice_split};
 ghost use Rattle.uz_text.specs.Cutting.{cut_at};
 
@@ -25,10 +25,3 @@ pub fn cut(word: &[u8], separator: u8) -> Option<(&[u8], &[u8])>
     }
     None
 }
-
-/// A cut takes the separator out and nothing else, and the first part has no separator.
-#[tactic(auto, using(crate::proofs::Cuts::cut_read, crate::proofs::Cuts::cut_again))]
-pub fn cut_is_unique()
-    ensures joined { (separator : ℕ) (word : List ℕ) (p : List ℕ × List ℕ) → cut_at separator word ≡ Some p → word ≡ p.0 ++ separator ∷ p.1 }
-    ensures first { (separator : ℕ) (front back : List ℕ) → All (λ b. (b == separator) ≡ false) front → cut_at separator (front ++ separator ∷ back) ≡ Some (front, back) }
-{}

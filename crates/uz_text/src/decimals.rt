@@ -1,6 +1,6 @@
 //! Numbers as words: decimal digits without a sign or a leading zero.
 
-ghost use Rattle.std.specs.Prelude.{◌≡◌, ◌<◌, ◌≤◌, ◌^◌, ℕ, List, IfSome, decimal, Some};
+ghost use Rattle.std.specs.Prelude.{◌≡◌, ◌<◌, ◌≤◌, IfSome};
 ghost use Rattle.uz_text.specs.Numbers.{all_digits, has_first, is_numeral, number_below, number_within as number_from_low, number_after as number_going_on};
 
 /// The number below the limit that these digits make.
@@ -86,11 +86,3 @@ pub fn short_number(word: &[u8], low: u16, limit: u16) -> Option<u16>
         None => None,
     }
 }
-
-/// A number has one spelling, and a spelling one number: a word is read as a number below a limit exactly where it is
-/// the number's decimal text.
-#[tactic(auto, using(crate::proofs::NumberWords::number_read, crate::proofs::NumberWords::number_again))]
-pub fn spelling_is_unique()
-    ensures read { (limit n : ℕ) (w : List ℕ) → limit ≤ 2 ^ 32 → number_below limit w ≡ Some n → (w ≡ decimal n) × (n < limit) }
-    ensures written { (limit n : ℕ) → limit ≤ 2 ^ 32 → n < limit → number_below limit (decimal n) ≡ Some n }
-{}

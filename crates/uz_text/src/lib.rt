@@ -4,9 +4,11 @@
 mod cutting;
 mod decimals;
 mod hexadecimals;
+mod laws;
 mod lines;
 
-pub use cutting::{cut, cut_is_unique, parts};
-pub use decimals::{is_number, number, number_within, short_number, spelling_is_unique};
+pub use cutting::{cut, parts};
+pub use decimals::{is_number, number, number_within, short_number};
 pub use hexadecimals::{byte_digits, word_digits};
+pub use laws::{cut_is_unique, spelling_is_unique};
 pub use lines::{is_blank, line_at, pieces, without_return};

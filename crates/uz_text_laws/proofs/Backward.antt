@@ -543,7 +543,8 @@ made_lines : (s : Sizes) (r : Response) (t : StackLine) (cells : List Cell) (kin
     (rs : List Rest) (e : Entry) (ps : List Point)
     → s ≡ record { kinds = length kinds; lines = length (expand runs); rests = length rs; points = length ps; cells = length cells }
     → runs_of (expand runs) ≡ runs
-    → head_line ∷ spelled first_draft.head (said.Size s) ∷ parts_after r t cells kinds (fall_lines clock runs cells rs e ps) ≡ lines_of_certificate
+    → head_line ∷ spelled first_draft.head (said.Size s) ∷ parts_after r t cells kinds (fall_lines clock runs cells rs e ps)
+    ≡ lines_of_certificate
     (made r t cells kinds clock runs rs e ps)
 made_lines s r t cells kinds clock runs rs e ps sizes same =
     ap (λ n. head_line ∷ spelled first_draft.head (said.Size n) ∷ parts_after r t cells kinds (fall_lines clock runs cells rs e ps)) sizes
@@ -592,7 +593,8 @@ irq_lines : (s : Sizes) (pieces : List (List ℕ)) (c : Cert) → IrqBack s piec
     (said.Size s) ∷ pieces ≡ lines_of_certificate c
 irq_lines s pieces c x = ap (λ ls. head_line ∷ spelled first_draft.head (said.Size s) ∷ ls) x.parts ∙ stack_lines s x.r x.rest c x.later
 
-size_lines : (l : LineSpelling) (pieces : List (List ℕ)) (c : Cert) → NextRead first_draft due.Size pieces c → head_line ∷ pieces ≡ lines_of_certificate
+size_lines : (l : LineSpelling) (pieces : List (List ℕ)) (c : Cert) → NextRead first_draft due.Size pieces c
+    → head_line ∷ pieces ≡ lines_of_certificate
     c
 size_lines l pieces c x =
     let next = size_next first_draft x.value in

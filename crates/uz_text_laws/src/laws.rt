@@ -16,7 +16,7 @@ use uz_line_laws::{
 /// A text is a certificate's exactly where it is the spelling of that certificate: a text that is read is the spelling of
 /// what it says, and the spelling of a well formed certificate is read as just that. So each well formed certificate has
 /// one text, and no two have the same. Does nothing.
-pub fn one_text()
+pub fn text_is_unique()
     ensures read { (text : List ℕ) (c : Cert) → cert_of_text text ≡ Ok c → text ≡ spelling c }
     ensures again { (c : Cert) → WellFormed c → cert_of_text (spelling c) ≡ Ok c }
     ensures spelled { (text : List ℕ) (c : Cert) → IsCertificateText text c → text ≡ spelling c }

@@ -3,4 +3,4 @@
 
 mod laws;
 
-pub use laws::one_text;
+pub use laws::text_is_unique;

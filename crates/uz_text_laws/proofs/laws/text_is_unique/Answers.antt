@@ -5,7 +5,7 @@ use Rattle.uz_spelling.specs.Spelling.{spelling}
 use Rattle.uz_cert.specs.Reading.{Fault, cert_of_text}
 use Rattle.uz_text_laws.proofs.Lines.{TwelveLines, line_spelling, plain_lines}
 use Rattle.uz_text_laws.proofs.Whole.{spelling_read, text_spelled}
-use Rattle.uz_text_laws.proofs.laws.one_text.Goals as goal
+use Rattle.uz_text_laws.proofs.laws.text_is_unique.Goals as goal
 
 abbrev answer : Cert → Result Cert Fault
 answer c = Ok c

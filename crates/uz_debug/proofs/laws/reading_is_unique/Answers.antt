@@ -1,5 +1,5 @@
 use Rattle.uz_debug.proofs.ScriptLaws.{one_list, one_fault, read_or_faulty}
-use Rattle.uz_debug.proofs.script.reading_is_unique.Goals as goal
+use Rattle.uz_debug.proofs.laws.reading_is_unique.Goals as goal
 
 pub returns-clause-list : goal.returns-clause-list
 returns-clause-list c = one_list
