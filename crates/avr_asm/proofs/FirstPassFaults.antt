@@ -128,7 +128,7 @@ value_effect (action.Directive directive.Cell) line symbols arguments follows w 
 value_effect (action.Directive directive.Fact) line symbols arguments follows w f = absurd f
 
 -- which whys an expression has
-expression_why : (o : text.Outcome) (w : AsmWhy) → line_fault o ≡ Err w → IsValueWhy w
+expression_why : (o : text.ValueOrWhy) (w : AsmWhy) → line_fault o ≡ Err w → IsValueWhy w
 expression_why (Ok x) w e = absurd cc
 expression_why (Err value_why.Form) w e = subst IsValueWhy (err_same {X = ℤ} why.Operand w e) tt
 expression_why (Err value_why.Unknown) w e = subst IsValueWhy (err_same {X = ℤ} why.Symbol w e) tt

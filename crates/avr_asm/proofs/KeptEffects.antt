@@ -25,7 +25,7 @@ ValuesStay = (text : List ℕ) (tokens : List Token) (symbols more : NameMap) (d
     tokens symbols dot ≡ Ok v → value_of text tokens more dot ≡ Ok v
 
 module _ (stay : ValuesStay) (symbols more : NameMap) (keeps : Keeps symbols more) where
-  no_fault : (o : text.Outcome) (v : ℤ) → line_fault o ≡ Ok v → o ≡ Ok v
+  no_fault : (o : text.ValueOrWhy) (v : ℤ) → line_fault o ≡ Ok v → o ≡ Ok v
   no_fault (Ok x) v e = ap Ok (ok_same x v e)
   no_fault (Err why) v e = absurd cc
 

@@ -77,7 +77,7 @@ abbrev pub half : OrFault ℤ → OrFault ℤ
 half (Err why) = Err why
 half (Ok x) = if is_zero (int_rem_euclid x (pos 2)) then Ok (int_shr x 1) else Err Range
 
-abbrev pub line_fault : text.Outcome → OrFault ℤ
+abbrev pub line_fault : text.ValueOrWhy → OrFault ℤ
 line_fault (Ok x) = Ok x
 line_fault (Err why) = Err (why_of why)
 
