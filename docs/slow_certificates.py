@@ -13,6 +13,8 @@ writes NAME.hex and NAME.cert into the folder for each of these, all of them acc
     events      525 kinds of line of 1818 events each
     counts      36 rings of 256 counts at one clock, told apart by the last cell: a successor's right count is searched
     together    16 rings of 16 counts, each point with 16 successors, 16 cells and facts on all registers
+    even        36 rings of 256 counts at one clock and 16 successors, of which 15 differ in the last register alone: the one fact
+                by count, of the last cell, is the same at every second count
 """
 import os
 import sys
@@ -56,20 +58,20 @@ def head(out, kinds, lines, points, cells, filled):
 
 def write_rings(folder, name, copies, *, lines=1, kinds=1, filled=False, cells=0, counts=1, last=None, facts='', options=1):
     """Rings beside each other. Point k of ring j leads to point k + 1 of the rings up to j, at most `options` of them. `facts` are
-    known at every point, and `last` says what is known of the last cell in a ring, beginning with 0."""
+    known at every point, `{ring}` in them is j, and `last` says what is known of the last cell in a ring, beginning with 0."""
     with open(os.path.join(folder, name + '.hex'), 'w') as out:
         out.write(ring_image(0xB808 if filled else 0))
     facts = facts or ' r16=0 r17=1'
     with open(os.path.join(folder, name + '.cert'), 'w') as out:
         head(out, kinds, lines, copies * RING, cells, filled)
-        known = ''.join(' ' + f for f in facts.split() if f[0] not in 'xyz')
+        known = ''.join(' ' + f for f in facts.format(ring=0).split() if f[0] not in 'xyz')
         print('entry alone 0 2 0 0' + known + (' m%d=0' % (cells - 1) if last else ''), file=out)
         for k in range(RING):
             for j in range(copies):
                 cell = ' m%d=%s' % (cells - 1, last(j)) if last else ''
                 after = (k + 1) % RING * copies
                 leads = ''.join(' >%d' % (after + i) for i in range(max(0, j - options + 1), j + 1))
-                print('point alone %d 0 %d 0 %d %d 0 0%s%s%s' % (k + 2, lines - 1, counts - 1, k, facts, cell, leads), file=out)
+                print('point alone %d 0 %d 0 %d %d 0 0%s%s%s' % (k + 2, lines - 1, counts - 1, k, facts.format(ring=j), cell, leads), file=out)
         print('end', file=out)
 
 
@@ -98,6 +100,8 @@ def main():
     write_rings(folder, 'events', 1, lines=525, kinds=525, filled=True)
     write_rings(folder, 'counts', 36, cells=16, counts=256, last=lambda j: 'c*1+0')
     write_rings(folder, 'together', 16, cells=16, counts=16, last=lambda j: 'c*1+%d' % (16 * j), facts=all_facts(15), options=16)
+    write_rings(folder, 'even', 36, cells=16, counts=256, last=lambda j: 'c*128+0',
+                facts=all_facts(15).replace('r31=0..254', 'r31={ring}'), options=16)
 
 
 if __name__ == '__main__':

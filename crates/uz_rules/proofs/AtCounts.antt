@@ -103,13 +103,13 @@ at_count s p inst c at =
 
 -- One of several counts
 
-record AnyOf (test : ℕ → Bool) (k n : ℕ) : Type 0 where
-  number : ℕ
-  first : k ≤ number
-  last : number < k + n
-  holds : test number ≡ true
+pub record AnyOf (test : ℕ → Bool) (k n : ℕ) : Type 0 where
+  pub number : ℕ
+  pub first : k ≤ number
+  pub last : number < k + n
+  pub holds : test number ≡ true
 
-any_tells : (test : ℕ → Bool) (k n : ℕ) → any_from test k n ≡ true → AnyOf test k n
+pub any_tells : (test : ℕ → Bool) (k n : ℕ) → any_from test k n ≡ true → AnyOf test k n
 unfolding any_from
 any_tells test k zero e = absurd cc
 any_tells test k (suc n) e = by_case (test k) refl e (λ f. any_tells test (suc k) n f)
@@ -123,7 +123,7 @@ any_tells test k (suc n) e = by_case (test k) refl e (λ f. any_tells test (suc 
         let last = m.last in
         record { number = m.number; first = omega (arith, first); last = omega (arith, last); holds = m.holds }
 
-any_holds : (test : ℕ → Bool) (k n c : ℕ) → k ≤ c → c < k + n → test c ≡ true → any_from test k n ≡ true
+pub any_holds : (test : ℕ → Bool) (k n c : ℕ) → k ≤ c → c < k + n → test c ≡ true → any_from test k n ≡ true
 unfolding any_from
 any_holds test k zero c h l t = absurd (omega (arith, h, l))
 any_holds test k (suc n) c h l t = elim (eqb_tells k c) [

@@ -22,3 +22,4 @@ pub mod AfterLaws
 pub mod FactPlaces
 pub mod AtCounts
 pub mod CountKeys
+pub mod PeriodLaws

@@ -7,6 +7,7 @@ pub mod Example
 pub mod EdgeRule
 pub mod Successors
 pub mod FactInclusion
+pub mod Periods
 pub mod Local
 pub mod Limits
 pub mod After

@@ -1,5 +1,5 @@
-//! The byte or the pair by which a point's counts are told apart. Where its fact has another value at each count, all counts but
-//! one are dismissed by one test each.
+//! The byte or the pair by which a point's counts are told apart. Its fact has another value at each count of a period, so that all
+//! of these but one are dismissed by one test each.
 
 ghost use Rattle.std.specs.Prelude.{◌≡◌, true, length, map};
 ghost use Rattle.uz_schedule.specs.Instances.{val_of, cell_span};
@@ -11,7 +11,8 @@ ghost use Rattle.uz_rules.specs.FactInclusion.{facts_inside as lies_in_facts};
 use crate::fact_inclusion::pairs_in_facts;
 use crate::facts::{cell_by, value_by};
 use crate::inclusion::{span_inside, value_inside};
-use uz_schedule::{Fact, Instance, PairFact, Point, Span, Val};
+use crate::periods::Periods;
+use uz_schedule::{Fact, Instance, Point, Span, Val};
 
 /// The place of a fact that depends on the count as far as one does.
 #[derive(Clone, Copy)]
@@ -28,93 +29,18 @@ pub(crate) enum CountKey {
     Nothing,
 }
 
-/// After how many counts `factor * count` comes again, modulo 256.
-fn period(factor: u8) -> u16 {
-    if factor % 2 != 0 {
-        256
-    } else if factor % 4 != 0 {
-        128
-    } else if factor % 8 != 0 {
-        64
-    } else if factor % 16 != 0 {
-        32
-    } else if factor % 32 != 0 {
-        16
-    } else if factor % 64 != 0 {
-        8
-    } else if factor % 128 != 0 {
-        4
-    } else if factor != 0 {
-        2
-    } else {
-        1
-    }
-}
-
-/// After how many counts what a fact says of a byte comes again.
-fn byte_period(fact: &Fact) -> u16 {
-    match *fact {
-        Fact::Loop(factor, _) => period(factor),
-        _ => 1,
-    }
-}
-
-/// After how many of 256 counts what a fact says of a pair comes again.
-fn pair_period(fact: &PairFact) -> u16 {
-    match *fact {
-        PairFact::Loop(factor, _) => {
-            if factor % 256 != 0 {
-                256
-            } else {
-                period((factor / 256) as u8)
-            }
-        }
-        _ => 1,
-    }
-}
-
-/// The place of the first byte whose fact has the longest period, and that period.
-fn longest(facts: &[Fact]) -> (usize, u16) {
-    let mut place = 0;
-    let mut most = 1;
-    for at in 0..facts.len() {
-        let period = byte_period(&facts[at]);
-        if most < period {
-            place = at;
-            most = period;
-        }
-    }
-    (place, most)
-}
-
-/// The longest period of the facts of pairs.
-fn longest_of_pairs(facts: &[PairFact; 3]) -> u16 {
-    greater(
-        pair_period(&facts[0]),
-        greater(pair_period(&facts[1]), pair_period(&facts[2])),
-    )
-}
-
-/// The greater one of two numbers.
-fn greater(a: u16, b: u16) -> u16 {
-    if a < b { b } else { a }
-}
-
-/// The place of a point's fact that has the longest period. The choice is one of speed: any place will do.
-pub(crate) fn key_of(point: &Point) -> CountKey {
-    let (cell, of_cell) = longest(point.cells.as_slice());
-    let (register, of_register) = longest(&point.regs);
-    let (slot, of_slot) = longest(point.stack.as_slice());
-    let of_pairs = longest_of_pairs(&point.pairs);
-    let most = greater(greater(of_cell, of_register), greater(of_slot, of_pairs));
-    if most == 1 {
+/// The place of the fact with the longest period, of those that a byte has; of pairs where theirs are longer than any byte's. The
+/// choice is one of speed: any place will do.
+pub(crate) fn key_of(periods: &Periods) -> CountKey {
+    let most = periods.exponent.min(8);
+    if most == 0 {
         CountKey::Nothing
-    } else if of_cell == most {
-        CountKey::Cell(cell)
-    } else if of_register == most {
-        CountKey::Register(register)
-    } else if of_slot == most {
-        CountKey::Slot(slot)
+    } else if periods.cells.exponent == most {
+        CountKey::Cell(periods.cells.place)
+    } else if periods.registers.exponent == most {
+        CountKey::Register(periods.registers.place)
+    } else if periods.stack.exponent == most {
+        CountKey::Slot(periods.stack.place)
     } else {
         CountKey::Pairs
     }

@@ -10,6 +10,7 @@ ghost use Rattle.uz_rules.specs.FactInclusion.{facts_inside as lies_in_facts, ha
 use crate::count_keys::{CountKey, key_of, may_lie};
 use crate::fact_inclusion::facts_inside;
 use crate::inclusion::same_kind;
+use crate::periods::{last_of_period, periods_of};
 use uz_schedule::{Cert, Instance, Point, Schedule};
 
 /// Whether a point has an instance's kind and pc.
@@ -44,15 +45,6 @@ fn is_beside(point: &Point, at: &Instance) -> bool
     (is_same_place(point, at) && at.pending == point.pending) && is_line_of(point, at.line)
 }
 
-/// The place of a fact by which these counts of a point are told apart. None is looked for where there is one count.
-fn key_among(point: &Point, first: u8, last: u8) -> CountKey {
-    if first < last {
-        key_of(point)
-    } else {
-        CountKey::Nothing
-    }
-}
-
 /// Whether an instance lies in what a point's facts say at a count. The key's place is looked at first.
 #[tactic(auto, using(crate::proofs::CountKeys::dismissed))]
 fn lies_at_count(key: &CountKey, at: &Instance, point: &Point, count: u8) -> bool
@@ -61,19 +53,40 @@ fn lies_at_count(key: &CountKey, at: &Instance, point: &Point, count: u8) -> boo
     may_lie(key, at, point, count) && facts_inside(at, point, count)
 }
 
-/// Whether an instance lies in what a point's facts say at one of these counts.
+/// Whether an instance lies in what a point's facts say at one of these counts, each of which is tried.
 #[tactic(auto, using(crate::proofs::Below::any_none, crate::proofs::Below::any_found, crate::proofs::Below::any_more))]
-fn lies_at_one(at: &Instance, point: &Point, first: u8, last: u8) -> bool
+fn lies_at_tried(key: &CountKey, at: &Instance, point: &Point, first: u8, last: u8) -> bool
     ensures { result ≡ any_from (lies_in_facts at.now point.now) first (suc last - first) }
 {
-    let key = key_among(point, first, last);
     let end = last as u16 + 1;
     for count in first as u16..end {
-        if lies_at_count(&key, at, point, count as u8) {
+        if lies_at_count(key, at, point, count as u8) {
             return true;
         }
     }
     false
+}
+
+/// Whether an instance lies in what a point's facts say at one of these counts. No more counts are tried than the facts' period
+/// has, since what they say comes again from there on.
+#[tactic(auto, using(crate::proofs::PeriodLaws::period_tells))]
+fn lies_in_period(at: &Instance, point: &Point, first: u8, last: u8) -> bool
+    ensures { result ≡ any_from (lies_in_facts at.now point.now) first (suc last - first) }
+{
+    let periods = periods_of(point);
+    let tried = last_of_period(first, last, periods.exponent);
+    lies_at_tried(&key_of(&periods), at, point, first, tried)
+}
+
+/// Whether an instance lies in what a point's facts say at one of these counts. No period is looked for where there is one count.
+fn lies_at_one(at: &Instance, point: &Point, first: u8, last: u8) -> bool
+    ensures { result ≡ any_from (lies_in_facts at.now point.now) first (suc last - first) }
+{
+    if first < last {
+        lies_in_period(at, point, first, last)
+    } else {
+        lies_at_tried(&CountKey::Nothing, at, point, first, last)
+    }
 }
 
 /// Whether an instance lies in what a point's facts say at one of its counts, where the point's clock is the same at all.
