@@ -116,9 +116,9 @@ module _ (image : Flash) (program : Program) (x : Instance) (stands : Stands pro
   main_not = apart_main x.kind apart
 
   -- the clocks to a result are its exit's
-  exit_clocks : (y : Instance) (h : Among next.out.items y) → (clocks_between x y ≡ (result image program x next s y h).exit.clocks)
+  clocks_to : (y : Instance) (h : Among next.out.items y) → (clocks_between x y ≡ (result image program x next s y h).exit.clocks)
       × Reaches program.lines x.line x.clock (result image program x next s y h).exit.clocks y.line y.clock
-  exit_clocks y h =
+  clocks_to y h =
       let r = result image program x next s y h in
       let k : ℕ = r.exit.clocks in
       let some = r.some in
@@ -140,7 +140,7 @@ module _ (image : Flash) (program : Program) (x : Instance) (stands : Stands pro
   pub moves : (y : Instance) → Among next.out.items y → Moves program x y
   moves y h =
       let r = result image program x next s y h in
-      let e = exit_clocks y h in
+      let e = clocks_to y h in
       record {
         apart = λ main. apart (sym (same_kind image program x next s y h) ∙ main);
         some = subst (λ n. 1 ≤ n) (sym e.0) r.some;
@@ -175,7 +175,7 @@ module _ (image : Flash) (program : Program) (x : Instance) (stands : Stands pro
           let timed_so : Some (t, e) ≡ Some ((first_exit (exits_at image x s.row)).clocks, event) =
           sym emit ∙ s.emit ∙ ap (λ o. timed o (first_exit (exits_at image x s.row)).clocks) is in
           let pair : (t, e) ≡ ((first_exit (exits_at image x s.row)).clocks, event) = some_is (t, e) _ timed_so in
-          ap (λ (q : ℕ × EventKind). q.0) pair ∙ ap (λ (z : Exit). z.clocks) (first ∙ sym mine) ∙ sym (exit_clocks y h).0
+          ap (λ (q : ℕ × EventKind). q.0) pair ∙ ap (λ (z : Exit). z.clocks) (first ∙ sym mine) ∙ sym (clocks_to y h).0
 
   -- what an event is: a leave of a return, and else a turn of the level
   emitted_is : (t : ℕ) (e : EventKind) → next.emit ≡ Some (t, e) → s.emitted ≡ Some e
