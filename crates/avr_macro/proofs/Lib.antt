@@ -3,6 +3,9 @@ pub mod MacroMaps
 pub mod Slices
 pub mod Kept
 pub mod Unchanged
+pub mod Needed
+pub mod Steady
+pub mod Filled
 pub mod BlockEnds
 pub mod Levels
 pub mod LineMoves

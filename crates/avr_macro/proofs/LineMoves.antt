@@ -42,8 +42,8 @@ refused_call line level s body reason e shallow (inr r) =
     ∙ ap refuses (sym r.0))
 
 -- the next line of a level
-pub line_moves : (frame : Frame) (s : State) (bytes : List ℕ) → frame.at < frame.end → frame.end ≤ length frame.body.value.lines
-    → bytes ≡ get_or frame.body.value.lines frame.at [] → line_move bytes (seen_frame frame) s ≡ move_of (seen_frame frame) s
+pub line_moves : (frame : Frame) (s : State) (bytes : List ℕ) → frame.at < frame.end → frame.end ≤ length frame.body.value
+    → bytes ≡ get_or frame.body.value frame.at [] → line_move bytes (seen_frame frame) s ≡ move_of (seen_frame frame) s
 line_moves frame s bytes some within is =
     ap (λ b. line_move b (seen_frame frame) s) is
-    ∙ sym (ap (λ lines. move_at lines (seen_frame frame) s) (next_line frame.body.value.lines frame.at frame.end some within))
+    ∙ sym (ap (λ lines. move_at lines (seen_frame frame) s) (next_line frame.body.value frame.at frame.end some within))

@@ -3,7 +3,7 @@ use Rattle.std.proofs.Common.{◌≡◌, ℕ, zero, suc, ◌+◌, ◌-◌, ◌<�
 use Rattle.std.proofs.Common.{take, drop, map, refl, sym, ◌∙◌, ap, append_assoc, add-one, drop-cons, arith}
 use Rattle.std.specs.Prelude.{Option, Some, None}
 use Rattle.std.specs.List.{slice_range}
-use Rattle.std.proofs.lemmas.List.{drop-drop, drop-take, take-take}
+use Rattle.std.proofs.lemmas.List.{drop-drop, drop-take, drop_all, take-take}
 use Rattle.std.proofs.Math.Seq.{take-length}
 
 abbrev Texts : Type 0
@@ -62,6 +62,13 @@ next_line xs n end h within =
     ∙ ap (take (suc (end - (n + 1)))) (drop-cons xs n [] here)
     ∙ ap (λ k. get_or xs n [] ∷ take (end - (n + 1)) (drop k xs)) (sym (add-one n))
 
+-- all lines from a place on
+pub next_line_of_all : (xs : Texts) (n : ℕ) → n < length xs → drop n xs ≡ get_or xs n [] ∷ drop (n + 1) xs
+next_line_of_all xs n h = drop-cons xs n [] h ∙ ap (λ k. get_or xs n [] ∷ drop k xs) (sym (add-one n))
+
+pub none_left : (xs : Texts) (n : ℕ) → length xs ≤ n → drop n xs ≡ []
+none_left xs n h = drop_all n xs h
+
 -- what is made of each line, one more at a time
 pub made_more : (f : List ℕ → List ℕ) (xs front more whole : Texts) (line : List ℕ) (n end : ℕ) → n < end → end ≤ length xs
     → more ≡ front ++ line ∷ [] → line ≡ f (get_or xs n []) → front ++ map f (slice_range xs n end) ≡ whole
@@ -71,6 +78,16 @@ made_more f xs front more whole line n end h within e is so_far =
     ∙ append_assoc front (line ∷ []) (map f (slice_range xs (n + 1) end))
     ∙ ap (λ l. front ++ l ∷ map f (slice_range xs (n + 1) end)) is
     ∙ sym (ap (λ ls. front ++ map f ls) (next_line xs n end h within))
+    ∙ so_far
+
+-- the lines themselves, one more at a time
+pub copied_more : (xs front more whole : Texts) (line : List ℕ) (n end : ℕ) → n < end → end ≤ length xs → more ≡ front ++ line ∷ []
+    → line ≡ get_or xs n [] → front ++ slice_range xs n end ≡ whole → more ++ slice_range xs (n + 1) end ≡ whole
+copied_more xs front more whole line n end h within e is so_far =
+    ap (λ ls. ls ++ slice_range xs (n + 1) end) e
+    ∙ append_assoc front (line ∷ []) (slice_range xs (n + 1) end)
+    ∙ ap (λ l. front ++ l ∷ slice_range xs (n + 1) end) is
+    ∙ sym (ap (λ ls. front ++ ls) (next_line xs n end h within))
     ∙ so_far
 
 -- none is left

@@ -2,7 +2,7 @@
 use Rattle.std.proofs.Common.{◌≡◌, ℕ, Bool, true, false, cond, List, [], ◌∷◌, ◌++◌, map, refl, ◌∙◌, ap}
 use Rattle.std.specs.Prelude.{◌==◌}
 use Rattle.avr_macro.specs.Arguments.{any_lacks, lacks_from, replaced, replaced_from}
-use Rattle.avr_macro.specs.Plain.{are_plain, is_plain}
+use Rattle.avr_macro.specs.AtSigns.{are_plain, is_plain}
 
 line_step : (arguments : List (List ℕ)) (call b : ℕ) (bs : List ℕ) (t : Bool) → (b == 64) ≡ t → cond t false (is_plain bs) ≡ true
     → (is_plain bs ≡ true → replaced_from arguments call false bs ≡ bs) → replaced_from arguments call false (b ∷ bs) ≡ b ∷ bs

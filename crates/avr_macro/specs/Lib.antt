@@ -2,7 +2,7 @@ pub mod Lines
 pub mod Directives
 pub mod Arguments
 pub mod Bodies
-pub mod Plain
+pub mod AtSigns
 pub mod Macros
 pub mod Blocks
 pub mod Ends

@@ -6,7 +6,7 @@ use Rattle.avr_macro.specs.declared.bodies.Macro.{Macro}
 
 -- the lines of a macro
 abbrev pub seen_macro : Macro → List (List ℕ)
-seen_macro body = slice_range body.body.value.lines body.start body.end
+seen_macro body = slice_range body.text.value.lines body.start body.end
 
 -- names and bodies as lists of bytes and of lines
 abbrev pub named : List (Vec ℕ Global × Macro) → List (List ℕ × List (List ℕ))

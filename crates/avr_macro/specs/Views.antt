@@ -7,9 +7,8 @@ use Rattle.avr_macro.specs.declared.values.Setting.{Setting as SettingValue}
 use Rattle.avr_macro.specs.declared.errors.MacroWhy.{MacroWhy}
 use Rattle.avr_macro.specs.declared.errors.MacroWhy.TheVariants.{Argument, Memory}
 use Rattle.avr_macro.specs.declared.directives.Word.{Word}
-use Rattle.avr_macro.specs.declared.bodies.Macro.{Macro}
+use Rattle.avr_macro.specs.declared.bodies.Called.{Called}
 use Rattle.avr_macro.specs.declared.frames.Frame.{Frame}
-use Rattle.avr_macro.specs.Macros.{seen_macro}
 use Rattle.avr_macro.specs.Directives.{directive_of}
 use Rattle.avr_macro.specs.Arguments.{replaced}
 use Rattle.avr_macro.specs.Moves.{lacks_one}
@@ -28,8 +27,8 @@ seen_setting setting = (setting.name.items, setting.value)
 abbrev pub seen_frame : Frame → Level
 seen_frame frame =
     record {
-      lines = slice_range frame.body.value.lines frame.at frame.end;
-      again = slice_range frame.body.value.lines frame.start frame.end;
+      lines = slice_range frame.body.value frame.at frame.end;
+      again = slice_range frame.body.value frame.start frame.end;
       turns = frame.turns;
       counted = frame.counted;
       well = frame.well;
@@ -40,13 +39,17 @@ seen_frame frame =
 
 -- the next line of a frame is one of a word
 abbrev pub IsAt : Word → Frame → Type 0
-IsAt word frame = directive_of (slice_index_or frame.body.value.lines frame.at []) ≡ word
+IsAt word frame = directive_of (slice_index_or frame.body.value frame.at []) ≡ word
 
 -- the innermost first
 abbrev pub seen_frames : List Frame → List Level
 seen_frames frames = reverse (map seen_frame frames)
 
+-- the lines of a call
+abbrev pub seen_called : Called → List (List ℕ)
+seen_called called = slice_range called.body.value called.start called.end
+
 -- what came of a call's arguments: the body with them in their places, or a fault of theirs
-abbrev pub CallsBody : Result Macro MacroWhy → List (List ℕ) → ℕ → List (List ℕ) → Type 0
-CallsBody (Ok lines) arguments call body = (lacks_one arguments body ≡ false) × (seen_macro lines ≡ map (replaced arguments call) body)
+abbrev pub CallsBody : Result Called MacroWhy → List (List ℕ) → ℕ → List (List ℕ) → Type 0
+CallsBody (Ok lines) arguments call body = (lacks_one arguments body ≡ false) × (seen_called lines ≡ map (replaced arguments call) body)
 CallsBody (Err reason) arguments call body = (reason ≡ Memory) ⊎ ((reason ≡ Argument) × (lacks_one arguments body ≡ true))

@@ -8,6 +8,7 @@ ghost use Rattle.avr_macro.specs.Directives.{after_dot as after_dot_in, after_fi
 
 use crate::lines::{after_blanks, after_word, is_bare, word_of};
 use avr_text::{begins_name, is_word_named};
+use uz_text::is_blank;
 
 /// The directives of macros and blocks.
 #[derive(Clone, Copy)]

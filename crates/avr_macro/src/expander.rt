@@ -11,10 +11,10 @@ ghost use Rattle.avr_macro.specs.Moves.{body_of as body_of_word, call as call_st
 ghost use Rattle.avr_macro.specs.States.{first_state, inside as inside_level, passed as passed_level};
 ghost use Rattle.avr_macro.specs.Values.{setting_of as setting_of_text};
 ghost use Rattle.avr_macro.specs.declared.directives.Word.TheVariants as words;
-ghost use Rattle.avr_macro.specs.Views.{CallsBody, IsAt, seen_frame, seen_frames, seen_setting};
+ghost use Rattle.avr_macro.specs.Views.{CallsBody, IsAt, seen_called, seen_frame, seen_frames, seen_setting};
 
-use crate::arguments::{arguments_of, body_in_call, lacks_one};
-use crate::bodies::{Macro, share};
+use crate::arguments::{Substitution, arguments_of};
+use crate::bodies::{Called, Macro, share};
 use crate::directives::{
     Word, after_first_word, directive_of, first_word, macro_name, operands_of,
 };
@@ -75,7 +75,7 @@ fn put_text(text: &mut Vec<u8>, line: &[u8]) -> Result<(), AllocError>
 }
 
 /// The level of a block that is expanded some times, where its end comes after so many lines.
-fn repeated(frame: &Frame, times: u32, n: usize) -> Result<Frame, AllocError>
+fn repeated(alloc: Global, frame: &Frame, times: u32, n: usize) -> Result<Frame, AllocError>
     requires shallow { frame.now.blocks < 16 }
     requires left { frame.now.at + (n + 2) ≤ frame.now.end }
     ensures { IfOk result (λ inner. seen_frame inner ≡ repeated_level times n (seen_frame frame.now)) }
@@ -83,31 +83,38 @@ fn repeated(frame: &Frame, times: u32, n: usize) -> Result<Frame, AllocError>
     if times == 0 {
         frame.block(0, 0, 0, false, true)
     } else {
-        let well = frame.closed_by(n);
+        let well = frame.closed_by(alloc, n)?;
         frame.block(0, n, times - 1, true, well)
     }
 }
 
 /// The level of a conditional block without `.else`.
-fn one_part(frame: &Frame, chosen: bool, n: usize) -> Result<Frame, AllocError>
+fn one_part(alloc: Global, frame: &Frame, chosen: bool, n: usize) -> Result<Frame, AllocError>
     requires shallow { frame.now.blocks < 16 }
     requires left { frame.now.at + (n + 2) ≤ frame.now.end }
     ensures { IfOk result (λ inner. seen_frame inner ≡ one_part_of chosen n (seen_frame frame.now)) }
 {
-    let well = frame.closed_by(n);
+    let well = frame.closed_by(alloc, n)?;
     let to = if chosen { n } else { 0 };
     frame.block(0, to, 0, false, well)
 }
 
 /// The level of a conditional block whose `.else` comes after so many lines.
-fn two_parts(frame: &Frame, chosen: bool, m: usize, n: usize) -> Result<Frame, AllocError>
+fn two_parts(
+    alloc: Global,
+    frame: &Frame,
+    chosen: bool,
+    m: usize,
+    n: usize,
+) -> Result<Frame, AllocError>
     requires shallow { frame.now.blocks < 16 }
     requires left { frame.now.at + (n + 2) ≤ frame.now.end }
     requires parted { m < n }
     ensures { IfOk result (λ inner. seen_frame inner ≡ two_parts_of chosen m n (seen_frame frame.now)) }
 {
-    let parts_well = frame.closed_by(m);
-    let well = parts_well && frame.closed_by(n);
+    let parts_well = frame.closed_by(alloc, m)?;
+    let ends_well = frame.closed_by(alloc, n)?;
+    let well = parts_well && ends_well;
     if chosen {
         frame.block(0, m, 0, false, well)
     } else if parts_well {
@@ -118,15 +125,20 @@ fn two_parts(frame: &Frame, chosen: bool, m: usize, n: usize) -> Result<Frame, A
 }
 
 /// The level of the chosen part of a conditional block, whose end and `.else` come after so many lines.
-fn chosen_part(frame: &Frame, chosen: bool, closing: Closing) -> Result<Frame, AllocError>
+fn chosen_part(
+    alloc: Global,
+    frame: &Frame,
+    chosen: bool,
+    closing: Closing,
+) -> Result<Frame, AllocError>
     requires shallow { frame.now.blocks < 16 }
     requires left { frame.now.at + (closing.end + 2) ≤ frame.now.end }
     requires inside { IfSome closing.part (λ m. m < closing.end) }
     ensures { IfOk result (λ inner. seen_frame inner ≡ chosen_part_of chosen closing.part closing.end (seen_frame frame.now)) }
 {
     match closing.part {
-        None => one_part(frame, chosen, closing.end),
-        Some(m) => two_parts(frame, chosen, m, closing.end),
+        None => one_part(alloc, frame, chosen, closing.end),
+        Some(m) => two_parts(alloc, frame, chosen, m, closing.end),
     }
 }
 
@@ -152,14 +164,14 @@ fn set(alloc: Global, constants: &mut Symbols, setting: Option<Setting>) -> Resu
 }
 
 /// The body of a call, by the line that calls.
-fn called_body(alloc: Global, line: &[u8], call: u32, body: &Macro) -> Result<Macro, MacroWhy>
+fn called_body(alloc: Global, line: &[u8], call: u32, body: &Macro) -> Result<Called, MacroWhy>
     ensures { CallsBody result (arguments_of_line (after_first_word_in line.now)) call (seen_macro body.now) }
 {
     let arguments = arguments_of(alloc, after_first_word(line))?;
-    if lacks_one(arguments.len(), body) {
+    if body.lacks_one(arguments.count()) {
         return Err(MacroWhy::Argument);
     }
-    let lines = body_in_call(alloc, arguments.as_slice(), call, body)?;
+    let lines = body.in_call(alloc, Substitution { arguments, call })?;
     Ok(lines)
 }
 
@@ -270,9 +282,9 @@ impl Expander {
         if self.macros.get(name).is_some() {
             return Err(MacroWhy::Twice);
         }
-        let well = frame.closed_by(n);
+        let well = frame.closed_by(alloc, n)?;
         let inner = frame.block(0, 0, 0, false, well)?;
-        let body = frame.body_after(n)?;
+        let body = frame.body_after(alloc, n)?;
         self.macros.define(alloc, name, body)?;
         self.enter(inner, frame.passed(n + 2))
     }
@@ -297,7 +309,13 @@ impl Expander {
     }
 
     /// A block is repeated, whose end comes after so many lines.
-    fn repeat(&mut self, frame: Frame, times: Option<i64>, n: usize) -> Result<(), MacroWhy>
+    fn repeat(
+        &mut self,
+        alloc: Global,
+        frame: Frame,
+        times: Option<i64>,
+        n: usize,
+    ) -> Result<(), MacroWhy>
         requires shallow { frame.blocks < 16 }
         requires left { frame.at + (n + 2) ≤ frame.end }
         ensures gives { Gives result (seen_expander self.new) (repeat_times_move times n (seen_frame frame) (seen_expander self.old)) }
@@ -305,7 +323,7 @@ impl Expander {
     {
         match times {
             Some(times) if times >= 0 && times <= 65535 => {
-                let inner = repeated(&frame, times as u32, n)?;
+                let inner = repeated(alloc, &frame, times as u32, n)?;
                 self.enter(inner, frame.passed(n + 2))
             }
             _ => Err(MacroWhy::Value),
@@ -329,13 +347,19 @@ impl Expander {
             None => Err(MacroWhy::Unclosed),
             Some(n) => {
                 let times = text_value(alloc, &self.constants, operands)?;
-                self.repeat(frame, times, n)
+                self.repeat(alloc, frame, times, n)
             }
         }
     }
 
     /// A part of a conditional block is chosen, whose end and `.else` come after so many lines.
-    fn choose(&mut self, frame: Frame, value: Option<i64>, closing: Closing) -> Result<(), MacroWhy>
+    fn choose(
+        &mut self,
+        alloc: Global,
+        frame: Frame,
+        value: Option<i64>,
+        closing: Closing,
+    ) -> Result<(), MacroWhy>
         requires shallow { frame.blocks < 16 }
         requires left { frame.at + (closing.end + 2) ≤ frame.end }
         requires parted { closing.part ≡ if_else_in (part (seen_frame frame) 0 closing.end) }
@@ -345,7 +369,7 @@ impl Expander {
     {
         match value {
             Some(value) => {
-                let inner = chosen_part(&frame, !is_null(value), closing)?;
+                let inner = chosen_part(alloc, &frame, !is_null(value), closing)?;
                 self.enter(inner, frame.passed(closing.end + 2))
             }
             None => Err(MacroWhy::Value),
@@ -369,7 +393,7 @@ impl Expander {
             None => Err(MacroWhy::Unclosed),
             Some(closing) => {
                 let value = text_value(alloc, &self.constants, operands)?;
-                self.choose(frame, value, closing)
+                self.choose(alloc, frame, value, closing)
             }
         }
     }
@@ -405,10 +429,10 @@ impl Expander {
     }
 
     /// A macro is called, whose body in this call is given.
-    fn call(&mut self, frame: Frame, lines: Macro) -> Result<(), MacroWhy>
+    fn call(&mut self, frame: Frame, lines: Called) -> Result<(), MacroWhy>
         requires shallow { frame.blocks < 16 }
         requires left { frame.at < frame.end }
-        ensures gives { Gives result (seen_expander self.new) (enter_move (inside_level (seen_frame frame) (seen_macro lines) 0 false true) (passed_level 1 (seen_frame frame)) (call_state (seen_expander self.old))) }
+        ensures gives { Gives result (seen_expander self.new) (enter_move (inside_level (seen_frame frame) (seen_called lines) 0 false true) (passed_level 1 (seen_frame frame)) (call_state (seen_expander self.old))) }
         ensures nearer { OnOk result (Nearer self.old self.new) }
     {
         if self.is_full() {
@@ -519,7 +543,7 @@ impl Expander {
         line: &[u8],
     ) -> Result<Option<Request>, MacroWhy>
         requires left { frame.at < frame.end }
-        requires next { line.now ≡ slice_index_or frame.body.value.lines frame.at [] }
+        requires next { line.now ≡ slice_index_or frame.body.value frame.at [] }
         ensures gives { GivesStep result (seen_expander self.old) (seen_expander self.new) (seen_frame frame) (line_move_of line.now (seen_frame frame) (seen_expander self.old)) }
         ensures nearer { IfOk result (λ request. IfNone request (Nearer self.old self.new)) }
         ensures asked { IfOk result (λ request. IsSome request → self.new ≡ self.old) }
@@ -549,8 +573,13 @@ impl Expander {
             };
         }
         let body = share(&frame.body)?;
-        let line = body.as_ref().lines.line(frame.at);
-        self.line(alloc, frame, line)
+        match body.as_ref().kept_line(frame.at) {
+            Some(line) => self.line(alloc, frame, line),
+            None => {
+                let line = body.as_ref().new_line(alloc, frame.at)?;
+                self.line(alloc, frame, line.as_slice())
+            }
+        }
     }
 
     /// A file that a line asked for, which is the file of a number.

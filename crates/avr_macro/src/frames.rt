@@ -3,8 +3,7 @@
 ghost use Rattle.std.specs.Prelude.{◌≡◌, ◌<◌, ◌≤◌, ◌+◌, ◌-◌, ◌^◌, [], true, false, IfOk, IfSome, length};
 ghost use Rattle.avr_macro.specs.States.{file_level, inside as inside_level, next_turn as next_turn_of, passed as passed_level, place_after as place_after_lines};
 
-use crate::arguments::are_plain;
-use crate::bodies::{Body, Macro, Text, share};
+use crate::bodies::{Body, Called, Macro, share};
 use crate::directives::closes_well;
 use crate::ends::{Closing, closing_after, end_of};
 use crate::lines::lines_of;
@@ -22,7 +21,7 @@ pub(crate) const INCLUDE_LIMIT: u8 = 8;
 #[derive(Drop)]
 pub(crate) struct Frame {
     /// All lines of the file or call.
-    pub body: Body,
+    pub body: Rc<Body>,
     /// The first line of a turn, the next line, and the line before which the turn ends.
     pub start: usize,
     pub at: usize,
@@ -41,7 +40,7 @@ pub(crate) struct Frame {
     pub blocks: u8,
     ghost turn: { start ≤ end },
     ghost order: { at ≤ end },
-    ghost within: { end ≤ length body.value.lines },
+    ghost within: { end ≤ length body.value },
     ghost few_includes: { includes ≤ 8 },
     ghost few_blocks: { blocks ≤ 16 },
     ghost repeats: { 0 < turns → 0 < blocks },
@@ -69,7 +68,7 @@ impl Frame {
     ghost use Rattle.avr_macro.specs.Blocks.{if_else as if_else_in, if_end as if_end_in, macro_end as macro_end_in, repeat_end as repeat_end_in};
     ghost use Rattle.avr_macro.specs.Macros.{seen_macro};
     ghost use Rattle.avr_macro.specs.Moves.{closed_by as closed_by_line, later, part};
-    ghost use Rattle.avr_macro.specs.Views.{IsAt, seen_frame};
+    ghost use Rattle.avr_macro.specs.Views.{IsAt, seen_called, seen_frame};
 
     /// A file, from its first line on.
     #[tactic(auto, using(crate::proofs::Slices::whole_body))]
@@ -85,7 +84,7 @@ impl Frame {
     {
         let lines = lines_of(alloc, bytes)?;
         let end = lines.count();
-        let body = Rc::new(alloc, Text::new(alloc, lines)?)?;
+        let body = Body::of_lines(alloc, lines)?;
         Ok(Frame {
             body,
             start: 0,
@@ -132,29 +131,28 @@ impl Frame {
 
     /// The macro whose body are so many of the lines after the next one.
     #[tactic(auto, using(crate::proofs::Slices::first_part))]
-    pub fn body_after(&self, n: usize) -> Result<Macro, AllocError>
+    pub fn body_after(&self, alloc: Global, n: usize) -> Result<Macro, AllocError>
         requires { self.now.at + (n + 2) ≤ self.now.end }
         ensures { IfOk result (λ body. seen_macro body ≡ part (seen_frame self.now) 0 n) }
     {
-        let body = share(&self.body)?;
         let start = self.at + 1;
-        let end = start + n;
-        let plain = are_plain(&body.as_ref().lines, start, end);
-        Ok(Macro {
-            body,
-            start,
-            end,
-            plain,
-        })
+        self.body.as_ref().part(alloc, start, start + n)
     }
 
     /// Whether the line after the next one and so many more has no words that it may not have.
     #[tactic(auto, using(crate::proofs::Slices::later_line))]
-    pub fn closed_by(&self, n: usize) -> bool
+    pub fn closed_by(&self, alloc: Global, n: usize) -> Result<bool, AllocError>
         requires { self.now.at + (n + 2) ≤ self.now.end }
-        ensures { result ≡ closed_by_line (later (seen_frame self.now)) n }
+        ensures { IfOk result (λ well. well ≡ closed_by_line (later (seen_frame self.now)) n) }
     {
-        closes_well(self.body.as_ref().lines.line(self.at + 1 + n))
+        let place = self.at + 1 + n;
+        match self.body.as_ref().kept_line(place) {
+            Some(line) => Ok(closes_well(line)),
+            None => {
+                let line = self.body.as_ref().new_line(alloc, place)?;
+                Ok(closes_well(line.as_slice()))
+            }
+        }
     }
 
     /// How many of the lines after the next one stand before the end of the macro that begins there.
@@ -197,9 +195,9 @@ impl Frame {
     }
 
     /// A call, whose body is given.
-    pub fn call(&self, lines: Macro) -> Frame
+    pub fn call(&self, lines: Called) -> Frame
         requires shallow { self.now.blocks < 16 }
-        ensures { seen_frame result ≡ inside_level (seen_frame self.now) (seen_macro lines) 0 false true }
+        ensures { seen_frame result ≡ inside_level (seen_frame self.now) (seen_called lines) 0 false true }
     {
         Frame {
             body: lines.body,

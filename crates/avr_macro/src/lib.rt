@@ -3,6 +3,7 @@
 #![tactic(auto)]
 
 mod arguments;
+mod at_signs;
 mod bodies;
 mod directives;
 mod ends;

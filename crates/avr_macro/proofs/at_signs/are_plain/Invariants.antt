@@ -1,7 +1,7 @@
 use Rattle.std.proofs.Common.{◌≡◌}
 use Rattle.std.specs.List.{slice_range}
-use Rattle.avr_macro.specs.Plain.{are_plain}
-use Rattle.avr_macro.proofs.arguments.are_plain.Given as goal
+use Rattle.avr_macro.specs.AtSigns.{are_plain}
+use Rattle.avr_macro.proofs.at_signs.are_plain.Given as goal
 
 -- the lines that are left tell
 abbrev pub invariant-loop-n : goal.invariant-loop-n

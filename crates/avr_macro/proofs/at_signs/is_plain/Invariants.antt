@@ -1,6 +1,6 @@
 use Rattle.std.proofs.Common.{◌≡◌, length}
-use Rattle.avr_macro.specs.Plain.{is_plain}
-use Rattle.avr_macro.proofs.arguments.is_plain.Given as goal
+use Rattle.avr_macro.specs.AtSigns.{is_plain}
+use Rattle.avr_macro.proofs.at_signs.is_plain.Given as goal
 
 -- the bytes that are left tell
 abbrev pub invariant-loop-rest : goal.invariant-loop-rest
