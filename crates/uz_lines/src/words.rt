@@ -326,7 +326,7 @@ fn slope_of_word(word: &[u8], limit: u32) -> Result<i16, CertWhy>
 }
 
 /// A range within another.
-#[tactic(auto, unfolding(crate::specs::FactForms::span_of))]
+#[tactic(auto, unfolding(crate::specs::Forms::span_of))]
 fn span_of_word(word: &[u8], range: Span) -> Result<Span, CertWhy>
     ensures { result ≡ span_of range word.now }
 {
