@@ -5,7 +5,7 @@ ghost use Rattle.avr_text.specs.Operators.{level_of, applied_to, combined as com
 
 use crate::arithmetic;
 use crate::tokens::TokenKind;
-use crate::values::Outcome;
+use crate::values::ValueOrWhy;
 
 /// An operator between two operands.
 #[derive(Clone, Copy)]
@@ -48,7 +48,7 @@ impl Binary {
         }
     }
 
-    fn applied(self, left: i64, right: i64) -> Outcome
+    fn applied(self, left: i64, right: i64) -> ValueOrWhy
         ensures { result ≡ applied_to self left right }
     {
         match self {
@@ -66,7 +66,7 @@ impl Binary {
     }
 
     /// The operator between two operands: the left one's fault goes first.
-    pub fn combined(self, left: Outcome, right: Outcome) -> Outcome
+    pub fn combined(self, left: ValueOrWhy, right: ValueOrWhy) -> ValueOrWhy
         ensures { result ≡ combined_outcomes self left right }
     {
         match left {
@@ -109,7 +109,7 @@ pub fn is_sign(kind: TokenKind) -> bool
 }
 
 /// A sign before an operand.
-pub fn sign_applied(kind: TokenKind, value: Outcome) -> Outcome
+pub fn sign_applied(kind: TokenKind, value: ValueOrWhy) -> ValueOrWhy
     ensures { result ≡ sign_applied_to kind value }
 {
     match value {
@@ -123,7 +123,7 @@ pub fn sign_applied(kind: TokenKind, value: Outcome) -> Outcome
 }
 
 /// What a closed parenthesis is worth.
-pub fn bracket_applied(bracket: Bracket, value: Outcome) -> Outcome
+pub fn bracket_applied(bracket: Bracket, value: ValueOrWhy) -> ValueOrWhy
     ensures { result ≡ bracket_applied_to bracket value }
 {
     match value {

@@ -10,7 +10,7 @@ ghost use Rattle.avr_text.specs.Reading.{reduced as reduced_outcome, signed as s
 use crate::operators::{Binary, Bracket, bracket_applied, is_sign, operator_of, sign_applied};
 use crate::symbols::Symbols;
 use crate::tokens::{Token, TokenKind};
-use crate::values::{Outcome, ValueWhy};
+use crate::values::{ValueOrWhy, ValueWhy};
 use crate::waiting::{Entry, Stack};
 use crate::words::is_word_named;
 
@@ -21,7 +21,7 @@ const DEEPEST: u8 = 32;
 #[derive(Clone, Copy)]
 pub enum Operand {
     /// The operand itself.
-    Value(Outcome),
+    Value(ValueOrWhy),
     /// A sign before it.
     Sign,
     /// `lo8` or `hi8`.
@@ -47,7 +47,7 @@ pub enum Mode {
     },
     /// An operator: an operand has been read.
     Operator {
-        value: Outcome,
+        value: ValueOrWhy,
     },
     /// Nothing: the tokens are no expression.
     Refused,
@@ -70,7 +70,7 @@ pub fn text_of(text: &[u8], token: Token) -> &[u8]
 }
 
 /// The signs from one token to before another, applied to the operand after them: the last one first.
-fn signed(tokens: &[Token], from: usize, at: usize, value: Outcome) -> Outcome
+fn signed(tokens: &[Token], from: usize, at: usize, value: ValueOrWhy) -> ValueOrWhy
     ensures { result ≡ signed_outcome (slice_range tokens.now from at) value }
 {
     let mut value = value;
@@ -83,7 +83,7 @@ fn signed(tokens: &[Token], from: usize, at: usize, value: Outcome) -> Outcome
 }
 
 /// The operators that wait and bind at least as tightly as a level take their right operand.
-fn reduced(stack: &mut Stack, level: u8, value: Outcome) -> Outcome
+fn reduced(stack: &mut Stack, level: u8, value: ValueOrWhy) -> ValueOrWhy
     ensures value { result ≡ (reduced_outcome level value stack.old).0 }
     ensures stack { stack.new ≡ (reduced_outcome level value stack.old).1 }
 {
@@ -174,7 +174,7 @@ impl Reader {
     }
 
     /// A closing parenthesis after an operand.
-    fn close(&mut self, tokens: &[Token], value: Outcome)
+    fn close(&mut self, tokens: &[Token], value: ValueOrWhy)
         ensures { self.new ≡ closed tokens.now value self.old }
     {
         let inner = reduced(&mut self.stack, 0, value);
@@ -206,7 +206,7 @@ impl Reader {
     }
 
     /// A token after an operand.
-    fn take_operator(&mut self, kind: TokenKind, tokens: &[Token], at: usize, value: Outcome)
+    fn take_operator(&mut self, kind: TokenKind, tokens: &[Token], at: usize, value: ValueOrWhy)
         requires { at < length tokens.now }
         ensures { self.new ≡ operator_step kind tokens.now at value self.old }
     {
@@ -221,7 +221,7 @@ impl Reader {
     }
 
     /// An operator waits for its right operand, which begins at a token.
-    fn wait(&mut self, operator: Binary, value: Outcome, next: usize)
+    fn wait(&mut self, operator: Binary, value: ValueOrWhy, next: usize)
         ensures { self.new ≡ waiting operator value next self.old }
     {
         let left = reduced(&mut self.stack, operator.level(), value);
@@ -281,7 +281,7 @@ impl Reader {
     }
 
     /// The value of what has been read.
-    pub fn finish(self) -> Outcome
+    pub fn finish(self) -> ValueOrWhy
         ensures { result ≡ finished self }
     {
         let mut reader = self;

@@ -23,10 +23,10 @@ pub enum ValueWhy {
 }
 
 /// A value, or why there is none.
-pub type Outcome = Result<i64, ValueWhy>;
+pub type ValueOrWhy = Result<i64, ValueWhy>;
 
 /// The value that the reader gives the tokens.
-fn read(text: &[u8], tokens: &[Token], symbols: &Symbols, dot: Option<i64>) -> Outcome
+fn read(text: &[u8], tokens: &[Token], symbols: &Symbols, dot: Option<i64>) -> ValueOrWhy
     requires { All (Lies (length text.now)) tokens.now }
     ensures { result ≡ value_of text.now tokens.now symbols.now dot }
 {

@@ -4,7 +4,7 @@ ghost use Rattle.std.specs.Bool.{OnFalse};
 ghost use Rattle.std.specs.Prelude.{◌≡◌, ◌==◌, ◌<◌, List, [], ◌∷◌, length, option_to_list, ◌++◌, IfNone};
 
 use crate::operators::{Binary, Bracket};
-use crate::values::Outcome;
+use crate::values::ValueOrWhy;
 use arrayvec::ArrayVec;
 use std::marker::Model;
 
@@ -16,7 +16,7 @@ const ROOM: usize = 256;
 pub enum Entry {
     /// A left operand with its operator.
     Waiting {
-        left: Outcome,
+        left: ValueOrWhy,
         operator: Binary,
     },
     /// A parenthesis, of which the signs and the word before it are the tokens from `from` to before `at`.
