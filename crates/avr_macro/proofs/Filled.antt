@@ -1,8 +1,8 @@
 -- The lines of a body, as they are or replaced.
-use Rattle.std.proofs.Common.{◌≡◌, ℕ, zero, suc, ◌-◌, ◌<◌, true, List, [], ◌∷◌, length, get_or, take, drop, map, refl, sym, ◌∙◌, ap, subst}
+use Rattle.std.proofs.Common.{◌≡◌, ℕ, ◌-◌, true, List, take, drop, map, refl, sym, ◌∙◌, ap}
 use Rattle.std.specs.Prelude.{Option, Some, None, is_some}
 use Rattle.std.specs.List.{slice_range}
-use Rattle.std.proofs.lemmas.List.{drop-map, length-map, take-map}
+use Rattle.std.proofs.lemmas.List.{drop-map, take-map}
 use Rattle.avr_macro.specs.declared.arguments.Substitution.{Substitution}
 use Rattle.avr_macro.specs.declared.directives.Word.{Word}
 use Rattle.avr_macro.specs.Arguments.{replaced}
@@ -13,29 +13,6 @@ use Rattle.avr_macro.proofs.Unchanged.{same_lines}
 
 abbrev Texts : Type 0
 Texts = List (List ℕ)
-
--- as many lines
-pub as_many : (s : Option Substitution) (xs : Texts) → length (filled s xs) ≡ length xs
-as_many None xs = refl
-as_many (Some s) xs = length-map xs (replaced s.arguments s.call)
-
-pub is_line : (s : Option Substitution) (xs shown : Texts) (n : ℕ) → filled s xs ≡ shown → n < length shown → n < length xs
-is_line s xs shown n e h = subst (λ k. n < k) (sym (ap length e) ∙ as_many s xs) h
-
--- a line that is taken as it is, and one that is replaced
-pub kept_here : (o : Option Substitution) (xs shown : Texts) (n : ℕ) → o ≡ None → filled o xs ≡ shown
-    → get_or xs n [] ≡ get_or shown n []
-kept_here o xs shown n e f = ap (λ s. get_or (filled s xs) n []) (sym e) ∙ ap (λ ls. get_or ls n []) f
-
-mapped : (f : List ℕ → List ℕ) → f [] ≡ [] → (xs : Texts) (n : ℕ) → f (get_or xs n []) ≡ get_or (map f xs) n []
-mapped f e [] n = e
-mapped f e (x ∷ xs) zero = refl
-mapped f e (x ∷ xs) (suc n) = mapped f e xs n
-
-pub replaced_here : (o : Option Substitution) (s : Substitution) (xs shown : Texts) (n : ℕ) → o ≡ Some s → filled o xs ≡ shown
-    → replaced s.arguments s.call (get_or xs n []) ≡ get_or shown n []
-replaced_here o s xs shown n e f =
-    mapped (replaced s.arguments s.call) refl xs n ∙ ap (λ s. get_or (filled s xs) n []) (sym e) ∙ ap (λ ls. get_or ls n []) f
 
 -- some of the lines
 pub mapped_range : (f : List ℕ → List ℕ) (xs : Texts) (start end : ℕ) → slice_range (map f xs) start end ≡ map f (slice_range xs start end)

@@ -1,9 +1,9 @@
 -- A call lacks an argument where it has fewer than lines need.
-use Rattle.std.proofs.Common.{◌≡◌, ℕ, ◌+◌, ◌-◌, ◌<◌, ◌≤◌, Bool, true, false, cond, leb, ltb, List, [], ◌∷◌, refl, sym, ◌∙◌, ap, arith}
+use Rattle.std.proofs.Common.{◌≡◌, ℕ, ◌+◌, ◌-◌, Bool, true, false, cond, leb, ltb, List, [], ◌∷◌, refl, sym, ◌∙◌, ap, arith}
 use Rattle.std.specs.Prelude.{◌==◌, ◌&&◌, max, not}
 use Rattle.std.proofs.lemmas.Bool.Decides.{nat_tests}
 use Rattle.avr_text.specs.Characters.{is_digit}
-use Rattle.avr_macro.specs.Arguments.{any_lacks, lacks_argument, lacks_from}
+use Rattle.avr_macro.specs.Arguments.{any_lacks, lacks_from}
 use Rattle.avr_macro.specs.AtSigns.{needed_by, needed_from, needed_in}
 
 -- either of two needs
@@ -62,7 +62,3 @@ lines_need count (line ∷ lines) =
 
 pub lacks_by_need : (count needed : ℕ) (lines : List (List ℕ)) → needed ≡ needed_by lines → any_lacks count lines ≡ ltb count needed
 lacks_by_need count needed lines e = lines_need count lines ∙ ap (ltb count) (sym e)
-
--- needs so far, and those of one more
-pub more_needs : (so_far need rest whole : ℕ) → max so_far (max need rest) ≡ whole → max (max so_far need) rest ≡ whole
-more_needs so_far need rest whole e = omega (arith, e)

@@ -1,5 +1,5 @@
 -- The lines of a file, and the blanks and words at the front of a line.
-use Rattle.std.specs.Prelude.{ℕ, ◌-◌, ◌==◌, Bool, true, List, [], ◌∷◌, ◌++◌, length, take, reverse, slice_index, if◌then◌else◌}
+use Rattle.std.specs.Prelude.{ℕ, ◌==◌, Bool, true, List, [], ◌∷◌, ◌++◌, reverse, if◌then◌else◌}
 use Rattle.std.specs.Str.Lines.{strip_carriage_return}
 use Prim.Native.Char.{code}
 use Rattle.uz_text.specs.Lines.{is_blank}

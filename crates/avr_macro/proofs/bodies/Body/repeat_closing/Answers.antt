@@ -9,4 +9,5 @@ pub returns : goal.returns
 returns c =
     c.repeat_closing.ensures ∙ ap (λ (t : Text). closing_at c.args.line (blocks_from Repeat EndRepeat 0 t.lines)) c.as_ref.ensures
     ∙ ap (closing_at c.args.line)
-    (shown_blocks Repeat EndRepeat c.self.inside.substitution c.self.inside.text.value.lines c.args.self.now c.self.invariant c.self.view_is)
+    (shown_blocks Repeat EndRepeat c.self.inside.substitution c.self.inside.text.value.lines c.args.self.now c.self.invariant
+    c.self.view_is)
