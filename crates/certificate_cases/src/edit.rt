@@ -5,7 +5,7 @@ use std::alloc::Global;
 
 /// How a text differs from the one at hand. Lines are counted from 1.
 #[derive(Clone, Copy)]
-pub enum Edit<'a> {
+pub(crate) enum Edit<'a> {
     /// Not at all.
     Whole,
     /// This line stands for that one.
@@ -24,7 +24,7 @@ pub enum Edit<'a> {
 
 impl<'a> Edit<'a> {
     /// What a row of the table says, if it is one of an edit.
-    pub fn read(row: &'a str) -> Option<Edit<'a>> {
+    pub(crate) fn read(row: &'a str) -> Option<Edit<'a>> {
         if row == "read" {
             return Some(Edit::Whole);
         }
@@ -78,7 +78,7 @@ fn write_line(text: &mut Vec<u8>, line: &str) -> Result<()> {
 }
 
 /// The text of these lines, which differs as the edit says.
-pub fn text_of(alloc: Global, lines: &[String], edit: Edit) -> Result<Vec<u8>> {
+pub(crate) fn text_of(alloc: Global, lines: &[String], edit: Edit) -> Result<Vec<u8>> {
     let mut text = Vec::new(alloc);
     for (i, line) in lines.iter().enumerate() {
         edit.write(&mut text, i + 1, line.as_str())?;

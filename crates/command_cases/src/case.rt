@@ -10,14 +10,14 @@ const NONE_FAILS: Fail = Fail { call: 0, keep: 0 };
 
 /// Files in memory, and the plan of the sinks.
 #[derive(Drop)]
-pub struct Case {
+pub(crate) struct Case {
     bench: Bench,
     sink: Fail,
 }
 
 impl Case {
     /// No file, and no planned fault.
-    pub fn new(alloc: Global) -> Result<Case> {
+    pub(crate) fn new(alloc: Global) -> Result<Case> {
         Ok(Case {
             bench: Bench::new(alloc, &[])?,
             sink: NONE_FAILS,
@@ -25,7 +25,7 @@ impl Case {
     }
 
     /// Does what a line of the script says.
-    pub fn line(&mut self, rt: &HostRuntime, alloc: Global, line: &str) -> Result<()> {
+    pub(crate) fn line(&mut self, rt: &HostRuntime, alloc: Global, line: &str) -> Result<()> {
         if let Some(text) = line.strip_prefix("|") {
             self.bench.add_line(text)?;
             return Ok(());

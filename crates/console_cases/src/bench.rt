@@ -12,7 +12,7 @@ const LAST_CLOCK: u64 = 1 << 40;
 
 /// What the commands act on.
 #[derive(Drop)]
-pub struct Bench {
+pub(crate) struct Bench {
     flash: Image,
     console: Console,
     copy: Console,
@@ -75,7 +75,7 @@ fn pass(rt: &impl Print, console: &mut Console, count: u16) -> Result<()> {
 
 impl Bench {
     /// An erased flash, and consoles of it.
-    pub fn new(alloc: Global) -> Result<Bench, AllocError> {
+    pub(crate) fn new(alloc: Global) -> Result<Bench, AllocError> {
         let flash = Image::empty(alloc)?;
         let console = reset(alloc, &flash, Response::Four)?;
         let copy = console.copy(alloc)?;
@@ -104,7 +104,7 @@ impl Bench {
     }
 
     /// Does a command.
-    pub fn act(&mut self, rt: &HostRuntime, command: Command) -> Result<()> {
+    pub(crate) fn act(&mut self, rt: &HostRuntime, command: Command) -> Result<()> {
         let alloc = rt.alloc();
         match command {
             Command::Words { at, words } => self.set_words(at, words),

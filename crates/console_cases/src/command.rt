@@ -4,7 +4,7 @@ use uz_console::Response;
 
 /// What a line says.
 #[derive(Clone, Copy)]
-pub enum Command {
+pub(crate) enum Command {
     /// `words AT W W W W`: four words of the flash, in hexadecimal, from a word address on.
     Words { at: u16, words: [u16; 4] },
     /// `nops FROM TO`: NOPs, in hexadecimal, up to before a word address.
@@ -31,7 +31,7 @@ pub enum Command {
 
 impl Command {
     /// The command of a line.
-    pub fn read(line: &str) -> Option<Command> {
+    pub(crate) fn read(line: &str) -> Option<Command> {
         let mut words = line.split_whitespace();
         match words.next()? {
             "words" => Some(Command::Words {

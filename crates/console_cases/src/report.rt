@@ -6,7 +6,7 @@ use uz_core::Why;
 use uz_machine::{Edge, EdgeKind};
 
 /// Each edge on a line.
-pub fn print_edges(rt: &impl Print, edges: &[Edge]) -> Result<()> {
+pub(crate) fn print_edges(rt: &impl Print, edges: &[Edge]) -> Result<()> {
     for edge in edges {
         match edge.kind {
             EdgeKind::Sync(level) => println!(rt; "{} sync {}", edge.clock, level)?,
@@ -20,7 +20,7 @@ pub fn print_edges(rt: &impl Print, edges: &[Edge]) -> Result<()> {
 }
 
 /// Why there is no turn.
-pub fn print_stop(rt: &impl Print, why: Why) -> Result<()> {
+pub(crate) fn print_stop(rt: &impl Print, why: Why) -> Result<()> {
     match why {
         Why::Opcode(word) => println!(rt; "stopped opcode {word:04X}")?,
         Why::Spm => println!(rt; "stopped spm")?,
@@ -29,7 +29,7 @@ pub fn print_stop(rt: &impl Print, why: Why) -> Result<()> {
 }
 
 /// Where a console is.
-pub fn print_place(rt: &impl Print, console: &Console) -> Result<()> {
+pub(crate) fn print_place(rt: &impl Print, console: &Console) -> Result<()> {
     println!(rt;
         "clock {} pc {:04X} word {:04X}",
         console.clock(),

@@ -3,7 +3,7 @@
 /// What a line says: the word `step` or `interrupt`, pc, SP, SREG and three words in hexadecimal, then for some registers
 /// the number in decimal and the value in hexadecimal, until a word that is no number.
 #[derive(Drop)]
-pub struct Case {
+pub(crate) struct Case {
     pub interrupts: bool,
     pub pc: u16,
     pub sp: u16,
@@ -14,7 +14,7 @@ pub struct Case {
 
 impl Case {
     /// The case of a line, and None for a line of another form.
-    pub fn read(line: &str) -> Option<Case> {
+    pub(crate) fn read(line: &str) -> Option<Case> {
         let mut words = line.split_whitespace();
         let interrupts = words.next()? == "interrupt";
         let pc = hex_word(words.next()?)?;

@@ -8,7 +8,7 @@ use uz_machine::HeldStore;
 
 /// A load gives the address and 51 times the sampling clock, modulo 256.
 #[derive(Drop)]
-pub struct Echo {
+pub(crate) struct Echo {
     held: ArrayVec<HeldStore, 2>,
 }
 
@@ -37,7 +37,7 @@ impl Data for Echo {
 }
 
 impl Echo {
-    pub fn new() -> Echo
+    pub(crate) fn new() -> Echo
         ensures { result.held.items ≡ [] }
     {
         Echo {
@@ -46,12 +46,12 @@ impl Echo {
     }
 
     /// The held stores, in order.
-    pub fn stores(&self) -> &[HeldStore] {
+    pub(crate) fn stores(&self) -> &[HeldStore] {
         self.held.as_slice()
     }
 
     /// Drops the held stores.
-    pub fn clear(&mut self)
+    pub(crate) fn clear(&mut self)
         ensures { self.new.held.items ≡ [] }
     {
         self.held = ArrayVec::new();

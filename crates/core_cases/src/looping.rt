@@ -47,7 +47,7 @@ fn run(cpu: &mut Cpu, program: &Program, memory: &mut Memory, clocks: u32) -> Co
 }
 
 /// Runs the loop for so many clocks, and prints the clocks, the steps and what the loop leaves.
-pub fn measure(rt: &impl Print, alloc: Global, clocks: u32) -> Result<()> {
+pub(crate) fn measure(rt: &impl Print, alloc: Global, clocks: u32) -> Result<()> {
     let mut flash = Image::empty(alloc)?;
     let mut at = 0u16;
     for word in LOOP {

@@ -12,7 +12,7 @@ const DATA_BYTES: usize = 4352;
 
 /// Bytes without ports or a timer.
 #[derive(Drop)]
-pub struct Memory {
+pub(crate) struct Memory {
     bytes: Vec<u8>,
     held: ArrayVec<HeldStore, 2>,
     ghost sized: { length bytes.items ≡ 4352 },
@@ -48,7 +48,7 @@ impl Data for Memory {
 
 impl Memory {
     /// All bytes are 0, and nothing is held.
-    pub fn new(alloc: Global) -> Result<Memory, AllocError>
+    pub(crate) fn new(alloc: Global) -> Result<Memory, AllocError>
         ensures { IfOk result (λ memory. memory.held.items ≡ []) }
     {
         Ok(Memory {
@@ -58,7 +58,7 @@ impl Memory {
     }
 
     /// Makes the held stores of bytes.
-    pub fn finish(&mut self)
+    pub(crate) fn finish(&mut self)
         ensures { self.new.held.items ≡ [] }
     {
         let (first, second) = match self.held.as_slice() {

@@ -9,7 +9,7 @@ use uz_hex::Image;
 use uz_machine::address::{IO_BASE, SPH, SPL, SREG};
 
 /// Writes a word into the flash, at a word address.
-pub fn put(flash: &mut Image, at: u16, word: u16) {
+pub(crate) fn put(flash: &mut Image, at: u16, word: u16) {
     let low = 2 * (at % 32768);
     flash.set(low, (word % 256) as u8);
     flash.set(low + 1, (word / 256) as u8);
@@ -51,7 +51,7 @@ fn out(cpu: &mut Cpu, flash: &mut Image, space: &mut Echo, at: u16, value: u8)
 }
 
 /// Sets SREG, SP, the registers and pc, and puts the case's words at pc.
-pub fn prepare(cpu: &mut Cpu, flash: &mut Image, space: &mut Echo, case: &Case)
+pub(crate) fn prepare(cpu: &mut Cpu, flash: &mut Image, space: &mut Echo, case: &Case)
     requires { space.old.held.items ≡ [] }
     ensures { space.new.held.items ≡ [] }
 {

@@ -7,7 +7,7 @@ use uz_core::{Cpu, Step, Why};
 use uz_machine::HeldStore;
 
 /// The step's answer.
-pub fn print_step(rt: &impl Print, step: Step) -> Result<()> {
+pub(crate) fn print_step(rt: &impl Print, step: Step) -> Result<()> {
     match step {
         Step::Stopped(Why::Opcode(word)) => print!(rt; "opcode {word:04X}")?,
         Step::Stopped(Why::Spm) => print!(rt; "spm")?,
@@ -21,7 +21,7 @@ pub fn print_step(rt: &impl Print, step: Step) -> Result<()> {
 }
 
 /// The rest of the line: the core, the registers that changed, and the held stores.
-pub fn print_core(rt: &impl Print, case: &Case, cpu: &Cpu, space: &Echo) -> Result<()> {
+pub(crate) fn print_core(rt: &impl Print, case: &Case, cpu: &Cpu, space: &Echo) -> Result<()> {
     print!(rt;
         " pc {:04X} sp {:04X} sreg {:02X}",
         cpu.pc(),

@@ -44,7 +44,7 @@ fn slot(random: &mut Random) -> u8
 }
 
 /// The next command of a debugger at a turn, with breakpoints below a word address.
-pub fn command(random: &mut Random, turn: u32, limit: u16) -> Command
+pub(crate) fn command(random: &mut Random, turn: u32, limit: u16) -> Command
     requires low { 0 < limit }
     requires high { limit ≤ 32768 }
     ensures { IsInRange result }

@@ -11,7 +11,7 @@ use uz_pads::Pad;
 const LAST_TURN: u32 = 100_000_000;
 
 /// The pairs of the pads.
-pub fn pads(alloc: Global) -> Result<Vec<Pad>, AllocError> {
+pub(crate) fn pads(alloc: Global) -> Result<Vec<Pad>, AllocError> {
     let mut list = Vec::new(alloc);
     for (one, two) in [(0x0001, 0x0800), (0x0F0F, 0), (0xFFFF, 0x1234)] {
         list.push(Pad { one, two })?;
@@ -68,7 +68,7 @@ fn bytes(alloc: Global, console: &Console, at: u16, count: u8) -> Result<String,
 
 /// A debugger without states of the console.
 #[derive(Drop)]
-pub struct Plain {
+pub(crate) struct Plain {
     turn: u32,
     breakpoints: Vec<u16>,
     slots: [Option<u32>; 10],
@@ -76,7 +76,7 @@ pub struct Plain {
 
 impl Plain {
     /// At reset.
-    pub fn new(alloc: Global) -> Plain {
+    pub(crate) fn new(alloc: Global) -> Plain {
         Plain {
             turn: 0,
             breakpoints: Vec::new(alloc),
@@ -85,7 +85,7 @@ impl Plain {
     }
 
     /// The turn number.
-    pub fn turn(&self) -> u32 {
+    pub(crate) fn turn(&self) -> u32 {
         self.turn
     }
 
@@ -185,7 +185,7 @@ impl Plain {
     }
 
     /// Does a command, and answers its lines.
-    pub fn act(
+    pub(crate) fn act(
         &mut self,
         alloc: Global,
         image: &Image,

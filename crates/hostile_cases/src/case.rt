@@ -11,7 +11,7 @@ const CHANGED: [u8; 5] = [0, b'\n', b'\r', b'7', 0xFF];
 
 /// The files of a case.
 #[derive(Drop)]
-pub struct Case {
+pub(crate) struct Case {
     bench: Bench,
 }
 
@@ -28,14 +28,14 @@ fn bytes_of(alloc: Global, digits: &str) -> Result<Vec<u8>> {
 
 impl Case {
     /// No file, and no planned fault.
-    pub fn new(alloc: Global) -> Result<Case> {
+    pub(crate) fn new(alloc: Global) -> Result<Case> {
         Ok(Case {
             bench: Bench::new(alloc, &[])?,
         })
     }
 
     /// Does what a line of the script says.
-    pub fn line(&mut self, rt: &HostRuntime, alloc: Global, line: &str) -> Result<()> {
+    pub(crate) fn line(&mut self, rt: &HostRuntime, alloc: Global, line: &str) -> Result<()> {
         if let Some(text) = line.strip_prefix("|") {
             self.bench.add_line(text)?;
             return Ok(());

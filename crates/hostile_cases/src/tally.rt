@@ -15,7 +15,7 @@ struct Counted {
 
 /// The answers of many runs.
 #[derive(Drop)]
-pub struct Tally {
+pub(crate) struct Tally {
     answers: Vec<Counted>,
     runs: u32,
     sum: u32,
@@ -38,7 +38,7 @@ fn first_and_last(text: &[u8]) -> (&[u8], &[u8]) {
 
 impl Tally {
     /// No run.
-    pub fn new(alloc: Global) -> Tally {
+    pub(crate) fn new(alloc: Global) -> Tally {
         Tally {
             answers: Vec::new(alloc),
             runs: 0,
@@ -51,7 +51,7 @@ impl Tally {
     }
 
     /// One more run, with its status and what it printed.
-    pub fn add(&mut self, alloc: Global, status: u8, text: &[u8]) -> Result<()> {
+    pub(crate) fn add(&mut self, alloc: Global, status: u8, text: &[u8]) -> Result<()> {
         self.runs = self.runs.wrapping_add(1);
         self.add_byte(status);
         for byte in text {
@@ -81,7 +81,7 @@ impl Tally {
     }
 
     /// Prints the answers in the order in which they first came.
-    pub fn print(&self, rt: &HostRuntime) -> Result<()> {
+    pub(crate) fn print(&self, rt: &HostRuntime) -> Result<()> {
         for counted in self.answers.as_slice() {
             print!(rt; "{} times {} ", counted.count, counted.status)?;
             io::writer(rt).write_all(counted.first.as_slice())?;

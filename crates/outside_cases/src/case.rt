@@ -14,21 +14,21 @@ struct Held {
 /// A file that the command writes: after it is created, pieces of these lengths are appended. A piece is no longer than what
 /// is left of the file.
 #[derive(Drop)]
-pub struct Written {
+pub(crate) struct Written {
     pub name: String,
     pub pieces: Vec<usize>,
 }
 
 /// What a run leaves.
 #[derive(Drop)]
-pub struct RunEnd {
+pub(crate) struct RunEnd {
     pub answer: Answer,
     pub shelf: MemoryShelf,
 }
 
 /// The files that are there, and what the command asks of the outside.
 #[derive(Drop)]
-pub struct Case {
+pub(crate) struct Case {
     files: Vec<Held>,
     pub loads: Vec<String>,
     pub writes: Vec<Written>,
@@ -37,7 +37,7 @@ pub struct Case {
 
 impl Case {
     /// No file.
-    pub fn new(alloc: Global) -> Case {
+    pub(crate) fn new(alloc: Global) -> Case {
         Case {
             files: Vec::new(alloc),
             loads: Vec::new(alloc),
@@ -47,7 +47,7 @@ impl Case {
     }
 
     /// A file begins, with no byte.
-    pub fn begin_file(&mut self, alloc: Global, name: &str) -> Result<()> {
+    pub(crate) fn begin_file(&mut self, alloc: Global, name: &str) -> Result<()> {
         let name = String::from_str(alloc, name)?;
         let bytes = Vec::new(alloc);
         self.files.push(Held { name, bytes })?;
@@ -55,7 +55,7 @@ impl Case {
     }
 
     /// The last file goes on by a line.
-    pub fn continue_file(&mut self, line: &str) -> Result<()> {
+    pub(crate) fn continue_file(&mut self, line: &str) -> Result<()> {
         if let Some(held) = self.files.last_mut() {
             held.bytes.extend_from_slice(line.as_bytes())?;
             held.bytes.push(b'\n')?;
@@ -64,13 +64,13 @@ impl Case {
     }
 
     /// The files that the command loads.
-    pub fn set_loads(&mut self, alloc: Global, names: &str) -> Result<()> {
+    pub(crate) fn set_loads(&mut self, alloc: Global, names: &str) -> Result<()> {
         self.loads = words_of(alloc, names)?;
         Ok(())
     }
 
     /// One more file that the command writes.
-    pub fn add_write(&mut self, alloc: Global, words: &str) -> Result<()> {
+    pub(crate) fn add_write(&mut self, alloc: Global, words: &str) -> Result<()> {
         let (name, lengths) = words.split_once(" ").unwrap_or((words, ""));
         let mut pieces = Vec::new(alloc);
         for length in lengths.split_whitespace() {
@@ -82,12 +82,12 @@ impl Case {
     }
 
     /// The run that nothing disturbed.
-    pub fn remember(&mut self, outcome: RunEnd) {
+    pub(crate) fn remember(&mut self, outcome: RunEnd) {
         self.last = Some(outcome);
     }
 
     /// A file that the last run wrote is there.
-    pub fn take(&mut self, alloc: Global, name: &str) -> Result<()> {
+    pub(crate) fn take(&mut self, alloc: Global, name: &str) -> Result<()> {
         if let Some(last) = &self.last
             && let Some(bytes) = last.shelf.file(name)
         {
@@ -101,7 +101,7 @@ impl Case {
     }
 
     /// A file's bytes before the command: those of the last of that name.
-    pub fn before(&self, name: &str) -> Option<&[u8]> {
+    pub(crate) fn before(&self, name: &str) -> Option<&[u8]> {
         let mut found = None;
         for held in self.files.as_slice() {
             if held.name.as_str() == name {
@@ -112,7 +112,7 @@ impl Case {
     }
 
     /// Whether all files that the command doesn't write are as they were.
-    pub fn others_stay(&self, shelf: &MemoryShelf) -> bool {
+    pub(crate) fn others_stay(&self, shelf: &MemoryShelf) -> bool {
         for held in self.files.as_slice() {
             let name = held.name.as_str();
             if !self.is_written(name) && shelf.file(name) != self.before(name) {
@@ -132,7 +132,7 @@ impl Case {
     }
 
     /// How many calls of the shelf the command makes.
-    pub fn shelf_calls(&self) -> usize {
+    pub(crate) fn shelf_calls(&self) -> usize {
         let mut calls = self.loads.len();
         for written in self.writes.as_slice() {
             calls = calls.saturating_add(written.calls());
@@ -141,7 +141,7 @@ impl Case {
     }
 
     /// Runs the words over the files, with those faults planned.
-    pub fn run(
+    pub(crate) fn run(
         &self,
         alloc: Global,
         words: &[String],
@@ -159,12 +159,12 @@ impl Case {
 
 impl Written {
     /// How many calls write the file: its `create` and an `append` for each piece.
-    pub fn calls(&self) -> usize {
+    pub(crate) fn calls(&self) -> usize {
         self.pieces.len().saturating_add(1)
     }
 
     /// How many bytes the file has where the `append` of that number, counted from 0, keeps so many.
-    pub fn kept(&self, number: usize, keep: usize) -> usize {
+    pub(crate) fn kept(&self, number: usize, keep: usize) -> usize {
         let mut length = 0usize;
         let mut place = 0usize;
         for piece in self.pieces.as_slice() {

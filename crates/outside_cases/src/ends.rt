@@ -5,18 +5,18 @@ use command_bench::Status;
 
 /// A fault of the shelf's call of that number, counted from 1, which keeps so many bytes.
 #[derive(Clone, Copy)]
-pub struct Fault {
+pub(crate) struct Fault {
     pub call: usize,
     pub keep: usize,
 }
 
 /// At most so many bytes of the front.
-pub fn front(bytes: &[u8], count: usize) -> &[u8] {
+pub(crate) fn front(bytes: &[u8], count: usize) -> &[u8] {
     &bytes[..count.min(bytes.len())]
 }
 
 /// Whether the text is the first so many bytes of the line `unread NAME`.
-pub fn is_unread_line(text: &[u8], name: &str, count: usize) -> bool {
+pub(crate) fn is_unread_line(text: &[u8], name: &str, count: usize) -> bool {
     let begin = b"unread ";
     let end = begin.len().min(text.len());
     let length = name.len().saturating_add(8);
@@ -81,14 +81,14 @@ fn leaves_files(case: &Case, whole: &RunEnd, left: &RunEnd, fault: Fault) -> boo
 }
 
 /// Whether a run is as the one that nothing disturbs.
-pub fn is_undisturbed(case: &Case, whole: &RunEnd, left: &RunEnd) -> bool {
+pub(crate) fn is_undisturbed(case: &Case, whole: &RunEnd, left: &RunEnd) -> bool {
     left.answer.status == whole.answer.status
         && left.answer.text() == whole.answer.text()
         && has_all_files(case, whole, left)
 }
 
 /// Whether all files are written.
-pub fn has_all_files(case: &Case, whole: &RunEnd, left: &RunEnd) -> bool {
+pub(crate) fn has_all_files(case: &Case, whole: &RunEnd, left: &RunEnd) -> bool {
     let fault = Fault {
         call: usize::MAX,
         keep: 0,
@@ -97,7 +97,13 @@ pub fn has_all_files(case: &Case, whole: &RunEnd, left: &RunEnd) -> bool {
 }
 
 /// Whether a run in which a load failed leaves what it is to leave, where so many bytes of its line could be put.
-pub fn is_unread(case: &Case, whole: &RunEnd, left: &RunEnd, load: usize, count: usize) -> bool {
+pub(crate) fn is_unread(
+    case: &Case,
+    whole: &RunEnd,
+    left: &RunEnd,
+    load: usize,
+    count: usize,
+) -> bool {
     let fault = Fault {
         call: load,
         keep: 0,
@@ -113,7 +119,7 @@ pub fn is_unread(case: &Case, whole: &RunEnd, left: &RunEnd, load: usize, count:
 }
 
 /// Whether a run in which the shelf's call failed leaves what it is to leave.
-pub fn is_wanted(case: &Case, whole: &RunEnd, left: &RunEnd, fault: Fault) -> bool {
+pub(crate) fn is_wanted(case: &Case, whole: &RunEnd, left: &RunEnd, fault: Fault) -> bool {
     if fault.call > case.shelf_calls() {
         is_undisturbed(case, whole, left)
     } else if fault.call > case.loads.len() {
@@ -126,7 +132,7 @@ pub fn is_wanted(case: &Case, whole: &RunEnd, left: &RunEnd, fault: Fault) -> bo
 }
 
 /// Where the last line of a text begins.
-pub fn last_line(text: &[u8]) -> usize {
+pub(crate) fn last_line(text: &[u8]) -> usize {
     let mut start = 0usize;
     let mut at = 0usize;
     for byte in text {

@@ -29,7 +29,12 @@ fn run_whole(
 }
 
 /// Runs the words undisturbed alone.
-pub fn run_once(rt: &HostRuntime, alloc: Global, case: &mut Case, words: &str) -> Result<()> {
+pub(crate) fn run_once(
+    rt: &HostRuntime,
+    alloc: Global,
+    case: &mut Case,
+    words: &str,
+) -> Result<()> {
     let list = words_of(alloc, words)?;
     let whole = run_whole(rt, alloc, case, words, list.as_slice())?;
     case.remember(whole);
@@ -37,7 +42,7 @@ pub fn run_once(rt: &HostRuntime, alloc: Global, case: &mut Case, words: &str) -
 }
 
 /// Runs the words in all ways, and prints what came of it.
-pub fn run_all(rt: &HostRuntime, alloc: Global, case: &mut Case, words: &str) -> Result<()> {
+pub(crate) fn run_all(rt: &HostRuntime, alloc: Global, case: &mut Case, words: &str) -> Result<()> {
     let list = words_of(alloc, words)?;
     let whole = run_whole(rt, alloc, case, words, list.as_slice())?;
     try_shelf(rt, alloc, case, list.as_slice(), &whole)?;

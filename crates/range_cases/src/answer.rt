@@ -25,7 +25,7 @@ fn print_flags(rt: HostRuntime, flags: &[Bit; 7]) -> Result<()> {
 }
 
 /// A line with the answer.
-pub fn print(rt: HostRuntime, answer: &Answer) -> Result<()> {
+pub(crate) fn print(rt: HostRuntime, answer: &Answer) -> Result<()> {
     match answer {
         Answer::Byte(told) => {
             print!(rt; "{} {}", told.span.lo(), told.span.hi())?;

@@ -10,7 +10,7 @@ use uz_schedule::{Bit, Span, Wide};
 
 /// What a rule answers.
 #[derive(Drop)]
-pub enum Answer {
+pub(crate) enum Answer {
     /// A byte and flags.
     Byte(Ranged),
     /// A pair and flags.
@@ -24,7 +24,7 @@ pub enum Answer {
 }
 
 /// What the rule of a row answers; None where there is no such rule, or it is given something else.
-pub fn ask(words: &mut Words) -> Option<Answer> {
+pub(crate) fn ask(words: &mut Words) -> Option<Answer> {
     let name = words.word();
     match name {
         "sum" | "difference" | "chained" => Some(Answer::Byte(of_sums(name, words)?)),

@@ -31,7 +31,7 @@ struct Ring {
 }
 
 /// Writes a word of the flash.
-pub fn set_word(image: &mut Image, at: u16, word: u16)
+pub(crate) fn set_word(image: &mut Image, at: u16, word: u16)
     requires { at < 32768 }
 {
     image.set(2 * at, (word % 256) as u8);
@@ -116,7 +116,7 @@ fn tell_checks(rt: HostRuntime, image: Image, cert: Cert) -> Result<()>
 }
 
 /// The first refusal of a ring, if there is one.
-pub fn tell(rt: HostRuntime, row: &mut Row) -> Result<()> {
+pub(crate) fn tell(rt: HostRuntime, row: &mut Row) -> Result<()> {
     let ring = Ring {
         jump: row.short(),
         third: row.short(),

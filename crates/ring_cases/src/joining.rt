@@ -108,7 +108,7 @@ fn tell_joined(rt: HostRuntime, cert: Cert) -> Result<()>
 }
 
 /// The same of the ring, whose text is read.
-pub fn tell(rt: HostRuntime) -> Result<()> {
+pub(crate) fn tell(rt: HostRuntime) -> Result<()> {
     let text = text(rt.alloc())?;
     if text.len() >= 1_000_000 {
         return Ok(());

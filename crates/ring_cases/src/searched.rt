@@ -120,7 +120,7 @@ fn searched(alloc: Global, fall: u16, limit: u32) -> Result<Answer, AllocError> 
 
 /// What a search with this fall and this limit comes to. Each instruction is met once a clock of the first turn; of the
 /// second turn three are new, until the flags are as they were.
-pub fn tell(rt: HostRuntime, row: &mut Row) -> anyhow::Result<()> {
+pub(crate) fn tell(rt: HostRuntime, row: &mut Row) -> anyhow::Result<()> {
     let fall = row.short();
     let limit = row.number();
     println!(rt; "{:?}", searched(rt.alloc(), fall, limit)?)?;

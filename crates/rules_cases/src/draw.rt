@@ -38,7 +38,7 @@ fn cell(at: u16, owner: Owner, lo: u8, hi: u8) -> Cell {
 }
 
 /// The header of all instances.
-pub fn header() -> Head
+pub(crate) fn header() -> Head
     ensures main { result.main ≡ 4 }
     ensures handler { result.handler ≡ 6 }
 {
@@ -62,7 +62,7 @@ pub fn header() -> Head
 }
 
 /// The words at the pc.
-pub fn words(random: &mut Random) -> [u16; 3] {
+pub(crate) fn words(random: &mut Random) -> [u16; 3] {
     let is_row = random.below(4) > 0;
     let (fixed, fields) = ROWS[random.below(DRAWN_ROWS) as usize];
     let any = random.word();
@@ -200,7 +200,7 @@ fn draw_place(random: &mut Random, kind: Kind) -> Standing
 }
 
 /// Draws an instance, of a frame of three lines.
-pub fn instance(random: &mut Random, head: &Head, kind: Kind) -> Instance
+pub(crate) fn instance(random: &mut Random, head: &Head, kind: Kind) -> Instance
     ensures line { result.line < 3 }
     ensures clock { result.clock < 1820 }
     ensures kind { result.kind ≡ kind }

@@ -9,7 +9,7 @@ use uz_rules::{Fail, Next};
 use uz_schedule::{Bit, EventKind, Instance, Span, Val, Wide};
 
 /// Tells a reason, or that there is none.
-pub fn tell_reason(rt: &HostRuntime, answer: std::result::Result<(), Fail>) -> Result<()> {
+pub(crate) fn tell_reason(rt: &HostRuntime, answer: std::result::Result<(), Fail>) -> Result<()> {
     match answer {
         Ok(()) => print!(rt; "passes")?,
         Err(why) => print!(rt; "{:?}", why)?,
@@ -169,7 +169,7 @@ fn tell_changes(rt: &HostRuntime, old: &Instance, new: &Instance) -> Result<()> 
 }
 
 /// Tells the abstract results of an instance.
-pub fn tell_answer(
+pub(crate) fn tell_answer(
     rt: &HostRuntime,
     at: &Instance,
     answer: &std::result::Result<Next, Fail>,

@@ -5,7 +5,7 @@ use uz_schedule::{Bit, EventKind, Instance, Span, Val, Wide};
 
 /// A sum over numbers in their order.
 #[derive(Drop)]
-pub struct Sum {
+pub(crate) struct Sum {
     /// The sum so far.
     pub total: u64,
 }
@@ -121,7 +121,7 @@ impl Sum {
     }
 
     /// Adds a whole answer: where each result stands, and what is known of the first, which is the same in all.
-    pub fn add_answer(&mut self, answer: &Result<Next, Fail>) {
+    pub(crate) fn add_answer(&mut self, answer: &Result<Next, Fail>) {
         match answer {
             Ok(next) => {
                 self.add_emission(next.emit);

@@ -21,14 +21,14 @@ use uz_schedule::{Cert, Head, Instance, well_formed};
 
 /// What the table has said so far.
 #[derive(Drop)]
-pub struct Table {
+pub(crate) struct Table {
     text: Vec<u8>,
     flash: Image,
     cert: Option<Cert>,
 }
 
 /// Sets the word at a word address, round the flash.
-pub fn set_word(flash: &mut Image, at: u16, word: u16) {
+pub(crate) fn set_word(flash: &mut Image, at: u16, word: u16) {
     let low = at % 32768 * 2;
     flash.set(low, (word % 256) as u8);
     flash.set(low + 1, (word / 256) as u8);
@@ -85,7 +85,7 @@ fn tell_point(rt: &HostRuntime, flash: &Image, cert: &Cert, id: u32) -> Result<(
 
 impl Table {
     /// An empty table.
-    pub fn new(alloc: Global) -> Result<Table> {
+    pub(crate) fn new(alloc: Global) -> Result<Table> {
         Ok(Table {
             text: Vec::new(alloc),
             flash: Image::empty(alloc)?,
@@ -125,7 +125,7 @@ impl Table {
     }
 
     /// Does a row.
-    pub fn row(&mut self, rt: &HostRuntime, row: &str) -> Result<()> {
+    pub(crate) fn row(&mut self, rt: &HostRuntime, row: &str) -> Result<()> {
         if let Some(line) = row.strip_prefix("|") {
             self.text.extend_from_slice(line.as_bytes())?;
             self.text.push(b'\n')?;

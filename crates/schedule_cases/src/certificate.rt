@@ -9,7 +9,7 @@ use anyhow::Result;
 use uz_schedule::{Cert, Kind, LineOrder, Owner, Schedule, schedule_fits, tracks, well_formed};
 
 /// The answer to a row that asks a certificate. Answers whether there is one, and the row does.
-pub fn tell(rt: HostRuntime, cert: &Option<Cert>, line: &str) -> Result<bool> {
+pub(crate) fn tell(rt: HostRuntime, cert: &Option<Cert>, line: &str) -> Result<bool> {
     if let Some(cert) = cert {
         if well_formed(cert) {
             let mut row = Row::new(line);
@@ -84,7 +84,7 @@ fn tell_advance(rt: HostRuntime, order: LineOrder, row: &mut Row) -> Result<()> 
 }
 
 /// Whether a program that is alone, and main, track the handler's cells.
-pub fn tell_tracks(rt: HostRuntime) -> Result<()> {
+pub(crate) fn tell_tracks(rt: HostRuntime) -> Result<()> {
     println!(rt;
         "alone {} main {}",
         tracks(Kind::Alone, Owner::Handler),

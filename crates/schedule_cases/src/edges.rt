@@ -6,7 +6,7 @@ use uz_events::event_of;
 use uz_machine::EdgeKind;
 
 /// The event of an edge of this kind, if it is one.
-pub fn tell_event(rt: HostRuntime, row: &mut Row) -> Result<()> {
+pub(crate) fn tell_event(rt: HostRuntime, row: &mut Row) -> Result<()> {
     let edge = match row.word() {
         "sync" => EdgeKind::Sync(row.byte()),
         "pixel" => EdgeKind::Pixel(row.byte()),

@@ -90,7 +90,7 @@ fn print_memory(rt: HostRuntime, at: &Instance) -> Result<()> {
 
 /// A line with what is known: the kind, the place, the registers, the pairs X, Y and Z as `p0` to `p2`, the flags C, Z, N,
 /// V, S, H and T, the stack and the cells.
-pub fn tell(rt: HostRuntime, at: &Option<Instance>) -> Result<()> {
+pub(crate) fn tell(rt: HostRuntime, at: &Option<Instance>) -> Result<()> {
     match at {
         Some(at) => {
             print!(rt;
@@ -112,7 +112,7 @@ pub fn tell(rt: HostRuntime, at: &Option<Instance>) -> Result<()> {
 }
 
 /// The hull of two ranges of bytes.
-pub fn tell_hull(rt: HostRuntime, row: &mut Row) -> Result<()> {
+pub(crate) fn tell_hull(rt: HostRuntime, row: &mut Row) -> Result<()> {
     let low = Span::new(row.byte(), row.byte());
     let high = Span::new(row.byte(), row.byte());
     if let (Some(low), Some(high)) = (low, high) {

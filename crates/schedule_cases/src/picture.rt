@@ -73,7 +73,7 @@ fn print_runs(rt: HostRuntime, bytes: &[u8]) -> Result<()> {
 }
 
 /// How many rows and frames the picture has, its bytes, and whether the scanner's records are the same bytes.
-pub fn tell(rt: HostRuntime) -> Result<()> {
+pub(crate) fn tell(rt: HostRuntime) -> Result<()> {
     let mut whole = Vec::new(rt.alloc());
     let (rows, frames) = picture(rt.alloc(), &EDGES, &mut whole)?;
     print!(rt; "rows {rows} frames {frames}:")?;

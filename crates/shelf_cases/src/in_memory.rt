@@ -13,7 +13,7 @@ fn show(rt: HostRuntime, shelf: &MemoryShelf, name: &str) -> Result<()> {
 }
 
 /// Calls 2, 5 and 6 fail. The fifth keeps two bytes; the second plan for it counts for nothing.
-pub fn files(rt: HostRuntime) -> Result<()> {
+pub(crate) fn files(rt: HostRuntime) -> Result<()> {
     let alloc = rt.alloc();
     let fails = [
         Fail { call: 2, keep: 0 },
@@ -40,7 +40,7 @@ pub fn files(rt: HostRuntime) -> Result<()> {
 }
 
 /// Call 2 fails, and keeps three bytes.
-pub fn text(rt: HostRuntime) -> Result<()> {
+pub(crate) fn text(rt: HostRuntime) -> Result<()> {
     let alloc = rt.alloc();
     let mut sink = MemorySink::new(alloc, &[Fail { call: 2, keep: 3 }])?;
     sink.put(alloc, b"one ")?;

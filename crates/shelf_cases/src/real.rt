@@ -7,7 +7,7 @@ use std::{fs, io};
 use uz_shelf::{DiskShelf, OutSink, Shelf, Sink};
 
 /// A file that isn't there, one that can't be made, one that is written in two pieces, and the same made empty.
-pub fn short_file(rt: HostRuntime) -> Result<()> {
+pub(crate) fn short_file(rt: HostRuntime) -> Result<()> {
     let alloc = rt.alloc();
     let mut shelf = DiskShelf::new(rt);
     println!(rt; "missing: {:?}", shelf.load(alloc, "short.tmp", 5))?;
@@ -25,7 +25,7 @@ pub fn short_file(rt: HostRuntime) -> Result<()> {
 
 /// A file of so many bytes and three more in two pieces: whether it is read back within its length, and what is answered
 /// for a limit of one byte less.
-pub fn long_file(rt: HostRuntime, length: u32) -> Result<()>
+pub(crate) fn long_file(rt: HostRuntime, length: u32) -> Result<()>
     requires { length < 1000000 }
 {
     let alloc = rt.alloc();
@@ -50,7 +50,7 @@ pub fn long_file(rt: HostRuntime, length: u32) -> Result<()>
 }
 
 /// A text in two pieces to a real file, and one to standard output.
-pub fn output(rt: HostRuntime) -> Result<()> {
+pub(crate) fn output(rt: HostRuntime) -> Result<()> {
     let alloc = rt.alloc();
     let mut out = OutSink::new(fs::create(&rt, "out.tmp")?);
     out.put(alloc, b"one, ")?;

@@ -5,7 +5,7 @@ use uz_schedule::Instance;
 
 /// The registers, and the flags C, Z, N, V, S, H and T from bit 0 on.
 #[derive(Drop)]
-pub struct Core {
+pub(crate) struct Core {
     /// R0 to R31.
     pub regs: [u8; 32],
     /// Bits 0 to 6 of SREG.
@@ -14,7 +14,7 @@ pub struct Core {
 
 /// One draw.
 #[derive(Drop)]
-pub struct Case {
+pub(crate) struct Case {
     /// The words at the pc.
     pub words: [u16; 2],
     /// The core at the instruction.

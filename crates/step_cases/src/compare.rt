@@ -15,7 +15,7 @@ use uz_schedule::{Bit, EventKind, Head, Instance, Kind, Span, Val, Wide, tracks}
 
 /// What of a console isn't as it is known to be.
 #[derive(Clone, Copy, Debug)]
-pub enum Fault {
+pub(crate) enum Fault {
     /// The instance that says all of the console doesn't lie in the known one.
     Outside,
     /// The level of sync.
@@ -195,7 +195,7 @@ fn is_deep(console: &Console, case: &Case, known: &Instance) -> bool {
 }
 
 /// What isn't as it is known to be, so many clocks after the case's. After RETI, pc and stack are the interrupted ones.
-pub fn fault_of(
+pub(crate) fn fault_of(
     console: &Console,
     head: &Head,
     case: &Case,
@@ -227,7 +227,7 @@ pub fn fault_of(
 }
 
 /// Whether the edges of a turn that began at this clock are what was told, and when.
-pub fn are_told(edges: &[Edge], clock: u64, told: Option<(u8, EventKind)>) -> bool {
+pub(crate) fn are_told(edges: &[Edge], clock: u64, told: Option<(u8, EventKind)>) -> bool {
     match (edges, told) {
         ([], None) => true,
         ([edge], Some((clocks, kind))) => edge.clock == clock.wrapping_add(u64::from(clocks))

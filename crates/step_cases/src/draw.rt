@@ -21,16 +21,16 @@ const CELLS: [(u16, Owner, u8, u8); 4] = [
 const EDGES: [u8; 8] = [0, 1, 2, 15, 127, 128, 254, 255];
 
 /// The clocks of a scanline.
-pub const LINE: u16 = 1820;
+pub(crate) const LINE: u16 = 1820;
 
 /// How many lines the frame has.
-pub const LINES: u16 = 3;
+pub(crate) const LINES: u16 = 3;
 
 /// The least count of TCNT1 that a state of main has, so that its timer doesn't go round while it is prepared.
 const LEAST_COUNT: u16 = 40;
 
 /// The header of all instances.
-pub fn header() -> Head
+pub(crate) fn header() -> Head
     ensures main { result.main ≡ 4 }
     ensures handler { result.handler ≡ 6 }
 {
@@ -302,7 +302,7 @@ fn kind(random: &mut Random) -> Kind {
 }
 
 /// Draws a state at this pc, and an instance that it meets.
-pub fn case(random: &mut Random, pc: u16) -> Case
+pub(crate) fn case(random: &mut Random, pc: u16) -> Case
     ensures line { result.at.line < 3 }
     ensures clock { result.at.clock < 1820 }
     ensures count { result.count < 1820 }

@@ -17,7 +17,7 @@ use uz_machine::address::{
 use uz_schedule::Kind;
 
 /// How many cases an image holds.
-pub const CASES: u16 = 250;
+pub(crate) const CASES: u16 = 250;
 
 /// Where the first stub begins.
 const FIRST: u16 = 16;
@@ -32,13 +32,13 @@ const BEGIN: u16 = 2;
 const LATE: u16 = 23;
 
 /// The highest byte of the stack.
-pub const STACK: u16 = 0x10FF;
+pub(crate) const STACK: u16 = 0x10FF;
 
 /// The compare register: the last clock of a line.
-pub const TOP: u16 = 1819;
+pub(crate) const TOP: u16 = 1819;
 
 /// The pc of a case. Its words stand there, and the one before it is the stub's last.
-pub fn pc_of(k: u16) -> u16
+pub(crate) fn pc_of(k: u16) -> u16
     requires { k < 250 }
     ensures low { 0 < result }
     ensures high { result < 32768 }
@@ -125,7 +125,7 @@ fn put_case(image: &mut Image, k: u16, case: &Case)
 }
 
 /// The image of these cases.
-pub fn image_of(alloc: Global, cases: &[Case]) -> Result<Image, AllocError> {
+pub(crate) fn image_of(alloc: Global, cases: &[Case]) -> Result<Image, AllocError> {
     let mut image = Image::empty(alloc)?;
     set_word(&mut image, BEGIN, IJMP);
     for k in 0..CASES {
@@ -142,7 +142,7 @@ fn go_on(console: &mut Console) -> bool {
 }
 
 /// Makes turns up to a pc, a few hundred at most, and answers whether it came there.
-pub fn go_to(console: &mut Console, pc: u16) -> bool {
+pub(crate) fn go_to(console: &mut Console, pc: u16) -> bool {
     for _ in 0..300 {
         if console.pc() == pc {
             return true;
@@ -168,7 +168,7 @@ fn selecting(alloc: Global) -> Result<Image, AllocError> {
 }
 
 /// For each case the state at the begin of its stub.
-pub fn starts(alloc: Global) -> Result<Vec<SaveState>, AllocError> {
+pub(crate) fn starts(alloc: Global) -> Result<Vec<SaveState>, AllocError> {
     let mut console = Console::reset(alloc, selecting(alloc)?, Vec::new(alloc), Response::Four)?;
     let mut starts = Vec::new(alloc);
     for _ in 0..CASES {

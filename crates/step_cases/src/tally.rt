@@ -9,7 +9,7 @@ use uz_schedule::Kind;
 
 /// Counts.
 #[derive(Drop)]
-pub struct Tally {
+pub(crate) struct Tally {
     drawn: u32,
     wrong: u32,
     /// Of each row and kind whether a turn was compared with a result, or the console stopped as it was told.
@@ -29,7 +29,7 @@ fn number_of(kind: Kind) -> usize
 
 impl Tally {
     /// Nothing is drawn yet.
-    pub fn new() -> Tally {
+    pub(crate) fn new() -> Tally {
         Tally {
             drawn: 0,
             wrong: 0,
@@ -38,17 +38,17 @@ impl Tally {
     }
 
     /// How many were drawn.
-    pub fn drawn(&self) -> u32 {
+    pub(crate) fn drawn(&self) -> u32 {
         self.drawn
     }
 
     /// How many weren't as they were told.
-    pub fn wrong(&self) -> u32 {
+    pub(crate) fn wrong(&self) -> u32 {
         self.wrong
     }
 
     /// How many pairs of a row and a kind were compared.
-    pub fn pairs(&self) -> u32 {
+    pub(crate) fn pairs(&self) -> u32 {
         let mut count = 0u32;
         for row in &self.seen {
             for seen in row {
@@ -67,7 +67,7 @@ impl Tally {
     }
 
     /// Counts a trial, and answers whether it wasn't as it was told.
-    pub fn add(&mut self, case: &Case, trial: Trial) -> bool {
+    pub(crate) fn add(&mut self, case: &Case, trial: Trial) -> bool {
         self.drawn = self.drawn.saturating_add(1);
         match trial {
             Trial::Refused => false,

@@ -18,7 +18,7 @@ use uz_transfer::main_emits;
 
 /// How a trial ends.
 #[derive(Clone, Copy, Debug)]
-pub enum Trial {
+pub(crate) enum Trial {
     /// The instance is refused, so nothing is told of the turn.
     Refused,
     /// No instruction is read, and the console stops.
@@ -102,7 +102,7 @@ fn judged(
 }
 
 /// Brings a console, which is at the begin of a case's stub, to the case's words, and makes one turn.
-pub fn attempt(image: &Image, head: &Head, console: &mut Console, case: &Case) -> Trial
+pub(crate) fn attempt(image: &Image, head: &Head, console: &mut Console, case: &Case) -> Trial
     requires main { head.now.main ≡ 4 }
     requires handler { head.now.handler ≡ 6 }
 {

@@ -5,7 +5,7 @@ ghost use Rattle.std.specs.Prelude.{◌<◌, IfSome};
 use drawn_numbers::{ROWS, Random, place};
 
 /// The words at a pc: mostly those of a row.
-pub fn words(random: &mut Random) -> [u16; 2] {
+pub(crate) fn words(random: &mut Random) -> [u16; 2] {
     let (fixed, fields) = ROWS[random.below(84) as usize];
     let any = random.word();
     let first = if random.below(8) > 0 {
@@ -20,7 +20,7 @@ pub fn words(random: &mut Random) -> [u16; 2] {
 }
 
 /// The place of the row in the list, whose word this is.
-pub fn row_of(word: u16) -> Option<usize>
+pub(crate) fn row_of(word: u16) -> Option<usize>
     ensures { IfSome result (λ k. k < 84) }
 {
     for k in 0..84usize {

@@ -4,16 +4,16 @@ use uz_hex::Image;
 use uz_machine::address::IO_BASE;
 
 /// IJMP.
-pub const IJMP: u16 = 0x9409;
+pub(crate) const IJMP: u16 = 0x9409;
 
 /// `rjmp .`, which takes two clocks and does nothing else.
-pub const PAUSE: u16 = 0xC000;
+pub(crate) const PAUSE: u16 = 0xC000;
 
 /// `sbi TIFR1,1`, which clears OCF1A. It takes two clocks.
-pub const CLEAR_MATCH: u16 = 0x9AB1;
+pub(crate) const CLEAR_MATCH: u16 = 0x9AB1;
 
 /// Sets the word at a word address, round the flash.
-pub fn set_word(image: &mut Image, at: u16, word: u16) {
+pub(crate) fn set_word(image: &mut Image, at: u16, word: u16) {
     let low = at % 32768 * 2;
     image.set(low, (word % 256) as u8);
     image.set(low + 1, (word / 256) as u8);
@@ -21,63 +21,63 @@ pub fn set_word(image: &mut Image, at: u16, word: u16) {
 
 /// Words that follow one another.
 #[derive(Drop)]
-pub struct Writer<'a> {
+pub(crate) struct Writer<'a> {
     image: &'a mut Image,
     at: u16,
 }
 
 impl Writer<'_> {
     /// Words from an address on.
-    pub fn new(image: &mut Image, at: u16) -> Writer<'_> {
+    pub(crate) fn new(image: &mut Image, at: u16) -> Writer<'_> {
         Writer { image, at }
     }
 
     /// The next word.
-    pub fn word(&mut self, word: u16) {
+    pub(crate) fn word(&mut self, word: u16) {
         set_word(self.image, self.at, word);
         self.at = self.at.wrapping_add(1);
     }
 
     /// `ldi`, of r16 to r31.
-    pub fn load(&mut self, r: u8, value: u8) {
+    pub(crate) fn load(&mut self, r: u8, value: u8) {
         let high = u16::from(value / 16) * 256;
         let d = u16::from(r % 16) * 16;
         self.word(0xE000 + high + d + u16::from(value % 16));
     }
 
     /// `mov`, of r0 to r15 from r16.
-    pub fn move_to(&mut self, r: u8) {
+    pub(crate) fn move_to(&mut self, r: u8) {
         self.word(0x2E00 + u16::from(r % 16) * 16);
     }
 
     /// `ldi r16,value` and `out`.
-    pub fn put_out(&mut self, at: u16, value: u8) {
+    pub(crate) fn put_out(&mut self, at: u16, value: u8) {
         let io = at.wrapping_sub(IO_BASE) % 64;
         self.load(16, value);
         self.word(0xB900 + io / 16 * 512 + io % 16);
     }
 
     /// `ldi r16,value` and `sts`.
-    pub fn store(&mut self, at: u16, value: u8) {
+    pub(crate) fn store(&mut self, at: u16, value: u8) {
         self.load(16, value);
         self.word(0x9300);
         self.word(at);
     }
 
     /// `ldi r16,value` and `push r16`.
-    pub fn push(&mut self, value: u8) {
+    pub(crate) fn push(&mut self, value: u8) {
         self.load(16, value);
         self.word(0x930F);
     }
 
     /// `jmp`.
-    pub fn jump(&mut self, pc: u16) {
+    pub(crate) fn jump(&mut self, pc: u16) {
         self.word(0x940C);
         self.word(pc % 32768);
     }
 
     /// `adiw r30,value`.
-    pub fn add_to_z(&mut self, value: u8) {
+    pub(crate) fn add_to_z(&mut self, value: u8) {
         let value = u16::from(value % 64);
         self.word(0x9630 + value / 16 * 64 + value % 16);
     }

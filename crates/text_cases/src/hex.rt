@@ -6,7 +6,7 @@ use std::io::{self, Write};
 use uz_hex::{Image, read_hex, write_hex};
 
 /// The bytes of a text, or its first fault.
-pub fn tell(rt: HostRuntime, text: &str) -> Result<()> {
+pub(crate) fn tell(rt: HostRuntime, text: &str) -> Result<()> {
     let text = unescaped(rt.alloc(), text)?;
     let text = text.as_slice();
     if text.len() >= 1_000_000 {
@@ -28,7 +28,7 @@ pub fn tell(rt: HostRuntime, text: &str) -> Result<()> {
 }
 
 /// 20 bytes from 0x0103 on and 17 from 0xFFEF on: the word at 0x0081, of which the first is the high byte, and the text.
-pub fn tell_runs(rt: HostRuntime) -> Result<()> {
+pub(crate) fn tell_runs(rt: HostRuntime) -> Result<()> {
     let mut image = Image::empty(rt.alloc())?;
     for i in 0..20u16 {
         image.set(0x0103 + i, ((i * 37 + 11) % 256) as u8);
@@ -48,7 +48,7 @@ fn full_byte(at: u32) -> u8 {
 }
 
 /// How many bytes the text of a full flash has, and how many of the image are read back from it.
-pub fn tell_full(rt: HostRuntime) -> Result<()> {
+pub(crate) fn tell_full(rt: HostRuntime) -> Result<()> {
     let mut image = Image::empty(rt.alloc())?;
     for at in 0..65536u32 {
         image.set(at as u16, full_byte(at));

@@ -13,7 +13,7 @@ fn word(digits: &str) -> Option<u16> {
 }
 
 /// The instruction of two words, of which the second may be missing: the words that encode it, and its text.
-pub fn tell(rt: HostRuntime, row: &str) -> Result<()> {
+pub(crate) fn tell(rt: HostRuntime, row: &str) -> Result<()> {
     let (first, second) = row.split_once(" ").unwrap_or((row, ""));
     let read = word(first).and_then(|first| decode(first, word(second).unwrap_or(0)));
     match read {
@@ -34,7 +34,7 @@ pub fn tell(rt: HostRuntime, row: &str) -> Result<()> {
 }
 
 /// The listing of an image in Intel HEX.
-pub fn tell_listing(rt: HostRuntime, text: &str) -> Result<()> {
+pub(crate) fn tell_listing(rt: HostRuntime, text: &str) -> Result<()> {
     let text = unescaped(rt.alloc(), text)?;
     let text = text.as_slice();
     if text.len() >= 1_000_000 {

@@ -7,7 +7,7 @@ use uz_shelf::MemoryShelf;
 
 /// The flat text, and for each line of it the place of its file and its line in that; or the first line that is refused.
 /// Then the names of the files.
-pub fn tell(rt: HostRuntime, name: &str, shelf: &mut MemoryShelf) -> Result<()> {
+pub(crate) fn tell(rt: HostRuntime, name: &str, shelf: &mut MemoryShelf) -> Result<()> {
     let mut names = Vec::new(rt.alloc());
     names.push(String::from_str(rt.alloc(), "of an earlier call")?)?;
     match expand(rt.alloc(), name, shelf, &mut names) {

@@ -15,7 +15,7 @@ fn read(rt: HostRuntime, text: &str) -> Result<std::result::Result<Vec<Pad>, Pad
 }
 
 /// The pairs of a text, or its first fault.
-pub fn tell(rt: HostRuntime, text: &str) -> Result<()> {
+pub(crate) fn tell(rt: HostRuntime, text: &str) -> Result<()> {
     match read(rt, text)? {
         Ok(list) => {
             print!(rt; "pairs {}", list.len())?;
@@ -30,7 +30,7 @@ pub fn tell(rt: HostRuntime, text: &str) -> Result<()> {
 }
 
 /// The lines of a text's pads at first and after each move: a rise and a fall of PORTA's bit 2, or of its bit 3.
-pub fn tell_moves(rt: HostRuntime, row: &str) -> Result<()> {
+pub(crate) fn tell_moves(rt: HostRuntime, row: &str) -> Result<()> {
     let (text, moves) = row.rsplit_once(" ").unwrap_or(("", row));
     if let Ok(list) = read(rt, text)? {
         let mut pads = Pads::new(list);

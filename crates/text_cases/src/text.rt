@@ -14,7 +14,7 @@ fn control(letter: u8) -> u8 {
 }
 
 /// The bytes of a text, in which `\n`, `\r` and `\t` stand for LF, CR and tab.
-pub fn unescaped(alloc: Global, text: &str) -> Result<Vec<u8>> {
+pub(crate) fn unescaped(alloc: Global, text: &str) -> Result<Vec<u8>> {
     let mut bytes = Vec::new(alloc);
     let mut is_escaped = false;
     for &byte in text.as_bytes() {
