@@ -222,7 +222,10 @@ round_step s q = by_tests (ltb (suc q) (length s.lines)) (ltb q (length s.lines)
         q + length_of s (line_round s q)
     by_tests true u e f =
         let less = below (suc q) (length s.lines) e in
-        first_round s (suc q) less ∙ sym (ap (λ n. n + length_of s (line_round s q)) (first_round s q (omega (arith, less))))
+        let before : q < length s.lines = omega (arith, less) in
+        let here : line_round s q ≡ q = chosen (ltb q (length s.lines)) _ _ (ltb_true q (length s.lines) before) in
+        first_round s (suc q) less ∙ (ap (λ l. start_of s q + length_of s l) (sym here)
+        ∙ sym (ap (λ n. n + length_of s (line_round s q)) (first_round s q before)))
     by_tests false true e f =
         let less = below q (length s.lines) f in
         let more = not_below (suc q) (length s.lines) e in
@@ -233,7 +236,8 @@ round_step s q = by_tests (ltb (suc q) (length s.lines)) (ltb q (length s.lines)
         let zero_begin = ap (start_of s) none in
         let frame = ap (start_of s) last in
         let step : start_of s (suc q) ≡ start_of s q + length_of s q = refl in
-        omega (arith, one, two, zero_begin, frame, step)
+        let long : length_of s (line_round s q) ≡ length_of s q = rw f refl in
+        omega (arith, one, two, zero_begin, frame, step, long)
     by_tests false false e f =
         let more = not_below q (length s.lines) f in
         let one = next_round s (suc q) (omega (arith, more)) in
@@ -241,7 +245,8 @@ round_step s q = by_tests (ltb (suc q) (length s.lines)) (ltb q (length s.lines)
         let next : suc q - length s.lines ≡ suc (q - length s.lines) = omega (arith, more) in
         let begin = ap (start_of s) next in
         let step : start_of s (suc (q - length s.lines)) ≡ start_of s (q - length s.lines) + length_of s (q - length s.lines) = refl in
-        omega (arith, one, two, begin, step)
+        let long : length_of s (line_round s q) ≡ length_of s (q - length s.lines) = rw f refl in
+        omega (arith, one, two, begin, step, long)
 
 round_more : (s : Schedule) (q d : ℕ) → start_round s q ≤ start_round s (q + d)
 round_more s q zero =
@@ -273,7 +278,7 @@ set_at s q n h k = by_test (ltb q (length s.lines)) refl
         let less = below q (length s.lines) e in
         let line : line_round s q ≡ q = chosen (ltb q (length s.lines)) q (q - length s.lines) e in
         ap (λ i. sync_at s (i + n)) (first_round s q less)
-        ∙ (ap sync_of (event_of_place s q n less (omega (arith, h))) ∙ line_is q (line_round s q) (sym line))
+        ∙ (ap sync_of (event_of_place s q n less (omega (arith, h, ap (length_of s) line))) ∙ line_is q (line_round s q) (sym line))
     by_test false e =
         let more = not_below q (length s.lines) e in
         let line : line_round s q ≡ q - length s.lines = passed (ltb q (length s.lines)) q (q - length s.lines) e in
@@ -281,7 +286,7 @@ set_at s q n h k = by_test (ltb q (length s.lines)) refl
         let place : start_round s q + n ≡ (start_of s (q - length s.lines) + n) + frame_of s = omega (arith, begin) in
         ap (sync_at s) place
         ∙ (same_round s (start_of s (q - length s.lines) + n)
-        ∙ (ap sync_of (event_of_place s (q - length s.lines) n (omega (arith, more, k)) (omega (arith, h))) ∙ line_is (q - length s.lines)
+        ∙ (ap sync_of (event_of_place s (q - length s.lines) n (omega (arith, more, k)) (omega (arith, h, ap (length_of s) line))) ∙ line_is (q - length s.lines)
         (line_round s q) (sym line)))
 
 kind_rises_at : (s : Schedule) (l : ℕ) → ScheduleFits s → Rises (events_of s l)
@@ -317,7 +322,7 @@ first_search s l k fits h j =
     let line : line_round s (l + length s.lines) ≡ l = passed (ltb (l + length s.lines) (length s.lines)) (l + length s.lines)
     (l + length s.lines - length s.lines) (ltb_false (l + length s.lines) (length s.lines) more) ∙ back in
     same_search (sync_at s) (k + 1) (start_of s l + k + frame_of s) (start_round s (l + length s.lines) + (k + 1) - 1) at
-    ∙ (line_search s (l + length s.lines) (k + 1) fits (omega (arith, j)) (omega (arith, h))
+    ∙ (line_search s (l + length s.lines) (k + 1) fits (omega (arith, j, ap (length_of s) line)) (omega (arith, h))
     ∙ ap (λ i. last_of_kind (events_of s i) (k + 1)) line)
 
 level_place : (s : Schedule) (p l k : ℕ) → start_of s l + k ≡ p % frame_of s → level_at s p ≡ last_level (sync_at s) (frame_of s)

@@ -1,7 +1,7 @@
 -- The lines of a frame, the event at a position of it, and the level of sync there.
 -- A position is a number of clocks from the frame's begin, taken modulo the frame.
 use Rattle.std.specs.Prelude.{◌≡◌, ℕ, zero, suc, ◌+◌, ◌-◌, ◌%◌, ◌==◌, nat_lt, List, [], ◌∷◌, length, Option, Some, None, slice_get}
-use Rattle.std.specs.Prelude.{slice_index, if◌then◌else◌}
+use Rattle.std.specs.Prelude.{slice_index, slice_index_or, if◌then◌else◌}
 use Rattle.uz_schedule.specs.declared.kinds.Response.{Response}
 use Rattle.uz_schedule.specs.declared.kinds.Response.TheVariants.{Four, Five}
 use Rattle.uz_schedule.specs.declared.lines.Schedule.{Schedule}
@@ -18,9 +18,14 @@ response_clocks Five = 5
 abbrev pub scanline : ℕ
 scanline = 1820
 
+-- the length of a kind of line, in clocks; a scanline where there is no such line
+abbrev pub length_of_kind : List ℕ → Option ℕ → ℕ
+length_of_kind lengths None = scanline
+length_of_kind lengths (Some kind) = slice_index_or lengths kind scanline
+
 -- the length of line l, in clocks
 abbrev pub length_of : Schedule → ℕ → ℕ
-length_of s l = scanline
+length_of s l = length_of_kind s.lengths (slice_get s.lines l)
 
 -- the position at which line l begins
 abbrev pub start_of : Schedule → ℕ → ℕ

@@ -275,7 +275,7 @@ impl Cert {
         requires line { rest.now.line < length self.now.schedule.lines }
         ensures { result ≡ rest_instance self.now rest.now c }
     {
-        let line = self.schedule.order().next(rest.line);
+        let line = self.schedule.next(rest.line);
         let clock = u16::from(c) + self.head.irq.clocks();
         handler_entry(
             &rest.cells,

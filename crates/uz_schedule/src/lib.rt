@@ -34,7 +34,7 @@ pub use laws::{
 };
 pub use limits::{CLOCK_LIMIT, MOST_EVENTS, MOST_LINES, clocks_rise, rises, schedule_fits};
 pub use line_events::LineEvents;
-pub use line_order::{LineOrder, SCANLINE};
+pub use line_order::SCANLINE;
 pub use lines::{Event, EventKind, Schedule};
 pub use ranges::{Span, Wide, hull};
 pub use sequence::Sequence;

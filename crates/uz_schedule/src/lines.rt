@@ -30,6 +30,8 @@ pub struct Event {
 pub struct Schedule {
     /// The kinds of line: of each its events, clocks rising.
     pub kinds: Sequence<LineEvents>,
+    /// The clocks of each kind of line, 910 or 1820.
+    pub lengths: Sequence<u16>,
     /// Of each line of the frame the number of its kind, counted from 0.
     pub lines: Sequence<u16>,
     /// The clock of each line at which the level of sync falls, 1 to 1819.
