@@ -63,7 +63,8 @@ lengths_left (e ∷ lengths) (suc n) h = lengths_left lengths n (omega (arith, h
     same a b = grind (arith, nat_tests)
 
 -- past the last kind
-pub kinds_end : (kinds : List (List Event)) (lengths : List ℕ) (i : ℕ) → length kinds ≤ i → lengths_fit (drop i kinds) lengths ≡ lengths_fit [] lengths
+pub kinds_end : (kinds : List (List Event)) (lengths : List ℕ) (i : ℕ) → length kinds ≤ i
+    → lengths_fit (drop i kinds) lengths ≡ lengths_fit [] lengths
 kinds_end [] lengths zero h = refl
 kinds_end [] lengths (suc i) h = refl
 kinds_end (c ∷ kinds) lengths zero h = absurd (omega (arith, h))

@@ -2,7 +2,7 @@
 use Rattle.std.proofs.Common.{◌≡◌, ℕ, zero, suc, ◌+◌, ◌-◌, ◌*◌, ◌%◌, ◌<◌, ◌≤◌, Bool, true, false, ◌&&◌, cond, eqb, leb, ltb, List, [], ◌∷◌}
 use Rattle.std.proofs.Common.{length, map, All, lit≤, refl, sym, subst, ◌∙◌, ap, arith}
 use Rattle.std.specs.Prelude.{Option, Some, None, is_some, slice_get, slice_index}
-use Rattle.std.proofs.Math.Nat.{add-mod_left}
+use Rattle.std.proofs.Math.Nat.{add-mod_left, mod-mod}
 use Rattle.std.proofs.lemmas.Bool.{eqb-true}
 use Rattle.std.proofs.lemmas.Bool.Decides.{nat_tests}
 use Rattle.std.proofs.lemmas.List.Elements.{All-head, All-tail}
@@ -13,6 +13,7 @@ use Rattle.uz_schedule.specs.Schedule.{length_of, start_of, frame_of, event_from
 use Rattle.uz_schedule.specs.Schedule.{sync_at, or_else, last_level, level_at}
 use Rattle.uz_schedule.specs.Levels.{set_by, last_set, last_of_kind, line_round}
 use Rattle.uz_schedule.proofs.Starts.{place_below, event_of_place}
+use Rattle.uz_schedule.proofs.Modulo.{level_mod}
 
 -- choices
 
@@ -286,8 +287,8 @@ set_at s q n h k = by_test (ltb q (length s.lines)) refl
         let place : start_round s q + n ≡ (start_of s (q - length s.lines) + n) + frame_of s = omega (arith, begin) in
         ap (sync_at s) place
         ∙ (same_round s (start_of s (q - length s.lines) + n)
-        ∙ (ap sync_of (event_of_place s (q - length s.lines) n (omega (arith, more, k)) (omega (arith, h, ap (length_of s) line))) ∙ line_is (q - length s.lines)
-        (line_round s q) (sym line)))
+        ∙ (ap sync_of (event_of_place s (q - length s.lines) n (omega (arith, more, k)) (omega (arith, h, ap (length_of s) line)))
+        ∙ line_is (q - length s.lines) (line_round s q) (sym line)))
 
 kind_rises_at : (s : Schedule) (l : ℕ) → ScheduleFits s → Rises (events_of s l)
 kind_rises_at s l fits = kind_rises s.kinds (slice_index s.lines l) fits.kinds.each
@@ -328,6 +329,10 @@ first_search s l k fits h j =
 level_place : (s : Schedule) (p l k : ℕ) → start_of s l + k ≡ p % frame_of s → level_at s p ≡ last_level (sync_at s) (frame_of s)
     (start_of s l + k + frame_of s)
 level_place s p l k e = ap (λ i. last_level (sync_at s) (frame_of s) (i + frame_of s)) (sym e)
+
+-- the level at a position is that at its line and clock
+pub level_there : (s : Schedule) (p l k : ℕ) → start_of s l + k ≡ p % frame_of s → level_at s (start_of s l + k) ≡ level_at s p
+level_there s p l k e = level_mod s (start_of s l + k) p (ap (λ i. i % frame_of s) e ∙ mod-mod p (frame_of s))
 
 -- the line itself has the level
 pub level_first : (s : Schedule) (p l k : ℕ) (o : Option ℕ) → ScheduleFits s → l < length s.lines → k < length_of s l → start_of s l + k ≡ p

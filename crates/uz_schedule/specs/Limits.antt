@@ -1,18 +1,20 @@
 -- The limits and orders that the parts of a schedule keep. The numbers are this project's profile: those of the
 -- certificate's text.
-use Rattle.std.specs.Prelude.{ℕ, ◌<◌, ◌≤◌, ◌+◌, ◌&&◌, ◌||◌, ◌==◌, nat_le, nat_lt, Bool, true, false, IsTrue, List, [], ◌∷◌, All, map, length, ⊤}
+use Rattle.std.specs.Prelude.{ℕ, ◌<◌, ◌≤◌, ◌+◌, ◌&&◌, ◌||◌, ◌==◌, nat_le, nat_lt, Bool, true, false, IsTrue, List, [], ◌∷◌, All, map}
+use Rattle.std.specs.Prelude.{length, ⊤}
+use Rattle.uz_schedule.specs.Schedule.{scanline, half_line}
 use Rattle.uz_schedule.specs.declared.lines.Schedule.{Schedule}
 use Rattle.uz_schedule.specs.declared.lines.Event.{Event}
 use Rattle.uz_schedule.specs.declared.lines.EventKind.{EventKind}
 use Rattle.uz_schedule.specs.declared.lines.EventKind.TheVariants.{Sync, Pixel, Sound, Leave}
 
--- each clock of a text is below this: a line has the clocks 0 to 1819
+-- each clock of a text is below this: that of the longest line
 abbrev pub clock_limit : ℕ
-clock_limit = 1820
+clock_limit = scanline
 
--- at most this many events stand in a line
+-- at most this many events stand in a line: one at each clock of the longest one
 abbrev pub most_events : ℕ
-most_events = 1820
+most_events = scanline
 
 -- at most this many kinds of line, and this many lines
 abbrev pub most_lines : ℕ
@@ -59,14 +61,14 @@ pub record LinesFit (kinds : ℕ) (lines : List ℕ) : Type 0 where
 
 -- a kind of line has the clocks of a scanline, or of half of one
 abbrev pub is_length : ℕ → Bool
-is_length n = n == 910 || n == 1820
+is_length n = n == half_line || n == scanline
 
--- clocks of events are below the length of their kind
+-- each event stands at a clock of a line of this length
 abbrev pub clocks_below : List Event → ℕ → Bool
 clocks_below [] n = true
 clocks_below (e ∷ events) n = nat_lt e.clock n && clocks_below events n
 
--- one length a kind
+-- one length for each kind, and clocks of events below the length of their kind
 abbrev pub lengths_fit : List (List Event) → List ℕ → Bool
 lengths_fit [] [] = true
 lengths_fit [] (n ∷ lengths) = false

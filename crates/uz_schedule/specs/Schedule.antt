@@ -14,11 +14,15 @@ abbrev pub response_clocks : Response → ℕ
 response_clocks Four = 4
 response_clocks Five = 5
 
--- the clocks of a scanline of NTSC, at 28.63636 MHz
+-- the clocks of a scanline of NTSC, at 28.63636 MHz: no line is longer
 abbrev pub scanline : ℕ
 scanline = 1820
 
--- the length of a kind of line, in clocks; a scanline where there is no such line
+-- the clocks of half a scanline, as in the vertical blanking interval of NTSC: no line is shorter
+abbrev pub half_line : ℕ
+half_line = 910
+
+-- the clocks of a kind of line; those of a scanline where there is no such line or kind
 abbrev pub length_of_kind : List ℕ → Option ℕ → ℕ
 length_of_kind lengths None = scanline
 length_of_kind lengths (Some kind) = slice_index_or lengths kind scanline

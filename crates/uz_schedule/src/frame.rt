@@ -1,14 +1,15 @@
-//! The lengths and begins of a schedule's lines, and the line and clock at a position.
+//! Where the lines of a schedule begin, and the line and clock at a position.
 
 ghost use Rattle.std.specs.Prelude.{◌≡◌, ◌<◌, ◌≤◌, ◌+◌, ◌*◌, ◌%◌, length};
-ghost use Rattle.uz_schedule.specs.Schedule.{scanline, length_of, start_of, frame_of};
 ghost use Rattle.uz_schedule.specs.Limits.{most_lines, ScheduleFits};
+ghost use Rattle.uz_schedule.specs.Schedule.{scanline, length_of, start_of, frame_of};
 
 use crate::lines::Schedule;
 
 impl Schedule {
-    /// The position at which a line begins, in clocks from the begin of the frame; also of the line past the last one,
-    /// which is the frame's length. It goes over the lines before it.
+    /// The position at which a line begins, in clocks from the begin of the frame: the sum of the lengths of the lines
+    /// before it. Of the line past the last one it is the frame's length. It goes over those lines: where a line and a
+    /// clock of it are known, `at_clock` and `level_at_clock` take less time.
     pub fn start(&self, line: u16) -> u32
         requires { ScheduleFits self.now }
         ensures value { result ≡ start_of self.now line }
@@ -32,7 +33,7 @@ impl Schedule {
         self.start(self.lines.len() as u16)
     }
 
-    /// The line and the clock of it at a position, taken modulo the frame.
+    /// The line and the clock of it at a position, taken modulo the frame. It goes over the lines up to that one.
     pub fn place(&self, position: u32) -> (u16, u16)
         requires { ScheduleFits self.now }
         ensures line { result.0 < length self.now.lines }

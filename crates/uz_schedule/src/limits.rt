@@ -4,14 +4,14 @@ ghost use Rattle.std.specs.Prelude.{◌≡◌, ◌<◌, ◌≤◌, ◌↔◌, Is
 ghost use Rattle.uz_schedule.specs.Limits.{rises as rising, EventFits, EventsFit, KindsFit, LinesFit, ScheduleFits, is_length as length_is, clocks_below as are_below, lengths_fit as fit_lengths};
 
 use crate::line_events::LineEvents;
-use crate::line_order::SCANLINE;
+use crate::line_order::{HALF_LINE, SCANLINE};
 use crate::lines::{Event, EventKind, Schedule};
 
-/// Clocks of a line are below this in the text.
-pub const CLOCK_LIMIT: u16 = 1820;
+/// Each clock of a text is below this: that of the longest line.
+pub const CLOCK_LIMIT: u16 = SCANLINE;
 
-/// The most events of a line.
-pub const MOST_EVENTS: usize = 1820;
+/// The most events of a line: one at each clock of the longest one.
+pub const MOST_EVENTS: usize = SCANLINE as usize;
 
 /// The most kinds of line, and the most lines of a frame.
 pub const MOST_LINES: usize = 525;
@@ -83,10 +83,10 @@ fn lines_fit(lines: &[u16], kinds: usize) -> bool
 fn is_length(clocks: u16) -> bool
     ensures { result ≡ length_is clocks }
 {
-    clocks == SCANLINE / 2 || clocks == SCANLINE
+    clocks == HALF_LINE || clocks == SCANLINE
 }
 
-/// Whether each clock is below a line's length.
+/// Whether each event stands at a clock of a line of so many.
 fn clocks_below(events: &[Event], clocks: u16) -> bool
     ensures { result ≡ are_below events.now clocks }
 {
@@ -98,7 +98,7 @@ fn clocks_below(events: &[Event], clocks: u16) -> bool
     true
 }
 
-/// Whether each kind has a length, which its events keep.
+/// Whether each kind has a length and no other has, and the clocks of events are below the length of their kind.
 fn lengths_fit(kinds: &[LineEvents], lengths: &[u16]) -> bool
     ensures { result ≡ fit_lengths kinds.now lengths.now }
 {
