@@ -1,13 +1,61 @@
+"""Writes a picture of each frame that is over in a file that play wrote.
+
+usage: python3 frames_to_ppm.py FRAMES NAME
+
+The pictures are NAME1.ppm, NAME2.ppm and so on. FORMATS.md has the records of FRAMES.
+"""
 import sys
-data, rows, at = open(sys.argv[1], "rb").read(), [], 0
-while at < len(data):
-    if data[at] == 0x52:
-        rows.append(data[at + 5:at + 460])
-        at += 461
-    else:
-        frame = int.from_bytes(data[at + 1:at + 3], "little")
-        with open(f"{sys.argv[2]}{frame}.ppm", "wb") as out:
-            out.write(b"P6 455 %d 255\n" % len(rows))
-            for row in rows:
-                out.write(bytes(c for p in row for c in ((p & 7) * 255 // 7, (p >> 3 & 7) * 255 // 7, (p >> 6) * 255 // 3)))
-        rows, at = [], at + 5
+
+LINE, FRAME, WIDTH = 0x52, 0x46, 455
+
+
+def stop(why):
+    sys.exit(f"frames_to_ppm.py: {why}")
+
+
+def word(data, at):
+    return int.from_bytes(data[at : at + 2], "little")
+
+
+def frames_of(data):
+    """Each frame's number and its rows of samples, or None where the bytes are no records."""
+    rows, at = [], 0
+    while at < len(data):
+        if data[at] == LINE and at + 6 + WIDTH <= len(data) and word(data, at + 3) == WIDTH:
+            rows.append(data[at + 5 : at + 5 + WIDTH])
+            at += 6 + WIDTH
+        elif data[at] == FRAME and at + 5 <= len(data) and word(data, at + 3) == len(rows) % 65536:
+            yield word(data, at + 1), rows
+            rows, at = [], at + 5
+        else:
+            yield None
+            return
+
+
+def colour(sample):
+    return (sample & 7) * 255 // 7, (sample >> 3 & 7) * 255 // 7, (sample >> 6) * 255 // 3
+
+
+def main(words):
+    if len(words) != 2:
+        stop("the words are FRAMES NAME")
+    try:
+        with open(words[0], "rb") as file:
+            data = file.read()
+        number = 0
+        for frame in frames_of(data):
+            if not frame:
+                stop(f"{words[0]} isn't a file that play wrote")
+            number, rows = frame
+            with open(f"{words[1]}{number}.ppm", "wb") as out:
+                out.write(b"P6 %d %d 255\n" % (WIDTH, len(rows)))
+                for row in rows:
+                    out.write(bytes(c for sample in row for c in colour(sample)))
+    except OSError as error:
+        stop(f"{error.filename}: {error.strerror}")
+    if not number:
+        stop(f"{words[0]} has no frame that is over")
+
+
+if __name__ == "__main__":
+    main(sys.argv[1:])
