@@ -48,14 +48,21 @@ static void walls(uint8_t at)
     put(15, at, 7);
 }
 
+static void bounce(uint8_t to_right)
+{
+    right = to_right;
+    score += 1 + random8() % 10;
+}
+
+/* B wipes the screen, Left and Right push the ball. */
 static void move(uint8_t buttons)
 {
     put(x, y, random8() & 0xC0);
     if (buttons & 1) memset(screen, 0, sizeof screen);
     if (buttons & 0x40 && x > 1) x--;
     if (buttons & 0x80 && x < 14) x++;
-    if (x <= 1) right = 1, score += 1 + random8() % 10;
-    if (x >= 14) right = 0, score += 1 + random8() % 10;
+    if (x <= 1) bounce(1);
+    if (x >= 14) bounce(0);
     if (y <= 2) down = 1;
     if (y >= 14) down = 0;
     x = right ? x + 1 : x - 1;
