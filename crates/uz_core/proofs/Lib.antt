@@ -1,3 +1,4 @@
 pub mod Decoding
 pub mod Readings
 pub mod StepMade
+pub mod FlagTables
