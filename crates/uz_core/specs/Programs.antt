@@ -10,8 +10,9 @@ use Rattle.uz_machine.specs.Effects.{effect_of}
 use Rattle.uz_machine.specs.Core.{Core, LoadModel, StepResult, effect_result}
 use Rattle.uz_core.specs.declared.decoded.Decoded.{Decoded}
 use Rattle.uz_core.specs.declared.decoded.Reading.{Reading}
-use Rattle.uz_core.specs.declared.decoded.Reading.TheVariants.{Runs, Spm, NoRow}
+use Rattle.uz_core.specs.declared.decoded.Reading.TheVariants.{Internal, Runs, Spm, NoRow}
 use Rattle.uz_core.specs.RowClocks.{clocks_in}
+use Rattle.uz_core.specs.Internals.{IsInternal}
 
 -- an instruction decoded: the effect, the words and the clocks of its row
 pub record IsDecoded (i : Instr) (d : Decoded) : Type 0 where
@@ -24,8 +25,11 @@ pub record IsInstructionAt (image : FinMap nat_cmp ℕ) (at : ℕ) (i : Instr) :
   pub reads : Reads (word_of image at) (word_of image ((at + 1) % 32768)) i
   pub only : (j : Instr) → Reads (word_of image at) (word_of image ((at + 1) % 32768)) j → j ≡ i
 
--- what is read at a word address: an instruction that runs, decoded; SPM; or no row of the instruction table
+-- what is read at a word address: an instruction that touches the core alone; another one that runs, decoded; SPM; or no row of the
+-- instruction table
 abbrev pub IsReading : FinMap nat_cmp ℕ → ℕ → Reading → Type 0
+IsReading image at (Internal internal) =
+    (i : Instr) × IsInstructionAt image at i × (effect_of i ≢ Stop) × IsInternal at (effect_of i) (words_of i) (clocks_of i) internal
 IsReading image at (Runs d) = (i : Instr) × IsInstructionAt image at i × (effect_of i ≢ Stop) × IsDecoded i d
 IsReading image at Spm = (i : Instr) × IsInstructionAt image at i × (effect_of i ≡ Stop)
 IsReading image at NoRow = (i : Instr) → Reads (word_of image at) (word_of image ((at + 1) % 32768)) i → ⊥

@@ -8,6 +8,7 @@ ghost use Rattle.uz_machine.specs.Core.{sample_clock, owes_instruction, returns_
 ghost use Rattle.uz_core.specs.RowClocks.{clocks_in};
 
 use crate::effects::effect;
+use crate::internal::Internal;
 use crate::operation::I;
 use avr_decode::decode;
 use avr_table::{Instr, Outcome, clocks, words};
@@ -44,7 +45,9 @@ pub(crate) struct Decoded {
 /// What is read at a word of the flash.
 #[derive(Clone, Copy)]
 pub(crate) enum Reading {
-    /// An instruction that runs.
+    /// An instruction that touches the core alone.
+    Internal(Internal),
+    /// Another instruction that runs.
     Runs(Decoded),
     /// SPM, which this project's profile leaves out.
     Spm,
@@ -106,9 +109,10 @@ impl Reading {
     ghost use Rattle.uz_hex.specs.Cells.{word_of};
     ghost use Rattle.uz_core.specs.Programs.{IsReading};
 
-    /// What is read in two words: the one at an address and the next one.
-    pub(crate) fn of(first: u16, second: u16) -> Reading
-        ensures { (image : FinMap nat_cmp ℕ) (at : ℕ) → first ≡ word_of image at → second ≡ word_of image ((at + 1) % 32768) → IsReading image at result }
+    /// What is read in two words: the one at this address and the next one.
+    pub(crate) fn of(at: u16, first: u16, second: u16) -> Reading
+        requires { at < 32768 }
+        ensures { (image : FinMap nat_cmp ℕ) → first ≡ word_of image at → second ≡ word_of image ((at + 1) % 32768) → IsReading image at result }
     {
         match &decode(first, second) {
             None => Reading::NoRow,
@@ -117,7 +121,10 @@ impl Reading {
                 if stops(decoded.effect) {
                     Reading::Spm
                 } else {
-                    Reading::Runs(decoded)
+                    match Internal::of(at, &decoded) {
+                        Some(internal) => Reading::Internal(internal),
+                        None => Reading::Runs(decoded),
+                    }
                 }
             }
         }

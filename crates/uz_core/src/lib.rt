@@ -9,6 +9,7 @@ mod data;
 mod decoded;
 mod effects;
 mod instruction;
+mod internal;
 mod operation;
 mod program;
 mod step;

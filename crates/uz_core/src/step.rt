@@ -156,6 +156,11 @@ impl Cpu {
         ensures { IsStep D.model flash.now self.old (D.content space.old) self.new (D.content space.new) (D.held space.new) result }
     {
         match reading {
+            Reading::Internal(internal) => Step::Took {
+                clocks: self.act(internal),
+                owed: false,
+                returned: false,
+            },
             Reading::Runs(decoded) => self.execute(decoded, flash, space),
             Reading::Spm => Step::Stopped(Why::Spm),
             Reading::NoRow => Step::Stopped(Why::Opcode(flash.word(self.pc()))),
