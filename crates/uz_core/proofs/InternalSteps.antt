@@ -1,37 +1,31 @@
 -- Instructions that touch the core alone are steps of the machine.
-use Rattle.std.proofs.Common.{◌≡◌, ◌≢◌, ℕ, zero, suc, ◌+◌, ◌%◌, ◌<◌, ◌≤◌, Bool, true, false, ◌||◌, ◌&&◌, if◌then◌else◌, nat_le, List, []}
-use Rattle.std.proofs.Common.{refl, sym, ◌∙◌, ap, subst, arith}
+use Rattle.std.proofs.Common.{◌≡◌, ◌≢◌, ℕ, suc, ◌+◌, ◌%◌, ◌<◌, Bool, true, false, if◌then◌else◌, []}
+use Rattle.std.proofs.Common.{refl, sym, ◌∙◌, ap, subst}
 use Rattle.std.specs.Prelude.{filter}
 use Rattle.std.specs.Ordering.{nat_cmp}
 use Rattle.std.specs.FinMap.{FinMap}
 use Rattle.std.specs.FinMap as map
-use Rattle.std.proofs.lemmas.Bool.Decides.{nat_tests}
 use Rattle.avr_table.specs.declared.Instr.{Instr}
 use Rattle.avr_table.specs.declared.Outcome.{Outcome}
 use Rattle.avr_table.specs.declared.Outcome.TheVariants.{Next, Taken}
 use Rattle.avr_table.specs.Rows.{words_of, clocks_of}
-use Rattle.uz_machine.specs.declared.HeldStore.{HeldStore}
 use Rattle.uz_machine.specs.declared.Effect.{Effect}
 use Rattle.uz_machine.specs.declared.Effect.TheVariants.{Stop}
 use Rattle.uz_machine.specs.Effects.{effect_of}
-use Rattle.uz_machine.specs.Core.{Core, LoadModel, StepResult, bit_equals, changed_core, following_pc, load_addresses, loaded_bytes}
-use Rattle.uz_machine.specs.Core.{content_after_loads, stores_of, outcome_of, next_pc, owes_instruction, returns_from_interrupt}
-use Rattle.uz_machine.specs.Core.{sample_clock, leaves_core, step_result}
+use Rattle.uz_machine.specs.Core.{Core, bit_equals, changed_core, load_addresses}
+use Rattle.uz_machine.specs.Core.{stores_of, outcome_of, next_pc, owes_instruction, returns_from_interrupt}
+use Rattle.uz_machine.specs.Core.{leaves_core}
 use Rattle.uz_machine.specs.OperandRanges.{EffectFits}
 use Rattle.uz_machine.proofs.EffectRanges.{effect_fits}
-use Rattle.uz_machine.proofs.RowClocks.{stops, clocks_within}
 use Rattle.uz_core.specs.declared.internal.Action.{Action}
 use Rattle.uz_core.specs.declared.internal.Action.TheVariants as action
 use Rattle.uz_core.specs.declared.internal.Internal.{Internal}
 use Rattle.uz_core.specs.declared.decoded.Decoded.{Decoded}
-use Rattle.uz_core.specs.declared.step.Step.{Step}
-use Rattle.uz_core.specs.declared.step.Step.TheVariants.{Took}
 use Rattle.uz_core.specs.RowClocks.{clocks_in}
-use Rattle.uz_core.specs.Steps.{IsInstruction, IsStep}
 use Rattle.uz_core.specs.Programs.{IsDecoded, IsInstructionAt, IsReading}
 use Rattle.uz_core.specs.declared.decoded.Reading.TheVariants as reading
-use Rattle.uz_core.specs.Internals.{effect_in, target_in, pc_in, clocks_taken, IsInternal, core_in, clocks_of_internal, outcome_alone}
-use Rattle.uz_core.specs.Internals.{IsInternalStep, InternalRun, RunsInternally}
+use Rattle.uz_core.specs.Internals.{effect_in, target_in, pc_in, clocks_taken, IsInternal, core_in, clocks_of_internal}
+use Rattle.uz_core.specs.Internals.{IsInternalStep, RunsInternally}
 
 -- An action's effect
 
@@ -136,7 +130,8 @@ abbrev branch_outcome : Bool → Outcome
 branch_outcome taken = if taken then Taken else Next
 
 abbrev Goes : FinMap nat_cmp ℕ → ℕ → Core → Action → ℕ → ℕ → Type 0
-Goes image words s a following target = pc_in a following target s ≡ next_pc (effect_in a) (outcome_of (effect_in a) image words [] s) words [] s
+Goes image words s a following target = pc_in a following target s ≡ next_pc (effect_in a)
+    (outcome_of (effect_in a) image words [] s) words [] s
 
 goes : (a : Action) (image : FinMap nat_cmp ℕ) (words : ℕ) (s : Core) (following target : ℕ) →
     following ≡ (s.pc + words) % 32768 → target ≡ target_in a following → Goes image words s a following target
@@ -156,7 +151,8 @@ goes (action.LoadBit d bit) image words s following target f t = f
 goes (action.StoreBit d bit) image words s following target f t = f
 goes (action.Branch flag set offset) image words s following target f t = by_flag (bit_equals s.sreg flag set)
   where
-    by_flag : (b : Bool) → (if b then target else following) ≡ next_pc (effect_in (action.Branch flag set offset)) (branch_outcome b) words [] s
+    by_flag : (b : Bool) → (if b then target else following) ≡ next_pc (effect_in (action.Branch flag set offset)) (branch_outcome b)
+        words [] s
     by_flag true = t ∙ ap (λ n. (n + offset) % 32768) f
     by_flag false = f
 goes (action.JumpTo address) image words s following target f t = t
@@ -203,7 +199,7 @@ internal_decoded at i d internal h made = subst (λ e. IsInternal at e (words_of
 -- of an effect, with the words and, by outcome, the clocks of a row
 record Does (image : FinMap nat_cmp ℕ) (e : Effect) (words : ℕ) (clocks : Outcome → ℕ) (s next : Core) (passed : ℕ) : Type 0 where
   loads : load_addresses e s ≡ []
-  stores : stores_of e words s ≡ []
+  stores : [] ≡ filter leaves_core (stores_of e words s)
   owes : owes_instruction e ≡ false
   returns : returns_from_interrupt e ≡ false
   core : next ≡ record (changed_core e image words [] s) { pc = next_pc e (outcome_of e image words [] s) words [] s }
@@ -216,11 +212,12 @@ does image e words clocks internal s next passed h core took =
     let a = internal.action in
     let done : Does image (effect_in a) words clocks s next passed = record {
       loads = no_loads a s;
-      stores = no_stores a words s;
+      stores = ap (λ x. filter leaves_core x) (sym (no_stores a words s));
       owes = owes_none a;
       returns = returns_none a;
       core = core ∙ (ap (λ (t : Core). record t { pc = pc_in a internal.following internal.target s }) (same_change a image words s)
-          ∙ ap (λ n. record (changed_core (effect_in a) image words [] s) { pc = n }) (goes a image words s internal.following internal.target
+          ∙ ap (λ n. record (changed_core (effect_in a) image words [] s) { pc = n }) (goes a image words s internal.following
+          internal.target
           h.following h.target));
       clocks_are = took ∙ takes a image words s clocks internal.next internal.taken h.next h.taken;
     } in
@@ -232,15 +229,17 @@ pub internal_step : (image : FinMap nat_cmp ℕ) (i : Instr) (internal : Interna
 internal_step image i internal s next passed at runs h core took below =
     let d = does image (effect_of i) (words_of i) (clocks_of i) internal s next passed h core took in
     record {
-      row = i;
-      reads = record { reads = at.reads; only = at.only };
-      runs = runs;
-      loads = d.loads;
-      stores = d.stores;
-      owes = d.owes;
-      returns = d.returns;
-      core = d.core;
-      clocks_are = d.clocks_are;
+      step = record {
+        row = i;
+        reads = record { reads = at.reads; only = at.only };
+        runs = runs;
+        loads = d.loads;
+        stores_are = d.stores;
+        owes = d.owes;
+        returns = d.returns;
+        core = d.core;
+        clocks_are = d.clocks_are;
+      };
       below = below;
     }
 
@@ -249,66 +248,6 @@ pub step_read : (image : FinMap nat_cmp ℕ) (internal : Internal) (s next : Cor
     next ≡ core_in internal s → passed ≡ clocks_of_internal internal s → next.pc < 32768 → IsInternalStep image s next passed
 step_read image internal s next passed (i, at, runs, h) core took below = internal_step image i internal s next passed at runs h core took
     below
-
--- what it makes of core and data space, by the machine's definition
-pub result_of_step : {C : Type 0} → (model : LoadModel C) (image : FinMap nat_cmp ℕ) (s next : Core) (c : C) (passed : ℕ) →
-    (h : IsInternalStep image s next passed) → (let r : StepResult C = record {
-      core = next;
-      content = c;
-      stores = [];
-      clocks = passed;
-      owed = false;
-      returned = false;
-    } in r ≡ step_result model image h.row s c)
-result_of_step {C = C} model image s next c passed h =
-    let e = effect_of h.row in
-    let words = words_of h.row in
-    let late = sample_clock e (clocks_of h.row) in
-    let by : List ℕ → List HeldStore → Bool → Bool → StepResult C = λ addresses stores owed returned.
-    let loaded = loaded_bytes model s late c addresses in
-    let outcome = outcome_of e image words loaded s in
-    record {
-      core = record (changed_core e image words loaded s) { pc = next_pc e outcome words loaded s };
-      content = content_after_loads model late c addresses;
-      stores = filter leaves_core stores;
-      clocks = clocks_of h.row outcome;
-      owed = owed;
-      returned = returned;
-    } in
-    let of : Core → ℕ → StepResult C = λ core clocks.
-    record { core = core; content = c; stores = []; clocks = clocks; owed = false; returned = false } in
-    ap (λ x. of x passed) h.core ∙
-    (ap (λ x. of (record (changed_core e image words [] s) { pc = next_pc e (outcome_of e image words [] s) words [] s }) x) h.clocks_are ∙
-    (ap (λ x. by x [] false false) (sym h.loads) ∙
-    (ap (λ x. by (load_addresses e s) x false false) (sym h.stores) ∙
-    (ap (λ x. by (load_addresses e s) (stores_of e words s) x false) (sym h.owes) ∙
-    ap (λ x. by (load_addresses e s) (stores_of e words s) (owes_instruction e) x) (sym h.returns)))))
-
-pub step_is : {C : Type 0} → (model : LoadModel C) (image : FinMap nat_cmp ℕ) (s next : Core) (c : C) (held : List HeldStore) (passed : ℕ)
-    → IsInternalStep image s next passed → held ≡ [] → IsStep model image s c next c held (Took passed false false)
-step_is model image s next c held passed h none =
-    let r = result_of_step model image s next c passed h in (
-      h.row,
-      h.reads,
-      h.runs,
-      (ap (λ x. x.core) r, ap (λ x. x.content) r, none ∙ ap (λ x. x.stores) r, ap (λ x. Took x.clocks x.owed x.returned) r),
-    )
-
--- its clocks
-
-not_stop : (e : Effect) → e ≢ Stop → stops e ≡ false
-not_stop Stop h = absurd (h refl)
-not_stop e h = refl
-
-some_clocks : (b : Bool) (n : ℕ) → b ≡ false → (b || (nat_le 1 n && nat_le n 4)) ≡ true → (0 < n) × (n ≤ 4)
-some_clocks b n e h = (grind (arith, nat_tests), grind (arith, nat_tests))
-
-pub step_time : (image : FinMap nat_cmp ℕ) (s next : Core) (passed : ℕ) → IsInternalStep image s next passed → (0 < passed) × (passed ≤ 4)
-step_time image s next passed h =
-    let outcome = outcome_alone image h.row s in
-    let few : (0 < clocks_of h.row outcome) × (clocks_of h.row outcome ≤ 4) = some_clocks (stops (effect_of h.row)) (clocks_of h.row outcome)
-    (not_stop (effect_of h.row) h.runs) (clocks_within h.row outcome) in
-    subst (λ n. (0 < n) × (n ≤ 4)) (sym h.clocks_are) few
 
 -- Many of them
 

@@ -1,25 +1,20 @@
 -- Instructions that touch the core alone: they load and store nothing, owe nothing, and are no return.
-use Rattle.std.specs.Prelude.{◌≡◌, ◌≢◌, ℕ, zero, suc, ◌+◌, ◌%◌, ◌<◌, false, if◌then◌else◌, []}
+use Rattle.std.specs.Prelude.{◌≡◌, ℕ, zero, suc, ◌+◌, ◌%◌, ◌<◌, false, if◌then◌else◌, []}
 use Rattle.std.specs.Ordering.{nat_cmp}
 use Rattle.std.specs.FinMap.{FinMap}
 use Rattle.std.specs.FinMap as map
-use Rattle.avr_table.specs.declared.Instr.{Instr}
 use Rattle.avr_table.specs.declared.Outcome.{Outcome}
 use Rattle.avr_table.specs.declared.Outcome.TheVariants.{Next, Taken}
-use Rattle.avr_table.specs.Rows.{words_of, clocks_of}
 use Rattle.uz_machine.specs.declared.Operand.TheVariants.{Register, Constant}
 use Rattle.uz_machine.specs.declared.UnaryOp.TheVariants as unary
 use Rattle.uz_machine.specs.declared.JumpTarget.TheVariants.{Absolute, Relative}
 use Rattle.uz_machine.specs.declared.Effect.{Effect}
 use Rattle.uz_machine.specs.declared.Effect.TheVariants as effect
-use Rattle.uz_machine.specs.declared.Effect.TheVariants.{Stop}
-use Rattle.uz_machine.specs.Effects.{effect_of}
-use Rattle.uz_machine.specs.Core.{Core, bit_equals, changed_core, load_addresses, stores_of, outcome_of, next_pc, owes_instruction}
-use Rattle.uz_machine.specs.Core.{returns_from_interrupt}
+use Rattle.uz_machine.specs.Core.{Core, bit_equals, changed_core}
 use Rattle.uz_core.specs.declared.internal.Action.{Action}
 use Rattle.uz_core.specs.declared.internal.Action.TheVariants as action
 use Rattle.uz_core.specs.declared.internal.Internal.{Internal}
-use Rattle.uz_core.specs.Steps.{IsInstruction}
+use Rattle.uz_core.specs.PlainSteps.{IsPlainStep}
 
 -- the effect that an action is
 abbrev pub effect_in : Action → Effect
@@ -78,23 +73,9 @@ clocks_of_internal internal s = clocks_taken internal.action internal.next inter
 
 -- By the machine's definitions
 
--- the outcome of an instruction without loads
-abbrev pub outcome_alone : FinMap nat_cmp ℕ → Instr → Core → Outcome
-outcome_alone image i s = outcome_of (effect_of i) image (words_of i) [] s
-
--- one instruction that touches the core alone
+-- one instruction that touches the core alone, in so many clocks
 pub record IsInternalStep (image : FinMap nat_cmp ℕ) (s next : Core) (clocks : ℕ) : Type 0 where
-  pub row : Instr
-  pub reads : IsInstruction image s row
-  pub runs : effect_of row ≢ Stop
-  pub loads : load_addresses (effect_of row) s ≡ []
-  pub stores : stores_of (effect_of row) (words_of row) s ≡ []
-  pub owes : owes_instruction (effect_of row) ≡ false
-  pub returns : returns_from_interrupt (effect_of row) ≡ false
-  pub core : next ≡ record (changed_core (effect_of row) image (words_of row) [] s) {
-    pc = next_pc (effect_of row) (outcome_alone image row s) (words_of row) [] s;
-  }
-  pub clocks_are : clocks ≡ clocks_of row (outcome_alone image row s)
+  pub step : IsPlainStep image s next [] clocks
   pub below : next.pc < 32768
 
 -- so many of them one after another, in so many clocks

@@ -10,6 +10,7 @@ mod decoded;
 mod effects;
 mod instruction;
 mod internal;
+mod known_store;
 mod operation;
 mod program;
 mod step;

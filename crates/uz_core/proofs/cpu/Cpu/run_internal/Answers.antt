@@ -1,8 +1,9 @@
-use Rattle.std.proofs.Common.{◌≡◌, ◌+◌, ◌<◌, ◌≤◌, sym, subst, refl, arith}
+use Rattle.std.proofs.Common.{◌≡◌, ◌+◌, ◌<◌, ◌≤◌, [], sym, subst, refl, arith}
 use Rattle.uz_core.specs.declared.decoded.Reading.TheVariants.{Internal}
 use Rattle.uz_core.specs.Programs.{IsReading}
 use Rattle.uz_core.specs.Internals.{IsInternalStep, RunsInternally}
-use Rattle.uz_core.proofs.InternalSteps.{internal_fits, runs_nowhere, runs_on, step_read, step_time}
+use Rattle.uz_core.proofs.InternalSteps.{internal_fits, runs_nowhere, runs_on, step_read}
+use Rattle.uz_core.proofs.PlainSteps.{step_time}
 use Rattle.uz_core.proofs.cpu.Cpu.run_internal.Goals as goal
 
 pub act-requires : goal.act-requires
@@ -24,7 +25,7 @@ loop-passed-preserved c =
     let step : IsInternalStep c.args.program.now c.loop-passed.self c.act.new.self c.act.result = step_read c.args.program.now
     c.in-Internal.internal c.loop-passed.self c.act.new.self c.act.result reading c.act.ensures.core c.act.ensures.clocks
     c.act.ensures.below in
-    let time = step_time c.args.program.now c.loop-passed.self c.act.new.self c.act.result step in
+    let time = step_time c.args.program.now c.loop-passed.self c.act.new.self [] c.act.result step.step in
     let some : 0 < c.act.result = time.0 in
     let few : c.act.result ≤ 4 = time.1 in
     let same : c.from-passed.result ≡ c.act.result = c.from-passed.ensures in
@@ -44,6 +45,6 @@ loop-passed-smaller c =
     let step : IsInternalStep c.args.program.now c.loop-passed.self c.act.new.self c.act.result = step_read c.args.program.now
     c.in-Internal.internal c.loop-passed.self c.act.new.self c.act.result reading c.act.ensures.core c.act.ensures.clocks
     c.act.ensures.below in
-    let some : 0 < c.act.result = (step_time c.args.program.now c.loop-passed.self c.act.new.self c.act.result step).0 in
+    let some : 0 < c.act.result = (step_time c.args.program.now c.loop-passed.self c.act.new.self [] c.act.result step.step).0 in
     let same : c.from-passed.result ≡ c.act.result = c.from-passed.ensures in
     omega (arith, same, some)
