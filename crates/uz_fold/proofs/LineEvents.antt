@@ -3,6 +3,10 @@ use Rattle.std.proofs.Common.{◌≡◌, inl, inr, ℕ, zero, suc, ◌+◌, ◌-
 use Rattle.std.proofs.Common.{arith}
 use Rattle.std.specs.Prelude.{slice_get}
 use Rattle.std.proofs.lemmas.Bool.Decides.{eqb_tells, leb_tells}
+use Rattle.std.proofs.lemmas.Option.{slice_get-get_or}
+use Rattle.uz_schedule.specs.Limits.{ScheduleFits}
+use Rattle.uz_schedule.specs.Schedule.{length_of_kind}
+use Rattle.uz_schedule.proofs.Starts.{length_within}
 use Rattle.uz_schedule.specs.declared.lines.Schedule.{Schedule}
 use Rattle.uz_schedule.specs.Schedule.{length_of, start_of, frame_of, next_line, At, event_in_kind, events_of, event_at, sync_of, sync_at}
 use Rattle.uz_schedule.specs.Schedule.{or_else, level_at}
@@ -21,12 +25,13 @@ pub record ScheduleLaws : Type 0 where
 -- Lengths
 
 -- lines of one kind have one length
-pub same_length : (s : Schedule) (l m : ℕ) → kind_of s l ≡ kind_of s m → length_of s l ≡ length_of s m
-same_length s l m e = refl
+pub same_length : (s : Schedule) (l m : ℕ) → l < length s.lines → m < length s.lines → kind_of s l ≡ kind_of s m → length_of s l ≡ length_of s m
+same_length s l m h g e =
+    ap (length_of_kind s.lengths) (slice_get-get_or s.lines l 0 h ∙ (ap (λ k. Some k) e ∙ sym (slice_get-get_or s.lines m 0 g)))
 
 -- an instruction's clocks fit in a line
-pub long_lines : (s : Schedule) (l : ℕ) → 4 < length_of s l
-long_lines s l = omega arith
+pub long_lines : (s : Schedule) → ScheduleFits s → (l : ℕ) → 4 < length_of s l
+long_lines s fits l = omega (arith, (length_within s fits l).0)
 
 -- Lines about a line
 
@@ -61,7 +66,7 @@ same_line : ScheduleLaws → (s : Schedule) (l m k : ℕ) → l < length s.lines
     s l → event_at s (start_of s l + k) ≡ event_at s (start_of s m + k)
 same_line laws s l m k h g e b =
     laws.by_line s l k h b ∙ (ap (λ q. event_in_kind (slice_get s.kinds q) k) e
-    ∙ sym (laws.by_line s m k g (subst (λ n. k < n) (same_length s l m e) b)))
+    ∙ sym (laws.by_line s m k g (subst (λ n. k < n) (same_length s l m h g e) b)))
 
 -- past a line's end the next one goes on
 past_end : ScheduleLaws → (s : Schedule) (l k : ℕ) → event_at s (start_of s l + (length_of s l + k)) ≡ event_at s
@@ -82,7 +87,7 @@ same_two laws s l j h e f b =
       | inr t ↦
           let k = j - length_of s l in
           let over : j ≡ length_of s l + k = omega (arith, t.1) in
-          let over_next : j ≡ length_of s m + k = over ∙ ap (λ n. n + k) (same_length s l m e) in
+          let over_next : j ≡ length_of s m + k = over ∙ ap (λ n. n + k) (same_length s l m h inside e) in
           ap (λ i. event_at s (start_of s l + i)) over
           ∙ (past_end laws s l k
           ∙ (same_line laws s m (next_line s m) k inside (next_inside s m inside) f (omega (arith, b, t.1))
@@ -135,16 +140,16 @@ level_next laws s l k some =
 -- Two lines have one level at each clock, where they and the line before them have one kind: a whole line of that kind went before each of
 -- the
 -- two clocks, and what it sets, it sets again
-pub same_level : ScheduleLaws → (s : Schedule) (l k : ℕ) → l < length s.lines → kind_of s l ≡ kind_of s (next_line s l)
+pub same_level : ScheduleLaws → (s : Schedule) → ScheduleFits s → (l k : ℕ) → l < length s.lines → kind_of s l ≡ kind_of s (next_line s l)
     → kind_of s (next_line s l) ≡ kind_of s (next_line s (next_line s l))
     → k < length_of s (next_line s l) → level_at s (start_of s (next_line s l) + k) ≡ level_at s
     (start_of s (next_line s (next_line s l)) + k)
-same_level laws s l k h e f b =
+same_level laws s fits l k h e f b =
     let m = next_line s l in
-    let low = long_lines s l in
+    let low = long_lines s fits l in
     let begin = laws.inside s l 0 h (omega (arith, low)) in
     let some : 0 < frame_of s = omega (arith, begin) in
-    let long = same_length s l m e in
+    let long = same_length s l m h (next_inside s l h) e in
     let set = set_in (sync_at s) (start_of s l + k) (length_of s l) in
     let here = level_at s (start_of s l + k) in
     let again : set_in (sync_at s) (start_of s m + k) (length_of s m) ≡ set =

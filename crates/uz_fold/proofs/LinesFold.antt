@@ -8,6 +8,7 @@ use Rattle.std.specs.FinMap.{FinMap}
 use Rattle.std.proofs.lemmas.Bool.Decides.{nat_tests}
 use Rattle.avr_table.specs.declared.Instr.{Instr}
 use Rattle.uz_machine.specs.Effects.{effect_of}
+use Rattle.uz_schedule.specs.Limits.{ScheduleFits}
 use Rattle.uz_schedule.specs.Lines.{order_of}
 use Rattle.uz_schedule.specs.Schedule.{length_of, start_of, next_line, event_at, level_at}
 use Rattle.uz_schedule.specs.Instances.{instance_in, instance_at}
@@ -30,7 +31,7 @@ use Rattle.uz_rules.specs.Local.{compares_edges, step_fail, instance_fail, local
 use Rattle.uz_rules.specs.Successors.{lies_in_point, lies_in_any}
 use Rattle.uz_fold.specs.Folding.{has_no_line, has_no_line_there, is_plain, kind_of, line_before, kinds_alike, same_rest, rests_alike}
 use Rattle.uz_fold.specs.Folding.{lines_alike, is_on_line, is_even, boxes_even, folds, FoldingLaw}
-use Rattle.uz_fold.proofs.LineEvents.{ScheduleLaws, same_length, long_lines, next_before, before_inside, same_two, same_level}
+use Rattle.uz_fold.proofs.LineEvents.{ScheduleLaws, same_length, long_lines, next_inside, next_before, before_inside, same_two, same_level}
 use Rattle.uz_fold.proofs.StepMoves.{at_line, main_emits_moves, step_at, result_at, row_moves, landed, placed_moves, are_few, FewOf}
 use Rattle.uz_fold.proofs.StepMoves.{few_row}
 use Rattle.uz_fold.proofs.InstanceMoves.{and_left, and_right, same_is, equal_is, moved, LevelsAlike, instance_moves, IsAt, instance_is_at}
@@ -43,14 +44,15 @@ pub record Alike (cert : Cert) (l m n : ℕ) : Type 0 where
       ≡ event_at cert.schedule (start_of cert.schedule m + j)
   pub first : LevelsAlike cert.schedule l m
   pub second : LevelsAlike cert.schedule m n
+  pub long : 4 < length_of cert.schedule m
   pub rest : same_rest (rest_in cert.rests l) (rest_in cert.rests m) ≡ true
   pub rest_next : same_rest (rest_in cert.rests l) (rest_in cert.rests n) ≡ true
 
 abbrev AlikeAt : Cert → ℕ → Type 0
 AlikeAt cert l = Alike cert l (next_line cert.schedule l) (next_line cert.schedule (next_line cert.schedule l))
 
-alike_of : ScheduleLaws → (cert : Cert) (l : ℕ) → l < length cert.schedule.lines → lines_alike cert l ≡ true → AlikeAt cert l
-alike_of laws cert l h alike =
+alike_of : ScheduleLaws → (cert : Cert) (l : ℕ) → ScheduleFits cert.schedule → l < length cert.schedule.lines → lines_alike cert l ≡ true → AlikeAt cert l
+alike_of laws cert l fits h alike =
     let s = cert.schedule in
     let e = line_before s l in
     let m = next_line s l in
@@ -70,14 +72,15 @@ alike_of laws cert l h alike =
     record {
       events = λ j g. same_two laws s l j h (sym at_m) (at_m ∙ sym at_n) g;
       first = record {
-        lengths = same_length s m l at_m;
+        lengths = same_length s m l (next_inside s l h) h at_m;
         levels = λ k g. subst (λ q. level_at s (start_of s q + k) ≡ level_at s (start_of s (next_line s q) + k)) on
-            (same_level laws s e k (before_inside s l h) e_l l_m (subst (λ q. k < length_of s q) (sym on) g));
+            (same_level laws s fits e k (before_inside s l h) e_l l_m (subst (λ q. k < length_of s q) (sym on) g));
       };
       second = record {
-        lengths = same_length s n m (at_n ∙ sym at_m);
-        levels = λ k g. same_level laws s l k h (sym at_m) (at_m ∙ sym at_n) g;
+        lengths = same_length s n m (next_inside s m (next_inside s l h)) (next_inside s l h) (at_n ∙ sym at_m);
+        levels = λ k g. same_level laws s fits l k h (sym at_m) (at_m ∙ sym at_n) g;
       };
+      long = long_lines s fits m;
       rest = and_left (same_rest (rest_in cert.rests l) (rest_in cert.rests m)) (same_rest (rest_in cert.rests l) (rest_in cert.rests n))
           rests;
       rest_next = and_right (same_rest (rest_in cert.rests l) (rest_in cert.rests m))
@@ -113,7 +116,7 @@ compares_same : (cert : Cert) (l : ℕ) (i : Instance) (step : Step) → AlikeAt
 compares_same cert l i step same low few =
     let s = cert.schedule in
     let m = next_line s l in
-    let room = long_lines s m in
+    let room = same.long in
     ap (λ b. is_main i.kind || b)
     (edges_same s (start_of s l + i.clock) (start_of s m + i.clock) step.emit step.exits.items
     (λ k g. ap (event_at s) (omega arith) ∙ (same.events (i.clock + k) (omega (arith, low, g, room)) ∙ ap (event_at s) (omega arith))) few)
@@ -314,11 +317,11 @@ rows_same image cert next (Some row) l same named o is =
 
 -- at the two lines a point's instances have one answer, whatever is read at its pc
 pub points_same : ScheduleLaws → (image : FinMap nat_cmp ℕ) (cert : Cert) (id l c : ℕ) (p : Point) (row : Option Instr)
-    → slice_get cert.points id ≡ Some p → l < length cert.schedule.lines
+    → slice_get cert.points id ≡ Some p → ScheduleFits cert.schedule → l < length cert.schedule.lines
     → is_on_line p l ≡ true → is_on_line p (next_line cert.schedule l) ≡ true → folds cert p l ≡ true
     → local_fail image cert p.next.items row (instance_at cert id l c) ≡ local_fail image cert p.next.items row
     (instance_at cert id (next_line cert.schedule l) c)
-points_same laws image cert id l c p row found inside here there h =
+points_same laws image cert id l c p row found fits inside here there h =
     let s = cert.schedule in
     let m = next_line s l in
     let next = p.next.items in
@@ -331,7 +334,7 @@ points_same laws image cert id l c p row found inside here there h =
     let all : AllAlike cert l next =
     both_of_all (λ id. has_no_line_there (slice_get cert.points id)) (λ id. is_even s l (slice_get cert.points id)) next
     (and_right (has_no_line p) named is_plain_p) (and_right plain even about) in
-    let same = alike_of laws cert l inside (and_left (lines_alike cert l) (plain && even) h) in
+    let same = alike_of laws cert l fits inside (and_left (lines_alike cert l) (plain && even) h) in
     ap (local_fail image cert next row) (by_number cert id l c p found)
     ∙ (rows_same image cert next row l same all (instance_in s p l c) (instance_is_at s p l c)
     ∙ (ap (local_fail image cert next row) (sym (instance_moves s p l m c own (here ∙ sym there) same.first))
@@ -341,13 +344,13 @@ same_some : {A : Type 0} (o : Option A) (a b : A) → o ≡ Some a → o ≡ Som
 same_some o a b e f = cc
 
 pub folding_law : ScheduleLaws → FoldingLaw
-folding_law laws image cert id l c p why found inside here there h =
+folding_law laws image cert id l c p why fits found inside here there h =
     let m = next_line cert.schedule l in
     let same : (q : Point) (row : Option Instr) → slice_get cert.points id ≡ Some q → local_fail image cert q.next.items row
     (instance_at cert id l c) ≡ local_fail image cert q.next.items row (instance_at cert id m c) =
     λ q row e. subst (λ x. local_fail image cert x.next.items row (instance_at cert id l c) ≡ local_fail image cert x.next.items row
     (instance_at cert id m c)) (same_some (slice_get cert.points id) p q found e)
-    (points_same laws image cert id l c p row found inside here there h) in (
+    (points_same laws image cert id l c p row found fits inside here there h) in (
       λ a. record { point = a.point; is_point = a.is_point; row = a.row; reads = a.reads; is = a.is ∙ same a.point a.row a.is_point },
       λ a. record { point = a.point; is_point = a.is_point; row = a.row; reads = a.reads; is = a.is ∙ sym (same a.point a.row a.is_point) },
     )

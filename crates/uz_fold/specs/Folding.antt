@@ -5,6 +5,7 @@ use Rattle.std.specs.Prelude.{Some, None, slice_get, slice_index}
 use Rattle.std.specs.List.{list_all}
 use Rattle.std.specs.Ordering.{nat_cmp}
 use Rattle.std.specs.FinMap.{FinMap}
+use Rattle.uz_schedule.specs.Limits.{ScheduleFits}
 use Rattle.uz_schedule.specs.Ends.{Ends}
 use Rattle.uz_schedule.specs.Schedule.{next_line}
 use Rattle.uz_schedule.specs.declared.facts.Fact.{Fact}
@@ -117,6 +118,6 @@ folds cert p l = lines_alike cert l && (is_plain cert p && boxes_even cert p l)
 abbrev pub FoldingLaw : Type 0
 FoldingLaw =
     (image : FinMap nat_cmp ℕ) (cert : Cert) (id l c : ℕ) (p : Point) (why : Option Fail)
-    → slice_get cert.points id ≡ Some p → l < length cert.schedule.lines
+    → ScheduleFits cert.schedule → slice_get cert.points id ≡ Some p → l < length cert.schedule.lines
     → is_on_line p l ≡ true → is_on_line p (next_line cert.schedule l) ≡ true → folds cert p l ≡ true
     → IsLocal image cert id l c why ↔ IsLocal image cert id (next_line cert.schedule l) c why

@@ -38,7 +38,7 @@ fn kinds_alike(schedule: &Schedule, line: u16) -> bool
     requires line { line < length schedule.now.lines }
     ensures { result ≡ kinds_same schedule.now line }
 {
-    let order = schedule.order();
+    let order = schedule;
     let kind = kind_of(schedule, line);
     let next = order.next(line);
     kind_of(schedule, line_before(schedule, line)) == kind
@@ -90,7 +90,7 @@ fn rests_alike(cert: &Cert, line: u16) -> bool
     requires line { line < length cert.now.schedule.lines }
     ensures { result ≡ rests_same cert.now.schedule cert.now.rests line }
 {
-    let order = cert.schedule.order();
+    let order = &cert.schedule;
     let rests = cert.rests.as_slice();
     let next = order.next(line);
     let here = rest_of_line(rests, line);

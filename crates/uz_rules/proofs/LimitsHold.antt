@@ -19,6 +19,7 @@ use Rattle.uz_schedule.specs.declared.states.Point.{Point}
 use Rattle.uz_schedule.specs.declared.certificate.Cert.{Cert}
 use Rattle.uz_schedule.specs.Schedule.{length_of, start_of, level_at}
 use Rattle.uz_schedule.specs.Tracked.{tracked, depth_of as kind_depth}
+use Rattle.uz_schedule.proofs.Starts.{length_within}
 use Rattle.uz_schedule.specs.Instances.{val_of, cell_span, is_in_box, clock_below, clock_at, instance_of, instance_at_clock, instance_in}
 use Rattle.uz_schedule.specs.Instances.{instance_at}
 use Rattle.uz_schedule.specs.WellFormed.{WellFormed, HeadFits as HeaderFits, CellFits, BitFits, PointFits}
@@ -138,6 +139,7 @@ point_limits cert p l c clock level fits f low early =
     record {
       pc = f.pc;
       line = omega (arith, low, f.box.line);
+      short = (length_within cert.schedule fits.schedule l).1;
       clock = early;
       limit = depth_few cert.head p.kind fits.head;
       slots = omega (arith, slots, deep, depth_few cert.head p.kind fits.head);

@@ -14,6 +14,7 @@ pub record InstanceLimits (cert : Cert) (inst : Instance) : Type 0 where
   pub pc : inst.pc < 32768
   pub line : inst.line < length cert.schedule.lines
   pub clock : inst.clock < length_of cert.schedule inst.line
+  pub short : length_of cert.schedule inst.line ≤ 1820
   pub limit : depth_limit cert.head inst.kind ≤ 32
   pub slots : depth_of inst ≤ 32
   pub cells : length inst.cells.items ≤ 16

@@ -82,6 +82,7 @@ pub(crate) fn edges_fit(
 
 /// The position of the frame at which an instance stands.
 pub(crate) fn position_of(schedule: &Schedule, at: &Instance) -> u32
+    requires schedule { ScheduleFits schedule.now }
     requires clock { at.now.clock ≤ 1820 }
     ensures is { result ≡ position_of schedule.now at.now }
     ensures few { result < 2 ^ 31 }

@@ -85,7 +85,7 @@ fn end_fail(cert: &Cert, at: &Instance, step: Step) -> Option<Fail>
     let mut end = step.draft;
     put_at(
         &mut end,
-        cert.schedule.order(),
+        &cert.schedule,
         at,
         step.emit,
         step.clears,
@@ -110,7 +110,7 @@ fn lie_in_successors(
     ensures { result ≡ each_exit (λ exit. lies_in_one cert.now next.now (at_exit (order_of cert.now.schedule) at.now draft.old emitted clears exit)) exits.now }
 {
     for exit in exits {
-        put_at(draft, cert.schedule.order(), at, emitted, clears, *exit);
+        put_at(draft, &cert.schedule, at, emitted, clears, *exit);
         if !lies_in_any(cert, next, draft) {
             return false;
         }

@@ -1,7 +1,8 @@
 //! The abstract results of an instance, one by one.
 
 ghost use Rattle.std.specs.Prelude.{◌≡◌, ◌<◌, ◌≤◌, Ok, Err, OnOk, IfErr, length, map};
-ghost use Rattle.uz_schedule.specs.Lines.{uniform};
+ghost use Rattle.uz_schedule.specs.Lines.{order_of};
+ghost use Rattle.uz_schedule.specs.Schedule.{length_of};
 ghost use Rattle.uz_transfer.specs.Kinds.{depth_limit};
 ghost use Rattle.uz_transfer.specs.Step.{at_exit};
 ghost use Rattle.uz_rules.specs.After.{timed as timed_event, next_of, IsAfter};
@@ -10,7 +11,7 @@ use crate::local_rule::first_exit;
 use crate::next::Next;
 use arrayvec::ArrayVec;
 use uz_hex::Image;
-use uz_schedule::{EventKind, Head, Instance, LineOrder};
+use uz_schedule::{EventKind, Head, Instance, Schedule};
 use uz_transfer::{Exit, Fail, Step, abstract_step, copied, put_at};
 
 /// What is emitted, with its clock.
@@ -26,53 +27,56 @@ fn timed(emitted: Option<EventKind>, clocks: u8) -> Option<(u8, EventKind)>
 /// What is known at one exit.
 fn result_at(
     draft: &Instance,
-    order: LineOrder,
+    schedule: &Schedule,
     at: &Instance,
     emitted: Option<EventKind>,
     clears: bool,
     exit: Exit,
 ) -> Instance
-    requires line { at.now.line < order.count }
+    requires count { length schedule.now.lines ≤ 525 }
+    requires line { at.now.line < length schedule.now.lines }
     requires clock { at.now.clock ≤ 1820 }
-    ensures { result ≡ at_exit (uniform order.count) at.now draft.now emitted clears exit }
+    ensures { result ≡ at_exit (order_of schedule.now) at.now draft.now emitted clears exit }
 {
     let mut result = copied(draft);
-    put_at(&mut result, order, at, emitted, clears, exit);
+    put_at(&mut result, schedule, at, emitted, clears, exit);
     result
 }
 
 /// Puts what is known at each exit in place of a list.
 fn put_results(
     draft: &Instance,
-    order: LineOrder,
+    schedule: &Schedule,
     at: &Instance,
     emitted: Option<EventKind>,
     clears: bool,
     exits: &[Exit],
     out: &mut ArrayVec<Instance, 16>,
 )
-    requires line { at.now.line < order.count }
+    requires count { length schedule.now.lines ≤ 525 }
+    requires line { at.now.line < length schedule.now.lines }
     requires clock { at.now.clock ≤ 1820 }
     requires few { length exits.now ≤ 16 }
-    ensures { out.new.items ≡ map (λ exit. at_exit (uniform order.count) at.now draft.now emitted clears exit) exits.now }
+    ensures { out.new.items ≡ map (λ exit. at_exit (order_of schedule.now) at.now draft.now emitted clears exit) exits.now }
 {
     out.clear();
     for exit in exits {
-        out.push(result_at(draft, order, at, emitted, clears, *exit));
+        out.push(result_at(draft, schedule, at, emitted, clears, *exit));
     }
 }
 
 /// Puts the results of a step in place of others.
-fn put_next(order: LineOrder, at: &Instance, step: &Step, next: &mut Next)
-    requires line { at.now.line < order.count }
+fn put_next(schedule: &Schedule, at: &Instance, step: &Step, next: &mut Next)
+    requires count { length schedule.now.lines ≤ 525 }
+    requires line { at.now.line < length schedule.now.lines }
     requires clock { at.now.clock ≤ 1820 }
-    ensures { Ok next.new ≡ next_of (uniform order.count) at.now (Ok step.now) }
+    ensures { Ok next.new ≡ next_of (order_of schedule.now) at.now (Ok step.now) }
 {
     next.emit = timed(step.emit, first_exit(step.exits.as_slice()).clocks);
     next.back = step.back;
     put_results(
         &step.draft,
-        order,
+        schedule,
         at,
         step.emit,
         step.clears,
@@ -88,21 +92,21 @@ fn put_next(order: LineOrder, at: &Instance, step: &Step, next: &mut Next)
 pub fn put_after(
     image: &Image,
     head: &Head,
-    lines: u16,
+    schedule: &Schedule,
     at: &Instance,
     next: &mut Next,
 ) -> Result<(), Fail>
     requires depth { depth_limit head.now at.now.kind ≤ 32 }
-    requires few { lines ≤ 525 }
-    requires line { at.now.line < lines }
-    requires clock { at.now.clock < 1820 }
-    ensures ok { OnOk result (IsAfter head.now (uniform lines) image.now at.now (Ok next.new)) }
-    ensures err { IfErr result (λ why. IsAfter head.now (uniform lines) image.now at.now (Err why)) }
+    requires count { length schedule.now.lines ≤ 525 }
+    requires line { at.now.line < length schedule.now.lines }
+    requires long { length_of schedule.now at.now.line ≤ 1820 }
+    requires clock { at.now.clock < length_of schedule.now at.now.line }
+    ensures ok { OnOk result (IsAfter head.now (order_of schedule.now) image.now at.now (Ok next.new)) }
+    ensures err { IfErr result (λ why. IsAfter head.now (order_of schedule.now) image.now at.now (Err why)) }
 {
-    let order = LineOrder { count: lines };
-    match abstract_step(image, head, order.length(at.line), at) {
+    match abstract_step(image, head, schedule.length(at.line), at) {
         Ok(step) => {
-            put_next(order, at, &step, next);
+            put_next(schedule, at, &step, next);
             Ok(())
         }
         Err(why) => Err(why),
@@ -112,15 +116,16 @@ pub fn put_after(
 /// The abstract results of an instance under the instruction at its pc, in a frame of so many lines; or the least of the reasons Opcode, Flag,
 /// Mask, Stack, Return, Store, Io and Edge that stands, where Edge is an emission that isn't known. The header is within its limits, and the
 /// instance has no more slots than its kind's depth. A pc counts modulo 32,768, and a level by its bit 0. Takes no memory.
-pub fn after(image: &Image, head: &Head, lines: u16, at: &Instance) -> Result<Next, Fail>
+pub fn after(image: &Image, head: &Head, schedule: &Schedule, at: &Instance) -> Result<Next, Fail>
     requires depth { depth_limit head.now at.now.kind ≤ 32 }
-    requires few { lines ≤ 525 }
-    requires line { at.now.line < lines }
-    requires clock { at.now.clock < 1820 }
-    ensures { IsAfter head.now (uniform lines) image.now at.now result }
+    requires count { length schedule.now.lines ≤ 525 }
+    requires line { at.now.line < length schedule.now.lines }
+    requires long { length_of schedule.now at.now.line ≤ 1820 }
+    requires clock { at.now.clock < length_of schedule.now at.now.line }
+    ensures { IsAfter head.now (order_of schedule.now) image.now at.now result }
 {
     let mut next = Next::empty();
-    match put_after(image, head, lines, at, &mut next) {
+    match put_after(image, head, schedule, at, &mut next) {
         Ok(()) => Ok(next),
         Err(why) => Err(why),
     }

@@ -9,6 +9,8 @@ use Rattle.uz_schedule.specs.Ends.{Ends}
 use Rattle.uz_schedule.specs.Instances.{old_from}
 use Rattle.uz_schedule.specs.declared.facts.Val.TheVariants.{Old}
 use Rattle.uz_schedule.specs.WellFormed.{spans_fit}
+use Rattle.uz_schedule.specs.Limits.{lengths_fit}
+use Rattle.uz_schedule.specs.declared.lines.Event.{Event}
 
 pub product_few : (a b : ℕ) → a ≤ 65536 → b ≤ 256 → a * b ≤ 16777216
 product_few a b h k = mul-le a b 65536 256 h k
@@ -46,3 +48,24 @@ old_more k (suc n) =
     ap (old_from k) next
     ∙ (ap (λ xs. Old k ∷ xs) (ap (old_from (suc k)) (sym less) ∙ old_more (suc k) n) ∙ ap (λ i. Old k ∷ (old_from (suc k) n ++ Old i ∷ []))
     same)
+
+-- without a kind there may be no length
+pub lengths_left : (lengths : List ℕ) (n : ℕ) → n ≤ length lengths → lengths_fit [] (drop n lengths) ≡ eqb n (length lengths)
+lengths_left [] zero h = refl
+lengths_left [] (suc n) h = absurd (omega (arith, h))
+lengths_left (e ∷ lengths) zero h = sym (some (length lengths))
+  where
+    some : (n : ℕ) → eqb 0 (suc n) ≡ false
+    some n = grind (arith, nat_tests)
+lengths_left (e ∷ lengths) (suc n) h = lengths_left lengths n (omega (arith, h)) ∙ same n (length lengths)
+  where
+    same : (a b : ℕ) → eqb a b ≡ eqb (suc a) (suc b)
+    same a b = grind (arith, nat_tests)
+
+-- past the last kind
+pub kinds_end : (kinds : List (List Event)) (lengths : List ℕ) (i : ℕ) → length kinds ≤ i
+    → lengths_fit (drop i kinds) lengths ≡ lengths_fit [] lengths
+kinds_end [] lengths zero h = refl
+kinds_end [] lengths (suc i) h = refl
+kinds_end (c ∷ kinds) lengths zero h = absurd (omega (arith, h))
+kinds_end (c ∷ kinds) lengths (suc i) h = kinds_end kinds lengths i (omega (arith, h))

@@ -1,6 +1,6 @@
 -- Values that compare equal by the derived `==` are one.
-use Rattle.std.proofs.Common.{◌≡◌, true, false, Bool, refl, sym, ap, subst, ◌&&◌, List, [], ◌∷◌, nat_eq, true≢false, rules}
-use Rattle.std.proofs.lemmas.Bool.{eqb-true, eq-eqb}
+use Rattle.std.proofs.Common.{◌≡◌, true, false, Bool, refl, sym, ap, ◌&&◌, List, [], ◌∷◌, nat_eq, true≢false, rules}
+use Rattle.std.proofs.lemmas.Bool.{eqb-true}
 use Rattle.std.specs.Bool.{beq}
 use lib.Pointwise.{pointwise}
 use Rattle.uz_schedule.specs.declared.kinds.Kind.{Kind}
@@ -72,39 +72,63 @@ exact_val (Old a) OldFlags h = absurd (true≢false (sym h))
 exact_val OldFlags (Range b) h = absurd (true≢false (sym h))
 exact_val OldFlags (Old b) h = absurd (true≢false (sym h))
 
+-- Instances, by where they stand and what is known there
+
+-- they stand at one place
+pub record SamePlace (a b : Instance) : Type 0 where
+  pub kind : a.kind ≡ b.kind
+  pub pc : a.pc ≡ b.pc
+  pub line : a.line ≡ b.line
+  pub clock : a.clock ≡ b.clock
+  pub level : a.level ≡ b.level
+  pub pending : a.pending ≡ b.pending
+
+-- the same is known there
+pub record SameKnown (a b : Instance) : Type 0 where
+  pub regs : a.regs ≡ b.regs
+  pub pairs : a.pairs ≡ b.pairs
+  pub flags : a.flags ≡ b.flags
+  pub stack : a.stack.items ≡ b.stack.items
+  pub cells : a.cells.items ≡ b.cells.items
+
+pub same_instance : (a b : Instance) → SamePlace a b → SameKnown a b → a ≡ b
+same_instance a b place known = λ i. record {
+  kind = place.kind i;
+  pc = place.pc i;
+  line = place.line i;
+  clock = place.clock i;
+  level = place.level i;
+  pending = place.pending i;
+  regs = known.regs i;
+  pairs = known.pairs i;
+  flags = known.flags i;
+  stack = record { items = known.stack i };
+  cells = record { items = known.cells i };
+}
+
 pub exact_instance : (a b : Instance) → (instances.TheImpl.ghosts).eq a b ≡ true → a ≡ b
 exact_instance a b h0 =
-    let kind = exact_kind a.kind b.kind (left _ _ h0) in
     let h1 = right _ _ h0 in
-    let pc = eqb-true a.pc b.pc (left _ _ h1) in
     let h2 = right _ _ h1 in
-    let line = eqb-true a.line b.line (left _ _ h2) in
     let h3 = right _ _ h2 in
-    let clock = eqb-true a.clock b.clock (left _ _ h3) in
     let h4 = right _ _ h3 in
-    let level = eqb-true a.level b.level (left _ _ h4) in
     let h5 = right _ _ h4 in
-    let pending = beq_true a.pending b.pending (left _ _ h5) in
     let h6 = right _ _ h5 in
-    let regs = exact_list _ exact_val a.regs b.regs (left _ _ h6) in
     let h7 = right _ _ h6 in
-    let pairs = exact_list _ exact_wide a.pairs b.pairs (left _ _ h7) in
     let h8 = right _ _ h7 in
-    let flags = exact_list _ exact_bit a.flags b.flags (left _ _ h8) in
     let h9 = right _ _ h8 in
-    let stack = exact_list _ exact_val a.stack.items b.stack.items (left _ _ h9) in
     let h10 = right _ _ h9 in
-    let cells = exact_list _ exact_span a.cells.items b.cells.items h10 in
-    λ i. record {
-      kind = kind i;
-      pc = pc i;
-      line = line i;
-      clock = clock i;
-      level = level i;
-      pending = pending i;
-      regs = regs i;
-      pairs = pairs i;
-      flags = flags i;
-      stack = record { items = stack i };
-      cells = record { items = cells i };
-    }
+    same_instance a b (record {
+      kind = exact_kind a.kind b.kind (left _ _ h0);
+      pc = eqb-true a.pc b.pc (left _ _ h1);
+      line = eqb-true a.line b.line (left _ _ h2);
+      clock = eqb-true a.clock b.clock (left _ _ h3);
+      level = eqb-true a.level b.level (left _ _ h4);
+      pending = beq_true a.pending b.pending (left _ _ h5);
+    }) (record {
+      regs = exact_list _ exact_val a.regs b.regs (left _ _ h6);
+      pairs = exact_list _ exact_wide a.pairs b.pairs (left _ _ h7);
+      flags = exact_list _ exact_bit a.flags b.flags (left _ _ h8);
+      stack = exact_list _ exact_val a.stack.items b.stack.items (left _ _ h9);
+      cells = exact_list _ exact_span a.cells.items b.cells.items h10;
+    })

@@ -2,7 +2,7 @@
 use Rattle.std.proofs.Common.{◌≡◌, ℕ, zero, suc, ◌+◌, ◌-◌, ◌*◌, ◌%◌, ◌<◌, ◌≤◌, Bool, true, false, ◌&&◌, cond, eqb, leb, ltb, List, [], ◌∷◌}
 use Rattle.std.proofs.Common.{length, map, All, lit≤, refl, sym, subst, ◌∙◌, ap, arith}
 use Rattle.std.specs.Prelude.{Option, Some, None, is_some, slice_get, slice_index}
-use Rattle.std.proofs.Math.Nat.{add-mod_left}
+use Rattle.std.proofs.Math.Nat.{add-mod_left, mod-mod}
 use Rattle.std.proofs.lemmas.Bool.{eqb-true}
 use Rattle.std.proofs.lemmas.Bool.Decides.{nat_tests}
 use Rattle.std.proofs.lemmas.List.Elements.{All-head, All-tail}
@@ -13,6 +13,7 @@ use Rattle.uz_schedule.specs.Schedule.{length_of, start_of, frame_of, event_from
 use Rattle.uz_schedule.specs.Schedule.{sync_at, or_else, last_level, level_at}
 use Rattle.uz_schedule.specs.Levels.{set_by, last_set, last_of_kind, line_round}
 use Rattle.uz_schedule.proofs.Starts.{place_below, event_of_place}
+use Rattle.uz_schedule.proofs.Modulo.{level_mod}
 
 -- choices
 
@@ -222,7 +223,10 @@ round_step s q = by_tests (ltb (suc q) (length s.lines)) (ltb q (length s.lines)
         q + length_of s (line_round s q)
     by_tests true u e f =
         let less = below (suc q) (length s.lines) e in
-        first_round s (suc q) less ∙ sym (ap (λ n. n + length_of s (line_round s q)) (first_round s q (omega (arith, less))))
+        let before : q < length s.lines = omega (arith, less) in
+        let here : line_round s q ≡ q = chosen (ltb q (length s.lines)) _ _ (ltb_true q (length s.lines) before) in
+        first_round s (suc q) less ∙ (ap (λ l. start_of s q + length_of s l) (sym here)
+        ∙ sym (ap (λ n. n + length_of s (line_round s q)) (first_round s q before)))
     by_tests false true e f =
         let less = below q (length s.lines) f in
         let more = not_below (suc q) (length s.lines) e in
@@ -233,7 +237,8 @@ round_step s q = by_tests (ltb (suc q) (length s.lines)) (ltb q (length s.lines)
         let zero_begin = ap (start_of s) none in
         let frame = ap (start_of s) last in
         let step : start_of s (suc q) ≡ start_of s q + length_of s q = refl in
-        omega (arith, one, two, zero_begin, frame, step)
+        let long : length_of s (line_round s q) ≡ length_of s q = rw f refl in
+        omega (arith, one, two, zero_begin, frame, step, long)
     by_tests false false e f =
         let more = not_below q (length s.lines) f in
         let one = next_round s (suc q) (omega (arith, more)) in
@@ -241,7 +246,8 @@ round_step s q = by_tests (ltb (suc q) (length s.lines)) (ltb q (length s.lines)
         let next : suc q - length s.lines ≡ suc (q - length s.lines) = omega (arith, more) in
         let begin = ap (start_of s) next in
         let step : start_of s (suc (q - length s.lines)) ≡ start_of s (q - length s.lines) + length_of s (q - length s.lines) = refl in
-        omega (arith, one, two, begin, step)
+        let long : length_of s (line_round s q) ≡ length_of s (q - length s.lines) = rw f refl in
+        omega (arith, one, two, begin, step, long)
 
 round_more : (s : Schedule) (q d : ℕ) → start_round s q ≤ start_round s (q + d)
 round_more s q zero =
@@ -273,7 +279,7 @@ set_at s q n h k = by_test (ltb q (length s.lines)) refl
         let less = below q (length s.lines) e in
         let line : line_round s q ≡ q = chosen (ltb q (length s.lines)) q (q - length s.lines) e in
         ap (λ i. sync_at s (i + n)) (first_round s q less)
-        ∙ (ap sync_of (event_of_place s q n less (omega (arith, h))) ∙ line_is q (line_round s q) (sym line))
+        ∙ (ap sync_of (event_of_place s q n less (omega (arith, h, ap (length_of s) line))) ∙ line_is q (line_round s q) (sym line))
     by_test false e =
         let more = not_below q (length s.lines) e in
         let line : line_round s q ≡ q - length s.lines = passed (ltb q (length s.lines)) q (q - length s.lines) e in
@@ -281,8 +287,8 @@ set_at s q n h k = by_test (ltb q (length s.lines)) refl
         let place : start_round s q + n ≡ (start_of s (q - length s.lines) + n) + frame_of s = omega (arith, begin) in
         ap (sync_at s) place
         ∙ (same_round s (start_of s (q - length s.lines) + n)
-        ∙ (ap sync_of (event_of_place s (q - length s.lines) n (omega (arith, more, k)) (omega (arith, h))) ∙ line_is (q - length s.lines)
-        (line_round s q) (sym line)))
+        ∙ (ap sync_of (event_of_place s (q - length s.lines) n (omega (arith, more, k)) (omega (arith, h, ap (length_of s) line)))
+        ∙ line_is (q - length s.lines) (line_round s q) (sym line)))
 
 kind_rises_at : (s : Schedule) (l : ℕ) → ScheduleFits s → Rises (events_of s l)
 kind_rises_at s l fits = kind_rises s.kinds (slice_index s.lines l) fits.kinds.each
@@ -317,12 +323,16 @@ first_search s l k fits h j =
     let line : line_round s (l + length s.lines) ≡ l = passed (ltb (l + length s.lines) (length s.lines)) (l + length s.lines)
     (l + length s.lines - length s.lines) (ltb_false (l + length s.lines) (length s.lines) more) ∙ back in
     same_search (sync_at s) (k + 1) (start_of s l + k + frame_of s) (start_round s (l + length s.lines) + (k + 1) - 1) at
-    ∙ (line_search s (l + length s.lines) (k + 1) fits (omega (arith, j)) (omega (arith, h))
+    ∙ (line_search s (l + length s.lines) (k + 1) fits (omega (arith, j, ap (length_of s) line)) (omega (arith, h))
     ∙ ap (λ i. last_of_kind (events_of s i) (k + 1)) line)
 
 level_place : (s : Schedule) (p l k : ℕ) → start_of s l + k ≡ p % frame_of s → level_at s p ≡ last_level (sync_at s) (frame_of s)
     (start_of s l + k + frame_of s)
 level_place s p l k e = ap (λ i. last_level (sync_at s) (frame_of s) (i + frame_of s)) (sym e)
+
+-- the level at a position is that at its line and clock
+pub level_there : (s : Schedule) (p l k : ℕ) → start_of s l + k ≡ p % frame_of s → level_at s (start_of s l + k) ≡ level_at s p
+level_there s p l k e = level_mod s (start_of s l + k) p (ap (λ i. i % frame_of s) e ∙ mod-mod p (frame_of s))
 
 -- the line itself has the level
 pub level_first : (s : Schedule) (p l k : ℕ) (o : Option ℕ) → ScheduleFits s → l < length s.lines → k < length_of s l → start_of s l + k ≡ p

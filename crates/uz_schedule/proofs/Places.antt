@@ -22,6 +22,10 @@ next_start s l k =
       | inr t ↦ rw t.0 (ap (λ i. i % frame_of s) (omega arith))
     ]
 
+-- a place by other names
+pub at_same : (s : Schedule) (p l m k j : ℕ) → l ≡ m → k ≡ j → At s p l k → At s p m j
+at_same s p l m k j e f h = h ∙ (ap (λ i. (start_of s i + k) % frame_of s) e ∙ ap (λ i. (start_of s m + i) % frame_of s) f)
+
 pub at_next : (s : Schedule) (p l k : ℕ) → At s p l (length_of s l + k) → At s p (next_line s l) k
 at_next s p l k e = e ∙ sym (next_start s l k)
 

@@ -1,4 +1,4 @@
--- The instance that says nothing.
+-- The instance that says nothing, of which all others are made by what is known.
 use Rattle.std.specs.Prelude.{false, [], replicate}
 use Rattle.uz_schedule.specs.Ends.{whole_byte, whole_pair}
 use Rattle.uz_schedule.specs.declared.facts.Val.TheVariants.{Range}

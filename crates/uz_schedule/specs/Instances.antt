@@ -1,8 +1,8 @@
 -- What is known of the machine where a point stands, at one line and one count of its box; where runs enter; and where
 -- the handler's next run begins. The timer's interrupt has its vector at the word address 26 (ATmega644 data sheet).
-use Rattle.std.specs.Prelude.{ℕ, zero, suc, ◌+◌, ◌*◌, ◌%◌, ℤ, pos, negsuc, ◌+ℤ◌, ◌*ℤ◌, nat_le, nat_lt, Bool, false, ◌&&◌, List, [], ◌∷◌}
+use Rattle.std.specs.Prelude.{ℕ, zero, suc, ◌+◌, ◌*◌, ◌%◌, ℤ, pos, negsuc, ◌+ℤ◌, ◌*ℤ◌, nat_le, nat_lt, Bool, ◌&&◌, List, [], ◌∷◌}
 use Rattle.std.specs.Prelude.{map, replicate, Option, Some, None, unwrap_or, option_and_then, slice_get, slice_index_or, if◌then◌else◌}
-use Rattle.uz_schedule.specs.Ends.{Ends, whole_byte, whole_pair, one_number, hull}
+use Rattle.uz_schedule.specs.Ends.{Ends, whole_byte, one_number, hull}
 use Rattle.uz_schedule.specs.declared.facts.Fact.{Fact}
 use Rattle.uz_schedule.specs.declared.facts.Fact.TheVariants.{Any, Between, Line, Loop, Old as OldFact, OldFlags as OldFlagsFact}
 use Rattle.uz_schedule.specs.declared.facts.PairFact.{PairFact}
@@ -18,6 +18,7 @@ use Rattle.uz_schedule.specs.declared.states.Rest.{Rest}
 use Rattle.uz_schedule.specs.declared.states.Point.{Point}
 use Rattle.uz_schedule.specs.declared.states.Instance.{Instance}
 use Rattle.uz_schedule.specs.declared.certificate.Cert.{Cert}
+use Rattle.uz_schedule.specs.Blank.{blank_instance}
 use Rattle.uz_schedule.specs.Schedule.{length_of, start_of, next_line, level_at, response_clocks}
 
 -- Bytes and pairs
@@ -48,11 +49,15 @@ val_at vals r = slice_index_or vals r (Range whole_byte)
 abbrev pub hull_at : List Val → ℕ → Ends
 hull_at regs r = hull (span_of_val (val_at regs r)) (span_of_val (val_at regs (r + 1)))
 
+-- what a fact says of a pair at line l and count c, where its bytes say this
+abbrev pub pair_by : ℕ → ℕ → Ends → PairFact → Ends
+pair_by l c bytes AnyPair = bytes
+pair_by l c bytes (BetweenPair e) = e
+pair_by l c bytes (LinePair a b) = one_number ((a * l + b) % 65536)
+pair_by l c bytes (LoopPair a b) = one_number ((a * c + b) % 65536)
+
 abbrev pub pair_of : ℕ → ℕ → List Val → ℕ → PairFact → Ends
-pair_of l c regs r AnyPair = hull_at regs r
-pair_of l c regs r (BetweenPair e) = e
-pair_of l c regs r (LinePair a b) = one_number ((a * l + b) % 65536)
-pair_of l c regs r (LoopPair a b) = one_number ((a * c + b) % 65536)
+pair_of l c regs r f = pair_by l c (hull_at regs r) f
 
 -- the pairs X, Y and Z are the registers 26 and 27, 28 and 29, 30 and 31
 abbrev pub pairs_of : ℕ → ℕ → List Val → List PairFact → List Ends
@@ -60,7 +65,7 @@ pairs_of l c regs facts =
     pair_of l c regs 26 (slice_index_or facts 0 AnyPair) ∷ pair_of l c regs 28 (slice_index_or facts 1 AnyPair) ∷ pair_of l c regs 30
     (slice_index_or facts 2 AnyPair) ∷ []
 
--- Points
+-- Points. Each state is made of the one that says nothing, by what is known
 
 abbrev pub is_in_box : Point → ℕ → ℕ → Bool
 is_in_box p l c = (nat_le p.l0 l && nat_le l p.l1) && (nat_le p.c0 c && nat_le c p.c1)
@@ -75,7 +80,7 @@ clock_at s p l c = clock_below (length_of s l) (pos p.clock +ℤ p.slope *ℤ po
 
 abbrev pub instance_of : Point → ℕ → ℕ → ℕ → ℕ → Instance
 instance_of p l c clock level =
-    record {
+    record blank_instance {
       kind = p.kind;
       pc = p.pc;
       line = l;
@@ -104,13 +109,12 @@ instance_at cert id l c = option_and_then (λ p. instance_in cert.schedule p l c
 
 abbrev pub entry_instance_at : Entry → ℕ → Instance
 entry_instance_at e level =
-    record {
+    record blank_instance {
       kind = e.kind;
       pc = e.pc;
       line = e.line;
       clock = e.clock;
       level = level;
-      pending = false;
       regs = map Range e.regs;
       pairs = hull_at (map Range e.regs) 26 ∷ hull_at (map Range e.regs) 28 ∷ hull_at (map Range e.regs) 30 ∷ [];
       flags = e.flags;
@@ -135,17 +139,14 @@ old_from k (suc n) = Old k ∷ old_from (suc k) n
 -- the handler's first state where its interrupt is taken: nothing of what is interrupted has changed, and its stack is empty
 abbrev pub handler_entry : List Ends → ℕ → ℕ → ℕ → Instance
 handler_entry cells line clock level =
-    record {
+    record blank_instance {
       kind = Handler;
       pc = 26;
       line = line;
       clock = clock;
       level = level;
-      pending = false;
       regs = old_from 0 32;
-      pairs = whole_pair ∷ whole_pair ∷ whole_pair ∷ [];
       flags = replicate 7 OldBit;
-      stack = record { items = [] };
       cells = record { items = cells };
     }
 

@@ -1,7 +1,7 @@
 -- The lines of a frame, the event at a position of it, and the level of sync there.
 -- A position is a number of clocks from the frame's begin, taken modulo the frame.
 use Rattle.std.specs.Prelude.{◌≡◌, ℕ, zero, suc, ◌+◌, ◌-◌, ◌%◌, ◌==◌, nat_lt, List, [], ◌∷◌, length, Option, Some, None, slice_get}
-use Rattle.std.specs.Prelude.{slice_index, if◌then◌else◌}
+use Rattle.std.specs.Prelude.{slice_index, slice_index_or, if◌then◌else◌}
 use Rattle.uz_schedule.specs.declared.kinds.Response.{Response}
 use Rattle.uz_schedule.specs.declared.kinds.Response.TheVariants.{Four, Five}
 use Rattle.uz_schedule.specs.declared.lines.Schedule.{Schedule}
@@ -14,13 +14,22 @@ abbrev pub response_clocks : Response → ℕ
 response_clocks Four = 4
 response_clocks Five = 5
 
--- the clocks of a scanline of NTSC, at 28.63636 MHz
+-- the clocks of a scanline of NTSC, at 28.63636 MHz: no line is longer
 abbrev pub scanline : ℕ
 scanline = 1820
 
+-- the clocks of half a scanline, as in the vertical blanking interval of NTSC: no line is shorter
+abbrev pub half_line : ℕ
+half_line = 910
+
+-- the clocks of a kind of line; those of a scanline where there is no such line or kind
+abbrev pub length_of_kind : List ℕ → Option ℕ → ℕ
+length_of_kind lengths None = scanline
+length_of_kind lengths (Some kind) = slice_index_or lengths kind scanline
+
 -- the length of line l, in clocks
 abbrev pub length_of : Schedule → ℕ → ℕ
-length_of s l = scanline
+length_of s l = length_of_kind s.lengths (slice_get s.lines l)
 
 -- the position at which line l begins
 abbrev pub start_of : Schedule → ℕ → ℕ

@@ -1,10 +1,11 @@
 //! What a point's facts say of a byte or a pair, at a line and a count.
 
 ghost use Rattle.std.specs.Prelude.{◌≡◌, ◌+◌, ◌*◌, ◌%◌};
-ghost use Rattle.uz_schedule.specs.Instances.{val_of as val_of_fact, span_of_val};
+ghost use Rattle.uz_schedule.specs.Ends.{hull as hull_of};
+ghost use Rattle.uz_schedule.specs.Instances.{val_of as val_of_fact, span_of_val, pair_by as pair_of_fact};
 
-use crate::facts::{Fact, Val};
-use crate::ranges::Span;
+use crate::facts::{Fact, PairFact, Val};
+use crate::ranges::{Span, Wide, hull};
 
 /// Every byte.
 fn whole_byte() -> Span
@@ -48,5 +49,24 @@ pub fn span_of(val: &Val) -> Span
     match *val {
         Val::Range(span) => span,
         _ => whole_byte(),
+    }
+}
+
+/// The hull of two bytes of which this is known: the range from the least to the greatest number that they may make.
+pub fn hull_of_bytes(low: &Val, high: &Val) -> Wide
+    ensures { result ≡ hull_of (span_of_val low.now) (span_of_val high.now) }
+{
+    hull(span_of(low), span_of(high))
+}
+
+/// What a fact says of a pair at a line and a count, where its bytes say `bytes`.
+pub fn pair_by(fact: &PairFact, line: u16, count: u8, bytes: Wide) -> Wide
+    ensures { result ≡ pair_of_fact line count bytes fact.now }
+{
+    match *fact {
+        PairFact::Any => bytes,
+        PairFact::Between(wide) => wide,
+        PairFact::Line(a, b) => Wide::single(word_at(a, line, b)),
+        PairFact::Loop(a, b) => Wide::single(word_at(a, u16::from(count), b)),
     }
 }

@@ -2,18 +2,17 @@
 //! the handler's next run begins. Instances are made here alone.
 
 ghost use Rattle.std.specs.Prelude.{◌≡◌, ◌<◌, ◌≤◌, ◌+ℤ◌, ◌*ℤ◌, pos, length, map};
-ghost use Rattle.uz_schedule.specs.Ends.{hull as hull_of};
-ghost use Rattle.uz_schedule.specs.Instances.{val_of as val_of_fact, cell_span, hull_at, pair_of, pairs_of, is_in_box as box_holds, clock_below as below, clock_at as clock_at_count, instance_of as instance_of_point, instance_in, instance_at, level_or_zero as level_of_place, entry_instance, entry_instance_at, old_from, rest_instance, handler_entry as entry_of_handler};
+ghost use Rattle.uz_schedule.specs.Instances.{val_of as val_of_fact, cell_span, hull_at, pairs_of, is_in_box as box_holds, clock_below as below, clock_at as clock_at_count, instance_of as instance_of_point, instance_in, instance_at, level_or_zero as level_of_place, entry_instance, entry_instance_at, old_from, rest_instance, handler_entry as entry_of_handler};
 ghost use Rattle.uz_schedule.specs.declared.facts.Val.TheVariants.{Range};
 ghost use Rattle.uz_schedule.specs.Limits.{ScheduleFits};
 ghost use Rattle.uz_schedule.specs.WellFormed.{WellFormed};
 
 use crate::certificate::Cert;
-use crate::fact_values::{span_of, val_of, word_at};
+use crate::fact_values::{hull_of_bytes, pair_by, span_of, val_of};
 use crate::facts::{Bit, Fact, PairFact, Val};
 use crate::kinds::Kind;
 use crate::lines::Schedule;
-use crate::ranges::{Span, Wide, hull};
+use crate::ranges::{Span, Wide};
 use crate::states::{Entry, Instance, Point, Rest};
 use arrayvec::ArrayVec;
 
@@ -54,24 +53,11 @@ fn cells_of(facts: &ArrayVec<Fact, 16>, line: u16, count: u8) -> ArrayVec<Span, 
 }
 
 /// What the bytes of the pair say whose low register is `low`.
-fn hull_of_bytes(regs: &[Val; 32], low: usize) -> Wide
+fn hull_in(regs: &[Val; 32], low: usize) -> Wide
     requires { low < 31 }
     ensures { result ≡ hull_at regs.now low }
 {
-    hull(span_of(&regs[low]), span_of(&regs[low + 1]))
-}
-
-/// The values of the pair whose low register is `low`.
-fn pair_by(fact: &PairFact, line: u16, count: u8, regs: &[Val; 32], low: usize) -> Wide
-    requires { low < 31 }
-    ensures { result ≡ pair_of line count regs.now low fact.now }
-{
-    match *fact {
-        PairFact::Any => hull_of_bytes(regs, low),
-        PairFact::Between(wide) => wide,
-        PairFact::Line(a, b) => Wide::single(word_at(a, line, b)),
-        PairFact::Loop(a, b) => Wide::single(word_at(a, u16::from(count), b)),
-    }
+    hull_of_bytes(&regs[low], &regs[low + 1])
 }
 
 /// The values of the pairs X, Y and Z.
@@ -79,9 +65,9 @@ fn pairs_by(facts: &[PairFact; 3], line: u16, count: u8, regs: &[Val; 32]) -> [W
     ensures { result ≡ pairs_of line count regs.now facts.now }
 {
     [
-        pair_by(&facts[0], line, count, regs, 26),
-        pair_by(&facts[1], line, count, regs, 28),
-        pair_by(&facts[2], line, count, regs, 30),
+        pair_by(&facts[0], line, count, hull_in(regs, 26)),
+        pair_by(&facts[1], line, count, hull_in(regs, 28)),
+        pair_by(&facts[2], line, count, hull_in(regs, 30)),
     ]
 }
 
@@ -127,6 +113,7 @@ fn instance_of(point: &Point, line: u16, count: u8, clock: u16, level: u8) -> In
         flags: point.flags,
         stack: slots_of(&point.stack, line, count),
         cells: cells_of(&point.cells, line, count),
+        ..Instance::default()
     }
 }
 
@@ -139,7 +126,7 @@ fn instance_of_box(schedule: &Schedule, point: &Point, line: u16, count: u8) -> 
         return None;
     }
     let clock = clock_below(schedule.length(line), clock_of(point, count))?;
-    let level = schedule.level(schedule.start(line) + u32::from(clock))?;
+    let level = schedule.level_at_clock(line, clock)?;
     Some(instance_of(point, line, count, clock, level))
 }
 
@@ -192,7 +179,7 @@ fn level_or_zero(schedule: &Schedule, line: u16, clock: u16) -> u8
     requires { ScheduleFits schedule.now }
     ensures { result ≡ level_of_place schedule.now line clock }
 {
-    match schedule.level(schedule.start(line) + u32::from(clock)) {
+    match schedule.level_at_clock(line, clock) {
         Some(level) => level,
         None => 0,
     }
@@ -204,23 +191,19 @@ pub fn entry_state(entry: &Entry, level: u8) -> Instance
     ensures { result ≡ entry_instance_at entry.now level }
 {
     let regs = vals_of(&entry.regs);
-    let pairs = [
-        hull_of_bytes(&regs, 26),
-        hull_of_bytes(&regs, 28),
-        hull_of_bytes(&regs, 30),
-    ];
+    let pairs = [hull_in(&regs, 26), hull_in(&regs, 28), hull_in(&regs, 30)];
     Instance {
         kind: entry.kind,
         pc: entry.pc,
         line: entry.line,
         clock: entry.clock,
         level,
-        pending: false,
         regs,
         pairs,
         flags: entry.flags,
         stack: slots_in(&entry.stack),
         cells: spans_in(&entry.cells),
+        ..Instance::default()
     }
 }
 
@@ -235,12 +218,10 @@ pub fn handler_entry(cells: &ArrayVec<Span, 16>, line: u16, clock: u16, level: u
         line,
         clock,
         level,
-        pending: false,
         regs: old_registers(),
-        pairs: [Wide::between(0, 65535); 3],
         flags: [Bit::Old; 7],
-        stack: ArrayVec::new(),
         cells: spans_in(cells),
+        ..Instance::default()
     }
 }
 
@@ -275,7 +256,7 @@ impl Cert {
         requires line { rest.now.line < length self.now.schedule.lines }
         ensures { result ≡ rest_instance self.now rest.now c }
     {
-        let line = self.schedule.order().next(rest.line);
+        let line = self.schedule.next(rest.line);
         let clock = u16::from(c) + self.head.irq.clocks();
         handler_entry(
             &rest.cells,

@@ -1,8 +1,9 @@
 //! Laws of the definitions of a schedule. Each function does nothing: its clauses are the law.
 
-ghost use Rattle.std.specs.Prelude.{◌≡◌, true, ℕ, suc, ◌+◌, ◌%◌, ◌<◌, ◌≤◌, length, Some};
+ghost use Rattle.std.specs.Prelude.{◌≡◌, true, All, List, ℕ, suc, ◌+◌, ◌%◌, ◌<◌, ◌≤◌, length, Some};
+ghost use Rattle.uz_schedule.specs.declared.lines.Event.{Event};
 ghost use Rattle.uz_schedule.specs.declared.lines.Schedule.{Schedule};
-ghost use Rattle.uz_schedule.specs.Schedule.{length_of, start_of, frame_of, next_line, At, event_at, event_in_kind, events_of, sync_at, or_else, level_at};
+ghost use Rattle.uz_schedule.specs.Schedule.{scanline, half_line, length_of, start_of, frame_of, next_line, At, event_at, event_in_kind, events_of, sync_at, or_else, level_at};
 ghost use Rattle.uz_schedule.specs.Limits.{ScheduleFits};
 ghost use Rattle.uz_schedule.specs.declared.states.Instance.{Instance};
 ghost use Rattle.uz_schedule.specs.declared.certificate.Cert.{Cert};
@@ -19,6 +20,14 @@ pub fn event_by_line()
     ensures { (s : Schedule) (l k : ℕ) → l < length s.lines → k < length_of s l → event_at s (start_of s l + k) ≡ event_in_kind (events_of s l) k }
 {}
 
+/// A line has the clocks of half a scanline or more, and of a whole one at most; its events stand at clocks of it; and a
+/// frame has clocks.
+pub fn lines_have_lengths()
+    ensures within { (s : Schedule) → ScheduleFits s → (l : ℕ) → (half_line ≤ length_of s l) × (length_of s l ≤ scanline) }
+    ensures events { (s : Schedule) → ScheduleFits s → (l : ℕ) (events : List Event) → l < length s.lines → events_of s l ≡ Some events → All (λ e. e.clock < length_of s l) events }
+    ensures frame { (s : Schedule) → ScheduleFits s → 0 < frame_of s }
+{}
+
 /// Positions are taken modulo the frame.
 #[tactic(auto, using(crate::proofs::Modulo::event_at_mod, crate::proofs::Modulo::level_mod))]
 pub fn positions_go_round()
@@ -28,7 +37,7 @@ pub fn positions_go_round()
 
 /// A place goes on with its position: clocks count on, also past the line's end, and where they reach it, the next line
 /// begins.
-#[tactic(auto, using(crate::proofs::Places::at_more, crate::proofs::Places::at_next, crate::proofs::Places::at_after, crate::proofs::Places::event_here, crate::proofs::Places::level_here, crate::proofs::Places::place_inside))]
+#[tactic(auto, using(crate::proofs::Places::at_more, crate::proofs::Places::at_next, crate::proofs::Places::at_after, crate::proofs::Places::event_here, crate::proofs::Places::level_here, crate::proofs::Places::place_inside, crate::proofs::Starts::order_is))]
 pub fn places_go_on()
     ensures more { (s : Schedule) (p l k c : ℕ) → At s p l k → At s (p + c) l (k + c) }
     ensures next { (s : Schedule) (p l k : ℕ) → At s p l (length_of s l + k) → At s p (next_line s l) k }
@@ -36,7 +45,7 @@ pub fn places_go_on()
     ensures events { (s : Schedule) (p l k : ℕ) → At s p l k → event_at s p ≡ event_at s (start_of s l + k) }
     ensures levels { (s : Schedule) (p l k : ℕ) → At s p l k → level_at s p ≡ level_at s (start_of s l + k) }
     ensures inside { (s : Schedule) (l k : ℕ) → l < length s.lines → k < length_of s l → start_of s l + k < frame_of s }
-    ensures order { (s : Schedule) → order_of s ≡ uniform (length s.lines) }
+    ensures order { (s : Schedule) → All (λ n. n ≡ scanline) s.lengths → order_of s ≡ uniform (length s.lines) }
 {}
 
 /// From one position to the next the level is what is set there, and else stays.

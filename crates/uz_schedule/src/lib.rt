@@ -23,18 +23,18 @@ mod tracked;
 
 pub use certificate::Cert;
 pub use certificate_limits::well_formed;
-pub use fact_values::{span_of, val_of, word_at};
+pub use fact_values::{hull_of_bytes, pair_by, span_of, val_of, word_at};
 pub use facts::{Bit, Fact, PairFact, Val};
 pub use header::{Cell, Head};
 pub use instances::{entry_state, handler_entry};
 pub use kinds::{Kind, Owner, Response};
 pub use laws::{
     equal_instances_are_one, event_by_line, instance_is_within_limits, level_exists, level_goes_on,
-    places_go_on, positions_go_round,
+    lines_have_lengths, places_go_on, positions_go_round,
 };
 pub use limits::{CLOCK_LIMIT, MOST_EVENTS, MOST_LINES, clocks_rise, rises, schedule_fits};
 pub use line_events::LineEvents;
-pub use line_order::{LineOrder, SCANLINE};
+pub use line_order::{HALF_LINE, SCANLINE};
 pub use lines::{Event, EventKind, Schedule};
 pub use ranges::{Span, Wide, hull};
 pub use sequence::Sequence;

@@ -1,16 +1,17 @@
 //! The limits and orders of a schedule.
 
 ghost use Rattle.std.specs.Prelude.{◌≡◌, ◌<◌, ◌≤◌, ◌↔◌, IsTrue, map};
-ghost use Rattle.uz_schedule.specs.Limits.{rises as rising, EventFits, EventsFit, KindsFit, LinesFit, ScheduleFits};
+ghost use Rattle.uz_schedule.specs.Limits.{rises as rising, EventFits, EventsFit, KindsFit, LinesFit, ScheduleFits, is_length as length_is, clocks_below as are_below, lengths_fit as fit_lengths};
 
 use crate::line_events::LineEvents;
+use crate::line_order::{HALF_LINE, SCANLINE};
 use crate::lines::{Event, EventKind, Schedule};
 
-/// Clocks of a line are below this in the text.
-pub const CLOCK_LIMIT: u16 = 1820;
+/// Each clock of a text is below this: that of the longest line.
+pub const CLOCK_LIMIT: u16 = SCANLINE;
 
-/// The most events of a line.
-pub const MOST_EVENTS: usize = 1820;
+/// The most events of a line: one at each clock of the longest one.
+pub const MOST_EVENTS: usize = SCANLINE as usize;
 
 /// The most kinds of line, and the most lines of a frame.
 pub const MOST_LINES: usize = 525;
@@ -78,11 +79,47 @@ fn lines_fit(lines: &[u16], kinds: usize) -> bool
         && lines.iter().all(|kind| usize::from(*kind) < kinds)
 }
 
+/// Whether a kind of line has the clocks of a scanline, or of half of one.
+fn is_length(clocks: u16) -> bool
+    ensures { result ≡ length_is clocks }
+{
+    clocks == HALF_LINE || clocks == SCANLINE
+}
+
+/// Whether each event stands at a clock of a line of so many.
+fn clocks_below(events: &[Event], clocks: u16) -> bool
+    ensures { result ≡ are_below events.now clocks }
+{
+    for event in events {
+        if event.clock >= clocks {
+            return false;
+        }
+    }
+    true
+}
+
+/// Whether each kind has a length and no other has, and the clocks of events are below the length of their kind.
+fn lengths_fit(kinds: &[LineEvents], lengths: &[u16]) -> bool
+    ensures { result ≡ fit_lengths kinds.now lengths.now }
+{
+    let mut next = 0;
+    for events in kinds {
+        match lengths.get(next) {
+            Some(clocks) if is_length(*clocks) && clocks_below(events.as_slice(), *clocks) => {
+                next += 1
+            }
+            _ => return false,
+        }
+    }
+    next == lengths.len()
+}
+
 /// Whether a schedule is within the limits and orders of its text. Takes no memory.
 pub fn schedule_fits(schedule: &Schedule) -> bool
     ensures { IsTrue result ↔ ScheduleFits schedule.now }
 {
     kinds_fit(schedule.kinds.as_slice())
+        && lengths_fit(schedule.kinds.as_slice(), schedule.lengths.as_slice())
         && lines_fit(schedule.lines.as_slice(), schedule.kinds.len())
         && 1 <= schedule.fall
         && schedule.fall < CLOCK_LIMIT

@@ -19,7 +19,7 @@ pub enum EventKind {
 /// An event of a line.
 #[derive(Clone, Copy, Debug, PartialEq, Eq)]
 pub struct Event {
-    /// The clock of its line at which it is seen, 0 to 1819.
+    /// The clock of its line at which it is seen, below the line's length.
     pub clock: u16,
     /// What is seen.
     pub kind: EventKind,
@@ -30,8 +30,10 @@ pub struct Event {
 pub struct Schedule {
     /// The kinds of line: of each its events, clocks rising.
     pub kinds: Sequence<LineEvents>,
+    /// Of each kind of line its length in clocks, `HALF_LINE` or `SCANLINE`; as many as kinds.
+    pub lengths: Sequence<u16>,
     /// Of each line of the frame the number of its kind, counted from 0.
     pub lines: Sequence<u16>,
-    /// The clock of each line at which the level of sync falls, 1 to 1819.
+    /// The clock of each line at which the level of sync falls, 1 or later and below `CLOCK_LIMIT`.
     pub fall: u16,
 }

@@ -10,7 +10,7 @@ use arrayvec::ArrayVec;
 pub struct Rest {
     /// The line, counted from 0.
     pub line: u16,
-    /// The clock of the line at which the return ends, 0 to 1819.
+    /// The clock of the line at which the return ends, below `CLOCK_LIMIT`.
     pub clock: u16,
     /// The number of the point where the handler's next entry is.
     pub vector: u32,
@@ -29,7 +29,7 @@ pub struct Entry {
     pub pc: u16,
     /// The line, counted from 0.
     pub line: u16,
-    /// The clock of the line, 0 to 1819.
+    /// The clock of the line, below `CLOCK_LIMIT`.
     pub clock: u16,
     /// The values that each register may have.
     pub regs: [Span; 32],
@@ -56,9 +56,10 @@ pub struct Point {
     pub c0: u8,
     /// The last count of the box.
     pub c1: u8,
-    /// The clock of the line at count 0, 0 to 1819.
+    /// The clock of the line at count 0, below `CLOCK_LIMIT`.
     pub clock: u16,
-    /// The clocks by which each count is later, -1819 to 1819.
+    /// The clocks by which each count is later than the one before it: more than `CLOCK_LIMIT` clocks below 0, and less
+    /// than `CLOCK_LIMIT`.
     pub slope: i16,
     /// Whether a compare match waits for its interrupt.
     pub pending: bool,
@@ -85,7 +86,7 @@ pub struct Instance {
     pub pc: u16,
     /// The line, counted from 0.
     pub line: u16,
-    /// The clock of the line, 0 to 1819.
+    /// The clock of the line, below its length.
     pub clock: u16,
     /// The level of sync, 0 or 1.
     pub level: u8,

@@ -15,7 +15,7 @@ use Rattle.uz_schedule.specs.declared.kinds.Kind.TheVariants.{Main, Handler, Alo
 use Rattle.uz_schedule.specs.declared.states.Rest.{Rest}
 use Rattle.uz_schedule.specs.declared.states.Instance.{Instance}
 use Rattle.uz_schedule.specs.declared.certificate.Cert.{Cert}
-use Rattle.uz_soundness.specs.Steady.{IsSteady}
+use Rattle.uz_soundness.specs.Steady.{IsSteady, AreScanlines}
 use Rattle.uz_soundness.specs.FrameRules.{RestPasses}
 use Rattle.uz_soundness.specs.Acceptance.{Accepts}
 use Rattle.uz_soundness.proofs.Fits.{HasRest}
@@ -41,7 +41,8 @@ local_holds laws image cert h id l c inst e =
 pub premises_hold : (laws : RuleLaws) (image : FinMap nat_cmp ℕ) (cert : Cert) → WellFormed cert → Accepts image cert → Premises image cert
 premises_hold laws image cert formed h = record {
   laws = laws;
-  limits = limits_of cert formed;
+  limits = limits_of cert formed h.scanlines;
+  scanlines = h.scanlines;
   local = local_holds laws image cert h;
   rests = λ rest has. rest_holds laws cert rest (h.rests rest has);
   entry = covered laws.lies cert cert.entry.id (entry_instance cert) h.entry.lies;
@@ -49,10 +50,10 @@ premises_hold laws image cert formed h = record {
 
 -- Some state enters
 
-pub some_enters : (image : FinMap nat_cmp ℕ) (cert : Cert) → IsFlash image → WellFormed cert → IsSteady cert.schedule
+pub some_enters : (image : FinMap nat_cmp ℕ) (cert : Cert) → IsFlash image → WellFormed cert → AreScanlines cert.schedule → IsSteady cert.schedule
     → (cert.entry.kind ≡ Main → (rest : Rest) × Contains cert.rests rest)
     → (s : State PadHistory) × (p : ℕ) × IsState s × (s.image ≡ image) × EntryCondition cert s p
-some_enters image cert flash formed steady rest = some_state image cert flash (limits_of cert formed) (entry_limits cert formed) steady
+some_enters image cert flash formed lines steady rest = some_state image cert flash (limits_of cert formed lines) (entry_limits cert formed) steady
     (has_rest cert.entry.kind refl formed.entry.kind)
   where
     has_rest : (kind : Kind) → cert.entry.kind ≡ kind → EntryKindFits kind cert.entry → HasRest cert kind

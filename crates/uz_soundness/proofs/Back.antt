@@ -125,7 +125,7 @@ returned_follows image cert p s inst main o was local h then_state flash level r
     let ticks : TimerCounts Handler t = subst (λ k. TimerCounts k t) kind meets.ticks in
     let timer : TimerMeets Handler inst t = subst (λ k. TimerMeets k inst t) kind meets.timer in
     let long = line_long z inst.line h.limits.schedule fits.line in
-    let time = timed z inst t 4 ticks.0 timer (omega (arith, timer.2)) fits.clock (omega (arith, long)) in
+    let time = timed z inst t 4 ticks.0 timer (omega (arith, timer.2, h.scanlines inst.line fits.line)) fits.clock (omega (arith, long)) in
     let count : (timer_after 4 t).count ≡ r.clock = time.count ∙ sym end.clock in
     let draft : CoreMeets r was.core s.core = subst (λ d. CoreMeets (record r { regs = d.regs; pairs = d.pairs; flags = d.flags }) was.core
     s.core) (sym reti.draft) (record { regs = meets.core.regs; pairs = meets.core.pairs; flags = meets.core.flags }) in
@@ -210,7 +210,7 @@ returned_follows image cert p s inst main o was local h then_state flash level r
               is_rest = back.is_rest;
               cells = cells_widen cert.head Handler local.step.draft.cells.items back.rest.cells.items s.space.bytes then_state.space.bytes
                   back.cells drafted;
-              top = ap suc (timer_keeps_top t 4 ∙ timer.2) ∙ omega arith;
+              top = ap suc (timer_keeps_top t 4 ∙ timer.2) ∙ sym (h.scanlines back.rest.line rest_limits.line);
               phase = inl (record {
                 place = at_same z (p + 4) r.line back.rest.line r.clock (timer_after 4 t).count back.line (sym count) there;
                 rested = omega (arith, count, back.clock);

@@ -163,7 +163,7 @@ entered_follows image cert p s main o rest h is_state then_state flash level run
         ranges = ranges;
         depth = omega (arith, at_stack, low, limits.head.low);
       };
-      timer = (count ∙ ap (λ k. n + k) meets.response, flag, timer_keeps_top t s.response ∙ omega (arith, runs.rests.top));
+      timer = (count ∙ ap (λ k. n + k) meets.response, flag, timer_keeps_top t s.response ∙ omega (arith, runs.rests.top, h.scanlines rest.line (limits.rests rest runs.rests.is_rest).line));
       ticks = (counting_kept t s.response ∙ ticks.0, ap (λ m. bit_is_set m 1) (timer_keeps_mask t s.response) ∙ ticks.1);
       level = old_level;
       response = meets.response;

@@ -14,6 +14,7 @@ use Rattle.uz_schedule.specs.declared.lines.Schedule.{Schedule}
 use Rattle.uz_schedule.specs.declared.states.Point.{Point}
 use Rattle.uz_schedule.specs.declared.states.Instance.{Instance}
 use Rattle.uz_schedule.specs.declared.certificate.Cert.{Cert}
+use Rattle.uz_schedule.proofs.Starts.{length_within}
 use Rattle.uz_schedule.specs.Schedule.{length_of, start_of, level_at}
 use Rattle.uz_transfer.specs.Kinds.{depth_limit}
 use Rattle.uz_rules.specs.MemoryMeets.{CellsHold}
@@ -38,10 +39,10 @@ and_true false b e = absurd cc
 
 -- a line is longer than an entry and the latest latency
 pub line_long : (s : Schedule) (l : ℕ) → ScheduleFits s → l < length s.lines → 9 ≤ length_of s l
-line_long s l fits h = omega arith
+line_long s l fits h = omega (arith, (length_within s fits l).0)
 
 pub line_short : (s : Schedule) (l : ℕ) → ScheduleFits s → l < length s.lines → length_of s l < 65536
-line_short s l fits h = omega arith
+line_short s l fits h = omega (arith, (length_within s fits l).1)
 
 pub room_below : (head : Head) → HeadLimits head → head.lo + head.main + 2 ≤ suc head.hi
 room_below head h = omega (arith, h.order, h.room)

@@ -20,6 +20,7 @@ use Rattle.uz_events.specs.Events.{shown_at, listed}
 use Rattle.uz_transfer.specs.Step.{IsStep, successor}
 use Rattle.uz_rules.specs.OneStep.{AloneContained, HandlerContained, MainContained}
 use Rattle.uz_transfer.specs.Emission.{main_emits}
+use Rattle.uz_soundness.specs.Steady.{AreScanlines}
 use Rattle.uz_soundness.specs.Claim.{scheduled}
 use Rattle.uz_schedule.specs.Lines.{order_of}
 use Rattle.uz_rules.specs.EdgeRule.{position_of}
@@ -90,6 +91,7 @@ pub record RuleLaws : Type 0 where
 pub record Premises (image : FinMap nat_cmp ℕ) (cert : Cert) : Type 0 where
   pub laws : RuleLaws
   pub limits : Limits cert
+  pub scanlines : AreScanlines cert.schedule
   pub local : (id l c : ℕ) (inst : Instance) → instance_at cert id l c ≡ Some inst → LocalHolds image cert inst
   pub rests : (rest : Rest) → Contains cert.rests rest → RestHolds cert rest
   pub entry : IsCovered cert (entry_instance cert)

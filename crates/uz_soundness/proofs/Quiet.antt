@@ -8,15 +8,12 @@ use Rattle.uz_schedule.specs.declared.lines.Schedule.{Schedule}
 use Rattle.uz_schedule.specs.Schedule.{frame_of, start_of, event_at, sync_of, level_at, level_set, or_else}
 use Rattle.uz_events.specs.Events.{Shown, shown_at, listed}
 use Rattle.uz_transfer.specs.Emission.{level_after}
+use Rattle.uz_schedule.proofs.Starts.{frame_some as some_clocks}
 use Rattle.uz_soundness.specs.Claim.{scheduled}
 use Rattle.uz_soundness.proofs.Level.{event_at_mod, mod_shift, level_step}
 
 pub frame_some : (s : Schedule) → ScheduleFits s → 0 < frame_of s
-frame_some s h = frame_by (length s.lines) h.lines.some
-  where
-    frame_by : (n : ℕ) → 1 ≤ n → 0 < start_of s n
-    frame_by zero g = omega (arith, g)
-    frame_by (suc n) g = omega arith
+frame_some s h = some_clocks s h
 
 -- a stretch depends on its start modulo the frame
 pub scheduled_mod : (s : Schedule) (p q k c : ℕ) → p % frame_of s ≡ q % frame_of s → scheduled (event_at s) p k c ≡ scheduled (event_at s) q

@@ -16,7 +16,7 @@ ghost use Rattle.uz_soundness.specs.Acceptance.{Accepts};
 ghost use Rattle.uz_soundness.specs.Certified.{Certified};
 ghost use Rattle.uz_soundness.specs.Invariant.{KeepsInvariant, HoldsAlong, BeginsWithIt};
 ghost use Rattle.uz_soundness.specs.Played.{Plays};
-ghost use Rattle.uz_soundness.specs.Steady.{IsSteady};
+ghost use Rattle.uz_soundness.specs.Steady.{IsSteady, AreScanlines};
 ghost use Rattle.uz_soundness.specs.Ways.{EveryTurnGoes, MainsTimeHolds};
 
 use uz_rules::{
@@ -46,6 +46,6 @@ pub fn soundness()
 /// The claim is never empty: whatever the flash image, and whatever the well formed certificate whose schedule is steady and
 /// whose entry, if it is main's, has a rest, there is a state with that image that meets the entry condition.
 pub fn some_state_enters()
-    ensures { (image : FinMap nat_cmp ℕ) (cert : Cert) → IsFlash image → WellFormed cert → IsSteady cert.schedule → (cert.entry.kind ≡ Main → (rest : Rest) × Contains cert.rests rest)
+    ensures { (image : FinMap nat_cmp ℕ) (cert : Cert) → IsFlash image → WellFormed cert → AreScanlines cert.schedule → IsSteady cert.schedule → (cert.entry.kind ≡ Main → (rest : Rest) × Contains cert.rests rest)
         → (s : State PadHistory) × (p : ℕ) × IsState s × (s.image ≡ image) × EntryCondition cert s p }
 {}
