@@ -1,3 +1,8 @@
 pub mod Decoding
+pub mod InternalSteps
+pub mod PlainSteps
+pub mod StoreSteps
 pub mod Readings
+pub mod Running
 pub mod StepMade
+pub mod FlagTables

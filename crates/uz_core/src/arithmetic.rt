@@ -3,9 +3,10 @@
 //! Each call gives a result and the flags that the instruction sets or clears. The bits of SREG in the mask take the
 //! value's; the other bits stay.
 
-ghost use Rattle.std.specs.Prelude.{◌≡◌, ◌<◌, ◌≤◌, ◌+◌, ◌*◌, ◌/◌, ◌%◌, ◌*ℤ◌, ◌+ℤ◌, ◌-ℤ◌, pos};
+ghost use Rattle.std.specs.Prelude.{◌≡◌, ◌<◌, ◌≤◌, ◌+◌, ◌*◌, ◌/◌, ◌%◌, ◌*ℤ◌, ◌+ℤ◌, ◌-ℤ◌, pos, nat_eq, nat_le};
 ghost use Rattle.uz_machine.specs.declared.Flags.{Flags};
 ghost use Rattle.uz_machine.specs.Arithmetic.{FitsMask, bit_value, signed, overflows, flags_cznvsh, flags_znvs, flags_cznvs, flags_cz, sum_of, difference_of, chained_result, and_of, or_of, xor_of, complement_of, negation_of, increment_of, decrement_of, shift_result, logical_shift_of, arithmetic_shift_of, rotation_of, pair_sum_of, pair_difference_of, factor, low_word, left_shift_of, product_of, flags_of, alu_result};
+ghost use Rattle.uz_core.specs.FlagValues.{incremented_value, decremented_value};
 
 use uz_machine::Flags;
 
@@ -159,16 +160,77 @@ pub fn xor8(a: u8, b: u8) -> (u8, Flags)
     (result, logic_flags(result == 0, result >= 128, false))
 }
 
+/// Z, N, V and S of each result of INC, as they stand in SREG.
+static INCREMENTED: [u8; 256] = [
+    2, 0, 0, 0, 0, 0, 0, 0, 0, 0, 0, 0, 0, 0, 0, 0, 0, 0, 0, 0, 0, 0, 0, 0, 0, 0, 0, 0, 0, 0, 0, 0,
+    0, 0, 0, 0, 0, 0, 0, 0, 0, 0, 0, 0, 0, 0, 0, 0, 0, 0, 0, 0, 0, 0, 0, 0, 0, 0, 0, 0, 0, 0, 0, 0,
+    0, 0, 0, 0, 0, 0, 0, 0, 0, 0, 0, 0, 0, 0, 0, 0, 0, 0, 0, 0, 0, 0, 0, 0, 0, 0, 0, 0, 0, 0, 0, 0,
+    0, 0, 0, 0, 0, 0, 0, 0, 0, 0, 0, 0, 0, 0, 0, 0, 0, 0, 0, 0, 0, 0, 0, 0, 0, 0, 0, 0, 0, 0, 0, 0,
+    12, 20, 20, 20, 20, 20, 20, 20, 20, 20, 20, 20, 20, 20, 20, 20, 20, 20, 20, 20, 20, 20, 20, 20,
+    20, 20, 20, 20, 20, 20, 20, 20, 20, 20, 20, 20, 20, 20, 20, 20, 20, 20, 20, 20, 20, 20, 20, 20,
+    20, 20, 20, 20, 20, 20, 20, 20, 20, 20, 20, 20, 20, 20, 20, 20, 20, 20, 20, 20, 20, 20, 20, 20,
+    20, 20, 20, 20, 20, 20, 20, 20, 20, 20, 20, 20, 20, 20, 20, 20, 20, 20, 20, 20, 20, 20, 20, 20,
+    20, 20, 20, 20, 20, 20, 20, 20, 20, 20, 20, 20, 20, 20, 20, 20, 20, 20, 20, 20, 20, 20, 20, 20,
+    20, 20, 20, 20, 20, 20, 20, 20,
+];
+
+#[tactic(auto, using(crate::proofs::FlagTables::incremented_at))]
+fn incremented_value(counted: u8) -> u8
+    ensures { result ≡ incremented_value counted }
+{
+    INCREMENTED[counted as usize]
+}
+
+/// Z, N, V and S of a result of INC.
+fn incremented_flags(counted: u8) -> Flags
+    ensures flags { flags_of result ≡ flags_znvs (nat_eq counted 0) (nat_le 128 counted) (nat_eq counted 128) }
+    ensures mask { FitsMask result }
+{
+    Flags {
+        value: incremented_value(counted),
+        mask: 0x1E,
+    }
+}
+
+/// Z, N, V and S of each result of DEC, as they stand in SREG.
+static DECREMENTED: [u8; 256] = [
+    2, 0, 0, 0, 0, 0, 0, 0, 0, 0, 0, 0, 0, 0, 0, 0, 0, 0, 0, 0, 0, 0, 0, 0, 0, 0, 0, 0, 0, 0, 0, 0,
+    0, 0, 0, 0, 0, 0, 0, 0, 0, 0, 0, 0, 0, 0, 0, 0, 0, 0, 0, 0, 0, 0, 0, 0, 0, 0, 0, 0, 0, 0, 0, 0,
+    0, 0, 0, 0, 0, 0, 0, 0, 0, 0, 0, 0, 0, 0, 0, 0, 0, 0, 0, 0, 0, 0, 0, 0, 0, 0, 0, 0, 0, 0, 0, 0,
+    0, 0, 0, 0, 0, 0, 0, 0, 0, 0, 0, 0, 0, 0, 0, 0, 0, 0, 0, 0, 0, 0, 0, 0, 0, 0, 0, 0, 0, 0, 0,
+    24, 20, 20, 20, 20, 20, 20, 20, 20, 20, 20, 20, 20, 20, 20, 20, 20, 20, 20, 20, 20, 20, 20, 20,
+    20, 20, 20, 20, 20, 20, 20, 20, 20, 20, 20, 20, 20, 20, 20, 20, 20, 20, 20, 20, 20, 20, 20, 20,
+    20, 20, 20, 20, 20, 20, 20, 20, 20, 20, 20, 20, 20, 20, 20, 20, 20, 20, 20, 20, 20, 20, 20, 20,
+    20, 20, 20, 20, 20, 20, 20, 20, 20, 20, 20, 20, 20, 20, 20, 20, 20, 20, 20, 20, 20, 20, 20, 20,
+    20, 20, 20, 20, 20, 20, 20, 20, 20, 20, 20, 20, 20, 20, 20, 20, 20, 20, 20, 20, 20, 20, 20, 20,
+    20, 20, 20, 20, 20, 20, 20, 20, 20,
+];
+
+#[tactic(auto, using(crate::proofs::FlagTables::decremented_at))]
+fn decremented_value(counted: u8) -> u8
+    ensures { result ≡ decremented_value counted }
+{
+    DECREMENTED[counted as usize]
+}
+
+/// Z, N, V and S of a result of DEC.
+fn decremented_flags(counted: u8) -> Flags
+    ensures flags { flags_of result ≡ flags_znvs (nat_eq counted 0) (nat_le 128 counted) (nat_eq counted 127) }
+    ensures mask { FitsMask result }
+{
+    Flags {
+        value: decremented_value(counted),
+        mask: 0x1E,
+    }
+}
+
 /// INC. V is set where the result is 0x80.
 pub fn inc8(a: u8) -> (u8, Flags)
     ensures result { alu_result result ≡ increment_of a }
     ensures mask { FitsMask result.1 }
 {
     let result = ((u16::from(a) + 1) % 256) as u8;
-    (
-        result,
-        logic_flags(result == 0, result >= 128, result == 128),
-    )
+    (result, incremented_flags(result))
 }
 
 /// DEC. V is set where the result is 0x7F.
@@ -177,10 +239,7 @@ pub fn dec8(a: u8) -> (u8, Flags)
     ensures mask { FitsMask result.1 }
 {
     let result = ((u16::from(a) + 255) % 256) as u8;
-    (
-        result,
-        logic_flags(result == 0, result >= 128, result == 127),
-    )
+    (result, decremented_flags(result))
 }
 
 /// COM: `255 - a`. C is set.

@@ -5,9 +5,12 @@ ghost use Rattle.avr_table.specs.Rows.{clocks_of};
 ghost use Rattle.uz_machine.specs.declared.Effect.TheVariants.{Stop};
 ghost use Rattle.uz_machine.specs.Effects.{effect_of};
 ghost use Rattle.uz_machine.specs.Core.{sample_clock, owes_instruction, returns_from_interrupt};
+ghost use Rattle.uz_machine.specs.OperandRanges.{EffectFits};
 ghost use Rattle.uz_core.specs.RowClocks.{clocks_in};
 
 use crate::effects::effect;
+use crate::internal::Internal;
+use crate::known_store::KnownStore;
 use crate::operation::I;
 use avr_decode::decode;
 use avr_table::{Instr, Outcome, clocks, words};
@@ -44,7 +47,11 @@ pub(crate) struct Decoded {
 /// What is read at a word of the flash.
 #[derive(Clone, Copy)]
 pub(crate) enum Reading {
-    /// An instruction that runs.
+    /// An instruction that touches the core alone.
+    Internal(Internal),
+    /// An instruction that makes one store, to an address that is known, and nothing else.
+    Stores(KnownStore),
+    /// Another instruction that runs.
     Runs(Decoded),
     /// SPM, which this project's profile leaves out.
     Spm,
@@ -104,11 +111,27 @@ impl Reading {
     ghost use Rattle.std.specs.Ordering.{nat_cmp};
     ghost use Rattle.std.specs.FinMap.{FinMap};
     ghost use Rattle.uz_hex.specs.Cells.{word_of};
-    ghost use Rattle.uz_core.specs.Programs.{IsReading};
+    ghost use Rattle.uz_core.specs.Programs.{IsReading, IsRunning};
 
-    /// What is read in two words: the one at an address and the next one.
-    pub(crate) fn of(first: u16, second: u16) -> Reading
-        ensures { (image : FinMap nat_cmp ℕ) (at : ℕ) → first ≡ word_of image at → second ≡ word_of image ((at + 1) % 32768) → IsReading image at result }
+    /// An instruction that was decoded at this address, in the form that runs fastest.
+    fn running(at: u16, decoded: Decoded) -> Reading
+        requires at { at < 32768 }
+        requires fits { EffectFits decoded.effect }
+        ensures { IsRunning at decoded result }
+    {
+        match Internal::of(at, &decoded) {
+            Some(internal) => Reading::Internal(internal),
+            None => match KnownStore::of(at, &decoded) {
+                Some(known) => Reading::Stores(known),
+                None => Reading::Runs(decoded),
+            },
+        }
+    }
+
+    /// What is read in two words: the one at this address and the next one.
+    pub(crate) fn of(at: u16, first: u16, second: u16) -> Reading
+        requires { at < 32768 }
+        ensures { (image : FinMap nat_cmp ℕ) → first ≡ word_of image at → second ≡ word_of image ((at + 1) % 32768) → IsReading image at result }
     {
         match &decode(first, second) {
             None => Reading::NoRow,
@@ -117,7 +140,7 @@ impl Reading {
                 if stops(decoded.effect) {
                     Reading::Spm
                 } else {
-                    Reading::Runs(decoded)
+                    Reading::running(at, decoded)
                 }
             }
         }

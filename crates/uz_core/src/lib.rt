@@ -9,6 +9,8 @@ mod data;
 mod decoded;
 mod effects;
 mod instruction;
+mod internal;
+mod known_store;
 mod operation;
 mod program;
 mod step;

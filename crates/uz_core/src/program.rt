@@ -37,7 +37,7 @@ pub(crate) fn read_at(image: &Image, at: u16) -> Reading
     requires { at < 32768 }
     ensures { IsReading image.now at result }
 {
-    Reading::of(image.word(at), image.word((at + 1) % FLASH_WORDS))
+    Reading::of(at, image.word(at), image.word((at + 1) % FLASH_WORDS))
 }
 
 /// What is read at each word.

@@ -1,9 +1,10 @@
 //! One instruction, and an interrupt's entry.
 
-ghost use Rattle.std.specs.Prelude.{◌≡◌, ◌≢◌, ◌<◌, ◌≤◌, ◌+◌, ◌-◌, [], filter};
+ghost use Rattle.std.specs.Prelude.{◌≡◌, ◌≢◌, ◌<◌, ◌≤◌, ◌+◌, ◌-◌, [], ◌∷◌, filter};
 ghost use Rattle.uz_machine.specs.declared.Effect.TheVariants.{Stop};
 ghost use Rattle.uz_machine.specs.Core.{Core, LoadModel, changed_core, loaded_bytes, content_after_loads, load_addresses, stores_of, pc_stores, leaves_core, next_pc, outcome_of, interrupted_core};
 ghost use Rattle.uz_machine.specs.OperandRanges.{EffectFits};
+ghost use Rattle.uz_core.specs.KnownStores.{StoreFits};
 ghost use Rattle.uz_core.specs.Programs.{IsReading, decoded_result};
 ghost use Rattle.uz_core.specs.Steps.{IsStep};
 ghost use Rattle.uz_core.specs.declared.step.Step.TheVariants.{Took};
@@ -16,8 +17,8 @@ use crate::{Cpu, Data};
 use avr_decode::length;
 use avr_table::Outcome;
 use uz_hex::Image;
-use uz_machine::Effect;
 use uz_machine::address::TIMER1_COMPA;
+use uz_machine::{Effect, HeldStore};
 
 /// Why a step stopped.
 #[derive(Clone, Copy, Debug, PartialEq, Eq)]
@@ -40,6 +41,19 @@ pub enum Step {
     },
     /// Nothing: core and data space are unchanged.
     Stopped(Why),
+}
+
+/// Holds a store for the turn's end.
+fn hold<D: Data>(space: &mut D, store: HeldStore)
+    requires fits { StoreFits store }
+    requires free { D.held space.old ≡ [] }
+    ensures held { D.held space.new ≡ store ∷ [] }
+    ensures content { D.content space.new ≡ D.content space.old }
+{
+    match store {
+        HeldStore::Byte { at, value } => space.store(at, value),
+        HeldStore::Bit { at, bit, set } => space.bit(at, bit, set),
+    }
 }
 
 impl Cpu {
@@ -156,6 +170,20 @@ impl Cpu {
         ensures { IsStep D.model flash.now self.old (D.content space.old) self.new (D.content space.new) (D.held space.new) result }
     {
         match reading {
+            Reading::Internal(internal) => Step::Took {
+                clocks: self.act(internal),
+                owed: false,
+                returned: false,
+            },
+            Reading::Stores(known) => {
+                let store = self.pass_store(known);
+                hold(space, store);
+                Step::Took {
+                    clocks: known.clocks,
+                    owed: false,
+                    returned: false,
+                }
+            }
             Reading::Runs(decoded) => self.execute(decoded, flash, space),
             Reading::Spm => Step::Stopped(Why::Spm),
             Reading::NoRow => Step::Stopped(Why::Opcode(flash.word(self.pc()))),

@@ -1,6 +1,6 @@
 //! A turn's end: time moves on, the held stores act, and their edges are noted.
 
-ghost use Rattle.std.specs.Prelude.{◌≡◌, ◌↔◌, ◌<◌, ◌+◌, ◌^◌, length, slice_index, option_to_list, ◌++◌, ◌∷◌, [], IfSome, IsTrue, None, Some, false, if◌then◌else◌};
+ghost use Rattle.std.specs.Prelude.{◌≡◌, ◌↔◌, ◌<◌, ◌≤◌, ◌+◌, ◌^◌, length, slice_index, option_to_list, ◌++◌, ◌∷◌, [], IfSome, IsTrue, None, Some, false, if◌then◌else◌};
 ghost use Rattle.uz_machine.specs.declared.HeldStore.TheVariants.{Bit};
 ghost use Rattle.uz_machine.specs.declared.EdgeKind.TheVariants.{Leave};
 ghost use Rattle.uz_machine.specs.Space.{with_plain_byte, with_port_a, plain_byte, space_after, after_store, after_byte, is_store, is_pin, takes_one_bit, space_taken};
@@ -11,6 +11,7 @@ ghost use Rattle.uz_ports.specs.HeldStoreFits.{HeldStoreFits};
 
 use crate::Board;
 use arrayvec::ArrayVec;
+use uz_core::with_bit;
 use uz_machine::address::{OCR2A, PINA, PINB, PINC, PIND, PORTA, PORTB, PORTC, RAM_END, TIFR1};
 use uz_machine::{Edge, EdgeKind, HeldStore};
 use uz_timer::Timer1;
@@ -129,6 +130,69 @@ impl Board {
         }
     }
 
+    /// Makes a store and answers the edge that it gives, as `make_noted` does: PORTC and the bits of PORTA first, which programs
+    /// store most often.
+    #[inline(always)]
+    fn make_known(&mut self, store: HeldStore) -> Option<EdgeKind>
+        requires { HeldStoreFits store }
+        ensures held { held_of self.new ≡ held_of self.old }
+        ensures entered { entered_of self.new ≡ entered_of self.old }
+        ensures clock { clock_of self.new ≡ clock_of self.old }
+        ensures space { space_of self.new ≡ after_store pads_wiring store (space_of self.old) }
+        ensures kinds { option_to_list result ≡ edge_kinds store (space_of self.old) (after_store pads_wiring store (space_of self.old)) }
+    {
+        match store {
+            HeldStore::Byte { at: PORTC, value } => {
+                self.set_plain_byte(PORTC, value);
+                Some(EdgeKind::Pixel(value))
+            }
+            HeldStore::Bit {
+                at: PORTA,
+                bit,
+                set,
+            } => {
+                let new = with_bit(bit, set, self.plain_byte(PORTA));
+                self.set_port_a(new);
+                None
+            }
+            _ => self.make_other(store),
+        }
+    }
+
+    /// A store of another kind. Kept apart, so that those that are made most often pay nothing for it.
+    #[inline(never)]
+    fn make_other(&mut self, store: HeldStore) -> Option<EdgeKind>
+        requires { HeldStoreFits store }
+        ensures held { held_of self.new ≡ held_of self.old }
+        ensures entered { entered_of self.new ≡ entered_of self.old }
+        ensures clock { clock_of self.new ≡ clock_of self.old }
+        ensures space { space_of self.new ≡ after_store pads_wiring store (space_of self.old) }
+        ensures kinds { option_to_list result ≡ edge_kinds store (space_of self.old) (after_store pads_wiring store (space_of self.old)) }
+    {
+        self.make_noted(store)
+    }
+
+    /// Ends a turn of one store that isn't held: time moves on, and the store acts. Answers its edge. Nothing may be held or noted.
+    #[inline(always)]
+    pub fn finish_with(&mut self, clocks: u8, store: HeldStore) -> Option<Edge>
+        requires idle { (held_of self.old ≡ []) × (entered_of self.old ≡ None) }
+        requires fits { HeldStoreFits store }
+        requires clock { clock_of self.old < 2 ^ 62 }
+        ensures space { space_of self.new ≡ after_stores pads_wiring (store ∷ []) (space_after clocks (space_of self.old)) }
+        ensures idle { (held_of self.new ≡ []) × (entered_of self.new ≡ None) }
+        ensures clock { clock_of self.new ≡ clock_of self.old + clocks }
+        ensures edges { option_to_list result ≡ edges_at (clock_of self.old + clocks) (all_edge_kinds pads_wiring (store ∷ []) (space_after clocks (space_of self.old))) }
+    {
+        self.pass_many(u32::from(clocks));
+        match self.make_known(store) {
+            None => None,
+            Some(kind) => Some(Edge {
+                clock: self.clock,
+                kind,
+            }),
+        }
+    }
+
     /// Makes a store, if there is one.
     #[inline(always)]
     fn note(&mut self, store: Option<HeldStore>) -> Option<EdgeKind>
@@ -162,6 +226,19 @@ impl Board {
     pub fn pass(&mut self, clocks: u8)
         requires idle { (held_of self.old ≡ []) × (entered_of self.old ≡ None) }
         requires clock { clock_of self.old < 2 ^ 62 }
+        ensures held { held_of self.new ≡ held_of self.old }
+        ensures entered { entered_of self.new ≡ entered_of self.old }
+        ensures clock { clock_of self.new ≡ clock_of self.old + clocks }
+        ensures space { space_of self.new ≡ space_after clocks (space_of self.old) }
+    {
+        self.pass_many(u32::from(clocks));
+    }
+
+    /// Moves the timer and the clock on, by 2^30 clocks at most: the end of any number of turns in which nothing is stored or loaded.
+    #[inline(always)]
+    pub fn pass_many(&mut self, clocks: u32)
+        requires clock { clock_of self.old < 2 ^ 62 }
+        requires most { clocks ≤ 2 ^ 30 }
         ensures held { held_of self.new ≡ held_of self.old }
         ensures entered { entered_of self.new ≡ entered_of self.old }
         ensures clock { clock_of self.new ≡ clock_of self.old + clocks }

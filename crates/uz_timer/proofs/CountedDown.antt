@@ -51,3 +51,9 @@ counted_down t still end left clocks h k = by_mode (counts t.control_a t.control
           matched = from.matched || matches_within from.count
               from.top clocks;
         } else from) (sym e)
+
+-- and it leaves the match flag
+pub matched_stays : (t : Timer) (still end left clocks : ℕ) → (IsTrue (counts t.control_a t.control_b) → GoesRound end left t.top)
+    → clocks < left →
+    (timer_after clocks (at_count t (count_of t.control_a t.control_b still end left))).matched ≡ t.matched
+matched_stays t still end left clocks h k = ap (λ (x : Timer). x.matched) (sym (counted_down t still end left clocks h k))

@@ -1,6 +1,6 @@
 //! Timer 1.
 
-ghost use Rattle.std.specs.Prelude.{◌≡◌, ◌+◌, ◌*◌, ◌<◌, ◌↔◌, IsTrue};
+ghost use Rattle.std.specs.Prelude.{◌≡◌, ◌+◌, ◌*◌, ◌<◌, ◌≤◌, ◌^◌, ◌↔◌, ℕ, IsTrue};
 ghost use Rattle.uz_machine.specs.Timer.{timer_at_reset, is_counting, count_after, matches_within, timer_after, timer_taken, is_due, is_timer_address, timer_byte, timer_after_read, timer_after_write};
 ghost use Rattle.uz_timer.specs.Counts.{EndsAt};
 
@@ -53,12 +53,13 @@ fn end_from(count: u16, top: u16) -> u32
 }
 
 /// The count some clocks on, and whether it went from the top to 0 on the way.
-fn advanced(count: u16, top: u16, clocks: u8) -> (u16, bool)
+fn advanced(count: u16, top: u16, clocks: u32) -> (u16, bool)
+    requires { clocks ≤ 2 ^ 30 }
     ensures count { result.0 ≡ count_after count top clocks }
     ensures matched { result.1 ≡ matches_within count top clocks }
 {
     let period = u32::from(top) + 1;
-    let next = u32::from(count) + u32::from(clocks);
+    let next = u32::from(count) + clocks;
     if count <= top {
         if next < period {
             (next as u16, false)
@@ -152,7 +153,8 @@ impl Timer1 {
 
     /// Moves on by clocks within which the count may go to 0. Kept apart, so that `pass` is short.
     #[inline(never)]
-    fn go_round(&mut self, clocks: u8)
+    fn go_round(&mut self, clocks: u32)
+        requires { clocks ≤ 2 ^ 30 }
         ensures { self.new ≡ timer_after clocks self.old }
     {
         if self.counting() {
@@ -164,16 +166,27 @@ impl Timer1 {
         }
     }
 
-    /// Moves on by some clocks. OCF1A is set when TCNT1 goes from OCR1A to 0.
+    /// Moves on by some clocks, at most 2^30. OCF1A is set when TCNT1 goes from OCR1A to 0.
     #[inline(always)]
-    pub fn pass(&mut self, clocks: u8)
+    pub fn pass(&mut self, clocks: u32)
+        requires { clocks ≤ 2 ^ 30 }
         ensures { self.new ≡ timer_after clocks self.old }
     {
-        if u32::from(clocks) < self.left {
-            self.left -= u32::from(clocks);
+        if clocks < self.left {
+            self.left -= clocks;
         } else {
             self.go_round(clocks);
         }
+    }
+
+    /// Clocks, at most 65,536: OCF1A stays as it is while fewer of them pass.
+    #[inline(always)]
+    #[tactic(auto, using(crate::proofs::CountedDown::matched_stays))]
+    pub fn left(&self) -> u32
+        ensures stays { (clocks : ℕ) → clocks < result → (timer_after clocks self.now).matched ≡ self.now.matched }
+        ensures most { result ≤ 65536 }
+    {
+        if self.left < 65536 { self.left } else { 65536 }
     }
 
     /// Whether the interrupt is due: exactly where OCF1A and OCIE1A (TIMSK1 bit 1) are set.
@@ -210,7 +223,7 @@ impl Timer1 {
         ensures matched { result.1 ≡ (timer_after late self.now).matched }
     {
         if self.counting() {
-            let (count, matched) = advanced(self.count(), self.top, late);
+            let (count, matched) = advanced(self.count(), self.top, u32::from(late));
             (count, self.matched || matched)
         } else {
             (self.count(), self.matched)

@@ -1,11 +1,10 @@
-use Rattle.std.proofs.Common.{rules, ◌≡◌, ◌<◌, ◌-◌, ◌∙◌, ap}
+use Rattle.std.proofs.Common.{rules, ◌<◌, ◌∙◌, ap}
 use Rattle.uz_machine.specs.Timer.{Timer, timer_after}
-use Rattle.uz_timer.specs.Counts.{count_of}
 use Rattle.uz_timer.proofs.CountedDown.{counted_down}
 use Rattle.uz_timer.proofs.timer.Timer1.pass.Goals as goal
 
-pub returns-then-from-self : goal.returns-then-from-self
-returns-then-from-self c =
+pub returns-then-clocks-self : goal.returns-then-clocks-self
+returns-then-clocks-self c =
     let i = c.self.inside in
     let t : Timer = record {
       count = 0;
@@ -16,7 +15,5 @@ returns-then-from-self c =
       control_a = i.control_a;
       control_b = i.control_b;
     } in
-    let same : c.from-then-from-self.result ≡ c.args.clocks = search rules in
     let below : c.args.clocks < i.left = search rules in
-    ap (λ n. let moved : Timer = record t { count = count_of i.control_a i.control_b i.still i.end (i.left - n) } in moved) same ∙
-    (counted_down t i.still i.end i.left c.args.clocks c.self.invariant below ∙ ap (timer_after c.args.clocks) c.self.view_is)
+    counted_down t i.still i.end i.left c.args.clocks c.self.invariant below ∙ ap (timer_after c.args.clocks) c.self.view_is
