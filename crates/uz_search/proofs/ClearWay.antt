@@ -3,14 +3,13 @@ use Rattle.std.proofs.Common.{◌≡◌, ◌≢◌, ℕ, zero, suc, ◌≤◌, �
 use Rattle.std.proofs.Common.{ap, ◌∙◌, subst, inl, inr, ⊎_elim, if◌then◌else◌, true≢false, arith}
 use Rattle.std.proofs.lemmas.Bool.{cases_eq}
 use Rattle.std.proofs.lemmas.Bool.Decides.{nat_tests}
-use Rattle.uz_schedule.specs.Lines.{clock_after}
 use Rattle.uz_schedule.specs.declared.kinds.Kind.TheVariants.{Main}
 use Rattle.uz_schedule.specs.declared.lines.EventKind.{EventKind}
 use Rattle.uz_schedule.specs.declared.lines.EventKind.TheVariants.{Sync, Pixel, Sound, Leave}
 use Rattle.uz_schedule.specs.declared.states.Instance.{Instance}
 use Rattle.uz_rules.specs.declared.next.Next.{Next}
 use Rattle.uz_search.specs.declared.program.Program.{Program}
-use Rattle.uz_search.specs.Following.{order_of_program, most_clocks, shown_at}
+use Rattle.uz_search.specs.Following.{clock_on, most_clocks, shown_at}
 use Rattle.uz_search.specs.Stuck.{IsUnsteady, PassesUnsteady}
 use Rattle.uz_search.specs.Tests.{is_fall, is_clear_at, is_clear_way}
 use Rattle.uz_search.proofs.VisitingLemmas.{some_is}
@@ -72,7 +71,7 @@ clear fall q (Some e) h u = by (is_fall e) refl u
 
 module _ (program : Program) (x : Instance) (emit : Option (ℕ × EventKind)) where
   abbrev Test : ℕ → Bool
-  Test k = is_clear_at program.fall (clock_after (order_of_program program) x.line (x.clock + k)) (shown_at emit k)
+  Test k = is_clear_at program.schedule.fall (clock_on program x k) (shown_at emit k)
 
   pub clear_each : (n : ℕ) → is_clear_way program x emit n ≡ true → (k : ℕ) → 1 ≤ k → k ≤ n → Test k ≡ true
   unfolding is_clear_way
@@ -95,26 +94,26 @@ unfolding is_clear_way
 way_none program x emit = refl
 
 pub way_more : (program : Program) (x : Instance) (emit : Option (ℕ × EventKind)) (n : ℕ)
-    → is_clear_way program x emit (n + 1) ≡ (is_clear_way program x emit n && is_clear_at program.fall
-    (clock_after (order_of_program program) x.line (x.clock + (n + 1))) (shown_at emit (n + 1)))
+    → is_clear_way program x emit (n + 1) ≡ (is_clear_way program x emit n && is_clear_at program.schedule.fall
+    (clock_on program x (n + 1)) (shown_at emit (n + 1)))
 unfolding is_clear_way
 way_more program x emit n = let e : n + 1 ≡ suc n = omega arith in rw e refl
 
 pub passes_from : (program : Program) (x : Instance) (next : Next) → x.kind ≢ Main → is_clear_way program x next.emit
-    (most_clocks x next.out.items) ≡ false → PassesUnsteady program x next
+    (most_clocks program x next.out.items) ≡ false → PassesUnsteady program x next
 passes_from program x next apart h =
-    let r = unclear_some program x next.emit (most_clocks x next.out.items) h in
+    let r = unclear_some program x next.emit (most_clocks program x next.out.items) h in
     record {
       apart = apart;
       clocks = r.0;
       some = r.1;
       few = r.2;
-      unsteady = unclear program.fall
-          (clock_after (order_of_program program) x.line (x.clock + r.0)) (shown_at next.emit r.0) r.3;
+      unsteady = unclear program.schedule.fall (clock_on program x r.0) (shown_at next.emit r.0) r.3;
     }
 
-pub passes_not : (program : Program) (x : Instance) (next : Next) → is_clear_way program x next.emit (most_clocks x next.out.items) ≡ true
+pub passes_not : (program : Program) (x : Instance) (next : Next)
+    → is_clear_way program x next.emit (most_clocks program x next.out.items) ≡ true
     → PassesUnsteady program x next → ⊥
 passes_not program x next h u =
-    clear program.fall (clock_after (order_of_program program) x.line (x.clock + u.clocks)) (shown_at next.emit u.clocks)
-    (clear_each program x next.emit (most_clocks x next.out.items) h u.clocks u.some u.few) u.unsteady
+    clear program.schedule.fall (clock_on program x u.clocks) (shown_at next.emit u.clocks)
+    (clear_each program x next.emit (most_clocks program x next.out.items) h u.clocks u.some u.few) u.unsteady

@@ -1,10 +1,12 @@
 -- What is kept where positions are marked.
-use Rattle.std.proofs.Common.{◌≡◌, ℕ, zero, suc, ◌<◌, ◌≤◌, ◌+◌, ◌%◌, ◌∷◌, [], List, Option, Some, None, refl, sym, ap, ◌∙◌, subst, length}
+use Rattle.std.proofs.Common.{◌≡◌, ℕ, zero, suc, ◌<◌, ◌≤◌, ◌+◌, ◌∷◌, [], List, Option, Some, None, refl, sym, ap, ◌∙◌, subst, length}
 use Rattle.std.proofs.Common.{slice_get, slice_set, inl, inr, ⊎_elim, arith}
 use Rattle.std.proofs.lemmas.Bool.{cases_eq}
 use Rattle.uz_schedule.specs.declared.lines.EventKind.{EventKind}
+use Rattle.uz_schedule.specs.declared.states.Instance.{Instance}
 use Rattle.uz_search.specs.declared.marks.Mark.{Mark}
-use Rattle.uz_search.specs.Following.{shown_at}
+use Rattle.uz_search.specs.declared.program.Program.{Program}
+use Rattle.uz_search.specs.Following.{place_on, shown_at}
 use Rattle.uz_search.specs.Marking.{MarkAt, Seen, KeepsMarks, MarksOne, MarksOwn, MarksAll}
 
 module _ {A : Type 0} where
@@ -43,38 +45,36 @@ pub seen_kept : (old new : List (Option Mark)) (x : ℕ) (e : Option EventKind) 
 seen_kept old new x e keeps s = (s.0, keeps x s.0 s.1, s.2)
 
 -- one position more
-pub seen_more : (old mid new : List (Option Mark)) (frame place step : ℕ) (emit : Option (ℕ × EventKind)) (by : ℕ)
-    → ((k : ℕ) → 1 ≤ k → k ≤ step → Seen mid ((place + k) % frame) (shown_at emit k))
-    → MarksOne mid ((place + (step + 1)) % frame) (shown_at emit (step + 1)) by None new
-    → (k : ℕ) → 1 ≤ k → k ≤ step + 1 → Seen new ((place + k) % frame) (shown_at emit k)
-seen_more old mid new frame place step emit by seen one k some few =
-    ⊎_elim
-    (λ e. subst (λ n. Seen new ((place + n) % frame) (shown_at emit n)) (sym e) one.1)
-    (λ ne. seen_kept mid new ((place + k) % frame) (shown_at emit k) one.0 (seen k some (omega arith)))
-    (cases_eq k (step + 1))
+module _ (p : Program) (x : Instance) (most : ℕ) (emit : Option (ℕ × EventKind)) (by : ℕ)
+    (old mid new : List (Option Mark)) (step : ℕ) where
+  pub seen_more : ((k : ℕ) → 1 ≤ k → k ≤ step → Seen mid (place_on p x k) (shown_at emit k))
+      → MarksOne mid (place_on p x (step + 1)) (shown_at emit (step + 1)) by None new
+      → (k : ℕ) → 1 ≤ k → k ≤ step + 1 → Seen new (place_on p x k) (shown_at emit k)
+  seen_more seen one k some few =
+      ⊎_elim
+      (λ e. subst (λ n. Seen new (place_on p x n) (shown_at emit n)) (sym e) one.1)
+      (λ ne. seen_kept mid new (place_on p x k) (shown_at emit k) one.0 (seen k some (omega arith)))
+      (cases_eq k (step + 1))
 
-pub own_more : (old mid new : List (Option Mark)) (place most step : ℕ) (emit : Option (ℕ × EventKind)) (by : ℕ)
-    → step < most → MarksOwn old mid place most emit by
-    → MarksOne mid ((place + (step + 1)) % length old) (shown_at emit (step + 1)) by None new
-    → MarksOwn old new place most emit by
-own_more old mid new place most step emit by below own one = λ y m h. ⊎_elim
-    (λ before. own y m before)
-    (λ here. inr (record { clocks = step + 1; some = omega arith; few = omega arith; there = here.0; shows = here.1 }, here.2))
-    (one.2 y m h)
+  pub own_more : step < most → MarksOwn p x most emit by old mid
+      → MarksOne mid (place_on p x (step + 1)) (shown_at emit (step + 1)) by None new → MarksOwn p x most emit by old new
+  own_more below own one = λ y m h. ⊎_elim
+      (λ before. own y m before)
+      (λ here. inr (record { clocks = step + 1; some = omega arith; few = omega arith; there = here.0; shows = here.1 }, here.2))
+      (one.2 y m h)
 
-pub differs : (old mid new : List (Option Mark)) (place most step : ℕ) (emit : Option (ℕ × EventKind)) (by other : ℕ)
-    → step < most → MarksOwn old mid place most emit by
-    → MarksOne mid ((place + (step + 1)) % length old) (shown_at emit (step + 1)) by (Some other) new
-    → MarksAll old place most emit by (Some other) new
-differs old mid new place most step emit by other below own one = (
-  subst (λ k. MarksOwn old k place most emit by) (sym one.0) own,
-  (
-    one.1.0,
-    ((place + (step + 1)) % length old),
-    shown_at emit (step + 1),
-    subst (λ k. MarkAt k ((place + (step + 1)) % length old) one.1.0) (sym one.0) one.1.1,
-    one.1.2,
-    record { clocks = step + 1; some = omega arith; few = omega arith; there = refl; shows = refl },
-    one.1.3,
-  ),
-)
+  pub differs : (other : ℕ) → step < most → MarksOwn p x most emit by old mid
+      → MarksOne mid (place_on p x (step + 1)) (shown_at emit (step + 1)) by (Some other) new
+      → MarksAll p x most emit by old (Some other) new
+  differs other below own one = (
+    subst (λ k. MarksOwn p x most emit by old k) (sym one.0) own,
+    (
+      one.1.0,
+      place_on p x (step + 1),
+      shown_at emit (step + 1),
+      subst (λ k. MarkAt k (place_on p x (step + 1)) one.1.0) (sym one.0) one.1.1,
+      one.1.2,
+      record { clocks = step + 1; some = omega arith; few = omega arith; there = refl; shows = refl },
+      one.1.3,
+    ),
+  )

@@ -1,11 +1,12 @@
 -- Where the results of an instance stand, and what is shown on the way to them.
-use Rattle.std.proofs.Common.{◌≡◌, ◌≢◌, ℕ, zero, suc, ◌<◌, ◌≤◌, ◌+◌, ◌%◌, [], ◌∷◌, map, Option, Some, None, true, false, not, ◌&&◌, ◌||◌}
-use Rattle.std.proofs.Common.{refl, sym, ap, ◌∙◌, subst, inl, inr, ⊎_elim, slice_get, if◌then◌else◌, arith}
+use Rattle.std.proofs.Common.{◌≡◌, ◌≢◌, ℕ, zero, suc, ◌<◌, ◌≤◌, ◌+◌, ◌%◌, List, [], ◌∷◌, max, map, Option, Some, None, true}
+use Rattle.std.proofs.Common.{false, not, ◌&&◌, ◌||◌, refl, sym, ap, ◌∙◌, subst, inl, inr, ⊎_elim, slice_get, if◌then◌else◌, arith}
 use Rattle.std.proofs.Math.Nat.{mod-eq_of_lt}
 use Rattle.uz_machine.specs.Core.{returns_from_interrupt}
 use Rattle.uz_machine.specs.Effects.{effect_of}
 use Rattle.avr_table.specs.Rows.{clocks_of, words_of}
 use Rattle.uz_schedule.specs.Lines.{line_after, clock_after}
+use Rattle.uz_schedule.specs.Schedule.{length_of}
 use Rattle.uz_schedule.specs.declared.kinds.Kind.{Kind}
 use Rattle.uz_schedule.specs.declared.kinds.Kind.TheVariants.{Main, Handler, Alone}
 use Rattle.uz_schedule.specs.declared.lines.EventKind.{EventKind}
@@ -21,13 +22,14 @@ use Rattle.uz_rules.specs.declared.next.Next.{Next}
 use Rattle.uz_rules.specs.After.{timed}
 use Rattle.uz_rules.specs.Local.{first_exit}
 use Rattle.uz_search.specs.declared.program.Program.{Program}
-use Rattle.uz_search.specs.Fitting.{Stands}
-use Rattle.uz_search.specs.Following.{Among, Flash, order_of_program, clocks_between}
+use Rattle.uz_search.specs.Fitting.{ProgramFits, Stands}
+use Rattle.uz_search.specs.Following.{Among, Flash, order_of_program, lines_of, frame_of, line_on, clock_on, place_on}
+use Rattle.uz_search.specs.Following.{clocks_between, most_clocks}
 use Rattle.uz_search.proofs.OneResult.{Steps, exits_at, draft_at}
 use Rattle.uz_search.proofs.Lists.{in_map, of_map, kind_cases, bool_cases}
 use Rattle.uz_search.proofs.Exits.{exit_clocks, first_exit_of, emits_one, returns_one, OneExit}
 use Rattle.uz_search.proofs.Events.{Turns, Emits, emits, back_handler, level_turned}
-use Rattle.uz_search.proofs.FramePlaces.{Reaches, reach_after, between_of, next_below}
+use Rattle.uz_search.proofs.FramePlaces.{Reaches, length_few, length_some, line_below, reach_after, reach_line, between_of}
 use Rattle.uz_search.proofs.VisitingLemmas.{some_is}
 
 apart_main : (k : Kind) → k ≢ Main → is_main k ≡ false
@@ -102,22 +104,32 @@ module _ (image : Flash) (program : Program) (x : Instance) (next : Next) (s : S
 -- a result outside main: it stands 1 to 4 clocks on
 pub record Moves (program : Program) (x y : Instance) : Type 0 where
   pub apart : y.kind ≢ Main
-  pub some : 1 ≤ clocks_between x y
-  pub few : clocks_between x y ≤ 4
-  pub goes : Reaches program.lines x.line x.clock (clocks_between x y) y.line y.clock
+  pub some : 1 ≤ clocks_between program x y
+  pub few : clocks_between program x y ≤ 4
+  pub goes : Reaches program.schedule x.line x.clock (clocks_between program x y) y.line y.clock
 
 -- the level of a result: a sync event turns it, and nothing else does
 abbrev pub LevelOf : Instance → Option EventKind → Instance → Type 0
 LevelOf x emitted y = y.level ≡ level_after emitted x.level
 
-module _ (image : Flash) (program : Program) (x : Instance) (stands : Stands program x) (apart : x.kind ≢ Main) (next : Next)
-    (s : Steps image program x next) where
+-- the clocks to a place that is passed are fewer than those of a line
+few_of : (program : Program) → ProgramFits program → (k : ℕ) → k ≤ 4 → (l : ℕ) → k ≤ length_of program.schedule l
+few_of program fits k few l = let room = length_some program fits l in omega (arith, few, room)
+
+most_few : (program : Program) (x : Instance) (out : List Instance) (n : ℕ)
+    → ((y : Instance) → Among out y → clocks_between program x y ≤ n) → most_clocks program x out ≤ n
+most_few program x [] n h = omega arith
+most_few program x (z ∷ zs) n h =
+    let a = h z (0, refl) in let b = most_few program x zs n (λ y there. h y (suc there.0, there.1)) in omega (arith, a, b)
+
+module _ (image : Flash) (program : Program) (fits : ProgramFits program) (x : Instance) (stands : Stands program x) (apart : x.kind ≢ Main)
+    (next : Next) (s : Steps image program x next) where
   main_not : is_main x.kind ≡ false
   main_not = apart_main x.kind apart
 
   -- the clocks to a result are its exit's
-  clocks_to : (y : Instance) (h : Among next.out.items y) → (clocks_between x y ≡ (result image program x next s y h).exit.clocks)
-      × Reaches program.lines x.line x.clock (result image program x next s y h).exit.clocks y.line y.clock
+  clocks_to : (y : Instance) (h : Among next.out.items y) → (clocks_between program x y ≡ (result image program x next s y h).exit.clocks)
+      × Reaches program.schedule x.line x.clock (result image program x next s y h).exit.clocks y.line y.clock
   clocks_to y h =
       let r = result image program x next s y h in
       let k : ℕ = r.exit.clocks in
@@ -131,11 +143,11 @@ module _ (image : Flash) (program : Program) (x : Instance) (stands : Stands pro
       sym (ap (λ b. if b then x.clock else clock_after (order_of_program program) x.line (x.clock + k)) main_not)
       ∙ ap (λ (z : Instance). z.clock)
       r.is in
-      let reach : Reaches program.lines x.line x.clock k y.line y.clock =
-      subst (λ q. Reaches program.lines x.line x.clock k y.line q) clock
-      (subst (λ l. Reaches program.lines x.line x.clock k l (clock_after (order_of_program program) x.line (x.clock + k))) line
-      (reach_after program.lines x.line x.clock k stands.line stands.clock (omega (arith, few)))) in
-      (between_of program.lines x.line x.clock k y.line y.clock reach stands.clock some (omega (arith, few)), reach)
+      let reach : Reaches program.schedule x.line x.clock k y.line y.clock =
+      subst (λ q. Reaches program.schedule x.line x.clock k y.line q) clock
+      (subst (λ l. Reaches program.schedule x.line x.clock k l (clock_after (order_of_program program) x.line (x.clock + k))) line
+      (reach_after program.schedule x.line x.clock k stands.line stands.clock (few_of program fits k few))) in
+      (between_of program.schedule x.line x.clock k y.line y.clock reach stands.clock some (few_of program fits k few x.line), reach)
 
   pub moves : (y : Instance) → Among next.out.items y → Moves program x y
   moves y h =
@@ -145,8 +157,27 @@ module _ (image : Flash) (program : Program) (x : Instance) (stands : Stands pro
         apart = λ main. apart (sym (same_kind image program x next s y h) ∙ main);
         some = subst (λ n. 1 ≤ n) (sym e.0) r.some;
         few = subst (λ n. n ≤ 4) (sym e.0) r.few;
-        goes = subst (λ n. Reaches program.lines x.line x.clock n y.line y.clock) (sym e.0) e.1;
+        goes = subst (λ n. Reaches program.schedule x.line x.clock n y.line y.clock) (sym e.0) e.1;
       }
+
+  -- the longest result takes four clocks at most
+  pub most_moves : most_clocks program x next.out.items ≤ 4
+  most_moves = most_few program x next.out.items 4 (λ y there. (moves y there).few)
+
+  -- where it is some clocks on
+  pub passes : (k : ℕ) → k ≤ most_clocks program x next.out.items
+      → Reaches program.schedule x.line x.clock k (line_on program x k) (clock_on program x k)
+  passes k le = reach_after program.schedule x.line x.clock k stands.line stands.clock
+      (few_of program fits k (let most = most_moves in omega (arith, le, most)))
+
+  -- a position that is passed lies in the frame
+  pub passes_within : (k : ℕ) → k ≤ most_clocks program x next.out.items → place_on program x k < frame_of program
+  passes_within k le =
+      let reach = passes k le in
+      let few = length_few program fits (line_on program x k) in
+      line_below (lines_of program) (line_on program x k) (clock_on program x k)
+      (reach_line program.schedule x.line x.clock k (line_on program x k) (clock_on program x k) stands.line reach)
+      (let below = reach.0 in omega (arith, below, few))
 
   pub level_of : (y : Instance) → Among next.out.items y → LevelOf x s.emitted y
   level_of y h =
@@ -156,14 +187,14 @@ module _ (image : Flash) (program : Program) (x : Instance) (stands : Stands pro
       ∙ ap (level_after s.emitted) even
 
   -- what is emitted is emitted at the end of the one result
-  pub at_end : (t : ℕ) (e : EventKind) (y : Instance) → next.emit ≡ Some (t, e) → Among next.out.items y → t ≡ clocks_between x y
+  pub at_end : (t : ℕ) (e : EventKind) (y : Instance) → next.emit ≡ Some (t, e) → Among next.out.items y → t ≡ clocks_between program x y
   at_end t e y emit h = by s.emitted refl
     where
       only : (a b : Exit) (i : ℕ) → slice_get (b ∷ []) i ≡ Some a → a ≡ b
       only a b zero g = sym (some_is b a g)
       only a b (suc i) g = cc
 
-      by : (emitted : Option EventKind) → s.emitted ≡ emitted → t ≡ clocks_between x y
+      by : (emitted : Option EventKind) → s.emitted ≡ emitted → t ≡ clocks_between program x y
       by None is =
           let none : Some (t, e) ≡ None = sym emit ∙ s.emit ∙ ap (λ o. timed o (first_exit (exits_at image x s.row)).clocks) is in
           cc
@@ -238,7 +269,8 @@ handler_not Alone h = refl
 main_is : (k : Kind) → k ≡ Main → is_main k ≡ true
 main_is k h = ap is_main h
 
-module _ (image : Flash) (program : Program) (x : Instance) (stands : Stands program x) (next : Next) (s : Steps image program x next) where
+module _ (image : Flash) (program : Program) (fits : ProgramFits program) (x : Instance) (stands : Stands program x) (next : Next)
+    (s : Steps image program x next) where
   pub main_line : x.kind ≡ Main → (y : Instance) → Among next.out.items y → (y.line ≡ x.line) × (y.clock ≡ x.clock) × (y.level ≡ x.level)
   main_line main y h =
       let r = result image program x next s y h in
@@ -255,18 +287,14 @@ module _ (image : Flash) (program : Program) (x : Instance) (stands : Stands pro
   level_bound apart y h = ⊎_elim
       (λ back. let leave : s.emitted ≡ Some Leave = some_is s.emitted (Some Leave) (subst (λ b. Emits x.level b (Some s.emitted)) back
       (emits_so image program x next s stands)) in
-      subst (λ n. n ≤ 1) (sym (level_of image program x stands apart next s y h ∙ ap (λ o. level_after o x.level) leave)) stands.level)
-      (λ back. subst (λ n. n ≤ 1) (sym (level_of image program x stands apart next s y h))
+      subst (λ n. n ≤ 1) (sym (level_of image program fits x stands apart next s y h ∙ ap (λ o. level_after o x.level) leave)) stands.level)
+      (λ back. subst (λ n. n ≤ 1) (sym (level_of image program fits x stands apart next s y h))
       (level_turned x.level s.emitted stands.level (subst (λ b. Emits x.level b (Some s.emitted)) back
       (emits_so image program x next s stands))))
       (bool_cases next.back)
 
-  line_bound : (y : Instance) → Moves program x y → y.line < program.lines
-  line_bound y m = by m.goes
-    where
-      by : Reaches program.lines x.line x.clock (clocks_between x y) y.line y.clock → y.line < program.lines
-      by (h, inl a) = subst (λ n. n < program.lines) (sym a.0) stands.line
-      by (h, inr a) = next_below program.lines x.line y.line stands.line a.0
+  line_bound : (y : Instance) → Moves program x y → y.line < lines_of program
+  line_bound y m = reach_line program.schedule x.line x.clock (clocks_between program x y) y.line y.clock stands.line m.goes
 
   -- a result stands in the frame
   pub stands_next : (y : Instance) → Among next.out.items y → Stands program y
@@ -287,8 +315,9 @@ module _ (image : Flash) (program : Program) (x : Instance) (stands : Stands pro
 
       of_main : x.kind ≡ Main → Stands program y
       of_main main = let m = main_line main y h in record {
-        line = subst (λ n. n < program.lines) (sym m.0) stands.line;
-        clock = subst (λ n. n < 1820) (sym m.1) stands.clock;
+        line = subst (λ n. n < lines_of program) (sym m.0) stands.line;
+        clock = subst (λ l. y.clock < length_of program.schedule l) (sym m.0)
+            (subst (λ n. n < length_of program.schedule x.line) (sym m.1) stands.clock);
         level = subst (λ n. n ≤ 1) (sym m.2) stands.level;
         main = λ e. (m.0 ∙ (stands.main main).0, m.1 ∙ (stands.main main).1);
         entered = λ handler. stands.entered (sym kind ∙ handler);
@@ -296,7 +325,7 @@ module _ (image : Flash) (program : Program) (x : Instance) (stands : Stands pro
       }
 
       apart : x.kind ≢ Main → Stands program y
-      apart other = let m = moves image program x stands other next s y h in record {
+      apart other = let m = moves image program fits x stands other next s y h in record {
         line = line_bound y m;
         clock = m.goes.0;
         level = level_bound other y h;

@@ -14,22 +14,23 @@ use Rattle.uz_search.proofs.VisitingLemmas.{some_is, among_more}
 use Rattle.uz_search.proofs.MarkingLemmas.{seen_kept}
 use Rattle.uz_transfer.specs.declared.fail.Fail.{Fail}
 use Rattle.uz_search.specs.declared.program.Program.{Program}
-use Rattle.uz_search.specs.Following.{Among, Flash, After, Follows, followers_of, most_clocks, place_of, frame_of, Passing}
+use Rattle.uz_search.specs.Following.{Among, Flash, After, Follows, followers_of, most_clocks, frame_of}
 use Rattle.uz_search.specs.Stuck.{StuckWith}
 use Rattle.uz_search.specs.Refusing.{Split}
 use Rattle.uz_search.specs.Trails.{CameFrom}
 use Rattle.uz_search.specs.Visiting.{IsTree, Extends, AddsAll}
-use Rattle.uz_search.specs.Marking.{KeepsMarks, SeenOnWay, MarksAll}
+use Rattle.uz_search.specs.Marking.{KeepsMarks, MarksAll}
 use Rattle.uz_search.specs.Searching.{MarksWay, NotesEnd, Treats, Treated, IsSearch, SplitsFrom}
 
-pub way_from_all : (x : Instance) (next : Next) (by : ℕ) (old : List (Option Mark)) (other : Option ℕ) (new : List (Option Mark))
-    → x.kind ≢ Main → MarksAll old (place_of x) (most_clocks x next.out.items) next.emit by other new → MarksWay x next by old other new
-way_from_all x next by old None new apart all = (
+pub way_from_all : (p : Program) (x : Instance) (next : Next) (by : ℕ) (old : List (Option Mark)) (other : Option ℕ)
+    (new : List (Option Mark)) → x.kind ≢ Main → MarksAll p x (most_clocks p x next.out.items) next.emit by old other new
+    → MarksWay p x next by old other new
+way_from_all p x next by old None new apart all = (
   all.0,
   (λ y m h. ⊎_elim (λ before. inl before) (λ own. inr ((apart, own.0), own.1)) (all.1 y m h)),
   (λ _. all.2),
 )
-way_from_all x next by old (Some other) new apart all =
+way_from_all p x next by old (Some other) new apart all =
     let it = all.1 in (
       it.1,
       it.0,
@@ -42,29 +43,20 @@ way_from_all x next by old (Some other) new apart all =
 
 pub treats_from : (image : Flash) (program : Program) (x : Instance) (by : ℕ) (marks marks' : List (Option Mark))
     (returns returns' : List (Option Return)) (next : Next)
-    → length marks ≡ frame_of program → After image program x (Ok next) → ((y : Instance) × (slice_get next.out.items 0 ≡ Some y))
+    → After image program x (Ok next) → ((y : Instance) × (slice_get next.out.items 0 ≡ Some y))
     → ((why : Fail) → StuckWith image program x next why → ⊥)
-    → MarksWay x next by marks None marks' → NotesEnd next by returns None returns' → Treats image program x by marks marks' returns
+    → MarksWay program x next by marks None marks' → NotesEnd next by returns None returns' → Treats image program x by marks marks' returns
     returns' next
-treats_from image program x by marks marks' returns returns' next frame after some clear way end = record {
+treats_from image program x by marks marks' returns returns' next after some clear way end = record {
   after = after;
   some = some;
   clear = clear;
-  seen = λ apart. subst (λ n. SeenOnWay marks' n (place_of x) (most_clocks x next.out.items) next.emit) frame (way.2 apart);
+  seen = way.2;
   noted = end.1;
   keeps_marks = way.0;
   keeps_returns = end.0;
   own_marks = λ y m h. ⊎_elim (λ before. inl before)
-      (λ own. inr (
-        (
-          next,
-          after,
-          own.0.0,
-          subst (λ n. Passing n (place_of x) (most_clocks x next.out.items) next.emit y m.event) frame
-              own.0.1,
-        ),
-        own.1,
-      ))
+      (λ own. inr ((next, after, own.0.0, own.0.1), own.1))
       (way.1 y m h);
   own_returns = λ line r h. ⊎_elim (λ before. inl before)
       (λ own. inr (own.0, (next, after, own.1.0, own.1.1), own.2, own.3, own.4))

@@ -2,7 +2,7 @@
 use Rattle.std.proofs.Common.{◌≡◌, ℕ, zero, suc, ◌<◌, ◌≤◌, List, map, Option, true, false, refl, sym, ap, ◌∙◌, subst, ⊎_elim, if◌then◌else◌}
 use Rattle.std.proofs.Common.{arith}
 use Rattle.std.specs.List.{flat_map}
-use Rattle.uz_schedule.specs.Schedule.{response_clocks}
+use Rattle.uz_schedule.specs.Schedule.{length_of, next_line, response_clocks}
 use Rattle.uz_schedule.specs.declared.kinds.Kind.TheVariants.{Handler}
 use Rattle.uz_schedule.specs.declared.kinds.Response.{Response}
 use Rattle.uz_schedule.specs.declared.kinds.Response.TheVariants.{Four, Five}
@@ -10,10 +10,10 @@ use Rattle.uz_schedule.specs.declared.states.Instance.{Instance}
 use Rattle.uz_rules.specs.declared.next.Next.{Next}
 use Rattle.uz_search.specs.declared.program.Program.{Program}
 use Rattle.uz_search.specs.Fitting.{Stands, ProgramFits}
-use Rattle.uz_search.specs.Following.{Among, Flash, Follows, entries, entry_at}
+use Rattle.uz_search.specs.Following.{Among, Flash, Follows, entries, entry_at, lines_of}
 use Rattle.uz_search.specs.Visiting.{IsTree}
 use Rattle.uz_search.specs.Widenings.{widened}
-use Rattle.uz_search.proofs.FramePlaces.{next_is, next_below}
+use Rattle.uz_search.proofs.FramePlaces.{length_some, next_is, next_below}
 use Rattle.uz_search.proofs.Lists.{of_map, of_flat, bool_cases}
 use Rattle.uz_search.proofs.OneResult.{Steps, steps}
 use Rattle.uz_search.proofs.Results.{same_kind, stands_next, back_is_handler}
@@ -24,8 +24,9 @@ use Rattle.uz_search.proofs.WidenedLaws.{widened_place, SamePlace}
 -- a place of another instance
 pub stands_so : (program : Program) (a b : Instance) → SamePlace a b → Stands program b → Stands program a
 stands_so program a b same h = record {
-  line = subst (λ n. n < program.lines) (sym same.line) h.line;
-  clock = subst (λ n. n < 1820) (sym same.clock) h.clock;
+  line = subst (λ n. n < lines_of program) (sym same.line) h.line;
+  clock = subst (λ l. a.clock < length_of program.schedule l) (sym same.line)
+      (subst (λ n. n < length_of program.schedule b.line) (sym same.clock) h.clock);
   level = subst (λ n. n ≤ 1) (sym same.level) h.level;
   main = λ main. let m = h.main (sym same.kind ∙ main) in (same.line ∙ m.0, same.clock ∙ m.1);
   entered = λ handler. h.entered (sym same.kind ∙ handler);
@@ -49,15 +50,16 @@ entry_of program end e (suc (suc zero), h) = record { c = 2; few = omega arith; 
 entry_of program end e (suc (suc (suc zero)), h) = record { c = 3; few = omega arith; is = some_is _ e h }
 entry_of program end e (suc (suc (suc (suc i))), h) = cc
 
-pub stands_entry : (program : Program) (end e : Instance) → Stands program end → end.kind ≡ Handler → Among (entries program end) e
-    → Stands program e
-stands_entry program end e stands handler h =
+pub stands_entry : (program : Program) (end e : Instance) → ProgramFits program → Stands program end → end.kind ≡ Handler
+    → Among (entries program end) e → Stands program e
+stands_entry program end e fits stands handler h =
     let it = entry_of program end e h in
     let few = it.few in
     let response = few_response program.head.irq in
+    let room = length_some program fits (next_line program.schedule end.line) in
     subst (Stands program) it.is (record {
-      line = next_below program.lines end.line _ stands.line (next_is program.lines end.line stands.line);
-      clock = omega (arith, few, response);
+      line = next_below program.schedule end.line _ stands.line (next_is program.schedule end.line stands.line);
+      clock = omega (arith, few, response, room);
       level = stands.level;
       main = λ main. cc;
       entered = λ _. stands.entered handler;
@@ -65,21 +67,22 @@ stands_entry program end e stands handler h =
     })
 
 -- what follows an instance that stands in the frame stands in it
-pub stands_more : (image : Flash) (program : Program) (x y : Instance) → Stands program x → Follows image program x y → Stands program y
-stands_more image program x y stands follows = ⊎_elim
+pub stands_more : (image : Flash) (program : Program) → ProgramFits program → (x y : Instance) → Stands program x
+    → Follows image program x y → Stands program y
+stands_more image program fits x y stands follows = ⊎_elim
     (λ (back : next.back ≡ true).
     let flat : Among (flat_map (entries program) next.out.items) y = subst (λ l. Among l y)
     (ap (λ b. if b then flat_map (entries program) next.out.items else map (widened program) next.out.items) back) follows.is in
     let from = of_flat (entries program) next.out.items y flat in
     let handler = back_is_handler image program x next s back in
-    stands_entry program from.0 y (stands_next image program x stands next s from.0 from.1) (same_kind image program x next s from.0 from.1
-    ∙ handler) from.2)
+    stands_entry program from.0 y fits (stands_next image program fits x stands next s from.0 from.1)
+    (same_kind image program x next s from.0 from.1 ∙ handler) from.2)
     (λ (back : next.back ≡ false).
     let mapped : Among (map (widened program) next.out.items) y = subst (λ l. Among l y)
     (ap (λ b. if b then flat_map (entries program) next.out.items else map (widened program) next.out.items) back) follows.is in
     let from = of_map (widened program) next.out.items mapped.0 y mapped.1 in
     subst (Stands program) from.2 (stands_so program (widened program from.0) from.0 (widened_place program from.0)
-    (stands_next image program x stands next s from.0 (mapped.0, from.1))))
+    (stands_next image program fits x stands next s from.0 (mapped.0, from.1))))
     (bool_cases next.back)
   where
     next : Next
@@ -91,4 +94,4 @@ stands_more image program x y stands follows = ⊎_elim
 pub stands_all : (image : Flash) (program : Program) (nodes : List Instance) (parents : List (Option ℕ)) → ProgramFits program
     → IsTree image program nodes parents → (x : Instance) → Among nodes x → Stands program x
 stands_all image program nodes parents fits tree = tree_all image program (Stands program) (λ y h. (fits.starts y h).stands)
-    (stands_more image program) nodes parents tree
+    (stands_more image program fits) nodes parents tree

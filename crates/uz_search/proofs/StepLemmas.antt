@@ -13,7 +13,7 @@ use Rattle.uz_search.specs.declared.asking.Stop.{Stop}
 use Rattle.uz_search.specs.declared.asking.Stop.TheVariants as stops
 use Rattle.uz_search.specs.declared.program.Program.{Program}
 use Rattle.uz_search.specs.Visiting.{AddsAll, ComeFrom, IsTree}
-use Rattle.uz_search.specs.Following.{Flash, After, followers_of, frame_of}
+use Rattle.uz_search.specs.Following.{Flash, After, followers_of, frame_of, lines_of}
 use Rattle.uz_search.specs.Stuck.{IsStuck}
 use Rattle.uz_search.specs.Searching.{Treats, IsSearch, SplitsFrom, StopHolds}
 use Rattle.uz_search.proofs.SearchingLemmas.{search_more, split_from, whole_back}
@@ -82,7 +82,7 @@ pub search_begin : (image : Flash) (program : Program) (items nodes : List Insta
     → items ≡ program.starts
     → ((image : Flash) (program : Program) → IsTree image program [] [] → ComeFrom image program [] None items → AddsAll image program []
     items nodes parents)
-    → marks ≡ replicate (frame_of program) None → returns ≡ replicate program.lines None
+    → marks ≡ replicate (frame_of program) None → returns ≡ replicate (lines_of program) None
     → IsSearch image program nodes parents marks returns 0
 search_begin image program items nodes parents marks returns is adds em er =
     let added = adds image program (record { lengths = refl; earlier = λ i p h. cc; are = record { each = λ i x p h k. cc } })
@@ -91,9 +91,9 @@ search_begin image program items nodes parents marks returns is adds em er =
       tree = added.tree;
       started = λ y h. added.there h.0 y (subst (λ l. slice_get l h.0 ≡ Some y) (sym is) h.1);
       marked = λ y m h. absurd (none_blank (frame_of program) y m (subst (λ l. slice_get l y ≡ Some (Some m)) em h));
-      ended = λ line r h. absurd (none_blank program.lines line r (subst (λ l. slice_get l line ≡ Some (Some r)) er h));
+      ended = λ line r h. absurd (none_blank (lines_of program) line r (subst (λ l. slice_get l line ≡ Some (Some r)) er h));
       frame = ap length em ∙ length-replicate (frame_of program) None;
-      lines = ap length er ∙ length-replicate program.lines None;
+      lines = ap length er ∙ length-replicate (lines_of program) None;
       treated = λ i x below here. absurd (omega arith);
     }
 

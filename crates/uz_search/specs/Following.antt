@@ -1,10 +1,10 @@
 -- What follows an instance on a trail, and what an instance shows on its way.
-use Rattle.std.specs.Prelude.{◌≡◌, ◌≢◌, ℕ, ◌+◌, ◌-◌, ◌*◌, ◌%◌, ◌==◌, ◌≤◌, nat_lt, max, true, List, [], ◌∷◌, map, Option, Some, None, Result}
-use Rattle.std.specs.Prelude.{Ok, slice_get, if◌then◌else◌}
+use Rattle.std.specs.Prelude.{◌≡◌, ◌≢◌, ℕ, ◌+◌, ◌-◌, ◌*◌, ◌==◌, ◌≤◌, nat_lt, max, true, List, [], ◌∷◌, map, length}
+use Rattle.std.specs.Prelude.{Option, Some, None, Result, Ok, slice_get, if◌then◌else◌}
 use Rattle.std.specs.List.{flat_map}
 use Rattle.std.specs.Ordering.{nat_cmp}
 use Rattle.std.specs.FinMap.{FinMap}
-use Rattle.uz_schedule.specs.Lines.{Lines, uniform}
+use Rattle.uz_schedule.specs.Lines.{Lines, order_of, line_after, clock_after}
 use Rattle.uz_schedule.specs.Schedule.{scanline, response_clocks}
 use Rattle.uz_schedule.specs.Instances.{handler_entry}
 use Rattle.uz_schedule.specs.declared.kinds.Kind.TheVariants.{Main}
@@ -24,9 +24,13 @@ Among xs x = (i : ℕ) × (slice_get xs i ≡ Some x)
 abbrev pub Flash : Type 0
 Flash = FinMap nat_cmp ℕ
 
--- the lines of the frame
+-- the lines of the frame, as they follow each other and as long as each is
 abbrev pub order_of_program : Program → Lines
-order_of_program p = uniform p.lines
+order_of_program p = order_of p.schedule
+
+-- how many lines the frame has
+abbrev pub lines_of : Program → ℕ
+lines_of p = length p.schedule.lines
 
 -- Results
 
@@ -54,44 +58,54 @@ pub record Follows (image : Flash) (p : Program) (x y : Instance) : Type 0 where
 
 -- Places
 
--- the position at which a line begins, in clocks from the frame's begin
+-- A position is a line and a clock of it as one number: each line has as many positions as the longest line has clocks, so a shorter
+-- one leaves its last positions unused
+
+-- the first position of a line
 abbrev pub line_start : ℕ → ℕ
 line_start l = scanline * l
 
--- the position of an instance in the frame
-abbrev pub place_of : Instance → ℕ
-place_of x = line_start x.line + x.clock
-
--- the clocks of a frame
+-- the positions of a frame
 abbrev pub frame_of : Program → ℕ
-frame_of p = line_start p.lines
+frame_of p = line_start (lines_of p)
+
+-- the line, and the clock of it, that an instance passes some clocks on
+abbrev pub line_on : Program → Instance → ℕ → ℕ
+line_on p x k = line_after (order_of_program p) x.line (x.clock + k)
+
+abbrev pub clock_on : Program → Instance → ℕ → ℕ
+clock_on p x k = clock_after (order_of_program p) x.line (x.clock + k)
+
+-- the position that it passes then
+abbrev pub place_on : Program → Instance → ℕ → ℕ
+place_on p x k = line_start (line_on p x k) + clock_on p x k
 
 -- the clocks from an instance to its result, which stands on its line or on the next one
-abbrev pub clocks_between : Instance → Instance → ℕ
-clocks_between x y = if nat_lt x.clock y.clock then y.clock - x.clock else scanline - x.clock + y.clock
+abbrev pub clocks_between : Program → Instance → Instance → ℕ
+clocks_between p x y = if nat_lt x.clock y.clock then y.clock - x.clock else (order_of_program p).length x.line - x.clock + y.clock
 
 -- the clocks that its longest result takes
-abbrev pub most_clocks : Instance → List Instance → ℕ
-most_clocks x [] = 0
-most_clocks x (y ∷ ys) = max (clocks_between x y) (most_clocks x ys)
+abbrev pub most_clocks : Program → Instance → List Instance → ℕ
+most_clocks p x [] = 0
+most_clocks p x (y ∷ ys) = max (clocks_between p x y) (most_clocks p x ys)
 
 -- what is shown that many clocks after the start
 abbrev pub shown_at : Option (ℕ × EventKind) → ℕ → Option EventKind
 shown_at None k = None
 shown_at (Some e) k = if e.0 == k then Some e.1 else None
 
--- what an instance at this position shows, at another that it passes: it passes those up to the end of its longest result
-pub record Passing (frame place most : ℕ) (emit : Option (ℕ × EventKind)) (y : ℕ) (e : Option EventKind) : Type 0 where
+-- what an instance that passes this many clocks shows at one of the positions that it passes
+pub record Passing (p : Program) (x : Instance) (most : ℕ) (emit : Option (ℕ × EventKind)) (y : ℕ) (e : Option EventKind) : Type 0 where
   pub clocks : ℕ
   pub some : 1 ≤ clocks
   pub few : clocks ≤ most
-  pub there : y ≡ (place + clocks) % frame
+  pub there : y ≡ place_on p x clocks
   pub shows : e ≡ shown_at emit clocks
 
--- outside main an instance passes this position of the frame, and shows this there
+-- outside main an instance passes this position of the frame, up to the end of its longest result, and shows this there
 abbrev pub Shows : Flash → Program → Instance → ℕ → Option EventKind → Type 0
-Shows image p x y e = (next : Next) × After image p x (Ok next) × (x.kind ≢ Main) × Passing (frame_of p) (place_of x)
-    (most_clocks x next.out.items) next.emit y e
+Shows image p x y e = (next : Next) × After image p x (Ok next) × (x.kind ≢ Main)
+    × Passing p x (most_clocks p x next.out.items) next.emit y e
 
 -- the handler returns with the instance, and ends so
 abbrev pub ReturnsTo : Flash → Program → Instance → Instance → Type 0

@@ -1,8 +1,10 @@
 -- What is noted of the positions of a frame: what the first instance that passes one shows there.
-use Rattle.std.specs.Prelude.{◌≡◌, ◌⊎◌, ℕ, ◌+◌, ◌≤◌, ◌%◌, List, Option, Some, None, length, slice_get}
+use Rattle.std.specs.Prelude.{◌≡◌, ◌⊎◌, ℕ, ◌≤◌, List, Option, Some, None, slice_get}
 use Rattle.uz_schedule.specs.declared.lines.EventKind.{EventKind}
+use Rattle.uz_schedule.specs.declared.states.Instance.{Instance}
+use Rattle.uz_search.specs.declared.program.Program.{Program}
 use Rattle.uz_search.specs.declared.marks.Mark.{Mark}
-use Rattle.uz_search.specs.Following.{shown_at, Passing}
+use Rattle.uz_search.specs.Following.{place_on, shown_at, Passing}
 
 -- a mark stands at the position
 abbrev pub MarkAt : List (Option Mark) → ℕ → Mark → Type 0
@@ -23,19 +25,16 @@ MarksOne old x e by None new = KeepsMarks old new × Seen new x e
 MarksOne old x e by (Some other) new = (new ≡ old) × ((m : Mark) × MarkAt old x m × (m.by ≡ other) × (m.event ≡ e → ⊥))
 
 -- each new mark is the instance's
-abbrev pub MarksOwn : List (Option Mark) → List (Option Mark) → ℕ → ℕ → Option (ℕ × EventKind) → ℕ → Type 0
-MarksOwn old new place most emit by = (y : ℕ) (m : Mark) → MarkAt new y m
-    → MarkAt old y m ⊎ (Passing (length old) place most emit y m.event × (m.by ≡ by))
+abbrev pub MarksOwn : Program → Instance → ℕ → Option (ℕ × EventKind) → ℕ → List (Option Mark) → List (Option Mark) → Type 0
+MarksOwn p x most emit by old new = (y : ℕ) (m : Mark) → MarkAt new y m → MarkAt old y m ⊎ (Passing p x most emit y m.event × (m.by ≡ by))
 
 -- each position on the way is marked with what is shown there
-abbrev pub SeenOnWay : List (Option Mark) → ℕ → ℕ → ℕ → Option (ℕ × EventKind) → Type 0
-SeenOnWay marks frame place most emit = (k : ℕ) → 1 ≤ k → k ≤ most → Seen marks ((place + k) % frame) (shown_at emit k)
+abbrev pub SeenOnWay : Program → Instance → ℕ → Option (ℕ × EventKind) → List (Option Mark) → Type 0
+SeenOnWay p x most emit marks = (k : ℕ) → 1 ≤ k → k ≤ most → Seen marks (place_on p x k) (shown_at emit k)
 
 -- all positions that an instance passes are marked, or one is marked otherwise
-abbrev pub MarksAll : List (Option Mark) → ℕ → ℕ → Option (ℕ × EventKind) → ℕ → Option ℕ → List (Option Mark) → Type 0
-MarksAll old place most emit by None new =
-    KeepsMarks old new × MarksOwn old new place most emit by × SeenOnWay new (length old) place most emit
-MarksAll old place most emit by (Some other) new =
-    MarksOwn old new place most emit by
-    × ((m : Mark) × (y : ℕ) × (e : Option EventKind) × MarkAt new y m × (m.by ≡ other) × Passing (length old) place most emit y e
-    × (m.event ≡ e → ⊥))
+abbrev pub MarksAll : Program → Instance → ℕ → Option (ℕ × EventKind) → ℕ → List (Option Mark) → Option ℕ → List (Option Mark) → Type 0
+MarksAll p x most emit by old None new = KeepsMarks old new × MarksOwn p x most emit by old new × SeenOnWay p x most emit new
+MarksAll p x most emit by old (Some other) new =
+    MarksOwn p x most emit by old new
+    × ((m : Mark) × (y : ℕ) × (e : Option EventKind) × MarkAt new y m × (m.by ≡ other) × Passing p x most emit y e × (m.event ≡ e → ⊥))

@@ -11,7 +11,7 @@ use Rattle.uz_search.specs.declared.found.Found.{Found}
 use Rattle.uz_search.specs.declared.marks.Mark.{Mark}
 use Rattle.uz_search.specs.declared.program.Program.{Program}
 use Rattle.uz_search.specs.declared.returns.Return.{Return}
-use Rattle.uz_search.specs.Following.{Among, Flash, After, followers_of, frame_of, most_clocks, place_of, Passing, Shows, ReturnsTo}
+use Rattle.uz_search.specs.Following.{Among, Flash, After, followers_of, frame_of, lines_of, most_clocks, Passing, Shows, ReturnsTo}
 use Rattle.uz_search.specs.Marking.{MarkAt, SeenOnWay, KeepsMarks}
 use Rattle.uz_search.specs.Returning.{ReturnAt, IsReturnOf, Noted, KeepsReturns}
 use Rattle.uz_search.specs.Stuck.{StuckWith, IsStuck}
@@ -25,7 +25,7 @@ pub record Treated (image : Flash) (p : Program) (nodes : List Instance) (marks 
   pub after : After image p x (Ok next)
   pub some : (y : Instance) × (slice_get next.out.items 0 ≡ Some y)
   pub clear : (why : Fail) → StuckWith image p x next why → ⊥
-  pub seen : x.kind ≢ Main → SeenOnWay marks (frame_of p) (place_of x) (most_clocks x next.out.items) next.emit
+  pub seen : x.kind ≢ Main → SeenOnWay p x (most_clocks p x next.out.items) next.emit marks
   pub noted : next.back ≡ true → (end : Instance) → slice_get next.out.items 0 ≡ Some end → Noted returns end
   pub follow : (y : Instance) → Among (followers_of p next) y → Among nodes y
 
@@ -47,7 +47,7 @@ pub record IsSearch (image : Flash) (p : Program) (nodes : List Instance) (paren
   pub marked : AreMarked image p nodes marks
   pub ended : AreNoted image p nodes returns
   pub frame : length marks ≡ frame_of p
-  pub lines : length returns ≡ p.lines
+  pub lines : length returns ≡ lines_of p
   pub treated : (i : ℕ) (x : Instance) → i < done → slice_get nodes i ≡ Some x → Treated image p nodes marks returns x
 
 abbrev pub IsSearchOf : Flash → Program → Found → ℕ → Type 0
@@ -64,7 +64,7 @@ pub record Treats (image : Flash) (p : Program) (x : Instance) (by : ℕ) (marks
   pub after : After image p x (Ok next)
   pub some : (y : Instance) × (slice_get next.out.items 0 ≡ Some y)
   pub clear : (why : Fail) → StuckWith image p x next why → ⊥
-  pub seen : x.kind ≢ Main → SeenOnWay marks' (frame_of p) (place_of x) (most_clocks x next.out.items) next.emit
+  pub seen : x.kind ≢ Main → SeenOnWay p x (most_clocks p x next.out.items) next.emit marks'
   pub noted : next.back ≡ true → (end : Instance) → slice_get next.out.items 0 ≡ Some end → Noted returns' end
   pub keeps_marks : KeepsMarks marks marks'
   pub keeps_returns : KeepsReturns returns returns'
@@ -80,16 +80,15 @@ SplitsFrom image p x by other marks returns =
     ⊎ ((end : Instance) × (r : Return) × ReturnAt returns end.line r × (r.by ≡ other) × ReturnsTo image p x end × (IsReturnOf r end → ⊥))
 
 -- the marks of an instance's way; those of main leave none
-abbrev pub MarksWay : Instance → Next → ℕ → List (Option Mark) → Option ℕ → List (Option Mark) → Type 0
-MarksWay x next by old None new = KeepsMarks old new
+abbrev pub MarksWay : Program → Instance → Next → ℕ → List (Option Mark) → Option ℕ → List (Option Mark) → Type 0
+MarksWay p x next by old None new = KeepsMarks old new
     × ((y : ℕ) (m : Mark) → MarkAt new y m → MarkAt old y m
-    ⊎ (((x.kind ≢ Main) × Passing (length old) (place_of x) (most_clocks x next.out.items) next.emit y m.event) × (m.by ≡ by)))
-    × (x.kind ≢ Main → SeenOnWay new (length old) (place_of x) (most_clocks x next.out.items) next.emit)
-MarksWay x next by old (Some other) new =
+    ⊎ (((x.kind ≢ Main) × Passing p x (most_clocks p x next.out.items) next.emit y m.event) × (m.by ≡ by)))
+    × (x.kind ≢ Main → SeenOnWay p x (most_clocks p x next.out.items) next.emit new)
+MarksWay p x next by old (Some other) new =
     (y : ℕ) × (m : Mark) × (e : Option EventKind)
-    × (MarkAt old y m ⊎ (((x.kind ≢ Main) × Passing (length old) (place_of x) (most_clocks x next.out.items) next.emit y m.event)
-    × (m.by ≡ by)))
-    × (m.by ≡ other) × ((x.kind ≢ Main) × Passing (length old) (place_of x) (most_clocks x next.out.items) next.emit y e) × (m.event ≢ e)
+    × (MarkAt old y m ⊎ (((x.kind ≢ Main) × Passing p x (most_clocks p x next.out.items) next.emit y m.event) × (m.by ≡ by)))
+    × (m.by ≡ other) × ((x.kind ≢ Main) × Passing p x (most_clocks p x next.out.items) next.emit y e) × (m.event ≢ e)
 
 -- the end of a return is noted
 abbrev pub NotesEnd : Next → ℕ → List (Option Return) → Option ℕ → List (Option Return) → Type 0

@@ -1,7 +1,6 @@
 -- Why a trail is refused at its last instance.
 use Rattle.std.specs.Prelude.{◌≡◌, ◌≢◌, ◌⊎◌, ℕ, ◌+◌, ◌<◌, ◌≤◌, true, false, Option, Some, Ok, Err}
 use Rattle.avr_table.specs.declared.Instr.{Instr}
-use Rattle.uz_schedule.specs.Lines.{clock_after}
 use Rattle.uz_schedule.specs.declared.kinds.Kind.TheVariants.{Main}
 use Rattle.uz_schedule.specs.declared.lines.EventKind.{EventKind}
 use Rattle.uz_schedule.specs.declared.lines.EventKind.TheVariants.{Sync}
@@ -13,7 +12,7 @@ use Rattle.uz_rules.specs.declared.next.Next.{Next}
 use Rattle.uz_rules.specs.Inside.{restored}
 use Rattle.uz_rules.specs.Local.{row_emits_in_main}
 use Rattle.uz_search.specs.declared.program.Program.{Program}
-use Rattle.uz_search.specs.Following.{Among, Flash, After, order_of_program, most_clocks, shown_at}
+use Rattle.uz_search.specs.Following.{Among, Flash, After, clock_on, most_clocks, shown_at}
 
 -- it is main, and stores what is seen outside
 pub record EmitsInMain (image : Flash) (x : Instance) : Type 0 where
@@ -41,8 +40,8 @@ pub record PassesUnsteady (p : Program) (x : Instance) (next : Next) : Type 0 wh
   pub apart : x.kind ≢ Main
   pub clocks : ℕ
   pub some : 1 ≤ clocks
-  pub few : clocks ≤ most_clocks x next.out.items
-  pub unsteady : IsUnsteady p.fall (clock_after (order_of_program p) x.line (x.clock + clocks)) (shown_at next.emit clocks)
+  pub few : clocks ≤ most_clocks p x next.out.items
+  pub unsteady : IsUnsteady p.schedule.fall (clock_on p x clocks) (shown_at next.emit clocks)
 
 -- why an instance that has results is refused
 abbrev pub StuckWith : Flash → Program → Instance → Next → Fail → Type 0

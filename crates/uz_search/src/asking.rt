@@ -1,16 +1,18 @@
 //! What is asked of one instance.
 
-ghost use Rattle.std.specs.Prelude.{◌≡◌, ◌<◌, ◌≤◌, ◌+◌, true, ℕ, IfOk, OnOk, Ok, Err, Some, length, slice_get};
+ghost use Rattle.std.specs.Prelude.{◌≡◌, ◌≢◌, ◌<◌, ◌≤◌, true, ℕ, IfOk, OnOk, Ok, Err, Some, length, slice_get};
+ghost use Rattle.uz_schedule.specs.Limits.{most_lines};
+ghost use Rattle.uz_schedule.specs.declared.kinds.Kind.TheVariants.{Main};
 ghost use Rattle.uz_schedule.specs.declared.states.Instance.{Instance};
 ghost use Rattle.uz_transfer.specs.declared.fail.Fail.{Fail};
 ghost use Rattle.uz_transfer.specs.Values.{pair_range};
 ghost use Rattle.uz_search.specs.Fitting.{ProgramFits, Stands};
-ghost use Rattle.uz_search.specs.Following.{frame_of};
+ghost use Rattle.uz_search.specs.Following.{frame_of, lines_of, most_clocks as most_of, place_on as place_of};
 ghost use Rattle.uz_search.specs.Stuck.{IsStuck};
 ghost use Rattle.uz_search.specs.Searching.{Treats, SplitsFrom, MarksWay, NotesEnd};
 
 use crate::marks::{Mark, mark_all};
-use crate::passing::{most_clocks, place};
+use crate::passing::most_clocks;
 use crate::program::{Program, put_results};
 use crate::returns::{Return, note_return};
 use crate::stuck::stuck;
@@ -42,15 +44,24 @@ impl From<AllocError> for Stop {
 }
 
 /// Notes what the instance shows on its way, or answers the number of one that shows otherwise.
-fn mark_way(at: &Instance, next: &Next, by: u32, marks: &mut [Option<Mark>]) -> Option<u32>
-    requires { 0 < length marks.old }
-    ensures { MarksWay at.now next.now by marks.old result marks.new }
+fn mark_way(
+    program: &Program,
+    at: &Instance,
+    next: &Next,
+    by: u32,
+    marks: &mut [Option<Mark>],
+) -> Option<u32>
+    requires lines { lines_of program.now ≤ most_lines }
+    requires line { at.now.line < lines_of program.now }
+    requires there { at.now.kind ≢ Main → (k : ℕ) → k ≤ most_of program.now at.now next.now.out.items →
+        place_of program.now at.now k < length marks.old }
+    ensures { MarksWay program.now at.now next.now by marks.old result marks.new }
 {
     match at.kind {
         Kind::Main => None,
         Kind::Handler | Kind::Alone => {
-            let most = most_clocks(at, next.out.as_slice());
-            mark_all(marks, place(at), most, next.emit, by)
+            let most = most_clocks(program, at, next.out.as_slice());
+            mark_all(program, at, most, next.emit, by, marks)
         }
     }
 }
@@ -91,7 +102,7 @@ pub(crate) fn examine(
     requires fits { ProgramFits program.now }
     requires stands { Stands program.now at.now }
     requires frame { length marks.old ≡ frame_of program.now }
-    requires lines { length returns.old ≡ program.now.lines }
+    requires lines { length returns.old ≡ lines_of program.now }
     ensures ok { OnOk result (Treats image.now program.now at.now by marks.old marks.new returns.old returns.new next.new) }
     ensures stuck { (why : Fail) → result ≡ Err (Stop.Stuck why) → IsStuck image.now program.now at.now why }
     ensures split { (other : ℕ) → result ≡ Err (Stop.Split other) → SplitsFrom image.now program.now at.now by other marks.old returns.old }
@@ -103,7 +114,7 @@ pub(crate) fn examine(
     if let Some(why) = stuck(image, program, at, next) {
         return Err(Stop::Stuck(why));
     }
-    if let Some(other) = mark_way(at, next, by, marks) {
+    if let Some(other) = mark_way(program, at, next, by, marks) {
         return Err(Stop::Split(other));
     }
     if let Some(other) = note_end(next, by, returns)? {

@@ -55,7 +55,7 @@ pub struct Found {
     pub nodes: IndexSet<Instance>,
     /// Of each instance the number of the one that it follows, None of a start.
     pub parents: Vec<Option<u32>>,
-    /// By position, a number of clocks from the frame's begin, what is shown there; None where no instance has passed.
+    /// By position what is shown there; None where no instance has passed. Each line has as many positions as the longest one has clocks.
     pub marks: Vec<Option<Mark>>,
     /// By line where the handler returns.
     pub returns: Vec<Option<Return>>,

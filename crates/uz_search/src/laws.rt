@@ -13,7 +13,10 @@ ghost use Rattle.uz_search.specs.Trails.{OnTrail};
 
 /// The instances of an ended search: each lies on a trail, what follows one is another, and each stands in the frame.
 pub fn nodes_are_reached()
-    ensures on_trail { (image : Flash) (p : Program) (s : Found) (x : Instance) → IsEnded image p s → Among s.nodes.keys x → OnTrail image p x }
-    ensures closed { (image : Flash) (p : Program) (s : Found) (x y : Instance) → IsEnded image p s → Among s.nodes.keys x → Follows image p x y → Among s.nodes.keys y }
-    ensures stand { (image : Flash) (p : Program) (s : Found) (x : Instance) → ProgramFits p → IsEnded image p s → Among s.nodes.keys x → Stands p x }
+    ensures on_trail { (image : Flash) (p : Program) (s : Found) (x : Instance) → IsEnded image p s →
+        Among s.nodes.keys x → OnTrail image p x }
+    ensures closed { (image : Flash) (p : Program) (s : Found) (x y : Instance) → IsEnded image p s →
+        Among s.nodes.keys x → Follows image p x y → Among s.nodes.keys y }
+    ensures stand { (image : Flash) (p : Program) (s : Found) (x : Instance) → ProgramFits p → IsEnded image p s →
+        Among s.nodes.keys x → Stands p x }
 {}

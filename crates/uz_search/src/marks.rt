@@ -1,10 +1,13 @@
 //! What the instances found so far show at each position of the frame.
 
-ghost use Rattle.std.specs.Prelude.{◌≡◌, ◌<◌, ◌≤◌, ◌+◌, ◌^◌, ◌↔◌, IsTrue, Some, length, slice_get};
+ghost use Rattle.std.specs.Prelude.{◌≡◌, ℕ, ◌<◌, ◌≤◌, ◌↔◌, IsTrue, Some, length, slice_get};
+ghost use Rattle.uz_schedule.specs.Limits.{most_lines};
+ghost use Rattle.uz_search.specs.Following.{lines_of, place_on as place_of};
 ghost use Rattle.uz_search.specs.Marking.{MarksOne, MarksAll};
 
-use crate::passing::shown_after;
-use uz_schedule::EventKind;
+use crate::passing::{place_on, shown_after};
+use crate::program::Program;
+use uz_schedule::{EventKind, Instance};
 
 /// What the first instance that passes a position shows there.
 #[derive(Clone, Copy, Debug)]
@@ -52,20 +55,23 @@ fn mark_one(marks: &mut [Option<Mark>], at: usize, event: Option<EventKind>, by:
 
 /// Notes what an instance shows at each position that it passes, or answers the number of one that shows otherwise.
 pub(crate) fn mark_all(
-    marks: &mut [Option<Mark>],
-    place: u32,
+    program: &Program,
+    at: &Instance,
     most: u32,
     emit: Option<(u8, EventKind)>,
     by: u32,
+    marks: &mut [Option<Mark>],
 ) -> Option<u32>
-    requires frame { 0 < length marks.old }
-    requires fits { place + most < 2 ^ 32 }
-    ensures { MarksAll marks.old place most emit by result marks.new }
+    requires lines { lines_of program.now ≤ most_lines }
+    requires line { at.now.line < lines_of program.now }
+    requires most { most < 140000 }
+    requires there { (k : ℕ) → k ≤ most → place_of program.now at.now k < length marks.old }
+    ensures { MarksAll program.now at.now most emit by marks.old result marks.new }
 {
     'each: for step in 0..most {
         let clocks = step + 1;
-        let at = (place + clocks) as usize % marks.len();
-        if let Some(other) = mark_one(marks, at, shown_after(emit, clocks), by) {
+        let place = place_on(program, at, clocks) as usize;
+        if let Some(other) = mark_one(marks, place, shown_after(emit, clocks), by) {
             return Some(other);
         }
     }

@@ -2,10 +2,11 @@
 
 ghost use Rattle.std.specs.Prelude.{◌≡◌, ◌<◌, ◌≤◌, ◌++◌, map, true, Ok, Err, IfOk, IfErr, OnOk, IsFalse, IsTrue};
 ghost use Rattle.std.specs.List.{flat_map};
+ghost use Rattle.uz_schedule.specs.Limits.{most_lines};
 ghost use Rattle.uz_schedule.specs.declared.kinds.Kind.TheVariants.{Main};
 ghost use Rattle.uz_schedule.specs.declared.states.Instance.{Instance};
 ghost use Rattle.uz_search.specs.Widenings.{widened};
-ghost use Rattle.uz_search.specs.Following.{Among, After, entry_at, entries, followers_of};
+ghost use Rattle.uz_search.specs.Following.{Among, After, entry_at, entries, followers_of, lines_of};
 ghost use Rattle.uz_search.specs.Fitting.{ProgramFits, Stands};
 
 use crate::widening::{Widening, widen};
@@ -13,7 +14,7 @@ use std::alloc::{AllocError, Global};
 use std::collections::BTreeMap;
 use uz_hex::Image;
 use uz_rules::{Fail, Next, put_after};
-use uz_schedule::{Head, Instance, Kind, LineOrder, Sequence, handler_entry};
+use uz_schedule::{Head, Instance, Kind, Schedule, Sequence, handler_entry};
 use uz_transfer::copied;
 
 /// What a search is told of a program, beside its image.
@@ -21,10 +22,9 @@ use uz_transfer::copied;
 pub struct Program {
     /// The header: response, stack and cells.
     pub head: Head,
-    /// The lines of a frame, 1 to 525.
-    pub lines: u16,
-    /// The clock of each line at which the level of sync falls, 1 to 1819.
-    pub fall: u16,
+    /// The lines of a frame, 1 to 525, how long each is, and the clock of each at which the level of sync falls. Its events aren't known
+    /// yet: no kind has any.
+    pub schedule: Schedule,
     /// By program counter the facts of registers and pointers there, in the order of their hints.
     pub facts: BTreeMap<u16, Vec<Widening>>,
     /// The instances at which trails begin.
@@ -32,15 +32,17 @@ pub struct Program {
 }
 
 impl Program {
-    /// The lines as they follow each other.
-    pub(crate) fn order(&self) -> LineOrder
-        ensures { result.count ≡ self.now.lines }
+    /// How many lines the frame has.
+    pub fn lines(&self) -> u16
+        requires { lines_of self.now ≤ most_lines }
+        ensures { result ≡ lines_of self.now }
     {
-        LineOrder { count: self.lines }
+        self.schedule.lines.len() as u16
     }
 }
 
 /// Puts the abstract results of an instance in place of others.
+#[tactic(auto, using(crate::proofs::FramePlaces::length_few))]
 pub(crate) fn put_results(
     image: &Image,
     program: &Program,
@@ -52,18 +54,19 @@ pub(crate) fn put_results(
     ensures ok { OnOk result (After image.now program.now at.now (Ok next.new)) }
     ensures err { IfErr result (λ why. After image.now program.now at.now (Err why)) }
 {
-    put_after(image, &program.head, program.lines, at, next)
+    put_after(image, &program.head, &program.schedule, at, next)
 }
 
 /// The handler's first state after a return that ends so, where its interrupt is taken at clock `c` of the next line.
 fn entry_after(program: &Program, end: &Instance, c: u16) -> Instance
-    requires line { end.now.line < program.now.lines }
+    requires lines { lines_of program.now ≤ most_lines }
+    requires line { end.now.line < lines_of program.now }
     requires clock { c ≤ 3 }
     ensures { result ≡ entry_at program.now end.now c }
 {
     handler_entry(
         &end.cells,
-        program.order().next(end.line),
+        program.schedule.next(end.line),
         c + program.head.irq.clocks(),
         end.level,
     )
@@ -75,7 +78,8 @@ fn push_entries(
     end: &Instance,
     follow: &mut Vec<Instance>,
 ) -> Result<(), AllocError>
-    requires line { end.now.line < program.now.lines }
+    requires lines { lines_of program.now ≤ most_lines }
+    requires line { end.now.line < lines_of program.now }
     ensures { OnOk result (follow.new.items ≡ follow.old.items ++ entries program.now end.now) }
 {
     follow.push(entry_after(program, end, 0))?;
@@ -100,7 +104,8 @@ fn entries_after(
     program: &Program,
     ends: &[Instance],
 ) -> Result<Vec<Instance>, AllocError>
-    requires { (x : Instance) → Among ends.now x → x.line < program.now.lines }
+    requires lines { lines_of program.now ≤ most_lines }
+    requires each { (x : Instance) → Among ends.now x → x.line < lines_of program.now }
     ensures { IfOk result (λ v. v.items ≡ flat_map (entries program.now) ends.now) }
 {
     let mut follow = Vec::new(alloc);
@@ -131,7 +136,8 @@ pub(crate) fn followers(
     program: &Program,
     next: &Next,
 ) -> Result<Vec<Instance>, AllocError>
-    requires { next.now.back ≡ true → (x : Instance) → Among next.now.out.items x → x.line < program.now.lines }
+    requires lines { lines_of program.now ≤ most_lines }
+    requires each { next.now.back ≡ true → (x : Instance) → Among next.now.out.items x → x.line < lines_of program.now }
     ensures { IfOk result (λ v. v.items ≡ followers_of program.now next.now) }
 {
     if next.back {

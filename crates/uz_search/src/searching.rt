@@ -1,11 +1,12 @@
 //! The search.
 
-ghost use Rattle.std.specs.Prelude.{◌≡◌, ◌<◌, ◌+◌, ℕ, None, Some, IfOk, IfErr, OnOk, length, slice_get, replicate};
+ghost use Rattle.std.specs.Prelude.{◌≡◌, ◌<◌, ◌≤◌, ◌+◌, ℕ, None, Some, IfOk, IfErr, OnOk, length, slice_get, replicate};
+ghost use Rattle.uz_schedule.specs.Limits.{most_lines};
 ghost use Rattle.uz_schedule.specs.declared.kinds.Kind.TheVariants.{Main};
 ghost use Rattle.uz_schedule.specs.declared.states.Instance.{Instance};
 ghost use Rattle.uz_search.specs.declared.program.Program.{Program};
 ghost use Rattle.uz_search.specs.Fitting.{ProgramFits};
-ghost use Rattle.uz_search.specs.Following.{Among, Flash};
+ghost use Rattle.uz_search.specs.Following.{Among, Flash, lines_of};
 ghost use Rattle.uz_search.specs.Refusing.{Refusal};
 ghost use Rattle.uz_search.specs.Returning.{SomeReturn};
 ghost use Rattle.uz_search.specs.Searching.{IsSearchOf, IsEnded, StopHolds};
@@ -109,14 +110,16 @@ fn blank<T: Drop>(alloc: Global, count: u32) -> Result<Vec<Option<T>>, AllocErro
 
 /// The search before any instance is treated: it has the starts.
 fn begin(alloc: Global, program: &Program) -> Result<Found, AllocError>
+    requires { lines_of program.now ≤ most_lines }
     ensures { IfOk result (λ s. (image : Flash) → IsSearchOf image program.now s 0) }
 {
     let mut nodes = IndexSet::new(alloc);
     let mut parents = Vec::new(alloc);
     let starts = copied_starts(alloc, program.starts.as_slice())?;
     add_all(&mut nodes, &mut parents, starts, None)?;
-    let marks = blank(alloc, line_start(program.lines))?;
-    let returns = blank(alloc, u32::from(program.lines))?;
+    let lines = program.lines();
+    let marks = blank(alloc, line_start(lines))?;
+    let returns = blank(alloc, u32::from(lines))?;
     Ok(Found {
         nodes,
         parents,
@@ -150,9 +153,9 @@ fn explore(alloc: Global, image: &Image, program: &Program, limit: u32) -> Resul
 
 /// Searches for the instances that a program reaches: from the starts it goes on to what follows each instance, until nothing new comes.
 ///
-/// Ok has all instances that lie on trails, fewer than `limit`, and a return where some start is of main. Stuck and Split come only with trails that show
-/// them, Full only where `limit` distinct instances lie on trails, NoRest only where some start is of main and the instances on trails hold
-/// no return. Hint never comes. Time is linear in the instances and their results.
+/// Ok has all instances that lie on trails, fewer than `limit`, and a return where some start is of main. Stuck and Split come only
+/// with trails that show them, Full only where `limit` distinct instances lie on trails, NoRest only where some start is of
+/// main and the instances on trails hold no return. Hint never comes. Time is linear in the instances and their results.
 pub fn search(
     alloc: Global,
     image: &Image,

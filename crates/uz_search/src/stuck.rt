@@ -2,20 +2,18 @@
 
 ghost use Rattle.std.specs.Prelude.{◌≡◌, ◌<◌, ◌≤◌, ◌+◌, ◌↔◌, ◌≢◌, true, false, IsTrue, IfSome, IfNone, ℕ, length, slice_get};
 ghost use Rattle.avr_table.specs.declared.Instr.{Instr};
-ghost use Rattle.uz_schedule.specs.Lines.{uniform, clock_after};
-ghost use Rattle.uz_schedule.specs.Schedule.{scanline};
 ghost use Rattle.uz_schedule.specs.declared.kinds.Kind.TheVariants.{Main};
 ghost use Rattle.uz_schedule.specs.declared.lines.EventKind.{EventKind};
 ghost use Rattle.uz_transfer.specs.declared.fail.Fail.{Fail};
 ghost use Rattle.uz_transfer.specs.Step.{IsReadAt};
 ghost use Rattle.uz_rules.specs.Local.{row_emits_in_main};
-ghost use Rattle.uz_search.specs.Following.{Among, most_clocks as most_of, shown_at, order_of_program};
+ghost use Rattle.uz_search.specs.Following.{Among, clock_on as clock_of, shown_at};
 ghost use Rattle.uz_search.specs.Stuck.{EmitsInMain, IsUnrestored, IsUnsteady, PassesUnsteady, StuckWith};
 ghost use Rattle.uz_search.specs.Tests.{is_fall as falls, is_clear_at, is_clear_way};
 ghost use Rattle.uz_schedule.specs.declared.states.Instance.{Instance};
 ghost use Rattle.uz_rules.specs.Inside.{restored as restored_at};
 
-use crate::passing::{line_clock, most_clocks, shown_after};
+use crate::passing::{clock_on, most_clocks, shown_after};
 use crate::program::Program;
 use avr_decode::{at_most_one, decode};
 use avr_table::Instr;
@@ -85,14 +83,12 @@ fn is_clear(fall: u32, clock: u32, shown: Option<EventKind>) -> bool
 
 /// Whether it is so that many clocks after an instance.
 fn is_clear_after(program: &Program, at: &Instance, next: &Next, clocks: u32) -> bool
-    requires { clocks ≤ 70000 }
-    ensures { result ≡ is_clear_at program.now.fall (clock_after (order_of_program program.now) at.now.line (at.now.clock + clocks)) (shown_at next.now.emit clocks) }
+    requires { clocks ≤ 140000 }
+    ensures { result ≡ is_clear_at program.now.schedule.fall (clock_of program.now at.now clocks) (shown_at next.now.emit clocks) }
 {
-    let start = at.clock;
-    let clock = line_clock(u32::from(start) + clocks);
     is_clear(
-        u32::from(program.fall),
-        clock,
+        u32::from(program.schedule.fall),
+        clock_on(program, at, clocks),
         shown_after(next.emit, clocks),
     )
 }
@@ -100,7 +96,7 @@ fn is_clear_after(program: &Program, at: &Instance, next: &Next, clocks: u32) ->
 /// Whether it is so at each clock that an instance passes.
 #[tactic(auto, using(crate::proofs::ClearWay::way_none, crate::proofs::ClearWay::way_more))]
 fn passes_clear(program: &Program, at: &Instance, next: &Next, most: u32) -> bool
-    requires { most < 70000 }
+    requires { most < 140000 }
     ensures { result ≡ is_clear_way program.now at.now next.now.emit most }
 {
     let mut clear = true;
@@ -114,7 +110,13 @@ fn passes_clear(program: &Program, at: &Instance, next: &Next, most: u32) -> boo
 fn passes_unsteady(program: &Program, at: &Instance, next: &Next) -> bool
     ensures { IsTrue result ↔ PassesUnsteady program.now at.now next.now }
 {
-    !is_main(at) && !passes_clear(program, at, next, most_clocks(at, next.out.as_slice()))
+    !is_main(at)
+        && !passes_clear(
+            program,
+            at,
+            next,
+            most_clocks(program, at, next.out.as_slice()),
+        )
 }
 
 /// Whether one of these ends isn't restored.

@@ -1,7 +1,8 @@
 //! Widening: what a hint says of a register or a pointer where the search comes by.
 
 ghost use Rattle.std.specs.Prelude.{◌≡◌, ◌<◌, slice_get, length, Some};
-ghost use Rattle.uz_search.specs.Widenings.{is_whole as is_whole_pair, widened_value, widened_pair, widened_by, widened_all, facts_at, widened as widened_at};
+ghost use Rattle.uz_search.specs.Widenings.{is_whole as is_whole_pair, widened_value, widened_pair, widened_by, widened_all};
+ghost use Rattle.uz_search.specs.Widenings.{facts_at, widened as widened_at};
 ghost use Rattle.uz_schedule.specs.Ends.{is_within as lies_within};
 
 use crate::program::Program;

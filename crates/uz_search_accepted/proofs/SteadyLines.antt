@@ -1,20 +1,25 @@
 -- Lines that fall once are steady.
-use Rattle.std.proofs.Common.{◌≡◌, ◌≢◌, ℕ, ◌<◌, ◌≤◌, ◌+◌, List, [], ◌∷◌, map, All, Some, Bool, true, false, ◌&&◌, nat_le, nat_eq, refl, sym}
-use Rattle.std.proofs.Common.{ap, ◌∙◌, subst, ⊎_elim, length, slice_index, ◌==◌, if◌then◌else◌, true≢false, arith}
+use Rattle.std.proofs.Common.{◌≡◌, ◌≢◌, ℕ, ◌<◌, ◌≤◌, ◌+◌, List, [], ◌∷◌, map, All, Option, Some, Bool, true, false, ◌&&◌}
+use Rattle.std.proofs.Common.{nat_le, nat_eq, refl, sym, ap, ◌∙◌, subst, ⊎_elim, length, slice_index, ◌==◌, if◌then◌else◌, true≢false}
+use Rattle.std.proofs.Common.{arith}
 use Rattle.std.proofs.lemmas.Bool.{cases_eq, eq-eqb}
 use Rattle.std.proofs.lemmas.Bool.Decides.{nat_tests}
 use Rattle.std.proofs.lemmas.List.Elements.{All-head, All-tail, All-cons, All-nil}
-use Rattle.uz_schedule.specs.Limits.{EventFits, EventsFit, ScheduleFits, rises_from}
-use Rattle.uz_schedule.specs.Schedule.{start_of, event_at, event_in, event_in_kind, events_of}
-use Rattle.uz_schedule.proofs.Starts.{event_of_place}
+use Rattle.uz_schedule.specs.Limits.{EventsFit, ScheduleFits, rises_from}
+use Rattle.uz_schedule.specs.Schedule.{length_of, start_of, event_at, event_in, event_in_kind, events_of}
+use Rattle.uz_schedule.proofs.Starts.{clocks_within, event_of_place}
 use Rattle.uz_schedule.specs.declared.lines.Event.{Event}
 use Rattle.uz_schedule.specs.declared.lines.EventKind.{EventKind}
 use Rattle.uz_schedule.specs.declared.lines.EventKind.TheVariants.{Sync}
 use Rattle.uz_schedule.specs.declared.lines.Schedule.{Schedule}
 use Rattle.uz_rules.proofs.LimitsHold.{element_holds}
 use Rattle.uz_soundness.specs.Steady.{IsSteady, IsSteadyLine}
+use Rattle.uz_search.specs.declared.marks.Mark.{Mark}
 use Rattle.uz_search.specs.declared.program.Program.{Program}
+use Rattle.uz_search.specs.Fitting.{ProgramFits}
+use Rattle.uz_search.specs.Following.{lines_of}
 use Rattle.uz_search_laws.specs.Complete.{FallsOnce}
+use Rattle.uz_search_laws.specs.Made.{IsScheduleOf}
 
 both_true : (a b : Bool) → (a && b) ≡ true → (a ≡ true) × (b ≡ true)
 both_true true b h = (refl, h)
@@ -52,33 +57,34 @@ kind_is : (a b : EventKind) → Some a ≡ Some b → a ≡ b
 kind_is a b h = cc
 
 -- no later event of a line is its fall
-none_later : (fall least : ℕ) (es : List Event) → All EventFits es → rises_from least (map (λ e. e.clock) es) ≡ true → fall < least
-    → ((k : ℕ) → k < 1820 → event_in es k ≡ Some (Sync 0) → k ≡ fall) → All (λ e. e.kind ≢ Sync 0) es
-none_later fall least [] fits rise low once = All-nil (λ e. e.kind ≢ Sync 0)
-none_later fall least (d ∷ ds) fits rise low once =
+none_later : (long fall least : ℕ) (es : List Event) → All (λ e. e.clock < long) es → rises_from least (map (λ e. e.clock) es) ≡ true
+    → fall < least
+    → ((k : ℕ) → k < long → event_in es k ≡ Some (Sync 0) → k ≡ fall) → All (λ e. e.kind ≢ Sync 0) es
+none_later long fall least [] fits rise low once = All-nil (λ e. e.kind ≢ Sync 0)
+none_later long fall least (d ∷ ds) fits rise low once =
     let both = both_true (nat_le least d.clock) (rises_from (d.clock + 1) (map (λ e. e.clock) ds)) rise in
     let first : least ≤ d.clock = below least d.clock both.0 in
     All-cons (λ e. e.kind ≢ Sync 0) d ds
-    (λ falls. let same = once d.clock (All-head EventFits d ds fits).clock (event_first d ds ∙ ap Some falls) in
+    (λ falls. let same = once d.clock (All-head (λ e. e.clock < long) d ds fits) (event_first d ds ∙ ap Some falls) in
     omega (arith, same, first, low))
-    (none_later fall (d.clock + 1) ds (All-tail EventFits d ds fits) both.1 (omega (arith, first, low))
+    (none_later long fall (d.clock + 1) ds (All-tail (λ e. e.clock < long) d ds fits) both.1 (omega (arith, first, low))
     (λ k in_line at. once k in_line (event_later d ds k (in_rise ds (d.clock + 1) k (Sync 0) both.1 at) ∙ at)))
   where
     below : (a b : ℕ) → nat_le a b ≡ true → a ≤ b
     below a b h = grind (arith, nat_tests)
 
-steady_line : (fall : ℕ) (events : List Event) → All EventFits events → rises_from 0 (map (λ e. e.clock) events) ≡ true → event_in events
-    fall ≡ Some (Sync 0)
-    → ((k : ℕ) (e : EventKind) → k < 1820 → event_in events k ≡ Some e → fall ≤ k) → ((k : ℕ) → k < 1820 → event_in events k ≡ Some (Sync 0)
+steady_line : (long fall : ℕ) (events : List Event) → All (λ e. e.clock < long) events → rises_from 0 (map (λ e. e.clock) events) ≡ true
+    → event_in events fall ≡ Some (Sync 0)
+    → ((k : ℕ) (e : EventKind) → k < long → event_in events k ≡ Some e → fall ≤ k) → ((k : ℕ) → k < long → event_in events k ≡ Some (Sync 0)
     → k ≡ fall) → IsSteadyLine fall events
-steady_line fall [] fits rise falls above once = cc
-steady_line fall (e ∷ es) fits rise falls above once = record {
+steady_line long fall [] fits rise falls above once = cc
+steady_line long fall (e ∷ es) fits rise falls above once = record {
   first = e;
   later = es;
   is = refl;
   clock = clock;
   kind = kind_is e.kind (Sync 0) (sym (event_first e es) ∙ ap (event_in (e ∷ es)) clock ∙ falls);
-  once = none_later fall (e.clock + 1) es (All-tail EventFits e es fits) rises (omega (arith, clock))
+  once = none_later long fall (e.clock + 1) es (All-tail (λ e. e.clock < long) e es fits) rises (omega (arith, clock))
       (λ k in_line at. once k in_line (event_later e es k (in_rise es (e.clock + 1) k (Sync 0) rises at) ∙ at));
 }
   where
@@ -86,7 +92,7 @@ steady_line fall (e ∷ es) fits rise falls above once = record {
     rises = (both_true (nat_le 0 e.clock) (rises_from (e.clock + 1) (map (λ e. e.clock) es)) rise).1
 
     le : fall ≤ e.clock
-    le = above e.clock e.kind (All-head EventFits e es fits).clock (event_first e es)
+    le = above e.clock e.kind (All-head (λ e. e.clock < long) e es fits) (event_first e es)
 
     clock : e.clock ≡ fall
     clock = ⊎_elim
@@ -101,15 +107,18 @@ steady_line fall (e ∷ es) fits rise falls above once = record {
         differ : (a b : ℕ) → a ≢ b → nat_eq a b ≡ false
         differ a b h = grind (arith, nat_tests)
 
-pub steady : (p : Program) (s : Schedule) → ScheduleFits s → length s.lines ≡ p.lines → s.fall ≡ p.fall → p.fall < 1820 → FallsOnce p s
-    → IsSteady s
-steady p s fits lines fall in_line falls l events below at =
-    let low : l < p.lines = subst (λ n. l < n) lines below in
-    let on : (k : ℕ) → k < 1820 → event_at s (start_of s l + k) ≡ event_in events k = λ k inside. event_of_place s l k below inside
+pub steady : (p : Program) (marks : List (Option Mark)) (s : Schedule) → ScheduleFits s → IsScheduleOf p marks s → ProgramFits p
+    → FallsOnce p s → IsSteady s
+steady p marks s fits of program falls l events below at =
+    let low : l < lines_of p = subst (λ n. l < n) of.lines below in
+    let long : ℕ = length_of s l in
+    let in_line : p.schedule.fall < long = subst (λ n. p.schedule.fall < n) (sym (of.lengths l)) (program.fall_in_line l) in
+    let on : (k : ℕ) → k < long → event_at s (start_of s l + k) ≡ event_in events k = λ k inside. event_of_place s l k below inside
     ∙ ap (λ o. event_in_kind o k) at in
     let kind : EventsFit events = kind_fits events at in
-    subst (λ n. IsSteadyLine n events) (sym fall)
-    (steady_line p.fall events kind.each kind.rise (sym (on p.fall in_line) ∙ falls.first l low)
+    subst (λ n. IsSteadyLine n events) (sym of.fall)
+    (steady_line long p.schedule.fall events (clocks_within s fits l events below at) kind.rise
+    (sym (on p.schedule.fall in_line) ∙ falls.first l low)
     (λ k e inside shown. falls.above l k e low inside (on k inside ∙ shown))
     (λ k inside shown. falls.once l k low inside (on k inside ∙ shown)))
   where

@@ -2,9 +2,12 @@
 use Rattle.std.proofs.Common.{◌≡◌, ℕ, zero, suc, ◌<◌, ◌≤◌, ◌-◌, List, [], ◌∷◌, max, Option, Some, None, Bool, true, false, refl, sym, ap}
 use Rattle.std.proofs.Common.{◌∙◌, subst, inl, inr, slice_get, nat_eq, if◌then◌else◌, arith}
 use Rattle.std.proofs.lemmas.Bool.{eqb-true, eq-eqb}
+use Rattle.uz_schedule.specs.Schedule.{length_of}
+use Rattle.uz_schedule.specs.declared.lines.Schedule.{Schedule}
 use Rattle.uz_schedule.specs.declared.states.Instance.{Instance}
 use Rattle.uz_schedule.specs.declared.lines.EventKind.{EventKind}
 use Rattle.uz_search.specs.declared.marks.Mark.{Mark}
+use Rattle.uz_search.specs.declared.program.Program.{Program}
 use Rattle.uz_search.specs.Following.{most_clocks, clocks_between, shown_at}
 use Rattle.uz_search.specs.Marking.{Seen}
 use Rattle.uz_search.proofs.FramePlaces.{IsNext, Reaches, one_next}
@@ -36,35 +39,40 @@ one_emit emit j k d e a b =
     let p : (j, d) ≡ (k, e) = some_is (j, d) (k, e) (sym a ∙ b) in
     (ap (λ (x : ℕ × EventKind). x.0) p, ap (λ (x : ℕ × EventKind). x.1) p)
 
-pub clocks_few : (x : Instance) (out : List Instance) (i : ℕ) (y : Instance) → slice_get out i ≡ Some y → clocks_between x y ≤ most_clocks x
-    out
-clocks_few x [] i y h = cc
-clocks_few x (z ∷ zs) zero y h = subst (λ v. clocks_between x v ≤ max (clocks_between x z) (most_clocks x zs)) (some_is z y h) (omega arith)
-clocks_few x (z ∷ zs) (suc i) y h = let r = clocks_few x zs i y h in omega (arith, r)
+pub clocks_few : (program : Program) (x : Instance) (out : List Instance) (i : ℕ) (y : Instance) → slice_get out i ≡ Some y
+    → clocks_between program x y ≤ most_clocks program x out
+clocks_few program x [] i y h = cc
+clocks_few program x (z ∷ zs) zero y h =
+    subst (λ v. clocks_between program x v ≤ max (clocks_between program x z) (most_clocks program x zs)) (some_is z y h) (omega arith)
+clocks_few program x (z ∷ zs) (suc i) y h = let r = clocks_few program x zs i y h in omega (arith, r)
 
 -- from one place that is passed to a later one
-pub reaches_less : (lines line clock c l1 q1 d l q : ℕ) → Reaches lines line clock c l1 q1 → Reaches lines line clock d l q → c < d
-    → Reaches lines l1 q1 (d - c) l q
-reaches_less lines line clock c l1 q1 d l q (h1, inl a) (h, inl b) lt = (h, inl (b.0 ∙ sym a.0, omega (arith, a.1, b.1)))
-reaches_less lines line clock c l1 q1 d l q (h1, inl a) (h, inr b) lt =
-    (h, inr (subst (λ (m : ℕ). IsNext lines m l) (sym a.0) b.0, omega (arith, a.1, b.1)))
-reaches_less lines line clock c l1 q1 d l q (h1, inr a) (h, inl b) lt = absurd (omega (arith, a.1, b.1))
-reaches_less lines line clock c l1 q1 d l q (h1, inr a) (h, inr b) lt =
-    (h, inl (one_next lines line l l1 b.0 a.0, omega (arith, a.1, b.1)))
+pub reaches_less : (s : Schedule) (line clock c l1 q1 d l q : ℕ) → Reaches s line clock c l1 q1 → Reaches s line clock d l q → c < d
+    → Reaches s l1 q1 (d - c) l q
+reaches_less s line clock c l1 q1 d l q (h1, inl a) (h, inl b) lt = (h, inl (b.0 ∙ sym a.0, omega (arith, a.1, b.1)))
+reaches_less s line clock c l1 q1 d l q (h1, inl a) (h, inr b) lt =
+    let same = ap (length_of s) a.0 in
+    (h, inr (subst (λ (m : ℕ). IsNext s m l) (sym a.0) b.0, omega (arith, a.1, b.1, same)))
+reaches_less s line clock c l1 q1 d l q (h1, inr a) (h, inl b) lt =
+    let same = ap (length_of s) b.0 in absurd (omega (arith, a.1, b.1, h, same, lt))
+reaches_less s line clock c l1 q1 d l q (h1, inr a) (h, inr b) lt =
+    (h, inl (one_next s line l l1 b.0 a.0, omega (arith, a.1, b.1)))
 
-pub reaches_one : (lines line clock k l q l' q' : ℕ) → Reaches lines line clock k l q → Reaches lines line clock k l' q' → (l ≡ l')
+pub reaches_one : (s : Schedule) (line clock k l q l' q' : ℕ) → Reaches s line clock k l q → Reaches s line clock k l' q' → (l ≡ l')
     × (q ≡ q')
-reaches_one lines line clock k l q l' q' (h, inl a) (h', inl b) = (a.0 ∙ sym b.0, a.1 ∙ sym b.1)
-reaches_one lines line clock k l q l' q' (h, inl a) (h', inr b) = absurd (omega (arith, a.1, b.1))
-reaches_one lines line clock k l q l' q' (h, inr a) (h', inl b) = absurd (omega (arith, a.1, b.1))
-reaches_one lines line clock k l q l' q' (h, inr a) (h', inr b) = (one_next lines line l l' a.0 b.0, omega (arith, a.1, b.1))
+reaches_one s line clock k l q l' q' (h, inl a) (h', inl b) = (a.0 ∙ sym b.0, a.1 ∙ sym b.1)
+reaches_one s line clock k l q l' q' (h, inl a) (h', inr b) =
+    let same = ap (length_of s) a.0 in absurd (omega (arith, a.1, b.1, h, same))
+reaches_one s line clock k l q l' q' (h, inr a) (h', inl b) =
+    let same = ap (length_of s) b.0 in absurd (omega (arith, a.1, b.1, h', same))
+reaches_one s line clock k l q l' q' (h, inr a) (h', inr b) = (one_next s line l l' a.0 b.0, omega (arith, a.1, b.1))
 
 -- a place on the same line before one that is passed
-pub reaches_back : (lines line clock c l q r : ℕ) → Reaches lines line clock c l q → r ≤ q → line < lines → clock < 1820
+pub reaches_back : (s : Schedule) (line clock c l q r : ℕ) → Reaches s line clock c l q → r ≤ q → clock < length_of s line
     → ((l ≡ line) → clock < r)
-    → (1 ≤ c - (q - r)) × (c - (q - r) ≤ c) × Reaches lines line clock (c - (q - r)) l r
-reaches_back lines line clock c l q r (h, inl a) le below in_line after =
+    → (1 ≤ c - (q - r)) × (c - (q - r) ≤ c) × Reaches s line clock (c - (q - r)) l r
+reaches_back s line clock c l q r (h, inl a) le in_line after =
     let lt : clock < r = after a.0 in
-    (omega (arith, a.1), omega arith, (omega arith, inl (a.0, omega (arith, a.1))))
-reaches_back lines line clock c l q r (h, inr a) le below in_line after =
-    (omega (arith, a.1), omega arith, (omega arith, inr (a.0, omega (arith, a.1))))
+    (omega (arith, a.1), omega arith, (omega (arith, h, le), inl (a.0, omega (arith, a.1))))
+reaches_back s line clock c l q r (h, inr a) le in_line after =
+    (omega (arith, a.1), omega arith, (omega (arith, h, le), inr (a.0, omega (arith, a.1))))

@@ -4,7 +4,7 @@ use Rattle.std.proofs.Common.{subst, inl, inr, ⊎_elim, length, slice_get, if�
 use Rattle.std.specs.List.{flat_map}
 use Rattle.std.proofs.lemmas.Bool.{cases_lt}
 use Rattle.std.proofs.lemmas.Option.{slice_get_within}
-use Rattle.uz_schedule.specs.Schedule.{response_clocks}
+use Rattle.uz_schedule.specs.Schedule.{scanline, length_of, response_clocks}
 use Rattle.uz_schedule.specs.declared.states.Instance.{Instance}
 use Rattle.uz_schedule.specs.declared.kinds.Kind.TheVariants.{Main, Handler}
 use Rattle.uz_rules.specs.declared.next.Next.{Next}
@@ -14,17 +14,17 @@ use Rattle.uz_search.specs.declared.marks.Mark.{Mark}
 use Rattle.uz_search.specs.declared.program.Program.{Program}
 use Rattle.uz_search.specs.declared.returns.Return.{Return}
 use Rattle.uz_search.specs.Fitting.{ProgramFits, Stands}
-use Rattle.uz_search.specs.Following.{Among, Flash, Follows, entries, followers_of, frame_of, most_clocks, clocks_between, shown_at}
-use Rattle.uz_search.specs.Following.{place_of}
+use Rattle.uz_search.specs.Following.{Among, Flash, Follows, entries, followers_of, lines_of, line_start, line_on, clock_on, place_on}
+use Rattle.uz_search.specs.Following.{most_clocks, clocks_between, shown_at}
 use Rattle.uz_search.specs.Marking.{Seen}
 use Rattle.uz_search.specs.Returning.{ReturnAt}
 use Rattle.uz_search.specs.Searching.{IsSearch, Treated}
 use Rattle.uz_search.specs.Widenings.{widened}
-use Rattle.uz_search.proofs.FramePlaces.{IsNext, Reaches, at, reaches_at, reach_some, one_line, one_clock, one_next, next_below}
+use Rattle.uz_search.proofs.FramePlaces.{IsNext, Reaches, at, length_few, length_some, one_line, one_clock, one_next, reach_line, reach_on}
 use Rattle.uz_search.proofs.Lists.{kind_cases, bool_cases, in_map, of_map, in_first, of_flat}
 use Rattle.uz_search.proofs.OneResult.{steps}
 use Rattle.uz_search.proofs.OneResult as result
-use Rattle.uz_search.proofs.Results.{Moves, back_is_handler, same_kind, main_line}
+use Rattle.uz_search.proofs.Results.{Moves, back_is_handler, same_kind, main_line, passes}
 use Rattle.uz_search.proofs.SearchingLemmas.{tree_all}
 use Rattle.uz_search.proofs.Standing.{stands_all}
 use Rattle.uz_search.proofs.VisitingLemmas.{some_is}
@@ -43,7 +43,7 @@ module _ (image : Flash) (program : Program) (fits : ProgramFits program) (nodes
   treated x node = s.treated node.0 x (slice_get_within nodes node.0 x node.1) node.1
 
   pub owed : (x : Instance) (node : Among nodes x) → x.kind ≢ Main → Owes program x (treated x node).next
-  owed x node apart = let t = treated x node in node_laws.owes image program x t.next (stands x node) apart t.after t.some
+  owed x node apart = let t = treated x node in node_laws.owes image program fits x t.next (stands x node) apart t.after t.some
 
   pub cleared : (x : Instance) (node : Among nodes x) → x.kind ≢ Main → Clear program x (treated x node).next
   cleared x node apart = let t = treated x node in node_laws.cleared image program x t.next (stands x node) apart t.clear
@@ -57,7 +57,7 @@ module _ (image : Flash) (program : Program) (fits : ProgramFits program) (nodes
       kinds h = cc
 
   pub entered : (x : Instance) (node : Among nodes x) → (treated x node).next.back ≡ true → response_clocks program.head.irq + 3
-      < program.fall
+      < program.schedule.fall
   entered x node back = let t = treated x node in
       (stands x node).entered (back_is_handler image program x t.next (steps image program x t.next t.after) back)
 
@@ -77,25 +77,29 @@ module _ (image : Flash) (program : Program) (fits : ProgramFits program) (nodes
   pub main_level : (x : Instance) (node : Among nodes x) → x.kind ≡ Main → (y : Instance) → Among (treated x node).next.out.items y
       → y.level ≡ x.level
   main_level x node main y there = let t = treated x node in
-      (main_line image program x (stands x node) t.next (steps image program x t.next t.after) main y there).2
+      (main_line image program fits x (stands x node) t.next (steps image program x t.next t.after) main y there).2
 
   -- a result stands on a line of the frame
   pub result_line : (x : Instance) (node : Among nodes x) → x.kind ≢ Main → (y : Instance) → Among (treated x node).next.out.items y
-      → y.line < program.lines
-  result_line x node apart y there = by y.line y.clock (clocks_between x y) ((owed x node apart).moves y there).goes
-    where
-      by : (l q k : ℕ) → Reaches program.lines x.line x.clock k l q → l < program.lines
-      by l q k (h, inl a) = subst (λ (m : ℕ). m < program.lines) (sym a.0) (stands x node).line
-      by l q k (h, inr a) = next_below program.lines x.line l (stands x node).line a.0
+      → y.line < lines_of program
+  result_line x node apart y there =
+      reach_line program.schedule x.line x.clock (clocks_between program x y) y.line y.clock (stands x node).line
+      ((owed x node apart).moves y there).goes
+
+  -- where an instance is some clocks on
+  pub passed : (x : Instance) (node : Among nodes x) → x.kind ≢ Main → (k : ℕ) → k ≤ most_clocks program x (treated x node).next.out.items
+      → Reaches program.schedule x.line x.clock k (line_on program x k) (clock_on program x k)
+  passed x node apart k few = let t = treated x node in
+      passes image program fits x (stands x node) apart t.next (steps image program x t.next t.after) k few
 
   -- what an instance shows where it passes is what is marked there
-  pub seen_at : (x : Instance) (node : Among nodes x) → x.kind ≢ Main → (k l q : ℕ) → 1 ≤ k → k ≤ most_clocks x
+  pub seen_at : (x : Instance) (node : Among nodes x) → x.kind ≢ Main → (k l q : ℕ) → 1 ≤ k → k ≤ most_clocks program x
       (treated x node).next.out.items
-      → Reaches program.lines x.line x.clock k l q → Seen marks (at l q) (shown_at (treated x node).next.emit k)
+      → Reaches program.schedule x.line x.clock k l q → Seen marks (at l q) (shown_at (treated x node).next.emit k)
   seen_at x node apart k l q some few reach =
       let t = treated x node in
-      let place : (place_of x + k) % frame_of program ≡ at l q =
-      ap (λ f. (place_of x + k) % f) refl ∙ reaches_at program.lines x.line x.clock k l q (stands x node).line reach in
+      let on = reach_on program.schedule x.line x.clock k l q (stands x node).line reach in
+      let place : place_on program x k ≡ at l q = ap (λ m. line_start m + clock_on program x k) on.0 ∙ ap (at l) on.1 in
       subst (λ p. Seen marks p (shown_at t.next.emit k)) place (t.seen apart k some few)
 
   -- an instance that passes a clock of a line, and shows this there
@@ -105,12 +109,12 @@ module _ (image : Flash) (program : Program) (fits : ProgramFits program) (nodes
     pub apart : x.kind ≢ Main
     pub k : ℕ
     pub some : 1 ≤ k
-    pub few : k ≤ most_clocks x (treated x node).next.out.items
-    pub reach : Reaches program.lines x.line x.clock k l q
+    pub few : k ≤ most_clocks program x (treated x node).next.out.items
+    pub reach : Reaches program.schedule x.line x.clock k l q
     pub shown : shown_at (treated x node).next.emit k ≡ Some e
 
   -- what is marked is shown by one of the instances
-  pub who : (l q : ℕ) (e : EventKind) → q < 1820 → Seen marks (at l q) (Some e) → Shower l q e
+  pub who : (l q : ℕ) (e : EventKind) → q < length_of program.schedule l → Seen marks (at l q) (Some e) → Shower l q e
   who l q e in_line seen =
       let m = seen.0 in
       let it = s.marked (at l q) m seen.1 in
@@ -119,15 +123,15 @@ module _ (image : Flash) (program : Program) (fits : ProgramFits program) (nodes
       let next = it.2.0 in
       let same : next ≡ t.next = result.one_next image program it.0 next t.next it.2.1 t.after in
       let st = it.2.3 in
-      let fits = stands it.0 node in
-      let few : st.clocks ≤ most_clocks it.0 t.next.out.items = subst (λ (n : Next). st.clocks ≤ most_clocks it.0 n.out.items) same
-      st.few in
-      let little = (owed it.0 node it.2.2).few in
-      let r = reach_some program.lines it.0.line it.0.clock st.clocks fits.line fits.clock (omega (arith, few, little)) in
-      let where_ : at l q ≡ at r.0 r.1 = st.there ∙ ap (λ f. (place_of it.0 + st.clocks) % f) refl ∙ reaches_at program.lines it.0.line
-      it.0.clock st.clocks r.0 r.1 fits.line r.2 in
-      let line = one_line l q r.0 r.1 in_line r.2.0 where_ in
-      let clock = one_clock l q r.0 r.1 in_line r.2.0 where_ in
+      let few : st.clocks ≤ most_clocks program it.0 t.next.out.items =
+      subst (λ (n : Next). st.clocks ≤ most_clocks program it.0 n.out.items) same st.few in
+      let l' : ℕ = line_on program it.0 st.clocks in
+      let q' : ℕ = clock_on program it.0 st.clocks in
+      let goes = passed it.0 node it.2.2 st.clocks few in
+      let here : q < scanline = (let long = length_few program fits l in omega (arith, in_line, long)) in
+      let there : q' < scanline = (let long = length_few program fits l' in let below = goes.0 in omega (arith, below, long)) in
+      let line = one_line l q l' q' here there st.there in
+      let clock = one_clock l q l' q' here there st.there in
       record {
         x = it.0;
         node = node;
@@ -135,8 +139,8 @@ module _ (image : Flash) (program : Program) (fits : ProgramFits program) (nodes
         k = st.clocks;
         some = st.some;
         few = few;
-        reach = subst (λ (a : ℕ). Reaches program.lines it.0.line it.0.clock st.clocks a q) (sym line)
-            (subst (λ (b : ℕ). Reaches program.lines it.0.line it.0.clock st.clocks r.0 b) (sym clock) r.2);
+        reach = subst (λ (a : ℕ). Reaches program.schedule it.0.line it.0.clock st.clocks a q) (sym line)
+            (subst (λ (b : ℕ). Reaches program.schedule it.0.line it.0.clock st.clocks l' b) (sym clock) goes);
         shown = ap (λ (n : Next). shown_at n.emit st.clocks) (sym same) ∙ sym st.shows ∙ seen.2;
       }
 
@@ -157,15 +161,15 @@ module _ (image : Flash) (program : Program) (fits : ProgramFits program) (nodes
       ap (λ b. if b then flat_map (entries program) t.next.out.items else map (widened program) t.next.out.items) back in
       t.follow e (subst (λ l. Among l e) (sym here) (in_first (entries program) t.next.out.items end e out entry))
 
-  -- an instance that passes the program.fall of a line
+  -- an instance that passes the program.schedule.fall of a line
   pub record Falls (l : ℕ) : Type 0 where
     pub x : Instance
     pub node : Among nodes x
     pub apart : x.kind ≢ Main
     pub k : ℕ
     pub some : 1 ≤ k
-    pub few : k ≤ most_clocks x (treated x node).next.out.items
-    pub reach : Reaches program.lines x.line x.clock k l program.fall
+    pub few : k ≤ most_clocks program x (treated x node).next.out.items
+    pub reach : Reaches program.schedule x.line x.clock k l program.schedule.fall
 
   -- a fact of instances that steps outside main keep
   pub record Kept (G : Instance → Type 0) : Type 0 where
@@ -174,39 +178,40 @@ module _ (image : Flash) (program : Program) (fits : ProgramFits program) (nodes
     pub entry : (x : Instance) (node : Among nodes x) → x.kind ≢ Main → (end e : Instance) → (treated x node).next.back ≡ true
         → slice_get (treated x node).next.out.items 0 ≡ Some end → Among (entries program end) e → G x → G e
 
-  -- from each instance a way leads past the next program.fall
+  -- from each instance a way leads past the next program.schedule.fall
   pub next_fall : (G : Instance → Type 0) → Kept G → (n : ℕ) (x : Instance) → Among nodes x → x.kind ≢ Main → G x → (d l : ℕ) → 1 ≤ d
-      → d ≤ n → d ≤ 1820 → Reaches program.lines x.line x.clock d l program.fall → (f : Falls l) × G f.x
-  next_fall G kept zero x node apart good d l some le most reach = absurd (omega arith)
-  next_fall G kept (suc n) x node apart good d l some le most reach = ⊎_elim
-      (λ (short : most_clocks x t.next.out.items < d). ⊎_elim
+      → d ≤ n → Reaches program.schedule x.line x.clock d l program.schedule.fall → (f : Falls l) × G f.x
+  next_fall G kept zero x node apart good d l some le reach = absurd (omega arith)
+  next_fall G kept (suc n) x node apart good d l some le reach = ⊎_elim
+      (λ (short : most_clocks program x t.next.out.items < d). ⊎_elim
       (λ (back : t.next.back ≡ true).
       let leave = o.leaves back in
       let time : leave.0 ≡ c = o.at_end leave.0 Leave y leave.1 y_there in
       let shows : shown_at t.next.emit c ≡ Some Leave = shown_here t.next.emit c Leave (leave.1 ∙ ap (λ k. Some (k, Leave)) time) in
-      let above : program.fall ≤ y.clock = cl.above y.line y.clock c Leave mv.some few mv.goes shows in
-      let left = reaches_less program.lines x.line x.clock c y.line y.clock d l program.fall mv.goes reach (omega (arith, few, short)) in
+      let above : program.schedule.fall ≤ y.clock = cl.above y.line y.clock c Leave mv.some few mv.goes shows in
+      let left = reaches_less program.schedule x.line x.clock c y.line y.clock d l program.schedule.fall mv.goes reach
+      (omega (arith, few, short)) in
       let entry = some_entry program y in
       let before = entry_place program y entry.0 (entered x node back) (result_line x node apart y y_there) entry.1 in
       let below : d - c ≤ n = omega (arith, mv.some, le) in
       let place = late y.line y.clock (d - c) l entry.0.line (omega (arith, few, short)) mv.goes.0 left above before.1 in
       next_fall G kept n entry.0 (entry_there x node y entry.0 back o.out.1 entry.1) before.0.apart
-      (kept.entry x node apart y entry.0 back o.out.1 entry.1 good) (program.fall - entry.0.clock) l
-      (let h = before.0.clock in omega (arith, h)) (let h = place.1 in omega (arith, h, below)) (let f = fits.fall_in_line in
-      omega (arith, f))
-      (fits.fall_in_line, inl (place.0, (let h = before.0.clock in omega (arith, h)))))
+      (kept.entry x node apart y entry.0 back o.out.1 entry.1 good) (program.schedule.fall - entry.0.clock) l
+      (let h = before.0.clock in omega (arith, h)) (let h = place.1 in omega (arith, h, below))
+      (fits.fall_in_line l, inl (place.0, (let h = before.0.clock in omega (arith, h)))))
       (λ (back : t.next.back ≡ false).
       let z = widened program y in
       let same = widened_place program y in
-      let left = reaches_less program.lines x.line x.clock c y.line y.clock d l program.fall mv.goes reach (omega (arith, few, short)) in
+      let left = reaches_less program.schedule x.line x.clock c y.line y.clock d l program.schedule.fall mv.goes reach
+      (omega (arith, few, short)) in
       let apart' : z.kind ≢ Main = λ h. mv.apart (sym same.kind ∙ h) in
       next_fall G kept n z (result_there x node y back y_there) apart' (kept.result x node apart y back y_there good) (d - c) l
-      (omega (arith, few, short)) (omega (arith, mv.some, le)) (omega arith)
-      (subst (λ (a : ℕ). Reaches program.lines a z.clock (d - c) l program.fall) (sym same.line)
-      (subst (λ (b : ℕ). Reaches program.lines y.line b (d - c) l program.fall) (sym same.clock) left)))
+      (omega (arith, few, short)) (omega (arith, mv.some, le))
+      (subst (λ (a : ℕ). Reaches program.schedule a z.clock (d - c) l program.schedule.fall) (sym same.line)
+      (subst (λ (b : ℕ). Reaches program.schedule y.line b (d - c) l program.schedule.fall) (sym same.clock) left)))
       (bool_cases t.next.back))
       (λ long. (record { x = x; node = node; apart = apart; k = d; some = some; few = long; reach = reach }, good))
-      (cases_lt (most_clocks x t.next.out.items) d)
+      (cases_lt (most_clocks program x t.next.out.items) d)
     where
       t : Treated image program nodes marks returns x
       t = treated x node
@@ -227,34 +232,35 @@ module _ (image : Flash) (program : Program) (fits : ProgramFits program) (nodes
       mv = o.moves y y_there
 
       c : ℕ
-      c = clocks_between x y
+      c = clocks_between program x y
 
-      few : c ≤ most_clocks x t.next.out.items
-      few = clocks_few x t.next.out.items 0 y o.out.1
+      few : c ≤ most_clocks program x t.next.out.items
+      few = clocks_few program x t.next.out.items 0 y o.out.1
 
-      late : (line clock j l line' : ℕ) → 1 ≤ j → clock < 1820 → Reaches program.lines line clock j l program.fall → program.fall ≤ clock
-          → IsNext program.lines line line' → (l ≡ line') × (program.fall ≤ j)
+      late : (line clock j l line' : ℕ) → 1 ≤ j → clock < length_of program.schedule line
+          → Reaches program.schedule line clock j l program.schedule.fall → program.schedule.fall ≤ clock
+          → IsNext program.schedule line line' → (l ≡ line') × (program.schedule.fall ≤ j)
       late line clock j l line' pos in_line (h, inl a) above next = absurd (omega (arith, a.1))
       late line clock j l line' pos in_line (h, inr a) above next = (
-        one_next program.lines line l line' a.0 next,
+        one_next program.schedule line l line' a.0 next,
         omega (arith, a.1, h, in_line),
       )
 
-  -- an instance at the program.fall of a line, after the instruction that shows it
+  -- an instance at the program.schedule.fall of a line, after the instruction that shows it
   pub record FallNode (l : ℕ) : Type 0 where
     pub x : Instance
     pub node : Among nodes x
     pub apart : x.kind ≢ Main
     pub line : x.line ≡ l
-    pub clock : x.clock ≡ program.fall
+    pub clock : x.clock ≡ program.schedule.fall
     pub level : x.level ≡ 0
 
-  -- the program.fall is shown where it is passed
-  pub falls_shown : (l : ℕ) → Falls l → Seen marks (at l program.fall) (Some (Sync 0))
+  -- the program.schedule.fall is shown where it is passed
+  pub falls_shown : (l : ℕ) → Falls l → Seen marks (at l program.schedule.fall) (Some (Sync 0))
   falls_shown l f =
       let t = treated f.x f.node in
       let shown = (cleared f.x f.node f.apart).falls l f.k f.some f.few f.reach in
-      subst (Seen marks (at l program.fall)) shown (seen_at f.x f.node f.apart f.k l program.fall f.some f.few f.reach)
+      subst (Seen marks (at l program.schedule.fall)) shown (seen_at f.x f.node f.apart f.k l program.schedule.fall f.some f.few f.reach)
 
   sync_no_leave : (v : ℕ) → Sync v ≡ Leave → ⊥
   sync_no_leave v h = cc
@@ -269,8 +275,9 @@ module _ (image : Flash) (program : Program) (fits : ProgramFits program) (nodes
       let there : Among t.next.out.items y = (0, o.out.1) in
       let time = o.at_end f.k (Sync 0) y emit there in
       let mv = o.moves y there in
-      let one = reaches_one program.lines f.x.line f.x.clock (clocks_between f.x y) y.line y.clock l program.fall mv.goes
-      (subst (λ k. Reaches program.lines f.x.line f.x.clock k l program.fall) time f.reach) in
+      let one = reaches_one program.schedule f.x.line f.x.clock (clocks_between program f.x y) y.line y.clock l program.schedule.fall
+      mv.goes
+      (subst (λ k. Reaches program.schedule f.x.line f.x.clock k l program.schedule.fall) time f.reach) in
       let back : t.next.back ≡ false = ⊎_elim
       (λ h. let leave = o.leaves h in absurd (sync_no_leave 0 (one_emit t.next.emit f.k leave.0 (Sync 0) Leave emit leave.1).1))
       (λ h. h) (bool_cases t.next.back) in
@@ -288,35 +295,36 @@ module _ (image : Flash) (program : Program) (fits : ProgramFits program) (nodes
   any_kept = record { result = λ x node apart y back out good. tt; entry = λ x node apart end e back out entry good. tt }
 
   -- each line falls
-  pub each_falls : (l : ℕ) → l < program.lines → Falls l
+  pub each_falls : (l : ℕ) → l < lines_of program → Falls l
   each_falls zero below =
       let b = fits.begins in
       let node = s.started b.0 b.1 in
       let before = start_place program fits b.0 b.1 b.2 in
       let h = before.0.clock in
-      let f = fits.fall_in_line in
-      (next_fall (λ x. Unit {0}) any_kept 1820 b.0 node b.2 tt (program.fall - b.0.clock) 0 (omega (arith, h)) (omega (arith, f))
-      (omega (arith, f)) (f, inl (sym before.1, omega (arith, h)))).0
+      (next_fall (λ x. Unit {0}) any_kept program.schedule.fall b.0 node b.2 tt (program.schedule.fall - b.0.clock) 0 (omega (arith, h))
+      (omega arith) (fits.fall_in_line 0, inl (sym before.1, omega (arith, h)))).0
   each_falls (suc l) below =
       let n = fall_node l (each_falls l (omega arith)) in
       let line = n.line in
       let clock = n.clock in
-      (next_fall (λ x. Unit {0}) any_kept 1820 n.x n.node n.apart tt 1820 (suc l) (omega arith) (omega arith) (omega arith)
-      (fits.fall_in_line, inr (inr (omega (arith, line), ap suc (sym line)), omega (arith, clock)))).0
+      let long : ℕ = length_of program.schedule n.x.line in
+      (next_fall (λ x. Unit {0}) any_kept long n.x n.node n.apart tt long (suc l) (let some = length_some program fits n.x.line in
+      omega (arith, some)) (omega arith)
+      (fits.fall_in_line (suc l), inr (inr (omega (arith, line), ap suc (sym line)), omega (arith, clock)))).0
 
-  -- the schedule is steady: at the program.fall of each line stands sync 0, nothing stands before it, and no other sync 0
-  pub steady_first : (l : ℕ) → l < program.lines → Seen marks (at l program.fall) (Some (Sync 0))
+  -- the schedule is steady: at the program.schedule.fall of each line stands sync 0, nothing stands before it, and no other sync 0
+  pub steady_first : (l : ℕ) → l < lines_of program → Seen marks (at l program.schedule.fall) (Some (Sync 0))
   steady_first l below = falls_shown l (each_falls l below)
 
-  pub steady_above : (l q : ℕ) (e : EventKind) → q < 1820 → Seen marks (at l q) (Some e) → program.fall ≤ q
+  pub steady_above : (l q : ℕ) (e : EventKind) → q < length_of program.schedule l → Seen marks (at l q) (Some e) → program.schedule.fall ≤ q
   steady_above l q e in_line seen =
       let h = who l q e in_line seen in (cleared h.x h.node h.apart).above l q h.k e h.some h.few h.reach h.shown
 
-  pub steady_once : (l q : ℕ) → q < 1820 → Seen marks (at l q) (Some (Sync 0)) → q ≡ program.fall
+  pub steady_once : (l q : ℕ) → q < length_of program.schedule l → Seen marks (at l q) (Some (Sync 0)) → q ≡ program.schedule.fall
   steady_once l q in_line seen =
       let h = who l q (Sync 0) in_line seen in (cleared h.x h.node h.apart).once l q h.k h.some h.few h.reach h.shown
 
-  -- a return that is noted leaves at its clock, after the program.fall
+  -- a return that is noted leaves at its clock, after the program.schedule.fall
   pub record LeavesAt (l : ℕ) (r : Return) : Type 0 where
     pub x : Instance
     pub end : Instance
@@ -326,9 +334,9 @@ module _ (image : Flash) (program : Program) (fits : ProgramFits program) (nodes
     pub line : l ≡ end.line
     pub clock : r.clock ≡ end.clock
     pub cells : r.cells ≡ end.cells
-    pub in_line : r.clock < 1820
+    pub in_line : r.clock < length_of program.schedule l
     pub seen : Seen marks (at l r.clock) (Some Leave)
-    pub after : program.fall < r.clock
+    pub after : program.schedule.fall < r.clock
 
   pub leaves_at : (l : ℕ) (r : Return) → ReturnAt returns l r → LeavesAt l r
   leaves_at l r h =
@@ -345,18 +353,18 @@ module _ (image : Flash) (program : Program) (fits : ProgramFits program) (nodes
       let o = owed x node apart in
       let cl = cleared x node apart in
       let mv = o.moves end (0, out) in
-      let few = clocks_few x t.next.out.items 0 end out in
+      let few = clocks_few program x t.next.out.items 0 end out in
       let leave = o.leaves back in
       let time = o.at_end leave.0 Leave end leave.1 (0, out) in
-      let shows : shown_at t.next.emit (clocks_between x end) ≡ Some Leave =
-      shown_here t.next.emit (clocks_between x end) Leave (leave.1 ∙ ap (λ k. Some (k, Leave)) time) in
-      let above = cl.above end.line end.clock (clocks_between x end) Leave mv.some few mv.goes shows in
-      let not_fall : program.fall ≢ end.clock = λ e.
-      let f = cl.falls end.line (clocks_between x end) mv.some few
-      (subst (λ q. Reaches program.lines x.line x.clock (clocks_between x end) end.line q) (sym e) mv.goes) in
+      let shows : shown_at t.next.emit (clocks_between program x end) ≡ Some Leave =
+      shown_here t.next.emit (clocks_between program x end) Leave (leave.1 ∙ ap (λ k. Some (k, Leave)) time) in
+      let above = cl.above end.line end.clock (clocks_between program x end) Leave mv.some few mv.goes shows in
+      let not_fall : program.schedule.fall ≢ end.clock = λ e.
+      let f = cl.falls end.line (clocks_between program x end) mv.some few
+      (subst (λ q. Reaches program.schedule x.line x.clock (clocks_between program x end) end.line q) (sym e) mv.goes) in
       sync_no_leave 0 (some_is (Sync 0) Leave (sym f ∙ shows)) in
-      let seen = subst (Seen marks (at end.line end.clock)) shows (seen_at x node apart (clocks_between x end) end.line end.clock mv.some
-      few mv.goes) in
+      let seen = subst (Seen marks (at end.line end.clock)) shows (seen_at x node apart (clocks_between program x end) end.line end.clock
+      mv.some few mv.goes) in
       record {
         x = x;
         end = end;
@@ -366,7 +374,8 @@ module _ (image : Flash) (program : Program) (fits : ProgramFits program) (nodes
         line = it.4;
         clock = it.5.0;
         cells = it.5.1;
-        in_line = subst (λ q. q < 1820) (sym it.5.0) mv.goes.0;
+        in_line = subst (λ a. r.clock < length_of program.schedule a) (sym it.4)
+            (subst (λ q. q < length_of program.schedule end.line) (sym it.5.0) mv.goes.0);
         seen = subst (λ q. Seen marks (at l q) (Some Leave)) (sym it.5.0) (subst (λ a. Seen marks (at a end.clock) (Some Leave)) (sym it.4)
             seen);
         after = let e = it.5.0 in omega (arith, above, not_fall, e);
@@ -374,8 +383,8 @@ module _ (image : Flash) (program : Program) (fits : ProgramFits program) (nodes
 
   -- an instance that does not return shows no leave
   no_leave : (x : Instance) (node : Among nodes x) → x.kind ≢ Main → (k l q : ℕ) → (treated x node).next.back ≡ false → 1 ≤ k
-      → k ≤ most_clocks x (treated x node).next.out.items
-      → Reaches program.lines x.line x.clock k l q → Seen marks (at l q) (Some Leave) → ⊥
+      → k ≤ most_clocks program x (treated x node).next.out.items
+      → Reaches program.schedule x.line x.clock k l q → Seen marks (at l q) (Some Leave) → ⊥
   no_leave x node apart k l q back some few reach seen =
       let t = treated x node in
       let shows = seen_once marks (at l q) (shown_at t.next.emit k) (Some Leave) (seen_at x node apart k l q some few reach) seen in
@@ -422,15 +431,15 @@ module _ (image : Flash) (program : Program) (fits : ProgramFits program) (nodes
         (λ (x_apart : x.kind ≢ Main).
         let o = owed x e.node x_apart in
         let mv = o.moves z z_there in
-        let few = clocks_few x t.next.out.items mapped.0 z from.1 in
+        let few = clocks_few program x t.next.out.items mapped.0 z from.1 in
         let at_z : ReturnAt returns z.line r = subst (λ l. ReturnAt returns l r) line at_r in
         let leave = leaves_at z.line r at_z in
         subst (λ q. q < r.clock) (sym clock) (⊎_elim (λ lt. lt)
         (λ (late : r.clock ≤ z.clock).
-        let b = reaches_back program.lines x.line x.clock (clocks_between x z) z.line z.clock r.clock mv.goes late (stands x e.node).line
+        let b = reaches_back program.schedule x.line x.clock (clocks_between program x z) z.line z.clock r.clock mv.goes late
         (stands x e.node).clock
         (λ on. e.early x_apart r (subst (λ l. ReturnAt returns l r) on at_z)) in
-        absurd (no_leave x e.node x_apart (clocks_between x z - (z.clock - r.clock)) z.line r.clock back b.0 (let le = b.1 in
+        absurd (no_leave x e.node x_apart (clocks_between program x z - (z.clock - r.clock)) z.line r.clock back b.0 (let le = b.1 in
         omega (arith, le, few)) b.2 leave.seen))
         (cases_lt z.clock r.clock)))
         (kind_cases x.kind))
@@ -444,14 +453,13 @@ module _ (image : Flash) (program : Program) (fits : ProgramFits program) (nodes
   early_all x node = tree_all image program Early early_start early_more nodes parents s.tree x node
 
   -- nothing stands after a return on its line
-  pub quiet_after : (l : ℕ) (r : Return) (q : ℕ) (e : EventKind) → ReturnAt returns l r → r.clock < q → q < 1820 → Seen marks (at l q)
-      (Some e) → ⊥
+  pub quiet_after : (l : ℕ) (r : Return) (q : ℕ) (e : EventKind) → ReturnAt returns l r → r.clock < q → q < length_of program.schedule l
+      → Seen marks (at l q) (Some e) → ⊥
   quiet_after l r q e at_r after in_line seen =
       let h = who l q e in_line seen in
       let t = treated h.x h.node in
       let leave = leaves_at l r at_r in
-      let b = reaches_back program.lines h.x.line h.x.clock h.k l q r.clock h.reach (omega arith) (stands h.x h.node).line
-      (stands h.x h.node).clock
+      let b = reaches_back program.schedule h.x.line h.x.clock h.k l q r.clock h.reach (omega arith) (stands h.x h.node).clock
       (λ on. (early_all h.x h.node).early h.apart r (subst (λ a. ReturnAt returns a r) on at_r)) in
       let few' = h.few in
       let le = b.1 in

@@ -4,10 +4,9 @@ use Rattle.std.proofs.Common.{if◌then◌else◌, ◌==◌}
 use Rattle.std.proofs.Math.Nat.{mod-eq_of_lt}
 use Rattle.std.specs.Prelude.{unwrap_or}
 use Rattle.uz_schedule.specs.Instances.{handler_entry, level_or_zero, rest_instance}
-use Rattle.uz_schedule.specs.Schedule.{next_line, level_at, response_clocks}
-use Rattle.uz_schedule.specs.Schedule.{frame_of as frame_of_schedule}
+use Rattle.uz_schedule.specs.Schedule.{length_of, start_of, frame_of, next_line, level_at, response_clocks}
 use Rattle.uz_schedule.proofs.Modulo.{level_mod}
-use Rattle.uz_schedule.proofs.Starts.{start_is}
+use Rattle.uz_schedule.proofs.Starts.{place_below}
 use Rattle.uz_schedule.specs.declared.header.Head.{Head}
 use Rattle.uz_schedule.specs.Ends.{Ends}
 use Rattle.uz_schedule.specs.declared.kinds.Kind.TheVariants.{Main}
@@ -17,7 +16,7 @@ use Rattle.uz_rules.specs.declared.next.Next.{Next}
 use Rattle.uz_rules.specs.EdgeRule.{position_of}
 use Rattle.uz_search.specs.declared.program.Program.{Program}
 use Rattle.uz_search.specs.Fitting.{ProgramFits}
-use Rattle.uz_search.specs.Following.{Among, entries, entry_at, frame_of}
+use Rattle.uz_search.specs.Following.{Among, entries, entry_at, lines_of}
 use Rattle.uz_search.specs.Searching.{Treated}
 use Rattle.uz_search.proofs.FramePlaces.{at, next_is, next_below, IsNext}
 use Rattle.uz_search.proofs.Lists.{kind_cases}
@@ -26,23 +25,27 @@ use Rattle.uz_search_laws.specs.Complete.{EndedFallsOnce, EndedLevelsFit, EndedR
 use Rattle.uz_search_laws.proofs.Closing.{shown_is}
 use Rattle.uz_search_laws.proofs.Coverage as cover
 use Rattle.uz_search_laws.proofs.Levels as levels
-use Rattle.uz_search_laws.proofs.ScheduleOf.{frame_is, event_on, level_is, seen_shows, shown_seen, none_shown}
+use Rattle.uz_search_laws.proofs.ScheduleOf.{start_same, frame_same, event_on, level_is, seen_shows, shown_seen, none_shown}
 
-lines_some : (program : Program) → ProgramFits program → 0 < frame_of program
-lines_some program fits = let some = fits.some in omega (arith, some)
+frame_some : (program : Program) → ProgramFits program → 0 < frame_of program.schedule
+frame_some program fits =
+    let big = place_below program.schedule 0 program.schedule.fall fits.some (fits.fall_in_line 0) in omega (arith, big)
 
 pub falls_once : EndedFallsOnce
 falls_once image p found s fits ended of = record {
-  first = λ l below. event_on p found.marks.items s of l p.fall below fits.fall_in_line ∙ seen_shows found.marks.items (at l p.fall)
-      (Some (Sync 0)) (cover.steady_first image p fits found.nodes.keys found.parents.items found.marks.items found.returns.items ended l
-      below);
+  first = λ l below. event_on p found.marks.items s of l p.schedule.fall below (fits.fall_in_line l)
+      ∙ seen_shows found.marks.items (at l p.schedule.fall) (Some (Sync 0)) (cover.steady_first image p fits found.nodes.keys
+      found.parents.items found.marks.items found.returns.items ended l below);
   above = λ l k e below in_line shown. cover.steady_above image p fits found.nodes.keys found.parents.items found.marks.items
-      found.returns.items ended l k e in_line
-      (shown_seen found.marks.items (at l k) e (sym (event_on p found.marks.items s of l k below in_line) ∙ shown));
+      found.returns.items ended l k e (inside l k in_line)
+      (shown_seen found.marks.items (at l k) e (sym (of.events l k below in_line) ∙ shown));
   once = λ l k below in_line shown. cover.steady_once image p fits found.nodes.keys found.parents.items found.marks.items
-      found.returns.items ended l k in_line
-      (shown_seen found.marks.items (at l k) (Sync 0) (sym (event_on p found.marks.items s of l k below in_line) ∙ shown));
+      found.returns.items ended l k (inside l k in_line)
+      (shown_seen found.marks.items (at l k) (Sync 0) (sym (of.events l k below in_line) ∙ shown));
 }
+  where
+    inside : (l k : ℕ) → k < length_of s l → k < length_of p.schedule l
+    inside l k in_line = subst (λ n. k < n) (of.lengths l) in_line
 
 -- a mark is shown by an instance, and a level that is shown turns the one before it
 pub levels_fit : EndedLevelsFit
@@ -63,15 +66,15 @@ levels_fit image p found y v m fits ended marked is =
 
 pub rests_are_quiet : EndedRestsAreQuiet
 rests_are_quiet image p found s l r fits ended of below noted = record {
-  in_line = leave.in_line;
+  in_line = subst (λ n. r.clock < n) (sym (of.lengths l)) leave.in_line;
   leave = event_on p found.marks.items s of l r.clock below leave.in_line ∙ seen_shows found.marks.items (at l r.clock) (Some Leave)
       leave.seen;
-  quiet = λ k after in_line. event_on p found.marks.items s of l k below in_line
+  quiet = λ k after in_line. of.events l k below in_line
       ∙ none_shown found.marks.items (at l k) (λ e seen. cover.quiet_after image p fits found.nodes.keys found.parents.items
-      found.marks.items found.returns.items ended l r k e noted after in_line seen);
+      found.marks.items found.returns.items ended l r k e noted after (subst (λ n. k < n) (of.lengths l) in_line) seen);
   quiet_next = λ k few.
-      let early : k < p.fall = omega (arith, few, entered) in
-      let in_line : k < 1820 = (let f = fits.fall_in_line in omega (arith, f, early)) in
+      let early : k < p.schedule.fall = omega (arith, few, entered) in
+      let in_line : k < length_of p.schedule next = (let f = fits.fall_in_line next in omega (arith, f, early)) in
       event_on p found.marks.items s of next k next_below' in_line
       ∙ none_shown found.marks.items (at next k) (λ e seen.
       let above = cover.steady_above image p fits found.nodes.keys found.parents.items found.marks.items found.returns.items ended next k e
@@ -81,16 +84,16 @@ rests_are_quiet image p found s l r fits ended of below noted = record {
     leave : cover.LeavesAt image p fits found.nodes.keys found.parents.items found.marks.items found.returns.items ended l r
     leave = cover.leaves_at image p fits found.nodes.keys found.parents.items found.marks.items found.returns.items ended l r noted
 
-    entered : response_clocks p.head.irq + 3 < p.fall
+    entered : response_clocks p.head.irq + 3 < p.schedule.fall
     entered = cover.entered image p fits found.nodes.keys found.parents.items found.marks.items found.returns.items ended leave.x leave.node
         leave.back
 
     next : ℕ
     next = next_line s l
 
-    next_below' : next < p.lines
-    next_below' = next_below p.lines l next below (subst (λ n. IsNext p.lines l (if suc l == n then 0 else suc l)) (sym of.lines)
-        (next_is p.lines l below))
+    next_below' : next < lines_of p
+    next_below' = next_below p.schedule l next below (subst (λ n. IsNext p.schedule l (if suc l == n then 0 else suc l)) (sym of.lines)
+        (next_is p.schedule l below))
 
 pub levels_are : EndedLevels
 levels_are image p found s x fits ended of node = ⊎_elim
@@ -99,30 +102,29 @@ levels_are image p found s x fits ended of node = ⊎_elim
     let place = stands.main main in
     let f = levels.first_level image p fits found.nodes.keys found.parents.items found.marks.items found.returns.items ended 0
     fits.fall_some in
-    let level : levels.LevelIs (frame_of p) found.marks.items f.p x.level =
-    subst (λ (v : ℕ). levels.LevelIs (frame_of p) found.marks.items f.p v)
+    let level : levels.LevelIs p.schedule found.marks.items f.p x.level =
+    subst (λ (v : ℕ). levels.LevelIs p.schedule found.marks.items f.p v)
     (sym (levels.main_all image p fits found.nodes.keys found.parents.items found.marks.items found.returns.items ended x node main))
     f.level in
-    let zero_place : f.p % frame_of p ≡ at 0 0 = f.place in
-    at_place f.p level (zero_place ∙ ap (λ l. at l 0) (sym place.0) ∙ ap (at x.line) (sym place.1)))
+    let start : start_of p.schedule 0 ≡ start_of p.schedule x.line = ap (start_of p.schedule) (sym place.0) in
+    let clock = place.1 in
+    at_place f.p level (f.place ∙ omega (arith, start, clock)))
     (λ (apart : x.kind ≢ Main).
     let g = levels.good_all image p fits found.nodes.keys found.parents.items found.marks.items found.returns.items ended x node apart in
     at_place g.p g.level g.at)
     (kind_cases x.kind)
   where
-    at_place : (n : ℕ) → levels.LevelIs (frame_of p) found.marks.items n x.level → n % frame_of p ≡ at x.line x.clock
+    at_place : (n : ℕ) → levels.LevelIs p.schedule found.marks.items n x.level → n % frame_of p.schedule ≡ position_of p.schedule x
         → level_at s (position_of s x) ≡ Some x.level
     at_place n level place =
         let stands = cover.stands image p fits found.nodes.keys found.parents.items found.marks.items found.returns.items ended x node in
-        let line = stands.line in
-        let clock = stands.clock in
-        let start = start_is s x.line in
-        let here : position_of s x ≡ at x.line x.clock = omega (arith, start) in
-        let below : at x.line x.clock < frame_of p = omega (arith, line, clock) in
-        let round : n % frame_of_schedule s ≡ position_of s x % frame_of_schedule s =
-        ap (λ f. n % f) (frame_is p found.marks.items s of) ∙ place ∙ sym (mod-eq_of_lt below) ∙ ap (λ y. y % frame_of p) (sym here)
-        ∙ ap (λ f. position_of s x % f) (sym (frame_is p found.marks.items s of)) in
-        level_mod s (position_of s x) n (sym round) ∙ level_is p found.marks.items s of n x.level (lines_some p fits) level
+        let same = frame_same p found.marks.items s of in
+        let here : position_of s x ≡ position_of p.schedule x = ap (λ m. m + x.clock) (start_same p found.marks.items s of x.line) in
+        let below : position_of p.schedule x < frame_of p.schedule = place_below p.schedule x.line x.clock stands.line stands.clock in
+        let round : n % frame_of s ≡ position_of s x % frame_of s =
+        ap (λ f. n % f) same ∙ place ∙ sym (mod-eq_of_lt below) ∙ ap (λ y. y % frame_of p.schedule) (sym here)
+        ∙ ap (λ f. position_of s x % f) (sym same) in
+        level_mod s (position_of s x) n (sym round) ∙ level_is p found.marks.items s of n x.level (frame_some p fits) level
 
 -- The handler's first state after a rest
 
@@ -150,7 +152,8 @@ rests_enter image p found cert rest r c fits ended head of noted cells few = sub
         leave.node leave.end e leave.back leave.out (among c few)
 
     line : next_line cert.schedule rest.line ≡ e.line
-    line = ap (λ n. if suc rest.line == n then 0 else suc rest.line) of.lines ∙ ap (λ l. if suc l == p.lines then 0 else suc l) leave.line
+    line = ap (λ n. if suc rest.line == n then 0 else suc rest.line) of.lines
+        ∙ ap (λ l. if suc l == lines_of p then 0 else suc l) leave.line
 
     clock : c + response_clocks cert.head.irq ≡ e.clock
     clock = ap (λ (h : Head). c + response_clocks h.irq) head

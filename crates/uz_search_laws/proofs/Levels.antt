@@ -4,20 +4,24 @@ use Rattle.std.proofs.Common.{◌∙◌, subst, inl, inr, ⊎_elim, length, slic
 use Rattle.std.specs.List.{flat_map}
 use Rattle.std.proofs.lemmas.Bool.{cases_lt}
 use Rattle.std.proofs.Math.Nat.{mod-add-mod, mod-eq_of_lt, mod-lt, add-mod_right}
+use Rattle.uz_schedule.specs.Schedule.{length_of, start_of, frame_of}
+use Rattle.uz_schedule.proofs.Starts.{place_below}
+use Rattle.uz_schedule.specs.declared.lines.Schedule.{Schedule}
 use Rattle.uz_schedule.specs.declared.states.Instance.{Instance}
 use Rattle.uz_schedule.specs.declared.kinds.Kind.TheVariants.{Main}
 use Rattle.uz_schedule.specs.declared.lines.EventKind.{EventKind}
 use Rattle.uz_schedule.specs.declared.lines.EventKind.TheVariants.{Sync, Pixel, Sound, Leave}
+use Rattle.uz_rules.specs.EdgeRule.{position_of}
 use Rattle.uz_search.specs.declared.marks.Mark.{Mark}
 use Rattle.uz_search.specs.declared.program.Program.{Program}
 use Rattle.uz_search.specs.declared.returns.Return.{Return}
 use Rattle.uz_search.specs.Fitting.{ProgramFits}
-use Rattle.uz_search.specs.Following.{Among, Flash, Follows, entries, frame_of, most_clocks, clocks_between, shown_at, place_of}
+use Rattle.uz_search.specs.Following.{Among, Flash, Follows, entries, lines_of, line_on, clock_on, most_clocks, clocks_between, shown_at}
 use Rattle.uz_search.specs.Marking.{Seen}
 use Rattle.uz_search.specs.Returning.{Noted}
 use Rattle.uz_search.specs.Searching.{IsSearch, Treated}
 use Rattle.uz_search.specs.Widenings.{widened}
-use Rattle.uz_search.proofs.FramePlaces.{IsNext, Reaches, at, reaches_at, line_below, next_below}
+use Rattle.uz_search.proofs.FramePlaces.{IsNext, Reaches, at, length_some}
 use Rattle.uz_search.proofs.Lists.{kind_cases, bool_cases, of_map, of_flat}
 use Rattle.uz_search.proofs.Results.{Moves}
 use Rattle.uz_search.proofs.SearchingLemmas.{tree_all}
@@ -25,19 +29,29 @@ use Rattle.uz_search.proofs.WidenedLaws.{widened_place}
 use Rattle.uz_search_laws.proofs.NodeLaws.{Owes, Before, entry_place, start_place}
 use Rattle.uz_search_laws.proofs.Closing.{seen_once, shown_is, shown_here, one_emit, clocks_few}
 use Rattle.uz_search_laws.proofs.Coverage as cover
+use Rattle.uz_search_laws.proofs.Positions.{one_place, reach_position}
+
+-- at this clock, counted without end, sync v is marked: at the clock of a line that it is, round the frame
+pub record SyncAt (s : Schedule) (marks : List (Option Mark)) (p v : ℕ) : Type 0 where
+  pub line : ℕ
+  pub clock : ℕ
+  pub below : line < length s.lines
+  pub in_line : clock < length_of s line
+  pub place : p % frame_of s ≡ start_of s line + clock
+  pub seen : Seen marks (at line clock) (Some (Sync v))
 
 -- at this clock, counted without end, the level of sync is v: the last sync event at it or before it gave v
-pub record LevelIs (frame : ℕ) (marks : List (Option Mark)) (p v : ℕ) : Type 0 where
+pub record LevelIs (s : Schedule) (marks : List (Option Mark)) (p v : ℕ) : Type 0 where
   pub last : ℕ
   pub le : last ≤ p
-  pub sync : Seen marks (last % frame) (Some (Sync v))
-  pub quiet : (j : ℕ) → last < j → j ≤ p → (u : ℕ) → Seen marks (j % frame) (Some (Sync u)) → ⊥
+  pub sync : SyncAt s marks last v
+  pub quiet : (j : ℕ) → last < j → j ≤ p → (u : ℕ) → SyncAt s marks j u → ⊥
 
 -- the level at a position of the frame
-pub record LevelAt (frame : ℕ) (marks : List (Option Mark)) (place v : ℕ) : Type 0 where
+pub record LevelAt (s : Schedule) (marks : List (Option Mark)) (place v : ℕ) : Type 0 where
   pub p : ℕ
-  pub at : p % frame ≡ place
-  pub level : LevelIs frame marks p v
+  pub at : p % frame_of s ≡ place
+  pub level : LevelIs s marks p v
 
 pub emit_cases : (emit : Option (ℕ × EventKind)) → ((t : ℕ) × (v : ℕ) × (emit ≡ Some (t, Sync v)))
     ⊎ ((t v : ℕ) → emit ≡ Some (t, Sync v) → ⊥)
@@ -69,14 +83,14 @@ back_mod frame x n a some h le below =
 module _ (image : Flash) (program : Program) (fits : ProgramFits program) (nodes : List Instance) (parents : List (Option ℕ))
     (marks : List (Option Mark)) (returns : List (Option Return))
     (s : IsSearch image program nodes parents marks returns (length nodes)) where
-  abbrev pub SyncAt : ℕ → ℕ → Type 0
-  SyncAt p v = Seen marks (p % frame_of program) (Some (Sync v))
+  abbrev pub Syncs : ℕ → ℕ → Type 0
+  Syncs p v = SyncAt program.schedule marks p v
 
   abbrev pub NoSync : ℕ → Type 0
-  NoSync p = (v : ℕ) → SyncAt p v → ⊥
+  NoSync p = (v : ℕ) → Syncs p v → ⊥
 
   abbrev Level : ℕ → ℕ → Type 0
-  Level p v = LevelIs (frame_of program) marks p v
+  Level p v = LevelIs program.schedule marks p v
 
   level_more : (p g v : ℕ) → Level p v → ((k : ℕ) → 1 ≤ k → k ≤ g → NoSync (p + k)) → Level (p + g) v
   level_more p g v h quiet = record {
@@ -92,36 +106,56 @@ module _ (image : Flash) (program : Program) (fits : ProgramFits program) (nodes
 
   -- the level of an instance is the schedule's at its position
   abbrev pub Good : Instance → Type 0
-  Good x = LevelAt (frame_of program) marks (at x.line x.clock) x.level
+  Good x = LevelAt program.schedule marks (position_of program.schedule x) x.level
 
   abbrev T : (x : Instance) → Among nodes x → Treated image program nodes marks returns x
   T x node = cover.treated image program fits nodes parents marks returns s x node
 
-  seen_on : (x : Instance) (node : Among nodes x) → x.kind ≢ Main → (p k : ℕ) → p % frame_of program ≡ at x.line x.clock → 1 ≤ k
-      → k ≤ most_clocks x (T x node).next.out.items
-      → Seen marks ((p + k) % frame_of program) (shown_at (T x node).next.emit k)
-  seen_on x node apart p k place some few =
-      let e : (p + k) % frame_of program ≡ (place_of x + k) % frame_of program = sym (mod-add-mod p (frame_of program) k)
-      ∙ ap (λ (m : ℕ). (m + k) % frame_of program) place in
-      subst (λ m. Seen marks m (shown_at (T x node).next.emit k)) (sym e) ((T x node).seen apart k some few)
+  -- a sync event that is marked where an instance passes is what it shows
+  sync_shown : (x : Instance) (node : Among nodes x) → x.kind ≢ Main → (p k v : ℕ)
+      → p % frame_of program.schedule ≡ position_of program.schedule x → 1 ≤ k → k ≤ most_clocks program x (T x node).next.out.items
+      → Syncs (p + k) v → shown_at (T x node).next.emit k ≡ Some (Sync v)
+  sync_shown x node apart p k v place some few h =
+      let l : ℕ = line_on program x k in
+      let q : ℕ = clock_on program x k in
+      let goes = cover.passed image program fits nodes parents marks returns s x node apart k few in
+      let stands = cover.stands image program fits nodes parents marks returns s x node in
+      let there = reach_position program.schedule x.line x.clock k l q p stands.line goes place in
+      let one = one_place program.schedule h.line h.clock l q h.in_line goes.0 (sym h.place ∙ there) in
+      let same : at h.line h.clock ≡ at l q = ap (λ m. at m h.clock) one.0 ∙ ap (at l) one.1 in
+      seen_once marks (at l q) (shown_at (T x node).next.emit k) (Some (Sync v)) ((T x node).seen apart k some few)
+      (subst (λ m. Seen marks m (Some (Sync v))) same h.seen)
+
+  place_at_result : (x : Instance) (node : Among nodes x) → x.kind ≢ Main → (y : Instance) → Among (T x node).next.out.items y
+      → (g : Good x) → (g.p + clocks_between program x y) % frame_of program.schedule ≡ position_of program.schedule y
+  place_at_result x node apart y there g =
+      let mv = (cover.owed image program fits nodes parents marks returns s x node apart).moves y there in
+      reach_position program.schedule x.line x.clock (clocks_between program x y) y.line y.clock g.p
+      (cover.stands image program fits nodes parents marks returns s x node).line mv.goes g.at
 
   -- the level at a result
   level_at_result : (x : Instance) (node : Among nodes x) → x.kind ≢ Main → (i : ℕ) (y : Instance) → slice_get (T x node).next.out.items
-      i ≡ Some y → (g : Good x) → Level (g.p + clocks_between x y) y.level
+      i ≡ Some y → (g : Good x) → Level (g.p + clocks_between program x y) y.level
   level_at_result x node apart i y out g = ⊎_elim
       (λ sync.
       let v = sync.1 in
       let time : sync.0 ≡ c = o.at_end sync.0 (Sync v) y sync.2 there in
       let shows : shown_at t.next.emit c ≡ Some (Sync v) = shown_here t.next.emit c (Sync v) (sync.2 ∙ ap (λ k. Some (k, Sync v)) time) in
-      let here = subst (Seen marks ((g.p + c) % frame_of program)) shows (seen_on x node apart g.p c g.at mv.some few) in
+      let here : Syncs (g.p + c) v = record {
+        line = y.line;
+        clock = y.clock;
+        below = cover.result_line image program fits nodes parents marks returns s x node apart y there;
+        in_line = mv.goes.0;
+        place = place_at_result x node apart y there g;
+        seen = subst (Seen marks (at y.line y.clock)) shows
+            (cover.seen_at image program fits nodes parents marks returns s x node apart c y.line y.clock mv.some few mv.goes);
+      } in
       subst (Level (g.p + c)) (sym (o.syncs sync.0 v y sync.2 there).0)
       (record { last = g.p + c; le = omega arith; sync = here; quiet = λ j after le. absurd (omega (arith, after, le)) }))
       (λ none.
       subst (Level (g.p + c)) (sym (o.keeps none y there))
       (level_more g.p c x.level g.level (λ k some le v h.
-      let shows = seen_once marks ((g.p + k) % frame_of program) (shown_at t.next.emit k) (Some (Sync v))
-      (seen_on x node apart g.p k g.at some (omega (arith, le, few))) h in
-      none k v (shown_is t.next.emit k (Sync v) shows))))
+      none k v (shown_is t.next.emit k (Sync v) (sync_shown x node apart g.p k v g.at some (omega (arith, le, few)) h)))))
       (emit_cases t.next.emit)
     where
       t : Treated image program nodes marks returns x
@@ -137,39 +171,32 @@ module _ (image : Flash) (program : Program) (fits : ProgramFits program) (nodes
       mv = o.moves y there
 
       c : ℕ
-      c = clocks_between x y
+      c = clocks_between program x y
 
-      few : c ≤ most_clocks x t.next.out.items
-      few = clocks_few x t.next.out.items i y out
-
-  place_at_result : (x : Instance) (node : Among nodes x) → x.kind ≢ Main → (y : Instance) → Among (T x node).next.out.items y
-      → (g : Good x) → (g.p + clocks_between x y) % frame_of program ≡ at y.line y.clock
-  place_at_result x node apart y there g =
-      let o = cover.owed image program fits nodes parents marks returns s x node apart in
-      let mv = o.moves y there in
-      sym (mod-add-mod g.p (frame_of program) (clocks_between x y)) ∙ ap (λ (m : ℕ). (m + clocks_between x y) % frame_of program) g.at
-      ∙ ap (λ f. (place_of x + clocks_between x y) % f) refl
-      ∙ reaches_at program.lines x.line x.clock (clocks_between x y) y.line y.clock (cover.stands image program fits nodes parents marks
-      returns s x node).line mv.goes
+      few : c ≤ most_clocks program x t.next.out.items
+      few = clocks_few program x t.next.out.items i y out
 
   good_result : (x : Instance) (node : Among nodes x) → x.kind ≢ Main → (y : Instance) → Among (T x node).next.out.items y → Good x
       → Good (widened program y)
   good_result x node apart y there g =
       let same = widened_place program y in
       record {
-        p = g.p + clocks_between x y;
-        at = place_at_result x node apart y there g ∙ ap (λ (l : ℕ). 1820 * l + y.clock) (sym same.line)
-            ∙ ap (λ (q : ℕ). 1820 * (widened program y).line + q) (sym same.clock);
-        level = subst (Level (g.p + clocks_between x y)) (sym same.level) (level_at_result x node apart there.0 y there.1 g);
+        p = g.p + clocks_between program x y;
+        at = place_at_result x node apart y there g ∙ ap (λ (l : ℕ). start_of program.schedule l + y.clock) (sym same.line)
+            ∙ ap (λ (q : ℕ). start_of program.schedule (widened program y).line + q) (sym same.clock);
+        level = subst (Level (g.p + clocks_between program x y)) (sym same.level) (level_at_result x node apart there.0 y there.1 g);
       }
 
   -- a place of the frame where no sync is marked
-  no_sync_at : (p l q : ℕ) → p % frame_of program ≡ at l q → ((v : ℕ) → Seen marks (at l q) (Some (Sync v)) → ⊥) → NoSync p
-  no_sync_at p l q place none v h = none v (subst (λ m. Seen marks m (Some (Sync v))) place h)
+  no_sync_at : (p l q : ℕ) → q < length_of program.schedule l → p % frame_of program.schedule ≡ start_of program.schedule l + q
+      → ((v : ℕ) → Seen marks (at l q) (Some (Sync v)) → ⊥) → NoSync p
+  no_sync_at p l q in_line place none v h =
+      let one = one_place program.schedule h.line h.clock l q h.in_line in_line (sym h.place ∙ place) in
+      none v (subst (λ m. Seen marks m (Some (Sync v))) (ap (λ m. at m h.clock) one.0 ∙ ap (at l) one.1) h.seen)
 
-  early_quiet : (l q : ℕ) → q < program.fall → (v : ℕ) → Seen marks (at l q) (Some (Sync v)) → ⊥
+  early_quiet : (l q : ℕ) → q < program.schedule.fall → (v : ℕ) → Seen marks (at l q) (Some (Sync v)) → ⊥
   early_quiet l q below v h =
-      let f = fits.fall_in_line in
+      let f = fits.fall_in_line l in
       let a = cover.steady_above image program fits nodes parents marks returns s l q (Sync v) (omega (arith, f, below)) h in
       omega (arith, a, below)
 
@@ -177,23 +204,19 @@ module _ (image : Flash) (program : Program) (fits : ProgramFits program) (nodes
       → slice_get (T x node).next.out.items 0 ≡ Some end → Among (entries program end) e → Good x → Good e
   good_entry x node apart end e back out entry g = record {
     p = p + gap;
-    at = sym (mod-add-mod p (frame_of program) gap) ∙ ap (λ (m : ℕ). (m + gap) % frame_of program) place_end
-        ∙ ap (λ f. (place_of end + gap) % f) refl
-        ∙ reaches_at program.lines end.line end.clock gap e.line e.clock line_in reach;
+    at = step gap e.line e.clock reach;
     level = subst (Level (p + gap)) (sym law.2)
         (level_more p gap end.level (level_at_result x node apart 0 end out g) (λ k some le. ⊎_elim
-        (λ (on_line : end.clock + k < 1820).
-        let here : (p + k) % frame_of program ≡ at end.line (end.clock + k) = step k end.line (end.clock + k) (on_line, inl (refl, refl)) in
-        no_sync_at (p + k) end.line (end.clock + k) here (λ v h.
+        (λ (on_line : end.clock + k < long).
+        no_sync_at (p + k) end.line (end.clock + k) on_line (step k end.line (end.clock + k) (on_line, inl (refl, refl))) (λ v h.
         cover.quiet_after image program fits nodes parents marks returns s end.line noted.0 (end.clock + k) (Sync v) noted.1
         (let c = noted.2.0 in omega (arith, c, some)) on_line h))
-        (λ (past : 1820 ≤ end.clock + k).
-        let q : ℕ = end.clock + k - 1820 in
-        let below : q < program.fall = (let c = law.0.clock in let r = reach_is in omega (arith, c, r, le)) in
-        let f = fits.fall_in_line in
-        let here : (p + k) % frame_of program ≡ at e.line q = step k e.line q (omega (arith, below, f), inr (law.1, omega (arith, past))) in
-        no_sync_at (p + k) e.line q here (early_quiet e.line q below))
-        (cases_lt (end.clock + k) 1820)));
+        (λ (past : long ≤ end.clock + k).
+        let q : ℕ = end.clock + k - long in
+        let below : q < program.schedule.fall = (let c = law.0.clock in let r = reach_is in omega (arith, c, r, le)) in
+        let in_line : q < length_of program.schedule e.line = (let f = fits.fall_in_line e.line in omega (arith, below, f)) in
+        no_sync_at (p + k) e.line q in_line (step k e.line q (in_line, inr (law.1, omega (arith, past)))) (early_quiet e.line q below))
+        (cases_lt (end.clock + k) long)));
   }
     where
       t : Treated image program nodes marks returns x
@@ -205,7 +228,7 @@ module _ (image : Flash) (program : Program) (fits : ProgramFits program) (nodes
       mv : Moves program x end
       mv = o.moves end (0, out)
 
-      law : Before program e × IsNext program.lines end.line e.line × (e.level ≡ end.level)
+      law : Before program e × IsNext program.schedule end.line e.line × (e.level ≡ end.level)
       law = entry_place program end e (cover.entered image program fits nodes parents marks returns s x node back)
           (cover.result_line image program fits nodes parents marks returns s x node apart end (0, out)) entry
 
@@ -213,32 +236,29 @@ module _ (image : Flash) (program : Program) (fits : ProgramFits program) (nodes
       noted = t.noted back end out
 
       p : ℕ
-      p = g.p + clocks_between x end
+      p = g.p + clocks_between program x end
+
+      long : ℕ
+      long = length_of program.schedule end.line
 
       gap : ℕ
-      gap = e.clock + 1820 - end.clock
+      gap = e.clock + long - end.clock
 
-      reach_is : e.clock + 1820 ≡ end.clock + gap
+      reach_is : e.clock + long ≡ end.clock + gap
       reach_is = let h = mv.goes.0 in omega (arith, h)
 
-      reach : Reaches program.lines end.line end.clock gap e.line e.clock
-      reach = ((let c = law.0.clock in let f = fits.fall_in_line in omega (arith, c, f)), inr (law.1, reach_is))
+      reach : Reaches program.schedule end.line end.clock gap e.line e.clock
+      reach = ((let c = law.0.clock in let f = fits.fall_in_line e.line in omega (arith, c, f)), inr (law.1, reach_is))
 
-      place_end : p % frame_of program ≡ at end.line end.clock
+      place_end : p % frame_of program.schedule ≡ position_of program.schedule end
       place_end = place_at_result x node apart end (0, out) g
 
-      line_in : end.line < program.lines
-      line_in = end_line program.lines x.line x.clock (clocks_between x end) end.line end.clock mv.goes
-          (cover.stands image program fits nodes parents marks returns s x node).line
-        where
-          end_line : (lines line clock k l q : ℕ) → Reaches lines line clock k l q → line < lines → l < lines
-          end_line lines line clock k l q (h, inl a) below = subst (λ (m : ℕ). m < lines) (sym a.0) below
-          end_line lines line clock k l q (h, inr a) below = next_below lines line l below a.0
+      line_in : end.line < lines_of program
+      line_in = cover.result_line image program fits nodes parents marks returns s x node apart end (0, out)
 
-      step : (k l q : ℕ) → Reaches program.lines end.line end.clock k l q → (p + k) % frame_of program ≡ at l q
-      step k l q r = sym (mod-add-mod p (frame_of program) k) ∙ ap (λ (m : ℕ). (m + k) % frame_of program) place_end
-          ∙ ap (λ f. (place_of end + k) % f) refl
-          ∙ reaches_at program.lines end.line end.clock k l q line_in r
+      step : (k l q : ℕ) → Reaches program.schedule end.line end.clock k l q
+          → (p + k) % frame_of program.schedule ≡ start_of program.schedule l + q
+      step k l q r = reach_position program.schedule end.line end.clock k l q p line_in r place_end
 
   pub good_kept : cover.Kept image program fits nodes parents marks returns s Good
   good_kept = record {
@@ -246,60 +266,62 @@ module _ (image : Flash) (program : Program) (fits : ProgramFits program) (nodes
     entry = λ x node apart end e back out entry g. good_entry x node apart end e back out entry g;
   }
 
-  node_of : (l : ℕ) → l < program.lines → cover.FallNode image program fits nodes parents marks returns s l
+  node_of : (l : ℕ) → l < lines_of program → cover.FallNode image program fits nodes parents marks returns s l
   node_of l below = cover.fall_node image program fits nodes parents marks returns s l (cover.each_falls image program fits nodes parents
       marks returns s l below)
 
-  good_fall : (l : ℕ) → l < program.lines → (n : cover.FallNode image program fits nodes parents marks returns s l) → Good n.x
+  good_fall : (l : ℕ) → l < lines_of program → (n : cover.FallNode image program fits nodes parents marks returns s l) → Good n.x
   good_fall l below n =
-      let here : at l program.fall % frame_of program ≡ at l program.fall =
-      mod-eq_of_lt (subst (λ f. at l program.fall < f) refl (line_below program.lines l program.fall below fits.fall_in_line)) in
-      let line = n.line in
+      let place : ℕ = start_of program.schedule l + program.schedule.fall in
+      let here : place % frame_of program.schedule ≡ place =
+      mod-eq_of_lt (place_below program.schedule l program.schedule.fall below (fits.fall_in_line l)) in
       let clock = n.clock in
+      let start = ap (start_of program.schedule) n.line in
       record {
-        p = at l program.fall;
-        at = here ∙ (omega (arith, line, clock));
-        level = subst (Level (at l program.fall)) (sym n.level) (record {
-          last = at l program.fall;
+        p = place;
+        at = here ∙ omega (arith, start, clock);
+        level = subst (Level place) (sym n.level) (record {
+          last = place;
           le = omega arith;
-          sync = subst (λ m. Seen marks m (Some (Sync 0))) (sym here) (cover.steady_first image program fits nodes parents marks returns s l
-              below);
+          sync = record {
+            line = l;
+            clock = program.schedule.fall;
+            below = below;
+            in_line = fits.fall_in_line l;
+            place = here;
+            seen = cover.steady_first image program fits nodes parents marks returns s l below;
+          };
           quiet = λ j after le. absurd (omega (arith, after, le));
         });
       }
 
-  -- right before the program.fall of line 0 the level is 1
+  -- right before the program.schedule.fall of line 0 the level is 1
   record Eve : Type 0 where
     p : ℕ
-    place : (p + 1) % frame_of program ≡ program.fall
+    place : (p + 1) % frame_of program.schedule ≡ program.schedule.fall
     level : Level p 1
 
-  lines_some : 0 < program.lines
-  lines_some =
-      let b = fits.begins in
-      let line = (start_place program fits b.0 b.1 b.2).1 in
-      let below = (cover.stands image program fits nodes parents marks returns s b.0 (s.started b.0 b.1)).line in
-      omega (arith, line, below)
+  frame_big : program.schedule.fall < frame_of program.schedule
+  frame_big = let big = place_below program.schedule 0 program.schedule.fall fits.some (fits.fall_in_line 0) in omega (arith, big)
 
-  frame_some : 0 < frame_of program
-  frame_some = let n = lines_some in omega (arith, n)
+  frame_some : 0 < frame_of program.schedule
+  frame_some = let big = frame_big in omega (arith, big)
 
   eve : Eve
   eve = record {
     p = g.p + (k - 1);
-    place = ap (λ m. m % frame_of program) whole ∙ reach;
+    place = ap (λ m. m % frame_of program.schedule) whole ∙ reach;
     level = subst (Level (g.p + (k - 1))) one (level_more g.p (k - 1) x.level g.level (λ j some le v h.
-        let shows = seen_once marks ((g.p + j) % frame_of program) (shown_at t.next.emit j) (Some (Sync v))
-        (seen_on x f.node f.apart g.p j g.at some (let few = f.few in omega (arith, le, few))) h in
+        let shows = sync_shown x f.node f.apart g.p j v g.at some (let few = f.few in omega (arith, le, few)) h in
         let same = (one_emit t.next.emit j k (Sync v) (Sync 0) (shown_is t.next.emit j (Sync v) shows) emit).0 in
         omega (arith, same, le, pos)));
   }
     where
       last : ℕ
-      last = program.lines - 1
+      last = lines_of program - 1
 
-      below : last < program.lines
-      below = let n = lines_some in omega (arith, n)
+      below : last < lines_of program
+      below = let n = fits.some in omega (arith, n)
 
       n : cover.FallNode image program fits nodes parents marks returns s last
       n = node_of last below
@@ -308,10 +330,11 @@ module _ (image : Flash) (program : Program) (fits : ProgramFits program) (nodes
       found =
           let line = n.line in
           let clock = n.clock in
-          let some = lines_some in
-          cover.next_fall image program fits nodes parents marks returns s Good good_kept 1820 n.x n.node n.apart (good_fall last below n)
-          1820 0 (omega arith) (omega arith) (omega arith)
-          (fits.fall_in_line, inr (inl (omega (arith, line, some), refl), omega (arith, clock)))
+          let some = fits.some in
+          let long : ℕ = length_of program.schedule n.x.line in
+          cover.next_fall image program fits nodes parents marks returns s Good good_kept long n.x n.node n.apart (good_fall last below n)
+          long 0 (let few = length_some program fits n.x.line in omega (arith, few)) (omega arith)
+          (fits.fall_in_line 0, inr (inl (omega (arith, line, some), refl), omega (arith, clock)))
 
       f : cover.Falls image program fits nodes parents marks returns s 0
       f = found.0
@@ -346,35 +369,35 @@ module _ (image : Flash) (program : Program) (fits : ProgramFits program) (nodes
       whole : g.p + (k - 1) + 1 ≡ g.p + k
       whole = omega (arith, pos)
 
-      reach : (g.p + k) % frame_of program ≡ program.fall
-      reach = sym (mod-add-mod g.p (frame_of program) k) ∙ ap (λ (m : ℕ). (m + k) % frame_of program) g.at ∙ ap (λ c. (place_of x + k) % c)
-          refl
-          ∙ reaches_at program.lines x.line x.clock k 0 program.fall (cover.stands image program fits nodes parents marks returns s x
-          f.node).line f.reach ∙ no_line
+      reach : (g.p + k) % frame_of program.schedule ≡ program.schedule.fall
+      reach = reach_position program.schedule x.line x.clock k 0 program.schedule.fall g.p
+          (cover.stands image program fits nodes parents marks returns s x f.node).line f.reach g.at ∙ no_line
         where
-          no_line : at 0 program.fall ≡ program.fall
+          no_line : start_of program.schedule 0 + program.schedule.fall ≡ program.schedule.fall
           no_line = omega arith
 
-  -- at each clock of line 0 before its program.fall the level is 1
+  -- at each clock of line 0 before its program.schedule.fall the level is 1
   pub record FirstLevel (q : ℕ) : Type 0 where
     pub p : ℕ
-    pub place : p % frame_of program ≡ at 0 q
+    pub place : p % frame_of program.schedule ≡ q
     pub level : Level p 1
 
-  pub first_level : (q : ℕ) → q < program.fall → FirstLevel q
+  pub first_level : (q : ℕ) → q < program.schedule.fall → FirstLevel q
   first_level q below = ⊎_elim
       (λ (short : e.p < l.last + n).
       let i : ℕ = e.p - l.last in
       let le = l.le in
       let sum : l.last + (i + 1) ≡ e.p + 1 = omega (arith, le) in
-      let place : l.last % frame_of program ≡ program.fall - (i + 1) = back_mod (frame_of program) l.last (i + 1) program.fall frame_some
-      (ap (λ m. m % frame_of program) sum ∙ e.place) (omega (arith, short, le)) frame_big in
-      absurd (no_sync_at l.last 0 (program.fall - (i + 1)) (place ∙ omega arith)
-      (early_quiet 0 (program.fall - (i + 1)) (omega (arith, below))) 1 l.sync))
+      let place : l.last % frame_of program.schedule ≡ program.schedule.fall - (i + 1) =
+      back_mod (frame_of program.schedule) l.last (i + 1) program.schedule.fall frame_some
+      (ap (λ m. m % frame_of program.schedule) sum ∙ e.place) (omega (arith, short, le)) frame_big in
+      absurd (no_sync_at l.last 0 (program.schedule.fall - (i + 1)) (let f = fits.fall_in_line 0 in omega (arith, f)) (place ∙ omega arith)
+      (early_quiet 0 (program.schedule.fall - (i + 1)) (omega (arith, below))) 1 l.sync))
       (λ (long : l.last + n ≤ e.p).
       let sum : (e.p - n) + (n + 1) ≡ e.p + 1 = omega (arith, long) in
-      let place : (e.p - n) % frame_of program ≡ program.fall - (n + 1) = back_mod (frame_of program) (e.p - n) (n + 1) program.fall
-      frame_some (ap (λ m. m % frame_of program) sum ∙ e.place) (omega (arith, below)) frame_big in
+      let place : (e.p - n) % frame_of program.schedule ≡ program.schedule.fall - (n + 1) =
+      back_mod (frame_of program.schedule) (e.p - n) (n + 1) program.schedule.fall
+      frame_some (ap (λ m. m % frame_of program.schedule) sum ∙ e.place) (omega (arith, below)) frame_big in
       record {
         p = e.p - n;
         place = place ∙ omega (arith, below);
@@ -394,10 +417,7 @@ module _ (image : Flash) (program : Program) (fits : ProgramFits program) (nodes
       l = e.level
 
       n : ℕ
-      n = program.fall - 1 - q
-
-      frame_big : program.fall < frame_of program
-      frame_big = let f = fits.fall_in_line in let c = lines_some in omega (arith, f, c)
+      n = program.schedule.fall - 1 - q
 
   record AllGood (x : Instance) : Type 0 where
     node : Among nodes x
@@ -412,11 +432,14 @@ module _ (image : Flash) (program : Program) (fits : ProgramFits program) (nodes
         let f = first_level y.clock b.0.clock in
         record {
           p = f.p;
-          at = f.place ∙ ap (λ (m : ℕ). 1820 * m + y.clock) (sym b.1);
+          at = f.place ∙ no_line y.clock ∙ ap (λ (m : ℕ). start_of program.schedule m + y.clock) (sym b.1);
           level = subst (Level f.p) (sym ((fits.starts y h).level)) f.level;
         };
     main = λ _. (fits.starts y h).level;
   }
+    where
+      no_line : (q : ℕ) → q ≡ start_of program.schedule 0 + q
+      no_line q = omega arith
 
   all_more : (x y : Instance) → AllGood x → Follows image program x y → AllGood y
   all_more x y e follows = ⊎_elim

@@ -9,5 +9,6 @@ pub mod Levels
 pub mod LocalHolds
 pub mod NewFlags
 pub mod NodeLaws
+pub mod Positions
 pub mod ScheduleOf
 pub mod WithinLimits

@@ -4,6 +4,7 @@ use Rattle.std.proofs.Common.{Bool, true, false, not, ◌&&◌, ◌||◌, nat_eq
 use Rattle.std.proofs.Common.{slice_get, if◌then◌else◌, arith}
 use Rattle.std.specs.Prelude.{is_none}
 use Rattle.std.proofs.lemmas.Bool.{eq-eqb}
+use Rattle.std.proofs.Math.Nat.{mod-eq_of_lt}
 use Rattle.std.proofs.lemmas.Bool.Decides.{nat_tests}
 use Rattle.avr_table.specs.declared.Instr.{Instr}
 use Rattle.avr_table.specs.Rows.{words_of}
@@ -11,9 +12,9 @@ use Rattle.uz_machine.specs.Effects.{effect_of}
 use Rattle.uz_machine.specs.declared.Effect.{Effect}
 use Rattle.uz_machine.specs.declared.Effect.TheVariants.{NoOperation, Stop}
 use Rattle.uz_schedule.specs.Ends.{Ends}
-use Rattle.uz_schedule.specs.Lines.{Lines, uniform, line_after, clock_after, order_of as lines_of_schedule}
-use Rattle.uz_schedule.specs.Schedule.{event_at}
-use Rattle.uz_schedule.proofs.Starts.{start_is}
+use Rattle.uz_schedule.specs.Lines.{Lines, line_after, clock_after, order_of as lines_of_schedule}
+use Rattle.uz_schedule.specs.Schedule.{length_of, start_of, frame_of, event_at}
+use Rattle.uz_schedule.proofs.Starts.{place_below}
 use Rattle.uz_schedule.specs.declared.certificate.Cert.{Cert}
 use Rattle.uz_schedule.specs.declared.header.Head.{Head}
 use Rattle.uz_schedule.specs.declared.kinds.Kind.{Kind}
@@ -42,9 +43,9 @@ use Rattle.uz_rules.proofs.LocalLaws.{decoded_same}
 use Rattle.uz_search.specs.declared.found.Found.{Found}
 use Rattle.uz_search.specs.declared.program.Program.{Program}
 use Rattle.uz_search.specs.Fitting.{ProgramFits, Stands}
-use Rattle.uz_search.specs.Following.{Among, Flash, order_of_program, frame_of, most_clocks, clocks_between, shown_at, place_of}
+use Rattle.uz_search.specs.Following.{Among, Flash, order_of_program, line_on, clock_on, most_clocks, clocks_between, shown_at}
 use Rattle.uz_search.specs.Searching.{IsEnded, Treated}
-use Rattle.uz_search.proofs.FramePlaces.{Reaches, reach_after, between_of}
+use Rattle.uz_search.proofs.FramePlaces.{Reaches, at, length_some, reach_after, reach_line, between_of}
 use Rattle.uz_search.proofs.Lists.{in_map, kind_cases, bool_cases}
 use Rattle.uz_search.proofs.Exits.{exit_clocks}
 use Rattle.uz_search.proofs.OneResult.{exits_at}
@@ -54,7 +55,8 @@ use Rattle.uz_search_laws.specs.Made.{IsMadeOf}
 use Rattle.uz_search_laws.proofs.Closing.{clocks_few}
 use Rattle.uz_search_laws.proofs.NodeLaws.{Owes}
 use Rattle.uz_search_laws.proofs.Coverage as cover
-use Rattle.uz_search_laws.proofs.ScheduleOf.{event_is, seen_shows}
+use Rattle.uz_search_laws.proofs.Positions.{reach_position}
+use Rattle.uz_search_laws.proofs.ScheduleOf.{order_same, start_same, event_is, seen_shows}
 
 -- Tests
 
@@ -138,22 +140,25 @@ parts None (Some e) draft step h = record { fine = refl; same = ap (λ (z : Step
     step_is : (a b : Step) → ◌≡◌ {A = Result Step Fail} (Ok a) (Ok b) → a ≡ b
     step_is a b e = cc
 
-row_parts : (head : Head) (image : Flash) (x : Instance) (i : Instr) (step : Step) → step_of_row head 1820 image (Some i) x ≡ Ok step
-    → Parts (fail_of head (effect_of i) x) (exits_at image x i) step
-row_parts head image x i step h = parts (fail_of head (effect_of i) x) (emission (effect_of i) x) _ step h
+row_parts : (head : Head) (long : ℕ) (image : Flash) (x : Instance) (i : Instr) (step : Step)
+    → step_of_row head long image (Some i) x ≡ Ok step → Parts (fail_of head (effect_of i) x) (exits_at image x i) step
+row_parts head long image x i step h = parts (fail_of head (effect_of i) x) (emission (effect_of i) x) _ step h
 
-exit_bounds : (head : Head) (image : Flash) (x : Instance) (row : Option Instr) (step : Step) → step_of_row head 1820 image row x ≡ Ok step
-    → (exit : Exit) → Among step.exits.items exit → (1 ≤ exit.clocks) × (exit.clocks ≤ 4)
-exit_bounds head image x None step h exit there = cc
-exit_bounds head image x (Some i) step h exit there =
-    let r = row_parts head image x i step h in
+exit_bounds : (head : Head) (long : ℕ) (image : Flash) (x : Instance) (row : Option Instr) (step : Step)
+    → step_of_row head long image row x ≡ Ok step → (exit : Exit) → Among step.exits.items exit → (1 ≤ exit.clocks) × (exit.clocks ≤ 4)
+exit_bounds head long image x None step h exit there = cc
+exit_bounds head long image x (Some i) step h exit there =
+    let r = row_parts head long image x i step h in
     exit_clocks image head i x (following_of (words_of i) x) (outcomes image (following_of (words_of i) x) (effect_of i) x) exit r.fine
     (subst (λ l. Among l exit) r.same there)
 
 -- the clocks to the result at an exit are the exit's
-between_exit : (program : Program) (x : Instance) (step : Step) (exit : Exit) → Stands program x → x.kind ≢ Main → 1 ≤ exit.clocks
-    → exit.clocks ≤ 4 → clocks_between x (successor (order_of_program program) x step exit) ≡ exit.clocks
-between_exit program x step exit stands apart some few =
+between_exit : (program : Program) → ProgramFits program → (x : Instance) (step : Step) (exit : Exit) → Stands program x → x.kind ≢ Main
+    → 1 ≤ exit.clocks
+    → exit.clocks ≤ 4 → clocks_between program x (successor (order_of_program program) x step exit) ≡ exit.clocks
+between_exit program fits x step exit stands apart some few =
+    let room : (l : ℕ) → exit.clocks ≤ length_of program.schedule l =
+    λ l. (let long = length_some program fits l in omega (arith, few, long)) in
     let y : Instance = successor (order_of_program program) x step exit in
     let k : ℕ = x.clock + exit.clocks in
     let main_not = apart_main x.kind apart in
@@ -162,11 +167,11 @@ between_exit program x step exit stands apart some few =
     main_not) in
     let clock : clock_after (order_of_program program) x.line k ≡ y.clock =
     sym (ap (λ b. if b then x.clock else clock_after (order_of_program program) x.line k) main_not) in
-    let reach : Reaches program.lines x.line x.clock exit.clocks y.line y.clock =
-    subst (λ q. Reaches program.lines x.line x.clock exit.clocks y.line q) clock
-    (subst (λ l. Reaches program.lines x.line x.clock exit.clocks l (clock_after (order_of_program program) x.line k)) line
-    (reach_after program.lines x.line x.clock exit.clocks stands.line stands.clock (omega (arith, few)))) in
-    between_of program.lines x.line x.clock exit.clocks y.line y.clock reach stands.clock some (omega (arith, few))
+    let reach : Reaches program.schedule x.line x.clock exit.clocks y.line y.clock =
+    subst (λ q. Reaches program.schedule x.line x.clock exit.clocks y.line q) clock
+    (subst (λ l. Reaches program.schedule x.line x.clock exit.clocks l (clock_after (order_of_program program) x.line k)) line
+    (reach_after program.schedule x.line x.clock exit.clocks stands.line stands.clock room)) in
+    between_of program.schedule x.line x.clock exit.clocks y.line y.clock reach stands.clock some (room x.line)
 
 -- what is shown before the end, and at it
 shown_before : (emitted : Option EventKind) (c k : ℕ) → k < c → shown_at (timed emitted c) k ≡ None
@@ -191,10 +196,10 @@ module _ (image : Flash) (program : Program) (fits : ProgramFits program) (found
 
   -- the lines are the program's
   lines_same : lines_of_schedule cert.schedule ≡ order_of_program program
-  lines_same = ap uniform made.schedule.lines
+  lines_same = order_same program found.marks.items cert.schedule made.schedule
 
   module _ (row : Option Instr) (reads : IsReadAt image x.pc row)
-      (s : HasStep program x t.next (step_of_row cert.head 1820 image row x)) where
+      (s : HasStep program x t.next (step_of_row cert.head (length_of cert.schedule x.line) image row x)) where
     -- main stores nothing that is seen
     no_emission : row_emits_in_main row x ≡ false
     no_emission = ⊎_elim
@@ -220,28 +225,35 @@ module _ (image : Flash) (program : Program) (fits : ProgramFits program) (found
             there.1
 
         c : ℕ
-        c = clocks_between x y
+        c = clocks_between program x y
 
-        few : c ≤ most_clocks x t.next.out.items
-        few = clocks_few x t.next.out.items there.0 y y_there
+        few : c ≤ most_clocks program x t.next.out.items
+        few = clocks_few program x t.next.out.items there.0 y y_there
 
         some : 1 ≤ c
         some = (o.moves y (there.0, y_there)).some
 
         -- the clocks to the result are the exit's
         clocks : c ≡ exit.clocks
-        clocks = let b = exit_bounds cert.head image x row s.step s.is exit there in between_exit program x s.step exit stands apart b.0 b.1
+        clocks = let b = exit_bounds cert.head (length_of cert.schedule x.line) image x row s.step s.is exit there in
+            between_exit program fits x s.step exit stands apart b.0 b.1
 
-        position : position_of cert.schedule x ≡ place_of x
-        position = let start = start_is cert.schedule x.line in omega (arith, start)
+        position : position_of cert.schedule x ≡ position_of program.schedule x
+        position = ap (λ m. m + x.clock) (start_same program found.marks.items cert.schedule made.schedule x.line)
+
+        here : position_of program.schedule x % frame_of program.schedule ≡ position_of program.schedule x
+        here = mod-eq_of_lt (place_below program.schedule x.line x.clock stands.line stands.clock)
 
         event_on : (k : ℕ) → 1 ≤ k → k ≤ c → event_at cert.schedule (position_of cert.schedule x + k) ≡ shown_at t.next.emit k
         event_on k low high =
-            let frame : 0 < frame_of program = (let l = fits.some in omega (arith, l)) in
+            let l : ℕ = line_on program x k in
+            let q : ℕ = clock_on program x k in
+            let goes = cover.passed image program fits found.nodes.keys found.parents.items found.marks.items found.returns.items ended x
+            node apart k (omega (arith, high, few)) in
+            let place = reach_position program.schedule x.line x.clock k l q (position_of program.schedule x) stands.line goes here in
             ap (λ n. event_at cert.schedule (n + k)) position ∙ event_is program found.marks.items cert.schedule made.schedule
-            (place_of x + k) frame
-            ∙ seen_shows found.marks.items ((place_of x + k) % frame_of program) (shown_at t.next.emit k)
-            (t.seen apart k low (omega (arith, high, few)))
+            (position_of program.schedule x + k) l q (reach_line program.schedule x.line x.clock k l q stands.line goes) goes.0 place
+            ∙ seen_shows found.marks.items (at l q) (shown_at t.next.emit k) (t.seen apart k low (omega (arith, high, few)))
 
         -- where something is emitted it is at the end of this exit
         emit_is : t.next.emit ≡ timed s.step.emit exit.clocks
@@ -331,7 +343,7 @@ module _ (image : Flash) (program : Program) (fits : ProgramFits program) (found
         ∙ ap (λ b. refuse_if (not b) Successor None) (goes_on back))
         (bool_cases t.next.back)
 
-    step_ok : step_fail cert ids x (row_emits_in_main row x) (step_of_row cert.head 1820 image row x) ≡ None
+    step_ok : step_fail cert ids x (row_emits_in_main row x) (step_of_row cert.head (length_of cert.schedule x.line) image row x) ≡ None
     step_ok =
         ap (step_fail cert ids x (row_emits_in_main row x)) s.is
         ∙ ap (λ b. refuse_if b Edge (refuse_if (not (compares_edges cert x s.step)) Edge (result_fail cert ids x s.step))) no_emission
@@ -342,22 +354,24 @@ fails_stop head Stop x h = cc
 fails_stop head NoOperation x h = refl
 fails_stop head e x h = refl
 
-stops_none : (head : Head) (image : Flash) (x : Instance) (row : Option Instr) (step : Step) → step_of_row head 1820 image row x ≡ Ok step
-    → is_no_opcode row ≡ false
-stops_none head image x None step h = cc
-stops_none head image x (Some i) step h = fails_stop head (effect_of i) x (row_parts head image x i step h).fine
+stops_none : (head : Head) (long : ℕ) (image : Flash) (x : Instance) (row : Option Instr) (step : Step)
+    → step_of_row head long image row x ≡ Ok step → is_no_opcode row ≡ false
+stops_none head long image x None step h = cc
+stops_none head long image x (Some i) step h = fails_stop head (effect_of i) x (row_parts head long image x i step h).fine
 
 pub passes_local : EndedPassesLocal
 passes_local image p found cert ids row x fits ended made node lies reads =
-    ap (λ b. refuse_if b Opcode (instance_fail image cert ids row (Some x))) (stops_none cert.head image x row s.step s.is) ∙ step_ok image
-    p fits found ended cert made ids x node lies row reads s
+    ap (λ b. refuse_if b Opcode (instance_fail image cert ids row (Some x)))
+    (stops_none cert.head (length_of cert.schedule x.line) image x row s.step s.is) ∙ step_ok image p fits found ended cert made ids x node lies row reads s
   where
     s : HasStep p x (cover.treated image p fits found.nodes.keys found.parents.items found.marks.items found.returns.items ended x
-        node).next (step_of_row cert.head 1820 image row x)
+        node).next (step_of_row cert.head (length_of cert.schedule x.line) image row x)
     s =
         let a = (cover.treated image p fits found.nodes.keys found.parents.items found.marks.items found.returns.items ended x
         node).after in
-        has_step p x _ (step_of_row cert.head 1820 image row x)
-        (a.is ∙ ap (λ (r : Option Instr). next_of (order_of_program p) x (step_of_row p.head 1820 image r x))
+        let same = made.schedule.lengths x.line in
+        has_step p x _ (step_of_row cert.head (length_of cert.schedule x.line) image row x)
+        (a.is ∙ ap (λ (r : Option Instr). next_of (order_of_program p) x (step_of_row p.head (length_of p.schedule x.line) image r x))
         (decoded_same _ _ a.row row a.reads reads)
-        ∙ ap (λ (h : Head). next_of (order_of_program p) x (step_of_row h 1820 image row x)) (sym made.head))
+        ∙ ap (λ (h : Head). next_of (order_of_program p) x (step_of_row h (length_of p.schedule x.line) image row x)) (sym made.head)
+        ∙ ap (λ n. next_of (order_of_program p) x (step_of_row cert.head n image row x)) (sym same))

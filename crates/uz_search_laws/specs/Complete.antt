@@ -3,7 +3,7 @@
 use Rattle.std.specs.Prelude.{◌≡◌, ℕ, ◌+◌, ◌<◌, ◌≤◌, true, false, List, Option, Some, None, Ok}
 use Rattle.avr_table.specs.declared.Instr.{Instr}
 use Rattle.uz_schedule.specs.Instances.{rest_instance}
-use Rattle.uz_schedule.specs.Schedule.{scanline, start_of, next_line, event_at, level_at, response_clocks}
+use Rattle.uz_schedule.specs.Schedule.{length_of, start_of, next_line, event_at, level_at, response_clocks}
 use Rattle.uz_schedule.specs.declared.certificate.Cert.{Cert}
 use Rattle.uz_schedule.specs.declared.lines.EventKind.{EventKind}
 use Rattle.uz_schedule.specs.declared.lines.EventKind.TheVariants.{Sync, Leave}
@@ -20,7 +20,7 @@ use Rattle.uz_search.specs.declared.marks.Mark.{Mark}
 use Rattle.uz_search.specs.declared.program.Program.{Program}
 use Rattle.uz_search.specs.declared.returns.Return.{Return}
 use Rattle.uz_search.specs.Fitting.{ProgramFits}
-use Rattle.uz_search.specs.Following.{Among, Flash, After}
+use Rattle.uz_search.specs.Following.{Among, Flash, After, lines_of}
 use Rattle.uz_search.specs.Marking.{MarkAt}
 use Rattle.uz_search.specs.Returning.{ReturnAt}
 use Rattle.uz_search.specs.Searching.{IsEnded}
@@ -28,9 +28,9 @@ use Rattle.uz_search_laws.specs.Made.{IsScheduleOf, IsMadeOf}
 
 -- at the fall of each line stands sync 0, nothing stands before it, and no other sync 0
 pub record FallsOnce (p : Program) (s : Schedule) : Type 0 where
-  pub first : (l : ℕ) → l < p.lines → event_at s (start_of s l + p.fall) ≡ Some (Sync 0)
-  pub above : (l k : ℕ) (e : EventKind) → l < p.lines → k < scanline → event_at s (start_of s l + k) ≡ Some e → p.fall ≤ k
-  pub once : (l k : ℕ) → l < p.lines → k < scanline → event_at s (start_of s l + k) ≡ Some (Sync 0) → k ≡ p.fall
+  pub first : (l : ℕ) → l < lines_of p → event_at s (start_of s l + p.schedule.fall) ≡ Some (Sync 0)
+  pub above : (l k : ℕ) (e : EventKind) → l < lines_of p → k < length_of s l → event_at s (start_of s l + k) ≡ Some e → p.schedule.fall ≤ k
+  pub once : (l k : ℕ) → l < lines_of p → k < length_of s l → event_at s (start_of s l + k) ≡ Some (Sync 0) → k ≡ p.schedule.fall
 
 abbrev pub EndedFallsOnce : Type 0
 EndedFallsOnce = (image : Flash) (p : Program) (found : Found) (s : Schedule) → ProgramFits p → IsEnded image p found → IsScheduleOf p
@@ -43,15 +43,15 @@ EndedLevelsFit = (image : Flash) (p : Program) (found : Found) (y v : ℕ) (m : 
 
 -- a return leaves at its clock, nothing stands after it on its line, nor on the next line up to the latest end of an interrupt's entry
 pub record IsQuietRest (p : Program) (s : Schedule) (l : ℕ) (r : Return) : Type 0 where
-  pub in_line : r.clock < scanline
+  pub in_line : r.clock < length_of s l
   pub leave : event_at s (start_of s l + r.clock) ≡ Some Leave
-  pub quiet : (k : ℕ) → r.clock < k → k < scanline → event_at s (start_of s l + k) ≡ None
+  pub quiet : (k : ℕ) → r.clock < k → k < length_of s l → event_at s (start_of s l + k) ≡ None
   pub quiet_next : (k : ℕ) → k ≤ response_clocks p.head.irq + 3 → event_at s (start_of s (next_line s l) + k) ≡ None
 
 abbrev pub EndedRestsAreQuiet : Type 0
 EndedRestsAreQuiet = (image : Flash) (p : Program) (found : Found) (s : Schedule) (l : ℕ) (r : Return) → ProgramFits p → IsEnded image p
     found → IsScheduleOf p found.marks.items s
-    → l < p.lines → ReturnAt found.returns.items l r → IsQuietRest p s l r
+    → l < lines_of p → ReturnAt found.returns.items l r → IsQuietRest p s l r
 
 -- the level of each instance is the schedule's at its position
 abbrev pub EndedLevels : Type 0

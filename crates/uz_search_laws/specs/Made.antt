@@ -1,6 +1,6 @@
 -- A certificate that is made of an ended search: its schedule shows what the instances show, and its rests are the handler's returns.
 use Rattle.std.specs.Prelude.{◌≡◌, ℕ, ◌+◌, ◌<◌, List, Option, Some, None, length, slice_get}
-use Rattle.uz_schedule.specs.Schedule.{scanline, start_of, event_at}
+use Rattle.uz_schedule.specs.Schedule.{length_of, start_of, event_at}
 use Rattle.uz_schedule.specs.declared.certificate.Cert.{Cert}
 use Rattle.uz_schedule.specs.declared.lines.EventKind.{EventKind}
 use Rattle.uz_schedule.specs.declared.lines.Schedule.{Schedule}
@@ -10,7 +10,7 @@ use Rattle.uz_search.specs.declared.found.Found.{Found}
 use Rattle.uz_search.specs.declared.marks.Mark.{Mark}
 use Rattle.uz_search.specs.declared.program.Program.{Program}
 use Rattle.uz_search.specs.declared.returns.Return.{Return}
-use Rattle.uz_search.specs.Following.{line_start}
+use Rattle.uz_search.specs.Following.{lines_of, line_start}
 use Rattle.uz_search.specs.Returning.{ReturnAt}
 
 -- what is shown at a position: nothing where no instance passes
@@ -22,11 +22,12 @@ event_of (Some (Some m)) = m.event
 abbrev pub marked_at : List (Option Mark) → ℕ → Option EventKind
 marked_at marks y = event_of (slice_get marks y)
 
--- the lines and the fall are the program's, and at each clock of each line stands what is shown there
+-- the lines, their lengths and the fall are the program's, and at each clock of each line stands what is shown there
 pub record IsScheduleOf (p : Program) (marks : List (Option Mark)) (s : Schedule) : Type 0 where
-  pub lines : length s.lines ≡ p.lines
-  pub fall : s.fall ≡ p.fall
-  pub events : (l k : ℕ) → l < p.lines → k < scanline → event_at s (start_of s l + k) ≡ marked_at marks (line_start l + k)
+  pub lines : length s.lines ≡ lines_of p
+  pub lengths : (l : ℕ) → length_of s l ≡ length_of p.schedule l
+  pub fall : s.fall ≡ p.schedule.fall
+  pub events : (l k : ℕ) → l < lines_of p → k < length_of s l → event_at s (start_of s l + k) ≡ marked_at marks (line_start l + k)
 
 -- each return is its line's rest
 abbrev pub AreRestsOf : List (Option Return) → List Rest → Type 0

@@ -1,6 +1,7 @@
 //! Laws of an ended search. Each function does nothing: its clause is the law.
 
-ghost use Rattle.uz_search_laws.specs.Complete.{EndedFallsOnce, EndedLevelsFit, EndedRestsAreQuiet, EndedLevels, EndedRestsEnter, EndedPassesLocal};
+ghost use Rattle.uz_search_laws.specs.Complete.{EndedFallsOnce, EndedLevelsFit, EndedRestsAreQuiet, EndedLevels, EndedRestsEnter};
+ghost use Rattle.uz_search_laws.specs.Complete.{EndedPassesLocal};
 ghost use Rattle.uz_search_laws.specs.Limits.{EndedWithinLimits, LiesInWidened};
 
 /// Each line of the schedule falls: sync 0 stands at the fall, nothing before it, and no other sync 0.

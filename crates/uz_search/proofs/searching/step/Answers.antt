@@ -58,8 +58,8 @@ refused-requires-clause-other c = λ other is.
     c.as_mut_slice-2.result.now c.args.done other x
     c.requires.so_far at c.as_mut_slice.ensures.value c.as_mut_slice-2.ensures.value (c.in-Err.ensures.split other (λ i. Err (is i))))
 
-pub followers-requires : goal.followers-requires
-followers-requires c = λ back y there.
+pub followers-requires-clause-each : goal.followers-requires-clause-each
+followers-requires-clause-each c = λ back y there.
     let image = c.args.image.now in
     let program = c.args.program.now in
     let s = c.args.found.now in
@@ -67,4 +67,4 @@ followers-requires c = λ back y there.
     let next = c.examine.new.next in
     let stands = stands_all image program s.nodes.keys s.parents.items c.requires.fits c.requires.so_far.tree x
     (c.args.done, ap (λ l. slice_get l c.args.done) (sym c.as_slice.ensures.keys) ∙ c.copy_at-at.ensures) in
-    (stands_next image program x stands next (steps image program x next c.in-Ok.ensures.ok.after) y there).line
+    (stands_next image program c.requires.fits x stands next (steps image program x next c.in-Ok.ensures.ok.after) y there).line

@@ -11,7 +11,7 @@ use Rattle.uz_search.proofs.ClearWay.{passes_from, passes_not}
 use Rattle.uz_search.proofs.stuck.passes_unsteady.Goals as goal
 
 told : (program : Program) (x : Instance) (next : Next) (b : Bool) → x.kind ≢ Main → b ≡ is_clear_way program x next.emit
-    (most_clocks x next.out.items) → IsTrue (not b) ↔ PassesUnsteady program x next
+    (most_clocks program x next.out.items) → IsTrue (not b) ↔ PassesUnsteady program x next
 told program x next true apart e = (λ h. absurd (true≢false (sym h)), λ u. absurd (passes_not program x next (sym e) u))
 told program x next false apart e = (λ h. passes_from program x next apart (sym e), λ u. refl)
 
@@ -21,5 +21,5 @@ returns-then-not-is_main c =
     let x = c.args.at.now in
     let next = c.args.next.now in
     told program x next c.passes_clear.result (λ main. true≢false (sym (c.if-not-is_main.ensures.1 main)))
-    (c.passes_clear.ensures ∙ ap (is_clear_way program x next.emit) (c.most_clocks.ensures.clocks ∙ ap (most_clocks x)
+    (c.passes_clear.ensures ∙ ap (is_clear_way program x next.emit) (c.most_clocks.ensures.clocks ∙ ap (most_clocks program x)
     c.as_slice.ensures.value))
