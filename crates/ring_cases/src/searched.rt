@@ -1,7 +1,8 @@
 //! A ring of ten words: sync falls at clock 1 and rises at clock 2 of its one line, and three waits fill the rest of the
-//! 1820 clocks.
+//! scanline.
 
-ghost use Rattle.std.specs.Prelude.{◌≡◌, ◌<◌, ◌≤◌, IfOk, false};
+ghost use Rattle.std.specs.Prelude.{◌≡◌, ◌<◌, ◌≤◌, ℕ, IfOk, false, length};
+ghost use Rattle.uz_schedule.specs.Schedule.{length_of, scanline};
 ghost use Rattle.uz_schedule.specs.declared.kinds.Kind.TheVariants.{Alone};
 ghost use Rattle.uz_search.specs.Fitting.{ProgramFits};
 
@@ -11,7 +12,9 @@ use std::alloc::{AllocError, Global};
 use std::collections::BTreeMap;
 use uz_hex::Image;
 use uz_rules::Fail;
-use uz_schedule::{Bit, EventKind, Head, Instance, Kind, Response, Sequence, Span, Val, Wide};
+use uz_schedule::{
+    EventKind, Head, Instance, Kind, LineEvents, Response, SCANLINE, Schedule, Sequence, Span, Val,
+};
 use uz_search::{Found, NotFound, Program, search};
 
 /// OUT PORTB,r16; OUT PORTB,r17; DEC r18, BRNE to it, twice; LDI r18,94; DEC r18, BRNE to it; RJMP to the begin. So many
@@ -48,18 +51,36 @@ fn start() -> Instance
         line: 0,
         clock: 0,
         level: 1,
-        pending: false,
         regs,
-        pairs: [Wide::between(0, 65535); 3],
-        flags: [Bit::Free; 7],
-        stack: ArrayVec::new(),
-        cells: ArrayVec::new(),
+        ..Instance::default()
     }
 }
 
+/// One line, a scanline, without events.
+#[tactic(auto, using(crate::proofs::Frames::scanline_each))]
+fn frame(alloc: Global, fall: u16) -> Result<Schedule, AllocError>
+    ensures lines { IfOk result (λ s. length s.lines ≡ 1) }
+    ensures lengths { IfOk result (λ s. (l : ℕ) → length_of s l ≡ scanline) }
+    ensures fall { IfOk result (λ s. s.fall ≡ fall) }
+{
+    let mut kinds = Vec::new(alloc);
+    kinds.push(LineEvents::new(alloc))?;
+    let mut lengths = Vec::new(alloc);
+    lengths.push(SCANLINE)?;
+    let mut lines = Vec::new(alloc);
+    lines.push(0)?;
+    Ok(Schedule {
+        kinds: Sequence::from_vec(kinds),
+        lengths: Sequence::from_vec(lengths),
+        lines: Sequence::from_vec(lines),
+        fall,
+    })
+}
+
+#[tactic(auto, using(crate::proofs::Frames::are_lengths))]
 fn program(alloc: Global, fall: u16) -> Result<Program, AllocError>
     requires some { 1 ≤ fall }
-    requires in_line { fall < 1820 }
+    requires in_line { fall < scanline }
     ensures { IfOk result ProgramFits }
 {
     let mut starts = Sequence::new(alloc);
@@ -73,8 +94,7 @@ fn program(alloc: Global, fall: u16) -> Result<Program, AllocError>
             handler: 0,
             cells: ArrayVec::new(),
         },
-        lines: 1,
-        fall,
+        schedule: frame(alloc, fall)?,
         facts: BTreeMap::new(alloc),
         starts,
     })
@@ -100,7 +120,7 @@ fn shown(found: &Found, at: usize) -> Option<EventKind> {
 }
 
 fn searched(alloc: Global, fall: u16, limit: u32) -> Result<Answer, AllocError> {
-    if fall == 0 || fall >= 1820 || limit == 0 {
+    if fall == 0 || fall >= SCANLINE || limit == 0 {
         return Ok(Answer::Other);
     }
     let image = image(alloc)?;

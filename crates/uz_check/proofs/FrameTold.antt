@@ -1,13 +1,12 @@
 -- The tests of a rest and of the entry hold exactly where their rules do.
 use Rattle.std.proofs.Common.{◌≡◌, inl, inr, All, Contains, ℕ, zero, suc, ◌+◌, ◌<◌, ◌≤◌, Bool, true, false, eqb, leb, ltb, List, [], ◌∷◌}
-use Rattle.std.proofs.Common.{length, refl, sym, ◌∙◌, ap, subst, arith}
-use Rattle.std.specs.Prelude.{Option, Some, None, ◌||◌, slice_index}
+use Rattle.std.proofs.Common.{length, refl, sym, ◌∙◌, ap, arith}
+use Rattle.std.specs.Prelude.{Option, Some, None, ◌||◌}
 use Rattle.std.proofs.lemmas.Bool.{le-leb, leb-true}
 use Rattle.std.proofs.lemmas.Bool.Decides.{nat_tests, eqb_tells, leb_tells}
-use Rattle.std.proofs.lemmas.Option.{get_or_from_slice_get, slice_get_within}
-use Rattle.std.proofs.lemmas.List.Elements.{All-get_or, All-tail}
-use Rattle.uz_schedule.proofs.Starts.{event_of_place}
-use Rattle.uz_schedule.specs.Limits.{EventsFit, ScheduleFits}
+use Rattle.std.proofs.lemmas.List.Elements.{All-tail}
+use Rattle.uz_schedule.proofs.Starts.{length_within, clocks_within, event_of_place}
+use Rattle.uz_schedule.specs.Limits.{ScheduleFits}
 use Rattle.uz_schedule.specs.Schedule.{length_of, start_of, next_line, event_in, event_in_kind, events_of, event_at, response_clocks}
 use Rattle.uz_schedule.specs.declared.kinds.Kind.{Kind}
 use Rattle.uz_schedule.specs.declared.kinds.Kind.TheVariants.{Main, Handler, Alone}
@@ -20,7 +19,7 @@ use Rattle.uz_schedule.specs.declared.lines.Schedule.{Schedule}
 use Rattle.uz_schedule.specs.declared.states.Rest.{Rest}
 use Rattle.uz_schedule.specs.declared.certificate.Cert.{Cert}
 use Rattle.uz_soundness.specs.FrameRules.{RestPasses, EntryPasses}
-use Rattle.uz_check.specs.FrameTests.{none_after, none_until, none_after_in, none_until_in, is_leave, is_quiet_rest, enters_at}
+use Rattle.uz_check.specs.FrameTests.{none_after, none_until, none_after_in, none_until_in, is_leave, leaves_at, is_quiet_rest, enters_at}
 use Rattle.uz_check.specs.FrameTests.{enters_always, rest_test, needs_no_rest, entry_test}
 use Rattle.uz_check.proofs.SteadyTold.{and_true}
 
@@ -113,31 +112,27 @@ response_few : (r : Response) → response_clocks r ≤ 5
 response_few Four = omega arith
 response_few Five = omega arith
 
-clocks_fit : (s : Schedule) → ScheduleFits s → (l : ℕ) (events : List Event) → events_of s l ≡ Some events
-    → All (λ e. e.clock < length_of s l) events
-clocks_fit s fits l events is =
-    let k = slice_index s.lines l in
-    let each = All-get_or EventsFit s.kinds k [] (slice_get_within s.kinds k events is) fits.kinds.each in
-    let here : EventsFit events = subst EventsFit (get_or_from_slice_get s.kinds k events [] is) each in
-    λ i d below. omega (arith, (here.each i d below).clock)
-
 -- A rest
 
 quiet_tells : (cert : Cert) (rest : Rest) → ScheduleFits cert.schedule → rest.line < length cert.schedule.lines → is_quiet_rest cert
     rest ≡ true
-    → (event_at cert.schedule (start_of cert.schedule rest.line + rest.clock) ≡ Some Leave)
+    → (rest.clock < length_of cert.schedule rest.line)
+    × (event_at cert.schedule (start_of cert.schedule rest.line + rest.clock) ≡ Some Leave)
     × ((k : ℕ) → rest.clock < k → k < length_of cert.schedule rest.line → event_at cert.schedule (start_of cert.schedule rest.line + k)
     ≡ None)
     × ((k : ℕ) → k ≤ response_clocks cert.head.irq + 3 → event_at cert.schedule
     (start_of cert.schedule (next_line cert.schedule rest.line) + k) ≡ None)
 quiet_tells cert rest fits line e =
     let s = cert.schedule in
-    let leave = and_true (is_leave (event_at s (start_of s rest.line + rest.clock))) _ e in
+    let leave = and_true (leaves_at s rest.line rest.clock) _ e in
+    let stands = and_true (ltb rest.clock (length_of s rest.line)) _ leave.0 in
     let both = and_true (none_after_in rest.clock (events_of s rest.line)) _ leave.1 in
-    let few = response_few cert.head.irq in (
-      leave_tells _ leave.0,
+    let few = response_few cert.head.irq in
+    let room = (length_within s fits (next_line s rest.line)).0 in (
+      leb-true (suc rest.clock) (length_of s rest.line) stands.0,
+      leave_tells _ stands.1,
       λ k low high. event_of_place s rest.line k line high ∙ after_in_tells rest.clock (events_of s rest.line) both.0 k low,
-      λ k low. event_of_place s (next_line s rest.line) k (next_there s rest.line line) (omega (arith, low, few)) ∙ until_in_tells
+      λ k low. event_of_place s (next_line s rest.line) k (next_there s rest.line line) (omega (arith, low, few, room)) ∙ until_in_tells
           (response_clocks cert.head.irq + 3) (events_of s (next_line s rest.line)) both.1 k low,
     )
 
@@ -146,13 +141,16 @@ quiet_told : (cert : Cert) (rest : Rest) → ScheduleFits cert.schedule → rest
 quiet_told cert rest fits line h =
     let s = cert.schedule in
     let few = response_few cert.head.irq in
+    let room = (length_within s fits (next_line s rest.line)).0 in
+    let here : ltb rest.clock (length_of s rest.line) ≡ true = le-leb (suc rest.clock) (length_of s rest.line) h.within in
     let leave : is_leave (event_at s (start_of s rest.line + rest.clock)) ≡ true = ap is_leave h.leave in
-    let after = after_in_told rest.clock (length_of s rest.line) (events_of s rest.line) (clocks_fit s fits rest.line)
+    let after = after_in_told rest.clock (length_of s rest.line) (events_of s rest.line)
+    (λ events is. clocks_within s fits rest.line events line is)
     (λ k low high. sym (event_of_place s rest.line k line high) ∙ h.quiet k low high) in
     let until = until_in_told (response_clocks cert.head.irq + 3) (events_of s (next_line s rest.line))
-    (λ k low. sym (event_of_place s (next_line s rest.line) k (next_there s rest.line line) (omega (arith, low, few))) ∙ h.quiet_next k
+    (λ k low. sym (event_of_place s (next_line s rest.line) k (next_there s rest.line line) (omega (arith, low, few, room))) ∙ h.quiet_next k
     low) in
-    rw (leave, after, until) refl
+    rw (here, leave, after, until) refl
 
 enters_tells : (cert : Cert) (rest : Rest) → enters_always cert rest ≡ true → (c : ℕ) → c ≤ 3 → enters_at cert rest c ≡ true
 enters_tells cert rest e zero few = (and_true (enters_at cert rest 0) _ e).0
@@ -175,7 +173,7 @@ unfolding rest_test
 rest_tells cert rest fits line e =
     let both = and_true (is_quiet_rest cert rest) (enters_always cert rest) e in
     let quiet = quiet_tells cert rest fits line both.0 in
-    record { leave = quiet.0; quiet = quiet.1; quiet_next = quiet.2; vector = enters_tells cert rest both.1 }
+    record { within = quiet.0; leave = quiet.1; quiet = quiet.2; quiet_next = quiet.3; vector = enters_tells cert rest both.1 }
 
 pub rest_told : (cert : Cert) (rest : Rest) → ScheduleFits cert.schedule → rest.line < length cert.schedule.lines → RestPasses cert rest
     → rest_test cert rest ≡ true

@@ -5,6 +5,7 @@ use Rattle.std.specs.Prelude.{Some, None, slice_get}
 use Rattle.std.specs.Ordering.{nat_cmp}
 use Rattle.std.specs.FinMap.{FinMap}
 use Rattle.std.proofs.lemmas.Bool.Decides.{eqb_tells, leb_tells, nat_tests}
+use Rattle.uz_schedule.specs.Limits.{ScheduleFits}
 use Rattle.uz_schedule.specs.Schedule.{next_line}
 use Rattle.uz_schedule.specs.declared.lines.Schedule.{Schedule}
 use Rattle.uz_schedule.specs.declared.states.Point.{Point}
@@ -27,54 +28,54 @@ on_line p l h g = grind (arith, nat_tests)
 
 -- What is told passes
 
-instance_passes : FoldingLaw → (image : FinMap nat_cmp ℕ) (cert : Cert) (id l c : ℕ) (p : Point) → slice_get cert.points id ≡ Some p
-    → p.l1 < length cert.schedule.lines → suc l ≤ p.l1 → is_told cert p (suc l) ≡ true
+instance_passes : FoldingLaw → (image : FinMap nat_cmp ℕ) (cert : Cert) (id l c : ℕ) (p : Point) → ScheduleFits cert.schedule
+    → slice_get cert.points id ≡ Some p → p.l1 < length cert.schedule.lines → suc l ≤ p.l1 → is_told cert p (suc l) ≡ true
     → InstanceRefusal image cert id l c None → InstanceRefusal image cert id (suc l) c None
 unfolding InstanceRefusal
-instance_passes law image cert id l c p found inside within told passes =
+instance_passes law image cert id l c p fits found inside within told passes =
     let both = and_true (nat_lt p.l0 (suc l)) (folds cert p (suc l - 1)) told in
     let after : p.l0 ≤ l = grind (arith, nat_tests, both.0) in
     let back : suc l - 1 ≡ l = omega arith in
     let next = next_is cert.schedule l (omega (arith, within, inside)) in
     let there : is_on_line p (next_line cert.schedule l) ≡ true = ap (is_on_line p) next ∙ on_line p (suc l) (omega (arith, after))
     within in
-    let same = law image cert id l c p None found (omega (arith, within, inside)) (on_line p l after (omega (arith, within))) there
+    let same = law image cert id l c p None fits found (omega (arith, within, inside)) (on_line p l after (omega (arith, within))) there
     (sym (ap (folds cert p) back) ∙ both.1) in
     subst (λ n. IsLocal image cert id n c None) next (same.0 passes)
 
-line_passes : FoldingLaw → (image : FinMap nat_cmp ℕ) (cert : Cert) (id l : ℕ) (p : Point) → slice_get cert.points id ≡ Some p
-    → p.l1 < length cert.schedule.lines → suc l ≤ p.l1 → is_told cert p (suc l) ≡ true
+line_passes : FoldingLaw → (image : FinMap nat_cmp ℕ) (cert : Cert) (id l : ℕ) (p : Point) → ScheduleFits cert.schedule
+    → slice_get cert.points id ≡ Some p → p.l1 < length cert.schedule.lines → suc l ≤ p.l1 → is_told cert p (suc l) ≡ true
     → LineRefusal image cert id p l None → LineRefusal image cert id p (suc l) None
 unfolding LineRefusal
-line_passes law image cert id l p found inside within told passes c low high = instance_passes law image cert id l c p found inside within
+line_passes law image cert id l p fits found inside within told passes c low high = instance_passes law image cert id l c p fits found inside within
     told (passes c low high)
 
 -- where line l passes, so do those after it that are told
-pub told_pass : FoldingLaw → (image : FinMap nat_cmp ℕ) (cert : Cert) (id l n : ℕ) (p : Point) → slice_get cert.points id ≡ Some p
-    → p.l1 < length cert.schedule.lines → l + n ≤ p.l1
+pub told_pass : FoldingLaw → (image : FinMap nat_cmp ℕ) (cert : Cert) (id l n : ℕ) (p : Point) → ScheduleFits cert.schedule
+    → slice_get cert.points id ≡ Some p → p.l1 < length cert.schedule.lines → l + n ≤ p.l1
     → ((k : ℕ) → suc l ≤ k → k ≤ l + n → is_told cert p k ≡ true) → LineRefusal image cert id p l None → LineRefusal image cert id p (l + n)
     None
-told_pass law image cert id l zero p found inside within told passes =
+told_pass law image cert id l zero p fits found inside within told passes =
     let same : l ≡ l + zero = omega arith in
     subst (λ k. LineRefusal image cert id p k None) same passes
-told_pass law image cert id l (suc n) p found inside within told passes =
-    let before = told_pass law image cert id l n p found inside (omega (arith, within)) (λ k low high. told k low (omega (arith, high)))
+told_pass law image cert id l (suc n) p fits found inside within told passes =
+    let before = told_pass law image cert id l n p fits found inside (omega (arith, within)) (λ k low high. told k low (omega (arith, high)))
     passes in
     let on : suc (l + n) ≡ l + suc n = omega arith in
-    subst (λ k. LineRefusal image cert id p k None) on (line_passes law image cert id (l + n) p found inside (omega (arith, within))
+    subst (λ k. LineRefusal image cert id p k None) on (line_passes law image cert id (l + n) p fits found inside (omega (arith, within))
     (told (suc (l + n)) (omega arith) (omega arith)) before)
 
 -- the lines up to the next one that isn't told
-pub lines_more : FoldingLaw → (image : FinMap nat_cmp ℕ) (cert : Cert) (id l next : ℕ) (p : Point) → slice_get cert.points id ≡ Some p
-    → p.l1 < length cert.schedule.lines → next ≤ suc p.l1 → ((k : ℕ) → l + 1 ≤ k → k < next → is_told cert p k ≡ true)
+pub lines_more : FoldingLaw → (image : FinMap nat_cmp ℕ) (cert : Cert) (id l next : ℕ) (p : Point) → ScheduleFits cert.schedule
+    → slice_get cert.points id ≡ Some p → p.l1 < length cert.schedule.lines → next ≤ suc p.l1 → ((k : ℕ) → l + 1 ≤ k → k < next → is_told cert p k ≡ true)
     → ((j : ℕ) → p.l0 ≤ j → j < l → LineRefusal image cert id p j None) → LineRefusal image cert id p l None → (j : ℕ) → p.l0 ≤ j → j < next
     → LineRefusal image cert id p j None
-lines_more law image cert id l next p found inside within told before now j low high =
+lines_more law image cert id l next p fits found inside within told before now j low high =
     elim (leb_tells l j) [
       | inl t ↦
           let on : l + (j - l) ≡ j = omega (arith, t.1) in
           subst (λ k. LineRefusal image cert id p k None) on
-          (told_pass law image cert id l (j - l) p found inside (omega (arith, t.1, high, within))
+          (told_pass law image cert id l (j - l) p fits found inside (omega (arith, t.1, high, within))
           (λ k a b. told k (omega (arith, a)) (omega (arith, b, t.1, high))) now)
       | inr t ↦ before j low (omega (arith, t.1))
     ]

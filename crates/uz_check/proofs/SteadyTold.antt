@@ -1,4 +1,4 @@
--- A schedule is steady exactly where no event of it is unsteady.
+-- All lines are scanlines and steady exactly where nothing breaks the steadiness of any.
 use Rattle.std.proofs.Common.{◌≡◌, ◌≢◌, inl, inr, All, ℕ, zero, suc, ◌+◌, ◌<◌, ◌≤◌, Bool, true, false, cond, eqb, List, [], ◌∷◌, length}
 use Rattle.std.proofs.Common.{refl, sym, ◌∙◌, ap, subst, arith}
 use Rattle.std.specs.Prelude.{Option, Some, None, ◌&&◌, slice_index}
@@ -11,9 +11,9 @@ use Rattle.uz_schedule.specs.declared.lines.Event.{Event}
 use Rattle.uz_schedule.specs.declared.lines.EventKind.{EventKind}
 use Rattle.uz_schedule.specs.declared.lines.EventKind.TheVariants.{Sync, Pixel, Sound, Leave}
 use Rattle.uz_schedule.specs.declared.lines.Schedule.{Schedule}
-use Rattle.uz_schedule.specs.Schedule.{events_of}
-use Rattle.uz_soundness.specs.Steady.{IsSteadyLine, IsSteady}
-use Rattle.uz_check.specs.Unsteady.{is_fall, second_fall, unsteady_clock, unsteady_in, at_line, unsteady_from, first_unsteady}
+use Rattle.uz_schedule.specs.Schedule.{scanline, length_of, events_of}
+use Rattle.uz_soundness.specs.Steady.{IsSteadyLine, IsSteady, AreScanlines}
+use Rattle.uz_check.specs.Unsteady.{is_fall, second_fall, unsteady_clock, unsteady_in, unsteady_line, at_line, unsteady_from, first_unsteady}
 
 pub and_true : (a b : Bool) → (a && b) ≡ true → (a ≡ true) × (b ≡ true)
 and_true true b e = (refl, e)
@@ -81,18 +81,16 @@ none_at : (l : ℕ) (o : Option ℕ) (later : Option (ℕ × ℕ)) → at_line l
 none_at l None later e = (refl, e)
 none_at l (Some clock) later e = absurd cc
 
-lines_tell : (s : Schedule) (l count j : ℕ) → unsteady_from s l count ≡ None → l ≤ j → j < l + count → unsteady_in s.fall (events_of s j)
-    ≡ None
+lines_tell : (s : Schedule) (l count j : ℕ) → unsteady_from s l count ≡ None → l ≤ j → j < l + count → unsteady_line s j ≡ None
 lines_tell s l zero j e h g = absurd (omega (arith, h, g))
 lines_tell s l (suc count) j e h g =
-    let both = none_at l (unsteady_in s.fall (events_of s l)) (unsteady_from s (suc l) count) e in
+    let both = none_at l (unsteady_line s l) (unsteady_from s (suc l) count) e in
     elim (eqb_tells l j) [
-      | inl t ↦ subst (λ i. unsteady_in s.fall (events_of s i) ≡ None) t.1 both.0
+      | inl t ↦ subst (λ i. unsteady_line s i ≡ None) t.1 both.0
       | inr t ↦ lines_tell s (suc l) count j both.1 (omega (arith, h, t.1)) (omega (arith, g))
     ]
 
-lines_told : (s : Schedule) (l count : ℕ) → ((j : ℕ) → j < l + count → unsteady_in s.fall (events_of s j) ≡ None) → unsteady_from s l
-    count ≡ None
+lines_told : (s : Schedule) (l count : ℕ) → ((j : ℕ) → j < l + count → unsteady_line s j ≡ None) → unsteady_from s l count ≡ None
 lines_told s l zero h = refl
 lines_told s l (suc count) h =
     ap (λ o. at_line l o (unsteady_from s (suc l) count)) (h l (omega arith)) ∙ lines_told s (suc l) count (λ j b. h j (omega (arith, b)))
@@ -106,17 +104,32 @@ in_told : (fall : ℕ) (o : Option (List Event)) → ((events : List Event) → 
 in_told fall None h = refl
 in_told fall (Some events) h = h events refl
 
+-- of a line whose events alone could break it
+scanline_tells : (s : Schedule) (l : ℕ) → unsteady_line s l ≡ None → (length_of s l ≡ scanline) × (unsteady_in s.fall (events_of s l) ≡ None)
+scanline_tells s l e =
+    let both = first_tells (eqb (length_of s l) scanline) (length_of s l) (unsteady_in s.fall (events_of s l)) e in
+    (eqb-true (length_of s l) scanline both.0, both.1)
+
+scanline_told : (s : Schedule) (l : ℕ) → length_of s l ≡ scanline → unsteady_in s.fall (events_of s l) ≡ None → unsteady_line s l ≡ None
+scanline_told s l long e =
+    let same : eqb (length_of s l) scanline ≡ true = grind (arith, nat_tests, long) in
+    ap (λ b. cond b (unsteady_in s.fall (events_of s l)) (Some (length_of s l))) same ∙ e
+
+pub scanlines_tell : (s : Schedule) → first_unsteady s ≡ None → AreScanlines s
+scanlines_tell s e l h = (scanline_tells s l (lines_tell s 0 (length s.lines) l e (omega arith) (omega (arith, h)))).0
+
 pub steady_tells : (s : Schedule) → ScheduleFits s → first_unsteady s ≡ None → IsSteady s
 steady_tells s fits e l events h f =
     let k = slice_index s.lines l in
     let each = All-get_or EventsFit s.kinds k [] (slice_get_within s.kinds k events f) fits.kinds.each in
     let here : EventsFit events = subst EventsFit (get_or_from_slice_get s.kinds k events [] f) each in
     line_tells s.fall events here.some
-    (in_tells s.fall (events_of s l) events f (lines_tell s 0 (length s.lines) l e (omega arith) (omega (arith, h))))
+    (in_tells s.fall (events_of s l) events f (scanline_tells s l (lines_tell s 0 (length s.lines) l e (omega arith) (omega (arith, h)))).1)
 
-pub steady_told : (s : Schedule) → IsSteady s → first_unsteady s ≡ None
-steady_told s h = lines_told s 0 (length s.lines)
-    (λ j b. in_told s.fall (events_of s j) (λ events f. line_told s.fall events (h j events (omega (arith, b)) f)))
+pub steady_told : (s : Schedule) → AreScanlines s → IsSteady s → first_unsteady s ≡ None
+steady_told s long h = lines_told s 0 (length s.lines)
+    (λ j b. scanline_told s j (long j (omega (arith, b))) (in_told s.fall (events_of s j)
+    (λ events f. line_told s.fall events (h j events (omega (arith, b)) f))))
 
 -- the line that is named is one of the frame
 line_there : (l count : ℕ) (place : ℕ × ℕ) (o : Option ℕ) (later : Option (ℕ × ℕ)) → (later ≡ Some place → place.0 < suc l + count)
@@ -127,5 +140,5 @@ line_there l count place (Some clock) later rest e = let is : (l, clock) ≡ pla
 pub unsteady_there : (s : Schedule) (l count : ℕ) (place : ℕ × ℕ) → unsteady_from s l count ≡ Some place → place.0 < l + count
 unsteady_there s l zero place e = absurd cc
 unsteady_there s l (suc count) place e =
-    line_there l count place (unsteady_in s.fall (events_of s l)) (unsteady_from s (suc l) count)
+    line_there l count place (unsteady_line s l) (unsteady_from s (suc l) count)
     (λ f. unsteady_there s (suc l) count place f) e

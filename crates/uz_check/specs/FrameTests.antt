@@ -2,12 +2,13 @@
 use Rattle.std.specs.Prelude.{ℕ, ◌+◌, ◌&&◌, ◌||◌, nat_le, nat_lt, Bool, true, false, List, [], ◌∷◌, length, Option, Some, None}
 use Rattle.uz_rules.specs.Successors.{lies_in_point}
 use Rattle.uz_schedule.specs.Instances.{entry_instance, rest_instance}
-use Rattle.uz_schedule.specs.Schedule.{start_of, next_line, events_of, event_at, response_clocks}
+use Rattle.uz_schedule.specs.Schedule.{length_of, start_of, next_line, events_of, event_at, response_clocks}
 use Rattle.uz_schedule.specs.declared.kinds.Kind.{Kind}
 use Rattle.uz_schedule.specs.declared.kinds.Kind.TheVariants.{Main, Handler, Alone}
 use Rattle.uz_schedule.specs.declared.lines.Event.{Event}
 use Rattle.uz_schedule.specs.declared.lines.EventKind.{EventKind}
 use Rattle.uz_schedule.specs.declared.lines.EventKind.TheVariants.{Sync, Pixel, Sound, Leave}
+use Rattle.uz_schedule.specs.declared.lines.Schedule.{Schedule}
 use Rattle.uz_schedule.specs.declared.states.Rest.{Rest}
 use Rattle.uz_schedule.specs.declared.certificate.Cert.{Cert}
 
@@ -37,10 +38,14 @@ is_leave (Some Pixel) = false
 is_leave (Some Sound) = false
 is_leave (Some Leave) = true
 
+-- the handler's return stands at a clock of a line, which is one of the line's own
+abbrev pub leaves_at : Schedule → ℕ → ℕ → Bool
+leaves_at s line clock = nat_lt clock (length_of s line) && is_leave (event_at s (start_of s line + clock))
+
 -- the handler's return stands at the rest's clock, nothing after it, and nothing where an interrupt may come
 abbrev pub is_quiet_rest : Cert → Rest → Bool
 is_quiet_rest cert rest =
-    is_leave (event_at cert.schedule (start_of cert.schedule rest.line + rest.clock))
+    leaves_at cert.schedule rest.line rest.clock
     && (none_after_in rest.clock (events_of cert.schedule rest.line) && none_until_in (response_clocks cert.head.irq + 3)
     (events_of cert.schedule (next_line cert.schedule rest.line)))
 

@@ -1,10 +1,10 @@
 //! The rules of the rests.
 
-ghost use Rattle.std.specs.Prelude.{◌≡◌, ◌<◌, ◌≤◌, ◌+◌, ℕ, length, All, Some, None, slice_get, true, false};
+ghost use Rattle.std.specs.Prelude.{◌≡◌, ◌<◌, ◌+◌, length, Some, None, true, false};
 ghost use Rattle.uz_schedule.specs.Limits.{ScheduleFits};
-ghost use Rattle.uz_schedule.specs.Schedule.{event_at, start_of, events_of as events_on};
+ghost use Rattle.uz_schedule.specs.Schedule.{events_of as events_on};
 ghost use Rattle.uz_schedule.specs.WellFormed.{WellFormed};
-ghost use Rattle.uz_check.specs.FrameTests.{none_after as after, none_until as until, none_after_in, none_until_in, is_leave as is_leave_event, is_quiet_rest as quiet_rest, enters_at, enters_always, rest_test};
+ghost use Rattle.uz_check.specs.FrameTests.{none_after as after, none_until as until, none_after_in, none_until_in, leaves_at as leaves_at_clock, is_quiet_rest as quiet_rest, enters_at, enters_always, rest_test};
 ghost use Rattle.uz_check.specs.Refusal.{RestRefusal, RestsRefusal};
 
 use crate::refusal::RefusedWhy;
@@ -61,15 +61,14 @@ fn is_quiet_until(schedule: &Schedule, line: u16, clock: u16) -> bool
     }
 }
 
-/// Whether the handler's return stands at a clock of a line.
+/// Whether the handler's return stands at a clock of a line. A clock past the line's end is none of it, whatever stands
+/// there on the next line.
 fn leaves_at(schedule: &Schedule, line: u16, clock: u16) -> bool
     requires fits { ScheduleFits schedule.now }
-    ensures { result ≡ is_leave_event (event_at schedule.now (start_of schedule.now line + clock)) }
+    ensures { result ≡ leaves_at_clock schedule.now line clock }
 {
-    matches!(
-        schedule.at(schedule.start(line) + u32::from(clock)),
-        Some(EventKind::Leave)
-    )
+    clock < schedule.length(line)
+        && matches!(schedule.at_clock(line, clock), Some(EventKind::Leave))
 }
 
 /// Whether the handler's return stands at the rest's clock, no event after it on its line, and none on the next line where
@@ -80,7 +79,7 @@ fn is_quiet_rest(cert: &Cert, rest: &Rest) -> bool
     ensures { result ≡ quiet_rest cert.now rest.now }
 {
     let schedule = &cert.schedule;
-    let next = schedule.order().next(rest.line);
+    let next = schedule.next(rest.line);
     let last = cert.head.irq.clocks() + 3;
     leaves_at(schedule, rest.line, rest.clock)
         && (is_quiet_after(schedule, rest.line, rest.clock) && is_quiet_until(schedule, next, last))
@@ -120,7 +119,6 @@ fn rest_passes(cert: &Cert, rest: &Rest) -> bool
 fn rest_refusal(cert: &Cert, rest: &Rest) -> Option<RefusedWhy>
     requires fits { WellFormed cert.now }
     requires line { rest.now.line < length cert.now.schedule.lines }
-    requires clock { rest.now.clock < 1820 }
     ensures { RestRefusal cert.now rest.now result }
 {
     if rest_passes(cert, rest) {

@@ -1,13 +1,13 @@
-//! The first event of a schedule that isn't as it should be.
+//! The first line of a schedule that isn't as it should be.
 
-ghost use Rattle.std.specs.Prelude.{◌≡◌, ◌<◌, ℕ, length};
+ghost use Rattle.std.specs.Prelude.{◌≡◌, ◌<◌, length};
 ghost use Rattle.uz_schedule.specs.Limits.{ScheduleFits};
 ghost use Rattle.uz_schedule.specs.Schedule.{events_of};
 ghost use Rattle.uz_check.specs.Refusal.{ScheduleRefusal};
-ghost use Rattle.uz_check.specs.Unsteady.{is_fall as falls, second_fall as second, unsteady_clock as unsteady, unsteady_in, first_unsteady as unsteady_place};
+ghost use Rattle.uz_check.specs.Unsteady.{is_fall as falls, second_fall as second, unsteady_clock as unsteady, unsteady_in, unsteady_line as line_breaks, first_unsteady as unsteady_place};
 
 use crate::refusal::RefusedWhy;
-use uz_schedule::{Event, EventKind, Schedule};
+use uz_schedule::{Event, EventKind, SCANLINE, Schedule};
 
 /// Whether an event is the fall of sync.
 fn is_fall(kind: EventKind) -> bool
@@ -48,7 +48,7 @@ fn unsteady_clock(fall: u16, events: &[Event]) -> Option<u16>
 }
 
 /// The same of a line of the schedule.
-fn unsteady_in_line(schedule: &Schedule, line: u16) -> Option<u16>
+fn unsteady_event(schedule: &Schedule, line: u16) -> Option<u16>
     requires { line < length schedule.now.lines }
     ensures { result ≡ unsteady_in schedule.now.fall (events_of schedule.now line) }
 {
@@ -58,13 +58,26 @@ fn unsteady_in_line(schedule: &Schedule, line: u16) -> Option<u16>
     unsteady_clock(schedule.fall, events.as_slice())
 }
 
-/// The line and the clock of the first event of the frame that isn't as it should be.
+/// What breaks a line's steadiness: its length, where that isn't a scanline's, and else the clock of an event.
+fn unsteady_line(schedule: &Schedule, line: u16) -> Option<u16>
+    requires { line < length schedule.now.lines }
+    ensures { result ≡ line_breaks schedule.now line }
+{
+    let clocks = schedule.length(line);
+    if clocks == SCANLINE {
+        unsteady_event(schedule, line)
+    } else {
+        Some(clocks)
+    }
+}
+
+/// The first line of the frame that isn't steady, and what breaks it.
 fn first_unsteady(schedule: &Schedule) -> Option<(u16, u16)>
     requires { ScheduleFits schedule.now }
     ensures { result ≡ unsteady_place schedule.now }
 {
     for line in 0..schedule.lines.len() as u16 {
-        if let Some(clock) = unsteady_in_line(schedule, line) {
+        if let Some(clock) = unsteady_line(schedule, line) {
             return Some((line, clock));
         }
     }

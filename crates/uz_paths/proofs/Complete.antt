@@ -1,18 +1,18 @@
 -- The certificate that is made of an ended search is well formed, and accepted.
 use Rattle.std.proofs.Common.{◌≡◌, ◌≢◌, ◌∙◌, sym, ap, refl, arith, inl, inr, ⊎_elim, ◌⊎◌, ℕ, zero, suc, ◌+◌, ◌-◌, ◌*◌, ◌<◌, ◌≤◌, Bool, true}
-use Rattle.std.proofs.Common.{false, List, [], ◌∷◌, map, All, length, subst, if◌then◌else◌}
-use Rattle.std.specs.Prelude.{Contains, Option, Some, None, ◌&&◌, ◌||◌, ◌==◌, nat_eq, nat_le, slice_get, unwrap_or}
+use Rattle.std.proofs.Common.{false, List, [], ◌∷◌, map, length, subst, if◌then◌else◌}
+use Rattle.std.specs.Prelude.{Contains, Some, ◌&&◌, ◌||◌, ◌==◌, nat_eq, nat_le, slice_get, unwrap_or}
 use Rattle.std.proofs.lemmas.Bool.{cases_eq, cases_lt, eq-eqb}
 use Rattle.std.proofs.lemmas.Bool.Decides.{nat_tests}
 use Rattle.std.proofs.lemmas.Option.{get_or_from_slice_get, slice_get-get_or, slice_get_within}
+use Rattle.uz_schedule.proofs.Starts.{length_within}
 use Rattle.uz_schedule.specs.Ends.{Ends}
 use Rattle.uz_schedule.specs.Instances.{entry_instance, entry_instance_at, handler_entry, instance_at, is_in_box, level_or_zero}
-use Rattle.uz_schedule.specs.Instances.{rest_instance}
 use Rattle.uz_schedule.specs.Limits.{ScheduleFits, rises}
-use Rattle.uz_schedule.specs.Lines.{Lines, uniform}
-use Rattle.uz_schedule.specs.Schedule.{level_at, next_line, response_clocks, start_of}
+use Rattle.uz_schedule.specs.Lines.{Lines}
+use Rattle.uz_schedule.specs.Schedule.{length_of, level_at, next_line, response_clocks, start_of}
 use Rattle.uz_schedule.specs.Tracked.{tracked}
-use Rattle.uz_schedule.specs.WellFormed.{EntryFactsFit, EntryFits, EntryKindFits, PointFits, PointsFit, RangeFits, RestFits, RestsFit}
+use Rattle.uz_schedule.specs.WellFormed.{EntryFits, EntryKindFits, PointFits, PointsFit, RangeFits, RestFits, RestsFit}
 use Rattle.uz_schedule.specs.WellFormed.{WellFormed, instances_of, spans_fit}
 use Rattle.uz_schedule.specs.declared.certificate.Cert.{Cert}
 use Rattle.uz_schedule.specs.declared.facts.Bit.{Bit}
@@ -30,14 +30,15 @@ use Rattle.uz_schedule.specs.declared.states.Point.{Point}
 use Rattle.uz_schedule.specs.declared.states.Rest.{Rest}
 use Rattle.uz_transfer.specs.Refusals.{range_inside}
 use Rattle.uz_transfer.specs.Values.{flag_at, pair_at, span_at, value_at}
-use Rattle.uz_rules.specs.Inside.{all_below, cells_inside, flag_inside, flags_inside, inside, pairs_inside, registers_inside, same_bool}
-use Rattle.uz_rules.specs.Inside.{same_kind, same_place, slots_inside, value_inside}
+use Rattle.uz_rules.specs.Inside.{all_below, flag_inside, inside, same_bool}
+use Rattle.uz_rules.specs.Inside.{same_kind, same_place, value_inside}
 use Rattle.uz_rules.specs.Successors.{any_from, lies_at, lies_in_any, lies_in_box, lies_in_point}
 use Rattle.uz_soundness.specs.Acceptance.{Accepts}
+use Rattle.uz_soundness.specs.Steady.{AreScanlines as AreScanlinesOf}
 use Rattle.uz_search.specs.declared.found.Found.{Found}
 use Rattle.uz_search.specs.declared.program.Program.{Program}
 use Rattle.uz_search.specs.Fitting.{ProgramFits, Stands}
-use Rattle.uz_search.specs.Following.{Among, Flash}
+use Rattle.uz_search.specs.Following.{Among, Flash, order_of_program, lines_of}
 use Rattle.uz_search.specs.Returning.{ReturnAt}
 use Rattle.uz_search.specs.Searching.{IsEnded}
 use Rattle.uz_search.specs.Widenings.{widened}
@@ -50,13 +51,14 @@ use Rattle.uz_paths.specs.declared.certificate.Parts.{Parts}
 use Rattle.uz_paths.specs.Certificate.{ArePartsOf, IsEntry, ReturnsFromMain, cert_of}
 use Rattle.uz_paths.specs.Kinds.{IsScheduleOf}
 use Rattle.uz_paths.specs.Linked.{AreEntered, NamesFit, NamesResults, first_after}
-use Rattle.uz_paths.specs.Numbers.{IsVectorOf, Numbered}
+use Rattle.uz_paths.specs.Numbers.{Numbered}
 use Rattle.uz_paths.specs.Points.{IsOrdered, point_of, vector_point}
+use Rattle.uz_paths.specs.ProgramOf.{AreScanlines}
 use Rattle.uz_paths.specs.Rests.{rests_of}
 use Rattle.uz_paths.proofs.Counting.{at_least, sum_few}
 use Rattle.uz_paths.proofs.MadeSchedule.{EventByLine, is_fit, is_made}
 use Rattle.uz_paths.proofs.NumberLemmas.{numbers_below}
-use Rattle.uz_paths.proofs.RestLemmas.{OfReturn, all_in, few_of, lines_of_rests, of_return, one_rest, rest_among, rest_of_line, rests_rise}
+use Rattle.uz_paths.proofs.RestLemmas.{all_in, few_of, lines_of_rests, of_return, one_rest, rest_among, rest_of_line, rests_rise}
 use Rattle.uz_paths.proofs.SameInstance.{both, own_instance, vector_instance}
 use Rattle.uz_paths.proofs.WithinPoints.{all_of, own_fits, vector_fits}
 
@@ -220,7 +222,7 @@ entered image p found entry s enter fits ended made k c rest at few =
 
 module _ (image : Flash) (p : Program) (entry : Entry) (found : Found) (parts : Parts) (laws : Laws) (fits : ProgramFits p)
     (ended : IsEnded image p found)
-    (few : length found.nodes.keys < 524288) (entering : IsEntry p entry) (returns : ReturnsFromMain p found)
+    (few : length found.nodes.keys < 524288) (entering : IsEntry p entry) (long : AreScanlines p.schedule) (returns : ReturnsFromMain p found)
     (of : ArePartsOf image p entry found parts) where
   abbrev cert : Cert
   cert = cert_of p parts
@@ -229,7 +231,7 @@ module _ (image : Flash) (p : Program) (entry : Entry) (found : Found) (parts : 
   response = response_clocks p.head.irq
 
   abbrev next : ℕ → ℕ
-  next l = (uniform p.lines).next l
+  next l = (order_of_program p).next l
 
   made : made_of.IsScheduleOf p found.marks.items parts.schedule
   made = is_made p found.marks.items parts.schedule laws.by_line of.schedule
@@ -249,13 +251,20 @@ module _ (image : Flash) (p : Program) (entry : Entry) (found : Found) (parts : 
   level : (x : Instance) → Among found.nodes.keys x → level_at parts.schedule (start_of parts.schedule x.line + x.clock) ≡ Some x.level
   level x node = laws.levels image p found parts.schedule x fits ended made node
 
+  -- lines are as long as the program's
+  clock_in : (x : Instance) → Among found.nodes.keys x → x.clock < length_of parts.schedule x.line
+  clock_in x node = subst (λ n. x.clock < n) (sym (of.schedule.lengths x.line)) (stand x node).clock
+
+  scanlines : AreScanlinesOf parts.schedule
+  scanlines l below = of.schedule.lengths l ∙ long l
+
   -- Rests
 
   among_rests : (k : ℕ) (rest : Rest) → slice_get parts.rests.items k ≡ Some rest → slice_get (rests_of found.returns.items) k ≡ Some rest
   among_rests k rest at = ap (λ rs. slice_get rs k) (sym of.rests) ∙ at
 
-  rest_line : (k : ℕ) (rest : Rest) → slice_get parts.rests.items k ≡ Some rest → rest.line < p.lines
-  rest_line k rest at = lines_of_rests found.returns.items parts.rests.items p.lines of.rests ended.lines k rest at
+  rest_line : (k : ℕ) (rest : Rest) → slice_get parts.rests.items k ≡ Some rest → rest.line < lines_of p
+  rest_line k rest at = lines_of_rests found.returns.items parts.rests.items (lines_of p) of.rests ended.lines k rest at
 
   first : (k c : ℕ) (rest : Rest) → slice_get parts.rests.items k ≡ Some rest → c ≤ 3 → Among found.nodes.keys
       (first_after p parts.schedule rest c)
@@ -271,6 +280,7 @@ module _ (image : Flash) (p : Program) (entry : Entry) (found : Found) (parts : 
       let there : level_at parts.schedule (start_of parts.schedule (next rest.line) + (c + response)) ≡ Some x.level =
       ap (λ l. level_at parts.schedule (start_of parts.schedule l + (c + response))) (sym (same_next rest.line))
       ∙ level x (first k c rest at le) in
+      let room = (length_within parts.schedule schedule_fits (next rest.line)).0 in
       ap (λ l. instance_at cert k l c) (same_next rest.line)
       ∙ (vector_instance cert k rest.cells.items (next rest.line) response c x.level v.next v.is le (omega arith) there
       ∙ ap (λ l. Some (handler_entry rest.cells.items l (c + response) x.level)) (sym (same_next rest.line)))
@@ -293,12 +303,13 @@ module _ (image : Flash) (p : Program) (entry : Entry) (found : Found) (parts : 
   known : (i n : ℕ) (x : Instance) → slice_get found.nodes.keys i ≡ Some x → slice_get of.numbers i ≡ Some n → IsKnownAt cert n x
   known i n x node number = by (of.numbered.each i n x node number)
     where
-      by : Numbered response (uniform p.lines) parts.rests.items (length parts.points.items) n x → IsKnownAt cert n x
+      by : Numbered response (order_of_program p) parts.rests.items (length parts.points.items) n x → IsKnownAt cert n x
       by (inl v) =
           let vec = of.points.vectors n v.rest v.there in
           let low = v.after.first.earliest in
           let high = v.after.first.latest in
-          let clocks = (stand x (i, node)).clock in
+          let clocks : x.clock < length_of parts.schedule (next v.rest.line) =
+          subst (λ l. x.clock < length_of parts.schedule l) (sym v.after.line) (clock_in x (i, node)) in
           let same : x.clock - response + response ≡ x.clock = omega arith in
           let there : level_at parts.schedule (start_of parts.schedule (next v.rest.line) + (x.clock - response + response)) ≡ Some
           x.level =
@@ -323,7 +334,7 @@ module _ (image : Flash) (p : Program) (entry : Entry) (found : Found) (parts : 
             count = 0;
             low = omega arith;
             high = omega arith;
-            is = own_instance cert n x own.next own.is (limits x (i, node)).pair_count (stand x (i, node)).clock (level x (i, node));
+            is = own_instance cert n x own.next own.is (limits x (i, node)).pair_count (clock_in x (i, node)) (level x (i, node));
           }
 
   succeeded : (x : Instance) (ids : List ℕ) → NamesResults image p found.nodes.keys of.numbers x ids → HasSuccessors image p cert ids x
@@ -417,7 +428,7 @@ module _ (image : Flash) (p : Program) (entry : Entry) (found : Found) (parts : 
           record {
             x = o.x;
             is = (λ j. instance_at cert id (sym same j) (sym none j)) ∙ own_instance cert id o.x o.ids there (limits o.x node).pair_count
-                (stand o.x node).clock (level o.x node);
+                (clock_in o.x node) (level o.x node);
             node = node;
             pc = sym (ap (λ (z : Point). z.pc) o.is);
             named = succeeded o.x point.next.items (of.named.own o.place id o.x point (slice_get_within found.nodes.keys o.place o.x o.node)
@@ -494,11 +505,11 @@ module _ (image : Flash) (p : Program) (entry : Entry) (found : Found) (parts : 
           node.1 in let same = of.numbered.lengths in omega arith) in
           (node.0, m.1 ∙ ap (λ k. Some k) (by m.0 (of.numbered.each node.0 m.0 (first_after p parts.schedule rest 0) node.1 m.1)))
         where
-          by : (m : ℕ) → Numbered response (uniform p.lines) parts.rests.items (length parts.points.items) m
+          by : (m : ℕ) → Numbered response (order_of_program p) parts.rests.items (length parts.points.items) m
               (first_after p parts.schedule rest 0) → m ≡ n
           by m (inl v) =
               let same : next v.rest.line ≡ next rest.line = v.after.line ∙ same_next rest.line in
-              let line = one_next p.lines v.rest.line rest.line (rest_line m v.rest v.there) (rest_line n rest at) same in
+              let line = one_next (lines_of p) v.rest.line rest.line (rest_line m v.rest v.there) (rest_line n rest at) same in
               one_rest found.returns.items m n v.rest rest (among_rests m v.rest v.there) (among_rests n rest at) line
           by m (inr h) = absurd (h.0 n (record {
             rest = rest;
@@ -512,32 +523,33 @@ module _ (image : Flash) (p : Program) (entry : Entry) (found : Found) (parts : 
   some_point : 1 ≤ length parts.points.items
   some_point =
       let e = of.entry_number in
-      let below = numbers_below response (uniform p.lines) parts.rests.items found.nodes.keys of.numbers (length parts.points.items)
+      let below = numbers_below response (order_of_program p) parts.rests.items found.nodes.keys of.numbers (length parts.points.items)
       of.numbered e.place parts.entry.id e.is in
       omega arith
 
   cells_fit : (k : ℕ) (rest : Rest) → slice_get parts.rests.items k ≡ Some rest → spans_fit (tracked p.head Handler) rest.cells.items ≡ true
   cells_fit k rest at = (limits (first_after p parts.schedule rest 0) (first k 0 rest at (omega arith))).cells
 
-  point_fits : (id : ℕ) (point : Point) → slice_get parts.points.items id ≡ Some point → PointFits p.head p.lines
+  point_fits : (id : ℕ) (point : Point) → slice_get parts.points.items id ≡ Some point → PointFits p.head (lines_of p)
       (length parts.points.items) point
   point_fits id point at = ⊎_elim vector own (which id point at)
     where
-      vector : IsVector id point → PointFits p.head p.lines (length parts.points.items) point
+      vector : IsVector id point → PointFits p.head (lines_of p) (length parts.points.items) point
       vector v =
           let small = few_clocks p.head.irq in
           let names = subst (λ (z : Point). NamesFit (length parts.points.items) z.next.items) v.is (of.points.names id point at) in
-          subst (PointFits p.head p.lines (length parts.points.items)) (sym v.is)
+          subst (PointFits p.head (lines_of p) (length parts.points.items)) (sym v.is)
           (vector_fits p (length parts.points.items) v.rest.cells.items (next v.rest.line) response v.ids
-          (next_below p.lines v.rest.line (rest_line id v.rest v.at)) (omega arith) (cells_fit id v.rest v.at)
+          (next_below (lines_of p) v.rest.line (rest_line id v.rest v.at)) (omega arith) (cells_fit id v.rest v.at)
           (of.points.vectors id v.rest v.at).ordered names)
 
-      own : IsOwn id point → PointFits p.head p.lines (length parts.points.items) point
+      own : IsOwn id point → PointFits p.head (lines_of p) (length parts.points.items) point
       own o =
           let node : Among found.nodes.keys o.x = (o.place, o.node) in
           let names = subst (λ (z : Point). NamesFit (length parts.points.items) z.next.items) o.is (of.points.names id point at) in
-          subst (PointFits p.head p.lines (length parts.points.items)) (sym o.is) (own_fits p (length parts.points.items) o.x o.ids
-          (stand o.x node) (limits o.x node) o.ordered names)
+          subst (PointFits p.head (lines_of p) (length parts.points.items)) (sym o.is) (own_fits p (length parts.points.items) o.x o.ids
+          (stand o.x node) (limits o.x node) (let inside = clock_in o.x node in let short =
+          (length_within parts.schedule schedule_fits o.x.line).1 in omega arith) o.ordered names)
 
   few_instances : (id : ℕ) (point : Point) → slice_get parts.points.items id ≡ Some point → instances_of point ≤ 4
   few_instances id point at = ⊎_elim
@@ -547,7 +559,7 @@ module _ (image : Flash) (p : Program) (entry : Entry) (found : Found) (parts : 
       subst (λ n. (n + 1) * 1 ≤ 4) (sym none) (omega arith)))
       (which id point at)
 
-  rest_fits : (k : ℕ) (rest : Rest) → slice_get parts.rests.items k ≡ Some rest → RestFits p.head p.lines (length parts.points.items) rest
+  rest_fits : (k : ℕ) (rest : Rest) → slice_get parts.rests.items k ≡ Some rest → RestFits p.head (lines_of p) (length parts.points.items) rest
   rest_fits k rest at =
       let o = of_return 0 0 found.returns.items k rest (among_rests k rest at) in
       let below = slice_get_within parts.rests.items k rest at in
@@ -558,7 +570,8 @@ module _ (image : Flash) (p : Program) (entry : Entry) (found : Found) (parts : 
       (subst (λ l. ReturnAt found.returns.items l o.noted) line o.there) in
       record {
         line = rest_line k rest at;
-        clock = subst (λ c. c < 1820) (sym o.is_clock) quiet.in_line;
+        clock = (let is = o.is_clock in let inside = quiet.in_line in let short =
+            (length_within parts.schedule schedule_fits rest.line).1 in omega arith);
         vector = omega arith;
         cells = record {
           ranges = all_of (RangeFits 255) rest.cells.items (of.points.vectors k rest at).ordered;
@@ -571,7 +584,7 @@ module _ (image : Flash) (p : Program) (entry : Entry) (found : Found) (parts : 
   kind_same Handler id h = h
   kind_same Alone id h = h
 
-  entry_fits : (id : ℕ) → id < length parts.points.items → EntryFits p.head p.lines (length parts.points.items) (record entry { id = id })
+  entry_fits : (id : ℕ) → id < length parts.points.items → EntryFits p.head (lines_of p) (length parts.points.items) (record entry { id = id })
   entry_fits id below =
       let some = fits.some in
       let f = entering.facts in
@@ -593,23 +606,23 @@ module _ (image : Flash) (p : Program) (entry : Entry) (found : Found) (parts : 
       }
 
   -- among the lines of the schedule, which are the program's
-  fits_lines : (n : ℕ) → p.lines ≡ n → RestsFit p.head n (length parts.points.items) parts.rests.items × EntryFits p.head n
+  fits_lines : (n : ℕ) → lines_of p ≡ n → RestsFit p.head n (length parts.points.items) parts.rests.items × EntryFits p.head n
       (length parts.points.items) parts.entry × PointsFit p.head n parts.points.items
   fits_lines n same = subst (λ n. RestsFit p.head n (length parts.points.items) parts.rests.items × EntryFits p.head n
       (length parts.points.items) parts.entry × PointsFit p.head n parts.points.items) same (
         record {
-          few = few_of found.returns.items parts.rests.items p.lines of.rests ended.lines;
-          each = all_of (RestFits p.head p.lines (length parts.points.items)) parts.rests.items rest_fits;
+          few = few_of found.returns.items parts.rests.items (lines_of p) of.rests ended.lines;
+          each = all_of (RestFits p.head (lines_of p) (length parts.points.items)) parts.rests.items rest_fits;
           rise = ap (λ rs. rises (map (λ r. r.line) rs)) of.rests ∙ rests_rise 0 0 0 found.returns.items (omega arith);
         },
-        subst (EntryFits p.head p.lines (length parts.points.items)) (sym of.enters)
-            (entry_fits parts.entry.id (let e = of.entry_number in numbers_below response (uniform p.lines) parts.rests.items
+        subst (EntryFits p.head (lines_of p) (length parts.points.items)) (sym of.enters)
+            (entry_fits parts.entry.id (let e = of.entry_number in numbers_below response (order_of_program p) parts.rests.items
             found.nodes.keys
             of.numbers (length parts.points.items) of.numbered e.place parts.entry.id e.is)),
         record {
           some = some_point;
           few = omega (arith, few_points);
-          each = all_of (PointFits p.head p.lines (length parts.points.items)) parts.points.items point_fits;
+          each = all_of (PointFits p.head (lines_of p) (length parts.points.items)) parts.points.items point_fits;
           instances = (let sum = sum_few instances_of parts.points.items few_instances in omega (arith, few_points));
         },
       )
@@ -621,4 +634,5 @@ module _ (image : Flash) (p : Program) (entry : Entry) (found : Found) (parts : 
 
   pub accepted : Accepts image cert
   accepted = laws.accepts image p found cert fits ended
-      (record { head = refl; schedule = made; rests = all_in found.returns.items parts.rests.items of.rests }) schedule_fits are_points
+      (record { head = refl; schedule = made; rests = all_in found.returns.items parts.rests.items of.rests }) schedule_fits scanlines
+      are_points

@@ -1,6 +1,6 @@
 -- What the parts of a certificate give, and what a refusal of the search is licensed by.
-use Rattle.std.proofs.Common.{◌≡◌, ◌≢◌, ◌⊎◌, ◌∙◌, inl, inr, sym, ap, refl, ℕ, ◌<◌, ◌≤◌, List, length, subst}
-use Rattle.std.specs.Prelude.{Option, Some, Result, Ok, Err, IfOk, IfErr, IsOk, slice_get, ⊤}
+use Rattle.std.proofs.Common.{◌≡◌, ◌⊎◌, ◌∙◌, inl, inr, sym, ap, refl, ℕ, List, subst}
+use Rattle.std.specs.Prelude.{Some, Result, Ok, Err, IfOk, IfErr, IsOk}
 use Rattle.std.specs.Ordering.{nat_cmp}
 use Rattle.std.specs.FinMap.{FinMap}
 use Rattle.std.proofs.lemmas.Option.{slice_get_within}
@@ -19,11 +19,11 @@ use Rattle.uz_search.specs.Refusing.{Refusal}
 use Rattle.uz_search.specs.Searching.{IsEnded}
 use Rattle.uz_search.specs.Trails.{OnTrail}
 use Rattle.uz_hints.specs.declared.reading.Reading.{Reading}
-use Rattle.uz_hints.specs.Faults.{IsFine, FineBefore, FactPart, FactsFine}
+use Rattle.uz_hints.specs.Faults.{IsFine, FactPart, FactsFine}
 use Rattle.uz_hints.specs.Reading.{IsReading}
 use Rattle.uz_paths.specs.declared.certificate.Parts.{Parts}
 use Rattle.uz_paths.specs.Certificate.{ArePartsOf, cert_of}
-use Rattle.uz_paths.specs.Finding.{instance_limit, Cause, NoCause, Licensed, IsFoundBy, IsAsked}
+use Rattle.uz_paths.specs.Finding.{instance_limit, Cause, NoCause, IsFoundBy, IsAsked}
 use Rattle.uz_paths.specs.ProgramOf.{IsProgramOf, start_entry, entry_with}
 use Rattle.uz_paths.proofs.RestLemmas.{is_return}
 
@@ -33,6 +33,7 @@ pub found_by : (image : FinMap nat_cmp ℕ) (p : Program) (entry : Entry) (found
 found_by image p entry found parts cert is a ended trails = subst (IsFoundBy image p entry) (sym is) (record {
   head = refl;
   lines = a.schedule.count;
+  lengths = a.schedule.lengths;
   fall = a.schedule.falls;
   enters = a.enters;
   rests = is_return image p found parts.rests.items a.rests ended trails;

@@ -1,14 +1,15 @@
 -- Joining points leaves what was asked of a certificate.
-use Rattle.std.proofs.Common.{◌≡◌, ◌∙◌, sym, ap, refl, ℕ, List, length, map, subst}
+use Rattle.std.proofs.Common.{◌≡◌, ◌∙◌, sym, ap, ℕ, length, map}
 use Rattle.std.specs.Prelude.{Contains, Some, slice_get}
 use Rattle.std.specs.Ordering.{nat_cmp}
 use Rattle.std.specs.FinMap.{FinMap}
 use Rattle.std.proofs.lemmas.Option.{get_or_from_slice_get, slice_get-get_or, slice_get_within}
+use Rattle.uz_schedule.specs.Schedule.{length_of}
 use Rattle.uz_schedule.specs.declared.certificate.Cert.{Cert}
 use Rattle.uz_schedule.specs.declared.lines.Schedule.{Schedule}
 use Rattle.uz_schedule.specs.declared.states.Entry.{Entry}
 use Rattle.uz_schedule.specs.declared.states.Rest.{Rest}
-use Rattle.uz_join.specs.Joined.{SameButPoints, entry_unnumbered, rest_unnumbered}
+use Rattle.uz_join.specs.Joined.{SameButPoints, rest_unnumbered}
 use Rattle.uz_search.specs.declared.program.Program.{Program}
 use Rattle.uz_search.proofs.Lists.{in_map, of_map}
 use Rattle.uz_paths.specs.Finding.{IsFoundBy, IsReturn}
@@ -31,6 +32,7 @@ pub found_joined : (image : FinMap nat_cmp ℕ) (p : Program) (entry : Entry) (a
 found_joined image p entry a b same f = record {
   head = sym same.head ∙ f.head;
   lines = sym (ap (λ (s : Schedule). length s.lines) same.schedule) ∙ f.lines;
+  lengths = λ l. sym (ap (λ (s : Schedule). length_of s l) same.schedule) ∙ f.lengths l;
   fall = sym (ap (λ (s : Schedule). s.fall) same.schedule) ∙ f.fall;
   enters = ap (λ (e : Entry). record e { id = b.entry.id }) (sym same.entry) ∙ ap (λ (e : Entry). record e { id = b.entry.id }) f.enters;
   rests = rests;

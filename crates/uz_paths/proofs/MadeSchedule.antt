@@ -1,13 +1,14 @@
 -- The schedule of an ended search's marks is one of a certificate: within its limits, with the events that are marked.
-use Rattle.std.proofs.Common.{◌≡◌, ◌≢◌, ◌∙◌, sym, ap, refl, arith, inl, inr, ⊎_elim, ℕ, zero, suc, ◌+◌, ◌*◌, ◌<◌, ◌≤◌, Bool, true, false}
+use Rattle.std.proofs.Common.{◌≡◌, ◌≢◌, ◌∙◌, sym, ap, refl, arith, ⊎_elim, ℕ, zero, suc, ◌+◌, ◌<◌, ◌≤◌, true, false}
 use Rattle.std.proofs.Common.{List, [], ◌∷◌, ◌++◌, map, All, length, get_or, subst, if◌then◌else◌}
-use Rattle.std.specs.Prelude.{Option, Some, None, Result, Ok, Err, IfOk, ◌&&◌, ◌==◌, nat_eq, nat_le, slice_get, slice_index}
+use Rattle.std.specs.Prelude.{Option, Some, None, Result, Ok, Err, IfOk, ◌&&◌, nat_eq, nat_le, nat_lt, slice_get, slice_index}
 use Rattle.std.proofs.lemmas.Bool.{cases_eq, eq-eqb}
 use Rattle.std.proofs.lemmas.Bool.Decides.{nat_tests}
 use Rattle.std.proofs.lemmas.List.Elements.{All-cons, All-nil}
 use Rattle.std.proofs.lemmas.Option.{get_or_from_slice_get, slice_get-get_or, slice_get_within}
-use Rattle.uz_schedule.specs.Limits.{EventFits, EventsFit, KindFits, KindsFit, LinesFit, ScheduleFits, rises_from}
-use Rattle.uz_schedule.specs.Schedule.{event_at, event_in, event_in_kind, events_of, length_of, start_of}
+use Rattle.uz_schedule.specs.Limits.{EventFits, EventsFit, KindFits, ScheduleFits, clock_limit, clocks_below, is_length}
+use Rattle.uz_schedule.specs.Limits.{lengths_fit, rises_from}
+use Rattle.uz_schedule.specs.Schedule.{event_at, event_in, event_in_kind, events_of, length_of, scanline, start_of}
 use Rattle.uz_schedule.specs.declared.lines.Event.{Event}
 use Rattle.uz_schedule.specs.declared.lines.EventKind.{EventKind}
 use Rattle.uz_schedule.specs.declared.lines.EventKind.TheVariants.{Sync, Pixel, Sound, Leave}
@@ -16,13 +17,13 @@ use Rattle.uz_search.specs.declared.found.Found.{Found}
 use Rattle.uz_search.specs.declared.marks.Mark.{Mark}
 use Rattle.uz_search.specs.declared.program.Program.{Program}
 use Rattle.uz_search.specs.Fitting.{ProgramFits}
-use Rattle.uz_search.specs.Following.{Flash}
+use Rattle.uz_search.specs.Following.{Flash, line_start, lines_of}
 use Rattle.uz_search.specs.Marking.{MarkAt}
 use Rattle.uz_search.specs.Searching.{IsEnded}
 use Rattle.uz_search_laws.specs.Complete.{EndedFallsOnce, EndedLevelsFit}
-use Rattle.uz_search_laws.specs.Made.{event_of, marked_at}
+use Rattle.uz_search_laws.specs.Made.{event_of}
 use Rattle.uz_search_laws.specs.Made as laws
-use Rattle.uz_paths.specs.Kinds.{event_here, events_from, line_events, noted, IsScheduleOf}
+use Rattle.uz_paths.specs.Kinds.{event_here, events_from, line_events, noted, IsKind, IsScheduleOf}
 
 -- the event at a clock of a line is that of the line's kind
 abbrev pub EventByLine : Type 0
@@ -63,9 +64,10 @@ at_clock marks start k (suc n) q le less = ⊎_elim
     (suc k) n q (omega arith) (omega arith))
     (cases_eq k q)
 
-pub line_at : (marks : List (Option Mark)) (l k : ℕ) → k < 1820 → event_in (line_events marks l) k ≡ noted (slice_get marks (1820 * l + k))
+pub line_at : (marks : List (Option Mark)) (l clocks k : ℕ) → k < clocks → event_in (line_events marks l clocks) k ≡ noted
+    (slice_get marks (line_start l + k))
 unfolding line_events
-line_at marks l k less = at_clock marks (1820 * l) 0 1820 k (omega arith) (omega arith)
+line_at marks l clocks k less = at_clock marks (line_start l) 0 clocks k (omega arith) (omega arith)
 
 few_here : (k n : ℕ) (o : Option EventKind) (rest : List Event) → length rest ≤ n → length (event_here k o ++ rest) ≤ suc n
 few_here k n None rest h = omega arith
@@ -93,13 +95,13 @@ noted_fits marks y (Sync v) levels is = by (slice_get marks y) refl is
     by (Some None) at e = absurd (cc)
     by (Some (Some m)) at e = levels y v m at e
 
-here_fits : (k : ℕ) (o : Option EventKind) (rest : List Event) → k < 1820 → ((kind : EventKind) → o ≡ Some kind → KindFits kind)
+here_fits : (k : ℕ) (o : Option EventKind) (rest : List Event) → k < clock_limit → ((kind : EventKind) → o ≡ Some kind → KindFits kind)
     → All EventFits rest → All EventFits (event_here k o ++ rest)
 here_fits k None rest less fits all = all
 here_fits k (Some kind) rest less fits all = All-cons EventFits (record { clock = k; kind = kind }) rest
     (record { clock = less; kind = fits kind refl }) all
 
-all_fit : (marks : List (Option Mark)) (start k n : ℕ) → k + n ≤ 1820 → LevelsFit marks → All EventFits (events_from marks start k n)
+all_fit : (marks : List (Option Mark)) (start k n : ℕ) → k + n ≤ clock_limit → LevelsFit marks → All EventFits (events_from marks start k n)
 unfolding events_from
 all_fit marks start k zero le levels = All-nil EventFits
 all_fit marks start k (suc n) le levels =
@@ -127,15 +129,51 @@ some_event : (events : List Event) (k : ℕ) (e : EventKind) → event_in events
 some_event [] k e is = absurd (cc)
 some_event (d ∷ ds) k e is = omega arith
 
-line_fits : (marks : List (Option Mark)) (l k : ℕ) (e : EventKind) → LevelsFit marks → event_in (line_events marks l) k ≡ Some e
-    → EventsFit (line_events marks l)
+line_fits : (marks : List (Option Mark)) (l clocks k : ℕ) (e : EventKind) → clocks ≤ scanline → LevelsFit marks
+    → event_in (line_events marks l clocks) k ≡ Some e → EventsFit (line_events marks l clocks)
 unfolding line_events
-line_fits marks l k e levels is = record {
-  some = some_event (line_events marks l) k e is;
-  few = few_events marks (1820 * l) 0 1820;
-  each = all_fit marks (1820 * l) 0 1820 (omega arith) levels;
-  rise = all_rise marks (1820 * l) 0 1820 0 (omega arith);
+line_fits marks l clocks k e short levels is = record {
+  some = some_event (line_events marks l clocks) k e is;
+  few = (let few = few_events marks (line_start l) 0 clocks in omega arith);
+  each = all_fit marks (line_start l) 0 clocks (omega arith) levels;
+  rise = all_rise marks (line_start l) 0 clocks 0 (omega arith);
 }
+
+-- events stand at clocks of their line
+less_true : (a b : ℕ) → a < b → nat_lt a b ≡ true
+less_true a b h = grind (arith, nat_tests)
+
+here_below : (limit k : ℕ) (o : Option EventKind) (rest : List Event) → k < limit → clocks_below rest limit ≡ true
+    → clocks_below (event_here k o ++ rest) limit ≡ true
+here_below limit k None rest less below = below
+here_below limit k (Some kind) rest less below = λ i. less_true k limit less i && below i
+
+from_below : (marks : List (Option Mark)) (start k n limit : ℕ) → k + n ≤ limit → clocks_below (events_from marks start k n) limit ≡ true
+unfolding events_from
+from_below marks start k zero limit le = refl
+from_below marks start k (suc n) limit le =
+    here_below limit k (noted (slice_get marks (start + k))) (events_from marks start (suc k) n) (omega arith)
+    (from_below marks start (suc k) n limit (omega arith))
+
+line_below : (marks : List (Option Mark)) (l clocks : ℕ) → clocks_below (line_events marks l clocks) clocks ≡ true
+unfolding line_events
+line_below marks l clocks = from_below marks (line_start l) 0 clocks clocks (omega arith)
+
+-- each kind with its length
+kinds_long : (kinds : List (List Event)) (lengths : List ℕ) → length lengths ≡ length kinds
+    → ((i : ℕ) (kind : List Event) (n : ℕ) → IsKind kinds lengths i kind n → (is_length n && clocks_below kind n) ≡ true)
+    → lengths_fit kinds lengths ≡ true
+kinds_long [] [] same each = refl
+kinds_long [] (n ∷ lengths) same each = absurd (omega (arith, same))
+kinds_long (kind ∷ kinds) [] same each = absurd (omega (arith, same))
+kinds_long (kind ∷ kinds) (n ∷ lengths) same each =
+    λ i. each 0 kind n (refl, refl) i && kinds_long kinds lengths (omega (arith, same)) (λ j k m at. each (suc j) k m at) i
+
+length_few : (n : ℕ) → is_length n ≡ true → n ≤ scanline
+length_few n h = grind (arith, nat_tests)
+
+pub length_short : (p : Program) → ProgramFits p → (l : ℕ) → length_of p.schedule l ≤ scanline
+length_short p fits l = length_few (length_of p.schedule l) (fits.lengths l)
 
 -- The schedule
 
@@ -144,19 +182,23 @@ same_event None = refl
 same_event (Some None) = refl
 same_event (Some (Some m)) = refl
 
-pub is_made : (p : Program) (marks : List (Option Mark)) (s : Schedule) → EventByLine → IsScheduleOf marks p.lines p.fall s
+pub is_made : (p : Program) (marks : List (Option Mark)) (s : Schedule) → EventByLine → IsScheduleOf marks p.schedule s
     → laws.IsScheduleOf p marks s
 is_made p marks s by_line of = record {
   lines = of.count;
+  lengths = of.lengths;
   fall = of.falls;
   events = λ l k below in_line.
       by_line s l k (subst (λ n. l < n) (sym of.count) below) in_line
-      ∙ (ap (λ o. event_in_kind o k) (of.events l below) ∙ (line_at marks l k in_line ∙ same_event (slice_get marks (1820 * l + k))));
+      ∙ (ap (λ o. event_in_kind o k) (of.events l below)
+      ∙ (line_at marks l (length_of p.schedule l) k (subst (λ n. k < n) (of.lengths l) in_line) ∙ same_event
+      (slice_get marks (line_start l + k))));
 }
 
 pub is_fit : (image : Flash) (p : Program) (found : Found) (s : Schedule) → EventByLine → EndedFallsOnce → EndedLevelsFit → ProgramFits p
-    → IsEnded image p found → IsScheduleOf found.marks.items p.lines p.fall s → ScheduleFits s
+    → IsEnded image p found → IsScheduleOf found.marks.items p.schedule s → ScheduleFits s
 is_fit image p found s by_line falls levels fits ended of = record {
+  lengths = kinds_long s.kinds s.lengths of.sizes long_kind;
   kinds = record { some = some_kind; few = (let few = of.few in let lines = fits.few in omega arith); each = each_kind };
   lines = record {
     some = (let count = of.count in let some = fits.some in omega arith);
@@ -164,7 +206,8 @@ is_fit image p found s by_line falls levels fits ended of = record {
     there = λ l d within. kind_there l d within;
   };
   fall_some = subst (λ n. 1 ≤ n) (sym of.falls) fits.fall_some;
-  fall_in_line = subst (λ n. n < 1820) (sym of.falls) fits.fall_in_line;
+  fall_in_line = (let falls = of.falls in let less = fits.fall_in_line 0 in
+      let short = length_few (length_of p.schedule 0) (fits.lengths 0) in omega arith);
 }
   where
     made : laws.IsScheduleOf p found.marks.items s
@@ -173,19 +216,32 @@ is_fit image p found s by_line falls levels fits ended of = record {
     marked : LevelsFit found.marks.items
     marked y v m at is = levels image p found y v m fits ended at is
 
-    fall_at : (l : ℕ) → l < p.lines → event_in (line_events found.marks.items l) p.fall ≡ Some (Sync 0)
-    fall_at l below =
+    long_kind : (i : ℕ) (kind : List Event) (n : ℕ) → IsKind s.kinds s.lengths i kind n → (is_length n && clocks_below kind n) ≡ true
+    long_kind i kind n at =
+        let l = of.used i kind n at in
+        λ j. (ap is_length l.long ∙ fits.lengths l.line) j && (ap (λ es. clocks_below es n) l.is ∙ line_below found.marks.items l.line n) j
+
+    fall_at : (l clocks : ℕ) → l < lines_of p → clocks ≡ length_of p.schedule l
+        → event_in (line_events found.marks.items l clocks) p.schedule.fall ≡ Some (Sync 0)
+    fall_at l clocks below long =
         let first = (falls image p found s fits ended made).first l below in
-        line_at found.marks.items l p.fall fits.fall_in_line ∙ (same_event (slice_get found.marks.items (1820 * l + p.fall))
-        ∙ (sym (made.events l p.fall below fits.fall_in_line) ∙ first))
+        let less : p.schedule.fall < clocks = subst (λ n. p.schedule.fall < n) (sym long) (fits.fall_in_line l) in
+        let here : p.schedule.fall < length_of s l = subst (λ n. p.schedule.fall < n) (sym (of.lengths l)) (fits.fall_in_line l) in
+        line_at found.marks.items l clocks p.schedule.fall less ∙ (same_event
+        (slice_get found.marks.items (line_start l + p.schedule.fall)) ∙ (sym (made.events l p.schedule.fall below here) ∙ first))
 
     each_kind : All EventsFit s.kinds
     each_kind i d within =
-        let l = of.used i (get_or s.kinds i d) (slice_get-get_or s.kinds i d within) in
-        subst EventsFit (sym l.2) (line_fits found.marks.items l.0 p.fall (Sync 0) marked (fall_at l.0 l.1))
+        let clocks = get_or s.lengths i 0 in
+        let there : i < length s.lengths = (let same = of.sizes in omega arith) in
+        let l = of.used i (get_or s.kinds i d) clocks (slice_get-get_or s.kinds i d within, slice_get-get_or s.lengths i 0 there) in
+        let short : clocks ≤ scanline = length_few clocks (ap is_length l.long ∙ fits.lengths l.line) in
+        subst EventsFit (sym l.is) (line_fits found.marks.items l.line clocks p.schedule.fall (Sync 0) short marked
+        (fall_at l.line clocks l.below l.long))
 
-    kind_of : (l : ℕ) → l < p.lines → slice_index s.lines l < length s.kinds
-    kind_of l below = slice_get_within s.kinds (slice_index s.lines l) (line_events found.marks.items l) (of.events l below)
+    kind_of : (l : ℕ) → l < lines_of p → slice_index s.lines l < length s.kinds
+    kind_of l below = slice_get_within s.kinds (slice_index s.lines l) (line_events found.marks.items l (length_of p.schedule l))
+        (of.events l below)
 
     some_kind : 1 ≤ length s.kinds
     some_kind = let less = kind_of 0 (let some = fits.some in omega arith) in omega arith

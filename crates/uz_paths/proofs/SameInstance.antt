@@ -1,7 +1,7 @@
 -- What a point says where it stands is the instance that it is made of.
 use Rattle.std.proofs.Common.{◌≡◌, ◌∙◌, sym, ap, refl, arith, ℕ, zero, suc, ◌+◌, ◌*◌, ◌%◌, ◌<◌, ◌≤◌, Bool, true, false, List, [], ◌∷◌, map}
-use Rattle.std.proofs.Common.{length, subst, if◌then◌else◌}
-use Rattle.std.specs.Prelude.{Option, Some, None, ◌&&◌, nat_eq, nat_le, nat_lt, option_and_then, slice_get, slice_index_or, ℤ, pos, ◌+ℤ◌}
+use Rattle.std.proofs.Common.{length, if◌then◌else◌}
+use Rattle.std.specs.Prelude.{Some, None, ◌&&◌, nat_eq, nat_le, nat_lt, option_and_then, slice_get, slice_index_or, ℤ, pos, ◌+ℤ◌}
 use Rattle.std.specs.Prelude.{◌*ℤ◌}
 use Rattle.std.proofs.Math.Nat.{mod-eq_of_lt}
 use Rattle.std.proofs.lemmas.Bool.Decides.{nat_tests}
@@ -18,7 +18,6 @@ use Rattle.uz_schedule.specs.declared.facts.Val.{Val}
 use Rattle.uz_schedule.specs.declared.facts.Val.TheVariants.{Range, Old, OldFlags}
 use Rattle.uz_schedule.specs.declared.kinds.Kind.{Kind}
 use Rattle.uz_schedule.specs.declared.kinds.Kind.TheVariants.{Handler}
-use Rattle.uz_schedule.specs.declared.lines.Schedule.{Schedule}
 use Rattle.uz_schedule.specs.declared.states.Instance.{Instance}
 use Rattle.uz_schedule.specs.declared.states.Point.{Point}
 use Rattle.uz_paths.specs.Points.{byte_fact, fact_of, old_facts, pair_fact, pair_facts, point_of, range_fact, same_ends, vector_point}
@@ -120,7 +119,7 @@ box_true a b c d e f g h = λ i. (e i && f i) && (g i && h i)
 
 -- at a line and a count of its box, where there is this level at this clock
 pub instance_placed : (cert : Cert) (id l c clock level : ℕ) (p : Point) → slice_get cert.points id ≡ Some p → is_in_box p l c ≡ true
-    → pos p.clock +ℤ p.slope *ℤ pos c ≡ pos clock → clock < 1820
+    → pos p.clock +ℤ p.slope *ℤ pos c ≡ pos clock → clock < length_of cert.schedule l
     → level_at cert.schedule (start_of cert.schedule l + clock) ≡ Some level → instance_at cert id l c ≡ Some
     (instance_of p l c clock level)
 instance_placed cert id l c clock level p at inside is less there =
@@ -152,7 +151,7 @@ own_same x next three = λ i. record {
 
 -- the point of an instance, at its line
 pub own_instance : (cert : Cert) (id : ℕ) (x : Instance) (next : List ℕ) → slice_get cert.points id ≡ Some (point_of x next)
-    → length x.pairs ≡ 3 → x.clock < 1820
+    → length x.pairs ≡ 3 → x.clock < length_of cert.schedule x.line
     → level_at cert.schedule (start_of cert.schedule x.line + x.clock) ≡ Some x.level → instance_at cert id x.line 0 ≡ Some x
 own_instance cert id x next at three less level =
     instance_placed cert id x.line 0 x.clock x.level (point_of x next) at
@@ -186,7 +185,7 @@ vector_same cells line response c level next = λ i. record {
 
 -- a vector, at its line and a count from 0 to 3
 pub vector_instance : (cert : Cert) (id : ℕ) (cells : List Ends) (line response c level : ℕ) (next : List ℕ) → slice_get cert.points
-    id ≡ Some (vector_point cells line response next) → c ≤ 3 → c + response < 1820
+    id ≡ Some (vector_point cells line response next) → c ≤ 3 → c + response < length_of cert.schedule line
     → level_at cert.schedule (start_of cert.schedule line + (c + response)) ≡ Some level → instance_at cert id line c ≡ Some
     (handler_entry cells line (c + response) level)
 vector_instance cert id cells line response c level next at few less there =

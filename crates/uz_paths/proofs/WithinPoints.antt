@@ -1,18 +1,17 @@
 -- The points of instances are within a certificate's limits.
-use Rattle.std.proofs.Common.{◌≡◌, ◌≢◌, ◌∙◌, sym, ap, refl, arith, inl, inr, ⊎_elim, ◌⊎◌, ℕ, zero, suc, ◌+◌, ◌*◌, ◌<◌, ◌≤◌, Bool, true}
+use Rattle.std.proofs.Common.{◌≡◌, ◌≢◌, ◌∙◌, sym, ap, refl, arith, inl, inr, ◌⊎◌, ℕ, zero, suc, ◌+◌, ◌*◌, ◌<◌, ◌≤◌, Bool, true}
 use Rattle.std.proofs.Common.{false, List, [], ◌∷◌, map, All, length, get_or, subst, if◌then◌else◌}
-use Rattle.std.specs.Prelude.{Some, ◌&&◌, nat_eq, nat_le, nat_lt, pos, slice_get, slice_index_or, replicate}
-use Rattle.std.proofs.lemmas.Bool.{cases_eq, eq-eqb}
+use Rattle.std.specs.Prelude.{Some, ◌&&◌, nat_eq, nat_lt, slice_get, slice_index_or, replicate}
 use Rattle.std.proofs.lemmas.Bool.Decides.{nat_tests}
 use Rattle.std.proofs.lemmas.List.{length-map}
 use Rattle.std.proofs.lemmas.List.Elements.{All-cons, All-nil}
 use Rattle.std.proofs.lemmas.Option.{slice_get-get_or}
 use Rattle.uz_schedule.specs.Ends.{Ends, whole_byte, whole_pair}
+use Rattle.uz_schedule.specs.Limits.{clock_limit}
 use Rattle.uz_schedule.specs.Instances.{hull_at, span_of_val, val_at}
-use Rattle.uz_schedule.specs.Tracked.{tracked, depth_of}
-use Rattle.uz_schedule.specs.WellFormed.{BitFits, CellFactFits, FactFits, IsAtBegin, PairFits, PartFits, PointFits, PointKindFits}
+use Rattle.uz_schedule.specs.Tracked.{tracked}
+use Rattle.uz_schedule.specs.WellFormed.{BitFits, CellFactFits, FactFits, PairFits, PartFits, PointFits, PointKindFits}
 use Rattle.uz_schedule.specs.WellFormed.{RangeFits, is_carry_and_zero_default, is_zero_or_one, spans_fit}
-use Rattle.uz_schedule.specs.declared.facts.Bit.{Bit}
 use Rattle.uz_schedule.specs.declared.facts.Bit.TheVariants.{Old as OldBit}
 use Rattle.uz_schedule.specs.declared.facts.Fact.TheVariants.{Any, Between, Old as OldFact}
 use Rattle.uz_schedule.specs.declared.facts.PairFact.{PairFact}
@@ -23,6 +22,7 @@ use Rattle.uz_schedule.specs.declared.header.Cell.{Cell}
 use Rattle.uz_schedule.specs.declared.kinds.Kind.{Kind}
 use Rattle.uz_schedule.specs.declared.kinds.Kind.TheVariants.{Main, Handler, Alone}
 use Rattle.uz_schedule.specs.declared.states.Instance.{Instance}
+use Rattle.uz_search.specs.Following.{lines_of}
 use Rattle.uz_search.specs.declared.program.Program.{Program}
 use Rattle.uz_search.specs.Fitting.{Stands}
 use Rattle.uz_search.proofs.Lists.{of_map}
@@ -157,9 +157,9 @@ main_handler e = cc
 alone_handler : Alone ≡ Handler → ⊥
 alone_handler e = cc
 
-pub own_fits : (p : Program) (count : ℕ) (x : Instance) (next : List ℕ) → Stands p x → IsWithinLimits p x → IsOrdered x → NamesFit count
-    next → PointFits p.head p.lines count (point_of x next)
-own_fits p count x next stands limits ordered names = record {
+pub own_fits : (p : Program) (count : ℕ) (x : Instance) (next : List ℕ) → Stands p x → IsWithinLimits p x
+    → x.clock < clock_limit → IsOrdered x → NamesFit count next → PointFits p.head (lines_of p) count (point_of x next)
+own_fits p count x next stands limits early ordered names = record {
   kind = kind x.kind refl;
   pc = limits.pc;
   box = record {
@@ -167,7 +167,7 @@ own_fits p count x next stands limits ordered names = record {
     line = stands.line;
     count_order = omega arith;
     count = omega arith;
-    clock = stands.clock;
+    clock = early;
     slope = omega arith;
   };
   core = record {
@@ -222,9 +222,10 @@ old_flags : (n : ℕ) → All (BitFits Handler) (replicate n OldBit)
 old_flags zero = All-nil (BitFits Handler)
 old_flags (suc n) = All-cons (BitFits Handler) OldBit (replicate n OldBit) refl (old_flags n)
 
-pub vector_fits : (p : Program) (count : ℕ) (cells : List Ends) (line response : ℕ) (next : List ℕ) → line < p.lines → response < 1820
+pub vector_fits : (p : Program) (count : ℕ) (cells : List Ends) (line response : ℕ) (next : List ℕ) → line < lines_of p
+    → response < clock_limit
     → spans_fit (tracked p.head Handler) cells ≡ true → AreOrdered 255 cells → NamesFit count next
-    → PointFits p.head p.lines count (vector_point cells line response next)
+    → PointFits p.head (lines_of p) count (vector_point cells line response next)
 vector_fits p count cells line response next below less fit ordered names = record {
   kind = tt;
   pc = omega arith;

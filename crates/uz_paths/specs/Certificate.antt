@@ -1,7 +1,6 @@
 -- The certificate that an ended search makes.
 use Rattle.std.specs.Prelude.{◌≡◌, ◌<◌, ℕ, List, Some, length, slice_get}
 use Rattle.uz_schedule.specs.Instances.{entry_instance_at}
-use Rattle.uz_schedule.specs.Lines.{uniform}
 use Rattle.uz_schedule.specs.Schedule.{response_clocks}
 use Rattle.uz_schedule.specs.WellFormed.{EntryFactsFit, EntryKindFits}
 use Rattle.uz_schedule.specs.declared.certificate.Cert.{Cert}
@@ -10,7 +9,7 @@ use Rattle.uz_schedule.specs.declared.states.Entry.{Entry}
 use Rattle.uz_schedule.specs.declared.states.Instance.{Instance}
 use Rattle.uz_search.specs.declared.found.Found.{Found}
 use Rattle.uz_search.specs.declared.program.Program.{Program}
-use Rattle.uz_search.specs.Following.{Among, Flash}
+use Rattle.uz_search.specs.Following.{Among, Flash, order_of_program}
 use Rattle.uz_search.specs.Returning.{SomeReturn}
 use Rattle.uz_search_laws.specs.Limits.{IsWithinLimits}
 use Rattle.uz_paths.specs.declared.certificate.Parts.{Parts}
@@ -46,14 +45,14 @@ pub record IsNumberOf (nodes : List Instance) (numbers : List ℕ) (x : Instance
 -- the schedule of the marks, the rests of the returns, this entry, and a point for each vector and each other instance, which name what
 -- follows them
 pub record ArePartsOf (image : Flash) (p : Program) (entry : Entry) (found : Found) (parts : Parts) : Type 0 where
-  pub schedule : IsScheduleOf found.marks.items p.lines p.fall parts.schedule
+  pub schedule : IsScheduleOf found.marks.items p.schedule parts.schedule
   pub rests : parts.rests.items ≡ rests_of found.returns.items
   pub enters : parts.entry ≡ record entry { id = parts.entry.id }
   pub numbers : List ℕ
   pub entry_number : IsNumberOf found.nodes.keys numbers (entry_instance_at entry 1) parts.entry.id
-  pub numbered : AreNumbers (response_clocks p.head.irq) (uniform p.lines) parts.rests.items found.nodes.keys numbers
+  pub numbered : AreNumbers (response_clocks p.head.irq) (order_of_program p) parts.rests.items found.nodes.keys numbers
       (length parts.points.items)
-  pub points : ArePoints (response_clocks p.head.irq) (uniform p.lines) parts.rests.items found.nodes.keys numbers
+  pub points : ArePoints (response_clocks p.head.irq) (order_of_program p) parts.rests.items found.nodes.keys numbers
       (length parts.points.items) parts.points.items
   pub named : AreNamed image p parts.schedule parts.rests.items found.nodes.keys numbers parts.points.items
 

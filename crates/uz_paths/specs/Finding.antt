@@ -3,6 +3,7 @@ use Rattle.std.specs.Prelude.{◌≡◌, ◌≢◌, ⊤, ℕ, Contains, List, le
 use Rattle.std.specs.Ordering.{nat_cmp}
 use Rattle.std.specs.FinMap.{FinMap}
 use Rattle.avr_asm.specs.declared.output.Hint.{Hint as SourceHint}
+use Rattle.uz_schedule.specs.Schedule.{length_of}
 use Rattle.uz_schedule.specs.declared.kinds.Response.{Response}
 use Rattle.uz_schedule.specs.declared.states.Instance.{Instance}
 use Rattle.uz_schedule.specs.declared.states.Entry.{Entry}
@@ -11,7 +12,7 @@ use Rattle.uz_schedule.specs.declared.certificate.Cert.{Cert}
 use Rattle.uz_search.specs.declared.found.NotFound.{NotFound}
 use Rattle.uz_search.specs.declared.found.NotFound.TheVariants.{Stuck, Split, Full, Hint, NoRest, Memory}
 use Rattle.uz_search.specs.declared.program.Program.{Program}
-use Rattle.uz_search.specs.Following.{ReturnsTo}
+use Rattle.uz_search.specs.Following.{ReturnsTo, lines_of}
 use Rattle.uz_search.specs.Trails.{OnTrail}
 use Rattle.uz_search.specs.Refusing.{Refusal}
 use Rattle.uz_hints.specs.Faults.{HintRefusal}
@@ -50,15 +51,16 @@ pub record IsReturn (image : FinMap nat_cmp ℕ) (p : Program) (rest : Rest) : T
   pub clock : rest.clock ≡ end.clock
   pub cells : rest.cells ≡ end.cells
 
--- the certificate has the header, the lines and the fall of the program, and this entry; and each rest is a return of some trail
+-- the certificate has the header, the lines, their lengths and the fall of the program, and this entry; and each rest is a return of some trail
 pub record IsFoundBy (image : FinMap nat_cmp ℕ) (p : Program) (entry : Entry) (cert : Cert) : Type 0 where
   pub head : cert.head ≡ p.head
-  pub lines : length cert.schedule.lines ≡ p.lines
-  pub fall : cert.schedule.fall ≡ p.fall
+  pub lines : length cert.schedule.lines ≡ lines_of p
+  pub lengths : (l : ℕ) → length_of cert.schedule l ≡ length_of p.schedule l
+  pub fall : cert.schedule.fall ≡ p.schedule.fall
   pub enters : cert.entry ≡ record entry { id = cert.entry.id }
   pub rests : (rest : Rest) → Contains cert.rests rest → IsReturn image p rest
 
--- the certificate has the header, the lines, the fall and the entry that the hints ask for, and each rest is a return of some trail
+-- the certificate has the header, the lines, their lengths, the fall and the entry that the hints ask for, and each rest is a return of some trail
 pub record IsAsked (image : FinMap nat_cmp ℕ) (irq : Response) (hints : List SourceHint) (cert : Cert) : Type 0 where
   pub program : Program
   pub of : IsProgramOf irq hints program

@@ -1,10 +1,10 @@
 -- The program that a search is told of by hints: where its trails begin, and by what facts it widens.
-use Rattle.std.specs.Prelude.{◌≡◌, ℕ, ◌+◌, ◌-◌, ◌==◌, nat_lt, Bool, true, false, List, [], ◌∷◌, ◌++◌, map, replicate, Option, Some, None}
+use Rattle.std.specs.Prelude.{◌≡◌, ℕ, ◌+◌, ◌-◌, ◌==◌, nat_lt, List, [], ◌∷◌, ◌++◌, map, replicate, Some}
 use Rattle.std.specs.Prelude.{if◌then◌else◌}
 use Rattle.avr_asm.specs.declared.output.Hint.{Hint}
 use Rattle.avr_asm.specs.declared.output.Hint.TheVariants.{Start, Lines, Stack, Cell, Fact}
 use Rattle.uz_schedule.specs.Ends.{Ends}
-use Rattle.uz_schedule.specs.Schedule.{response_clocks}
+use Rattle.uz_schedule.specs.Schedule.{length_of, response_clocks, scanline}
 use Rattle.uz_schedule.specs.Tracked.{tracked}
 use Rattle.uz_schedule.specs.Instances.{entry_instance_at, handler_entry}
 use Rattle.uz_schedule.specs.declared.facts.Bit.TheVariants.{Free}
@@ -12,11 +12,13 @@ use Rattle.uz_schedule.specs.declared.kinds.Kind.{Kind}
 use Rattle.uz_schedule.specs.declared.kinds.Kind.TheVariants.{Main, Handler, Alone}
 use Rattle.uz_schedule.specs.declared.kinds.Response.{Response}
 use Rattle.uz_schedule.specs.declared.header.Head.{Head}
+use Rattle.uz_schedule.specs.declared.lines.Schedule.{Schedule}
 use Rattle.uz_schedule.specs.declared.states.Entry.{Entry}
 use Rattle.uz_schedule.specs.declared.states.Instance.{Instance}
 use Rattle.uz_search.specs.declared.program.Program.{Program}
 use Rattle.uz_search.specs.declared.widening.Widening.{Widening}
 use Rattle.uz_search.specs.declared.widening.Widening.TheVariants.{Register, Pair}
+use Rattle.uz_search.specs.Following.{lines_of}
 use Rattle.uz_search.specs.Widenings.{facts_at}
 use Rattle.uz_hints.specs.declared.words.Beginning.{Beginning}
 use Rattle.uz_hints.specs.Words.{first_start, first_lines}
@@ -80,11 +82,16 @@ first_states Alone irq cells = []
 abbrev pub starts_of : Response → List Hint → Head → Beginning → List Instance
 starts_of irq hints head start = start_instance hints head start ∷ first_states start.kind irq (first_values (cells_of hints))
 
+-- each line is as long as a scanline
+abbrev pub AreScanlines : Schedule → Type 0
+AreScanlines s = (l : ℕ) → length_of s l ≡ scanline
+
 -- the program that hints tell of
 pub record IsProgramOf (irq : Response) (hints : List Hint) (p : Program) : Type 0 where
   pub start : Beginning
   pub starts_at : first_start hints ≡ Some start
   pub head : IsHeader irq hints p.head
-  pub size : first_lines hints ≡ Some (record { lines = p.lines; fall = p.fall })
+  pub size : first_lines hints ≡ Some (record { lines = lines_of p; fall = p.schedule.fall })
+  pub lengths : AreScanlines p.schedule
   pub facts : (pc : ℕ) → facts_at p pc ≡ facts_for pc hints
   pub starts : p.starts ≡ starts_of irq hints p.head start

@@ -3,12 +3,11 @@
 ghost use Rattle.std.specs.Prelude.{◌≡◌, ◌<◌, ◌≤◌, ◌^◌, ℕ, IfOk, length, slice_get, Some};
 ghost use Rattle.uz_schedule.specs.Instances.{entry_instance_at};
 ghost use Rattle.uz_schedule.specs.Limits.{ScheduleFits};
-ghost use Rattle.uz_schedule.specs.Lines.{uniform};
 ghost use Rattle.uz_schedule.specs.Schedule.{response_clocks};
 ghost use Rattle.uz_schedule.specs.declared.states.Instance.{Instance};
 ghost use Rattle.uz_schedule.specs.declared.states.Rest.{Rest};
 ghost use Rattle.uz_search.specs.Fitting.{ProgramFits, Stands};
-ghost use Rattle.uz_search.specs.Following.{Among};
+ghost use Rattle.uz_search.specs.Following.{Among, order_of_program, lines_of};
 ghost use Rattle.uz_search.specs.Searching.{IsEnded};
 ghost use Rattle.uz_paths.specs.Kinds.{IsScheduleOf};
 ghost use Rattle.uz_paths.specs.Linked.{AreEntered, AreNamed, ArePoints, IsClosed};
@@ -24,7 +23,7 @@ use indexmap::IndexSet;
 use std::alloc::{AllocError, Global};
 use uz_hex::Image;
 use uz_schedule::{
-    Cert, Entry, Instance, LineOrder, Point, Rest, Schedule, Sequence, entry_state, event_by_line,
+    Cert, Entry, Instance, Point, Rest, Schedule, Sequence, entry_state, event_by_line,
 };
 use uz_search::{Found, Program, nodes_are_reached};
 use uz_search_laws::{ended_falls_once, ended_levels_fit, ended_rests_enter};
@@ -62,16 +61,16 @@ fn linked(
 ) -> Numbered
     requires fits { ProgramFits program.now }
     requires schedule { ScheduleFits schedule.now }
-    requires lines { length schedule.now.lines ≡ program.now.lines }
-    requires line { (k : ℕ) (rest : Rest) → slice_get rests.now k ≡ Some rest → rest.line < program.now.lines }
+    requires lines { length schedule.now.lines ≡ lines_of program.now }
+    requires line { (k : ℕ) (rest : Rest) → slice_get rests.now k ≡ Some rest → rest.line < lines_of program.now }
     requires stand { (x : Instance) → Among nodes.now.keys x → Stands program.now x }
     requires closed { IsClosed image.now program.now nodes.now.keys }
     requires entered { AreEntered program.now schedule.now rests.now nodes.now.keys }
     requires few { length bare.points.items < 2 ^ 32 }
-    requires numbers { AreNumbers (response_clocks program.now.head.irq) (uniform program.now.lines) rests.now nodes.now.keys bare.numbers.items (length bare.points.items) }
-    requires points { ArePoints (response_clocks program.now.head.irq) (uniform program.now.lines) rests.now nodes.now.keys bare.numbers.items (length bare.points.items) bare.points.items }
-    ensures numbers { AreNumbers (response_clocks program.now.head.irq) (uniform program.now.lines) rests.now nodes.now.keys result.numbers.items (length result.points.items) }
-    ensures points { ArePoints (response_clocks program.now.head.irq) (uniform program.now.lines) rests.now nodes.now.keys result.numbers.items (length result.points.items) result.points.items }
+    requires numbers { AreNumbers (response_clocks program.now.head.irq) (order_of_program program.now) rests.now nodes.now.keys bare.numbers.items (length bare.points.items) }
+    requires points { ArePoints (response_clocks program.now.head.irq) (order_of_program program.now) rests.now nodes.now.keys bare.numbers.items (length bare.points.items) bare.points.items }
+    ensures numbers { AreNumbers (response_clocks program.now.head.irq) (order_of_program program.now) rests.now nodes.now.keys result.numbers.items (length result.points.items) }
+    ensures points { ArePoints (response_clocks program.now.head.irq) (order_of_program program.now) rests.now nodes.now.keys result.numbers.items (length result.points.items) result.points.items }
     ensures named { AreNamed image.now program.now schedule.now rests.now nodes.now.keys result.numbers.items result.points.items }
 {
     let Numbered {
@@ -101,21 +100,24 @@ fn points_of(
 ) -> Result<Numbered, AllocError>
     requires fits { ProgramFits program.now }
     requires schedule { ScheduleFits schedule.now }
-    requires lines { length schedule.now.lines ≡ program.now.lines }
-    requires line { (k : ℕ) (rest : Rest) → slice_get rests.now k ≡ Some rest → rest.line < program.now.lines }
+    requires lines { length schedule.now.lines ≡ lines_of program.now }
+    requires line { (k : ℕ) (rest : Rest) → slice_get rests.now k ≡ Some rest → rest.line < lines_of program.now }
     requires stand { (x : Instance) → Among nodes.now.keys x → Stands program.now x }
     requires closed { IsClosed image.now program.now nodes.now.keys }
     requires entered { AreEntered program.now schedule.now rests.now nodes.now.keys }
     requires rests { length rests.now ≤ 525 }
     requires few { length nodes.now.keys < 524288 }
-    ensures numbers { IfOk result (λ r. AreNumbers (response_clocks program.now.head.irq) (uniform program.now.lines) rests.now nodes.now.keys r.numbers.items (length r.points.items)) }
-    ensures points { IfOk result (λ r. ArePoints (response_clocks program.now.head.irq) (uniform program.now.lines) rests.now nodes.now.keys r.numbers.items (length r.points.items) r.points.items) }
+    ensures numbers { IfOk result (λ r. AreNumbers (response_clocks program.now.head.irq) (order_of_program program.now) rests.now nodes.now.keys r.numbers.items (length r.points.items)) }
+    ensures points { IfOk result (λ r. ArePoints (response_clocks program.now.head.irq) (order_of_program program.now) rests.now nodes.now.keys r.numbers.items (length r.points.items) r.points.items) }
     ensures named { IfOk result (λ r. AreNamed image.now program.now schedule.now rests.now nodes.now.keys r.numbers.items r.points.items) }
 {
-    let order = LineOrder {
-        count: program.lines,
-    };
-    let bare = number_points(alloc, program.head.irq, order, rests, nodes.as_slice())?;
+    let bare = number_points(
+        alloc,
+        program.head.irq,
+        &program.schedule,
+        rests,
+        nodes.as_slice(),
+    )?;
     Ok(linked(image, program, schedule, rests, nodes, bare))
 }
 
@@ -137,13 +139,13 @@ fn made_schedule(
 ) -> Result<Schedule, AllocError>
     requires fits { ProgramFits program.now }
     requires ended { IsEnded image.now program.now found.now }
-    ensures made { IfOk result (IsScheduleOf found.now.marks.items program.now.lines program.now.fall) }
+    ensures made { IfOk result (IsScheduleOf found.now.marks.items program.now.schedule) }
     ensures fits { IfOk result ScheduleFits }
 {
     event_by_line();
     ended_falls_once();
     ended_levels_fit();
-    schedule_of(alloc, found.marks.as_slice(), program.lines, program.fall)
+    schedule_of(alloc, found.marks.as_slice(), &program.schedule)
 }
 
 /// The handler's first states after each rest of an ended search are its instances. Does nothing.
@@ -156,7 +158,7 @@ fn rests_are_entered(
 )
     requires fits { ProgramFits program.now }
     requires ended { IsEnded image.now program.now found.now }
-    requires schedule { IsScheduleOf found.now.marks.items program.now.lines program.now.fall schedule.now }
+    requires schedule { IsScheduleOf found.now.marks.items program.now.schedule schedule.now }
     ensures { AreEntered program.now schedule.now (rests_of_returns found.now.returns.items) found.now.nodes.keys }
 {
     let _ = image; // said of in the contract alone

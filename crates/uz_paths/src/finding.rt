@@ -8,6 +8,7 @@ ghost use Rattle.uz_search.specs.Fitting.{ProgramFits};
 ghost use Rattle.uz_search.specs.Refusing.{Refusal};
 ghost use Rattle.uz_search.specs.Searching.{IsEnded};
 ghost use Rattle.uz_paths.specs.Certificate.{IsEntry, ReturnsFromMain};
+ghost use Rattle.uz_paths.specs.ProgramOf.{AreScanlines};
 ghost use Rattle.uz_paths.specs.Finding.{instance_limit, Cause, NoCause, IsFoundBy, IsAsked};
 
 use crate::certificate::{certificate_of, parts_of};
@@ -38,6 +39,7 @@ fn certificate(
 ) -> Result<Cert, AllocError>
     requires fits { ProgramFits program }
     requires start { IsEntry program entry }
+    requires lengths { AreScanlines program.schedule }
     requires ended { IsEnded image.now program found.now }
     requires few { length found.now.nodes.keys < instance_limit }
     requires returns { ReturnsFromMain program found.now }
@@ -63,6 +65,7 @@ fn certificate(
 fn find_by(alloc: Global, image: &Image, program: Program, entry: Entry) -> Result<Cert, NotFound>
     requires fits { ProgramFits program }
     requires start { IsEntry program entry }
+    requires lengths { AreScanlines program.schedule }
     ensures accepted { IfOk result (λ cert. WellFormed cert × Accepts image.now cert) }
     ensures found { IfOk result (IsFoundBy image.now program entry) }
     ensures cause { IfErr result (Refusal image.now program instance_limit) }

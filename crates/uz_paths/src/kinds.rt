@@ -1,9 +1,9 @@
-//! The schedule that a search's marks make: equal lines share a kind.
+//! The schedule that a search's marks make: lines that are equal in events and length share a kind.
 
-ghost use Rattle.std.specs.Prelude.{◌≡◌, ◌⊎◌, ◌<◌, ◌≤◌, ◌+◌, ◌-◌, ◌++◌, ℕ, List, [], ◌∷◌, IfOk, OnOk, IsTrue, ◌↔◌, MatchOption, length, slice_get, Some};
+ghost use Rattle.std.specs.Prelude.{◌≡◌, ◌<◌, ◌≤◌, ◌+◌, ◌++◌, ℕ, IfOk, OnOk, IsTrue, ◌↔◌, MatchOption, length, slice_get, Some};
+ghost use Rattle.uz_schedule.specs.Limits.{most_lines};
 ghost use Rattle.uz_schedule.specs.declared.lines.Event.{Event};
-ghost use Rattle.uz_search.specs.Following.{line_start};
-ghost use Rattle.uz_paths.specs.Kinds.{noted as noted_event, event_here, line_events as events_of_marks, AreApart, IsScheduleOf};
+ghost use Rattle.uz_paths.specs.Kinds.{noted as noted_event, event_here, line_events as events_of_marks, AddsKind, IsKind, IsScheduleOf};
 
 use std::alloc::{AllocError, Global};
 use uz_schedule::{Event, EventKind, LineEvents, SCANLINE, Schedule, Sequence};
@@ -33,13 +33,18 @@ fn push_event(
     Ok(())
 }
 
-/// The events of the marks on a line.
-fn line_events(alloc: Global, marks: &[Option<Mark>], line: u16) -> Result<LineEvents, AllocError>
-    ensures { IfOk result (λ events. events ≡ events_of_marks marks.now line) }
+/// The events of the marks on a line of so many clocks.
+fn line_events(
+    alloc: Global,
+    marks: &[Option<Mark>],
+    line: u16,
+    clocks: u16,
+) -> Result<LineEvents, AllocError>
+    ensures { IfOk result (λ events. events ≡ events_of_marks marks.now line clocks) }
 {
     let start = SCANLINE as usize * line as usize;
     let mut events = LineEvents::new(alloc);
-    for clock in 0..SCANLINE {
+    for clock in 0..clocks {
         push_event(&mut events, clock, noted(marks, start + clock as usize))?;
     }
     Ok(events)
@@ -72,56 +77,78 @@ fn are_same(a: &[Event], b: &[Event]) -> bool
     a.len() == b.len() && are_same_each(a, b)
 }
 
-/// The number of the first kind with these events.
-fn kind_with(kinds: &[LineEvents], events: &[Event]) -> Option<usize>
-    ensures { MatchOption result ((i : ℕ) (kind : List Event) → slice_get kinds.now i ≡ Some kind → kind ≡ events.now → ⊥) (λ i. slice_get kinds.now i ≡ Some events.now) }
+/// Whether the kind at a place has so many clocks.
+fn has_length(lengths: &[u16], i: usize, clocks: u16) -> bool
+    requires { i < length lengths.now }
+    ensures { IsTrue result ↔ (slice_get lengths.now i ≡ Some clocks) }
+{
+    lengths[i] == clocks
+}
+
+/// The number of the first kind with these events and so many clocks.
+fn kind_with(kinds: &[LineEvents], lengths: &[u16], events: &[Event], clocks: u16) -> Option<usize>
+    requires { length lengths.now ≡ length kinds.now }
+    ensures { MatchOption result ((i : ℕ) → IsKind kinds.now lengths.now i events.now clocks → ⊥) (λ i. IsKind kinds.now lengths.now i events.now clocks) }
 {
     for (i, kind) in kinds.iter().enumerate() {
-        if are_same(kind.as_slice(), events) {
+        if has_length(lengths, i, clocks) && are_same(kind.as_slice(), events) {
             return Some(i);
         }
     }
     None
 }
 
-/// The number of the kind with these events, which is put last where there is none.
-fn number_of(kinds: &mut Vec<LineEvents>, events: LineEvents) -> Result<u16, AllocError>
-    requires { length kinds.old.items < 65536 }
-    ensures kept { IfOk result (λ n. (i : ℕ) (kind : List Event) → slice_get kinds.old.items i ≡ Some kind → slice_get kinds.new.items i ≡ Some kind) }
-    ensures there { IfOk result (λ n. slice_get kinds.new.items n ≡ Some events) }
-    ensures few { IfOk result (λ n. length kinds.new.items ≤ length kinds.old.items + 1) }
-    ensures shared { IfOk result (λ n. AreApart kinds.old.items → AreApart kinds.new.items) }
-    ensures own { IfOk result (λ n. (i : ℕ) (kind : List Event) → slice_get kinds.new.items i ≡ Some kind → (slice_get kinds.old.items i ≡ Some kind) ⊎ (events ≡ kind)) }
+/// The number of the kind with these events and so many clocks, which is put last where there is none.
+#[tactic(auto, using(crate::proofs::KindLemmas::adds_old, crate::proofs::KindLemmas::adds_new))]
+fn number_of(
+    kinds: &mut Vec<LineEvents>,
+    lengths: &mut Vec<u16>,
+    events: LineEvents,
+    clocks: u16,
+) -> Result<u16, AllocError>
+    requires sizes { length lengths.old.items ≡ length kinds.old.items }
+    requires few { length kinds.old.items < 65536 }
+    ensures added { IfOk result (λ n. AddsKind kinds.old.items lengths.old.items events clocks kinds.new.items lengths.new.items n) }
 {
-    match kind_with(kinds.as_slice(), events.as_slice()) {
+    match kind_with(
+        kinds.as_slice(),
+        lengths.as_slice(),
+        events.as_slice(),
+        clocks,
+    ) {
         Some(i) => Ok(i as u16),
         None => {
             let number = kinds.len() as u16;
             kinds.push(events)?;
+            lengths.push(clocks)?;
             Ok(number)
         }
     }
 }
 
-/// The schedule of a frame of so many lines.
+/// The schedule of a frame's lines and lengths.
+#[tactic(auto, using(crate::proofs::KindLemmas::schedule_is))]
 pub(crate) fn schedule_of(
     alloc: Global,
     marks: &[Option<Mark>],
-    lines: u16,
-    fall: u16,
+    frame: &Schedule,
 ) -> Result<Schedule, AllocError>
-    ensures { IfOk result (IsScheduleOf marks.now lines fall) }
+    requires { length frame.now.lines ≤ most_lines }
+    ensures { IfOk result (IsScheduleOf marks.now frame.now) }
 {
     let mut kinds = Vec::new(alloc);
+    let mut lengths = Vec::new(alloc);
     let mut numbers = Vec::new(alloc);
-    for line in 0..lines {
-        let events = line_events(alloc, marks, line)?;
-        let number = number_of(&mut kinds, events)?;
+    for line in 0..frame.lines.len() as u16 {
+        let clocks = frame.length(line);
+        let events = line_events(alloc, marks, line, clocks)?;
+        let number = number_of(&mut kinds, &mut lengths, events, clocks)?;
         numbers.push(number)?;
     }
     Ok(Schedule {
         kinds: Sequence::from_vec(kinds),
+        lengths: Sequence::from_vec(lengths),
         lines: Sequence::from_vec(numbers),
-        fall,
+        fall: frame.fall,
     })
 }

@@ -2,12 +2,11 @@
 
 ghost use Rattle.std.specs.Prelude.{◌≡◌, ◌<◌, ◌≤◌, ◌+◌, ◌^◌, ℕ, Some, false, length, slice_get};
 ghost use Rattle.uz_schedule.specs.Limits.{ScheduleFits};
-ghost use Rattle.uz_schedule.specs.Lines.{uniform};
 ghost use Rattle.uz_schedule.specs.Schedule.{response_clocks};
 ghost use Rattle.uz_schedule.specs.declared.states.Instance.{Instance};
 ghost use Rattle.uz_schedule.specs.declared.states.Rest.{Rest};
 ghost use Rattle.uz_search.specs.Fitting.{ProgramFits, Stands};
-ghost use Rattle.uz_search.specs.Following.{Among};
+ghost use Rattle.uz_search.specs.Following.{Among, order_of_program, lines_of};
 ghost use Rattle.uz_search.specs.Widenings.{widened};
 ghost use Rattle.uz_paths.specs.Numbers.{AreNumbers};
 ghost use Rattle.uz_paths.specs.Linked.{AreEntered, AreNamed, ArePoints, HasFew, HasName, IsClosed, NamesEntries, NamesFit, NamesMore, NamesOwn, NamesResults, NamesVectors, Renamed, first_after as first_state_after};
@@ -106,6 +105,7 @@ fn name_next(
 
 /// Puts the numbers of the points where an instance leads among others, of which there are at most `most`; its results are put in place of
 /// others.
+#[tactic(auto, using(crate::proofs::MadeSchedule::length_short))]
 fn name_results(
     image: &Image,
     program: &Program,
@@ -129,7 +129,7 @@ fn name_results(
     ensures named { NamesResults image.now program.now nodes.now.keys numbers.now at.now names.new.items }
 {
     let _ = most; // said of in the contract alone
-    match put_after(image, &program.head, program.lines, at, next) {
+    match put_after(image, &program.head, &program.schedule, at, next) {
         Ok(()) => name_next(program, nodes, numbers, count, next, names),
         Err(_) => {}
     }
@@ -174,8 +174,8 @@ fn vector_names(
 ) -> ArrayVec<u32, 16>
     requires fits { ProgramFits program.now }
     requires schedule { ScheduleFits schedule.now }
-    requires lines { length schedule.now.lines ≡ program.now.lines }
-    requires line { rest.now.line < program.now.lines }
+    requires lines { length schedule.now.lines ≡ lines_of program.now }
+    requires line { rest.now.line < lines_of program.now }
     requires stand { (x : Instance) → Among nodes.now.keys x → Stands program.now x }
     requires closed { IsClosed image.now program.now nodes.now.keys }
     requires entered { (c : ℕ) → c ≤ 3 → Among nodes.now.keys (first_state_after program.now schedule.now rest.now c) }
@@ -216,15 +216,15 @@ fn link_vectors(
 )
     requires fits { ProgramFits program.now }
     requires schedule { ScheduleFits schedule.now }
-    requires lines { length schedule.now.lines ≡ program.now.lines }
-    requires line { (k : ℕ) (rest : Rest) → slice_get rests.now k ≡ Some rest → rest.line < program.now.lines }
+    requires lines { length schedule.now.lines ≡ lines_of program.now }
+    requires line { (k : ℕ) (rest : Rest) → slice_get rests.now k ≡ Some rest → rest.line < lines_of program.now }
     requires stand { (x : Instance) → Among nodes.now.keys x → Stands program.now x }
     requires closed { IsClosed image.now program.now nodes.now.keys }
     requires entered { AreEntered program.now schedule.now rests.now nodes.now.keys }
     requires few { length points.old < 2 ^ 32 }
-    requires numbered { AreNumbers (response_clocks program.now.head.irq) (uniform program.now.lines) rests.now nodes.now.keys numbers.now (length points.old) }
-    requires made { ArePoints (response_clocks program.now.head.irq) (uniform program.now.lines) rests.now nodes.now.keys numbers.now (length points.old) points.old }
-    ensures made { ArePoints (response_clocks program.now.head.irq) (uniform program.now.lines) rests.now nodes.now.keys numbers.now (length points.old) points.new }
+    requires numbered { AreNumbers (response_clocks program.now.head.irq) (order_of_program program.now) rests.now nodes.now.keys numbers.now (length points.old) }
+    requires made { ArePoints (response_clocks program.now.head.irq) (order_of_program program.now) rests.now nodes.now.keys numbers.now (length points.old) points.old }
+    ensures made { ArePoints (response_clocks program.now.head.irq) (order_of_program program.now) rests.now nodes.now.keys numbers.now (length points.old) points.new }
     ensures named { NamesVectors image.now program.now schedule.now rests.now nodes.now.keys numbers.now (length rests.now) points.new }
 {
     let count = points.len() as u32;
@@ -249,10 +249,10 @@ fn link_own(
     requires stand { (x : Instance) → Among nodes.now.keys x → Stands program.now x }
     requires closed { IsClosed image.now program.now nodes.now.keys }
     requires few { length points.old < 2 ^ 32 }
-    requires numbered { AreNumbers (response_clocks program.now.head.irq) (uniform program.now.lines) rests.now nodes.now.keys numbers.now (length points.old) }
-    requires made { ArePoints (response_clocks program.now.head.irq) (uniform program.now.lines) rests.now nodes.now.keys numbers.now (length points.old) points.old }
+    requires numbered { AreNumbers (response_clocks program.now.head.irq) (order_of_program program.now) rests.now nodes.now.keys numbers.now (length points.old) }
+    requires made { ArePoints (response_clocks program.now.head.irq) (order_of_program program.now) rests.now nodes.now.keys numbers.now (length points.old) points.old }
     requires vectors { NamesVectors image.now program.now schedule.now rests.now nodes.now.keys numbers.now (length rests.now) points.old }
-    ensures made { ArePoints (response_clocks program.now.head.irq) (uniform program.now.lines) rests.now nodes.now.keys numbers.now (length points.old) points.new }
+    ensures made { ArePoints (response_clocks program.now.head.irq) (order_of_program program.now) rests.now nodes.now.keys numbers.now (length points.old) points.new }
     ensures vectors { NamesVectors image.now program.now schedule.now rests.now nodes.now.keys numbers.now (length rests.now) points.new }
     ensures own { NamesOwn image.now program.now (length rests.now) nodes.now.keys numbers.now (length nodes.now.keys) points.new }
 {
@@ -279,15 +279,15 @@ pub(crate) fn link_all(
 )
     requires fits { ProgramFits program.now }
     requires schedule { ScheduleFits schedule.now }
-    requires lines { length schedule.now.lines ≡ program.now.lines }
-    requires line { (k : ℕ) (rest : Rest) → slice_get rests.now k ≡ Some rest → rest.line < program.now.lines }
+    requires lines { length schedule.now.lines ≡ lines_of program.now }
+    requires line { (k : ℕ) (rest : Rest) → slice_get rests.now k ≡ Some rest → rest.line < lines_of program.now }
     requires stand { (x : Instance) → Among nodes.now.keys x → Stands program.now x }
     requires closed { IsClosed image.now program.now nodes.now.keys }
     requires entered { AreEntered program.now schedule.now rests.now nodes.now.keys }
     requires few { length points.old < 2 ^ 32 }
-    requires numbered { AreNumbers (response_clocks program.now.head.irq) (uniform program.now.lines) rests.now nodes.now.keys numbers.now (length points.old) }
-    requires made { ArePoints (response_clocks program.now.head.irq) (uniform program.now.lines) rests.now nodes.now.keys numbers.now (length points.old) points.old }
-    ensures made { ArePoints (response_clocks program.now.head.irq) (uniform program.now.lines) rests.now nodes.now.keys numbers.now (length points.old) points.new }
+    requires numbered { AreNumbers (response_clocks program.now.head.irq) (order_of_program program.now) rests.now nodes.now.keys numbers.now (length points.old) }
+    requires made { ArePoints (response_clocks program.now.head.irq) (order_of_program program.now) rests.now nodes.now.keys numbers.now (length points.old) points.old }
+    ensures made { ArePoints (response_clocks program.now.head.irq) (order_of_program program.now) rests.now nodes.now.keys numbers.now (length points.old) points.new }
     ensures named { AreNamed image.now program.now schedule.now rests.now nodes.now.keys numbers.now points.new }
 {
     let mut next = Next::empty();

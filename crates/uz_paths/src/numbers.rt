@@ -2,7 +2,8 @@
 //! it was found.
 
 ghost use Rattle.std.specs.Prelude.{◌≡◌, ◌<◌, ◌≤◌, ◌+◌, ◌^◌, [], ℕ, IfOk, length, slice_get, Some};
-ghost use Rattle.uz_schedule.specs.Lines.{uniform};
+ghost use Rattle.uz_schedule.specs.Limits.{most_lines};
+ghost use Rattle.uz_schedule.specs.Lines.{order_of};
 ghost use Rattle.uz_schedule.specs.Schedule.{response_clocks};
 ghost use Rattle.uz_schedule.specs.declared.states.Rest.{Rest};
 ghost use Rattle.uz_paths.specs.Linked.{ArePoints};
@@ -13,7 +14,7 @@ use crate::points::{point_of, vector_point};
 use crate::vectors::vector_of;
 use arrayvec::ArrayVec;
 use std::alloc::{AllocError, Global};
-use uz_schedule::{Instance, LineOrder, Point, Response, Rest};
+use uz_schedule::{Instance, Point, Response, Rest, Schedule};
 
 /// The points, and the number of each instance's point.
 #[derive(Drop)]
@@ -25,14 +26,15 @@ pub(crate) struct Numbered {
 }
 
 /// The vector's point of a rest, without successors.
-fn bare_vector(response: Response, order: LineOrder, rest: &Rest) -> Point
-    requires { rest.now.line < order.count }
-    ensures is { result ≡ vector_for rest.now.cells.items ((uniform order.count).next rest.now.line) (response_clocks response) [] }
+fn bare_vector(response: Response, schedule: &Schedule, rest: &Rest) -> Point
+    requires few { length schedule.now.lines ≤ most_lines }
+    requires line { rest.now.line < length schedule.now.lines }
+    ensures is { result ≡ vector_for rest.now.cells.items ((order_of schedule.now).next rest.now.line) (response_clocks response) [] }
     ensures ordered { AreOrdered 255 rest.now.cells.items }
 {
     vector_point(
         &rest.cells,
-        order.next(rest.line),
+        schedule.next(rest.line),
         response.clocks(),
         ArrayVec::new(),
     )
@@ -50,15 +52,16 @@ fn bare_point(at: &Instance) -> Point
 fn vectors_of(
     alloc: Global,
     response: Response,
-    order: LineOrder,
+    schedule: &Schedule,
     rests: &[Rest],
 ) -> Result<Vec<Point>, AllocError>
-    requires { (k : ℕ) (rest : Rest) → slice_get rests.now k ≡ Some rest → rest.line < order.count }
-    ensures { IfOk result (λ points. ArePoints (response_clocks response) (uniform order.count) rests.now [] [] (length rests.now) points.items) }
+    requires lines { length schedule.now.lines ≤ most_lines }
+    requires line { (k : ℕ) (rest : Rest) → slice_get rests.now k ≡ Some rest → rest.line < length schedule.now.lines }
+    ensures { IfOk result (λ points. ArePoints (response_clocks response) (order_of schedule.now) rests.now [] [] (length rests.now) points.items) }
 {
     let mut points = Vec::new(alloc);
     for rest in rests {
-        points.push(bare_vector(response, order, rest))?;
+        points.push(bare_vector(response, schedule, rest))?;
     }
     Ok(points)
 }
@@ -67,19 +70,20 @@ fn vectors_of(
 pub(crate) fn number_points(
     alloc: Global,
     response: Response,
-    order: LineOrder,
+    schedule: &Schedule,
     rests: &[Rest],
     nodes: &[Instance],
 ) -> Result<Numbered, AllocError>
     requires few { length rests.now + length nodes.now < 2 ^ 32 }
-    requires lines { (k : ℕ) (rest : Rest) → slice_get rests.now k ≡ Some rest → rest.line < order.count }
-    ensures numbers { IfOk result (λ r. AreNumbers (response_clocks response) (uniform order.count) rests.now nodes.now r.numbers.items (length r.points.items)) }
-    ensures points { IfOk result (λ r. ArePoints (response_clocks response) (uniform order.count) rests.now nodes.now r.numbers.items (length r.points.items) r.points.items) }
+    requires lines { length schedule.now.lines ≤ most_lines }
+    requires line { (k : ℕ) (rest : Rest) → slice_get rests.now k ≡ Some rest → rest.line < length schedule.now.lines }
+    ensures numbers { IfOk result (λ r. AreNumbers (response_clocks response) (order_of schedule.now) rests.now nodes.now r.numbers.items (length r.points.items)) }
+    ensures points { IfOk result (λ r. ArePoints (response_clocks response) (order_of schedule.now) rests.now nodes.now r.numbers.items (length r.points.items) r.points.items) }
 {
-    let mut points = vectors_of(alloc, response, order, rests)?;
+    let mut points = vectors_of(alloc, response, schedule, rests)?;
     let mut numbers = Vec::new(alloc);
     for at in nodes {
-        match vector_of(response, order, rests, at) {
+        match vector_of(response, schedule, rests, at) {
             Some(k) => numbers.push(k)?,
             None => {
                 numbers.push(points.len() as u32)?;

@@ -12,7 +12,7 @@ ghost use Rattle.uz_search.specs.Fitting.{ProgramFits};
 ghost use Rattle.uz_hints.specs.Faults.{FactPart, FactsFine};
 ghost use Rattle.uz_hints.specs.Reading.{IsReading, ReadingFits};
 ghost use Rattle.uz_paths.specs.Certificate.{IsEntry};
-ghost use Rattle.uz_paths.specs.ProgramOf.{widening_of as fact_of_place, hint_facts, facts_for, entry_with, first_state as state_at_first, first_states as states_at_first, IsProgramOf};
+ghost use Rattle.uz_paths.specs.ProgramOf.{widening_of as fact_of_place, hint_facts, facts_for, entry_with, first_state as state_at_first, first_states as states_at_first, AreScanlines, IsProgramOf};
 
 use arrayvec::ArrayVec;
 use avr_asm::Hint;
@@ -20,8 +20,8 @@ use std::alloc::{AllocError, Global};
 use std::collections::BTreeMap;
 use uz_hints::{Beginning, Reading};
 use uz_schedule::{
-    Bit, Cell, Entry, Head, Instance, Kind, Response, Sequence, Span, Wide, entry_state,
-    handler_entry, tracks,
+    Bit, Cell, Entry, Head, Instance, Kind, LineEvents, Response, SCANLINE, Schedule, Sequence,
+    Span, Wide, entry_state, handler_entry, tracks,
 };
 use uz_search::{Program, Widening};
 
@@ -165,6 +165,30 @@ fn starts_of(
     Ok(starts)
 }
 
+/// A frame of so many lines, each as long as a scanline, whose events aren't known yet.
+#[tactic(auto, using(crate::proofs::ProgramLemmas::scanline_each))]
+fn frame_of(alloc: Global, lines: u16, fall: u16) -> Result<Schedule, AllocError>
+    ensures lines { IfOk result (λ s. length s.lines ≡ lines) }
+    ensures lengths { IfOk result AreScanlines }
+    ensures fall { IfOk result (λ s. s.fall ≡ fall) }
+{
+    let mut kinds = Vec::new(alloc);
+    kinds.push(LineEvents::new(alloc))?;
+    let mut lengths = Vec::new(alloc);
+    lengths.push(SCANLINE)?;
+    let mut numbers = Vec::new(alloc);
+    for line in 0..lines {
+        let _ = line; // said of in the loop's invariant alone
+        numbers.push(0)?;
+    }
+    Ok(Schedule {
+        kinds: Sequence::from_vec(kinds),
+        lengths: Sequence::from_vec(lengths),
+        lines: Sequence::from_vec(numbers),
+        fall,
+    })
+}
+
 /// The program that hints tell of, with the entry of its certificate.
 pub(crate) fn program_of(
     alloc: Global,
@@ -178,6 +202,7 @@ pub(crate) fn program_of(
     ensures head { IfOk result (λ r. r.0.head ≡ reading.head) }
     ensures entry { IfOk result (λ r. r.1 ≡ entry_with reading.registers reading.head reading.start 0) }
     ensures start { IfOk result (λ r. IsEntry r.0 r.1) }
+    ensures lengths { IfOk result (λ r. AreScanlines r.0.schedule) }
 {
     let Reading {
         head,
@@ -189,11 +214,11 @@ pub(crate) fn program_of(
     let facts = facts_of(alloc, hints)?;
     let entry = start_entry(&head, start, &registers);
     let starts = starts_of(alloc, &entry, head.irq, &firsts)?;
+    let schedule = frame_of(alloc, size.lines, size.fall)?;
     Ok((
         Program {
             head,
-            lines: size.lines,
-            fall: size.fall,
+            schedule,
             facts,
             starts: Sequence::from_vec(starts),
         },

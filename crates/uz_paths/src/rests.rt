@@ -54,7 +54,7 @@ fn level_at(schedule: &Schedule, line: u16, clock: u16) -> u8
     requires { ScheduleFits schedule.now }
     ensures { result ≡ level_or_zero schedule.now line clock }
 {
-    match schedule.level(schedule.start(line) + u32::from(clock)) {
+    match schedule.level_at_clock(line, clock) {
         Some(level) => level,
         None => 0,
     }
@@ -63,12 +63,11 @@ fn level_at(schedule: &Schedule, line: u16, clock: u16) -> u8
 /// The handler's first state after a rest, where its interrupt is taken at clock `c` of the next line, with the schedule's level there.
 pub(crate) fn first_after(program: &Program, schedule: &Schedule, rest: &Rest, c: u16) -> Instance
     requires schedule { ScheduleFits schedule.now }
-    requires lines { length schedule.now.lines ≡ program.now.lines }
-    requires line { rest.now.line < program.now.lines }
+    requires line { rest.now.line < length schedule.now.lines }
     requires clock { c ≤ 3 }
     ensures { result ≡ first_state_after program.now schedule.now rest.now c }
 {
-    let line = schedule.order().next(rest.line);
+    let line = schedule.next(rest.line);
     let clock = c + program.head.irq.clocks();
     handler_entry(&rest.cells, line, clock, level_at(schedule, line, clock))
 }

@@ -21,6 +21,8 @@ pub record PlaceLaws (s : Schedule) : Type 0 where
   pub more : (p l k c : ℕ) → At s p l k → At s (p + c) l (k + c)
   pub next : (p l k : ℕ) → At s p l (length_of s l + k) → At s p (next_line s l) k
   pub here : (p l k : ℕ) → At s p l k → event_at s p ≡ event_at s (start_of s l + k)
+  pub clocks : ScheduleFits s → (l : ℕ) (events : List Event) → l < length s.lines → events_of s l ≡ Some events
+      → All (λ e. e.clock < length_of s l) events
 
 -- One line
 
@@ -147,8 +149,14 @@ module _ (s : Schedule) (laws : PlaceLaws s) (fits : ScheduleFits s) (steady : I
         place = subst (λ k. At s p here.line k) clock (sym (mod-mod p (frame_of s)) ∙ ap (λ x. x % frame_of s) place);
       }
 
-  within_line : (l : ℕ) → s.fall < length_of s l
-  within_line l = (let g = fits.fall_in_line in omega arith)
+  -- the fall is an event of the line
+  within_line : (l : ℕ) → l < length s.lines → s.fall < length_of s l
+  within_line l below =
+      let here = events_here l below in
+      let clocks = laws.clocks fits l here.events below here.is in
+      let first : here.line.first.clock < length_of s l = All-head (λ e. e.clock < length_of s l) here.line.first here.line.later
+      (subst (All (λ e. e.clock < length_of s l)) here.line.is clocks) in
+      subst (λ k. k < length_of s l) here.line.clock first
 
   -- the next fall is a line's length later
   pub next_falls : (p l : ℕ) → l < length s.lines → At s p l s.fall → event_at s (p + length_of s l) ≡ Some (Sync 0)
@@ -157,7 +165,7 @@ module _ (s : Schedule) (laws : PlaceLaws s) (fits : ScheduleFits s) (steady : I
       (laws.more p l s.fall (length_of s l) at) in
       let there = laws.next (p + length_of s l) l s.fall moved in
       laws.here (p + length_of s l) (next_line s l) s.fall there
-      ∙ (laws.by_line (next_line s l) s.fall (next_below l below) (within_line (next_line s l)) ∙ line_has_fall (next_line s l)
+      ∙ (laws.by_line (next_line s l) s.fall (next_below l below) (within_line (next_line s l) (next_below l below)) ∙ line_has_fall (next_line s l)
       (next_below l below))
 
   -- and none is before it
@@ -173,11 +181,11 @@ module _ (s : Schedule) (laws : PlaceLaws s) (fits : ScheduleFits s) (steady : I
             let past = t.1 in
             let rest : s.fall + k ≡ length_of s l + (s.fall + k - length_of s l) = omega arith in
             let there = laws.next (p + k) l (s.fall + k - length_of s l) (subst (λ j. At s (p + k) l j) rest moved) in
-            let few_more : s.fall + k - length_of s l < length_of s (next_line s l) = (let g = within_line (next_line s l) in
+            let few_more : s.fall + k - length_of s l < length_of s (next_line s l) = (let g = within_line (next_line s l) (next_below l below) in
             omega arith) in
             let event = sym (laws.here (p + k) (next_line s l) (s.fall + k - length_of s l) there ∙ laws.by_line (next_line s l)
             (s.fall + k - length_of s l) (next_below l below) few_more) ∙ is in
             let same = fall_of_line (next_line s l) (s.fall + k - length_of s l) (next_below l below) event in
-            let inside = within_line l in
+            let inside = within_line l below in
             absurd (omega arith)
       ]

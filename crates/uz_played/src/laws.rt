@@ -15,7 +15,7 @@ ghost use Rattle.uz_schedule.specs.Limits.{ScheduleFits};
 ghost use Rattle.uz_soundness.specs.Certified.{Certified};
 ghost use Rattle.uz_soundness.specs.Steady.{IsSteady};
 
-use uz_schedule::{event_by_line, places_go_on};
+use uz_schedule::{event_by_line, lines_have_lengths, places_go_on};
 use uz_soundness::soundness;
 
 /// A run of so many clocks from a state in range whose sync is low, as it is at reset: once a state of it meets the entry
@@ -31,4 +31,5 @@ pub fn played_runs_keep()
     soundness();
     event_by_line();
     places_go_on();
+    lines_have_lengths();
 }

@@ -6,6 +6,9 @@ ghost use Rattle.uz_scan.specs.Places.{samples_within};
 /// So many samples has a row, one every four clocks.
 pub(crate) const WIDTH: usize = 455;
 
+/// So many clocks does a row reach over. A line that is longer has no more samples.
+const REACH: u64 = 4 * WIDTH as u64;
+
 /// The samples of the line that runs, up to the last pixel.
 #[derive(Drop)]
 pub(crate) struct Sampler {
@@ -22,7 +25,7 @@ fn samples_within(clocks: u64) -> usize
     ensures count { result ≡ samples_within clocks }
     ensures within { result ≤ 455 }
 {
-    if clocks >= 1820 {
+    if clocks >= REACH {
         WIDTH
     } else {
         ((clocks + 3) / 4) as usize

@@ -8,8 +8,8 @@ use Rattle.uz_paths.proofs.certificate.made_schedule.Goals as goal
 
 pub returns-clause-fits : goal.returns-clause-fits
 returns-clause-fits c =
-    if_ok c.schedule_of.result (IsScheduleOf c.as_slice.result.now c.args.program.now.lines c.args.program.now.fall) ScheduleFits
+    if_ok c.schedule_of.result (IsScheduleOf c.as_slice.result.now c.args.program.now.schedule) ScheduleFits
     (λ s of. is_fit c.args.image.now c.args.program.now c.args.found.now s c.event_by_line.ensures c.ended_falls_once.ensures
     c.ended_levels_fit.ensures c.requires.fits c.requires.ended
-    (subst (λ (ms : List (Option Mark)). IsScheduleOf ms c.args.program.now.lines c.args.program.now.fall s) c.as_slice.ensures.value of))
+    (subst (λ (ms : List (Option Mark)). IsScheduleOf ms c.args.program.now.schedule s) c.as_slice.ensures.value of))
     c.schedule_of.ensures

@@ -24,7 +24,7 @@ returns-clause-fits c =
     } in
     subst WellFormed (sym c.certificate_of.ensures)
     (well_formed c.args.image.now c.args.program c.args.entry c.args.found.now c.in_ok-parts.parts laws c.requires.fits c.requires.ended
-    c.requires.few c.requires.start c.requires.returns c.in_ok-parts.ensures)
+    c.requires.few c.requires.start c.requires.lengths c.requires.returns c.in_ok-parts.ensures)
 
 pub returns-clause-accepted : goal.returns-clause-accepted
 returns-clause-accepted c =
@@ -42,7 +42,7 @@ returns-clause-accepted c =
     } in
     subst (Accepts c.args.image.now) (sym c.certificate_of.ensures)
     (accepted c.args.image.now c.args.program c.args.entry c.args.found.now c.in_ok-parts.parts laws c.requires.fits c.requires.ended
-    c.requires.few c.requires.start c.requires.returns c.in_ok-parts.ensures)
+    c.requires.few c.requires.start c.requires.lengths c.requires.returns c.in_ok-parts.ensures)
 
 pub returns-clause-found : goal.returns-clause-found
 returns-clause-found c =

@@ -1,8 +1,7 @@
-use Rattle.std.proofs.Common.{◌≡◌, ◌<◌, ℕ, List}
-use Rattle.std.specs.Prelude.{slice_get, Some}
-use Rattle.uz_schedule.specs.declared.lines.Event.{Event}
+use Rattle.std.proofs.Common.{◌<◌, ℕ}
+use Rattle.uz_paths.specs.Kinds.{IsKind}
 use Rattle.uz_paths.proofs.kinds.kind_with.Given as goal
 
--- none so far has these events
+-- none so far has these events and so many clocks
 abbrev pub invariant-loop-i : goal.invariant-loop-i
-invariant-loop-i l = (j : ℕ) (kind : List Event) → j < l.i → slice_get l.kinds j ≡ Some kind → kind ≡ l.events → ⊥
+invariant-loop-i l = (j : ℕ) → j < l.i → IsKind l.kinds l.lengths j l.events l.clocks → ⊥

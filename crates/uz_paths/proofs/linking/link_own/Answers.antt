@@ -1,8 +1,8 @@
 use Rattle.std.proofs.Common.{◌≡◌, ◌<◌, ◌+◌, ◌∙◌, ap, arith, get_or, length, refl, subst, sym}
 use Rattle.std.specs.Prelude.{Some, slice_get}
 use Rattle.std.proofs.lemmas.Option.{slice_get-get_or, slice_get_read}
-use Rattle.uz_schedule.specs.Lines.{uniform}
 use Rattle.uz_schedule.specs.Schedule.{response_clocks}
+use Rattle.uz_search.specs.Following.{order_of_program}
 use Rattle.uz_paths.specs.Linked.{ArePoints, NamesOwn, NamesVectors}
 use Rattle.uz_paths.proofs.NumberLemmas.{among_at, numbers_below}
 use Rattle.uz_paths.proofs.LinkLemmas.{length_write, own_named, own_passed, points_again, vectors_stay}
@@ -21,13 +21,13 @@ own_names-names-requires-clause-node c =
 
 pub own_names-names-requires-clause-within : goal.own_names-names-requires-clause-within
 own_names-names-requires-clause-within c =
-    numbers_below (response_clocks c.args.program.now.head.irq) (uniform c.args.program.now.lines) c.args.rests.now c.args.nodes.now.keys
+    numbers_below (response_clocks c.args.program.now.head.irq) (order_of_program c.args.program.now) c.args.rests.now c.args.nodes.now.keys
     c.args.numbers.now (length c.args.points.now) c.requires.numbered
 
 pub bounds-points-number : goal.bounds-points-number
 bounds-points-number c =
     let less : c.number_at-number.result < length c.args.points.now =
-    numbers_below (response_clocks c.args.program.now.head.irq) (uniform c.args.program.now.lines) c.args.rests.now c.args.nodes.now.keys
+    numbers_below (response_clocks c.args.program.now.head.irq) (order_of_program c.args.program.now) c.args.rests.now c.args.nodes.now.keys
     c.args.numbers.now (length c.args.points.now) c.requires.numbered c.loop-i.i c.number_at-number.result c.number_at-number.ensures in
     let same = c.loop-i.invariant.size in
     omega arith
@@ -35,7 +35,7 @@ bounds-points-number c =
 pub loop-i-preserved : goal.loop-i-preserved
 loop-i-preserved c =
     let less : c.number_at-number.result < length c.args.points.now =
-    numbers_below (response_clocks c.args.program.now.head.irq) (uniform c.args.program.now.lines) c.args.rests.now c.args.nodes.now.keys
+    numbers_below (response_clocks c.args.program.now.head.irq) (order_of_program c.args.program.now) c.args.rests.now c.args.nodes.now.keys
     c.args.numbers.now (length c.args.points.now) c.requires.numbered c.loop-i.i c.number_at-number.result c.number_at-number.ensures in
     let same = c.loop-i.invariant.size in
     let within : c.number_at-number.result < length c.loop-i.points = omega arith in
@@ -46,9 +46,9 @@ loop-i-preserved c =
       | then-number-rests w ↦ record {
         size = ap length w.points-is ∙ (length_write c.loop-i.points c.number_at-number.result w.put_names.new.point
             ∙ c.loop-i.invariant.size);
-        made = subst (ArePoints (response_clocks c.args.program.now.head.irq) (uniform c.args.program.now.lines) c.args.rests.now
+        made = subst (ArePoints (response_clocks c.args.program.now.head.irq) (order_of_program c.args.program.now) c.args.rests.now
             c.args.nodes.now.keys c.args.numbers.now (length c.args.points.now)) (sym w.points-is)
-            (points_again (response_clocks c.args.program.now.head.irq) (uniform c.args.program.now.lines) c.args.rests.now
+            (points_again (response_clocks c.args.program.now.head.irq) (order_of_program c.args.program.now) c.args.rests.now
             c.args.nodes.now.keys c.args.numbers.now (length c.args.points.now) c.number_at-number.result w.own_names-names.result.items
             c.loop-i.points (get_or c.loop-i.points c.number_at-number.result w.index-points-number.result) w.put_names.new.point
             c.loop-i.invariant.made (slice_get-get_or c.loop-i.points c.number_at-number.result w.index-points-number.result within)
@@ -59,7 +59,7 @@ loop-i-preserved c =
             c.number_at-number.result c.loop-i.points w.put_names.new.point w.if-number-rests.true within c.loop-i.invariant.vectors);
         own = subst (NamesOwn c.args.image.now c.args.program.now (length c.args.rests.now) c.args.nodes.now.keys c.args.numbers.now
             (c.loop-i.i + 1)) (sym w.points-is)
-            (own_named c.args.image.now c.args.program.now (response_clocks c.args.program.now.head.irq) (uniform c.args.program.now.lines)
+            (own_named c.args.image.now c.args.program.now (response_clocks c.args.program.now.head.irq) (order_of_program c.args.program.now)
             c.args.rests.now c.args.nodes.now.keys c.args.numbers.now (length c.args.points.now) c.loop-i.i c.number_at-number.result
             w.own_names-names.result.items c.loop-i.points (get_or c.loop-i.points c.number_at-number.result
             w.index-points-number.result) w.put_names.new.point c.at-item.result
@@ -68,7 +68,7 @@ loop-i-preserved c =
       }
       | else-number-rests w ↦ record {
         size = ap length w.points-is ∙ c.loop-i.invariant.size;
-        made = subst (ArePoints (response_clocks c.args.program.now.head.irq) (uniform c.args.program.now.lines) c.args.rests.now
+        made = subst (ArePoints (response_clocks c.args.program.now.head.irq) (order_of_program c.args.program.now) c.args.rests.now
             c.args.nodes.now.keys c.args.numbers.now (length c.args.points.now)) (sym w.points-is) c.loop-i.invariant.made;
         vectors = subst (NamesVectors c.args.image.now c.args.program.now c.args.schedule.now c.args.rests.now c.args.nodes.now.keys
             c.args.numbers.now (length c.args.rests.now)) (sym w.points-is) c.loop-i.invariant.vectors;

@@ -1,8 +1,8 @@
 use Rattle.std.proofs.Common.{◌≡◌, ◌<◌, ◌∙◌, arith, get_or, length, refl}
 use Rattle.std.specs.Prelude.{Some, slice_get}
 use Rattle.std.proofs.lemmas.Option.{slice_get-get_or, slice_get_read}
-use Rattle.uz_schedule.specs.Lines.{uniform}
 use Rattle.uz_schedule.specs.Schedule.{response_clocks}
+use Rattle.uz_search.specs.Following.{order_of_program}
 use Rattle.uz_paths.proofs.NumberLemmas.{numbers_below}
 use Rattle.uz_paths.proofs.LinkLemmas.{length_write, points_again, vectors_named}
 use Rattle.uz_paths.proofs.linking.link_vectors.Goals as goal
@@ -14,7 +14,7 @@ vector_names-names-requires-clause-entered c =
 
 pub vector_names-names-requires-clause-within : goal.vector_names-names-requires-clause-within
 vector_names-names-requires-clause-within c =
-    numbers_below (response_clocks c.args.program.now.head.irq) (uniform c.args.program.now.lines) c.args.rests.now c.args.nodes.now.keys
+    numbers_below (response_clocks c.args.program.now.head.irq) (order_of_program c.args.program.now) c.args.rests.now c.args.nodes.now.keys
     c.args.numbers.now (length c.args.points.now) c.requires.numbered
 
 pub loop-k-preserved : goal.loop-k-preserved
@@ -27,7 +27,7 @@ loop-k-preserved c =
     c.loop-k.k c.index-rests-k.result refl c.loop-k-test.true c.index-rests-k.is in
     record {
       size = length_write c.loop-k.points c.loop-k.k c.put_names.new.point ∙ c.loop-k.invariant.size;
-      made = points_again (response_clocks c.args.program.now.head.irq) (uniform c.args.program.now.lines) c.args.rests.now
+      made = points_again (response_clocks c.args.program.now.head.irq) (order_of_program c.args.program.now) c.args.rests.now
           c.args.nodes.now.keys c.args.numbers.now (length c.args.points.now) c.loop-k.k c.vector_names-names.result.items c.loop-k.points
           (get_or c.loop-k.points c.loop-k.k c.index-points-k.result) c.put_names.new.point
           c.loop-k.invariant.made (slice_get-get_or c.loop-k.points c.loop-k.k c.index-points-k.result within) c.put_names.ensures;

@@ -9,6 +9,7 @@ returns-clause-keeps c = λ image cert start limit clock p certified steady fits
       more = λ q l k n. c.places_go_on.ensures.more cert.schedule q l k n;
       next = λ q l k. c.places_go_on.ensures.next cert.schedule q l k;
       here = λ q l k. c.places_go_on.ensures.events cert.schedule q l k;
+      clocks = λ fits l events. c.lines_have_lengths.ensures.events cert.schedule fits l events;
     }) steady fits in_range flash low enters
 
 pub returns-clause-never_stops : goal.returns-clause-never_stops
