@@ -18,7 +18,8 @@ use Rattle.uz_pads.specs.declared.pads.Pads.{Pads}
 use Rattle.uz_console.specs.Consoles.{StateStandsFor}
 use Rattle.uz_schedule.specs.Schedule.{At, length_of, frame_of, level_at, sync_at, last_level}
 use Rattle.uz_machine.specs.Turn.{State}
-use Rattle.uz_console.specs.Entry.{CellsHold, tracked, TimerWaits, BeginsMain, BeginsAlone, Begins, EntryCondition}
+use Rattle.uz_schedule.specs.Tracked.{tracked}
+use Rattle.uz_console.specs.Entry.{CellsHold, TimerWaits, BeginsMain, BeginsAlone, Begins, EntryCondition}
 use Rattle.uz_console.specs.Entering.{IsFirstEntry, RegistersMatch, FlagsMatch, StackMatches, IsLeast, lesser, lesser_of, LevelMatches}
 use Rattle.uz_console.specs.Entering.{MatchesEntry, WaitsAt, EntersAt, EntersAtOne, EntersAlone, position_of}
 

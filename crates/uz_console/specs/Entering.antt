@@ -11,7 +11,8 @@ use Rattle.uz_schedule.specs.Schedule.{start_of, frame_of, length_of, level_at, 
 use Rattle.uz_machine.specs.Arithmetic.{bit_is_set}
 use Rattle.uz_machine.specs.Core.{Core, register}
 use Rattle.uz_machine.specs.Turn.{State, sync_level}
-use Rattle.uz_console.specs.Entry.{IsIn, BitHolds, ends_at, flag_at, tracked, CellsHold, TimerWaits, BeginsAlone, EntryCondition}
+use Rattle.uz_schedule.specs.Tracked.{tracked}
+use Rattle.uz_console.specs.Entry.{IsIn, BitHolds, ends_at, flag_at, CellsHold, TimerWaits, BeginsAlone, EntryCondition}
 
 -- a console's state at position p of a frame: p is a least one
 pub record IsFirstEntry {P : Type 0} (cert : Cert) (s : State P) (p : ℕ) : Type 0 where

@@ -1,19 +1,17 @@
 -- The entry condition: the states at which the claim of a certificate begins. It speaks of the certificate's entry,
 -- schedule and rests and of the machine's state alone, whatever the pads.
-use Rattle.std.specs.Prelude.{◌≡◌, ⊤, Contains, ℕ, suc, ◌+◌, ◌-◌, ◌<◌, ◌≤◌, Bool, true, false, List, [], ◌∷◌, filter, length, slice_index}
+use Rattle.std.specs.Prelude.{◌≡◌, ⊤, Contains, ℕ, suc, ◌+◌, ◌-◌, ◌<◌, ◌≤◌, Bool, true, false, List, [], ◌∷◌, length, slice_index}
 use Rattle.std.specs.Prelude.{slice_index_or, Some}
 use Rattle.uz_schedule.specs.Ends.{Ends}
 use Rattle.uz_schedule.specs.declared.facts.Bit.{Bit}
 use Rattle.uz_schedule.specs.declared.facts.Bit.TheVariants.{Zero, One, Free, Old}
 use Rattle.uz_schedule.specs.declared.kinds.Kind.{Kind}
 use Rattle.uz_schedule.specs.declared.kinds.Kind.TheVariants.{Main, Handler, Alone}
-use Rattle.uz_schedule.specs.declared.kinds.Owner.{Owner}
-use Rattle.uz_schedule.specs.declared.kinds.Owner.TheVariants.{Main as MainCell, Handler as HandlerCell}
 use Rattle.uz_schedule.specs.declared.header.Cell.{Cell}
-use Rattle.uz_schedule.specs.declared.header.Head.{Head}
 use Rattle.uz_schedule.specs.declared.states.Rest.{Rest}
 use Rattle.uz_schedule.specs.declared.certificate.Cert.{Cert}
 use Rattle.uz_schedule.specs.Schedule.{At, length_of, level_at, response_clocks}
+use Rattle.uz_schedule.specs.Tracked.{tracked}
 use Rattle.uz_machine.specs.Arithmetic.{bit_is_set}
 use Rattle.uz_machine.specs.Core.{register}
 use Rattle.uz_machine.specs.Timer.{is_counting}
@@ -40,17 +38,6 @@ ends_at spans i = slice_index_or spans i whole_byte
 
 abbrev pub flag_at : List Bit → ℕ → Bit
 flag_at flags i = slice_index_or flags i Free
-
--- main and the handler track their own cells, a program that is alone tracks all
-abbrev pub tracks : Kind → Owner → Bool
-tracks Main MainCell = true
-tracks Main HandlerCell = false
-tracks Handler MainCell = false
-tracks Handler HandlerCell = true
-tracks Alone owner = true
-
-abbrev pub tracked : Head → Kind → List Cell
-tracked head kind = filter (λ cell. tracks kind cell.owner) head.cells.items
 
 -- each cell's byte lies in its range
 abbrev pub CellsHold : List Cell → List Ends → List ℕ → Type 0

@@ -3,17 +3,18 @@
 ghost use Rattle.std.specs.Prelude.{◌≡◌, ◌≤◌, ◌<◌, ◌+◌, ◌↔◌, ℕ, IsTrue, IfNone, IfSome, length};
 ghost use Rattle.uz_schedule.specs.Limits.{ScheduleFits};
 ghost use Rattle.uz_schedule.specs.Schedule.{frame_of};
+ghost use Rattle.uz_schedule.specs.Tracked.{tracked};
 ghost use Rattle.uz_schedule.specs.WellFormed.{WellFormed};
 ghost use Rattle.uz_machine.specs.Arithmetic.{bit_is_set};
 ghost use Rattle.uz_machine.specs.PadLine.{PadHistory};
 ghost use Rattle.uz_machine.specs.Turn.{State};
 ghost use Rattle.uz_console.specs.Consoles.{StandsFor, state_of};
-ghost use Rattle.uz_console.specs.Entry.{BitHolds, CellsHold, EntryCondition, IsIn, TimerWaits, tracked, tracks as kind_tracks};
+ghost use Rattle.uz_console.specs.Entry.{BitHolds, CellsHold, EntryCondition, IsIn, TimerWaits};
 ghost use Rattle.uz_console.specs.Entry.{NotEntered};
 ghost use Rattle.uz_console.specs.Entering.{EntersAlone, EntersAt, EntersAtOne, FlagsMatch, IsFirstEntry, IsLeast, LevelMatches, MatchesEntry, RegistersMatch, StackMatches, WaitsAt, lesser as lesser_position, position_of};
 
 use crate::Console;
-use uz_schedule::{Bit, Cert, Head, Kind, Owner, Rest, Schedule, Span, well_formed};
+use uz_schedule::{Bit, Cert, Head, Kind, Rest, Schedule, Span, tracks, well_formed};
 
 /// PORTB, whose bit 0 is the sync level.
 const PORTB: u16 = 0x25;
@@ -44,16 +45,6 @@ fn is_set(byte: u8, bit: u8) -> bool
     ensures { result ≡ bit_is_set byte bit }
 {
     byte >> bit & 1 == 1
-}
-
-fn tracks(kind: Kind, owner: Owner) -> bool
-    ensures { result ≡ kind_tracks kind owner }
-{
-    match kind {
-        Kind::Main => owner == Owner::Main,
-        Kind::Handler => owner == Owner::Handler,
-        Kind::Alone => true,
-    }
 }
 
 /// The position of a clock of a line, round the frame.

@@ -1,14 +1,13 @@
 -- One more line of a script is read.
-use Rattle.std.proofs.Common.{◌≡◌, ◌≢◌, ℕ, zero, suc, ◌+◌, ◌<◌, ◌≤◌, Bool, true, false, if◌then◌else◌, List, [], ◌∷◌, ◌++◌, length, get_or}
-use Rattle.std.proofs.Common.{take, drop, map, nat_lt, Bor, refl, sym, ◌∙◌, ap, subst, append_assoc, append-nil, arith}
+use Rattle.std.proofs.Common.{◌≡◌, ◌≢◌, ℕ, suc, ◌+◌, ◌<◌, ◌≤◌, Bool, true, false, if◌then◌else◌, List, [], ◌∷◌, ◌++◌, length, get_or}
+use Rattle.std.proofs.Common.{take, map, Bor, refl, sym, ◌∙◌, ap, subst, append_assoc, append-nil, arith}
 use Rattle.std.specs.Prelude.{filter}
-use Rattle.std.proofs.lemmas.Bool.Decides.{nat_tests}
-use Rattle.std.proofs.lemmas.List.{length-append, length-map, length-take-le, take-append-drop, take_all, map-append}
+use Rattle.std.proofs.lemmas.List.{length-append, map-append}
 use Rattle.std.proofs.lemmas.List.Elements.{All-append, All-nil, All-cons, filter-append}
 use Rattle.std.proofs.Math.Seq.{take-suc}
-use Rattle.std.proofs.Common.{drop-cons}
 use Rattle.uz_text.specs.Lines.{line_at, lines_of_pieces}
-use Rattle.uz_text.proofs.TextLines.{line_count, line_here, taken_more}
+use Rattle.uz_text.proofs.TextLines.{taken_more}
+use Rattle.uz_pads.proofs.LineCuts.{all_taken, cut_at}
 use Rattle.uz_debug.specs.declared.command.Command.{Command}
 use Rattle.uz_debug.specs.declared.script_lines.Line.TheVariants as line
 use Rattle.uz_debug.specs.declared.errors.ScriptWhy.{ScriptWhy}
@@ -70,10 +69,7 @@ read_command pieces at commands command h e ne r =
 pub read_all : (pieces : List (Bor (List ℕ))) (at : ℕ) (commands : List Command) → length pieces ≤ at
     → IsScript (take at (lines_of_pieces (map (λ piece. piece.now) pieces))) commands →
     IsScript (lines_of_pieces (map (λ piece. piece.now) pieces)) commands
-read_all pieces at commands h r =
-    let ps = map (λ (piece : Bor (List ℕ)). piece.now) pieces in
-    let count : length (lines_of_pieces ps) ≡ length pieces = line_count ps ∙ length-map pieces (λ (piece : Bor (List ℕ)). piece.now) in
-    subst (λ ls. IsScript ls commands) (take_all at (lines_of_pieces ps) (omega arith)) r
+read_all pieces at commands h r = subst (λ ls. IsScript ls commands) (all_taken pieces at h) r
 
 pub fault_at : (pieces : List (Bor (List ℕ))) (at : ℕ) (commands : List Command) (why : ScriptWhy) → at < length pieces
     → IsFault (kind_of (line_at (map (λ piece. piece.now) pieces) at)) (length commands) why →
@@ -81,17 +77,14 @@ pub fault_at : (pieces : List (Bor (List ℕ))) (at : ℕ) (commands : List Comm
     → IsFirstFault (lines_of_pieces (map (λ piece. piece.now) pieces)) (at + 1) why
 fault_at pieces at commands why h fault r =
     let ps = map (λ (piece : Bor (List ℕ)). piece.now) pieces in
-    let lines = lines_of_pieces ps in
-    let count : length lines ≡ length pieces = line_count ps ∙ length-map pieces (λ (piece : Bor (List ℕ)). piece.now) in
-    let fits : at < length ps = omega (arith, length-map pieces (λ (piece : Bor (List ℕ)). piece.now)) in
+    let here = cut_at pieces at h in
     record {
-      earlier = take at lines;
+      earlier = take at (lines_of_pieces ps);
       text = line_at ps at;
-      later = drop (suc at) lines;
-      cut = sym (take-append-drop at lines) ∙ (ap (λ xs. take at lines ++ xs) (drop-cons lines at [] (omega arith))
-          ∙ ap (λ x. take at lines ++ x ∷ drop (suc at) lines) (line_here ps at fits));
-      number_is = ap (λ n. n + 1) (sym (length-take-le at lines (omega arith)));
-      read = subst (λ xs. IsScript (take at lines) xs) r.are r;
+      later = here.later;
+      cut = here.cut;
+      number_is = here.number;
+      read = subst (λ xs. IsScript (take at (lines_of_pieces ps)) xs) r.are r;
       fault = subst (λ (xs : List Command). IsFault (kind_of (line_at ps at)) (length xs) why) r.are fault;
     }
 

@@ -1,8 +1,7 @@
 -- The text of a script: lines that end in LF or CRLF, each blank or a command, whose words stand apart by spaces and tabs.
-use Rattle.std.specs.Prelude.{◌≡◌, ◌≢◌, ℕ, ◌+◌, ◌≤◌, Bool, true, false, ◌||◌, ◌==◌, if◌then◌else◌, nat_lt, List, [], ◌∷◌, ◌++◌, length}
-use Rattle.std.specs.Prelude.{filter, codes, bytes_eq, Option, Some, None, option_map, IfSome}
+use Rattle.std.specs.Prelude.{◌≡◌, ◌≢◌, ℕ, ◌+◌, ◌≤◌, Bool, true, false, if◌then◌else◌, nat_lt, List, [], ◌∷◌, ◌++◌, length}
+use Rattle.std.specs.Prelude.{filter, codes, bytes_eq, Option, Some, None, option_map}
 use Rattle.std.specs.List.{slice_split, All}
-use Prim.Native.Char.{code}
 use Rattle.uz_text.specs.Numbers.{number_within}
 use Rattle.uz_debug.specs.declared.command.Command.{Command}
 use Rattle.uz_debug.specs.declared.command.Command.TheVariants.{Step, Run, Back, Break, Clear, Save, Load, Show, Mem}

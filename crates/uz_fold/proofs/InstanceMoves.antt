@@ -94,21 +94,14 @@ abbrev pub moved : ℕ → Option Instance → Option Instance
 moved m None = None
 moved m (Some inst) = Some (at_line m inst)
 
-abbrev with_known : Point → ℕ → ℕ → ℕ → List Val → List Ends → List Val → List Ends → Instance
-with_known p l clock level regs pairs stack cells =
-    record {
-      kind = p.kind;
-      pc = p.pc;
-      line = l;
-      clock = clock;
-      level = level;
-      pending = p.pending;
-      regs = regs;
-      pairs = pairs;
-      flags = p.flags;
-      stack = record { items = stack };
-      cells = record { items = cells };
-    }
+-- an instance of which this is known
+abbrev with_known : Instance → List Val → List Ends → List Val → List Ends → Instance
+with_known inst regs pairs stack cells = record inst {
+  regs = regs;
+  pairs = pairs;
+  stack = record { items = stack };
+  cells = record { items = cells };
+}
 
 instance_same : (p : Point) (l m c clock level : ℕ) → has_no_line p ≡ true → instance_of p m c clock level ≡ at_line m
     (instance_of p l c clock level)
@@ -123,14 +116,12 @@ instance_same p l m c clock level h =
     let pairs = pairs_same m l c (map (val_of l c) p.regs) p.pairs (and_left b (d && e) rest) in
     let stack = facts_same (val_of m c) (val_of l c) p.stack.items (λ f k. val_same m l c f k) (and_left d e last) in
     let cells = facts_same (cell_span m c) (cell_span l c) p.cells.items (λ f k. span_same m l f k) (and_right d e last) in
-    ap (λ v. with_known p m clock level v (pairs_of m c v p.pairs) (map (val_of m c) p.stack.items) (map (cell_span m c) p.cells.items))
-    regs
-    ∙ (ap (λ v. with_known p m clock level (map (val_of l c) p.regs) v (map (val_of m c) p.stack.items) (map (cell_span m c) p.cells.items))
-    pairs
-    ∙ (ap (λ v. with_known p m clock level (map (val_of l c) p.regs) (pairs_of l c (map (val_of l c) p.regs) p.pairs) v
-    (map (cell_span m c) p.cells.items)) stack
-    ∙ ap (λ v. with_known p m clock level (map (val_of l c) p.regs) (pairs_of l c (map (val_of l c) p.regs) p.pairs)
-    (map (val_of l c) p.stack.items) v) cells))
+    let there = instance_of p m c clock level in
+    let here = instance_of p l c clock level in
+    ap (λ v. with_known there v (pairs_of m c v p.pairs) there.stack.items there.cells.items) regs
+    ∙ (ap (λ v. with_known there here.regs v there.stack.items there.cells.items) pairs
+    ∙ (ap (λ v. with_known there here.regs here.pairs v there.cells.items) stack
+    ∙ ap (λ v. with_known there here.regs here.pairs here.stack.items v) cells))
   where
     span_same : (l m : ℕ) (f : Fact) → keeps_by_lines f ≡ true → cell_span l c f ≡ cell_span m c f
     span_same l m Any h = refl

@@ -25,7 +25,8 @@ pub record ScheduleLaws : Type 0 where
 -- Lengths
 
 -- lines of one kind have one length
-pub same_length : (s : Schedule) (l m : ℕ) → l < length s.lines → m < length s.lines → kind_of s l ≡ kind_of s m → length_of s l ≡ length_of s m
+pub same_length : (s : Schedule) (l m : ℕ) → l < length s.lines → m < length s.lines → kind_of s l ≡ kind_of s m
+    → length_of s l ≡ length_of s m
 same_length s l m h g e =
     ap (length_of_kind s.lengths) (slice_get-get_or s.lines l 0 h ∙ (ap (λ k. Some k) e ∙ sym (slice_get-get_or s.lines m 0 g)))
 

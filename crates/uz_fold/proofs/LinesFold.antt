@@ -51,7 +51,8 @@ pub record Alike (cert : Cert) (l m n : ℕ) : Type 0 where
 abbrev AlikeAt : Cert → ℕ → Type 0
 AlikeAt cert l = Alike cert l (next_line cert.schedule l) (next_line cert.schedule (next_line cert.schedule l))
 
-alike_of : ScheduleLaws → (cert : Cert) (l : ℕ) → ScheduleFits cert.schedule → l < length cert.schedule.lines → lines_alike cert l ≡ true → AlikeAt cert l
+alike_of : ScheduleLaws → (cert : Cert) (l : ℕ) → ScheduleFits cert.schedule → l < length cert.schedule.lines → lines_alike cert l ≡ true
+    → AlikeAt cert l
 alike_of laws cert l fits h alike =
     let s = cert.schedule in
     let e = line_before s l in

@@ -237,7 +237,7 @@ pub placed_moves : (lines : Lines) (m : ℕ) (inst draft : Instance) (emitted : 
     ≡ at_line (landed (is_main inst.kind) (inst.clock + x.clocks) (lines.length inst.line) m (lines.next m))
     (at_exit lines inst draft emitted clears x)
 placed_moves lines m inst draft emitted clears x h =
-    ap (λ n. record {
+    ap (λ n. record draft {
       kind = inst.kind;
       pc = x.pc;
       line = landed (is_main inst.kind) (inst.clock + x.clocks) n m (lines.next m);
@@ -245,11 +245,6 @@ placed_moves lines m inst draft emitted clears x h =
           inst.clock + x.clocks - n);
       level = if is_main inst.kind then inst.level else level_after emitted (inst.level % 2);
       pending = if is_handler inst.kind then not clears && (inst.pending || nat_le n (inst.clock + x.clocks)) else inst.pending;
-      regs = draft.regs;
-      pairs = draft.pairs;
-      flags = draft.flags;
-      stack = draft.stack;
-      cells = draft.cells;
     }) h
 
 -- Each exit takes 4 clocks at most

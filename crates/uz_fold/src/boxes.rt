@@ -41,9 +41,8 @@ pub(crate) fn boxes_even(cert: &Cert, point: &Point, line: u16) -> bool
     requires line { line < length cert.now.schedule.lines }
     ensures { result ≡ all_even cert.now point.now line }
 {
-    let order = &cert.schedule;
-    let next = order.next(line);
-    let after = order.next(next);
+    let next = cert.schedule.next(line);
+    let after = cert.schedule.next(next);
     'each: for id in point.next.as_slice() {
         if !is_even_there(cert, *id, line, next, after) {
             return false;

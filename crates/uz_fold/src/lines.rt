@@ -38,11 +38,10 @@ fn kinds_alike(schedule: &Schedule, line: u16) -> bool
     requires line { line < length schedule.now.lines }
     ensures { result ≡ kinds_same schedule.now line }
 {
-    let order = schedule;
     let kind = kind_of(schedule, line);
-    let next = order.next(line);
+    let next = schedule.next(line);
     kind_of(schedule, line_before(schedule, line)) == kind
-        && (kind_of(schedule, next) == kind && kind_of(schedule, order.next(next)) == kind)
+        && (kind_of(schedule, next) == kind && kind_of(schedule, schedule.next(next)) == kind)
 }
 
 /// Whether these are the same ranges.
@@ -90,12 +89,11 @@ fn rests_alike(cert: &Cert, line: u16) -> bool
     requires line { line < length cert.now.schedule.lines }
     ensures { result ≡ rests_same cert.now.schedule cert.now.rests line }
 {
-    let order = &cert.schedule;
     let rests = cert.rests.as_slice();
-    let next = order.next(line);
+    let next = cert.schedule.next(line);
     let here = rest_of_line(rests, line);
     same_rest(here, rest_of_line(rests, next))
-        && same_rest(here, rest_of_line(rests, order.next(next)))
+        && same_rest(here, rest_of_line(rests, cert.schedule.next(next)))
 }
 
 /// Whether the conditions on lines hold of a line and of the one that follows it.

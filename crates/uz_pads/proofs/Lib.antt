@@ -1,3 +1,4 @@
 pub mod History
+pub mod LineCuts
 pub mod LineLemmas
 pub mod ReadingLaws

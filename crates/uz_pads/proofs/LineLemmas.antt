@@ -1,11 +1,8 @@
 -- One more line is read.
-use Rattle.std.proofs.Common.{◌≡◌, ◌≢◌, ℕ, zero, suc, ◌+◌, ◌<◌, ◌≤◌, true, if◌then◌else◌, List, [], ◌∷◌, ◌++◌, length, get_or, take, drop}
-use Rattle.std.proofs.Common.{map, nat_lt, Bor, refl, sym, ◌∙◌, ap, subst, append_assoc, append-nil, arith}
-use Rattle.std.proofs.lemmas.Bool.Decides.{nat_tests}
-use Rattle.std.proofs.lemmas.List.{length-append, length-map, length-take-le, take-append-drop, take_all}
+use Rattle.std.proofs.Common.{◌≡◌, ◌≢◌, ℕ, ◌+◌, ◌<◌, ◌≤◌, true, List, [], ◌∷◌, ◌++◌, length, take}
+use Rattle.std.proofs.Common.{map, Bor, refl, sym, ◌∙◌, ap, subst, append_assoc, append-nil, arith}
+use Rattle.std.proofs.lemmas.List.{length-append}
 use Rattle.std.proofs.lemmas.List.Elements.{All-append, All-nil, All-cons}
-use Rattle.std.proofs.Math.Seq.{take-suc}
-use Rattle.std.proofs.Common.{drop-cons}
 use Rattle.uz_pads.specs.declared.pads.Pad.{Pad}
 use Rattle.uz_pads.specs.declared.lines.Line.TheVariants.{Blank, Pair, Faulty}
 use Rattle.uz_pads.specs.declared.errors.PadWhy.{PadWhy}
@@ -13,7 +10,8 @@ use Rattle.uz_pads.specs.declared.errors.PadWhy.TheVariants.{Digits, Count}
 use Rattle.uz_pads.specs.Lines.{kind_of, pads_of, pads_in, is_well_formed, IsRead, IsFault}
 use Rattle.uz_pads.specs.Lines.{IsFirstFault}
 use Rattle.uz_text.specs.Lines.{line_at, lines_of_pieces}
-use Rattle.uz_text.proofs.TextLines.{line_count, line_here, taken_more}
+use Rattle.uz_text.proofs.TextLines.{taken_more}
+use Rattle.uz_pads.proofs.LineCuts.{all_taken, cut_at}
 
 -- pairs and good lines of lists of lines
 
@@ -70,10 +68,7 @@ read_pair pieces at pads pad h e ne r =
 pub read_all : (pieces : List (Bor (List ℕ))) (at : ℕ) (pads : List Pad) → length pieces ≤ at
     → IsRead (take at (lines_of_pieces (map (λ piece. piece.now) pieces))) pads →
     IsRead (lines_of_pieces (map (λ piece. piece.now) pieces)) pads
-read_all pieces at pads h r =
-    let ps = map (λ (piece : Bor (List ℕ)). piece.now) pieces in
-    let count : length (lines_of_pieces ps) ≡ length pieces = line_count ps ∙ length-map pieces (λ (piece : Bor (List ℕ)). piece.now) in
-    subst (λ ls. IsRead ls pads) (take_all at (lines_of_pieces ps) (omega arith)) r
+read_all pieces at pads h r = subst (λ ls. IsRead ls pads) (all_taken pieces at h) r
 
 pub fault_at : (pieces : List (Bor (List ℕ))) (at : ℕ) (pads : List Pad) (why : PadWhy) → at < length pieces
     → IsFault (kind_of (line_at (map (λ piece. piece.now) pieces) at)) (length pads) why →
@@ -81,17 +76,14 @@ pub fault_at : (pieces : List (Bor (List ℕ))) (at : ℕ) (pads : List Pad) (wh
     → IsFirstFault (lines_of_pieces (map (λ piece. piece.now) pieces)) (at + 1) why
 fault_at pieces at pads why h fault r =
     let ps = map (λ (piece : Bor (List ℕ)). piece.now) pieces in
-    let lines = lines_of_pieces ps in
-    let count : length lines ≡ length pieces = line_count ps ∙ length-map pieces (λ (piece : Bor (List ℕ)). piece.now) in
-    let fits : at < length ps = omega (arith, length-map pieces (λ (piece : Bor (List ℕ)). piece.now)) in
+    let here = cut_at pieces at h in
     record {
-      earlier = take at lines;
+      earlier = take at (lines_of_pieces ps);
       line = line_at ps at;
-      later = drop (suc at) lines;
-      cut = sym (take-append-drop at lines) ∙ (ap (λ xs. take at lines ++ xs) (drop-cons lines at [] (omega arith))
-          ∙ ap (λ x. take at lines ++ x ∷ drop (suc at) lines) (line_here ps at fits));
-      number_is = ap (λ n. n + 1) (sym (length-take-le at lines (omega arith)));
-      read = subst (λ xs. IsRead (take at lines) xs) r.are r;
+      later = here.later;
+      cut = here.cut;
+      number_is = here.number;
+      read = subst (λ xs. IsRead (take at (lines_of_pieces ps)) xs) r.are r;
       fault = subst (λ (xs : List Pad). IsFault (kind_of (line_at ps at)) (length xs) why) r.are fault;
     }
 

@@ -1,5 +1,5 @@
 -- What is accepted meets all premises of the induction.
-use Rattle.std.proofs.Common.{◌≡◌, Contains, ℕ, refl}
+use Rattle.std.proofs.Common.{◌≡◌, ◌<◌, Contains, ℕ, refl}
 use Rattle.std.specs.Prelude.{Some, slice_get}
 use Rattle.std.specs.Ordering.{nat_cmp}
 use Rattle.std.specs.FinMap.{FinMap}
@@ -15,7 +15,8 @@ use Rattle.uz_schedule.specs.declared.kinds.Kind.TheVariants.{Main, Handler, Alo
 use Rattle.uz_schedule.specs.declared.states.Rest.{Rest}
 use Rattle.uz_schedule.specs.declared.states.Instance.{Instance}
 use Rattle.uz_schedule.specs.declared.certificate.Cert.{Cert}
-use Rattle.uz_soundness.specs.Steady.{IsSteady, AreScanlines}
+use Rattle.uz_schedule.specs.Schedule.{length_of}
+use Rattle.uz_soundness.specs.Steady.{IsSteady}
 use Rattle.uz_soundness.specs.FrameRules.{RestPasses}
 use Rattle.uz_soundness.specs.Acceptance.{Accepts}
 use Rattle.uz_soundness.proofs.Fits.{HasRest}
@@ -27,6 +28,7 @@ use Rattle.uz_soundness.proofs.NotEmpty.{some_state}
 
 rest_holds : (laws : RuleLaws) (cert : Cert) (rest : Rest) → RestPasses cert rest → RestHolds cert rest
 rest_holds laws cert rest h = record {
+  within = h.within;
   quiet = h.quiet;
   quiet_next = h.quiet_next;
   vector = λ c few. covered laws.lies cert rest.vector (rest_instance cert rest c) (h.vector c few);
@@ -41,7 +43,7 @@ local_holds laws image cert h id l c inst e =
 pub premises_hold : (laws : RuleLaws) (image : FinMap nat_cmp ℕ) (cert : Cert) → WellFormed cert → Accepts image cert → Premises image cert
 premises_hold laws image cert formed h = record {
   laws = laws;
-  limits = limits_of cert formed h.scanlines;
+  limits = limits_of cert formed;
   scanlines = h.scanlines;
   local = local_holds laws image cert h;
   rests = λ rest has. rest_holds laws cert rest (h.rests rest has);
@@ -50,10 +52,10 @@ premises_hold laws image cert formed h = record {
 
 -- Some state enters
 
-pub some_enters : (image : FinMap nat_cmp ℕ) (cert : Cert) → IsFlash image → WellFormed cert → AreScanlines cert.schedule → IsSteady cert.schedule
-    → (cert.entry.kind ≡ Main → (rest : Rest) × Contains cert.rests rest)
+pub some_enters : (image : FinMap nat_cmp ℕ) (cert : Cert) → IsFlash image → WellFormed cert → IsSteady cert.schedule
+    → (cert.entry.kind ≡ Main → (rest : Rest) × Contains cert.rests rest × (rest.clock < length_of cert.schedule rest.line))
     → (s : State PadHistory) × (p : ℕ) × IsState s × (s.image ≡ image) × EntryCondition cert s p
-some_enters image cert flash formed lines steady rest = some_state image cert flash (limits_of cert formed lines) (entry_limits cert formed) steady
+some_enters image cert flash formed steady rest = some_state image cert flash (limits_of cert formed) (entry_limits cert formed) steady
     (has_rest cert.entry.kind refl formed.entry.kind)
   where
     has_rest : (kind : Kind) → cert.entry.kind ≡ kind → EntryKindFits kind cert.entry → HasRest cert kind

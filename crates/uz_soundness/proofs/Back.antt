@@ -36,17 +36,18 @@ use Rattle.uz_schedule.specs.Lines.{line_after, clock_after}
 use Rattle.uz_rules.specs.Meets.{TimerMeets, TimerCounts, LevelMeets}
 use Rattle.uz_soundness.specs.Claim.{scheduled, InTime}
 use Rattle.uz_schedule.specs.Lines.{order_of}
+use Rattle.uz_schedule.proofs.Starts.{frame_some}
 use Rattle.uz_rules.specs.EdgeRule.{position_of}
 use Rattle.uz_soundness.proofs.Premises.{EdgeHolds, Returns, LocalHolds, Premises}
 use Rattle.uz_soundness.specs.Invariant.{RunsMain, RunsHandler, HandlerRuns, pushed}
 use Rattle.uz_soundness.proofs.Turned.{Turned}
-use Rattle.uz_soundness.proofs.Lines.{at_more, at_same, at_after}
+use Rattle.uz_schedule.proofs.Places.{at_more, at_same, at_after}
 use Rattle.uz_soundness.proofs.Timer.{timer_keeps_top, timer_keeps_mask, counting_kept}
 use Rattle.uz_soundness.proofs.Timing.{timed}
 use Rattle.uz_soundness.proofs.Ram.{pushed_high, pushed_low, pushed_off}
 use Rattle.uz_soundness.proofs.Bits.{set_seven, set_others}
 use Rattle.uz_soundness.proofs.ReturnTurn.{returned, return_is}
-use Rattle.uz_soundness.proofs.Quiet.{frame_some, scheduled_mod, level_along, last_in}
+use Rattle.uz_soundness.proofs.Quiet.{scheduled_mod, level_along, last_in}
 use Rattle.uz_soundness.proofs.Fitting.{is_placed, main_slots, room_below, line_long, cells_widen}
 use Rattle.uz_soundness.proofs.Cells.{mains_alone, head_fits, off_pushed}
 use Rattle.uz_soundness.proofs.Restored.{given_back}
@@ -157,7 +158,8 @@ returned_follows image cert p s inst main o was local h then_state flash level r
     in
     let there : At z (p + 4) r.line r.clock = at_same z (p + 4) _ r.line _ r.clock (sym end.line) (sym end.clock)
     (at_after z (p + 4) inst.line (inst.clock + 4) (at_more z p inst.line inst.clock 4 runs.place)) in
-    let rest_limits = h.limits.rests back.rest back.is_rest in
+    let rest_line = (h.limits.rests back.rest back.is_rest).line in
+    let rest_holds = h.rests back.rest back.is_rest in
     let was_meets = runs.main_stands.meets in
     let was_memory = was_meets.memory in
     let main_kind = runs.main_stands.of_kind in
@@ -210,11 +212,11 @@ returned_follows image cert p s inst main o was local h then_state flash level r
               is_rest = back.is_rest;
               cells = cells_widen cert.head Handler local.step.draft.cells.items back.rest.cells.items s.space.bytes then_state.space.bytes
                   back.cells drafted;
-              top = ap suc (timer_keeps_top t 4 ∙ timer.2) ∙ sym (h.scanlines back.rest.line rest_limits.line);
+              top = ap suc (timer_keeps_top t 4 ∙ timer.2) ∙ sym (h.scanlines back.rest.line rest_line);
               phase = inl (record {
                 place = at_same z (p + 4) r.line back.rest.line r.clock (timer_after 4 t).count back.line (sym count) there;
                 rested = omega (arith, count, back.clock);
-                within = omega (arith, count, back.clock, rest_limits.clock);
+                within = omega (arith, count, back.clock, rest_holds.within);
                 clear = clear;
               });
             };

@@ -26,12 +26,13 @@ use Rattle.uz_transfer.specs.Kinds.{is_main}
 use Rattle.uz_transfer.specs.Memory.{depth_of}
 use Rattle.uz_rules.specs.Meets.{TimerMeets, TimerCounts, LevelMeets}
 use Rattle.uz_schedule.specs.Instances.{entry_instance}
-use Rattle.uz_console.specs.Entry.{IsIn, BitHolds as EntryBit, CellsHold as AllHold, ends_at, tracked, Begins, EntryCondition}
+use Rattle.uz_schedule.specs.Tracked.{tracked}
+use Rattle.uz_console.specs.Entry.{IsIn, BitHolds as EntryBit, CellsHold as AllHold, ends_at, Begins, EntryCondition}
 use Rattle.uz_soundness.specs.Certified.{Certified}
 use Rattle.uz_soundness.proofs.Fits.{SpansFit}
 use Rattle.uz_soundness.proofs.Premises.{Premises}
 use Rattle.uz_soundness.specs.Invariant.{RunsAlone, RunsMain, Invariant, BeginsWithIt}
-use Rattle.uz_soundness.proofs.Lines.{at_same, level_here}
+use Rattle.uz_schedule.proofs.Places.{at_same, level_here}
 use Rattle.uz_soundness.proofs.Fitting.{is_placed}
 use Rattle.uz_soundness.proofs.Cells.{main_or_handler, cells_by_place, in_own_range, head_holds}
 use Rattle.uz_soundness.proofs.Covered.{place_tells, lands}

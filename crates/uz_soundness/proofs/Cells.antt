@@ -10,13 +10,14 @@ use Rattle.uz_schedule.specs.declared.kinds.Owner.{Owner}
 use Rattle.uz_schedule.specs.declared.kinds.Owner.TheVariants.{Main as MainOwner, Handler as HandlerOwner}
 use Rattle.uz_schedule.specs.declared.header.Cell.{Cell}
 use Rattle.uz_schedule.specs.declared.header.Head.{Head}
+use Rattle.uz_schedule.specs.Tracked.{tracks as kind_tracks, tracked}
 use Rattle.uz_machine.specs.PadLine.{PadHistory}
 use Rattle.uz_machine.specs.Turn.{State}
 use Rattle.uz_range.specs.Containment.{IsWithin}
 use Rattle.uz_transfer.specs.Values.{span_at}
 use Rattle.uz_rules.specs.MemoryMeets.{HeadFits, CellsHold, HeaderHolds}
 use Rattle.uz_transfer.specs.Kinds.{tracks, place_from, cell_place, range_from, cell_range}
-use Rattle.uz_console.specs.Entry.{IsIn, CellsHold as AllHold, tracks as entry_tracks, tracked}
+use Rattle.uz_console.specs.Entry.{IsIn, CellsHold as AllHold}
 use Rattle.uz_soundness.proofs.Fits.{HeadLimits, SpansFit}
 use Rattle.uz_soundness.specs.Invariant.{pushed}
 use Rattle.uz_soundness.proofs.Ram.{pushed_off}
@@ -36,7 +37,7 @@ owners kind test same (c ∷ cells) =
     ap (λ b. cond b (c ∷ kept_by kind cells) (kept_by kind cells)) (same c.owner)
     ∙ ap (λ xs. cond (test c.owner) (c ∷ xs) xs) (owners kind test same cells)
 
-same_owners : (kind : Kind) (o : Owner) → tracks kind o ≡ entry_tracks kind o
+same_owners : (kind : Kind) (o : Owner) → tracks kind o ≡ kind_tracks kind o
 same_owners Main MainOwner = refl
 same_owners Main HandlerOwner = refl
 same_owners Handler MainOwner = refl
@@ -44,7 +45,7 @@ same_owners Handler HandlerOwner = refl
 same_owners Alone owner = refl
 
 pub tracked_is : (head : Head) (kind : Kind) → tracked head kind ≡ kept_by kind head.cells.items
-tracked_is head kind = sym (owners kind (entry_tracks kind) (same_owners kind) head.cells.items)
+tracked_is head kind = sym (owners kind (kind_tracks kind) (same_owners kind) head.cells.items)
 
 within_is : (e : Ends) (v : ℕ) → IsIn e v → IsWithin v e
 within_is e v h = record { above = h.0; below = h.1 }
@@ -238,4 +239,4 @@ filtered p [] c has = has
 filtered p (x ∷ xs) c has = filtered_cons x xs (filter p xs) c (p x) (filtered p xs) has
 
 pub tracked_there : (head : Head) (kind : Kind) (c : Cell) → Contains (tracked head kind) c → Contains head.cells.items c
-tracked_there head kind c has = filtered (λ c. entry_tracks kind c.owner) head.cells.items c has
+tracked_there head kind c has = filtered (λ c. kind_tracks kind c.owner) head.cells.items c has

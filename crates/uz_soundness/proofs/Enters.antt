@@ -35,15 +35,16 @@ use Rattle.uz_transfer.specs.Memory.{depth_of}
 use Rattle.uz_rules.specs.Meets.{TimerCounts}
 use Rattle.uz_soundness.specs.Claim.{scheduled, InTime}
 use Rattle.uz_schedule.specs.Instances.{old_from, rest_instance}
+use Rattle.uz_schedule.proofs.Starts.{frame_some}
 use Rattle.uz_soundness.proofs.Premises.{Premises}
 use Rattle.uz_soundness.specs.Invariant.{RunsMain, RunsHandler, MainRuns, Due, pushed}
 use Rattle.uz_soundness.proofs.Turned.{Turned}
-use Rattle.uz_soundness.proofs.Lines.{at_more, at_same, event_here, level_here}
+use Rattle.uz_schedule.proofs.Places.{at_more, at_same, event_here, level_here}
 use Rattle.uz_soundness.proofs.Timer.{count_within, count_counting, matched_within, timer_keeps_top, timer_keeps_mask, counting_kept}
 use Rattle.uz_soundness.proofs.Ram.{pushed_level}
 use Rattle.uz_soundness.proofs.Bits.{clear_seven, clear_others}
 use Rattle.uz_soundness.proofs.EntryTurn.{entered, entry_is, entry_seen}
-use Rattle.uz_soundness.proofs.Quiet.{frame_some, scheduled_none, level_along, last_in}
+use Rattle.uz_soundness.proofs.Quiet.{scheduled_none, level_along, last_in}
 use Rattle.uz_soundness.proofs.Fitting.{is_placed, main_slots, line_long, room_below, register_byte}
 use Rattle.uz_soundness.proofs.Cells.{handlers_alone, head_fits, off_pushed, cells_same}
 use Rattle.uz_soundness.proofs.Covered.{place_tells, lands}
@@ -98,6 +99,7 @@ entered_follows : (image : FinMap nat_cmp ℕ) (cert : Cert) (p : ℕ) (s : Stat
     → Turned image cert p s (RunsMain main o rest) (enter_edge s) (entered s)
 entered_follows image cert p s main o rest h is_state then_state flash level runs due =
     let rule = h.rests rest runs.rests.is_rest in
+    let full = h.scanlines rest.line (h.limits.rests rest runs.rests.is_rest).line in
     let limits = h.limits in
     let schedule = cert.schedule in
     let of_kind = runs.stands.of_kind in
@@ -163,7 +165,7 @@ entered_follows image cert p s main o rest h is_state then_state flash level run
         ranges = ranges;
         depth = omega (arith, at_stack, low, limits.head.low);
       };
-      timer = (count ∙ ap (λ k. n + k) meets.response, flag, timer_keeps_top t s.response ∙ omega (arith, runs.rests.top, h.scanlines rest.line (limits.rests rest runs.rests.is_rest).line));
+      timer = (count ∙ ap (λ k. n + k) meets.response, flag, timer_keeps_top t s.response ∙ omega (arith, runs.rests.top, full));
       ticks = (counting_kept t s.response ∙ ticks.0, ap (λ m. bit_is_set m 1) (timer_keeps_mask t s.response) ∙ ticks.1);
       level = old_level;
       response = meets.response;

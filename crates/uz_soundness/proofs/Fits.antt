@@ -12,10 +12,10 @@ use Rattle.uz_schedule.specs.declared.certificate.Cert.{Cert}
 use Rattle.uz_schedule.specs.Limits.{rises}
 use Rattle.uz_schedule.specs.declared.kinds.Kind.{Kind}
 use Rattle.uz_schedule.specs.declared.header.Head.{Head}
+use Rattle.uz_schedule.specs.Tracked.{tracked}
 use Rattle.uz_transfer.specs.Kinds.{depth_limit}
 use Rattle.uz_transfer.specs.Kinds.{is_main}
 use Rattle.uz_transfer.specs.Memory.{all_flags, is_old, depth_of}
-use Rattle.uz_console.specs.Entry.{tracked}
 use Rattle.uz_rules.specs.EdgeRule.{position_of}
 
 -- one range a cell, each within the cell's own
@@ -53,7 +53,6 @@ pub record PointLimits (cert : Cert) (p : Point) : Type 0 where
 
 pub record RestLimits (cert : Cert) (rest : Rest) : Type 0 where
   pub line : rest.line < length cert.schedule.lines
-  pub clock : rest.clock < length_of cert.schedule rest.line
   pub cells : SpansFit (tracked cert.head Handler) rest.cells.items
 
 pub record Limits (cert : Cert) : Type 0 where
@@ -81,8 +80,8 @@ pub record EntryLimits (cert : Cert) : Type 0 where
   -- addresses of cells rise
   pub rise : IsTrue (rises (map (λ c. c.at) cert.head.cells.items))
 
--- an entry is main's or of a program that is alone, and a main entry has a rest
+-- an entry is main's or of a program that is alone, and a main entry has a rest at a clock of its line
 abbrev pub HasRest : Cert → Kind → Type 0
-HasRest cert Main = (rest : Rest) × Contains cert.rests rest
+HasRest cert Main = (rest : Rest) × Contains cert.rests rest × (rest.clock < length_of cert.schedule rest.line)
 HasRest cert Handler = ⊥
 HasRest cert Alone = ⊤

@@ -33,16 +33,17 @@ use Rattle.uz_rules.specs.Meets.{LevelMeets}
 use Rattle.uz_rules.specs.OneStep.{MainTimer as RunsOn, OneStep}
 use Rattle.uz_soundness.specs.Claim.{scheduled, InTime}
 use Rattle.uz_schedule.specs.Lines.{order_of}
+use Rattle.uz_schedule.proofs.Starts.{frame_some}
 use Rattle.uz_rules.specs.EdgeRule.{position_of}
 use Rattle.uz_soundness.proofs.Fits.{IsPlaced}
 use Rattle.uz_soundness.proofs.Premises.{IsCovered, EdgeHolds, Succeeds, LocalHolds, RestHolds, Premises}
 use Rattle.uz_soundness.specs.Ways.{IsPlain, Spends}
 use Rattle.uz_soundness.specs.Invariant.{Stands, RunsAlone, RunsMain, RunsHandler, AloneRuns, MainRuns, HandlerRuns, IsKept, Before, Due}
 use Rattle.uz_soundness.proofs.Turned.{Turned}
-use Rattle.uz_soundness.proofs.Lines.{at_more, at_same, at_next, at_after, event_here, level_here}
+use Rattle.uz_schedule.proofs.Places.{at_more, at_same, at_next, at_after, event_here, level_here}
 use Rattle.uz_soundness.proofs.Fitting.{is_placed, line_long}
 use Rattle.uz_soundness.proofs.Timer.{count_within, count_over, match_within, match_over}
-use Rattle.uz_soundness.proofs.Quiet.{frame_some, scheduled_mod, scheduled_none, level_along, last_in, last_in_listed}
+use Rattle.uz_soundness.proofs.Quiet.{scheduled_mod, scheduled_none, level_along, last_in, last_in_listed}
 use Rattle.uz_soundness.proofs.Cells.{mains_alone, handlers_alone, cells_same}
 use Rattle.uz_soundness.proofs.Covered.{place_tells, lands}
 

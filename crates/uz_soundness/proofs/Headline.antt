@@ -114,7 +114,8 @@ handler_goes image cert p s inst main o was local h is_state flash runs forth =
     let fits = is_placed cert h.limits runs.stands.id runs.stands.l runs.stands.c inst runs.stands.is in
     let main_fits = is_placed cert h.limits runs.main_stands.id runs.main_stands.l runs.main_stands.c main runs.main_stands.is in
     let long = line_long cert.schedule inst.line h.limits.schedule fits.line in
-    h.laws.handler cert.head (order_of cert.schedule) image inst was.core (depth_of main) local.step s runs.stands.of_kind (omega (arith, h.scanlines inst.line fits.line))
+    h.laws.handler cert.head (order_of cert.schedule) image inst was.core (depth_of main) local.step s runs.stands.of_kind
+    (omega (arith, h.scanlines inst.line fits.line))
     fits.clock (omega (arith, long))
     (begins image cert s Handler was.core (depth_of main) inst local h is_state flash runs.stands
     (main_slots cert main main_fits runs.main_stands.of_kind) forth)

@@ -1,6 +1,4 @@
 mod Steps
-mod Level
-mod Lines
 mod Timer
 mod Ram
 mod Bits

@@ -16,7 +16,6 @@ use Rattle.uz_schedule.specs.declared.states.Point.{Point}
 use Rattle.uz_schedule.specs.declared.certificate.Cert.{Cert}
 use Rattle.uz_transfer.specs.Kinds.{is_main, depth_limit}
 use Rattle.uz_transfer.specs.Memory.{all_flags, is_old}
-use Rattle.uz_soundness.specs.Steady.{AreScanlines}
 use Rattle.uz_soundness.proofs.Fits.{SpansFit, HeadLimits, RestLimits, PointLimits, Limits, IsByteRange, EntryLimits}
 use Rattle.uz_soundness.proofs.Fitting.{and_true}
 
@@ -66,12 +65,11 @@ head_limits h fits = record {
   off = λ c has. (each_of (CellFits h) h.cells.items c fits.cells has).off_stack;
 }
 
-rest_limits : (cert : Cert) → WellFormed cert → AreScanlines cert.schedule → (rest : Rest) → Contains cert.rests rest → RestLimits cert rest
-rest_limits cert h lines rest has =
+rest_limits : (cert : Cert) → WellFormed cert → (rest : Rest) → Contains cert.rests rest → RestLimits cert rest
+rest_limits cert h rest has =
     let fits = each_of (RestFits cert.head (length cert.schedule.lines) (length cert.points)) cert.rests rest h.rests.each has in
     record {
       line = fits.line;
-      clock = omega (arith, fits.clock, lines rest.line fits.line);
       cells = spans_told (schedule.tracked cert.head Handler) rest.cells.items fits.cells.within;
     }
 
@@ -84,11 +82,11 @@ point_limits cert p h = record {
   slots = subst (λ n. length p.stack.items ≤ n) (depth_same cert.head p.kind) h.memory.slots;
 }
 
-pub limits_of : (cert : Cert) → WellFormed cert → AreScanlines cert.schedule → Limits cert
-limits_of cert h lines = record {
+pub limits_of : (cert : Cert) → WellFormed cert → Limits cert
+limits_of cert h = record {
   schedule = h.schedule;
   head = head_limits cert.head h.head;
-  rests = rest_limits cert h lines;
+  rests = rest_limits cert h;
   points = mapped (PointFits cert.head (length cert.schedule.lines) (length cert.points)) (PointLimits cert) cert.points (point_limits cert)
       h.points.each;
   entry_cells = spans_told (schedule.tracked cert.head cert.entry.kind) cert.entry.cells.items h.entry.facts.cells.within;

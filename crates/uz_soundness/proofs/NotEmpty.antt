@@ -27,6 +27,7 @@ use Rattle.uz_schedule.specs.declared.header.Cell.{Cell}
 use Rattle.uz_schedule.specs.declared.states.Rest.{Rest}
 use Rattle.uz_schedule.specs.declared.certificate.Cert.{Cert}
 use Rattle.uz_schedule.specs.Schedule.{length_of, start_of, level_at, or_else, response_clocks}
+use Rattle.uz_schedule.specs.Tracked.{tracks, tracked}
 use Rattle.uz_machine.specs.Arithmetic.{bit_value, bit_is_set}
 use Rattle.uz_machine.specs.CoreRange.{IsByte}
 use Rattle.uz_machine.specs.Timer.{Timer, IsTimer, timer_at_reset}
@@ -35,7 +36,7 @@ use Rattle.uz_machine.specs.Turn.{State, history_at_reset}
 use Rattle.uz_machine.specs.StateRange.{IsState}
 use Rattle.uz_soundness.specs.Steady.{IsSteady}
 use Rattle.uz_soundness.proofs.LevelFound.{level_found}
-use Rattle.uz_console.specs.Entry.{IsIn, BitHolds, CellsHold, whole_byte, ends_at, flag_at, tracks, tracked, Begins, EntryCondition}
+use Rattle.uz_console.specs.Entry.{IsIn, BitHolds, CellsHold, whole_byte, ends_at, flag_at, Begins, EntryCondition}
 use Rattle.uz_transfer.specs.Kinds.{depth_limit}
 use Rattle.uz_soundness.proofs.Fits.{IsByteRange, Limits, EntryLimits, HasRest}
 use Rattle.uz_soundness.proofs.Fitting.{and_true, line_short}
@@ -515,8 +516,8 @@ alone_enters image cert flash limits entry steady kind =
     )
 
 main_enters : (image : FinMap nat_cmp ℕ) (cert : Cert) → IsFlash image → Limits cert → EntryLimits cert → IsSteady cert.schedule
-    → cert.entry.kind ≡ Main → (rest : Rest) → Contains cert.rests rest → Enters image cert
-main_enters image cert flash limits entry steady kind rest is_rest =
+    → cert.entry.kind ≡ Main → (rest : Rest) → Contains cert.rests rest → rest.clock < length_of cert.schedule rest.line → Enters image cert
+main_enters image cert flash limits entry steady kind rest is_rest within =
     let n = length cert.entry.stack.items in
     let depth : n ≤ cert.head.main = subst (λ k. n ≤ depth_limit cert.head k) kind entry.slots in
     let rest_limits = limits.rests rest is_rest in
@@ -543,7 +544,7 @@ main_enters image cert flash limits entry steady kind rest is_rest =
     let timed : IsTimer timer = record {
       count = omega (
         arith,
-        rest_limits.clock,
+        within,
         line_short cert.schedule rest.line limits.schedule
             rest_limits.line,
       );
@@ -557,10 +558,10 @@ main_enters image cert flash limits entry steady kind rest is_rest =
       rest = rest;
       is_rest = is_rest;
       interrupts = sreg_i cert.entry.flags true;
-      timer = record { counting = refl; top = omega (arith, rest_limits.clock); enabled = refl; clear = refl; settled = refl };
+      timer = record { counting = refl; top = omega (arith, within); enabled = refl; clear = refl; settled = refl };
       place = refl;
       rested = omega arith;
-      within = rest_limits.clock;
+      within = within;
       cells = held cert level.0 cell Handler rest.cells.items limits entry depth (rise_of cert Handler entry) (entry.rests rest is_rest)
           (λ a v e. second_of_two (own a) (others a) v (λ u f. apart cert a u v cert.entry.cells.items rest.cells.items entry f e) e);
     } in (
@@ -580,6 +581,6 @@ pub some_state : (image : FinMap nat_cmp ℕ) (cert : Cert) → IsFlash image �
 some_state image cert flash limits entry steady rest = by_kind cert.entry.kind refl rest
   where
     by_kind : (kind : Kind) → cert.entry.kind ≡ kind → HasRest cert kind → Enters image cert
-    by_kind Main kind h = main_enters image cert flash limits entry steady kind h.0 h.1
+    by_kind Main kind h = main_enters image cert flash limits entry steady kind h.0 h.1 h.2
     by_kind Handler kind h = absurd h
     by_kind Alone kind h = alone_enters image cert flash limits entry steady kind

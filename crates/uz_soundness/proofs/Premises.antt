@@ -73,6 +73,7 @@ pub record LocalHolds (image : FinMap nat_cmp ℕ) (cert : Cert) (inst : Instanc
 -- What the rules of a rest give
 
 pub record RestHolds (cert : Cert) (rest : Rest) : Type 0 where
+  pub within : rest.clock < length_of cert.schedule rest.line
   pub quiet : (k : ℕ) → rest.clock < k → k < length_of cert.schedule rest.line → event_at cert.schedule
       (start_of cert.schedule rest.line + k) ≡ None
   pub quiet_next : (k : ℕ) → k ≤ response_clocks cert.head.irq + 3 → event_at cert.schedule

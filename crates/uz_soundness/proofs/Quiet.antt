@@ -1,19 +1,14 @@
 -- What the schedule has along a stretch, and the level after it.
-use Rattle.std.proofs.Common.{◌≡◌, ℕ, zero, suc, ◌+◌, ◌%◌, ◌<◌, ◌≤◌, List, [], ◌∷◌, ◌++◌, length, refl, sym, ◌∙◌, ap, arith}
+use Rattle.std.proofs.Common.{◌≡◌, ℕ, zero, suc, ◌+◌, ◌%◌, ◌<◌, ◌≤◌, List, [], ◌∷◌, ◌++◌, refl, sym, ◌∙◌, ap, arith}
 use Rattle.std.specs.Prelude.{Option, Some, None}
-use Rattle.uz_schedule.specs.Limits.{ScheduleFits}
 use Rattle.uz_schedule.specs.declared.lines.EventKind.{EventKind}
 use Rattle.uz_schedule.specs.declared.lines.EventKind.TheVariants.{Sync, Pixel, Sound, Leave}
 use Rattle.uz_schedule.specs.declared.lines.Schedule.{Schedule}
-use Rattle.uz_schedule.specs.Schedule.{frame_of, start_of, event_at, sync_of, level_at, level_set, or_else}
+use Rattle.uz_schedule.specs.Schedule.{frame_of, event_at, sync_of, level_at, level_set, or_else}
+use Rattle.uz_schedule.proofs.Modulo.{event_at_mod, mod_shift, level_step}
 use Rattle.uz_events.specs.Events.{Shown, shown_at, listed}
 use Rattle.uz_transfer.specs.Emission.{level_after}
-use Rattle.uz_schedule.proofs.Starts.{frame_some as some_clocks}
 use Rattle.uz_soundness.specs.Claim.{scheduled}
-use Rattle.uz_soundness.proofs.Level.{event_at_mod, mod_shift, level_step}
-
-pub frame_some : (s : Schedule) → ScheduleFits s → 0 < frame_of s
-frame_some s h = some_clocks s h
 
 -- a stretch depends on its start modulo the frame
 pub scheduled_mod : (s : Schedule) (p q k c : ℕ) → p % frame_of s ≡ q % frame_of s → scheduled (event_at s) p k c ≡ scheduled (event_at s) q

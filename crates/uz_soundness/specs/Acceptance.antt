@@ -10,7 +10,8 @@ use Rattle.uz_rules.specs.Local.{IsLocal}
 use Rattle.uz_soundness.specs.Steady.{IsSteady, AreScanlines}
 use Rattle.uz_soundness.specs.FrameRules.{RestPasses, EntryPasses}
 
--- the frame rules hold, and at each line and count of each point's box the local rule refuses nothing
+-- each line is a scanline, the frame rules hold, and at each line and count of each point's box the local rule refuses
+-- nothing
 pub record Accepts (image : FinMap nat_cmp ℕ) (cert : Cert) : Type 0 where
   pub scanlines : AreScanlines cert.schedule
   pub steady : IsSteady cert.schedule

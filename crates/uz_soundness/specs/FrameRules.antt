@@ -8,9 +8,11 @@ use Rattle.uz_schedule.specs.declared.states.Rest.{Rest}
 use Rattle.uz_schedule.specs.declared.certificate.Cert.{Cert}
 use Rattle.uz_rules.specs.Successors.{lies_in_point}
 
--- The handler's return stands at the rest's clock, and no event after it on its line; nothing stands on the next line up to
--- the latest end of an interrupt's entry; and the handler's first state lies in the vector's point, whatever the latency
+-- The rest's clock is one of its line. The handler's return stands at it, and no event after it on its line; nothing stands
+-- on the next line up to the latest end of an interrupt's entry; and the handler's first state lies in the vector's point,
+-- whatever the latency
 pub record RestPasses (cert : Cert) (rest : Rest) : Type 0 where
+  pub within : rest.clock < length_of cert.schedule rest.line
   pub leave : event_at cert.schedule (start_of cert.schedule rest.line + rest.clock) ≡ Some Leave
   pub quiet : (k : ℕ) → rest.clock < k → k < length_of cert.schedule rest.line → event_at cert.schedule
       (start_of cert.schedule rest.line + k) ≡ None

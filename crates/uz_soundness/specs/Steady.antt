@@ -1,9 +1,13 @@
--- A schedule is steady: each line of it begins with the fall of sync.
+-- Lines of one length, and steady ones: each begins with the fall of sync.
 use Rattle.std.specs.Prelude.{◌≡◌, ◌≢◌, All, ℕ, ◌<◌, List, ◌∷◌, Some, length}
 use Rattle.uz_schedule.specs.declared.lines.Event.{Event}
 use Rattle.uz_schedule.specs.declared.lines.EventKind.TheVariants.{Sync}
 use Rattle.uz_schedule.specs.declared.lines.Schedule.{Schedule}
 use Rattle.uz_schedule.specs.Schedule.{scanline, length_of, events_of}
+
+-- each line has the clocks of a scanline, none those of half of one
+abbrev pub AreScanlines : Schedule → Type 0
+AreScanlines s = (l : ℕ) → l < length s.lines → length_of s l ≡ scanline
 
 -- the first event of a line is sync 0 at the fall's clock, and no later one of it is sync 0
 pub record IsSteadyLine (fall : ℕ) (events : List Event) : Type 0 where
@@ -13,10 +17,6 @@ pub record IsSteadyLine (fall : ℕ) (events : List Event) : Type 0 where
   pub clock : first.clock ≡ fall
   pub kind : first.kind ≡ Sync 0
   pub once : All (λ e. e.kind ≢ Sync 0) later
-
--- each line is a scanline
-abbrev pub AreScanlines : Schedule → Type 0
-AreScanlines s = (l : ℕ) → l < length s.lines → length_of s l ≡ scanline
 
 abbrev pub IsSteady : Schedule → Type 0
 IsSteady s = (l : ℕ) (events : List Event) → l < length s.lines → events_of s l ≡ Some events → IsSteadyLine s.fall events

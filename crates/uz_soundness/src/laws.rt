@@ -1,12 +1,13 @@
 //! Laws of the definitions. Each is the contract of a function that does nothing.
 
-ghost use Rattle.std.specs.Prelude.{◌≡◌, Contains, ℕ};
+ghost use Rattle.std.specs.Prelude.{◌≡◌, ◌<◌, Contains, ℕ};
 ghost use Rattle.std.specs.Ordering.{nat_cmp};
 ghost use Rattle.std.specs.FinMap.{FinMap};
 ghost use Rattle.uz_hex.specs.Cells.{IsFlash};
 ghost use Rattle.uz_machine.specs.PadLine.{PadHistory};
 ghost use Rattle.uz_machine.specs.Turn.{State};
 ghost use Rattle.uz_machine.specs.StateRange.{IsState};
+ghost use Rattle.uz_schedule.specs.Schedule.{length_of};
 ghost use Rattle.uz_schedule.specs.WellFormed.{WellFormed};
 ghost use Rattle.uz_schedule.specs.declared.certificate.Cert.{Cert};
 ghost use Rattle.uz_schedule.specs.declared.kinds.Kind.TheVariants.{Main};
@@ -16,7 +17,7 @@ ghost use Rattle.uz_soundness.specs.Acceptance.{Accepts};
 ghost use Rattle.uz_soundness.specs.Certified.{Certified};
 ghost use Rattle.uz_soundness.specs.Invariant.{KeepsInvariant, HoldsAlong, BeginsWithIt};
 ghost use Rattle.uz_soundness.specs.Played.{Plays};
-ghost use Rattle.uz_soundness.specs.Steady.{IsSteady, AreScanlines};
+ghost use Rattle.uz_soundness.specs.Steady.{IsSteady};
 ghost use Rattle.uz_soundness.specs.Ways.{EveryTurnGoes, MainsTimeHolds};
 
 use uz_rules::{
@@ -44,8 +45,8 @@ pub fn soundness()
 }
 
 /// The claim is never empty: whatever the flash image, and whatever the well formed certificate whose schedule is steady and
-/// whose entry, if it is main's, has a rest, there is a state with that image that meets the entry condition.
+/// whose entry, if it is main's, has a rest at a clock of its line, there is a state with that image that meets the entry condition.
 pub fn some_state_enters()
-    ensures { (image : FinMap nat_cmp ℕ) (cert : Cert) → IsFlash image → WellFormed cert → AreScanlines cert.schedule → IsSteady cert.schedule → (cert.entry.kind ≡ Main → (rest : Rest) × Contains cert.rests rest)
+    ensures { (image : FinMap nat_cmp ℕ) (cert : Cert) → IsFlash image → WellFormed cert → IsSteady cert.schedule → (cert.entry.kind ≡ Main → (rest : Rest) × Contains cert.rests rest × (rest.clock < length_of cert.schedule rest.line))
         → (s : State PadHistory) × (p : ℕ) × IsState s × (s.image ≡ image) × EntryCondition cert s p }
 {}

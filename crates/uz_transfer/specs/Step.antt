@@ -7,7 +7,7 @@ use Rattle.std.specs.FinMap.{FinMap}
 use Rattle.std.specs.Ordering.{nat_cmp}
 use Rattle.std.specs.Prelude.{Bool, Err, List, None, Ok, Option, Result, Some, [], false, if◌then◌else◌, length, map, nat_eq, nat_le, not}
 use Rattle.std.specs.Prelude.{true, ℕ, ◌%◌, ◌&&◌, ◌++◌, ◌+◌, ◌||◌, ◌∷◌, ◌≡◌}
-pub use Rattle.uz_schedule.specs.Lines.{Lines, uniform, line_after, clock_after}
+use Rattle.uz_schedule.specs.Lines.{Lines, line_after, clock_after}
 use Rattle.uz_schedule.specs.declared.header.Head.{Head}
 use Rattle.uz_schedule.specs.declared.lines.EventKind.{EventKind}
 use Rattle.uz_schedule.specs.declared.states.Instance.{Instance}
@@ -69,11 +69,10 @@ step_of head length image e words clocks inst =
 abbrev pub ends_line : Lines → ℕ → ℕ → Bool
 ends_line lines l k = nat_le (lines.length l) k
 
--- The instance at an exit, by what is known after the instruction, what it emits and whether it clears the match. Main keeps its line,
--- clock and level,
--- and a handler alone has a pending match
+-- The instance at an exit: what is known after the instruction (the draft), where and when the exit is. `emitted` is what the instruction
+-- emits, and `clears` whether it clears the match. Main keeps its line, clock and level, and a handler alone has a pending match
 abbrev pub at_exit : Lines → Instance → Instance → Option EventKind → Bool → Exit → Instance
-at_exit lines inst draft emitted clears exit = record {
+at_exit lines inst draft emitted clears exit = record draft {
   kind = inst.kind;
   pc = exit.pc;
   line = if is_main inst.kind then inst.line else line_after lines inst.line (inst.clock + exit.clocks);
@@ -81,11 +80,6 @@ at_exit lines inst draft emitted clears exit = record {
   level = if is_main inst.kind then inst.level else level_after emitted (inst.level % 2);
   pending = if is_handler inst.kind then not clears && (inst.pending || ends_line lines inst.line (inst.clock + exit.clocks)) else
       inst.pending;
-  regs = draft.regs;
-  pairs = draft.pairs;
-  flags = draft.flags;
-  stack = draft.stack;
-  cells = draft.cells;
 }
 
 abbrev pub successor : Lines → Instance → Step → Exit → Instance

@@ -45,16 +45,9 @@ pub fn copied(at: &Instance) -> Instance
     ensures { result ≡ at.now }
 {
     Instance {
-        kind: at.kind,
-        pc: at.pc,
-        line: at.line,
-        clock: at.clock,
-        level: at.level,
-        pending: at.pending,
         regs: copied_regs(&at.regs),
-        pairs: at.pairs,
-        flags: at.flags,
         stack: copied_vals(at.stack.as_slice()),
         cells: copied_spans(at.cells.as_slice()),
+        ..*at
     }
 }

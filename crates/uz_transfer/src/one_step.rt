@@ -8,7 +8,7 @@ ghost use Rattle.avr_table.specs.declared.Outcome.TheVariants.{Next};
 ghost use Rattle.uz_machine.specs.declared.Effect.TheVariants.{Return, SkipIf};
 ghost use Rattle.uz_transfer.specs.Kinds.{depth_limit as limit_of_depth};
 ghost use Rattle.uz_transfer.specs.Memory.{depth_of};
-ghost use Rattle.uz_schedule.specs.Lines.{uniform};
+ghost use Rattle.uz_schedule.specs.Schedule.{scanline};
 ghost use Rattle.uz_transfer.specs.Step.{step_of_row, step_of as step_of_effect, IsStep};
 ghost use Rattle.uz_transfer.specs.declared.fail.Fail.TheVariants.{Edge};
 
@@ -51,7 +51,7 @@ fn sample(e: Effect, i: &Instr) -> u8
 /// The clock at which an instruction's loads sample, of a line of this length.
 fn sampled(clock: u16, line_length: u16, late: u8) -> u16
     requires clock { clock < line_length }
-    requires line { line_length ≤ 1820 }
+    requires line { line_length ≤ scanline }
     ensures { result ≡ (clock + late) % line_length }
 {
     (clock + late as u16) % line_length
@@ -75,7 +75,7 @@ pub(crate) fn step_of(
 ) -> Result<Step, Fail>
     requires limits { limit_of_depth head.now at.now.kind ≤ 32 }
     requires clock { at.now.clock < line_length }
-    requires line { line_length ≤ 1820 }
+    requires line { line_length ≤ scanline }
     requires fits { EffectFits e }
     ensures { result ≡ step_of_effect head.now line_length image.now e (words_of i.now) (clocks_of i.now) at.now }
 {
@@ -115,7 +115,7 @@ pub fn abstract_step(
 ) -> Result<Step, Fail>
     requires limits { limit_of_depth head.now at.now.kind ≤ 32 }
     requires clock { at.now.clock < line_length }
-    requires line { line_length ≤ 1820 }
+    requires line { line_length ≤ scanline }
     ensures { IsStep head.now line_length image.now at.now result }
 {
     match decode(
@@ -138,7 +138,7 @@ pub fn step_of_instruction(
 ) -> Result<Step, Fail>
     requires limits { limit_of_depth head.now at.now.kind ≤ 32 }
     requires clock { at.now.clock < line_length }
-    requires line { line_length ≤ 1820 }
+    requires line { line_length ≤ scanline }
     ensures { result ≡ step_of_row head.now line_length image.now (Some i.now) at.now }
 {
     step_of(image, head, at, i, effect(i), line_length)

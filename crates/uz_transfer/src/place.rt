@@ -1,6 +1,8 @@
 //! Where the results of an instruction stand.
 
 ghost use Rattle.std.specs.Prelude.{◌≡◌, ◌<◌, ◌≤◌, ◌+◌, ◌%◌, ◌&&◌, ◌||◌, not, length, ℕ, if◌then◌else◌};
+ghost use Rattle.uz_schedule.specs.Limits.{most_lines};
+ghost use Rattle.uz_schedule.specs.Schedule.{scanline};
 ghost use Rattle.uz_schedule.specs.Lines.{order_of, line_after, clock_after};
 ghost use Rattle.uz_transfer.specs.Kinds.{is_main as is_main_kind, is_handler as is_handler_kind};
 ghost use Rattle.uz_transfer.specs.Emission.{level_after as level_of_event};
@@ -22,9 +24,9 @@ fn level_after(emitted: Option<EventKind>, level: u8) -> u8
 
 /// Line and clock of a result. Main keeps its own.
 fn place(schedule: &Schedule, at: &Instance, clocks: u8) -> (u16, u16)
-    requires count { length schedule.now.lines ≤ 525 }
+    requires count { length schedule.now.lines ≤ most_lines }
     requires line { at.now.line < length schedule.now.lines }
-    requires clock { at.now.clock ≤ 1820 }
+    requires clock { at.now.clock < scanline }
     ensures line { result.0 ≡ (if is_main_kind at.now.kind then at.now.line else line_after (order_of schedule.now) at.now.line (at.now.clock + clocks)) }
     ensures clock { result.1 ≡ (if is_main_kind at.now.kind then at.now.clock else clock_after (order_of schedule.now) at.now.line (at.now.clock + clocks)) }
 {
@@ -48,7 +50,7 @@ fn level(at: &Instance, emitted: Option<EventKind>) -> u8
 
 /// Whether a line ends in an instruction of so many clocks.
 fn ends_line(schedule: &Schedule, at: &Instance, clocks: u8) -> bool
-    requires clock { at.now.clock ≤ 1820 }
+    requires clock { at.now.clock < scanline }
     ensures { result ≡ line_ends (order_of schedule.now) at.now.line (at.now.clock + clocks) }
 {
     schedule.length(at.line) <= at.clock + clocks as u16
@@ -56,7 +58,7 @@ fn ends_line(schedule: &Schedule, at: &Instance, clocks: u8) -> bool
 
 /// Whether a match waits for its interrupt at a result: in a handler where a line ended, unless it was cleared.
 fn is_pending(schedule: &Schedule, at: &Instance, clears: bool, clocks: u8) -> bool
-    requires clock { at.now.clock ≤ 1820 }
+    requires clock { at.now.clock < scanline }
     ensures { result ≡ (if is_handler_kind at.now.kind then not clears && (at.now.pending || line_ends (order_of schedule.now) at.now.line (at.now.clock + clocks)) else at.now.pending) }
 {
     if is_handler(at.kind) {
@@ -76,9 +78,9 @@ pub fn put_at(
     clears: bool,
     exit: Exit,
 )
-    requires count { length schedule.now.lines ≤ 525 }
+    requires count { length schedule.now.lines ≤ most_lines }
     requires line { at.now.line < length schedule.now.lines }
-    requires clock { at.now.clock ≤ 1820 }
+    requires clock { at.now.clock < scanline }
     ensures { draft.new ≡ at_exit (order_of schedule.now) at.now draft.old emitted clears exit }
 {
     let (line, clock) = place(schedule, at, exit.clocks);

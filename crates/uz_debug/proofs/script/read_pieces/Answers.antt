@@ -1,8 +1,7 @@
-use Rattle.std.proofs.Common.{◌≡◌, ◌<◌, length, sym, ◌∙◌, ap, subst, inr, rules, arith}
+use Rattle.std.proofs.Common.{◌<◌, length, sym, ◌∙◌, ap, subst, inr, rules}
 use Rattle.std.proofs.lemmas.List.Elements.{All-push}
 use Rattle.uz_debug.specs.Scripts.{kind_of, IsLineInRange}
 use Rattle.uz_debug.specs.Sessions.{IsInRange}
-use Rattle.uz_debug.specs.declared.script_lines.Line.TheVariants as line
 use Rattle.uz_debug.proofs.ScriptLemmas.{read_blank, read_command, read_all, count_fault, faulty}
 use Rattle.uz_debug.proofs.script.read_pieces.Goals as goal
 use Rattle.uz_debug.proofs.script.read_pieces.Goals.{in-Blank, in-Command+else-len-eq-MOST_COMMANDS+in_ok-push-in-Command}

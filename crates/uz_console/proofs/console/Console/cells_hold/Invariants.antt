@@ -1,7 +1,8 @@
 use Rattle.std.proofs.Common.{◌↔◌, drop}
 use Rattle.std.specs.Prelude.{filter}
 use Rattle.uz_console.specs.Consoles.{state_of}
-use Rattle.uz_console.specs.Entry.{CellsHold, tracked, tracks}
+use Rattle.uz_schedule.specs.Tracked.{tracked, tracks}
+use Rattle.uz_console.specs.Entry.{CellsHold}
 use Rattle.uz_console.proofs.console.Console.cells_hold.Given as goal
 
 abbrev pub invariant-loop-cell : goal.invariant-loop-cell
