@@ -6,7 +6,7 @@ ghost use Rattle.uz_schedule.specs.WellFormed.{WellFormed};
 use crate::instance;
 use crate::row::Row;
 use anyhow::Result;
-use uz_schedule::{Cert, Kind, LineOrder, Owner, Schedule, schedule_fits, tracks, well_formed};
+use uz_schedule::{Cert, Kind, Owner, Schedule, schedule_fits, tracks, well_formed};
 
 /// The answer to a row that asks a certificate. Answers whether there is one, and the row does.
 pub(crate) fn tell(rt: HostRuntime, cert: &Option<Cert>, line: &str) -> Result<bool> {
@@ -64,21 +64,29 @@ fn tell_schedule(rt: HostRuntime, schedule: &Schedule, word: &str, row: &mut Row
         "at" => println!(rt; "{:?}", schedule.at(row.number()))?,
         "level" => println!(rt; "{:?}", schedule.level(row.number()))?,
         "place" => println!(rt; "{:?}", schedule.place(row.number()))?,
-        "frame" => println!(rt; "{} {}", schedule.frame(), schedule.order().count)?,
+        "frame" => println!(rt; "{} {}", schedule.frame(), schedule.lines.len())?,
         "line" => {
             let line = row.short();
             println!(rt; "{} {}", schedule.length(line), schedule.start(line))?;
         }
-        "advance" => tell_advance(rt, schedule.order(), row)?,
+        "clock" => {
+            let line = row.short();
+            let clock = row.short();
+            let event = schedule.at_clock(line, clock);
+            println!(rt; "{event:?} {:?}", schedule.level_at_clock(line, clock))?;
+        }
+        "advance" => tell_advance(rt, schedule, row)?,
         _ => return Ok(false),
     }
     Ok(true)
 }
 
-fn tell_advance(rt: HostRuntime, order: LineOrder, row: &mut Row) -> Result<()> {
+fn tell_advance(rt: HostRuntime, schedule: &Schedule, row: &mut Row) -> Result<()>
+    requires { ScheduleFits schedule.now }
+{
     let line = row.short();
-    if line < order.count {
-        println!(rt; "{:?}", order.advance(line, row.short()))?;
+    if usize::from(line) < schedule.lines.len() {
+        println!(rt; "{:?}", schedule.advance(line, row.short()))?;
     }
     Ok(())
 }

@@ -5,6 +5,7 @@
 //!
 //! - `|LINE`: a line at the end of the certificate's text. `read` reads the text.
 //! - `at P`, `level P`, `place P`: the event and the level at a position, and its line and clock.
+//! - `clock LINE CLOCK`: the event and the level so many clocks after a line's begin.
 //! - `line N`: the length and the start of a line. `frame`: the frame's clocks and its number of lines.
 //! - `advance LINE CLOCK`: the line and clock at a clock that may lie past a line's end.
 //! - `instance ID LINE COUNT`, `entry`, `vector REST CLOCK`: what is known at a point, where runs enter, and where the

@@ -16,15 +16,19 @@ use Rattle.uz_schedule.specs.declared.certificate.Cert.{Cert}
 use Rattle.uz_schedule.specs.Schedule.{length_of, start_of, level_at}
 use Rattle.uz_schedule.specs.Instances.{is_in_box, clock_below, clock_at, instance_of, instance_at_clock, instance_in, instance_at}
 use Rattle.uz_transfer.specs.Refusals.{is_some}
-use Rattle.uz_rules.specs.Inside.{same_kind, same_bool, inside}
+use Rattle.uz_rules.specs.Inside.{same_kind, same_timer, same_place, inside}
 use Rattle.uz_rules.specs.Successors.{lies_at, any_from, lies_in_box, same_program_place}
-use Rattle.uz_rules.specs.FactInclusion.{facts_inside, has_level, is_line_of, is_beside, stands_beside, IsAtCount, LiesAtSome}
+use Rattle.uz_rules.specs.FactInclusion.{said_at, facts_inside, has_level, is_line_of, is_beside, stands_beside, IsAtCount, LiesAtSome}
 use Rattle.uz_rules.proofs.InsideMeets.{place_tells}
 
 -- The clock of an instance of a point
 
 some_same : {A : Type 0} (a b : A) → Some a ≡ Some b → a ≡ b
 some_same a b e = cc
+
+and_both : (a b : Bool) → (a && b) ≡ true → (a ≡ true) × (b ≡ true)
+and_both true b e = (refl, e)
+and_both false b e = absurd cc
 
 clock_is : (length : ℕ) (z : ℤ) (clock : ℕ) → clock_below length z ≡ Some clock → z ≡ pos clock
 clock_is length (pos k) clock e = by_case (nat_lt k length) e
@@ -50,7 +54,9 @@ has_clock s p l c b e = by_box (is_in_box p l c) e
 clock_told : (s : Schedule) (p : Point) (c : ℕ) (inst : Instance) (at : Option Instance) → instance_in s p inst.line c ≡ at
     → lies_at at inst ≡ true → pos p.clock +ℤ p.slope *ℤ pos c ≡ pos inst.clock
 clock_told s p c inst None is h = absurd cc
-clock_told s p c inst (Some b) is h = has_clock s p inst.line c b is ∙ ap pos (sym (place_tells inst b h).clock)
+clock_told s p c inst (Some b) is h =
+    let place = place_tells inst b (and_both (same_place inst b) _ h).0 in
+    has_clock s p inst.line c b is ∙ ap pos (sym place.clock)
 
 -- The instance at a count, item by item
 
@@ -73,13 +79,13 @@ six_parts false b d f = refl
 
 -- the same at each count
 abbrev alike : Point → Instance → Bool
-alike p inst = same_program_place p inst && same_bool inst.pending p.pending
+alike p inst = same_program_place p inst && same_timer inst (said_at p inst p.c0)
 
 inside_by_facts : (p : Point) (inst : Instance) (c level : ℕ) → inside inst (instance_of p inst.line c inst.clock level)
     ≡ (((alike p inst && true) && (true && true)) && facts_inside inst p c)
 unfolding facts_inside
 inside_by_facts p inst c level = rw (equal_itself inst.line, equal_itself inst.clock)
-    (six_parts (same_kind inst.kind p.kind) (nat_eq inst.pc p.pc) (same_bool inst.pending p.pending) (facts_inside inst p c))
+    (six_parts (same_kind inst.kind p.kind) (nat_eq inst.pc p.pc) (same_timer inst (said_at p inst p.c0)) (facts_inside inst p c))
 
 by_level : (p : Point) (inst : Instance) (c : ℕ) (levels : ℕ → Option ℕ) (lines below : Bool) (level : Option ℕ) → levels inst.clock ≡ level
     → lies_at (if lines && true then option_and_then (λ k. option_and_then (λ v. Some (instance_of p inst.line c k v)) (levels k))
@@ -159,10 +165,6 @@ found_in s p inst e =
     let clock = clock_told s p any.number inst (instance_in s p inst.line any.number) refl any.holds in
     let at : IsAtCount p inst.clock any.number = record { first = first; last = omega (arith, first, last); clock = clock } in
     (any.number, at, sym (at_count s p inst any.number at) ∙ any.holds)
-
-and_both : (a b : Bool) → (a && b) ≡ true → (a ≡ true) × (b ≡ true)
-and_both true b e = (refl, e)
-and_both false b e = absurd cc
 
 any_same : (f g : ℕ → Bool) (k n : ℕ) → ((c : ℕ) → f c ≡ g c) → any_from f k n ≡ any_from g k n
 unfolding any_from

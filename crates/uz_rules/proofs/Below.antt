@@ -30,9 +30,14 @@ pub quiet_none : (at : ℕ → Option EventKind) (p : ℕ) → is_quiet at p 0 �
 unfolding is_quiet
 quiet_none at p = refl
 
-pub quiet_more : (at : ℕ → Option EventKind) (p n : ℕ) → is_quiet at p (n + 1) ≡ (is_quiet at p n && is_none (at (p + (n + 1))))
+-- at one clock more after clock k of a line, which begins at the position `start`
+pub quiet_more : (at : ℕ → Option EventKind) (start k n : ℕ) → is_quiet at (start + k) (n + 1)
+    ≡ (is_quiet at (start + k) n && is_none (at (start + (k + (n + 1)))))
 unfolding is_quiet
-quiet_more at p n = let e : n + 1 ≡ suc n = omega arith in rw e refl
+quiet_more at start k n =
+    let e : n + 1 ≡ suc n = omega arith in
+    let p : start + k + suc n ≡ start + (k + suc n) = omega arith in
+    rw (e, p) refl
 
 pub any_none : (test : ℕ → Bool) (k last : ℕ) → last < k → any_from test k (suc last - k) ≡ false
 unfolding any_from

@@ -12,55 +12,37 @@ use Rattle.uz_schedule.specs.Instances.{val_of, cell_span, pairs_of}
 use Rattle.uz_range.specs.Answers.{ends}
 use Rattle.uz_transfer.specs.Values.{value_at, span_at, pair_at}
 use Rattle.uz_transfer.specs.Refusals.{range_inside}
-use Rattle.uz_rules.specs.Inside.{all_below, value_inside, registers_inside, pairs_inside, flags_inside, slots_inside, cells_inside}
-use Rattle.uz_rules.specs.FactInclusion.{facts_inside}
-use Rattle.uz_rules.proofs.InsideMeets.{below_tells}
-
-and_first : (a b : Bool) → (a && b) ≡ true → a ≡ true
-and_first true b e = refl
-and_first false b e = absurd cc
+use Rattle.uz_rules.specs.Inside.{all_below, value_inside, pairs_inside}
+use Rattle.uz_rules.specs.FactInclusion.{said_at, facts_inside}
+use Rattle.uz_rules.proofs.InsideMeets.{below_tells, KnownInside, known_tells}
 
 and_rest : (a b : Bool) → (a && b) ≡ true → b ≡ true
 and_rest true b e = e
 and_rest false b e = absurd cc
 
-five_parts : (a b d f g : Bool) → (a && (b && (d && (f && g)))) ≡ true → (a ≡ true) × (b ≡ true) × (f ≡ true) × (g ≡ true)
-five_parts true true true true g e = (refl, refl, refl, e)
-five_parts true true true false g e = absurd cc
-five_parts true true false f g e = absurd cc
-five_parts true false d f g e = absurd cc
-five_parts false b d f g e = absurd cc
-
 module _ (inst : Instance) (p : Point) (c : ℕ) where
-  all_parts : facts_inside inst p c ≡ true
-      → (slots_inside inst.stack.items (map (val_of inst.line c) p.stack.items) ≡ true)
-      × (cells_inside inst.cells.items (map (cell_span inst.line c) p.cells.items) ≡ true)
-      × (pairs_inside inst.pairs (pairs_of inst.line c (map (val_of inst.line c) p.regs) p.pairs) ≡ true)
-      × (registers_inside inst.regs (map (val_of inst.line c) p.regs) ≡ true)
+  all_parts : facts_inside inst p c ≡ true → KnownInside inst (said_at p inst c)
   unfolding facts_inside
-  all_parts e = five_parts (slots_inside inst.stack.items (map (val_of inst.line c) p.stack.items))
-      (cells_inside inst.cells.items (map (cell_span inst.line c) p.cells.items)) (flags_inside inst.flags p.flags)
-      (pairs_inside inst.pairs (pairs_of inst.line c (map (val_of inst.line c) p.regs) p.pairs))
-      (registers_inside inst.regs (map (val_of inst.line c) p.regs)) e
+  all_parts e = known_tells inst (said_at p inst c) e
 
   pub registers_tell : length inst.regs ≡ 32 → facts_inside inst p c ≡ true
       → all_below (length inst.regs) (λ i. value_inside (value_at inst.regs i) (value_at (map (val_of inst.line c) p.regs) i)) ≡ true
-  registers_tell size e = rw size (all_parts e).3
+  registers_tell size e = rw size (all_parts e).registers
 
   pub slots_tell : (vals : List Val) (facts : List Fact) → vals ≡ inst.stack.items → facts ≡ p.stack.items → facts_inside inst p c ≡ true
       → all_below (length vals) (λ i. value_inside (value_at vals i) (value_at (map (val_of inst.line c) facts) i)) ≡ true
   slots_tell vals facts is fact e =
-      rw (is, fact) (and_rest (nat_eq (length inst.stack.items) (length (map (val_of inst.line c) p.stack.items))) _ (all_parts e).0)
+      rw (is, fact) (and_rest (nat_eq (length inst.stack.items) (length (map (val_of inst.line c) p.stack.items))) _ (all_parts e).slots)
 
   pub cells_tell : (spans : List Ends) (facts : List Fact) → spans ≡ inst.cells.items → facts ≡ p.cells.items
       → facts_inside inst p c ≡ true
       → all_below (length spans) (λ j. range_inside (span_at spans j) (span_at (map (cell_span inst.line c) facts) j)) ≡ true
   cells_tell spans facts is fact e =
-      rw (is, fact) (and_rest (nat_eq (length inst.cells.items) (length (map (cell_span inst.line c) p.cells.items))) _ (all_parts e).1)
+      rw (is, fact) (and_rest (nat_eq (length inst.cells.items) (length (map (cell_span inst.line c) p.cells.items))) _ (all_parts e).cells)
 
   pub pairs_tell : facts_inside inst p c ≡ true
       → pairs_inside inst.pairs (pairs_of inst.line c (map (val_of inst.line c) p.regs) p.pairs) ≡ true
-  pairs_tell e = (all_parts e).2
+  pairs_tell e = (all_parts e).pairs
 
 -- an element as it is read
 pub value_fits : (vals facts : List Val) (i : ℕ) (v w : Val) (r : Bool) → i < length vals → v ≡ value_at vals i → w ≡ value_at facts i

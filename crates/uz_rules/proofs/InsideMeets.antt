@@ -3,6 +3,7 @@ use Rattle.std.proofs.Common.{◌%◌, sym, not, ◌≡◌, ◌⊎◌, inl, inr,
 use Rattle.std.proofs.Common.{List, [], ◌∷◌, length, refl, ◌∙◌, ap, subst, arith}
 use Rattle.std.specs.Prelude.{◌&&◌}
 use Rattle.std.specs.List.{AllByRecursion}
+use Rattle.std.proofs.lemmas.Bool.{eq-eqb}
 use Rattle.std.proofs.lemmas.Bool.Decides.{eqb_tells, nat_tests}
 use Rattle.uz_machine.specs.Core.{Core, register}
 use Rattle.uz_machine.specs.CoreRange.{IsByte, IsCore}
@@ -24,8 +25,8 @@ use Rattle.uz_transfer.specs.Kinds.{cell_place}
 use Rattle.uz_rules.specs.MemoryMeets.{MemoryMeets}
 use Rattle.uz_transfer.specs.Refusals.{range_inside}
 use Rattle.uz_rules.specs.Inside.{value_inside, flag_inside, all_below, same_kind, same_bool, same_place, registers_inside, pairs_inside}
-use Rattle.uz_rules.specs.Inside.{flags_inside, slots_inside, cells_inside, inside, InsideKeeps, StateInside, is_old_register, restored}
-use Rattle.uz_rules.specs.Inside.{RestoredGives}
+use Rattle.uz_rules.specs.Inside.{flags_inside, slots_inside, cells_inside, known_inside, SamePlace, PlaceTells, PlaceHolds, KnownInItself}
+use Rattle.uz_rules.specs.Inside.{InsideKeeps, StateInside, is_old_register, restored, RestoredGives}
 use Rattle.uz_rules.specs.Meets.{TimerMeets, TimerCounts, LevelMeets, Meets}
 use Rattle.uz_machine.specs.PadLine.{PadHistory}
 use Rattle.uz_machine.specs.Turn.{State, sync_level}
@@ -107,14 +108,7 @@ past_end [] j h = refl
 past_end (x ∷ spans) zero h = absurd (omega arith)
 past_end (x ∷ spans) (suc j) h = past_end spans j (omega arith)
 
--- what stands at one place
-
-pub record SamePlace (a b : Instance) : Type 0 where
-  pub kind : a.kind ≡ b.kind
-  pub pc : a.pc ≡ b.pc
-  pub line : a.line ≡ b.line
-  pub clock : a.clock ≡ b.clock
-  pub pending : a.pending ≡ b.pending
+-- Where two instances stand
 
 same_bits : (a b : Bool) → same_bool a b ≡ true → a ≡ b
 same_bits true true e = refl
@@ -125,10 +119,9 @@ same_bits false false e = refl
 same_number : (a b : ℕ) → nat_eq a b ≡ true → a ≡ b
 same_number a b e = grind (arith, nat_tests)
 
-pub place_tells : (a b : Instance) → inside a b ≡ true → SamePlace a b
+pub place_tells : PlaceTells
 place_tells a b e =
-    let one = and_true (same_place a b) _ e in
-    let p1 = and_true (same_kind a.kind b.kind) _ one.0 in
+    let p1 = and_true (same_kind a.kind b.kind) _ e in
     let p2 = and_true (nat_eq a.pc b.pc) _ p1.1 in
     let p3 = and_true (nat_eq a.line b.line) _ p2.1 in
     let p4 = and_true (nat_eq a.clock b.clock) _ p3.1 in
@@ -140,27 +133,83 @@ place_tells a b e =
       pending = same_bits a.pending b.pending p4.1;
     }
 
--- what is known of one lies in what is known of the other
+kind_itself : (k : Kind) → same_kind k k ≡ true
+kind_itself Main = refl
+kind_itself Handler = refl
+kind_itself Alone = refl
 
-pub record PartsInside (a b : Instance) : Type 0 where
+bit_itself : (b : Bool) → same_bool b b ≡ true
+bit_itself true = refl
+bit_itself false = refl
+
+pub place_holds : PlaceHolds
+place_holds a b s =
+    let kind = ap (same_kind a.kind) (sym s.kind) ∙ kind_itself a.kind in
+    let pc = eq-eqb a.pc b.pc s.pc in
+    let line = eq-eqb a.line b.line s.line in
+    let clock = eq-eqb a.clock b.clock s.clock in
+    let pending = ap (same_bool a.pending) (sym s.pending) ∙ bit_itself a.pending in
+    λ i. kind i && (pc i && (line i && (clock i && pending i)))
+
+-- What is known
+
+pub record KnownInside (a b : Instance) : Type 0 where
   pub slots : slots_inside a.stack.items b.stack.items ≡ true
   pub cells : cells_inside a.cells.items b.cells.items ≡ true
   pub flags : flags_inside a.flags b.flags ≡ true
   pub pairs : pairs_inside a.pairs b.pairs ≡ true
   pub registers : registers_inside a.regs b.regs ≡ true
 
-pub parts_tell : (a b : Instance) → inside a b ≡ true → PartsInside a b
-parts_tell a b e =
-    let one = and_true (same_place a b) _ e in
-    let two = and_true (slots_inside a.stack.items b.stack.items) _ one.1 in
+pub known_tells : (a b : Instance) → known_inside a b ≡ true → KnownInside a b
+known_tells a b e =
+    let two = and_true (slots_inside a.stack.items b.stack.items) _ e in
     let three = and_true (cells_inside a.cells.items b.cells.items) _ two.1 in
     let four = and_true (flags_inside a.flags b.flags) _ three.1 in
     let five = and_true (pairs_inside a.pairs b.pairs) _ four.1 in
     record { slots = two.0; cells = three.0; flags = four.0; pairs = five.0; registers = five.1 }
 
-pub core_widens : (a b : Instance) (o core : Core) → IsCore core → inside a b ≡ true → CoreMeets a o core → CoreMeets b o core
+below_all : (n : ℕ) (test : ℕ → Bool) → ((k : ℕ) → test k ≡ true) → all_below n test ≡ true
+unfolding all_below
+below_all zero test all = refl
+below_all (suc n) test all = λ i. below_all n test all i && all n i
+
+range_itself : (e : Ends) → range_inside e e ≡ true
+range_itself e = grind (arith, nat_tests)
+
+value_itself : (v : Val) → value_inside v v ≡ true
+value_itself (Range e) = range_itself e
+value_itself (Old r) = eq-eqb r r refl
+value_itself OldFlags = refl
+
+flag_itself : (f : Bit) → flag_inside f f ≡ true
+flag_itself Zero = refl
+flag_itself One = refl
+flag_itself Free = refl
+flag_itself OldBit = refl
+
+pub known_in_itself : KnownInItself
+known_in_itself a = λ i. slots i && (cells i && (flags i && (pairs i && registers i)))
+  where
+    slots : slots_inside a.stack.items a.stack.items ≡ true
+    slots = λ i. eq-eqb (length a.stack.items) (length a.stack.items) refl i && below_all (length a.stack.items)
+        (λ k. value_inside (value_at a.stack.items k) (value_at a.stack.items k)) (λ k. value_itself (value_at a.stack.items k)) i
+
+    cells : cells_inside a.cells.items a.cells.items ≡ true
+    cells = λ i. eq-eqb (length a.cells.items) (length a.cells.items) refl i && below_all (length a.cells.items)
+        (λ j. range_inside (span_at a.cells.items j) (span_at a.cells.items j)) (λ j. range_itself (span_at a.cells.items j)) i
+
+    flags : flags_inside a.flags a.flags ≡ true
+    flags = below_all 7 (λ k. flag_inside (flag_at a.flags k) (flag_at a.flags k)) (λ k. flag_itself (flag_at a.flags k))
+
+    pairs : pairs_inside a.pairs a.pairs ≡ true
+    pairs = below_all 3 (λ k. range_inside (pair_at a.pairs k) (pair_at a.pairs k)) (λ k. range_itself (pair_at a.pairs k))
+
+    registers : registers_inside a.regs a.regs ≡ true
+    registers = below_all 32 (λ r. value_inside (value_at a.regs r) (value_at a.regs r)) (λ r. value_itself (value_at a.regs r))
+
+pub core_widens : (a b : Instance) (o core : Core) → IsCore core → known_inside a b ≡ true → CoreMeets a o core → CoreMeets b o core
 core_widens a b o core c e h =
-    let parts = parts_tell a b e in
+    let parts = known_tells a b e in
     record {
       regs = λ r w. val_widens _ _ o _ (register_byte core r c) (below_tells 32 (λ r. value_inside (value_at a.regs r) (value_at b.regs r))
           parts.registers r w) (h.regs r w);
@@ -170,13 +219,12 @@ core_widens a b o core c e h =
           (h.flags k w);
     }
 
-pub memory_widens : (head : Head) (a b : Instance) (o : Core) (d sp : ℕ) (bytes : List ℕ) → AllByRecursion IsByte bytes → inside a b ≡ true
-    → MemoryMeets head a o d sp bytes → MemoryMeets head b o d sp bytes
-memory_widens head a b o d sp bytes all e h =
-    let parts = parts_tell a b e in
+pub memory_widens : (head : Head) (a b : Instance) (o : Core) (d sp : ℕ) (bytes : List ℕ) → AllByRecursion IsByte bytes → a.kind ≡ b.kind
+    → known_inside a b ≡ true → MemoryMeets head a o d sp bytes → MemoryMeets head b o d sp bytes
+memory_widens head a b o d sp bytes all kind e h =
+    let parts = known_tells a b e in
     let slots = and_true (nat_eq (length a.stack.items) (length b.stack.items)) _ parts.slots in
     let cells = and_true (nat_eq (length a.cells.items) (length b.cells.items)) _ parts.cells in
-    let kind = (place_tells a b e).kind in
     let size : length a.stack.items ≡ length b.stack.items = same_number (length a.stack.items) (length b.stack.items) slots.0 in
     let count : length a.cells.items ≡ length b.cells.items = same_number (length a.cells.items) (length b.cells.items) cells.0 in
     record {
@@ -198,18 +246,22 @@ memory_widens head a b o d sp bytes all e h =
     }
 
 pub inside_keeps : InsideKeeps
-inside_keeps head a b o core d sp bytes c all e h m = (core_widens a b o core c e h, memory_widens head a b o d sp bytes all e m)
+inside_keeps head a b o core d sp bytes c all e h m =
+    let both = and_true (same_place a b) _ e in
+    let place = place_tells a b both.0 in
+    (core_widens a b o core c both.1 h, memory_widens head a b o d sp bytes all place.kind both.1 m)
 
 -- A state
 
 pub state_inside : StateInside
 state_inside head a b o d s state e level m =
-    let place = place_tells a b e in
+    let both = and_true (same_place a b) _ e in
+    let place = place_tells a b both.0 in
     record {
       pc = m.pc ∙ place.pc;
       enabled = m.enabled ∙ ap is_main place.kind;
-      core = core_widens a b o s.core state.core e m.core;
-      memory = memory_widens head a b o d s.core.sp s.space.bytes state.space.bytes e m.memory;
+      core = core_widens a b o s.core state.core both.1 m.core;
+      memory = memory_widens head a b o d s.core.sp s.space.bytes state.space.bytes place.kind both.1 m.memory;
       timer = timer_widens a.kind b.kind place.kind m.timer;
       ticks = subst (λ k. TimerCounts k s.space.timer) place.kind m.ticks;
       level = level;
@@ -217,7 +269,8 @@ state_inside head a b o d s state e level m =
     }
   where
     timer_widens : (k l : Kind) → k ≡ l → TimerMeets k a s.space.timer → TimerMeets l b s.space.timer
-    timer_widens k l same h = subst (λ x. TimerMeets x b s.space.timer) same (widens k (place_tells a b e) h)
+    timer_widens k l same h = subst (λ x. TimerMeets x b s.space.timer) same
+        (widens k (place_tells a b (and_true (same_place a b) _ e).0) h)
       where
         widens : (k : Kind) → SamePlace a b → TimerMeets k a s.space.timer → TimerMeets k b s.space.timer
         widens Main p h = tt

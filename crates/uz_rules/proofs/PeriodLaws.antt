@@ -17,10 +17,9 @@ use Rattle.uz_schedule.specs.declared.facts.Val.TheVariants.{Range}
 use Rattle.uz_schedule.specs.declared.states.Instance.{Instance}
 use Rattle.uz_schedule.specs.declared.states.Point.{Point}
 use Rattle.uz_schedule.specs.Instances.{val_of, span_of_val, cell_span, pair_of, pairs_of}
-use Rattle.std.specs.Prelude.{◌&&◌}
-use Rattle.uz_rules.specs.Inside.{slots_inside, cells_inside, flags_inside, pairs_inside, registers_inside}
+use Rattle.uz_rules.specs.Inside.{known_inside}
 use Rattle.uz_rules.specs.Successors.{any_from}
-use Rattle.uz_rules.specs.FactInclusion.{facts_inside}
+use Rattle.uz_rules.specs.FactInclusion.{said_at, facts_inside}
 use Rattle.uz_rules.specs.Periods.{count_factor, pair_count_factor, ByteRepeats, PairRepeats, PairsRepeat, PointRepeats}
 use Rattle.uz_rules.proofs.AtCounts.{any_tells, any_holds}
 
@@ -153,10 +152,6 @@ unfolding ByteRepeats
 cells_again facts n l c h = same_map (cell_span l (c + n)) (cell_span l c) facts
     (recursion_from_All (λ f. cell_span l (c + n) f ≡ cell_span l c f) facts (λ k d b. ap span_of_val (h k d b l c)))
 
-five_same : {a b f g x y z w : Bool} (d : Bool) → a ≡ x → b ≡ y → f ≡ z → g ≡ w
-    → (a && (b && (d && (f && g)))) ≡ (x && (y && (d && (z && w))))
-five_same d e h i j = rw (e, h, i, j) refl
-
 pub facts_again : (p : Point) (inst : Instance) (n c : ℕ) → PointRepeats n p → facts_inside inst p (c + n) ≡ facts_inside inst p c
 unfolding facts_inside PairsRepeat
 facts_again p inst n c r =
@@ -166,9 +161,12 @@ facts_again p inst n c r =
     let cells : map (cell_span l (c + n)) p.cells.items ≡ map (cell_span l c) p.cells.items = cells_again p.cells.items n l c r.cells in
     let pairs : pairs_of l (c + n) (map (val_of l (c + n)) p.regs) p.pairs ≡ pairs_of l c (map (val_of l c) p.regs) p.pairs =
     ap (λ vals. pairs_of l (c + n) vals p.pairs) regs ∙ r.pairs l c (map (val_of l c) p.regs) in
-    five_same (flags_inside inst.flags p.flags) (ap (slots_inside inst.stack.items) stack) (ap (cells_inside inst.cells.items) cells)
-    (ap (pairs_inside inst.pairs) pairs)
-    (ap (registers_inside inst.regs) regs)
+    λ i. known_inside inst (record (said_at p inst c) {
+      regs = regs i;
+      pairs = pairs i;
+      stack = record { items = stack i };
+      cells = record { items = cells i };
+    })
 
 -- The counts of one period
 

@@ -11,7 +11,8 @@ use Rattle.uz_schedule.specs.declared.facts.Bit.TheVariants.{Free}
 use Rattle.uz_schedule.specs.declared.facts.Val.TheVariants.{Range}
 use Rattle.uz_range.specs.Answers.{ends}
 use Rattle.uz_transfer.specs.Values.{value_at}
-use Rattle.uz_rules.specs.Example.{example_head, example_instance, SomeInstructionBegins}
+use Rattle.uz_schedule.specs.Blank.{blank_instance}
+use Rattle.uz_rules.specs.Example.{example_head, SomeInstructionBegins}
 use Rattle.uz_rules.proofs.CoreSteps.{seven_at}
 use Rattle.uz_rules.proofs.Containment.{plan_of}
 
@@ -36,8 +37,8 @@ whole_pairs (suc (suc zero)) = refl
 whole_pairs (suc (suc (suc k))) = refl
 
 pub some_stand : SomeInstructionBegins
-some_stand image flash first second = (
-  plan_of example_head 1820 image (effect_of Nop) (words_of Nop) (clocks_of Nop) example_instance None,
+some_stand lines image flash first second = (
+  plan_of example_head (lines.length 0) image (effect_of Nop) (words_of Nop) (clocks_of Nop) blank_instance None,
   record {
     is_state = reset_is_state image [] 4 flash (inl refl);
     flash = refl;

@@ -1,22 +1,21 @@
 -- When an instance lies in what a point says at the instance's own line: what is asked once, and what is asked of each count.
-use Rattle.std.specs.Prelude.{◌≡◌, ◌≤◌, ℕ, ◌+◌, pos, ◌+ℤ◌, ◌*ℤ◌, Bool, true, ◌&&◌, nat_le, nat_lt, map}
+use Rattle.std.specs.Prelude.{◌≡◌, ◌≤◌, ℕ, ◌+◌, pos, ◌+ℤ◌, ◌*ℤ◌, Bool, true, ◌&&◌, nat_le, nat_lt}
 use Rattle.uz_schedule.specs.declared.states.Instance.{Instance}
 use Rattle.uz_schedule.specs.declared.states.Point.{Point}
 use Rattle.uz_schedule.specs.declared.lines.Schedule.{Schedule}
 use Rattle.uz_schedule.specs.Schedule.{length_of, start_of, level_at}
-use Rattle.uz_schedule.specs.Instances.{val_of, cell_span, pairs_of}
+use Rattle.uz_schedule.specs.Instances.{instance_of}
 use Rattle.uz_transfer.specs.Refusals.{is_some}
-use Rattle.uz_rules.specs.Inside.{same_bool, registers_inside, pairs_inside, flags_inside, slots_inside, cells_inside}
+use Rattle.uz_rules.specs.Inside.{same_timer, known_inside}
 use Rattle.uz_rules.specs.Successors.{same_program_place}
+
+-- what a point says at the instance's line, clock and level and at count c
+abbrev pub said_at : Point → Instance → ℕ → Instance
+said_at p inst c = instance_of p inst.line c inst.clock inst.level
 
 -- what is known in an instance lies in what the facts of a point say at the instance's line and count c
 unfoldable pub facts_inside : Instance → Point → ℕ → Bool
-facts_inside inst p c =
-    slots_inside inst.stack.items (map (val_of inst.line c) p.stack.items)
-    && (cells_inside inst.cells.items (map (cell_span inst.line c) p.cells.items)
-    && (flags_inside inst.flags p.flags
-    && (pairs_inside inst.pairs (pairs_of inst.line c (map (val_of inst.line c) p.regs) p.pairs)
-    && registers_inside inst.regs (map (val_of inst.line c) p.regs))))
+facts_inside inst p c = known_inside inst (said_at p inst c)
 
 -- the clock is one of the line, and there is a level
 abbrev pub has_level : Schedule → ℕ → ℕ → Bool
@@ -26,9 +25,9 @@ has_level s l k = nat_lt k (length_of s l) && is_some (level_at s (start_of s l 
 abbrev pub is_line_of : Point → ℕ → Bool
 is_line_of p l = nat_le p.l0 l && nat_le l p.l1
 
--- the point has the instance's kind, pc and pending, and its box the instance's line
+-- the point has the instance's kind and pc, says the same of the timer, and its box has the instance's line
 abbrev pub is_beside : Point → Instance → Bool
-is_beside p inst = (same_program_place p inst && same_bool inst.pending p.pending) && is_line_of p inst.line
+is_beside p inst = (same_program_place p inst && same_timer inst (said_at p inst p.c0)) && is_line_of p inst.line
 
 -- and the schedule has a level at the instance's place
 unfoldable pub stands_beside : Schedule → Point → Instance → Bool

@@ -54,9 +54,14 @@ abbrev pub same_bool : Bool → Bool → Bool
 same_bool true b = b
 same_bool false b = not b
 
+-- what is known of the timer besides its clock is one: whether a match is pending
+abbrev pub same_timer : Instance → Instance → Bool
+same_timer a b = same_bool a.pending b.pending
+
+-- two instances stand at one place: kind, pc, line and clock are one, and what is known of the timer
 abbrev pub same_place : Instance → Instance → Bool
 same_place a b =
-    same_kind a.kind b.kind && (nat_eq a.pc b.pc && (nat_eq a.line b.line && (nat_eq a.clock b.clock && same_bool a.pending b.pending)))
+    same_kind a.kind b.kind && (nat_eq a.pc b.pc && (nat_eq a.line b.line && (nat_eq a.clock b.clock && same_timer a b)))
 
 abbrev pub registers_inside : List Val → List Val → Bool
 registers_inside a b = all_below 32 (λ r. value_inside (value_at a r) (value_at b r))
@@ -73,13 +78,34 @@ slots_inside a b = nat_eq (length a) (length b) && all_below (length a) (λ i. v
 abbrev pub cells_inside : List Ends → List Ends → Bool
 cells_inside a b = nat_eq (length a) (length b) && all_below (length a) (λ j. range_inside (span_at a j) (span_at b j))
 
--- instance a lies in b: they stand at one place, and what is known in a lies in what is known in b
-abbrev pub inside : Instance → Instance → Bool
-inside a b =
-    same_place a b
-    && (slots_inside a.stack.items b.stack.items
+-- what is known in a lies in what is known in b, of the stack's bytes, the cells, flags, pairs and registers
+abbrev pub known_inside : Instance → Instance → Bool
+known_inside a b =
+    slots_inside a.stack.items b.stack.items
     && (cells_inside a.cells.items b.cells.items
-    && (flags_inside a.flags b.flags && (pairs_inside a.pairs b.pairs && registers_inside a.regs b.regs))))
+    && (flags_inside a.flags b.flags && (pairs_inside a.pairs b.pairs && registers_inside a.regs b.regs)))
+
+-- instance a lies in b: they stand at one place, and what is known in a lies in what is known in b. Levels aren't compared
+abbrev pub inside : Instance → Instance → Bool
+inside a b = same_place a b && known_inside a b
+
+-- what the test of places tells
+pub record SamePlace (a b : Instance) : Type 0 where
+  pub kind : a.kind ≡ b.kind
+  pub pc : a.pc ≡ b.pc
+  pub line : a.line ≡ b.line
+  pub clock : a.clock ≡ b.clock
+  pub pending : a.pending ≡ b.pending
+
+abbrev pub PlaceTells : Type 0
+PlaceTells = (a b : Instance) → same_place a b ≡ true → SamePlace a b
+
+abbrev pub PlaceHolds : Type 0
+PlaceHolds = (a b : Instance) → SamePlace a b → same_place a b ≡ true
+
+-- what is known lies in itself
+abbrev pub KnownInItself : Type 0
+KnownInItself = (a : Instance) → known_inside a a ≡ true
 
 -- a core and the bytes of a data space that meet an instance meet each in which it lies
 abbrev pub InsideKeeps : Type 0

@@ -2,7 +2,7 @@
 use Rattle.std.specs.Prelude.{◌≡◌, ℕ, ◌<◌, ◌≤◌, length, Option, Some}
 use Rattle.uz_schedule.specs.declared.states.Instance.{Instance}
 use Rattle.uz_schedule.specs.declared.certificate.Cert.{Cert}
-use Rattle.uz_schedule.specs.Schedule.{length_of}
+use Rattle.uz_schedule.specs.Schedule.{scanline, length_of}
 use Rattle.uz_schedule.specs.Instances.{instance_at}
 use Rattle.uz_schedule.specs.WellFormed.{WellFormed}
 use Rattle.uz_transfer.specs.Kinds.{depth_limit}
@@ -14,7 +14,7 @@ pub record InstanceLimits (cert : Cert) (inst : Instance) : Type 0 where
   pub pc : inst.pc < 32768
   pub line : inst.line < length cert.schedule.lines
   pub clock : inst.clock < length_of cert.schedule inst.line
-  pub short : length_of cert.schedule inst.line ≤ 1820
+  pub short : length_of cert.schedule inst.line ≤ scanline
   pub limit : depth_limit cert.head inst.kind ≤ 32
   pub slots : depth_of inst ≤ 32
   pub cells : length inst.cells.items ≤ 16

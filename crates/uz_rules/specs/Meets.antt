@@ -1,6 +1,6 @@
 -- When a state of the machine meets an instance.
-use Rattle.std.specs.Prelude.{length, true, false, ℕ, ⊤, ◌≡◌, ◌≤◌}
-use Rattle.uz_schedule.specs.Schedule.{response_clocks}
+use Rattle.std.specs.Prelude.{length, true, false, ℕ, ⊤, ◌-◌, ◌≡◌, ◌≤◌}
+use Rattle.uz_schedule.specs.Schedule.{scanline, response_clocks}
 use Rattle.uz_schedule.specs.declared.header.Head.{Head}
 use Rattle.uz_schedule.specs.declared.kinds.Kind.{Kind}
 use Rattle.uz_schedule.specs.declared.kinds.Kind.TheVariants.{Alone, Handler, Main}
@@ -15,9 +15,9 @@ use Rattle.uz_transfer.specs.Memory.{all_flags, is_old, depth_of}
 use Rattle.uz_rules.specs.CoreMeets.{CoreMeets}
 use Rattle.uz_rules.specs.MemoryMeets.{MemoryMeets}
 
--- OCR1A in a handler: the last clock of a line
+-- OCR1A in a handler: the last clock of a line, whose length is a scanline's
 abbrev pub top_of : Instance → ℕ
-top_of inst = 1819
+top_of inst = scanline - 1
 
 -- in a handler TCNT1 is the instance's clock, OCF1A its pending match, and OCR1A its top
 abbrev pub TimerMeets : Kind → Instance → Timer → Type 0

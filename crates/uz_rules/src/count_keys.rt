@@ -5,8 +5,8 @@ ghost use Rattle.std.specs.Prelude.{◌≡◌, true, length, map};
 ghost use Rattle.uz_schedule.specs.Instances.{val_of, cell_span};
 ghost use Rattle.uz_transfer.specs.Values.{value_at, span_at};
 ghost use Rattle.uz_transfer.specs.Refusals.{range_inside};
-ghost use Rattle.uz_rules.specs.Inside.{value_inside as lies_in_value, all_below};
-ghost use Rattle.uz_rules.specs.FactInclusion.{facts_inside as lies_in_facts};
+ghost use Rattle.uz_rules.specs.Inside.{value_inside, all_below};
+ghost use Rattle.uz_rules.specs.FactInclusion.{facts_inside};
 
 use crate::fact_inclusion::pairs_in_facts;
 use crate::facts::{cell_by, value_by};
@@ -49,7 +49,7 @@ pub(crate) fn key_of(periods: &Periods) -> CountKey {
 /// Whether the byte at a place lies in what its fact says; true where there is none.
 fn byte_fits(vals: &[Val], facts: &[Fact], place: usize, line: u16, count: u8) -> bool
     ensures { all_below (length vals.now)
-        (λ i. lies_in_value (value_at vals.now i) (value_at (map (val_of line count) facts.now) i)) ≡ true → result ≡ true }
+        (λ i. value_inside (value_at vals.now i) (value_at (map (val_of line count) facts.now) i)) ≡ true → result ≡ true }
 {
     if place < vals.len() && place < facts.len() {
         value_inside(&vals[place], &value_by(facts, place, line, count))
@@ -73,7 +73,7 @@ fn cell_fits(spans: &[Span], facts: &[Fact], place: usize, line: u16, count: u8)
 /// Whether an instance may lie in what a point's facts say at a count, as far as the key's place tells.
 #[tactic(auto, using(crate::proofs::CountKeys::pairs_tell))]
 pub(crate) fn may_lie(key: &CountKey, at: &Instance, point: &Point, count: u8) -> bool
-    ensures { lies_in_facts at.now point.now count ≡ true → result ≡ true }
+    ensures { facts_inside at.now point.now count ≡ true → result ≡ true }
 {
     match *key {
         CountKey::Register(place) => byte_fits(&at.regs, &point.regs, place, at.line, count),

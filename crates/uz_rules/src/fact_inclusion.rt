@@ -5,8 +5,8 @@ ghost use Rattle.std.specs.Prelude.{◌≡◌, length, map, true};
 ghost use Rattle.uz_schedule.specs.Instances.{val_of, cell_span, pairs_of};
 ghost use Rattle.uz_transfer.specs.Values.{value_at, span_at};
 ghost use Rattle.uz_transfer.specs.Refusals.{range_inside};
-ghost use Rattle.uz_rules.specs.Inside.{value_inside as lies_in_value, all_below, registers_inside as registers_lie, pairs_inside as pairs_lie, slots_inside as slots_lie, cells_inside as cells_lie};
-ghost use Rattle.uz_rules.specs.FactInclusion.{facts_inside as lies_in_facts};
+ghost use Rattle.uz_rules.specs.Inside.{value_inside, all_below, registers_inside, pairs_inside, slots_inside, cells_inside};
+ghost use Rattle.uz_rules.specs.FactInclusion.{facts_inside};
 
 use crate::facts::{cell_by, pairs_by, value_by};
 use crate::inclusion::{flags_inside, pairs_inside, span_inside, value_inside};
@@ -17,7 +17,7 @@ use uz_schedule::{Fact, Instance, Point, Span, Val};
 fn values_in_facts(vals: &[Val], facts: &[Fact], line: u16, count: u8) -> bool
     requires { length vals.now ≡ length facts.now }
     ensures { result ≡ all_below (length vals.now)
-        (λ i. lies_in_value (value_at vals.now i) (value_at (map (val_of line count) facts.now) i)) }
+        (λ i. value_inside (value_at vals.now i) (value_at (map (val_of line count) facts.now) i)) }
 {
     for i in 0..vals.len() {
         if !value_inside(&vals[i], &value_by(facts, i, line, count)) {
@@ -29,14 +29,14 @@ fn values_in_facts(vals: &[Val], facts: &[Fact], line: u16, count: u8) -> bool
 
 /// Whether the registers lie in what the facts say of them.
 fn registers_in_facts(vals: &[Val; 32], facts: &[Fact; 32], line: u16, count: u8) -> bool
-    ensures { result ≡ registers_lie vals.now (map (val_of line count) facts.now) }
+    ensures { result ≡ registers_inside vals.now (map (val_of line count) facts.now) }
 {
     values_in_facts(vals, facts, line, count)
 }
 
 /// Whether the bytes of a stack lie in what the facts say, which are as many.
 fn slots_in_facts(vals: &[Val], facts: &[Fact], line: u16, count: u8) -> bool
-    ensures { result ≡ slots_lie vals.now (map (val_of line count) facts.now) }
+    ensures { result ≡ slots_inside vals.now (map (val_of line count) facts.now) }
 {
     vals.len() == facts.len() && values_in_facts(vals, facts, line, count)
 }
@@ -58,14 +58,14 @@ fn spans_in_facts(spans: &[Span], facts: &[Fact], line: u16, count: u8) -> bool
 
 /// Whether ranges of cells lie in what the facts say, which are as many.
 fn cells_in_facts(spans: &[Span], facts: &[Fact], line: u16, count: u8) -> bool
-    ensures { result ≡ cells_lie spans.now (map (cell_span line count) facts.now) }
+    ensures { result ≡ cells_inside spans.now (map (cell_span line count) facts.now) }
 {
     spans.len() == facts.len() && spans_in_facts(spans, facts, line, count)
 }
 
 /// Whether the pairs X, Y and Z lie in what the point's facts say of them.
 pub(crate) fn pairs_in_facts(at: &Instance, point: &Point, count: u8) -> bool
-    ensures { result ≡ pairs_lie at.now.pairs (pairs_of at.now.line count (map (val_of at.now.line count) point.now.regs) point.now.pairs) }
+    ensures { result ≡ pairs_inside at.now.pairs (pairs_of at.now.line count (map (val_of at.now.line count) point.now.regs) point.now.pairs) }
 {
     pairs_inside(
         &at.pairs,
@@ -76,7 +76,7 @@ pub(crate) fn pairs_in_facts(at: &Instance, point: &Point, count: u8) -> bool
 /// Whether all that is known in an instance lies in what a point's facts say at the instance's line and this count.
 #[tactic(auto, unfolding(crate::specs::FactInclusion::facts_inside))]
 pub(crate) fn facts_inside(at: &Instance, point: &Point, count: u8) -> bool
-    ensures { result ≡ lies_in_facts at.now point.now count }
+    ensures { result ≡ facts_inside at.now point.now count }
 {
     slots_in_facts(at.stack.as_slice(), point.stack.as_slice(), at.line, count)
         && (cells_in_facts(at.cells.as_slice(), point.cells.as_slice(), at.line, count)

@@ -1,16 +1,16 @@
 //! What a point's facts say of bytes and pairs at a line and a count, where its instance isn't made.
 
 ghost use Rattle.std.specs.Prelude.{◌≡◌, ◌<◌, ◌+◌, length, map};
-ghost use Rattle.uz_schedule.specs.Instances.{val_of as val_of_fact, cell_span, hull_at, pair_of, pairs_of};
+ghost use Rattle.uz_schedule.specs.Instances.{val_of, cell_span, hull_at, pairs_of};
 ghost use Rattle.uz_transfer.specs.Values.{value_at, span_at};
 
-use uz_schedule::{Fact, PairFact, Span, Val, Wide, hull, span_of, val_of, word_at};
+use uz_schedule::{Fact, PairFact, Span, Val, Wide, hull_of_bytes, pair_by, span_of, val_of};
 
 /// What facts say of the byte at a place, at a line and a count.
 #[tactic(auto, using(crate::proofs::FactPlaces::value_of_fact))]
 pub(crate) fn value_by(facts: &[Fact], at: usize, line: u16, count: u8) -> Val
     requires { at < length facts.now }
-    ensures { result ≡ value_at (map (val_of_fact line count) facts.now) at }
+    ensures { result ≡ value_at (map (val_of line count) facts.now) at }
 {
     val_of(&facts[at], line, count)
 }
@@ -25,35 +25,22 @@ pub(crate) fn cell_by(facts: &[Fact], at: usize, line: u16, count: u8) -> Span
 }
 
 /// What the facts of the bytes of the pair say whose low register is `low`.
-fn hull_of_bytes(regs: &[Fact; 32], low: usize, line: u16, count: u8) -> Wide
+fn hull_by(regs: &[Fact; 32], low: usize, line: u16, count: u8) -> Wide
     requires { low < 31 }
-    ensures { result ≡ hull_at (map (val_of_fact line count) regs.now) low }
+    ensures { result ≡ hull_at (map (val_of line count) regs.now) low }
 {
     let low_byte = value_by(regs, low, line, count);
     let high_byte = value_by(regs, low + 1, line, count);
-    hull(span_of(&low_byte), span_of(&high_byte))
-}
-
-/// The values of the pair whose low register is `low`.
-fn pair_by(fact: &PairFact, regs: &[Fact; 32], low: usize, line: u16, count: u8) -> Wide
-    requires { low < 31 }
-    ensures { result ≡ pair_of line count (map (val_of_fact line count) regs.now) low fact.now }
-{
-    match *fact {
-        PairFact::Any => hull_of_bytes(regs, low, line, count),
-        PairFact::Between(wide) => wide,
-        PairFact::Line(a, b) => Wide::single(word_at(a, line, b)),
-        PairFact::Loop(a, b) => Wide::single(word_at(a, u16::from(count), b)),
-    }
+    hull_of_bytes(&low_byte, &high_byte)
 }
 
 /// The values of the pairs X, Y and Z.
 pub(crate) fn pairs_by(facts: &[PairFact; 3], regs: &[Fact; 32], line: u16, count: u8) -> [Wide; 3]
-    ensures { result ≡ pairs_of line count (map (val_of_fact line count) regs.now) facts.now }
+    ensures { result ≡ pairs_of line count (map (val_of line count) regs.now) facts.now }
 {
     [
-        pair_by(&facts[0], regs, 26, line, count),
-        pair_by(&facts[1], regs, 28, line, count),
-        pair_by(&facts[2], regs, 30, line, count),
+        pair_by(&facts[0], line, count, hull_by(regs, 26, line, count)),
+        pair_by(&facts[1], line, count, hull_by(regs, 28, line, count)),
+        pair_by(&facts[2], line, count, hull_by(regs, 30, line, count)),
     ]
 }

@@ -2,9 +2,9 @@
 
 ghost use Rattle.std.specs.Prelude.{◌≡◌, ◌<◌, ◌&&◌, not, length, nat_eq};
 ghost use Rattle.uz_transfer.specs.Values.{value_at, flag_at, pair_at, span_at};
-ghost use Rattle.uz_transfer.specs.Memory.{is_old as is_old_flag};
+ghost use Rattle.uz_transfer.specs.Memory.{is_old};
 ghost use Rattle.uz_transfer.specs.Refusals.{range_inside};
-ghost use Rattle.uz_rules.specs.Inside.{value_inside as lies_in_value, flag_inside as lies_in_flag, all_below, same_kind as same_kinds, same_place as stand_together, registers_inside as registers_lie, pairs_inside as pairs_lie, flags_inside as flags_lie, slots_inside as slots_lie, cells_inside as cells_lie, inside as lies_inside, is_old_register as holds_old, restored as is_restored};
+ghost use Rattle.uz_rules.specs.Inside.{value_inside, flag_inside, all_below, same_kind, same_timer, same_place, registers_inside, pairs_inside, flags_inside, slots_inside, cells_inside, known_inside, inside, is_old_register, restored};
 
 use uz_schedule::{Bit, Instance, Kind, Span, Val, Wide};
 
@@ -24,7 +24,7 @@ fn wide_inside(a: &Wide, b: &Wide) -> bool
 
 /// Whether what is known of a byte lies in what is known elsewhere.
 pub(crate) fn value_inside(a: &Val, b: &Val) -> bool
-    ensures { result ≡ lies_in_value a.now b.now }
+    ensures { result ≡ value_inside a.now b.now }
 {
     match (a, b) {
         (Val::Range(a), Val::Range(b)) => span_inside(a, b),
@@ -37,7 +37,7 @@ pub(crate) fn value_inside(a: &Val, b: &Val) -> bool
 
 /// Whether what is known of a flag lies in what is known elsewhere.
 fn flag_inside(a: Bit, b: Bit) -> bool
-    ensures { result ≡ lies_in_flag a b }
+    ensures { result ≡ flag_inside a b }
 {
     match (a, b) {
         (_, Bit::Free) | (Bit::Zero, Bit::Zero) | (Bit::One, Bit::One) | (Bit::Old, Bit::Old) =>
@@ -48,7 +48,7 @@ fn flag_inside(a: Bit, b: Bit) -> bool
 
 /// Whether two instances have one kind.
 pub(crate) fn same_kind(a: Kind, b: Kind) -> bool
-    ensures { result ≡ same_kinds a b }
+    ensures { result ≡ same_kind a b }
 {
     match (a, b) {
         (Kind::Main, Kind::Main) | (Kind::Handler, Kind::Handler) | (Kind::Alone, Kind::Alone) =>
@@ -57,18 +57,25 @@ pub(crate) fn same_kind(a: Kind, b: Kind) -> bool
     }
 }
 
-/// Whether two instances stand at one place: kind, pc, line, clock and pending.
+/// Whether what is known of the timer besides its clock is one: whether a match is pending.
+fn same_timer(a: &Instance, b: &Instance) -> bool
+    ensures { result ≡ same_timer a.now b.now }
+{
+    a.pending == b.pending
+}
+
+/// Whether two instances stand at one place: kind, pc, line and clock, and what is known of the timer.
 fn same_place(a: &Instance, b: &Instance) -> bool
-    ensures { result ≡ stand_together a.now b.now }
+    ensures { result ≡ same_place a.now b.now }
 {
     same_kind(a.kind, b.kind)
-        && (a.pc == b.pc && (a.line == b.line && (a.clock == b.clock && a.pending == b.pending)))
+        && (a.pc == b.pc && (a.line == b.line && (a.clock == b.clock && same_timer(a, b))))
 }
 
 /// Whether the registers lie in others.
 #[tactic(auto, using(crate::proofs::Below::below_none, crate::proofs::Below::below_more))]
 fn registers_inside(a: &[Val; 32], b: &[Val; 32]) -> bool
-    ensures { result ≡ registers_lie a.now b.now }
+    ensures { result ≡ registers_inside a.now b.now }
 {
     let mut within = true;
     for r in 0..32usize {
@@ -81,7 +88,7 @@ fn registers_inside(a: &[Val; 32], b: &[Val; 32]) -> bool
 /// Whether the pairs X, Y and Z lie in others.
 #[tactic(auto, using(crate::proofs::Below::below_none, crate::proofs::Below::below_more))]
 pub(crate) fn pairs_inside(a: &[Wide; 3], b: &[Wide; 3]) -> bool
-    ensures { result ≡ pairs_lie a.now b.now }
+    ensures { result ≡ pairs_inside a.now b.now }
 {
     let mut within = true;
     for k in 0..3usize {
@@ -102,7 +109,7 @@ fn flag(flags: &[Bit; 7], k: usize) -> Bit
 /// Whether the flags lie in others.
 #[tactic(auto, using(crate::proofs::Below::below_none, crate::proofs::Below::below_more))]
 pub(crate) fn flags_inside(a: &[Bit; 7], b: &[Bit; 7]) -> bool
-    ensures { result ≡ flags_lie a.now b.now }
+    ensures { result ≡ flags_inside a.now b.now }
 {
     let mut within = true;
     for k in 0..7usize {
@@ -116,7 +123,7 @@ pub(crate) fn flags_inside(a: &[Bit; 7], b: &[Bit; 7]) -> bool
 #[tactic(auto, using(crate::proofs::Below::below_none, crate::proofs::Below::below_more))]
 fn values_inside(a: &[Val], b: &[Val]) -> bool
     requires { length a.now ≡ length b.now }
-    ensures { result ≡ all_below (length a.now) (λ i. lies_in_value (value_at a.now i) (value_at b.now i)) }
+    ensures { result ≡ all_below (length a.now) (λ i. value_inside (value_at a.now i) (value_at b.now i)) }
 {
     let mut within = true;
     for i in 0..a.len() {
@@ -128,7 +135,7 @@ fn values_inside(a: &[Val], b: &[Val]) -> bool
 
 /// Whether the bytes of a stack lie in those of another, which is as deep.
 fn slots_inside(a: &[Val], b: &[Val]) -> bool
-    ensures { result ≡ slots_lie a.now b.now }
+    ensures { result ≡ slots_inside a.now b.now }
 {
     a.len() == b.len() && values_inside(a, b)
 }
@@ -149,26 +156,33 @@ fn spans_inside(a: &[Span], b: &[Span]) -> bool
 
 /// Whether the ranges of cells lie in others, which are as many.
 pub(crate) fn cells_inside(a: &[Span], b: &[Span]) -> bool
-    ensures { result ≡ cells_lie a.now b.now }
+    ensures { result ≡ cells_inside a.now b.now }
 {
     a.len() == b.len() && spans_inside(a, b)
+}
+
+/// Whether what is known in instance `a` lies in what is known in `b`: the stacks are as deep, each range of `a` lies in that of
+/// `b`, and what `b` has of interrupted values is the same in `a`.
+fn known_inside(a: &Instance, b: &Instance) -> bool
+    ensures { result ≡ known_inside a.now b.now }
+{
+    slots_inside(a.stack.as_slice(), b.stack.as_slice())
+        && (cells_inside(a.cells.as_slice(), b.cells.as_slice())
+            && (flags_inside(&a.flags, &b.flags)
+                && (pairs_inside(&a.pairs, &b.pairs) && registers_inside(&a.regs, &b.regs))))
 }
 
 /// Whether instance `a` lies in `b`: kind, pc, line, clock, pending and the depth of the stack are equal, each range of `a`
 /// lies in that of `b`, and what `b` has of interrupted values is the same in `a`. Levels aren't compared.
 pub fn inside(a: &Instance, b: &Instance) -> bool
-    ensures { result ≡ lies_inside a.now b.now }
+    ensures { result ≡ inside a.now b.now }
 {
-    same_place(a, b)
-        && (slots_inside(a.stack.as_slice(), b.stack.as_slice())
-            && (cells_inside(a.cells.as_slice(), b.cells.as_slice())
-                && (flags_inside(&a.flags, &b.flags)
-                    && (pairs_inside(&a.pairs, &b.pairs) && registers_inside(&a.regs, &b.regs)))))
+    same_place(a, b) && known_inside(a, b)
 }
 
 /// Whether a register has the value with which it was interrupted.
 fn is_old_register(r: u8, v: &Val) -> bool
-    ensures { result ≡ holds_old r v.now }
+    ensures { result ≡ is_old_register r v.now }
 {
     match v {
         Val::Old(q) => r == *q,
@@ -178,7 +192,7 @@ fn is_old_register(r: u8, v: &Val) -> bool
 
 /// Whether a flag is the interrupted one.
 fn is_old(b: Bit) -> bool
-    ensures { result ≡ is_old_flag b }
+    ensures { result ≡ is_old b }
 {
     matches!(b, Bit::Old)
 }
@@ -186,7 +200,7 @@ fn is_old(b: Bit) -> bool
 /// Whether all registers have the values with which they were interrupted.
 #[tactic(auto, using(crate::proofs::Below::below_none, crate::proofs::Below::below_more))]
 fn registers_restored(regs: &[Val; 32]) -> bool
-    ensures { result ≡ all_below 32 (λ r. holds_old r (value_at regs.now r)) }
+    ensures { result ≡ all_below 32 (λ r. is_old_register r (value_at regs.now r)) }
 {
     let mut all = true;
     for r in 0..32u8 {
@@ -199,7 +213,7 @@ fn registers_restored(regs: &[Val; 32]) -> bool
 /// Whether all flags are the interrupted ones.
 #[tactic(auto, using(crate::proofs::Below::below_none, crate::proofs::Below::below_more))]
 fn flags_restored(flags: &[Bit; 7]) -> bool
-    ensures { result ≡ all_below 7 (λ k. is_old_flag (flag_at flags.now k)) }
+    ensures { result ≡ all_below 7 (λ k. is_old (flag_at flags.now k)) }
 {
     let mut all = true;
     for k in 0..7usize {
@@ -212,7 +226,7 @@ fn flags_restored(flags: &[Bit; 7]) -> bool
 /// Whether a handler has restored what it interrupted: each register has its interrupted value, all seven flags are the
 /// interrupted ones, nothing is left on the stack, and no match is pending.
 pub fn restored(at: &Instance) -> bool
-    ensures { result ≡ is_restored at.now }
+    ensures { result ≡ restored at.now }
 {
     at.stack.is_empty()
         && (!at.pending && (flags_restored(&at.flags) && registers_restored(&at.regs)))

@@ -1,7 +1,7 @@
 //! Laws of the abstract step, as functions that do nothing.
 
 ghost use Rattle.uz_rules.specs.Example.{SomeInstructionBegins};
-ghost use Rattle.uz_rules.specs.Inside.{InsideKeeps, StateInside, RestoredGives};
+ghost use Rattle.uz_rules.specs.Inside.{PlaceTells, PlaceHolds, KnownInItself, InsideKeeps, StateInside, RestoredGives};
 ghost use Rattle.uz_rules.specs.Limits.{LimitsGive};
 ghost use Rattle.uz_rules.specs.Local.{OneLocal};
 ghost use Rattle.uz_rules.specs.Successors.{LiesInPoint};
@@ -22,9 +22,25 @@ pub fn main_contained()
     ensures { MainContained }
 {}
 
-/// The law that containment isn't about nothing: of a flash that begins with NOP the state at reset meets an instance. Does nothing.
+/// The law that containment isn't about nothing: of a flash that begins with NOP the state at reset meets an instance, whatever the
+/// lines. Does nothing.
 pub fn some_stand()
     ensures { SomeInstructionBegins }
+{}
+
+/// The law that instances which the test finds at one place have one kind, pc, line, clock and pending match. Does nothing.
+pub fn place_tells()
+    ensures { PlaceTells }
+{}
+
+/// The law that the test finds instances at one place that have these. Does nothing.
+pub fn place_holds()
+    ensures { PlaceHolds }
+{}
+
+/// The law that what is known in an instance lies in itself. Does nothing.
+pub fn known_in_itself()
+    ensures { KnownInItself }
 {}
 
 /// The law that a core and a memory that meet an instance meet each in which it lies. Does nothing.

@@ -15,8 +15,9 @@ mod successors;
 
 pub use inclusion::{inside, restored};
 pub use laws::{
-    alone_contained, handler_contained, inside_keeps, lies_in_point_tells, limits_give,
-    local_is_unique, main_contained, restored_gives, some_stand, state_inside,
+    alone_contained, handler_contained, inside_keeps, known_in_itself, lies_in_point_tells,
+    limits_give, local_is_unique, main_contained, place_holds, place_tells, restored_gives,
+    some_stand, state_inside,
 };
 pub use local_rule::local;
 pub use next::Next;

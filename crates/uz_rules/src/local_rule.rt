@@ -6,13 +6,13 @@ ghost use Rattle.uz_schedule.specs.WellFormed.{WellFormed};
 ghost use Rattle.uz_schedule.specs.Lines.{order_of};
 ghost use Rattle.uz_transfer.specs.Step.{IsReadAt, at_exit};
 ghost use Rattle.uz_rules.specs.EdgeRule.{each_exit};
-ghost use Rattle.uz_rules.specs.Successors.{lies_in_any as lies_in_one};
-ghost use Rattle.uz_transfer.specs.Kinds.{is_main as is_main_kind};
-ghost use Rattle.uz_transfer.specs.Refusals.{refuse_if as refused_if};
+ghost use Rattle.uz_rules.specs.Successors.{lies_in_any};
+ghost use Rattle.uz_transfer.specs.Kinds.{is_main};
+ghost use Rattle.uz_transfer.specs.Refusals.{refuse_if};
 ghost use Rattle.uz_rules.specs.Limits.{InstanceLimits};
-ghost use Rattle.uz_rules.specs.Local.{is_stop as stops, rest_in as rest_of_line, return_fail as fail_of_return, first_exit as exit_of_return, end_of as end_of_return, has_successors as all_have_successors, result_fail as fail_of_result, compares_edges as edges_compare, step_fail as fail_of_step, instance_fail as fail_of_instance, local_fail as fail_of_row, IsLocal, reason, counted};
+ghost use Rattle.uz_rules.specs.Local.{is_stop, rest_in, return_fail, first_exit, end_of, has_successors, result_fail, compares_edges, step_fail, instance_fail, local_fail, IsLocal, reason, counted};
 
-use crate::edge_rule::{edges_fit, position_of};
+use crate::edge_rule::edges_fit;
 use crate::inclusion::{cells_inside, restored};
 use crate::successors::lies_in_any;
 use avr_decode::decode;
@@ -25,28 +25,28 @@ use uz_transfer::{Exit, Fail, Step, main_emits, put_at, step_of_instruction, wor
 
 /// The reason, where it stands, else the later one.
 fn refuse_if(stands: bool, why: Fail, later: Option<Fail>) -> Option<Fail>
-    ensures { result ≡ refused_if stands why later }
+    ensures { result ≡ refuse_if stands why later }
 {
     if stands { Some(why) } else { later }
 }
 
 /// Whether an effect is that of SPM, which stops the machine.
 fn is_stop(e: Effect) -> bool
-    ensures { result ≡ stops e }
+    ensures { result ≡ is_stop e }
 {
     matches!(e, Effect::Stop)
 }
 
 /// Whether an instance is of main.
 fn is_main(at: &Instance) -> bool
-    ensures { result ≡ is_main_kind at.now.kind }
+    ensures { result ≡ is_main at.now.kind }
 {
     matches!(at.kind, Kind::Main)
 }
 
 /// Why a return that ends in this state is refused, where its line has this rest.
 fn rest_fail(rest: &Rest, end: &Instance) -> Option<Fail>
-    ensures { result ≡ fail_of_return (Some rest.now) end.now }
+    ensures { result ≡ return_fail (Some rest.now) end.now }
 {
     let kept = restored(end) && cells_inside(end.cells.as_slice(), rest.cells.as_slice());
     let restore = refuse_if(!kept, Fail::Restore, None);
@@ -55,7 +55,7 @@ fn rest_fail(rest: &Rest, end: &Instance) -> Option<Fail>
 
 /// Why a return that ends in this state is refused.
 fn return_fail(rests: &[Rest], end: &Instance) -> Option<Fail>
-    ensures { result ≡ fail_of_return (rest_of_line rests.now end.now.line) end.now }
+    ensures { result ≡ return_fail (rest_in rests.now end.now.line) end.now }
 {
     for rest in rests {
         if rest.line == end.line {
@@ -67,7 +67,7 @@ fn return_fail(rests: &[Rest], end: &Instance) -> Option<Fail>
 
 /// A return's one exit.
 pub(crate) fn first_exit(exits: &[Exit]) -> Exit
-    ensures { result ≡ exit_of_return exits.now }
+    ensures { result ≡ first_exit exits.now }
 {
     match exits.first() {
         Some(exit) => *exit,
@@ -79,18 +79,11 @@ pub(crate) fn first_exit(exits: &[Exit]) -> Exit
 fn end_fail(cert: &Cert, at: &Instance, step: Step) -> Option<Fail>
     requires fits { WellFormed cert.now }
     requires limits { InstanceLimits cert.now at.now }
-    ensures { result ≡ fail_of_return (rest_of_line cert.now.rests (end_of_return cert.now at.now step).line) (end_of_return cert.now at.now step) }
+    ensures { result ≡ return_fail (rest_in cert.now.rests (end_of cert.now at.now step).line) (end_of cert.now at.now step) }
 {
     let exit = first_exit(step.exits.as_slice());
     let mut end = step.draft;
-    put_at(
-        &mut end,
-        &cert.schedule,
-        at,
-        step.emit,
-        step.clears,
-        exit,
-    );
+    put_at(&mut end, &cert.schedule, at, step.emit, step.clears, exit);
     return_fail(cert.rests.as_slice(), &end)
 }
 
@@ -107,7 +100,7 @@ fn lie_in_successors(
 ) -> bool
     requires fits { WellFormed cert.now }
     requires limits { InstanceLimits cert.now at.now }
-    ensures { result ≡ each_exit (λ exit. lies_in_one cert.now next.now (at_exit (order_of cert.now.schedule) at.now draft.old emitted clears exit)) exits.now }
+    ensures { result ≡ each_exit (λ exit. lies_in_any cert.now next.now (at_exit (order_of cert.now.schedule) at.now draft.old emitted clears exit)) exits.now }
 {
     for exit in exits {
         put_at(draft, &cert.schedule, at, emitted, clears, *exit);
@@ -122,7 +115,7 @@ fn lie_in_successors(
 fn has_successors(cert: &Cert, next: &[u32], at: &Instance, step: Step) -> bool
     requires fits { WellFormed cert.now }
     requires limits { InstanceLimits cert.now at.now }
-    ensures { result ≡ all_have_successors cert.now next.now at.now step }
+    ensures { result ≡ has_successors cert.now next.now at.now step }
 {
     let mut draft = step.draft;
     lie_in_successors(
@@ -140,7 +133,7 @@ fn has_successors(cert: &Cert, next: &[u32], at: &Instance, step: Step) -> bool
 fn result_fail(cert: &Cert, next: &[u32], at: &Instance, step: Step) -> Option<Fail>
     requires fits { WellFormed cert.now }
     requires limits { InstanceLimits cert.now at.now }
-    ensures { result ≡ fail_of_result cert.now next.now at.now step }
+    ensures { result ≡ result_fail cert.now next.now at.now step }
 {
     if step.back {
         end_fail(cert, at, step)
@@ -153,22 +146,16 @@ fn result_fail(cert: &Cert, next: &[u32], at: &Instance, step: Step) -> Option<F
 fn compares_edges(cert: &Cert, at: &Instance, step: &Step) -> bool
     requires fits { WellFormed cert.now }
     requires limits { InstanceLimits cert.now at.now }
-    ensures { result ≡ edges_compare cert.now at.now step.now }
+    ensures { result ≡ compares_edges cert.now at.now step.now }
 {
-    is_main(at)
-        || edges_fit(
-            &cert.schedule,
-            position_of(&cert.schedule, at),
-            step.emit,
-            step.exits.as_slice(),
-        )
+    is_main(at) || edges_fit(&cert.schedule, at, step.emit, step.exits.as_slice())
 }
 
 /// Why an instance is refused, whose instruction has this step.
 fn step_fail(cert: &Cert, next: &[u32], at: &Instance, emits: bool, step: Step) -> Option<Fail>
     requires fits { WellFormed cert.now }
     requires limits { InstanceLimits cert.now at.now }
-    ensures { result ≡ fail_of_step cert.now next.now at.now emits (Ok step) }
+    ensures { result ≡ step_fail cert.now next.now at.now emits (Ok step) }
 {
     if emits || !compares_edges(cert, at, &step) {
         return Some(Fail::Edge);
@@ -180,7 +167,7 @@ fn step_fail(cert: &Cert, next: &[u32], at: &Instance, emits: bool, step: Step) 
 fn instance_fail(image: &Image, cert: &Cert, next: &[u32], i: &Instr, at: &Instance) -> Option<Fail>
     requires fits { WellFormed cert.now }
     requires limits { InstanceLimits cert.now at.now }
-    ensures { result ≡ fail_of_instance image.now cert.now next.now (Some i.now) (Some at.now) }
+    ensures { result ≡ instance_fail image.now cert.now next.now (Some i.now) (Some at.now) }
 {
     let emits = is_main(at) && main_emits(effect(i), at);
     match step_of_instruction(image, &cert.head, cert.schedule.length(at.line), at, i) {
@@ -201,7 +188,7 @@ fn row_fail(
     i: &Instr,
 ) -> Option<Fail>
     requires fits { WellFormed cert.now }
-    ensures { result ≡ fail_of_row image.now cert.now next.now (Some i.now) (instance_at cert.now id l c) }
+    ensures { result ≡ local_fail image.now cert.now next.now (Some i.now) (instance_at cert.now id l c) }
 {
     if is_stop(effect(i)) {
         return Some(Fail::Opcode);
@@ -248,7 +235,7 @@ fn read_fail(
     row: Option<Instr>,
 ) -> Option<Fail>
     requires fits { WellFormed cert.now }
-    ensures { result ≡ fail_of_row image.now cert.now next.now row (instance_at cert.now id l c) }
+    ensures { result ≡ local_fail image.now cert.now next.now row (instance_at cert.now id l c) }
 {
     match row {
         Some(i) => row_fail(image, cert, id, l, c, next, &i),

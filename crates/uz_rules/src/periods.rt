@@ -2,7 +2,7 @@
 //! and modulo 65,536 of a pair, so that this number, the period, is a power of two. Its exponent is what is kept.
 
 ghost use Rattle.std.specs.Prelude.{◌≡◌, ◌≤◌, ◌+◌, ◌-◌, ◌^◌, All, min};
-ghost use Rattle.uz_rules.specs.Periods.{count_factor as factor_of_count, pair_count_factor as factor_of_count_in_pair, ByteRepeats, PairRepeats, PairsRepeat, PointRepeats};
+ghost use Rattle.uz_rules.specs.Periods.{count_factor, pair_count_factor, ByteRepeats, PairRepeats, PairsRepeat, PointRepeats};
 
 use uz_schedule::{Fact, PairFact, Point};
 
@@ -30,7 +30,7 @@ pub(crate) struct Periods {
 
 /// The factor of the count in a fact of a byte, 0 where it says the same at each count.
 fn count_factor(fact: &Fact) -> u8
-    ensures { result ≡ factor_of_count fact.now }
+    ensures { result ≡ count_factor fact.now }
 {
     match *fact {
         Fact::Loop(factor, _) => factor,
@@ -40,7 +40,7 @@ fn count_factor(fact: &Fact) -> u8
 
 /// The factor of the count in a fact of a pair, 0 where it says the same at each count.
 fn pair_count_factor(fact: &PairFact) -> u16
-    ensures { result ≡ factor_of_count_in_pair fact.now }
+    ensures { result ≡ pair_count_factor fact.now }
 {
     match *fact {
         PairFact::Loop(factor, _) => factor,

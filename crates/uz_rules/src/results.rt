@@ -2,10 +2,11 @@
 
 ghost use Rattle.std.specs.Prelude.{◌≡◌, ◌<◌, ◌≤◌, Ok, Err, OnOk, IfErr, length, map};
 ghost use Rattle.uz_schedule.specs.Lines.{order_of};
-ghost use Rattle.uz_schedule.specs.Schedule.{length_of};
+ghost use Rattle.uz_schedule.specs.Limits.{most_lines};
+ghost use Rattle.uz_schedule.specs.Schedule.{scanline, length_of};
 ghost use Rattle.uz_transfer.specs.Kinds.{depth_limit};
 ghost use Rattle.uz_transfer.specs.Step.{at_exit};
-ghost use Rattle.uz_rules.specs.After.{timed as timed_event, next_of, IsAfter};
+ghost use Rattle.uz_rules.specs.After.{timed, next_of, IsAfter};
 
 use crate::local_rule::first_exit;
 use crate::next::Next;
@@ -16,7 +17,7 @@ use uz_transfer::{Exit, Fail, Step, abstract_step, copied, put_at};
 
 /// What is emitted, with its clock.
 fn timed(emitted: Option<EventKind>, clocks: u8) -> Option<(u8, EventKind)>
-    ensures { result ≡ timed_event emitted clocks }
+    ensures { result ≡ timed emitted clocks }
 {
     match emitted {
         Some(kind) => Some((clocks, kind)),
@@ -33,9 +34,9 @@ fn result_at(
     clears: bool,
     exit: Exit,
 ) -> Instance
-    requires count { length schedule.now.lines ≤ 525 }
+    requires count { length schedule.now.lines ≤ most_lines }
     requires line { at.now.line < length schedule.now.lines }
-    requires clock { at.now.clock ≤ 1820 }
+    requires clock { at.now.clock < scanline }
     ensures { result ≡ at_exit (order_of schedule.now) at.now draft.now emitted clears exit }
 {
     let mut result = copied(draft);
@@ -53,9 +54,9 @@ fn put_results(
     exits: &[Exit],
     out: &mut ArrayVec<Instance, 16>,
 )
-    requires count { length schedule.now.lines ≤ 525 }
+    requires count { length schedule.now.lines ≤ most_lines }
     requires line { at.now.line < length schedule.now.lines }
-    requires clock { at.now.clock ≤ 1820 }
+    requires clock { at.now.clock < scanline }
     requires few { length exits.now ≤ 16 }
     ensures { out.new.items ≡ map (λ exit. at_exit (order_of schedule.now) at.now draft.now emitted clears exit) exits.now }
 {
@@ -67,9 +68,9 @@ fn put_results(
 
 /// Puts the results of a step in place of others.
 fn put_next(schedule: &Schedule, at: &Instance, step: &Step, next: &mut Next)
-    requires count { length schedule.now.lines ≤ 525 }
+    requires count { length schedule.now.lines ≤ most_lines }
     requires line { at.now.line < length schedule.now.lines }
-    requires clock { at.now.clock ≤ 1820 }
+    requires clock { at.now.clock < scanline }
     ensures { Ok next.new ≡ next_of (order_of schedule.now) at.now (Ok step.now) }
 {
     next.emit = timed(step.emit, first_exit(step.exits.as_slice()).clocks);
@@ -97,9 +98,9 @@ pub fn put_after(
     next: &mut Next,
 ) -> Result<(), Fail>
     requires depth { depth_limit head.now at.now.kind ≤ 32 }
-    requires count { length schedule.now.lines ≤ 525 }
+    requires count { length schedule.now.lines ≤ most_lines }
     requires line { at.now.line < length schedule.now.lines }
-    requires long { length_of schedule.now at.now.line ≤ 1820 }
+    requires long { length_of schedule.now at.now.line ≤ scanline }
     requires clock { at.now.clock < length_of schedule.now at.now.line }
     ensures ok { OnOk result (IsAfter head.now (order_of schedule.now) image.now at.now (Ok next.new)) }
     ensures err { IfErr result (λ why. IsAfter head.now (order_of schedule.now) image.now at.now (Err why)) }
@@ -113,14 +114,16 @@ pub fn put_after(
     }
 }
 
-/// The abstract results of an instance under the instruction at its pc, in a frame of so many lines; or the least of the reasons Opcode, Flag,
-/// Mask, Stack, Return, Store, Io and Edge that stands, where Edge is an emission that isn't known. The header is within its limits, and the
-/// instance has no more slots than its kind's depth. A pc counts modulo 32,768, and a level by its bit 0. Takes no memory.
+/// The abstract results of an instance under the instruction at its pc, in a frame of this schedule's lines; or the least of the reasons
+/// Opcode, Flag, Mask, Stack, Return, Store, Io and Edge that stands, where Edge is an emission that isn't known. The header is within its
+/// limits, and the instance has no more slots than its kind's depth. The schedule has at most 525 lines, the instance's line is one of
+/// them, no longer than a scanline, and its clock is one of that line. A pc counts modulo 32,768, and a level by its bit 0. Takes no
+/// memory.
 pub fn after(image: &Image, head: &Head, schedule: &Schedule, at: &Instance) -> Result<Next, Fail>
     requires depth { depth_limit head.now at.now.kind ≤ 32 }
-    requires count { length schedule.now.lines ≤ 525 }
+    requires count { length schedule.now.lines ≤ most_lines }
     requires line { at.now.line < length schedule.now.lines }
-    requires long { length_of schedule.now at.now.line ≤ 1820 }
+    requires long { length_of schedule.now at.now.line ≤ scanline }
     requires clock { at.now.clock < length_of schedule.now at.now.line }
     ensures { IsAfter head.now (order_of schedule.now) image.now at.now result }
 {

@@ -4,8 +4,9 @@ ghost use Rattle.std.specs.Prelude.{◌≡◌, ◌<◌, ◌↔◌, ◌-◌, suc,
 ghost use Rattle.std.specs.Int.RustNames.{unsigned_abs};
 ghost use Rattle.uz_schedule.specs.Limits.{ScheduleFits};
 ghost use Rattle.uz_schedule.specs.WellFormed.{WellFormed};
-ghost use Rattle.uz_rules.specs.Successors.{same_program_place, lies_in_box as lies_in_its_box, any_from, lies_in_point as lies_in_its_point, lies_in_any as lies_in_one};
-ghost use Rattle.uz_rules.specs.FactInclusion.{facts_inside as lies_in_facts, has_level as level_is_there, is_line_of as line_is_of, is_beside as stands_near, IsAtCount, LiesAtSome};
+ghost use Rattle.uz_rules.specs.Successors.{same_program_place, lies_in_box, any_from, lies_in_point, lies_in_any};
+ghost use Rattle.uz_rules.specs.Inside.{same_timer};
+ghost use Rattle.uz_rules.specs.FactInclusion.{said_at, facts_inside, has_level, is_line_of, is_beside, IsAtCount, LiesAtSome};
 
 use crate::count_keys::{CountKey, key_of, may_lie};
 use crate::fact_inclusion::facts_inside;
@@ -22,7 +23,7 @@ fn is_same_place(point: &Point, at: &Instance) -> bool
 
 /// Whether a line is one of a point's box.
 fn is_line_of(point: &Point, line: u16) -> bool
-    ensures { result ≡ line_is_of point.now line }
+    ensures { result ≡ is_line_of point.now line }
 {
     point.l0 <= line && line <= point.l1
 }
@@ -30,25 +31,29 @@ fn is_line_of(point: &Point, line: u16) -> bool
 /// Whether a clock is one of its line and the schedule has a level there.
 fn has_level(schedule: &Schedule, line: u16, clock: u16) -> bool
     requires { ScheduleFits schedule.now }
-    ensures { result ≡ level_is_there schedule.now line clock }
+    ensures { result ≡ has_level schedule.now line clock }
 {
-    clock < schedule.length(line)
-        && schedule
-            .level(schedule.start(line) + u32::from(clock))
-            .is_some()
+    clock < schedule.length(line) && schedule.level_at_clock(line, clock).is_some()
+}
+
+/// Whether a point says what an instance does of the timer besides its clock: whether a match is pending.
+fn is_timer(point: &Point, at: &Instance) -> bool
+    ensures { result ≡ same_timer at.now (said_at point.now at.now point.now.c0) }
+{
+    at.pending == point.pending
 }
 
 /// Whether a point has an instance's kind, pc and pending, and its box the instance's line. All of this is the same at each count.
 fn is_beside(point: &Point, at: &Instance) -> bool
-    ensures { result ≡ stands_near point.now at.now }
+    ensures { result ≡ is_beside point.now at.now }
 {
-    (is_same_place(point, at) && at.pending == point.pending) && is_line_of(point, at.line)
+    (is_same_place(point, at) && is_timer(point, at)) && is_line_of(point, at.line)
 }
 
 /// Whether an instance lies in what a point's facts say at a count. The key's place is looked at first.
 #[tactic(auto, using(crate::proofs::CountKeys::dismissed))]
 fn lies_at_count(key: &CountKey, at: &Instance, point: &Point, count: u8) -> bool
-    ensures { result ≡ lies_in_facts at.now point.now count }
+    ensures { result ≡ facts_inside at.now point.now count }
 {
     may_lie(key, at, point, count) && facts_inside(at, point, count)
 }
@@ -56,7 +61,7 @@ fn lies_at_count(key: &CountKey, at: &Instance, point: &Point, count: u8) -> boo
 /// Whether an instance lies in what a point's facts say at one of these counts, each of which is tried.
 #[tactic(auto, using(crate::proofs::Below::any_none, crate::proofs::Below::any_found, crate::proofs::Below::any_more))]
 fn lies_at_tried(key: &CountKey, at: &Instance, point: &Point, first: u8, last: u8) -> bool
-    ensures { result ≡ any_from (lies_in_facts at.now point.now) first (suc last - first) }
+    ensures { result ≡ any_from (facts_inside at.now point.now) first (suc last - first) }
 {
     let end = last as u16 + 1;
     for count in first as u16..end {
@@ -71,7 +76,7 @@ fn lies_at_tried(key: &CountKey, at: &Instance, point: &Point, first: u8, last: 
 /// has, since what they say comes again from there on.
 #[tactic(auto, using(crate::proofs::PeriodLaws::period_tells))]
 fn lies_in_period(at: &Instance, point: &Point, first: u8, last: u8) -> bool
-    ensures { result ≡ any_from (lies_in_facts at.now point.now) first (suc last - first) }
+    ensures { result ≡ any_from (facts_inside at.now point.now) first (suc last - first) }
 {
     let periods = periods_of(point);
     let tried = last_of_period(first, last, periods.exponent);
@@ -80,7 +85,7 @@ fn lies_in_period(at: &Instance, point: &Point, first: u8, last: u8) -> bool
 
 /// Whether an instance lies in what a point's facts say at one of these counts. No period is looked for where there is one count.
 fn lies_at_one(at: &Instance, point: &Point, first: u8, last: u8) -> bool
-    ensures { result ≡ any_from (lies_in_facts at.now point.now) first (suc last - first) }
+    ensures { result ≡ any_from (facts_inside at.now point.now) first (suc last - first) }
 {
     if first < last {
         lies_in_period(at, point, first, last)
@@ -151,7 +156,7 @@ fn lies_at_some_count(point: &Point, at: &Instance) -> bool
 fn lies_in_box(cert: &Cert, id: u32, point: &Point, at: &Instance) -> bool
     requires fits { WellFormed cert.now }
     requires point { slice_get cert.now.points id ≡ Some point.now }
-    ensures { result ≡ lies_in_its_box cert.now id (Some point.now) at.now }
+    ensures { result ≡ lies_in_box cert.now id (Some point.now) at.now }
 {
     is_beside(point, at)
         && (lies_at_some_count(point, at) && has_level(&cert.schedule, at.line, at.clock))
@@ -161,7 +166,7 @@ fn lies_in_box(cert: &Cert, id: u32, point: &Point, at: &Instance) -> bool
 /// False where there is no such point. Takes no memory.
 pub fn lies_in_point(cert: &Cert, id: u32, at: &Instance) -> bool
     requires fits { WellFormed cert.now }
-    ensures { result ≡ lies_in_its_point cert.now id at.now }
+    ensures { result ≡ lies_in_point cert.now id at.now }
 {
     match cert.points.as_slice().get(id as usize) {
         Some(point) => lies_in_box(cert, id, point, at),
@@ -172,7 +177,7 @@ pub fn lies_in_point(cert: &Cert, id: u32, at: &Instance) -> bool
 /// Whether an instance lies in an instance of one of these points.
 pub(crate) fn lies_in_any(cert: &Cert, ids: &[u32], at: &Instance) -> bool
     requires fits { WellFormed cert.now }
-    ensures { result ≡ lies_in_one cert.now ids.now at.now }
+    ensures { result ≡ lies_in_any cert.now ids.now at.now }
 {
     for id in ids {
         if lies_in_point(cert, *id, at) {

@@ -1,8 +1,9 @@
 use Rattle.std.proofs.Common.{◌≡◌, drop}
-use Rattle.uz_rules.specs.EdgeRule.{edges_fit}
+use Rattle.uz_rules.specs.EdgeRule.{position_of, edges_fit}
 use Rattle.uz_rules.proofs.edge_rule.edges_fit.Given as goal
 
 -- what is left answers for all
 abbrev pub invariant-loop-exit : goal.invariant-loop-exit
-invariant-loop-exit l = edges_fit l.schedule l.position l.emitted (drop l.exit-index l.exits) ≡ edges_fit l.schedule l.position l.emitted
-    l.exits
+invariant-loop-exit l =
+    let here = edges_fit l.schedule (position_of l.schedule l.at) l.emitted in
+    here (drop l.exit-index l.exits) ≡ here l.exits

@@ -1,8 +1,8 @@
 use Rattle.std.proofs.Common.{◌≡◌}
 use Rattle.uz_schedule.specs.Schedule.{event_at}
-use Rattle.uz_rules.specs.EdgeRule.{is_quiet}
+use Rattle.uz_rules.specs.EdgeRule.{position_of, is_quiet}
 use Rattle.uz_rules.proofs.edge_rule.is_quiet.Given as goal
 
 -- the test so far
 abbrev pub invariant-loop-k : goal.invariant-loop-k
-invariant-loop-k l = l.quiet ≡ is_quiet (event_at l.schedule) l.position l.k
+invariant-loop-k l = l.quiet ≡ is_quiet (event_at l.schedule) (position_of l.schedule l.at) l.k
