@@ -148,7 +148,8 @@ quiet_told cert rest fits line h =
     (λ events is. clocks_within s fits rest.line events line is)
     (λ k low high. sym (event_of_place s rest.line k line high) ∙ h.quiet k low high) in
     let until = until_in_told (response_clocks cert.head.irq + 3) (events_of s (next_line s rest.line))
-    (λ k low. sym (event_of_place s (next_line s rest.line) k (next_there s rest.line line) (omega (arith, low, few, room))) ∙ h.quiet_next k
+    (λ k low. sym (event_of_place s (next_line s rest.line) k (next_there s rest.line line) (omega (arith, low, few, room)))
+    ∙ h.quiet_next k
     low) in
     rw (here, leave, after, until) refl
 

@@ -47,7 +47,8 @@ line_passes : FoldingLaw → (image : FinMap nat_cmp ℕ) (cert : Cert) (id l : 
     → slice_get cert.points id ≡ Some p → p.l1 < length cert.schedule.lines → suc l ≤ p.l1 → is_told cert p (suc l) ≡ true
     → LineRefusal image cert id p l None → LineRefusal image cert id p (suc l) None
 unfolding LineRefusal
-line_passes law image cert id l p fits found inside within told passes c low high = instance_passes law image cert id l c p fits found inside within
+line_passes law image cert id l p fits found inside within told passes c low high = instance_passes law image cert id l c p fits found
+    inside within
     told (passes c low high)
 
 -- where line l passes, so do those after it that are told
@@ -59,7 +60,8 @@ told_pass law image cert id l zero p fits found inside within told passes =
     let same : l ≡ l + zero = omega arith in
     subst (λ k. LineRefusal image cert id p k None) same passes
 told_pass law image cert id l (suc n) p fits found inside within told passes =
-    let before = told_pass law image cert id l n p fits found inside (omega (arith, within)) (λ k low high. told k low (omega (arith, high)))
+    let before = told_pass law image cert id l n p fits found inside (omega (arith, within)) (λ k low high. told k low (omega
+    (arith, high)))
     passes in
     let on : suc (l + n) ≡ l + suc n = omega arith in
     subst (λ k. LineRefusal image cert id p k None) on (line_passes law image cert id (l + n) p fits found inside (omega (arith, within))
@@ -67,7 +69,8 @@ told_pass law image cert id l (suc n) p fits found inside within told passes =
 
 -- the lines up to the next one that isn't told
 pub lines_more : FoldingLaw → (image : FinMap nat_cmp ℕ) (cert : Cert) (id l next : ℕ) (p : Point) → ScheduleFits cert.schedule
-    → slice_get cert.points id ≡ Some p → p.l1 < length cert.schedule.lines → next ≤ suc p.l1 → ((k : ℕ) → l + 1 ≤ k → k < next → is_told cert p k ≡ true)
+    → slice_get cert.points id ≡ Some p → p.l1 < length cert.schedule.lines → next ≤ suc p.l1 → ((k : ℕ) → l + 1 ≤ k → k < next
+    → is_told cert p k ≡ true)
     → ((j : ℕ) → p.l0 ≤ j → j < l → LineRefusal image cert id p j None) → LineRefusal image cert id p l None → (j : ℕ) → p.l0 ≤ j → j < next
     → LineRefusal image cert id p j None
 lines_more law image cert id l next p fits found inside within told before now j low high =

@@ -13,7 +13,8 @@ use Rattle.uz_schedule.specs.declared.lines.EventKind.TheVariants.{Sync, Pixel, 
 use Rattle.uz_schedule.specs.declared.lines.Schedule.{Schedule}
 use Rattle.uz_schedule.specs.Schedule.{scanline, length_of, events_of}
 use Rattle.uz_soundness.specs.Steady.{IsSteadyLine, IsSteady, AreScanlines}
-use Rattle.uz_check.specs.Unsteady.{is_fall, second_fall, unsteady_clock, unsteady_in, unsteady_line, at_line, unsteady_from, first_unsteady}
+use Rattle.uz_check.specs.Unsteady.{is_fall, second_fall, unsteady_clock, unsteady_in}
+use Rattle.uz_check.specs.Unsteady.{unsteady_line, at_line, unsteady_from, first_unsteady}
 
 pub and_true : (a b : Bool) → (a && b) ≡ true → (a ≡ true) × (b ≡ true)
 and_true true b e = (refl, e)
@@ -105,7 +106,8 @@ in_told fall None h = refl
 in_told fall (Some events) h = h events refl
 
 -- of a line whose events alone could break it
-scanline_tells : (s : Schedule) (l : ℕ) → unsteady_line s l ≡ None → (length_of s l ≡ scanline) × (unsteady_in s.fall (events_of s l) ≡ None)
+scanline_tells : (s : Schedule) (l : ℕ) → unsteady_line s l ≡ None
+    → (length_of s l ≡ scanline) × (unsteady_in s.fall (events_of s l) ≡ None)
 scanline_tells s l e =
     let both = first_tells (eqb (length_of s l) scanline) (length_of s l) (unsteady_in s.fall (events_of s l)) e in
     (eqb-true (length_of s l) scanline both.0, both.1)

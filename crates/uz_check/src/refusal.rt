@@ -14,8 +14,9 @@ pub enum RefusedWhy {
         /// The clock of the line; or its length, in clocks.
         clock: u16,
     },
-    /// The rest's clock isn't one of its line, the handler's return doesn't stand there, an event stands after it on its line or on the next line where
-    /// an interrupt may come, or the handler's first state doesn't lie in the vector's point.
+    /// The rest's clock isn't one of its line, the handler's return doesn't stand there, an event stands after it on its
+    /// line or on the next line where an interrupt may come, or the handler's first state doesn't lie in the vector's
+    /// point.
     Rest {
         /// The line, counted from 0.
         line: u16,

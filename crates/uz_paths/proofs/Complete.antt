@@ -222,7 +222,8 @@ entered image p found entry s enter fits ended made k c rest at few =
 
 module _ (image : Flash) (p : Program) (entry : Entry) (found : Found) (parts : Parts) (laws : Laws) (fits : ProgramFits p)
     (ended : IsEnded image p found)
-    (few : length found.nodes.keys < 524288) (entering : IsEntry p entry) (long : AreScanlines p.schedule) (returns : ReturnsFromMain p found)
+    (few : length found.nodes.keys < 524288) (entering : IsEntry p entry) (long : AreScanlines p.schedule)
+    (returns : ReturnsFromMain p found)
     (of : ArePartsOf image p entry found parts) where
   abbrev cert : Cert
   cert = cert_of p parts
@@ -559,7 +560,8 @@ module _ (image : Flash) (p : Program) (entry : Entry) (found : Found) (parts : 
       subst (λ n. (n + 1) * 1 ≤ 4) (sym none) (omega arith)))
       (which id point at)
 
-  rest_fits : (k : ℕ) (rest : Rest) → slice_get parts.rests.items k ≡ Some rest → RestFits p.head (lines_of p) (length parts.points.items) rest
+  rest_fits : (k : ℕ) (rest : Rest) → slice_get parts.rests.items k ≡ Some rest
+      → RestFits p.head (lines_of p) (length parts.points.items) rest
   rest_fits k rest at =
       let o = of_return 0 0 found.returns.items k rest (among_rests k rest at) in
       let below = slice_get_within parts.rests.items k rest at in
@@ -584,7 +586,8 @@ module _ (image : Flash) (p : Program) (entry : Entry) (found : Found) (parts : 
   kind_same Handler id h = h
   kind_same Alone id h = h
 
-  entry_fits : (id : ℕ) → id < length parts.points.items → EntryFits p.head (lines_of p) (length parts.points.items) (record entry { id = id })
+  entry_fits : (id : ℕ) → id < length parts.points.items → EntryFits p.head (lines_of p) (length parts.points.items)
+      (record entry { id = id })
   entry_fits id below =
       let some = fits.some in
       let f = entering.facts in

@@ -167,7 +167,8 @@ made_more marks frame n k numbers numbers' kinds kinds' lengths lengths' events 
 past_line : (s : Schedule) (l : ℕ) → length s.lines ≤ l → length_of s l ≡ scanline
 past_line s l past = by (slice_get_cases s.lines l).1
   where
-    by : ((x : ℕ) × (l < length s.lines) × (slice_get s.lines l ≡ Some x) × (get_or s.lines l x ≡ x)) ⊎ ((length s.lines ≤ l) × (slice_get s.lines l ≡ None))
+    by : ((x : ℕ) × (l < length s.lines) × (slice_get s.lines l ≡ Some x) × (get_or s.lines l x ≡ x)) ⊎ ((length s.lines ≤ l)
+        × (slice_get s.lines l ≡ None))
         → length_of s l ≡ scanline
     by (inl h) = let less = h.1 in absurd (omega arith)
     by (inr h) = ap (length_of_kind s.lengths) h.1

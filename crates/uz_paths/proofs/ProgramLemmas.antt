@@ -143,7 +143,8 @@ one_begins p start registers cells head Alone k n e = (
 )
 
 pub program_fits : (r : Reading) (p : Program) → ReadingFits r → p.head ≡ r.head → lines_of p ≡ r.size.lines
-    → p.schedule.fall ≡ r.size.fall → AreScanlines p.schedule → p.starts ≡ entry_instance_at (entry_with r.registers r.head r.start 0) 1 ∷ first_states r.start.kind p.head.irq r.firsts.items
+    → p.schedule.fall ≡ r.size.fall → AreScanlines p.schedule
+    → p.starts ≡ entry_instance_at (entry_with r.registers r.head r.start 0) 1 ∷ first_states r.start.kind p.head.irq r.firsts.items
     → ProgramFits p
 program_fits r p fits head lines fall scanlines starts =
     let some = fits.some in
@@ -169,7 +170,8 @@ program_fits r p fits head lines fall scanlines starts =
     }
 
 -- the starts are those of the hints that were read
-pub program_starts : (hints : List Hint) (irq : Response) (r : Reading) (starts : List Instance) → {image : FinMap nat_cmp ℕ} → IsReading image irq hints r
+pub program_starts : (hints : List Hint) (irq : Response) (r : Reading) (starts : List Instance) → {image : FinMap nat_cmp ℕ}
+    → IsReading image irq hints r
     → starts ≡ entry_instance_at (entry_with r.registers r.head r.start 0) 1 ∷ first_states r.start.kind r.head.irq r.firsts.items
     → starts ≡ starts_of irq hints r.head r.start
 program_starts hints irq r starts reading is =

@@ -51,7 +51,8 @@ pub record IsReturn (image : FinMap nat_cmp ℕ) (p : Program) (rest : Rest) : T
   pub clock : rest.clock ≡ end.clock
   pub cells : rest.cells ≡ end.cells
 
--- the certificate has the header, the lines, their lengths and the fall of the program, and this entry; and each rest is a return of some trail
+-- the certificate has the header, the lines, their lengths and the fall of the program, and this entry; and each rest is a return of
+-- some trail
 pub record IsFoundBy (image : FinMap nat_cmp ℕ) (p : Program) (entry : Entry) (cert : Cert) : Type 0 where
   pub head : cert.head ≡ p.head
   pub lines : length cert.schedule.lines ≡ lines_of p
@@ -60,7 +61,8 @@ pub record IsFoundBy (image : FinMap nat_cmp ℕ) (p : Program) (entry : Entry) 
   pub enters : cert.entry ≡ record entry { id = cert.entry.id }
   pub rests : (rest : Rest) → Contains cert.rests rest → IsReturn image p rest
 
--- the certificate has the header, the lines, their lengths, the fall and the entry that the hints ask for, and each rest is a return of some trail
+-- the certificate has the header, the lines, their lengths, the fall and the entry that the hints ask for, and each rest is a return of
+-- some trail
 pub record IsAsked (image : FinMap nat_cmp ℕ) (irq : Response) (hints : List SourceHint) (cert : Cert) : Type 0 where
   pub program : Program
   pub of : IsProgramOf irq hints program

@@ -44,7 +44,8 @@ pub record AddsKind (old : List (List Event)) (lengths : List ℕ) (events : Lis
   pub few : length new ≤ length old + 1
   pub kept : (i : ℕ) (kind : List Event) (k : ℕ) → IsKind old lengths i kind k → IsKind new lengths' i kind k
   pub shared : AreApart old lengths → AreApart new lengths'
-  pub own : (i : ℕ) (kind : List Event) (k : ℕ) → IsKind new lengths' i kind k → IsKind old lengths i kind k ⊎ ((events ≡ kind) × (clocks ≡ k))
+  pub own : (i : ℕ) (kind : List Event) (k : ℕ) → IsKind new lengths' i kind k
+      → IsKind old lengths i kind k ⊎ ((events ≡ kind) × (clocks ≡ k))
 
 -- these events and so many clocks are those of one of the first n lines of a frame
 pub record IsLines (marks : List (Option Mark)) (frame : Schedule) (n : ℕ) (events : List Event) (clocks : ℕ) : Type 0 where

@@ -165,7 +165,8 @@ module _ (s : Schedule) (laws : PlaceLaws s) (fits : ScheduleFits s) (steady : I
       (laws.more p l s.fall (length_of s l) at) in
       let there = laws.next (p + length_of s l) l s.fall moved in
       laws.here (p + length_of s l) (next_line s l) s.fall there
-      ∙ (laws.by_line (next_line s l) s.fall (next_below l below) (within_line (next_line s l) (next_below l below)) ∙ line_has_fall (next_line s l)
+      ∙ (laws.by_line (next_line s l) s.fall (next_below l below) (within_line (next_line s l) (next_below l below))
+      ∙ line_has_fall (next_line s l)
       (next_below l below))
 
   -- and none is before it
@@ -181,7 +182,8 @@ module _ (s : Schedule) (laws : PlaceLaws s) (fits : ScheduleFits s) (steady : I
             let past = t.1 in
             let rest : s.fall + k ≡ length_of s l + (s.fall + k - length_of s l) = omega arith in
             let there = laws.next (p + k) l (s.fall + k - length_of s l) (subst (λ j. At s (p + k) l j) rest moved) in
-            let few_more : s.fall + k - length_of s l < length_of s (next_line s l) = (let g = within_line (next_line s l) (next_below l below) in
+            let few_more : s.fall + k - length_of s l < length_of s (next_line s l) = (let g = within_line (next_line s l)
+            (next_below l below) in
             omega arith) in
             let event = sym (laws.here (p + k) (next_line s l) (s.fall + k - length_of s l) there ∙ laws.by_line (next_line s l)
             (s.fall + k - length_of s l) (next_below l below) few_more) ∙ is in

@@ -23,7 +23,8 @@ lines-preserved c =
     record {
       begun = omega (arith, inv.begun, next.onward);
       within = next.within;
-      none = lines_more c.lines_fold.ensures c.args.image.now cert c.args.id l c.next_untold-l.result p c.requires.fits.schedule c.requires.point
+      none = lines_more c.lines_fold.ensures c.args.image.now cert c.args.id l c.next_untold-l.result p c.requires.fits.schedule
+          c.requires.point
           c.requires.box_fits.line next.within next.told inv.none c.in_default.ensures.first;
       few = omega (arith, one, inv.few, seen);
       untold = next.untold;

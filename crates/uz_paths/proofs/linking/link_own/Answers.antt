@@ -59,7 +59,8 @@ loop-i-preserved c =
             c.number_at-number.result c.loop-i.points w.put_names.new.point w.if-number-rests.true within c.loop-i.invariant.vectors);
         own = subst (NamesOwn c.args.image.now c.args.program.now (length c.args.rests.now) c.args.nodes.now.keys c.args.numbers.now
             (c.loop-i.i + 1)) (sym w.points-is)
-            (own_named c.args.image.now c.args.program.now (response_clocks c.args.program.now.head.irq) (order_of_program c.args.program.now)
+            (own_named c.args.image.now c.args.program.now (response_clocks c.args.program.now.head.irq)
+            (order_of_program c.args.program.now)
             c.args.rests.now c.args.nodes.now.keys c.args.numbers.now (length c.args.points.now) c.loop-i.i c.number_at-number.result
             w.own_names-names.result.items c.loop-i.points (get_or c.loop-i.points c.number_at-number.result
             w.index-points-number.result) w.put_names.new.point c.at-item.result

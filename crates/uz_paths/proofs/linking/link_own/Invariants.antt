@@ -8,7 +8,8 @@ use Rattle.uz_paths.proofs.linking.link_own.Given as goal
 abbrev pub invariant-loop-i : goal.invariant-loop-i
 invariant-loop-i l = record {
   size : length l.points ≡ length l.initial.points;
-  made : ArePoints (response_clocks l.program.head.irq) (order_of_program l.program) l.rests l.nodes.keys l.numbers (length l.initial.points)
+  made : ArePoints (response_clocks l.program.head.irq) (order_of_program l.program) l.rests l.nodes.keys l.numbers
+      (length l.initial.points)
       l.points;
   vectors : NamesVectors l.image l.program l.schedule l.rests l.nodes.keys l.numbers (length l.rests) l.points;
   own : NamesOwn l.image l.program (length l.rests) l.nodes.keys l.numbers l.i l.points;

@@ -8,7 +8,8 @@ use Rattle.uz_paths.proofs.linking.link_vectors.Given as goal
 abbrev pub invariant-loop-k : goal.invariant-loop-k
 invariant-loop-k l = record {
   size : length l.points ≡ length l.initial.points;
-  made : ArePoints (response_clocks l.program.head.irq) (order_of_program l.program) l.rests l.nodes.keys l.numbers (length l.initial.points)
+  made : ArePoints (response_clocks l.program.head.irq) (order_of_program l.program) l.rests l.nodes.keys l.numbers
+      (length l.initial.points)
       l.points;
   named : NamesVectors l.image l.program l.schedule l.rests l.nodes.keys l.numbers l.k l.points;
 }

@@ -13,7 +13,8 @@ loop-rest-init c = subst (ArePoints (response_clocks c.args.response) (order_of 
     (sym c.new-points.ensures.items) (no_points (response_clocks c.args.response) (order_of c.args.schedule.now))
 
 pub bare_vector-requires-clause-line : goal.bare_vector-requires-clause-line
-bare_vector-requires-clause-line c = c.requires.line c.loop-rest.rest-index c.rest-item.result (slice_get_read c.args.rests.now (length c.args.rests.now)
+bare_vector-requires-clause-line c = c.requires.line c.loop-rest.rest-index c.rest-item.result (slice_get_read c.args.rests.now
+    (length c.args.rests.now)
     c.loop-rest.rest-index c.rest-item.result refl c.loop-rest-test.true c.rest-item.is)
 
 pub loop-rest-preserved : goal.loop-rest-preserved
