@@ -1,13 +1,15 @@
 -- Each line that is within limits where it is due keeps what is read so far within limits.
-use Rattle.std.proofs.Common.{◌≡◌, ◌⊎◌, inl, inr, ℕ, suc, ◌+◌, ◌-◌, ◌*◌, ◌<◌, ◌≤◌, Bool, true, false, ◌&&◌, cond, eqb, leb, List, [], ◌∷◌}
-use Rattle.std.proofs.Common.{◌++◌, length, map, replicate, All, refl, sym, ◌∙◌, ap, subst, arith, length-append}
+use Rattle.std.proofs.Common.{◌≡◌, ◌⊎◌, inl, inr, ℕ, suc, ◌+◌, ◌-◌, ◌*◌, ◌<◌, ◌≤◌, Bool, true, false, ◌&&◌, cond, eqb, leb, ltb, List}
+use Rattle.std.proofs.Common.{[], ◌∷◌, ◌++◌, length, map, replicate, All, refl, sym, ◌∙◌, ap, subst, arith, length-append}
 use Rattle.std.specs.Prelude.{Option, None, Some, IsTrue, IfSome, sum_by}
 use Rattle.std.proofs.lemmas.Bool.{leb-true, le-leb, eqb-true, eqb-false}
 use Rattle.std.proofs.lemmas.Nat.{mul-le}
 use Rattle.std.proofs.lemmas.List.{map-append, length-replicate}
 use Rattle.std.proofs.lemmas.List.Sums.{sum_by_push}
 use Rattle.std.proofs.lemmas.List.Elements.{All-nil, All-push, All-append, All-replicate, All-weaker}
-use Rattle.uz_schedule.specs.Limits.{clock_limit, most_events, rises, rises_from, EventFits, EventsFit}
+use Rattle.uz_schedule.specs.Limits.{clock_limit, most_events, rises, rises_from, is_length, clocks_below, lengths_fit, EventFits}
+use Rattle.uz_schedule.specs.Limits.{EventsFit}
+use Rattle.uz_schedule.specs.Schedule.{scanline}
 use Rattle.uz_schedule.specs.WellFormed.{StackFits, CellFits, RestFits, EntryFits, PointFits, instances_of}
 use Rattle.uz_schedule.specs.declared.kinds.Response.{Response}
 use Rattle.uz_schedule.specs.declared.header.Cell.{Cell}
@@ -19,9 +21,14 @@ use Rattle.uz_schedule.specs.declared.states.Point.{Point}
 use Rattle.uz_lines.specs.declared.lines.Sizes.{Sizes}
 use Rattle.uz_lines.specs.declared.lines.StackLine.{StackLine}
 use Rattle.uz_lines.specs.declared.lines.Said.{Said}
+use Rattle.uz_lines.specs.declared.lines.KindLine.{KindLine}
 use Rattle.uz_lines.specs.declared.lines.Said.TheVariants as said
+use Rattle.uz_lines.specs.declared.version.Version.{Version}
+use Rattle.uz_lines.specs.declared.version.Version.TheVariants.{First, Second}
 use Rattle.uz_cert.specs.Drafts.{first_draft, with_said, draft_after}
-use Rattle.uz_cert.specs.Kept.{SizesFit, least_after, CellsKept, EventsKept, KindsKept, LinesKept, RestsKept, PointsKept, NoStates}
+use Rattle.uz_lines.specs.Lines.{SizesFit, IsLengthIn}
+use Rattle.uz_lines.proofs.Lengths.{length_few}
+use Rattle.uz_cert.specs.Kept.{least_after, CellsKept, EventsKept, KindsKept, LinesKept, RestsKept, PointsKept, NoStates}
 use Rattle.uz_cert.specs.Kept.{NoSchedule, Kept}
 use Rattle.uz_cert.specs.Kept.{CellSaid, KindSaid, EventSaid, RunSaid, RestSaid, EntrySaid, PointSaid, SaidFits}
 use Rattle.uz_cert.specs.declared.draft.Draft.{Draft}
@@ -60,6 +67,35 @@ rise_more f xs x least h l o =
 least_more : {A : Type 0} (f : A → ℕ) (xs : List A) (x : A) → f x + 1 ≡ least_after 0 (map f (xs ++ x ∷ []))
 least_more f xs x = sym (ap (least_after 0) (map-append f xs (x ∷ [])) ∙ least_push 0 (map f xs) (f x))
 
+-- one kind more, of a length
+
+below_push : (events : List Event) (e : Event) (n : ℕ) → clocks_below events n ≡ true → e.clock < n
+    → clocks_below (events ++ e ∷ []) n ≡ true
+below_push [] e n h l = and_is (ltb e.clock n) true (le-leb (suc e.clock) n l) refl
+below_push (x ∷ xs) e n h l =
+    let both = and_both (ltb x.clock n) (clocks_below xs n) h in
+    and_is (ltb x.clock n) (clocks_below (xs ++ e ∷ []) n) both.0 (below_push xs e n both.1 l)
+
+lengths_push : (kinds : List (List Event)) (lengths : List ℕ) (events : List Event) (n : ℕ) → lengths_fit kinds lengths ≡ true
+    → is_length n ≡ true → clocks_below events n ≡ true
+    → lengths_fit (kinds ++ events ∷ []) (lengths ++ n ∷ []) ≡ true
+lengths_push [] [] events n h l b =
+    and_is (is_length n && clocks_below events n) true (and_is (is_length n) (clocks_below events n) l b) refl
+lengths_push [] (m ∷ lengths) events n h l b = absurd cc
+lengths_push (es ∷ kinds) [] events n h l b = absurd cc
+lengths_push (es ∷ kinds) (m ∷ lengths) events n h l b =
+    let both = and_both (is_length m && clocks_below es m) (lengths_fit kinds lengths) h in
+    and_is (is_length m && clocks_below es m) (lengths_fit (kinds ++ events ∷ []) (lengths ++ n ∷ [])) both.0
+    (lengths_push kinds lengths events n both.1 l b)
+
+pub length_in : (version : Version) (n : ℕ) → IsLengthIn version n → is_length n ≡ true
+length_in First n h = subst (λ m. is_length m ≡ true) (sym h) refl
+length_in Second n h = h
+
+pub scanline_in : (version : Version) → IsLengthIn version scanline
+scanline_in First = refl
+scanline_in Second = refl
+
 -- nothing so far
 
 no_cells : (h : Head) (count least : ℕ) → h.cells.items ≡ [] → least ≡ least_after 0 (map (λ c. c.at) h.cells.items) → CellsKept h count
@@ -71,11 +107,14 @@ no_cells h count least e l = record {
   least_is = l;
 }
 
-no_kinds : (kinds : List (List Event)) (count owed : ℕ) → kinds ≡ [] → owed ≡ 0 → KindsKept kinds count owed
-no_kinds kinds count owed e none = record {
+no_kinds : (version : Version) (kinds : List (List Event)) (lengths : List ℕ) (count owed : ℕ) → kinds ≡ [] → lengths ≡ [] → owed ≡ 0
+    → KindsKept version kinds lengths count owed
+no_kinds version kinds lengths count owed e l none = record {
   few = subst (λ ks. length ks ≤ count) (sym e) (omega arith);
   owing = λ some. absurd (omega (arith, some, none));
   each = subst (All EventsFit) (sym e) (All-nil EventsFit);
+  fit = subst (λ ks. lengths_fit ks lengths ≡ true) (sym e) (subst (λ ns. lengths_fit [] ns ≡ true) (sym l) refl);
+  own = subst (All (IsLengthIn version)) (sym l) (All-nil (IsLengthIn version));
 }
 
 no_lines : (lines : List ℕ) (kinds count : ℕ) → lines ≡ [] → LinesKept lines kinds count
@@ -106,8 +145,8 @@ no_points h s points left e l = record {
 
 -- the draft of the first line
 
-pub first_kept : Kept first_draft
-first_kept = record {
+pub first_kept : (version : Version) → Kept (first_draft version)
+first_kept version = record {
   begun = omega arith;
   sizes = record {
     kinds_some = omega arith;
@@ -127,15 +166,23 @@ first_kept = record {
     handler = omega arith;
     room = omega arith;
   };
-  cells = no_cells first_draft.head 0 0 refl refl;
-  events = record { few = omega arith; each = All-nil EventFits; rise = refl; least_is = refl; present = λ _. refl };
-  kinds = no_kinds [] 1 0 refl refl;
+  cells = no_cells (first_draft version).head 0 0 refl refl;
+  events = record {
+    few = omega arith;
+    each = All-nil EventFits;
+    below = refl;
+    own = scanline_in version;
+    rise = refl;
+    least_is = refl;
+    present = λ _. refl;
+  };
+  kinds = no_kinds version [] [] 1 0 refl refl refl;
   fall = omega arith;
   lines = no_lines [] 1 1 refl;
-  rests = no_rests first_draft.head first_draft.sizes [] 0 refl refl;
+  rests = no_rests (first_draft version).head (first_draft version).sizes [] 0 refl refl;
   entry = tt;
-  points = no_points first_draft.head first_draft.sizes [] 16777216 refl refl;
-  opening = λ _. record { cells = refl; owed = refl; kinds = refl; lines = refl };
+  points = no_points (first_draft version).head (first_draft version).sizes [] 16777216 refl refl;
+  opening = λ _. record { cells = refl; owed = refl; kinds = refl; lengths = refl; lines = refl };
   early = λ _. record { rests = refl; entry = refl; points = refl };
 }
 
@@ -165,13 +212,19 @@ size_kept d s k o f =
       stack = k.stack;
       cells = no_cells d.head s.cells d.cell_least empty.cells k.cells.least_is;
       events = k.events;
-      kinds = no_kinds d.kinds s.kinds d.owed empty.kinds empty.owed;
+      kinds = no_kinds d.version d.kinds d.lengths s.kinds d.owed empty.kinds empty.lengths empty.owed;
       fall = k.fall;
       lines = no_lines d.lines s.kinds s.lines empty.lines;
       rests = no_rests d.head s d.rests d.rest_least none.rests k.rests.least_is;
       entry = no_entry d.head s d.entry none.entry;
       points = no_points d.head s d.points d.left none.points k.points.instances;
-      opening = λ _. record { cells = empty.cells; owed = empty.owed; kinds = empty.kinds; lines = empty.lines };
+      opening = λ _. record {
+        cells = empty.cells;
+        owed = empty.owed;
+        kinds = empty.kinds;
+        lengths = empty.lengths;
+        lines = empty.lines;
+      };
       early = λ _. record { rests = none.rests; entry = none.entry; points = none.points };
     }
 
@@ -200,7 +253,13 @@ irq_kept d r k o =
       rests = no_rests h d.sizes d.rests d.rest_least none.rests k.rests.least_is;
       entry = no_entry h d.sizes d.entry none.entry;
       points = no_points h d.sizes d.points d.left none.points k.points.instances;
-      opening = λ _. record { cells = empty.cells; owed = empty.owed; kinds = empty.kinds; lines = empty.lines };
+      opening = λ _. record {
+        cells = empty.cells;
+        owed = empty.owed;
+        kinds = empty.kinds;
+        lengths = empty.lengths;
+        lines = empty.lines;
+      };
       early = λ _. record { rests = none.rests; entry = none.entry; points = none.points };
     }
 
@@ -223,7 +282,13 @@ stack_kept d s k o f =
       rests = no_rests h d.sizes d.rests d.rest_least none.rests k.rests.least_is;
       entry = no_entry h d.sizes d.entry none.entry;
       points = no_points h d.sizes d.points d.left none.points k.points.instances;
-      opening = λ _. record { cells = empty.cells; owed = empty.owed; kinds = empty.kinds; lines = empty.lines };
+      opening = λ _. record {
+        cells = empty.cells;
+        owed = empty.owed;
+        kinds = empty.kinds;
+        lengths = empty.lengths;
+        lines = empty.lines;
+      };
       early = λ _. record { rests = none.rests; entry = none.entry; points = none.points };
     }
 
@@ -271,23 +336,27 @@ cell_kept d c k f =
       early = λ _. record { rests = none.rests; entry = none.entry; points = none.points };
     }
 
-kind_kept : (d : Draft) (n : ℕ) → Kept d → KindSaid d n → Kept (draft_after d (said.Kind n))
+kind_kept : (d : Draft) (n : KindLine) → Kept d → KindSaid d n → Kept (draft_after d (said.Kind n))
 unfolding draft_after
 kind_kept d n k f =
     let none = k.events.present f.none_owed in
+    let few = f.fits.few in
+    let most = length_few n.clocks (length_in d.version n.clocks f.fits.clocks) in
     record {
       begun = omega arith;
       sizes = k.sizes;
       stack = k.stack;
       cells = k.cells;
       events = record {
-        few = subst (λ es. length es + n ≤ most_events) (sym none) (omega (arith, f.few));
+        few = subst (λ es. length es + n.events ≤ most_events) (sym none) (omega (arith, few, most));
         each = k.events.each;
+        below = subst (λ es. clocks_below es n.clocks ≡ true) (sym none) refl;
+        own = f.fits.clocks;
         rise = k.events.rise;
         least_is = k.events.least_is;
         present = λ _. none;
       };
-      kinds = record { few = k.kinds.few; owing = λ _. f.room; each = k.kinds.each };
+      kinds = record { few = k.kinds.few; owing = λ _. f.room; each = k.kinds.each; fit = k.kinds.fit; own = k.kinds.own };
       fall = k.fall;
       lines = k.lines;
       rests = k.rests;
@@ -304,6 +373,7 @@ unfolding draft_after
 event_more d e k f true is =
     let one : d.owed - 1 ≡ 0 = eqb-true (d.owed - 1) 0 is in
     let have = k.events.few in
+    let below = below_push d.events e d.clocks k.events.below f.below in
     let whole : EventsFit (d.events ++ e ∷ []) = record {
       some = simp length-append (omega arith);
       few = simp length-append (omega (arith, f.owed, have));
@@ -313,7 +383,9 @@ event_more d e k f true is =
     let more : Kept (record d {
       read = d.read + 1;
       kinds = d.kinds ++ (d.events ++ e ∷ []) ∷ [];
+      lengths = d.lengths ++ d.clocks ∷ [];
       owed = d.owed - 1;
+      clocks = scanline;
       events = [];
       event_least = 0;
     }) = record {
@@ -321,11 +393,22 @@ event_more d e k f true is =
       sizes = k.sizes;
       stack = k.stack;
       cells = k.cells;
-      events = record { few = omega (arith, one); each = All-nil EventFits; rise = refl; least_is = refl; present = λ _. refl };
+      events = record {
+        few = omega (arith, one);
+        each = All-nil EventFits;
+        below = refl;
+        own = scanline_in d.version;
+        rise = refl;
+        least_is = refl;
+        present = λ _. refl;
+      };
       kinds = record {
         few = simp length-append (omega (arith, k.kinds.owing f.owed));
         owing = λ some. absurd (omega (arith, some, one));
         each = All-push EventsFit d.kinds (d.events ++ e ∷ []) k.kinds.each whole;
+        fit = lengths_push d.kinds d.lengths (d.events ++ e ∷ []) d.clocks k.kinds.fit (length_in d.version d.clocks k.events.own)
+            below;
+        own = All-push (IsLengthIn d.version) d.lengths d.clocks k.kinds.own k.events.own;
       };
       fall = k.fall;
       lines = k.lines;
@@ -353,11 +436,19 @@ event_more d e k f false is =
       events = record {
         few = simp length-append (omega (arith, f.owed, have));
         each = All-push EventFits d.events e k.events.each f.fits;
+        below = below_push d.events e d.clocks k.events.below f.below;
+        own = k.events.own;
         rise = rise_more (λ v. v.clock) d.events e d.event_least k.events.rise k.events.least_is f.order;
         least_is = least_more (λ v. v.clock) d.events e;
         present = λ none. absurd (omega (arith, none, owing));
       };
-      kinds = record { few = k.kinds.few; owing = λ _. k.kinds.owing f.owed; each = k.kinds.each };
+      kinds = record {
+        few = k.kinds.few;
+        owing = λ _. k.kinds.owing f.owed;
+        each = k.kinds.each;
+        fit = k.kinds.fit;
+        own = k.kinds.own;
+      };
       fall = k.fall;
       lines = k.lines;
       rests = k.rests;

@@ -1,4 +1,5 @@
 pub mod DueLaws
+pub mod FitLaws
 pub mod FormLaws
 pub mod ItemLimits
 pub mod ItemSteps

@@ -8,7 +8,8 @@ use Rattle.std.proofs.lemmas.Bool.{ltb-true, ltb-false, eqb-true}
 use Rattle.std.proofs.lemmas.List.{length-map}
 use Rattle.std.proofs.lemmas.List.Elements.{All-nil, All-cons, All-head, All-tail, All-map, All-weaker}
 use Rattle.uz_schedule.specs.Ends.{Ends}
-use Rattle.uz_schedule.specs.Limits.{clock_limit, EventFits}
+use Rattle.uz_schedule.specs.Limits.{clock_limit, KindFits, EventFits}
+use Rattle.uz_schedule.specs.Schedule.{scanline}
 use Rattle.uz_schedule.specs.Tracked.{tracks, tracked, depth_of}
 use Rattle.uz_schedule.specs.WellFormed.{RangeFits, CellFits, StackFits, SpansFit, spans_fit, RestFits, BitFits, FactFits, CellFactFits}
 use Rattle.uz_schedule.specs.WellFormed.{EntryKindFits, EntryFactsFit, EntryFits, magnitude, BoxFits, IsAtBegin, PointKindFits, PointFits}
@@ -27,11 +28,18 @@ use Rattle.uz_lines.specs.Lines.{within, one_of, rising, least_of, response_of, 
 use Rattle.uz_lines.specs.Lines.{span_of_fact, spans_of_facts, entry_of, entry_kind, point_kind, pending_limit, count_limit, point_of}
 use Rattle.uz_lines.specs.Lines.{point_after}
 use Rattle.uz_lines.specs.declared.items.Facts.{Facts}
+use Rattle.uz_lines.specs.declared.lines.PointPlace.{PointPlace}
 use Rattle.uz_lines.specs.declared.lines.Said.{Said}
 use Rattle.uz_lines.specs.declared.lines.Said.TheVariants as said
 use Rattle.uz_lines.specs.declared.lines.Sizes.{Sizes}
 use Rattle.uz_cert.specs.Drafts.{due_of, form_of}
-use Rattle.uz_cert.specs.Kept.{SizesFit, CellsKept, Kept, IsAfterCells, CellSaid, EventSaid, RunSaid, RestSaid, EntrySaid, PointSaid}
+use Rattle.uz_lines.specs.Lines.{SizesFit, KindLineFits, kind_after}
+use Rattle.uz_lines.specs.declared.lines.KindLine.{KindLine}
+use Rattle.uz_lines.specs.declared.version.Version.{Version}
+use Rattle.uz_lines.specs.declared.version.Version.TheVariants.{First, Second}
+use Rattle.uz_lines.proofs.Lengths.{length_few, length_asked}
+use Rattle.uz_cert.proofs.KeptLaws.{length_in}
+use Rattle.uz_cert.specs.Kept.{CellsKept, Kept, IsAfterCells, CellSaid, EventSaid, RunSaid, RestSaid, EntrySaid, PointSaid}
 use Rattle.uz_cert.specs.Kept.{SaidFits}
 use Rattle.uz_cert.specs.declared.due.Due.{Due}
 use Rattle.uz_cert.specs.declared.due.Due.TheVariants as due
@@ -117,7 +125,20 @@ cell_said d body room at a owner low l high h = record {
 
 kind_said : (d : Draft) → 4 ≤ d.read → d.owed ≡ 0 → length d.kinds < d.sizes.kinds → Ensures (SaidFits d) (form_of d due.Kind)
 unfolding form_of
-kind_said d body none room n h = record { body = body; none_owed = none; room = room; some = h.low; few = omega (arith, h.limit) }
+kind_said d body none room n h = by d.version refl
+  where
+    said_so : (k : KindLine) → KindLineFits d.version k → SaidFits d (said.Kind k)
+    said_so k f = record { body = body; none_owed = none; room = room; fits = f }
+
+    by : (version : Version) → d.version ≡ version → Ensures (SaidFits d) (kind_after version n)
+    by First e =
+        said_so (record { events = n; clocks = scanline })
+        (subst (λ v. KindLineFits v (record { events = n; clocks = scanline })) (sym e)
+        (record { some = h.low; few = omega (arith, h.limit); clocks = refl }))
+    by Second e = λ m g.
+        let l = length_asked n m (omega (arith, h.limit)) g.low g.limit g.hole in
+        said_so (record { events = n; clocks = m })
+        (subst (λ v. KindLineFits v (record { events = n; clocks = m })) (sym e) (record { some = h.low; few = l.0; clocks = l.1 }))
 
 -- a test leads to one of two forms
 choose_form : (P : Said → Type 0) (t : Bool) (x y : LineForm) → Ensures P x → Ensures P y → Ensures P (cond t x y)
@@ -127,18 +148,28 @@ choose_form P false x y h k = k
 abbrev event_told : ℕ → EventKind → LineForm
 event_told clock kind = finish (said.Event (record { clock = clock; kind = kind }))
 
-event_said : (d : Draft) → 4 ≤ d.read → 1 ≤ d.owed → Ensures (SaidFits d) (form_of d due.Event)
+event_said : (d : Draft) → Kept d → 4 ≤ d.read → 1 ≤ d.owed → Ensures (SaidFits d) (form_of d due.Event)
 unfolding form_of
-event_said d body owed clock c n =
+event_said d kept body owed clock c n =
     choose_form (SaidFits d) (eqb n 0) (number (within 0 2) (λ level. event_told clock (event.Sync level)))
     (cond (eqb n 1) (event_told clock event.Pixel) (cond (eqb n 2) (event_told clock event.Sound) (event_told clock event.Leave)))
-    (λ level v. record { body = body; owed = owed; fits = record { clock = c.limit; kind = omega (arith, v.limit) }; order = c.least })
+    (λ level v. said_so (event.Sync level) (omega (arith, v.limit)))
     (choose_form (SaidFits d) (eqb n 1) (event_told clock event.Pixel) (cond (eqb n 2) (event_told clock event.Sound)
-    (event_told clock event.Leave))
-    (record { body = body; owed = owed; fits = record { clock = c.limit; kind = tt }; order = c.least })
-    (choose_form (SaidFits d) (eqb n 2) (event_told clock event.Sound) (event_told clock event.Leave)
-    (record { body = body; owed = owed; fits = record { clock = c.limit; kind = tt }; order = c.least })
-    (record { body = body; owed = owed; fits = record { clock = c.limit; kind = tt }; order = c.least })))
+    (event_told clock event.Leave)) (said_so event.Pixel tt)
+    (choose_form (SaidFits d) (eqb n 2) (event_told clock event.Sound) (event_told clock event.Leave) (said_so event.Sound tt)
+    (said_so event.Leave tt)))
+  where
+    said_so : (kind : EventKind) → KindFits kind → SaidFits d (said.Event (record { clock = clock; kind = kind }))
+    said_so kind fits =
+        let below = c.limit in
+        let most = length_few d.clocks (length_in d.version d.clocks kept.events.own) in
+        record {
+          body = body;
+          owed = owed;
+          fits = record { clock = omega (arith, below, most); kind = fits };
+          below = below;
+          order = c.least;
+        }
 
 fall_said : (d : Draft) → 4 ≤ d.read → Ensures (SaidFits d) (form_of d due.Fall)
 unfolding form_of
@@ -216,7 +247,7 @@ in_limit Handler n limit some h = h
 in_limit Alone n limit some h = h
 
 entry_kind_fits : (kind : Kind) (id pc line clock lines : ℕ) (f : Facts) → kind ≢ Handler → line < none_in_main kind lines
-    → clock < none_in_main kind 1820
+    → clock < none_in_main kind clock_limit
     → EntryKindFits kind (entry_of kind id pc line clock f)
 unfolding entry_of
 entry_kind_fits Main id pc line clock lines f n l c = (omega (arith, l), omega (arith, c))
@@ -238,7 +269,7 @@ entry_facts h kind id pc line clock points f i = record {
 
 entry_fits : (h : Head) (kind : Kind) (id pc line clock lines points : ℕ) (f : Facts) → kind ≢ Handler → 1 ≤ lines → id < points
     → pc < 32768
-    → line < none_in_main kind lines → clock < none_in_main kind 1820 → ItemsFit (shape_of h kind true points) h.cells.items f
+    → line < none_in_main kind lines → clock < none_in_main kind clock_limit → ItemsFit (shape_of h kind true points) h.cells.items f
     → EntryFits h lines points (entry_of kind id pc line clock f)
 unfolding entry_of
 entry_fits h kind id pc line clock lines points f n some i p l c g = record {
@@ -246,7 +277,7 @@ entry_fits h kind id pc line clock lines points f n some i p l c g = record {
   id = i;
   pc = p;
   line = in_limit kind line lines some l;
-  clock = in_limit kind clock 1820 (omega arith) c;
+  clock = in_limit kind clock clock_limit (omega arith) c;
   facts = entry_facts h kind id pc line clock points f g;
 }
 
@@ -269,7 +300,7 @@ no_magnitude (pos zero) h = refl
 no_magnitude (pos (suc n)) h = absurd (omega (arith, h))
 no_magnitude (negsuc n) h = absurd (omega (arith, h))
 
-slope_in : (kind : Kind) (z : ℤ) → magnitude z < none_in_main kind 1820 → magnitude z < 1820
+slope_in : (kind : Kind) (z : ℤ) → magnitude z < none_in_main kind clock_limit → magnitude z < clock_limit
 slope_in Main z h = omega (arith, h)
 slope_in Handler z h = h
 slope_in Alone z h = h
@@ -278,39 +309,40 @@ not_pending : (n : ℕ) → n < 1 → eqb n 1 ≡ false
 not_pending zero h = refl
 not_pending (suc n) h = absurd (omega (arith, h))
 
-pub record PointPlace (kind : Kind) (lines left pc l0 l1 c0 c1 clock : ℕ) (steps : ℤ) (pending : ℕ) : Type 0 where
-  pub word : pc < 32768
-  pub first : l0 < none_in_main kind lines
-  pub lines_rise : l0 ≤ l1
-  pub last : l1 < none_in_main kind lines
-  pub count : c0 < none_in_main kind 256
-  pub counts_rise : c0 ≤ c1
-  pub counts : c1 < count_limit kind left l0 l1 c0
-  pub at : clock < none_in_main kind 1820
-  pub slope : magnitude steps < none_in_main kind 1820
-  pub wait : pending < pending_limit kind
+-- a place that a line says, where so many instances are left
+pub record PlaceFits (lines left : ℕ) (at : PointPlace) : Type 0 where
+  pub word : at.pc < 32768
+  pub first : at.l0 < none_in_main at.kind lines
+  pub lines_rise : at.l0 ≤ at.l1
+  pub last : at.l1 < none_in_main at.kind lines
+  pub count : at.c0 < none_in_main at.kind 256
+  pub counts_rise : at.c0 ≤ at.c1
+  pub counts : at.c1 < count_limit at.kind left at.l0 at.l1 at.c0
+  pub at_clock : at.clock < none_in_main at.kind clock_limit
+  pub slope : magnitude at.slope < none_in_main at.kind clock_limit
+  pub wait : (n : ℕ) × (at.pending ≡ eqb n 1) × (n < pending_limit at.kind)
 
-point_kind_fits : (kind : Kind) (lines left pc l0 l1 c0 c1 clock : ℕ) (steps : ℤ) (pending : ℕ) (f : Facts)
-    → PointPlace kind lines left pc l0 l1 c0 c1 clock steps pending → PointKindFits kind (point_of kind pc l0 l1 c0 c1 clock steps pending
-    f)
+point_kind_fits : (lines left : ℕ) (at : PointPlace) (f : Facts) (kind : Kind) → at.kind ≡ kind → PlaceFits lines left at
+    → PointKindFits kind (point_of at f)
 unfolding point_of
-point_kind_fits Main lines left pc l0 l1 c0 c1 clock steps pending f p =
-    let few = below_both c1 1 (c0 + left / (l1 - l0 + 1)) p.counts in
-    let first = p.first in
-    let last = p.last in
-    let count = p.count in
-    let at = p.at in
+point_kind_fits lines left at f Main e p =
+    let few = below_both at.c1 1 (at.c0 + left / (at.l1 - at.l0 + 1)) (subst (λ k. at.c1 < count_limit k left at.l0 at.l1 at.c0) e
+    p.counts) in
+    let first = subst (λ k. at.l0 < none_in_main k lines) e p.first in
+    let last = subst (λ k. at.l1 < none_in_main k lines) e p.last in
+    let count = subst (λ k. at.c0 < none_in_main k 256) e p.count in
+    let clock = subst (λ k. at.clock < none_in_main k clock_limit) e p.at_clock in
     record {
       first_line = omega (arith, first);
       last_line = omega (arith, last);
       first_count = omega (arith, count);
       last_count = omega (arith, few.0);
-      clock = omega (arith, at);
-      slope = no_magnitude steps p.slope;
-      pending = not_pending pending p.wait;
+      clock = omega (arith, clock);
+      slope = no_magnitude at.slope (subst (λ k. magnitude at.slope < none_in_main k clock_limit) e p.slope);
+      pending = p.wait.1 ∙ not_pending p.wait.0 (subst (λ k. p.wait.0 < pending_limit k) e p.wait.2);
     }
-point_kind_fits Handler lines left pc l0 l1 c0 c1 clock steps pending f p = tt
-point_kind_fits Alone lines left pc l0 l1 c0 c1 clock steps pending f p = not_pending pending p.wait
+point_kind_fits lines left at f Handler e p = tt
+point_kind_fits lines left at f Alone e p = p.wait.1 ∙ not_pending p.wait.0 (subst (λ k. p.wait.0 < pending_limit k) e p.wait.2)
 
 cells_count : (plain : Bool) (ms : List Cell) (fs : List Fact) → CellsFit plain ms fs → length fs ≡ length ms
 cells_count plain [] [] h = refl
@@ -324,23 +356,24 @@ cells_each plain [] (f ∷ fs) h = absurd h
 cells_each plain (m ∷ ms) [] h = absurd h
 cells_each plain (m ∷ ms) (f ∷ fs) h = All-cons CellFactFits f fs h.0.0 (cells_each plain ms fs h.1)
 
-point_fits : (h : Head) (kind : Kind) (lines points left pc l0 l1 c0 c1 clock : ℕ) (steps : ℤ) (pending : ℕ) (f : Facts) → 1 ≤ lines
-    → PointPlace kind lines left pc l0 l1 c0 c1 clock steps pending → ItemsFit (shape_of h kind false points) h.cells.items f
-    → HasText (shape_of h kind false points) f → PointFits h lines points (point_of kind pc l0 l1 c0 c1 clock steps pending f)
+point_fits : (h : Head) (lines points left : ℕ) (at : PointPlace) (f : Facts) → 1 ≤ lines → PlaceFits lines left at
+    → ItemsFit (shape_of h at.kind false points) h.cells.items f → HasText (shape_of h at.kind false points) f
+    → PointFits h lines points (point_of at f)
 unfolding point_of
-point_fits h kind lines points left pc l0 l1 c0 c1 clock steps pending f some p i text =
-    let few = below_both c1 (none_in_main kind 256) (c0 + left / (l1 - l0 + 1)) p.counts in
-    let count = in_limit kind c1 256 (omega arith) few.0 in
+point_fits h lines points left at f some p i text =
+    let kind = at.kind in
+    let few = below_both at.c1 (none_in_main kind 256) (at.c0 + left / (at.l1 - at.l0 + 1)) p.counts in
+    let count = in_limit kind at.c1 256 (omega arith) few.0 in
     record {
-      kind = point_kind_fits kind lines left pc l0 l1 c0 c1 clock steps pending f p;
+      kind = point_kind_fits lines left at f kind refl p;
       pc = p.word;
       box = record {
         line_order = p.lines_rise;
-        line = in_limit kind l1 lines some p.last;
+        line = in_limit kind at.l1 lines some p.last;
         count_order = p.counts_rise;
         count = omega (arith, count);
-        clock = in_limit kind clock 1820 (omega arith) p.at;
-        slope = slope_in kind steps p.slope;
+        clock = in_limit kind at.clock clock_limit (omega arith) p.at_clock;
+        slope = slope_in kind at.slope p.slope;
       };
       core = record {
         register_count = i.reg_count;
@@ -367,13 +400,11 @@ box_left lines counts left h =
     let less = mul-le lines counts lines (left / lines) (omega arith) h in
     omega (arith, most, less)
 
-point_instances : (kind : Kind) (lines left pc l0 l1 c0 c1 clock : ℕ) (steps : ℤ) (pending : ℕ) (f : Facts)
-    → PointPlace kind lines left pc l0 l1 c0 c1 clock steps pending → instances_of (point_of kind pc l0 l1 c0 c1 clock steps pending f)
-    ≤ left
+point_instances : (lines left : ℕ) (at : PointPlace) (f : Facts) → PlaceFits lines left at → instances_of (point_of at f) ≤ left
 unfolding point_of
-point_instances kind lines left pc l0 l1 c0 c1 clock steps pending f p =
-    let few = below_both c1 (none_in_main kind 256) (c0 + left / (l1 - l0 + 1)) p.counts in
-    box_left (l1 - l0 + 1) (c1 - c0 + 1) left (counts_few c0 c1 (left / (l1 - l0 + 1)) p.counts_rise few.1)
+point_instances lines left at f p =
+    let few = below_both at.c1 (none_in_main at.kind 256) (at.c0 + left / (at.l1 - at.l0 + 1)) p.counts in
+    box_left (at.l1 - at.l0 + 1) (at.c1 - at.c0 + 1) left (counts_few at.c0 at.c1 (left / (at.l1 - at.l0 + 1)) p.counts_rise few.1)
   where
     counts_few : (c0 c1 most : ℕ) → c0 ≤ c1 → c1 < c0 + most → c1 - c0 + 1 ≤ most
     counts_few c0 c1 most a b = omega (arith, a, b)
@@ -381,8 +412,18 @@ point_instances kind lines left pc l0 l1 c0 c1 clock steps pending f p =
 point_said : (d : Draft) → Kept d → IsAfterCells d → length d.points < d.sizes.points → Ensures (SaidFits d) (form_of d due.Point)
 unfolding form_of point_after
 point_said d kept after room n pc p l0 a l1 b c0 c c1 e clock k steps s pending w =
-    let kind = point_kind n in
-    let place : PointPlace kind d.sizes.lines d.left pc l0 l1 c0 c1 clock steps pending = record {
+    let at : PointPlace = record {
+      kind = point_kind n;
+      pc = pc;
+      l0 = l0;
+      l1 = l1;
+      c0 = c0;
+      c1 = c1;
+      clock = clock;
+      slope = steps;
+      pending = eqb pending 1;
+    } in
+    let place : PlaceFits d.sizes.lines d.left at = record {
       word = p.limit;
       first = a.limit;
       lines_rise = b.low;
@@ -390,18 +431,17 @@ point_said d kept after room n pc p l0 a l1 b c0 c c1 e clock k steps s pending 
       count = c.limit;
       counts_rise = e.low;
       counts = e.limit;
-      at = k.limit;
+      at_clock = k.limit;
       slope = s;
-      wait = w.limit;
+      wait = (pending, refl, w.limit);
     } in (
       (λ plain. absurd (cc plain)),
       ranges_of d.head d.sizes.cells d.cell_least kept.cells,
       λ f g text. record {
         after = after;
         room = room;
-        fits = point_fits d.head kind d.sizes.lines d.sizes.points d.left pc l0 l1 c0 c1 clock steps pending f kept.sizes.lines_some place g
-            text;
-        instances = point_instances kind d.sizes.lines d.left pc l0 l1 c0 c1 clock steps pending f place;
+        fits = point_fits d.head d.sizes.lines d.sizes.points d.left at f kept.sizes.lines_some place g text;
+        instances = point_instances d.sizes.lines d.left at f place;
       },
     )
 
@@ -417,7 +457,7 @@ due_said d due.Irq k h = irq_said d (omega (arith, h))
 due_said d due.Stack k h = stack_said d (omega (arith, h))
 due_said d due.Cell k h = cell_said d h.0 h.1
 due_said d due.Kind k h = kind_said d h.0 h.1 h.2
-due_said d due.Event k h = event_said d h.0 h.1
+due_said d due.Event k h = event_said d k h.0 h.1
 due_said d due.Fall k h = fall_said d h
 due_said d due.Run k h = run_said d h.0 h.1
 due_said d due.Rest k h = rest_said d k h.0 h.1

@@ -9,11 +9,14 @@ use Rattle.uz_lines.specs.Why.{◌>>=◌}
 use Rattle.uz_lines.specs.Grammar.{Words}
 use Rattle.uz_lines.specs.Forms.{LineForm, reads}
 use Rattle.uz_lines.specs.FirstFault.{Allows, HasFirstFault}
+use Rattle.uz_lines.specs.Lines.{head_line}
 use Rattle.uz_lines.specs.declared.lines.Said.{Said}
+use Rattle.uz_lines.specs.declared.version.Version.{Version}
+use Rattle.uz_lines.specs.declared.version.Version.TheVariants.{First, Second}
 use Rattle.uz_lines.specs.declared.why.CertWhy.{CertWhy}
 use Rattle.uz_lines.specs.declared.why.CertWhy.TheVariants as why
 use Rattle.uz_cert.specs.Drafts.{first_draft, lacks, due_of, form_of, draft_after}
-use Rattle.uz_cert.specs.Reading.{Fault, Gives, IsMemory, pieces_of, is_more, words_in, head_line, head_says, line_says, or_fault}
+use Rattle.uz_cert.specs.Reading.{Fault, Gives, IsMemory, pieces_of, is_more, words_in, head_says, line_says, or_fault}
 use Rattle.uz_cert.specs.Reading.{cert_from, cert_with, cert_before, read_by, read_from, read_pieces, cert_of_text}
 use Rattle.uz_cert.specs.Texts.{Adds, Reaches, SpellsCertificate, IsCertificateText, HeadFails, LineFails, FailsAtHead, FailsLater}
 use Rattle.uz_cert.specs.Texts.{IsFirstFault}
@@ -32,13 +35,13 @@ pub record LineLaw : Type 0 where
   pub refused : (form : LineForm) (words : Words) (w : CertWhy) → reads form words ≡ Err w → HasFirstFault form words w
   pub faulty : (form : LineForm) (words : Words) (w : CertWhy) → HasFirstFault form words w → reads form words ≡ Err w
 
-abbrev told : Cert → Result Cert Fault
+abbrev pub told : Cert → Result Cert Fault
 told c = Ok c
 
 abbrev fault : ℕ → CertWhy → Result Cert Fault
 fault n w = Err (n, w)
 
-same_cert : (a b : Cert) → told a ≡ told b → a ≡ b
+pub same_cert : (a b : Cert) → told a ≡ told b → a ≡ b
 same_cert a b e = cc
 
 abbrev fault_of : ℕ → CertWhy → Fault
@@ -63,7 +66,7 @@ bind_err (Err v) f w e =
     let same : v ≡ w = cc in
     ap unsaid same
 
-says_ok : (d m : Draft) (due : Due) (line : List ℕ) (ended : Bool) → line_says d due line ended ≡ Ok m
+pub says_ok : (d m : Draft) (due : Due) (line : List ℕ) (ended : Bool) → line_says d due line ended ≡ Ok m
     → (s : Said) × (reads (form_of d due) (words_in line ended) ≡ Ok s) × (m ≡ draft_after d s)
 unfolding line_says
 says_ok d m due line ended e =
@@ -86,7 +89,7 @@ unfolding line_says
 err_says d due line ended w e = ap (λ m. m >>= (λ s. accepted Draft (draft_after d s))) e
 
 -- a step, or its fault
-fault_ok : (n : ℕ) (r : Result Draft CertWhy) (more : Draft → Result Cert Fault) (c : Cert) → or_fault n r more ≡ told c
+pub fault_ok : (n : ℕ) (r : Result Draft CertWhy) (more : Draft → Result Cert Fault) (c : Cert) → or_fault n r more ≡ told c
     → (m : Draft) × (r ≡ Ok m) × (more m ≡ told c)
 fault_ok n (Ok m) more c e = (m, refl, e)
 fault_ok n (Err w) more c e = absurd cc
@@ -301,22 +304,30 @@ line_fault l d line rest w (Some due) is h =
 
 -- the head
 
-test_head : (line : List ℕ) → (bytes_eq line head_line ≡ true → line ≡ head_line) × (bytes_eq line head_line ≡ false → line ≢ head_line)
-test_head line = ((bytes_eq-Decides line head_line).0, λ e h. not_true (sym (ap (λ x. bytes_eq x head_line) h) ∙ e))
+pub test_head : (version : Version) (line : List ℕ) → (bytes_eq line (head_line version) ≡ true → line ≡ head_line version)
+    × (bytes_eq line (head_line version) ≡ false → line ≢ head_line version)
+test_head v line =
+    ((bytes_eq-Decides line (head_line v)).0, λ e h. not_true (sym (same_head v) ∙ sym (ap (λ x. bytes_eq x (head_line v)) h) ∙ e))
   where
     not_true : true ≡ false → ⊥
     not_true h = cc
 
-pub head_read : (rest : List (List ℕ)) → is_more rest ≡ true → read_pieces (head_line ∷ rest) ≡ read_from first_draft rest
-head_read rest more = ap (λ t. or_fault 1 (cond t (Ok first_draft) (Err why.NoEnd)) (λ d. read_from d rest)) more
+    same_head : (version : Version) → bytes_eq (head_line version) (head_line version) ≡ true
+    same_head First = refl
+    same_head Second = refl
 
-pub text_certificate : (l : LineLaw) (text : List ℕ) (c : Cert) → cert_of_text text ≡ told c → IsCertificateText text c
-text_certificate l text c e = by (pieces_of text) e
+pub head_read : (version : Version) (rest : List (List ℕ)) → is_more rest ≡ true
+    → read_pieces version (head_line version ∷ rest) ≡ read_from (first_draft version) rest
+head_read First rest more = ap (λ t. or_fault 1 (cond t (Ok (first_draft First)) (Err why.NoEnd)) (λ d. read_from d rest)) more
+head_read Second rest more = ap (λ t. or_fault 1 (cond t (Ok (first_draft Second)) (Err why.NoEnd)) (λ d. read_from d rest)) more
+
+pub text_certificate : (l : LineLaw) (v : Version) (text : List ℕ) (c : Cert) → cert_of_text v text ≡ told c → IsCertificateText v text c
+text_certificate l v text c e = by (pieces_of text) e
   where
-    of_rest : (rest : List (List ℕ)) → Ends first_draft rest c → SpellsCertificate (head_line ∷ rest) c
+    of_rest : (rest : List (List ℕ)) → Ends (first_draft v) rest c → SpellsCertificate v (head_line v ∷ rest) c
     of_rest rest x = record {
       lines = x.lines;
-      parts = ap (λ ps. head_line ∷ ps) x.parts;
+      parts = ap (λ ps. head_line v ∷ ps) x.parts;
       draft = x.draft;
       reaches = x.reaches;
       whole = x.whole;
@@ -325,121 +336,134 @@ text_certificate l text c e = by (pieces_of text) e
       is = x.is;
     }
 
-    of_head : (line : List ℕ) (rest : List (List ℕ)) (t : Bool) → bytes_eq line head_line ≡ t
-        → or_fault 1 (cond t (cond (is_more rest) (Ok first_draft) (Err why.NoEnd)) (Err why.Head)) (λ d. read_from d rest) ≡ told c
-        → SpellsCertificate (line ∷ rest) c
+    of_head : (line : List ℕ) (rest : List (List ℕ)) (t : Bool) → bytes_eq line (head_line v) ≡ t
+        → or_fault 1 (cond t (cond (is_more rest) (Ok (first_draft v)) (Err why.NoEnd)) (Err why.Head)) (λ d. read_from d rest) ≡ told c
+        → SpellsCertificate v (line ∷ rest) c
     of_head line [] true is h = absurd cc
     of_head line (piece ∷ rest) true is h =
-        subst (λ x. SpellsCertificate (x ∷ piece ∷ rest) c) (sym ((test_head line).0 is))
-        (of_rest (piece ∷ rest) (from_ok l first_draft (piece ∷ rest) c h))
+        subst (λ x. SpellsCertificate v (x ∷ piece ∷ rest) c) (sym ((test_head v line).0 is))
+        (of_rest (piece ∷ rest) (from_ok l (first_draft v) (piece ∷ rest) c h))
     of_head line rest false is h = absurd cc
 
-    by : (pieces : List (List ℕ)) → read_pieces pieces ≡ told c → SpellsCertificate pieces c
+    by : (pieces : List (List ℕ)) → read_pieces v pieces ≡ told c → SpellsCertificate v pieces c
     by [] h = absurd cc
-    by (line ∷ rest) h = of_head line rest (bytes_eq line head_line) refl h
+    by (line ∷ rest) h = of_head line rest (bytes_eq line (head_line v)) refl h
 
-pub certificate_text : (l : LineLaw) (text : List ℕ) (c : Cert) → IsCertificateText text c → cert_of_text text ≡ told c
-certificate_text l text c s =
-    ap read_pieces s.parts
-    ∙ (head_read (s.lines ++ [] ∷ []) (more_after s.lines [] [])
-    ∙ (reach_read l first_draft s.draft s.lines [] [] s.reaches
+pub certificate_text : (l : LineLaw) (v : Version) (text : List ℕ) (c : Cert) → IsCertificateText v text c → cert_of_text v text ≡ told c
+certificate_text l v text c s =
+    ap (read_pieces v) s.parts
+    ∙ (head_read v (s.lines ++ [] ∷ []) (more_after s.lines [] [])
+    ∙ (reach_read l (first_draft v) s.draft s.lines [] [] s.reaches
     ∙ (whole_read s.draft s.entry s.whole s.has_entry ∙ ap told (sym s.is))))
 
-pub text_fault : (l : LineLaw) (text : List ℕ) (n : ℕ) (w : CertWhy) → cert_of_text text ≡ fault n w → IsFirstFault text n w
-text_fault l text n w e = by (pieces_of text) (some_piece text) e
+pub text_fault : (l : LineLaw) (v : Version) (text : List ℕ) (n : ℕ) (w : CertWhy) → cert_of_text v text ≡ fault n w
+    → IsFirstFault v text n w
+text_fault l v text n w e = by (pieces_of text) (some_piece text) e
   where
-    later : (rest : List (List ℕ)) → Fails first_draft rest n w → FailsLater (head_line ∷ rest) n w
+    later : (rest : List (List ℕ)) → Fails (first_draft v) rest n w → FailsLater v (head_line v ∷ rest) n w
     later rest x =
         let number = x.number in
-        let count = reach_number first_draft x.draft x.before x.reaches in
+        let count = reach_number (first_draft v) x.draft x.before x.reaches in
         record {
           before = x.before;
           line = x.line;
           rest = x.rest;
-          parts = ap (λ ps. head_line ∷ ps) x.parts;
+          parts = ap (λ ps. head_line v ∷ ps) x.parts;
           draft = x.draft;
           reaches = x.reaches;
           number = omega (arith, number, count);
           fails = x.fails;
         }
 
-    of_head : (line : List ℕ) (rest : List (List ℕ)) (t : Bool) → bytes_eq line head_line ≡ t
-        → or_fault 1 (cond t (cond (is_more rest) (Ok first_draft) (Err why.NoEnd)) (Err why.Head)) (λ d. read_from d rest) ≡ fault n w
-        → FailsAtHead (line ∷ rest) n w ⊎ FailsLater (line ∷ rest) n w
+    of_head : (line : List ℕ) (rest : List (List ℕ)) (t : Bool) → bytes_eq line (head_line v) ≡ t
+        → or_fault 1 (cond t (cond (is_more rest) (Ok (first_draft v)) (Err why.NoEnd)) (Err why.Head)) (λ d. read_from d rest) ≡ fault n w
+        → FailsAtHead v (line ∷ rest) n w ⊎ FailsLater v (line ∷ rest) n w
     of_head line [] true is h =
         let s = same_fault 1 n why.NoEnd w h in
-        inl (record { line = line; rest = []; parts = refl; number = sym s.0; fails = inr ((test_head line).0 is, refl, sym s.1) })
+        inl (record { line = line; rest = []; parts = refl; number = sym s.0; fails = inr ((test_head v line).0 is, refl, sym s.1) })
     of_head line (piece ∷ rest) true is h =
-        inr (subst (λ x. FailsLater (x ∷ piece ∷ rest) n w) (sym ((test_head line).0 is))
-        (later (piece ∷ rest) (from_err l first_draft (piece ∷ rest) n w (omega arith) refl h)))
+        inr (subst (λ x. FailsLater v (x ∷ piece ∷ rest) n w) (sym ((test_head v line).0 is))
+        (later (piece ∷ rest) (from_err l (first_draft v) (piece ∷ rest) n w (omega arith) refl h)))
     of_head line rest false is h =
         let s = same_fault 1 n why.Head w h in
-        inl (record { line = line; rest = rest; parts = refl; number = sym s.0; fails = inl ((test_head line).1 is, sym s.1) })
+        inl (record { line = line; rest = rest; parts = refl; number = sym s.0; fails = inl ((test_head v line).1 is, sym s.1) })
 
-    by : (pieces : List (List ℕ)) → is_more pieces ≡ true → read_pieces pieces ≡ fault n w → FailsAtHead pieces n w ⊎ FailsLater pieces n w
+    by : (pieces : List (List ℕ)) → is_more pieces ≡ true → read_pieces v pieces ≡ fault n w
+        → FailsAtHead v pieces n w ⊎ FailsLater v pieces n w
     by [] more h = absurd cc
-    by (line ∷ rest) more h = of_head line rest (bytes_eq line head_line) refl h
+    by (line ∷ rest) more h = of_head line rest (bytes_eq line (head_line v)) refl h
 
-not_head : (line : List ℕ) (rest : List (List ℕ)) (t : Bool) → bytes_eq line head_line ≡ t → line ≢ head_line
-    → or_fault 1 (cond t (cond (is_more rest) (Ok first_draft) (Err why.NoEnd)) (Err why.Head)) (λ d. read_from d rest) ≡ fault 1 why.Head
-not_head line rest true is h = absurd (h ((test_head line).0 is))
-not_head line rest false is h = refl
+not_head : (v : Version) (line : List ℕ) (rest : List (List ℕ)) (t : Bool) → bytes_eq line (head_line v) ≡ t → line ≢ head_line v
+    → or_fault 1 (cond t (cond (is_more rest) (Ok (first_draft v)) (Err why.NoEnd)) (Err why.Head)) (λ d. read_from d rest)
+        ≡ fault 1 why.Head
+not_head v line rest true is h = absurd (h ((test_head v line).0 is))
+not_head v line rest false is h = refl
 
-head_fault : (line : List ℕ) (rest : List (List ℕ)) (w : CertWhy) → HeadFails line rest w → read_pieces (line ∷ rest) ≡ fault 1 w
-head_fault line rest w (inl h) = not_head line rest (bytes_eq line head_line) refl h.0 ∙ ap (fault 1) (sym h.1)
-head_fault line rest w (inr h) =
-    ap (λ x. read_pieces (x ∷ rest)) h.0 ∙ (ap (λ r. read_pieces (head_line ∷ r)) h.1 ∙ ap (fault 1) (sym h.2))
+head_fault : (v : Version) (line : List ℕ) (rest : List (List ℕ)) (w : CertWhy) → HeadFails v line rest w → read_pieces v (line ∷ rest)
+    ≡ fault 1 w
+head_fault v line rest w (inl h) = not_head v line rest (bytes_eq line (head_line v)) refl h.0 ∙ ap (fault 1) (sym h.1)
+head_fault v line rest w (inr h) =
+    ap (λ x. read_pieces v (x ∷ rest)) h.0 ∙ (ap (λ r. read_pieces v (head_line v ∷ r)) h.1 ∙ (alone v ∙ ap (fault 1) (sym h.2)))
+  where
+    alone : (version : Version) → read_pieces version (head_line version ∷ []) ≡ fault 1 why.NoEnd
+    alone First = refl
+    alone Second = refl
 
-pub fault_text : (l : LineLaw) (text : List ℕ) (n : ℕ) (w : CertWhy) → IsFirstFault text n w → cert_of_text text ≡ fault n w
-fault_text l text n w (inl h) =
-    ap read_pieces h.parts ∙ (head_fault h.line h.rest w h.fails ∙ ap (λ k. fault k w) (sym h.number))
-fault_text l text n w (inr h) =
-    let count = reach_number first_draft h.draft h.before h.reaches in
+pub fault_text : (l : LineLaw) (v : Version) (text : List ℕ) (n : ℕ) (w : CertWhy) → IsFirstFault v text n w → cert_of_text v text
+    ≡ fault n w
+fault_text l v text n w (inl h) =
+    ap (read_pieces v) h.parts ∙ (head_fault v h.line h.rest w h.fails ∙ ap (λ k. fault k w) (sym h.number))
+fault_text l v text n w (inr h) =
+    let count = reach_number (first_draft v) h.draft h.before h.reaches in
     let number = h.number in
     let same : h.draft.read + 1 ≡ n = omega (arith, count, number) in
-    ap read_pieces h.parts
-    ∙ (head_read (h.before ++ h.line ∷ h.rest) (more_after h.before h.line h.rest)
-    ∙ (reach_read l first_draft h.draft h.before h.line h.rest h.reaches
+    ap (read_pieces v) h.parts
+    ∙ (head_read v (h.before ++ h.line ∷ h.rest) (more_after h.before h.line h.rest)
+    ∙ (reach_read l (first_draft v) h.draft h.before h.line h.rest h.reaches
     ∙ (line_fault l h.draft h.line h.rest w (due_of h.draft) refl h.fails ∙ ap (λ k. fault k w) same)))
 
 -- what is answered, by the relation
 
-pub found_text : (l : LineLaw) (text : List ℕ) (result : Result Cert CertError) → Gives result (cert_of_text text)
-    → IfOk result (λ c. IsCertificateText text c)
-found_text l text (Ok c) g = text_certificate l text c g
-found_text l text (Err e) g = tt
+pub found_text : (l : LineLaw) (v : Version) (text : List ℕ) (result : Result Cert CertError) → Gives result (cert_of_text v text)
+    → IfOk result (λ c. IsCertificateText v text c)
+found_text l v text (Ok c) g = text_certificate l v text c g
+found_text l v text (Err e) g = tt
 
-pub only_text : (l : LineLaw) (text : List ℕ) (result : Result Cert CertError) → Gives result (cert_of_text text)
-    → (c : Cert) → IsCertificateText text c → Gives result (Ok c)
-only_text l text result g c s = subst (Gives result) (certificate_text l text c s) g
+pub only_text : (l : LineLaw) (v : Version) (text : List ℕ) (result : Result Cert CertError) → Gives result (cert_of_text v text)
+    → (c : Cert) → IsCertificateText v text c → Gives result (Ok c)
+only_text l v text result g c s = subst (Gives result) (certificate_text l v text c s) g
 
-pub first_fault : (l : LineLaw) (text : List ℕ) (result : Result Cert CertError) → Gives result (cert_of_text text)
-    → IfErr result (λ e. IsMemory e ⊎ IsFirstFault text e.line e.why)
-first_fault l text (Ok c) g = tt
-first_fault l text (Err e) g = elim g [ inl m ↦ inl m | inr f ↦ inr (text_fault l text e.line e.why f) ]
+pub first_fault : (l : LineLaw) (v : Version) (text : List ℕ) (result : Result Cert CertError) → Gives result (cert_of_text v text)
+    → IfErr result (λ e. IsMemory e ⊎ IsFirstFault v text e.line e.why)
+first_fault l v text (Ok c) g = tt
+first_fault l v text (Err e) g = elim g [ inl m ↦ inl m | inr f ↦ inr (text_fault l v text e.line e.why f) ]
 
-pub faulty_text : (l : LineLaw) (text : List ℕ) (result : Result Cert CertError) → Gives result (cert_of_text text)
-    → (n : ℕ) (w : CertWhy) → IsFirstFault text n w → Gives result (Err (n, w))
-faulty_text l text result g n w s = subst (Gives result) (fault_text l text n w s) g
+pub faulty_text : (l : LineLaw) (v : Version) (text : List ℕ) (result : Result Cert CertError) → Gives result (cert_of_text v text)
+    → (n : ℕ) (w : CertWhy) → IsFirstFault v text n w → Gives result (Err (n, w))
+faulty_text l v text result g n w s = subst (Gives result) (fault_text l v text n w s) g
 
 -- each text is one certificate's or has one first fault, and never both
 
-pub decided : (l : LineLaw) (text : List ℕ) → ((c : Cert) × IsCertificateText text c) ⊎ ((n : ℕ) × (w : CertWhy) × IsFirstFault text n w)
-decided l text = by (cert_of_text text) refl
+pub decided : (l : LineLaw) (v : Version) (text : List ℕ)
+    → ((c : Cert) × IsCertificateText v text c) ⊎ ((n : ℕ) × (w : CertWhy) × IsFirstFault v text n w)
+decided l v text = by (cert_of_text v text) refl
   where
-    by : (r : Result Cert Fault) → cert_of_text text ≡ r → ((c : Cert) × IsCertificateText text c)
-        ⊎ ((n : ℕ) × (w : CertWhy) × IsFirstFault text n w)
-    by (Ok c) e = inl (c, text_certificate l text c e)
-    by (Err f) e = inr (f.0, f.1, text_fault l text f.0 f.1 e)
+    by : (r : Result Cert Fault) → cert_of_text v text ≡ r → ((c : Cert) × IsCertificateText v text c)
+        ⊎ ((n : ℕ) × (w : CertWhy) × IsFirstFault v text n w)
+    by (Ok c) e = inl (c, text_certificate l v text c e)
+    by (Err f) e = inr (f.0, f.1, text_fault l v text f.0 f.1 e)
 
-pub one_certificate : (l : LineLaw) (text : List ℕ) (a b : Cert) → IsCertificateText text a → IsCertificateText text b → a ≡ b
-one_certificate l text a b p q = same_cert a b (sym (certificate_text l text a p) ∙ certificate_text l text b q)
+pub one_certificate : (l : LineLaw) (v : Version) (text : List ℕ) (a b : Cert) → IsCertificateText v text a → IsCertificateText v text b
+    → a ≡ b
+one_certificate l v text a b p q = same_cert a b (sym (certificate_text l v text a p) ∙ certificate_text l v text b q)
 
-pub one_fault : (l : LineLaw) (text : List ℕ) (m n : ℕ) (v w : CertWhy) → IsFirstFault text m v → IsFirstFault text n w → (m ≡ n) × (v ≡ w)
-one_fault l text m n v w p q = same_fault m n v w (sym (fault_text l text m v p) ∙ fault_text l text n w q)
+pub one_fault : (l : LineLaw) (version : Version) (text : List ℕ) (m n : ℕ) (v w : CertWhy) → IsFirstFault version text m v
+    → IsFirstFault version text n w → (m ≡ n) × (v ≡ w)
+one_fault l version text m n v w p q = same_fault m n v w (sym (fault_text l version text m v p) ∙ fault_text l version text n w q)
 
-pub not_both : (l : LineLaw) (text : List ℕ) (c : Cert) (n : ℕ) (w : CertWhy) → IsCertificateText text c → IsFirstFault text n w → ⊥
-not_both l text c n w p q = differ (sym (certificate_text l text c p) ∙ fault_text l text n w q)
+pub not_both : (l : LineLaw) (v : Version) (text : List ℕ) (c : Cert) (n : ℕ) (w : CertWhy) → IsCertificateText v text c
+    → IsFirstFault v text n w → ⊥
+not_both l v text c n w p q = differ (sym (certificate_text l v text c p) ∙ fault_text l v text n w q)
   where
     differ : told c ≡ fault n w → ⊥
     differ h = cc

@@ -15,13 +15,15 @@ use Rattle.uz_cert.specs.declared.errors.CertError.{CertError}
 use Rattle.uz_cert.specs.declared.draft.Draft.{Draft}
 use Rattle.uz_cert.proofs.DueLaws.{IsWhole, is_whole}
 
-schedule_fits : (d : Draft) → Kept d → IsWhole d → ScheduleFits (record { kinds = d.kinds; lines = d.lines; fall = d.fall })
+schedule_fits : (d : Draft) → Kept d → IsWhole d
+    → ScheduleFits (record { kinds = d.kinds; lengths = d.lengths; lines = d.lines; fall = d.fall })
 schedule_fits d k w =
     let s = k.sizes in
     let enough = w.states.kinds in
     let same : d.sizes.kinds ≡ length d.kinds = omega (arith, k.kinds.few, enough) in
     record {
       kinds = record { some = omega (arith, s.kinds_some, enough); few = omega (arith, s.kinds_few, k.kinds.few); each = k.kinds.each };
+      lengths = k.kinds.fit;
       lines = record {
         some = omega (arith, s.lines_some, w.states.lines);
         few = omega (arith, s.lines_few, k.lines.few);

@@ -1,6 +1,7 @@
 -- What the lines of a certificate's text say so far, and what the next line has to be.
 use Rattle.std.specs.Prelude.{ℕ, ◌+◌, ◌-◌, ◌==◌, nat_lt, Bool, true, false, List, [], ◌∷◌, ◌++◌, length, replicate, Option, Some, None}
 use Rattle.std.specs.Prelude.{if◌then◌else◌}
+use Rattle.uz_schedule.specs.Schedule.{scanline}
 use Rattle.uz_schedule.specs.WellFormed.{instances_of}
 use Rattle.uz_schedule.specs.declared.kinds.Response.TheVariants.{Four}
 use Rattle.uz_schedule.specs.declared.lines.Event.{Event}
@@ -10,19 +11,23 @@ use Rattle.uz_lines.specs.Lines.{size_form, irq_form, stack_form, cell_form, kin
 use Rattle.uz_lines.specs.Lines.{entry_form, point_form, end_form}
 use Rattle.uz_lines.specs.declared.lines.Said.{Said}
 use Rattle.uz_lines.specs.declared.lines.Said.TheVariants as said
+use Rattle.uz_lines.specs.declared.version.Version.{Version}
 use Rattle.uz_cert.specs.declared.due.Due.{Due}
 use Rattle.uz_cert.specs.declared.due.Due.TheVariants as due
 use Rattle.uz_cert.specs.declared.draft.Draft.{Draft}
 
 -- before the lines that say them, sizes and stack are within their limits
-abbrev pub first_draft : Draft
-first_draft = record {
+abbrev pub first_draft : Version → Draft
+first_draft version = record {
+  version = version;
   read = 1;
   sizes = record { kinds = 1; lines = 1; rests = 0; points = 1; cells = 0 };
   head = record { irq = Four; lo = 256; hi = 4351; main = 0; handler = 0; cells = record { items = [] } };
   cell_least = 0;
   kinds = [];
+  lengths = [];
   owed = 0;
+  clocks = scanline;
   events = [];
   event_least = 0;
   fall = 0;
@@ -73,8 +78,8 @@ form_of d due.Size = size_form
 form_of d due.Irq = irq_form
 form_of d due.Stack = stack_form
 form_of d due.Cell = cell_form d.head.lo d.head.hi d.cell_least
-form_of d due.Kind = kind_form
-form_of d due.Event = event_form d.event_least
+form_of d due.Kind = kind_form d.version
+form_of d due.Event = event_form d.clocks d.event_least
 form_of d due.Fall = fall_form
 form_of d due.Run = run_form d.sizes.kinds (d.sizes.lines - length d.lines) d.run_kind
 form_of d due.Rest = rest_form d.sizes.lines d.sizes.points d.head.cells.items d.rest_least
@@ -86,7 +91,16 @@ form_of d due.End = end_form
 
 -- a kind of line has all its events
 abbrev pub kind_closed : Draft → Draft
-kind_closed d = if d.owed == 0 then record d { kinds = d.kinds ++ d.events ∷ []; events = []; event_least = 0 } else d
+kind_closed d =
+    if d.owed == 0
+    then record d {
+      kinds = d.kinds ++ d.events ∷ [];
+      lengths = d.lengths ++ d.clocks ∷ [];
+      clocks = scanline;
+      events = [];
+      event_least = 0;
+    }
+    else d
 
 abbrev pub with_event : Draft → Event → Draft
 with_event d e = kind_closed (record d { owed = d.owed - 1; events = d.events ++ e ∷ []; event_least = e.clock + 1 })
@@ -99,7 +113,7 @@ with_said d (said.Cell c) = record d {
   head = record d.head { cells = record { items = d.head.cells.items ++ c ∷ [] } };
   cell_least = c.at + 1;
 }
-with_said d (said.Kind events) = record d { owed = events }
+with_said d (said.Kind k) = record d { owed = k.events; clocks = k.clocks }
 with_said d (said.Event e) = with_event d e
 with_said d (said.Fall clock) = record d { fall = clock }
 with_said d (said.Run r) = record d { lines = d.lines ++ replicate r.count r.kind; run_kind = r.kind }

@@ -2,7 +2,7 @@
 -- formed certificate.
 use Rattle.std.specs.Prelude.{◌≡◌, ◌⊎◌, ℕ, suc, ◌+◌, ◌<◌, ◌≤◌, ⊤, IsTrue, List, [], ◌∷◌, All, length, map, sum_by, IfSome, Option, None}
 use Rattle.std.specs.Prelude.{Some}
-use Rattle.uz_schedule.specs.Limits.{clock_limit, most_events, most_lines, rises, EventFits, EventsFit}
+use Rattle.uz_schedule.specs.Limits.{clock_limit, most_events, rises, clocks_below, lengths_fit, EventFits, EventsFit}
 use Rattle.uz_schedule.specs.WellFormed.{StackFits, CellFits, RestFits, EntryFits, PointFits, instances_of}
 use Rattle.uz_schedule.specs.declared.header.Cell.{Cell}
 use Rattle.uz_schedule.specs.declared.header.Head.{Head}
@@ -10,20 +10,13 @@ use Rattle.uz_schedule.specs.declared.lines.Event.{Event}
 use Rattle.uz_schedule.specs.declared.states.Rest.{Rest}
 use Rattle.uz_schedule.specs.declared.states.Entry.{Entry}
 use Rattle.uz_schedule.specs.declared.states.Point.{Point}
+use Rattle.uz_lines.specs.Lines.{SizesFit, IsLengthIn, KindLineFits}
+use Rattle.uz_lines.specs.declared.lines.KindLine.{KindLine}
+use Rattle.uz_lines.specs.declared.version.Version.{Version}
 use Rattle.uz_lines.specs.declared.lines.Sizes.{Sizes}
 use Rattle.uz_lines.specs.declared.lines.Said.{Said}
 use Rattle.uz_lines.specs.declared.lines.Said.TheVariants as said
 use Rattle.uz_cert.specs.declared.draft.Draft.{Draft}
-
-pub record SizesFit (s : Sizes) : Type 0 where
-  pub kinds_some : 1 ≤ s.kinds
-  pub kinds_few : s.kinds ≤ most_lines
-  pub lines_some : 1 ≤ s.lines
-  pub lines_few : s.lines ≤ most_lines
-  pub rests_few : s.rests ≤ s.lines
-  pub points_some : 1 ≤ s.points
-  pub points_few : s.points ≤ 524288
-  pub cells_few : s.cells ≤ 16
 
 -- the least number that keeps the order after these, which rise from this one
 abbrev pub least_after : ℕ → List ℕ → ℕ
@@ -37,19 +30,23 @@ pub record CellsKept (h : Head) (count least : ℕ) : Type 0 where
   pub rise : IsTrue (rises (map (λ c. c.at) h.cells.items))
   pub least_is : least ≡ least_after 0 (map (λ c. c.at) h.cells.items)
 
--- the events so far of the present kind of line, and how many are owed
-pub record EventsKept (events : List Event) (owed least : ℕ) : Type 0 where
+-- the events so far of the present kind of line, which has so many clocks, and how many are owed
+pub record EventsKept (version : Version) (events : List Event) (owed least clocks : ℕ) : Type 0 where
   pub few : length events + owed ≤ most_events
   pub each : All EventFits events
+  pub below : IsTrue (clocks_below events clocks)
+  pub own : IsLengthIn version clocks
   pub rise : IsTrue (rises (map (λ e. e.clock) events))
   pub least_is : least ≡ least_after 0 (map (λ e. e.clock) events)
   pub present : owed ≡ 0 → events ≡ []
 
--- the kinds of line so far, of this many
-pub record KindsKept (kinds : List (List Event)) (count owed : ℕ) : Type 0 where
+-- the kinds of line so far, of this many, and the length of each
+pub record KindsKept (version : Version) (kinds : List (List Event)) (lengths : List ℕ) (count owed : ℕ) : Type 0 where
   pub few : length kinds ≤ count
   pub owing : 1 ≤ owed → length kinds < count
   pub each : All EventsFit kinds
+  pub fit : IsTrue (lengths_fit kinds lengths)
+  pub own : All (IsLengthIn version) lengths
 
 -- the lines so far, of this many, each of one of so many kinds
 pub record LinesKept (lines : List ℕ) (kinds count : ℕ) : Type 0 where
@@ -79,6 +76,7 @@ pub record NoSchedule (d : Draft) : Type 0 where
   pub cells : d.head.cells.items ≡ []
   pub owed : d.owed ≡ 0
   pub kinds : d.kinds ≡ []
+  pub lengths : d.lengths ≡ []
   pub lines : d.lines ≡ []
 
 pub record Kept (d : Draft) : Type 0 where
@@ -86,8 +84,8 @@ pub record Kept (d : Draft) : Type 0 where
   pub sizes : SizesFit d.sizes
   pub stack : StackFits d.head
   pub cells : CellsKept d.head d.sizes.cells d.cell_least
-  pub events : EventsKept d.events d.owed d.event_least
-  pub kinds : KindsKept d.kinds d.sizes.kinds d.owed
+  pub events : EventsKept d.version d.events d.owed d.event_least d.clocks
+  pub kinds : KindsKept d.version d.kinds d.lengths d.sizes.kinds d.owed
   pub fall : d.fall < clock_limit
   pub lines : LinesKept d.lines d.sizes.kinds d.sizes.lines
   pub rests : RestsKept d.head d.sizes d.rests d.rest_least
@@ -116,17 +114,17 @@ pub record CellSaid (d : Draft) (c : Cell) : Type 0 where
   pub fits : CellFits d.head c
   pub order : d.cell_least ≤ c.at
 
-pub record KindSaid (d : Draft) (events : ℕ) : Type 0 where
+pub record KindSaid (d : Draft) (k : KindLine) : Type 0 where
   pub body : IsBody d
   pub none_owed : d.owed ≡ 0
   pub room : length d.kinds < d.sizes.kinds
-  pub some : 1 ≤ events
-  pub few : events ≤ most_events
+  pub fits : KindLineFits d.version k
 
 pub record EventSaid (d : Draft) (e : Event) : Type 0 where
   pub body : IsBody d
   pub owed : 1 ≤ d.owed
   pub fits : EventFits e
+  pub below : e.clock < d.clocks
   pub order : d.event_least ≤ e.clock
 
 -- a kind of line that there is, and no line too many
@@ -157,7 +155,7 @@ SaidFits d (said.Size s) = IsOpening d × SizesFit s
 SaidFits d (said.Irq r) = IsOpening d
 SaidFits d (said.Stack s) = IsOpening d × StackFits (record d.head { lo = s.lo; hi = s.hi; main = s.main; handler = s.handler })
 SaidFits d (said.Cell c) = CellSaid d c
-SaidFits d (said.Kind events) = KindSaid d events
+SaidFits d (said.Kind k) = KindSaid d k
 SaidFits d (said.Event e) = EventSaid d e
 SaidFits d (said.Fall clock) = IsBody d × (clock < clock_limit)
 SaidFits d (said.Run r) = RunSaid d r.count r.kind

@@ -9,6 +9,8 @@ use Rattle.uz_schedule.specs.declared.states.Entry.{Entry}
 use Rattle.uz_lines.specs.Why.{◌>>=◌}
 use Rattle.uz_lines.specs.Grammar.{Words, words_of}
 use Rattle.uz_lines.specs.Forms.{reads}
+use Rattle.uz_lines.specs.Lines.{head_line}
+use Rattle.uz_lines.specs.declared.version.Version.{Version}
 use Rattle.uz_lines.specs.declared.why.CertWhy.{CertWhy}
 use Rattle.uz_lines.specs.declared.why.CertWhy.TheVariants as why
 use Rattle.uz_cert.specs.Drafts.{first_draft, due_of, form_of, draft_after}
@@ -41,13 +43,9 @@ is_more (line ∷ lines) = true
 abbrev pub words_in : List ℕ → Bool → Words
 words_in line ended = record { list = words_of line; ended = ended }
 
--- the first line of every certificate
-abbrev pub head_line : List ℕ
-head_line = codes "uzcert 1"
-
-abbrev pub head_says : List ℕ → Bool → Result Draft CertWhy
-head_says line ended =
-    if bytes_eq line head_line then (if ended then Ok first_draft else Err why.NoEnd) else Err why.Head
+abbrev pub head_says : Version → List ℕ → Bool → Result Draft CertWhy
+head_says version line ended =
+    if bytes_eq line (head_line version) then (if ended then Ok (first_draft version) else Err why.NoEnd) else Err why.Head
 
 -- what the lines say with one more
 unfoldable pub line_says : Draft → Due → List ℕ → Bool → Result Draft CertWhy
@@ -61,7 +59,7 @@ or_fault n (Err w) more = Err (n, w)
 abbrev pub cert_from : Draft → Entry → Cert
 cert_from d e = record {
   head = d.head;
-  schedule = record { kinds = d.kinds; lines = d.lines; fall = d.fall };
+  schedule = record { kinds = d.kinds; lengths = d.lengths; lines = d.lines; fall = d.fall };
   rests = d.rests;
   entry = e;
   points = d.points;
@@ -86,13 +84,13 @@ abbrev pub read_from : Draft → List (List ℕ) → Result Cert Fault
 read_from d [] = Err (d.read, why.NoEnd)
 read_from d (line ∷ lines) = read_by (due_of d) d line lines (λ more. read_from more lines)
 
-abbrev pub read_pieces : List (List ℕ) → Result Cert Fault
-read_pieces [] = Err (1, why.Head)
-read_pieces (line ∷ lines) = or_fault 1 (head_says line (is_more lines)) (λ d. read_from d lines)
+abbrev pub read_pieces : Version → List (List ℕ) → Result Cert Fault
+read_pieces version [] = Err (1, why.Head)
+read_pieces version (line ∷ lines) = or_fault 1 (head_says version line (is_more lines)) (λ d. read_from d lines)
 
--- a text's certificate, or its first fault
-abbrev pub cert_of_text : List ℕ → Result Cert Fault
-cert_of_text text = read_pieces (pieces_of text)
+-- the certificate of a text of a version, or the text's first fault
+abbrev pub cert_of_text : Version → List ℕ → Result Cert Fault
+cert_of_text version text = read_pieces version (pieces_of text)
 
 abbrev pub IsMemory : CertError → Type 0
 IsMemory e = (e.line ≡ 0) × (e.why ≡ why.Memory)

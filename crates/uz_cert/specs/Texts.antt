@@ -4,11 +4,13 @@ use Rattle.std.specs.Prelude.{◌≡◌, ◌≢◌, ◌⊎◌, ℕ, ◌+◌, Boo
 use Rattle.uz_schedule.specs.declared.states.Entry.{Entry}
 use Rattle.uz_schedule.specs.declared.certificate.Cert.{Cert}
 use Rattle.uz_lines.specs.FirstFault.{Allows, HasFirstFault}
+use Rattle.uz_lines.specs.Lines.{head_line}
 use Rattle.uz_lines.specs.declared.lines.Said.{Said}
+use Rattle.uz_lines.specs.declared.version.Version.{Version}
 use Rattle.uz_lines.specs.declared.why.CertWhy.{CertWhy}
 use Rattle.uz_lines.specs.declared.why.CertWhy.TheVariants as why
 use Rattle.uz_cert.specs.Drafts.{first_draft, due_of, form_of, draft_after}
-use Rattle.uz_cert.specs.Reading.{pieces_of, is_more, words_in, head_line, cert_from}
+use Rattle.uz_cert.specs.Reading.{pieces_of, is_more, words_in, cert_from}
 use Rattle.uz_cert.specs.declared.due.Due.{Due}
 use Rattle.uz_cert.specs.declared.draft.Draft.{Draft}
 
@@ -26,23 +28,24 @@ Reaches d [] e = e ≡ d
 Reaches d (line ∷ lines) e = (next : Draft) × Adds d line next × Reaches next lines e
 
 -- the head and lines that are as is due, up to `end` and its LF, and nothing after them
-pub record SpellsCertificate (pieces : List (List ℕ)) (c : Cert) : Type 0 where
+pub record SpellsCertificate (version : Version) (pieces : List (List ℕ)) (c : Cert) : Type 0 where
   pub lines : List (List ℕ)
-  pub parts : pieces ≡ head_line ∷ lines ++ [] ∷ []
+  pub parts : pieces ≡ head_line version ∷ lines ++ [] ∷ []
   pub draft : Draft
-  pub reaches : Reaches first_draft lines draft
+  pub reaches : Reaches (first_draft version) lines draft
   pub whole : due_of draft ≡ None
   pub entry : Entry
   pub has_entry : draft.entry ≡ Some entry
   pub is : c ≡ cert_from draft entry
 
--- a text is this certificate's
-abbrev pub IsCertificateText : List ℕ → Cert → Type 0
-IsCertificateText text c = SpellsCertificate (pieces_of text) c
+-- a text of a version is this certificate's
+abbrev pub IsCertificateText : Version → List ℕ → Cert → Type 0
+IsCertificateText version text c = SpellsCertificate version (pieces_of text) c
 
 -- what is wrong with a first line: it isn't the head, or it is and doesn't end in LF
-abbrev pub HeadFails : List ℕ → List (List ℕ) → CertWhy → Type 0
-HeadFails line rest w = ((line ≢ head_line) × (w ≡ why.Head)) ⊎ ((line ≡ head_line) × (rest ≡ []) × (w ≡ why.NoEnd))
+abbrev pub HeadFails : Version → List ℕ → List (List ℕ) → CertWhy → Type 0
+HeadFails version line rest w =
+    ((line ≢ head_line version) × (w ≡ why.Head)) ⊎ ((line ≡ head_line version) × (rest ≡ []) × (w ≡ why.NoEnd))
 
 -- what is wrong with a later line: it has a first fault as the line that is due, or none is due any more
 abbrev pub LineFails : Option Due → Draft → List ℕ → List (List ℕ) → CertWhy → Type 0
@@ -50,24 +53,24 @@ LineFails None d line rest w = ((line ≢ []) ⊎ (rest ≢ [])) × (w ≡ why.N
 LineFails (Some due) d line rest w = HasFirstFault (form_of d due) (words_in line (is_more rest)) w
 
 -- the first line has this fault
-pub record FailsAtHead (pieces : List (List ℕ)) (n : ℕ) (w : CertWhy) : Type 0 where
+pub record FailsAtHead (version : Version) (pieces : List (List ℕ)) (n : ℕ) (w : CertWhy) : Type 0 where
   pub line : List ℕ
   pub rest : List (List ℕ)
   pub parts : pieces ≡ line ∷ rest
   pub number : n ≡ 1
-  pub fails : HeadFails line rest w
+  pub fails : HeadFails version line rest w
 
 -- the head and the lines after it are as is due, and the next one has this fault
-pub record FailsLater (pieces : List (List ℕ)) (n : ℕ) (w : CertWhy) : Type 0 where
+pub record FailsLater (version : Version) (pieces : List (List ℕ)) (n : ℕ) (w : CertWhy) : Type 0 where
   pub before : List (List ℕ)
   pub line : List ℕ
   pub rest : List (List ℕ)
-  pub parts : pieces ≡ head_line ∷ before ++ line ∷ rest
+  pub parts : pieces ≡ head_line version ∷ before ++ line ∷ rest
   pub draft : Draft
-  pub reaches : Reaches first_draft before draft
+  pub reaches : Reaches (first_draft version) before draft
   pub number : n ≡ length before + 2
   pub fails : LineFails (due_of draft) draft line rest w
 
--- the first fault of a text, and the number of its line, counted from 1
-abbrev pub IsFirstFault : List ℕ → ℕ → CertWhy → Type 0
-IsFirstFault text n w = FailsAtHead (pieces_of text) n w ⊎ FailsLater (pieces_of text) n w
+-- the first fault of a text that is to be of a version, and the number of its line, counted from 1
+abbrev pub IsFirstFault : Version → List ℕ → ℕ → CertWhy → Type 0
+IsFirstFault version text n w = FailsAtHead version (pieces_of text) n w ⊎ FailsLater version (pieces_of text) n w

@@ -14,14 +14,19 @@ use arrayvec::ArrayVec;
 use std::alloc::{AllocError, Global};
 use std::mem;
 use uz_lines::{
-    CertWhy, Run, Said, Sizes, StackLine, Words, cell_line, end_line, entry_line, event_line,
-    fall_line, irq_line, kind_line, point_line, rest_line, run_line, size_line, stack_line,
+    CertWhy, KindLine, Run, Said, Sizes, StackLine, Version, Words, cell_line, end_line,
+    entry_line, event_line, fall_line, irq_line, kind_line, point_line, rest_line, run_line,
+    size_line, stack_line,
 };
-use uz_schedule::{Cell, Entry, Event, Head, LineEvents, Point, Response, Rest, Sequence};
+use uz_schedule::{
+    Cell, Entry, Event, Head, LineEvents, Point, Response, Rest, SCANLINE, Sequence,
+};
 
 /// What the lines of a certificate's text say so far.
 #[derive(Debug, Drop)]
 pub struct Draft {
+    /// The version of the text.
+    pub version: Version,
     /// How many lines were read.
     pub read: u32,
     /// How many of each there will be; the least that there may be before the line that says it.
@@ -32,8 +37,12 @@ pub struct Draft {
     pub cell_least: u32,
     /// The kinds of line that have all their events.
     pub kinds: Sequence<LineEvents>,
+    /// The clocks of a line of each of these kinds.
+    pub lengths: Sequence<u16>,
     /// How many events the present kind still lacks.
     pub owed: u32,
+    /// The clocks of a line of the present kind; those of a scanline where none is begun.
+    pub clocks: u16,
     /// The events of the present kind.
     pub events: LineEvents,
     /// The least clock that the next event may have.
@@ -87,11 +96,12 @@ fn instances_of(point: &Point) -> u32
 }
 
 impl Draft {
-    /// What the first line of every certificate says.
-    pub fn new(alloc: Global) -> Draft
-        ensures { result ≡ first_draft }
+    /// What the first line of every certificate of a version says.
+    pub fn new(alloc: Global, version: Version) -> Draft
+        ensures { result ≡ first_draft version }
     {
         Draft {
+            version,
             read: 1,
             sizes: Sizes {
                 kinds: 1,
@@ -110,7 +120,9 @@ impl Draft {
             },
             cell_least: 0,
             kinds: Sequence::new(alloc),
+            lengths: Sequence::new(alloc),
             owed: 0,
+            clocks: SCANLINE,
             events: LineEvents::new(alloc),
             event_least: 0,
             fall: 0,
@@ -204,8 +216,8 @@ impl Draft {
             Due::Irq => irq_line(words),
             Due::Stack => stack_line(words),
             Due::Cell => cell_line(self.head.lo, self.head.hi, self.cell_least, words),
-            Due::Kind => kind_line(words),
-            Due::Event => event_line(self.event_least, words),
+            Due::Kind => kind_line(self.version, words),
+            Due::Event => event_line(self.clocks, self.event_least, words),
             Due::Fall => fall_line(words),
             Due::Run => {
                 let left = sizes.lines - self.lines.len() as u32;
@@ -225,6 +237,8 @@ impl Draft {
         if self.owed == 0 {
             let events = mem::replace(&mut self.events, LineEvents::new(alloc));
             self.kinds.push(events)?;
+            self.lengths.push(self.clocks)?;
+            self.clocks = SCANLINE;
             self.event_least = 0;
         }
         Ok(())
@@ -245,6 +259,13 @@ impl Draft {
     {
         self.cell_least = u32::from(cell.at) + 1;
         self.head.cells.push(cell);
+    }
+
+    fn put_kind(&mut self, kind: KindLine)
+        ensures { self.new ≡ with_said self.old (Said.Kind kind) }
+    {
+        self.owed = kind.events;
+        self.clocks = kind.clocks;
     }
 
     fn put_event(&mut self, alloc: Global, event: Event) -> Result<(), AllocError>
@@ -298,7 +319,7 @@ impl Draft {
             Said::Irq(response) => self.head.irq = response,
             Said::Stack(stack) => self.put_stack(stack),
             Said::Cell(cell) => self.put_cell(cell),
-            Said::Kind(events) => self.owed = events,
+            Said::Kind(kind) => self.put_kind(kind),
             Said::Event(event) => self.put_event(alloc, event)?,
             Said::Fall(clock) => self.fall = clock,
             Said::Run(run) => self.put_run(run)?,

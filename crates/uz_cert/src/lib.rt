@@ -10,10 +10,10 @@ mod reading;
 pub use draft::Draft;
 pub use due::Due;
 pub use errors::CertError;
-pub use reading::{read_cert, text_or_fault};
-pub use uz_lines::CertWhy;
+pub use reading::{read_cert, read_cert_1, text_or_fault};
+pub use uz_lines::{CertWhy, Version};
 pub use uz_schedule::{
-    Bit, Cell, Cert, Entry, Event, EventKind, Fact, Head, Instance, Kind, LineEvents, LineOrder,
-    Owner, PairFact, Point, Response, Rest, Schedule, Sequence, Span, Val, Wide, hull, well_formed,
+    Bit, Cell, Cert, Entry, Event, EventKind, Fact, Head, Instance, Kind, LineEvents, Owner,
+    PairFact, Point, Response, Rest, Schedule, Sequence, Span, Val, Wide, hull, well_formed,
 };
 pub use uz_spelling::write_cert;

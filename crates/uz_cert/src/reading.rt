@@ -1,17 +1,21 @@
 //! Reading the whole text of a certificate.
 
-ghost use Rattle.std.specs.Prelude.{◌≡◌, ◌⊎◌, ◌<◌, ◌≤◌, ◌-◌, ◌^◌, ℕ, List, ◌∷◌, length, IfOk, IfErr, OnOk, Some, Ok, Err};
+ghost use Rattle.std.specs.Prelude.{◌≡◌, ◌⊎◌, ◌<◌, ◌≤◌, ◌-◌, ◌^◌, ℕ, List, ◌∷◌, All, length, IfOk, IfErr, OnOk, Some, Ok, Err};
 ghost use Rattle.uz_schedule.specs.WellFormed.{WellFormed};
-ghost use Rattle.uz_cert.specs.Reading.{Gives, IsMemory, bytes_left, cert_before, cert_of_text, cert_with as cert_with_entry, head_says, is_more, pieces_left, pieces_of, read_from};
+ghost use Rattle.uz_cert.specs.Reading.{Gives, IsMemory, bytes_left, cert_before, cert_of_text, cert_with as cert_with_entry, is_more, pieces_left, pieces_of, read_from};
 ghost use Rattle.uz_cert.specs.Drafts.{first_draft};
 ghost use Rattle.uz_cert.specs.Texts.{IsCertificateText, IsFirstFault};
 ghost use Rattle.uz_schedule.specs.declared.certificate.Cert.{Cert as TheCert};
 ghost use Rattle.uz_lines.specs.declared.why.CertWhy.{CertWhy};
+ghost use Rattle.uz_lines.specs.declared.version.Version.{Version as TheVersion};
+ghost use Rattle.uz_lines.specs.declared.version.Version.TheVariants.{First, Second};
+ghost use Rattle.uz_lines.specs.Lines.{IsLengthIn};
+ghost use Rattle.uz_schedule.specs.Schedule.{scanline};
 
 use crate::draft::Draft;
 use crate::errors::CertError;
 use std::alloc::Global;
-use uz_lines::{CertWhy, line_or_fault};
+use uz_lines::{CertWhy, Version, line_or_fault};
 use uz_schedule::{Cert, Schedule};
 
 /// The first piece of a text, and what follows its LF.
@@ -41,6 +45,7 @@ fn cert_with(draft: Draft) -> Result<Cert, CertError>
         read,
         head,
         kinds,
+        lengths,
         lines,
         fall,
         rests,
@@ -51,7 +56,12 @@ fn cert_with(draft: Draft) -> Result<Cert, CertError>
     match entry {
         Some(entry) => Ok(Cert {
             head,
-            schedule: Schedule { kinds, lines, fall },
+            schedule: Schedule {
+                kinds,
+                lengths,
+                lines,
+                fall,
+            },
             rests,
             entry,
             points,
@@ -83,12 +93,12 @@ fn finish(draft: Draft, line: &[u8], rest: Option<&[u8]>) -> Result<Cert, CertEr
 }
 
 /// Reads the pieces after the first line.
-fn read_pieces(alloc: Global, text: Option<&[u8]>) -> Result<Cert, CertError>
+fn read_pieces(alloc: Global, version: Version, text: Option<&[u8]>) -> Result<Cert, CertError>
     requires { bytes_left text < 2 ^ 32 - 1 }
-    ensures gives { Gives result (read_from first_draft (pieces_left text.entry)) }
+    ensures gives { Gives result (read_from (first_draft version) (pieces_left text.entry)) }
     ensures well_formed { IfOk result WellFormed }
 {
-    let mut draft = Draft::new(alloc);
+    let mut draft = Draft::new(alloc, version);
     let mut left = text;
     while let Some(text) = left {
         let (line, rest) = cut_line(text);
@@ -107,13 +117,13 @@ fn read_pieces(alloc: Global, text: Option<&[u8]>) -> Result<Cert, CertError>
 }
 
 /// Reads a text piece by piece.
-fn read_text(alloc: Global, text: &[u8]) -> Result<Cert, CertError>
+fn read_text(alloc: Global, version: Version, text: &[u8]) -> Result<Cert, CertError>
     requires { length text.now < 2 ^ 32 - 1 }
-    ensures gives { Gives result (cert_of_text text.now) }
+    ensures gives { Gives result (cert_of_text version text.now) }
     ensures well_formed { IfOk result WellFormed }
 {
     let (line, rest) = cut_line(text);
-    if line != b"uzcert 1".as_slice() {
+    if line != version.head() {
         return Err(CertError {
             line: 1,
             why: CertWhy::Head,
@@ -125,45 +135,88 @@ fn read_text(alloc: Global, text: &[u8]) -> Result<Cert, CertError>
             why: CertWhy::NoEnd,
         });
     }
-    read_pieces(alloc, rest)
+    read_pieces(alloc, version, rest)
 }
 
-/// Reads the text of a certificate, or tells its first fault.
+/// Reads a text of a version, or tells its first fault.
+fn read_version(alloc: Global, version: Version, text: &[u8]) -> Result<Cert, CertError>
+    requires { length text.now < 2 ^ 32 - 1 }
+    ensures found { IfOk result (λ c. IsCertificateText version text.now c) }
+    ensures only { (c : TheCert) → IsCertificateText version text.now c → Gives result (Ok c) }
+    ensures well_formed { IfOk result WellFormed }
+    ensures lengths { IfOk result (λ c. All (IsLengthIn version) c.schedule.lengths) }
+    ensures first { IfErr result (λ e. IsMemory e ⊎ IsFirstFault version text.now e.line e.why) }
+    ensures faulty { (line : ℕ) (why : CertWhy) → IsFirstFault version text.now line why → Gives result (Err (line, why)) }
+    ensures exact { Gives result (cert_of_text version text.now) }
+{
+    line_or_fault();
+    read_text(alloc, version, text)
+}
+
+/// Reads the text of a certificate, of version 2, or tells its first fault.
 ///
 /// The lines end in LF, and each is read as the one that is due after the lines before it (this project's profile). The
 /// error names the first line that isn't as is due, counted from 1, and the fault of its first faulty word. A text that
-/// goes on after `end`, or ends before it, is `NoEnd` at that line. `Memory`, at line 0, may come at any point. One pass is
-/// made over the text, and no memory is taken but for what the certificate keeps.
+/// goes on after `end`, or ends before it, is `NoEnd` at that line; a text of version 1 is `Head` at line 1. `Memory`, at
+/// line 0, may come at any point. One pass is made over the text, and no memory is taken but for what the certificate keeps.
 pub fn read_cert(alloc: Global, text: &[u8]) -> Result<Cert, CertError>
     requires { length text.now < 2 ^ 32 - 1 }
 
     // Ok with exactly the certificate whose text this is.
-    ensures found { IfOk result (λ c. IsCertificateText text.now c) }
-    ensures only { (c : TheCert) → IsCertificateText text.now c → Gives result (Ok c) }
+    ensures found { IfOk result (λ c. IsCertificateText Second text.now c) }
+    ensures only { (c : TheCert) → IsCertificateText Second text.now c → Gives result (Ok c) }
     ensures well_formed { IfOk result WellFormed }
 
     // Refused exactly with the first fault.
-    ensures first { IfErr result (λ e. IsMemory e ⊎ IsFirstFault text.now e.line e.why) }
-    ensures faulty { (line : ℕ) (why : CertWhy) → IsFirstFault text.now line why → Gives result (Err (line, why)) }
+    ensures first { IfErr result (λ e. IsMemory e ⊎ IsFirstFault Second text.now e.line e.why) }
+    ensures faulty { (line : ℕ) (why : CertWhy) → IsFirstFault Second text.now line why → Gives result (Err (line, why)) }
 
     // The same, as a function of the text.
-    ensures exact { Gives result (cert_of_text text.now) }
+    ensures exact { Gives result (cert_of_text Second text.now) }
 {
-    line_or_fault();
-    read_text(alloc, text)
+    read_version(alloc, Version::Second, text)
 }
 
-/// Each text is one certificate's or has one first fault, and never both; and the plain reader answers just that. Does
-/// nothing.
+/// Reads the text of a certificate, of version 1, or tells its first fault, as `read_cert` does for version 2. A kind of
+/// line has the clocks of a scanline. A text of version 2 is `Head` at line 1.
+pub fn read_cert_1(alloc: Global, text: &[u8]) -> Result<Cert, CertError>
+    requires { length text.now < 2 ^ 32 - 1 }
+
+    // Ok with exactly the certificate whose text this is, and each kind of line has the clocks of a scanline.
+    ensures found { IfOk result (λ c. IsCertificateText First text.now c) }
+    ensures only { (c : TheCert) → IsCertificateText First text.now c → Gives result (Ok c) }
+    ensures well_formed { IfOk result WellFormed }
+    ensures scanlines { IfOk result (λ c. All (λ n. n ≡ scanline) c.schedule.lengths) }
+
+    // Refused exactly with the first fault.
+    ensures first { IfErr result (λ e. IsMemory e ⊎ IsFirstFault First text.now e.line e.why) }
+    ensures faulty { (line : ℕ) (why : CertWhy) → IsFirstFault First text.now line why → Gives result (Err (line, why)) }
+
+    // The same, as a function of the text.
+    ensures exact { Gives result (cert_of_text First text.now) }
+{
+    read_version(alloc, Version::First, text)
+}
+
+/// Each text is, as one of a version, one certificate's or has one first fault, and never both; the plain reader answers
+/// just that; and what it answers is within the limits of certificates, with lengths of the version. Does nothing.
 pub fn text_or_fault()
-    ensures either { (text : List ℕ) → ((c : TheCert) × IsCertificateText text c) ⊎ ((line : ℕ) × (why : CertWhy) × IsFirstFault text line why) }
-    ensures one_certificate { (text : List ℕ) (a b : TheCert) → IsCertificateText text a → IsCertificateText text b → a ≡ b }
-    ensures one_fault { (text : List ℕ) (m n : ℕ) (v w : CertWhy) → IsFirstFault text m v → IsFirstFault text n w → (m ≡ n) × (v ≡ w) }
-    ensures not_both { (text : List ℕ) (c : TheCert) (line : ℕ) (why : CertWhy) → IsCertificateText text c → IsFirstFault text line why → ⊥ }
-    ensures read { (text : List ℕ) (c : TheCert) → cert_of_text text ≡ Ok c → IsCertificateText text c }
-    ensures again { (text : List ℕ) (c : TheCert) → IsCertificateText text c → cert_of_text text ≡ Ok c }
-    ensures refused { (text : List ℕ) (line : ℕ) (why : CertWhy) → cert_of_text text ≡ Err (line, why) → IsFirstFault text line why }
-    ensures faulty { (text : List ℕ) (line : ℕ) (why : CertWhy) → IsFirstFault text line why → cert_of_text text ≡ Err (line, why) }
+    ensures either { (version : TheVersion) (text : List ℕ)
+        → ((c : TheCert) × IsCertificateText version text c) ⊎ ((line : ℕ) × (why : CertWhy) × IsFirstFault version text line why) }
+    ensures one_certificate { (version : TheVersion) (text : List ℕ) (a b : TheCert)
+        → IsCertificateText version text a → IsCertificateText version text b → a ≡ b }
+    ensures one_fault { (version : TheVersion) (text : List ℕ) (m n : ℕ) (v w : CertWhy)
+        → IsFirstFault version text m v → IsFirstFault version text n w → (m ≡ n) × (v ≡ w) }
+    ensures not_both { (version : TheVersion) (text : List ℕ) (c : TheCert) (line : ℕ) (why : CertWhy)
+        → IsCertificateText version text c → IsFirstFault version text line why → ⊥ }
+    ensures read { (version : TheVersion) (text : List ℕ) (c : TheCert) → cert_of_text version text ≡ Ok c → IsCertificateText version text c }
+    ensures again { (version : TheVersion) (text : List ℕ) (c : TheCert) → IsCertificateText version text c → cert_of_text version text ≡ Ok c }
+    ensures refused { (version : TheVersion) (text : List ℕ) (line : ℕ) (why : CertWhy)
+        → cert_of_text version text ≡ Err (line, why) → IsFirstFault version text line why }
+    ensures faulty { (version : TheVersion) (text : List ℕ) (line : ℕ) (why : CertWhy)
+        → IsFirstFault version text line why → cert_of_text version text ≡ Err (line, why) }
+    ensures fits { (version : TheVersion) (text : List ℕ) (c : TheCert)
+        → cert_of_text version text ≡ Ok c → WellFormed c × All (IsLengthIn version) c.schedule.lengths }
 {
     line_or_fault();
 }

@@ -6,6 +6,7 @@ use Rattle.std.proofs.lemmas.List.{length-map}
 use Rattle.std.proofs.lemmas.List.Elements.{All-nil, All-cons, All-head, All-tail}
 use Rattle.uz_schedule.specs.Ends.{Ends}
 use Rattle.uz_schedule.specs.Tracked.{tracked, depth_of}
+use Rattle.uz_schedule.specs.Limits.{clock_limit}
 use Rattle.uz_schedule.specs.WellFormed.{RangeFits, CellFits, SpansFit, BitFits, EntryKindFits, EntryFactsFit, EntryFits}
 use Rattle.uz_schedule.specs.declared.kinds.Kind.{Kind}
 use Rattle.uz_schedule.specs.declared.kinds.Kind.TheVariants.{Main, Handler, Alone}
@@ -50,7 +51,7 @@ use Rattle.uz_line_laws.proofs.RestLine.{bytes_of, one_so}
 abbrev entry_after : Head → ℕ → ℕ → Kind → LineForm
 entry_after h lines points kind =
     number (one_of points) (λ id. number (within 0 32768) (λ pc.
-    number (within 0 (none_in_main kind lines)) (λ line. number (within 0 (none_in_main kind 1820)) (λ clock.
+    number (within 0 (none_in_main kind lines)) (λ line. number (within 0 (none_in_main kind clock_limit)) (λ clock.
     items (shape_of h kind true points) h.cells.items (λ f. said.Entry (entry_of kind id pc line clock f))))))
 
 pub ranges_of : (h : Head) (cells : List Cell) → All (CellFits h) cells → All (λ c. RangeFits 255 c.range) cells
@@ -179,7 +180,7 @@ entry_after_again h lines points e a f =
     let f2 = form_rest f1 e.pc in
     let f3 = form_rest f2 e.line in
     let lines_small = none_small kind lines (omega arith) in
-    let clocks_small = none_small kind 1820 (lit≤ tt) in
+    let clocks_small = none_small kind clock_limit (lit≤ tt) in
     let r = items_again shape cells (range_facts e.regs) (AnyPair ∷ AnyPair ∷ AnyPair ∷ []) e.flags (range_facts e.stack.items)
     (range_facts e.cells.items) []
     (shape_fits h lines points kind true a (no_handler kind e f.kind)) (entry_sayable h lines points e f.facts) in
@@ -190,9 +191,10 @@ entry_after_again h lines points e a f =
     (advance f2 (decimal e.line) w3 e.line says (number_so (within 0 (none_in_main kind lines)) e.line (omega (arith, lines_small))
     (within_so 0 (none_in_main kind lines) e.line lines_small (omega arith)
     (under_none kind lines e.line (λ m. (at_begin kind e f.kind m).0) f.line)))
-    (advance f3 (decimal e.clock) w4 e.clock says (number_so (within 0 (none_in_main kind 1820)) e.clock (omega (arith, clocks_small))
-    (within_so 0 (none_in_main kind 1820) e.clock clocks_small (omega arith)
-    (under_none kind 1820 e.clock (λ m. (at_begin kind e f.kind m).1) f.clock)))
+    (advance f3 (decimal e.clock) w4 e.clock says
+    (number_so (within 0 (none_in_main kind clock_limit)) e.clock (omega (arith, clocks_small))
+    (within_so 0 (none_in_main kind clock_limit) e.clock clocks_small (omega arith)
+    (under_none kind clock_limit e.clock (λ m. (at_begin kind e f.kind m).1) f.clock)))
     (ap (λ (ws : List (List ℕ)). read_items shape cells (line ws) >>= (λ x. fine (say x))) (entry_items_are cells e)
     ∙ ap (λ (m : Result Facts CertWhy). m >>= (λ x. fine (say x))) r.read
     ∙ ap (λ (x : Entry). fine (said.Entry x)) (entry_back h e r.least r.after f.facts)))))
@@ -338,7 +340,7 @@ entry_facts_fit h kind points id pc line clock f s =
 
 entry_fits : (h : Head) (lines points : ℕ) (kind : Kind) (id pc line clock : ℕ) (f : Facts) → FactsSaid h kind points f
     → (kind ≡ Handler → true ≡ false)
-    → id < points → pc < 32768 → (line < lines) × (kind ≡ Main → line ≡ 0) → (clock < 1820) × (kind ≡ Main → clock ≡ 0)
+    → id < points → pc < 32768 → (line < lines) × (kind ≡ Main → line ≡ 0) → (clock < clock_limit) × (kind ≡ Main → clock ≡ 0)
     → EntryFits h lines points (entry_of kind id pc line clock f)
 unfolding entry_of
 entry_fits h lines points kind id pc line clock f s n i p l c =
@@ -379,11 +381,11 @@ entry_only h lines points words says a some e =
     let f5 = form_rest f4 l.number in
     let c = retreat f5 l.left words.ended says tt l.rest in
     let lines_small = none_small kind lines (omega arith) in
-    let clocks_small = none_small kind 1820 (lit≤ tt) in
+    let clocks_small = none_small kind clock_limit (lit≤ tt) in
     let idn = number_only (one_of points) i.word i.number (omega arith) i.is in
     let pn = number_only (within 0 32768) p.word p.number (lit≤ tt) p.is in
     let ln = number_only (within 0 (none_in_main kind lines)) l.word l.number (omega (arith, lines_small)) l.is in
-    let cn = number_only (within 0 (none_in_main kind 1820)) c.word c.number (omega (arith, clocks_small)) c.is in
+    let cn = number_only (within 0 (none_in_main kind clock_limit)) c.word c.number (omega (arith, clocks_small)) c.is in
     let shape = shape_of h kind true points in
     let say : Facts → Said = λ x. said.Entry (entry_of kind i.number p.number l.number c.number x) in
     let m = bind_ok (read_items shape cells (words_in c.left words.ended)) (λ x. fine (say x)) says c.rest in
@@ -403,5 +405,5 @@ entry_only h lines points words says a some e =
           (g.words ∙ spelled_entry h kind points i.number p.number l.number c.number m.0 s))))))
           ∙ entry_words_are h kind i.number p.number l.number c.number m.0) g.end,
       entry_fits h lines points kind i.number p.number l.number c.number m.0 s (not_handler k.number) idn.1.below pn.1.below
-          (none_under kind lines l.number some ln.1.below) (none_under kind 1820 c.number (lit≤ tt) cn.1.below),
+          (none_under kind lines l.number some ln.1.below) (none_under kind clock_limit c.number (lit≤ tt) cn.1.below),
     )

@@ -13,13 +13,14 @@ use Rattle.uz_schedule.specs.declared.header.Cell.{Cell}
 use Rattle.uz_lines.specs.Grammar.{Words, choice_of}
 use Rattle.uz_lines.specs.Values.{ends}
 use Rattle.uz_lines.specs.Forms.{reads}
-use Rattle.uz_lines.specs.Lines.{within, least_of, size_form, irq_form, response_of, stack_form, owner_of, off_stack, cell_form}
+use Rattle.uz_lines.specs.Lines.{within, least_of, SizesFit, size_form, irq_form, response_of, stack_form, owner_of, off_stack}
+use Rattle.uz_lines.specs.Lines.{cell_form}
 use Rattle.uz_lines.specs.declared.lines.Sizes.{Sizes}
 use Rattle.uz_lines.specs.declared.lines.StackLine.{StackLine}
 use Rattle.uz_lines.specs.declared.lines.Said.{Said}
 use Rattle.uz_lines.specs.declared.lines.Said.TheVariants as said
 use Rattle.uz_spelling.specs.Spelling.{owner_word, cell_words}
-use Rattle.uz_line_laws.specs.Said.{line, sizes_words, SizesFit, response_words, stack_line_words, with_stack}
+use Rattle.uz_line_laws.specs.Said.{line, sizes_words, response_words, stack_line_words, with_stack}
 use Rattle.uz_line_laws.proofs.Numbers.{IsAsked, number_so, number_only}
 use Rattle.uz_line_laws.proofs.Tests.{fine, number_is, number_not}
 use Rattle.uz_line_laws.proofs.Steps.{line_same, form_rest, advance, fixed_word, retreat, fixed_is, choice_is, finish_only, with_front}

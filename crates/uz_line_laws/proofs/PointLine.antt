@@ -3,6 +3,7 @@ use Rattle.std.proofs.Common.{◌≡◌, ℕ, zero, suc, ◌+◌, ◌-◌, ◌*�
 use Rattle.std.proofs.Common.{◌∷◌, decimal, codes, get_or, lit<, lit≤, refl, sym, ◌∙◌, ap, subst, arith}
 use Rattle.std.specs.Prelude.{Some, Result, Ok, slice_get}
 use Rattle.std.proofs.lemmas.Fmt.{decimal_digit}
+use Rattle.uz_schedule.specs.Limits.{clock_limit}
 use Rattle.uz_schedule.specs.WellFormed.{FactFits, PairFits, BitFits, CoreFits, MemoryFits, PointFits, PointKindFits, IsAtBegin, magnitude}
 use Rattle.uz_schedule.specs.WellFormed.{instances_of, is_zero_or_one, is_carry_and_zero_default}
 use Rattle.uz_schedule.specs.declared.kinds.Kind.{Kind}
@@ -16,6 +17,7 @@ use Rattle.uz_lines.specs.Items.{is_handler, bytes_forms, pair_forms, read_items
 use Rattle.uz_lines.specs.Forms.{LineForm, number, slope, items, reads}
 use Rattle.uz_lines.specs.Lines.{within, none_in_main, shape_of, point_kind, pending_limit, count_limit, point_of, point_after, point_form}
 use Rattle.uz_lines.specs.declared.items.Facts.{Facts}
+use Rattle.uz_lines.specs.declared.lines.PointPlace.{PointPlace}
 use Rattle.uz_lines.specs.declared.lines.Said.{Said}
 use Rattle.uz_lines.specs.declared.lines.Said.TheVariants as said
 use Rattle.uz_lines.specs.declared.why.CertWhy.{CertWhy}
@@ -65,30 +67,25 @@ point_sayable h lines points p f =
     said_so true b e f = f
     said_so false b e f = absurd cc
 
+-- where a point stands
+abbrev place_of : Point → PointPlace
+place_of p = record {
+  kind = p.kind;
+  pc = p.pc;
+  l0 = p.l0;
+  l1 = p.l1;
+  c0 = p.c0;
+  c1 = p.c1;
+  clock = p.clock;
+  slope = p.slope;
+  pending = p.pending;
+}
+
 point_back : (p : Point) (n least after : ℕ) → eqb n 1 ≡ p.pending
-    → point_of p.kind p.pc p.l0 p.l1 p.c0 p.c1 p.clock p.slope n (facts_with least after p.regs p.pairs p.flags p.stack.items p.cells.items
+    → point_of (record (place_of p) { pending = eqb n 1 }) (facts_with least after p.regs p.pairs p.flags p.stack.items p.cells.items
     p.next.items) ≡ p
 unfolding point_of
-point_back p n least after e = ap make e
-  where
-    make : Bool → Point
-    make pending = record {
-      kind = p.kind;
-      pc = p.pc;
-      l0 = p.l0;
-      l1 = p.l1;
-      c0 = p.c0;
-      c1 = p.c1;
-      clock = p.clock;
-      slope = p.slope;
-      pending = pending;
-      regs = p.regs;
-      pairs = p.pairs;
-      flags = p.flags;
-      stack = p.stack;
-      cells = p.cells;
-      next = p.next;
-    }
+point_back p n least after e = ap (λ (waits : Bool). record p { pending = waits }) e
 
 -- the number of the word for pending
 abbrev truth_number : Bool → ℕ
@@ -148,13 +145,13 @@ point_after_again h lines points left p a small f fits =
     let f3 = form_rest f2 p.l1 in
     let f4 = form_rest f3 p.c0 in
     let f5 = form_rest f4 p.c1 in
-    let say : ℕ → Facts → Said = λ n x. said.Point (point_of kind p.pc p.l0 p.l1 p.c0 p.c1 p.clock p.slope n x) in
+    let say : ℕ → Facts → Said = λ n x. said.Point (point_of (record (place_of p) { pending = eqb n 1 }) x) in
     let after_slope : ℤ → LineForm = λ s. number (within 0 (pending_limit kind))
-    (λ n. items shape cells (λ x. said.Point (point_of kind p.pc p.l0 p.l1 p.c0 p.c1 p.clock s n x))) in
+    (λ n. items shape cells (λ x. said.Point (point_of (record (place_of p) { slope = s; pending = eqb n 1 }) x))) in
     let f7 = after_slope p.slope in
     let lines_small = none_small kind lines (omega arith) in
     let counts_small = none_small kind 256 (lit≤ tt) in
-    let clocks_small = none_small kind 1820 (lit≤ tt) in
+    let clocks_small = none_small kind clock_limit (lit≤ tt) in
     let limit = count_limit kind left p.l0 p.l1 p.c0 in
     let limit_small = least_small (none_in_main kind 256) (p.c0 + left / (p.l1 - p.l0 + 1)) counts_small in
     let n = truth_number p.pending in
@@ -174,11 +171,13 @@ point_after_again h lines points left p a small f fits =
     (under_both (none_in_main kind 256) (p.c0 + left / (p.l1 - p.l0 + 1)) p.c1 (under_none kind 256 p.c1 (λ m. (begin m).last_count)
     (omega arith))
     (box_under left p.l0 p.l1 p.c0 p.c1 count_order fits))))
-    (advance f5 (decimal p.clock) w6 p.clock says (number_so (within 0 (none_in_main kind 1820)) p.clock (omega (arith, clocks_small))
-    (within_so 0 (none_in_main kind 1820) p.clock clocks_small (omega arith) (under_none kind 1820 p.clock (λ m. (begin m).clock)
+    (advance f5 (decimal p.clock) w6 p.clock says
+    (number_so (within 0 (none_in_main kind clock_limit)) p.clock (omega (arith, clocks_small))
+    (within_so 0 (none_in_main kind clock_limit) p.clock clocks_small (omega arith)
+    (under_none kind clock_limit p.clock (λ m. (begin m).clock)
     f.box.clock)))
-    (slope_again (none_in_main kind 1820) after_slope p.slope w7 says (omega (arith, clocks_small))
-    (under_none kind 1820 (magnitude p.slope) (λ m. ap magnitude (begin m).slope) f.box.slope)
+    (slope_again (none_in_main kind clock_limit) after_slope p.slope w7 says (omega (arith, clocks_small))
+    (under_none kind clock_limit (magnitude p.slope) (λ m. ap magnitude (begin m).slope) f.box.slope)
     (ap (λ (w : List ℕ). reads f7 (line (w ∷ w8))) (truth_spelled p.pending)
     ∙ advance f7 (decimal n) w8 n says (number_so (within 0 (pending_limit kind)) n (omega (arith, pending_small kind))
     (within_so 0 (pending_limit kind) n (pending_small kind) (omega arith) (truth_under kind p f.kind)))
@@ -249,33 +248,49 @@ none_waits : (n : ℕ) → n < 1 → eqb n 1 ≡ false
 none_waits zero h = refl
 none_waits (suc n) h = absurd (omega arith)
 
-point_kind_fits : (kind : Kind) (p : Point) (n : ℕ) → p.pending ≡ eqb n 1 → n < pending_limit kind
-    → (kind ≡ Main → p.l0 ≡ 0) → (kind ≡ Main → p.l1 ≡ 0) → (kind ≡ Main → p.c0 ≡ 0) → (kind ≡ Main → p.c1 ≡ 0)
-    → (kind ≡ Main → p.clock ≡ 0)
-    → (kind ≡ Main → magnitude p.slope ≡ 0) → PointKindFits kind p
-point_kind_fits Main p n e b l0 l1 c0 c1 k s =
+-- a place, as a line says it: its box, and what is 0 in main
+record PlaceSaid (lines : ℕ) (at : PointPlace) : Type 0 where
+  pub pc : at.pc < 32768
+  pub line_order : at.l0 ≤ at.l1
+  pub line : at.l1 < lines
+  pub count_order : at.c0 ≤ at.c1
+  pub count : at.c1 ≤ 255
+  pub clock_in : at.clock < clock_limit
+  pub slope_in : magnitude at.slope < clock_limit
+  pub l0_main : at.kind ≡ Main → at.l0 ≡ 0
+  pub l1_main : at.kind ≡ Main → at.l1 ≡ 0
+  pub c0_main : at.kind ≡ Main → at.c0 ≡ 0
+  pub c1_main : at.kind ≡ Main → at.c1 ≡ 0
+  pub clock_main : at.kind ≡ Main → at.clock ≡ 0
+  pub slope_main : at.kind ≡ Main → magnitude at.slope ≡ 0
+  pub waits : (n : ℕ) × (at.pending ≡ eqb n 1) × (n < pending_limit at.kind)
+
+point_kind_fits : (lines : ℕ) (at : PointPlace) (f : Facts) (kind : Kind) → at.kind ≡ kind → PlaceSaid lines at
+    → PointKindFits kind (point_of at f)
+unfolding point_of
+point_kind_fits lines at f Main e p =
     record {
-      first_line = l0 refl;
-      last_line = l1 refl;
-      first_count = c0 refl;
-      last_count = c1 refl;
-      clock = k refl;
-      slope = no_slope p.slope (s refl);
-      pending = e ∙ none_waits n b;
+      first_line = p.l0_main e;
+      last_line = p.l1_main e;
+      first_count = p.c0_main e;
+      last_count = p.c1_main e;
+      clock = p.clock_main e;
+      slope = no_slope at.slope (p.slope_main e);
+      pending = p.waits.1 ∙ none_waits p.waits.0 (subst (λ k. p.waits.0 < pending_limit k) e p.waits.2);
     }
-point_kind_fits Handler p n e b l0 l1 c0 c1 k s = tt
-point_kind_fits Alone p n e b l0 l1 c0 c1 k s = e ∙ none_waits n b
+point_kind_fits lines at f Handler e p = tt
+point_kind_fits lines at f Alone e p = p.waits.1 ∙ none_waits p.waits.0 (subst (λ k. p.waits.0 < pending_limit k) e p.waits.2)
 
 has_text : (a b : Bool) → (a ≡ true → b ≡ false) → (a && b) ≡ false
 has_text true b h = h refl
 has_text false b h = refl
 
-core_fits : (h : Head) (points : ℕ) (kind : Kind) (pc l0 l1 c0 c1 clock : ℕ) (steps : ℤ) (n : ℕ) (f : Facts)
-    → Regular (shape_of h kind false points) h.cells.items f
-    → (is_zero_or_one (get_or f.pairs 2 AnyPair) ≡ true → is_carry_and_zero_default kind f.flags ≡ false)
-    → CoreFits (point_of kind pc l0 l1 c0 c1 clock steps n f)
+core_fits : (h : Head) (points : ℕ) (at : PointPlace) (f : Facts) → Regular (shape_of h at.kind false points) h.cells.items f
+    → (is_zero_or_one (get_or f.pairs 2 AnyPair) ≡ true → is_carry_and_zero_default at.kind f.flags ≡ false)
+    → CoreFits (point_of at f)
 unfolding point_of
-core_fits h points kind pc l0 l1 c0 c1 clock steps n f r z =
+core_fits h points at f r z =
+    let kind = at.kind in
     let shape = shape_of h kind false points in
     record {
       register_count = each_length (λ k x. FactIn (bytes_forms shape) x) registers f.regs r.regs;
@@ -289,85 +304,81 @@ core_fits h points kind pc l0 l1 c0 c1 clock steps n f r z =
       text = has_text (is_zero_or_one (get_or f.pairs 2 AnyPair)) (is_carry_and_zero_default kind f.flags) z;
     }
 
-memory_fits : (h : Head) (points : ℕ) (kind : Kind) (pc l0 l1 c0 c1 clock : ℕ) (steps : ℤ) (n : ℕ) (f : Facts)
-    → Regular (shape_of h kind false points) h.cells.items f → MemoryFits h (point_of kind pc l0 l1 c0 c1 clock steps n f)
+memory_fits : (h : Head) (points : ℕ) (at : PointPlace) (f : Facts) → Regular (shape_of h at.kind false points) h.cells.items f
+    → MemoryFits h (point_of at f)
 unfolding point_of
-memory_fits h points kind pc l0 l1 c0 c1 clock steps n f r =
-    let shape = shape_of h kind false points in
+memory_fits h points at f r =
+    let shape = shape_of h at.kind false points in
     let cells = cells_out shape h.cells.items f.cells.items refl r.tracked_cells in
     record {
       slots = r.slots;
-      stack = all_other (FactIn (bytes_forms shape)) (FactFits kind) f.stack.items (fact_out shape) r.stack;
+      stack = all_other (FactIn (bytes_forms shape)) (FactFits at.kind) f.stack.items (fact_out shape) r.stack;
       cell_count = cells.0;
       cells = cells.1;
     }
 
--- a box, and what is 0 in main
-record BoxSaid (lines : ℕ) (kind : Kind) (l0 l1 c0 c1 clock : ℕ) (steps : ℤ) : Type 0 where
-  pub line_order : l0 ≤ l1
-  pub line : l1 < lines
-  pub count_order : c0 ≤ c1
-  pub count : c1 ≤ 255
-  pub clock_in : clock < 1820
-  pub slope_in : magnitude steps < 1820
-  pub l0_main : kind ≡ Main → l0 ≡ 0
-  pub l1_main : kind ≡ Main → l1 ≡ 0
-  pub c0_main : kind ≡ Main → c0 ≡ 0
-  pub c1_main : kind ≡ Main → c1 ≡ 0
-  pub clock_main : kind ≡ Main → clock ≡ 0
-  pub slope_main : kind ≡ Main → magnitude steps ≡ 0
-
-point_fits : (h : Head) (lines points : ℕ) (kind : Kind) (pc l0 l1 c0 c1 clock : ℕ) (steps : ℤ) (n : ℕ) (f : Facts)
-    → Regular (shape_of h kind false points) h.cells.items f
-    → (is_zero_or_one (get_or f.pairs 2 AnyPair) ≡ true → is_carry_and_zero_default kind f.flags ≡ false)
-    → pc < 32768 → BoxSaid lines kind l0 l1 c0 c1 clock steps → n < pending_limit kind
-    → PointFits h lines points (point_of kind pc l0 l1 c0 c1 clock steps n f)
+point_fits : (h : Head) (lines points : ℕ) (at : PointPlace) (f : Facts) → Regular (shape_of h at.kind false points) h.cells.items f
+    → (is_zero_or_one (get_or f.pairs 2 AnyPair) ≡ true → is_carry_and_zero_default at.kind f.flags ≡ false)
+    → PlaceSaid lines at → PointFits h lines points (point_of at f)
 unfolding point_of
-point_fits h lines points kind pc l0 l1 c0 c1 clock steps n f r z p b w =
+point_fits h lines points at f r z p =
     record {
-      kind = point_kind_fits kind (point_of kind pc l0 l1 c0 c1 clock steps n f) n refl w b.l0_main b.l1_main b.c0_main b.c1_main
-          b.clock_main b.slope_main;
-      pc = p;
+      kind = point_kind_fits lines at f at.kind refl p;
+      pc = p.pc;
       box = record {
-        line_order = b.line_order;
-        line = b.line;
-        count_order = b.count_order;
-        count = b.count;
-        clock = b.clock_in;
-        slope = b.slope_in;
+        line_order = p.line_order;
+        line = p.line;
+        count_order = p.count_order;
+        count = p.count;
+        clock = p.clock_in;
+        slope = p.slope_in;
       };
-      core = core_fits h points kind pc l0 l1 c0 c1 clock steps n f r z;
-      memory = memory_fits h points kind pc l0 l1 c0 c1 clock steps n f r;
+      core = core_fits h points at f r z;
+      memory = memory_fits h points at f r;
       next = record { few = r.next_few; there = r.next_there; rise = r.next_rise };
     }
 
-point_words_are : (h : Head) (kind : Kind) (pc l0 l1 c0 c1 clock : ℕ) (steps : ℤ) (n : ℕ) (f : Facts) (rest : List (List ℕ))
-    → rest ≡ spelled kind h.cells.items f
-    → codes "point" ∷ kind_word kind ∷ decimal pc ∷ decimal l0 ∷ decimal l1 ∷ decimal c0 ∷ decimal c1 ∷ decimal clock ∷ signed_word
-    steps ∷ truth_word (eqb n 1) ∷ rest
-    ≡ point_words h.cells.items (point_of kind pc l0 l1 c0 c1 clock steps n f)
+-- the words of a place, and those that follow
+abbrev place_words : PointPlace → List (List ℕ) → List (List ℕ)
+place_words at rest =
+    codes "point" ∷ kind_word at.kind ∷ decimal at.pc ∷ decimal at.l0 ∷ decimal at.l1 ∷ decimal at.c0 ∷ decimal at.c1 ∷ decimal at.clock
+    ∷ signed_word at.slope ∷ truth_word at.pending ∷ rest
+
+point_words_are : (h : Head) (at : PointPlace) (f : Facts)
+    → place_words at (spelled at.kind h.cells.items f) ≡ point_words h.cells.items (point_of at f)
 unfolding point_of
-point_words_are h kind pc l0 l1 c0 c1 clock steps n f rest e =
-    ap (λ (ws : List (List ℕ)). codes "point" ∷ kind_word kind ∷ decimal pc ∷ decimal l0 ∷ decimal l1 ∷ decimal c0 ∷ decimal c1 ∷ decimal
-    clock
-    ∷ signed_word steps ∷ truth_word (eqb n 1) ∷ ws) e
+point_words_are h at f = refl
 
-instances_are : (kind : Kind) (pc l0 l1 c0 c1 clock : ℕ) (steps : ℤ) (n left : ℕ) (f : Facts) → (l1 - l0 + 1) * (c1 - c0 + 1) ≤ left
-    → instances_of (point_of kind pc l0 l1 c0 c1 clock steps n f) ≤ left
+instances_are : (at : PointPlace) (left : ℕ) (f : Facts) → (at.l1 - at.l0 + 1) * (at.c1 - at.c0 + 1) ≤ left
+    → instances_of (point_of at f) ≤ left
 unfolding point_of
-instances_are kind pc l0 l1 c0 c1 clock steps n left f h = h
+instances_are at left f h = h
 
--- a point's words one after another: what is left to read after each part
+-- a point's words one after another: what is left to read after each part, and the place so far
 
-abbrev after_clock : Head → ℕ → Kind → ℕ → ℕ → ℕ → ℕ → ℕ → ℕ → LineForm
-after_clock h points kind pc l0 l1 c0 c1 clock =
-    slope (none_in_main kind 1820) (λ s. number (within 0 (pending_limit kind)) (λ n.
-    items (shape_of h kind false points) h.cells.items (λ f. said.Point (point_of kind pc l0 l1 c0 c1 clock s n f))))
+abbrev on_lines : Kind → ℕ → ℕ → ℕ → PointPlace
+on_lines kind pc l0 l1 = record {
+  kind = kind;
+  pc = pc;
+  l0 = l0;
+  l1 = l1;
+  c0 = 0;
+  c1 = 0;
+  clock = 0;
+  slope = pos 0;
+  pending = false;
+}
 
-abbrev after_lines : Head → ℕ → ℕ → Kind → ℕ → ℕ → ℕ → LineForm
-after_lines h points left kind pc l0 l1 =
-    number (within 0 (none_in_main kind 256)) (λ c0. number (within c0 (count_limit kind left l0 l1 c0)) (λ c1.
-    number (within 0 (none_in_main kind 1820)) (λ clock. after_clock h points kind pc l0 l1 c0 c1 clock)))
+abbrev after_clock : Head → ℕ → PointPlace → LineForm
+after_clock h points at =
+    slope (none_in_main at.kind clock_limit) (λ s. number (within 0 (pending_limit at.kind)) (λ n.
+    items (shape_of h at.kind false points) h.cells.items (λ f. said.Point (point_of (record at { slope = s; pending = eqb n 1 }) f))))
+
+abbrev after_lines : Head → ℕ → ℕ → PointPlace → LineForm
+after_lines h points left at =
+    number (within 0 (none_in_main at.kind 256)) (λ c0. number (within c0 (count_limit at.kind left at.l0 at.l1 c0)) (λ c1.
+    number (within 0 (none_in_main at.kind clock_limit)) (λ clock.
+    after_clock h points (record at { c0 = c0; c1 = c1; clock = clock }))))
 
 record KindRead (h : Head) (lines points left : ℕ) (list : List (List ℕ)) (ended : Bool) (says : Said) : Type 0 where
   pub kind : Kind
@@ -399,7 +410,7 @@ record LinesRead (h : Head) (lines points left : ℕ) (kind : Kind) (list : List
   pub l0_in : l0 < none_in_main kind lines
   pub order : l0 ≤ l1
   pub l1_in : l1 < none_in_main kind lines
-  pub rest : reads (after_lines h points left kind pc l0 l1) (words_in words ended) ≡ Ok says
+  pub rest : reads (after_lines h points left (on_lines kind pc l0 l1)) (words_in words ended) ≡ Ok says
 
 lines_read : (h : Head) (lines points left : ℕ) (kind : Kind) (list : List (List ℕ)) (ended : Bool) (says : Said) → lines ≤ 525
     → reads (point_after h lines points left kind) (words_in list ended) ≡ Ok says → LinesRead h lines points left kind list ended says
@@ -430,35 +441,34 @@ lines_read h lines points left kind list ended says few e =
       rest = l1.rest;
     }
 
-record CountsRead (h : Head) (points left : ℕ) (kind : Kind) (pc l0 l1 : ℕ) (list : List (List ℕ)) (ended : Bool) (says : Said) : Type
-    0 where
+record CountsRead (h : Head) (points left : ℕ) (at : PointPlace) (list : List (List ℕ)) (ended : Bool) (says : Said) : Type 0 where
   pub c0 : ℕ
   pub c1 : ℕ
   pub clock : ℕ
   pub words : List (List ℕ)
   pub parts : list ≡ decimal c0 ∷ decimal c1 ∷ decimal clock ∷ words
-  pub c0_in : c0 < none_in_main kind 256
+  pub c0_in : c0 < none_in_main at.kind 256
   pub order : c0 ≤ c1
-  pub c1_in : c1 < count_limit kind left l0 l1 c0
-  pub clock_in : clock < none_in_main kind 1820
-  pub rest : reads (after_clock h points kind pc l0 l1 c0 c1 clock) (words_in words ended) ≡ Ok says
+  pub c1_in : c1 < count_limit at.kind left at.l0 at.l1 c0
+  pub clock_in : clock < none_in_main at.kind clock_limit
+  pub rest : reads (after_clock h points (record at { c0 = c0; c1 = c1; clock = clock })) (words_in words ended) ≡ Ok says
 
-counts_read : (h : Head) (points left : ℕ) (kind : Kind) (pc l0 l1 : ℕ) (list : List (List ℕ)) (ended : Bool) (says : Said)
-    → reads (after_lines h points left kind pc l0 l1) (words_in list ended) ≡ Ok says → CountsRead h points left kind pc l0 l1 list ended
-    says
-counts_read h points left kind pc l0 l1 list ended says e =
-    let counts_small = none_small kind 256 (lit≤ tt) in
-    let clocks_small = none_small kind 1820 (lit≤ tt) in
-    let f3 = after_lines h points left kind pc l0 l1 in
+counts_read : (h : Head) (points left : ℕ) (at : PointPlace) (list : List (List ℕ)) (ended : Bool) (says : Said)
+    → reads (after_lines h points left at) (words_in list ended) ≡ Ok says → CountsRead h points left at list ended says
+counts_read h points left at list ended says e =
+    let counts_small = none_small at.kind 256 (lit≤ tt) in
+    let clocks_small = none_small at.kind clock_limit (lit≤ tt) in
+    let f3 = after_lines h points left at in
     let c0 = retreat f3 list ended says tt e in
     let f4 = form_rest f3 c0.number in
     let c1 = retreat f4 c0.left ended says tt c0.rest in
     let f5 = form_rest f4 c1.number in
     let c = retreat f5 c1.left ended says tt c1.rest in
-    let limit_small = least_small (none_in_main kind 256) (c0.number + left / (l1 - l0 + 1)) counts_small in
-    let c0n = number_only (within 0 (none_in_main kind 256)) c0.word c0.number (omega (arith, counts_small)) c0.is in
-    let c1n = number_only (within c0.number (count_limit kind left l0 l1 c0.number)) c1.word c1.number (omega (arith, limit_small)) c1.is in
-    let cn = number_only (within 0 (none_in_main kind 1820)) c.word c.number (omega (arith, clocks_small)) c.is in
+    let limit_small = least_small (none_in_main at.kind 256) (c0.number + left / (at.l1 - at.l0 + 1)) counts_small in
+    let c0n = number_only (within 0 (none_in_main at.kind 256)) c0.word c0.number (omega (arith, counts_small)) c0.is in
+    let c1n = number_only (within c0.number (count_limit at.kind left at.l0 at.l1 c0.number)) c1.word c1.number (omega (arith, limit_small))
+    c1.is in
+    let cn = number_only (within 0 (none_in_main at.kind clock_limit)) c.word c.number (omega (arith, clocks_small)) c.is in
     record {
       c0 = c0.number;
       c1 = c1.number;
@@ -474,35 +484,32 @@ counts_read h points left kind pc l0 l1 list ended says e =
       rest = c.rest;
     }
 
-record StateRead (h : Head) (points : ℕ) (kind : Kind) (pc l0 l1 c0 c1 clock : ℕ) (list : List (List ℕ)) (ended : Bool) (says : Said) : Type
-    0 where
+record StateRead (h : Head) (points : ℕ) (at : PointPlace) (list : List (List ℕ)) (ended : Bool) (says : Said) : Type 0 where
   pub steps : ℤ
   pub n : ℕ
   pub f : Facts
-  pub parts : list ≡ signed_word steps ∷ truth_word (eqb n 1) ∷ spelled kind h.cells.items f
+  pub parts : list ≡ signed_word steps ∷ truth_word (eqb n 1) ∷ spelled at.kind h.cells.items f
   pub end : ended ≡ true
-  pub steps_in : magnitude steps < none_in_main kind 1820
-  pub n_in : n < pending_limit kind
-  pub regular : Regular (shape_of h kind false points) h.cells.items f
-  pub meant : is_zero_or_one (get_or f.pairs 2 AnyPair) ≡ true → is_carry_and_zero_default kind f.flags ≡ false
-  pub says_is : says ≡ said.Point (point_of kind pc l0 l1 c0 c1 clock steps n f)
+  pub steps_in : magnitude steps < none_in_main at.kind clock_limit
+  pub n_in : n < pending_limit at.kind
+  pub regular : Regular (shape_of h at.kind false points) h.cells.items f
+  pub meant : is_zero_or_one (get_or f.pairs 2 AnyPair) ≡ true → is_carry_and_zero_default at.kind f.flags ≡ false
+  pub says_is : says ≡ said.Point (point_of (record at { slope = steps; pending = eqb n 1 }) f)
 
-state_read : (h : Head) (lines points : ℕ) (kind : Kind) (pc l0 l1 c0 c1 clock : ℕ) (list : List (List ℕ)) (ended : Bool) (says : Said)
-    → PlacesAre h lines points
-    → reads (after_clock h points kind pc l0 l1 c0 c1 clock) (words_in list ended) ≡ Ok says → StateRead h points kind pc l0 l1 c0 c1 clock
-    list ended says
-state_read h lines points kind pc l0 l1 c0 c1 clock list ended says a e =
+state_read : (h : Head) (lines points : ℕ) (at : PointPlace) (list : List (List ℕ)) (ended : Bool) (says : Said) → PlacesAre h lines points
+    → reads (after_clock h points at) (words_in list ended) ≡ Ok says → StateRead h points at list ended says
+state_read h lines points at list ended says a e =
+    let kind = at.kind in
     let cells = h.cells.items in
     let shape = shape_of h kind false points in
-    let clocks_small = none_small kind 1820 (lit≤ tt) in
-    let after_slope : ℤ → LineForm = λ s. number (within 0 (pending_limit kind))
-    (λ n. items shape cells (λ x. said.Point (point_of kind pc l0 l1 c0 c1 clock s n x))) in
-    let s = slope_step (none_in_main kind 1820) after_slope list ended says (omega (arith, clocks_small)) e in
+    let clocks_small = none_small kind clock_limit (lit≤ tt) in
+    let say : ℤ → ℕ → Facts → Said = λ s n x. said.Point (point_of (record at { slope = s; pending = eqb n 1 }) x) in
+    let after_slope : ℤ → LineForm = λ s. number (within 0 (pending_limit kind)) (λ n. items shape cells (λ x. say s n x)) in
+    let s = slope_step (none_in_main kind clock_limit) after_slope list ended says (omega (arith, clocks_small)) e in
     let w = retreat (after_slope s.0) s.1 ended says tt s.4 in
     let wn = number_only (within 0 (pending_limit kind)) w.word w.number (omega (arith, pending_small kind)) w.is in
     let waits : w.number < pending_limit kind = wn.1.below in
-    let say : Facts → Said = λ x. said.Point (point_of kind pc l0 l1 c0 c1 clock s.0 w.number x) in
-    let m = bind_ok (read_items shape cells (words_in w.left ended)) (λ x. fine (say x)) says w.rest in
+    let m = bind_ok (read_items shape cells (words_in w.left ended)) (λ x. fine (say s.0 w.number x)) says w.rest in
     let g = items_only shape cells (words_in w.left ended) m.0 (shape_fits h lines points kind false a (λ _. refl)) m.1 in
     record {
       steps = s.0;
@@ -516,29 +523,53 @@ state_read h lines points kind pc l0 l1 c0 c1 clock list ended says a e =
       n_in = waits;
       regular = g.regular;
       meant = g.meant;
-      says_is = sym (fine_is (say m.0) says m.2);
+      says_is = sym (fine_is (say s.0 w.number m.0) says m.2);
     }
 
-all_parts : (list w1 w2 w3 w4 : List (List ℕ)) (kind pc l0 l1 c0 c1 clock : List ℕ)
-    → list ≡ codes "point" ∷ kind ∷ w1 → w1 ≡ pc ∷ l0 ∷ l1 ∷ w2 → w2 ≡ c0 ∷ c1 ∷ clock ∷ w3 → w3 ≡ w4
-    → list ≡ codes "point" ∷ kind ∷ pc ∷ l0 ∷ l1 ∷ c0 ∷ c1 ∷ clock ∷ w4
-all_parts list w1 w2 w3 w4 kind pc l0 l1 c0 c1 clock a b c d =
-    a ∙ ap (λ (ws : List (List ℕ)). codes "point" ∷ kind ∷ ws) (b ∙ ap (λ (ws : List (List ℕ)). pc ∷ l0 ∷ l1 ∷ ws)
-    (c ∙ ap (λ (ws : List (List ℕ)). c0 ∷ c1 ∷ clock ∷ ws) d))
+all_parts : (at : PointPlace) (list w1 w2 w3 w4 : List (List ℕ)) → list ≡ codes "point" ∷ kind_word at.kind ∷ w1
+    → w1 ≡ decimal at.pc ∷ decimal at.l0 ∷ decimal at.l1 ∷ w2 → w2 ≡ decimal at.c0 ∷ decimal at.c1 ∷ decimal at.clock ∷ w3
+    → w3 ≡ signed_word at.slope ∷ truth_word at.pending ∷ w4 → list ≡ place_words at w4
+all_parts at list w1 w2 w3 w4 a b c d =
+    a ∙ ap (λ (ws : List (List ℕ)). codes "point" ∷ kind_word at.kind ∷ ws)
+    (b ∙ ap (λ (ws : List (List ℕ)). decimal at.pc ∷ decimal at.l0 ∷ decimal at.l1 ∷ ws)
+    (c ∙ ap (λ (ws : List (List ℕ)). decimal at.c0 ∷ decimal at.c1 ∷ decimal at.clock ∷ ws) d))
 
-box_said : (h : Head) (lines points left : ℕ) (kind : Kind) (list list2 list3 : List (List ℕ)) (ended : Bool) (says : Said) → 1 ≤ lines
-    → (l : LinesRead h lines points left kind list ended says) → (c : CountsRead h points left kind l.pc l.l0 l.l1 list2 ended says)
-    → (s : StateRead h points kind l.pc l.l0 l.l1 c.c0 c.c1 c.clock list3 ended says)
-    → BoxSaid lines kind l.l0 l.l1 c.c0 c.c1 c.clock s.steps × ((l.l1 - l.l0 + 1) * (c.c1 - c.c0 + 1) ≤ left)
-box_said h lines points left kind list list2 list3 ended says some l c s =
+-- where the whole line was read
+
+abbrev counted : PointPlace → ℕ → ℕ → ℕ → PointPlace
+counted at c0 c1 clock = record at { c0 = c0; c1 = c1; clock = clock }
+
+abbrev stated : PointPlace → ℤ → ℕ → PointPlace
+stated at steps n = record at { slope = steps; pending = eqb n 1 }
+
+record PointRead (h : Head) (lines points left : ℕ) (words : Words) (says : Said) : Type 0 where
+  pub k : KindRead h lines points left words.list words.ended says
+  pub l : LinesRead h lines points left k.kind k.words words.ended says
+  pub c : CountsRead h points left (on_lines k.kind l.pc l.l0 l.l1) l.words words.ended says
+  pub s : StateRead h points (counted (on_lines k.kind l.pc l.l0 l.l1) c.c0 c.c1 c.clock) c.words words.ended says
+
+place_read : (h : Head) (lines points left : ℕ) (words : Words) (says : Said) → PointRead h lines points left words says → PointPlace
+place_read h lines points left words says r =
+    stated (counted (on_lines r.k.kind r.l.pc r.l.l0 r.l.l1) r.c.c0 r.c.c1 r.c.clock) r.s.steps r.s.n
+
+place_said : (h : Head) (lines points left : ℕ) (words : Words) (says : Said) → 1 ≤ lines → (r : PointRead h lines points left words says)
+    → PlaceSaid lines (place_read h lines points left words says r)
+    × ((r.l.l1 - r.l.l0 + 1) * (r.c.c1 - r.c.c0 + 1) ≤ left)
+unfolding place_read
+place_said h lines points left words says some r =
+    let kind = r.k.kind in
+    let l = r.l in
+    let c = r.c in
+    let s = r.s in
     let both = both_under (none_in_main kind 256) (c.c0 + left / (l.l1 - l.l0 + 1)) c.c1 c.c1_in in
     let l0u = none_under kind lines l.l0 some l.l0_in in
     let l1u = none_under kind lines l.l1 some l.l1_in in
     let c0u = none_under kind 256 c.c0 (lit≤ tt) c.c0_in in
     let c1u = none_under kind 256 c.c1 (lit≤ tt) both.0 in
-    let cu = none_under kind 1820 c.clock (lit≤ tt) c.clock_in in
-    let su = none_under kind 1820 (magnitude s.steps) (lit≤ tt) s.steps_in in (
+    let cu = none_under kind clock_limit c.clock (lit≤ tt) c.clock_in in
+    let su = none_under kind clock_limit (magnitude s.steps) (lit≤ tt) s.steps_in in (
       record {
+        pc = l.pc_in;
         line_order = l.order;
         line = l1u.0;
         count_order = c.order;
@@ -551,50 +582,44 @@ box_said h lines points left kind list list2 list3 ended says some l c s =
         c1_main = c1u.1;
         clock_main = cu.1;
         slope_main = su.1;
+        waits = (s.n, refl, s.n_in);
       },
       under_box left l.l0 l.l1 c.c0 c.c1 c.order both.1,
+    )
+
+point_read : (h : Head) (lines points left : ℕ) (words : Words) (says : Said) → PlacesAre h lines points
+    → reads (point_form h lines points left) words ≡ Ok says → PointRead h lines points left words says
+point_read h lines points left words says a e =
+    let k = kind_read h lines points left words.list words.ended says e in
+    let l = lines_read h lines points left k.kind k.words words.ended says a.lines_few k.rest in
+    let c = counts_read h points left (on_lines k.kind l.pc l.l0 l.l1) l.words words.ended says l.rest in
+    record {
+      k = k;
+      l = l;
+      c = c;
+      s = state_read h lines points (counted (on_lines k.kind l.pc l.l0 l.l1) c.c0 c.c1 c.clock) c.words words.ended says a c.rest;
+    }
+
+point_told : (h : Head) (lines points left : ℕ) (words : Words) (says : Said) → 1 ≤ lines → PointRead h lines points left words says
+    → (p : Point) × (says ≡ said.Point p) × (words ≡ line (point_words h.cells.items p)) × PointFits h lines points p
+    × (instances_of p ≤ left)
+unfolding place_read
+point_told h lines points left words says some r =
+    let at = place_read h lines points left words says r in
+    let s = r.s in
+    let b = place_said h lines points left words says some r in (
+      point_of at s.f,
+      s.says_is,
+      line_same words.list (point_words h.cells.items (point_of at s.f)) words.ended
+          (all_parts at words.list r.k.words r.l.words r.c.words (spelled at.kind h.cells.items s.f) r.k.parts r.l.parts r.c.parts s.parts
+          ∙ point_words_are h at s.f) s.end,
+      point_fits h lines points at s.f s.regular s.meant b.0,
+      instances_are at left s.f b.1,
     )
 
 pub point_only : (h : Head) (lines points left : ℕ) (words : Words) (says : Said) → PlacesAre h lines points → 1 ≤ lines → left ≤ 2 ^ 30
     → reads (point_form h lines points left) words ≡ Ok says
     → (p : Point) × (says ≡ said.Point p) × (words ≡ line (point_words h.cells.items p)) × PointFits h lines points p
     × (instances_of p ≤ left)
-point_only h lines points left words says a some small e = by_kind (kind_read h lines points left words.list words.ended says e)
-  where
-    by_state : (k : KindRead h lines points left words.list words.ended says)
-        → (l : LinesRead h lines points left k.kind k.words words.ended says)
-        → (c : CountsRead h points left k.kind l.pc l.l0 l.l1 l.words words.ended says)
-        → (s : StateRead h points k.kind l.pc l.l0 l.l1 c.c0 c.c1 c.clock c.words words.ended says)
-        → (p : Point) × (says ≡ said.Point p) × (words ≡ line (point_words h.cells.items p)) × PointFits h lines points p
-        × (instances_of p ≤ left)
-    by_state k l c s =
-        let made = point_of k.kind l.pc l.l0 l.l1 c.c0 c.c1 c.clock s.steps s.n s.f in
-        let b = box_said h lines points left k.kind k.words l.words c.words words.ended says some l c s in (
-          made,
-          s.says_is,
-          line_same words.list (point_words h.cells.items made) words.ended
-              (all_parts words.list k.words l.words c.words (signed_word s.steps ∷ truth_word (eqb s.n 1) ∷ spelled k.kind h.cells.items
-              s.f) (kind_word k.kind)
-              (decimal l.pc) (decimal l.l0) (decimal l.l1) (decimal c.c0) (decimal c.c1) (decimal c.clock) k.parts l.parts c.parts s.parts
-              ∙ point_words_are h k.kind l.pc l.l0 l.l1 c.c0 c.c1 c.clock s.steps s.n s.f (spelled k.kind h.cells.items s.f) refl) s.end,
-          point_fits h lines points k.kind l.pc l.l0 l.l1 c.c0 c.c1 c.clock s.steps s.n s.f s.regular s.meant l.pc_in b.0 s.n_in,
-          instances_are k.kind l.pc l.l0 l.l1 c.c0 c.c1 c.clock s.steps s.n left s.f b.1,
-        )
-
-    by_counts : (k : KindRead h lines points left words.list words.ended says)
-        → (l : LinesRead h lines points left k.kind k.words words.ended says)
-        → CountsRead h points left k.kind l.pc l.l0 l.l1 l.words words.ended says
-        → (p : Point) × (says ≡ said.Point p) × (words ≡ line (point_words h.cells.items p)) × PointFits h lines points p
-        × (instances_of p ≤ left)
-    by_counts k l c = by_state k l c (state_read h lines points k.kind l.pc l.l0 l.l1 c.c0 c.c1 c.clock c.words words.ended says a c.rest)
-
-    by_lines : (k : KindRead h lines points left words.list words.ended says) → LinesRead h lines points left k.kind k.words words.ended
-        says
-        → (p : Point) × (says ≡ said.Point p) × (words ≡ line (point_words h.cells.items p)) × PointFits h lines points p
-        × (instances_of p ≤ left)
-    by_lines k l = by_counts k l (counts_read h points left k.kind l.pc l.l0 l.l1 l.words words.ended says l.rest)
-
-    by_kind : KindRead h lines points left words.list words.ended says
-        → (p : Point) × (says ≡ said.Point p) × (words ≡ line (point_words h.cells.items p)) × PointFits h lines points p
-        × (instances_of p ≤ left)
-    by_kind k = by_lines k (lines_read h lines points left k.kind k.words words.ended says a.lines_few k.rest)
+point_only h lines points left words says a some small e =
+    point_told h lines points left words says some (point_read h lines points left words says a e)

@@ -5,6 +5,7 @@ use Rattle.std.specs.Prelude.{All, Result, Ok}
 use Rattle.std.proofs.lemmas.List.Elements.{All-nil, All-cons, All-head, All-tail}
 use Rattle.uz_schedule.specs.Ends.{Ends, is_within}
 use Rattle.uz_schedule.specs.Tracked.{tracks}
+use Rattle.uz_schedule.specs.Limits.{clock_limit}
 use Rattle.uz_schedule.specs.WellFormed.{RangeFits, CellFits, RestFits, spans_fit}
 use Rattle.uz_schedule.specs.declared.kinds.Kind.TheVariants.{Handler}
 use Rattle.uz_schedule.specs.declared.header.Cell.{Cell}
@@ -161,7 +162,7 @@ rest_again h lines points least r a f l =
     (advance f1 (decimal r.line) w2 r.line says (number_so (rising least (within 0 lines)) r.line (omega arith)
     (rising_so least lines r.line (omega arith) l f.line))
     (advance f2 (decimal r.clock) w3 r.clock says
-    (number_so (within 0 1820) r.clock (lit≤ tt) (within_so 0 1820 r.clock (lit≤ tt) (omega arith) f.clock))
+    (number_so (within 0 clock_limit) r.clock (lit≤ tt) (within_so 0 clock_limit r.clock (lit≤ tt) (omega arith) f.clock))
     (advance f3 (decimal r.vector) w4 r.vector says (number_so (one_of points) r.vector (omega arith)
     (one_so points r.vector (omega arith) f.vector))
     (ap (λ (m : Result Pieces CertWhy). m >>=
@@ -185,7 +186,7 @@ rest_only h lines points least words says a e =
     let f3 = form_rest f2 c.number in
     let v = retreat f3 c.left words.ended says tt c.rest in
     let ln = number_only (rising least (within 0 lines)) l.word l.number (omega arith) l.is in
-    let cn = number_only (within 0 1820) c.word c.number (lit≤ tt) c.is in
+    let cn = number_only (within 0 clock_limit) c.word c.number (lit≤ tt) c.is in
     let vn = number_only (one_of points) v.word v.number (omega arith) v.is in
     let after : Pieces → Result Said CertWhy =
     λ p. reads (finish (said.Rest (record { line = l.number; clock = c.number; vector = v.number; cells = record { items = p.0 } }))) p.1 in

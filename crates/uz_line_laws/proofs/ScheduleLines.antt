@@ -1,18 +1,25 @@
 -- The lines of kinds, events, the fall and runs, and the last line.
 use Rattle.std.proofs.Common.{◌≡◌, inr, ◌≢◌, ℕ, zero, suc, ◌+◌, ◌<◌, ◌≤◌, ◌^◌, Bool, true, List, [], ◌∷◌, decimal, codes, lit≤, refl, sym}
-use Rattle.std.proofs.Common.{◌∙◌, arith}
-use Rattle.std.specs.Prelude.{Some, Ok, slice_get}
-use Rattle.uz_schedule.specs.Limits.{clock_limit, most_events, KindFits, EventFits}
+use Rattle.std.proofs.Common.{◌∙◌, ap, arith}
+use Rattle.std.specs.Prelude.{Some, Result, Ok, slice_get}
+use Rattle.uz_schedule.specs.Limits.{clock_limit, most_events, is_length, KindFits, EventFits}
+use Rattle.uz_schedule.specs.Schedule.{scanline}
 use Rattle.uz_schedule.specs.declared.lines.Event.{Event}
 use Rattle.uz_schedule.specs.declared.lines.EventKind.{EventKind}
 use Rattle.uz_schedule.specs.declared.lines.EventKind.TheVariants.{Sync, Pixel, Sound, Leave}
 use Rattle.uz_lines.specs.Grammar.{Words, choice_of}
 use Rattle.uz_lines.specs.Forms.{LineForm, choice, reads}
+use Rattle.uz_lines.specs.Lines.{length_for, KindLineFits, kind_after}
 use Rattle.uz_lines.specs.Lines.{within, one_of, rising, kind_form, event_after, event_form, fall_form, run_form, end_form}
+use Rattle.uz_lines.specs.declared.lines.KindLine.{KindLine}
 use Rattle.uz_lines.specs.declared.lines.Run.{Run}
 use Rattle.uz_lines.specs.declared.lines.Said.{Said}
 use Rattle.uz_lines.specs.declared.lines.Said.TheVariants as said
-use Rattle.uz_spelling.specs.Spelling.{event_words, event_kind_words, run_words}
+use Rattle.uz_lines.specs.declared.version.Version.{Version}
+use Rattle.uz_lines.specs.declared.version.Version.TheVariants.{First, Second}
+use Rattle.uz_lines.specs.declared.why.CertWhy.{CertWhy}
+use Rattle.uz_lines.proofs.Lengths.{length_few, least_length, no_other_length, length_asked}
+use Rattle.uz_spelling.specs.Spelling.{kind_words, event_words, event_kind_words, run_words}
 use Rattle.uz_line_laws.specs.Said.{line, RunFits}
 use Rattle.uz_line_laws.proofs.Numbers.{IsAsked, number_so, number_only}
 use Rattle.uz_line_laws.proofs.Steps.{words_in, line_same, form_rest, advance, fixed_word, retreat, fixed_is, choice_is, finish_only}
@@ -20,27 +27,77 @@ use Rattle.uz_line_laws.proofs.Steps.{with_front, is_within}
 
 -- kind
 
-pub kind_again : (events : ℕ) → 1 ≤ events → events ≤ most_events → reads kind_form (line (codes "kind" ∷ decimal events ∷ [])) ≡ Ok
-    (said.Kind events)
-kind_again n a b =
-    advance kind_form (codes "kind") (decimal n ∷ []) 0 (Ok (said.Kind n)) (fixed_word (codes "kind"))
-    (advance (form_rest kind_form 0) (decimal n) [] n (Ok (said.Kind n))
-    (number_so (within 1 1821) n (lit≤ tt) (is_within 1 1821 n (lit≤ tt) a (omega arith))) refl)
+abbrev told : Said → Result Said CertWhy
+told says = Ok says
 
-pub kind_only : (words : Words) (says : Said) → reads kind_form words ≡ Ok says
-    → (events : ℕ) × (says ≡ said.Kind events) × (words ≡ line (codes "kind" ∷ decimal events ∷ [])) × (1 ≤ events) × (events ≤ most_events)
-kind_only words says e =
-    let a = retreat kind_form words.list words.ended says tt e in
-    let n = retreat (form_rest kind_form a.number) a.left words.ended says tt a.rest in
-    let nn = number_only (within 1 1821) n.word n.number (lit≤ tt) n.is in
-    let z = finish_only (said.Kind n.number) n.left words.ended says n.rest in (
-      n.number,
+length_so : (events clocks : ℕ) → events ≤ clocks → is_length clocks ≡ true → IsAsked (length_for events) clocks
+length_so events clocks few is =
+    let most = length_few clocks is in
+    record {
+      low = least_length events clocks few is;
+      below = omega (arith, most);
+      outside = no_other_length clocks is;
+      least = omega arith;
+      other = apart clocks most;
+    }
+  where
+    apart : (n : ℕ) → n ≤ scanline → n ≡ 4294967295 → ⊥
+    apart n h e = omega arith
+
+length_limit : (events : ℕ) → (length_for events).limit ≤ 2 ^ 32
+length_limit events = lit≤ tt
+
+pub kind_again : (version : Version) (k : KindLine) → KindLineFits version k
+    → reads (kind_form version) (line (kind_words version k.events k.clocks)) ≡ told (said.Kind k)
+kind_again First k f =
+    let n = k.events in
+    let few = f.few in
+    let same = f.clocks in
+    advance (kind_form First) (codes "kind") (decimal n ∷ []) 0 (told (said.Kind k)) (fixed_word (codes "kind"))
+    (advance (form_rest (kind_form First) 0) (decimal n) [] n (told (said.Kind k))
+    (number_so (within 1 (most_events + 1)) n (lit≤ tt) (is_within 1 (most_events + 1) n (lit≤ tt) f.some (omega (arith, few, same))))
+    (ap (λ (m : ℕ). told (said.Kind (record { events = n; clocks = m }))) (sym same)))
+kind_again Second k f =
+    let n = k.events in
+    let few = f.few in
+    let most = length_few k.clocks f.clocks in
+    advance (kind_form Second) (codes "kind") (decimal n ∷ decimal k.clocks ∷ []) 0 (told (said.Kind k)) (fixed_word (codes "kind"))
+    (advance (form_rest (kind_form Second) 0) (decimal n) (decimal k.clocks ∷ []) n (told (said.Kind k))
+    (number_so (within 1 (most_events + 1)) n (lit≤ tt) (is_within 1 (most_events + 1) n (lit≤ tt) f.some (omega (arith, few, most))))
+    (advance (kind_after Second n) (decimal k.clocks) [] k.clocks (told (said.Kind k))
+    (number_so (length_for n) k.clocks (length_limit n) (length_so n k.clocks few f.clocks)) refl))
+
+pub kind_only : (version : Version) (words : Words) (says : Said) → reads (kind_form version) words ≡ told says
+    → (k : KindLine) × (says ≡ said.Kind k) × (words ≡ line (kind_words version k.events k.clocks)) × KindLineFits version k
+kind_only First words says e =
+    let a = retreat (kind_form First) words.list words.ended says tt e in
+    let n = retreat (form_rest (kind_form First) a.number) a.left words.ended says tt a.rest in
+    let nn = number_only (within 1 (most_events + 1)) n.word n.number (lit≤ tt) n.is in
+    let k : KindLine = record { events = n.number; clocks = scanline } in
+    let z = finish_only (said.Kind k) n.left words.ended says n.rest in (
+      k,
       z.2,
-      line_same words.list (codes "kind" ∷ decimal n.number ∷ []) words.ended
+      line_same words.list (kind_words First n.number scanline) words.ended
           (with_front words.list a.left _ a.word (codes "kind") a.parts (fixed_is (codes "kind") a.word a.number a.is)
           (with_front a.left n.left _ n.word (decimal n.number) n.parts nn.0 z.0)) z.1,
-      nn.1.low,
-      omega (arith, nn.1.below),
+      record { some = nn.1.low; few = omega (arith, nn.1.below); clocks = refl },
+    )
+kind_only Second words says e =
+    let a = retreat (kind_form Second) words.list words.ended says tt e in
+    let n = retreat (form_rest (kind_form Second) a.number) a.left words.ended says tt a.rest in
+    let m = retreat (kind_after Second n.number) n.left words.ended says tt n.rest in
+    let nn = number_only (within 1 (most_events + 1)) n.word n.number (lit≤ tt) n.is in
+    let mn = number_only (length_for n.number) m.word m.number (length_limit n.number) m.is in
+    let k : KindLine = record { events = n.number; clocks = m.number } in
+    let z = finish_only (said.Kind k) m.left words.ended says m.rest in
+    let fits = length_asked n.number m.number (omega (arith, nn.1.below)) mn.1.low mn.1.below mn.1.outside in (
+      k,
+      z.2,
+      line_same words.list (kind_words Second n.number m.number) words.ended
+          (with_front words.list a.left _ a.word (codes "kind") a.parts (fixed_is (codes "kind") a.word a.number a.is)
+          (with_front a.left n.left _ n.word (decimal n.number) n.parts nn.0
+          (with_front n.left m.left _ m.word (decimal m.number) m.parts mn.0 z.0))) z.1,
+      record { some = nn.1.low; few = fits.0; clocks = fits.1 },
     )
 
 -- events
@@ -88,11 +145,11 @@ event_kind_again clock Sound h = advance (kind_choice clock) (codes "sound") [] 
 event_kind_again clock Leave h = advance (kind_choice clock) (codes "leave") [] 3 (Ok (said.Event (record { clock = clock; kind = Leave })))
     leave_choice refl
 
-pub event_again : (least : ℕ) (e : Event) → EventFits e → least ≤ e.clock → reads (event_form least) (line (event_words e)) ≡ Ok
-    (said.Event e)
-event_again least e f l =
-    advance (event_form least) (decimal e.clock) (event_kind_words e.kind) e.clock (Ok (said.Event e))
-    (number_so (rising least (within 0 1820)) e.clock (lit≤ tt) (rising_so least 1820 e.clock (lit≤ tt) l f.clock))
+pub event_again : (clocks least : ℕ) (e : Event) → clocks ≤ scanline → EventFits e → e.clock < clocks → least ≤ e.clock
+    → reads (event_form clocks least) (line (event_words e)) ≡ told (said.Event e)
+event_again clocks least e few f b l =
+    advance (event_form clocks least) (decimal e.clock) (event_kind_words e.kind) e.clock (told (said.Event e))
+    (number_so (rising least (within 0 clocks)) e.clock (omega (arith, few)) (rising_so least clocks e.clock (omega (arith, few)) l b))
     (event_kind_again e.clock e.kind f.kind)
 
 event_kind_only : (clock n : ℕ) (w : List ℕ) (ws : List (List ℕ)) (ended : Bool) (says : Said)
@@ -125,18 +182,20 @@ event_kind_only clock (suc (suc (suc zero))) w ws ended says g e =
     (Leave, z.2, with_front (w ∷ ws) ws _ w (codes "leave") refl (sym same) z.0, z.1, tt)
 event_kind_only clock (suc (suc (suc (suc n)))) w ws ended says g e = absurd cc
 
-pub event_only : (least : ℕ) (words : Words) (says : Said) → reads (event_form least) words ≡ Ok says
-    → (e : Event) × (says ≡ said.Event e) × (words ≡ line (event_words e)) × EventFits e × (least ≤ e.clock)
-event_only least words says e =
-    let n = retreat (event_form least) words.list words.ended says tt e in
-    let nn = number_only (rising least (within 0 1820)) n.word n.number (lit≤ tt) n.is in
+pub event_only : (clocks least : ℕ) (words : Words) (says : Said) → clocks ≤ scanline → reads (event_form clocks least) words ≡ told says
+    → (e : Event) × (says ≡ said.Event e) × (words ≡ line (event_words e)) × EventFits e × (e.clock < clocks) × (least ≤ e.clock)
+event_only clocks least words says few e =
+    let n = retreat (event_form clocks least) words.list words.ended says tt e in
+    let nn = number_only (rising least (within 0 clocks)) n.word n.number (omega (arith, few)) n.is in
+    let below : n.number < clocks = nn.1.below in
     let o = retreat (kind_choice n.number) n.left words.ended says tt n.rest in
     let k = event_kind_only n.number o.number o.word o.left words.ended says (choice_is event_choices o.word o.number o.is) o.rest in (
       record { clock = n.number; kind = k.0 },
       k.1,
       line_same words.list (decimal n.number ∷ event_kind_words k.0) words.ended
           (with_front words.list n.left _ n.word (decimal n.number) n.parts nn.0 (o.parts ∙ k.2)) k.3,
-      record { clock = nn.1.below; kind = k.4 },
+      record { clock = omega (arith, few, below); kind = k.4 },
+      below,
       nn.1.least,
     )
 
@@ -147,14 +206,14 @@ pub fall_again : (clock : ℕ) → 1 ≤ clock → clock < clock_limit → reads
 fall_again n a b =
     advance fall_form (codes "fall") (decimal n ∷ []) 0 (Ok (said.Fall n)) (fixed_word (codes "fall"))
     (advance (form_rest fall_form 0) (decimal n) [] n (Ok (said.Fall n))
-    (number_so (within 1 1820) n (lit≤ tt) (is_within 1 1820 n (lit≤ tt) a b)) refl)
+    (number_so (within 1 clock_limit) n (lit≤ tt) (is_within 1 clock_limit n (lit≤ tt) a b)) refl)
 
 pub fall_only : (words : Words) (says : Said) → reads fall_form words ≡ Ok says
     → (clock : ℕ) × (says ≡ said.Fall clock) × (words ≡ line (codes "fall" ∷ decimal clock ∷ [])) × (1 ≤ clock) × (clock < clock_limit)
 fall_only words says e =
     let a = retreat fall_form words.list words.ended says tt e in
     let n = retreat (form_rest fall_form a.number) a.left words.ended says tt a.rest in
-    let nn = number_only (within 1 1820) n.word n.number (lit≤ tt) n.is in
+    let nn = number_only (within 1 clock_limit) n.word n.number (lit≤ tt) n.is in
     let z = finish_only (said.Fall n.number) n.left words.ended says n.rest in (
       n.number,
       z.2,

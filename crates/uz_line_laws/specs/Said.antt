@@ -17,16 +17,6 @@ line words = record { list = words; ended = true }
 abbrev pub sizes_words : Sizes → List (List ℕ)
 sizes_words s = codes "size" ∷ decimal s.kinds ∷ decimal s.lines ∷ decimal s.rests ∷ decimal s.points ∷ decimal s.cells ∷ []
 
-pub record SizesFit (s : Sizes) : Type 0 where
-  pub kinds_some : 1 ≤ s.kinds
-  pub kinds_few : s.kinds ≤ most_lines
-  pub lines_some : 1 ≤ s.lines
-  pub lines_few : s.lines ≤ most_lines
-  pub rests_few : s.rests ≤ s.lines
-  pub points_some : 1 ≤ s.points
-  pub points_few : s.points ≤ 524288
-  pub cells_few : s.cells ≤ 16
-
 -- irq R
 abbrev pub response_words : Response → List (List ℕ)
 response_words r = codes "irq" ∷ decimal (response_clocks r) ∷ []

@@ -3,7 +3,8 @@
 //! no default is written, items stand in their order, and numbers are spelled in one way. Each function does nothing.
 
 ghost use Rattle.std.specs.Prelude.{◌≡◌, ◌<◌, ◌≤◌, ◌==◌, ◌^◌, ◌∷◌, [], ℕ, List, All, Ok, codes, decimal, false, length};
-ghost use Rattle.uz_schedule.specs.Limits.{clock_limit, most_events, EventFits};
+ghost use Rattle.uz_schedule.specs.Limits.{clock_limit, EventFits};
+ghost use Rattle.uz_schedule.specs.Schedule.{scanline};
 ghost use Rattle.uz_schedule.specs.WellFormed.{CellFits, StackFits, RestFits, EntryFits, PointFits, instances_of};
 ghost use Rattle.uz_schedule.specs.declared.kinds.Response.{Response};
 ghost use Rattle.uz_schedule.specs.declared.header.Cell.{Cell};
@@ -14,14 +15,16 @@ ghost use Rattle.uz_schedule.specs.declared.states.Entry.{Entry};
 ghost use Rattle.uz_schedule.specs.declared.states.Point.{Point};
 ghost use Rattle.uz_lines.specs.Grammar.{Words, words_of};
 ghost use Rattle.uz_lines.specs.Forms.{reads};
-ghost use Rattle.uz_lines.specs.Lines.{size_form, irq_form, stack_form, cell_form, kind_form, event_form, fall_form, run_form, rest_form, entry_form, point_form, end_form};
+ghost use Rattle.uz_lines.specs.Lines.{SizesFit, KindLineFits, size_form, irq_form, stack_form, cell_form, kind_form, event_form, fall_form, run_form, rest_form, entry_form, point_form, end_form};
+ghost use Rattle.uz_lines.specs.declared.lines.KindLine.{KindLine};
+ghost use Rattle.uz_lines.specs.declared.version.Version.{Version};
 ghost use Rattle.uz_lines.specs.declared.lines.Run.{Run};
 ghost use Rattle.uz_lines.specs.declared.lines.Said.{Said};
 ghost use Rattle.uz_lines.specs.declared.lines.Said.TheVariants as said;
 ghost use Rattle.uz_lines.specs.declared.lines.Sizes.{Sizes};
 ghost use Rattle.uz_lines.specs.declared.lines.StackLine.{StackLine};
-ghost use Rattle.uz_spelling.specs.Spelling.{line_of, cell_words, event_words, run_words, rest_words, entry_words, point_words};
-ghost use Rattle.uz_line_laws.specs.Said.{line, sizes_words, SizesFit, response_words, stack_line_words, with_stack, RunFits, PlacesAre};
+ghost use Rattle.uz_spelling.specs.Spelling.{line_of, cell_words, kind_words, event_words, run_words, rest_words, entry_words, point_words};
+ghost use Rattle.uz_line_laws.specs.Said.{line, sizes_words, response_words, stack_line_words, with_stack, RunFits, PlacesAre};
 
 /// `size KINDS LINES RESTS POINTS CELLS`
 pub fn size_line()
@@ -52,19 +55,20 @@ pub fn cell_line()
         → (c : Cell) × (says ≡ said.Cell c) × (words ≡ line (cell_words c)) × CellFits h c × (least ≤ c.at) }
 {}
 
-/// `kind EVENTS`
+/// `kind EVENTS LENGTH`, and in version 1 `kind EVENTS`
 pub fn kind_line()
-    ensures again { (events : ℕ) → 1 ≤ events → events ≤ most_events
-        → reads kind_form (line (codes "kind" ∷ decimal events ∷ [])) ≡ Ok (said.Kind events) }
-    ensures only { (words : Words) (says : Said) → reads kind_form words ≡ Ok says
-        → (events : ℕ) × (says ≡ said.Kind events) × (words ≡ line (codes "kind" ∷ decimal events ∷ [])) × (1 ≤ events) × (events ≤ most_events) }
+    ensures again { (version : Version) (k : KindLine) → KindLineFits version k
+        → reads (kind_form version) (line (kind_words version k.events k.clocks)) ≡ Ok (said.Kind k) }
+    ensures only { (version : Version) (words : Words) (says : Said) → reads (kind_form version) words ≡ Ok says
+        → (k : KindLine) × (says ≡ said.Kind k) × (words ≡ line (kind_words version k.events k.clocks)) × KindLineFits version k }
 {}
 
-/// `CLOCK sync V`, `CLOCK pixel`, `CLOCK sound` and `CLOCK leave`, at a clock that keeps the order
+/// `CLOCK sync V`, `CLOCK pixel`, `CLOCK sound` and `CLOCK leave`, at a clock of the line that keeps the order
 pub fn event_line()
-    ensures again { (least : ℕ) (e : Event) → EventFits e → least ≤ e.clock → reads (event_form least) (line (event_words e)) ≡ Ok (said.Event e) }
-    ensures only { (least : ℕ) (words : Words) (says : Said) → reads (event_form least) words ≡ Ok says
-        → (e : Event) × (says ≡ said.Event e) × (words ≡ line (event_words e)) × EventFits e × (least ≤ e.clock) }
+    ensures again { (clocks least : ℕ) (e : Event) → clocks ≤ scanline → EventFits e → e.clock < clocks → least ≤ e.clock
+        → reads (event_form clocks least) (line (event_words e)) ≡ Ok (said.Event e) }
+    ensures only { (clocks least : ℕ) (words : Words) (says : Said) → clocks ≤ scanline → reads (event_form clocks least) words ≡ Ok says
+        → (e : Event) × (says ≡ said.Event e) × (words ≡ line (event_words e)) × EventFits e × (e.clock < clocks) × (least ≤ e.clock) }
 {}
 
 /// `fall CLOCK`

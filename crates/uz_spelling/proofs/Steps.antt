@@ -1,8 +1,9 @@
 -- One more word or line at the end of a text.
-use Rattle.std.proofs.Common.{◌≡◌, ℕ, zero, suc, ◌+◌, ◌<◌, ◌≤◌, Bool, true, false, cond, List, [], ◌∷◌, ◌++◌, map, drop, get_or, length}
-use Rattle.std.proofs.Common.{decimal, refl, sym, ◌∙◌, ap, append_assoc, append-nil, add-one, drop-cons}
+use Rattle.std.proofs.Common.{◌≡◌, ℕ, zero, suc, ◌+◌, ◌<◌, ◌≤◌, Bool, true, false, ◌&&◌, cond, List, [], ◌∷◌, ◌++◌, map, drop, get_or, length}
+use Rattle.std.proofs.Common.{decimal, refl, sym, ◌∙◌, ap, arith, append_assoc, append-nil, add-one, drop-cons}
 use Rattle.std.specs.Prelude.{Some, slice_get}
 use Rattle.std.proofs.lemmas.List.{drop_all}
+use Rattle.uz_schedule.specs.Limits.{is_length, clocks_below, lengths_fit}
 use Rattle.uz_schedule.specs.Tracked.{tracks}
 use Rattle.uz_schedule.specs.WellFormed.{is_default_flag}
 use Rattle.uz_schedule.specs.declared.kinds.Kind.{Kind}
@@ -13,6 +14,7 @@ use Rattle.uz_schedule.specs.declared.header.Cell.{Cell}
 use Rattle.uz_schedule.specs.declared.lines.Event.{Event}
 use Rattle.uz_lines.specs.Defaults.{is_any_pair, is_range}
 use Rattle.uz_spelling.specs.Spelling.{line_of, unless, item, fact_word, pair_word, flag_word, pair_items, flag_items, cell_items}
+use Rattle.uz_lines.specs.declared.version.Version.TheVariants.{Second}
 use Rattle.uz_spelling.specs.Spelling.{kind_words, event_words, kinds_then}
 use Rattle.uz_spelling.specs.Joined.{spaced, ended, line_end}
 use Rattle.uz_spelling.proofs.Joining.{spaced_append, ended_append, line_ended}
@@ -125,15 +127,41 @@ cell_missing text kind i next c cs fs e =
 
 -- kinds of line
 
-pub kind_added : (old mid new : List ℕ) (events : List Event) (kinds : List (List Event))
-    → mid ≡ old ++ line_end (kind_words events) → new ≡ mid ++ ended (map (λ e. line_of (event_words e)) events)
-    → new ++ ended (kinds_then kinds []) ≡ old ++ ended (kinds_then (events ∷ kinds) [])
-kind_added old mid new events kinds e f =
+pub kind_added : (old mid new : List ℕ) (events : List Event) (clocks : ℕ) (kinds : List (List Event)) (lengths : List ℕ)
+    → mid ≡ old ++ line_end (kind_words Second (length events) clocks) → new ≡ mid ++ ended (map (λ e. line_of (event_words e)) events)
+    → new ++ ended (kinds_then Second kinds lengths []) ≡ old ++ ended (kinds_then Second (events ∷ kinds) (clocks ∷ lengths) [])
+kind_added old mid new events clocks kinds lengths e f =
     let lines = map (λ e. line_of (event_words e)) events in
-    added_two old mid new (line_end (kind_words events)) (ended lines) (ended (kinds_then kinds []))
-    (old ++ ended (kinds_then (events ∷ kinds) [])) e f
-    (ap (λ t. old ++ t) (ap (λ t. line_end (kind_words events) ++ t) (sym (ended_append lines (kinds_then kinds [])))
-    ∙ line_ended (kind_words events) (lines ++ kinds_then kinds [])))
+    let words = kind_words Second (length events) clocks in
+    let others = kinds_then Second kinds lengths [] in
+    added_two old mid new (line_end words) (ended lines) (ended others)
+    (old ++ ended (kinds_then Second (events ∷ kinds) (clocks ∷ lengths) [])) e f
+    (ap (λ t. old ++ t) (ap (λ t. line_end words ++ t) (sym (ended_append lines others)) ∙ line_ended words (lines ++ others)))
+
+-- kinds that are left
+pub kinds_left : (kinds : List (List Event)) (lengths : List ℕ) (k : ℕ) (events : List Event) (clocks : ℕ) → k < length kinds
+    → k < length lengths → events ≡ get_or kinds k events → clocks ≡ get_or lengths k clocks
+    → kinds_then Second (drop k kinds) (drop k lengths) []
+    ≡ kinds_then Second (events ∷ drop (k + 1) kinds) (clocks ∷ drop (k + 1) lengths) []
+kinds_left kinds lengths k events clocks h i e f =
+    ap (λ ks. kinds_then Second ks (drop k lengths) []) (left kinds k events events h e)
+    ∙ ap (λ ns. kinds_then Second (events ∷ drop (k + 1) kinds) ns []) (left lengths k clocks clocks i f)
+
+pub kinds_over : (kinds : List (List Event)) (lengths : List ℕ) (k : ℕ) → length kinds ≤ k
+    → ended (kinds_then Second (drop k kinds) (drop k lengths) []) ≡ []
+kinds_over kinds lengths k h = ap (λ ks. ended (kinds_then Second ks (drop k lengths) [])) (drop_all k kinds h)
+
+-- one length for each kind
+pub lengths_count : (kinds : List (List Event)) (lengths : List ℕ) → lengths_fit kinds lengths ≡ true → length kinds ≤ length lengths
+lengths_count [] lengths h = omega arith
+lengths_count (es ∷ kinds) [] h = absurd cc
+lengths_count (es ∷ kinds) (n ∷ lengths) h =
+    let later = lengths_count kinds lengths (both (is_length n && clocks_below es n) (lengths_fit kinds lengths) h) in
+    omega (arith, later)
+  where
+    both : (a b : Bool) → (a && b) ≡ true → b ≡ true
+    both true b e = e
+    both false b e = absurd cc
 
 -- two lists of words
 pub added_both : (old mid new : List ℕ) (ws vs : List (List ℕ)) → mid ≡ old ++ spaced ws → new ≡ mid ++ spaced vs → new ≡ old

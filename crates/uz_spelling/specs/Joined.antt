@@ -10,6 +10,7 @@ use Rattle.uz_schedule.specs.declared.certificate.Cert.{Cert}
 use Rattle.uz_spelling.specs.Spelling.{line_of, kind_word, signed_word, truth_word, register_items, pair_items, flag_items, slot_items}
 use Rattle.uz_spelling.specs.Spelling.{cell_items, successor_items, range_facts, ends_word, size_words, irq_words, stack_words, cell_words}
 use Rattle.uz_spelling.specs.Spelling.{fall_words}
+use Rattle.uz_lines.specs.declared.version.Version.TheVariants.{Second}
 use Rattle.uz_spelling.specs.Spelling.{kinds_then, runs_of, run_words, rest_words, entry_words, point_words}
 
 -- each word with a space (32) before it
@@ -85,12 +86,12 @@ point_text cells p = codes "point" ++ (spaced (point_place p) ++ (core_text p ++
 -- the lines up to those of the cells
 abbrev pub head_text : Cert → List ℕ
 head_text c =
-    codes "uzcert 1\n" ++ (line_end (size_words c) ++ (line_end (irq_words c.head) ++ (line_end (stack_words c.head)
+    codes "uzcert 2\n" ++ (line_end (size_words c) ++ (line_end (irq_words c.head) ++ (line_end (stack_words c.head)
     ++ ended (map (λ m. line_of (cell_words m)) c.head.cells.items))))
 
 -- the lines of the schedule
 abbrev pub schedule_text : Schedule → List ℕ
-schedule_text s = ended (kinds_then s.kinds []) ++ (line_end (fall_words s) ++ ended (run_lines (runs_of s.lines)))
+schedule_text s = ended (kinds_then Second s.kinds s.lengths []) ++ (line_end (fall_words s) ++ ended (run_lines (runs_of s.lines)))
 
 -- the lines from the rests on
 abbrev pub state_text : Cert → List ℕ

@@ -10,6 +10,9 @@ use Rattle.uz_schedule.specs.declared.kinds.Kind.TheVariants.{Main, Handler, Alo
 use Rattle.uz_schedule.specs.Tracked.{tracks}
 use Rattle.uz_schedule.specs.WellFormed.{is_default_flag}
 use Rattle.uz_lines.specs.Defaults.{is_default, is_any_pair, is_range, range_fact}
+use Rattle.uz_lines.specs.Lines.{head_line}
+use Rattle.uz_lines.specs.declared.version.Version.{Version}
+use Rattle.uz_lines.specs.declared.version.Version.TheVariants.{First, Second}
 use Rattle.uz_schedule.specs.declared.kinds.Owner.{Owner}
 use Rattle.uz_schedule.specs.declared.kinds.Owner.TheVariants.{Main as MainCell, Handler as HandlerCell}
 use Rattle.uz_schedule.specs.declared.facts.Fact.{Fact}
@@ -128,8 +131,13 @@ owner_word HandlerCell = codes "handler"
 abbrev pub cell_words : Cell → List (List ℕ)
 cell_words c = codes "cell" ∷ decimal c.at ∷ owner_word c.owner ∷ decimal c.range.lo ∷ decimal c.range.hi ∷ []
 
-abbrev pub kind_words : List Event → List (List ℕ)
-kind_words events = codes "kind" ∷ decimal (length events) ∷ []
+-- version 2 says the length of a kind of line
+abbrev pub length_words : Version → ℕ → List (List ℕ)
+length_words First clocks = []
+length_words Second clocks = decimal clocks ∷ []
+
+abbrev pub kind_words : Version → ℕ → ℕ → List (List ℕ)
+kind_words version events clocks = codes "kind" ∷ decimal events ∷ length_words version clocks
 
 abbrev pub event_kind_words : EventKind → List (List ℕ)
 event_kind_words (Sync level) = codes "sync" ∷ decimal level ∷ []
@@ -201,10 +209,13 @@ point_words cells p =
 
 -- the whole text
 
--- the lines of the kinds, and then these
-abbrev pub kinds_then : List (List Event) → List (List ℕ) → List (List ℕ)
-kinds_then [] others = others
-kinds_then (events ∷ kinds) others = line_of (kind_words events) ∷ (map (λ e. line_of (event_words e)) events ++ kinds_then kinds others)
+-- the lines of the kinds, each with its length, and then these
+abbrev pub kinds_then : Version → List (List Event) → List ℕ → List (List ℕ) → List (List ℕ)
+kinds_then version [] lengths others = others
+kinds_then version (events ∷ kinds) [] others = others
+kinds_then version (events ∷ kinds) (clocks ∷ lengths) others =
+    line_of (kind_words version (length events) clocks)
+    ∷ (map (λ e. line_of (event_words e)) events ++ kinds_then version kinds lengths others)
 
 -- `end` and, after the last LF, the empty line
 abbrev pub last_lines : List (List ℕ)
@@ -214,15 +225,16 @@ abbrev pub state_lines : List Cell → Entry → List Point → List (List ℕ)
 state_lines cells entry points =
     line_of (entry_words cells entry) ∷ (map (λ p. line_of (point_words cells p)) points ++ last_lines)
 
-abbrev pub schedule_lines : Schedule → List (List ℕ) → List (List ℕ)
-schedule_lines s others =
-    kinds_then s.kinds (line_of (fall_words s) ∷ (map (λ r. line_of (run_words r)) (runs_of s.lines) ++ others))
+abbrev pub schedule_lines : Version → Schedule → List (List ℕ) → List (List ℕ)
+schedule_lines version s others =
+    kinds_then version s.kinds s.lengths (line_of (fall_words s) ∷ (map (λ r. line_of (run_words r)) (runs_of s.lines) ++ others))
 
-abbrev pub lines_of_certificate : Cert → List (List ℕ)
-lines_of_certificate c =
-    codes "uzcert 1" ∷ line_of (size_words c) ∷ line_of (irq_words c.head) ∷ line_of (stack_words c.head)
+abbrev pub lines_of_certificate : Version → Cert → List (List ℕ)
+lines_of_certificate version c =
+    head_line version ∷ line_of (size_words c) ∷ line_of (irq_words c.head) ∷ line_of (stack_words c.head)
     ∷ (map (λ m. line_of (cell_words m)) c.head.cells.items
-    ++ schedule_lines c.schedule (map (λ r. line_of (rest_words r)) c.rests ++ state_lines c.head.cells.items c.entry c.points))
+    ++ schedule_lines version c.schedule (map (λ r. line_of (rest_words r)) c.rests ++ state_lines c.head.cells.items c.entry c.points))
 
-abbrev pub spelling : Cert → List ℕ
-spelling c = join_with_byte (code "\n") (lines_of_certificate c)
+-- the text of a version, which for version 1 says nothing of lengths
+abbrev pub spelling : Version → Cert → List ℕ
+spelling version c = join_with_byte (code "\n") (lines_of_certificate version c)

@@ -3,6 +3,7 @@
 ghost use Rattle.std.specs.Prelude.{◌≡◌, ◌<◌, ◌≤◌, ◌+◌, ◌++◌, ◌∷◌, [], ℕ, List, All, IfOk, OnOk, length, map};
 ghost use Rattle.uz_schedule.specs.Limits.{most_lines, most_events};
 ghost use Rattle.uz_schedule.specs.declared.lines.Event.{Event};
+ghost use Rattle.uz_lines.specs.declared.version.Version.TheVariants.{Second};
 ghost use Rattle.uz_spelling.specs.Joined.{ended, line_end, run_lines, run_on, spaced};
 ghost use Rattle.uz_spelling.specs.Spelling.{kind_words, event_kind_words, event_words, fall_words, run_before, runs_of, run_words, kinds_then, line_of};
 
@@ -10,13 +11,13 @@ use crate::words::{add_decimal, add_number, add_numbers, add_word, end_line};
 use std::alloc::AllocError;
 use uz_schedule::{Event, EventKind, LineEvents, Schedule};
 
-/// Adds `kind EVENTS`.
-fn add_kind(text: &mut Vec<u8>, events: &[Event]) -> Result<(), AllocError>
+/// Adds `kind EVENTS LENGTH`.
+fn add_kind(text: &mut Vec<u8>, events: &[Event], clocks: u16) -> Result<(), AllocError>
     requires { length events.now ≤ most_events }
-    ensures { OnOk result (text.new.items ≡ text.old.items ++ line_end (kind_words events.now)) }
+    ensures { OnOk result (text.new.items ≡ text.old.items ++ line_end (kind_words Second (length events.now) clocks)) }
 {
     text.extend_from_slice(b"kind")?;
-    add_number(text, events.len() as u32)?;
+    add_numbers(text, &[events.len() as u32, u32::from(clocks)])?;
     end_line(text)
 }
 
@@ -56,21 +57,26 @@ fn add_events(text: &mut Vec<u8>, events: &[Event]) -> Result<(), AllocError>
 
 /// Adds the lines of a kind of line.
 #[tactic(auto, using(crate::proofs::Steps::kind_added))]
-fn add_kind_lines(text: &mut Vec<u8>, events: &[Event]) -> Result<(), AllocError>
+fn add_kind_lines(text: &mut Vec<u8>, events: &[Event], clocks: u16) -> Result<(), AllocError>
     requires { length events.now ≤ most_events }
-    ensures { OnOk result ((kinds : List (List Event)) → text.new.items ++ ended (kinds_then kinds []) ≡ text.old.items ++ ended (kinds_then (events.now ∷ kinds) [])) }
+    ensures { OnOk result ((kinds : List (List Event)) (lengths : List ℕ) → text.new.items ++ ended (kinds_then Second kinds lengths []) ≡ text.old.items ++ ended (kinds_then Second (events.now ∷ kinds) (clocks ∷ lengths) [])) }
 {
-    add_kind(text, events)?;
+    add_kind(text, events, clocks)?;
     add_events(text, events)
 }
 
-/// Adds the lines of the kinds of line, each followed by those of its events.
-pub(crate) fn add_kinds(text: &mut Vec<u8>, kinds: &[LineEvents]) -> Result<(), AllocError>
-    requires { All (λ events. length events ≤ most_events) kinds.now }
-    ensures { OnOk result (text.new.items ≡ text.old.items ++ ended (kinds_then kinds.now [])) }
+/// Adds the lines of the kinds of line, of these lengths, each followed by those of its events.
+pub(crate) fn add_kinds(
+    text: &mut Vec<u8>,
+    kinds: &[LineEvents],
+    lengths: &[u16],
+) -> Result<(), AllocError>
+    requires few { All (λ events. length events ≤ most_events) kinds.now }
+    requires lengths { length kinds.now ≤ length lengths.now }
+    ensures { OnOk result (text.new.items ≡ text.old.items ++ ended (kinds_then Second kinds.now lengths.now [])) }
 {
-    for kind in kinds {
-        add_kind_lines(text, kind.as_slice())?;
+    for (k, kind) in kinds.iter().enumerate() {
+        add_kind_lines(text, kind.as_slice(), lengths[k])?;
     }
     Ok(())
 }

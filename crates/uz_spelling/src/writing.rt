@@ -3,6 +3,7 @@
 ghost use Rattle.std.specs.Prelude.{◌≡◌, ◌≤◌, ◌<◌, ◌++◌, ◌^◌, IfOk, OnOk, codes, length};
 ghost use Rattle.uz_schedule.specs.Limits.{ScheduleFits};
 ghost use Rattle.uz_schedule.specs.WellFormed.{WellFormed};
+ghost use Rattle.uz_lines.specs.declared.version.Version.TheVariants.{Second};
 ghost use Rattle.uz_spelling.specs.Joined.{head_text, schedule_text, state_text};
 ghost use Rattle.uz_spelling.specs.Spelling.{spelling};
 
@@ -20,7 +21,7 @@ fn add_head(text: &mut Vec<u8>, cert: &Cert) -> Result<(), AllocError>
     requires { WellFormed cert.now }
     ensures { OnOk result (text.new.items ≡ text.old.items ++ head_text cert.now) }
 {
-    text.extend_from_slice(b"uzcert 1\n")?;
+    text.extend_from_slice(b"uzcert 2\n")?;
     add_size(text, cert)?;
     add_irq(text, &cert.head)?;
     add_stack(text, &cert.head)?;
@@ -32,7 +33,7 @@ fn add_schedule(text: &mut Vec<u8>, schedule: &Schedule) -> Result<(), AllocErro
     requires { ScheduleFits schedule.now }
     ensures { OnOk result (text.new.items ≡ text.old.items ++ schedule_text schedule.now) }
 {
-    add_kinds(text, schedule.kinds.as_slice())?;
+    add_kinds(text, schedule.kinds.as_slice(), schedule.lengths.as_slice())?;
     add_fall(text, schedule)?;
     add_runs(text, schedule.lines.as_slice())
 }
@@ -63,17 +64,17 @@ fn add_all(text: &mut Vec<u8>, cert: &Cert) -> Result<(), AllocError>
 /// Adds the text of a certificate.
 fn add_text(text: &mut Vec<u8>, cert: &Cert) -> Result<(), AllocError>
     requires { WellFormed cert.now }
-    ensures { OnOk result (text.new.items ≡ text.old.items ++ spelling cert.now) }
+    ensures { OnOk result (text.new.items ≡ text.old.items ++ spelling Second cert.now) }
 {
     add_all(text, cert)?;
     Ok(())
 }
 
-/// The text of a certificate that is within the limits and orders of its text, `well_formed`. The one error is want of
+/// The text, of version 2, of a certificate that is within the limits and orders of its text, `well_formed`. The one error is want of
 /// memory. The text is written in one pass, in time linear in its length.
 pub fn write_cert(alloc: Global, cert: &Cert) -> Result<Vec<u8>, AllocError>
     requires { WellFormed cert.now }
-    ensures { IfOk result (λ text. text.items ≡ spelling cert.now) }
+    ensures { IfOk result (λ text. text.items ≡ spelling Second cert.now) }
 {
     let mut text = Vec::with_capacity(alloc, cert.points.len() * POINT_BYTES)?;
     add_text(&mut text, cert)?;

@@ -3,6 +3,7 @@ use Rattle.std.proofs.Common.{◌≡◌, ℕ, zero, suc, ◌+◌, ◌-◌, ◌�
 use Rattle.std.proofs.Common.{zero-add, refl, sym, ◌∙◌, ap, subst, append_assoc, append-nil, arith, length-append}
 use Rattle.std.specs.Prelude.{Option, Some, None}
 use Rattle.std.proofs.lemmas.Bool.Decides.{nat_tests}
+use Rattle.uz_schedule.specs.Schedule.{scanline}
 use Rattle.uz_schedule.specs.declared.kinds.Response.{Response}
 use Rattle.uz_schedule.specs.declared.header.Cell.{Cell}
 use Rattle.uz_schedule.specs.declared.lines.Event.{Event}
@@ -10,22 +11,25 @@ use Rattle.uz_schedule.specs.declared.states.Rest.{Rest}
 use Rattle.uz_schedule.specs.declared.states.Entry.{Entry}
 use Rattle.uz_schedule.specs.declared.states.Point.{Point}
 use Rattle.uz_schedule.specs.declared.certificate.Cert.{Cert}
-use Rattle.uz_spelling.specs.Spelling.{line_of, cell_words, event_words, kinds_then, runs_of, lines_of_certificate}
+use Rattle.uz_spelling.specs.Spelling.{line_of, cell_words, event_words, kind_words, kinds_then, runs_of, lines_of_certificate}
+use Rattle.uz_lines.specs.Lines.{head_line}
+use Rattle.uz_lines.specs.declared.lines.KindLine.{KindLine}
 use Rattle.uz_lines.specs.declared.lines.Sizes.{Sizes}
 use Rattle.uz_lines.specs.declared.lines.StackLine.{StackLine}
 use Rattle.uz_lines.specs.declared.lines.Said.{Said}
 use Rattle.uz_lines.specs.declared.lines.Said.TheVariants as said
+use Rattle.uz_lines.specs.declared.version.Version.{Version}
 use Rattle.uz_text.proofs.Plain.{Lacks, EachLacks, lacks_nil}
 use Rattle.uz_cert.specs.Drafts.{first_draft, due_of, draft_after}
 use Rattle.uz_cert.specs.Kept.{Kept, SaidFits}
-use Rattle.uz_cert.specs.Reading.{head_line, cert_from, cert_before, read_by, read_from}
+use Rattle.uz_cert.specs.Reading.{cert_from, cert_before, read_by, read_from}
 use Rattle.uz_cert.specs.declared.due.Due.{Due}
 use Rattle.uz_cert.specs.declared.due.Due.TheVariants as due
 use Rattle.uz_cert.specs.declared.draft.Draft.{Draft}
 use Rattle.uz_cert.proofs.KeptLaws.{first_kept}
 use Rattle.uz_text_laws.proofs.Due.{PastCells, PastKinds}
 use Rattle.uz_text_laws.proofs.Due.{due_size, due_irq, due_stack, due_cell, due_event, due_kind, due_fall}
-use Rattle.uz_text_laws.proofs.Onward.{LineSpelling, spelled, told, fall_lines, expand, Apart}
+use Rattle.uz_text_laws.proofs.Onward.{LineSpelling, spelled, told, fall_lines, expand, Apart, with_kinds, BetweenKinds, no_kind_more}
 use Rattle.uz_text_laws.proofs.Runs.{runs_expand}
 use Rattle.uz_text_laws.proofs.BackwardStates.{wrap, NextRead, next_read, NoRestsYet, runs_back}
 
@@ -88,10 +92,10 @@ fall_back l d pieces c k b p none h =
 
 -- the kinds of line, each with its events
 
-abbrev with_kind : Draft → ℕ → Draft
-with_kind d n = record d { read = d.read + 1; owed = n }
+abbrev with_kind : Draft → KindLine → Draft
+with_kind d k = record d { read = d.read + 1; owed = k.events; clocks = k.clocks }
 
-kind_next : (d : Draft) (n : ℕ) → draft_after d (said.Kind n) ≡ with_kind d n
+kind_next : (d : Draft) (n : KindLine) → draft_after d (said.Kind n) ≡ with_kind d n
 unfolding draft_after
 kind_next d n = refl
 
@@ -103,6 +107,8 @@ with_last d e = record d {
   read = d.read + 1;
   owed = d.owed - 1;
   kinds = d.kinds ++ (d.events ++ e ∷ []) ∷ [];
+  lengths = d.lengths ++ d.clocks ∷ [];
+  clocks = scanline;
   events = [];
   event_least = 0;
 }
@@ -115,9 +121,6 @@ last_next : (d : Draft) (e : Event) → eqb (d.owed - 1) 0 ≡ true → draft_af
 unfolding draft_after
 last_next d e h = rw h refl
 
-abbrev with_kinds : Draft → ℕ → List (List Event) → Draft
-with_kinds d read kinds = record d { read = read; kinds = kinds; owed = 0; events = []; event_least = 0 }
-
 abbrev event_lines : List Event → List (List ℕ)
 event_lines es = map (λ e. line_of (event_words e)) es
 
@@ -128,8 +131,8 @@ record EventsBack (d : Draft) (pieces : List (List ℕ)) (c : Cert) : Type 0 whe
   parts : pieces ≡ event_lines es ++ rest
   count : length es ≡ d.owed
   body : 4 ≤ read
-  kept : Kept (with_kinds d read (d.kinds ++ (d.events ++ es) ∷ []))
-  more : read_from (with_kinds d read (d.kinds ++ (d.events ++ es) ∷ [])) rest ≡ told c
+  kept : Kept (with_kinds d read (d.kinds ++ (d.events ++ es) ∷ []) (d.lengths ++ d.clocks ∷ []))
+  more : read_from (with_kinds d read (d.kinds ++ (d.events ++ es) ∷ []) (d.lengths ++ d.clocks ∷ [])) rest ≡ told c
 
 zero_test : (n : ℕ) → n ≡ 0 → eqb n 0 ≡ true
 zero_test n h = grind (arith, nat_tests)
@@ -143,7 +146,8 @@ events_back : (l : LineSpelling) (n : ℕ) (d : Draft) (pieces : List (List ℕ)
 events_back l zero d pieces c k b p owed h =
     let x = next_read l d due.Event pieces c k (due_event d b p (omega (arith, owed))) h in
     let none : d.owed - 1 ≡ 0 = omega (arith, owed) in
-    let last : draft_after d (said.Event x.value) ≡ with_kinds d (d.read + 1) (d.kinds ++ (d.events ++ x.value ∷ []) ∷ []) =
+    let last : draft_after d (said.Event x.value) ≡ with_kinds d (d.read + 1) (d.kinds ++ (d.events ++ x.value ∷ []) ∷ [])
+    (d.lengths ++ d.clocks ∷ []) =
     last_next d x.value (zero_test (d.owed - 1) none) ∙ ap (λ n. record (with_last d x.value) { owed = n }) none in
     record {
       es = x.value ∷ [];
@@ -169,8 +173,8 @@ events_back l (suc n) d pieces c k b p owed h =
       parts = x.parts ∙ ap (λ ls. line_of (event_words x.value) ∷ ls) y.parts;
       count = one_more (length y.es) d.owed n later owed;
       body = y.body;
-      kept = subst (λ es. Kept (with_kinds d y.read (d.kinds ++ es ∷ []))) seam y.kept;
-      more = ap (λ es. read_from (with_kinds d y.read (d.kinds ++ es ∷ [])) y.rest) (sym seam) ∙ y.more;
+      kept = subst (λ es. Kept (with_kinds d y.read (d.kinds ++ es ∷ []) (d.lengths ++ d.clocks ∷ []))) seam y.kept;
+      more = ap (λ es. read_from (with_kinds d y.read (d.kinds ++ es ∷ []) (d.lengths ++ d.clocks ∷ [])) y.rest) (sym seam) ∙ y.more;
     }
   where
     one_more : (a owed n : ℕ) → a ≡ owed - 1 → owed ≡ suc n + 1 → suc a ≡ owed
@@ -178,27 +182,22 @@ events_back l (suc n) d pieces c k b p owed h =
 
 record KindsBack (n : ℕ) (d : Draft) (pieces : List (List ℕ)) (c : Cert) : Type 0 where
   kinds : List (List Event)
+  lengths : List ℕ
   rest : List (List ℕ)
   read : ℕ
-  parts : pieces ≡ kinds_then kinds rest
+  parts : pieces ≡ kinds_then d.version kinds lengths rest
   count : length kinds ≡ n
   body : 4 ≤ read
-  kept : Kept (with_kinds d read (d.kinds ++ kinds))
-  more : read_from (with_kinds d read (d.kinds ++ kinds)) rest ≡ told c
-
--- no kind of line is begun
-abbrev BetweenKinds : Draft → Type 0
-BetweenKinds d = (d.owed ≡ 0) × (d.events ≡ []) × (d.event_least ≡ 0)
+  kept : Kept (with_kinds d read (d.kinds ++ kinds) (d.lengths ++ lengths))
+  more : read_from (with_kinds d read (d.kinds ++ kinds) (d.lengths ++ lengths)) rest ≡ told c
 
 kinds_back : (l : LineSpelling) (n : ℕ) (d : Draft) (pieces : List (List ℕ)) (c : Cert) → Kept d → 4 ≤ d.read → PastCells d → BetweenKinds d
     → length d.kinds + n ≡ d.sizes.kinds → read_from d pieces ≡ told c → KindsBack n d pieces c
 kinds_back l zero d pieces c k b p between count h =
-    let same : d ≡ with_kinds d d.read (d.kinds ++ []) =
-    ap (λ ks. record d { kinds = ks }) (sym (append-nil d.kinds)) ∙ (ap (λ n. record d { kinds = d.kinds ++ []; owed = n }) between.0
-    ∙ (ap (λ es. record d { kinds = d.kinds ++ []; owed = 0; events = es }) between.1
-    ∙ ap (λ n. record d { kinds = d.kinds ++ []; owed = 0; events = []; event_least = n }) between.2)) in
+    let same = no_kind_more d between in
     record {
       kinds = [];
+      lengths = [];
       rest = pieces;
       read = d.read;
       parts = refl;
@@ -210,26 +209,35 @@ kinds_back l zero d pieces c k b p between count h =
 kinds_back l (suc n) d pieces c k b p between count h =
     let x = next_read l d due.Kind pieces c k (due_kind d b p between.0 (omega (arith, count))) h in
     let next = kind_next d x.value in
-    let some = x.fits.some in
+    let says = x.value in
+    let some = x.fits.fits.some in
     let body : 4 ≤ d.read + 1 = omega (arith, b) in
-    let a = events_back l (x.value - 1) (with_kind d x.value) x.rest c (subst Kept next x.kept) body p (omega (arith, some))
+    let a = events_back l (says.events - 1) (with_kind d says) x.rest c (subst Kept next x.kept) body p (omega (arith, some))
     (ap (λ m. read_from m x.rest) (sym next) ∙ x.more) in
-    let seam : d.events ++ a.es ≡ a.es = ap (λ es. es ++ a.es) between.1 in
-    let kept = subst (λ es. Kept (with_kinds d a.read (d.kinds ++ es ∷ []))) seam a.kept in
-    let more = ap (λ es. read_from (with_kinds d a.read (d.kinds ++ es ∷ [])) a.rest) (sym seam) ∙ a.more in
-    let y = kinds_back l n (with_kinds d a.read (d.kinds ++ a.es ∷ [])) a.rest c kept a.body p (refl, refl, refl)
-    (simp length-append (omega (arith, count))) more in
+    let seam : d.events ++ a.es ≡ a.es = ap (λ es. es ++ a.es) between.2 in
+    let clocks = says.clocks in
+    let with : List Event → Draft = λ es. with_kinds d a.read (d.kinds ++ es ∷ []) (d.lengths ++ clocks ∷ []) in
+    let kept = subst (λ es. Kept (with es)) seam a.kept in
+    let more = ap (λ es. read_from (with es) a.rest) (sym seam) ∙ a.more in
+    let y = kinds_back l n (with a.es) a.rest c kept a.body p (refl, refl, refl, refl) (simp length-append (omega (arith, count))) more in
     let joined = append_assoc d.kinds (a.es ∷ []) y.kinds in
+    let measured = append_assoc d.lengths (clocks ∷ []) y.lengths in
+    let kinds = d.kinds ++ a.es ∷ y.kinds in
+    let lengths = (d.lengths ++ clocks ∷ []) ++ y.lengths in
     record {
       kinds = a.es ∷ y.kinds;
+      lengths = clocks ∷ y.lengths;
       rest = y.rest;
       read = y.read;
-      parts = x.parts ∙ (ap (λ ls. line_of (codes "kind" ∷ decimal x.value ∷ []) ∷ ls) (a.parts ∙ ap (λ ls. event_lines a.es ++ ls) y.parts)
-          ∙ ap (λ m. line_of (codes "kind" ∷ decimal m ∷ []) ∷ (event_lines a.es ++ kinds_then y.kinds y.rest)) (sym a.count));
+      parts = x.parts ∙ (ap (λ ls. line_of (kind_words d.version says.events clocks) ∷ ls) (a.parts
+          ∙ ap (λ ls. event_lines a.es ++ ls) y.parts)
+          ∙ ap (λ m. line_of (kind_words d.version m clocks) ∷ (event_lines a.es ++ kinds_then d.version y.kinds y.lengths y.rest))
+              (sym a.count));
       count = ap suc y.count;
       body = y.body;
-      kept = subst (λ ks. Kept (with_kinds d y.read ks)) joined y.kept;
-      more = ap (λ ks. read_from (with_kinds d y.read ks) y.rest) (sym joined) ∙ y.more;
+      kept = subst (λ ns. Kept (with_kinds d y.read kinds ns)) measured (subst (λ ks. Kept (with_kinds d y.read ks lengths)) joined y.kept);
+      more = ap (λ ns. read_from (with_kinds d y.read kinds ns) y.rest) (sym measured)
+          ∙ (ap (λ ks. read_from (with_kinds d y.read ks lengths) y.rest) (sym joined) ∙ y.more);
     }
 
 -- the cells
@@ -312,14 +320,15 @@ stack_next d s = refl
 -- pieces that are read lack line ends, where the lines that are spelled do
 
 abbrev pub PlainLines : Type 0
-PlainLines = (d : Draft) (s : Said) → Kept d → SaidFits d s → Lacks 10 (spelled d.head s)
+PlainLines = (d : Draft) (s : Said) → Kept d → SaidFits d s → Lacks 10 (spelled d.version d.head s)
 
 plain_next : (plain : PlainLines) (l : LineSpelling) (d : Draft) (kind : Due) (line : List ℕ) (rest : List (List ℕ)) (c : Cert) → Kept d
     → due_of d ≡ Some kind
     → NextRead d kind (line ∷ rest) c → ((m : Draft) → Kept m → read_from m rest ≡ told c → EachLacks 10 rest) → EachLacks 10 (line ∷ rest)
 plain_next plain l d kind line rest c k is x later =
-    let line_is : line ≡ spelled d.head (wrap kind x.value) = first_same line (spelled d.head (wrap kind x.value)) rest x.rest x.parts in
-    let rest_is : rest ≡ x.rest = others_same line (spelled d.head (wrap kind x.value)) rest x.rest x.parts in (
+    let line_is : line ≡ spelled d.version d.head (wrap kind x.value) = first_same line (spelled d.version d.head (wrap kind x.value))
+        rest x.rest x.parts in
+    let rest_is : rest ≡ x.rest = others_same line (spelled d.version d.head (wrap kind x.value)) rest x.rest x.parts in (
       subst (Lacks 10) (sym line_is) (plain d (wrap kind x.value) k x.fits),
       later (draft_after d (wrap kind x.value)) x.kept (ap (read_from (draft_after d (wrap kind x.value))) rest_is ∙ x.more),
     )
@@ -348,14 +357,14 @@ pieces_plain plain l d (line ∷ rest) c k e = by (due_of d) refl (λ m km h. pi
 
 -- all lines after the first
 
-abbrev pub draft_sizes : Sizes → Draft
-draft_sizes s = record first_draft { read = 2; sizes = s }
+abbrev pub draft_sizes : Version → Sizes → Draft
+draft_sizes v s = record (first_draft v) { read = 2; sizes = s }
 
-abbrev pub draft_irq : Sizes → Response → Draft
-draft_irq s r = record first_draft { read = 3; sizes = s; head = record first_draft.head { irq = r } }
+abbrev pub draft_irq : Version → Sizes → Response → Draft
+draft_irq v s r = record (first_draft v) { read = 3; sizes = s; head = record (first_draft v).head { irq = r } }
 
-abbrev pub draft_stack : Sizes → Response → StackLine → Draft
-draft_stack s r t = record first_draft {
+abbrev pub draft_stack : Version → Sizes → Response → StackLine → Draft
+draft_stack v s r t = record (first_draft v) {
   read = 4;
   sizes = s;
   head = record {
@@ -369,40 +378,40 @@ draft_stack s r t = record first_draft {
 }
 
 -- a certificate of these parts
-abbrev made : Response → StackLine → List Cell → List (List Event) → ℕ → List (ℕ × ℕ) → List Rest → Entry → List Point → Cert
-made r t cells kinds clock runs rs e ps = record {
+abbrev made : Response → StackLine → List Cell → List (List Event) → List ℕ → ℕ → List (ℕ × ℕ) → List Rest → Entry → List Point → Cert
+made r t cells kinds lengths clock runs rs e ps = record {
   head = record { irq = r; lo = t.lo; hi = t.hi; main = t.main; handler = t.handler; cells = record { items = cells } };
-  schedule = record { kinds = kinds; lines = expand runs; fall = clock };
+  schedule = record { kinds = kinds; lengths = lengths; lines = expand runs; fall = clock };
   rests = rs;
   entry = e;
   points = ps;
 }
 
-abbrev draft_cells : Sizes → Response → StackLine → List Cell → ℕ → ℕ → Draft
-draft_cells s r t cells read least = with_cells (draft_stack s r t) read least cells
+abbrev draft_cells : Version → Sizes → Response → StackLine → List Cell → ℕ → ℕ → Draft
+draft_cells v s r t cells read least = with_cells (draft_stack v s r t) read least cells
 
-abbrev draft_kinds : Sizes → Response → StackLine → List Cell → ℕ → List (List Event) → ℕ → Draft
-draft_kinds s r t cells least kinds read = with_kinds (draft_cells s r t cells 4 least) read kinds
+abbrev draft_kinds : Version → Sizes → Response → StackLine → List Cell → ℕ → List (List Event) → List ℕ → ℕ → Draft
+draft_kinds v s r t cells least kinds lengths read = with_kinds (draft_cells v s r t cells 4 least) read kinds lengths
 
 -- the lines from the fall on
-record LateBack (s : Sizes) (r : Response) (t : StackLine) (cells : List Cell) (kinds : List (List Event)) (pieces : List (List ℕ))
-    (c : Cert) : Type 0 where
+record LateBack (v : Version) (s : Sizes) (r : Response) (t : StackLine) (cells : List Cell) (kinds : List (List Event)) (lengths : List ℕ)
+    (pieces : List (List ℕ)) (c : Cert) : Type 0 where
   clock : ℕ
   runs : List (ℕ × ℕ)
   rs : List Rest
   e : Entry
   ps : List Point
   parts : pieces ≡ fall_lines clock runs cells rs e ps
-  is : c ≡ made r t cells kinds clock runs rs e ps
+  is : c ≡ made r t cells kinds lengths clock runs rs e ps
   lines : length (expand runs) ≡ s.lines
   rests : length rs ≡ s.rests
   points : length ps ≡ s.points
   same : runs_of (expand runs) ≡ runs
 
-late_of : (s : Sizes) (r : Response) (t : StackLine) (cells : List Cell) (kinds : List (List Event)) (read least : ℕ)
-    (pieces : List (List ℕ)) (c : Cert)
-    → FallBack (draft_kinds s r t cells least kinds read) pieces c → LateBack s r t cells kinds pieces c
-late_of s r t cells kinds read least pieces c f = record {
+late_of : (v : Version) (s : Sizes) (r : Response) (t : StackLine) (cells : List Cell) (kinds : List (List Event)) (lengths : List ℕ)
+    (read least : ℕ) (pieces : List (List ℕ)) (c : Cert)
+    → FallBack (draft_kinds v s r t cells least kinds lengths read) pieces c → LateBack v s r t cells kinds lengths pieces c
+late_of v s r t cells kinds lengths read least pieces c f = record {
   clock = f.clock;
   runs = f.runs;
   rs = f.rs;
@@ -416,119 +425,129 @@ late_of s r t cells kinds read least pieces c f = record {
   same = runs_expand 4294967295 f.runs f.apart;
 }
 
-late_back : (l : LineSpelling) (s : Sizes) (r : Response) (t : StackLine) (cells : List Cell) (kinds : List (List Event)) (read least : ℕ)
-    (pieces : List (List ℕ)) (c : Cert)
-    → Kept (draft_kinds s r t cells least kinds read) → 4 ≤ read → s.cells ≡ length cells → s.kinds ≡ length kinds
-    → read_from (draft_kinds s r t cells least kinds read) pieces ≡ told c → LateBack s r t cells kinds pieces c
-late_back l s r t cells kinds read least pieces c k b cell_count kind_count h =
-    late_of s r t cells kinds read least pieces c
-    (fall_back l (draft_kinds s r t cells least kinds read) pieces c k b (cell_count, refl, kind_count) (
+late_back : (l : LineSpelling) (v : Version) (s : Sizes) (r : Response) (t : StackLine) (cells : List Cell) (kinds : List (List Event))
+    (lengths : List ℕ)
+    (read least : ℕ) (pieces : List (List ℕ)) (c : Cert)
+    → Kept (draft_kinds v s r t cells least kinds lengths read) → 4 ≤ read → s.cells ≡ length cells → s.kinds ≡ length kinds
+    → read_from (draft_kinds v s r t cells least kinds lengths read) pieces ≡ told c → LateBack v s r t cells kinds lengths pieces c
+late_back l v s r t cells kinds lengths read least pieces c k b cell_count kind_count h =
+    late_of v s r t cells kinds lengths read least pieces c
+    (fall_back l (draft_kinds v s r t cells least kinds lengths read) pieces c k b (cell_count, refl, kind_count) (
       ((refl, refl, refl), refl),
       refl,
       refl,
     ) h)
 
 -- the lines from the kinds on
-record MiddleBack (s : Sizes) (r : Response) (t : StackLine) (cells : List Cell) (pieces : List (List ℕ)) (c : Cert) : Type 0 where
+record MiddleBack (v : Version) (s : Sizes) (r : Response) (t : StackLine) (cells : List Cell) (pieces : List (List ℕ)) (c : Cert) : Type
+    0 where
   kinds : List (List Event)
+  lengths : List ℕ
   rest : List (List ℕ)
-  parts : pieces ≡ kinds_then kinds rest
+  parts : pieces ≡ kinds_then v kinds lengths rest
   count : length kinds ≡ s.kinds
-  later : LateBack s r t cells kinds rest c
+  later : LateBack v s r t cells kinds lengths rest c
 
-middle_of : (l : LineSpelling) (s : Sizes) (r : Response) (t : StackLine) (cells : List Cell) (read least : ℕ) (pieces : List (List ℕ))
+middle_of : (l : LineSpelling) (v : Version) (s : Sizes) (r : Response) (t : StackLine) (cells : List Cell) (read least : ℕ)
+    (pieces : List (List ℕ))
     (c : Cert)
-    → s.cells ≡ length cells → KindsBack s.kinds (draft_cells s r t cells read least) pieces c → MiddleBack s r t cells pieces c
-middle_of l s r t cells read least pieces c cell_count k = record {
+    → s.cells ≡ length cells → KindsBack s.kinds (draft_cells v s r t cells read least) pieces c → MiddleBack v s r t cells pieces c
+middle_of l v s r t cells read least pieces c cell_count k = record {
   kinds = k.kinds;
+  lengths = k.lengths;
   rest = k.rest;
   parts = k.parts;
   count = k.count;
-  later = late_back l s r t cells k.kinds k.read least k.rest c k.kept k.body cell_count (sym k.count) k.more;
+  later = late_back l v s r t cells k.kinds k.lengths k.read least k.rest c k.kept k.body cell_count (sym k.count) k.more;
 }
 
-middle_back : (l : LineSpelling) (s : Sizes) (r : Response) (t : StackLine) (cells : List Cell) (read least : ℕ) (pieces : List (List ℕ))
+middle_back : (l : LineSpelling) (v : Version) (s : Sizes) (r : Response) (t : StackLine) (cells : List Cell) (read least : ℕ)
+    (pieces : List (List ℕ))
     (c : Cert)
-    → Kept (draft_cells s r t cells read least) → 4 ≤ read → s.cells ≡ length cells → read_from (draft_cells s r t cells read least)
+    → Kept (draft_cells v s r t cells read least) → 4 ≤ read → s.cells ≡ length cells → read_from (draft_cells v s r t cells read least)
     pieces ≡ told c
-    → MiddleBack s r t cells pieces c
-middle_back l s r t cells read least pieces c k b cell_count h =
-    middle_of l s r t cells read least pieces c cell_count
-    (kinds_back l s.kinds (draft_cells s r t cells read least) pieces c k b cell_count (refl, refl, refl) (zero-add s.kinds) h)
+    → MiddleBack v s r t cells pieces c
+middle_back l v s r t cells read least pieces c k b cell_count h =
+    middle_of l v s r t cells read least pieces c cell_count
+    (kinds_back l s.kinds (draft_cells v s r t cells read least) pieces c k b cell_count (refl, refl, refl, refl) (zero-add s.kinds) h)
 
 -- the lines from the cells on
-record OthersBack (s : Sizes) (r : Response) (t : StackLine) (pieces : List (List ℕ)) (c : Cert) : Type 0 where
+record OthersBack (v : Version) (s : Sizes) (r : Response) (t : StackLine) (pieces : List (List ℕ)) (c : Cert) : Type 0 where
   cells : List Cell
   rest : List (List ℕ)
   parts : pieces ≡ map (λ m. line_of (cell_words m)) cells ++ rest
   count : length cells ≡ s.cells
-  later : MiddleBack s r t cells rest c
+  later : MiddleBack v s r t cells rest c
 
-others_of : (l : LineSpelling) (s : Sizes) (r : Response) (t : StackLine) (pieces : List (List ℕ)) (c : Cert)
-    → CellsBack s.cells (draft_stack s r t) pieces c → OthersBack s r t pieces c
-others_of l s r t pieces c m = record {
+others_of : (l : LineSpelling) (v : Version) (s : Sizes) (r : Response) (t : StackLine) (pieces : List (List ℕ)) (c : Cert)
+    → CellsBack s.cells (draft_stack v s r t) pieces c → OthersBack v s r t pieces c
+others_of l v s r t pieces c m = record {
   cells = m.cells;
   rest = m.rest;
   parts = m.parts;
   count = m.count;
-  later = middle_back l s r t m.cells m.read m.least m.rest c m.kept m.body (sym m.count) m.more;
+  later = middle_back l v s r t m.cells m.read m.least m.rest c m.kept m.body (sym m.count) m.more;
 }
 
-others_back : (l : LineSpelling) (s : Sizes) (r : Response) (t : StackLine) (pieces : List (List ℕ)) (c : Cert) → Kept (draft_stack s r t)
-    → read_from (draft_stack s r t) pieces ≡ told c → OthersBack s r t pieces c
-others_back l s r t pieces c k h = others_of l s r t pieces c (cells_back l s.cells (draft_stack s r t) pieces c k (omega arith)
+others_back : (l : LineSpelling) (v : Version) (s : Sizes) (r : Response) (t : StackLine) (pieces : List (List ℕ)) (c : Cert)
+    → Kept (draft_stack v s r t)
+    → read_from (draft_stack v s r t) pieces ≡ told c → OthersBack v s r t pieces c
+others_back l v s r t pieces c k h = others_of l v s r t pieces c (cells_back l s.cells (draft_stack v s r t) pieces c k (omega arith)
     (zero-add s.cells) h)
 
 -- the stack, the response and the sizes
-record StackBack (s : Sizes) (r : Response) (pieces : List (List ℕ)) (c : Cert) : Type 0 where
+record StackBack (v : Version) (s : Sizes) (r : Response) (pieces : List (List ℕ)) (c : Cert) : Type 0 where
   t : StackLine
   rest : List (List ℕ)
-  parts : pieces ≡ spelled first_draft.head (said.Stack t) ∷ rest
-  later : OthersBack s r t rest c
+  parts : pieces ≡ spelled v (first_draft v).head (said.Stack t) ∷ rest
+  later : OthersBack v s r t rest c
 
-stack_of_next : (l : LineSpelling) (s : Sizes) (r : Response) (pieces : List (List ℕ)) (c : Cert) → NextRead (draft_irq s r) due.Stack
-    pieces c → StackBack s r pieces c
-stack_of_next l s r pieces c x =
-    let next = stack_next (draft_irq s r) x.value in
+stack_of_next : (l : LineSpelling) (v : Version) (s : Sizes) (r : Response) (pieces : List (List ℕ)) (c : Cert)
+    → NextRead (draft_irq v s r) due.Stack
+    pieces c → StackBack v s r pieces c
+stack_of_next l v s r pieces c x =
+    let next = stack_next (draft_irq v s r) x.value in
     record {
       t = x.value;
       rest = x.rest;
       parts = x.parts;
-      later = others_back l s r x.value x.rest c (subst Kept next x.kept) (ap (λ m. read_from m x.rest) (sym next) ∙ x.more);
+      later = others_back l v s r x.value x.rest c (subst Kept next x.kept) (ap (λ m. read_from m x.rest) (sym next) ∙ x.more);
     }
 
-record IrqBack (s : Sizes) (pieces : List (List ℕ)) (c : Cert) : Type 0 where
+record IrqBack (v : Version) (s : Sizes) (pieces : List (List ℕ)) (c : Cert) : Type 0 where
   r : Response
   rest : List (List ℕ)
-  parts : pieces ≡ spelled first_draft.head (said.Irq r) ∷ rest
-  later : StackBack s r rest c
+  parts : pieces ≡ spelled v (first_draft v).head (said.Irq r) ∷ rest
+  later : StackBack v s r rest c
 
-stack_back : (l : LineSpelling) (s : Sizes) (r : Response) (pieces : List (List ℕ)) (c : Cert) → Kept (draft_irq s r)
-    → read_from (draft_irq s r) pieces ≡ told c → StackBack s r pieces c
-stack_back l s r pieces c k h = stack_of_next l s r pieces c (next_read l (draft_irq s r) due.Stack pieces c k
-    (due_stack (draft_irq s r) refl) h)
+stack_back : (l : LineSpelling) (v : Version) (s : Sizes) (r : Response) (pieces : List (List ℕ)) (c : Cert) → Kept (draft_irq v s r)
+    → read_from (draft_irq v s r) pieces ≡ told c → StackBack v s r pieces c
+stack_back l v s r pieces c k h = stack_of_next l v s r pieces c (next_read l (draft_irq v s r) due.Stack pieces c k
+    (due_stack (draft_irq v s r) refl) h)
 
-irq_of_next : (l : LineSpelling) (s : Sizes) (pieces : List (List ℕ)) (c : Cert) → NextRead (draft_sizes s) due.Irq pieces c
-    → IrqBack s pieces c
-irq_of_next l s pieces c x =
-    let next = irq_next (draft_sizes s) x.value in
+irq_of_next : (l : LineSpelling) (v : Version) (s : Sizes) (pieces : List (List ℕ)) (c : Cert) → NextRead (draft_sizes v s) due.Irq pieces c
+    → IrqBack v s pieces c
+irq_of_next l v s pieces c x =
+    let next = irq_next (draft_sizes v s) x.value in
     record {
       r = x.value;
       rest = x.rest;
       parts = x.parts;
-      later = stack_back l s x.value x.rest c (subst Kept next x.kept) (ap (λ m. read_from m x.rest) (sym next) ∙ x.more);
+      later = stack_back l v s x.value x.rest c (subst Kept next x.kept) (ap (λ m. read_from m x.rest) (sym next) ∙ x.more);
     }
 
-irq_back : (l : LineSpelling) (s : Sizes) (pieces : List (List ℕ)) (c : Cert) → Kept (draft_sizes s) → read_from (draft_sizes s)
-    pieces ≡ told c → IrqBack s pieces c
-irq_back l s pieces c k h = irq_of_next l s pieces c (next_read l (draft_sizes s) due.Irq pieces c k (due_irq (draft_sizes s) refl) h)
+irq_back : (l : LineSpelling) (v : Version) (s : Sizes) (pieces : List (List ℕ)) (c : Cert) → Kept (draft_sizes v s)
+    → read_from (draft_sizes v s)
+    pieces ≡ told c → IrqBack v s pieces c
+irq_back l v s pieces c k h = irq_of_next l v s pieces c
+    (next_read l (draft_sizes v s) due.Irq pieces c k (due_irq (draft_sizes v s) refl) h)
 
 -- the lines of these parts are those of the certificate
 
-abbrev parts_after : Response → StackLine → List Cell → List (List Event) → List (List ℕ) → List (List ℕ)
-parts_after r t cells kinds late =
-    spelled first_draft.head (said.Irq r) ∷ spelled first_draft.head (said.Stack t) ∷ (map (λ x. line_of (cell_words x)) cells
-    ++ kinds_then kinds late)
+abbrev parts_after : Version → Response → StackLine → List Cell → List (List Event) → List ℕ → List (List ℕ) → List (List ℕ)
+parts_after v r t cells kinds lengths late =
+    spelled v (first_draft v).head (said.Irq r) ∷ spelled v (first_draft v).head (said.Stack t) ∷ (map (λ x. line_of (cell_words x)) cells
+    ++ kinds_then v kinds lengths late)
 
 sizes_same : (s : Sizes) (kinds lines rests points cells : ℕ) → kinds ≡ s.kinds → lines ≡ s.lines → rests ≡ s.rests → points ≡ s.points
     → cells ≡ s.cells
@@ -539,16 +558,19 @@ sizes_same s kinds lines rests points cells a b x y z =
     ∙ (ap (λ n. record s { kinds = kinds; lines = lines; rests = rests; points = n }) (sym y)
     ∙ ap (λ n. record s { kinds = kinds; lines = lines; rests = rests; points = points; cells = n }) (sym z))))
 
-made_lines : (s : Sizes) (r : Response) (t : StackLine) (cells : List Cell) (kinds : List (List Event)) (clock : ℕ) (runs : List (ℕ × ℕ))
-    (rs : List Rest) (e : Entry) (ps : List Point)
+made_lines : (v : Version) (s : Sizes) (r : Response) (t : StackLine) (cells : List Cell) (kinds : List (List Event)) (lengths : List ℕ)
+    (clock : ℕ)
+    (runs : List (ℕ × ℕ)) (rs : List Rest) (e : Entry) (ps : List Point)
     → s ≡ record { kinds = length kinds; lines = length (expand runs); rests = length rs; points = length ps; cells = length cells }
     → runs_of (expand runs) ≡ runs
-    → head_line ∷ spelled first_draft.head (said.Size s) ∷ parts_after r t cells kinds (fall_lines clock runs cells rs e ps)
-    ≡ lines_of_certificate
-    (made r t cells kinds clock runs rs e ps)
-made_lines s r t cells kinds clock runs rs e ps sizes same =
-    ap (λ n. head_line ∷ spelled first_draft.head (said.Size n) ∷ parts_after r t cells kinds (fall_lines clock runs cells rs e ps)) sizes
-    ∙ ap (λ q. head_line ∷ spelled first_draft.head
+    → head_line v ∷ spelled v (first_draft v).head (said.Size s)
+        ∷ parts_after v r t cells kinds lengths (fall_lines clock runs cells rs e ps)
+    ≡ lines_of_certificate v
+    (made r t cells kinds lengths clock runs rs e ps)
+made_lines v s r t cells kinds lengths clock runs rs e ps sizes same =
+    ap (λ n. head_line v ∷ spelled v (first_draft v).head (said.Size n)
+        ∷ parts_after v r t cells kinds lengths (fall_lines clock runs cells rs e ps)) sizes
+    ∙ ap (λ q. head_line v ∷ spelled v (first_draft v).head
     (said.Size (record {
       kinds = length kinds;
       lines = length (expand runs);
@@ -556,52 +578,63 @@ made_lines s r t cells kinds clock runs rs e ps sizes same =
       points = length ps;
       cells = length cells;
     }))
-    ∷ parts_after r t cells kinds (fall_lines clock q cells rs e ps)) (sym same)
+    ∷ parts_after v r t cells kinds lengths (fall_lines clock q cells rs e ps)) (sym same)
 
-late_lines : (s : Sizes) (r : Response) (t : StackLine) (cells : List Cell) (kinds : List (List Event)) (pieces : List (List ℕ)) (c : Cert)
-    → length cells ≡ s.cells → length kinds ≡ s.kinds → LateBack s r t cells kinds pieces c
-    → head_line ∷ spelled first_draft.head (said.Size s) ∷ parts_after r t cells kinds pieces ≡ lines_of_certificate c
-late_lines s r t cells kinds pieces c cell_count kind_count x =
-    ap (λ late. head_line ∷ spelled first_draft.head (said.Size s) ∷ parts_after r t cells kinds late) x.parts
-    ∙ (made_lines s r t cells kinds x.clock x.runs x.rs x.e x.ps
+late_lines : (v : Version) (s : Sizes) (r : Response) (t : StackLine) (cells : List Cell) (kinds : List (List Event)) (lengths : List ℕ)
+    (pieces : List (List ℕ)) (c : Cert)
+    → length cells ≡ s.cells → length kinds ≡ s.kinds → LateBack v s r t cells kinds lengths pieces c
+    → head_line v ∷ spelled v (first_draft v).head (said.Size s) ∷ parts_after v r t cells kinds lengths pieces ≡ lines_of_certificate v c
+late_lines v s r t cells kinds lengths pieces c cell_count kind_count x =
+    ap (λ late. head_line v ∷ spelled v (first_draft v).head (said.Size s) ∷ parts_after v r t cells kinds lengths late) x.parts
+    ∙ (made_lines v s r t cells kinds lengths x.clock x.runs x.rs x.e x.ps
     (sizes_same s (length kinds) (length (expand x.runs)) (length x.rs) (length x.ps) (length cells) kind_count x.lines x.rests x.points
     cell_count) x.same
-    ∙ ap lines_of_certificate (sym x.is))
+    ∙ ap (lines_of_certificate v) (sym x.is))
 
-abbrev opening : Sizes → Response → StackLine → List (List ℕ) → List (List ℕ)
-opening s r t others = head_line ∷ spelled first_draft.head (said.Size s) ∷ spelled first_draft.head (said.Irq r) ∷ spelled first_draft.head
+abbrev opening : Version → Sizes → Response → StackLine → List (List ℕ) → List (List ℕ)
+opening v s r t others = head_line v ∷ spelled v (first_draft v).head (said.Size s) ∷ spelled v (first_draft v).head (said.Irq r)
+    ∷ spelled v (first_draft v).head
     (said.Stack t) ∷ others
 
-middle_lines : (s : Sizes) (r : Response) (t : StackLine) (cells : List Cell) (pieces : List (List ℕ)) (c : Cert) → length cells ≡ s.cells
-    → MiddleBack s r t cells pieces c
-    → opening s r t (map (λ x. line_of (cell_words x)) cells ++ pieces) ≡ lines_of_certificate c
-middle_lines s r t cells pieces c cell_count x =
-    ap (λ others. opening s r t (map (λ m. line_of (cell_words m)) cells ++ others)) x.parts ∙ late_lines s r t cells x.kinds x.rest c
+middle_lines : (v : Version) (s : Sizes) (r : Response) (t : StackLine) (cells : List Cell) (pieces : List (List ℕ)) (c : Cert)
+    → length cells ≡ s.cells
+    → MiddleBack v s r t cells pieces c
+    → opening v s r t (map (λ x. line_of (cell_words x)) cells ++ pieces) ≡ lines_of_certificate v c
+middle_lines v s r t cells pieces c cell_count x =
+    ap (λ others. opening v s r t (map (λ m. line_of (cell_words m)) cells ++ others)) x.parts
+        ∙ late_lines v s r t cells x.kinds x.lengths x.rest c
     cell_count x.count x.later
 
-others_lines : (s : Sizes) (r : Response) (t : StackLine) (pieces : List (List ℕ)) (c : Cert) → OthersBack s r t pieces c → opening s r t
-    pieces ≡ lines_of_certificate c
-others_lines s r t pieces c x = ap (opening s r t) x.parts ∙ middle_lines s r t x.cells x.rest c x.count x.later
+others_lines : (v : Version) (s : Sizes) (r : Response) (t : StackLine) (pieces : List (List ℕ)) (c : Cert) → OthersBack v s r t pieces c
+    → opening v s r t
+    pieces ≡ lines_of_certificate v c
+others_lines v s r t pieces c x = ap (opening v s r t) x.parts ∙ middle_lines v s r t x.cells x.rest c x.count x.later
 
-stack_lines : (s : Sizes) (r : Response) (pieces : List (List ℕ)) (c : Cert) → StackBack s r pieces c
-    → head_line ∷ spelled first_draft.head (said.Size s) ∷ spelled first_draft.head (said.Irq r) ∷ pieces ≡ lines_of_certificate c
-stack_lines s r pieces c x =
-    ap (λ ls. head_line ∷ spelled first_draft.head (said.Size s) ∷ spelled first_draft.head (said.Irq r) ∷ ls) x.parts ∙ others_lines s r
+stack_lines : (v : Version) (s : Sizes) (r : Response) (pieces : List (List ℕ)) (c : Cert) → StackBack v s r pieces c
+    → head_line v ∷ spelled v (first_draft v).head (said.Size s) ∷ spelled v (first_draft v).head (said.Irq r) ∷ pieces
+        ≡ lines_of_certificate v c
+stack_lines v s r pieces c x =
+    ap (λ ls. head_line v ∷ spelled v (first_draft v).head (said.Size s) ∷ spelled v (first_draft v).head (said.Irq r) ∷ ls) x.parts
+        ∙ others_lines v s r
     x.t x.rest c x.later
 
-irq_lines : (s : Sizes) (pieces : List (List ℕ)) (c : Cert) → IrqBack s pieces c → head_line ∷ spelled first_draft.head
-    (said.Size s) ∷ pieces ≡ lines_of_certificate c
-irq_lines s pieces c x = ap (λ ls. head_line ∷ spelled first_draft.head (said.Size s) ∷ ls) x.parts ∙ stack_lines s x.r x.rest c x.later
+irq_lines : (v : Version) (s : Sizes) (pieces : List (List ℕ)) (c : Cert) → IrqBack v s pieces c → head_line v
+    ∷ spelled v (first_draft v).head
+    (said.Size s) ∷ pieces ≡ lines_of_certificate v c
+irq_lines v s pieces c x = ap (λ ls. head_line v ∷ spelled v (first_draft v).head (said.Size s) ∷ ls) x.parts
+    ∙ stack_lines v s x.r x.rest c x.later
 
-size_lines : (l : LineSpelling) (pieces : List (List ℕ)) (c : Cert) → NextRead first_draft due.Size pieces c
-    → head_line ∷ pieces ≡ lines_of_certificate
+size_lines : (l : LineSpelling) (v : Version) (pieces : List (List ℕ)) (c : Cert) → NextRead (first_draft v) due.Size pieces c
+    → head_line v ∷ pieces ≡ lines_of_certificate v
     c
-size_lines l pieces c x =
-    let next = size_next first_draft x.value in
-    ap (λ ls. head_line ∷ ls) x.parts
-    ∙ irq_lines x.value x.rest c (irq_back l x.value x.rest c (subst Kept next x.kept) (ap (λ m. read_from m x.rest) (sym next) ∙ x.more))
+size_lines l v pieces c x =
+    let next = size_next (first_draft v) x.value in
+    ap (λ ls. head_line v ∷ ls) x.parts
+    ∙ irq_lines v x.value x.rest c (irq_back l v x.value x.rest c (subst Kept next x.kept) (ap (λ m. read_from m x.rest) (sym next)
+        ∙ x.more))
 
 -- the lines after the first of what is read to its end are those of its certificate
-pub lines_back : (l : LineSpelling) (pieces : List (List ℕ)) (c : Cert) → read_from first_draft pieces ≡ told c
-    → head_line ∷ pieces ≡ lines_of_certificate c
-lines_back l pieces c h = size_lines l pieces c (next_read l first_draft due.Size pieces c first_kept (due_size first_draft refl) h)
+pub lines_back : (l : LineSpelling) (v : Version) (pieces : List (List ℕ)) (c : Cert) → read_from (first_draft v) pieces ≡ told c
+    → head_line v ∷ pieces ≡ lines_of_certificate v c
+lines_back l v pieces c h = size_lines l v pieces c
+    (next_read l (first_draft v) due.Size pieces c (first_kept v) (due_size (first_draft v) refl) h)

@@ -15,6 +15,7 @@ use Rattle.uz_spelling.specs.Spelling.{line_of, run_words, rest_words, entry_wor
 use Rattle.uz_lines.specs.Forms.{reads}
 use Rattle.uz_lines.specs.declared.lines.Sizes.{Sizes}
 use Rattle.uz_lines.specs.declared.lines.StackLine.{StackLine}
+use Rattle.uz_lines.specs.declared.lines.KindLine.{KindLine}
 use Rattle.uz_lines.specs.declared.lines.Run.{Run}
 use Rattle.uz_lines.specs.declared.lines.Said.{Said}
 use Rattle.uz_lines.specs.declared.lines.Said.TheVariants as said
@@ -41,7 +42,7 @@ SaidOf due.Size = Sizes
 SaidOf due.Irq = Response
 SaidOf due.Stack = StackLine
 SaidOf due.Cell = Cell
-SaidOf due.Kind = ℕ
+SaidOf due.Kind = KindLine
 SaidOf due.Event = Event
 SaidOf due.Fall = ℕ
 SaidOf due.Run = Run
@@ -85,7 +86,7 @@ unwrap said.End = (tt, refl)
 pub record NextRead (d : Draft) (kind : Due) (pieces : List (List ℕ)) (c : Cert) : Type 0 where
   pub value : SaidOf kind
   pub rest : List (List ℕ)
-  pub parts : pieces ≡ spelled d.head (wrap kind value) ∷ rest
+  pub parts : pieces ≡ spelled d.version d.head (wrap kind value) ∷ rest
   pub fits : SaidFits d (wrap kind value)
   pub keeps : Keeps d (wrap kind value)
   pub kept : Kept (draft_after d (wrap kind value))
@@ -114,7 +115,7 @@ said_next l d kind line rest c s k is r more =
     record {
       value = x.0;
       rest = rest;
-      parts = ap (λ w. w ∷ rest) (o.0 ∙ ap (spelled d.head) same);
+      parts = ap (λ w. w ∷ rest) (o.0 ∙ ap (spelled d.version d.head) same);
       fits = subst (SaidFits d) same fits;
       keeps = subst (Keeps d) same o.2;
       kept = subst (λ y. Kept (draft_after d y)) same (kept_after d s k fits);

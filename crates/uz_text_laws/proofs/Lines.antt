@@ -5,7 +5,8 @@ use Rattle.std.proofs.Common.{ap, subst, arith}
 use Rattle.std.specs.Prelude.{Some, Ok}
 use Rattle.std.proofs.lemmas.Fmt.{decimal_nonempty}
 use Rattle.uz_text.proofs.Plain.{EachPlain}
-use Rattle.uz_schedule.specs.Limits.{clock_limit, most_events, EventFits}
+use Rattle.uz_schedule.specs.Limits.{clock_limit, EventFits}
+use Rattle.uz_schedule.specs.Schedule.{scanline}
 use Rattle.uz_schedule.specs.WellFormed.{CellFits, StackFits, RestFits, EntryFits, PointFits, instances_of}
 use Rattle.uz_schedule.specs.declared.kinds.Response.{Response}
 use Rattle.uz_schedule.specs.declared.kinds.Response.TheVariants.{Four, Five}
@@ -18,16 +19,22 @@ use Rattle.uz_schedule.specs.declared.states.Point.{Point}
 use Rattle.uz_lines.specs.Grammar.{Words}
 use Rattle.uz_lines.specs.Forms.{LineForm, reads}
 use Rattle.uz_lines.specs.Lines.{size_form, irq_form, stack_form, cell_form, kind_form, event_form, fall_form, run_form, rest_form}
-use Rattle.uz_lines.specs.Lines.{entry_form, point_form, end_form}
+use Rattle.uz_lines.specs.Lines.{entry_form, point_form, end_form, SizesFit, KindLineFits}
+use Rattle.uz_lines.specs.declared.lines.KindLine.{KindLine}
+use Rattle.uz_lines.specs.declared.version.Version.{Version}
+use Rattle.uz_lines.specs.declared.version.Version.TheVariants.{First, Second}
+use Rattle.uz_lines.proofs.Lengths.{length_few}
+use Rattle.uz_cert.proofs.KeptLaws.{length_in}
 use Rattle.uz_lines.specs.declared.lines.Run.{Run}
 use Rattle.uz_lines.specs.declared.lines.Said.{Said}
 use Rattle.uz_lines.specs.declared.lines.Said.TheVariants as said
 use Rattle.uz_lines.specs.declared.lines.Sizes.{Sizes}
 use Rattle.uz_lines.specs.declared.lines.StackLine.{StackLine}
-use Rattle.uz_spelling.specs.Spelling.{line_of, cell_words, event_words, run_words, event_kind_words, rest_words, entry_words, point_words}
-use Rattle.uz_line_laws.specs.Said.{line, sizes_words, SizesFit, response_words, stack_line_words, with_stack, RunFits, PlacesAre}
+use Rattle.uz_spelling.specs.Spelling.{kind_words, line_of, cell_words, event_words, run_words, event_kind_words}
+use Rattle.uz_spelling.specs.Spelling.{rest_words, entry_words, point_words}
+use Rattle.uz_line_laws.specs.Said.{line, sizes_words, response_words, stack_line_words, with_stack, RunFits, PlacesAre}
 use Rattle.uz_cert.specs.Drafts.{due_of, form_of}
-use Rattle.uz_cert.specs.Kept.{SizesFit as SizesKept, Kept, SaidFits}
+use Rattle.uz_cert.specs.Kept.{Kept, SaidFits}
 use Rattle.uz_cert.specs.Reading.{words_in}
 use Rattle.uz_cert.specs.declared.due.Due.{Due}
 use Rattle.uz_cert.specs.declared.due.Due.TheVariants as due
@@ -53,15 +60,14 @@ pub record TwelveLines : Type 0 where
       ≡ Ok (said.Cell c)
   pub cell_only : (h : Head) (least : ℕ) (words : Words) (says : Said) → reads (cell_form h.lo h.hi least) words ≡ Ok says
       → (c : Cell) × (says ≡ said.Cell c) × (words ≡ line (cell_words c)) × CellFits h c × (least ≤ c.at)
-  pub kind_again : (events : ℕ) → 1 ≤ events → events ≤ most_events → reads kind_form (line (codes "kind" ∷ decimal events ∷ [])) ≡ Ok
-      (said.Kind events)
-  pub kind_only : (words : Words) (says : Said) → reads kind_form words ≡ Ok says
-      → (events : ℕ) × (says ≡ said.Kind events) × (words ≡ line (codes "kind" ∷ decimal events ∷ [])) × (1 ≤ events)
-      × (events ≤ most_events)
-  pub event_again : (least : ℕ) (e : Event) → EventFits e → least ≤ e.clock → reads (event_form least) (line (event_words e)) ≡ Ok
-      (said.Event e)
-  pub event_only : (least : ℕ) (words : Words) (says : Said) → reads (event_form least) words ≡ Ok says
-      → (e : Event) × (says ≡ said.Event e) × (words ≡ line (event_words e)) × EventFits e × (least ≤ e.clock)
+  pub kind_again : (version : Version) (k : KindLine) → KindLineFits version k
+      → reads (kind_form version) (line (kind_words version k.events k.clocks)) ≡ Ok (said.Kind k)
+  pub kind_only : (version : Version) (words : Words) (says : Said) → reads (kind_form version) words ≡ Ok says
+      → (k : KindLine) × (says ≡ said.Kind k) × (words ≡ line (kind_words version k.events k.clocks)) × KindLineFits version k
+  pub event_again : (clocks least : ℕ) (e : Event) → clocks ≤ scanline → EventFits e → e.clock < clocks → least ≤ e.clock
+      → reads (event_form clocks least) (line (event_words e)) ≡ Ok (said.Event e)
+  pub event_only : (clocks least : ℕ) (words : Words) (says : Said) → clocks ≤ scanline → reads (event_form clocks least) words ≡ Ok says
+      → (e : Event) × (says ≡ said.Event e) × (words ≡ line (event_words e)) × EventFits e × (e.clock < clocks) × (least ≤ e.clock)
   pub fall_again : (clock : ℕ) → 1 ≤ clock → clock < clock_limit → reads fall_form (line (codes "fall" ∷ decimal clock ∷ [])) ≡ Ok
       (said.Fall clock)
   pub fall_only : (words : Words) (says : Said) → reads fall_form words ≡ Ok says
@@ -114,21 +120,9 @@ kinds_few d k = let few = k.sizes.kinds_few in omega (arith, few)
 lines_left : (d : Draft) → Kept d → d.sizes.lines - length d.lines < 2 ^ 31
 lines_left d k = let few = k.sizes.lines_few in omega (arith, few)
 
-sizes_fit : (s : Sizes) → SizesKept s → SizesFit s
-sizes_fit s f = record {
-  kinds_some = f.kinds_some;
-  kinds_few = f.kinds_few;
-  lines_some = f.lines_some;
-  lines_few = f.lines_few;
-  rests_few = f.rests_few;
-  points_some = f.points_some;
-  points_few = f.points_few;
-  cells_few = f.cells_few;
-}
-
 -- lines of plain words
 
-plain_sizes : (s : Sizes) → SizesKept s → EachPlain (sizes_words s)
+plain_sizes : (s : Sizes) → SizesFit s → EachPlain (sizes_words s)
 plain_sizes s f =
     let kinds = f.kinds_few in
     let lines = f.lines_few in
@@ -170,6 +164,19 @@ plain_stack h s f =
 
 one_number : (word : List ℕ) (n most : ℕ) → most < 1048576 → n ≤ most → EachPlain (word ∷ []) → EachPlain (word ∷ decimal n ∷ [])
 one_number word n most low few h = (h.0, (plain_number n (omega (arith, low, few)), tt))
+
+clocks_few : (d : Draft) → Kept d → d.clocks ≤ scanline
+clocks_few d k = length_few d.clocks (length_in d.version d.clocks k.events.own)
+
+plain_kind_line : (v : Version) (k : KindLine) → KindLineFits v k → EachPlain (kind_words v k.events k.clocks)
+plain_kind_line First k f =
+    let few = f.few in
+    let most = length_few k.clocks (length_in First k.clocks f.clocks) in
+    (refl, (plain_number k.events (omega (arith, few, most)), tt))
+plain_kind_line Second k f =
+    let few = f.few in
+    let most = length_few k.clocks (length_in Second k.clocks f.clocks) in
+    (refl, (plain_number k.events (omega (arith, few, most)), (plain_number k.clocks (omega (arith, most)), tt)))
 
 plain_run : (d : Draft) (r : Run) → Kept d → SaidFits d (said.Run r) → EachPlain (run_words (r.count, r.kind))
 plain_run d r k f =
@@ -232,10 +239,10 @@ event_again form e s f h =
 -- again
 
 line_again : (t : TwelveLines) (d : Draft) (s : Said) → Kept d → due_of d ≡ Some (due_as s) → SaidFits d s → Keeps d s
-    → reads (form_of d (due_as s)) (words_in (spelled d.head s) true) ≡ Ok s
+    → reads (form_of d (due_as s)) (words_in (spelled d.version d.head s) true) ≡ Ok s
 unfolding form_of
 line_again t d (said.Size s) k e f keeps = read_words size_form (sizes_words s) (said.Size s) refl (plain_sizes s f.1)
-    (t.size_again s (sizes_fit s f.1))
+    (t.size_again s f.1)
 line_again t d (said.Irq r) k e f keeps = read_words irq_form (response_words r) (said.Irq r) refl (plain_response r) (t.irq_again r)
 line_again t d (said.Stack s) k e f keeps = read_words stack_form (stack_line_words s) (said.Stack s) refl (plain_stack d.head s f.1)
     (t.stack_again d.head s f.1)
@@ -243,13 +250,13 @@ line_again t d (said.Cell c) k e f keeps =
     read_words (cell_form d.head.lo d.head.hi d.cell_least) (cell_words c) (said.Cell c) refl (plain_cell_line d.head c f.fits)
     (t.cell_again d.head d.cell_least c f.fits f.order)
 line_again t d (said.Kind n) k e f keeps =
-    read_words kind_form (codes "kind" ∷ decimal n ∷ []) (said.Kind n) refl (one_number (codes "kind") n 1820 (omega arith) f.few
-    (refl, tt)) (t.kind_again n f.some f.few)
-line_again t d (said.Event x) k e f keeps = event_again (event_form d.event_least) x (said.Event x) f.fits
-    (t.event_again d.event_least x f.fits f.order)
+    read_words (kind_form d.version) (kind_words d.version n.events n.clocks) (said.Kind n) refl (plain_kind_line d.version n f.fits)
+    (t.kind_again d.version n f.fits)
+line_again t d (said.Event x) k e f keeps = event_again (event_form d.clocks d.event_least) x (said.Event x) f.fits
+    (t.event_again d.clocks d.event_least x (clocks_few d k) f.fits f.below f.order)
 line_again t d (said.Fall n) k e f keeps =
     let low = f.1 in
-    read_words fall_form (codes "fall" ∷ decimal n ∷ []) (said.Fall n) refl (one_number (codes "fall") n 1819 (omega arith)
+    read_words fall_form (codes "fall" ∷ decimal n ∷ []) (said.Fall n) refl (one_number (codes "fall") n (clock_limit - 1) (omega arith)
     (omega (arith, low)) (refl, tt)) (t.fall_again n keeps f.1)
 line_again t d (said.Run r) k e f keeps =
     let few = f.few in
@@ -277,7 +284,7 @@ joined : (text : List ℕ) (w : List ℕ) (ws : List (List ℕ)) → words_in te
 joined text w ws e = words_only text w ws (ap (λ x. x.list) e)
 
 IsLine : Draft → Due → List ℕ → Said → Type 0
-IsLine d kind text s = (text ≡ spelled d.head s) × (kind ≡ due_as s) × Keeps d s
+IsLine d kind text s = (text ≡ spelled d.version d.head s) × (kind ≡ due_as s) × Keeps d s
 
 line_only : (t : TwelveLines) (d : Draft) (kind : Due) (text : List ℕ) (s : Said) → Kept d → due_of d ≡ Some kind → reads (form_of d kind)
     (words_in text true) ≡ Ok s
@@ -296,10 +303,10 @@ line_only t d due.Cell text s k e h =
     let x = t.cell_only d.head d.cell_least (words_in text true) s h in
     subst (IsLine d due.Cell text) (sym x.1) (joined text _ _ x.2, refl, tt)
 line_only t d due.Kind text s k e h =
-    let x = t.kind_only (words_in text true) s h in
+    let x = t.kind_only d.version (words_in text true) s h in
     subst (IsLine d due.Kind text) (sym x.1) (joined text _ _ x.2, refl, tt)
 line_only t d due.Event text s k e h =
-    let x = t.event_only d.event_least (words_in text true) s h in
+    let x = t.event_only d.clocks d.event_least (words_in text true) s (clocks_few d k) h in
     subst (IsLine d due.Event text) (sym x.1) (joined text _ _ x.2, refl, tt)
 line_only t d due.Fall text s k e h =
     let x = t.fall_only (words_in text true) s h in
@@ -331,12 +338,11 @@ plain_lines d (said.Size s) k f = line_lacks (sizes_words s) (plain_sizes s f.1)
 plain_lines d (said.Irq r) k f = line_lacks (response_words r) (plain_response r)
 plain_lines d (said.Stack s) k f = line_lacks (stack_line_words s) (plain_stack d.head s f.1)
 plain_lines d (said.Cell c) k f = line_lacks (cell_words c) (plain_cell_line d.head c f.fits)
-plain_lines d (said.Kind n) k f = line_lacks (codes "kind" ∷ decimal n ∷ []) (one_number (codes "kind") n 1820 (omega arith) f.few
-    (refl, tt))
+plain_lines d (said.Kind n) k f = line_lacks (kind_words d.version n.events n.clocks) (plain_kind_line d.version n f.fits)
 plain_lines d (said.Event x) k f = line_lacks (event_words x) (plain_event_line x f.fits)
 plain_lines d (said.Fall n) k f =
     let low = f.1 in
-    line_lacks (codes "fall" ∷ decimal n ∷ []) (one_number (codes "fall") n 1819 (omega arith) (omega (arith, low)) (refl, tt))
+    line_lacks (codes "fall" ∷ decimal n ∷ []) (one_number (codes "fall") n (clock_limit - 1) (omega arith) (omega (arith, low)) (refl, tt))
 plain_lines d (said.Run r) k f = line_lacks (run_words (r.count, r.kind)) (plain_run d r k f)
 plain_lines d (said.Rest r) k f = line_lacks (rest_words r) (plain_rest_line d.head d.sizes.lines d.sizes.points r k.sizes.lines_few
     k.sizes.points_few f.fits)

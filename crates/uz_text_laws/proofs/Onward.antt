@@ -1,14 +1,16 @@
 -- A certificate's text is read as it: section by section, from the last line to the first.
-use Rattle.std.proofs.Common.{◌≡◌, ◌≢◌, ℕ, ◌+◌, ◌-◌, ◌<◌, ◌≤◌, Bool, true, false, ◌&&◌, eqb, List, [], ◌∷◌, ◌++◌, length, map, replicate}
-use Rattle.std.proofs.Common.{All, codes, decimal, leb, zero-add, refl, sym, ◌∙◌, ap, subst, append_assoc, append-nil, arith, length-append}
+use Rattle.std.proofs.Common.{◌≡◌, ◌≢◌, ℕ, suc, ◌+◌, ◌-◌, ◌<◌, ◌≤◌, Bool, true, false, ◌&&◌, eqb}
+use Rattle.std.proofs.Common.{List, [], ◌∷◌, ◌++◌, length, map, replicate}
+use Rattle.std.proofs.Common.{All, codes, decimal, leb, ltb, zero-add, refl, sym, ◌∙◌, ap}
+use Rattle.std.proofs.Common.{subst, append_assoc, append-nil, arith, length-append}
 use Rattle.std.specs.Prelude.{Some, None, Result, Ok, ⊤, sum_by}
 use Rattle.std.proofs.lemmas.Bool.{leb-true}
 use Rattle.std.proofs.lemmas.Bool.Decides.{nat_tests}
 use Rattle.std.proofs.lemmas.List.{length-replicate}
 use Rattle.std.proofs.lemmas.List.Elements.{All-head, All-tail, All-weaker}
 use Rattle.std.proofs.lemmas.List.Sums.{sum_by-cons}
-use Rattle.uz_schedule.specs.Schedule.{response_clocks}
-use Rattle.uz_schedule.specs.Limits.{clock_limit, rises_from, EventFits, EventsFit}
+use Rattle.uz_schedule.specs.Schedule.{response_clocks, scanline}
+use Rattle.uz_schedule.specs.Limits.{clock_limit, rises_from, is_length, clocks_below, lengths_fit, EventFits, EventsFit}
 use Rattle.uz_schedule.specs.WellFormed.{CellFits, RestFits, EntryFits, PointFits, instances_of}
 use Rattle.uz_schedule.specs.declared.header.Cell.{Cell}
 use Rattle.uz_schedule.specs.declared.header.Head.{Head}
@@ -17,11 +19,15 @@ use Rattle.uz_schedule.specs.declared.states.Rest.{Rest}
 use Rattle.uz_schedule.specs.declared.states.Entry.{Entry}
 use Rattle.uz_schedule.specs.declared.states.Point.{Point}
 use Rattle.uz_schedule.specs.declared.certificate.Cert.{Cert}
-use Rattle.uz_spelling.specs.Spelling.{line_of, cell_words, event_words, run_words, rest_words, entry_words, point_words, kinds_then}
+use Rattle.uz_spelling.specs.Spelling.{line_of, cell_words, kind_words, event_words, run_words, rest_words}
+use Rattle.uz_spelling.specs.Spelling.{entry_words, point_words, kinds_then}
 use Rattle.uz_spelling.specs.Spelling.{last_lines}
 use Rattle.uz_lines.specs.Why.{◌>>=◌}
 use Rattle.uz_lines.specs.Forms.{reads}
+use Rattle.uz_lines.specs.Lines.{IsLengthIn}
+use Rattle.uz_lines.specs.declared.lines.KindLine.{KindLine}
 use Rattle.uz_lines.specs.declared.lines.Said.{Said}
+use Rattle.uz_lines.specs.declared.version.Version.{Version}
 use Rattle.uz_lines.specs.declared.lines.Said.TheVariants as said
 use Rattle.uz_cert.specs.Drafts.{due_of, form_of, draft_after}
 use Rattle.uz_cert.specs.Kept.{Kept, SaidFits}
@@ -34,20 +40,20 @@ use Rattle.uz_text_laws.proofs.Due.{PastCells, PastKinds, PastFall, PastRuns, Pa
 use Rattle.uz_text_laws.proofs.Due.{due_cell, due_event, due_kind, due_fall, due_run, due_rest, due_entry, due_point, due_end, due_none}
 
 -- the line that says this
-abbrev pub spelled : Head → Said → List ℕ
-spelled h (said.Size s) = line_of (codes "size" ∷ decimal s.kinds ∷ decimal s.lines ∷ decimal s.rests ∷ decimal s.points ∷ decimal
+abbrev pub spelled : Version → Head → Said → List ℕ
+spelled v h (said.Size s) = line_of (codes "size" ∷ decimal s.kinds ∷ decimal s.lines ∷ decimal s.rests ∷ decimal s.points ∷ decimal
     s.cells ∷ [])
-spelled h (said.Irq r) = line_of (codes "irq" ∷ decimal (response_clocks r) ∷ [])
-spelled h (said.Stack s) = line_of (codes "stack" ∷ decimal s.lo ∷ decimal s.hi ∷ decimal s.main ∷ decimal s.handler ∷ [])
-spelled h (said.Cell c) = line_of (cell_words c)
-spelled h (said.Kind n) = line_of (codes "kind" ∷ decimal n ∷ [])
-spelled h (said.Event e) = line_of (event_words e)
-spelled h (said.Fall k) = line_of (codes "fall" ∷ decimal k ∷ [])
-spelled h (said.Run r) = line_of (run_words (r.count, r.kind))
-spelled h (said.Rest r) = line_of (rest_words r)
-spelled h (said.Entry e) = line_of (entry_words h.cells.items e)
-spelled h (said.Point p) = line_of (point_words h.cells.items p)
-spelled h said.End = codes "end"
+spelled v h (said.Irq r) = line_of (codes "irq" ∷ decimal (response_clocks r) ∷ [])
+spelled v h (said.Stack s) = line_of (codes "stack" ∷ decimal s.lo ∷ decimal s.hi ∷ decimal s.main ∷ decimal s.handler ∷ [])
+spelled v h (said.Cell c) = line_of (cell_words c)
+spelled v h (said.Kind k) = line_of (kind_words v k.events k.clocks)
+spelled v h (said.Event e) = line_of (event_words e)
+spelled v h (said.Fall k) = line_of (codes "fall" ∷ decimal k ∷ [])
+spelled v h (said.Run r) = line_of (run_words (r.count, r.kind))
+spelled v h (said.Rest r) = line_of (rest_words r)
+spelled v h (said.Entry e) = line_of (entry_words h.cells.items e)
+spelled v h (said.Point p) = line_of (point_words h.cells.items p)
+spelled v h said.End = codes "end"
 
 abbrev pub due_as : Said → Due
 due_as (said.Size s) = due.Size
@@ -81,10 +87,10 @@ Keeps d said.End = ⊤
 -- what is known of one line
 pub record LineSpelling : Type 0 where
   pub again : (d : Draft) (s : Said) → Kept d → due_of d ≡ Some (due_as s) → SaidFits d s → Keeps d s
-      → reads (form_of d (due_as s)) (words_in (spelled d.head s) true) ≡ Ok s
+      → reads (form_of d (due_as s)) (words_in (spelled d.version d.head s) true) ≡ Ok s
   pub only : (d : Draft) (due : Due) (line : List ℕ) (s : Said) → Kept d → due_of d ≡ Some due → reads (form_of d due) (words_in line true)
       ≡ Ok s
-      → (line ≡ spelled d.head s) × (due ≡ due_as s) × Keeps d s
+      → (line ≡ spelled d.version d.head s) × (due ≡ due_as s) × Keeps d s
 
 abbrev pub told : Cert → Result Cert Fault
 told c = Ok c
@@ -101,11 +107,12 @@ unfolding line_says
 says d due line s e = ap (λ m. m >>= (λ x. Ok (draft_after d x))) e
 
 pub step : (l : LineSpelling) (d : Draft) (s : Said) (rest : List (List ℕ)) → Kept d → due_of d ≡ Some (due_as s) → SaidFits d s → Keeps d s
-    → is_more rest ≡ true → read_from d (spelled d.head s ∷ rest) ≡ read_from (draft_after d s) rest
+    → is_more rest ≡ true → read_from d (spelled d.version d.head s ∷ rest) ≡ read_from (draft_after d s) rest
 step l d s rest k is fits keeps more =
-    ap (λ o. read_by o d (spelled d.head s) rest (λ x. read_from x rest)) is
+    ap (λ o. read_by o d (spelled d.version d.head s) rest (λ x. read_from x rest)) is
     ∙ ap (λ r. or_fault (d.read + 1) r (λ x. read_from x rest))
-    (ap (line_says d (due_as s) (spelled d.head s)) more ∙ says d (due_as s) (spelled d.head s) s (l.again d s k is fits keeps))
+    (ap (line_says d (due_as s) (spelled d.version d.head s)) more
+        ∙ says d (due_as s) (spelled d.version d.head s) s (l.again d s k is fits keeps))
 
 more_after : (lines : List (List ℕ)) (piece : List ℕ) (rest : List (List ℕ)) → is_more (lines ++ piece ∷ rest) ≡ true
 more_after [] piece rest = refl
@@ -352,10 +359,10 @@ fall_again l d clock runs rs e ps k b p none some low no_lines apart kinds count
 
 -- the kinds of line, each with its events
 
-abbrev with_kind : Draft → ℕ → Draft
-with_kind d n = record d { read = d.read + 1; owed = n }
+abbrev with_kind : Draft → KindLine → Draft
+with_kind d k = record d { read = d.read + 1; owed = k.events; clocks = k.clocks }
 
-kind_next : (d : Draft) (n : ℕ) → draft_after d (said.Kind n) ≡ with_kind d n
+kind_next : (d : Draft) (n : KindLine) → draft_after d (said.Kind n) ≡ with_kind d n
 unfolding draft_after
 kind_next d n = refl
 
@@ -369,6 +376,20 @@ with_last d e = record d {
   read = d.read + 1;
   owed = d.owed - 1;
   kinds = d.kinds ++ (d.events ++ e ∷ []) ∷ [];
+  lengths = d.lengths ++ d.clocks ∷ [];
+  clocks = scanline;
+  events = [];
+  event_least = 0;
+}
+
+-- these kinds, and none begun
+abbrev pub with_kinds : Draft → ℕ → List (List Event) → List ℕ → Draft
+with_kinds d read kinds lengths = record d {
+  read = read;
+  kinds = kinds;
+  lengths = lengths;
+  owed = 0;
+  clocks = scanline;
   events = [];
   event_least = 0;
 }
@@ -382,25 +403,18 @@ unfolding draft_after
 last_next d e h = rw h refl
 
 -- where these kinds were read
-pub record KindsRead (d : Draft) (kinds : List (List Event)) (lines others : List (List ℕ)) : Type 0 where
+pub record KindsRead (d : Draft) (kinds : List (List Event)) (lengths : List ℕ) (lines others : List (List ℕ)) : Type 0 where
   pub read : ℕ
   pub body : 4 ≤ read
-  pub kept : Kept (record d { read = read; kinds = d.kinds ++ kinds; owed = 0; events = []; event_least = 0 })
-  pub same : read_from d lines ≡ read_from (record d { read = read; kinds = d.kinds ++ kinds; owed = 0; events = []; event_least = 0 })
-      others
+  pub kept : Kept (with_kinds d read (d.kinds ++ kinds) (d.lengths ++ lengths))
+  pub same : read_from d lines ≡ read_from (with_kinds d read (d.kinds ++ kinds) (d.lengths ++ lengths)) others
 
 -- where the rest of a kind was read
 record EventsRead (d : Draft) (es : List Event) (lines others : List (List ℕ)) : Type 0 where
   read : ℕ
   body : 4 ≤ read
-  kept : Kept (record d { read = read; kinds = d.kinds ++ (d.events ++ es) ∷ []; owed = 0; events = []; event_least = 0 })
-  same : read_from d lines ≡ read_from (record d {
-    read = read;
-    kinds = d.kinds ++ (d.events ++ es) ∷ [];
-    owed = 0;
-    events = [];
-    event_least = 0;
-  }) others
+  kept : Kept (with_kinds d read (d.kinds ++ (d.events ++ es) ∷ []) (d.lengths ++ d.clocks ∷ []))
+  same : read_from d lines ≡ read_from (with_kinds d read (d.kinds ++ (d.events ++ es) ∷ []) (d.lengths ++ d.clocks ∷ [])) others
 
 abbrev event_lines : List Event → List (List ℕ)
 event_lines es = map (λ e. line_of (event_words e)) es
@@ -413,14 +427,16 @@ some_test n h = grind (arith, nat_tests)
 
 events_again : (l : LineSpelling) (d : Draft) (e : Event) (es : List Event) (others : List (List ℕ)) → Kept d → 4 ≤ d.read → PastCells d
     → d.owed ≡ length es + 1 → All EventFits (e ∷ es) → rises_from d.event_least (map (λ x. x.clock) (e ∷ es)) ≡ true
-    → is_more others ≡ true
+    → clocks_below (e ∷ es) d.clocks ≡ true → is_more others ≡ true
     → EventsRead d (e ∷ es) (event_lines (e ∷ es) ++ others) others
-events_again l d e [] others k b p owed fits rise more =
+events_again l d e [] others k b p owed fits rise low more =
     let order = and_true (leb d.event_least e.clock) true rise in
+    let below = and_true (ltb e.clock d.clocks) true low in
     let fit : SaidFits d (said.Event e) = record {
       body = b;
       owed = omega (arith, owed);
       fits = All-head EventFits e [] fits;
+      below = leb-true (suc e.clock) d.clocks below.0;
       order = leb-true d.event_least e.clock order.0;
     } in
     let none : d.owed - 1 ≡ 0 = omega (arith, owed) in
@@ -433,88 +449,118 @@ events_again l d e [] others k b p owed fits rise more =
       kept = subst Kept last (kept_after d (said.Event e) k fit);
       same = step l d (said.Event e) others k (due_event d b p (omega (arith, owed))) fit tt more ∙ ap (λ y. read_from y others) last;
     }
-events_again l d e (x ∷ es) others k b p owed fits rise more =
+events_again l d e (x ∷ es) others k b p owed fits rise low more =
     let order = and_true (leb d.event_least e.clock) (rises_from (e.clock + 1) (map (λ y. y.clock) (x ∷ es))) rise in
+    let below = and_true (ltb e.clock d.clocks) (clocks_below (x ∷ es) d.clocks) low in
     let fit : SaidFits d (said.Event e) = record {
       body = b;
       owed = omega (arith, owed);
       fits = All-head EventFits e (x ∷ es) fits;
+      below = leb-true (suc e.clock) d.clocks below.0;
       order = leb-true d.event_least e.clock order.0;
     } in
     let next = event_next d e (some_test (d.owed - 1) (omega (arith, owed))) in
     let kept : Kept (with_event d e) = subst Kept next (kept_after d (said.Event e) k fit) in
     let later = events_again l (with_event d e) x es others kept (omega (arith, b)) p (omega (arith, owed))
-    (All-tail EventFits e (x ∷ es) fits) order.1 more in
+    (All-tail EventFits e (x ∷ es) fits) order.1 below.1 more in
     let seam = append_assoc d.events (e ∷ []) (x ∷ es) in
     record {
       read = later.read;
       body = later.body;
-      kept = subst (λ ys. Kept (record d { read = later.read; kinds = d.kinds ++ ys ∷ []; owed = 0; events = []; event_least = 0 })) seam
-          later.kept;
+      kept = subst (λ ys. Kept (with_kinds d later.read (d.kinds ++ ys ∷ []) (d.lengths ++ d.clocks ∷ []))) seam later.kept;
       same =
           step l d (said.Event e) (event_lines (x ∷ es) ++ others) k (due_event d b p (omega (arith, owed))) fit tt refl
           ∙ (ap (λ y. read_from y (event_lines (x ∷ es) ++ others)) next
-          ∙ (later.same ∙ ap (λ ys. read_from (record d {
-            read = later.read;
-            kinds = d.kinds ++ ys ∷ [];
-            owed = 0;
-            events = [];
-            event_least = 0;
-          }) others) seam));
+          ∙ (later.same ∙ ap (λ ys. read_from (with_kinds d later.read (d.kinds ++ ys ∷ []) (d.lengths ++ d.clocks ∷ [])) others) seam));
     }
 
-kinds_more : (kinds : List (List Event)) (others : List (List ℕ)) → is_more others ≡ true → is_more (kinds_then kinds others) ≡ true
-kinds_more [] others h = h
-kinds_more (es ∷ kinds) others h = refl
+pub kinds_more : (version : Version) (kinds : List (List Event)) (lengths : List ℕ) (others : List (List ℕ)) → is_more others ≡ true
+    → is_more (kinds_then version kinds lengths others) ≡ true
+kinds_more version [] lengths others h = h
+kinds_more version (es ∷ kinds) [] others h = h
+kinds_more version (es ∷ kinds) (n ∷ lengths) others h = refl
 
-pub kinds_again : (l : LineSpelling) (d : Draft) (kinds : List (List Event)) (others : List (List ℕ)) → Kept d → 4 ≤ d.read → PastCells d
-    → d.owed ≡ 0 → d.events ≡ [] → d.event_least ≡ 0 → length d.kinds + length kinds ≡ d.sizes.kinds → All EventsFit kinds
-    → is_more others ≡ true
-    → KindsRead d kinds (kinds_then kinds others) others
-kinds_again l d [] others k b p owed events least count fits more =
-    let same : d ≡ record d { kinds = d.kinds ++ []; owed = 0; events = []; event_least = 0 } =
-    ap (λ ks. record d { kinds = ks }) (sym (append-nil d.kinds)) ∙ (ap (λ n. record d { kinds = d.kinds ++ []; owed = n }) owed
-    ∙ (ap (λ es. record d { kinds = d.kinds ++ []; owed = 0; events = es }) events
-    ∙ ap (λ n. record d { kinds = d.kinds ++ []; owed = 0; events = []; event_least = n }) least)) in
+-- rising clocks below a length are no more than it
+events_few : (es : List Event) (least n : ℕ) → least ≤ n → rises_from least (map (λ e. e.clock) es) ≡ true → clocks_below es n ≡ true
+    → length es + least ≤ n
+events_few [] least n h r b = omega arith
+events_few (e ∷ es) least n h r b =
+    let order = and_true (leb least e.clock) (rises_from (e.clock + 1) (map (λ x. x.clock) es)) r in
+    let low = and_true (ltb e.clock n) (clocks_below es n) b in
+    let from = leb-true least e.clock order.0 in
+    let to : e.clock < n = leb-true (suc e.clock) n low.0 in
+    let later = events_few es (e.clock + 1) n (omega (arith, to)) order.1 low.1 in
+    omega (arith, from, later)
+
+-- no kind of line is begun
+abbrev pub BetweenKinds : Draft → Type 0
+BetweenKinds d = (d.owed ≡ 0) × (d.clocks ≡ scanline) × (d.events ≡ []) × (d.event_least ≡ 0)
+
+-- a draft between kinds, with no kind more
+pub no_kind_more : (d : Draft) → BetweenKinds d → d ≡ with_kinds d d.read (d.kinds ++ []) (d.lengths ++ [])
+no_kind_more d between =
+    let kinds = d.kinds ++ [] in
+    let lengths = d.lengths ++ [] in
+    ap (λ ks. record d { kinds = ks }) (sym (append-nil d.kinds))
+    ∙ (ap (λ ns. record d { kinds = kinds; lengths = ns }) (sym (append-nil d.lengths))
+    ∙ (ap (λ n. record d { kinds = kinds; lengths = lengths; owed = n }) between.0
+    ∙ (ap (λ n. record d { kinds = kinds; lengths = lengths; owed = 0; clocks = n }) between.1
+    ∙ (ap (λ es. record d { kinds = kinds; lengths = lengths; owed = 0; clocks = scanline; events = es }) between.2
+    ∙ ap (λ n. record d { kinds = kinds; lengths = lengths; owed = 0; clocks = scanline; events = []; event_least = n }) between.3))))
+
+pub kinds_again : (l : LineSpelling) (d : Draft) (kinds : List (List Event)) (lengths : List ℕ) (others : List (List ℕ)) → Kept d
+    → 4 ≤ d.read
+    → PastCells d → BetweenKinds d → length d.kinds + length kinds ≡ d.sizes.kinds → All EventsFit kinds → lengths_fit kinds lengths ≡ true
+    → All (IsLengthIn d.version) lengths → is_more others ≡ true
+    → KindsRead d kinds lengths (kinds_then d.version kinds lengths others) others
+kinds_again l d [] [] others k b p between count fits each own more =
+    let same = no_kind_more d between in
     record { read = d.read; body = b; kept = subst Kept same k; same = ap (λ y. read_from y others) same }
-kinds_again l d ([] ∷ kinds) others k b p owed events least count fits more =
+kinds_again l d [] (n ∷ lengths) others k b p between count fits each own more = absurd cc
+kinds_again l d (es ∷ kinds) [] others k b p between count fits each own more = absurd cc
+kinds_again l d ([] ∷ kinds) (n ∷ lengths) others k b p between count fits each own more =
     let some = (All-head EventsFit [] kinds fits).some in
     absurd (omega (arith, some))
-kinds_again l d ((e ∷ es) ∷ kinds) others k b p owed events least count fits more =
+kinds_again l d ((e ∷ es) ∷ kinds) (n ∷ lengths) others k b p between count fits each own more =
+    let rest = and_true (is_length n && clocks_below (e ∷ es) n) (lengths_fit kinds lengths) each in
+    let this = and_true (is_length n) (clocks_below (e ∷ es) n) rest.0 in
     let first = All-head EventsFit (e ∷ es) kinds fits in
+    let few = events_few (e ∷ es) 0 n (omega arith) first.rise this.1 in
     let room : length d.kinds < d.sizes.kinds = omega (arith, count) in
-    let fit : SaidFits d (said.Kind (length (e ∷ es))) = record {
+    let says : KindLine = record { events = length (e ∷ es); clocks = n } in
+    let fit : SaidFits d (said.Kind says) = record {
       body = b;
-      none_owed = owed;
+      none_owed = between.0;
       room = room;
-      some = first.some;
-      few = first.few;
+      fits = record { some = first.some; few = omega (arith, few); clocks = All-head (IsLengthIn d.version) n lengths own };
     } in
-    let kept : Kept (with_kind d (length (e ∷ es))) = subst Kept (kind_next d (length (e ∷ es)))
-    (kept_after d (said.Kind (length (e ∷ es))) k fit) in
+    let later_lines = kinds_then d.version kinds lengths others in
+    let kept : Kept (with_kind d says) = subst Kept (kind_next d says) (kept_after d (said.Kind says) k fit) in
     let rise : rises_from d.event_least (map (λ x. x.clock) (e ∷ es)) ≡ true =
-    subst (λ n. rises_from n (map (λ x. x.clock) (e ∷ es)) ≡ true) (sym least) first.rise in
+    subst (λ m. rises_from m (map (λ x. x.clock) (e ∷ es)) ≡ true) (sym between.3) first.rise in
     let body : 4 ≤ d.read + 1 = omega (arith, b) in
-    let a = events_again l (with_kind d (length (e ∷ es))) e es (kinds_then kinds others) kept body p (omega arith) first.each rise
-    (kinds_more kinds others more) in
-    let seam : d.events ++ e ∷ es ≡ e ∷ es = ap (λ ys. ys ++ e ∷ es) events in
-    let mid : Draft = record d { read = a.read; kinds = d.kinds ++ (e ∷ es) ∷ []; owed = 0; events = []; event_least = 0 } in
-    let kept_mid : Kept mid = subst
-    (λ ys. Kept (record d { read = a.read; kinds = d.kinds ++ ys ∷ []; owed = 0; events = []; event_least = 0 })) seam a.kept in
-    let later = kinds_again l mid kinds others kept_mid a.body p refl refl refl (simp length-append (omega (arith, count)))
-    (All-tail EventsFit (e ∷ es) kinds fits) more in
+    let a = events_again l (with_kind d says) e es later_lines kept body p (omega arith) first.each rise this.1
+    (kinds_more d.version kinds lengths others more) in
+    let seam : d.events ++ e ∷ es ≡ e ∷ es = ap (λ ys. ys ++ e ∷ es) between.2 in
+    let with : List Event → Draft = λ ys. with_kinds d a.read (d.kinds ++ ys ∷ []) (d.lengths ++ n ∷ []) in
+    let mid : Draft = with (e ∷ es) in
+    let kept_mid : Kept mid = subst (λ ys. Kept (with ys)) seam a.kept in
+    let later = kinds_again l mid kinds lengths others kept_mid a.body p (refl, refl, refl, refl)
+        (simp length-append (omega (arith, count)))
+    (All-tail EventsFit (e ∷ es) kinds fits) rest.1 (All-tail (IsLengthIn d.version) n lengths own) more in
     let joined = append_assoc d.kinds ((e ∷ es) ∷ []) kinds in
+    let measured = append_assoc d.lengths (n ∷ []) lengths in
     record {
       read = later.read;
       body = later.body;
-      kept = subst (λ ks. Kept (record d { read = later.read; kinds = ks; owed = 0; events = []; event_least = 0 })) joined later.kept;
+      kept = subst (λ ns. Kept (with_kinds d later.read (d.kinds ++ (e ∷ es) ∷ kinds) ns)) measured
+          (subst (λ ks. Kept (with_kinds d later.read ks ((d.lengths ++ n ∷ []) ++ lengths))) joined later.kept);
       same =
-          step l d (said.Kind (length (e ∷ es))) (event_lines (e ∷ es) ++ kinds_then kinds others) k (due_kind d b p owed room) fit tt refl
-          ∙ (ap (λ y. read_from y (event_lines (e ∷ es) ++ kinds_then kinds others)) (kind_next d (length (e ∷ es)))
-          ∙ (a.same ∙ (ap (λ ys. read_from (record d { read = a.read; kinds = d.kinds ++ ys ∷ []; owed = 0; events = []; event_least = 0 })
-          (kinds_then kinds others)) seam
-          ∙ (later.same ∙ ap (λ ks. read_from (record d { read = later.read; kinds = ks; owed = 0; events = []; event_least = 0 }) others)
-          joined))));
+          step l d (said.Kind says) (event_lines (e ∷ es) ++ later_lines) k (due_kind d b p between.0 room) fit tt refl
+          ∙ (ap (λ y. read_from y (event_lines (e ∷ es) ++ later_lines)) (kind_next d says)
+          ∙ (a.same ∙ (ap (λ ys. read_from (with ys) later_lines) seam
+          ∙ (later.same ∙ (ap (λ ks. read_from (with_kinds d later.read ks ((d.lengths ++ n ∷ []) ++ lengths)) others) joined
+          ∙ ap (λ ns. read_from (with_kinds d later.read (d.kinds ++ (e ∷ es) ∷ kinds) ns) others) measured)))));
     }
 
 -- the cells

@@ -10,7 +10,7 @@ use Rattle.uz_text.proofs.Plain.{plain, EachPlain, Lacks, each_lacks, split_join
 use Rattle.uz_text.proofs.Plain.{each_plain_append}
 use Rattle.uz_schedule.specs.Ends.{Ends}
 use Rattle.uz_schedule.specs.Tracked.{tracks}
-use Rattle.uz_schedule.specs.Limits.{EventFits, KindFits}
+use Rattle.uz_schedule.specs.Limits.{clock_limit, EventFits, KindFits}
 use Rattle.uz_schedule.specs.WellFormed.{RangeFits, FactFits, CellFactFits, PairFits, CellFits, RestFits, EntryFits, PointFits, magnitude}
 use Rattle.uz_schedule.specs.WellFormed.{is_default_flag}
 use Rattle.uz_schedule.specs.declared.kinds.Kind.{Kind}
@@ -267,7 +267,7 @@ plain_truth : (t : Bool) → plain (truth_word t) ≡ true
 plain_truth true = refl
 plain_truth false = refl
 
-plain_signed : (z : ℤ) → magnitude z < 1820 → plain (signed_word z) ≡ true
+plain_signed : (z : ℤ) → magnitude z < clock_limit → plain (signed_word z) ≡ true
 plain_signed (pos n) h = plain_number n (omega (arith, h))
 plain_signed (negsuc n) h = plain_more 45 (decimal (n + 1)) refl (plain_number (n + 1) (omega (arith, h)))
 

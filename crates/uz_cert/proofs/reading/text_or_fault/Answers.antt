@@ -1,3 +1,4 @@
+use Rattle.uz_cert.proofs.FitLaws.{text_fits}
 use Rattle.uz_cert.proofs.TextLaws.{LineLaw, decided, one_certificate, one_fault, not_both, text_certificate, certificate_text, text_fault}
 use Rattle.uz_cert.proofs.TextLaws.{fault_text}
 use Rattle.uz_cert.proofs.reading.text_or_fault.Goals as goal
@@ -15,4 +16,5 @@ returns c =
       again = certificate_text law;
       refused = text_fault law;
       faulty = fault_text law;
+      fits = text_fits;
     }

@@ -1,0 +1,104 @@
+-- What is read of a text is within limits, and its lengths are those of the text's version.
+use Rattle.std.proofs.Common.{◌≡◌, ℕ, suc, ◌+◌, ◌-◌, Bool, true, false, cond, eqb, bytes_eq, List, [], ◌∷◌}
+use Rattle.std.proofs.Common.{◌++◌, All, refl, sym, ◌∙◌, ap, subst}
+use Rattle.std.specs.Prelude.{Option, Some, None, Result, Ok, Err, IfOk}
+use Rattle.uz_schedule.specs.Schedule.{scanline}
+use Rattle.uz_schedule.specs.WellFormed.{WellFormed}
+use Rattle.uz_schedule.specs.declared.certificate.Cert.{Cert}
+use Rattle.uz_schedule.specs.declared.states.Entry.{Entry}
+use Rattle.uz_lines.specs.Lines.{head_line, IsLengthIn}
+use Rattle.uz_lines.specs.declared.lines.Said.{Said}
+use Rattle.uz_lines.specs.declared.lines.Said.TheVariants as said
+use Rattle.uz_lines.specs.declared.version.Version.{Version}
+use Rattle.uz_lines.specs.declared.why.CertWhy.TheVariants as why
+use Rattle.uz_cert.specs.Drafts.{first_draft, due_of, draft_after}
+use Rattle.uz_cert.specs.Kept.{Kept}
+use Rattle.uz_cert.specs.Reading.{Fault, Gives, pieces_of, is_more, words_in, or_fault, line_says}
+use Rattle.uz_cert.specs.Reading.{cert_from, cert_with, cert_before, read_by}
+use Rattle.uz_cert.specs.Reading.{read_from, read_pieces, cert_of_text}
+use Rattle.uz_cert.specs.declared.due.Due.{Due}
+use Rattle.uz_cert.specs.declared.draft.Draft.{Draft}
+use Rattle.uz_cert.specs.declared.errors.CertError.{CertError}
+use Rattle.uz_cert.proofs.KeptLaws.{first_kept, kept_after}
+use Rattle.uz_cert.proofs.SaidLaws.{said_fits}
+use Rattle.uz_cert.proofs.TextLaws.{told, says_ok, fault_ok, same_cert}
+use Rattle.uz_cert.proofs.Whole.{whole_fits}
+
+-- within limits, and of lengths of a version
+abbrev pub FitsIn : Version → Cert → Type 0
+FitsIn version c = WellFormed c × All (IsLengthIn version) c.schedule.lengths
+
+version_kept : (d : Draft) (s : Said) → (draft_after d s).version ≡ d.version
+unfolding draft_after
+version_kept d (said.Size s) = refl
+version_kept d (said.Irq r) = refl
+version_kept d (said.Stack s) = refl
+version_kept d (said.Cell c) = refl
+version_kept d (said.Kind k) = refl
+version_kept d (said.Event e) =
+    by (eqb (d.owed - 1) 0)
+    (record d {
+      owed = d.owed - 1;
+      kinds = d.kinds ++ (d.events ++ e ∷ []) ∷ [];
+      lengths = d.lengths ++ d.clocks ∷ [];
+      clocks = scanline;
+      events = [];
+      event_least = 0;
+    })
+    (record d { owed = d.owed - 1; events = d.events ++ e ∷ []; event_least = e.clock + 1 }) refl refl
+  where
+    by : (t : Bool) (x y : Draft) → x.version ≡ d.version → y.version ≡ d.version → (cond t x y).version ≡ d.version
+    by true x y h k = h
+    by false x y h k = k
+version_kept d (said.Fall clock) = refl
+version_kept d (said.Run r) = refl
+version_kept d (said.Rest r) = refl
+version_kept d (said.Entry e) = refl
+version_kept d (said.Point p) = refl
+version_kept d said.End = refl
+
+with_entry : (d : Draft) (o : Option Entry) (c : Cert) → Kept d → due_of d ≡ None → d.entry ≡ o → cert_with d o ≡ told c
+    → FitsIn d.version c
+with_entry d None c k due is e = absurd cc
+with_entry d (Some x) c k due is e =
+    subst (FitsIn d.version) (same_cert (cert_from d x) c e) (whole_fits d x k due is, k.kinds.own)
+
+before_fits : (d : Draft) (line : List ℕ) (rest : List (List ℕ)) (c : Cert) → Kept d → due_of d ≡ None → cert_before d line rest ≡ told c
+    → FitsIn d.version c
+unfolding cert_before
+before_fits d [] [] c k due e = with_entry d d.entry c k due refl e
+before_fits d [] (piece ∷ rest) c k due e = absurd cc
+before_fits d (b ∷ bs) rest c k due e = absurd cc
+
+from_fits : (d : Draft) (pieces : List (List ℕ)) (c : Cert) → Kept d → read_from d pieces ≡ told c → FitsIn d.version c
+from_fits d [] c k e = absurd cc
+from_fits d (line ∷ rest) c k e = by (due_of d) refl e (λ m km h. from_fits m rest c km h)
+  where
+    by : (o : Option Due) → due_of d ≡ o → read_by o d line rest (λ more. read_from more rest) ≡ told c
+        → ((m : Draft) → Kept m → read_from m rest ≡ told c → FitsIn m.version c) → FitsIn d.version c
+    by None is h later = before_fits d line rest c k is h
+    by (Some due) is h later =
+        let m = fault_ok (d.read + 1) (line_says d due line (is_more rest)) (λ more. read_from more rest) c h in
+        let s = says_ok d m.0 due line (is_more rest) m.1 in
+        let fits = said_fits d due (words_in line (is_more rest)) s.0 k is s.1 in
+        let kept : Kept m.0 = subst Kept (sym s.2) (kept_after d s.0 k fits) in
+        subst (λ v. FitsIn v c) (ap (λ x. x.version) s.2 ∙ version_kept d s.0) (later m.0 kept m.2)
+
+pub text_fits : (version : Version) (text : List ℕ) (c : Cert) → cert_of_text version text ≡ told c → FitsIn version c
+text_fits version text c e = by (pieces_of text) e
+  where
+    of_head : (rest : List (List ℕ)) (t : Bool) (m : Bool)
+        → or_fault 1 (cond t (cond m (Ok (first_draft version)) (Err why.NoEnd)) (Err why.Head)) (λ d. read_from d rest) ≡ told c
+        → FitsIn version c
+    of_head rest true true h = from_fits (first_draft version) rest c (first_kept version) h
+    of_head rest true false h = absurd cc
+    of_head rest false m h = absurd cc
+
+    by : (pieces : List (List ℕ)) → read_pieces version pieces ≡ told c → FitsIn version c
+    by [] h = absurd cc
+    by (line ∷ rest) h = of_head rest (bytes_eq line (head_line version)) (is_more rest) h
+
+pub gives_lengths : (version : Version) (text : List ℕ) (result : Result Cert CertError) → Gives result (cert_of_text version text)
+    → IfOk result (λ c. All (IsLengthIn version) c.schedule.lengths)
+gives_lengths version text (Ok c) g = (text_fits version text c g).1
+gives_lengths version text (Err e) g = tt
