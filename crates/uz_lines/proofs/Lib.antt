@@ -1,5 +1,6 @@
 pub mod Cutting
 pub mod ItemLaws
+pub mod Lengths
 pub mod LineLaws
 pub mod Spans
 pub mod Steps

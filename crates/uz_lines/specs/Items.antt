@@ -149,9 +149,9 @@ abbrev pub cell_at : List Cell → Option ℕ → Option (ℕ × Cell)
 cell_at cells None = None
 cell_at cells (Some i) = with_number i (slice_get cells i)
 
--- in an entry a cell's range is within the one of the header
+-- old forms stand in no cell, also in one that isn't there; in an entry a cell's range is within the one of the header
 abbrev pub cell_forms : Shape → Option (ℕ × Cell) → FactForms
-cell_forms shape None = bytes_forms shape
+cell_forms shape None = record (bytes_forms shape) { old = false }
 cell_forms shape (Some p) =
     if shape.plain then record { low = p.1.range.lo; limit = p.1.range.hi + 1; top = 255; sloped = false; old = false }
     else record { low = 0; limit = 256; top = 255; sloped = true; old = false }

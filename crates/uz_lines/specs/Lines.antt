@@ -1,7 +1,9 @@
 -- The forms of a certificate's lines.
-use Rattle.std.specs.Prelude.{ℕ, ◌+◌, ◌-◌, ◌/◌, ◌==◌, nat_lt, Bool, true, false, List, [], ◌∷◌, map, codes, if◌then◌else◌}
-use Rattle.std.specs.Prelude.{ℤ}
+use Rattle.std.specs.Prelude.{ℕ, ◌+◌, ◌-◌, ◌/◌, ◌≤◌, ◌≡◌, ◌==◌, nat_lt, Bool, true, false, IsTrue, List, [], ◌∷◌, map, codes}
+use Rattle.std.specs.Prelude.{ℤ, if◌then◌else◌}
 use Rattle.uz_schedule.specs.Ends.{Ends}
+use Rattle.uz_schedule.specs.Limits.{clock_limit, most_events, most_lines, is_length}
+use Rattle.uz_schedule.specs.Schedule.{scanline, half_line}
 use Rattle.uz_schedule.specs.declared.kinds.Response.{Response}
 use Rattle.uz_schedule.specs.declared.kinds.Response.TheVariants.{Four, Five}
 use Rattle.uz_schedule.specs.declared.kinds.Kind.{Kind}
@@ -21,8 +23,18 @@ use Rattle.uz_lines.specs.Forms.{LineForm, fixed, number, choice, slope, spans, 
 use Rattle.uz_lines.specs.declared.words.Asked.{Asked}
 use Rattle.uz_lines.specs.declared.items.Shape.{Shape}
 use Rattle.uz_lines.specs.declared.items.Facts.{Facts}
+use Rattle.uz_lines.specs.declared.lines.KindLine.{KindLine}
+use Rattle.uz_lines.specs.declared.lines.PointPlace.{PointPlace}
 use Rattle.uz_lines.specs.declared.lines.Said.TheVariants as said
+use Rattle.uz_lines.specs.declared.lines.Sizes.{Sizes}
+use Rattle.uz_lines.specs.declared.version.Version.{Version}
+use Rattle.uz_lines.specs.declared.version.Version.TheVariants.{First, Second}
 use Rattle.uz_lines.specs.declared.why.CertWhy.TheVariants as why
+
+-- the first line of each text of a version
+abbrev pub head_line : Version → List ℕ
+head_line First = codes "uzcert 1"
+head_line Second = codes "uzcert 2"
 
 -- a number from low on and below limit
 abbrev pub within : ℕ → ℕ → Asked
@@ -39,6 +51,17 @@ rising least a = record a { least = least }
 -- the lesser of two numbers
 abbrev pub least_of : ℕ → ℕ → ℕ
 least_of a b = if nat_lt a b then a else b
+
+-- how many of each there may be
+pub record SizesFit (s : Sizes) : Type 0 where
+  pub kinds_some : 1 ≤ s.kinds
+  pub kinds_few : s.kinds ≤ most_lines
+  pub lines_some : 1 ≤ s.lines
+  pub lines_few : s.lines ≤ most_lines
+  pub rests_few : s.rests ≤ s.lines
+  pub points_some : 1 ≤ s.points
+  pub points_few : s.points ≤ 524288
+  pub cells_few : s.cells ≤ 16
 
 -- size KINDS LINES RESTS POINTS CELLS
 abbrev pub size_form : LineForm
@@ -75,9 +98,29 @@ cell_form lo hi least =
     number (within 0 256) (λ low. number (within low 256) (λ high.
     finish (said.Cell (record { at = at; owner = owner_of owner; range = ends low high })))))))
 
--- kind EVENTS
-abbrev pub kind_form : LineForm
-kind_form = fixed (codes "kind") (number (within 1 1821) (λ events. finish (said.Kind events)))
+-- the length of a kind of line: that of half a scanline or of a whole one, and no less than the number of its events
+abbrev pub length_for : ℕ → Asked
+length_for events =
+    record (within (if nat_lt half_line events then scanline else half_line) (scanline + 1)) { hole = half_line + 1; hole_end = scanline }
+
+-- the lengths that a text says: in version 1 each is that of a scanline
+abbrev pub IsLengthIn : Version → ℕ → Type 0
+IsLengthIn First clocks = clocks ≡ scanline
+IsLengthIn Second clocks = IsTrue (is_length clocks)
+
+-- a kind of so many events and of this length
+pub record KindLineFits (version : Version) (k : KindLine) : Type 0 where
+  pub some : 1 ≤ k.events
+  pub few : k.events ≤ k.clocks
+  pub clocks : IsLengthIn version k.clocks
+
+abbrev pub kind_after : Version → ℕ → LineForm
+kind_after First events = finish (said.Kind (record { events = events; clocks = scanline }))
+kind_after Second events = number (length_for events) (λ clocks. finish (said.Kind (record { events = events; clocks = clocks })))
+
+-- kind EVENTS LENGTH, and in version 1 kind EVENTS
+abbrev pub kind_form : Version → LineForm
+kind_form version = fixed (codes "kind") (number (within 1 (most_events + 1)) (λ events. kind_after version events))
 
 -- CLOCK sync V | pixel | sound | leave
 abbrev pub event_after : ℕ → ℕ → LineForm
@@ -87,14 +130,15 @@ event_after clock n =
     else (if n == 2 then finish (said.Event (record { clock = clock; kind = Sound }))
     else finish (said.Event (record { clock = clock; kind = Leave }))))
 
-abbrev pub event_form : ℕ → LineForm
-event_form least =
-    number (rising least (within 0 1820)) (λ clock.
+-- in a kind of line of so many clocks
+abbrev pub event_form : ℕ → ℕ → LineForm
+event_form clocks least =
+    number (rising least (within 0 clocks)) (λ clock.
     choice (codes "sync" ∷ codes "pixel" ∷ codes "sound" ∷ codes "leave" ∷ []) (λ n. event_after clock n))
 
 -- fall CLOCK
 abbrev pub fall_form : LineForm
-fall_form = fixed (codes "fall") (number (within 1 1820) (λ clock. finish (said.Fall clock)))
+fall_form = fixed (codes "fall") (number (within 1 clock_limit) (λ clock. finish (said.Fall clock)))
 
 -- run COUNT KIND, of at most so many lines, and not the kind of the run before
 abbrev pub run_form : ℕ → ℕ → ℕ → LineForm
@@ -105,7 +149,8 @@ run_form kinds left before =
 -- rest LINE CLOCK VECTOR SPANS
 abbrev pub rest_form : ℕ → ℕ → List Cell → ℕ → LineForm
 rest_form lines points cells least =
-    fixed (codes "rest") (number (rising least (within 0 lines)) (λ line. number (within 0 1820) (λ clock. number (one_of points) (λ vector.
+    fixed (codes "rest") (number (rising least (within 0 lines)) (λ line. number (within 0 clock_limit) (λ clock.
+    number (one_of points) (λ vector.
     spans cells (λ es. finish (said.Rest (record { line = line; clock = clock; vector = vector; cells = record { items = es } })))))))
 
 -- the line and the clock of a main entry are 0, and all from L0 to SLOPE of a main point
@@ -149,7 +194,7 @@ entry_kind n = if n == 0 then Main else Alone
 abbrev pub entry_form : Head → ℕ → ℕ → LineForm
 entry_form h lines points =
     fixed (codes "entry") (choice (codes "main" ∷ codes "alone" ∷ []) (λ n. number (one_of points) (λ id. number (within 0 32768) (λ pc.
-    number (within 0 (none_in_main (entry_kind n) lines)) (λ line. number (within 0 (none_in_main (entry_kind n) 1820)) (λ clock.
+    number (within 0 (none_in_main (entry_kind n) lines)) (λ line. number (within 0 (none_in_main (entry_kind n) clock_limit)) (λ clock.
     items (shape_of h (entry_kind n) true points) h.cells.items (λ f. said.Entry (entry_of (entry_kind n) id pc line clock f))))))))
 
 abbrev pub point_kind : ℕ → Kind
@@ -165,17 +210,18 @@ pending_limit Alone = 1
 abbrev pub count_limit : Kind → ℕ → ℕ → ℕ → ℕ → ℕ
 count_limit kind left l0 l1 c0 = least_of (none_in_main kind 256) (c0 + left / (l1 - l0 + 1))
 
-unfoldable pub point_of : Kind → ℕ → ℕ → ℕ → ℕ → ℕ → ℕ → ℤ → ℕ → Facts → Point
-point_of kind pc l0 l1 c0 c1 clock steps pending f = record {
-  kind = kind;
-  pc = pc;
-  l0 = l0;
-  l1 = l1;
-  c0 = c0;
-  c1 = c1;
-  clock = clock;
-  slope = steps;
-  pending = pending == 1;
+-- a point of its place and what is known there
+unfoldable pub point_of : PointPlace → Facts → Point
+point_of at f = record {
+  kind = at.kind;
+  pc = at.pc;
+  l0 = at.l0;
+  l1 = at.l1;
+  c0 = at.c0;
+  c1 = at.c1;
+  clock = at.clock;
+  slope = at.slope;
+  pending = at.pending;
   regs = f.regs;
   pairs = f.pairs;
   flags = f.flags;
@@ -189,9 +235,19 @@ unfoldable pub point_after : Head → ℕ → ℕ → ℕ → Kind → LineForm
 point_after h lines points left kind =
     number (within 0 32768) (λ pc. number (within 0 (none_in_main kind lines)) (λ l0. number (within l0 (none_in_main kind lines)) (λ l1.
     number (within 0 (none_in_main kind 256)) (λ c0. number (within c0 (count_limit kind left l0 l1 c0)) (λ c1.
-    number (within 0 (none_in_main kind 1820)) (λ clock. slope (none_in_main kind 1820) (λ s.
+    number (within 0 (none_in_main kind clock_limit)) (λ clock. slope (none_in_main kind clock_limit) (λ s.
     number (within 0 (pending_limit kind)) (λ pending.
-    items (shape_of h kind false points) h.cells.items (λ f. said.Point (point_of kind pc l0 l1 c0 c1 clock s pending f))))))))))
+    items (shape_of h kind false points) h.cells.items (λ f. said.Point (point_of (record {
+      kind = kind;
+      pc = pc;
+      l0 = l0;
+      l1 = l1;
+      c0 = c0;
+      c1 = c1;
+      clock = clock;
+      slope = s;
+      pending = pending == 1;
+    }) f))))))))))
 
 abbrev pub point_form : Head → ℕ → ℕ → ℕ → LineForm
 point_form h lines points left =

@@ -465,7 +465,7 @@ fn cell_at(cells: &[Cell], number: Option<u32>) -> Option<(u32, Cell)>
     }
 }
 
-/// The forms of a cell's word: in an entry its range is within the one of the header.
+/// The forms of a cell's word: no old ones, and in an entry a range within the one of the header.
 fn cell_forms(shape: Shape, cell: Option<(u32, Cell)>) -> FactForms
     ensures forms { result ≡ forms_of_cell shape cell }
     ensures limit { result.limit ≤ 256 }
@@ -490,7 +490,10 @@ fn cell_forms(shape: Shape, cell: Option<(u32, Cell)>) -> FactForms
                 }
             }
         }
-        None => bytes_forms(shape),
+        None => FactForms {
+            old: false,
+            ..bytes_forms(shape)
+        },
     }
 }
 

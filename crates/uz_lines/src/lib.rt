@@ -5,14 +5,16 @@ mod items;
 mod laws;
 mod lines;
 mod values;
+mod version;
 mod why;
 mod words;
 
 pub use items::{Facts, Shape};
 pub use laws::line_or_fault;
 pub use lines::{
-    Run, Said, Sizes, StackLine, cell_line, end_line, entry_line, event_line, fall_line, irq_line,
-    kind_line, point_line, rest_line, run_line, size_line, stack_line,
+    KindLine, PointPlace, Run, Said, Sizes, StackLine, cell_line, end_line, entry_line, event_line,
+    fall_line, irq_line, kind_line, point_line, rest_line, run_line, size_line, stack_line,
 };
+pub use version::Version;
 pub use why::CertWhy;
 pub use words::{Asked, Words};

@@ -10,16 +10,31 @@ ghost use Rattle.uz_lines.specs.Lines.{owner_of as owner_of_place, off_stack as 
 ghost use Rattle.uz_lines.specs.Lines.{shape_of as shape_of_kind, span_of_fact as ends_of_fact};
 ghost use Rattle.uz_lines.specs.Lines.{entry_of as entry_of_facts, entry_kind as kind_of_entry, point_kind as kind_of_point};
 ghost use Rattle.uz_lines.specs.Lines.{pending_limit as limit_of_pending, count_limit as limit_of_count, point_of as point_of_facts};
+ghost use Rattle.uz_lines.specs.Lines.{length_for as length_for_events, kind_after as kind_after_events};
+ghost use Rattle.uz_schedule.specs.Schedule.{scanline};
 ghost use Rattle.uz_lines.specs.Lines.{event_after as event_after_clock, point_after as point_after_kind};
 
 use crate::items::{Facts, Shape, read_items, tracks};
+use crate::version::Version;
 use crate::why::CertWhy;
 use crate::words::{Asked, Words};
 use arrayvec::ArrayVec;
 use uz_schedule::{
-    Cell, Entry, Event, EventKind, Fact, Head, Kind, Owner, PairFact, Point, Response, Rest, Span,
-    Wide,
+    CLOCK_LIMIT, Cell, Entry, Event, EventKind, Fact, HALF_LINE, Head, Kind, MOST_EVENTS, Owner,
+    PairFact, Point, Response, Rest, SCANLINE, Span, Wide,
 };
+
+/// Each clock of a text is below this.
+const CLOCKS: u32 = CLOCK_LIMIT as u32;
+
+/// The most events of a kind of line.
+const EVENTS: u32 = MOST_EVENTS as u32;
+
+/// The clocks of a scanline.
+const WHOLE: u32 = SCANLINE as u32;
+
+/// The clocks of half a scanline.
+const HALF: u32 = HALF_LINE as u32;
 
 /// How many of each there are.
 #[derive(Clone, Copy, Debug)]
@@ -40,6 +55,14 @@ pub struct StackLine {
     pub handler: u8,
 }
 
+/// How many events a kind of line has, and its length.
+#[derive(Clone, Copy, Debug)]
+pub struct KindLine {
+    pub events: u32,
+    /// The clocks of a line of this kind.
+    pub clocks: u16,
+}
+
 /// Lines of one kind that follow each other.
 #[derive(Clone, Copy, Debug)]
 pub struct Run {
@@ -58,8 +81,8 @@ pub enum Said {
     Stack(StackLine),
     /// `cell ADDRESS OWNER LO HI`
     Cell(Cell),
-    /// `kind EVENTS`
-    Kind(u32),
+    /// `kind EVENTS LENGTH`, and in version 1 `kind EVENTS`
+    Kind(KindLine),
     /// `CLOCK sync V`, `CLOCK pixel`, `CLOCK sound` and `CLOCK leave`
     Event(Event),
     /// `fall CLOCK`
@@ -221,14 +244,46 @@ pub fn cell_line(lo: u16, hi: u16, least: u32, words: &mut Words) -> Result<Said
     }))
 }
 
-/// `kind EVENTS`
-pub fn kind_line(words: &mut Words) -> Result<Said, CertWhy>
-    ensures { result ≡ reads kind_form words.old }
+/// The clocks of half a scanline or of a whole one, and no fewer than there are events.
+fn length_for(events: u32) -> Asked
+    ensures asked { result ≡ length_for_events events }
+    ensures limit { result.limit ≡ scanline + 1 }
+{
+    let low = if HALF < events { WHOLE } else { HALF };
+    Asked {
+        hole: HALF + 1,
+        hole_end: WHOLE,
+        ..within(low, WHOLE + 1)
+    }
+}
+
+/// What follows the number of events.
+fn kind_after(version: Version, events: u32, words: &mut Words) -> Result<Said, CertWhy>
+    ensures { result ≡ reads (kind_after_events version events) words.old }
+{
+    match version {
+        Version::First => {
+            words.finish()?;
+            Ok(Said::Kind(KindLine {
+                events,
+                clocks: SCANLINE,
+            }))
+        }
+        Version::Second => {
+            let clocks = words.number(length_for(events))? as u16;
+            words.finish()?;
+            Ok(Said::Kind(KindLine { events, clocks }))
+        }
+    }
+}
+
+/// `kind EVENTS LENGTH`, and in version 1 `kind EVENTS`
+pub fn kind_line(version: Version, words: &mut Words) -> Result<Said, CertWhy>
+    ensures { result ≡ reads (kind_form version) words.old }
 {
     words.fixed(b"kind")?;
-    let events = words.number(within(1, 1821))?;
-    words.finish()?;
-    Ok(Said::Kind(events))
+    let events = words.number(within(1, EVENTS + 1))?;
+    kind_after(version, events, words)
 }
 
 /// What follows the clock of an event, whose word is of this place.
@@ -262,11 +317,11 @@ fn event_after(clock: u16, place: u32, words: &mut Words) -> Result<Said, CertWh
     }))
 }
 
-/// `CLOCK sync V`, `CLOCK pixel`, `CLOCK sound` and `CLOCK leave`
-pub fn event_line(least: u32, words: &mut Words) -> Result<Said, CertWhy>
-    ensures { result ≡ reads (event_form least) words.old }
+/// `CLOCK sync V`, `CLOCK pixel`, `CLOCK sound` and `CLOCK leave`, in a kind of line of so many clocks.
+pub fn event_line(clocks: u16, least: u32, words: &mut Words) -> Result<Said, CertWhy>
+    ensures { result ≡ reads (event_form clocks least) words.old }
 {
-    let clock = words.number(rising(least, within(0, 1820)))?;
+    let clock = words.number(rising(least, within(0, u32::from(clocks))))?;
     let place = words.choice(&[b"sync", b"pixel", b"sound", b"leave"])?;
     event_after(clock as u16, place, words)
 }
@@ -276,7 +331,7 @@ pub fn fall_line(words: &mut Words) -> Result<Said, CertWhy>
     ensures { result ≡ reads fall_form words.old }
 {
     words.fixed(b"fall")?;
-    let clock = words.number(within(1, 1820))?;
+    let clock = words.number(within(1, CLOCKS))?;
     words.finish()?;
     Ok(Said::Fall(clock as u16))
 }
@@ -326,7 +381,7 @@ pub fn rest_line(
 {
     words.fixed(b"rest")?;
     let line = words.number(rising(least, within(0, lines)))?;
-    let clock = words.number(within(0, 1820))?;
+    let clock = words.number(within(0, CLOCKS))?;
     let vector = words.number(one_of(points))?;
     let cells = spans(cells, words)?;
     words.finish()?;
@@ -451,7 +506,7 @@ pub fn entry_line(head: &Head, lines: u32, points: u32, words: &mut Words) -> Re
     let id = words.number(one_of(points))?;
     let pc = words.number(within(0, 32768))?;
     let line = words.number(within(0, none_in_main(kind, lines)))?;
-    let clock = words.number(within(0, none_in_main(kind, 1820)))?;
+    let clock = words.number(within(0, none_in_main(kind, CLOCKS)))?;
     let shape = shape_of(head, kind, true, points);
     let facts = read_items(shape, head.cells.as_slice(), words)?;
     Ok(Said::Entry(entry_of(kind, id, pc as u16, line as u16, clock as u16, &facts)))
@@ -490,13 +545,27 @@ fn count_limit(kind: Kind, left: u32, l0: u32, l1: u32, c0: u32) -> u32
     least_of(none_in_main(kind, 256), c0 + left / (l1 - l0 + 1))
 }
 
-/// The first line, the last line, the first count and the last count of a box.
+/// Where a point stands: what its line says before its items.
 #[derive(Clone, Copy, Debug)]
-struct PointBox {
-    l0: u16,
-    l1: u16,
-    c0: u8,
-    c1: u8,
+pub struct PointPlace {
+    /// What it belongs to.
+    pub kind: Kind,
+    /// The word address of its instruction.
+    pub pc: u16,
+    /// The first line of its box.
+    pub l0: u16,
+    /// The last line of its box.
+    pub l1: u16,
+    /// The first count of its box.
+    pub c0: u8,
+    /// The last count of its box.
+    pub c1: u8,
+    /// The clock of its lines at count 0.
+    pub clock: u16,
+    /// How many clocks later it stands with each count.
+    pub slope: i16,
+    /// Whether an interrupt waits.
+    pub pending: bool,
 }
 
 /// The same fact.
@@ -548,27 +617,19 @@ fn same_pairs(facts: &[PairFact; 3]) -> [PairFact; 3]
 }
 
 #[tactic(auto, unfolding(crate::specs::Lines::point_of))]
-fn point_of(
-    kind: Kind,
-    pc: u16,
-    place: PointBox,
-    clock: u16,
-    slope: i16,
-    pending: u32,
-    facts: Facts,
-) -> Point
-    ensures { result ≡ point_of_facts kind pc place.l0 place.l1 place.c0 place.c1 clock slope pending facts }
+fn point_of(place: PointPlace, facts: Facts) -> Point
+    ensures { result ≡ point_of_facts place facts }
 {
     Point {
-        kind,
-        pc,
+        kind: place.kind,
+        pc: place.pc,
         l0: place.l0,
         l1: place.l1,
         c0: place.c0,
         c1: place.c1,
-        clock,
-        slope,
-        pending: pending == 1,
+        clock: place.clock,
+        slope: place.slope,
+        pending: place.pending,
         regs: same_regs(&facts.regs),
         pairs: same_pairs(&facts.pairs),
         flags: facts.flags,
@@ -599,18 +660,23 @@ fn point_after(
     let l1 = words.number(within(l0, none_in_main(kind, lines)))?;
     let c0 = words.number(within(0, none_in_main(kind, 256)))?;
     let c1 = words.number(within(c0, count_limit(kind, left, l0, l1, c0)))?;
-    let clock = words.number(within(0, none_in_main(kind, 1820)))?;
-    let slope = words.slope(none_in_main(kind, 1820))?;
+    let clock = words.number(within(0, none_in_main(kind, CLOCKS)))?;
+    let slope = words.slope(none_in_main(kind, CLOCKS))?;
     let pending = words.number(within(0, pending_limit(kind)))?;
     let shape = shape_of(head, kind, false, points);
     let facts = read_items(shape, head.cells.as_slice(), words)?;
-    let place = PointBox {
+    let place = PointPlace {
+        kind,
+        pc: pc as u16,
         l0: l0 as u16,
         l1: l1 as u16,
         c0: c0 as u8,
         c1: c1 as u8,
+        clock: clock as u16,
+        slope,
+        pending: pending == 1,
     };
-    Ok(Said::Point(point_of(kind, pc as u16, place, clock as u16, slope, pending, facts)))
+    Ok(Said::Point(point_of(place, facts)))
 }
 
 /// `point KIND PC L0 L1 C0 C1 CLOCK SLOPE PENDING ITEMS`, where so many instances are left.

@@ -5,6 +5,7 @@ ghost use Rattle.uz_lines.specs.Grammar.{first_word, next_as, rest_of, number_of
 ghost use Rattle.uz_lines.specs.Grammar.{missing as missing_word, choice_of, choice_from, slope_of, signed_or, unsigned_or};
 ghost use Rattle.uz_lines.specs.Forms.{span_of};
 ghost use Rattle.uz_text.specs.Numbers.{is_numeral, number_below};
+ghost use Rattle.uz_schedule.specs.Limits.{clock_limit};
 ghost use Rattle.uz_lines.specs.Items.{any_names as any_names_of};
 
 use crate::items::names_c_or_z;
@@ -170,7 +171,7 @@ impl<'a> Words<'a> {
 
     /// The next word, which has to be a number above `-limit` and below `limit`.
     pub fn slope(&mut self, limit: u32) -> Result<i16, CertWhy>
-        requires { limit ≤ 1820 }
+        requires { limit ≤ clock_limit }
         ensures number { result ≡ next_as (slope_of limit) self.old }
         ensures rest { self.new ≡ rest_of self.old }
     {
@@ -269,7 +270,7 @@ fn choice_of_word(word: &[u8], wanted: &[&[u8]]) -> Result<u32, CertWhy>
 
 /// The number below 0 of these digits.
 fn below_zero(limit: u32, digits: &[u8]) -> Result<i16, CertWhy>
-    requires { limit ≤ 1820 }
+    requires { limit ≤ clock_limit }
     ensures { result ≡ signed_or (is_numeral digits.now) (number_below limit digits.now) }
 {
     match uz_text::number(digits, limit) {
@@ -292,7 +293,7 @@ fn below_zero(limit: u32, digits: &[u8]) -> Result<i16, CertWhy>
 
 /// The number of these digits.
 fn from_zero(limit: u32, digits: &[u8]) -> Result<i16, CertWhy>
-    requires { limit ≤ 1820 }
+    requires { limit ≤ clock_limit }
     ensures { result ≡ unsigned_or (is_numeral digits.now) (number_below limit digits.now) }
 {
     match uz_text::number(digits, limit) {
@@ -310,7 +311,7 @@ fn from_zero(limit: u32, digits: &[u8]) -> Result<i16, CertWhy>
 /// A number with a sign before it where it is below 0.
 #[tactic(auto, unfolding(crate::specs::Grammar::slope_of))]
 fn slope_of_word(word: &[u8], limit: u32) -> Result<i16, CertWhy>
-    requires { limit ≤ 1820 }
+    requires { limit ≤ clock_limit }
     ensures { result ≡ slope_of limit word.now }
 {
     match word {
