@@ -9,7 +9,7 @@ use Rattle.uz_files.specs.declared.status.Status.{Status}
 use Rattle.uz_files.specs.declared.status.Status.TheVariants as status
 use Rattle.uz_files.specs.Answers.{Answer, Ends, Outside, MayCome}
 use Rattle.uz_files.specs.Formats.{Readings}
-use Rattle.uz_top.specs.Words.{Command, Asm, Build, Certify, Check, Debug, Demo, Dis, Expand, Play, Trace}
+use Rattle.uz_top.specs.Words.{Command, Asm, Build, Certify, Check, Debug, Demo, Dis, Expand, Migrate, Play, Trace}
 use Rattle.uz_top.specs.Commands.{AllowedFor, Answers, AnswersBy, IsDecided, LacksRead, PartAnswers, Succeeds}
 use Rattle.uz_files.proofs.EndingLemmas.{comes_by}
 use Rattle.uz_files.proofs.OutcomeLemmas.{came_from, from_answer, unwritten_by}
@@ -25,6 +25,7 @@ use Rattle.uz_source_commands.proofs.AsmLemmas.{asm_done_answer, asm_or_fault, a
 use Rattle.uz_source_commands.proofs.DisLemmas.{dis_status, dis_or_fault, dis_same, dis_done}
 use Rattle.uz_certify_command.proofs.CertifyLemmas.{certify_always, certify_decided, certify_or_fault, certify_status}
 use Rattle.uz_demo_command.proofs.DemoSameLemmas.{demo_allowed, demo_done, demo_same, demo_status}
+use Rattle.uz_migrate_command.proofs.MigrateLemmas.{migrate_done_answer, migrate_or_fault, migrate_same, migrate_status}
 use Rattle.uz_check_command.proofs.CheckLemmas.{check_status, check_or_fault, check_same, check_done}
 
 -- a status that a command's own work gives
@@ -188,6 +189,14 @@ law_of one readings files load_fault (Demo number) = record {
     same = λ wanted q. demo_same readings number answer wanted p q;
   };
   done = λ told h loads answer p. demo_done readings number h answer p;
+}
+law_of one readings files load_fault (Migrate older newer) = record {
+  tells = λ answer h. own_two _ answer status.BadInput status.Done tt tt (migrate_status files load_fault older newer answer h);
+  free = λ answer h. migrate_or_fault files load_fault older newer answer h;
+  decided = λ told answer p. unsearched told (Migrate older newer) answer tt
+      (λ wanted q. migrate_same readings told ⊥ older newer answer wanted p q);
+  done = λ told h loads answer p. let d = migrate_done_answer (Some told) older newer h in
+      done_as load_fault answer d.0 (migrate_same readings told load_fault older newer answer d.0 p d.1) d.2 loads;
 }
 
 -- What follows for every command
