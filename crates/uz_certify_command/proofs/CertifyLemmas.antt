@@ -2,7 +2,7 @@
 use Rattle.std.proofs.Common.{◌≡◌, ◌≢◌, ◌⊎◌, sym, inl, inr, ℕ, List, [], ◌∷◌, take, refl, ap, subst, ◌∙◌}
 use Rattle.std.specs.Prelude.{Option, Some, IfOk, Result, Ok, Err}
 use Rattle.uz_shelf.specs.Files.{FileMap, HoldsFile, LacksFile}
-use Rattle.uz_cert.specs.Texts.{IsCertificateText}
+use Rattle.uz_files.specs.Formats.{SpellsCertificate}
 use Rattle.uz_soundness.specs.Acceptance.{Accepts}
 use Rattle.uz_soundness.specs.Certified.{Certified}
 use Rattle.uz_schedule.specs.WellFormed.{WellFormed}
@@ -18,6 +18,7 @@ use Rattle.avr_asm.specs.declared.output.Built.{Built}
 use Rattle.avr_asm.specs.declared.output.Hint.{Hint as SourceHint}
 use Rattle.uz_schedule.specs.declared.kinds.Response.{Response}
 use Rattle.uz_schedule.specs.declared.certificate.Cert.{Cert}
+use Rattle.uz_lines.specs.declared.version.Version.TheVariants.{Second}
 use Rattle.uz_spelling.specs.Spelling.{spelling}
 use Rattle.uz_certify_command.specs.declared.certify_command.Found.{Found}
 use Rattle.uz_certify_command.specs.declared.certify_command.Found.TheVariants.{Pair, Refusal}
@@ -84,12 +85,12 @@ found_pair image irq hints cert (Pair hex text line) allowed is = record {
 }
 found_pair image irq hints cert (Refusal line) allowed is = absurd is
 
-same_pair : (name hex image text line : List ℕ) (flash : Flash) (cert : Cert) → image ≡ hex_text flash → text ≡ spelling cert
+same_pair : (name hex image text line : List ℕ) (flash : Flash) (cert : Cert) → image ≡ hex_text flash → text ≡ spelling Second cert
     → line ≡ accepted_line cert → done_with (both_files hex image name text) line ≡ certify_answer hex name flash (Ok cert)
 same_pair name hex image text line flash cert is_hex is_text is_line =
     ap (λ b. done_with (both_files hex b name text) line) is_hex
     ∙ ap (λ t. done_with (both_files hex (hex_text flash) name t) line) is_text
-    ∙ ap (done_with (both_files hex (hex_text flash) name (spelling cert))) is_line
+    ∙ ap (done_with (both_files hex (hex_text flash) name (spelling Second cert))) is_line
 
 pub found_in : (files : Option FileMap) (source : List ℕ) (irq : Response) (built : Built) (r : Result Found Failure) → Says files source
     text_limit IsAssembly (seen_built built) → IfOk r (IsFound built.image irq built.hints.items)
@@ -129,7 +130,7 @@ module _ (files mid after : Option FileMap) (load_fault : Type 0) (source : List
       ))
 
   pub certify_worth : ((image : Flash) (cert : Cert) → WellFormed cert → Accepts image cert → Certified image cert)
-      → ((cert : Cert) → WellFormed cert → IsCertificateText (spelling cert) cert)
+      → ((cert : Cert) → WellFormed cert → SpellsCertificate (spelling Second cert) cert)
       → hex ≢ name → WritesAll mid (both_files hex image name text) after → FilesCertify files after source irq hex name
   certify_worth sound texts apart (first, wrote, (last, written, end)) = record {
     output = output;
@@ -142,7 +143,7 @@ module _ (files mid after : Option FileMap) (load_fault : Type 0) (source : List
     is_hex = pair.reads_back;
     certificate_text = text;
     holds_certificate = subst (λ f. HoldsFile f name text) (sym end) (holds_written first last name text written);
-    is_certificate = subst (λ t. IsCertificateText t pair.cert) (sym pair.is_text) (texts pair.cert pair.allowed.0);
+    is_certificate = subst (λ t. SpellsCertificate t pair.cert) (sym pair.is_text) (texts pair.cert pair.allowed.0);
     accepted = pair.allowed.1;
     certified = sound output.image pair.cert pair.allowed.0 pair.allowed.1;
   }

@@ -6,7 +6,7 @@ use Rattle.std.specs.Prelude.{◌≡◌, ◌≢◌, ℕ, ◌-◌, List, [], ◌�
 use Rattle.std.specs.Prelude.{Result, Ok, Err}
 use Rattle.uz_shelf.specs.Files.{FileMap, HoldsFile}
 use Rattle.uz_hex.specs.HexText.{IsHexOf}
-use Rattle.uz_cert.specs.Texts.{IsCertificateText}
+use Rattle.uz_files.specs.Formats.{SpellsCertificate}
 use Rattle.uz_hex.specs.Reading.{Flash}
 use Rattle.avr_asm.specs.Assembly.{Output}
 use Rattle.avr_asm.specs.declared.output.Hint.{Hint as SourceHint}
@@ -14,6 +14,7 @@ use Rattle.uz_schedule.specs.declared.kinds.Response.{Response}
 use Rattle.uz_schedule.specs.declared.certificate.Cert.{Cert}
 use Rattle.uz_schedule.specs.declared.states.Instance.{Instance}
 use Rattle.uz_schedule.specs.WellFormed.{WellFormed}
+use Rattle.uz_lines.specs.declared.version.Version.TheVariants.{Second}
 use Rattle.uz_spelling.specs.Spelling.{spelling}
 use Rattle.uz_soundness.specs.Acceptance.{Accepts}
 use Rattle.uz_soundness.specs.Certified.{Certified}
@@ -77,7 +78,7 @@ Allowed image irq hints (Err Memory) = ⊥
 Allowed image irq hints (Err e) = Cause image irq hints e
 
 abbrev pub cert_file : List ℕ → Cert → Write
-cert_file name cert = record { name = name; bytes = spelling cert }
+cert_file name cert = record { name = name; bytes = spelling Second cert }
 
 -- both files are written, HEX before CERT, and then one line is printed; or one line tells why no certificate is found
 abbrev pub certify_answer : List ℕ → List ℕ → Flash → Result Cert NotFound → Answer
@@ -127,7 +128,7 @@ pub record FilesCertify (old new : Option FileMap) (source : List ℕ) (irq : Re
   pub is_hex : IsHexOf image_text output.image
   pub certificate_text : List ℕ
   pub holds_certificate : HoldsFile new cert certificate_text
-  pub is_certificate : IsCertificateText certificate_text certificate
+  pub is_certificate : SpellsCertificate certificate_text certificate
   pub accepted : Accepts output.image certificate
   pub certified : Certified output.image certificate
 

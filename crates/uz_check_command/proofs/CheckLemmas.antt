@@ -20,7 +20,7 @@ use Rattle.uz_shelf.specs.Faults.{Rose}
 use Rattle.uz_files.proofs.FaultLemmas.{rose_later}
 use Rattle.uz_files.proofs.ReadingLemmas.{ends_by, fails_by}
 use Rattle.uz_hex.specs.HexText.{IsHexOf}
-use Rattle.uz_cert.specs.Texts.{IsCertificateText}
+use Rattle.uz_files.specs.Formats.{SpellsCertificate}
 use Rattle.uz_files.specs.Formats.{Readings, RefusesCertificate, RefusesHex}
 
 -- the image is read, and the certificate's file ends the command
@@ -69,7 +69,7 @@ pub check_same : (readings : Readings) (files : FileMap) (load_fault : Type 0) (
 check_same readings files load_fault hex cert a b =
     reads_same files load_fault hex text_limit IsHexOf RefusesHex readings.image
     (CheckAnswersFor (Some files) load_fault cert) (CheckAnswersFor (Some files) ⊥ cert) a b (λ image.
-    reads_same files load_fault cert certificate_limit IsCertificateText RefusesCertificate readings.certificate
+    reads_same files load_fault cert certificate_limit SpellsCertificate RefusesCertificate readings.certificate
     (IsVerdict image) (IsVerdict image) a b (λ certificate.
     same_verdict image certificate))
   where
@@ -88,18 +88,18 @@ check_done files hex cert h = (
 )
 
 later_says : (files after : Option FileMap) (cert : List ℕ) (certificate : Cert) → after ≡ files → Says after cert certificate_limit
-    IsCertificateText certificate → Says files cert certificate_limit IsCertificateText certificate
-later_says files after cert certificate same says = subst (λ f. Says f cert certificate_limit IsCertificateText certificate) same says
+    SpellsCertificate certificate → Says files cert certificate_limit SpellsCertificate certificate
+later_says files after cert certificate same says = subst (λ f. Says f cert certificate_limit SpellsCertificate certificate) same says
 
 -- both files are read, and this is the verdict
 pub check_read : (files after : Option FileMap) (load_fault : Type 0) (hex cert : List ℕ) (image : Flash) (certificate : Cert)
     (answer : Answer) → after ≡ files → Says files hex text_limit IsHexOf image → Says after cert certificate_limit
-    IsCertificateText certificate → IsVerdict image certificate answer → CheckAnswers files load_fault hex cert answer
+    SpellsCertificate certificate → IsVerdict image certificate answer → CheckAnswers files load_fault hex cert answer
 check_read files after load_fault hex cert image certificate answer same says spelled verdict =
     inr (image, says, inr (certificate, later_says files after cert certificate same spelled, verdict))
 
 pub check_certified : (files after : Option FileMap) (hex cert : List ℕ) (image : Flash) (certificate : Cert) → after ≡ files
-    → Says files hex text_limit IsHexOf image → Says after cert certificate_limit IsCertificateText certificate
+    → Says files hex text_limit IsHexOf image → Says after cert certificate_limit SpellsCertificate certificate
     → Certified image certificate → FilesCertified files hex cert
 check_certified files after hex cert image certificate same says spelled holds = record {
   image = image;
@@ -115,5 +115,5 @@ pub check_or_fault : (files : Option FileMap) (load_fault : Type 0) (hex cert : 
 check_or_fault files load_fault hex cert answer h =
     reads_or_fault files load_fault hex text_limit IsHexOf RefusesHex (CheckAnswersFor files load_fault cert)
     (CheckAnswersFor files ⊥ cert) answer (λ image.
-    reads_or_fault files load_fault cert certificate_limit IsCertificateText RefusesCertificate (IsVerdict image)
+    reads_or_fault files load_fault cert certificate_limit SpellsCertificate RefusesCertificate (IsVerdict image)
     (IsVerdict image) answer (λ certificate h. inr h)) h

@@ -17,7 +17,7 @@ use Rattle.uz_files.specs.Answers.{Answer, one_line}
 use Rattle.uz_text.specs.Hexadecimals.{hex_word}
 use Rattle.uz_files.specs.Reading.{Reads, Says, certificate_limit, text_limit}
 use Rattle.uz_hex.specs.HexText.{IsHexOf}
-use Rattle.uz_cert.specs.Texts.{IsCertificateText}
+use Rattle.uz_files.specs.Formats.{SpellsCertificate}
 use Rattle.uz_files.specs.Formats.{RefusesCertificate, RefusesHex}
 
 -- a reason of the local rule is printed by its name
@@ -64,7 +64,7 @@ IsVerdict image certificate answer = (why : Option RefusedWhy) × FirstRefusal i
 
 -- once the image is read
 abbrev pub CheckAnswersFor : Option FileMap → Type 0 → List ℕ → Flash → Answer → Type 0
-CheckAnswersFor files load_fault cert image = Reads files load_fault cert certificate_limit IsCertificateText RefusesCertificate
+CheckAnswersFor files load_fault cert image = Reads files load_fault cert certificate_limit SpellsCertificate RefusesCertificate
     (IsVerdict image)
 
 abbrev pub CheckAnswers : Option FileMap → Type 0 → List ℕ → List ℕ → Answer → Type 0
@@ -77,7 +77,7 @@ pub record FilesCertified (files : Option FileMap) (hex cert : List ℕ) : Type 
   pub image : Flash
   pub certificate : Cert
   pub spelled_image : Says files hex text_limit IsHexOf image
-  pub spelled_certificate : Says files cert certificate_limit IsCertificateText certificate
+  pub spelled_certificate : Says files cert certificate_limit SpellsCertificate certificate
   pub certified : Certified image certificate
 
 -- a file that is read isn't there, and the one before it is read
@@ -90,5 +90,5 @@ pub record CheckSucceeds (files : Option FileMap) (hex cert : List ℕ) : Type 0
   pub image : Flash
   pub certificate : Cert
   pub spelled_image : Says files hex text_limit IsHexOf image
-  pub spelled_certificate : Says files cert certificate_limit IsCertificateText certificate
+  pub spelled_certificate : Says files cert certificate_limit SpellsCertificate certificate
   pub accepted : Accepts image certificate

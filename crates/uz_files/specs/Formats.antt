@@ -7,6 +7,8 @@ use Rattle.uz_cert.specs.Texts.{IsCertificateText, IsFirstFault as IsCertificate
 use Rattle.uz_hex.specs.HexText.{IsHexOf, IsFirstFault as IsHexFault}
 use Rattle.uz_hex.specs.WhyNames.{hex_why_name}
 use Rattle.uz_lines.specs.WhyNames.{cert_why_name}
+use Rattle.uz_lines.specs.declared.version.Version.TheVariants.{First, Second}
+use Rattle.uz_schedule.specs.declared.certificate.Cert.{Cert}
 use Rattle.uz_text.specs.Lines.{lines_of}
 use Rattle.uz_pads.specs.Lines.{IsFirstFault as IsPadFault, IsRead}
 use Rattle.uz_pads.specs.WhyNames.{pad_why_name}
@@ -22,8 +24,19 @@ RefusesSource = Refuses IsSourceFault asm_why_name
 abbrev pub RefusesHex : List ℕ → Fault → Type 0
 RefusesHex = Refuses IsHexFault hex_why_name
 
+-- a certificate, in the version of its text that is written
+abbrev pub SpellsCertificate : List ℕ → Cert → Type 0
+SpellsCertificate = IsCertificateText Second
+
 abbrev pub RefusesCertificate : List ℕ → Fault → Type 0
-RefusesCertificate = Refuses IsCertificateFault cert_why_name
+RefusesCertificate = Refuses (IsCertificateFault Second) cert_why_name
+
+-- and in the version before it
+abbrev pub SpellsOldCertificate : List ℕ → Cert → Type 0
+SpellsOldCertificate = IsCertificateText First
+
+abbrev pub RefusesOldCertificate : List ℕ → Fault → Type 0
+RefusesOldCertificate = Refuses (IsCertificateFault First) cert_why_name
 
 -- a pad file spells pairs of pad words
 
@@ -40,5 +53,6 @@ RefusesPads = Refuses HasPadFault pad_why_name
 pub record Readings : Type 0 where
   pub source : IsReader IsAssembly RefusesSource
   pub image : IsReader IsHexOf RefusesHex
-  pub certificate : IsReader IsCertificateText RefusesCertificate
+  pub certificate : IsReader SpellsCertificate RefusesCertificate
+  pub old_certificate : IsReader SpellsOldCertificate RefusesOldCertificate
   pub pads : IsReader SpellsPads RefusesPads

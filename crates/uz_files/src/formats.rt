@@ -3,12 +3,12 @@
 ghost use Rattle.std.specs.Prelude.{◌≡◌, ◌<◌, ◌≤◌, ◌^◌, IfErr, IfOk, length};
 ghost use Rattle.avr_asm.specs.Assembly.{seen_built};
 ghost use Rattle.avr_asm.specs.Relation.{IsAssembly};
-ghost use Rattle.uz_cert.specs.Texts.{IsCertificateText};
 ghost use Rattle.uz_hex.specs.HexText.{IsHexOf};
 ghost use Rattle.uz_schedule.specs.WellFormed.{WellFormed};
 ghost use Rattle.uz_shelf.specs.Faults.{Rose};
 ghost use Rattle.uz_files.specs.Endings.{EndsBy};
-ghost use Rattle.uz_files.specs.Formats.{RefusesCertificate, RefusesHex, RefusesPads, RefusesSource, SpellsPads};
+ghost use Rattle.uz_files.specs.Formats.{RefusesCertificate, RefusesHex, RefusesOldCertificate, RefusesPads, RefusesSource};
+ghost use Rattle.uz_files.specs.Formats.{SpellsCertificate, SpellsOldCertificate, SpellsPads};
 ghost use Rattle.uz_files.specs.Reading.{Fails, Says, certificate_limit, text_limit};
 
 use crate::ending::Failure;
@@ -17,7 +17,7 @@ use crate::loading::{CERTIFICATE_LIMIT, TEXT_LIMIT};
 use crate::text_fault::TextFault;
 use avr_asm::{AsmError, AsmWhy, Built, assemble};
 use std::alloc::Global;
-use uz_cert::{Cert, CertError, CertWhy, read_cert};
+use uz_cert::{Cert, CertError, CertWhy, read_cert, read_cert_1};
 use uz_hex::{HexError, HexWhy, Image, read_hex};
 use uz_pads::{Pad, PadError, PadWhy, read_pads};
 use uz_shelf::Shelf;
@@ -103,9 +103,8 @@ impl Format for HexText {
 struct CertificateText;
 
 impl Format for CertificateText {
-    ghost use Rattle.uz_cert.specs.Texts.{IsCertificateText};
     ghost use Rattle.uz_schedule.specs.WellFormed.{WellFormed};
-    ghost use Rattle.uz_files.specs.Formats.{RefusesCertificate};
+    ghost use Rattle.uz_files.specs.Formats.{RefusesCertificate, SpellsCertificate};
     ghost use Rattle.uz_files.specs.Reading.{certificate_limit};
 
     type Value = Cert;
@@ -114,7 +113,7 @@ impl Format for CertificateText {
 
     ghost LIMIT = { certificate_limit };
 
-    ghost spells = { IsCertificateText };
+    ghost spells = { SpellsCertificate };
 
     ghost refuses = { RefusesCertificate };
 
@@ -122,6 +121,43 @@ impl Format for CertificateText {
 
     fn read(alloc: Global, text: &[u8]) -> Result<Cert, TextFault> {
         match read_cert(alloc, text) {
+            Ok(certificate) => Ok(certificate),
+            Err(
+                CertError {
+                    why: CertWhy::Memory,
+                    ..
+                },
+            ) => Err(TextFault::Memory),
+            Err(CertError { line, why }) => Err(TextFault::At {
+                line,
+                why: why.name(),
+            }),
+        }
+    }
+}
+
+/// The text of a certificate in version 1.
+struct OldCertificateText;
+
+impl Format for OldCertificateText {
+    ghost use Rattle.uz_schedule.specs.WellFormed.{WellFormed};
+    ghost use Rattle.uz_files.specs.Formats.{RefusesOldCertificate, SpellsOldCertificate};
+    ghost use Rattle.uz_files.specs.Reading.{certificate_limit};
+
+    type Value = Cert;
+
+    const LIMIT: u32 = CERTIFICATE_LIMIT;
+
+    ghost LIMIT = { certificate_limit };
+
+    ghost spells = { SpellsOldCertificate };
+
+    ghost refuses = { RefusesOldCertificate };
+
+    ghost formed = { WellFormed };
+
+    fn read(alloc: Global, text: &[u8]) -> Result<Cert, TextFault> {
+        match read_cert_1(alloc, text) {
             Ok(certificate) => Ok(certificate),
             Err(
                 CertError {
@@ -198,7 +234,7 @@ pub fn read_image<H: Shelf>(alloc: Global, shelf: &mut H, name: &str) -> Result<
 
 /// The certificate that a file spells.
 pub fn read_certificate<H: Shelf>(alloc: Global, shelf: &mut H, name: &str) -> Result<Cert, Failure>
-    ensures said { IfOk result (Says (H.files shelf.old) name.now certificate_limit IsCertificateText) }
+    ensures said { IfOk result (Says (H.files shelf.old) name.now certificate_limit SpellsCertificate) }
     ensures well_formed { IfOk result WellFormed }
     ensures fails { IfErr result (EndsBy (Fails (H.files shelf.old) (Rose (H.load_faults shelf.old) (H.load_faults shelf.new)) name.now certificate_limit RefusesCertificate)) }
     ensures files { H.files shelf.new ≡ H.files shelf.old }
@@ -206,6 +242,22 @@ pub fn read_certificate<H: Shelf>(alloc: Global, shelf: &mut H, name: &str) -> R
     ensures write_faults { H.write_faults shelf.new ≡ H.write_faults shelf.old }
 {
     read_file::<CertificateText, H>(alloc, shelf, name)
+}
+
+/// The certificate that a file of version 1 spells.
+pub fn read_old_certificate<H: Shelf>(
+    alloc: Global,
+    shelf: &mut H,
+    name: &str,
+) -> Result<Cert, Failure>
+    ensures said { IfOk result (Says (H.files shelf.old) name.now certificate_limit SpellsOldCertificate) }
+    ensures well_formed { IfOk result WellFormed }
+    ensures fails { IfErr result (EndsBy (Fails (H.files shelf.old) (Rose (H.load_faults shelf.old) (H.load_faults shelf.new)) name.now certificate_limit RefusesOldCertificate)) }
+    ensures files { H.files shelf.new ≡ H.files shelf.old }
+    ensures load_faults { H.load_faults shelf.old ≤ H.load_faults shelf.new }
+    ensures write_faults { H.write_faults shelf.new ≡ H.write_faults shelf.old }
+{
+    read_file::<OldCertificateText, H>(alloc, shelf, name)
 }
 
 /// The pairs of pad words that a file spells.

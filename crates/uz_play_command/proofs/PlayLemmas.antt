@@ -28,7 +28,7 @@ use Rattle.uz_files.proofs.ReadingLemmas.{ends_by, fails_by}
 use Rattle.uz_files.proofs.ReadsLemmas.{fails_status}
 use Rattle.uz_files.proofs.EndingLemmas.{comes_by, run_outcome}
 use Rattle.uz_hex.specs.HexText.{IsHexOf}
-use Rattle.uz_cert.specs.Texts.{IsCertificateText}
+use Rattle.uz_files.specs.Formats.{SpellsCertificate}
 use Rattle.uz_files.specs.Formats.{RefusesCertificate, RefusesHex, RefusesPads, SpellsPads}
 
 -- Files that end the command
@@ -55,7 +55,7 @@ preface_of_certificate files after old mid new hex cert pads image failure same 
 
 pub preface_of_pads : (files mid_files after : Option FileMap) (old one mid new : ℕ) (hex cert pads : List ℕ) (image : Flash)
     (certificate : Cert) (failure : Failure) → mid_files ≡ files → after ≡ mid_files → old ≤ one → one ≤ mid → Says files hex text_limit
-    IsHexOf image → Says mid_files cert certificate_limit IsCertificateText certificate →
+    IsHexOf image → Says mid_files cert certificate_limit SpellsCertificate certificate →
     EndsBy (Fails after (Rose mid new) pads text_limit RefusesPads) failure → EndsBy (PlayPreface files (Rose old new) hex cert pads)
     failure
 preface_of_pads files mid_files after old one mid new hex cert pads image certificate failure first second up further says spelled =
@@ -64,7 +64,7 @@ preface_of_pads files mid_files after old one mid new hex cert pads image certif
       image,
       certificate,
       says,
-      subst (λ f. Says f cert certificate_limit IsCertificateText certificate) first spelled,
+      subst (λ f. Says f cert certificate_limit SpellsCertificate certificate) first spelled,
       fails_by files (Rose mid new) (Rose old new) pads text_limit RefusesPads answer
           (λ rose. rose_later old one new up (rose_later one mid new further rose))
           (subst (λ f. Fails f (Rose mid new) pads text_limit RefusesPads answer) (second ∙ first) h),
@@ -73,7 +73,7 @@ preface_of_pads files mid_files after old one mid new hex cert pads image certif
 -- all are read
 pub play_starts : (files mid_files after : Option FileMap) (hex cert pads : List ℕ) (image : Flash) (certificate : Cert) (list : List Pad)
     (start : Start) → mid_files ≡ files → after ≡ mid_files → WellFormed certificate → Says files hex text_limit IsHexOf image
-    → Says mid_files cert certificate_limit IsCertificateText certificate → Says after pads text_limit SpellsPads list →
+    → Says mid_files cert certificate_limit SpellsCertificate certificate → Says after pads text_limit SpellsPads list →
     IsChecked image certificate list start → IsStart files hex cert pads start
 play_starts files mid_files after hex cert pads image certificate list start first second formed says spelled read checked =
     by_start start checked
@@ -81,7 +81,7 @@ play_starts files mid_files after hex cert pads image certificate list start fir
     all : SpellsPlay files hex cert pads image certificate list
     all = record {
       spelled_image = says;
-      spelled_certificate = subst (λ f. Says f cert certificate_limit IsCertificateText certificate) first spelled;
+      spelled_certificate = subst (λ f. Says f cert certificate_limit SpellsCertificate certificate) first spelled;
       spelled_pads = subst (λ f. Says f pads text_limit SpellsPads list) (second ∙ first) read;
     }
 

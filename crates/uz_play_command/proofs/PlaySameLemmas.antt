@@ -28,7 +28,7 @@ use Rattle.uz_play_command.specs.PlayCommand.{framed, not_entered_line, numbers_
 use Rattle.uz_run_commands.specs.TraceCommand.{start_of, stopped_at_line}
 use Rattle.uz_files.proofs.ReadsLemmas.{fails_says, reads_or_fault, reads_same, says_same}
 use Rattle.uz_hex.specs.HexText.{IsHexOf}
-use Rattle.uz_cert.specs.Texts.{IsCertificateText}
+use Rattle.uz_files.specs.Formats.{SpellsCertificate}
 use Rattle.uz_files.specs.Formats.{Readings, RefusesCertificate, RefusesHex, RefusesPads, SpellsPads}
 
 -- The first state that enters
@@ -146,7 +146,7 @@ play_same readings files load_fault hex cert pads clocks frames a b =
     reads_same files load_fault hex text_limit IsHexOf RefusesHex readings.image
     (PlayAnswersFor (Some files) load_fault cert pads clocks frames) (PlayAnswersFor (Some files) ⊥ cert pads clocks frames) a b
     (λ image.
-    reads_same files load_fault cert certificate_limit IsCertificateText RefusesCertificate readings.certificate
+    reads_same files load_fault cert certificate_limit SpellsCertificate RefusesCertificate readings.certificate
     (PlayAnswersWith (Some files) load_fault pads clocks frames image) (PlayAnswersWith (Some files) ⊥ pads clocks frames image) a b
     (λ certificate.
     reads_same files load_fault pads text_limit SpellsPads RefusesPads readings.pads (IsPlay clocks frames image certificate)
@@ -175,7 +175,7 @@ play_done readings files load_fault hex cert pads clocks frames well loads answe
     absurd (loads (fails_says files load_fault hex text_limit IsHexOf RefusesHex readings.image load_fault answer
     well.image fails (well.spelled).spelled_image))
 play_done readings files load_fault hex cert pads clocks frames well loads answer (inr (image, says, inl fails)) =
-    absurd (loads (fails_says files load_fault cert certificate_limit IsCertificateText RefusesCertificate
+    absurd (loads (fails_says files load_fault cert certificate_limit SpellsCertificate RefusesCertificate
     readings.certificate load_fault answer well.certificate fails (well.spelled).spelled_certificate))
 play_done readings files load_fault hex cert pads clocks frames well loads answer
     (inr (image, says, inr (certificate, spelled, inl fails))) =
@@ -185,7 +185,7 @@ play_done readings files load_fault hex cert pads clocks frames well loads answe
     (inr (image, says, inr (certificate, spelled, inr (list, read, play)))) =
     let one = says_same files load_fault hex text_limit IsHexOf RefusesHex readings.image image well.image says
     (well.spelled).spelled_image in
-    let two = says_same files load_fault cert certificate_limit IsCertificateText RefusesCertificate readings.certificate
+    let two = says_same files load_fault cert certificate_limit SpellsCertificate RefusesCertificate readings.certificate
     certificate well.certificate spelled (well.spelled).spelled_certificate in
     let three = says_same files load_fault pads text_limit SpellsPads RefusesPads readings.pads list well.list read
     (well.spelled).spelled_pads in
@@ -200,7 +200,7 @@ pub play_or_fault : (files : Option FileMap) (load_fault : Type 0) (hex cert pad
 play_or_fault files load_fault hex cert pads clocks frames answer h =
     reads_or_fault files load_fault hex text_limit IsHexOf RefusesHex (PlayAnswersFor files load_fault cert pads clocks
     frames) (PlayAnswersFor files ⊥ cert pads clocks frames) answer (λ image.
-    reads_or_fault files load_fault cert certificate_limit IsCertificateText RefusesCertificate
+    reads_or_fault files load_fault cert certificate_limit SpellsCertificate RefusesCertificate
     (PlayAnswersWith files load_fault pads clocks frames image) (PlayAnswersWith files ⊥ pads clocks frames image) answer
     (λ certificate.
     reads_or_fault files load_fault pads text_limit SpellsPads RefusesPads (IsPlay clocks frames image certificate)

@@ -28,7 +28,7 @@ use Rattle.uz_files.specs.Reading.{Reads, Says, certificate_limit, text_limit}
 use Rattle.uz_check_command.specs.CheckCommand.{refused_line}
 use Rattle.uz_run_commands.specs.TraceCommand.{start_of, stopped_at_line}
 use Rattle.uz_hex.specs.HexText.{IsHexOf}
-use Rattle.uz_cert.specs.Texts.{IsCertificateText}
+use Rattle.uz_files.specs.Formats.{SpellsCertificate}
 use Rattle.uz_files.specs.Formats.{RefusesCertificate, RefusesHex, RefusesPads, SpellsPads}
 
 -- Lines
@@ -111,7 +111,7 @@ PlayAnswersWith files load_fault pads clocks frames image certificate = Reads fi
 -- once the image is read
 abbrev pub PlayAnswersFor : Option FileMap → Type 0 → List ℕ → List ℕ → ℕ → List ℕ → Flash → Answer → Type 0
 PlayAnswersFor files load_fault cert pads clocks frames image =
-    Reads files load_fault cert certificate_limit IsCertificateText RefusesCertificate
+    Reads files load_fault cert certificate_limit SpellsCertificate RefusesCertificate
     (PlayAnswersWith files load_fault pads clocks frames image)
 
 abbrev pub PlayAnswers : Option FileMap → Type 0 → List ℕ → List ℕ → List ℕ → ℕ → List ℕ → Answer → Type 0
@@ -129,7 +129,7 @@ pub record IsFramedPart (frames : List ℕ) (clocks : ℕ) (start : State PadHis
 pub record SpellsPlay (files : Option FileMap) (hex cert pads : List ℕ) (image : Flash) (certificate : Cert) (list : List Pad) : Type
     0 where
   pub spelled_image : Says files hex text_limit IsHexOf image
-  pub spelled_certificate : Says files cert certificate_limit IsCertificateText certificate
+  pub spelled_certificate : Says files cert certificate_limit SpellsCertificate certificate
   pub spelled_pads : Says files pads text_limit SpellsPads list
 
 -- where it is cut short in the midst of the run
@@ -147,7 +147,7 @@ PlayLacks files hex cert pads =
     LacksFile files hex
     ⊎ (((image : Flash) × Says files hex text_limit IsHexOf image × LacksFile files cert)
     ⊎ ((image : Flash) × (certificate : Cert) × Says files hex text_limit IsHexOf image × Says files cert certificate_limit
-    IsCertificateText certificate × LacksFile files pads))
+    SpellsCertificate certificate × LacksFile files pads))
 
 -- a state of a run of so many clocks meets the entry condition
 pub record Enters (certificate : Cert) (clocks : ℕ) (start : State PadHistory) : Type 0 where

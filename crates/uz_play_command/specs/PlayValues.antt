@@ -23,7 +23,7 @@ use Rattle.uz_files.specs.Reading.{Fails, Says, certificate_limit, text_limit}
 use Rattle.uz_play_command.specs.PlayCommand.{IsPlay, SpellsPlay, edge_numbers, entered_line, not_entered_line, numbers_line}
 use Rattle.uz_run_commands.specs.TraceCommand.{start_of, stopped_at_line}
 use Rattle.uz_hex.specs.HexText.{IsHexOf}
-use Rattle.uz_cert.specs.Texts.{IsCertificateText}
+use Rattle.uz_files.specs.Formats.{SpellsCertificate}
 use Rattle.uz_files.specs.Formats.{RefusesCertificate, RefusesHex, RefusesPads}
 
 -- a file ends the command, and the ones before it are read
@@ -33,7 +33,7 @@ PlayPreface files load_fault hex cert pads answer =
     ⊎ (((image : Flash) × Says files hex text_limit IsHexOf image × Fails files load_fault cert certificate_limit
     RefusesCertificate answer)
     ⊎ ((image : Flash) × (certificate : Cert) × Says files hex text_limit IsHexOf image × Says files cert certificate_limit
-    IsCertificateText certificate × Fails files load_fault pads text_limit RefusesPads answer))
+    SpellsCertificate certificate × Fails files load_fault pads text_limit RefusesPads answer))
 
 -- the console is at reset with what the three files say, and the pair is accepted
 pub record IsReady (files : Option FileMap) (hex cert pads : List ℕ) (console : Console) (certificate : Cert) : Type 0 where

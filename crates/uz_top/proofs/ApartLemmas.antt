@@ -6,7 +6,8 @@ use Rattle.std.specs.declared.string.String.{String}
 use Rattle.std.specs.declared.alloc.Global.{Global}
 use Rattle.uz_text.specs.Numbers.{number_below, number_within}
 use Rattle.uz_schedule.specs.declared.kinds.Response.{Response}
-use Rattle.uz_top.specs.Words.{Command, Asm, Build, Check, Expand, WritesApart, asm_words, build_words, certify_with, certify_words}
+use Rattle.uz_top.specs.Words.{Command, Asm, Build, Check, Expand, Migrate, WritesApart, asm_words, build_words, certify_with}
+use Rattle.uz_top.specs.Words.{certify_words, migrate_words}
 use Rattle.uz_top.specs.Words.{check_words, command_of, debug_with, debug_words, demo_with, demo_words, dis_words, expand_words, play_with}
 use Rattle.uz_top.specs.Words.{play_words, response_of, trace_with, trace_words}
 
@@ -124,10 +125,19 @@ demo_apart [] = tt
 demo_apart (a ∷ []) = demo_with_apart (number_below 65536 a)
 demo_apart (a ∷ b ∷ words) = tt
 
+migrate_apart : (words : List (List ℕ)) → Apart (migrate_words words)
+migrate_apart [] = tt
+migrate_apart (a ∷ []) = tt
+migrate_apart (a ∷ b ∷ []) = by_test (bytes_eq a b) None (Some (Migrate a b)) tt tt
+migrate_apart (a ∷ b ∷ c ∷ words) = tt
+
 -- the commands from one of them on, in the order in which the first word is compared
 
+abbrev from_migrate : List ℕ → List (List ℕ) → Option Command
+from_migrate verb words = if bytes_eq verb (codes "migrate") then migrate_words words else None
+
 abbrev from_demo : List ℕ → List (List ℕ) → Option Command
-from_demo verb words = if bytes_eq verb (codes "demo") then demo_words words else None
+from_demo verb words = if bytes_eq verb (codes "demo") then demo_words words else from_migrate verb words
 
 abbrev from_certify : List ℕ → List (List ℕ) → Option Command
 from_certify verb words = if bytes_eq verb (codes "certify") then certify_words words else from_demo verb words
@@ -165,7 +175,8 @@ command_apart (verb ∷ words) =
     (by_test (bytes_eq verb (codes "expand")) (expand_words words) (from_build verb words) (expand_apart words)
     (by_test (bytes_eq verb (codes "build")) (build_words words) (from_certify verb words) (build_apart words)
     (by_test (bytes_eq verb (codes "certify")) (certify_words words) (from_demo verb words) (certify_apart words)
-    (by_test (bytes_eq verb (codes "demo")) (demo_words words) None (demo_apart words) tt)))))))))
+    (by_test (bytes_eq verb (codes "demo")) (demo_words words) (from_migrate verb words) (demo_apart words)
+    (by_test (bytes_eq verb (codes "migrate")) (migrate_words words) None (migrate_apart words) tt))))))))))
 
 -- what holds of the command where the names of its files differ
 pub holds_apart : (words : List (String Global)) (c : Command) (holds : Command → Type 0) → Some c ≡ command_of (map string_bytes words)

@@ -9,7 +9,7 @@ use Rattle.uz_files.specs.declared.status.Status.{Status}
 use Rattle.uz_files.specs.declared.status.Status.TheVariants as status
 use Rattle.uz_files.specs.Answers.{Answer, Ends, Outside, MayCome}
 use Rattle.uz_files.specs.Formats.{Readings}
-use Rattle.uz_top.specs.Words.{Command, Asm, Build, Certify, Check, Debug, Demo, Dis, Expand, Play, Trace}
+use Rattle.uz_top.specs.Words.{Command, Asm, Build, Certify, Check, Debug, Demo, Dis, Expand, Migrate, Play, Trace}
 use Rattle.uz_top.specs.Commands.{AllowedFor, Answers, AnswersBy, IsDecided, LacksRead, PartAnswers, Succeeds}
 use Rattle.uz_files.proofs.EndingLemmas.{comes_by}
 use Rattle.uz_files.proofs.OutcomeLemmas.{came_from, from_answer, unwritten_by}
@@ -25,302 +25,70 @@ use Rattle.uz_source_commands.proofs.AsmLemmas.{asm_done_answer, asm_or_fault, a
 use Rattle.uz_source_commands.proofs.DisLemmas.{dis_status, dis_or_fault, dis_same, dis_done}
 use Rattle.uz_certify_command.proofs.CertifyLemmas.{certify_always, certify_decided, certify_or_fault, certify_status}
 use Rattle.uz_demo_command.proofs.DemoSameLemmas.{demo_allowed, demo_done, demo_same, demo_status}
+use Rattle.uz_migrate_command.proofs.MigrateLemmas.{migrate_done_answer, migrate_or_fault, migrate_same, migrate_status}
 use Rattle.uz_check_command.proofs.CheckLemmas.{check_status, check_or_fault, check_same, check_done}
 
-never_usage : (files : Option FileMap) (load_fault : Type 0) (c : Command) (answer : Answer) → Answers files load_fault c answer
-    → answer.status ≢ status.Usage
-never_usage files load_fault (Check hex cert) answer h is =
-    elim (check_status files load_fault hex cert answer h) [
-      | inl (e, cause) ↦ absurd (cc (e, is))
-      | inr (inl e) ↦ absurd (cc (e, is))
-      | inr (inr (inl e)) ↦ absurd (cc (e, is))
-      | inr (inr (inr e)) ↦ absurd (cc (e, is))
-    ]
-never_usage files load_fault (Dis hex) answer h is =
-    elim (dis_status files load_fault hex answer h) [
-      | inl (e, cause) ↦ absurd (cc (e, is))
-      | inr (inl e) ↦ absurd (cc (e, is))
-      | inr (inr e) ↦ absurd (cc (e, is))
-    ]
-never_usage files load_fault (Asm source hex) answer h is =
-    elim (asm_status files load_fault source hex answer h) [
-      | inl (e, cause) ↦ absurd (cc (e, is))
-      | inr (inl e) ↦ absurd (cc (e, is))
-      | inr (inr e) ↦ absurd (cc (e, is))
-    ]
-never_usage files load_fault (Expand source flat) answer h is =
-    elim (expand_status files load_fault source flat answer h) [
-      | inl (e, cause) ↦ absurd (cc (e, is))
-      | inr (inl e) ↦ absurd (cc (e, is))
-      | inr (inr e) ↦ absurd (cc (e, is))
-    ]
-never_usage files load_fault (Build source hex) answer h is =
-    elim (build_status files load_fault source hex answer h) [
-      | inl (e, cause) ↦ absurd (cc (e, is))
-      | inr (inl e) ↦ absurd (cc (e, is))
-      | inr (inr e) ↦ absurd (cc (e, is))
-    ]
-never_usage files load_fault (Trace hex pads irq clocks) answer h is =
-    elim (trace_status files load_fault hex pads irq clocks answer h) [
-      | inl (e, cause) ↦ absurd (cc (e, is))
-      | inr (inl e) ↦ absurd (cc (e, is))
-      | inr (inr (inl e)) ↦ absurd (cc (e, is))
-      | inr (inr (inr e)) ↦ absurd (cc (e, is))
-    ]
-never_usage files load_fault (Play hex cert pads clocks frames) answer h is =
-    elim (play_status files load_fault hex cert pads clocks frames answer h) [
-      | inl (e, cause) ↦ absurd (cc (e, is))
-      | inr (inl e) ↦ absurd (cc (e, is))
-      | inr (inr (inl e)) ↦ absurd (cc (e, is))
-      | inr (inr (inr (inl e))) ↦ absurd (cc (e, is))
-      | inr (inr (inr (inr (inl e)))) ↦ absurd (cc (e, is))
-      | inr (inr (inr (inr (inr e)))) ↦ absurd (cc (e, is))
-    ]
-never_usage files load_fault (Debug hex pads irq script) answer h is =
-    elim (debug_status files load_fault hex pads irq script answer h) [
-      | inl (e, cause) ↦ absurd (cc (e, is))
-      | inr (inl e) ↦ absurd (cc (e, is))
-      | inr (inr e) ↦ absurd (cc (e, is))
-    ]
-never_usage files load_fault (Certify source irq hex cert) answer h is =
-    elim (certify_status files load_fault source irq hex cert answer h) [
-      | inl (e, cause) ↦ absurd (cc (e, is))
-      | inr (inl e) ↦ absurd (cc (e, is))
-      | inr (inr (inl e)) ↦ absurd (cc (e, is))
-      | inr (inr (inr e)) ↦ absurd (cc (e, is))
-    ]
-never_usage files load_fault (Demo number) answer h is =
-    elim (demo_status number answer h) [
-      | inl e ↦ absurd (cc (e, is))
-      | inr (inl e) ↦ absurd (cc (e, is))
-      | inr (inr (inl e)) ↦ absurd (cc (e, is))
-      | inr (inr (inr e)) ↦ absurd (cc (e, is))
-    ]
+-- a status that a command's own work gives
+abbrev IsOwn : Status → Type 0
+IsOwn status.Done = Unit {0}
+IsOwn status.Usage = ⊥
+IsOwn status.Unread = ⊥
+IsOwn status.BadInput = Unit {0}
+IsOwn status.Refused = Unit {0}
+IsOwn status.Unwritten = ⊥
+IsOwn status.Stopped = Unit {0}
+IsOwn status.NotEntered = Unit {0}
+IsOwn status.NoMemory = Unit {0}
 
-never_unwritten : (files : Option FileMap) (load_fault : Type 0) (c : Command) (answer : Answer) → Answers files load_fault c answer
-    → answer.status ≢ status.Unwritten
-never_unwritten files load_fault (Check hex cert) answer h is =
-    elim (check_status files load_fault hex cert answer h) [
-      | inl (e, cause) ↦ absurd (cc (e, is))
-      | inr (inl e) ↦ absurd (cc (e, is))
-      | inr (inr (inl e)) ↦ absurd (cc (e, is))
-      | inr (inr (inr e)) ↦ absurd (cc (e, is))
-    ]
-never_unwritten files load_fault (Dis hex) answer h is =
-    elim (dis_status files load_fault hex answer h) [
-      | inl (e, cause) ↦ absurd (cc (e, is))
-      | inr (inl e) ↦ absurd (cc (e, is))
-      | inr (inr e) ↦ absurd (cc (e, is))
-    ]
-never_unwritten files load_fault (Asm source hex) answer h is =
-    elim (asm_status files load_fault source hex answer h) [
-      | inl (e, cause) ↦ absurd (cc (e, is))
-      | inr (inl e) ↦ absurd (cc (e, is))
-      | inr (inr e) ↦ absurd (cc (e, is))
-    ]
-never_unwritten files load_fault (Expand source flat) answer h is =
-    elim (expand_status files load_fault source flat answer h) [
-      | inl (e, cause) ↦ absurd (cc (e, is))
-      | inr (inl e) ↦ absurd (cc (e, is))
-      | inr (inr e) ↦ absurd (cc (e, is))
-    ]
-never_unwritten files load_fault (Build source hex) answer h is =
-    elim (build_status files load_fault source hex answer h) [
-      | inl (e, cause) ↦ absurd (cc (e, is))
-      | inr (inl e) ↦ absurd (cc (e, is))
-      | inr (inr e) ↦ absurd (cc (e, is))
-    ]
-never_unwritten files load_fault (Trace hex pads irq clocks) answer h is =
-    elim (trace_status files load_fault hex pads irq clocks answer h) [
-      | inl (e, cause) ↦ absurd (cc (e, is))
-      | inr (inl e) ↦ absurd (cc (e, is))
-      | inr (inr (inl e)) ↦ absurd (cc (e, is))
-      | inr (inr (inr e)) ↦ absurd (cc (e, is))
-    ]
-never_unwritten files load_fault (Play hex cert pads clocks frames) answer h is =
-    elim (play_status files load_fault hex cert pads clocks frames answer h) [
-      | inl (e, cause) ↦ absurd (cc (e, is))
-      | inr (inl e) ↦ absurd (cc (e, is))
-      | inr (inr (inl e)) ↦ absurd (cc (e, is))
-      | inr (inr (inr (inl e))) ↦ absurd (cc (e, is))
-      | inr (inr (inr (inr (inl e)))) ↦ absurd (cc (e, is))
-      | inr (inr (inr (inr (inr e)))) ↦ absurd (cc (e, is))
-    ]
-never_unwritten files load_fault (Debug hex pads irq script) answer h is =
-    elim (debug_status files load_fault hex pads irq script answer h) [
-      | inl (e, cause) ↦ absurd (cc (e, is))
-      | inr (inl e) ↦ absurd (cc (e, is))
-      | inr (inr e) ↦ absurd (cc (e, is))
-    ]
-never_unwritten files load_fault (Certify source irq hex cert) answer h is =
-    elim (certify_status files load_fault source irq hex cert answer h) [
-      | inl (e, cause) ↦ absurd (cc (e, is))
-      | inr (inl e) ↦ absurd (cc (e, is))
-      | inr (inr (inl e)) ↦ absurd (cc (e, is))
-      | inr (inr (inr e)) ↦ absurd (cc (e, is))
-    ]
-never_unwritten files load_fault (Demo number) answer h is =
-    elim (demo_status number answer h) [
-      | inl e ↦ absurd (cc (e, is))
-      | inr (inl e) ↦ absurd (cc (e, is))
-      | inr (inr (inl e)) ↦ absurd (cc (e, is))
-      | inr (inr (inr e)) ↦ absurd (cc (e, is))
-    ]
+-- an answer's status: a file wasn't read, for its cause, or it is the work's own
+abbrev StatusTells : Option FileMap → Type 0 → Command → Answer → Type 0
+StatusTells files load_fault c answer = ((answer.status ≡ status.Unread) × (load_fault ⊎ LacksRead files c)) ⊎ IsOwn answer.status
 
-unread_cause : (files : Option FileMap) (load_fault : Type 0) (c : Command) (answer : Answer) → Answers files load_fault c answer
-    → answer.status ≡ status.Unread → load_fault ⊎ LacksRead files c
-unread_cause files load_fault (Check hex cert) answer h is =
-    elim (check_status files load_fault hex cert answer h) [
-      | inl (e, cause) ↦ cause
-      | inr (inl e) ↦ absurd (cc (e, is))
-      | inr (inr (inl e)) ↦ absurd (cc (e, is))
-      | inr (inr (inr e)) ↦ absurd (cc (e, is))
-    ]
-unread_cause files load_fault (Dis hex) answer h is =
-    elim (dis_status files load_fault hex answer h) [
-      | inl (e, cause) ↦ cause
-      | inr (inl e) ↦ absurd (cc (e, is))
-      | inr (inr e) ↦ absurd (cc (e, is))
-    ]
-unread_cause files load_fault (Asm source hex) answer h is =
-    elim (asm_status files load_fault source hex answer h) [
-      | inl (e, cause) ↦ cause
-      | inr (inl e) ↦ absurd (cc (e, is))
-      | inr (inr e) ↦ absurd (cc (e, is))
-    ]
-unread_cause files load_fault (Expand source flat) answer h is =
-    elim (expand_status files load_fault source flat answer h) [
-      | inl (e, cause) ↦ cause
-      | inr (inl e) ↦ absurd (cc (e, is))
-      | inr (inr e) ↦ absurd (cc (e, is))
-    ]
-unread_cause files load_fault (Build source hex) answer h is =
-    elim (build_status files load_fault source hex answer h) [
-      | inl (e, cause) ↦ cause
-      | inr (inl e) ↦ absurd (cc (e, is))
-      | inr (inr e) ↦ absurd (cc (e, is))
-    ]
-unread_cause files load_fault (Trace hex pads irq clocks) answer h is =
-    elim (trace_status files load_fault hex pads irq clocks answer h) [
-      | inl (e, cause) ↦ cause
-      | inr (inl e) ↦ absurd (cc (e, is))
-      | inr (inr (inl e)) ↦ absurd (cc (e, is))
-      | inr (inr (inr e)) ↦ absurd (cc (e, is))
-    ]
-unread_cause files load_fault (Play hex cert pads clocks frames) answer h is =
-    elim (play_status files load_fault hex cert pads clocks frames answer h) [
-      | inl (e, cause) ↦ cause
-      | inr (inl e) ↦ absurd (cc (e, is))
-      | inr (inr (inl e)) ↦ absurd (cc (e, is))
-      | inr (inr (inr (inl e))) ↦ absurd (cc (e, is))
-      | inr (inr (inr (inr (inl e)))) ↦ absurd (cc (e, is))
-      | inr (inr (inr (inr (inr e)))) ↦ absurd (cc (e, is))
-    ]
-unread_cause files load_fault (Debug hex pads irq script) answer h is =
-    elim (debug_status files load_fault hex pads irq script answer h) [
-      | inl (e, cause) ↦ cause
-      | inr (inl e) ↦ absurd (cc (e, is))
-      | inr (inr e) ↦ absurd (cc (e, is))
-    ]
-unread_cause files load_fault (Certify source irq hex cert) answer h is =
-    elim (certify_status files load_fault source irq hex cert answer h) [
-      | inl (e, cause) ↦ cause
-      | inr (inl e) ↦ absurd (cc (e, is))
-      | inr (inr (inl e)) ↦ absurd (cc (e, is))
-      | inr (inr (inr e)) ↦ absurd (cc (e, is))
-    ]
-unread_cause files load_fault (Demo number) answer h is =
-    elim (demo_status number answer h) [
-      | inl e ↦ absurd (cc (e, is))
-      | inr (inl e) ↦ absurd (cc (e, is))
-      | inr (inr (inl e)) ↦ absurd (cc (e, is))
-      | inr (inr (inr e)) ↦ absurd (cc (e, is))
-    ]
+-- what the told files and an answer of the search decide
+record Decision (told : FileMap) (c : Command) (answer : Answer) : Type 0 where
+  found : Result Cert NotFound
+  allowed : AllowedFor (Some told) c found
+  same : (wanted : Answer) → AnswersBy (Some told) found c wanted → answer ≡ wanted
+
+-- What holds of each command
+record CommandLaw (files : Option FileMap) (load_fault : Type 0) (c : Command) : Type 0 where
+  tells : (answer : Answer) → Answers files load_fault c answer → StatusTells files load_fault c answer
+  -- loading met a fault, or none is needed for the answer
+  free : (answer : Answer) → Answers files load_fault c answer → load_fault ⊎ Answers files ⊥ c answer
+  -- an answer without a fault of loading is the one that is decided
+  decided : (told : FileMap) (answer : Answer) → Answers (Some told) ⊥ c answer → Decision told c answer
+  -- where all is well each answer is done, unless loading met a fault
+  done : (told : FileMap) → Succeeds (Some told) c → (load_fault → ⊥) → (answer : Answer) → Answers (Some told) load_fault c answer
+      → answer.status ≡ status.Done
+
+own : (answer : Answer) (s : Status) → answer.status ≡ s → IsOwn s → IsOwn answer.status
+own answer s same is = subst IsOwn (sym same) is
+
+-- of the statuses of an answer the first is Unread, the others the work's own
+own_two : (A : Type 0) (answer : Answer) (s t : Status) → IsOwn s → IsOwn t → A ⊎ ((answer.status ≡ s) ⊎ (answer.status ≡ t))
+    → A ⊎ IsOwn answer.status
+own_two A answer s t p q (inl a) = inl a
+own_two A answer s t p q (inr (inl e)) = inr (own answer s e p)
+own_two A answer s t p q (inr (inr e)) = inr (own answer t e q)
+
+own_three : (A : Type 0) (answer : Answer) (r s t : Status) → IsOwn r → IsOwn s → IsOwn t
+    → A ⊎ ((answer.status ≡ r) ⊎ ((answer.status ≡ s) ⊎ (answer.status ≡ t))) → A ⊎ IsOwn answer.status
+own_three A answer r s t p q u (inl a) = inl a
+own_three A answer r s t p q u (inr (inl e)) = inr (own answer r e p)
+own_three A answer r s t p q u (inr (inr (inl e))) = inr (own answer s e q)
+own_three A answer r s t p q u (inr (inr (inr e))) = inr (own answer t e u)
+
+sure : (a b : Answer) → (a ≡ b) ⊎ ⊥ → a ≡ b
+sure a b (inl same) = same
+sure a b (inr never) = absurd never
 
 -- no certificate is searched
-abbrev NoSearch : Command → Type 0
-NoSearch (Certify source irq hex cert) = ⊥
-NoSearch (Demo number) = ⊥
-NoSearch other = Unit {0}
-
-same_answers : (one : OneEnd) (readings : Readings) (files : FileMap) (found : Result Cert NotFound) (c : Command) (a b : Answer)
-    → NoSearch c
-    → Answers (Some files) ⊥ c a → AnswersBy (Some files) found c b → (a ≡ b) ⊎ ⊥
-same_answers one readings files found (Check hex cert) a b none p q = check_same readings files ⊥ hex cert a b p q
-same_answers one readings files found (Dis hex) a b none p q = dis_same readings files ⊥ hex a b p q
-same_answers one readings files found (Asm source hex) a b none p q = asm_same readings files ⊥ source hex a b p q
-same_answers one readings files found (Expand source flat) a b none p q = expand_same one files ⊥ source flat a b p q
-same_answers one readings files found (Build source hex) a b none p q = build_same one readings files ⊥ source hex a b p q
-same_answers one readings files found (Trace hex pads irq clocks) a b none p q = trace_same readings files ⊥ hex pads irq clocks a b p q
-same_answers one readings files found (Play hex cert pads clocks frames) a b none p q =
-    play_same readings files ⊥ hex cert pads clocks frames a b p q
-same_answers one readings files found (Debug hex pads irq script) a b none p q = debug_same readings files ⊥ hex pads irq script a b p q
-same_answers one readings files found (Certify source irq hex cert) a b none p q = absurd none
-same_answers one readings files found (Demo number) a b none p q = absurd none
-
--- loading met a fault, or none is needed for the answer
-answers_or_fault : (files : Option FileMap) (load_fault : Type 0) (c : Command) (answer : Answer) → Answers files load_fault c answer
-    → load_fault ⊎ Answers files ⊥ c answer
-answers_or_fault files load_fault (Check hex cert) answer h = check_or_fault files load_fault hex cert answer h
-answers_or_fault files load_fault (Dis hex) answer h = dis_or_fault files load_fault hex answer h
-answers_or_fault files load_fault (Asm source hex) answer h = asm_or_fault files load_fault source hex answer h
-answers_or_fault files load_fault (Expand source flat) answer h = flat_or_fault files load_fault source (IsExpanded flat) answer h
-answers_or_fault files load_fault (Build source hex) answer h = flat_or_fault files load_fault source (IsBuilt hex) answer h
-answers_or_fault files load_fault (Trace hex pads irq clocks) answer h = trace_or_fault files load_fault hex pads irq clocks answer h
-answers_or_fault files load_fault (Play hex cert pads clocks frames) answer h = play_or_fault files load_fault hex cert pads clocks frames
-    answer h
-answers_or_fault files load_fault (Debug hex pads irq script) answer h = debug_or_fault files load_fault hex pads irq script answer h
-answers_or_fault files load_fault (Certify source irq hex cert) answer h = certify_or_fault files load_fault source irq hex cert answer h
-answers_or_fault files load_fault (Demo number) answer h = inr h
-
--- an answer without a fault of loading is the one that is decided
-
-no_search : (one : OneEnd) (readings : Readings) (files : FileMap) (write_fault : Type 0) (c : Command) (answer : Answer) (came : Status)
-    (old new : Outside) → NoSearch c → AllowedFor (Some files) c (Err NoRoomToSearch) → Answers (Some files) ⊥ c answer
-    → Ends answer write_fault came old new → IsDecided (Some files) write_fault c came old new
-no_search one readings files write_fault c answer came old new none allowed h ends = record {
+unsearched : (told : FileMap) (c : Command) (answer : Answer) → AllowedFor (Some told) c (Err NoRoomToSearch)
+    → ((wanted : Answer) → AnswersBy (Some told) (Err NoRoomToSearch) c wanted → (answer ≡ wanted) ⊎ ⊥) → Decision told c answer
+unsearched told c answer allowed same = record {
   found = Err NoRoomToSearch;
   allowed = allowed;
-  decided = λ wanted q. by_same wanted (same_answers one readings files (Err NoRoomToSearch) c answer wanted none h q);
-}
-  where
-    by_same : (wanted : Answer) → (answer ≡ wanted) ⊎ ⊥ → Ends wanted write_fault came old new
-    by_same wanted (inl same) = subst (λ a. Ends a write_fault came old new) same ends
-    by_same wanted (inr none) = absurd none
-
-decided_by : (one : OneEnd) (readings : Readings) (files : FileMap) (write_fault : Type 0) (c : Command) (answer : Answer) (came : Status)
-    (old new : Outside) → Answers (Some files) ⊥ c answer → Ends answer write_fault came old new
-    → IsDecided (Some files) write_fault c came old new
-decided_by one readings files write_fault (Check hex cert) answer came old new =
-    no_search one readings files write_fault (Check hex cert) answer came old new tt tt
-decided_by one readings files write_fault (Dis hex) answer came old new =
-    no_search one readings files write_fault (Dis hex) answer came old new tt tt
-decided_by one readings files write_fault (Asm source hex) answer came old new =
-    no_search one readings files write_fault (Asm source hex) answer came old new tt tt
-decided_by one readings files write_fault (Expand source flat) answer came old new =
-    no_search one readings files write_fault (Expand source flat) answer came old new tt tt
-decided_by one readings files write_fault (Build source hex) answer came old new =
-    no_search one readings files write_fault (Build source hex) answer came old new tt tt
-decided_by one readings files write_fault (Trace hex pads irq clocks) answer came old new =
-    no_search one readings files write_fault (Trace hex pads irq clocks) answer came old new
-    tt tt
-decided_by one readings files write_fault (Play hex cert pads clocks frames) answer came old new =
-    no_search one readings files write_fault (Play hex cert pads clocks frames) answer
-    came old new tt tt
-decided_by one readings files write_fault (Debug hex pads irq script) answer came old new =
-    no_search one readings files write_fault (Debug hex pads irq script) answer came old new
-    tt tt
-decided_by one readings files write_fault (Certify source irq hex cert) answer came old new = λ h ends.
-    let d = certify_decided readings files source irq hex cert answer h in
-    record {
-      found = d.found;
-      allowed = d.allowed;
-      decided = λ wanted q. subst (λ a. Ends a write_fault came old new) (d.decided wanted q) ends;
-    }
-decided_by one readings files write_fault (Demo number) answer came old new = λ h ends. record {
-  found = h.found;
-  allowed = demo_allowed readings number answer h;
-  decided = λ wanted q. subst (λ a. Ends a write_fault came old new) (demo_same readings number answer wanted h q) ends;
+  same = λ wanted q. sure answer wanted (same wanted q);
 }
 
 -- an answer that is this one, or loading met a fault
@@ -329,36 +97,144 @@ done_as : (load_fault : Type 0) (answer wanted : Answer) → (answer ≡ wanted)
 done_as load_fault answer wanted (inl same) is loads = ap (λ a. a.status) same ∙ is
 done_as load_fault answer wanted (inr fault) is loads = absurd (loads fault)
 
--- where all is well each answer is done, unless loading met a fault
-done_always : (one : OneEnd) (readings : Readings) (told : FileMap) (load_fault : Type 0) (c : Command) → Succeeds (Some told) c
-    → (load_fault → ⊥)
-    → (answer : Answer) → Answers (Some told) load_fault c answer → answer.status ≡ status.Done
-done_always one readings told load_fault (Check hex cert) h loads answer p = let d = check_done (Some told) hex cert h in
-    done_as load_fault answer d.0 (check_same readings told load_fault hex cert answer d.0 p d.1) d.2 loads
-done_always one readings told load_fault (Dis hex) h loads answer p = let d = dis_done (Some told) hex h in
-    done_as load_fault answer d.0 (dis_same readings told load_fault hex answer d.0 p d.1) d.2 loads
-done_always one readings told load_fault (Asm source hex) h loads answer p = let d = asm_done_answer (Some told) source hex h in
-    done_as load_fault answer d.0 (asm_same readings told load_fault source hex answer d.0 p d.1) d.2 loads
-done_always one readings told load_fault (Expand source flat) h loads answer p =
-    let d = expand_done (Some told) source flat h in
-    done_as load_fault answer d.0 (expand_same one told load_fault source flat answer d.0 p d.1) d.2 loads
-done_always one readings told load_fault (Build source hex) h loads answer p =
-    let d = build_done (Some told) source hex h in done_as load_fault answer d.0 (build_same one readings told load_fault source hex
-    answer d.0 p d.1) d.2 loads
-done_always one readings told load_fault (Trace hex pads irq clocks) h loads answer p =
-    let d = trace_done (Some told) hex pads irq clocks h in done_as load_fault answer d.0
-    (trace_same readings told load_fault hex pads irq clocks
-    answer d.0 p d.1) d.2 loads
-done_always one readings told load_fault (Play hex cert pads clocks frames) h loads answer p =
-    play_done readings told load_fault hex cert pads clocks frames
-    h loads answer p
-done_always one readings told load_fault (Debug hex pads irq script) h loads answer p =
-    debug_done readings told load_fault hex pads irq script h loads answer
-    p
-done_always one readings told load_fault (Certify source irq hex cert) h loads answer p =
-    certify_always readings told load_fault source irq hex cert h loads
-    answer p
-done_always one readings told load_fault (Demo number) h loads answer p = demo_done readings number h answer p
+-- a new command has its clause here
+law_of : (one : OneEnd) (readings : Readings) (files : Option FileMap) (load_fault : Type 0) (c : Command) → CommandLaw files load_fault c
+law_of one readings files load_fault (Check hex cert) = record {
+  tells = λ answer h. own_three _ answer status.BadInput status.Done status.Refused tt tt tt
+      (check_status files load_fault hex cert answer h);
+  free = λ answer h. check_or_fault files load_fault hex cert answer h;
+  decided = λ told answer p. unsearched told (Check hex cert) answer tt (λ wanted q. check_same readings told ⊥ hex cert answer wanted p q);
+  done = λ told h loads answer p. let d = check_done (Some told) hex cert h in
+      done_as load_fault answer d.0 (check_same readings told load_fault hex cert answer d.0 p d.1) d.2 loads;
+}
+law_of one readings files load_fault (Dis hex) = record {
+  tells = λ answer h. own_two _ answer status.BadInput status.Done tt tt (dis_status files load_fault hex answer h);
+  free = λ answer h. dis_or_fault files load_fault hex answer h;
+  decided = λ told answer p. unsearched told (Dis hex) answer tt (λ wanted q. dis_same readings told ⊥ hex answer wanted p q);
+  done = λ told h loads answer p. let d = dis_done (Some told) hex h in
+      done_as load_fault answer d.0 (dis_same readings told load_fault hex answer d.0 p d.1) d.2 loads;
+}
+law_of one readings files load_fault (Asm source hex) = record {
+  tells = λ answer h. own_two _ answer status.BadInput status.Done tt tt (asm_status files load_fault source hex answer h);
+  free = λ answer h. asm_or_fault files load_fault source hex answer h;
+  decided = λ told answer p. unsearched told (Asm source hex) answer tt (λ wanted q. asm_same readings told ⊥ source hex answer wanted p q);
+  done = λ told h loads answer p. let d = asm_done_answer (Some told) source hex h in
+      done_as load_fault answer d.0 (asm_same readings told load_fault source hex answer d.0 p d.1) d.2 loads;
+}
+law_of one readings files load_fault (Expand source flat) = record {
+  tells = λ answer h. own_two _ answer status.BadInput status.Done tt tt (expand_status files load_fault source flat answer h);
+  free = λ answer h. flat_or_fault files load_fault source (IsExpanded flat) answer h;
+  decided = λ told answer p.
+      unsearched told (Expand source flat) answer tt (λ wanted q. expand_same one told ⊥ source flat answer wanted p q);
+  done = λ told h loads answer p. let d = expand_done (Some told) source flat h in
+      done_as load_fault answer d.0 (expand_same one told load_fault source flat answer d.0 p d.1) d.2 loads;
+}
+law_of one readings files load_fault (Build source hex) = record {
+  tells = λ answer h. own_two _ answer status.BadInput status.Done tt tt (build_status files load_fault source hex answer h);
+  free = λ answer h. flat_or_fault files load_fault source (IsBuilt hex) answer h;
+  decided = λ told answer p.
+      unsearched told (Build source hex) answer tt (λ wanted q. build_same one readings told ⊥ source hex answer wanted p q);
+  done = λ told h loads answer p. let d = build_done (Some told) source hex h in
+      done_as load_fault answer d.0 (build_same one readings told load_fault source hex answer d.0 p d.1) d.2 loads;
+}
+law_of one readings files load_fault (Trace hex pads irq clocks) = record {
+  tells = λ answer h. own_three _ answer status.BadInput status.Done status.Stopped tt tt tt
+      (trace_status files load_fault hex pads irq clocks answer h);
+  free = λ answer h. trace_or_fault files load_fault hex pads irq clocks answer h;
+  decided = λ told answer p. unsearched told (Trace hex pads irq clocks) answer tt
+      (λ wanted q. trace_same readings told ⊥ hex pads irq clocks answer wanted p q);
+  done = λ told h loads answer p. let d = trace_done (Some told) hex pads irq clocks h in
+      done_as load_fault answer d.0 (trace_same readings told load_fault hex pads irq clocks answer d.0 p d.1) d.2 loads;
+}
+law_of one readings files load_fault (Play hex cert pads clocks frames) = record {
+  tells = λ answer h. elim (play_status files load_fault hex cert pads clocks frames answer h) [
+    | inl unread ↦ inl unread
+    | inr (inl e) ↦ inr (own answer _ e tt)
+    | inr (inr (inl e)) ↦ inr (own answer _ e tt)
+    | inr (inr (inr (inl e))) ↦ inr (own answer _ e tt)
+    | inr (inr (inr (inr (inl e)))) ↦ inr (own answer _ e tt)
+    | inr (inr (inr (inr (inr e)))) ↦ inr (own answer _ e tt)
+  ];
+  free = λ answer h. play_or_fault files load_fault hex cert pads clocks frames answer h;
+  decided = λ told answer p. unsearched told (Play hex cert pads clocks frames) answer tt
+      (λ wanted q. play_same readings told ⊥ hex cert pads clocks frames answer wanted p q);
+  done = λ told h loads answer p. play_done readings told load_fault hex cert pads clocks frames h loads answer p;
+}
+law_of one readings files load_fault (Debug hex pads irq script) = record {
+  tells = λ answer h. own_two _ answer status.BadInput status.Done tt tt (debug_status files load_fault hex pads irq script answer h);
+  free = λ answer h. debug_or_fault files load_fault hex pads irq script answer h;
+  decided = λ told answer p. unsearched told (Debug hex pads irq script) answer tt
+      (λ wanted q. debug_same readings told ⊥ hex pads irq script answer wanted p q);
+  done = λ told h loads answer p. debug_done readings told load_fault hex pads irq script h loads answer p;
+}
+law_of one readings files load_fault (Certify source irq hex cert) = record {
+  tells = λ answer h. own_three _ answer status.BadInput status.Refused status.Done tt tt tt
+      (certify_status files load_fault source irq hex cert answer h);
+  free = λ answer h. certify_or_fault files load_fault source irq hex cert answer h;
+  decided = λ told answer p. let d = certify_decided readings told source irq hex cert answer p in
+      record { found = d.found; allowed = d.allowed; same = d.decided };
+  done = λ told h loads answer p. certify_always readings told load_fault source irq hex cert h loads answer p;
+}
+law_of one readings files load_fault (Demo number) = record {
+  tells = λ answer h. elim (demo_status number answer h) [
+    | inl e ↦ inr (own answer _ e tt)
+    | inr (inl e) ↦ inr (own answer _ e tt)
+    | inr (inr (inl e)) ↦ inr (own answer _ e tt)
+    | inr (inr (inr e)) ↦ inr (own answer _ e tt)
+  ];
+  free = λ answer h. inr h;
+  decided = λ told answer p. record {
+    found = p.found;
+    allowed = demo_allowed readings number answer p;
+    same = λ wanted q. demo_same readings number answer wanted p q;
+  };
+  done = λ told h loads answer p. demo_done readings number h answer p;
+}
+law_of one readings files load_fault (Migrate older newer) = record {
+  tells = λ answer h. own_two _ answer status.BadInput status.Done tt tt (migrate_status files load_fault older newer answer h);
+  free = λ answer h. migrate_or_fault files load_fault older newer answer h;
+  decided = λ told answer p. unsearched told (Migrate older newer) answer tt
+      (λ wanted q. migrate_same readings told ⊥ older newer answer wanted p q);
+  done = λ told h loads answer p. let d = migrate_done_answer (Some told) older newer h in
+      done_as load_fault answer d.0 (migrate_same readings told load_fault older newer answer d.0 p d.1) d.2 loads;
+}
+
+-- What follows for every command
+
+never_usage : (one : OneEnd) (readings : Readings) (files : Option FileMap) (load_fault : Type 0) (c : Command) (answer : Answer)
+    → Answers files load_fault c answer → answer.status ≢ status.Usage
+never_usage one readings files load_fault c answer h is =
+    elim ((law_of one readings files load_fault c).tells answer h) [
+      | inl (e, cause) ↦ absurd (cc (e, is))
+      | inr is_own ↦ subst IsOwn is is_own
+    ]
+
+never_unwritten : (one : OneEnd) (readings : Readings) (files : Option FileMap) (load_fault : Type 0) (c : Command) (answer : Answer)
+    → Answers files load_fault c answer → answer.status ≢ status.Unwritten
+never_unwritten one readings files load_fault c answer h is =
+    elim ((law_of one readings files load_fault c).tells answer h) [
+      | inl (e, cause) ↦ absurd (cc (e, is))
+      | inr is_own ↦ subst IsOwn is is_own
+    ]
+
+unread_cause : (one : OneEnd) (readings : Readings) (files : Option FileMap) (load_fault : Type 0) (c : Command) (answer : Answer)
+    → Answers files load_fault c answer → answer.status ≡ status.Unread → load_fault ⊎ LacksRead files c
+unread_cause one readings files load_fault c answer h is =
+    elim ((law_of one readings files load_fault c).tells answer h) [
+      | inl (e, cause) ↦ cause
+      | inr is_own ↦ absurd (subst IsOwn is is_own)
+    ]
+
+decided_by : (one : OneEnd) (readings : Readings) (files : FileMap) (write_fault : Type 0) (c : Command) (answer : Answer) (came : Status)
+    (old new : Outside) → Answers (Some files) ⊥ c answer → Ends answer write_fault came old new
+    → IsDecided (Some files) write_fault c came old new
+decided_by one readings files write_fault c answer came old new h ends =
+    let d = (law_of one readings (Some files) ⊥ c).decided files answer h in
+    record {
+      found = d.found;
+      allowed = d.allowed;
+      decided = λ wanted q. subst (λ a. Ends a write_fault came old new) (d.same wanted q) ends;
+    }
 
 usage_not_memory : status.Usage ≢ status.NoMemory
 usage_not_memory e = cc
@@ -372,23 +248,25 @@ unread_not_memory e = cc
 unread_not_unwritten : status.Unread ≢ status.Unwritten
 unread_not_unwritten e = cc
 
-module _ (files : Option FileMap) (load_fault write_fault : Type 0) (c : Command) (came : Status) (old new : Outside) where
+module _ (one : OneEnd) (readings : Readings) (files : Option FileMap) (load_fault write_fault : Type 0) (c : Command) (came : Status)
+    (old new : Outside) where
   not_usage : MayCome (Answers files load_fault c) (PartAnswers files c) write_fault came old new → came ≢ status.Usage
   not_usage h is =
       let from = from_answer (Answers files load_fault c) (PartAnswers files c) write_fault came old new status.Usage usage_not_memory
       usage_not_unwritten h is in
-      never_usage files load_fault c from.0 from.1 from.2
+      never_usage one readings files load_fault c from.0 from.1 from.2
 
   unread_by : MayCome (Answers files load_fault c) (PartAnswers files c) write_fault came old new → came ≡ status.Unread → load_fault
       ⊎ LacksRead files c
   unread_by h is =
       let from = from_answer (Answers files load_fault c) (PartAnswers files c) write_fault came old new status.Unread unread_not_memory
       unread_not_unwritten h is in
-      unread_cause files load_fault c from.0 from.1 from.2
+      unread_cause one readings files load_fault c from.0 from.1 from.2
 
   pub unwritten : MayCome (Answers files load_fault c) (PartAnswers files c) write_fault came old new → came ≡ status.Unwritten
       → write_fault
-  unwritten = unwritten_by (Answers files load_fault c) (PartAnswers files c) write_fault came old new (never_unwritten files load_fault c)
+  unwritten = unwritten_by (Answers files load_fault c) (PartAnswers files c) write_fault came old new
+      (never_unwritten one readings files load_fault c)
 
 module _ (one : OneEnd) (readings : Readings) (told : FileMap) (load_fault write_fault : Type 0) (c : Command) (came : Status)
     (old new : Outside) where
@@ -398,7 +276,7 @@ module _ (one : OneEnd) (readings : Readings) (told : FileMap) (load_fault write
       elim (came_from (Answers (Some told) load_fault c) (PartAnswers (Some told) c) write_fault came old new h) [
         | inl none ↦ inl none
         | inr (inl cut) ↦ inr (inr (inl cut))
-        | inr (inr given) ↦ ended given.0 given.2 (answers_or_fault (Some told) load_fault c given.0 given.1)
+        | inr (inr given) ↦ ended given.0 given.2 ((law_of one readings (Some told) load_fault c).free given.0 given.1)
       ]
     where
       ended : (answer : Answer) → Ends answer write_fault came old new → load_fault ⊎ Answers (Some told) ⊥ c answer
@@ -413,7 +291,7 @@ module _ (one : OneEnd) (readings : Readings) (told : FileMap) (load_fault write
       elim (came_from (Answers (Some told) load_fault c) (PartAnswers (Some told) c) write_fault came old new h) [
         | inl none ↦ inr none
         | inr (inl cut) ↦ absurd (writes cut.1)
-        | inr (inr given) ↦ inl (given.2.status ∙ done_always one readings told load_fault c well loads given.0 given.1)
+        | inr (inr given) ↦ inl (given.2.status ∙ (law_of one readings (Some told) load_fault c).done told well loads given.0 given.1)
       ]
 
 -- a fault of the sink is one of writing
@@ -453,11 +331,13 @@ exact_in one readings o c files load_fault write_fault came old new is h =
     subst (λ p. IfSome p (λ k. Exact k files load_fault write_fault came old new)) is
     (exact_told one readings files load_fault write_fault c came old new h)
 
-pub unread_in : (o : Option Command) (c : Command) (files : Option FileMap) (load_fault write_fault : Type 0) (came : Status)
-    (old new : Outside) → Some c ≡ o → MayCome (Answers files load_fault c) (PartAnswers files c) write_fault came old new
+pub unread_in : (one : OneEnd) (readings : Readings) (o : Option Command) (c : Command) (files : Option FileMap)
+    (load_fault write_fault : Type 0) (came : Status) (old new : Outside) → Some c ≡ o
+    → MayCome (Answers files load_fault c) (PartAnswers files c) write_fault came old new
     → came ≡ status.Unread → IfSome o (λ k. load_fault ⊎ LacksRead files k)
-unread_in o c files load_fault write_fault came old new is h unread =
-    subst (λ p. IfSome p (λ k. load_fault ⊎ LacksRead files k)) is (unread_by files load_fault write_fault c came old new h unread)
+unread_in one readings o c files load_fault write_fault came old new is h unread =
+    subst (λ p. IfSome p (λ k. load_fault ⊎ LacksRead files k)) is
+    (unread_by one readings files load_fault write_fault c came old new h unread)
 
 complete_told : (one : OneEnd) (readings : Readings) (files : Option FileMap) (load_fault write_fault : Type 0) (c : Command)
     (came : Status) (old new : Outside)
@@ -469,7 +349,8 @@ complete_told one readings (Some told) load_fault write_fault c came old new h =
 
 pub complete_in : (one : OneEnd) (readings : Readings) (o : Option Command) (c : Command) (files : Option FileMap)
     (load_fault write_fault : Type 0)
-    (came : Status) (old new : Outside) → Some c ≡ o → MayCome (Answers files load_fault c) (PartAnswers files c) write_fault came old new
+    (came : Status) (old new : Outside) → Some c ≡ o
+    → MayCome (Answers files load_fault c) (PartAnswers files c) write_fault came old new
     → IfSome o (λ k. IfSome files (λ told. Succeeds files k → (load_fault → ⊥) → (write_fault → ⊥) → (came ≡ status.Done)
     ⊎ (came ≡ status.NoMemory)))
 complete_in one readings o c files load_fault write_fault came old new is h =
@@ -477,7 +358,9 @@ complete_in one readings o c files load_fault write_fault came old new is h =
     ⊎ (came ≡ status.NoMemory)))) is
     (complete_told one readings files load_fault write_fault c came old new h)
 
-pub usage_in : (o : Option Command) (c : Command) (files : Option FileMap) (load_fault write_fault : Type 0) (came : Status)
-    (old new : Outside) → Some c ≡ o → MayCome (Answers files load_fault c) (PartAnswers files c) write_fault came old new
+pub usage_in : (one : OneEnd) (readings : Readings) (o : Option Command) (c : Command) (files : Option FileMap)
+    (load_fault write_fault : Type 0) (came : Status) (old new : Outside) → Some c ≡ o
+    → MayCome (Answers files load_fault c) (PartAnswers files c) write_fault came old new
     → came ≡ status.Usage → o ≡ None
-usage_in o c files load_fault write_fault came old new is h usage = absurd (not_usage files load_fault write_fault c came old new h usage)
+usage_in one readings o c files load_fault write_fault came old new is h usage =
+    absurd (not_usage one readings files load_fault write_fault c came old new h usage)

@@ -5,7 +5,7 @@ use Rattle.uz_schedule.specs.declared.certificate.Cert.{Cert}
 use Rattle.uz_search.specs.declared.found.NotFound.{NotFound}
 use Rattle.uz_files.specs.declared.status.Status.{Status}
 use Rattle.uz_files.specs.Answers.{Answer, Ends, NoPart, Outside}
-use Rattle.uz_top.specs.Words.{Command, Asm, Build, Certify, Check, Debug, Demo, Dis, Expand, Play, Trace}
+use Rattle.uz_top.specs.Words.{Command, Asm, Build, Certify, Check, Debug, Demo, Dis, Expand, Migrate, Play, Trace}
 use Rattle.uz_run_commands.specs.TraceCommand.{TraceAnswers, TraceLacks, TraceParts, TraceSucceeds}
 use Rattle.uz_source_commands.specs.MacroCommands.{BuildAnswers, BuildSucceeds, ExpandAnswers, ExpandSucceeds, FilesBuilt}
 use Rattle.uz_source_commands.specs.MacroSource.{MacroLacks}
@@ -15,6 +15,7 @@ use Rattle.uz_source_commands.specs.AsmCommand.{AsmAnswers, AsmSucceeds, FilesAs
 use Rattle.uz_source_commands.specs.DisCommand.{DisAnswers, DisSucceeds}
 use Rattle.uz_certify_command.specs.CertifyCommand.{AllowedOf, CertifyAnswers, CertifyAnswersBy, CertifySucceeds, FilesCertify}
 use Rattle.uz_demo_command.specs.DemoCommand.{AllowedOfDemo, DemoAnswers, DemoAnswersBy, DemoHalted, DemoParts, DemoPlayed, DemoSucceeds}
+use Rattle.uz_migrate_command.specs.MigrateCommand.{FilesMigrated, MigrateAnswers, MigrateSucceeds}
 use Rattle.uz_check_command.specs.CheckCommand.{CheckAnswers, CheckLacks, CheckSucceeds, FilesCertified}
 
 -- the answer of a command, from what its files say
@@ -29,6 +30,7 @@ Answers files load_fault (Play hex cert pads clocks frames) answer = PlayAnswers
 Answers files load_fault (Debug hex pads irq script) answer = DebugAnswers files load_fault hex pads irq script answer
 Answers files load_fault (Certify source irq hex cert) answer = CertifyAnswers files load_fault source irq hex cert answer
 Answers files load_fault (Demo number) answer = DemoAnswers number answer
+Answers files load_fault (Migrate older newer) answer = MigrateAnswers files load_fault older newer answer
 
 -- a file that the command reads isn't there, and all earlier ones are read
 abbrev pub LacksRead : Option FileMap → Command → Type 0
@@ -42,6 +44,7 @@ LacksRead files (Play hex cert pads clocks frames) = PlayLacks files hex cert pa
 LacksRead files (Debug hex pads irq script) = DebugLacks files hex pads script
 LacksRead files (Certify source irq hex cert) = LacksFile files source
 LacksRead files (Demo number) = ⊥
+LacksRead files (Migrate older newer) = LacksFile files older
 
 -- all that the command reads is there and in its grammar, and what it asks of it holds
 abbrev pub Succeeds : Option FileMap → Command → Type 0
@@ -55,6 +58,7 @@ Succeeds files (Play hex cert pads clocks frames) = PlaySucceeds files hex cert 
 Succeeds files (Debug hex pads irq script) = DebugSucceeds files hex pads script
 Succeeds files (Certify source irq hex cert) = CertifySucceeds files source irq
 Succeeds files (Demo number) = DemoSucceeds number
+Succeeds files (Migrate older newer) = MigrateSucceeds files older
 
 -- the command creates no file
 abbrev pub CreatesNone : Command → Type 0
@@ -68,6 +72,7 @@ CreatesNone (Play hex cert pads clocks frames) = ⊥
 CreatesNone (Debug hex pads irq script) = Unit {0}
 CreatesNone (Certify source irq hex cert) = ⊥
 CreatesNone (Demo number) = Unit {0}
+CreatesNone (Migrate older newer) = ⊥
 
 -- what a command is worth where it is done, with the files before it and after it
 abbrev pub Certifies : Option FileMap → Option FileMap → Command → Type 0
@@ -81,6 +86,7 @@ Certifies files new (Play hex cert pads clocks frames) = FilesPlayed files hex c
 Certifies files new (Debug hex pads irq script) = Unit {0}
 Certifies files new (Certify source irq hex cert) = FilesCertify files new source irq hex cert
 Certifies files new (Demo number) = DemoPlayed number
+Certifies files new (Migrate older newer) = FilesMigrated files new older newer
 
 -- what a command tells where it is stopped
 abbrev pub StopTells : Option FileMap → Command → Type 0
@@ -94,6 +100,7 @@ StopTells files (Play hex cert pads clocks frames) = FilesHalted files hex cert 
 StopTells files (Debug hex pads irq script) = Unit {0}
 StopTells files (Certify source irq hex cert) = Unit {0}
 StopTells files (Demo number) = DemoHalted number
+StopTells files (Migrate older newer) = Unit {0}
 
 -- what a command has come to that is cut short in the midst of its work
 abbrev pub PartAnswers : Option FileMap → Command → Answer → Type 0
@@ -107,6 +114,7 @@ PartAnswers files (Play hex cert pads clocks frames) = PlayParts files hex cert 
 PartAnswers files (Debug hex pads irq script) = NoPart
 PartAnswers files (Certify source irq hex cert) = NoPart
 PartAnswers files (Demo number) = DemoParts number
+PartAnswers files (Migrate older newer) = NoPart
 
 -- Where the shelf tells its files, they decide the answer, and for `certify` and `demo` an answer of the search does besides, as plain data
 
@@ -121,6 +129,7 @@ AnswersBy files found (Play hex cert pads clocks frames) answer = PlayAnswers fi
 AnswersBy files found (Debug hex pads irq script) answer = DebugAnswers files ⊥ hex pads irq script answer
 AnswersBy files found (Certify source irq hex cert) answer = CertifyAnswersBy files source hex cert found answer
 AnswersBy files found (Demo number) answer = DemoAnswersBy number found answer
+AnswersBy files found (Migrate older newer) answer = MigrateAnswers files ⊥ older newer answer
 
 -- what the search's promise allows: a certificate that is accepted and as the hints ask, or a refusal whose cause stands
 abbrev pub AllowedFor : Option FileMap → Command → Result Cert NotFound → Type 0
@@ -134,6 +143,7 @@ AllowedFor files (Play hex cert pads clocks frames) found = Unit {0}
 AllowedFor files (Debug hex pads irq script) found = Unit {0}
 AllowedFor files (Certify source irq hex cert) found = AllowedOf files source irq found
 AllowedFor files (Demo number) found = AllowedOfDemo number found
+AllowedFor files (Migrate older newer) found = Unit {0}
 
 -- it ended with the one answer that they decide
 pub record IsDecided (files : Option FileMap) (write_fault : Type 0) (c : Command) (came : Status) (old new : Outside) : Type 0 where

@@ -19,6 +19,7 @@ pub data Command : Type 0 where
   Debug : (hex pads : List ℕ) → (irq : Response) → (script : List ℕ) → Command
   Certify : (source : List ℕ) → (irq : Response) → (hex cert : List ℕ) → Command
   Demo : (number : ℕ) → Command
+  Migrate : (older newer : List ℕ) → Command
 
 -- the file words of a command differ
 abbrev pub check_words : List (List ℕ) → Option Command
@@ -94,6 +95,10 @@ abbrev pub demo_words : List (List ℕ) → Option Command
 demo_words (number ∷ []) = demo_with (number_below 65536 number)
 demo_words other = None
 
+abbrev pub migrate_words : List (List ℕ) → Option Command
+migrate_words (older ∷ newer ∷ []) = if bytes_eq older newer then None else Some (Migrate older newer)
+migrate_words other = None
+
 abbrev pub command_of : List (List ℕ) → Option Command
 command_of [] = None
 command_of (verb ∷ words) =
@@ -107,6 +112,7 @@ command_of (verb ∷ words) =
     else if bytes_eq verb (codes "build") then build_words words
     else if bytes_eq verb (codes "certify") then certify_words words
     else if bytes_eq verb (codes "demo") then demo_words words
+    else if bytes_eq verb (codes "migrate") then migrate_words words
     else None
 
 -- the words are no command

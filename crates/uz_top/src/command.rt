@@ -3,7 +3,7 @@
 ghost use Rattle.std.specs.Prelude.{◌≡◌, map, option_map, string_bytes};
 ghost use Rattle.uz_top.specs.CommandValues.{value_of};
 ghost use Rattle.uz_text.specs.Numbers.{number_below, number_within as number_from_low};
-ghost use Rattle.uz_top.specs.Words.{asm_words, build_words, certify_with as certify_with_response, certify_words, check_words, command_of, debug_with as debug_with_response, debug_words, demo_with as demo_with_number, demo_words, dis_words, expand_words, play_with as play_with_clocks, play_words, response_of, trace_words};
+ghost use Rattle.uz_top.specs.Words.{asm_words, build_words, certify_with as certify_with_response, certify_words, check_words, command_of, debug_with as debug_with_response, debug_words, demo_with as demo_with_number, demo_words, dis_words, expand_words, migrate_words, play_with as play_with_clocks, play_words, response_of, trace_words};
 
 use uz_cert::Response;
 use uz_play_command::{Clocks, number_of_clocks};
@@ -59,6 +59,10 @@ pub(crate) enum Command<'a> {
     Demo {
         number: u16,
     },
+    Migrate {
+        older: &'a str,
+        newer: &'a str,
+    },
 }
 
 /// The command of these words, without the program's name, or `None` where they are no command.
@@ -79,6 +83,7 @@ pub(crate) fn parse(words: &[String]) -> Option<Command<'_>>
         "build" => build(rest),
         "certify" => certify(rest),
         "demo" => demo(rest),
+        "migrate" => migrate(rest),
         _ => None,
     }
 }
@@ -317,6 +322,19 @@ fn demo(words: &[String]) -> Option<Command<'_>>
 {
     match words {
         [number] => demo_with(number.as_str()),
+        _ => None,
+    }
+}
+
+/// `migrate OLD NEW`, of two files.
+fn migrate(words: &[String]) -> Option<Command<'_>>
+    ensures { option_map value_of result ≡ migrate_words (map string_bytes words.now) }
+{
+    match words {
+        [older, newer] if older.as_str() != newer.as_str() => Some(Command::Migrate {
+            older: older.as_str(),
+            newer: newer.as_str(),
+        }),
         _ => None,
     }
 }

@@ -16,6 +16,7 @@ use uz_certify_command::run_certify;
 use uz_check_command::run_check;
 use uz_demo_command::run_demo;
 use uz_files::{Status, end_fault, readings_are_unique};
+use uz_migrate_command::run_migrate;
 use uz_play_command::run_play;
 use uz_run_commands::{run_debug, run_trace};
 use uz_shelf::{Shelf, Sink};
@@ -81,6 +82,7 @@ fn run<H: Shelf, K: Sink>(
             cert,
         } => run_certify(alloc, source, *irq, hex, cert, shelf, out),
         Command::Demo { number } => run_demo(alloc, *number, out),
+        Command::Migrate { older, newer } => run_migrate(alloc, older, newer, shelf, out),
     }
 }
 
@@ -131,9 +133,10 @@ pub fn uzebox<H: Shelf, K: Sink>(
         → (WriteFault (H.write_faults shelf.old) (H.write_faults shelf.new) (K.faults out.old) (K.faults out.new) → ⊥)
         → (result ≡ Status.Done) ⊎ (result ≡ Status.NoMemory))) }
 
-    // What a command that is done is worth: after `asm` and `build` the written file is Intel HEX of the image that the source assembles
-    // to, `check` certifies the image and the certificate that its files spell, `certify` those that the written files spell, and a run
-    // that is played, by `play` or `demo`, keeps to the schedule once a state of it has entered. One that is stopped never entered.
+    // What a command that is done is worth: after `asm` and `build` the written file is Intel HEX of the image that the source
+    // assembles to, after `migrate` it is a text of the very certificate that was read; `check` certifies the image and the
+    // certificate that its files spell, `certify` those that the written files spell; and a run that is played, by `play` or
+    // `demo`, keeps to the schedule once a state of it has entered. One that is stopped never entered.
     ensures certified { result ≡ Status.Done → IfCommand words.now (Certifies (H.files shelf.old) (H.files shelf.new)) }
     ensures halted { result ≡ Status.Stopped → IfCommand words.now (StopTells (H.files shelf.old)) }
     ensures untouched { IfCommand words.now (λ c. CreatesNone c → H.files shelf.new ≡ H.files shelf.old) }

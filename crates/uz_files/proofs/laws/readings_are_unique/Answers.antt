@@ -5,6 +5,7 @@ use Rattle.uz_cert.specs.Texts.{IsFirstFault as IsCertificateFault}
 use Rattle.uz_hex.specs.HexText.{IsFirstFault as IsHexFault}
 use Rattle.uz_hex.specs.WhyNames.{hex_why_name}
 use Rattle.uz_lines.specs.WhyNames.{cert_why_name}
+use Rattle.uz_lines.specs.declared.version.Version.TheVariants.{First, Second}
 use Rattle.uz_text.specs.Lines.{lines_of}
 use Rattle.uz_pads.specs.WhyNames.{pad_why_name}
 use Rattle.uz_files.specs.Formats.{HasPadFault}
@@ -24,9 +25,14 @@ returns c = record {
     apart = λ text image fault spells refuses. c.hex_or_fault.ensures.not_both text image fault.0 refuses.0 spells refuses.1;
   };
   certificate = record {
-    one = c.text_or_fault.ensures.one_certificate;
-    first = one_refusal IsCertificateFault cert_why_name c.text_or_fault.ensures.one_fault;
-    apart = λ text cert fault spells refuses. c.text_or_fault.ensures.not_both text cert fault.0 refuses.0 spells refuses.1;
+    one = c.text_or_fault.ensures.one_certificate Second;
+    first = one_refusal (IsCertificateFault Second) cert_why_name (c.text_or_fault.ensures.one_fault Second);
+    apart = λ text cert fault spells refuses. c.text_or_fault.ensures.not_both Second text cert fault.0 refuses.0 spells refuses.1;
+  };
+  old_certificate = record {
+    one = c.text_or_fault.ensures.one_certificate First;
+    first = one_refusal (IsCertificateFault First) cert_why_name (c.text_or_fault.ensures.one_fault First);
+    apart = λ text cert fault spells refuses. c.text_or_fault.ensures.not_both First text cert fault.0 refuses.0 spells refuses.1;
   };
   pads = record {
     one = λ text. c.reading_is_unique.ensures.list (lines_of text);

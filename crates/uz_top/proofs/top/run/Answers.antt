@@ -76,3 +76,15 @@ pub returns-in-Demo-clause-outcome : goal.returns-in-Demo-clause-outcome
 returns-in-Demo-clause-outcome g c =
     outcome_at (value_of c.args.command.now) _ _ _ _ _ _ _ (ap value_of c.in-Demo.is)
     (outcome_wider _ _ _ _ _ _ _ inr (c.run_demo.ensures.outcome (g.H.Shelf.files c.args.shelf.now)))
+
+pub returns-in-Migrate-clause-outcome : goal.returns-in-Migrate-clause-outcome
+returns-in-Migrate-clause-outcome g c = outcome_at (value_of c.args.command.now) _ _ _ _ _ _ _ (ap value_of c.in-Migrate.is)
+    c.run_migrate.ensures.outcome
+
+pub returns-in-Migrate-clause-untouched : goal.returns-in-Migrate-clause-untouched
+returns-in-Migrate-clause-untouched g c = λ none. absurd (subst CreatesNone (ap value_of c.in-Migrate.is) none)
+
+pub returns-in-Migrate-clause-certified : goal.returns-in-Migrate-clause-certified
+returns-in-Migrate-clause-certified g c = λ done apart.
+    subst (Certifies (g.H.Shelf.files c.args.shelf.now) (g.H.Shelf.files c.run_migrate.new.shelf)) (sym (ap value_of c.in-Migrate.is))
+    (c.run_migrate.ensures.migrated done)

@@ -1,0 +1,2 @@
+pub mod MigrateCommand
+pub mod MigrateValues

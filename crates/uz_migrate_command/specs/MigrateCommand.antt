@@ -1,0 +1,40 @@
+-- `migrate OLD NEW`: a certificate of version 1 is read, its text of version 2 is written, and then a line tells how many
+-- points it has.
+use Rattle.std.specs.Prelude.{◌≡◌, ℕ, List, ◌++◌, codes, decimal, length, Option}
+use Rattle.uz_shelf.specs.Files.{FileMap, HoldsFile}
+use Rattle.uz_schedule.specs.declared.certificate.Cert.{Cert}
+use Rattle.uz_lines.specs.declared.version.Version.TheVariants.{Second}
+use Rattle.uz_spelling.specs.Spelling.{spelling}
+use Rattle.uz_files.specs.Answers.{Answer, Write}
+use Rattle.uz_files.specs.Writing.{written_then}
+use Rattle.uz_files.specs.Reading.{Reads, Says, certificate_limit}
+use Rattle.uz_files.specs.Formats.{RefusesOldCertificate, SpellsCertificate, SpellsOldCertificate}
+
+abbrev pub migrated_line : Cert → List ℕ
+migrated_line cert = codes "migrated points " ++ decimal (length cert.points) ++ codes "\n"
+
+-- the text of version 2
+abbrev pub new_file : List ℕ → Cert → Write
+new_file name cert = record { name = name; bytes = spelling Second cert }
+
+-- once the certificate is read
+abbrev pub IsMigrated : List ℕ → Cert → Answer → Type 0
+IsMigrated newer cert answer = answer ≡ written_then (new_file newer cert) (migrated_line cert)
+
+abbrev pub MigrateAnswers : Option FileMap → Type 0 → List ℕ → List ℕ → Answer → Type 0
+MigrateAnswers files load_fault older newer = Reads files load_fault older certificate_limit SpellsOldCertificate RefusesOldCertificate
+    (IsMigrated newer)
+
+-- the file is within its limit, and it spells a certificate
+pub record MigrateSucceeds (files : Option FileMap) (older : List ℕ) : Type 0 where
+  pub certificate : Cert
+  pub spelled : Says files older certificate_limit SpellsOldCertificate certificate
+
+-- What a `migrate` that is done is worth: the new file holds a text of version 2 of the very certificate that the old one
+-- spells, so that the one is accepted exactly where the other was
+pub record FilesMigrated (before after : Option FileMap) (older newer : List ℕ) : Type 0 where
+  pub certificate : Cert
+  pub spelled : Says before older certificate_limit SpellsOldCertificate certificate
+  pub text : List ℕ
+  pub holds : HoldsFile after newer text
+  pub is_text : SpellsCertificate text certificate
