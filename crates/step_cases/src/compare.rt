@@ -3,7 +3,7 @@
 ghost use Rattle.std.specs.Prelude.{◌≡◌, ◌<◌, ◌≤◌};
 
 use crate::case::{Case, Core};
-use crate::draw::{LINE, LINES};
+use crate::draw::LINES;
 use crate::program::{STACK, TOP};
 use arrayvec::ArrayVec;
 use uz_console::Console;
@@ -11,7 +11,7 @@ use uz_events::event_of;
 use uz_machine::Edge;
 use uz_machine::address::{OCR1AH, OCR1AL, PORTB, SPH, SPL, SREG, TCNT1L, TIFR1};
 use uz_rules::inside;
-use uz_schedule::{Bit, EventKind, Head, Instance, Kind, Span, Val, Wide, tracks};
+use uz_schedule::{Bit, EventKind, Head, Instance, Kind, SCANLINE, Span, Val, Wide, tracks};
 
 /// What of a console isn't as it is known to be.
 #[derive(Clone, Copy, Debug)]
@@ -114,7 +114,7 @@ fn place_after(at: &Instance, clocks: u64) -> (u16, u16) {
     if at.kind == Kind::Main {
         return (0, 0);
     }
-    let line = u64::from(LINE);
+    let line = u64::from(SCANLINE);
     let from = u64::from(at.line) * line;
     let end = from.wrapping_add(u64::from(at.clock)).wrapping_add(clocks);
     let position = end % (line * u64::from(LINES));
@@ -152,6 +152,7 @@ fn instance_of(
         flags: flags_of(console.byte(SREG), &known.flags, case.before.flags),
         stack: slots_of(console, case, known.stack.as_slice()),
         cells: cells_of(console, head, kind),
+        ..Instance::default()
     }
 }
 

@@ -1,13 +1,18 @@
 //! Draws a state, and around it an instance.
 
 ghost use Rattle.std.specs.Prelude.{◌≡◌, ◌<◌, ◌≤◌};
+ghost use Rattle.uz_schedule.specs.Schedule.{scanline};
 
 use crate::case::{Case, Core};
 use crate::words::words;
 use arrayvec::ArrayVec;
 use drawn_numbers::{Random, place};
+use std::alloc::{AllocError, Global};
 use uz_range::hull;
-use uz_schedule::{Bit, Cell, Head, Instance, Kind, Owner, Response, Span, Val, Wide, tracks};
+use uz_schedule::{
+    Bit, Cell, Head, Instance, Kind, Owner, Response, SCANLINE, Schedule, Sequence, Span, Val,
+    Wide, tracks,
+};
 
 /// The tracked cells: address, owner, and the ends of the range.
 const CELLS: [(u16, Owner, u8, u8); 4] = [
@@ -19,9 +24,6 @@ const CELLS: [(u16, Owner, u8, u8); 4] = [
 
 /// Bytes at which rules change.
 const EDGES: [u8; 8] = [0, 1, 2, 15, 127, 128, 254, 255];
-
-/// The clocks of a scanline.
-pub(crate) const LINE: u16 = 1820;
 
 /// How many lines the frame has.
 pub(crate) const LINES: u16 = 3;
@@ -265,11 +267,11 @@ struct Standing {
 /// Draws where an instance stands. Main has line and clock 0, and only a handler has a match that waits.
 fn draw_place(random: &mut Random, kind: Kind) -> Standing
     ensures line { result.line < 3 }
-    ensures clock { result.clock < 1820 }
+    ensures clock { result.clock < scanline }
 {
     let line = random.below(u32::from(LINES)) as u16;
-    let any = random.below(1820) as u16;
-    let late = 1815 + random.below(5) as u16;
+    let any = random.below(u32::from(SCANLINE)) as u16;
+    let late = SCANLINE - 5 + random.below(5) as u16;
     let clock = if random.below(2) == 1 { any } else { late };
     let level = random.below(2) as u8;
     let waits = random.below(2) == 1;
@@ -284,11 +286,11 @@ fn draw_place(random: &mut Random, kind: Kind) -> Standing
 
 /// The count of TCNT1: in main any that serves, else the clock.
 fn count(random: &mut Random, kind: Kind, clock: u16) -> u16
-    requires { clock < 1820 }
-    ensures { result < 1820 }
+    requires { clock < scanline }
+    ensures { result < scanline }
 {
     let least = u32::from(LEAST_COUNT);
-    let any = LEAST_COUNT + random.below(u32::from(LINE) - least) as u16;
+    let any = LEAST_COUNT + random.below(u32::from(SCANLINE) - least) as u16;
     if kind == Kind::Main { any } else { clock }
 }
 
@@ -301,11 +303,27 @@ fn kind(random: &mut Random) -> Kind {
     }
 }
 
+/// A frame of three scanlines, in which nothing is seen.
+pub(crate) fn frame(alloc: Global) -> Result<Schedule, AllocError> {
+    let mut lengths = Sequence::new(alloc);
+    lengths.push(SCANLINE)?;
+    let mut lines = Sequence::new(alloc);
+    for _ in 0..LINES {
+        lines.push(0)?;
+    }
+    Ok(Schedule {
+        kinds: Sequence::new(alloc),
+        lengths,
+        lines,
+        fall: 1,
+    })
+}
+
 /// Draws a state at this pc, and an instance that it meets.
 pub(crate) fn case(random: &mut Random, pc: u16) -> Case
     ensures line { result.at.line < 3 }
-    ensures clock { result.at.clock < 1820 }
-    ensures count { result.count < 1820 }
+    ensures clock { result.at.clock < scanline }
+    ensures count { result.count < scanline }
 {
     let kind = kind(random);
     let words = words(random);
@@ -348,6 +366,7 @@ pub(crate) fn case(random: &mut Random, pc: u16) -> Case
             flags: bits,
             stack,
             cells: spans,
+            ..Instance::default()
         },
     }
 }

@@ -22,7 +22,7 @@ use program::{CASES, image_of, pc_of, starts};
 use tally::Tally;
 use trial::attempt;
 use uz_console::{Console, Response, SaveState};
-use uz_schedule::Head;
+use uz_schedule::{Head, Schedule};
 
 /// How many images are made.
 const IMAGES: u32 = 400;
@@ -40,6 +40,7 @@ fn draw_cases(rt: &HostRuntime, random: &mut Random) -> Result<Vec<Case>> {
 fn try_image(
     rt: &HostRuntime,
     head: &Head,
+    frame: &Schedule,
     starts: &[SaveState],
     random: &mut Random,
     tally: &mut Tally,
@@ -54,7 +55,7 @@ fn try_image(
     let mut console = Console::reset(alloc, flash, Vec::new(alloc), Response::Four)?;
     for (case, start) in cases.as_slice().iter().zip(starts) {
         console.load(start);
-        let trial = attempt(&image, head, &mut console, case);
+        let trial = attempt(&image, head, frame, &mut console, case);
         if tally.add(case, trial) {
             println!(rt;
                 "{:04X} {:04X} {:?} {:?}",
@@ -67,11 +68,19 @@ fn try_image(
 
 fn main(rt: HostRuntime) -> Result<()> {
     let head = draw::header();
+    let frame = draw::frame(rt.alloc())?;
     let starts = starts(rt.alloc())?;
     let mut random = Random::new(1);
     let mut tally = Tally::new();
     for _ in 0..IMAGES {
-        try_image(&rt, &head, starts.as_slice(), &mut random, &mut tally)?;
+        try_image(
+            &rt,
+            &head,
+            &frame,
+            starts.as_slice(),
+            &mut random,
+            &mut tally,
+        )?;
     }
     println!(rt; "{} drawn, {} not as told", tally.drawn(), tally.wrong())?;
     println!(rt; "{} pairs of a row and a kind", tally.pairs())?;

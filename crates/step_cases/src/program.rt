@@ -14,7 +14,7 @@ use uz_hex::Image;
 use uz_machine::address::{
     OCR1AH, OCR1AL, PORTB, PORTC, SPH, SPL, SREG, TCCR1B, TCNT1H, TCNT1L, TIMSK1,
 };
-use uz_schedule::Kind;
+use uz_schedule::{Kind, SCANLINE};
 
 /// How many cases an image holds.
 pub(crate) const CASES: u16 = 250;
@@ -34,8 +34,8 @@ const LATE: u16 = 23;
 /// The highest byte of the stack.
 pub(crate) const STACK: u16 = 0x10FF;
 
-/// The compare register: the last clock of a line.
-pub(crate) const TOP: u16 = 1819;
+/// The compare register: the last clock of a scanline.
+pub(crate) const TOP: u16 = SCANLINE - 1;
 
 /// The pc of a case. Its words stand there, and the one before it is the stub's last.
 pub(crate) fn pc_of(k: u16) -> u16

@@ -1,10 +1,9 @@
 //! One trial: a console is brought into a drawn state and makes one turn.
 
-ghost use Rattle.std.specs.Prelude.{◌≡◌, ◌<◌};
+ghost use Rattle.std.specs.Prelude.{◌≡◌};
 
 use crate::case::Case;
 use crate::compare::{Fault, are_told, fault_of};
-use crate::draw::{LINE, LINES};
 use crate::program::go_to;
 use arrayvec::ArrayVec;
 use avr_decode::decode;
@@ -13,7 +12,7 @@ use uz_core::effect;
 use uz_hex::Image;
 use uz_machine::Edge;
 use uz_rules::{Fail, Next, after};
-use uz_schedule::{Head, Instance, Kind};
+use uz_schedule::{Head, Instance, Kind, MOST_LINES, SCANLINE, Schedule};
 use uz_transfer::main_emits;
 
 /// How a trial ends.
@@ -37,16 +36,19 @@ pub(crate) enum Trial {
     Lost(Fault),
 }
 
-/// The answer of an instance, in a frame of three lines. What main may not emit is refused by the local rule.
+/// The answer of an instance of a frame; Box where it stands at no clock of a line that is at most as long as a scanline. What main may not
+/// emit is refused by the local rule.
 #[tactic(auto, using(crate::proofs::Depth::depth_few))]
-fn answer(image: &Image, head: &Head, case: &Case) -> Result<Next, Fail>
+fn answer(image: &Image, head: &Head, frame: &Schedule, at: &Instance) -> Result<Next, Fail>
     requires main { head.now.main ≡ 4 }
     requires handler { head.now.handler ≡ 6 }
 {
-    if case.at.line >= LINES || case.at.clock >= LINE {
+    let length = frame.length(at.line);
+    let is_there = usize::from(at.line) < frame.lines.len() && at.clock < length;
+    if frame.lines.len() > MOST_LINES || length > SCANLINE || !is_there {
         return Err(Fail::Box);
     }
-    after(image, head, LINES, &case.at)
+    after(image, head, frame, at)
 }
 
 /// Whether main emits what it may not, which the local rule refuses.
@@ -102,7 +104,13 @@ fn judged(
 }
 
 /// Brings a console, which is at the begin of a case's stub, to the case's words, and makes one turn.
-pub(crate) fn attempt(image: &Image, head: &Head, console: &mut Console, case: &Case) -> Trial
+pub(crate) fn attempt(
+    image: &Image,
+    head: &Head,
+    frame: &Schedule,
+    console: &mut Console,
+    case: &Case,
+) -> Trial
     requires main { head.now.main ≡ 4 }
     requires handler { head.now.handler ≡ 6 }
 {
@@ -112,7 +120,7 @@ pub(crate) fn attempt(image: &Image, head: &Head, console: &mut Console, case: &
     if let Some(found) = fault_of(console, head, case, &case.at, 0, false) {
         return Trial::Unmet(found);
     }
-    let answer = answer(image, head, case);
+    let answer = answer(image, head, frame, &case.at);
     let clock = console.clock();
     match turn(console) {
         Some(edges) => if is_emitting_main(case) {
