@@ -32,10 +32,10 @@ pub none_from : (marks : List (Option Mark)) (start k : ℕ) → events_from mar
 unfolding events_from
 none_from marks start k = refl
 
-pub begins : (marks : List (Option Mark)) (l clocks : ℕ) (events : List Event) → events ≡ [] → events ++ events_from marks (line_start l) 0
-    clocks ≡ line_events marks l clocks
+pub begins : (marks : List (Option Mark)) (l clocks n : ℕ) (events : List Event) → events ≡ [] → n ≡ clocks
+    → events ++ events_from marks (line_start l) 0 n ≡ line_events marks l clocks
 unfolding line_events
-begins marks l clocks events e = ap (λ es. es ++ events_from marks (line_start l) 0 clocks) e
+begins marks l clocks n events e f = ap (λ es. es ++ events_from marks (line_start l) 0 n) e ∙ ap (events_from marks (line_start l) 0) f
 
 pub ends : (marks : List (Option Mark)) (start k n : ℕ) (events all : List Event) → n ≡ 0 → events ++ events_from marks start k n ≡ all
     → events ≡ all
@@ -173,7 +173,7 @@ past_line s l past = by (slice_get_cases s.lines l).1
     by (inl h) = let less = h.1 in absurd (omega arith)
     by (inr h) = ap (length_of_kind s.lengths) h.1
 
-pub schedule_is : (marks : List (Option Mark)) (frame : Schedule) (n : ℕ) (s : Schedule) → n ≡ length frame.lines → s.fall ≡ frame.fall
+schedule_is : (marks : List (Option Mark)) (frame : Schedule) (n : ℕ) (s : Schedule) → n ≡ length frame.lines → s.fall ≡ frame.fall
     → AreMade marks frame n s.lines s.kinds s.lengths → IsScheduleOf marks frame s
 schedule_is marks frame n s all falls made = record {
   count = made.count ∙ all;
@@ -189,3 +189,11 @@ schedule_is marks frame n s all falls made = record {
   few = (let few = made.few in omega arith);
   used = λ i kind clocks at. subst (λ m. IsLines marks frame m kind clocks) all (made.used i kind clocks at);
 }
+
+pub schedule_made : (marks : List (Option Mark)) (frame : Schedule) (n : ℕ) (numbers : List ℕ) (kinds : List (List Event))
+    (lengths : List ℕ) (s : Schedule) → s.lines ≡ numbers → s.kinds ≡ kinds → s.lengths ≡ lengths → n ≡ length frame.lines
+    → s.fall ≡ frame.fall → AreMade marks frame n numbers kinds lengths → IsScheduleOf marks frame s
+schedule_made marks frame n numbers kinds lengths s e f g all falls made =
+    schedule_is marks frame n s all falls
+    (subst (λ ns. AreMade marks frame n ns s.kinds s.lengths) (sym e)
+    (subst (λ ks. AreMade marks frame n numbers ks s.lengths) (sym f) (subst (AreMade marks frame n numbers kinds) (sym g) made)))

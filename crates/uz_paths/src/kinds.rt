@@ -99,7 +99,7 @@ fn kind_with(kinds: &[LineEvents], lengths: &[u16], events: &[Event], clocks: u1
 }
 
 /// The number of the kind with these events and so many clocks, which is put last where there is none.
-#[tactic(auto, using(crate::proofs::KindLemmas::adds_old, crate::proofs::KindLemmas::adds_new))]
+#[tactic(auto, using(crate::proofs::KindLemmas::adds_old))]
 fn number_of(
     kinds: &mut Vec<LineEvents>,
     lengths: &mut Vec<u16>,
@@ -108,7 +108,7 @@ fn number_of(
 ) -> Result<u16, AllocError>
     requires sizes { length lengths.old.items ≡ length kinds.old.items }
     requires few { length kinds.old.items < 65536 }
-    ensures added { IfOk result (λ n. AddsKind kinds.old.items lengths.old.items events clocks kinds.new.items lengths.new.items n) }
+    ensures { IfOk result (λ n. AddsKind kinds.old.items lengths.old.items events clocks kinds.new.items lengths.new.items n) }
 {
     match kind_with(
         kinds.as_slice(),
@@ -127,7 +127,6 @@ fn number_of(
 }
 
 /// The schedule of a frame's lines and lengths.
-#[tactic(auto, using(crate::proofs::KindLemmas::schedule_is))]
 pub(crate) fn schedule_of(
     alloc: Global,
     marks: &[Option<Mark>],

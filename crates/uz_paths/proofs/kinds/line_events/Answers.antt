@@ -6,7 +6,8 @@ use Rattle.uz_paths.proofs.KindLemmas.{clock_more, begins, ends}
 use Rattle.uz_paths.proofs.kinds.line_events.Goals as goal
 
 pub loop-clock-init : goal.loop-clock-init
-loop-clock-init c = begins c.args.marks.now c.args.line c.args.clocks c.new-events.result c.new-events.ensures
+loop-clock-init c = begins c.args.marks.now c.args.line c.args.clocks (c.args.clocks - 0) c.new-events.result
+    c.new-events.ensures (omega arith)
 
 pub loop-clock-preserved : goal.loop-clock-preserved
 loop-clock-preserved c =
