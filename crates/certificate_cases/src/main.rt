@@ -11,15 +11,19 @@
 //! - `tail LINE`: the text, and this after its last LF.
 //! - `cut`: for each number of lines, first the text's first lines alone, and then the same with the next line that lacks its LF.
 //!
+//! - `1 ` before one of `read`, `put`, `add`, `drop` and `tail`: the same, read as a text of version 1.
+//!
 //! Other rows are printed as they are.
 #![tactic(auto)]
+
+ghost use Rattle.std.specs.Prelude.{◌<◌, ◌-◌, ◌^◌, length};
 
 mod edit;
 
 use anyhow::Result;
 use edit::{Edit, text_of};
 use std::alloc::Global;
-use uz_cert::{CertWhy, read_cert};
+use uz_cert::{Cert, CertError, CertWhy, Version, read_cert, read_cert_1};
 
 fn name_of(why: CertWhy) -> &'static str {
     match why {
@@ -34,14 +38,30 @@ fn name_of(why: CertWhy) -> &'static str {
     }
 }
 
+/// What is read of a text of a version.
+fn read_text(alloc: Global, version: Version, text: &[u8]) -> std::result::Result<Cert, CertError>
+    requires { length text.now < 2 ^ 32 - 1 }
+{
+    match version {
+        Version::First => read_cert_1(alloc, text),
+        Version::Second => read_cert(alloc, text),
+    }
+}
+
 /// Reads a text, and prints the answer.
-fn tell(rt: &HostRuntime, alloc: Global, lines: &[String], edit: Edit) -> Result<()> {
+fn tell(
+    rt: &HostRuntime,
+    alloc: Global,
+    version: Version,
+    lines: &[String],
+    edit: Edit,
+) -> Result<()> {
     let text = text_of(alloc, lines, edit)?;
     if text.len() >= u32::MAX as usize {
         println!(rt; "too long")?;
         return Ok(());
     }
-    match read_cert(alloc, text.as_slice()) {
+    match read_text(alloc, version, text.as_slice()) {
         Ok(_) => println!(rt; "ok")?,
         Err(error) => println!(rt; "line {} {}", error.line, name_of(error.why))?,
     }
@@ -51,8 +71,8 @@ fn tell(rt: &HostRuntime, alloc: Global, lines: &[String], edit: Edit) -> Result
 /// The text cut at each of its lines.
 fn tell_cuts(rt: &HostRuntime, alloc: Global, lines: &[String]) -> Result<()> {
     for count in 0..lines.len() {
-        tell(rt, alloc, lines, Edit::Front(count))?;
-        tell(rt, alloc, lines, Edit::Part(count))?;
+        tell(rt, alloc, Version::Second, lines, Edit::Front(count))?;
+        tell(rt, alloc, Version::Second, lines, Edit::Part(count))?;
     }
     Ok(())
 }
@@ -70,8 +90,12 @@ fn main(rt: HostRuntime) -> Result<()> {
         } else if row == "cut" {
             tell_cuts(&rt, alloc, lines.as_slice())?;
         } else {
-            match Edit::read(row) {
-                Some(edit) => tell(&rt, alloc, lines.as_slice(), edit)?,
+            let (version, change) = match row.strip_prefix("1 ") {
+                Some(change) => (Version::First, change),
+                None => (Version::Second, row),
+            };
+            match Edit::read(change) {
+                Some(edit) => tell(&rt, alloc, version, lines.as_slice(), edit)?,
                 None => println!(rt; "{}", row)?,
             }
         }

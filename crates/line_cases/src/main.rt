@@ -8,8 +8,8 @@ ghost use Rattle.std.specs.Prelude.{◌≡◌, length};
 use anyhow::Result;
 use arrayvec::ArrayVec;
 use uz_lines::{
-    CertWhy, Said, Words, cell_line, end_line, entry_line, event_line, fall_line, irq_line,
-    kind_line, point_line, rest_line, run_line, size_line, stack_line,
+    CertWhy, Said, Version, Words, cell_line, end_line, entry_line, event_line, fall_line,
+    irq_line, kind_line, point_line, rest_line, run_line, size_line, stack_line,
 };
 use uz_schedule::{Cell, Head, Owner, Response, Span};
 
@@ -41,7 +41,8 @@ fn make_head() -> Head
 }
 
 /// What the due line says: after a cell at 257, an event at 28, a run of kind 1 with 7 of 100 lines left, a rest of line
-/// 19; with 3 kinds of line and 50 points, and for `q` 300 instances that are left.
+/// 19; with 3 kinds of line and 50 points, and for `q` 300 instances that are left. `K` is the line of a kind in version 1,
+/// and `w` an event in a line of 910 clocks.
 fn read_line(words: &mut Words, due: u8) -> Result<Said, CertWhy> {
     let head = make_head();
     match due {
@@ -49,8 +50,10 @@ fn read_line(words: &mut Words, due: u8) -> Result<Said, CertWhy> {
         b'i' => irq_line(words),
         b't' => stack_line(words),
         b'c' => cell_line(4288, 4351, 258, words),
-        b'k' => kind_line(words),
-        b'v' => event_line(29, words),
+        b'k' => kind_line(Version::Second, words),
+        b'K' => kind_line(Version::First, words),
+        b'v' => event_line(1820, 29, words),
+        b'w' => event_line(910, 29, words),
         b'f' => fall_line(words),
         b'r' => run_line(3, 7, 1, words),
         b'R' => rest_line(100, 50, head.cells.as_slice(), 20, words),
