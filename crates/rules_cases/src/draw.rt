@@ -1,14 +1,21 @@
 //! Draws an instance and the words at its pc.
 
-ghost use Rattle.std.specs.Prelude.{◌≡◌, ◌<◌, ◌≤◌};
+ghost use Rattle.std.specs.Prelude.{◌≡◌, ◌≤◌};
 
 use arrayvec::ArrayVec;
 use drawn_numbers::{ROWS, Random, place};
+use std::alloc::{AllocError, Global};
 use uz_range::hull;
-use uz_schedule::{Bit, Cell, Head, Instance, Kind, Owner, Response, Span, Val, Wide, tracks};
+use uz_schedule::{
+    Bit, Cell, Head, Instance, Kind, Owner, Response, SCANLINE, Schedule, Sequence, Span, Val,
+    Wide, tracks,
+};
 
 /// How many rows of the instruction table are drawn: all but BREAK and WDR, which the expected sums don't have.
 const DRAWN_ROWS: u32 = 82;
+
+/// How many lines the frame has.
+const LINES: u16 = 3;
 
 /// A range of bytes between two.
 fn between(a: u8, b: u8) -> Span {
@@ -176,16 +183,13 @@ struct Standing {
 }
 
 /// Draws where an instance stands. Main has line and clock 0, and only a handler has a match that waits.
-fn draw_place(random: &mut Random, kind: Kind) -> Standing
-    ensures line { result.line < 3 }
-    ensures clock { result.clock < 1820 }
-{
+fn draw_place(random: &mut Random, kind: Kind) -> Standing {
     let pc = random.below(32768) as u16;
-    let line = random.below(3) as u16;
+    let line = random.below(u32::from(LINES)) as u16;
     let clock = if random.below(2) == 1 {
-        random.below(1820) as u16
+        random.below(u32::from(SCANLINE)) as u16
     } else {
-        1815 + random.below(5) as u16
+        SCANLINE - 5 + random.below(5) as u16
     };
     let level = random.below(2) as u8;
     let waits = random.below(2) == 1;
@@ -199,12 +203,24 @@ fn draw_place(random: &mut Random, kind: Kind) -> Standing
     }
 }
 
-/// Draws an instance, of a frame of three lines.
-pub(crate) fn instance(random: &mut Random, head: &Head, kind: Kind) -> Instance
-    ensures line { result.line < 3 }
-    ensures clock { result.clock < 1820 }
-    ensures kind { result.kind ≡ kind }
-{
+/// A frame of three scanlines, in which nothing is seen.
+pub(crate) fn frame(alloc: Global) -> Result<Schedule, AllocError> {
+    let mut lengths = Sequence::new(alloc);
+    lengths.push(SCANLINE)?;
+    let mut lines = Sequence::new(alloc);
+    for _ in 0..LINES {
+        lines.push(0)?;
+    }
+    Ok(Schedule {
+        kinds: Sequence::new(alloc),
+        lengths,
+        lines,
+        fall: 1,
+    })
+}
+
+/// Draws an instance of the frame.
+pub(crate) fn instance(random: &mut Random, head: &Head, kind: Kind) -> Instance {
     let place = draw_place(random, kind);
     let regs = registers(random, kind);
     let x = pair(random, &regs[26], &regs[27]);
@@ -225,5 +241,6 @@ pub(crate) fn instance(random: &mut Random, head: &Head, kind: Kind) -> Instance
         flags,
         stack,
         cells,
+        ..Instance::default()
     }
 }

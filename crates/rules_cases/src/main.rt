@@ -4,7 +4,7 @@
 //! language, each written from the rules' tables.
 #![tactic(auto)]
 
-ghost use Rattle.std.specs.Prelude.{◌≡◌, ◌<◌};
+ghost use Rattle.std.specs.Prelude.{◌≡◌};
 
 mod draw;
 mod report;
@@ -14,10 +14,10 @@ mod table;
 use anyhow::Result;
 use drawn_numbers::Random;
 use sum::Sum;
-use table::{Table, set_word};
+use table::{Table, is_on_line, set_word};
 use uz_hex::Image;
 use uz_rules::{Fail, Next, after};
-use uz_schedule::{Head, Instance, Kind};
+use uz_schedule::{Head, Instance, Kind, Schedule};
 
 /// How many instances are drawn.
 const DRAWS: u32 = 100_000;
@@ -38,19 +38,26 @@ fn kind(random: &mut Random) -> Kind {
     }
 }
 
-/// The answer of an instance, in a frame of three lines.
+/// The answer of an instance of a frame.
 #[tactic(auto, using(crate::proofs::Depth::depth_few))]
-fn answer(flash: &Image, head: &Head, at: &Instance) -> std::result::Result<Next, Fail>
+fn answer(
+    flash: &Image,
+    head: &Head,
+    frame: &Schedule,
+    at: &Instance,
+) -> std::result::Result<Next, Fail>
     requires main { head.now.main ≡ 4 }
     requires handler { head.now.handler ≡ 6 }
-    requires line { at.now.line < 3 }
-    requires clock { at.now.clock < 1820 }
 {
-    after(flash, head, 3, at)
+    if is_on_line(frame, at) {
+        after(flash, head, frame, at)
+    } else {
+        Err(Fail::Box)
+    }
 }
 
 /// Draws one instance, and adds its answer.
-fn add_one(flash: &mut Image, head: &Head, random: &mut Random, sum: &mut Sum)
+fn add_one(flash: &mut Image, head: &Head, frame: &Schedule, random: &mut Random, sum: &mut Sum)
     requires main { head.now.main ≡ 4 }
     requires handler { head.now.handler ≡ 6 }
 {
@@ -58,7 +65,7 @@ fn add_one(flash: &mut Image, head: &Head, random: &mut Random, sum: &mut Sum)
     let words = draw::words(random);
     let at = draw::instance(random, head, kind);
     put(flash, at.pc, &words);
-    sum.add_answer(&answer(flash, head, &at));
+    sum.add_answer(&answer(flash, head, frame, &at));
     put(flash, at.pc, &[0xFFFF; 3]);
 }
 
@@ -66,10 +73,11 @@ fn add_one(flash: &mut Image, head: &Head, random: &mut Random, sum: &mut Sum)
 fn sum_up(rt: &HostRuntime) -> Result<()> {
     let mut flash = Image::empty(rt.alloc())?;
     let head = draw::header();
+    let frame = draw::frame(rt.alloc())?;
     let mut random = Random::new(1);
     let mut sum = Sum { total: 0 };
     for drawn in 1..DRAWS + 1 {
-        add_one(&mut flash, &head, &mut random, &mut sum);
+        add_one(&mut flash, &head, &frame, &mut random, &mut sum);
         if drawn % 5000 == 0 {
             println!(rt; "{} {}", drawn, sum.total)?;
         }

@@ -9,7 +9,9 @@
 //!
 //! Other rows are printed as they are.
 
-ghost use Rattle.std.specs.Prelude.{◌≡◌, ◌<◌, ◌≤◌};
+ghost use Rattle.std.specs.Prelude.{◌≡◌, ◌<◌, ◌≤◌, length, true};
+ghost use Rattle.uz_schedule.specs.Limits.{most_lines};
+ghost use Rattle.uz_schedule.specs.Schedule.{scanline, length_of};
 
 use crate::report::{tell_answer, tell_reason};
 use anyhow::Result;
@@ -17,7 +19,7 @@ use std::alloc::Global;
 use uz_cert::read_cert;
 use uz_hex::Image;
 use uz_rules::{after, local};
-use uz_schedule::{Cert, Head, Instance, well_formed};
+use uz_schedule::{Cert, Head, Instance, MOST_LINES, SCANLINE, Schedule, well_formed};
 
 /// What the table has said so far.
 #[derive(Drop)]
@@ -40,21 +42,35 @@ fn two_numbers(text: &str) -> Option<(u16, u16)> {
     Some((a.parse().ok()?, b.parse().ok()?))
 }
 
-/// Tells the abstract results of an instance, in a frame of so many lines.
+/// Whether an instance stands at a clock of a line of a frame, of which there are at most 525, none longer than a scanline.
+pub(crate) fn is_on_line(frame: &Schedule, at: &Instance) -> bool
+    ensures count { result ≡ true → length frame.now.lines ≤ most_lines }
+    ensures line { result ≡ true → at.now.line < length frame.now.lines }
+    ensures long { result ≡ true → length_of frame.now at.now.line ≤ scanline }
+    ensures clock { result ≡ true → at.now.clock < length_of frame.now at.now.line }
+{
+    let length = frame.length(at.line);
+    frame.lines.len() <= MOST_LINES
+        && usize::from(at.line) < frame.lines.len()
+        && length <= SCANLINE
+        && at.clock < length
+}
+
+/// Tells the abstract results of an instance of a frame.
 #[tactic(auto, using(crate::proofs::Depth::depth_fits))]
 fn tell_results(
     rt: &HostRuntime,
     flash: &Image,
     head: &Head,
-    lines: usize,
+    frame: &Schedule,
     at: &Instance,
 ) -> Result<()> {
-    if head.main > 32 || head.handler > 32 || lines > 525 {
+    if head.main > 32 || head.handler > 32 {
         println!(rt; "beyond the limits")?;
-    } else if usize::from(at.line) >= lines || at.clock >= 1820 {
-        println!(rt; "off its line")?;
+    } else if is_on_line(frame, at) {
+        tell_answer(rt, at, &after(flash, head, frame, at))?;
     } else {
-        tell_answer(rt, at, &after(flash, head, lines as u16, at))?;
+        println!(rt; "off its line")?;
     }
     Ok(())
 }
@@ -75,7 +91,7 @@ fn tell_point(rt: &HostRuntime, flash: &Image, cert: &Cert, id: u32) -> Result<(
     tell_reason(rt, reason)?;
     print!(rt; "; ")?;
     match cert.instance(id, point.l0, point.c0) {
-        Some(at) => tell_results(rt, flash, &cert.head, cert.schedule.lines.len(), &at),
+        Some(at) => tell_results(rt, flash, &cert.head, &cert.schedule, &at),
         None => {
             println!(rt; "no instance")?;
             Ok(())
