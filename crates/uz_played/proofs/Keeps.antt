@@ -34,7 +34,7 @@ use Rattle.uz_played.proofs.Changes.{Changes, changes_rest, run_changes}
 use Rattle.uz_played.proofs.EventLists.{Among, StandsAt, among_both, among_left, among_right, edge_shown, event_edge, none_after}
 use Rattle.uz_played.proofs.EventLists.{scheduled_has, scheduled_stands, stretch_is_after}
 use Rattle.uz_played.proofs.Falls.{began, ending_falls, fall_is, no_zero, rose_since}
-use Rattle.uz_played.proofs.LinesKept.{PlaceLaws, falls_at, next_falls, none_between}
+use Rattle.uz_played.proofs.LinesKept.{PlaceLaws, falls_at, next_falls, none_between, line_some}
 use Rattle.uz_played.proofs.Order.{among_newest, among_oldest, line_order}
 use Rattle.uz_played.proofs.RunParts.{in_time_first, passes, run_timed, within_until}
 
@@ -182,7 +182,8 @@ module _ (s : Schedule) (laws : PlaceLaws s) (fits : ScheduleFits s) (steady : I
             elim (among_both there.edge_there start.since (start.fall ∷ start.earlier)
             (subst (Among there.edge_there) start.cut (among_oldest there.edge_there line.before in_before))) [
               | inl in_since ↦ no_zero start.since (start.fall ∷ start.earlier) there.edge_there changed start.none in_since there.falls
-              | inr in_earlier ↦ (let early = order.earlier_ones there.edge_there in_earlier in absurd (omega arith))
+              | inr in_earlier ↦ (let early = order.earlier_ones there.edge_there in_earlier in
+                  let long : 0 < length_of s place.line = line_some s laws fits steady place.line place.below in absurd (omega arith))
             ]
         | inr in_later ↦ (let late = order.later_ones there.edge_there in_later in absurd (omega arith))
       ]) in

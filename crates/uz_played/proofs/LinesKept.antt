@@ -158,6 +158,9 @@ module _ (s : Schedule) (laws : PlaceLaws s) (fits : ScheduleFits s) (steady : I
       (subst (All (λ e. e.clock < length_of s l)) here.line.is clocks) in
       subst (λ k. k < length_of s l) here.line.clock first
 
+  pub line_some : (l : ℕ) → l < length s.lines → 0 < length_of s l
+  line_some l below = (let g = within_line l below in omega arith)
+
   -- the next fall is a line's length later
   pub next_falls : (p l : ℕ) → l < length s.lines → At s p l s.fall → event_at s (p + length_of s l) ≡ Some (Sync 0)
   next_falls p l below at =
