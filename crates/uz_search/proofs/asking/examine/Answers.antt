@@ -1,12 +1,17 @@
-use Rattle.std.proofs.Common.{◌≡◌, ◌<◌, ℕ, Option, Result, Err, inr, sym, subst}
+use Rattle.std.proofs.Common.{◌≡◌, ◌<◌, ℕ, List, Option, Some, Result, Ok, Err, inl, inr, sym, subst}
 use Rattle.std.specs.Prelude.{⊤}
 use Rattle.uz_transfer.specs.declared.fail.Fail.{Fail}
 use Rattle.uz_search.specs.declared.asking.Stop.{Stop}
-use Rattle.uz_search.specs.declared.asking.Stop.TheVariants.{Stuck}
+use Rattle.uz_search.specs.declared.asking.Stop.TheVariants.{Split, Stuck}
+use Rattle.uz_schedule.specs.declared.states.Instance.{Instance}
+use Rattle.uz_rules.specs.declared.next.Next.{Next}
+use Rattle.uz_search.specs.declared.marks.Mark.{Mark}
+use Rattle.uz_search.specs.declared.returns.Return.{Return}
+use Rattle.uz_search.specs.declared.program.Program.{Program}
 use Rattle.uz_search.specs.Stuck.{StuckWith}
-use Rattle.uz_search.specs.Searching.{NotesEnd}
+use Rattle.uz_search.specs.Searching.{MarksWay, NotesEnd, SplitsFrom}
 use Rattle.uz_search.proofs.OneResult.{steps}
-use Rattle.uz_search.specs.Following.{place_on}
+use Rattle.uz_search.specs.Following.{After, Flash, place_on}
 use Rattle.uz_search.proofs.Results.{passes_within, some_result, stands_next}
 use Rattle.uz_search.proofs.SearchingLemmas.{treats_from}
 use Rattle.uz_search.proofs.asking.examine.Goals as goal
@@ -52,3 +57,30 @@ returns-in-Some-clause-stuck c = λ why e.
     let x = c.args.at.now in
     let next = c.put_results.new.next in
     inr (next, c.in_default.ensures.ok, subst (StuckWith image program x next) (why_is c.in-Some.why why e) c.in-Some.ensures.some)
+
+-- what is shown on the way is shown by the instance
+splits_on_way : (image : Flash) (p : Program) (x : Instance) (next : Next) (by other : ℕ) (old new : List (Option Mark))
+    (returns : List (Option Return)) → After image p x (Ok next) → MarksWay p x next by old (Some other) new
+    → SplitsFrom image p x by other old returns
+splits_on_way image p x next by other old new returns after (y, m, e, was, is_other, here, differ) = inl (
+  y,
+  m,
+  e,
+  elim was [ inl before ↦ inl before | inr (now, own) ↦ inr ((next, after, now.0, now.1), own) ],
+  is_other,
+  (next, after, here.0, here.1),
+  differ,
+)
+
+other_is : (a b : ℕ) → ◌≡◌ {A = Result ⊤ Stop} (Err (Split a)) (Err (Split b)) → a ≡ b
+other_is a b e = cc
+
+pub returns-in-Some-mark_way-clause-split : goal.returns-in-Some-mark_way-clause-split
+returns-in-Some-mark_way-clause-split c = λ other e.
+    let image = c.args.image.now in
+    let program = c.args.program.now in
+    let x = c.args.at.now in
+    let next = c.put_results.new.next in
+    subst (λ o. SplitsFrom image program x c.args.by o c.args.marks.now c.args.returns.now) (other_is c.in-Some-mark_way.other other e)
+    (splits_on_way image program x next c.args.by c.in-Some-mark_way.other c.args.marks.now c.mark_way.new.marks c.args.returns.now
+    c.in_default.ensures.ok c.in-Some-mark_way.ensures)
