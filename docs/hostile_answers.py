@@ -348,7 +348,7 @@ def read_cert(text):
         nonlocal number
         number += 1
         return Line(pieces[number - 1], number, number < len(pieces))
-    if pieces[0] != b'uzcert 1':
+    if pieces[0] != b'uzcert 2':
         raise Bad(1, 'Head')
     if len(pieces) == 1:
         raise Bad(1, 'NoEnd')
@@ -389,11 +389,14 @@ def read_cert(text):
         l = line()
         l.fixed(b'kind')
         count = l.number_in(1, 1820)
+        clocks = l.number_in(910, 1820)
+        if clocks not in (910, 1820) or count > clocks:
+            l.bad('Limit')
         l.finish()
         events, least = [], 0
         for _ in range(count):
             l = line()
-            clock = l.number_in(0, 1819)
+            clock = l.number_in(0, clocks - 1)
             if clock < least:
                 l.bad('Order')
             least = clock + 1
@@ -402,7 +405,7 @@ def read_cert(text):
                 event += str(l.number_in(0, 1))
             events.append((clock, event))
             l.finish()
-        cert['kinds'].append(events)
+        cert['kinds'].append((clocks, events))
     l = line()
     l.fixed(b'fall')
     cert['fall'] = l.number_in(1, 1819)
@@ -509,13 +512,16 @@ def in_point(a, p):
 
 def check_empty(cert):
     """The check of an image without a byte: no word there is an instruction."""
-    events = [cert['kinds'][k] for k in cert['lines']]
-    for n, line in enumerate(events):
+    for n, k in enumerate(cert['lines']):
+        clocks, line = cert['kinds'][k]
+        if clocks != 1820:
+            return 'schedule line %d clock %d' % (n, clocks)
         falls = [c for c, e in line if e == 'sync0']
         if line[0] != (cert['fall'], 'sync0'):
             return 'schedule line %d clock %d' % (n, line[0][0])
         if len(falls) > 1:
             return 'schedule line %d clock %d' % (n, falls[1])
+    events = [cert['kinds'][k][1] for k in cert['lines']]
     for r in cert['rests']:
         line, after = events[r['line']], events[(r['line'] + 1) % len(events)]
         right = line[-1] == (r['clock'], 'leave') and after[0][0] > cert['irq'] + 3

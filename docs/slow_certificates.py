@@ -38,14 +38,14 @@ def ring_image(filler):
 
 
 def head(out, kinds, lines, points, cells, filled):
-    print('uzcert 1\nsize %d %d 0 %d %d\nirq 4\nstack 4350 4351 0 0' % (kinds, lines, points, cells), file=out)
+    print('uzcert 2\nsize %d %d 0 %d %d\nirq 4\nstack 4350 4351 0 0' % (kinds, lines, points, cells), file=out)
     for c in range(cells):
         print('cell %d main 0 255' % (256 + c), file=out)
     events = {1: 'sync 0', 137: 'sync 1'}
     if filled:
         events = {**{c: 'pixel' for c in range(1, 1819)}, **events}
     for _ in range(kinds):
-        print('kind %d' % len(events), file=out)
+        print('kind %d 1820' % len(events), file=out)
         for clock in sorted(events):
             print(clock, events[clock], file=out)
     print('fall 1', file=out)
@@ -86,7 +86,7 @@ def write_small(folder, name):
     with open(os.path.join(folder, name + '.hex'), 'w') as out:
         out.write(':00000001FF\n')
     with open(os.path.join(folder, name + '.cert'), 'w') as out:
-        print('uzcert 1\nsize 1 1 0 524288 0\nirq 4\nstack 256 257 0 0\nkind 1\n1 sync 0\nfall 1\nrun 1 0', file=out)
+        print('uzcert 2\nsize 1 1 0 524288 0\nirq 4\nstack 256 257 0 0\nkind 1 1820\n1 sync 0\nfall 1\nrun 1 0', file=out)
         out.write('entry alone 0 0 0 0\n' + 'point alone 0 0 0 0 0 0 0 0\n' * 524288 + 'end\n')
 
 

@@ -60,7 +60,7 @@ fn image(alloc: Global, jump: u16, third: u16) -> Result<Image>
 fn text(alloc: Global, ring: &Ring) -> Result<String> {
     let last = ring.lines.saturating_sub(1);
     let mut text = format!(in alloc;
-        "uzcert 1\nsize 1 {} 0 {} 0\nirq 4\nstack 4350 4351 0 0\nkind 2\n1 sync 0\n{} sync 1\nfall {}\nrun {} 0\nentry alone 0 {} 0 0 r16=0 r17=1\n",
+        "uzcert 2\nsize 1 {} 0 {} 0\nirq 4\nstack 4350 4351 0 0\nkind 2 1820\n1 sync 0\n{} sync 1\nfall {}\nrun {} 0\nentry alone 0 {} 0 0 r16=0 r17=1\n",
         ring.lines, ring.points, ring.rise, ring.fall, ring.lines, ring.pc
     )?;
     for k in 0..u32::from(ring.points) {
