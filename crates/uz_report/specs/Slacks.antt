@@ -5,7 +5,7 @@ use Rattle.uz_schedule.specs.declared.lines.Schedule.{Schedule}
 use Rattle.uz_schedule.specs.declared.states.Rest.{Rest}
 use Rattle.uz_schedule.specs.declared.certificate.Cert.{Cert}
 use Rattle.uz_schedule.specs.Schedule.{length_of}
-use Rattle.uz_report.specs.declared.slacks.Slack.{Slack}
+use Rattle.uz_report.specs.declared.main_time.Slack.{Slack}
 
 -- from the handler's return to the end of its line
 abbrev pub least_after : Schedule → Rest → ℕ

@@ -5,7 +5,7 @@ use Rattle.uz_machine.specs.declared.Edge.{Edge}
 use Rattle.uz_scan.specs.Lines.{ends_line}
 use Rattle.uz_scan.specs.Pictures.{newest_first, sound_of}
 use Rattle.uz_scan.specs.Scanning as scanning
-use Rattle.uz_report.specs.declared.wave.Wave.{Wave}
+use Rattle.uz_report.specs.declared.sound_file.Wave.{Wave}
 
 -- the rate of NTSC lines, a second
 abbrev pub line_rate : ℕ

@@ -4,10 +4,10 @@
 //! and Data Specifications 1.0", IBM and Microsoft), and the rate of NTSC lines, 15,734 a second.
 #![tactic(auto)]
 
-mod slacks;
-mod wave;
-mod wave_header;
+mod header;
+mod main_time;
+mod sound_file;
 
-pub use slacks::{Slack, frame_slack, slacks};
-pub use wave::Wave;
-pub use wave_header::wave_header;
+pub use header::wave_header;
+pub use main_time::{Slack, frame_slack, slacks};
+pub use sound_file::Wave;

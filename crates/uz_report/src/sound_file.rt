@@ -3,7 +3,7 @@
 ghost use Rattle.std.specs.Prelude.{◌≡◌, ◌≤◌, ◌<◌, ◌+◌, ◌^◌, ◌∷◌, ◌++◌, [], List, length, IfOk, OnOk};
 ghost use Rattle.uz_machine.specs.declared.Edge.{Edge};
 
-use crate::wave_header::wave_header;
+use crate::header::wave_header;
 use std::alloc::{AllocError, Global};
 use uz_machine::Edge;
 use uz_scan::{Scan, Scanner};

@@ -1,6 +1,6 @@
 use Rattle.std.proofs.Common.{◌≡◌, map, take}
 use Rattle.uz_report.specs.Slacks.{slack_of}
-use Rattle.uz_report.proofs.slacks.slacks.Given as goal
+use Rattle.uz_report.proofs.main_time.slacks.Given as goal
 
 -- the slacks so far
 abbrev pub invariant-loop-rest : goal.invariant-loop-rest
