@@ -1,10 +1,12 @@
 -- The sound of a run as a WAVE file.
-use Rattle.std.specs.Prelude.{◌≡◌, ℕ, ◌+◌, ◌%◌, ◌==◌, if◌then◌else◌, List, [], ◌∷◌, ◌++◌, codes, length, replicate}
+use Rattle.std.specs.Prelude.{◌≡◌, ℕ, ◌+◌, ◌%◌, ◌==◌, if◌then◌else◌, List, [], ◌∷◌, ◌++◌, codes, length}
 use Rattle.byteorder.specs.Endian.{little_bytes}
 use Rattle.uz_machine.specs.declared.Edge.{Edge}
 use Rattle.uz_scan.specs.Lines.{ends_line}
 use Rattle.uz_scan.specs.Pictures.{newest_first, sound_of}
 use Rattle.uz_scan.specs.Scanning as scanning
+use Rattle.uz_scan.specs.declared.scanner.Scan.{Scan}
+use Rattle.uz_scan.specs.declared.scanner.Scan.TheVariants.{More, Line, Frame}
 use Rattle.uz_report.specs.declared.sound_file.Wave.{Wave}
 
 -- the rate of NTSC lines, a second
@@ -46,7 +48,13 @@ wave_bytes all = header_bytes (length all) ++ all ++ pad_after (length all)
 abbrev pub wave_of : List Edge → List ℕ
 wave_of edges = wave_bytes (samples_of edges)
 
+-- the sample that a line which has ended adds
+abbrev pub heard : Scan → List ℕ
+heard More = []
+heard (Line line) = line.sound ∷ []
+heard (Frame frame) = []
+
 -- what a growing file has seen: a list of edges (newest first)
 pub record Holds (wave : Wave) (edges : List Edge) : Type 0 where
   pub scanner : scanning.StandsFor wave.scanner edges
-  pub file : wave.file.items ≡ replicate 44 0 ++ samples edges
+  pub sounds : wave.sounds.items ≡ samples edges

@@ -1,6 +1,6 @@
-//! The sound of a run as a file that grows with its lines.
+//! The sound of a run as a file whose samples grow with its lines.
 
-ghost use Rattle.std.specs.Prelude.{◌≡◌, ◌≤◌, ◌<◌, ◌+◌, ◌^◌, ◌∷◌, ◌++◌, [], List, length, IfOk, OnOk};
+ghost use Rattle.std.specs.Prelude.{◌≡◌, ◌≤◌, ◌<◌, ◌^◌, ◌∷◌, ◌++◌, [], List, length, IfOk, OnOk};
 ghost use Rattle.uz_machine.specs.declared.Edge.{Edge};
 
 use crate::header::wave_header;
@@ -8,38 +8,31 @@ use std::alloc::{AllocError, Global};
 use uz_machine::Edge;
 use uz_scan::{Scan, Scanner};
 
-/// Bytes before the samples.
-const HEADER: usize = 44;
-
 /// A file holds fewer samples than this: its lengths are 32-bit numbers.
 const MOST_SAMPLES: usize = 1 << 30;
 
-/// A WAVE file of the lines that have ended so far: one byte a line, the sound value at its end. Its head is put in at the
-/// end.
+/// The WAVE file of the lines that have ended so far, in three parts: its head, one byte a line, the sound value at its end,
+/// and a byte that makes their number even.
 #[derive(Drop)]
 pub struct Wave {
     pub(crate) scanner: Scanner,
-    /// Room for the head, and the samples.
-    pub(crate) file: Vec<u8>,
-    ghost head: { 44 ≤ length file.items },
-    ghost few: { length file.items < 44 + 2 ^ 30 },
+    pub(crate) sounds: Vec<u8>,
+    ghost few: { length sounds.items < 2 ^ 30 },
 }
 
 impl Wave {
-    ghost use Rattle.uz_report.specs.Waves.{Holds, samples, wave_bytes};
+    ghost use Rattle.uz_report.specs.Waves.{Holds, header_bytes, heard, pad_after, samples};
     ghost use Rattle.uz_scan.specs.Scanning.{clock_of};
 
     /// The file of no edge.
-    pub fn new(alloc: Global) -> Result<Wave, AllocError>
-        ensures holds { IfOk result (λ wave. Holds wave []) }
-        ensures clock { IfOk result (λ wave. clock_of wave.scanner ≡ 0) }
+    pub fn new(alloc: Global) -> Wave
+        ensures holds { Holds result [] }
+        ensures clock { clock_of result.scanner ≡ 0 }
     {
-        let mut file = Vec::new(alloc);
-        file.extend_from_slice(&[0; HEADER])?;
-        Ok(Wave {
+        Wave {
             scanner: Scanner::new(),
-            file,
-        })
+            sounds: Vec::new(alloc),
+        }
     }
 
     /// Takes the next edge, whose clock isn't below the last one's. Refused for want of memory, which it also answers where a
@@ -49,7 +42,16 @@ impl Wave {
         ensures ok { OnOk result ((edges : List Edge) → Holds self.old edges → Holds self.new (edge ∷ edges)) }
         ensures clock { clock_of self.new.scanner ≡ edge.clock }
     {
-        match self.scanner.edge(edge) {
+        let shown = self.scanner.edge(edge);
+        self.take(shown)
+    }
+
+    /// Adds the sample of a line that has ended.
+    fn take(&mut self, shown: Scan) -> Result<(), AllocError>
+        ensures ok { OnOk result (self.new.sounds.items ≡ self.old.sounds.items ++ heard shown) }
+        ensures same { self.new.scanner ≡ self.old.scanner }
+    {
+        match shown {
             Scan::Line(line) => self.sample(line.sound),
             Scan::More => Ok(()),
             Scan::Frame(_) => Ok(()),
@@ -58,27 +60,34 @@ impl Wave {
 
     /// Adds a sample.
     fn sample(&mut self, sound: u8) -> Result<(), AllocError>
-        ensures ok { OnOk result (self.new.file.items ≡ self.old.file.items ++ sound ∷ []) }
+        ensures ok { OnOk result (self.new.sounds.items ≡ self.old.sounds.items ++ sound ∷ []) }
         ensures same { self.new.scanner ≡ self.old.scanner }
     {
-        if self.file.len() + 1 >= HEADER + MOST_SAMPLES {
+        if self.sounds.len() + 1 >= MOST_SAMPLES {
             return Err(AllocError);
         }
-        self.file.push(sound)?;
+        self.sounds.push(sound)?;
         Ok(())
     }
 
-    /// The whole file, and the number of its samples.
-    pub fn finish(self) -> Result<(Vec<u8>, u32), AllocError>
-        ensures file { IfOk result (λ r. (edges : List Edge) → Holds self edges → r.0.items ≡ wave_bytes (samples edges)) }
-        ensures count { IfOk result (λ r. (edges : List Edge) → Holds self edges → r.1 ≡ length (samples edges)) }
+    /// The head of the file.
+    pub fn head(&self) -> [u8; 44]
+        ensures { (edges : List Edge) → Holds self.now edges → result ≡ header_bytes (length (samples edges)) }
     {
-        let mut file = self.file;
-        let count = file.len() - HEADER;
-        file[..HEADER].copy_from_slice(&wave_header(count as u32));
-        if count % 2 != 0 {
-            file.push(0)?;
-        }
-        Ok((file, count as u32))
+        wave_header(self.sounds.len() as u32)
+    }
+
+    /// The samples, one a line.
+    pub fn samples(&self) -> &[u8]
+        ensures { (edges : List Edge) → Holds self.now edges → result.now ≡ samples edges }
+    {
+        self.sounds.as_slice()
+    }
+
+    /// What follows an odd number of samples.
+    pub fn pad(&self) -> &'static [u8]
+        ensures { (edges : List Edge) → Holds self.now edges → result.now ≡ pad_after (length (samples edges)) }
+    {
+        if self.sounds.len() % 2 == 0 { b"" } else { b"\0" }
     }
 }
