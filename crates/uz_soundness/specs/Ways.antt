@@ -61,17 +61,25 @@ pub data Phase : Type 0 where
   InMain : ℕ → ℕ → ℕ → Phase
   InHandler : Phase
 
--- entries and returns alternate. An entry with TCNT1 t, 0 to 3, comes t clocks after the line's end; a return is at a rest
-abbrev pub MainsTime : Cert → Phase → List (ℕ × EdgeKind) → Type 0
-MainsTime cert phase [] = ⊤
-MainsTime cert phase ((clock, Sync level) ∷ es) = MainsTime cert phase es
-MainsTime cert phase ((clock, Pixel value) ∷ es) = MainsTime cert phase es
-MainsTime cert phase ((clock, Sound value) ∷ es) = MainsTime cert phase es
-MainsTime cert (InMain since line at) ((clock, Enter count) ∷ es) = (count ≤ 3)
-    × (clock + at ≡ since + length_of cert.schedule line + count) × MainsTime cert InHandler es
-MainsTime cert InHandler ((clock, Enter count) ∷ es) = ⊥
-MainsTime cert (InMain since line at) ((clock, Leave) ∷ es) = ⊥
-MainsTime cert InHandler ((clock, Leave) ∷ es) = (rest : Rest) × Contains cert.rests rest × MainsTime cert
+-- the handler returns at this rest, at this clock of a run that stood at position p at its clock `start`
+pub record ReturnsAt (cert : Cert) (start p clock : ℕ) (rest : Rest) : Type 0 where
+  pub is_rest : Contains cert.rests rest
+  pub passed : ℕ
+  pub counted : clock ≡ start + passed
+  pub place : At cert.schedule (p + passed) rest.line rest.clock
+
+-- of a run that stood at position p at its clock `start`: entries and returns alternate. An entry with TCNT1 t, 0 to 3, comes t clocks
+-- after the line's end; a return is at a rest, in the line and at the clock of it
+abbrev pub MainsTime : Cert → ℕ → ℕ → Phase → List (ℕ × EdgeKind) → Type 0
+MainsTime cert start p phase [] = ⊤
+MainsTime cert start p phase ((clock, Sync level) ∷ es) = MainsTime cert start p phase es
+MainsTime cert start p phase ((clock, Pixel value) ∷ es) = MainsTime cert start p phase es
+MainsTime cert start p phase ((clock, Sound value) ∷ es) = MainsTime cert start p phase es
+MainsTime cert start p (InMain since line at) ((clock, Enter count) ∷ es) = (count ≤ 3)
+    × (clock + at ≡ since + length_of cert.schedule line + count) × MainsTime cert start p InHandler es
+MainsTime cert start p InHandler ((clock, Enter count) ∷ es) = ⊥
+MainsTime cert start p (InMain since line at) ((clock, Leave) ∷ es) = ⊥
+MainsTime cert start p InHandler ((clock, Leave) ∷ es) = (rest : Rest) × ReturnsAt cert start p clock rest × MainsTime cert start p
     (InMain clock rest.line rest.clock) es
 
 abbrev pub told : List Edge → List (ℕ × EdgeKind)
@@ -83,5 +91,5 @@ abbrev pub MainsTimeHolds : FinMap nat_cmp ℕ → Cert → Type 0
 MainsTimeHolds image cert =
     (s : State PadHistory) (p n : ℕ) (edges : List Edge) (end : State PadHistory) → IsState s → s.image ≡ image → EntryCondition cert s p
     → cert.entry.kind ≡ Main → Run (Turn history_wiring) n s edges end
-    → (rest : Rest) × Contains cert.rests rest × (At cert.schedule p rest.line s.space.timer.count) × MainsTime cert
+    → (rest : Rest) × Contains cert.rests rest × (At cert.schedule p rest.line s.space.timer.count) × MainsTime cert s.clock p
     (InMain s.clock rest.line s.space.timer.count) (told edges)

@@ -1,0 +1,3 @@
+pub mod Gaps
+pub mod Rounds
+pub mod Samples

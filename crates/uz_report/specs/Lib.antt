@@ -1,0 +1,3 @@
+pub mod MainsTime
+pub mod Slacks
+pub mod Waves
