@@ -395,7 +395,7 @@ text_fault l v text n w e = by (pieces_of text) (some_piece text) e
 
 not_head : (v : Version) (line : List ℕ) (rest : List (List ℕ)) (t : Bool) → bytes_eq line (head_line v) ≡ t → line ≢ head_line v
     → or_fault 1 (cond t (cond (is_more rest) (Ok (first_draft v)) (Err why.NoEnd)) (Err why.Head)) (λ d. read_from d rest)
-        ≡ fault 1 why.Head
+    ≡ fault 1 why.Head
 not_head v line rest true is h = absurd (h ((test_head v line).0 is))
 not_head v line rest false is h = refl
 

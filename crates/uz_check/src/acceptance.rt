@@ -55,6 +55,7 @@ impl Accepted {
     /// The certificate. No memory.
     pub fn cert(&self) -> &Cert
         ensures same { result.now ≡ self.now.cert }
+        ensures well_formed { WellFormed self.now.cert }
         ensures accepted { Accepts self.now.image self.now.cert }
     {
         &self.cert

@@ -59,8 +59,9 @@ before_stop limit (suc n) (suc m) start last s e1 e2 (first, mid, rest, (before,
     omega arith
 
 -- one more state has not entered
-none_before_more : (cert : Cert) (limit n : ℕ) (start last : State PadHistory) (edges : List Edge) → Run (TurnBefore limit) n start edges
-    last → NotEntered cert last → NotEnteredBefore cert limit start n → NotEnteredBefore cert limit start (suc n)
+pub none_before_more : (cert : Cert) (limit n : ℕ) (start last : State PadHistory) (edges : List Edge)
+    → Run (TurnBefore limit) n start edges last → NotEntered cert last → NotEnteredBefore cert limit start n → NotEnteredBefore cert limit
+    start (suc n)
 none_before_more cert limit n start last edges run not before m e s h to = either m e s h to (cases_lt m n)
   where
     either : (m : ℕ) (e : List Edge) (s : State PadHistory) → m < suc n → Run (TurnBefore limit) m start e s → (m < n) ⊎ (n ≤ m)

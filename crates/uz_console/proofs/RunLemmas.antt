@@ -39,7 +39,7 @@ run_more limit (suc n) start last next edges more (first, mid, rest, turn_first,
   ap (λ es. es ++ more) cut ∙ append_assoc first rest more,
 )
 
-part_more : (limit : ℕ) (start last next : State PadHistory) (edges more : List Edge) → IsRunPart limit start edges last
+pub part_more : (limit : ℕ) (start last next : State PadHistory) (edges more : List Edge) → IsRunPart limit start edges last
     → last.clock < limit → machine.Turn history_wiring last more next →
     IsRunPart limit start (edges ++ edges_until limit more) next
 part_more limit start last next edges more part h turn = record {
@@ -89,7 +89,8 @@ stops old new limit why same halts h start edges (last, part, stands) =
 
 -- Turns without edges
 
-quiet_more : (limit : ℕ) (s mid next : State PadHistory) → GoesQuietly limit s mid → TurnBefore limit mid [] next → GoesQuietly limit s next
+pub quiet_more : (limit : ℕ) (s mid next : State PadHistory) → GoesQuietly limit s mid → TurnBefore limit mid [] next
+    → GoesQuietly limit s next
 quiet_more limit s mid next (n, run) turn = (suc n, run_more limit n s mid next [] [] run turn)
 
 pub quietly_begins : (limit : ℕ) (console : Console) → Quietly limit console console

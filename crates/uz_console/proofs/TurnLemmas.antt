@@ -91,9 +91,9 @@ board_step image s c s' c' stores (step.Stopped Spm) h = ((h.0, h.1, h.2), h.3, 
 
 -- The console's turn, over the board's pads, is the machine's
 
--- the state that a console stands for, over the console's parts
-state_is : (c : Console) (s : State PadHistory) → console.StandsFor c s → s ≡ with_space (state_of c) s.space
-state_is c s h =
+-- a state of the machine that one over the board's pads stands for, over the latter's parts
+state_is : (t : State Pads) (s : State PadHistory) → console.StateStandsFor t s → s ≡ with_space t s.space
+state_is t s h =
     let by : FinMap nat_cmp ℕ → Core → ℕ → Bool → ℕ → State PadHistory = λ image core response owed clock. record {
       image = image;
       core = core;
@@ -103,22 +103,22 @@ state_is c s h =
       clock = clock;
     } in
     ap (λ x. by x s.core s.response s.is_owed s.clock) h.image ∙
-    (ap (λ x. by (state_of c).image x s.response s.is_owed s.clock) h.core ∙
-    (ap (λ x. by (state_of c).image (state_of c).core x s.is_owed s.clock) h.response ∙
-    (ap (λ x. by (state_of c).image (state_of c).core (state_of c).response x s.clock) h.is_owed ∙
-    ap (λ x. by (state_of c).image (state_of c).core (state_of c).response (state_of c).is_owed x) h.clock)))
+    (ap (λ x. by t.image x s.response s.is_owed s.clock) h.core ∙
+    (ap (λ x. by t.image t.core x s.is_owed s.clock) h.response ∙
+    (ap (λ x. by t.image t.core t.response x s.clock) h.is_owed ∙
+    ap (λ x. by t.image t.core t.response t.is_owed x) h.clock)))
 
-space_is : (c : Console) (s : State PadHistory) → console.StandsFor c s → SpaceAlike StandsFor (state_of c).space s.space
-space_is c s h = record { bytes = sym h.bytes; timer = sym h.timer; pads = h.pads }
+space_is : (t : State Pads) (s : State PadHistory) → console.StateStandsFor t s → SpaceAlike StandsFor t.space s.space
+space_is t s h = record { bytes = sym h.bytes; timer = sym h.timer; pads = h.pads }
 
--- a turn of the console's own state is one of each state that it stands for
-carried : (old new : Console) (edges : List Edge) → machine.Turn pads_wiring (state_of old) edges (state_of new) → (s : State PadHistory)
-    → console.StandsFor old s →
-    (next : State PadHistory) × machine.Turn history_wiring s edges next × console.StandsFor new next
-carried old new edges turn s h =
-    let t : TurnAlike StandsFor history_wiring (state_of old) s.space edges (state_of new) = turn_alike pads_wiring history_wiring StandsFor
-    pads_alike (state_of old) s.space (space_is old s h) edges (state_of new) turn in
-    let next = with_space (state_of new) t.after in (
+-- a turn of a state over the board's pads is one of each state that it stands for
+pub carried_state : (old new : State Pads) (edges : List Edge) → machine.Turn pads_wiring old edges new → (s : State PadHistory)
+    → console.StateStandsFor old s →
+    (next : State PadHistory) × machine.Turn history_wiring s edges next × console.StateStandsFor new next
+carried_state old new edges turn s h =
+    let t : TurnAlike StandsFor history_wiring old s.space edges new = turn_alike pads_wiring history_wiring StandsFor
+    pads_alike old s.space (space_is old s h) edges new turn in
+    let next = with_space new t.after in (
       next,
       subst (λ x. machine.Turn history_wiring x edges next) (sym (state_is old s h)) t.turn,
       record {
@@ -133,13 +133,19 @@ carried old new edges turn s h =
       },
     )
 
+-- and so is one of the console's own state
+carried : (old new : Console) (edges : List Edge) → machine.Turn pads_wiring (state_of old) edges (state_of new) → (s : State PadHistory)
+    → console.StandsFor old s →
+    (next : State PadHistory) × machine.Turn history_wiring s edges next × console.StandsFor new next
+carried old new edges turn = carried_state (state_of old) (state_of new) edges turn
+
 -- a byte of the console's own state is one of each state that it stands for
 pub byte_is : (c : Console) (s : State PadHistory) (at : ℕ) → console.StandsFor c s → state_byte pads_wiring (state_of c) at ≡ state_byte
     history_wiring s at
 byte_is c s at h =
     ap (λ core. if is_core_address at then core_byte core at else byte_at pads_wiring (state_of c).space at) (sym h.core) ∙
     ap (λ x. if is_core_address at then core_byte s.core at else x) (same_byte pads_wiring history_wiring StandsFor pads_alike
-    (state_of c).space s.space at (space_is c s h))
+    (state_of c).space s.space at (space_is (state_of c) s h))
 
 entry_is : (c : Console) (s : State PadHistory) → console.StandsFor c s → is_entry s ≡ is_entry (state_of c)
 entry_is c s h =

@@ -1,12 +1,14 @@
 -- Turns one after another, up to one with edges.
-use Rattle.std.specs.Prelude.{◌≡◌, ℕ, ◌<◌, ◌≤◌, List}
+use Rattle.std.specs.Prelude.{◌≡◌, ℕ, ◌+◌, ◌<◌, ◌≤◌, false, List}
 use Rattle.uz_schedule.specs.declared.certificate.Cert.{Cert}
 use Rattle.uz_machine.specs.declared.Edge.{Edge}
 use Rattle.uz_machine.specs.PadLine.{PadHistory}
+use Rattle.uz_machine.specs.Timer.{is_due, timer_after}
 use Rattle.uz_machine.specs.Turn.{State}
+use Rattle.uz_pads.specs.declared.pads.Pads.{Pads}
 use Rattle.uz_console.specs.declared.console.Console.{Console}
 use Rattle.uz_console.specs.declared.turn.Made.{Made}
-use Rattle.uz_console.specs.Consoles.{StandsFor, clock_of}
+use Rattle.uz_console.specs.Consoles.{StandsFor, clock_of, state_of}
 use Rattle.uz_console.specs.Entry.{NotEntered}
 use Rattle.uz_console.specs.Runs.{RunsTo, Quietly}
 use Rattle.uz_console.specs.Approaches.{RunsUnentered}
@@ -26,7 +28,13 @@ pub record LeadsTo (limit watched : ℕ) (first mid : Console) : Type 0 where
       → RunsUnentered cert limit start edges first → RunsUnentered cert limit start edges mid
   pub time : clock_of first ≤ clock_of mid
   pub before : clock_of first < limit → clock_of mid < limit
-  pub none : limit ≤ clock_of first → mid ≡ first
+  pub none : limit ≤ clock_of first → state_of mid ≡ state_of first
+
+-- so many clocks pass within the limit, and before the interrupt can be due
+pub record IsFree (limit : ℕ) (s : State Pads) (free : ℕ) : Type 0 where
+  pub clear : is_due s.space.timer ≡ false
+  pub stays : (clocks : ℕ) → clocks < free → (timer_after clocks s.space.timer).matched ≡ s.space.timer.matched
+  pub within : s.clock + free ≤ limit
 
 -- such turns, and one more of any kind
 pub record AreMade (limit watched : ℕ) (old new : Console) (edges : List Edge) (answer : Made) : Type 0 where

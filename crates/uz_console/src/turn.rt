@@ -7,12 +7,13 @@ ghost use Rattle.uz_machine.specs.declared.EdgeKind.TheVariants.{Leave};
 ghost use Rattle.uz_pads.specs.Pads.{pads_wiring};
 ghost use Rattle.uz_ports.specs.Boards.{held_of, content_of, space_of, entered_of, entry_edge, clock_of as board_clock};
 ghost use Rattle.uz_console.specs.Consoles.{clock_of, state_of};
-ghost use Rattle.uz_console.specs.ManyTurns.{AreMade};
+ghost use Rattle.uz_console.specs.ManyTurns.{AreMade, IsFree, LeadsTo};
 ghost use Rattle.uz_console.specs.Turns.{IsTurn, TurnTakesTime, IsMade, HasSome, TakesTime, IsBoardStep, IsInstructed};
 
 use crate::Console;
 use arrayvec::ArrayVec;
 use uz_core::{Cpu, Program, Step, Why};
+use uz_hex::FLASH_WORDS;
 use uz_machine::Edge;
 use uz_ports::Board;
 
@@ -51,6 +52,15 @@ fn finish(board: &mut Board, clocks: u8, returned: bool, edges: &mut ArrayVec<Ed
     board.finish_into(clocks, returned, edges);
 }
 
+/// One edge in place of what the list has.
+#[inline(always)]
+fn put(edges: &mut ArrayVec<Edge, 4>, edge: Edge)
+    ensures { edges.new.items ≡ edge ∷ [] }
+{
+    edges.clear();
+    edges.push(edge);
+}
+
 /// One instruction, whose stores the board holds.
 #[tactic(auto, using(crate::proofs::TurnLemmas::board_step))]
 fn step(cpu: &mut Cpu, program: &Program, board: &mut Board) -> Step
@@ -81,7 +91,30 @@ impl Console {
         finish(&mut self.board, clocks, false, edges);
     }
 
+    /// One instruction. A store that was known when the instruction was decoded goes straight to the board.
     fn instruct(&mut self, edges: &mut ArrayVec<Edge, 4>) -> Made
+        requires { clock_of self.old < 2 ^ 62 }
+        ensures instructed { IsInstructed (state_of self.old) (state_of self.new) edges.new.items result }
+        ensures some { HasSome edges.new.items result }
+    {
+        match self.cpu.step_store(&self.program) {
+            Some((store, clocks)) => {
+                self.owed = false;
+                match self.board.finish_with(clocks, store) {
+                    Some(edge) => {
+                        put(edges, edge);
+                        Made::Edges
+                    }
+                    None => Made::Quiet,
+                }
+            }
+            None => self.instruct_any(edges),
+        }
+    }
+
+    /// Kept apart, so that what is made most often is short.
+    #[inline(never)]
+    fn instruct_any(&mut self, edges: &mut ArrayVec<Edge, 4>) -> Made
         requires { clock_of self.old < 2 ^ 62 }
         ensures instructed { IsInstructed (state_of self.old) (state_of self.new) edges.new.items result }
         ensures some { HasSome edges.new.items result }
@@ -125,6 +158,43 @@ impl Console {
         }
     }
 
+    /// So many clocks may pass by instructions that touch the core alone: up to the limit, before the interrupt can be due, and where
+    /// no pc is watched.
+    #[inline(always)]
+    fn undisturbed(&self, limit: u64, watched: u16) -> u32
+        ensures most { result ≤ 65536 }
+        ensures watched { 0 < result → 32768 ≤ watched }
+        ensures free { 0 < result → IsFree limit (state_of self.now) result }
+    {
+        let timer = self.board.timer();
+        let clock = self.board.clock();
+        if watched < FLASH_WORDS || limit <= clock || timer.due() {
+            return 0;
+        }
+        let rest = limit - clock;
+        let left = timer.left();
+        if rest < u64::from(left) {
+            rest as u32
+        } else {
+            left
+        }
+    }
+
+    /// Makes turns whose instructions touch the core alone: any number, one after another, and none of them passes the limit. Where a
+    /// pc is watched, it makes none.
+    #[inline(always)]
+    fn run_internal(&mut self, limit: u64, watched: u16)
+        requires { limit ≤ 2 ^ 62 }
+        ensures { LeadsTo limit watched self.old self.new }
+    {
+        let clocks = self.undisturbed(limit, watched);
+        let passed = self.cpu.run_internal(&self.program, clocks);
+        if passed > 0 {
+            self.owed = false;
+            self.board.pass_many(passed);
+        }
+    }
+
     /// Makes one turn, and then more while they have no edges, the clock is below the limit and pc isn't the watched one. The answer is
     /// the last turn's. Everything that makes turns calls it, so that `make` has one caller, where the compiler puts it in line.
     pub(crate) fn make_turns(
@@ -138,6 +208,7 @@ impl Console {
         ensures { AreMade limit watched self.old self.new edges.new.items result }
     {
         'turns: loop {
+            self.run_internal(limit, watched);
             match self.make(edges) {
                 Made::Quiet => {}
                 Made::Edges => return Made::Edges,

@@ -1,5 +1,5 @@
 -- What an edge adds to the samples.
-use Rattle.std.proofs.Common.{◌≡◌, ℕ, Bool, true, false, List, [], ◌∷◌, ◌++◌, if◌then◌else◌, refl, sym, ap, ◌∙◌, append_nil}
+use Rattle.std.proofs.Common.{◌≡◌, ℕ, Bool, true, false, List, [], ◌∷◌, ◌++◌, if◌then◌else◌, refl, sym, ap, ◌∙◌, append-nil}
 use Rattle.uz_machine.specs.declared.Edge.{Edge}
 use Rattle.uz_scan.specs.declared.records.LineInfo.{LineInfo}
 use Rattle.uz_scan.specs.declared.records.FrameInfo.{FrameInfo}
@@ -13,8 +13,8 @@ by_end : (t u : Bool) (xs : List ℕ) (line : LineInfo) (frame : FrameInfo) (sho
     → shown ≡ (if t then Line line else (if u then Frame frame else More))
     → (if t then xs ++ line.sound ∷ [] else xs) ≡ xs ++ heard shown
 by_end true u xs line frame shown is = ap (λ s. xs ++ heard s) (sym is)
-by_end false true xs line frame shown is = sym (append_nil xs) ∙ ap (λ s. xs ++ heard s) (sym is)
-by_end false false xs line frame shown is = sym (append_nil xs) ∙ ap (λ s. xs ++ heard s) (sym is)
+by_end false true xs line frame shown is = sym (append-nil xs) ∙ ap (λ s. xs ++ heard s) (sym is)
+by_end false false xs line frame shown is = sym (append-nil xs) ∙ ap (λ s. xs ++ heard s) (sym is)
 
 pub heard_at : (e : Edge) (before : List Edge) (shown : Scan) → shown ≡ shown_by e before → samples (e ∷ before) ≡ samples before
     ++ heard shown

@@ -232,7 +232,7 @@ kinds_back l (suc n) d pieces c k b p between count h =
       parts = x.parts ∙ (ap (λ ls. line_of (kind_words d.version says.events clocks) ∷ ls) (a.parts
           ∙ ap (λ ls. event_lines a.es ++ ls) y.parts)
           ∙ ap (λ m. line_of (kind_words d.version m clocks) ∷ (event_lines a.es ++ kinds_then d.version y.kinds y.lengths y.rest))
-              (sym a.count));
+          (sym a.count));
       count = ap suc y.count;
       body = y.body;
       kept = subst (λ ns. Kept (with_kinds d y.read kinds ns)) measured (subst (λ ks. Kept (with_kinds d y.read ks lengths)) joined y.kept);
@@ -327,7 +327,7 @@ plain_next : (plain : PlainLines) (l : LineSpelling) (d : Draft) (kind : Due) (l
     → NextRead d kind (line ∷ rest) c → ((m : Draft) → Kept m → read_from m rest ≡ told c → EachLacks 10 rest) → EachLacks 10 (line ∷ rest)
 plain_next plain l d kind line rest c k is x later =
     let line_is : line ≡ spelled d.version d.head (wrap kind x.value) = first_same line (spelled d.version d.head (wrap kind x.value))
-        rest x.rest x.parts in
+    rest x.rest x.parts in
     let rest_is : rest ≡ x.rest = others_same line (spelled d.version d.head (wrap kind x.value)) rest x.rest x.parts in (
       subst (Lacks 10) (sym line_is) (plain d (wrap kind x.value) k x.fits),
       later (draft_after d (wrap kind x.value)) x.kept (ap (read_from (draft_after d (wrap kind x.value))) rest_is ∙ x.more),
@@ -564,12 +564,12 @@ made_lines : (v : Version) (s : Sizes) (r : Response) (t : StackLine) (cells : L
     → s ≡ record { kinds = length kinds; lines = length (expand runs); rests = length rs; points = length ps; cells = length cells }
     → runs_of (expand runs) ≡ runs
     → head_line v ∷ spelled v (first_draft v).head (said.Size s)
-        ∷ parts_after v r t cells kinds lengths (fall_lines clock runs cells rs e ps)
+    ∷ parts_after v r t cells kinds lengths (fall_lines clock runs cells rs e ps)
     ≡ lines_of_certificate v
     (made r t cells kinds lengths clock runs rs e ps)
 made_lines v s r t cells kinds lengths clock runs rs e ps sizes same =
     ap (λ n. head_line v ∷ spelled v (first_draft v).head (said.Size n)
-        ∷ parts_after v r t cells kinds lengths (fall_lines clock runs cells rs e ps)) sizes
+    ∷ parts_after v r t cells kinds lengths (fall_lines clock runs cells rs e ps)) sizes
     ∙ ap (λ q. head_line v ∷ spelled v (first_draft v).head
     (said.Size (record {
       kinds = length kinds;
@@ -602,7 +602,7 @@ middle_lines : (v : Version) (s : Sizes) (r : Response) (t : StackLine) (cells :
     → opening v s r t (map (λ x. line_of (cell_words x)) cells ++ pieces) ≡ lines_of_certificate v c
 middle_lines v s r t cells pieces c cell_count x =
     ap (λ others. opening v s r t (map (λ m. line_of (cell_words m)) cells ++ others)) x.parts
-        ∙ late_lines v s r t cells x.kinds x.lengths x.rest c
+    ∙ late_lines v s r t cells x.kinds x.lengths x.rest c
     cell_count x.count x.later
 
 others_lines : (v : Version) (s : Sizes) (r : Response) (t : StackLine) (pieces : List (List ℕ)) (c : Cert) → OthersBack v s r t pieces c
@@ -612,10 +612,10 @@ others_lines v s r t pieces c x = ap (opening v s r t) x.parts ∙ middle_lines 
 
 stack_lines : (v : Version) (s : Sizes) (r : Response) (pieces : List (List ℕ)) (c : Cert) → StackBack v s r pieces c
     → head_line v ∷ spelled v (first_draft v).head (said.Size s) ∷ spelled v (first_draft v).head (said.Irq r) ∷ pieces
-        ≡ lines_of_certificate v c
+    ≡ lines_of_certificate v c
 stack_lines v s r pieces c x =
     ap (λ ls. head_line v ∷ spelled v (first_draft v).head (said.Size s) ∷ spelled v (first_draft v).head (said.Irq r) ∷ ls) x.parts
-        ∙ others_lines v s r
+    ∙ others_lines v s r
     x.t x.rest c x.later
 
 irq_lines : (v : Version) (s : Sizes) (pieces : List (List ℕ)) (c : Cert) → IrqBack v s pieces c → head_line v
@@ -631,7 +631,7 @@ size_lines l v pieces c x =
     let next = size_next (first_draft v) x.value in
     ap (λ ls. head_line v ∷ ls) x.parts
     ∙ irq_lines v x.value x.rest c (irq_back l v x.value x.rest c (subst Kept next x.kept) (ap (λ m. read_from m x.rest) (sym next)
-        ∙ x.more))
+    ∙ x.more))
 
 -- the lines after the first of what is read to its end are those of its certificate
 pub lines_back : (l : LineSpelling) (v : Version) (pieces : List (List ℕ)) (c : Cert) → read_from (first_draft v) pieces ≡ told c

@@ -112,7 +112,7 @@ step l d s rest k is fits keeps more =
     ap (λ o. read_by o d (spelled d.version d.head s) rest (λ x. read_from x rest)) is
     ∙ ap (λ r. or_fault (d.read + 1) r (λ x. read_from x rest))
     (ap (line_says d (due_as s) (spelled d.version d.head s)) more
-        ∙ says d (due_as s) (spelled d.version d.head s) s (l.again d s k is fits keeps))
+    ∙ says d (due_as s) (spelled d.version d.head s) s (l.again d s k is fits keeps))
 
 more_after : (lines : List (List ℕ)) (piece : List ℕ) (rest : List (List ℕ)) → is_more (lines ++ piece ∷ rest) ≡ true
 more_after [] piece rest = refl
@@ -546,7 +546,7 @@ kinds_again l d ((e ∷ es) ∷ kinds) (n ∷ lengths) others k b p between coun
     let mid : Draft = with (e ∷ es) in
     let kept_mid : Kept mid = subst (λ ys. Kept (with ys)) seam a.kept in
     let later = kinds_again l mid kinds lengths others kept_mid a.body p (refl, refl, refl, refl)
-        (simp length-append (omega (arith, count)))
+    (simp length-append (omega (arith, count)))
     (All-tail EventsFit (e ∷ es) kinds fits) rest.1 (All-tail (IsLengthIn d.version) n lengths own) more in
     let joined = append_assoc d.kinds ((e ∷ es) ∷ []) kinds in
     let measured = append_assoc d.lengths (n ∷ []) lengths in

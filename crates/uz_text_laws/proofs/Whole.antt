@@ -106,7 +106,7 @@ middle_again l v c w own kept =
 abbrev other_lines : Version → Cert → List (List ℕ)
 other_lines v c =
     spelled v (first_draft v).head (said.Size (sizes_of c)) ∷ spelled v (first_draft v).head (said.Irq c.head.irq)
-        ∷ spelled v (first_draft v).head
+    ∷ spelled v (first_draft v).head
     (said.Stack (stack_of c.head)) ∷ middle_lines v c
 
 lines_again : (l : LineSpelling) (v : Version) (c : Cert) → WellFormed c → All (IsLengthIn v) c.schedule.lengths
@@ -132,10 +132,10 @@ lines_again l v c w own =
     (said.Stack (stack_of c.head)) ∷ middle_lines v c)
     (first_kept v) (due_size (first_draft v) refl) (omega arith, sizes) tt refl
     ∙ (ap (λ m. read_from m (spelled v (first_draft v).head (said.Irq c.head.irq)
-        ∷ spelled v (first_draft v).head (said.Stack (stack_of c.head))
+    ∷ spelled v (first_draft v).head (said.Stack (stack_of c.head))
     ∷ middle_lines v c)) sized
     ∙ (step l (draft_sizes v (sizes_of c)) (said.Irq c.head.irq) (spelled v (first_draft v).head (said.Stack (stack_of c.head))
-        ∷ middle_lines v c)
+    ∷ middle_lines v c)
     kept_a (due_irq (draft_sizes v (sizes_of c)) refl) (omega arith) tt refl
     ∙ (ap (λ m. read_from m (spelled v (first_draft v).head (said.Stack (stack_of c.head)) ∷ middle_lines v c)) answered
     ∙ (step l (draft_irq v (sizes_of c) c.head.irq) (said.Stack (stack_of c.head)) (middle_lines v c) kept_b
