@@ -82,7 +82,7 @@ pub each_gap : (cert : Cert) (start p : ℕ) (phase : Phase) (edges : List Edge)
 each_gap cert start p phase edges h before between after left entered count cut plain =
     let parts = ap told cut ∙ in_parts before between after left entered count in
     let at = from_on cert start p phase before ((left, Leave) ∷ (told between ++ ((entered, Enter count) ∷ told after)))
-        (subst (MainsTime cert start p phase) parts h) in
+    (subst (MainsTime cert start p phase) parts h) in
     at_return cert start p at.0 left entered count between after plain at.1
 
 pub gaps_hold : (image : FinMap nat_cmp ℕ) (cert : Cert) → MainsTimeHolds image cert → GapsHold image cert

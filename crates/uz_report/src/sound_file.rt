@@ -88,6 +88,10 @@ impl Wave {
     pub fn pad(&self) -> &'static [u8]
         ensures { (edges : List Edge) → Holds self.now edges → result.now ≡ pad_after (length (samples edges)) }
     {
-        if self.sounds.len() % 2 == 0 { b"" } else { b"\0" }
+        if self.sounds.len() % 2 == 0 {
+            b""
+        } else {
+            b"\0"
+        }
     }
 }
