@@ -103,9 +103,11 @@ time_step cert start p q d s next c (RunsHandler i m o was) (RunsAlone j r) edge
 time_step cert start p q d s next c (RunsHandler i m o was) (RunsMain j r rest) edges tail (InMain n line from) since clock at same runs
     goes more = absurd since
 time_step cert start p q d s next c (RunsHandler i m o was) (RunsMain j r rest) edges tail InHandler since clock at same runs goes more =
-    subst (λ es. MainsTime cert start p InHandler (told es ++ tail)) (sym goes.0)
-    (rest, returned cert start p q d next j r rest at same runs goes.1 goes.2 goes.3,
-    more (InMain next.clock rest.line rest.clock) (refl, inl (goes.3, ap (λ n. next.clock + n) (sym goes.2))))
+    subst (λ es. MainsTime cert start p InHandler (told es ++ tail)) (sym goes.0) (
+      rest,
+      returned cert start p q d next j r rest at same runs goes.1 goes.2 goes.3,
+      more (InMain next.clock rest.line rest.clock) (refl, inl (goes.3, ap (λ n. next.clock + n) (sym goes.2))),
+    )
 time_step cert start p q d s next c (RunsHandler i m o was) (RunsHandler j n r later) edges tail (InMain b line from) since clock at same
     runs goes more = absurd since
 time_step cert start p q d s next c (RunsHandler i m o was) (RunsHandler j n r later) edges tail InHandler since clock at same runs goes
