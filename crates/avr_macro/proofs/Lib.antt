@@ -1,12 +1,4 @@
-pub mod Fronts
 pub mod MacroMaps
-pub mod Slices
-pub mod Kept
-pub mod Unchanged
-pub mod Needed
-pub mod Steady
-pub mod Filled
-pub mod BlockEnds
 pub mod Levels
 pub mod LineMoves
 pub mod Paths

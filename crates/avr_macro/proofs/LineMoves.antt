@@ -4,12 +4,12 @@ use Rattle.std.specs.Prelude.{◌⊎◌, nat_le, Some}
 use Rattle.avr_macro.specs.declared.errors.MacroWhy.{MacroWhy}
 use Rattle.avr_macro.specs.declared.errors.MacroWhy.TheVariants as why
 use Rattle.avr_macro.specs.declared.frames.Frame.{Frame}
-use Rattle.avr_macro.specs.Arguments.{arguments_of, replaced}
-use Rattle.avr_macro.specs.Directives.{after_first_word, first_word}
+use Rattle.avr_macro_lines.specs.Arguments.{arguments_of, replaced}
+use Rattle.avr_macro_lines.specs.Directives.{after_first_word, first_word}
 use Rattle.avr_macro.specs.Moves.{Move, refuses, body_of, call, enter, lacks_one, line_move, move_at, move_of, other_by, other_move, unless}
 use Rattle.avr_macro.specs.States.{Level, State, inside, passed}
 use Rattle.avr_macro.specs.Views.{seen_frame}
-use Rattle.avr_macro.proofs.Slices.{next_line}
+use Rattle.avr_macro_lines.proofs.Slices.{next_line}
 
 -- a line that calls a macro
 abbrev pub entered : List (List ℕ) → Level → State → Move

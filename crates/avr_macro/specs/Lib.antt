@@ -1,12 +1,4 @@
-pub mod Lines
-pub mod Directives
-pub mod Arguments
-pub mod Bodies
-pub mod AtSigns
 pub mod Macros
-pub mod Blocks
-pub mod Ends
-pub mod Values
 pub mod States
 pub mod Moves
 pub mod Expansion

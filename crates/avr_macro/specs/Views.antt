@@ -1,27 +1,15 @@
 -- What the values of the code stand for.
-use Rattle.std.specs.Prelude.{◌≡◌, ◌⊎◌, ℕ, true, false, List, [], map, reverse, slice_index_or, Vec, Result, Ok, Err}
-use Rattle.std.specs.declared.alloc.Global.{Global}
-use Rattle.std.specs.Borrow.{Bor}
+use Rattle.std.specs.Prelude.{◌≡◌, ◌⊎◌, ℕ, true, false, List, [], map, reverse, slice_index_or, Result, Ok, Err}
 use Rattle.std.specs.List.{slice_range}
-use Rattle.avr_macro.specs.declared.values.Setting.{Setting as SettingValue}
 use Rattle.avr_macro.specs.declared.errors.MacroWhy.{MacroWhy}
 use Rattle.avr_macro.specs.declared.errors.MacroWhy.TheVariants.{Argument, Memory}
-use Rattle.avr_macro.specs.declared.directives.Word.{Word}
+use Rattle.avr_macro_lines.specs.declared.directives.Word.{Word}
 use Rattle.avr_macro.specs.declared.bodies.Called.{Called}
 use Rattle.avr_macro.specs.declared.frames.Frame.{Frame}
-use Rattle.avr_macro.specs.Directives.{directive_of}
-use Rattle.avr_macro.specs.Arguments.{replaced}
+use Rattle.avr_macro_lines.specs.Directives.{directive_of}
+use Rattle.avr_macro_lines.specs.Arguments.{replaced}
 use Rattle.avr_macro.specs.Moves.{lacks_one}
 use Rattle.avr_macro.specs.States.{Level}
-use Rattle.avr_macro.specs.Values.{Setting}
-
--- texts that are borrowed
-abbrev pub lent : Vec (Bor (List ℕ)) Global → List (List ℕ)
-lent parts = map (λ (part : Bor (List ℕ)). part.now) parts.items
-
--- a name and its value
-abbrev pub seen_setting : SettingValue → Setting
-seen_setting setting = (setting.name.items, setting.value)
 
 -- a file, a block or a call
 abbrev pub seen_frame : Frame → Level

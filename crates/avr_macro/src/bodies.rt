@@ -2,16 +2,15 @@
 
 ghost use Rattle.std.specs.Prelude.{◌≡◌, ◌<◌, ◌≤◌, [], ◌||◌, IfOk, IfSome, false, length, map, nat_lt, slice_index_or, true};
 ghost use Rattle.std.specs.List.{slice_range};
-ghost use Rattle.avr_macro.specs.Arguments.{any_lacks, replaced as replaced_line};
-ghost use Rattle.avr_macro.specs.AtSigns.{are_plain as are_plain_lines, are_steady as are_steady_lines, needed_by as needed_by_lines};
-ghost use Rattle.avr_macro.specs.Ends.{blocks_from, closing_at};
-ghost use Rattle.avr_macro.specs.declared.directives.Word.TheVariants as words;
+ghost use Rattle.avr_macro_lines.specs.Arguments.{any_lacks, replaced as replaced_line};
+ghost use Rattle.avr_macro_lines.specs.AtSigns.{are_plain as are_plain_lines, are_steady as are_steady_lines, needed_by as needed_by_lines};
+ghost use Rattle.avr_macro_lines.specs.Ends.{blocks_from, closing_at};
+ghost use Rattle.avr_macro_lines.specs.declared.directives.Word.TheVariants as words;
 
-use crate::arguments::{Substitution, replaced};
-use crate::at_signs::{are_plain, are_steady, needed_by};
-use crate::directives::Word;
-use crate::ends::{Block, Closing, blocks_of, closing_of};
-use crate::kept_lines::Lines;
+use avr_macro_lines::{
+    Block, Closing, Lines, Substitution, Word, are_plain, are_steady, blocks_of, closing_of,
+    needed_by, replaced,
+};
 use std::alloc::{AllocError, Global};
 use std::marker::Model;
 use std::rc::Rc;
@@ -49,7 +48,7 @@ pub(crate) struct Body {
 impl Model for Body {
     ghost use Rattle.std.specs.Prelude.{◌≡◌, List, ℕ, is_some, true};
     ghost use Rattle.std.specs.Coded.{coded_ℕ, coded_list};
-    ghost use Rattle.avr_macro.specs.AtSigns.{are_steady, filled};
+    ghost use Rattle.avr_macro_lines.specs.AtSigns.{are_steady, filled};
 
     ghost Value = { List (List ℕ) };
 
@@ -103,7 +102,7 @@ impl Macro {
     ghost use Rattle.avr_macro.specs.Views.{seen_called};
 
     /// All of some lines.
-    #[tactic(auto, using(crate::proofs::Slices::whole_body))]
+    #[tactic(auto, using(avr_macro_lines::proofs::Slices::whole_body))]
     fn of_lines(alloc: Global, lines: Lines) -> Result<Macro, AllocError>
         ensures { IfOk result (λ body. seen_macro body ≡ lines) }
     {
@@ -122,7 +121,7 @@ impl Macro {
     }
 
     /// Whether a call has more than ten arguments, or lacks one that the body names.
-    #[tactic(auto, using(crate::proofs::Unchanged::lacks_none, crate::proofs::Needed::lacks_by_need))]
+    #[tactic(auto, using(avr_macro_lines::proofs::Unchanged::lacks_none, avr_macro_lines::proofs::Needed::lacks_by_need))]
     pub fn lacks_one(&self, count: usize) -> bool
         ensures { result ≡ (nat_lt 10 count || any_lacks count (seen_macro self.now)) }
     {
@@ -134,13 +133,14 @@ impl Macro {
     }
 
     /// The lines in a call, each replaced now.
-    #[tactic(auto, using(crate::proofs::Slices::next_line))]
+    #[tactic(auto, using(avr_macro_lines::proofs::Slices::next_line))]
     fn replaced_lines(
         &self,
         alloc: Global,
         substitution: &Substitution,
     ) -> Result<Lines, AllocError>
-        ensures { IfOk result (λ lines. lines ≡ map (replaced_line substitution.now.arguments substitution.now.call) (seen_macro self.now)) }
+        ensures { IfOk result (λ lines. lines
+            ≡ map (replaced_line substitution.now.arguments substitution.now.call) (seen_macro self.now)) }
     {
         let mut lines = Lines::new(alloc);
         for n in self.start..self.end {
@@ -169,7 +169,8 @@ impl Macro {
     /// The lines in a call, each replaced when it is reached.
     fn by_line(&self, alloc: Global, substitution: Substitution) -> Result<Called, AllocError>
         requires { are_steady_lines self.now.text.value.lines ≡ true }
-        ensures { IfOk result (λ called. seen_called called ≡ map (replaced_line substitution.arguments substitution.call) (seen_macro self.now)) }
+        ensures { IfOk result (λ called. seen_called called
+            ≡ map (replaced_line substitution.arguments substitution.call) (seen_macro self.now)) }
     {
         let text = share_text(&self.text)?;
         let body = Body {
@@ -184,9 +185,10 @@ impl Macro {
     }
 
     /// The lines in a call. Only those that may be of another directive in each call are replaced before they are reached.
-    #[tactic(auto, using(crate::proofs::Unchanged::same_lines))]
+    #[tactic(auto, using(avr_macro_lines::proofs::Unchanged::same_lines))]
     pub fn in_call(&self, alloc: Global, substitution: Substitution) -> Result<Called, AllocError>
-        ensures { IfOk result (λ called. seen_called called ≡ map (replaced_line substitution.arguments substitution.call) (seen_macro self.now)) }
+        ensures { IfOk result (λ called. seen_called called
+            ≡ map (replaced_line substitution.arguments substitution.call) (seen_macro self.now)) }
     {
         if self.plain {
             self.unchanged(alloc)
@@ -203,7 +205,7 @@ impl Called {
     ghost use Rattle.avr_macro.specs.Views.{seen_called};
 
     /// All of some lines.
-    #[tactic(auto, using(crate::proofs::Slices::whole_body))]
+    #[tactic(auto, using(avr_macro_lines::proofs::Slices::whole_body))]
     pub fn of_lines(alloc: Global, lines: Lines) -> Result<Called, AllocError>
         ensures { IfOk result (λ called. seen_called called ≡ lines) }
     {
@@ -259,7 +261,7 @@ impl Body {
     }
 
     /// Some of the lines: those from a place to before another.
-    #[tactic(auto, using(crate::proofs::Slices::next_line))]
+    #[tactic(auto, using(avr_macro_lines::proofs::Slices::next_line))]
     fn copied(&self, alloc: Global, start: usize, end: usize) -> Result<Lines, AllocError>
         requires order { start ≤ end }
         requires bound { end ≤ length self.now }
@@ -333,7 +335,7 @@ impl Text {
     }
 
     /// Where the macro ends that begins at a line.
-    #[tactic(auto, using(crate::proofs::BlockEnds::blocks_in_order))]
+    #[tactic(auto, using(avr_macro_lines::proofs::BlockEnds::blocks_in_order))]
     fn macro_closing(&self, line: usize) -> Option<Closing>
         ensures { result ≡ closing_at line (blocks_from words.Macro words.EndMacro 0 self.now.lines) }
     {
@@ -341,7 +343,7 @@ impl Text {
     }
 
     /// Where the repeated block ends that begins at a line.
-    #[tactic(auto, using(crate::proofs::BlockEnds::blocks_in_order))]
+    #[tactic(auto, using(avr_macro_lines::proofs::BlockEnds::blocks_in_order))]
     fn repeat_closing(&self, line: usize) -> Option<Closing>
         ensures { result ≡ closing_at line (blocks_from words.Repeat words.EndRepeat 0 self.now.lines) }
     {
@@ -349,7 +351,7 @@ impl Text {
     }
 
     /// Where the conditional block ends that begins at a line.
-    #[tactic(auto, using(crate::proofs::BlockEnds::blocks_in_order))]
+    #[tactic(auto, using(avr_macro_lines::proofs::BlockEnds::blocks_in_order))]
     fn condition_closing(&self, line: usize) -> Option<Closing>
         ensures { result ≡ closing_at line (blocks_from words.If words.EndIf 0 self.now.lines) }
     {

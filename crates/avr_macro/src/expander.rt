@@ -1,31 +1,40 @@
 //! Expansion, a line at a time.
 
-ghost use Rattle.std.specs.Prelude.{◌≡◌, ◌<◌, ◌≤◌, ◌+◌, [], ◌∷◌, ◌++◌, true, false, Some, IfOk, IfErr, IfNone, IfSome, IsSome, OnOk, length, nat_lt, slice_index_or, string_bytes};
+ghost use Rattle.std.specs.Prelude.{◌≡◌, ◌<◌, ◌≤◌, ◌+◌, [], ◌∷◌, ◌++◌, true, false, Some, IfOk, IfErr, IfNone, IfSome};
+ghost use Rattle.std.specs.Prelude.{IsSome, OnOk, length, nat_lt, slice_index_or, string_bytes};
 ghost use Rattle.std.specs.Bool.{OnFalse};
 ghost use Rattle.std.specs.Option.{option_map};
-ghost use Rattle.avr_macro.specs.Arguments.{arguments_of as arguments_of_line};
-ghost use Rattle.avr_macro.specs.Blocks.{if_else as if_else_in};
+ghost use Rattle.avr_macro_lines.specs.Arguments.{arguments_of as arguments_of_line};
+ghost use Rattle.avr_macro_lines.specs.Blocks.{if_else as if_else_in};
 ghost use Rattle.avr_macro.specs.Macros.{seen_macro};
-ghost use Rattle.avr_macro.specs.Directives.{after_first_word as after_first_word_in, first_word as first_word_of, operands_of as operands_of_line};
-ghost use Rattle.avr_macro.specs.Moves.{body_of as body_of_word, call as call_state, chosen_part as chosen_part_of, enter as enter_move, file_name as file_name_of, goes, if_move as if_move_of, if_valued, include_move as include_move_of, included, is_full as is_full_state, is_include as is_include_word, is_null as is_null_value, line_move as line_move_of, macro_body as macro_body_move, macro_move as macro_move_of, move_of, one_part as one_part_of, other_move as other_move_of, part, plain_move as plain_move_of, repeat_move as repeat_move_of, repeat_times as repeat_times_move, repeated as repeated_level, turn_end as turn_end_move, turned, two_parts as two_parts_of, with_setting, word_move};
+ghost use Rattle.avr_macro_lines.specs.Directives.{after_first_word as after_first_word_in};
+ghost use Rattle.avr_macro_lines.specs.Directives.{first_word as first_word_of, operands_of as operands_of_line};
+ghost use Rattle.avr_macro.specs.Moves.{body_of as body_of_word, call as call_state, chosen_part as chosen_part_of};
+ghost use Rattle.avr_macro.specs.Moves.{enter as enter_move, file_name as file_name_of, goes, if_move as if_move_of};
+ghost use Rattle.avr_macro.specs.Moves.{if_valued, include_move as include_move_of, included, is_full as is_full_state};
+ghost use Rattle.avr_macro.specs.Moves.{is_include as is_include_word, is_null as is_null_value};
+ghost use Rattle.avr_macro.specs.Moves.{line_move as line_move_of, macro_body as macro_body_move};
+ghost use Rattle.avr_macro.specs.Moves.{macro_move as macro_move_of, move_of, one_part as one_part_of};
+ghost use Rattle.avr_macro.specs.Moves.{other_move as other_move_of, part, plain_move as plain_move_of};
+ghost use Rattle.avr_macro.specs.Moves.{repeat_move as repeat_move_of, repeat_times as repeat_times_move};
+ghost use Rattle.avr_macro.specs.Moves.{repeated as repeated_level, turn_end as turn_end_move, turned};
+ghost use Rattle.avr_macro.specs.Moves.{two_parts as two_parts_of, with_setting, word_move};
 ghost use Rattle.avr_macro.specs.States.{first_state, inside as inside_level, passed as passed_level};
-ghost use Rattle.avr_macro.specs.Values.{setting_of as setting_of_text};
-ghost use Rattle.avr_macro.specs.declared.directives.Word.TheVariants as words;
-ghost use Rattle.avr_macro.specs.Views.{CallsBody, IsAt, seen_called, seen_frame, seen_frames, seen_setting};
+ghost use Rattle.avr_macro_lines.specs.Values.{setting_of as setting_of_text};
+ghost use Rattle.avr_macro_lines.specs.declared.directives.Word.TheVariants as words;
+ghost use Rattle.avr_macro.specs.Views.{CallsBody, IsAt, seen_called, seen_frame, seen_frames};
+ghost use Rattle.avr_macro_lines.specs.Views.{seen_setting};
 
-use crate::arguments::{Substitution, arguments_of};
 use crate::bodies::{Called, Macro, share};
-use crate::directives::{
-    Word, after_first_word, directive_of, first_word, macro_name, operands_of,
-};
-use crate::ends::Closing;
 use crate::errors::MacroWhy;
 use crate::frames::{BLOCK_LIMIT, Frame, INCLUDE_LIMIT};
-use crate::lines::{is_bare, trimmed};
 use crate::macros::Macros;
 use crate::origin::Origin;
-use crate::values::{Setting, setting_of, text_value};
 use avr_asm::predefined;
+use avr_macro_lines::{
+    Closing, Setting, Substitution, Word, after_first_word, arguments_of, directive_of, first_word,
+    is_bare, macro_name, operands_of, setting_of, text_value, trimmed,
+};
 use avr_text::Symbols;
 use std::alloc::{AllocError, Global};
 
@@ -276,7 +285,8 @@ impl Expander {
     fn define(&mut self, alloc: Global, frame: Frame, name: &[u8], n: usize) -> Result<(), MacroWhy>
         requires shallow { frame.blocks < 16 }
         requires left { frame.at + (n + 2) ≤ frame.end }
-        ensures gives { Gives result (seen_expander self.new) (macro_body_move name.now (Some n) (seen_frame frame) (seen_expander self.old)) }
+        ensures gives { Gives result (seen_expander self.new)
+            (macro_body_move name.now (Some n) (seen_frame frame) (seen_expander self.old)) }
         ensures nearer { OnOk result (Nearer self.old self.new) }
     {
         if self.macros.get(name).is_some() {
@@ -407,7 +417,8 @@ impl Expander {
         setting: Option<Setting>,
     ) -> Result<(), MacroWhy>
         requires { frame.at < frame.end }
-        ensures gives { Gives result (seen_expander self.new) (plain_move_of line.now (option_map seen_setting setting) (seen_frame frame) (seen_expander self.old)) }
+        ensures gives { Gives result (seen_expander self.new)
+            (plain_move_of line.now (option_map seen_setting setting) (seen_frame frame) (seen_expander self.old)) }
         ensures nearer { OnOk result (Nearer self.old self.new) }
     {
         if self.is_full() || self.is_long(line) {
@@ -432,7 +443,9 @@ impl Expander {
     fn call(&mut self, frame: Frame, lines: Called) -> Result<(), MacroWhy>
         requires shallow { frame.blocks < 16 }
         requires left { frame.at < frame.end }
-        ensures gives { Gives result (seen_expander self.new) (enter_move (inside_level (seen_frame frame) (seen_called lines) 0 false true) (passed_level 1 (seen_frame frame)) (call_state (seen_expander self.old))) }
+        ensures gives { Gives result (seen_expander self.new)
+            (enter_move (inside_level (seen_frame frame) (seen_called lines) 0 false true)
+            (passed_level 1 (seen_frame frame)) (call_state (seen_expander self.old))) }
         ensures nearer { OnOk result (Nearer self.old self.new) }
     {
         if self.is_full() {
@@ -480,7 +493,9 @@ impl Expander {
     /// `.equ NAME = E`
     fn constant_line(&mut self, alloc: Global, frame: Frame, line: &[u8]) -> Result<(), MacroWhy>
         requires { frame.at < frame.end }
-        ensures gives { Gives result (seen_expander self.new) (plain_move_of line.now (setting_of_text self.old.constants (operands_of_line line.now)) (seen_frame frame) (seen_expander self.old)) }
+        ensures gives { Gives result (seen_expander self.new)
+            (plain_move_of line.now (setting_of_text self.old.constants (operands_of_line line.now)) (seen_frame frame)
+            (seen_expander self.old)) }
         ensures nearer { OnOk result (Nearer self.old self.new) }
     {
         let setting = setting_of(alloc, &self.constants, operands_of(line))?;
@@ -497,7 +512,8 @@ impl Expander {
     ) -> Result<(), MacroWhy>
         requires left { frame.at < frame.end }
         requires begins { IsAt word frame }
-        ensures gives { is_include_word word ≡ false → Gives result (seen_expander self.new) (word_move word line.now (seen_frame frame) (seen_expander self.old)) }
+        ensures gives { is_include_word word ≡ false →
+            Gives result (seen_expander self.new) (word_move word line.now (seen_frame frame) (seen_expander self.old)) }
         ensures nearer { OnOk result (Nearer self.old self.new) }
     {
         match word {
@@ -518,7 +534,8 @@ impl Expander {
         operands: &[u8],
     ) -> Result<Option<Request>, MacroWhy>
         requires { frame.at < frame.end }
-        ensures gives { GivesStep result (seen_expander self.old) (seen_expander self.new) (seen_frame frame) (include_move_of operands.now (seen_frame frame)) }
+        ensures gives { GivesStep result (seen_expander self.old) (seen_expander self.new) (seen_frame frame)
+            (include_move_of operands.now (seen_frame frame)) }
         ensures some { IfOk result (λ request. IsSome request) }
         ensures waits { IfOk result (λ request. IfSome request (λ q. q.frame.at < q.frame.end)) }
         ensures same { self.new ≡ self.old }
@@ -544,7 +561,8 @@ impl Expander {
     ) -> Result<Option<Request>, MacroWhy>
         requires left { frame.at < frame.end }
         requires next { line.now ≡ slice_index_or frame.body.value frame.at [] }
-        ensures gives { GivesStep result (seen_expander self.old) (seen_expander self.new) (seen_frame frame) (line_move_of line.now (seen_frame frame) (seen_expander self.old)) }
+        ensures gives { GivesStep result (seen_expander self.old) (seen_expander self.new) (seen_frame frame)
+            (line_move_of line.now (seen_frame frame) (seen_expander self.old)) }
         ensures nearer { IfOk result (λ request. IfNone request (Nearer self.old self.new)) }
         ensures asked { IfOk result (λ request. IsSome request → self.new ≡ self.old) }
         ensures waits { IfOk result (λ request. IfSome request (λ q. q.frame.at < q.frame.end)) }
@@ -561,7 +579,8 @@ impl Expander {
 
     /// The next line of a level, or its end. The state has the levels around it.
     pub fn step(&mut self, alloc: Global, frame: Frame) -> Result<Option<Request>, MacroWhy>
-        ensures gives { GivesStep result (seen_expander self.old) (seen_expander self.new) (seen_frame frame) (move_of (seen_frame frame) (seen_expander self.old)) }
+        ensures gives { GivesStep result (seen_expander self.old) (seen_expander self.new) (seen_frame frame)
+            (move_of (seen_frame frame) (seen_expander self.old)) }
         ensures nearer { IfOk result (λ request. IfNone request (Nearer self.old self.new)) }
         ensures asked { IfOk result (λ request. IsSome request → self.new ≡ self.old) }
         ensures waits { IfOk result (λ request. IfSome request (λ q. q.frame.at < q.frame.end)) }

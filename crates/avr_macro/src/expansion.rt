@@ -3,7 +3,8 @@
 ghost use Rattle.std.specs.Prelude.{◌≡◌, ◌⊎◌, ◌<◌, ◌≤◌, ◌+◌, [], ◌∷◌, ◌++◌, Some, IfErr, IfOk, OnErr, OnOk, length, string_bytes};
 ghost use Rattle.uz_shelf.specs.Faults.{Rose};
 ghost use Rattle.uz_shelf.specs.Files.{FileMap};
-ghost use Rattle.avr_macro.specs.Answers.{Agrees, Begins, CameOf, FailsFirst, Includes, IsRefused, RunsTo, flat_seen, names_of, unloaded as why_unloaded_by};
+ghost use Rattle.avr_macro.specs.Answers.{Agrees, Begins, CameOf, FailsFirst, Includes, IsRefused, RunsTo, flat_seen};
+ghost use Rattle.avr_macro.specs.Answers.{names_of, unloaded as why_unloaded_by};
 ghost use Rattle.avr_macro.specs.Expansion.{BeginsWith, End, Expands};
 ghost use Rattle.avr_macro.specs.Steps.{Nearer, seen_expander};
 ghost use Rattle.avr_macro.specs.Views.{seen_frame};
@@ -59,7 +60,9 @@ fn include<H: Shelf>(
     names: &mut Vec<String>,
 ) -> Result<(), MacroError>
     requires { request.frame.at < request.frame.end }
-    ensures came { Includes (H.files shelf.old) (Rose (H.load_faults shelf.old) (H.load_faults shelf.new)) (names_of names.old) (string_bytes request.name) (seen_frame request.frame) (seen_expander expander.old) (names_of names.new) (seen_expander expander.new) result }
+    ensures came { Includes (H.files shelf.old) (Rose (H.load_faults shelf.old) (H.load_faults shelf.new))
+        (names_of names.old) (string_bytes request.name) (seen_frame request.frame) (seen_expander expander.old)
+        (names_of names.new) (seen_expander expander.new) result }
     ensures nearer { OnOk result (Nearer expander.old expander.new) }
     ensures files { H.files shelf.new ≡ H.files shelf.old }
     ensures open_file { H.open_file shelf.new ≡ H.open_file shelf.old }
@@ -92,7 +95,8 @@ fn run<H: Shelf>(
     shelf: &mut H,
     names: &mut Vec<String>,
 ) -> Result<(), MacroError>
-    ensures runs { RunsTo (H.files shelf.old) (Rose (H.load_faults shelf.old) (H.load_faults shelf.new)) (names_of names.old) (seen_expander expander.old) (names_of names.new) (seen_expander expander.new) result }
+    ensures runs { RunsTo (H.files shelf.old) (Rose (H.load_faults shelf.old) (H.load_faults shelf.new))
+        (names_of names.old) (seen_expander expander.old) (names_of names.new) (seen_expander expander.new) result }
     ensures files { H.files shelf.new ≡ H.files shelf.old }
     ensures open_file { H.open_file shelf.new ≡ H.open_file shelf.old }
     ensures load_faults { H.load_faults shelf.old ≤ H.load_faults shelf.new }
@@ -152,7 +156,8 @@ fn expand_files<H: Shelf>(
     shelf: &mut H,
     names: &mut Vec<String>,
 ) -> Result<Flat, MacroError>
-    ensures came { CameOf (H.files shelf.old) (Rose (H.load_faults shelf.old) (H.load_faults shelf.new)) name.now (names_of names.new) result }
+    ensures came { CameOf (H.files shelf.old) (Rose (H.load_faults shelf.old) (H.load_faults shelf.new)) name.now
+        (names_of names.new) result }
     ensures files { H.files shelf.new ≡ H.files shelf.old }
     ensures open_file { H.open_file shelf.new ≡ H.open_file shelf.old }
     ensures load_faults { H.load_faults shelf.old ≤ H.load_faults shelf.new }
@@ -191,11 +196,14 @@ pub fn expand<H: Shelf>(
 ) -> Result<Flat, MacroError>
     ensures flat { IfOk result (λ flat. Expands (H.files shelf.old) name.now (flat_seen (names_of names.new) flat)) }
     ensures short { IfOk result (λ flat. length flat.text.items ≤ 1048576) }
-    ensures refused { IfErr result (IsRefused (H.files shelf.old) (Rose (H.load_faults shelf.old) (H.load_faults shelf.new)) name.now (names_of names.new)) }
+    ensures refused { IfErr result (IsRefused (H.files shelf.old)
+        (Rose (H.load_faults shelf.old) (H.load_faults shelf.new)) name.now (names_of names.new)) }
 
     // Over a shelf that tells its files there is one end, which the answer agrees with, and whose names begin with these.
-    ensures exact { (files : FileMap) (end : End) → H.files shelf.old ≡ Some files → Expands (Some files) name.now end → Agrees (Rose (H.load_faults shelf.old) (H.load_faults shelf.new)) result end }
-    ensures names { (files : FileMap) (end : End) → H.files shelf.old ≡ Some files → Expands (Some files) name.now end → BeginsWith (names_of names.new) end.names }
+    ensures exact { (files : FileMap) (end : End) → H.files shelf.old ≡ Some files → Expands (Some files) name.now end →
+        Agrees (Rose (H.load_faults shelf.old) (H.load_faults shelf.new)) result end }
+    ensures names { (files : FileMap) (end : End) → H.files shelf.old ≡ Some files → Expands (Some files) name.now end →
+        BeginsWith (names_of names.new) end.names }
 
     // The shelf's other meanings stay.
     ensures files { H.files shelf.new ≡ H.files shelf.old }

@@ -1,13 +1,12 @@
 //! A file, a block or a call, as far as it is expanded.
 
 ghost use Rattle.std.specs.Prelude.{◌≡◌, ◌<◌, ◌≤◌, ◌+◌, ◌-◌, ◌^◌, [], true, false, IfOk, IfSome, length};
-ghost use Rattle.avr_macro.specs.States.{file_level, inside as inside_level, next_turn as next_turn_of, passed as passed_level, place_after as place_after_lines};
+ghost use Rattle.avr_macro.specs.States.{file_level, inside as inside_level, next_turn as next_turn_of};
+ghost use Rattle.avr_macro.specs.States.{passed as passed_level, place_after as place_after_lines};
 
 use crate::bodies::{Body, Called, Macro, share};
-use crate::directives::closes_well;
-use crate::ends::{Closing, closing_after, end_of};
-use crate::lines::lines_of;
 use crate::origin::Origin;
+use avr_macro_lines::{Closing, closes_well, closing_after, end_of, lines_of};
 use std::alloc::{AllocError, Global};
 use std::rc::Rc;
 
@@ -64,14 +63,15 @@ fn place_after(blocks: u8, n: usize, origin: Origin) -> Origin
 
 impl Frame {
     ghost use Rattle.std.specs.Option.{option_map};
-    ghost use Rattle.avr_macro.specs.declared.directives.Word.TheVariants as words;
-    ghost use Rattle.avr_macro.specs.Blocks.{if_else as if_else_in, if_end as if_end_in, macro_end as macro_end_in, repeat_end as repeat_end_in};
+    ghost use Rattle.avr_macro_lines.specs.declared.directives.Word.TheVariants as words;
+    ghost use Rattle.avr_macro_lines.specs.Blocks.{if_else as if_else_in, if_end as if_end_in};
+    ghost use Rattle.avr_macro_lines.specs.Blocks.{macro_end as macro_end_in, repeat_end as repeat_end_in};
     ghost use Rattle.avr_macro.specs.Macros.{seen_macro};
     ghost use Rattle.avr_macro.specs.Moves.{closed_by as closed_by_line, later, part};
     ghost use Rattle.avr_macro.specs.Views.{IsAt, seen_called, seen_frame};
 
     /// A file, from its first line on.
-    #[tactic(auto, using(crate::proofs::Slices::whole_body))]
+    #[tactic(auto, using(avr_macro_lines::proofs::Slices::whole_body))]
     pub fn of_file(
         alloc: Global,
         file: u32,
@@ -111,7 +111,8 @@ impl Frame {
         requires shallow { self.now.blocks < 16 }
         requires order { from ≤ to }
         requires left { self.now.at + (1 + to) ≤ self.now.end }
-        ensures { IfOk result (λ frame. seen_frame frame ≡ inside_level (seen_frame self.now) (part (seen_frame self.now) from to) turns counted well) }
+        ensures { IfOk result (λ frame. seen_frame frame
+            ≡ inside_level (seen_frame self.now) (part (seen_frame self.now) from to) turns counted well) }
     {
         let body = share(&self.body)?;
         let next = self.at + 1;
@@ -130,7 +131,7 @@ impl Frame {
     }
 
     /// The macro whose body are so many of the lines after the next one.
-    #[tactic(auto, using(crate::proofs::Slices::first_part))]
+    #[tactic(auto, using(avr_macro_lines::proofs::Slices::first_part))]
     pub fn body_after(&self, alloc: Global, n: usize) -> Result<Macro, AllocError>
         requires { self.now.at + (n + 2) ≤ self.now.end }
         ensures { IfOk result (λ body. seen_macro body ≡ part (seen_frame self.now) 0 n) }
@@ -140,7 +141,7 @@ impl Frame {
     }
 
     /// Whether the line after the next one and so many more has no words that it may not have.
-    #[tactic(auto, using(crate::proofs::Slices::later_line))]
+    #[tactic(auto, using(avr_macro_lines::proofs::Slices::later_line))]
     pub fn closed_by(&self, alloc: Global, n: usize) -> Result<bool, AllocError>
         requires { self.now.at + (n + 2) ≤ self.now.end }
         ensures { IfOk result (λ well. well ≡ closed_by_line (later (seen_frame self.now)) n) }

@@ -2,22 +2,15 @@
 //! assembler reads.
 #![tactic(auto)]
 
-mod arguments;
-mod at_signs;
 mod bodies;
-mod directives;
-mod ends;
 mod errors;
 mod expander;
 mod expansion;
 mod flat;
 mod frames;
-mod kept_lines;
 mod laws;
-mod lines;
 mod macros;
 mod origin;
-mod values;
 
 pub use errors::{MacroError, MacroWhy};
 pub use expansion::expand;

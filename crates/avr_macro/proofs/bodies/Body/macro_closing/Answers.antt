@@ -1,8 +1,8 @@
 use Rattle.std.proofs.Common.{◌∙◌, ap}
 use Rattle.avr_macro.specs.declared.bodies.Text.{Text}
-use Rattle.avr_macro.specs.declared.directives.Word.TheVariants.{Macro, EndMacro}
-use Rattle.avr_macro.specs.Ends.{blocks_from, closing_at}
-use Rattle.avr_macro.proofs.Filled.{shown_blocks}
+use Rattle.avr_macro_lines.specs.declared.directives.Word.TheVariants.{Macro, EndMacro}
+use Rattle.avr_macro_lines.specs.Ends.{blocks_from, closing_at}
+use Rattle.avr_macro_lines.proofs.Filled.{shown_blocks}
 use Rattle.avr_macro.proofs.bodies.Body.macro_closing.Goals as goal
 
 pub returns : goal.returns

@@ -1,7 +1,7 @@
 use Rattle.std.proofs.Common.{◌∙◌, ap, map}
 use Rattle.avr_macro.specs.declared.bodies.Text.{Text}
-use Rattle.avr_macro.specs.Arguments.{replaced}
-use Rattle.avr_macro.proofs.Filled.{called_range}
+use Rattle.avr_macro_lines.specs.Arguments.{replaced}
+use Rattle.avr_macro_lines.proofs.Filled.{called_range}
 use Rattle.avr_macro.proofs.bodies.Macro.by_line.Goals as goal
 
 pub returns : goal.returns

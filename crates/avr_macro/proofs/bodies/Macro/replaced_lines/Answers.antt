@@ -1,8 +1,8 @@
 use Rattle.std.proofs.Common.{◌∙◌, [], ap, get_or, map}
 use Rattle.avr_macro.specs.declared.bodies.Text.{Text}
-use Rattle.avr_macro.specs.Arguments.{replaced}
+use Rattle.avr_macro_lines.specs.Arguments.{replaced}
 use Rattle.avr_macro.specs.Macros.{seen_macro}
-use Rattle.avr_macro.proofs.Slices.{made_more}
+use Rattle.avr_macro_lines.proofs.Slices.{made_more}
 use Rattle.avr_macro.proofs.bodies.Macro.replaced_lines.Goals as goal
 
 pub loop-n-preserved : goal.loop-n-preserved

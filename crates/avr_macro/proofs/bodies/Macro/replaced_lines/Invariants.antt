@@ -1,6 +1,6 @@
 use Rattle.std.proofs.Common.{◌≡◌, ◌++◌, map}
 use Rattle.std.specs.List.{slice_range}
-use Rattle.avr_macro.specs.Arguments.{replaced}
+use Rattle.avr_macro_lines.specs.Arguments.{replaced}
 use Rattle.avr_macro.specs.Macros.{seen_macro}
 use Rattle.avr_macro.proofs.bodies.Macro.replaced_lines.Given as goal
 

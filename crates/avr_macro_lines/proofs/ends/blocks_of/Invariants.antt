@@ -1,0 +1,14 @@
+use Rattle.std.proofs.Common.{◌≡◌, ◌≤◌, drop, length, reverse}
+use Rattle.avr_macro_lines.specs.Ends.{blocks_from, open_from}
+use Rattle.avr_macro_lines.proofs.ends.blocks_of.Given as goal
+
+-- the lines from a place on are read
+abbrev pub invariant-loop-n : goal.invariant-loop-n
+invariant-loop-n l = record {
+  within : l.n ≤ length l.lines;
+  open_ends : reverse l.pending.items ≡ open_from l.opens l.closes l.n (drop l.n l.lines);
+  closed : reverse l.blocks.items ≡ blocks_from l.opens l.closes l.n (drop l.n l.lines);
+}
+
+abbrev pub decreases-loop-n : goal.decreases-loop-n
+decreases-loop-n l = l.n

@@ -1,0 +1,9 @@
+pub mod Lines
+pub mod Directives
+pub mod Arguments
+pub mod Bodies
+pub mod AtSigns
+pub mod Blocks
+pub mod Ends
+pub mod Values
+pub mod Views
