@@ -28,7 +28,7 @@ use Rattle.uz_rules.specs.MemoryMeets.{MemoryMeets, HeadFits}
 use Rattle.uz_transfer.specs.Kinds.{is_main}
 use Rattle.uz_transfer.specs.Memory.{address_range, with_pointer_range, depth_of}
 use Rattle.uz_transfer.specs.Emission.{emission_at}
-use Rattle.uz_transfer.specs.Refusals.{refuse_if, fail_of}
+use Rattle.uz_transfer.specs.Refusals.{refuse_if, is_setup_register, top_fails, io_fails, fail_of}
 use Rattle.uz_rules.specs.Meets.{InstanceFits}
 use Rattle.uz_rules.proofs.Bits.{bit_of_with_bit}
 use Rattle.uz_rules.proofs.SpaceStores.{choose_if}
@@ -174,6 +174,20 @@ pub not_false : (t : Bool) → not t ≡ false → t ≡ true
 not_false true e = refl
 not_false false e = absurd cc
 
+-- a store to an address that isn't refused as Io: not to a register that sets up the machine, and to OCR1A in handlers alone, where a store
+-- of its low byte gives what is known
+pub record IoFine (inst : Instance) (at : ℕ) (v : Val) : Type 0 where
+  pub setup : is_setup_register at ≡ false
+  pub low : nat_eq at 0x88 ≡ true → (is_handler inst.kind ≡ true) × (top_fails inst v ≡ false)
+  pub high : nat_eq at 0x89 ≡ true → is_handler inst.kind ≡ true
+
+pub io_fine : (inst : Instance) (at : ℕ) (v : Val) → io_fails inst at v ≡ false → IoFine inst at v
+io_fine inst at v e = by_case (nat_eq at 0x88) (nat_eq at 0x89) (is_handler inst.kind) refl refl refl e
+  where
+    by_case : (p q h : Bool) → nat_eq at 0x88 ≡ p → nat_eq at 0x89 ≡ q → is_handler inst.kind ≡ h
+        → (if h && p then top_fails inst v else if h && q then false else is_setup_register at) ≡ false → IoFine inst at v
+    by_case p q h low high handler e = TODO
+
 pub may_be_stored : (head : Head) (inst : Instance) (level : ℕ) (to : AddressMode) (r : ℕ) (emitted : Option EventKind)
     → fail_of head (Store to r) inst ≡ None → emission_at level (Store to r) inst ≡ Some emitted → MayStore head inst level
     (address_range to inst) (value_at inst.regs r) emitted
@@ -185,7 +199,7 @@ may_be_stored head inst level to r emitted e f =
     record {
       mask = λ t. single_fails _ _ two.0 t;
       may = not_false _ three.0;
-      io = λ t. single_fails _ _ four.0 t;
+      io = λ t. (io_fine inst (address_range to inst).lo (value_at inst.regs r) (single_fails _ _ four.0 t)).setup;
       emits = f;
     }
 

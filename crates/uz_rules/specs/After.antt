@@ -31,4 +31,4 @@ next_of lines inst (Ok step) = Ok (record {
 pub record IsAfter (head : Head) (lines : Lines) (image : FinMap nat_cmp ℕ) (inst : Instance) (result : Result Next Fail) : Type 0 where
   pub row : Option Instr
   pub reads : IsReadAt image inst.pc row
-  pub is : result ≡ next_of lines inst (step_of_row head (lines.length inst.line) image row inst)
+  pub is : result ≡ next_of lines inst (step_of_row head lines image row inst)

@@ -170,7 +170,7 @@ fn instance_fail(image: &Image, cert: &Cert, next: &[u32], i: &Instr, at: &Insta
     ensures { result ≡ instance_fail image.now cert.now next.now (Some i.now) (Some at.now) }
 {
     let emits = is_main(at) && main_emits(effect(i), at);
-    match step_of_instruction(image, &cert.head, cert.schedule.length(at.line), at, i) {
+    match step_of_instruction(image, &cert.head, &cert.schedule, at, i) {
         Ok(step) => step_fail(cert, next, at, emits, step),
         Err(why) => Some(why),
     }
