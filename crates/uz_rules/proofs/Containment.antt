@@ -57,9 +57,9 @@ use Rattle.uz_transfer.specs.Refusals.{fail_of}
 use Rattle.uz_events.specs.Events.{event_of, shown_at, shown, listed}
 use Rattle.uz_rules.proofs.StoreShows.{kinds_listed}
 use Rattle.uz_schedule.specs.Lines.{Lines, clock_after}
-use Rattle.uz_transfer.specs.Step.{exits_of, clears_flag, ends_line, following_of, sampled_of, step_unless, step_of_row, successor}
-use Rattle.uz_transfer.specs.Step.{IsReadAt, clock_holds}
-use Rattle.uz_transfer.specs.Top.{top_after, temp_after}
+use Rattle.uz_transfer.specs.Step.{clears_flag, following_of, sampled_of, draft_of, all_exits, step_unless, step_of_row, successor}
+use Rattle.uz_transfer.specs.Step.{IsReadAt}
+use Rattle.uz_transfer.specs.InTime.{clock_holds}
 use Rattle.uz_rules.specs.Meets.{TimerMeets, TimerCounts, LevelMeets, Meets, InstanceFits}
 use Rattle.uz_rules.specs.OneStep.{IsNoEntry, MainTimer, OneStep, InstructionBegins, Contained, AloneContained}
 use Rattle.uz_rules.specs.OneStep.{MainContained}
@@ -204,16 +204,10 @@ abbrev edges_of : Effect → ℕ → (Outcome → ℕ) → State PadHistory → 
 edges_of e words clocks s = let d = result_of e words clocks s in
     edges_at (s.clock + d.clocks) (kinds_of e words clocks s ++ (if d.returned then LeaveEdge ∷ [] else []))
 
-abbrev pub exits_by : FinMap nat_cmp ℕ → Effect → ℕ → (Outcome → ℕ) → Instance → List Exit
-exits_by image e words clocks inst = exits_of e clocks (following_of words inst) inst (outcomes image (following_of words inst) e inst)
-
 abbrev pub plan_of : Head → ℕ → FinMap nat_cmp ℕ → Effect → ℕ → (Outcome → ℕ) → Instance → Option EventKind → Step
 plan_of head length image e words clocks inst emitted = record {
-  draft = record (transfer head image (following_of words inst) (sampled_of length e clocks inst) e inst) {
-    top = top_after e inst;
-    temp = temp_after (sampled_of length e clocks inst) e inst;
-  };
-  exits = record { items = exits_by image e words clocks inst };
+  draft = draft_of head length image e words clocks inst;
+  exits = record { items = all_exits image e words clocks inst };
   emit = emitted;
   back = returns_from_interrupt e;
   clears = clears_flag e inst;
@@ -312,7 +306,7 @@ record ReadsAs (head : Head) (lines : Lines) (image : FinMap nat_cmp ℕ) (inst 
   event : Option EventKind
   fine : fail_of head (effect_of row) inst ≡ None
   emits : emission (effect_of row) inst ≡ Some event
-  time : clock_holds lines (effect_of row) inst (exits_by image (effect_of row) (words_of row) (clocks_of row) inst) ≡ true
+  time : clock_holds lines (effect_of row) inst (all_exits image (effect_of row) (words_of row) (clocks_of row) inst) ≡ true
   is : step ≡ plan_of head (lines.length inst.line) image (effect_of row) (words_of row) (clocks_of row) inst event
 
 reads_as : (head : Head) (lines : Lines) (image : FinMap nat_cmp ℕ) (inst : Instance) (step : Step) (row : Option Instr) → IsReadAt image
@@ -320,7 +314,7 @@ reads_as : (head : Head) (lines : Lines) (image : FinMap nat_cmp ℕ) (inst : In
 reads_as head lines image inst step None reads e = absurd cc
 reads_as head lines image inst step (Some i) reads e =
     let told = step_tells (fail_of head (effect_of i) inst) (emission (effect_of i) inst)
-    (clock_holds lines (effect_of i) inst (exits_by image (effect_of i) (words_of i) (clocks_of i) inst))
+    (clock_holds lines (effect_of i) inst (all_exits image (effect_of i) (words_of i) (clocks_of i) inst))
     (plan_of head (lines.length inst.line) image (effect_of i) (words_of i) (clocks_of i) inst None) step (sym e) in
     record { row = i; reads = reads.found; event = told.event; fine = told.fine; emits = told.emits; time = told.time; is = told.is }
 
@@ -373,7 +367,7 @@ pub any_contained : (head : Head) (lines : Lines) (image : FinMap nat_cmp ℕ) (
     (s : State PadHistory) → is_entry s ≡ false → InstructionBegins head lines image inst o d step s
     → ((i : Instr) (event : Option EventKind) → Reads (word_of image (inst.pc % 32768)) (word_of image ((inst.pc + 1) % 32768)) i
     → fail_of head (effect_of i) inst ≡ None → emission (effect_of i) inst ≡ Some event → returns_from_interrupt (effect_of i) ≡ false
-    → clock_holds lines (effect_of i) inst (exits_by image (effect_of i) (words_of i) (clocks_of i) inst) ≡ true
+    → clock_holds lines (effect_of i) inst (all_exits image (effect_of i) (words_of i) (clocks_of i) inst) ≡ true
     → (clocks_of i (outcome_at (effect_of i) (words_of i) (clocks_of i) s) ≤ 4) → KindPart lines head inst s (effect_of i) (words_of i)
     (clocks_of i) event)
     → Contained head lines inst o d step s
@@ -428,7 +422,7 @@ any_contained head lines image inst o d step s enters h part =
 pub outside_contained : (head : Head) (lines : Lines) (image : FinMap nat_cmp ℕ) (inst : Instance) (o : Core) (d : ℕ) (step : Step)
     (s : State PadHistory) → is_main inst.kind ≡ false → InstructionBegins head lines image inst o d step s
     → ((i : Instr) (event : Option EventKind) → fail_of head (effect_of i) inst ≡ None → returns_from_interrupt (effect_of i) ≡ false
-    → clock_holds lines (effect_of i) inst (exits_by image (effect_of i) (words_of i) (clocks_of i) inst) ≡ true
+    → clock_holds lines (effect_of i) inst (all_exits image (effect_of i) (words_of i) (clocks_of i) inst) ≡ true
     → (clocks_of i (outcome_at (effect_of i) (words_of i) (clocks_of i) s) ≤ 4) → TimePart lines head inst s (effect_of i) (words_of i)
     (clocks_of i) event)
     → Contained head lines inst o d step s

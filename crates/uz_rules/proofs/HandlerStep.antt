@@ -33,8 +33,9 @@ use Rattle.uz_transfer.specs.declared.step.Exit.{Exit}
 use Rattle.uz_transfer.specs.Kinds.{is_main, is_handler}
 use Rattle.uz_transfer.specs.Refusals.{fail_of}
 use Rattle.uz_transfer.specs.Step.{clears_flag, ends_line, following_of, sampled_of, successor}
-use Rattle.uz_transfer.specs.Step.{each_exit, keeps_time, sets_ahead, returns_with_top, clock_holds}
-use Rattle.uz_transfer.specs.Top.{stores_top, top_after, temp_after}
+use Rattle.uz_transfer.specs.Exits.{each_exit}
+use Rattle.uz_transfer.specs.InTime.{keeps_time, sets_ahead, is_in_time, clock_holds}
+use Rattle.uz_transfer.specs.Timer.{handler_stores, stores_top, top_after, temp_after}
 use Rattle.uz_rules.specs.Meets.{TimerMeets, TimerCounts, Meets}
 use Rattle.uz_rules.specs.OneStep.{HandlerContained}
 use Rattle.uz_rules.proofs.Classes.{Before}
@@ -74,14 +75,14 @@ or_either : (a b : Bool) → (a || b) ≡ true → (a ≡ true) ⊎ (b ≡ true)
 or_either true b e = inl refl
 or_either false b e = inr e
 
--- a test of each exit holds of one
+-- what holds of each exit holds of one
 pub each_holds : (test : Exit → Bool) (exits : List Exit) (exit : Exit) → each_exit test exits ≡ true → Contains exits exit
     → test exit ≡ true
 each_holds test [] exit e (i, below, is) = absurd (omega (arith, below))
-each_holds test (x ∷ exits) exit e (zero, below, is) = let same : x ≡ exit = is in ap test (sym same)
-    ∙ (and_true (test x) (each_exit test exits) e).0
-each_holds test (x ∷ exits) exit e (suc i, below, is) = each_holds test exits exit (and_true (test x) (each_exit test exits) e).1
-    (i, omega (arith, below), is)
+each_holds test (x ∷ exits) exit e (zero, below, is) =
+    let same : x ≡ exit = is in ap test (sym same) ∙ (and_true (test x) (each_exit test exits) e).0
+each_holds test (x ∷ exits) exit e (suc i, below, is) =
+    each_holds test exits exit (and_true (test x) (each_exit test exits) e).1 (i, omega (arith, below), is)
 
 pub on_time : (clock length top c : ℕ) → (nat_eq (suc top) length || (nat_le (clock + c) top && nat_lt (clock + c) length)) ≡ true
     → OnTime clock length top c
@@ -116,10 +117,8 @@ record Passed (lines : Lines) (inst : Instance) (e : Effect) (exit : Exit) : Typ
 passed : (lines : Lines) (inst : Instance) (e : Effect) (exits : List Exit) (exit : Exit) → is_handler inst.kind ≡ true
     → clock_holds lines e inst exits ≡ true → Contains exits exit → Passed lines inst e exit
 passed lines inst e exits exit k h is =
-    let all : each_exit (λ x. keeps_time lines inst x && (sets_ahead lines e inst x && returns_with_top lines e inst x)) exits ≡ true =
-    rw k at h in
-    let one = each_holds (λ x. keeps_time lines inst x && (sets_ahead lines e inst x && returns_with_top lines e inst x)) exits exit all is in
-    let first = and_true (keeps_time lines inst exit) _ one in
+    let all : each_exit (λ x. is_in_time lines e inst x) exits ≡ true = rw k at h in
+    let first = and_true (keeps_time lines inst exit) _ (each_holds (λ x. is_in_time lines e inst x) exits exit all is) in
     record { keeps = first.0; sets = (and_true (sets_ahead lines e inst exit) _ first.1).0 }
 
 time_step : (head : Head) (lines : Lines) (inst : Instance) (o : Core) (d : ℕ) (s : State PadHistory) (e : Effect) (words : ℕ)

@@ -36,7 +36,7 @@ use Rattle.uz_transfer.specs.Memory.{address_range, depth_of}
 use Rattle.uz_transfer.specs.Refusals.{is_setup_register, stored_bit, flag_is, flag_fails, may_store, fail_of}
 use Rattle.uz_transfer.specs.Step.{clears_flag}
 use Rattle.uz_rules.proofs.SpaceStores.{choose_if}
-use Rattle.uz_rules.proofs.StoreClasses.{free_by, room_left}
+use Rattle.uz_rules.proofs.StoreClasses.{SetsNothingElse, free_by, room_left}
 use Rattle.uz_rules.proofs.CoreSteps.{address_holds}
 use Rattle.uz_rules.proofs.Classes.{Before, unless_none, not_false, single_fails, io_fine}
 use Rattle.uz_rules.proofs.LeavesHold.{facts_of}
@@ -172,7 +172,7 @@ temp_stored at v t = if nat_eq at 0x89 then v else t.temp
 
 store_at : {P : Type 0} (w : PadWiring P) (head : Head) (kind : Kind) (at v : ℕ) (a : Ends) (val : Val) (o : Core) (s : Space P)
     → (is_main kind || is_handler kind) ≡ true → ValueHolds val o v → IsWithin at a → (is_single a && flag_fails kind a.lo val) ≡ false
-    → may_store head kind a val ≡ true → (is_single a ≡ true → is_setup_register a.lo ≡ false)
+    → may_store head kind a val ≡ true → (is_single a ≡ true → SetsNothingElse a.lo)
     → Beside (is_single a && (nat_eq a.lo 0x36 && flag_is (stored_bit val 1) true)) (ocr_stored at v s.timer) (temp_stored at v s.timer)
     s.timer (after_stores w (filter leaves_core (Byte at v ∷ [])) s).timer
 store_at {P} w head kind at v a val o s beside hv within flag may io = by_single (is_single a) refl flag may io
@@ -195,7 +195,7 @@ store_at {P} w head kind at v a val o s beside hv within flag may io = by_single
         (record { count = refl; top = refl; temp = refl; matched = refl; mask = refl; control_a = refl; control_b = refl })
     to_low false e other = to_high (nat_eq at 0x89) refl e (other refl)
 
-    by_flag : (t : Bool) → nat_eq at 0x36 ≡ t → flag_fails kind at val ≡ false → is_setup_register at ≡ false
+    by_flag : (t : Bool) → nat_eq at 0x36 ≡ t → flag_fails kind at val ≡ false → SetsNothingElse at
         → Stores (t && flag_is (stored_bit val 1) true) at
     by_flag true e flag io =
         let i : at ≡ 0x36 = grind (arith, nat_tests) in
@@ -203,15 +203,15 @@ store_at {P} w head kind at v a val o s beside hv within flag may io = by_single
         let known : is_known (stored_bit val 1) ≡ true = known_by (is_main kind) (is_handler kind) (is_known (stored_bit val 1)) beside f in
         subst (Stores (flag_is (stored_bit val 1) true)) (sym i)
         (flag_written w s v (flag_is (stored_bit val 1) true) (written_bit val o v hv known))
-    by_flag false e flag io = to_low (nat_eq at 0x88) refl (λ low high. timer_other at io e low high)
+    by_flag false e flag io = to_low (nat_eq at 0x88) refl (λ low high. timer_other at (io low high) e low high)
 
     by_single : (t : Bool) → is_single a ≡ t → (t && flag_fails kind a.lo val) ≡ false → may_store head kind a val ≡ true
-        → (t ≡ true → is_setup_register a.lo ≡ false) → Stores (t && (nat_eq a.lo 0x36 && flag_is (stored_bit val 1) true)) at
+        → (t ≡ true → SetsNothingElse a.lo) → Stores (t && (nat_eq a.lo 0x36 && flag_is (stored_bit val 1) true)) at
     by_single true one flag may io =
         let i = only a at one within in
         subst (λ n. Stores (nat_eq n 0x36 && flag_is (stored_bit val 1) true) at) (sym i)
         (by_flag (nat_eq at 0x36) refl (subst (λ n. flag_fails kind n val ≡ false) i flag)
-        (subst (λ n. is_setup_register n ≡ false) i (io refl)))
+        (subst SetsNothingElse i (io refl)))
     by_single false many flag may io =
         let f = free_by head a (rw many at may) in
         to_low (nat_eq at 0x88) refl (λ low high. timer_high at (omega (arith, f.low, within.above)))

@@ -21,7 +21,7 @@ use Rattle.uz_transfer.specs.Values.{span_of, value_at}
 use Rattle.uz_transfer.specs.Kinds.{is_handler}
 use Rattle.uz_transfer.specs.Memory.{address_range}
 use Rattle.uz_transfer.specs.Refusals.{top_fails, fail_of}
-use Rattle.uz_transfer.specs.Top.{top_after, temp_loaded, temp_after}
+use Rattle.uz_transfer.specs.Timer.{top_after, temp_loaded, temp_after}
 use Rattle.uz_rules.proofs.CoreKeeps.{in_span, register_byte}
 use Rattle.uz_rules.proofs.CoreSteps.{address_holds}
 use Rattle.uz_rules.proofs.LoadClasses.{ram_not_core}
