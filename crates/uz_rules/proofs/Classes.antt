@@ -1,6 +1,6 @@
 -- What an instruction makes of core, memory and what is seen, by class of effect.
 use Rattle.std.proofs.Common.{◌≡◌, ℕ, suc, ◌+◌, ◌<◌, ◌≤◌, Bool, true, false, not, if◌then◌else◌, nat_eq, nat_lt, Option, Some, None, List}
-use Rattle.std.proofs.Common.{[], ◌∷◌, length, refl, ◌∙◌, ap, arith}
+use Rattle.std.proofs.Common.{[], ◌∷◌, length, refl, ◌∙◌, ap, subst, arith}
 use Rattle.std.specs.Prelude.{slice_index_or, ◌&&◌, ◌||◌}
 use Rattle.std.proofs.lemmas.Bool.Decides.{nat_tests}
 use Rattle.std.proofs.lemmas.List.{length-set}

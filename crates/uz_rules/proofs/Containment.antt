@@ -1,5 +1,5 @@
 -- Containment: the state after an instruction meets the instance at one of the abstract step's exits.
-use Rattle.std.proofs.Common.{◌≡◌, ◌≢◌, ◌⊎◌, inl, inr, ℕ, suc, ◌+◌, ◌-◌, ◌%◌, ◌<◌, ◌≤◌, Bool, true, false, not, if◌then◌else◌, nat_eq}
+use Rattle.std.proofs.Common.{◌≡◌, ◌≢◌, ◌⊎◌, inl, inr, ℕ, ◌+◌, ◌-◌, ◌%◌, ◌≤◌, Bool, true, false, not, if◌then◌else◌, nat_eq}
 use Rattle.std.proofs.Common.{nat_le, Option, Some, None, List, [], ◌∷◌, ◌++◌, map, length, refl, sym, ◌∙◌, ap, subst, arith}
 use Rattle.std.specs.Prelude.{slice_index, ◌&&◌, ◌||◌, ◌==◌, Ok}
 use Rattle.std.specs.Ordering.{nat_cmp}
@@ -50,13 +50,12 @@ use Rattle.uz_transfer.specs.Kinds.{cell_place, is_main, is_handler}
 use Rattle.uz_rules.specs.MemoryMeets.{HeadFits, Untouched}
 use Rattle.uz_transfer.specs.Memory.{depth_of, address_range, with_pointer_range, flags_from, with_cell, stored_in}
 use Rattle.uz_transfer.specs.Transfer.{transfer, bit_of_bool}
-use Rattle.uz_transfer.specs.Exits.{outcomes}
 use Rattle.uz_transfer.specs.Emission.{byte_event, bit_event, level_event, emission, emission_at, level_after}
 use Rattle.uz_transfer.specs.Values.{span_of, value_at, with_flag_list}
 use Rattle.uz_transfer.specs.Refusals.{fail_of}
 use Rattle.uz_events.specs.Events.{event_of, shown_at, shown, listed}
 use Rattle.uz_rules.proofs.StoreShows.{kinds_listed}
-use Rattle.uz_schedule.specs.Lines.{Lines, clock_after}
+use Rattle.uz_schedule.specs.Lines.{Lines}
 use Rattle.uz_transfer.specs.Step.{clears_flag, following_of, sampled_of, draft_of, all_exits, step_unless, step_of_row, successor}
 use Rattle.uz_transfer.specs.Step.{IsReadAt}
 use Rattle.uz_transfer.specs.InTime.{clock_holds}

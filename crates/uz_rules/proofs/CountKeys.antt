@@ -1,16 +1,13 @@
 -- What lies in all that a point's facts say lies in what one of them says.
-use Rattle.std.proofs.Common.{◌≡◌, ◌<◌, ℕ, Bool, true, false, List, length, map, nat_eq, refl, sym, ◌∙◌, ap}
+use Rattle.std.proofs.Common.{◌≡◌, ◌<◌, ℕ, Bool, true, false, List, length, map, nat_eq, refl, ◌∙◌, ap}
 use Rattle.std.specs.Prelude.{◌&&◌}
-use Rattle.std.proofs.lemmas.List.{get_or_default}
 use Rattle.uz_schedule.specs.Ends.{Ends}
 use Rattle.uz_schedule.specs.declared.facts.Fact.{Fact}
 use Rattle.uz_schedule.specs.declared.facts.Val.{Val}
-use Rattle.uz_schedule.specs.declared.facts.Val.TheVariants.{Range}
 use Rattle.uz_schedule.specs.declared.states.Instance.{Instance}
 use Rattle.uz_schedule.specs.declared.states.Point.{Point}
 use Rattle.uz_schedule.specs.Instances.{val_of, cell_span, pairs_of}
-use Rattle.uz_range.specs.Answers.{ends}
-use Rattle.uz_transfer.specs.Values.{value_at, span_at, pair_at}
+use Rattle.uz_transfer.specs.Values.{value_at, span_at}
 use Rattle.uz_transfer.specs.Refusals.{range_inside}
 use Rattle.uz_rules.specs.Inside.{all_below, value_inside, pairs_inside}
 use Rattle.uz_rules.specs.FactInclusion.{said_at, facts_inside}

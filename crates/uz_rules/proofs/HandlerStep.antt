@@ -1,6 +1,6 @@
 -- Containment of a handler's instruction: the timer goes on with the instance's clock, OCR1A and TEMP.
-use Rattle.std.proofs.Common.{◌≡◌, ◌⊎◌, inl, inr, ℕ, zero, suc, ◌+◌, ◌-◌, ◌%◌, ◌<◌, ◌≤◌, Bool, true, false, not, if◌then◌else◌, nat_eq}
-use Rattle.std.proofs.Common.{nat_le, nat_lt, Option, List, [], ◌∷◌, refl, sym, ◌∙◌, ap, subst, arith}
+use Rattle.std.proofs.Common.{◌≡◌, ◌⊎◌, inl, inr, ℕ, zero, suc, ◌+◌, ◌%◌, ◌<◌, ◌≤◌, Bool, true, false, not, if◌then◌else◌, nat_eq}
+use Rattle.std.proofs.Common.{nat_le, nat_lt, Option, None, List, [], ◌∷◌, refl, sym, ◌∙◌, ap, subst, arith}
 use Rattle.std.specs.Prelude.{◌&&◌, ◌||◌, ◌==◌, Contains}
 use Rattle.std.specs.Ordering.{nat_cmp}
 use Rattle.std.specs.FinMap.{FinMap}
@@ -35,7 +35,7 @@ use Rattle.uz_transfer.specs.Refusals.{fail_of}
 use Rattle.uz_transfer.specs.Step.{clears_flag, ends_line, following_of, sampled_of, successor}
 use Rattle.uz_transfer.specs.Exits.{each_exit}
 use Rattle.uz_transfer.specs.InTime.{keeps_time, sets_ahead, is_in_time, clock_holds}
-use Rattle.uz_transfer.specs.Timer.{handler_stores, stores_top, top_after, temp_after}
+use Rattle.uz_transfer.specs.Timer.{stores_top, top_after, temp_after}
 use Rattle.uz_rules.specs.Meets.{TimerMeets, TimerCounts, Meets}
 use Rattle.uz_rules.specs.OneStep.{HandlerContained}
 use Rattle.uz_rules.proofs.Classes.{Before}

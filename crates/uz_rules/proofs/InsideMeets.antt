@@ -25,13 +25,10 @@ use Rattle.uz_transfer.specs.Kinds.{cell_place}
 use Rattle.uz_rules.specs.MemoryMeets.{MemoryMeets}
 use Rattle.uz_transfer.specs.Refusals.{range_inside}
 use Rattle.uz_rules.specs.Inside.{value_inside, flag_inside, all_below, same_kind, same_bool, same_place, registers_inside, pairs_inside}
-use Rattle.uz_rules.specs.Inside.{flags_inside, slots_inside, cells_inside, contents_inside, known_inside, SamePlace, PlaceTells}
+use Rattle.uz_rules.specs.Inside.{flags_inside, slots_inside, cells_inside, contents_inside, SamePlace, PlaceTells}
 use Rattle.uz_rules.specs.Inside.{PlaceHolds, KnownInItself}
-use Rattle.uz_rules.specs.Inside.{InsideKeeps, StateInside, is_old_register, restored, RestoredGives}
-use Rattle.uz_rules.specs.Meets.{TimerMeets, TimerCounts, LevelMeets, Meets}
-use Rattle.uz_machine.specs.PadLine.{PadHistory}
-use Rattle.uz_machine.specs.Turn.{State, sync_level}
-use Rattle.uz_machine.specs.StateRange.{IsState}
+use Rattle.uz_rules.specs.Inside.{InsideKeeps, StateInside, is_old_register, RestoredGives}
+use Rattle.uz_rules.specs.Meets.{TimerMeets, TimerCounts}
 use Rattle.uz_transfer.specs.Memory.{is_old}
 use Rattle.uz_machine.specs.Arithmetic.{bit_is_set}
 use Rattle.uz_transfer.specs.Kinds.{is_main}

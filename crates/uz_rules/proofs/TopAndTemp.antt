@@ -1,6 +1,6 @@
 -- What is known of OCR1A and TEMP after an instruction's loads and stores.
-use Rattle.std.proofs.Common.{◌≡◌, ℕ, suc, ◌+◌, ◌-◌, ◌*◌, ◌/◌, ◌%◌, ◌<◌, ◌≤◌, Bool, true, false, not, if◌then◌else◌, nat_eq, nat_le, [], ◌∷◌}
-use Rattle.std.proofs.Common.{refl, sym, ◌∙◌, ap, subst, arith}
+use Rattle.std.proofs.Common.{◌≡◌, ℕ, ◌+◌, ◌*◌, ◌/◌, ◌%◌, ◌<◌, ◌≤◌, Bool, true, false, if◌then◌else◌, nat_eq, nat_le, [], ◌∷◌}
+use Rattle.std.proofs.Common.{None, refl, sym, ◌∙◌, ap, subst, arith}
 use Rattle.std.specs.Prelude.{◌&&◌}
 use Rattle.std.proofs.lemmas.Bool.Decides.{nat_tests}
 use Rattle.uz_machine.specs.declared.AddressMode.{AddressMode}
@@ -20,7 +20,7 @@ use Rattle.uz_range.proofs.ShapesCover.{only}
 use Rattle.uz_transfer.specs.Values.{span_of, value_at}
 use Rattle.uz_transfer.specs.Kinds.{is_handler}
 use Rattle.uz_transfer.specs.Memory.{address_range}
-use Rattle.uz_transfer.specs.Refusals.{top_fails, fail_of}
+use Rattle.uz_transfer.specs.Refusals.{fail_of}
 use Rattle.uz_transfer.specs.Timer.{top_after, temp_loaded, temp_after}
 use Rattle.uz_rules.proofs.CoreKeeps.{in_span, register_byte}
 use Rattle.uz_rules.proofs.CoreSteps.{address_holds}
@@ -83,7 +83,7 @@ far_loads : {P : Type 0} (w : PadWiring P) (late : ℕ) (s : Space P) (a b : ℕ
 far_loads w late s a b p q =
     let x : nat_eq a 0x84 ≡ false = grind (arith, nat_tests) in
     let y : nat_eq b 0x84 ≡ false = grind (arith, nat_tests) in
-    rw (ram_not_core a p, ram_not_core b q, x, y) refl
+    rw (ram_not_core a p, ram_not_core b q, x, y) (refl {a = s.timer.temp})
 
 -- what an instance's stack leaves of the address space
 room_above : {P : Type 0} (head : Head) (inst : Instance) (o core : Core) (d : ℕ) (s : Space P) → Before head inst o d core s
@@ -127,7 +127,8 @@ low_test head to r n d inst o core s fits b fail low = by_case (is_single (addre
         → nat_eq (effective_address to core) n ≡ (t && nat_eq (address_range to inst).lo n)
     by_case true one = ap (λ a. nat_eq a n) (sym (only (address_range to inst) (effective_address to core) one within))
     by_case false many =
-        let f = free_by head (address_range to inst) (rw many at not_false _ (facts_of head inst to r fail).may) in
+        let may = not_false _ (facts_of head inst to r fail).may in
+        let f = free_by head (address_range to inst) (rw many at may) in
         let high : 256 ≤ effective_address to core = omega (arith, f.low, within.above) in
         grind (arith, nat_tests)
 

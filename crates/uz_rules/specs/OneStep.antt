@@ -4,7 +4,7 @@ use Rattle.avr_table.specs.declared.Instr.{Instr}
 use Rattle.std.specs.FinMap.{FinMap}
 use Rattle.std.specs.List.{AllByRecursion}
 use Rattle.std.specs.Ordering.{nat_cmp}
-use Rattle.std.specs.Prelude.{Bool, true, None, Contains, List, Ok, false, nat_eq, suc, ℕ, ⊤, ◌%◌, ◌&&◌, ◌+◌, ◌<◌, ◌||◌, ◌≡◌, ◌≤◌}
+use Rattle.std.specs.Prelude.{true, None, Contains, List, Ok, false, ℕ, ⊤, ◌%◌, ◌+◌, ◌<◌, ◌||◌, ◌≡◌, ◌≤◌}
 use Rattle.uz_schedule.specs.declared.header.Head.{Head}
 use Rattle.uz_schedule.specs.declared.kinds.Kind.{Kind}
 use Rattle.uz_schedule.specs.declared.kinds.Kind.TheVariants.{Alone, Handler, Main}
@@ -18,12 +18,9 @@ use Rattle.uz_machine.specs.StateRange.{IsState}
 use Rattle.uz_machine.specs.Timer.{count_after, matches_within}
 use Rattle.uz_machine.specs.Turn.{State, Turn, is_entry, sync_level}
 use Rattle.uz_machine.specs.declared.Edge.{Edge}
-use Rattle.uz_machine.specs.declared.Effect.{Effect}
-use Rattle.uz_machine.specs.declared.Effect.TheVariants.{Store, WriteIoBit}
-use Rattle.uz_range.specs.Answers.{is_single}
 use Rattle.uz_transfer.specs.declared.step.Exit.{Exit}
 use Rattle.uz_transfer.specs.declared.step.Step.{Step}
-use Rattle.uz_transfer.specs.Memory.{address_range, depth_of}
+use Rattle.uz_transfer.specs.Memory.{depth_of}
 use Rattle.uz_transfer.specs.Emission.{main_emits}
 use Rattle.uz_transfer.specs.Kinds.{is_main, is_handler}
 use Rattle.uz_schedule.specs.Lines.{Lines}

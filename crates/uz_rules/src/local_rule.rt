@@ -250,8 +250,8 @@ fn count(looked: &mut u64)
     *looked = looked.saturating_add(1);
 }
 
-/// The local rule of point `id` at line `l` and count `c`: the least reason that stands, or none. The instruction is that at the point's pc.
-/// Box where the point has no instance there. Adds one to `looked`, which stays at the greatest u64. Takes no memory.
+/// The local rule of point `id` at line `l` and count `c`: the least reason that stands, or none. The instruction is that at the point's
+/// pc. Box where the point has no instance there. Adds one to `looked`, which stays at the greatest u64. Takes no memory.
 #[tactic(auto, using(crate::proofs::LocalLaws::is_local))]
 pub fn local(
     image: &Image,

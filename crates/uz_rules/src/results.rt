@@ -86,8 +86,8 @@ fn put_next(schedule: &Schedule, at: &Instance, step: &Step, next: &mut Next)
     );
 }
 
-/// Puts the abstract results of an instance in place of others, as `after` gives them; where there are none, it answers the reason, and what
-/// `next` then has isn't told. A caller that asks for many instances keeps one `Next`, so that only the results that there are
+/// Puts the abstract results of an instance in place of others, as `after` gives them; where there are none, it answers the reason, and
+/// what `next` then has isn't told. A caller that asks for many instances keeps one `Next`, so that only the results that there are
 /// get written. Takes no memory.
 #[tactic(auto, using(crate::proofs::AfterLaws::after_ok, crate::proofs::AfterLaws::after_err))]
 pub fn put_after(
