@@ -93,6 +93,8 @@ directive_has_none directive.Start is line symbols after parts o e = no_instruct
     hint_output o (λ v. refl) e
 directive_has_none directive.Lines is line symbols after parts o e = no_instruction is (hint_of directive.Lines line symbols parts after)
     hint_output o (λ v. refl) e
+directive_has_none directive.Half is line symbols after parts o e = no_instruction is (hint_of directive.Half line symbols parts after)
+    hint_output o (λ v. refl) e
 directive_has_none directive.Stack is line symbols after parts o e = no_instruction is (hint_of directive.Stack line symbols parts after)
     hint_output o (λ v. refl) e
 directive_has_none directive.Cell is line symbols after parts o e = no_instruction is (hint_of directive.Cell line symbols parts after)

@@ -79,6 +79,7 @@ module _ (stay : ValuesStay) (symbols more : NameMap) (keeps : Keeps symbols mor
   directive_stays directive.Dw line arguments parts follows effect e = e
   directive_stays directive.Start line arguments parts follows effect e = e
   directive_stays directive.Lines line arguments parts follows effect e = e
+  directive_stays directive.Half line arguments parts follows effect e = e
   directive_stays directive.Stack line arguments parts follows effect e = e
   directive_stays directive.Cell line arguments parts follows effect e = e
   directive_stays directive.Fact line arguments parts follows effect e = e

@@ -220,6 +220,9 @@ directive_end directive.Start line known symbols arguments parts follows address
 directive_end directive.Lines line known symbols arguments parts follows address following next effect out is puts e = none_end effect
     address next out.bytes (shaped_none (length parts == 2) effect is) (hint_empty (hint_of directive.Lines line symbols parts following)
     out puts) e
+directive_end directive.Half line known symbols arguments parts follows address following next effect out is puts e = none_end effect
+    address next out.bytes (shaped_none (length parts == 2) effect is) (hint_empty (hint_of directive.Half line symbols parts following)
+    out puts) e
 directive_end directive.Stack line known symbols arguments parts follows address following next effect out is puts e = none_end effect
     address next out.bytes (shaped_none (length parts == 4) effect is) (hint_empty (hint_of directive.Stack line symbols parts following)
     out puts) e

@@ -94,6 +94,8 @@ directive_put directive.Start line symbols k address following parts out = on_ma
     hint_output (with_hint out) (with_output k address out) (hint_put k address out)
 directive_put directive.Lines line symbols k address following parts out = on_mapped (hint_of directive.Lines line symbols parts following)
     hint_output (with_hint out) (with_output k address out) (hint_put k address out)
+directive_put directive.Half line symbols k address following parts out = on_mapped (hint_of directive.Half line symbols parts following)
+    hint_output (with_hint out) (with_output k address out) (hint_put k address out)
 directive_put directive.Stack line symbols k address following parts out = on_mapped (hint_of directive.Stack line symbols parts following)
     hint_output (with_hint out) (with_output k address out) (hint_put k address out)
 directive_put directive.Cell line symbols k address following parts out = on_mapped (hint_of directive.Cell line symbols parts following)

@@ -66,6 +66,10 @@ abbrev pub lines_hint : List ℕ → NameMap → List (List Token) → OrFault H
 lines_hint line symbols (lines ∷ fall ∷ []) = mapped (both (short line symbols lines) (short line symbols fall)) (λ p. hint.Lines p.0 p.1)
 lines_hint line symbols other = Err why.Directive
 
+abbrev pub half_hint : List ℕ → NameMap → List (List Token) → OrFault Hint
+half_hint line symbols (from ∷ to ∷ []) = mapped (both (short line symbols from) (short line symbols to)) (λ p. hint.Half p.0 p.1)
+half_hint line symbols other = Err why.Directive
+
 -- an operand by its place; the shape of a directive tells how many there are
 abbrev pub part_at : List (List Token) → ℕ → List Token
 part_at parts place = slice_index_or parts place []
@@ -103,6 +107,7 @@ fact_hint line symbols other following = Err why.Directive
 abbrev pub hint_of : Directive → List ℕ → NameMap → List (List Token) → ℕ → OrFault (Option Hint)
 hint_of directive.Start line symbols parts following = mapped (start_hint line symbols parts) (λ h. Some h)
 hint_of directive.Lines line symbols parts following = mapped (lines_hint line symbols parts) (λ h. Some h)
+hint_of directive.Half line symbols parts following = mapped (half_hint line symbols parts) (λ h. Some h)
 hint_of directive.Stack line symbols parts following = mapped (stack_hint line symbols parts) (λ h. Some h)
 hint_of directive.Cell line symbols parts following = mapped (cell_hint line symbols parts) (λ h. Some h)
 hint_of directive.Fact line symbols parts following = mapped (fact_hint line symbols parts following) (λ h. Some h)

@@ -12,7 +12,7 @@ use Rattle.std.specs.FinMap as map
 use Rattle.avr_text.specs.declared.tokens.Token.{Token}
 use Rattle.avr_text.specs.Names.{NameMap}
 use Rattle.avr_asm.specs.declared.directives.Directive.{Directive}
-use Rattle.avr_asm.specs.declared.directives.Directive.TheVariants.{Org, Db, Dw, Equ, Start, Lines, Stack, Cell, Fact}
+use Rattle.avr_asm.specs.declared.directives.Directive.TheVariants.{Org, Db, Dw, Equ, Start, Lines, Half, Stack, Cell, Fact}
 use Rattle.avr_operands.specs.declared.errors.AsmWhy.TheVariants as why
 use Rattle.avr_asm.specs.declared.errors.AsmError.{AsmError}
 use Rattle.avr_asm.specs.declared.layout.Place.{Place}
@@ -88,6 +88,7 @@ directive_effect Dw line symbols arguments parts follows = Ok (if_shaped (nat_lt
 directive_effect Equ line symbols arguments parts follows = equ_effect line symbols arguments
 directive_effect Start line symbols arguments parts follows = Ok (if_shaped (is_start line parts) Nothing)
 directive_effect Lines line symbols arguments parts follows = Ok (if_shaped (length parts == 2) Nothing)
+directive_effect Half line symbols arguments parts follows = Ok (if_shaped (length parts == 2) Nothing)
 directive_effect Stack line symbols arguments parts follows = Ok (if_shaped (length parts == 4) Nothing)
 directive_effect Cell line symbols arguments parts follows = Ok (if_shaped (is_cell line parts) Nothing)
 directive_effect Fact line symbols arguments parts follows = Ok (if_shaped ((length parts == 3) && follows) Nothing)

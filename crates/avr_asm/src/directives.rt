@@ -20,6 +20,8 @@ pub enum Directive {
     Start,
     /// `.lines N, FALL`: the lines of a frame, and the clock of the fall.
     Lines,
+    /// `.half FROM, TO`: the lines FROM to TO have half a scanline's clocks.
+    Half,
     /// `.stack LO, HI, MAIN, HANDLER`: the stack's region and greatest depths.
     Stack,
     /// `.cell A, main, LO, HI` or `.cell A, handler, LO, HI, FIRST`: a tracked byte of RAM.
@@ -44,6 +46,8 @@ pub fn directive_of(word: &[u8]) -> Option<Directive>
         Some(Directive::Start)
     } else if is_word_named(word, b"lines") {
         Some(Directive::Lines)
+    } else if is_word_named(word, b"half") {
+        Some(Directive::Half)
     } else if is_word_named(word, b"stack") {
         Some(Directive::Stack)
     } else if is_word_named(word, b"cell") {

@@ -141,6 +141,7 @@ fn directive_effect(
         Directive::Equ => equ_effect(line, symbols, arguments),
         Directive::Start => Ok(if_shaped(is_start(line, parts), Effect::Nothing)),
         Directive::Lines => Ok(if_shaped(count == 2, Effect::Nothing)),
+        Directive::Half => Ok(if_shaped(count == 2, Effect::Nothing)),
         Directive::Stack => Ok(if_shaped(count == 4, Effect::Nothing)),
         Directive::Cell => Ok(if_shaped(is_cell(line, parts), Effect::Nothing)),
         Directive::Fact => Ok(if_shaped(count == 3 && follows, Effect::Nothing)),

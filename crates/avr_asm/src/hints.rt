@@ -2,7 +2,7 @@
 
 ghost use Rattle.std.specs.Prelude.{◌≡◌, ◌<◌, length, map};
 ghost use Rattle.avr_operands.specs.Operands.{AllLie, EachLies};
-ghost use Rattle.avr_asm.specs.Hints.{short as short_operand, byte as byte_operand, word_address as word_address_operand, place_of as place_of_operand, start_hint, lines_hint, stack_hint, cell_hint, fact_hint, part_at, shorts_at, bytes_at, ranged as ranged_cell, main_cell_hint, handler_cell_hint, pointer_place as pointer_place_of, hint_of as hint_of_directive};
+ghost use Rattle.avr_asm.specs.Hints.{short as short_operand, byte as byte_operand, word_address as word_address_operand, place_of as place_of_operand, start_hint, lines_hint, half_hint, stack_hint, cell_hint, fact_hint, part_at, shorts_at, bytes_at, ranged as ranged_cell, main_cell_hint, handler_cell_hint, pointer_place as pointer_place_of, hint_of as hint_of_directive};
 
 use crate::directives::Directive;
 use crate::first_pass::is_word;
@@ -105,6 +105,19 @@ fn hint_of_lines(line: &[u8], symbols: &Symbols, parts: &[&[Token]]) -> Result<H
     match parts {
         [lines, fall] => match both(short(line, symbols, lines), short(line, symbols, fall)) {
             Ok((lines, fall)) => Ok(Hint::Lines { lines, fall }),
+            Err(why) => Err(why),
+        },
+        _ => Err(AsmWhy::Directive),
+    }
+}
+
+fn half_of(line: &[u8], symbols: &Symbols, parts: &[&[Token]]) -> Result<Hint, AsmWhy>
+    requires { EachLies (length line.now) parts.now }
+    ensures { result ≡ half_hint line.now symbols.now (map (λ p. p.now) parts.now) }
+{
+    match parts {
+        [from, to] => match both(short(line, symbols, from), short(line, symbols, to)) {
+            Ok((from, to)) => Ok(Hint::Half { from, to }),
             Err(why) => Err(why),
         },
         _ => Err(AsmWhy::Directive),
@@ -271,6 +284,7 @@ pub fn hint_of(
     let hint = match directive {
         Directive::Start => start_of(line, symbols, parts),
         Directive::Lines => hint_of_lines(line, symbols, parts),
+        Directive::Half => half_of(line, symbols, parts),
         Directive::Stack => stack_of(line, symbols, parts),
         Directive::Cell => cell_of(line, symbols, parts),
         Directive::Fact => fact_of(line, symbols, parts, following),

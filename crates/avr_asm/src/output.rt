@@ -28,6 +28,11 @@ pub enum Hint {
         lines: u16,
         fall: u16,
     },
+    /// The lines from one to another, both among them, that have half a scanline's clocks; all others have a scanline's.
+    Half {
+        from: u16,
+        to: u16,
+    },
     /// The stack's lowest and highest data address, and the greatest depths of main and handler in bytes.
     Stack {
         lo: u16,

@@ -4,7 +4,7 @@ use Rattle.std.specs.Prelude.{Some, slice_get, ⊤, insert, nat_lt, nat_le, ◌=
 use Rattle.std.specs.List.{AllByRecursion}
 use Rattle.std.proofs.lemmas.Bool.Decides.{nat_tests}
 use Rattle.avr_asm.specs.declared.output.Hint.{Hint}
-use Rattle.avr_asm.specs.declared.output.Hint.TheVariants.{Start, Lines, Stack, Cell, Fact}
+use Rattle.avr_asm.specs.declared.output.Hint.TheVariants.{Cell}
 use Rattle.uz_schedule.specs.Limits.{rises_from}
 use Rattle.uz_schedule.specs.declared.kinds.Kind.{Kind}
 use Rattle.uz_hints.specs.declared.cells.Tracked.{Tracked}
@@ -79,18 +79,12 @@ tracked_cell at owner lo hi first = record {
 
 -- what is asked of the cell that a hint is
 abbrev pub OfCell : (Tracked → Type 0) → Hint → Type 0
-OfCell P (Start kind at) = ⊤
-OfCell P (Lines lines fall) = ⊤
-OfCell P (Stack lo hi main handler) = ⊤
 OfCell P (Cell at owner lo hi first) = P (tracked_cell at owner lo hi first)
-OfCell P (Fact at place lo hi) = ⊤
+OfCell P other = ⊤
 
 each_with : (P : Tracked → Type 0) (h : Hint) (ts : List Tracked) → OfCell P h → AllByRecursion P ts → AllByRecursion P (with_hint ts h)
-each_with P (Start kind at) ts p q = q
-each_with P (Lines lines fall) ts p q = q
-each_with P (Stack lo hi main handler) ts p q = q
 each_with P (Cell at owner lo hi first) ts p q = each_inserted P (tracked_cell at owner lo hi first) ts p q
-each_with P (Fact at place lo hi) ts p q = q
+each_with P other ts p q = q
 
 pub each_cell : (P : Tracked → Type 0) (hints : List Hint) (ts : List Tracked) → AllByRecursion (OfCell P) hints → AllByRecursion P ts
     → AllByRecursion P (with_cells ts hints)
@@ -99,11 +93,8 @@ each_cell P (h ∷ hints) ts p q = each_cell P hints (with_hint ts h) p.1 (each_
 
 -- no later cell has the address of the cell that a hint is
 abbrev pub LoneHead : Hint → List Hint → Type 0
-LoneHead (Start kind at) hints = ⊤
-LoneHead (Lines lines fall) hints = ⊤
-LoneHead (Stack lo hi main handler) hints = ⊤
 LoneHead (Cell at owner lo hi first) hints = has_cell at hints ≡ false
-LoneHead (Fact at place lo hi) hints = ⊤
+LoneHead other hints = ⊤
 
 abbrev pub Lone : List Hint → Type 0
 Lone [] = ⊤
@@ -124,9 +115,6 @@ Free ts hints = AllByRecursion (λ u. has_cell u.cell.at hints ≡ false) ts
 
 rises_with : (h : Hint) (hints : List Hint) (ts : List Tracked) → LoneHead h hints → Free ts (h ∷ hints)
     → rises_from 0 (addresses ts) ≡ true → rises_from 0 (addresses (with_hint ts h)) ≡ true × Free (with_hint ts h) hints
-rises_with (Start kind at) hints ts l f r = (r, f)
-rises_with (Lines lines fall) hints ts l f r = (r, f)
-rises_with (Stack lo hi main handler) hints ts l f r = (r, f)
 rises_with (Cell at owner lo hi first) hints ts l f r = (
   rises_inserted 0 (tracked_cell at owner lo hi first) ts r (omega arith) (each_map _ _ (apart) ts f),
   each_inserted (λ u. has_cell u.cell.at hints ≡ false) (tracked_cell at owner lo hi first) ts l
@@ -136,7 +124,7 @@ rises_with (Cell at owner lo hi first) hints ts l f r = (
     apart : (u : Tracked) → ((at == u.cell.at) || has_cell u.cell.at hints) ≡ false → u.cell.at ≢ at
     apart u h = let e : (at == u.cell.at) ≡ false = (neither (at == u.cell.at) (has_cell u.cell.at hints) h).0 in
         grind (arith, nat_tests, e)
-rises_with (Fact at place lo hi) hints ts l f r = (r, f)
+rises_with other hints ts l f r = (r, f)
 
 pub rises_all : (hints : List Hint) (ts : List Tracked) → Lone hints → Free ts hints → rises_from 0 (addresses ts) ≡ true
     → rises_from 0 (addresses (with_cells ts hints)) ≡ true

@@ -9,7 +9,7 @@ use Rattle.std.proofs.lemmas.Bool.Decides.{nat_tests}
 use Rattle.std.proofs.lemmas.List.Elements.{All-cons, All-nil}
 use Rattle.std.proofs.lemmas.Option.{slice_get_within}
 use Rattle.avr_asm.specs.declared.output.Hint.{Hint}
-use Rattle.avr_asm.specs.declared.output.Hint.TheVariants.{Start, Lines, Stack, Cell, Fact}
+use Rattle.avr_asm.specs.declared.output.Hint.TheVariants.{Start, Lines, Stack, Cell}
 use Rattle.uz_schedule.specs.Ends.{one_number, is_within}
 use Rattle.uz_schedule.specs.Limits.{rises_from, rises}
 use Rattle.uz_schedule.specs.Tracked.{tracks}
@@ -37,27 +37,18 @@ use Rattle.uz_hints.proofs.CellLemmas.{addresses, each_there, each_cell, OfCell,
 start_there : (hints : List Hint) (b : Beginning) → first_start hints ≡ Some b → (i : ℕ) × (slice_get hints i ≡ Some (Start b.kind b.pc))
 start_there [] b e = absurd (cc)
 start_there (Start kind at ∷ hints) b e = (0, ap (λ o. option_map (λ s. Start s.kind s.pc) o) e)
-start_there (Lines lines fall ∷ hints) b e = (suc (start_there hints b e).0, (start_there hints b e).1)
-start_there (Stack lo hi main handler ∷ hints) b e = (suc (start_there hints b e).0, (start_there hints b e).1)
-start_there (Cell at owner lo hi first ∷ hints) b e = (suc (start_there hints b e).0, (start_there hints b e).1)
-start_there (Fact at place lo hi ∷ hints) b e = (suc (start_there hints b e).0, (start_there hints b e).1)
+start_there (other ∷ hints) b e = (suc (start_there hints b e).0, (start_there hints b e).1)
 
 lines_there : (hints : List Hint) (f : FrameSize) → first_lines hints ≡ Some f → (i : ℕ) × (slice_get hints i ≡ Some (Lines f.lines f.fall))
 lines_there [] f e = absurd (cc)
-lines_there (Start kind at ∷ hints) f e = (suc (lines_there hints f e).0, (lines_there hints f e).1)
 lines_there (Lines lines fall ∷ hints) f e = (0, ap (λ o. option_map (λ s. Lines s.lines s.fall) o) e)
-lines_there (Stack lo hi main handler ∷ hints) f e = (suc (lines_there hints f e).0, (lines_there hints f e).1)
-lines_there (Cell at owner lo hi first ∷ hints) f e = (suc (lines_there hints f e).0, (lines_there hints f e).1)
-lines_there (Fact at place lo hi ∷ hints) f e = (suc (lines_there hints f e).0, (lines_there hints f e).1)
+lines_there (other ∷ hints) f e = (suc (lines_there hints f e).0, (lines_there hints f e).1)
 
 stack_there : (hints : List Hint) (s : StackRegion) → first_stack hints ≡ Some s → (i : ℕ)
     × (slice_get hints i ≡ Some (Stack s.lo s.hi s.main s.handler))
 stack_there [] s e = absurd (cc)
-stack_there (Start kind at ∷ hints) s e = (suc (stack_there hints s e).0, (stack_there hints s e).1)
-stack_there (Lines lines fall ∷ hints) s e = (suc (stack_there hints s e).0, (stack_there hints s e).1)
 stack_there (Stack lo hi main handler ∷ hints) s e = (0, ap (λ o. option_map (λ r. Stack r.lo r.hi r.main r.handler) o) e)
-stack_there (Cell at owner lo hi first ∷ hints) s e = (suc (stack_there hints s e).0, (stack_there hints s e).1)
-stack_there (Fact at place lo hi ∷ hints) s e = (suc (stack_there hints s e).0, (stack_there hints s e).1)
+stack_there (other ∷ hints) s e = (suc (stack_there hints s e).0, (stack_there hints s e).1)
 
 -- Cells
 
@@ -78,9 +69,6 @@ handlers Alone e = absurd (cc)
 
 cell_holds : (head : Head) (hints : List Hint) (i : ℕ) (h : Hint) → first_stack hints ≡ Some
     (record { lo = head.lo; hi = head.hi; main = head.main; handler = head.handler }) → CellPart hints i h → OfCell (CellHolds head) h
-cell_holds head hints i (Start kind at) e p = tt
-cell_holds head hints i (Lines lines fall) e p = tt
-cell_holds head hints i (Stack lo hi main handler) e p = tt
 cell_holds head hints i (Cell at owner lo hi first) e p = record {
   fits = record {
     low = p.place.low;
@@ -90,14 +78,11 @@ cell_holds head hints i (Cell at owner lo hi first) e p = record {
   };
   within = λ own. p.range.within (handlers owner own);
 }
-cell_holds head hints i (Fact at place lo hi) e p = tt
+cell_holds head hints i other e p = tt
 
 lone_part : (hints : List Hint) (i : ℕ) (h : Hint) → CellPart hints i h → LoneHead h (drop (i + 1) hints)
-lone_part hints i (Start kind at) p = tt
-lone_part hints i (Lines lines fall) p = tt
-lone_part hints i (Stack lo hi main handler) p = tt
 lone_part hints i (Cell at owner lo hi first) p = p.place.apart_after
-lone_part hints i (Fact at place lo hi) p = tt
+lone_part hints i other p = tt
 
 cells_hold : (head : Head) (hints : List Hint) → first_stack hints ≡ Some
     (record { lo = head.lo; hi = head.hi; main = head.main; handler = head.handler }) → CellsFine hints → AllByRecursion (CellHolds head)

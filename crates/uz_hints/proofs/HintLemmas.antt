@@ -9,7 +9,7 @@ use Rattle.std.specs.FinMap.{FinMap}
 use Rattle.std.proofs.lemmas.Bool.Decides.{nat_tests}
 use Rattle.std.proofs.lemmas.Option.{slice_get_within, slice_get-get_or}
 use Rattle.avr_asm.specs.declared.output.Hint.{Hint}
-use Rattle.avr_asm.specs.declared.output.Hint.TheVariants.{Start, Lines, Stack, Cell, Fact}
+use Rattle.avr_asm.specs.declared.output.Hint.TheVariants.{Cell, Fact}
 use Rattle.uz_schedule.specs.declared.kinds.Response.{Response}
 use Rattle.uz_hints.specs.declared.words.PlaceRange.{PlaceRange}
 use Rattle.uz_hints.specs.declared.cells.Tracked.{Tracked}
@@ -20,22 +20,16 @@ use Rattle.uz_hints.specs.Reading.{byte_range, ranges_from}
 
 cell_part : (image : FinMap nat_cmp ℕ) (irq : Response) (hints : List Hint) (i : ℕ) (h : Hint) → IsFine image irq hints i h → CellPart hints
     i h
-cell_part image irq hints i (Start kind at) f = tt
-cell_part image irq hints i (Lines lines fall) f = tt
-cell_part image irq hints i (Stack lo hi main handler) f = tt
 cell_part image irq hints i (Cell at owner lo hi first) f = f
-cell_part image irq hints i (Fact at place lo hi) f = tt
+cell_part image irq hints i other f = tt
 
 pub cells_fine : (image : FinMap nat_cmp ℕ) (irq : Response) (hints : List Hint) → FineBefore image irq hints (length hints)
     → CellsFine hints
 cells_fine image irq hints fine i h there = cell_part image irq hints i h (fine i h (slice_get_within hints i h there) there)
 
 fact_part : (image : FinMap nat_cmp ℕ) (irq : Response) (hints : List Hint) (i : ℕ) (h : Hint) → IsFine image irq hints i h → FactPart h
-fact_part image irq hints i (Start kind at) f = tt
-fact_part image irq hints i (Lines lines fall) f = tt
-fact_part image irq hints i (Stack lo hi main handler) f = tt
-fact_part image irq hints i (Cell at owner lo hi first) f = tt
 fact_part image irq hints i (Fact at place lo hi) f = (f.order, f.there, f.byte)
+fact_part image irq hints i other f = tt
 
 pub facts_fine : (image : FinMap nat_cmp ℕ) (irq : Response) (hints : List Hint) → FineBefore image irq hints (length hints)
     → FactsFine hints
@@ -47,10 +41,6 @@ abbrev pub InBytes : PlaceRange → Type 0
 InBytes r = (r.lo ≤ r.hi) × (r.hi ≤ 255)
 
 range_fits : (pc place : ℕ) (h : Hint) → place < 32 → FactPart h → IfSome (range_at pc place h) InBytes
-range_fits pc place (Start kind at) register f = tt
-range_fits pc place (Lines lines fall) register f = tt
-range_fits pc place (Stack lo hi main handler) register f = tt
-range_fits pc place (Cell at owner lo hi first) register f = tt
 range_fits pc place (Fact at of lo hi) register f = by_test (of == place) (λ e. let same : of ≡ place = grind (arith, nat_tests, e) in
     f.2 (omega arith)) (at == pc)
   where
@@ -60,6 +50,7 @@ range_fits pc place (Fact at of lo hi) register f = by_test (of == place) (λ e.
     by_test true bound false = tt
     by_test false bound true = tt
     by_test false bound false = tt
+range_fits pc place other register f = tt
 
 later_fits : (a b : Option PlaceRange) → IfSome a InBytes → IfSome b InBytes → IfSome (or_later a b) InBytes
 later_fits None b h k = k
@@ -99,22 +90,16 @@ place_within at (t ∷ ts) = by_test (nat_lt at t.cell.at) (place_within at ts)
 -- there is room for a cell that isn't the 17th
 pub room : (hints : List Hint) (ts : List Tracked) (i : ℕ) (h : Hint) → CellsFine hints → slice_get hints i ≡ Some h
     → length ts ≡ cell_count (take i hints) → HasRoom ts h
-room hints ts i (Start kind at) fine there count = tt
-room hints ts i (Lines lines fall) fine there count = tt
-room hints ts i (Stack lo hi main handler) fine there count = tt
 room hints ts i (Cell at owner lo hi first) fine there count =
     let f : CellFine hints i at owner lo hi first = fine i (Cell at owner lo hi first) there in
     let few : cell_count (take i hints) < 16 = f.place.few in
     (omega arith, f.range.order)
-room hints ts i (Fact at place lo hi) fine there count = tt
+room hints ts i other fine there count = tt
 
 with_one : (ts : List Tracked) (h : Hint) → length (with_hint ts h) ≡ length ts + cell_count (h ∷ [])
-with_one ts (Start kind at) = omega arith
-with_one ts (Lines lines fall) = omega arith
-with_one ts (Stack lo hi main handler) = omega arith
 with_one ts (Cell at owner lo hi first) = length-insert ts (place_in at ts)
     (record { cell = record { at = at; owner = owner_of owner; range = record { lo = lo; hi = hi } }; first = first }) (place_within at ts)
-with_one ts (Fact at place lo hi) = omega arith
+with_one ts other = omega arith
 
 count_append : (a b : List Hint) → cell_count (a ++ b) ≡ cell_count a + cell_count b
 count_append [] b = omega arith

@@ -1,4 +1,5 @@
 pub mod HintLemmas
 pub mod CellLemmas
-pub mod HeadLemmas
+pub mod HalfLemmas
+mod HeadLemmas
 pub mod OneRefusal

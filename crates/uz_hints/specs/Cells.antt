@@ -1,7 +1,7 @@
 -- The cells of the hints in order of address.
 use Rattle.std.specs.Prelude.{ℕ, suc, ◌<◌, ◌≤◌, ⊤, length, nat_lt, List, [], ◌∷◌, filter, map, insert, if◌then◌else◌}
 use Rattle.avr_asm.specs.declared.output.Hint.{Hint}
-use Rattle.avr_asm.specs.declared.output.Hint.TheVariants.{Start, Lines, Stack, Cell, Fact}
+use Rattle.avr_asm.specs.declared.output.Hint.TheVariants.{Cell}
 use Rattle.uz_schedule.specs.declared.kinds.Kind.{Kind}
 use Rattle.uz_schedule.specs.declared.kinds.Kind.TheVariants.{Main, Handler, Alone}
 use Rattle.uz_schedule.specs.declared.kinds.Owner.{Owner}
@@ -24,20 +24,14 @@ abbrev pub with_cell : Tracked → List Tracked → List Tracked
 with_cell t ts = insert ts (place_in t.cell.at ts) t
 
 abbrev pub with_hint : List Tracked → Hint → List Tracked
-with_hint ts (Start kind at) = ts
-with_hint ts (Lines lines fall) = ts
-with_hint ts (Stack lo hi main handler) = ts
 with_hint ts (Cell at owner lo hi first) =
     with_cell (record { cell = record { at = at; owner = owner_of owner; range = record { lo = lo; hi = hi } }; first = first }) ts
-with_hint ts (Fact at place lo hi) = ts
+with_hint ts other = ts
 
 -- a cell's range is in order, and there is room for it
 abbrev pub HasRoom : List Tracked → Hint → Type 0
-HasRoom ts (Start kind at) = ⊤
-HasRoom ts (Lines lines fall) = ⊤
-HasRoom ts (Stack lo hi main handler) = ⊤
 HasRoom ts (Cell at owner lo hi first) = (length ts < 16) × (lo ≤ hi)
-HasRoom ts (Fact at place lo hi) = ⊤
+HasRoom ts other = ⊤
 
 -- the cells of these hints put one by one among others
 abbrev pub with_cells : List Tracked → List Hint → List Tracked

@@ -5,17 +5,18 @@ use Rattle.std.specs.Ordering.{nat_cmp}
 use Rattle.std.specs.FinMap.{FinMap}
 use Rattle.avr_table.specs.declared.Instr.{Instr}
 use Rattle.avr_asm.specs.declared.output.Hint.{Hint}
-use Rattle.avr_asm.specs.declared.output.Hint.TheVariants.{Start, Lines, Stack, Cell, Fact}
+use Rattle.avr_asm.specs.declared.output.Hint.TheVariants.{Start, Lines, Half, Stack, Cell, Fact}
 use Rattle.uz_schedule.specs.Limits.{clock_limit, most_lines}
-use Rattle.uz_schedule.specs.Schedule.{response_clocks}
+use Rattle.uz_schedule.specs.Schedule.{response_clocks, half_line}
 use Rattle.uz_schedule.specs.declared.kinds.Kind.{Kind}
 use Rattle.uz_schedule.specs.declared.kinds.Kind.TheVariants.{Handler, Alone}
 use Rattle.uz_schedule.specs.declared.kinds.Response.{Response}
 use Rattle.uz_transfer.specs.Kinds.{is_main}
 use Rattle.uz_transfer.specs.Step.{IsReadAt}
 use Rattle.uz_hints.specs.declared.words.Beginning.{Beginning}
+use Rattle.uz_hints.specs.declared.words.FrameSize.{FrameSize}
 use Rattle.uz_hints.specs.declared.words.StackRegion.{StackRegion}
-use Rattle.uz_hints.specs.Words.{first_start, first_lines, first_stack, has_cell, cell_count}
+use Rattle.uz_hints.specs.Words.{first_start, first_lines, first_stack, is_half, has_cell, cell_count}
 
 -- What is asked of each kind of hint
 
@@ -44,6 +45,18 @@ pub record LinesFine (irq : Response) (hints : List Hint) (i lines fall : ℕ) :
   pub fall_in_line : fall < clock_limit
   pub above : starts_main (first_start hints) ≡ true → response_clocks irq + 3 < fall
   pub first : first_lines (take i hints) ≡ None
+
+-- lines up to this one stand in the frame, and its fall is a clock of half a scanline; the lines are those that are named first, and without
+-- any nothing is asked
+abbrev pub HalvesFit : ℕ → Option FrameSize → Type 0
+HalvesFit to None = ⊤
+HalvesFit to (Some size) = (to < size.lines) × (size.fall < half_line)
+
+-- lines of the frame in order, none of them named by an earlier hint
+pub record HalfFine (hints : List Hint) (i from to : ℕ) : Type 0 where
+  pub order : from ≤ to
+  pub fits : HalvesFit to (first_lines hints)
+  pub apart : (line : ℕ) → from ≤ line → line ≤ to → is_half line (take i hints) ≡ false
 
 -- in RAM, with room for what main and the handler push and a return address; and the first stack
 pub record StackFine (hints : List Hint) (i lo hi main handler : ℕ) : Type 0 where
@@ -91,6 +104,7 @@ pub record FactFine (image : FinMap nat_cmp ℕ) (at place lo hi : ℕ) : Type 0
 abbrev pub IsFine : FinMap nat_cmp ℕ → Response → List Hint → ℕ → Hint → Type 0
 IsFine image irq hints i (Start kind at) = StartFine image hints i kind at
 IsFine image irq hints i (Lines lines fall) = LinesFine irq hints i lines fall
+IsFine image irq hints i (Half from to) = HalfFine hints i from to
 IsFine image irq hints i (Stack lo hi main handler) = StackFine hints i lo hi main handler
 IsFine image irq hints i (Cell at owner lo hi first) = CellFine hints i at owner lo hi first
 IsFine image irq hints i (Fact at place lo hi) = FactFine image at place lo hi
@@ -120,21 +134,15 @@ HintRefusal image irq hints index = FirstFault image irq hints index ⊎ IsMissi
 -- What is asked of cells and facts alone
 
 abbrev pub CellPart : List Hint → ℕ → Hint → Type 0
-CellPart hints i (Start kind at) = ⊤
-CellPart hints i (Lines lines fall) = ⊤
-CellPart hints i (Stack lo hi main handler) = ⊤
 CellPart hints i (Cell at owner lo hi first) = CellFine hints i at owner lo hi first
-CellPart hints i (Fact at place lo hi) = ⊤
+CellPart hints i other = ⊤
 
 abbrev pub CellsFine : List Hint → Type 0
 CellsFine hints = (i : ℕ) (h : Hint) → slice_get hints i ≡ Some h → CellPart hints i h
 
 abbrev pub FactPart : Hint → Type 0
-FactPart (Start kind at) = ⊤
-FactPart (Lines lines fall) = ⊤
-FactPart (Stack lo hi main handler) = ⊤
-FactPart (Cell at owner lo hi first) = ⊤
 FactPart (Fact at place lo hi) = (lo ≤ hi) × (place ≤ 34) × (place < 32 → hi ≤ 255)
+FactPart other = ⊤
 
 abbrev pub FactsFine : List Hint → Type 0
 FactsFine hints = (i : ℕ) (h : Hint) → slice_get hints i ≡ Some h → FactPart h

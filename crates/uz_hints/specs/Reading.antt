@@ -14,7 +14,7 @@ use Rattle.uz_schedule.specs.declared.kinds.Response.{Response}
 use Rattle.uz_schedule.specs.declared.header.Head.{Head}
 use Rattle.uz_hints.specs.declared.words.PlaceRange.{PlaceRange}
 use Rattle.uz_hints.specs.declared.reading.Reading.{Reading}
-use Rattle.uz_hints.specs.Words.{first_start, first_lines, first_stack, first_fact}
+use Rattle.uz_hints.specs.Words.{first_start, first_lines, first_stack, first_fact, is_half, length_by}
 use Rattle.uz_hints.specs.Faults.{FineBefore}
 use Rattle.uz_hints.specs.Cells.{cells_of, first_values}
 
@@ -45,6 +45,11 @@ pub record IsReading (image : FinMap nat_cmp ℕ) (irq : Response) (hints : List
   pub start : first_start hints ≡ Some r.start
   pub registers : r.registers ≡ start_registers hints r.start.pc
   pub firsts : r.firsts.items ≡ first_values (cells_of hints)
+
+-- the lines that have half a scanline's clocks stand in the frame, and the fall is a clock of each line
+pub record LengthsFit (hints : List Hint) (r : Reading) : Type 0 where
+  pub below : (line : ℕ) → is_half line hints ≡ true → line < r.size.lines
+  pub fall : (line : ℕ) → r.size.fall < length_by hints line
 
 -- within the limits of a certificate's text; main is entered only where each entry of the handler comes before the fall
 pub record ReadingFits (r : Reading) : Type 0 where

@@ -1,7 +1,8 @@
 -- The hints of each kind, read off their list.
-use Rattle.std.specs.Prelude.{ℕ, suc, ◌==◌, ◌&&◌, ◌||◌, Bool, true, false, List, [], ◌∷◌, Option, Some, None, if◌then◌else◌}
+use Rattle.std.specs.Prelude.{ℕ, suc, ◌==◌, ◌&&◌, ◌||◌, nat_le, Bool, true, false, List, [], ◌∷◌, Option, Some, None, if◌then◌else◌}
 use Rattle.avr_asm.specs.declared.output.Hint.{Hint}
-use Rattle.avr_asm.specs.declared.output.Hint.TheVariants.{Start, Lines, Stack, Cell, Fact}
+use Rattle.avr_asm.specs.declared.output.Hint.TheVariants.{Start, Lines, Half, Stack, Cell, Fact}
+use Rattle.uz_schedule.specs.Schedule.{scanline, half_line}
 use Rattle.uz_hints.specs.declared.words.Beginning.{Beginning}
 use Rattle.uz_hints.specs.declared.words.FrameSize.{FrameSize}
 use Rattle.uz_hints.specs.declared.words.StackRegion.{StackRegion}
@@ -16,6 +17,28 @@ abbrev pub first_lines : List Hint → Option FrameSize
 first_lines [] = None
 first_lines (Lines lines fall ∷ hints) = Some (record { lines = lines; fall = fall })
 first_lines (h ∷ hints) = first_lines hints
+
+-- the hint says that the line has half a scanline's clocks
+abbrev pub halves : ℕ → Hint → Bool
+halves line (Half from to) = nat_le from line && nat_le line to
+halves line h = false
+
+abbrev pub is_half : ℕ → List Hint → Bool
+is_half line [] = false
+is_half line (h ∷ hints) = halves line h || is_half line hints
+
+-- it says so of some line from one to another
+abbrev pub halves_some : ℕ → ℕ → Hint → Bool
+halves_some from to (Half first last) = nat_le from to && nat_le from last && nat_le first to && nat_le first last
+halves_some from to h = false
+
+abbrev pub has_half : ℕ → ℕ → List Hint → Bool
+has_half from to [] = false
+has_half from to (h ∷ hints) = halves_some from to h || has_half from to hints
+
+-- the clocks that hints give a line
+abbrev pub length_by : List Hint → ℕ → ℕ
+length_by hints line = if is_half line hints then half_line else scanline
 
 abbrev pub first_stack : List Hint → Option StackRegion
 first_stack [] = None

@@ -3,16 +3,17 @@
 ghost use Rattle.std.specs.Prelude.{◌≡◌, ◌≢◌, ◌<◌, ◌≤◌, ◌↔◌, ◌^◌, IsTrue, MatchOption, Some, length, slice_get};
 ghost use Rattle.uz_transfer.specs.Step.{IsReadAt};
 ghost use Rattle.uz_hints.specs.Words.{first_start as start_in, first_stack as stack_in};
-ghost use Rattle.uz_hints.specs.Faults.{Reads, starts_main as enters_main, StartFine, LinesFine, StackFine, OffStack, CellRangeFine, CellPlaceFine, CellFine, FactFine, IsFine, FineBefore, FirstFault};
+ghost use Rattle.uz_hints.specs.Faults.{Reads, starts_main as enters_main, StartFine, LinesFine, HalvesFit, HalfFine, StackFine, OffStack, CellRangeFine, CellPlaceFine, CellFine, FactFine, IsFine, FineBefore, FirstFault};
 
 use crate::words::{
-    Beginning, StackRegion, cell_count, first_lines, first_stack, first_start, has_cell,
+    Beginning, FrameSize, StackRegion, cell_count, first_lines, first_stack, first_start, has_cell,
+    has_half,
 };
 use avr_asm::Hint;
 use avr_decode::decode;
 use avr_table::Instr;
 use uz_hex::{FLASH_WORDS, Image};
-use uz_schedule::{CLOCK_LIMIT, Kind, MOST_LINES, Response};
+use uz_schedule::{CLOCK_LIMIT, HALF_LINE, Kind, MOST_LINES, Response};
 use uz_transfer::word_after;
 
 /// The lowest and the highest address of RAM in the data space (ATmega644 data sheet).
@@ -74,6 +75,24 @@ fn is_fine_lines(irq: Response, hints: &[Hint], i: usize, lines: u16, fall: u16)
         && first_lines(&hints[..i]).is_none()
 }
 
+/// Whether lines up to this one stand in the frame, and its fall is a clock of half a scanline.
+fn halves_fit(to: u16, size: Option<FrameSize>) -> bool
+    ensures { IsTrue result ↔ HalvesFit to size }
+{
+    match size {
+        None => true,
+        Some(size) => to < size.lines && size.fall < HALF_LINE,
+    }
+}
+
+#[tactic(auto, using(crate::proofs::HalfLemmas::none_halved, crate::proofs::HalfLemmas::none_shared))]
+fn is_fine_half(hints: &[Hint], i: usize, from: u16, to: u16) -> bool
+    requires { i < length hints.now }
+    ensures { IsTrue result ↔ HalfFine hints.now i from to }
+{
+    from <= to && halves_fit(to, first_lines(hints)) && !has_half(&hints[..i], from, to)
+}
+
 fn is_fine_stack(hints: &[Hint], i: usize, lo: u16, hi: u16, main: u8, handler: u8) -> bool
     requires { i < length hints.now }
     ensures { IsTrue result ↔ StackFine hints.now i lo hi main handler }
@@ -121,7 +140,7 @@ fn is_fine_fact(image: &Image, at: u16, place: u8, lo: u16, hi: u16) -> bool
     is_instruction(image, at) && lo <= hi && place <= LAST_PLACE && (32 <= place || hi <= 255)
 }
 
-/// Whether nothing is at fault with a hint of this index. It looks at the other hints only for a start, lines, a stack or a cell.
+/// Whether nothing is at fault with a hint of this index. It looks at the other hints for all but a fact.
 fn is_fine(image: &Image, irq: Response, hints: &[Hint], i: usize, hint: &Hint) -> bool
     requires { i < length hints.now }
     ensures { IsTrue result ↔ IsFine image.now irq hints.now i hint.now }
@@ -129,6 +148,7 @@ fn is_fine(image: &Image, irq: Response, hints: &[Hint], i: usize, hint: &Hint) 
     match *hint {
         Hint::Start { kind, at } => is_fine_start(image, hints, i, kind, at),
         Hint::Lines { lines, fall } => is_fine_lines(irq, hints, i, lines, fall),
+        Hint::Half { from, to } => is_fine_half(hints, i, from, to),
         Hint::Stack {
             lo,
             hi,
@@ -146,8 +166,8 @@ fn is_fine(image: &Image, irq: Response, hints: &[Hint], i: usize, hint: &Hint) 
     }
 }
 
-/// The index of the first hint that is at fault. Linear in the number of hints: of starts, lines and stacks the second is at fault, and of
-/// cells the 17th.
+/// The index of the first hint that is at fault. Linear in the number of hints: of starts, lines and stacks the second is at fault, of cells
+/// the 17th, and each `.half` that isn't at fault names further lines of the frame.
 pub(crate) fn first_fault(image: &Image, irq: Response, hints: &[Hint]) -> Option<u32>
     requires { length hints.now < 2 ^ 32 }
     ensures { MatchOption result (FineBefore image.now irq hints.now (length hints.now)) (λ index. FirstFault image.now irq hints.now index) }

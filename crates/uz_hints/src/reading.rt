@@ -3,7 +3,7 @@
 ghost use Rattle.std.specs.Prelude.{◌≡◌, ◌<◌, ◌≤◌, ◌^◌, ℕ, List, IfOk, IfErr, IfSome, Some, length};
 ghost use Rattle.uz_hints.specs.Words.{first_fact as fact_in, first_stack as first_stack_in};
 ghost use Rattle.uz_hints.specs.Faults.{FineBefore, HintRefusal, FactsFine, CellsFine};
-ghost use Rattle.uz_hints.specs.Reading.{byte_range as range_of, start_registers as registers_at, IsHeader, IsReading, ReadingFits};
+ghost use Rattle.uz_hints.specs.Reading.{byte_range as range_of, start_registers as registers_at, IsHeader, IsReading, ReadingFits, LengthsFit};
 ghost use Rattle.uz_hints.specs.Cells.{cells_of as cells_of_hints, first_values as values_of};
 
 use crate::cells::{cells_of, first_values, head_cells};
@@ -113,6 +113,7 @@ fn read(image: &Image, irq: Response, hints: &[Hint]) -> Result<Reading, u32>
     requires { length hints.now < 2 ^ 32 }
     ensures read { IfOk result (IsReading image.now irq hints.now) }
     ensures limits { IfOk result ReadingFits }
+    ensures lengths { IfOk result (LengthsFit hints.now) }
     ensures refused { IfErr result (HintRefusal image.now irq hints.now) }
 {
     if let Some(index) = first_fault(image, irq, hints) {
@@ -131,6 +132,7 @@ pub fn read_hints(image: &Image, irq: Response, hints: &[Hint]) -> Result<Readin
     requires { length hints.now < 2 ^ 32 }
     ensures read { IfOk result (IsReading image.now irq hints.now) }
     ensures limits { IfOk result ReadingFits }
+    ensures lengths { IfOk result (LengthsFit hints.now) }
     ensures refused { IfErr result (HintRefusal image.now irq hints.now) }
     ensures exact { (index : ℕ) → HintRefusal image.now irq hints.now index → result ≡ Err index }
 {

@@ -1,7 +1,7 @@
 //! The hints of each kind, read off their list.
 
 ghost use Rattle.std.specs.Prelude.{◌≡◌, length};
-ghost use Rattle.uz_hints.specs.Words.{first_start as start_in, first_lines as lines_in, first_stack as stack_in, has_cell as cell_in, cell_count as cells_in, first_fact as fact_in, cell_at, cell_hint, range_at};
+ghost use Rattle.uz_hints.specs.Words.{first_start as start_in, first_lines as lines_in, is_half as half_in, first_stack as stack_in, has_cell as cell_in, cell_count as cells_in, first_fact as fact_in, halves as halves_line, halves_some as halves_some_line, has_half as some_half_in, cell_at, cell_hint, range_at};
 
 use avr_asm::Hint;
 use uz_schedule::Kind;
@@ -74,6 +74,53 @@ pub(crate) fn first_lines(hints: &[Hint]) -> Option<FrameSize>
         }
     }
     None
+}
+
+/// Whether a hint says that the line has half a scanline's clocks.
+fn halves(hint: &Hint, line: u16) -> bool
+    ensures { result ≡ halves_line line hint.now }
+{
+    match hint {
+        Hint::Half { from, to } => *from <= line && line <= *to,
+        _ => false,
+    }
+}
+
+/// Whether a hint says that the line has half a scanline's clocks; all others have a scanline's.
+pub fn is_half(hints: &[Hint], line: u16) -> bool
+    ensures { result ≡ half_in line hints.now }
+{
+    for hint in hints {
+        if halves(hint, line) {
+            return true;
+        }
+    }
+    false
+}
+
+/// Whether a hint says so of some line from one to another.
+fn halves_some(hint: &Hint, from: u16, to: u16) -> bool
+    ensures { result ≡ halves_some_line from to hint.now }
+{
+    match hint {
+        Hint::Half {
+            from: first,
+            to: last,
+        } => from <= to && from <= *last && *first <= to && *first <= *last,
+        _ => false,
+    }
+}
+
+/// Whether some hint says so of some line from one to another.
+pub(crate) fn has_half(hints: &[Hint], from: u16, to: u16) -> bool
+    ensures { result ≡ some_half_in from to hints.now }
+{
+    for hint in hints {
+        if halves_some(hint, from, to) {
+            return true;
+        }
+    }
+    false
 }
 
 /// The first stack.

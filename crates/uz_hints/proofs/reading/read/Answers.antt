@@ -1,6 +1,7 @@
 use Rattle.std.proofs.Common.{rules}
 use Rattle.uz_hints.specs.Reading.{IsReading}
 use Rattle.uz_hints.proofs.HintLemmas.{cells_fine, facts_fine}
+use Rattle.uz_hints.proofs.HalfLemmas.{lengths_fit}
 use Rattle.uz_hints.proofs.HeadLemmas.{reading_fits}
 use Rattle.uz_hints.proofs.reading.read.Goals as goal
 
@@ -14,3 +15,9 @@ pub returns-in-Some-Some-Some-clause-limits : goal.returns-in-Some-Some-Some-cla
 returns-in-Some-Some-Some-clause-limits c =
     let is : IsReading c.args.image.now c.args.irq c.args.hints.now c.read_fine.result = search rules in
     reading_fits c.args.image.now c.args.irq c.args.hints.now c.read_fine.result is c.read_fine.ensures.few
+
+pub returns-in-Some-Some-Some-clause-lengths : goal.returns-in-Some-Some-Some-clause-lengths
+returns-in-Some-Some-Some-clause-lengths c =
+    let is : IsReading c.args.image.now c.args.irq c.args.hints.now c.read_fine.result = search rules in
+    lengths_fit c.args.image.now c.args.irq c.args.hints.now c.read_fine.result is
+    (reading_fits c.args.image.now c.args.irq c.args.hints.now c.read_fine.result is c.read_fine.ensures.few)
