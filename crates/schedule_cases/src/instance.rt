@@ -2,7 +2,7 @@
 
 use crate::row::Row;
 use anyhow::Result;
-use uz_schedule::{Bit, Instance, Kind, Span, Val, Wide, hull};
+use uz_schedule::{Bit, Instance, Kind, SCANLINE, Span, Val, Wide, hull};
 
 fn kind_name(kind: Kind) -> &'static str {
     match kind {
@@ -56,6 +56,18 @@ fn is_open(val: &Val) -> bool {
     }
 }
 
+/// OCR1A and TEMP, where they aren't the last clock of a scanline and any byte.
+fn print_timer(rt: HostRuntime, at: &Instance) -> Result<()> {
+    if at.top != SCANLINE - 1 {
+        print!(rt; " top {}", at.top)?;
+    }
+    if at.temp.lo() != 0 || at.temp.hi() != 255 {
+        print!(rt; " temp ")?;
+        print_span(rt, &at.temp)?;
+    }
+    Ok(())
+}
+
 fn print_registers(rt: HostRuntime, at: &Instance) -> Result<()> {
     for (number, val) in at.regs.iter().enumerate() {
         if !is_open(val) {
@@ -88,8 +100,8 @@ fn print_memory(rt: HostRuntime, at: &Instance) -> Result<()> {
     Ok(())
 }
 
-/// A line with what is known: the kind, the place, the registers, the pairs X, Y and Z as `p0` to `p2`, the flags C, Z, N,
-/// V, S, H and T, the stack and the cells.
+/// A line with what is known: the kind, the place, OCR1A and TEMP, the registers, the pairs X, Y and Z as `p0` to `p2`, the
+/// flags C, Z, N, V, S, H and T, the stack and the cells.
 pub(crate) fn tell(rt: HostRuntime, at: &Option<Instance>) -> Result<()> {
     match at {
         Some(at) => {
@@ -102,6 +114,7 @@ pub(crate) fn tell(rt: HostRuntime, at: &Option<Instance>) -> Result<()> {
                 at.level,
                 at.pending
             )?;
+            print_timer(rt, at)?;
             print_registers(rt, at)?;
             print_memory(rt, at)?;
             println!(rt; "")?;

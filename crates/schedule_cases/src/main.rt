@@ -3,7 +3,7 @@
 //!
 //! The table's rows:
 //!
-//! - `|LINE`: a line at the end of the certificate's text. `read` reads the text.
+//! - `text`: a new text of a certificate. `|LINE`: a line at the end of the text. `read` reads the text.
 //! - `at P`, `level P`, `place P`: the event and the level at a position, and its line and clock.
 //! - `clock LINE CLOCK`: the event and the level so many clocks after a line's begin.
 //! - `line N`: the length and the start of a line. `frame`: the frame's clocks and its number of lines.
@@ -68,6 +68,8 @@ fn main(rt: HostRuntime) -> Result<()> {
         if let Some(part) = line.strip_prefix("|") {
             text.extend_from_slice(part.as_bytes())?;
             text.push(b'\n')?;
+        } else if line == "text" {
+            text.clear();
         } else if line == "read" {
             cert = read(rt, text.as_slice())?;
         } else if !certificate::tell(rt, &cert, line)? {

@@ -1,17 +1,13 @@
-//! Reads the lines of a certificate's text alone. Each line of standard input is a case: a letter that says which line of
-//! a certificate is due, `+` or `-` as the line ends in LF or not, and the line. What is printed is `ok`, or why the line
-//! is refused. The expected answers are written by hand from the rules of the text, and are none of the reader's own.
-#![tactic(auto)]
+//! Lines of a certificate's text alone.
 
 ghost use Rattle.std.specs.Prelude.{◌≡◌, length};
 
-use anyhow::Result;
 use arrayvec::ArrayVec;
+use uz_cert::{Cell, CertWhy, Head, Owner, Response, Span, Version};
 use uz_lines::{
-    CertWhy, Said, Version, Words, cell_line, end_line, entry_line, event_line, fall_line,
-    irq_line, kind_line, point_line, rest_line, run_line, size_line, stack_line,
+    Said, Words, cell_line, end_line, entry_line, event_line, fall_line, irq_line, kind_line,
+    point_line, rest_line, run_line, size_line, stack_line,
 };
-use uz_schedule::{Cell, Head, Owner, Response, Span};
 
 /// A head with a cell of main from 0 to 9 and one of the handler from 0 to 38.
 fn make_head() -> Head
@@ -41,8 +37,8 @@ fn make_head() -> Head
 }
 
 /// What the due line says: after a cell at 257, an event at 28, a run of kind 1 with 7 of 100 lines left, a rest of line
-/// 19; with 3 kinds of line and 50 points, and for `q` 300 instances that are left. `K` is the line of a kind in version 1,
-/// and `w` an event in a line of 910 clocks.
+/// 19; with 3 kinds of line and 50 points, and for `q` 300 instances that are left. `K` and `P` are the lines of a kind and
+/// of a point in version 1, and `w` is an event in a line of 910 clocks.
 fn read_line(words: &mut Words, due: u8) -> Result<Said, CertWhy> {
     let head = make_head();
     match due {
@@ -58,43 +54,24 @@ fn read_line(words: &mut Words, due: u8) -> Result<Said, CertWhy> {
         b'r' => run_line(3, 7, 1, words),
         b'R' => rest_line(100, 50, head.cells.as_slice(), 20, words),
         b'e' => entry_line(&head, 100, 50, words),
-        b'p' => point_line(&head, 100, 50, 16777216, words),
-        b'q' => point_line(&head, 100, 50, 300, words),
+        b'p' => point_line(Version::Second, &head, 100, 50, 16777216, words),
+        b'P' => point_line(Version::First, &head, 100, 50, 16777216, words),
+        b'q' => point_line(Version::Second, &head, 100, 50, 300, words),
         _ => end_line(words),
     }
 }
 
-fn name_of(why: CertWhy) -> &'static str {
-    match why {
-        CertWhy::Head => "Head",
-        CertWhy::Word => "Word",
-        CertWhy::Number => "Number",
-        CertWhy::Order => "Order",
-        CertWhy::Limit => "Limit",
-        CertWhy::Unknown => "Unknown",
-        CertWhy::NoEnd => "NoEnd",
-        CertWhy::Memory => "Memory",
-    }
-}
-
-/// The answer to a case.
-fn answer(case: &[u8]) -> &'static str {
+/// The answer to a line: `ok`, or why it is refused. Before it stand a letter that says which line is due, and `+` or `-` as it
+/// ends in LF or not.
+pub(crate) fn answer(case: &[u8]) -> &'static str {
     match case {
         [due, end, line @ ..] => {
             let mut words = Words::new(line, *end == b'+');
             match read_line(&mut words, *due) {
                 Ok(_) => "ok",
-                Err(why) => name_of(why),
+                Err(why) => why.name(),
             }
         }
         _ => "no case",
     }
-}
-
-fn main(rt: HostRuntime) -> Result<()> {
-    for line in rt.lines(rt.alloc()) {
-        let line = line?;
-        println!(rt; "{}", answer(line.as_bytes()))?;
-    }
-    Ok(())
 }
