@@ -82,6 +82,8 @@ pub record SamePlace (a b : Instance) : Type 0 where
   pub clock : a.clock ≡ b.clock
   pub level : a.level ≡ b.level
   pub pending : a.pending ≡ b.pending
+  pub top : a.top ≡ b.top
+  pub temp : a.temp ≡ b.temp
 
 -- the same is known there
 pub record SameKnown (a b : Instance) : Type 0 where
@@ -99,6 +101,8 @@ same_instance a b place known = λ i. record {
   clock = place.clock i;
   level = place.level i;
   pending = place.pending i;
+  top = place.top i;
+  temp = place.temp i;
   regs = known.regs i;
   pairs = known.pairs i;
   flags = known.flags i;
@@ -118,6 +122,8 @@ exact_instance a b h0 =
     let h8 = right _ _ h7 in
     let h9 = right _ _ h8 in
     let h10 = right _ _ h9 in
+    let h11 = right _ _ h10 in
+    let h12 = right _ _ h11 in
     same_instance a b (record {
       kind = exact_kind a.kind b.kind (left _ _ h0);
       pc = eqb-true a.pc b.pc (left _ _ h1);
@@ -125,10 +131,12 @@ exact_instance a b h0 =
       clock = eqb-true a.clock b.clock (left _ _ h3);
       level = eqb-true a.level b.level (left _ _ h4);
       pending = beq_true a.pending b.pending (left _ _ h5);
+      top = eqb-true a.top b.top (left _ _ h6);
+      temp = exact_span a.temp b.temp (left _ _ h7);
     }) (record {
-      regs = exact_list _ exact_val a.regs b.regs (left _ _ h6);
-      pairs = exact_list _ exact_wide a.pairs b.pairs (left _ _ h7);
-      flags = exact_list _ exact_bit a.flags b.flags (left _ _ h8);
-      stack = exact_list _ exact_val a.stack.items b.stack.items (left _ _ h9);
-      cells = exact_list _ exact_span a.cells.items b.cells.items h10;
+      regs = exact_list _ exact_val a.regs b.regs (left _ _ h8);
+      pairs = exact_list _ exact_wide a.pairs b.pairs (left _ _ h9);
+      flags = exact_list _ exact_bit a.flags b.flags (left _ _ h10);
+      stack = exact_list _ exact_val a.stack.items b.stack.items (left _ _ h11);
+      cells = exact_list _ exact_span a.cells.items b.cells.items h12;
     })

@@ -1,18 +1,21 @@
 -- The limits of a certificate's points give those of its instances.
-use Rattle.std.proofs.Common.{◌≡◌, All, ℕ, suc, ◌+◌, ◌*◌, ◌%◌, ◌<◌, ◌≤◌, Bool, true, false, ◌&&◌, cond, leb, ltb, List, [], ◌∷◌, length}
-use Rattle.std.proofs.Common.{map, refl, ◌∙◌, subst, lit≤, arith}
+use Rattle.std.proofs.Common.{◌≡◌, All, ℕ, suc, ◌+◌, ◌*◌, ◌%◌, ◌<◌, ◌≤◌, Bool, true, false, ◌&&◌, cond, leb, ltb, IsTrue, List, [], ◌∷◌, length}
+use Rattle.std.proofs.Common.{map, refl, sym, ◌∙◌, subst, lit≤, arith}
 use Rattle.std.specs.Prelude.{Option, Some, None, option_and_then, slice_get, ℤ, pos, negsuc, ◌+ℤ◌, ◌*ℤ◌}
 use Rattle.std.proofs.Math.Nat.{mod-lt}
 use Rattle.std.proofs.lemmas.Bool.{leb-true}
 use Rattle.std.proofs.lemmas.List.{length-map}
 use Rattle.std.proofs.lemmas.List.Elements.{All-nil, All-cons, All-tail, All-get_or}
 use Rattle.std.proofs.lemmas.Option.{get_or_from_slice_get, slice_get_within}
-use Rattle.uz_schedule.specs.WellFormed.{RangeFits, FactFits, PointFits, WellFormed}
+use Rattle.uz_schedule.specs.Ends.{whole_byte}
+use Rattle.uz_schedule.specs.Limits.{is_top}
+use Rattle.uz_schedule.specs.WellFormed.{RangeFits, FactFits, PointFits, PointKindFits, WellFormed}
 use Rattle.uz_schedule.specs.InstanceLimits.{ValFits, InstanceFits}
 use Rattle.uz_schedule.specs.Instances.{val_of, cell_span, clock_below, clock_at, is_in_box, instance_of, instance_at_clock, instance_in}
 use Rattle.uz_schedule.specs.Instances.{instance_at}
 use Rattle.uz_schedule.specs.Schedule.{length_of, start_of, level_at}
 use Rattle.uz_schedule.specs.declared.kinds.Kind.{Kind}
+use Rattle.uz_schedule.specs.declared.kinds.Kind.TheVariants.{Main, Handler, Alone}
 use Rattle.uz_schedule.specs.declared.facts.Fact.{Fact}
 use Rattle.uz_schedule.specs.declared.facts.Fact.TheVariants.{Any, Between, Line, Loop, Old, OldFlags}
 use Rattle.uz_schedule.specs.declared.states.Point.{Point}
@@ -56,6 +59,15 @@ vals_fit kind l c [] h = All-nil (ValFits kind)
 vals_fit kind l c (f ∷ facts) h = All-cons (ValFits kind) (val_of l c f) (map (val_of l c) facts)
     (val_fits kind l c f (h 0 f (omega arith))) (vals_fit kind l c facts (All-tail (FactFits kind) f facts h))
 
+whole_fits : RangeFits 255 whole_byte
+whole_fits = record { order = lit≤ tt; high = lit≤ tt }
+
+-- OCR1A and TEMP, in each kind
+timer_fits : (kind : Kind) (p : Point) → PointKindFits kind p → IsTrue (is_top p.top) × RangeFits 255 p.temp
+timer_fits Main p h = (subst (λ n. IsTrue (is_top n)) (sym h.1.top) refl, subst (RangeFits 255) (sym h.1.temp) whole_fits)
+timer_fits Handler p h = (h.top, h.temp)
+timer_fits Alone p h = (subst (λ n. IsTrue (is_top n)) (sym h.1.top) refl, subst (RangeFits 255) (sym h.1.temp) whole_fits)
+
 in_point : (cert : Cert) (p : Point) (l c : ℕ) (inst : Instance) → PointFits cert.head (length cert.schedule.lines) (length cert.points) p
     → instance_in cert.schedule p l c ≡ Some inst → InstanceFits cert inst
 in_point cert p l c inst h e =
@@ -73,6 +85,8 @@ in_point cert p l c inst h e =
       line = omega (arith, below, h.box.line);
       clock = below_is (length_of s l) k (pos p.clock +ℤ p.slope *ℤ pos c) clock.1;
       level = level.1;
+      top = (timer_fits p.kind p h.kind).0;
+      temp = (timer_fits p.kind p h.kind).1;
       register_count = length-map p.regs (val_of l c) ∙ h.core.register_count;
       registers = vals_fit p.kind l c p.regs h.core.registers;
       pairs = refl;

@@ -1,12 +1,14 @@
 -- The instance that says nothing, of which all others are made by what is known.
-use Rattle.std.specs.Prelude.{false, [], replicate}
+use Rattle.std.specs.Prelude.{◌-◌, false, [], replicate}
 use Rattle.uz_schedule.specs.Ends.{whole_byte, whole_pair}
 use Rattle.uz_schedule.specs.declared.facts.Val.TheVariants.{Range}
 use Rattle.uz_schedule.specs.declared.facts.Bit.TheVariants.{Free}
 use Rattle.uz_schedule.specs.declared.kinds.Kind.TheVariants.{Alone}
 use Rattle.uz_schedule.specs.declared.states.Instance.{Instance}
+use Rattle.uz_schedule.specs.Schedule.{scanline}
 
--- alone, all numbers 0, no slot and no cell, each register any byte and each flag free
+-- alone, all numbers 0, no slot and no cell, each register any byte and each flag free; OCR1A is the last clock of a scanline, and
+-- TEMP any byte
 abbrev pub blank_instance : Instance
 blank_instance =
     record {
@@ -16,6 +18,8 @@ blank_instance =
       clock = 0;
       level = 0;
       pending = false;
+      top = scanline - 1;
+      temp = whole_byte;
       regs = replicate 32 (Range whole_byte);
       pairs = replicate 3 whole_pair;
       flags = replicate 7 Free;

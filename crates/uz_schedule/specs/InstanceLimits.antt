@@ -1,6 +1,7 @@
 -- What the limits of a certificate give of its instances.
-use Rattle.std.specs.Prelude.{◌≡◌, ◌+◌, ◌<◌, ◌≤◌, All, length, Some}
+use Rattle.std.specs.Prelude.{◌≡◌, ◌+◌, ◌<◌, ◌≤◌, All, IsTrue, length, Some}
 use Rattle.uz_schedule.specs.WellFormed.{RangeFits, BitFits}
+use Rattle.uz_schedule.specs.Limits.{is_top}
 use Rattle.uz_schedule.specs.Tracked.{tracked, depth_of}
 use Rattle.uz_schedule.specs.Schedule.{length_of, start_of, level_at}
 use Rattle.uz_schedule.specs.declared.kinds.Kind.{Kind}
@@ -21,6 +22,8 @@ pub record InstanceFits (cert : Cert) (inst : Instance) : Type 0 where
   pub line : inst.line < length cert.schedule.lines
   pub clock : inst.clock < length_of cert.schedule inst.line
   pub level : level_at cert.schedule (start_of cert.schedule inst.line + inst.clock) ≡ Some inst.level
+  pub top : IsTrue (is_top inst.top)
+  pub temp : RangeFits 255 inst.temp
   pub register_count : length inst.regs ≡ 32
   pub registers : All (ValFits inst.kind) inst.regs
   pub pairs : length inst.pairs ≡ 3

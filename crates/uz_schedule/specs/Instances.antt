@@ -1,6 +1,6 @@
 -- What is known of the machine where a point stands, at one line and one count of its box; where runs enter; and where
 -- the handler's next run begins. The timer's interrupt has its vector at the word address 26 (ATmega644 data sheet).
-use Rattle.std.specs.Prelude.{ℕ, zero, suc, ◌+◌, ◌*◌, ◌%◌, ℤ, pos, negsuc, ◌+ℤ◌, ◌*ℤ◌, nat_le, nat_lt, Bool, ◌&&◌, List, [], ◌∷◌}
+use Rattle.std.specs.Prelude.{ℕ, zero, suc, ◌+◌, ◌-◌, ◌*◌, ◌%◌, ℤ, pos, negsuc, ◌+ℤ◌, ◌*ℤ◌, nat_le, nat_lt, Bool, ◌&&◌, List, [], ◌∷◌}
 use Rattle.std.specs.Prelude.{map, replicate, Option, Some, None, unwrap_or, option_and_then, slice_get, slice_index_or, if◌then◌else◌}
 use Rattle.uz_schedule.specs.Ends.{Ends, whole_byte, one_number, hull}
 use Rattle.uz_schedule.specs.declared.facts.Fact.{Fact}
@@ -87,6 +87,8 @@ instance_of p l c clock level =
       clock = clock;
       level = level;
       pending = p.pending;
+      top = p.top;
+      temp = p.temp;
       regs = map (val_of l c) p.regs;
       pairs = pairs_of l c (map (val_of l c) p.regs) p.pairs;
       flags = p.flags;
@@ -136,22 +138,26 @@ abbrev pub old_from : ℕ → ℕ → List Val
 old_from k zero = []
 old_from k (suc n) = Old k ∷ old_from (suc k) n
 
--- the handler's first state where its interrupt is taken: nothing of what is interrupted has changed, and its stack is empty
-abbrev pub handler_entry : List Ends → ℕ → ℕ → ℕ → Instance
-handler_entry cells line clock level =
+-- the handler's first state where its interrupt is taken: nothing of what is interrupted has changed, its stack is empty, OCR1A is
+-- `top` and TEMP any byte
+abbrev pub handler_entry : List Ends → ℕ → ℕ → ℕ → ℕ → Instance
+handler_entry cells line clock level top =
     record blank_instance {
       kind = Handler;
       pc = 26;
       line = line;
       clock = clock;
       level = level;
+      top = top;
       regs = old_from 0 32;
       flags = replicate 7 OldBit;
       cells = record { items = cells };
     }
 
--- the handler's first state after a rest, where its interrupt is taken at clock c of the next line
+-- the handler's first state after a rest, where its interrupt is taken at clock c of the next line: the timer came to the last clock
+-- of the rest's line
 abbrev pub rest_instance : Cert → Rest → ℕ → Instance
 rest_instance cert rest c =
     handler_entry rest.cells.items (next_line cert.schedule rest.line) (c + response_clocks cert.head.irq)
     (level_or_zero cert.schedule (next_line cert.schedule rest.line) (c + response_clocks cert.head.irq))
+    (length_of cert.schedule rest.line - 1)

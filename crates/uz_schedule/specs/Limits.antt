@@ -1,6 +1,6 @@
 -- The limits and orders that the parts of a schedule keep. The numbers are this project's profile: those of the
 -- certificate's text.
-use Rattle.std.specs.Prelude.{ℕ, ◌<◌, ◌≤◌, ◌+◌, ◌&&◌, ◌||◌, ◌==◌, nat_le, nat_lt, Bool, true, false, IsTrue, List, [], ◌∷◌, All, map}
+use Rattle.std.specs.Prelude.{ℕ, ◌<◌, ◌≤◌, ◌+◌, ◌-◌, ◌&&◌, ◌||◌, ◌==◌, nat_le, nat_lt, Bool, true, false, IsTrue, List, [], ◌∷◌, All, map}
 use Rattle.std.specs.Prelude.{length, ⊤}
 use Rattle.uz_schedule.specs.Schedule.{scanline, half_line}
 use Rattle.uz_schedule.specs.declared.lines.Schedule.{Schedule}
@@ -62,6 +62,10 @@ pub record LinesFit (kinds : ℕ) (lines : List ℕ) : Type 0 where
 -- a kind of line has the clocks of a scanline, or of half of one
 abbrev pub is_length : ℕ → Bool
 is_length n = n == half_line || n == scanline
+
+-- the last clock of a line: a handler that keeps time has OCR1A there
+abbrev pub is_top : ℕ → Bool
+is_top n = n == half_line - 1 || n == scanline - 1
 
 -- each event stands at a clock of a line of this length
 abbrev pub clocks_below : List Event → ℕ → Bool

@@ -1,8 +1,9 @@
 -- Well formed certificates: within the limits and orders of their text. The numbers are this project's profile.
 use Rattle.std.specs.Prelude.{◌≡◌, ◌⊎◌, ℕ, suc, ◌+◌, ◌-◌, ◌*◌, ◌<◌, ◌≤◌, ◌==◌, ◌&&◌, nat_lt, ℤ, pos, negsuc, ⊤, Bool, true, false, IsTrue}
 use Rattle.std.specs.Prelude.{List, [], ◌∷◌, All, length, map, sum_by, slice_index_or}
-use Rattle.uz_schedule.specs.Ends.{Ends, is_within}
-use Rattle.uz_schedule.specs.Limits.{clock_limit, rises, ScheduleFits}
+use Rattle.uz_schedule.specs.Ends.{Ends, is_within, whole_byte}
+use Rattle.uz_schedule.specs.Limits.{clock_limit, is_top, rises, ScheduleFits}
+use Rattle.uz_schedule.specs.Schedule.{scanline}
 use Rattle.uz_schedule.specs.Tracked.{tracked, depth_of}
 use Rattle.uz_schedule.specs.declared.kinds.Kind.{Kind}
 use Rattle.uz_schedule.specs.declared.kinds.Kind.TheVariants.{Main, Handler, Alone}
@@ -139,11 +140,21 @@ pub record IsAtBegin (p : Point) : Type 0 where
   pub slope : p.slope ≡ pos 0
   pub pending : p.pending ≡ false
 
--- main stands at the frame's begin; only in a handler an interrupt may wait
+-- OCR1A is the last clock of a line, and TEMP is in a range of bytes
+pub record TimerFits (p : Point) : Type 0 where
+  pub top : IsTrue (is_top p.top)
+  pub temp : RangeFits 255 p.temp
+
+-- nothing is said of OCR1A and TEMP: they have the values that the text leaves out
+pub record IsTimerLeftOut (p : Point) : Type 0 where
+  pub top : p.top ≡ scanline - 1
+  pub temp : p.temp ≡ whole_byte
+
+-- main stands at the frame's begin; only in a handler an interrupt may wait, and the timer is known
 abbrev pub PointKindFits : Kind → Point → Type 0
-PointKindFits Main p = IsAtBegin p
-PointKindFits Handler p = ⊤
-PointKindFits Alone p = p.pending ≡ false
+PointKindFits Main p = IsAtBegin p × IsTimerLeftOut p
+PointKindFits Handler p = TimerFits p
+PointKindFits Alone p = (p.pending ≡ false) × IsTimerLeftOut p
 
 -- Points: what is known
 

@@ -4,13 +4,14 @@ ghost use Rattle.std.specs.Prelude.{◌≡◌, ◌<◌, ◌≤◌, ◌↔◌, �
 ghost use Rattle.uz_schedule.specs.Ends.{is_within as lies_within};
 ghost use Rattle.uz_schedule.specs.Limits.{rises};
 ghost use Rattle.uz_schedule.specs.Tracked.{tracks as kind_tracks, tracked};
-ghost use Rattle.uz_schedule.specs.WellFormed.{RangeFits, PartFits, CellFits, HeadFits, spans_fit as fits_spans, SpansFit, StackFits, CoreFits, MemoryFits, RestFits, RestsFit, EntryKindFits, BitFits, EntryFactsFit, EntryFits, BoxFits, IsAtBegin, PointKindFits, SlopeFits, FactFits, CellFactFits, PairFits, is_zero_or_one as names_flag, is_default_flag as default_flag, is_without_text as without_text, SuccessorsFit, PointFits, instances_of as instances_of_point, PointsFit, WellFormed};
+ghost use Rattle.uz_schedule.specs.WellFormed.{RangeFits, PartFits, CellFits, HeadFits, spans_fit as fits_spans, SpansFit, StackFits, CoreFits, MemoryFits, RestFits, RestsFit, EntryKindFits, BitFits, EntryFactsFit, EntryFits, BoxFits, IsAtBegin, TimerFits, IsTimerLeftOut, PointKindFits, SlopeFits, FactFits, CellFactFits, PairFits, is_zero_or_one as names_flag, is_default_flag as default_flag, is_without_text as without_text, SuccessorsFit, PointFits, instances_of as instances_of_point, PointsFit, WellFormed};
 
 use crate::certificate::Cert;
 use crate::facts::{Bit, Fact, PairFact};
 use crate::header::{Cell, Head};
 use crate::kinds::Kind;
-use crate::limits::{CLOCK_LIMIT, rises as numbers_rise, schedule_fits};
+use crate::limits::{CLOCK_LIMIT, is_top, rises as numbers_rise, schedule_fits};
+use crate::line_order::SCANLINE;
 use crate::ranges::{Span, Wide};
 use crate::states::{Entry, Point, Rest};
 use crate::tracked::tracks;
@@ -238,14 +239,28 @@ fn is_at_begin(point: &Point) -> bool
         && !point.pending
 }
 
-/// Whether main stands at the frame's begin, and an interrupt waits in handlers alone.
+/// Whether OCR1A is the last clock of a line. TEMP is in a range of bytes by its type.
+fn timer_fits(point: &Point) -> bool
+    ensures { IsTrue result ↔ TimerFits point.now }
+{
+    is_top(point.top) && point.temp.lo() <= point.temp.hi()
+}
+
+/// Whether OCR1A and TEMP have the values that the text leaves out.
+fn is_timer_left_out(point: &Point) -> bool
+    ensures { IsTrue result ↔ IsTimerLeftOut point.now }
+{
+    point.top == SCANLINE - 1 && point.temp == Span::between(0, 255)
+}
+
+/// Whether main stands at the frame's begin, and in handlers alone an interrupt waits and the timer is known.
 fn point_kind_fits(point: &Point) -> bool
     ensures { IsTrue result ↔ PointKindFits point.now.kind point.now }
 {
     match point.kind {
-        Kind::Main => is_at_begin(point),
-        Kind::Handler => true,
-        Kind::Alone => !point.pending,
+        Kind::Main => is_at_begin(point) && is_timer_left_out(point),
+        Kind::Handler => timer_fits(point),
+        Kind::Alone => !point.pending && is_timer_left_out(point),
     }
 }
 

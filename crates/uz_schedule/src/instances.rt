@@ -108,6 +108,8 @@ fn instance_of(point: &Point, line: u16, count: u8, clock: u16, level: u8) -> In
         clock,
         level,
         pending: point.pending,
+        top: point.top,
+        temp: point.temp,
         regs,
         pairs,
         flags: point.flags,
@@ -207,10 +209,16 @@ pub fn entry_state(entry: &Entry, level: u8) -> Instance
     }
 }
 
-/// The handler's first state, where its interrupt is taken at this clock of a line and these ranges hold of its cells: no
-/// register and flag has changed, and its stack is empty. Takes no memory.
-pub fn handler_entry(cells: &ArrayVec<Span, 16>, line: u16, clock: u16, level: u8) -> Instance
-    ensures { result ≡ entry_of_handler cells.now.items line clock level }
+/// The handler's first state, where its interrupt is taken at this clock of a line, these ranges hold of its cells and OCR1A is
+/// `top`: no register and flag has changed, its stack is empty, and TEMP may be any byte. Takes no memory.
+pub fn handler_entry(
+    cells: &ArrayVec<Span, 16>,
+    line: u16,
+    clock: u16,
+    level: u8,
+    top: u16,
+) -> Instance
+    ensures { result ≡ entry_of_handler cells.now.items line clock level top }
 {
     Instance {
         kind: Kind::Handler,
@@ -218,6 +226,7 @@ pub fn handler_entry(cells: &ArrayVec<Span, 16>, line: u16, clock: u16, level: u
         line,
         clock,
         level,
+        top,
         regs: old_registers(),
         flags: [Bit::Old; 7],
         cells: spans_in(cells),
@@ -250,7 +259,8 @@ impl Cert {
     }
 
     /// The handler's first state after a rest, where its interrupt is taken at clock `c` of the next line: no register and
-    /// flag has changed, the stack of the handler is empty, and its cells are as the rest says. Takes no memory.
+    /// flag has changed, the stack of the handler is empty, its cells are as the rest says, OCR1A is the last clock of the
+    /// rest's line, and TEMP may be any byte. Takes no memory.
     pub fn rest_instance(&self, rest: &Rest, c: u8) -> Instance
         requires fits { ScheduleFits self.now.schedule }
         requires line { rest.now.line < length self.now.schedule.lines }
@@ -263,6 +273,7 @@ impl Cert {
             line,
             clock,
             level_or_zero(&self.schedule, line, clock),
+            self.schedule.length(rest.line) - 1,
         )
     }
 }

@@ -32,7 +32,7 @@ pub use laws::{
     equal_instances_are_one, event_by_line, instance_is_within_limits, level_exists, level_goes_on,
     lines_have_lengths, places_go_on, positions_go_round,
 };
-pub use limits::{CLOCK_LIMIT, MOST_EVENTS, MOST_LINES, clocks_rise, rises, schedule_fits};
+pub use limits::{CLOCK_LIMIT, MOST_EVENTS, MOST_LINES, clocks_rise, is_top, rises, schedule_fits};
 pub use line_events::LineEvents;
 pub use line_order::{HALF_LINE, SCANLINE};
 pub use lines::{Event, EventKind, Schedule};

@@ -1,7 +1,7 @@
 //! The limits and orders of a schedule.
 
 ghost use Rattle.std.specs.Prelude.{◌≡◌, ◌<◌, ◌≤◌, ◌↔◌, IsTrue, map};
-ghost use Rattle.uz_schedule.specs.Limits.{rises as rising, EventFits, EventsFit, KindsFit, LinesFit, ScheduleFits, is_length as length_is, clocks_below as are_below, lengths_fit as fit_lengths};
+ghost use Rattle.uz_schedule.specs.Limits.{rises as rising, EventFits, EventsFit, KindsFit, LinesFit, ScheduleFits, is_length as length_is, is_top as top_is, clocks_below as are_below, lengths_fit as fit_lengths};
 
 use crate::line_events::LineEvents;
 use crate::line_order::{HALF_LINE, SCANLINE};
@@ -84,6 +84,13 @@ fn is_length(clocks: u16) -> bool
     ensures { result ≡ length_is clocks }
 {
     clocks == HALF_LINE || clocks == SCANLINE
+}
+
+/// Whether OCR1A is the last clock of a line.
+pub fn is_top(top: u16) -> bool
+    ensures { result ≡ top_is top }
+{
+    top == HALF_LINE - 1 || top == SCANLINE - 1
 }
 
 /// Whether each event stands at a clock of a line of so many.

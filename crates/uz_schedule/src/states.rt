@@ -2,6 +2,7 @@
 
 use crate::facts::{Bit, Fact, PairFact, Val};
 use crate::kinds::Kind;
+use crate::line_order::SCANLINE;
 use crate::ranges::{Span, Wide};
 use arrayvec::ArrayVec;
 
@@ -63,6 +64,10 @@ pub struct Point {
     pub slope: i16,
     /// Whether a compare match waits for its interrupt.
     pub pending: bool,
+    /// In a handler the timer's OCR1A: the last clock of a line, `HALF_LINE - 1` or `SCANLINE - 1`. Else `SCANLINE - 1`.
+    pub top: u16,
+    /// In a handler the values that the timer's TEMP may have. Else every byte.
+    pub temp: Span,
     /// What is known of each register.
     pub regs: [Fact; 32],
     /// What is known of the pairs X, Y and Z.
@@ -92,6 +97,10 @@ pub struct Instance {
     pub level: u8,
     /// Whether a compare match waits for its interrupt.
     pub pending: bool,
+    /// In a handler the timer's OCR1A: the last clock of a line, `HALF_LINE - 1` or `SCANLINE - 1`. Else `SCANLINE - 1`.
+    pub top: u16,
+    /// In a handler the values that the timer's TEMP may have. Else every byte.
+    pub temp: Span,
     /// What is known of each register.
     pub regs: [Val; 32],
     /// The values that the pairs X, Y and Z may have.
@@ -110,7 +119,8 @@ impl Default for Instance {
 
     ghost is_default = { λ i. i ≡ blank_instance };
 
-    /// An instance that says nothing: alone, all numbers 0, no slot and no cell, and each register any byte.
+    /// An instance that says nothing: alone, all numbers 0, no slot and no cell, each register and TEMP any byte, and OCR1A the
+    /// last clock of a scanline.
     fn default() -> Self {
         Instance {
             kind: Kind::Alone,
@@ -119,6 +129,8 @@ impl Default for Instance {
             clock: 0,
             level: 0,
             pending: false,
+            top: SCANLINE - 1,
+            temp: Span::between(0, 255),
             regs: [Val::Range(Span::between(0, 255)); 32],
             pairs: [Wide::between(0, 65535); 3],
             flags: [Bit::Free; 7],

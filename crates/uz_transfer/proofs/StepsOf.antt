@@ -7,6 +7,7 @@ use Rattle.uz_hex.specs.Cells.{word_of}
 use Rattle.avr_table.specs.declared.Instr.{Instr}
 use Rattle.avr_table.specs.Rows.{Reads, words_of, clocks_of}
 use Rattle.uz_machine.specs.Effects.{effect_of}
+use Rattle.uz_schedule.specs.Lines.{Lines}
 use Rattle.uz_schedule.specs.declared.header.Head.{Head}
 use Rattle.uz_schedule.specs.declared.states.Instance.{Instance}
 use Rattle.uz_transfer.specs.declared.fail.Fail.{Fail}
@@ -14,12 +15,12 @@ use Rattle.uz_transfer.specs.declared.fail.Fail.TheVariants.{Opcode}
 use Rattle.uz_transfer.specs.declared.step.Step.{Step}
 use Rattle.uz_transfer.specs.Step.{step_of, IsStep}
 
-pub steps_some : (head : Head) (length : ℕ) (image : FinMap nat_cmp ℕ) (inst : Instance) (result : Result Step Fail) (i : Instr)
+pub steps_some : (head : Head) (lines : Lines) (image : FinMap nat_cmp ℕ) (inst : Instance) (result : Result Step Fail) (i : Instr)
     → Reads (word_of image (inst.pc % 32768)) (word_of image ((inst.pc + 1) % 32768)) i
-    → result ≡ step_of head length image (effect_of i) (words_of i) (clocks_of i) inst → IsStep head length image inst result
-steps_some head length image inst result i reads e = record { row = Some i; reads = record { found = reads; none = tt }; is = e }
+    → result ≡ step_of head lines image (effect_of i) (words_of i) (clocks_of i) inst → IsStep head lines image inst result
+steps_some head lines image inst result i reads e = record { row = Some i; reads = record { found = reads; none = tt }; is = e }
 
-pub steps_none : (head : Head) (length : ℕ) (image : FinMap nat_cmp ℕ) (inst : Instance) (result : Result Step Fail)
+pub steps_none : (head : Head) (lines : Lines) (image : FinMap nat_cmp ℕ) (inst : Instance) (result : Result Step Fail)
     → ((i : Instr) → Reads (word_of image (inst.pc % 32768)) (word_of image ((inst.pc + 1) % 32768)) i → ⊥)
-    → result ≡ Err Opcode → IsStep head length image inst result
-steps_none head length image inst result none e = record { row = None; reads = record { found = tt; none = none }; is = e }
+    → result ≡ Err Opcode → IsStep head lines image inst result
+steps_none head lines image inst result none e = record { row = None; reads = record { found = tt; none = none }; is = e }

@@ -19,6 +19,7 @@ use Rattle.uz_machine.specs.declared.SkipTest.{SkipTest}
 use Rattle.uz_machine.specs.declared.SkipTest.TheVariants.{Equal, IoBit, RegisterBit}
 use Rattle.uz_range.specs.Answers.{is_single}
 use Rattle.uz_range.specs.Rules.{bst_answer}
+use Rattle.uz_transfer.specs.declared.step.Exit.{Exit}
 use Rattle.uz_transfer.specs.Values.{span_of, value_at, flag_at, pair_range}
 use Rattle.uz_transfer.specs.Kinds.{is_main}
 use Rattle.uz_transfer.specs.Memory.{slot_value}
@@ -83,3 +84,8 @@ targets (Jump target call) o following inst = jump_pcs target following inst
 targets (Return false) o following inst = ((span_of (slot_value 2 inst)).lo + 256 * (span_of (slot_value 1 inst)).lo) % 32768 ∷ []
 targets (Return true) o following inst = inst.pc % 32768 ∷ []
 targets e o following inst = following ∷ []
+
+-- whether all exits pass a test
+abbrev pub each_exit : (Exit → Bool) → List Exit → Bool
+each_exit test [] = true
+each_exit test (exit ∷ exits) = test exit && each_exit test exits

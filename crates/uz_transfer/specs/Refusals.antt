@@ -1,6 +1,7 @@
 -- Why an instance has no abstract results, by class of effect; the least reason that stands is named.
-use Rattle.std.specs.Prelude.{Bool, None, Option, Some, false, if◌then◌else◌, nat_eq, nat_le, nat_lt, not, true, ℕ, ◌&&◌, ◌+◌, ◌||◌}
+use Rattle.std.specs.Prelude.{Bool, None, Option, Some, false, if◌then◌else◌, nat_eq, nat_le, nat_lt, not, true, ℕ, ◌&&◌, ◌*◌, ◌+◌, ◌||◌}
 use Rattle.uz_schedule.specs.Ends.{Ends}
+use Rattle.uz_schedule.specs.Limits.{is_top}
 use Rattle.uz_schedule.specs.declared.facts.Bit.{Bit}
 use Rattle.uz_schedule.specs.declared.facts.Bit.TheVariants.{Free, Old as OldBit, One, Zero}
 use Rattle.uz_schedule.specs.declared.facts.Val.{Val}
@@ -71,12 +72,22 @@ flag_fails kind at v = nat_eq at 0x36 && (is_main kind || (is_handler kind && no
 abbrev pub mask_fails : Kind → ℕ → Val → Bool
 mask_fails kind at v = nat_eq at 0x5F && not (flag_is (stored_bit v 7) (is_main kind))
 
+-- of a store to OCR1AL: the value or TEMP isn't known, or they give no line's last clock
+abbrev pub top_fails : Instance → Val → Bool
+top_fails inst v = not (is_single inst.temp && (is_single (span_of v) && is_top (inst.temp.lo * 256 + (span_of v).lo)))
+
+-- of a store at a single address: a handler may store OCR1AH (0x89), and OCR1AL (0x88) where that gives a line's last clock
+abbrev pub io_fails : Instance → ℕ → Val → Bool
+io_fails inst at v =
+    if is_handler inst.kind && nat_eq at 0x88 then top_fails inst v else
+    if is_handler inst.kind && nat_eq at 0x89 then false else is_setup_register at
+
 abbrev pub store_fail : Head → Ends → Val → Instance → Option (Option EventKind) → Option Fail
 store_fail head a v inst emitted =
     refuse_if (is_single a && flag_fails inst.kind a.lo v) Flag
     (refuse_if (is_single a && mask_fails inst.kind a.lo v) Mask
     (refuse_if (not (may_store head inst.kind a v)) StoreWhy
-    (refuse_if (is_single a && is_setup_register a.lo) Io
+    (refuse_if (is_single a && io_fails inst a.lo v) Io
     (refuse_if (not (is_some emitted)) Edge None))))
 
 -- where an indirect jump isn't known to go to one of at most 16 words of the flash

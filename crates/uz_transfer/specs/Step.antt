@@ -18,16 +18,18 @@ use Rattle.uz_machine.specs.declared.Effect.{Effect}
 use Rattle.uz_machine.specs.declared.Effect.TheVariants.{Store, WriteIoBit}
 use Rattle.uz_range.specs.Answers.{is_single}
 use Rattle.uz_transfer.specs.declared.fail.Fail.{Fail}
-use Rattle.uz_transfer.specs.declared.fail.Fail.TheVariants.{Edge, Opcode}
+use Rattle.uz_transfer.specs.declared.fail.Fail.TheVariants.{Clock, Edge, Opcode}
 use Rattle.uz_transfer.specs.declared.step.Exit.{Exit}
 use Rattle.uz_transfer.specs.declared.step.Step.{Step}
 use Rattle.uz_transfer.specs.Values.{value_at}
 use Rattle.uz_transfer.specs.Kinds.{is_main, is_handler}
 use Rattle.uz_transfer.specs.Memory.{address_range}
+use Rattle.uz_transfer.specs.Timer.{temp_after, top_after, with_timer}
 use Rattle.uz_transfer.specs.Transfer.{transfer}
 use Rattle.uz_transfer.specs.Exits.{outcomes, targets}
 use Rattle.uz_transfer.specs.Emission.{emission, level_after}
 use Rattle.uz_transfer.specs.Refusals.{stored_bit, flag_is, fail_of}
+use Rattle.uz_transfer.specs.InTime.{clock_holds}
 
 abbrev pub exits_of : Effect → (Outcome → ℕ) → ℕ → Instance → List Outcome → List Exit
 exits_of e clocks following inst [] = []
@@ -47,17 +49,29 @@ following_of words inst = (inst.pc + words) % 32768
 abbrev pub sampled_of : ℕ → Effect → (Outcome → ℕ) → Instance → ℕ
 sampled_of length e clocks inst = (inst.clock + sample_clock e clocks) % length
 
-abbrev pub step_unless : Option Fail → Option (Option EventKind) → Step → Result Step Fail
-step_unless (Some why) emitted step = Err why
-step_unless None None step = Err Edge
-step_unless None (Some emitted) step = Ok (record step { emit = emitted })
+-- what is known after an effect, wherever it leads; `length` is that of the instance's line
+abbrev pub draft_of : Head → ℕ → FinMap nat_cmp ℕ → Effect → ℕ → (Outcome → ℕ) → Instance → Instance
+draft_of head length image e words clocks inst =
+    with_timer (top_after e inst) (temp_after (sampled_of length e clocks inst) e inst)
+    (transfer head image (following_of words inst) (sampled_of length e clocks inst) e inst)
 
--- an effect, with the words and, by outcome, the clocks of its row; `length` is that of the instance's line
-abbrev pub step_of : Head → ℕ → FinMap nat_cmp ℕ → Effect → ℕ → (Outcome → ℕ) → Instance → Result Step Fail
-step_of head length image e words clocks inst =
-    step_unless (fail_of head e inst) (emission e inst) (record {
-      draft = transfer head image (following_of words inst) (sampled_of length e clocks inst) e inst;
-      exits = record { items = exits_of e clocks (following_of words inst) inst (outcomes image (following_of words inst) e inst) };
+-- where an effect leads
+abbrev pub all_exits : FinMap nat_cmp ℕ → Effect → ℕ → (Outcome → ℕ) → Instance → List Exit
+all_exits image e words clocks inst = exits_of e clocks (following_of words inst) inst (outcomes image (following_of words inst) e inst)
+
+-- by why it is refused, what it emits, and whether the timer keeps time
+abbrev pub step_unless : Option Fail → Option (Option EventKind) → Bool → Step → Result Step Fail
+step_unless (Some why) emitted in_time step = Err why
+step_unless None None in_time step = Err Edge
+step_unless None (Some emitted) false step = Err Clock
+step_unless None (Some emitted) true step = Ok (record step { emit = emitted })
+
+-- an effect, with the words and, by outcome, the clocks of its row
+abbrev pub step_of : Head → Lines → FinMap nat_cmp ℕ → Effect → ℕ → (Outcome → ℕ) → Instance → Result Step Fail
+step_of head lines image e words clocks inst =
+    step_unless (fail_of head e inst) (emission e inst) (clock_holds lines e inst (all_exits image e words clocks inst)) (record {
+      draft = draft_of head (lines.length inst.line) image e words clocks inst;
+      exits = record { items = all_exits image e words clocks inst };
       emit = None;
       back = returns_from_interrupt e;
       clears = clears_flag e inst;
@@ -91,12 +105,12 @@ successor lines inst step exit = at_exit lines inst step.draft step.emit step.cl
 abbrev pub IsReadAt : FinMap nat_cmp ℕ → ℕ → Option Instr → Type 0
 IsReadAt image pc row = Decoded (word_of image (pc % 32768)) (word_of image ((pc + 1) % 32768)) row
 
-abbrev pub step_of_row : Head → ℕ → FinMap nat_cmp ℕ → Option Instr → Instance → Result Step Fail
-step_of_row head length image None inst = Err Opcode
-step_of_row head length image (Some i) inst = step_of head length image (effect_of i) (words_of i) (clocks_of i) inst
+abbrev pub step_of_row : Head → Lines → FinMap nat_cmp ℕ → Option Instr → Instance → Result Step Fail
+step_of_row head lines image None inst = Err Opcode
+step_of_row head lines image (Some i) inst = step_of head lines image (effect_of i) (words_of i) (clocks_of i) inst
 
 -- the abstract step of an instance under its instruction
-pub record IsStep (head : Head) (length : ℕ) (image : FinMap nat_cmp ℕ) (inst : Instance) (result : Result Step Fail) : Type 0 where
+pub record IsStep (head : Head) (lines : Lines) (image : FinMap nat_cmp ℕ) (inst : Instance) (result : Result Step Fail) : Type 0 where
   pub row : Option Instr
   pub reads : IsReadAt image inst.pc row
-  pub is : result ≡ step_of_row head length image row inst
+  pub is : result ≡ step_of_row head lines image row inst

@@ -6,6 +6,7 @@ mod copies;
 mod emission;
 mod exits;
 mod fail;
+mod in_time;
 mod loads;
 mod memory;
 mod one_step;
@@ -13,6 +14,7 @@ mod place;
 mod refusals;
 mod step;
 mod stores;
+mod timer;
 mod transfer;
 mod values;
 

@@ -8,26 +8,31 @@ ghost use Rattle.avr_table.specs.declared.Outcome.TheVariants.{Next};
 ghost use Rattle.uz_machine.specs.declared.Effect.TheVariants.{Return, SkipIf};
 ghost use Rattle.uz_transfer.specs.Kinds.{depth_limit as limit_of_depth};
 ghost use Rattle.uz_transfer.specs.Memory.{depth_of};
-ghost use Rattle.uz_schedule.specs.Schedule.{scanline};
-ghost use Rattle.uz_transfer.specs.Step.{step_of_row, step_of as step_of_effect, IsStep};
-ghost use Rattle.uz_transfer.specs.declared.fail.Fail.TheVariants.{Edge};
+ghost use Rattle.uz_schedule.specs.Limits.{most_lines};
+ghost use Rattle.uz_schedule.specs.Lines.{order_of};
+ghost use Rattle.uz_schedule.specs.Schedule.{scanline, length_of};
+ghost use Rattle.uz_transfer.specs.Refusals.{fail_of as fail_of_effect};
+ghost use Rattle.uz_transfer.specs.Step.{draft_of as known_after, step_of_row, step_of as step_of_effect, IsStep};
+ghost use Rattle.uz_transfer.specs.declared.fail.Fail.TheVariants.{Clock, Edge};
 
 use crate::copies::copied;
 use crate::emission::{clears, emission};
 use crate::exits::exits;
 use crate::fail::Fail;
+use crate::in_time::clock_holds;
 use crate::refusals::fail_of;
 use crate::step::Step;
+use crate::timer::put_timer;
 use crate::transfer::transfer;
 use avr_decode::decode;
 use avr_table::{Instr, Outcome, clocks, words};
 use uz_core::effect;
 use uz_hex::Image;
 use uz_machine::Effect;
-use uz_schedule::{Head, Instance};
+use uz_schedule::{Head, Instance, Schedule};
 
 /// Whether an effect is RETI's.
-fn is_return(e: Effect) -> bool
+pub(crate) fn is_return(e: Effect) -> bool
     ensures { result ≡ returns_from_interrupt e }
 {
     matches!(
@@ -64,20 +69,46 @@ pub fn word_after(pc: u16, words: u8) -> u16
     ((pc as u32 + words as u32) % 32768) as u16
 }
 
-/// The step of an instance under an instruction and its effect. `line_length` is that of the instance's line, in clocks.
-pub(crate) fn step_of(
+/// What is known after an instruction that isn't refused, wherever it leads. `line_length` is that of the instance's line, in clocks.
+fn draft_of(
     image: &Image,
     head: &Head,
+    line_length: u16,
     at: &Instance,
     i: &Instr,
     e: Effect,
-    line_length: u16,
-) -> Result<Step, Fail>
+) -> Instance
     requires limits { limit_of_depth head.now at.now.kind ≤ 32 }
     requires clock { at.now.clock < line_length }
     requires line { line_length ≤ scanline }
     requires fits { EffectFits e }
-    ensures { result ≡ step_of_effect head.now line_length image.now e (words_of i.now) (clocks_of i.now) at.now }
+    requires fine { fail_of_effect head.now e at.now ≡ None }
+    ensures { result ≡ known_after head.now line_length image.now e (words_of i.now) (clocks_of i.now) at.now }
+{
+    let following = word_after(at.pc, words(i));
+    let sampled = sampled(at.clock, line_length, sample(e, i));
+    let mut draft = copied(at);
+    transfer(&mut draft, head, image, following, sampled, e);
+    put_timer(&mut draft, at, sampled, e);
+    draft
+}
+
+/// The step of an instance under an instruction and its effect.
+pub(crate) fn step_of(
+    image: &Image,
+    head: &Head,
+    schedule: &Schedule,
+    at: &Instance,
+    i: &Instr,
+    e: Effect,
+) -> Result<Step, Fail>
+    requires limits { limit_of_depth head.now at.now.kind ≤ 32 }
+    requires count { length schedule.now.lines ≤ most_lines }
+    requires line { at.now.line < length schedule.now.lines }
+    requires long { length_of schedule.now at.now.line ≤ scanline }
+    requires clock { at.now.clock < length_of schedule.now at.now.line }
+    requires fits { EffectFits e }
+    ensures { result ≡ step_of_effect head.now (order_of schedule.now) image.now e (words_of i.now) (clocks_of i.now) at.now }
 {
     if let Some(why) = fail_of(head, e, at) {
         return Err(why);
@@ -85,61 +116,61 @@ pub(crate) fn step_of(
     let Some(emit) = emission(e, at) else {
         return Err(Fail::Edge);
     };
-    let following = word_after(at.pc, words(i));
-    let mut draft = copied(at);
-    transfer(
-        &mut draft,
-        head,
-        image,
-        following,
-        sampled(at.clock, line_length, sample(e, i)),
-        e,
-    );
+    let exits = exits(at, head, image, i, e, word_after(at.pc, words(i)));
+    if !clock_holds(schedule, e, at, exits.as_slice()) {
+        return Err(Fail::Clock);
+    }
     Ok(Step {
-        draft,
-        exits: exits(at, head, image, i, e, following),
+        draft: draft_of(image, head, schedule.length(at.line), at, i, e),
+        exits,
         emit,
         back: is_return(e),
         clears: clears(e, at),
     })
 }
 
-/// The abstract step of an instance. The head and the instance are within the limits of a certificate, and `line_length` is the
-/// length in clocks of the instance's line. A pc counts modulo 32,768 words. Takes no memory.
+/// The abstract step of an instance, in a frame of this schedule's lines. The head and the instance are within the limits of a
+/// certificate; the schedule has at most 525 lines, the instance's line is one of them, no longer than a scanline, and its clock is
+/// one of that line. A pc counts modulo 32,768 words. Takes no memory.
 #[tactic(auto, using(crate::proofs::StepsOf::steps_some, crate::proofs::StepsOf::steps_none))]
 pub fn abstract_step(
     image: &Image,
     head: &Head,
-    line_length: u16,
+    schedule: &Schedule,
     at: &Instance,
 ) -> Result<Step, Fail>
     requires limits { limit_of_depth head.now at.now.kind ≤ 32 }
-    requires clock { at.now.clock < line_length }
-    requires line { line_length ≤ scanline }
-    ensures { IsStep head.now line_length image.now at.now result }
+    requires count { length schedule.now.lines ≤ most_lines }
+    requires line { at.now.line < length schedule.now.lines }
+    requires long { length_of schedule.now at.now.line ≤ scanline }
+    requires clock { at.now.clock < length_of schedule.now at.now.line }
+    ensures { IsStep head.now (order_of schedule.now) image.now at.now result }
 {
     match decode(
         image.word(word_after(at.pc, 0)),
         image.word(word_after(at.pc, 1)),
     ) {
-        Some(i) => step_of(image, head, at, &i, effect(&i), line_length),
+        Some(i) => step_of(image, head, schedule, at, &i, effect(&i)),
         None => Err(Fail::Opcode),
     }
 }
 
-/// The abstract step of an instance under an instruction. The head and the instance are within the limits of a certificate, and `line_length`
-/// is the length in clocks of the instance's line. Takes no memory.
+/// The abstract step of an instance under an instruction, in a frame of this schedule's lines. The head and the instance are within the
+/// limits of a certificate; the schedule has at most 525 lines, the instance's line is one of them, no longer than a scanline, and its
+/// clock is one of that line. Takes no memory.
 pub fn step_of_instruction(
     image: &Image,
     head: &Head,
-    line_length: u16,
+    schedule: &Schedule,
     at: &Instance,
     i: &Instr,
 ) -> Result<Step, Fail>
     requires limits { limit_of_depth head.now at.now.kind ≤ 32 }
-    requires clock { at.now.clock < line_length }
-    requires line { line_length ≤ scanline }
-    ensures { result ≡ step_of_row head.now line_length image.now (Some i.now) at.now }
+    requires count { length schedule.now.lines ≤ most_lines }
+    requires line { at.now.line < length schedule.now.lines }
+    requires long { length_of schedule.now at.now.line ≤ scanline }
+    requires clock { at.now.clock < length_of schedule.now at.now.line }
+    ensures { result ≡ step_of_row head.now (order_of schedule.now) image.now (Some i.now) at.now }
 {
-    step_of(image, head, at, i, effect(i), line_length)
+    step_of(image, head, schedule, at, i, effect(i))
 }

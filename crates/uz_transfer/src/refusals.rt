@@ -6,7 +6,7 @@ ghost use Rattle.uz_machine.specs.declared.Effect.TheVariants.{PushByte, PopByte
 ghost use Rattle.uz_transfer.specs.Kinds.{depth_limit as limit_of_depth, is_main as is_main_kind, misses as misses_all};
 ghost use Rattle.uz_transfer.specs.Emission.{emission as emitted, bit_event as event_of_bit};
 ghost use Rattle.uz_transfer.specs.Memory.{depth_of, slot_value};
-ghost use Rattle.uz_transfer.specs.Refusals.{fail_of as fail_of_effect, is_known_slot as knows_slot, refuse_if as unless_it, is_setup_register as sets_up_at, is_some, stored_bit as bit_of_stored, flag_is as is_bit, range_inside as lies_within, cell_admits as takes_cell, may_store as may_be_stored, flag_fails as fails_by_flag, mask_fails as fails_by_mask, store_fail as fail_of_store, target_fails as fails_target};
+ghost use Rattle.uz_transfer.specs.Refusals.{fail_of as fail_of_effect, is_known_slot as knows_slot, refuse_if as unless_it, is_setup_register as sets_up_at, is_some, stored_bit as bit_of_stored, flag_is as is_bit, range_inside as lies_within, cell_admits as takes_cell, may_store as may_be_stored, flag_fails as fails_by_flag, mask_fails as fails_by_mask, top_fails as fails_by_top, io_fails as fails_by_io, store_fail as fail_of_store, target_fails as fails_target};
 ghost use Rattle.uz_transfer.specs.declared.fail.Fail.TheVariants.{Flag, Io, Edge};
 ghost use Rattle.uz_range.specs.Answers.{is_known as is_known_bit};
 
@@ -16,7 +16,7 @@ use crate::memory::{address_range, cell_place, cell_range, is_handler, is_main, 
 use crate::values::{is_single, is_single_wide, pair_range, span_of, val};
 use uz_machine::{Effect, JumpTarget};
 use uz_range::bst;
-use uz_schedule::{Bit, EventKind, Head, Instance, Kind, Span, Val, Wide};
+use uz_schedule::{Bit, EventKind, Head, Instance, Kind, Span, Val, Wide, is_top};
 
 /// The reason, where it stands, else the later one.
 pub(crate) fn refuse_if(stands: bool, why: Fail, later: Option<Fail>) -> Option<Fail>
@@ -131,6 +131,27 @@ fn mask_fails(kind: Kind, at: u16, v: &Val) -> bool
     at == 0x5F && !flag_is(stored_bit(v, 7), is_main(kind))
 }
 
+/// Whether a store to OCR1AL isn't known to give a line's last clock, with the high byte that TEMP has.
+fn top_fails(at: &Instance, v: &Val) -> bool
+    ensures { result ≡ fails_by_top at.now v.now }
+{
+    let low = span_of(v);
+    let known = is_single(&at.temp) && is_single(&low);
+    !(known && is_top(u16::from(at.temp.lo()) * 256 + u16::from(low.lo())))
+}
+
+/// Whether a register is stored that sets the machine up. A handler may store OCR1AH, and OCR1AL where that gives a line's last
+/// clock.
+fn io_fails(at: &Instance, address: u16, v: &Val) -> bool
+    ensures { result ≡ fails_by_io at.now address v.now }
+{
+    match address {
+        0x88 if is_handler(at.kind) => top_fails(at, v),
+        0x89 if is_handler(at.kind) => false,
+        _ => is_setup_register(address),
+    }
+}
+
 /// Whether there is none.
 fn is_undecided(emitted: Option<Option<EventKind>>) -> bool
     ensures { result ≡ not (is_some emitted) }
@@ -150,7 +171,7 @@ pub(crate) fn store_fail(
 {
     let single = is_single_wide(a);
     let undecided = refuse_if(is_undecided(emitted), Fail::Edge, None);
-    let io = refuse_if(single && is_setup_register(a.lo()), Fail::Io, undecided);
+    let io = refuse_if(single && io_fails(at, a.lo(), v), Fail::Io, undecided);
     let store = refuse_if(!may_store(head, at.kind, a, v), Fail::Store, io);
     let mask = refuse_if(single && mask_fails(at.kind, a.lo(), v), Fail::Mask, store);
     refuse_if(single && flag_fails(at.kind, a.lo(), v), Fail::Flag, mask)

@@ -12,10 +12,11 @@ pub struct Exit {
     pub clocks: u8,
 }
 
-/// What an instruction makes of an instance. Registers, pairs, flags, stack and cells are the same wherever it goes.
+/// What an instruction makes of an instance. OCR1A, TEMP, registers, pairs, flags, stack and cells are the
+/// same wherever it goes.
 #[derive(Debug, Drop)]
 pub struct Step {
-    /// Its registers, pairs, flags, stack and cells are those of all_flags result; the rest is the instance's own.
+    /// Its OCR1A, TEMP, registers, pairs, flags, stack and cells are those of each result; the rest is the instance's own.
     pub draft: Instance,
     /// Where it goes.
     pub exits: ArrayVec<Exit, 16>,
