@@ -1,9 +1,8 @@
 -- What holds of a draft where a kind of line is due, and where none is.
-use Rattle.std.proofs.Common.{◌≡◌, ◌≢◌, ℕ, suc, ◌+◌, ◌<◌, ◌≤◌, Bool, true, false, not, cond, eqb, ltb, List, length, refl, sym, ◌∙◌, ap}
+use Rattle.std.proofs.Common.{◌≡◌, ◌≢◌, ℕ, ◌<◌, ◌≤◌, Bool, true, false, cond, eqb, ltb, length, refl}
 use Rattle.std.proofs.Common.{subst, arith}
 use Rattle.std.specs.Prelude.{Option, Some, None}
 use Rattle.std.proofs.lemmas.Bool.{ltb-true, ltb-false, eqb-true, eqb-false}
-use Rattle.uz_schedule.specs.declared.states.Entry.{Entry}
 use Rattle.uz_cert.specs.Drafts.{lacks, due_of, due_of_schedule, due_of_states}
 use Rattle.uz_cert.specs.Kept.{IsBody, IsAfterCells}
 use Rattle.uz_cert.specs.declared.due.Due.{Due}

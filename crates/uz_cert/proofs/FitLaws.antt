@@ -1,21 +1,22 @@
--- What is read of a text is within limits, and its lengths are those of the text's version.
-use Rattle.std.proofs.Common.{◌≡◌, ℕ, suc, ◌+◌, ◌-◌, Bool, true, false, cond, eqb, bytes_eq, List, [], ◌∷◌}
-use Rattle.std.proofs.Common.{◌++◌, All, refl, sym, ◌∙◌, ap, subst}
+-- What is read of a text is within limits, and what the text's version says.
+use Rattle.std.proofs.Common.{◌≡◌, ℕ, ◌+◌, ◌-◌, Bool, true, false, cond, eqb, bytes_eq, List, [], ◌∷◌}
+use Rattle.std.proofs.Common.{◌++◌, refl, sym, ◌∙◌, ap, subst}
 use Rattle.std.specs.Prelude.{Option, Some, None, Result, Ok, Err, IfOk}
 use Rattle.uz_schedule.specs.Schedule.{scanline}
 use Rattle.uz_schedule.specs.WellFormed.{WellFormed}
 use Rattle.uz_schedule.specs.declared.certificate.Cert.{Cert}
 use Rattle.uz_schedule.specs.declared.states.Entry.{Entry}
-use Rattle.uz_lines.specs.Lines.{head_line, IsLengthIn}
+use Rattle.uz_lines.specs.Lines.{head_line}
 use Rattle.uz_lines.specs.declared.lines.Said.{Said}
 use Rattle.uz_lines.specs.declared.lines.Said.TheVariants as said
 use Rattle.uz_lines.specs.declared.version.Version.{Version}
 use Rattle.uz_lines.specs.declared.why.CertWhy.TheVariants as why
 use Rattle.uz_cert.specs.Drafts.{first_draft, due_of, draft_after}
 use Rattle.uz_cert.specs.Kept.{Kept}
-use Rattle.uz_cert.specs.Reading.{Fault, Gives, pieces_of, is_more, words_in, or_fault, line_says}
+use Rattle.uz_cert.specs.Reading.{Gives, pieces_of, is_more, words_in, or_fault, line_says}
 use Rattle.uz_cert.specs.Reading.{cert_from, cert_with, cert_before, read_by}
 use Rattle.uz_cert.specs.Reading.{read_from, read_pieces, cert_of_text}
+use Rattle.uz_cert.specs.Texts.{IsOfVersion}
 use Rattle.uz_cert.specs.declared.due.Due.{Due}
 use Rattle.uz_cert.specs.declared.draft.Draft.{Draft}
 use Rattle.uz_cert.specs.declared.errors.CertError.{CertError}
@@ -24,9 +25,9 @@ use Rattle.uz_cert.proofs.SaidLaws.{said_fits}
 use Rattle.uz_cert.proofs.TextLaws.{told, says_ok, fault_ok, same_cert}
 use Rattle.uz_cert.proofs.Whole.{whole_fits}
 
--- within limits, and of lengths of a version
+-- within limits, and what a version says
 abbrev pub FitsIn : Version → Cert → Type 0
-FitsIn version c = WellFormed c × All (IsLengthIn version) c.schedule.lengths
+FitsIn version c = WellFormed c × IsOfVersion version c
 
 version_kept : (d : Draft) (s : Said) → (draft_after d s).version ≡ d.version
 unfolding draft_after
@@ -61,7 +62,8 @@ with_entry : (d : Draft) (o : Option Entry) (c : Cert) → Kept d → due_of d �
     → FitsIn d.version c
 with_entry d None c k due is e = absurd cc
 with_entry d (Some x) c k due is e =
-    subst (FitsIn d.version) (same_cert (cert_from d x) c e) (whole_fits d x k due is, k.kinds.own)
+    subst (FitsIn d.version) (same_cert (cert_from d x) c e)
+    (whole_fits d x k due is, record { lengths = k.kinds.own; points = k.points.own })
 
 before_fits : (d : Draft) (line : List ℕ) (rest : List (List ℕ)) (c : Cert) → Kept d → due_of d ≡ None → cert_before d line rest ≡ told c
     → FitsIn d.version c
@@ -98,7 +100,7 @@ text_fits version text c e = by (pieces_of text) e
     by [] h = absurd cc
     by (line ∷ rest) h = of_head rest (bytes_eq line (head_line version)) (is_more rest) h
 
-pub gives_lengths : (version : Version) (text : List ℕ) (result : Result Cert CertError) → Gives result (cert_of_text version text)
-    → IfOk result (λ c. All (IsLengthIn version) c.schedule.lengths)
-gives_lengths version text (Ok c) g = (text_fits version text c g).1
-gives_lengths version text (Err e) g = tt
+pub gives_version : (version : Version) (text : List ℕ) (result : Result Cert CertError) → Gives result (cert_of_text version text)
+    → IfOk result (IsOfVersion version)
+gives_version version text (Ok c) g = (text_fits version text c g).1
+gives_version version text (Err e) g = tt

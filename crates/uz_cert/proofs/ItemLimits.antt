@@ -1,15 +1,16 @@
 -- What the items of a line say is within limits.
-use Rattle.std.proofs.Common.{◌≡◌, ◌≢◌, ◌⊎◌, inl, inr, ℕ, zero, suc, ◌+◌, ◌<◌, ◌≤◌, Bool, true, false, ◌&&◌, ◌||◌, not, cond, eqb, leb, ltb}
-use Rattle.std.proofs.Common.{List, [], ◌∷◌, ◌++◌, length, take, map, set, get_or, All, refl, sym, ◌∙◌, ap, subst, arith, length-append}
-use Rattle.std.specs.Prelude.{Option, Some, None, Result, Ok, Err, filter, slice_get}
-use Rattle.std.proofs.lemmas.Bool.{leb-true, le-leb, eqb-true, eqb-false}
+use Rattle.std.proofs.Common.{◌≡◌, ◌≢◌, ◌⊎◌, inl, inr, ℕ, zero, suc, ◌+◌, ◌-◌, ◌<◌, ◌≤◌, Bool, true, false, ◌&&◌, ◌||◌, cond, eqb, leb}
+use Rattle.std.proofs.Common.{List, [], ◌∷◌, length, set, get_or, All, refl, sym, ◌∙◌, ap, subst, arith, length-append}
+use Rattle.std.specs.Prelude.{Some, Ok, filter, slice_get}
+use Rattle.std.proofs.lemmas.Bool.{le-leb, eqb-true, eqb-false}
 use Rattle.std.proofs.lemmas.List.{length-set, get_or-set_same, get_or-set_other}
 use Rattle.std.proofs.lemmas.List.Elements.{All-from_recursion, All-nil, All-cons, All-head, All-tail, All-push, All-set, All-get_or}
 use Rattle.std.proofs.lemmas.Option.{get_or_from_slice_get, slice_get_within}
-use Rattle.uz_schedule.specs.Ends.{Ends, is_within}
+use Rattle.uz_schedule.specs.Ends.{whole_byte}
+use Rattle.uz_schedule.specs.Schedule.{scanline}
 use Rattle.uz_schedule.specs.Tracked.{tracks}
-use Rattle.uz_schedule.specs.Limits.{rises, rises_from}
-use Rattle.uz_schedule.specs.WellFormed.{RangeFits, FactFits, CellFactFits, PairFits, BitFits, is_default_flag, is_zero_or_one}
+use Rattle.uz_schedule.specs.Limits.{is_top, rises}
+use Rattle.uz_schedule.specs.WellFormed.{RangeFits, PairFits, BitFits, is_default_flag, is_zero_or_one}
 use Rattle.uz_schedule.specs.WellFormed.{is_carry_and_zero_default}
 use Rattle.uz_schedule.specs.declared.kinds.Kind.{Kind}
 use Rattle.uz_schedule.specs.declared.kinds.Kind.TheVariants.{Main, Handler, Alone}
@@ -20,19 +21,15 @@ use Rattle.uz_schedule.specs.declared.facts.PairFact.{PairFact}
 use Rattle.uz_schedule.specs.declared.facts.PairFact.TheVariants as pair
 use Rattle.uz_schedule.specs.declared.facts.Bit.{Bit}
 use Rattle.uz_schedule.specs.declared.facts.Bit.TheVariants as bit
-use Rattle.uz_lines.specs.Why.{◌>>=◌}
-use Rattle.uz_lines.specs.Lines.{span_of_fact}
 use Rattle.uz_lines.specs.Defaults.{range_fact}
 use Rattle.uz_lines.specs.Grammar.{Words}
-use Rattle.uz_lines.specs.Items.{own_regs, any_regs, default_regs, default_flag, seven, default_cells, first_facts, tracked_count}
+use Rattle.uz_lines.specs.Items.{own_regs, any_regs, default_regs, default_flag, seven, default_cells, first_facts}
 use Rattle.uz_lines.specs.Items.{tracked_before, names_c_or_z, any_names, take_item, items_end, items_from, read_items}
 use Rattle.uz_lines.specs.declared.items.Shape.{Shape}
 use Rattle.uz_lines.specs.declared.items.Facts.{Facts}
-use Rattle.uz_lines.specs.declared.why.CertWhy.{CertWhy}
 use Rattle.uz_cert.specs.Kept.{least_after}
 use Rattle.uz_cert.proofs.KeptLaws.{rises_push, least_push}
 use Rattle.uz_cert.proofs.Numbers.{bind_ok, and_true, ok_same}
-use Rattle.uz_cert.proofs.Values.{IsPlain}
 use Rattle.uz_cert.proofs.ItemSteps.{ByteFits, CellValue, Took, item_took, no_word}
 
 -- each cell has its fact
@@ -55,6 +52,9 @@ pub record ItemsFit (shape : Shape) (cells : List Cell) (f : Facts) : Type 0 whe
   pub slots : length f.stack.items ≤ shape.depth
   pub stack : All (ByteFits shape) f.stack.items
   pub tracked : CellsFit shape.plain (cells_of shape.kind cells) f.cells.items
+  pub top : is_top f.top ≡ true
+  pub temp : RangeFits 255 f.temp
+  pub untimed : shape.timed ≡ false → (f.top ≡ scanline - 1) × (f.temp ≡ whole_byte)
   pub few : length f.next.items ≤ 16
   pub there : All (λ id. id < shape.points) f.next.items
   pub rise : rises f.next.items ≡ true
@@ -210,6 +210,9 @@ first_fit shape cells e h = record {
   slots = omega arith;
   stack = All-nil (ByteFits shape);
   tracked = defaults_fit shape.plain shape.kind cells h;
+  top = refl;
+  temp = record { order = omega arith; high = omega arith };
+  untimed = λ _. (refl, refl);
   few = omega arith;
   there = All-nil (λ id. id < shape.points);
   rise = refl;
@@ -221,6 +224,10 @@ unfolding first_facts
 first_told shape cells later z = absurd cc
 
 -- one item
+
+timed_not : (t : Bool) → t ≡ true → t ≡ false → ⊥
+timed_not true e u = absurd cc
+timed_not false e u = absurd cc
 
 took_fits : (shape : Shape) (cells : List Cell) (f : Facts) (first : ℕ) (later : List (List ℕ)) (more : Facts)
     → ItemsFit shape cells f → Took shape cells f first later more → ItemsFit shape cells more
@@ -234,6 +241,9 @@ took_fits shape cells f first later more h (Took.Register r x low order is fits 
   slots = h.slots;
   stack = h.stack;
   tracked = h.tracked;
+  top = h.top;
+  temp = h.temp;
+  untimed = h.untimed;
   few = h.few;
   there = h.there;
   rise = h.rise;
@@ -249,6 +259,9 @@ took_fits shape cells f first later more h (Took.Pair k x low order is fits smal
   slots = h.slots;
   stack = h.stack;
   tracked = h.tracked;
+  top = h.top;
+  temp = h.temp;
+  untimed = h.untimed;
   few = h.few;
   there = h.there;
   rise = h.rise;
@@ -264,6 +277,9 @@ took_fits shape cells f first later more h (Took.Flag b x low fits told names e)
   slots = h.slots;
   stack = h.stack;
   tracked = h.tracked;
+  top = h.top;
+  temp = h.temp;
+  untimed = h.untimed;
   few = h.few;
   there = h.there;
   rise = h.rise;
@@ -279,6 +295,9 @@ took_fits shape cells f first later more h (Took.Slot x is fits room e) = subst 
   slots = simp length-append (omega (arith, room));
   stack = All-push (ByteFits shape) f.stack.items x h.stack fits;
   tracked = h.tracked;
+  top = h.top;
+  temp = h.temp;
+  untimed = h.untimed;
   few = h.few;
   there = h.there;
   rise = h.rise;
@@ -294,6 +313,45 @@ took_fits shape cells f first later more h (Took.OfCell i m x is there is_tracke
   slots = h.slots;
   stack = h.stack;
   tracked = set_cells shape.plain shape.kind cells i m f.cells.items x there is_tracked fits h.tracked;
+  top = h.top;
+  temp = h.temp;
+  untimed = h.untimed;
+  few = h.few;
+  there = h.there;
+  rise = h.rise;
+  after_is = h.after_is;
+})
+took_fits shape cells f first later more h (Took.Top top is timed fits e) = subst (ItemsFit shape cells) (sym e) (record {
+  reg_count = h.reg_count;
+  regs = h.regs;
+  pair_count = h.pair_count;
+  pairs = h.pairs;
+  flag_count = h.flag_count;
+  flags = h.flags;
+  slots = h.slots;
+  stack = h.stack;
+  tracked = h.tracked;
+  top = fits;
+  temp = h.temp;
+  untimed = λ u. absurd (timed_not shape.timed timed u);
+  few = h.few;
+  there = h.there;
+  rise = h.rise;
+  after_is = h.after_is;
+})
+took_fits shape cells f first later more h (Took.Temp temp is timed fits e) = subst (ItemsFit shape cells) (sym e) (record {
+  reg_count = h.reg_count;
+  regs = h.regs;
+  pair_count = h.pair_count;
+  pairs = h.pairs;
+  flag_count = h.flag_count;
+  flags = h.flags;
+  slots = h.slots;
+  stack = h.stack;
+  tracked = h.tracked;
+  top = h.top;
+  temp = fits;
+  untimed = λ u. absurd (timed_not shape.timed timed u);
   few = h.few;
   there = h.there;
   rise = h.rise;
@@ -309,6 +367,9 @@ took_fits shape cells f first later more h (Took.Successor id is room there orde
   slots = h.slots;
   stack = h.stack;
   tracked = h.tracked;
+  top = h.top;
+  temp = h.temp;
+  untimed = h.untimed;
   few = simp length-append (omega (arith, room));
   there = All-push (λ n. n < shape.points) f.next.items id h.there there;
   rise = rises_push 0 f.next.items id h.rise (subst (λ n. n ≤ id) h.after_is order);
@@ -412,6 +473,24 @@ took_told shape cells f b bs later more h told (Took.Slot x is fits room e) =
       )
     ])
 took_told shape cells f b bs later more h told (Took.OfCell i m x is there is_tracked fits e) =
+    subst (λ m. Told shape m later) (sym e)
+    (λ z. elim (told z) [
+      | inl t ↦ inl t
+      | inr s ↦ inr (
+        later_names b bs later (λ c. omega (arith, is, c)) (λ c. omega (arith, is, c)) s.0,
+        omega arith,
+      )
+    ])
+took_told shape cells f b bs later more h told (Took.Top top is timed fits e) =
+    subst (λ m. Told shape m later) (sym e)
+    (λ z. elim (told z) [
+      | inl t ↦ inl t
+      | inr s ↦ inr (
+        later_names b bs later (λ c. omega (arith, is, c)) (λ c. omega (arith, is, c)) s.0,
+        omega arith,
+      )
+    ])
+took_told shape cells f b bs later more h told (Took.Temp temp is timed fits e) =
     subst (λ m. Told shape m later) (sym e)
     (λ z. elim (told z) [
       | inl t ↦ inl t

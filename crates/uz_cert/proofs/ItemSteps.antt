@@ -1,14 +1,17 @@
 -- What one item of a line does to what the items before it say.
-use Rattle.std.proofs.Common.{◌≡◌, ◌⊎◌, inl, inr, ℕ, zero, suc, ◌+◌, ◌<◌, ◌≤◌, ◌^◌, Bool, true, false, ◌&&◌, ◌||◌, not, cond, eqb, leb, ltb}
+use Rattle.std.proofs.Common.{◌≡◌, ◌⊎◌, inl, inr, ℕ, zero, suc, ◌+◌, ◌<◌, ◌≤◌, Bool, true, false, ◌&&◌, ◌||◌, not, cond, eqb, leb, ltb}
 use Rattle.std.proofs.Common.{List, [], ◌∷◌, ◌++◌, length, set, lit<, refl, sym, ◌∙◌, ap, subst, arith}
 use Rattle.std.specs.Prelude.{Option, Some, None, Result, Ok, Err, codes, bytes_eq, decimal, slice_get}
-use Rattle.std.proofs.lemmas.Bool.{leb-true, ltb-true, leb-false, ltb-false, eqb-true, eqb-false, le-leb}
+use Rattle.std.proofs.lemmas.Bool.{leb-true, ltb-true, eqb-true, le-leb}
 use Rattle.std.proofs.lemmas.Fmt.{decimal_digit}
+use Rattle.std.proofs.lemmas.Slice.Eq.{bytes_eq-Decides}
 use Rattle.uz_text.specs.Cutting.{cut_at, cut_behind}
 use Rattle.uz_text.specs.Numbers.{is_numeral, number_below}
 use Rattle.uz_schedule.specs.Ends.{Ends, is_within}
+use Rattle.uz_schedule.specs.Limits.{is_top}
+use Rattle.uz_schedule.specs.Schedule.{scanline}
 use Rattle.uz_schedule.specs.Tracked.{tracks}
-use Rattle.uz_schedule.specs.WellFormed.{RangeFits, PartFits, FactFits, CellFactFits, PairFits, BitFits, is_default_flag, is_zero_or_one}
+use Rattle.uz_schedule.specs.WellFormed.{RangeFits, FactFits, CellFactFits, PairFits, BitFits, is_default_flag, is_zero_or_one}
 use Rattle.uz_schedule.specs.declared.kinds.Kind.{Kind}
 use Rattle.uz_schedule.specs.declared.kinds.Kind.TheVariants.{Main, Handler, Alone}
 use Rattle.uz_schedule.specs.declared.header.Cell.{Cell}
@@ -18,12 +21,13 @@ use Rattle.uz_schedule.specs.declared.facts.PairFact.{PairFact}
 use Rattle.uz_schedule.specs.declared.facts.PairFact.TheVariants as pair
 use Rattle.uz_schedule.specs.declared.facts.Bit.{Bit}
 use Rattle.uz_lines.specs.Why.{◌>>=◌}
-use Rattle.uz_lines.specs.Values.{digits, raw_of, fact_of, pair_of, bit_of, is_ordered}
+use Rattle.uz_lines.specs.Values.{digits, one_number, range, raw_of, fact_of, pair_of, ends_of, bit_of, is_ordered}
 use Rattle.uz_lines.specs.Lines.{span_of_fact}
-use Rattle.uz_lines.specs.Defaults.{is_default, is_any_pair, is_range}
+use Rattle.uz_lines.specs.Defaults.{is_default, is_any_pair, is_range, is_default_top}
 use Rattle.uz_lines.specs.Items.{in_order, is_handler, bytes_forms, register_set, register_key, take_register, pair_forms, pair_set}
 use Rattle.uz_lines.specs.Items.{take_pair, flag_set, take_flag, slot_set, slot_room, take_slot, tracked_before, with_number, cell_at}
-use Rattle.uz_lines.specs.Items.{cell_forms, numbered, cell_set, cell_value, take_cell, successor_set, take_successor, names_c_or_z}
+use Rattle.uz_lines.specs.Items.{cell_forms, numbered, cell_set, cell_value, take_cell, successor_set, take_successor}
+use Rattle.uz_lines.specs.Items.{top_set, top_value, take_top, temp_forms, temp_set, take_temp, take_timer}
 use Rattle.uz_lines.specs.Items.{any_names, is_flag_z, take_letter, take_keyed, take_cut, take_named, take_second, take_item}
 use Rattle.uz_lines.specs.declared.values.FactForms.{FactForms}
 use Rattle.uz_lines.specs.declared.values.Raw.{Raw}
@@ -33,7 +37,8 @@ use Rattle.uz_lines.specs.declared.items.Facts.{Facts}
 use Rattle.uz_lines.specs.declared.why.CertWhy.{CertWhy}
 use Rattle.uz_lines.specs.declared.why.CertWhy.TheVariants as why
 use Rattle.uz_cert.proofs.Numbers.{bind_ok, accepted, and_true, chosen_ok, passed_ok, ok_same, below_limit}
-use Rattle.uz_cert.proofs.Values.{RawFits, raw_fits, IsPlain, ByteForms, fact_fits, cell_fact_fits, plain_fact, pair_fits, bit_fits}
+use Rattle.uz_cert.proofs.Values.{RawFits, whole_range, raw_fits, IsPlain, ByteForms, fact_fits, cell_fact_fits, plain_fact, pair_fits}
+use Rattle.uz_cert.proofs.Values.{ends_fits, bit_fits}
 
 -- a fact of a register or a slot; in an entry a range
 abbrev pub ByteFits : Shape → Fact → Type 0
@@ -43,7 +48,7 @@ ByteFits shape f = FactFits shape.kind f × (shape.plain ≡ true → IsPlain f)
 abbrev pub CellValue : Bool → Cell → Fact → Type 0
 CellValue plain m f = CellFactFits f × (plain ≡ true → IsPlain f × (is_within (span_of_fact f) m.range ≡ true))
 
--- One item: a register, a pair, a flag, a slot, a cell or a successor. The first byte of its word says which
+-- One item: a register, a pair, a flag, a slot, a cell, OCR1A, TEMP or a successor
 pub data Took (shape : Shape) (cells : List Cell) (f : Facts) (first : ℕ) (later : List (List ℕ)) (more : Facts) : Type 0 where
   Register : (r : ℕ) (fact : Fact) → r < 32 → f.least ≤ r → first ≡ 114 → ByteFits shape fact
       → more ≡ record f { regs = set f.regs r fact; least = r + 1 } → Took shape cells f first later more
@@ -59,8 +64,12 @@ pub data Took (shape : Shape) (cells : List Cell) (f : Facts) (first : ℕ) (lat
       → CellValue shape.plain m fact
       → more ≡ record f { cells = record { items = set f.cells.items (tracked_before shape.kind i cells) fact }; least = 44 + i }
       → Took shape cells f first later more
+  Top : (top : ℕ) → first ≡ 116 → shape.timed ≡ true → is_top top ≡ true → more ≡ record f { top = top; least = 60 }
+      → Took shape cells f first later more
+  Temp : (temp : Ends) → first ≡ 116 → shape.timed ≡ true → RangeFits 255 temp → more ≡ record f { temp = temp; least = 61 }
+      → Took shape cells f first later more
   Successor : (id : ℕ) → first ≡ 62 → length f.next.items < 16 → id < shape.points → f.after ≤ id
-      → more ≡ record f { next = record { items = f.next.items ++ id ∷ [] }; after = id + 1; least = 59 } → Took shape cells f first later
+      → more ≡ record f { next = record { items = f.next.items ++ id ∷ [] }; after = id + 1; least = 61 } → Took shape cells f first later
       more
 
 -- the order
@@ -285,13 +294,36 @@ cell_took shape cells f later key value more few e =
     value_took shape cells f later number value w.0 more few
     (numbered_ok (is_numeral key) (raw_of (cell_forms shape (cell_at cells number)) value) w.0 w.1) w.2
 
+-- the timer
+
+top_took : (shape : Shape) (cells : List Cell) (f : Facts) (later : List (List ℕ)) (value : List ℕ) (more : Facts)
+    → take_top shape f value ≡ Ok more → Took shape cells f 116 later more
+unfolding take_top
+top_took shape cells f later value more e =
+    let p = chosen_ok shape.timed why.Word (one_number 0 scanline value >>= (λ top. top_value f top)) more e in
+    let m = bind_ok (one_number 0 scanline value) (λ top. top_value f top) more p.1 in
+    let t = chosen_ok (is_top m.0) why.Limit (top_set f m.0) more m.2 in
+    let o = bind_ok (in_order f 59 (is_default_top m.0)) (λ place. accepted Facts (record f { top = m.0; least = 60 })) more t.1 in
+    Took.Top m.0 refl p.0 t.0 (sym (ok_same (record f { top = m.0; least = 60 }) more o.2))
+
+temp_took : (shape : Shape) (cells : List Cell) (f : Facts) (later : List (List ℕ)) (value : List ℕ) (more : Facts)
+    → take_temp shape f value ≡ Ok more → Took shape cells f 116 later more
+unfolding take_temp
+temp_took shape cells f later value more e =
+    let p = chosen_ok shape.timed why.Word (range temp_forms value >>= (λ raw. ends_of raw >>= (λ temp. temp_set f temp))) more e in
+    let w = bind_ok (range temp_forms value) (λ raw. ends_of raw >>= (λ temp. temp_set f temp)) more p.1 in
+    let g = bind_ok (ends_of w.0) (λ temp. temp_set f temp) more w.2 in
+    let o = bind_ok (in_order f 60 false) (λ place. accepted Facts (record f { temp = g.0; least = 61 })) more g.2 in
+    Took.Temp g.0 refl p.0 (ends_fits temp_forms value w.0 g.0 (omega arith) (whole_range temp_forms value w.0 w.1) g.1)
+    (sym (ok_same (record f { temp = g.0; least = 61 }) more o.2))
+
 -- successors
 
 id_took : (shape : Shape) (cells : List Cell) (f : Facts) (later : List (List ℕ)) (o : Option ℕ) (more : Facts) → length f.next.items < 16
     → ((id : ℕ) → o ≡ Some id → id < shape.points) → successor_set f o ≡ Ok more → Took shape cells f 62 later more
 id_took shape cells f later None more room h e = absurd cc
 id_took shape cells f later (Some id) more room h e =
-    let next = record f { next = record { items = f.next.items ++ id ∷ [] }; after = id + 1; least = 59 } in
+    let next = record f { next = record { items = f.next.items ++ id ∷ [] }; after = id + 1; least = 61 } in
     let t = chosen_ok (leb f.after id) why.Order (accepted Facts next) more e in
     Took.Successor id refl room (h id refl) (leb-true f.after id t.0) (sym (ok_same next more t.1))
 
@@ -367,6 +399,22 @@ letter_took shape cells f first value later more e =
     (λ x. omega (arith, x))) h)
     (λ _ h. absurd cc))))))))) e
 
+-- the key's first byte
+key_begins : (c b : ℕ) (cs bs : List ℕ) → bytes_eq (c ∷ cs) (b ∷ bs) ≡ true → b ≡ c
+key_begins c b cs bs e = heads ((bytes_eq-Decides (c ∷ cs) (b ∷ bs)).0 e)
+  where
+    heads : c ∷ cs ≡ b ∷ bs → b ≡ c
+    heads k = cc
+
+timer_took : (shape : Shape) (cells : List Cell) (f : Facts) (c : ℕ) (cs value : List ℕ) (later : List (List ℕ)) (more : Facts)
+    → take_timer shape f (c ∷ cs) value ≡ Ok more → Took shape cells f c later more
+timer_took shape cells f c cs value later more e =
+    either_way (Took shape cells f c later more) (bytes_eq (c ∷ cs) (codes "top")) (take_top shape f value) _ more
+    (λ t h. subst (λ n. Took shape cells f n later more) (key_begins c 116 cs (codes "op") t) (top_took shape cells f later value more h))
+    (λ _. either_way (Took shape cells f c later more) (bytes_eq (c ∷ cs) (codes "temp")) (take_temp shape f value) _ more
+    (λ t h. subst (λ n. Took shape cells f n later more) (key_begins c 116 cs (codes "emp") t) (temp_took shape cells f later value more h))
+    (λ _ h. absurd cc)) e
+
 keyed_took : (shape : Shape) (cells : List Cell) (f : Facts) (key value : List ℕ) (later : List (List ℕ)) (first : ℕ) (more : Facts)
     → ((i : ℕ) (m : Cell) → slice_get cells i ≡ Some m → m.range.hi ≤ 255) → ((c : ℕ) (cs : List ℕ) → key ≡ c ∷ cs → c ≡ first)
     → take_keyed shape cells f key value later ≡ Ok more → Took shape cells f first later more
@@ -379,7 +427,7 @@ keyed_took shape cells f (c ∷ cs) value later first more few same e =
     (λ t h. first_is shape cells f c 109 later more t (cell_took shape cells f later cs value more few h))
     (λ _. either_way (Took shape cells f c later more) (eqb (length cs) 0) _ _ more
     (λ t h. letter_took shape cells f c value later more h)
-    (λ _ h. absurd cc))) e)
+    (λ _ h. timer_took shape cells f c cs value later more h))) e)
 
 first_kept : (b c : ℕ) (cs : List ℕ) (o : Option (List ℕ × List ℕ)) (p : List ℕ × List ℕ) → cut_behind (b ∷ []) o ≡ Some p → p.0 ≡ c ∷ cs
     → c ≡ b

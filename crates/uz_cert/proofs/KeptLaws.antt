@@ -1,8 +1,8 @@
 -- Each line that is within limits where it is due keeps what is read so far within limits.
-use Rattle.std.proofs.Common.{◌≡◌, ◌⊎◌, inl, inr, ℕ, suc, ◌+◌, ◌-◌, ◌*◌, ◌<◌, ◌≤◌, Bool, true, false, ◌&&◌, cond, eqb, leb, ltb, List}
+use Rattle.std.proofs.Common.{◌≡◌, ◌⊎◌, inl, inr, ℕ, suc, ◌+◌, ◌-◌, ◌*◌, ◌<◌, ◌≤◌, Bool, true, false, ◌&&◌, eqb, leb, ltb, List}
 use Rattle.std.proofs.Common.{[], ◌∷◌, ◌++◌, length, map, replicate, All, refl, sym, ◌∙◌, ap, subst, arith, length-append}
-use Rattle.std.specs.Prelude.{Option, None, Some, IsTrue, IfSome, sum_by}
-use Rattle.std.proofs.lemmas.Bool.{leb-true, le-leb, eqb-true, eqb-false}
+use Rattle.std.specs.Prelude.{Option, None, IfSome, sum_by}
+use Rattle.std.proofs.lemmas.Bool.{le-leb, eqb-true, eqb-false}
 use Rattle.std.proofs.lemmas.Nat.{mul-le}
 use Rattle.std.proofs.lemmas.List.{map-append, length-replicate}
 use Rattle.std.proofs.lemmas.List.Sums.{sum_by_push}
@@ -26,10 +26,10 @@ use Rattle.uz_lines.specs.declared.lines.Said.TheVariants as said
 use Rattle.uz_lines.specs.declared.version.Version.{Version}
 use Rattle.uz_lines.specs.declared.version.Version.TheVariants.{First, Second}
 use Rattle.uz_cert.specs.Drafts.{first_draft, with_said, draft_after}
-use Rattle.uz_lines.specs.Lines.{SizesFit, IsLengthIn}
+use Rattle.uz_lines.specs.Lines.{SizesFit, IsLengthIn, IsPointIn}
 use Rattle.uz_lines.proofs.Lengths.{length_few}
-use Rattle.uz_cert.specs.Kept.{least_after, CellsKept, EventsKept, KindsKept, LinesKept, RestsKept, PointsKept, NoStates}
-use Rattle.uz_cert.specs.Kept.{NoSchedule, Kept}
+use Rattle.uz_cert.specs.Kept.{least_after, CellsKept, KindsKept, LinesKept, RestsKept, PointsKept}
+use Rattle.uz_cert.specs.Kept.{Kept}
 use Rattle.uz_cert.specs.Kept.{CellSaid, KindSaid, EventSaid, RunSaid, RestSaid, EntrySaid, PointSaid, SaidFits}
 use Rattle.uz_cert.specs.declared.draft.Draft.{Draft}
 
@@ -135,11 +135,12 @@ no_rests h s rests least e l = record {
 no_entry : (h : Head) (s : Sizes) (entry : Option Entry) → entry ≡ None → IfSome entry (EntryFits h s.lines s.points)
 no_entry h s entry e = subst (λ o. IfSome o (EntryFits h s.lines s.points)) (sym e) tt
 
-no_points : (h : Head) (s : Sizes) (points : List Point) (left : ℕ) → points ≡ [] → left + sum_by instances_of points ≡ 16777216
-    → PointsKept h s points left
-no_points h s points left e l = record {
+no_points : (version : Version) (h : Head) (s : Sizes) (points : List Point) (left : ℕ) → points ≡ []
+    → left + sum_by instances_of points ≡ 16777216 → PointsKept version h s points left
+no_points version h s points left e l = record {
   few = subst (λ ps. length ps ≤ s.points) (sym e) (omega arith);
   each = subst (All (PointFits h s.lines s.points)) (sym e) (All-nil (PointFits h s.lines s.points));
+  own = subst (All (IsPointIn version)) (sym e) (All-nil (IsPointIn version));
   instances = l;
 }
 
@@ -181,7 +182,7 @@ first_kept version = record {
   lines = no_lines [] 1 1 refl;
   rests = no_rests (first_draft version).head (first_draft version).sizes [] 0 refl refl;
   entry = tt;
-  points = no_points (first_draft version).head (first_draft version).sizes [] 16777216 refl refl;
+  points = no_points version (first_draft version).head (first_draft version).sizes [] 16777216 refl refl;
   opening = λ _. record { cells = refl; owed = refl; kinds = refl; lengths = refl; lines = refl };
   early = λ _. record { rests = refl; entry = refl; points = refl };
 }
@@ -217,7 +218,7 @@ size_kept d s k o f =
       lines = no_lines d.lines s.kinds s.lines empty.lines;
       rests = no_rests d.head s d.rests d.rest_least none.rests k.rests.least_is;
       entry = no_entry d.head s d.entry none.entry;
-      points = no_points d.head s d.points d.left none.points k.points.instances;
+      points = no_points d.version d.head s d.points d.left none.points k.points.instances;
       opening = λ _. record {
         cells = empty.cells;
         owed = empty.owed;
@@ -252,7 +253,7 @@ irq_kept d r k o =
       lines = k.lines;
       rests = no_rests h d.sizes d.rests d.rest_least none.rests k.rests.least_is;
       entry = no_entry h d.sizes d.entry none.entry;
-      points = no_points h d.sizes d.points d.left none.points k.points.instances;
+      points = no_points d.version h d.sizes d.points d.left none.points k.points.instances;
       opening = λ _. record {
         cells = empty.cells;
         owed = empty.owed;
@@ -281,7 +282,7 @@ stack_kept d s k o f =
       lines = k.lines;
       rests = no_rests h d.sizes d.rests d.rest_least none.rests k.rests.least_is;
       entry = no_entry h d.sizes d.entry none.entry;
-      points = no_points h d.sizes d.points d.left none.points k.points.instances;
+      points = no_points d.version h d.sizes d.points d.left none.points k.points.instances;
       opening = λ _. record {
         cells = empty.cells;
         owed = empty.owed;
@@ -331,7 +332,7 @@ cell_kept d c k f =
       lines = k.lines;
       rests = no_rests h d.sizes d.rests d.rest_least none.rests k.rests.least_is;
       entry = no_entry h d.sizes d.entry none.entry;
-      points = no_points h d.sizes d.points d.left none.points k.points.instances;
+      points = no_points d.version h d.sizes d.points d.left none.points k.points.instances;
       opening = past_opening d.read f.body;
       early = λ _. record { rests = none.rests; entry = none.entry; points = none.points };
     }
@@ -562,6 +563,7 @@ point_kept d p k f =
       points = record {
         few = simp length-append (omega (arith, f.room));
         each = All-push (PointFits d.head d.sizes.lines d.sizes.points) d.points p k.points.each f.fits;
+        own = All-push (IsPointIn d.version) d.points p k.points.own f.own;
         instances = less_left d.left (instances_of p) (sum_by instances_of d.points) (sum_by instances_of (d.points ++ p ∷ [])) sum
             f.instances (sum_by_push instances_of d.points p);
       };

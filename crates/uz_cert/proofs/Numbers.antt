@@ -1,7 +1,7 @@
 -- What a number is that was read as asked.
-use Rattle.std.proofs.Common.{◌≡◌, ◌⊎◌, inl, inr, ℕ, zero, suc, ◌+◌, ◌<◌, ◌≤◌, Bool, true, false, ◌&&◌, not, cond, eqb, leb, ltb, List, []}
-use Rattle.std.proofs.Common.{◌∷◌, refl, sym, ◌∙◌, ap, subst, arith}
-use Rattle.std.specs.Prelude.{Option, Some, None, Result, Ok, Err, ◌^◌, decimal, ℤ, pos, negsuc, neg_ℤ}
+use Rattle.std.proofs.Common.{◌≡◌, ◌⊎◌, inl, inr, ℕ, zero, suc, ◌<◌, ◌≤◌, Bool, true, false, ◌&&◌, not, cond, eqb, leb, ltb, List, []}
+use Rattle.std.proofs.Common.{◌∷◌, refl, ap, subst}
+use Rattle.std.specs.Prelude.{Option, Some, None, Result, Ok, Err, ◌^◌, decimal, ℤ, pos, neg_ℤ}
 use Rattle.std.proofs.lemmas.Bool.{leb-true, ltb-true, leb-false, ltb-false}
 use Rattle.uz_text.proofs.NumberWords.{number_read}
 use Rattle.uz_text.specs.Numbers.{is_numeral, digits_after, number_below, from_low, number_within}

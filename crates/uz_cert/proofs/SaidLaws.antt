@@ -1,18 +1,19 @@
 -- What a line says where it is due is within limits.
-use Rattle.std.proofs.Common.{◌≡◌, ◌≢◌, ◌⊎◌, inl, inr, ℕ, zero, suc, ◌+◌, ◌-◌, ◌*◌, ◌/◌, ◌<◌, ◌≤◌, Bool, true, false, ◌&&◌, cond, eqb, ltb}
+use Rattle.std.proofs.Common.{◌≡◌, ◌≢◌, inl, inr, ℕ, zero, suc, ◌+◌, ◌-◌, ◌*◌, ◌/◌, ◌<◌, ◌≤◌, Bool, true, false, ◌&&◌, cond, eqb, ltb}
 use Rattle.std.proofs.Common.{List, [], ◌∷◌, length, map, All, refl, sym, ◌∙◌, ap, subst, arith}
-use Rattle.std.specs.Prelude.{Option, Some, Result, Ok, ℤ, pos, negsuc, filter}
+use Rattle.std.specs.Prelude.{Some, Ok, ℤ, pos, negsuc}
 use Rattle.std.proofs.Math.Nat.{mul-div-le}
 use Rattle.std.proofs.lemmas.Nat.{mul-le}
-use Rattle.std.proofs.lemmas.Bool.{ltb-true, ltb-false, eqb-true}
+use Rattle.std.proofs.lemmas.Bool.{ltb-true, ltb-false}
 use Rattle.std.proofs.lemmas.List.{length-map}
-use Rattle.std.proofs.lemmas.List.Elements.{All-nil, All-cons, All-head, All-tail, All-map, All-weaker}
-use Rattle.uz_schedule.specs.Ends.{Ends}
-use Rattle.uz_schedule.specs.Limits.{clock_limit, KindFits, EventFits}
+use Rattle.std.proofs.lemmas.List.Elements.{All-nil, All-cons, All-map, All-weaker}
+use Rattle.uz_schedule.specs.Ends.{whole_byte}
+use Rattle.uz_schedule.specs.Limits.{clock_limit, is_top, KindFits}
 use Rattle.uz_schedule.specs.Schedule.{scanline}
-use Rattle.uz_schedule.specs.Tracked.{tracks, tracked, depth_of}
-use Rattle.uz_schedule.specs.WellFormed.{RangeFits, CellFits, StackFits, SpansFit, spans_fit, RestFits, BitFits, FactFits, CellFactFits}
-use Rattle.uz_schedule.specs.WellFormed.{EntryKindFits, EntryFactsFit, EntryFits, magnitude, BoxFits, IsAtBegin, PointKindFits, PointFits}
+use Rattle.uz_schedule.specs.Tracked.{depth_of}
+use Rattle.uz_schedule.specs.WellFormed.{RangeFits, CellFits, SpansFit, spans_fit, FactFits, CellFactFits}
+use Rattle.uz_schedule.specs.WellFormed.{EntryKindFits, EntryFactsFit, EntryFits, magnitude, IsTimerLeftOut}
+use Rattle.uz_schedule.specs.WellFormed.{PointKindFits, PointFits}
 use Rattle.uz_schedule.specs.WellFormed.{instances_of}
 use Rattle.uz_schedule.specs.declared.kinds.Kind.{Kind}
 use Rattle.uz_schedule.specs.declared.kinds.Kind.TheVariants.{Main, Handler, Alone}
@@ -24,30 +25,29 @@ use Rattle.uz_lines.specs.Grammar.{Words}
 use Rattle.uz_schedule.specs.declared.lines.EventKind.{EventKind}
 use Rattle.uz_schedule.specs.declared.lines.EventKind.TheVariants as event
 use Rattle.uz_lines.specs.Forms.{LineForm, number, finish, reads}
-use Rattle.uz_lines.specs.Lines.{within, one_of, rising, least_of, response_of, owner_of, off_stack, event_after, none_in_main, shape_of}
-use Rattle.uz_lines.specs.Lines.{span_of_fact, spans_of_facts, entry_of, entry_kind, point_kind, pending_limit, count_limit, point_of}
-use Rattle.uz_lines.specs.Lines.{point_after}
+use Rattle.uz_lines.specs.Lines.{within, least_of, none_in_main, shape_of}
+use Rattle.uz_lines.specs.Lines.{span_of_fact, entry_of, entry_kind, point_kind, pending_limit, count_limit, point_of}
+use Rattle.uz_lines.specs.Lines.{is_timed, point_shape, IsPointIn, point_after}
+use Rattle.uz_lines.specs.Items.{is_handler}
 use Rattle.uz_lines.specs.declared.items.Facts.{Facts}
 use Rattle.uz_lines.specs.declared.lines.PointPlace.{PointPlace}
 use Rattle.uz_lines.specs.declared.lines.Said.{Said}
 use Rattle.uz_lines.specs.declared.lines.Said.TheVariants as said
-use Rattle.uz_lines.specs.declared.lines.Sizes.{Sizes}
 use Rattle.uz_cert.specs.Drafts.{due_of, form_of}
-use Rattle.uz_lines.specs.Lines.{SizesFit, KindLineFits, kind_after}
+use Rattle.uz_lines.specs.Lines.{KindLineFits, kind_after}
 use Rattle.uz_lines.specs.declared.lines.KindLine.{KindLine}
 use Rattle.uz_lines.specs.declared.version.Version.{Version}
 use Rattle.uz_lines.specs.declared.version.Version.TheVariants.{First, Second}
 use Rattle.uz_lines.proofs.Lengths.{length_few, length_asked}
 use Rattle.uz_cert.proofs.KeptLaws.{length_in}
-use Rattle.uz_cert.specs.Kept.{CellsKept, Kept, IsAfterCells, CellSaid, EventSaid, RunSaid, RestSaid, EntrySaid, PointSaid}
+use Rattle.uz_cert.specs.Kept.{CellsKept, Kept, IsAfterCells}
 use Rattle.uz_cert.specs.Kept.{SaidFits}
 use Rattle.uz_cert.specs.declared.due.Due.{Due}
 use Rattle.uz_cert.specs.declared.due.Due.TheVariants as due
 use Rattle.uz_cert.specs.declared.draft.Draft.{Draft}
-use Rattle.uz_cert.proofs.Numbers.{NumberFits}
 use Rattle.uz_cert.proofs.Values.{IsPlain}
-use Rattle.uz_cert.proofs.ItemSteps.{ByteFits, CellValue}
-use Rattle.uz_cert.proofs.ItemLimits.{CellsFit, cells_of, ItemsFit, HasText, EntryShape}
+use Rattle.uz_cert.proofs.ItemSteps.{ByteFits}
+use Rattle.uz_cert.proofs.ItemLimits.{CellsFit, cells_of, ItemsFit, HasText}
 use Rattle.uz_cert.proofs.FormLaws.{Ranges, Ensures, ensured}
 use Rattle.uz_cert.proofs.DueLaws.{IsDue, is_due}
 
@@ -322,27 +322,49 @@ pub record PlaceFits (lines left : ℕ) (at : PointPlace) : Type 0 where
   pub slope : magnitude at.slope < none_in_main at.kind clock_limit
   pub wait : (n : ℕ) × (at.pending ≡ eqb n 1) × (n < pending_limit at.kind)
 
-point_kind_fits : (lines left : ℕ) (at : PointPlace) (f : Facts) (kind : Kind) → at.kind ≡ kind → PlaceFits lines left at
-    → PointKindFits kind (point_of at f)
+-- the timer, as items say it
+abbrev TimerSaid : Version → Kind → Facts → Type 0
+TimerSaid version kind f =
+    (is_top f.top ≡ true) × RangeFits 255 f.temp × (is_timed version kind ≡ false → (f.top ≡ scanline - 1) × (f.temp ≡ whole_byte))
+
+other_untimed : (version : Version) (kind : Kind) → is_handler kind ≡ false → is_timed version kind ≡ false
+other_untimed First kind e = refl
+other_untimed Second kind e = e
+
+left_out : (at : PointPlace) (f : Facts) → (f.top ≡ scanline - 1) × (f.temp ≡ whole_byte) → IsTimerLeftOut (point_of at f)
 unfolding point_of
-point_kind_fits lines left at f Main e p =
+left_out at f h = record { top = h.0; temp = h.1 }
+
+point_is_in : (version : Version) (at : PointPlace) (f : Facts) → TimerSaid version at.kind f → IsPointIn version (point_of at f)
+point_is_in First at f t = left_out at f (t.2 refl)
+point_is_in Second at f t = tt
+
+point_kind_fits : (version : Version) (lines left : ℕ) (at : PointPlace) (f : Facts) (kind : Kind) → at.kind ≡ kind
+    → PlaceFits lines left at → TimerSaid version kind f → PointKindFits kind (point_of at f)
+unfolding point_of
+point_kind_fits version lines left at f Main e p t =
     let few = below_both at.c1 1 (at.c0 + left / (at.l1 - at.l0 + 1)) (subst (λ k. at.c1 < count_limit k left at.l0 at.l1 at.c0) e
     p.counts) in
     let first = subst (λ k. at.l0 < none_in_main k lines) e p.first in
     let last = subst (λ k. at.l1 < none_in_main k lines) e p.last in
     let count = subst (λ k. at.c0 < none_in_main k 256) e p.count in
-    let clock = subst (λ k. at.clock < none_in_main k clock_limit) e p.at_clock in
-    record {
-      first_line = omega (arith, first);
-      last_line = omega (arith, last);
-      first_count = omega (arith, count);
-      last_count = omega (arith, few.0);
-      clock = omega (arith, clock);
-      slope = no_magnitude at.slope (subst (λ k. magnitude at.slope < none_in_main k clock_limit) e p.slope);
-      pending = p.wait.1 ∙ not_pending p.wait.0 (subst (λ k. p.wait.0 < pending_limit k) e p.wait.2);
-    }
-point_kind_fits lines left at f Handler e p = tt
-point_kind_fits lines left at f Alone e p = p.wait.1 ∙ not_pending p.wait.0 (subst (λ k. p.wait.0 < pending_limit k) e p.wait.2)
+    let clock = subst (λ k. at.clock < none_in_main k clock_limit) e p.at_clock in (
+      record {
+        first_line = omega (arith, first);
+        last_line = omega (arith, last);
+        first_count = omega (arith, count);
+        last_count = omega (arith, few.0);
+        clock = omega (arith, clock);
+        slope = no_magnitude at.slope (subst (λ k. magnitude at.slope < none_in_main k clock_limit) e p.slope);
+        pending = p.wait.1 ∙ not_pending p.wait.0 (subst (λ k. p.wait.0 < pending_limit k) e p.wait.2);
+      },
+      left_out at f (t.2 (other_untimed version Main refl)),
+    )
+point_kind_fits version lines left at f Handler e p t = record { top = t.0; temp = t.1 }
+point_kind_fits version lines left at f Alone e p t = (
+  p.wait.1 ∙ not_pending p.wait.0 (subst (λ k. p.wait.0 < pending_limit k) e p.wait.2),
+  left_out at f (t.2 (other_untimed version Alone refl)),
+)
 
 cells_count : (plain : Bool) (ms : List Cell) (fs : List Fact) → CellsFit plain ms fs → length fs ≡ length ms
 cells_count plain [] [] h = refl
@@ -356,16 +378,16 @@ cells_each plain [] (f ∷ fs) h = absurd h
 cells_each plain (m ∷ ms) [] h = absurd h
 cells_each plain (m ∷ ms) (f ∷ fs) h = All-cons CellFactFits f fs h.0.0 (cells_each plain ms fs h.1)
 
-point_fits : (h : Head) (lines points left : ℕ) (at : PointPlace) (f : Facts) → 1 ≤ lines → PlaceFits lines left at
-    → ItemsFit (shape_of h at.kind false points) h.cells.items f → HasText (shape_of h at.kind false points) f
+point_fits : (version : Version) (h : Head) (lines points left : ℕ) (at : PointPlace) (f : Facts) → 1 ≤ lines → PlaceFits lines left at
+    → ItemsFit (point_shape version h at.kind points) h.cells.items f → HasText (point_shape version h at.kind points) f
     → PointFits h lines points (point_of at f)
 unfolding point_of
-point_fits h lines points left at f some p i text =
+point_fits version h lines points left at f some p i text =
     let kind = at.kind in
     let few = below_both at.c1 (none_in_main kind 256) (at.c0 + left / (at.l1 - at.l0 + 1)) p.counts in
     let count = in_limit kind at.c1 256 (omega arith) few.0 in
     record {
-      kind = point_kind_fits lines left at f kind refl p;
+      kind = point_kind_fits version lines left at f kind refl p (i.top, i.temp, i.untimed);
       pc = p.word;
       box = record {
         line_order = p.lines_rise;
@@ -377,7 +399,7 @@ point_fits h lines points left at f some p i text =
       };
       core = record {
         register_count = i.reg_count;
-        registers = All-weaker (ByteFits (shape_of h kind false points)) (FactFits kind) (λ x g. g.0) f.regs i.regs;
+        registers = All-weaker (ByteFits (point_shape version h kind points)) (FactFits kind) (λ x g. g.0) f.regs i.regs;
         pair_count = i.pair_count;
         pairs = i.pairs;
         flag_count = i.flag_count;
@@ -386,7 +408,7 @@ point_fits h lines points left at f some p i text =
       };
       memory = record {
         slots = i.slots;
-        stack = All-weaker (ByteFits (shape_of h kind false points)) (FactFits kind) (λ x g. g.0) f.stack.items i.stack;
+        stack = All-weaker (ByteFits (point_shape version h kind points)) (FactFits kind) (λ x g. g.0) f.stack.items i.stack;
         cell_count = cells_count false (cells_of kind h.cells.items) f.cells.items i.tracked;
         cells = cells_each false (cells_of kind h.cells.items) f.cells.items i.tracked;
       };
@@ -440,7 +462,8 @@ point_said d kept after room n pc p l0 a l1 b c0 c c1 e clock k steps s pending 
       λ f g text. record {
         after = after;
         room = room;
-        fits = point_fits d.head d.sizes.lines d.sizes.points d.left at f kept.sizes.lines_some place g text;
+        fits = point_fits d.version d.head d.sizes.lines d.sizes.points d.left at f kept.sizes.lines_some place g text;
+        own = point_is_in d.version at f (g.top, g.temp, g.untimed);
         instances = point_instances d.sizes.lines d.left at f place;
       },
     )

@@ -16,7 +16,7 @@ use Rattle.uz_lines.specs.declared.version.Version.TheVariants.{First, Second}
 use Rattle.uz_lines.specs.declared.why.CertWhy.{CertWhy}
 use Rattle.uz_lines.specs.declared.why.CertWhy.TheVariants as why
 use Rattle.uz_cert.specs.Drafts.{first_draft, lacks, due_of, form_of, draft_after}
-use Rattle.uz_cert.specs.Reading.{Fault, Gives, IsMemory, pieces_of, is_more, words_in, head_says, line_says, or_fault}
+use Rattle.uz_cert.specs.Reading.{Fault, Gives, IsMemory, pieces_of, is_more, words_in, line_says, or_fault}
 use Rattle.uz_cert.specs.Reading.{cert_from, cert_with, cert_before, read_by, read_from, read_pieces, cert_of_text}
 use Rattle.uz_cert.specs.Texts.{Adds, Reaches, SpellsCertificate, IsCertificateText, HeadFails, LineFails, FailsAtHead, FailsLater}
 use Rattle.uz_cert.specs.Texts.{IsFirstFault}

@@ -1,12 +1,12 @@
 -- What a fact is that was read: within its limits.
-use Rattle.std.proofs.Common.{◌≡◌, ◌⊎◌, inl, inr, ℕ, zero, suc, ◌+◌, ◌<◌, ◌≤◌, Bool, true, false, ◌&&◌, not, cond, eqb, leb, ltb, List, []}
-use Rattle.std.proofs.Common.{◌∷◌, length, refl, sym, ◌∙◌, ap, subst, arith}
+use Rattle.std.proofs.Common.{◌≡◌, ◌⊎◌, inl, inr, ℕ, zero, suc, ◌<◌, ◌≤◌, Bool, true, false, ◌&&◌, not, cond, eqb, ltb, List, []}
+use Rattle.std.proofs.Common.{◌∷◌, refl, ap, subst, arith}
 use Rattle.std.specs.Prelude.{Option, Some, None, Result, Ok, Err, ⊤, ◌^◌, codes, bytes_eq, decimal}
-use Rattle.std.proofs.lemmas.Bool.{leb-true, ltb-true, leb-false, ltb-false, eqb-true, eqb-false}
+use Rattle.std.proofs.lemmas.Bool.{ltb-true, eqb-true, eqb-false}
 use Rattle.uz_text.specs.Cutting.{cut_at}
 use Rattle.uz_text.specs.Numbers.{is_numeral, number_within}
 use Rattle.uz_schedule.specs.Ends.{Ends}
-use Rattle.uz_schedule.specs.WellFormed.{RangeFits, PartFits, SlopeFits, FactFits, CellFactFits, PairFits, BitFits}
+use Rattle.uz_schedule.specs.WellFormed.{RangeFits, PartFits, FactFits, CellFactFits, PairFits, BitFits}
 use Rattle.uz_schedule.specs.declared.kinds.Kind.{Kind}
 use Rattle.uz_schedule.specs.declared.kinds.Kind.TheVariants.{Main, Handler, Alone}
 use Rattle.uz_schedule.specs.declared.facts.Fact.{Fact}
@@ -134,7 +134,7 @@ range_raw f w (Some p) r e = ends_raw p.0 p.1 e
           record { low_is = l.1.0; limit = l.1.1 },
         )
 
-whole_range : (f : FactForms) (w : List ℕ) (r : Raw) → range f w ≡ Ok r → RawFits f w r
+pub whole_range : (f : FactForms) (w : List ℕ) (r : Raw) → range f w ≡ Ok r → RawFits f w r
 unfolding range
 whole_range f w r e = range_raw f w (cut_at 46 w) r e
 
@@ -282,6 +282,21 @@ pair_fits f v (raw.Loop a c) fact b h e =
     })
 pair_fits f v (raw.Old r) fact b h e = absurd cc
 pair_fits f v raw.OldFlags fact b h e = absurd cc
+
+-- the ends of a range of bytes
+pub ends_fits : (f : FactForms) (v : List ℕ) (r : Raw) (e : Ends) → f.limit ≤ 256 → RawFits f v r → ends_of r ≡ Ok e → RangeFits 255 e
+ends_fits f v raw.All e few h g =
+    subst (RangeFits 255) (ok_same (record { lo = 0; hi = 255 }) e g) (record { order = omega arith; high = omega arith })
+ends_fits f v (raw.One n) e few h g =
+    subst (RangeFits 255) (ok_same (record { lo = n; hi = n }) e g) (record { order = omega arith; high = omega (arith, h.0.limit, few) })
+ends_fits f v (raw.Two lo hi) e few h g =
+    let p = chosen_ok (is_ordered 255 lo hi) why.Order (Ok (record { lo = lo; hi = hi })) e g in
+    subst (RangeFits 255) (ok_same (record { lo = lo; hi = hi }) e p.1)
+    (part_of_two 255 lo hi (omega (arith, h.1.limit, few)) p.0).range
+ends_fits f v (raw.Line a b) e few h g = absurd cc
+ends_fits f v (raw.Loop a b) e few h g = absurd cc
+ends_fits f v (raw.Old r) e few h g = absurd cc
+ends_fits f v raw.OldFlags e few h g = absurd cc
 
 -- flags
 

@@ -1,12 +1,9 @@
 -- What is read to its end is a well formed certificate.
-use Rattle.std.proofs.Common.{◌≡◌, ◌≢◌, ℕ, ◌+◌, ◌<◌, ◌≤◌, List, [], ◌∷◌, length, All, refl, sym, ◌∙◌, ap, subst, arith}
+use Rattle.std.proofs.Common.{◌≡◌, ◌≢◌, ℕ, ◌+◌, ◌<◌, ◌≤◌, List, [], ◌∷◌, length, All, refl, subst, arith}
 use Rattle.std.specs.Prelude.{Option, Some, None, Result, Ok, Err, IfOk, IfSome, sum_by}
-use Rattle.uz_schedule.specs.Limits.{clock_limit, ScheduleFits}
+use Rattle.uz_schedule.specs.Limits.{ScheduleFits}
 use Rattle.uz_schedule.specs.WellFormed.{RestFits, EntryFits, PointFits, WellFormed, instances_of}
-use Rattle.uz_schedule.specs.declared.header.Head.{Head}
-use Rattle.uz_schedule.specs.declared.states.Rest.{Rest}
 use Rattle.uz_schedule.specs.declared.states.Entry.{Entry}
-use Rattle.uz_schedule.specs.declared.states.Point.{Point}
 use Rattle.uz_schedule.specs.declared.certificate.Cert.{Cert}
 use Rattle.uz_cert.specs.Drafts.{due_of}
 use Rattle.uz_cert.specs.Kept.{Kept}

@@ -1,5 +1,5 @@
 -- What the lines of a certificate's text say so far, and what the next line has to be.
-use Rattle.std.specs.Prelude.{ℕ, ◌+◌, ◌-◌, ◌==◌, nat_lt, Bool, true, false, List, [], ◌∷◌, ◌++◌, length, replicate, Option, Some, None}
+use Rattle.std.specs.Prelude.{◌+◌, ◌-◌, ◌==◌, nat_lt, Bool, true, false, [], ◌∷◌, ◌++◌, length, replicate, Option, Some, None}
 use Rattle.std.specs.Prelude.{if◌then◌else◌}
 use Rattle.uz_schedule.specs.Schedule.{scanline}
 use Rattle.uz_schedule.specs.WellFormed.{instances_of}
@@ -84,7 +84,7 @@ form_of d due.Fall = fall_form
 form_of d due.Run = run_form d.sizes.kinds (d.sizes.lines - length d.lines) d.run_kind
 form_of d due.Rest = rest_form d.sizes.lines d.sizes.points d.head.cells.items d.rest_least
 form_of d due.Entry = entry_form d.head d.sizes.lines d.sizes.points
-form_of d due.Point = point_form d.head d.sizes.lines d.sizes.points d.left
+form_of d due.Point = point_form d.version d.head d.sizes.lines d.sizes.points d.left
 form_of d due.End = end_form
 
 -- What a line adds

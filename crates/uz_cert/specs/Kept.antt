@@ -1,7 +1,6 @@
 -- What holds of what the lines of a text say, as long as none has a fault: it is within the limits and orders of a well
 -- formed certificate.
-use Rattle.std.specs.Prelude.{◌≡◌, ◌⊎◌, ℕ, suc, ◌+◌, ◌<◌, ◌≤◌, ⊤, IsTrue, List, [], ◌∷◌, All, length, map, sum_by, IfSome, Option, None}
-use Rattle.std.specs.Prelude.{Some}
+use Rattle.std.specs.Prelude.{◌≡◌, ◌⊎◌, ℕ, ◌+◌, ◌<◌, ◌≤◌, IsTrue, List, [], ◌∷◌, All, length, map, sum_by, IfSome, None}
 use Rattle.uz_schedule.specs.Limits.{clock_limit, most_events, rises, clocks_below, lengths_fit, EventFits, EventsFit}
 use Rattle.uz_schedule.specs.WellFormed.{StackFits, CellFits, RestFits, EntryFits, PointFits, instances_of}
 use Rattle.uz_schedule.specs.declared.header.Cell.{Cell}
@@ -10,7 +9,7 @@ use Rattle.uz_schedule.specs.declared.lines.Event.{Event}
 use Rattle.uz_schedule.specs.declared.states.Rest.{Rest}
 use Rattle.uz_schedule.specs.declared.states.Entry.{Entry}
 use Rattle.uz_schedule.specs.declared.states.Point.{Point}
-use Rattle.uz_lines.specs.Lines.{SizesFit, IsLengthIn, KindLineFits}
+use Rattle.uz_lines.specs.Lines.{SizesFit, IsLengthIn, KindLineFits, IsPointIn}
 use Rattle.uz_lines.specs.declared.lines.KindLine.{KindLine}
 use Rattle.uz_lines.specs.declared.version.Version.{Version}
 use Rattle.uz_lines.specs.declared.lines.Sizes.{Sizes}
@@ -60,9 +59,10 @@ pub record RestsKept (h : Head) (s : Sizes) (rests : List Rest) (least : ℕ) : 
   pub least_is : least ≡ least_after 0 (map (λ r. r.line) rests)
 
 -- the points so far, and the instances that are left
-pub record PointsKept (h : Head) (s : Sizes) (points : List Point) (left : ℕ) : Type 0 where
+pub record PointsKept (version : Version) (h : Head) (s : Sizes) (points : List Point) (left : ℕ) : Type 0 where
   pub few : length points ≤ s.points
   pub each : All (PointFits h s.lines s.points) points
+  pub own : All (IsPointIn version) points
   pub instances : left + sum_by instances_of points ≡ 16777216
 
 -- no rest, entry and point so far
@@ -90,7 +90,7 @@ pub record Kept (d : Draft) : Type 0 where
   pub lines : LinesKept d.lines d.sizes.kinds d.sizes.lines
   pub rests : RestsKept d.head d.sizes d.rests d.rest_least
   pub entry : IfSome d.entry (EntryFits d.head d.sizes.lines d.sizes.points)
-  pub points : PointsKept d.head d.sizes d.points d.left
+  pub points : PointsKept d.version d.head d.sizes d.points d.left
   pub opening : d.read ≤ 3 → NoSchedule d
   pub early : (d.read ≤ 3) ⊎ (length d.head.cells.items < d.sizes.cells) → NoStates d
 
@@ -148,6 +148,7 @@ pub record PointSaid (d : Draft) (p : Point) : Type 0 where
   pub after : IsAfterCells d
   pub room : length d.points < d.sizes.points
   pub fits : PointFits d.head d.sizes.lines d.sizes.points p
+  pub own : IsPointIn d.version p
   pub instances : instances_of p ≤ d.left
 
 abbrev pub SaidFits : Draft → Said → Type 0

@@ -1,5 +1,5 @@
 -- Reading a certificate's text as a function on lists: the plain, slow reader.
-use Rattle.std.specs.Prelude.{◌≡◌, ◌⊎◌, ℕ, ◌+◌, ◌==◌, Bool, true, false, List, [], ◌∷◌, length, codes, bytes_eq, Option, Some, None, Result}
+use Rattle.std.specs.Prelude.{◌≡◌, ◌⊎◌, ℕ, ◌+◌, ◌==◌, Bool, true, false, List, [], ◌∷◌, length, bytes_eq, Option, Some, None, Result}
 use Rattle.std.specs.Prelude.{Ok, Err, if◌then◌else◌}
 use Rattle.std.specs.Borrow.{Bor}
 use Rattle.std.specs.List.{slice_split}

@@ -1,10 +1,10 @@
 -- Which texts are a certificate's, and what the first fault of another is: a relation over all lines. Each line is read as
 -- the one that is due after the lines before it, and the first that isn't as is due is the faulty one.
-use Rattle.std.specs.Prelude.{◌≡◌, ◌≢◌, ◌⊎◌, ℕ, ◌+◌, Bool, true, List, [], ◌∷◌, ◌++◌, length, Option, Some, None}
+use Rattle.std.specs.Prelude.{◌≡◌, ◌≢◌, ◌⊎◌, ℕ, ◌+◌, true, List, [], ◌∷◌, ◌++◌, All, length, Option, Some, None}
 use Rattle.uz_schedule.specs.declared.states.Entry.{Entry}
 use Rattle.uz_schedule.specs.declared.certificate.Cert.{Cert}
 use Rattle.uz_lines.specs.FirstFault.{Allows, HasFirstFault}
-use Rattle.uz_lines.specs.Lines.{head_line}
+use Rattle.uz_lines.specs.Lines.{head_line, IsLengthIn, IsPointIn}
 use Rattle.uz_lines.specs.declared.lines.Said.{Said}
 use Rattle.uz_lines.specs.declared.version.Version.{Version}
 use Rattle.uz_lines.specs.declared.why.CertWhy.{CertWhy}
@@ -37,6 +37,11 @@ pub record SpellsCertificate (version : Version) (pieces : List (List ℕ)) (c :
   pub entry : Entry
   pub has_entry : draft.entry ≡ Some entry
   pub is : c ≡ cert_from draft entry
+
+-- what a version says: in version 1 each length is a scanline's, and nothing is said of the timer
+pub record IsOfVersion (version : Version) (c : Cert) : Type 0 where
+  pub lengths : All (IsLengthIn version) c.schedule.lengths
+  pub points : All (IsPointIn version) c.points
 
 -- a text of a version is this certificate's
 abbrev pub IsCertificateText : Version → List ℕ → Cert → Type 0

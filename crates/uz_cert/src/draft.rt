@@ -225,7 +225,14 @@ impl Draft {
             }
             Due::Rest => self.rest(words),
             Due::Entry => entry_line(&self.head, sizes.lines, sizes.points, words),
-            Due::Point => point_line(&self.head, sizes.lines, sizes.points, self.left, words),
+            Due::Point => point_line(
+                self.version,
+                &self.head,
+                sizes.lines,
+                sizes.points,
+                self.left,
+                words,
+            ),
             Due::End => end_line(words),
         }
     }

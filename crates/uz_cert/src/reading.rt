@@ -1,15 +1,14 @@
 //! Reading the whole text of a certificate.
 
 ghost use Rattle.std.specs.Prelude.{◌≡◌, ◌⊎◌, ◌<◌, ◌≤◌, ◌-◌, ◌^◌, ℕ, List, ◌∷◌, All, length, IfOk, IfErr, OnOk, Some, Ok, Err};
-ghost use Rattle.uz_schedule.specs.WellFormed.{WellFormed};
+ghost use Rattle.uz_schedule.specs.WellFormed.{IsTimerLeftOut, WellFormed};
 ghost use Rattle.uz_cert.specs.Reading.{Gives, IsMemory, bytes_left, cert_before, cert_of_text, cert_with as cert_with_entry, is_more, pieces_left, pieces_of, read_from};
 ghost use Rattle.uz_cert.specs.Drafts.{first_draft};
-ghost use Rattle.uz_cert.specs.Texts.{IsCertificateText, IsFirstFault};
+ghost use Rattle.uz_cert.specs.Texts.{IsCertificateText, IsFirstFault, IsOfVersion};
 ghost use Rattle.uz_schedule.specs.declared.certificate.Cert.{Cert as TheCert};
 ghost use Rattle.uz_lines.specs.declared.why.CertWhy.{CertWhy};
 ghost use Rattle.uz_lines.specs.declared.version.Version.{Version as TheVersion};
 ghost use Rattle.uz_lines.specs.declared.version.Version.TheVariants.{First, Second};
-ghost use Rattle.uz_lines.specs.Lines.{IsLengthIn};
 ghost use Rattle.uz_schedule.specs.Schedule.{scanline};
 
 use crate::draft::Draft;
@@ -144,7 +143,7 @@ fn read_version(alloc: Global, version: Version, text: &[u8]) -> Result<Cert, Ce
     ensures found { IfOk result (λ c. IsCertificateText version text.now c) }
     ensures only { (c : TheCert) → IsCertificateText version text.now c → Gives result (Ok c) }
     ensures well_formed { IfOk result WellFormed }
-    ensures lengths { IfOk result (λ c. All (IsLengthIn version) c.schedule.lengths) }
+    ensures version { IfOk result (IsOfVersion version) }
     ensures first { IfErr result (λ e. IsMemory e ⊎ IsFirstFault version text.now e.line e.why) }
     ensures faulty { (line : ℕ) (why : CertWhy) → IsFirstFault version text.now line why → Gives result (Err (line, why)) }
     ensures exact { Gives result (cert_of_text version text.now) }
@@ -178,15 +177,17 @@ pub fn read_cert(alloc: Global, text: &[u8]) -> Result<Cert, CertError>
 }
 
 /// Reads the text of a certificate, of version 1, or tells its first fault, as `read_cert` does for version 2. A kind of
-/// line has the clocks of a scanline. A text of version 2 is `Head` at line 1.
+/// line has the clocks of a scanline, and no item is one of the timer. A text of version 2 is `Head` at line 1.
 pub fn read_cert_1(alloc: Global, text: &[u8]) -> Result<Cert, CertError>
     requires { length text.now < 2 ^ 32 - 1 }
 
-    // Ok with exactly the certificate whose text this is, and each kind of line has the clocks of a scanline.
+    // Ok with exactly the certificate whose text this is, where each kind of line has the clocks of a scanline, and each
+    // point the timer's defaults.
     ensures found { IfOk result (λ c. IsCertificateText First text.now c) }
     ensures only { (c : TheCert) → IsCertificateText First text.now c → Gives result (Ok c) }
     ensures well_formed { IfOk result WellFormed }
     ensures scanlines { IfOk result (λ c. All (λ n. n ≡ scanline) c.schedule.lengths) }
+    ensures timers { IfOk result (λ c. All IsTimerLeftOut c.points) }
 
     // Refused exactly with the first fault.
     ensures first { IfErr result (λ e. IsMemory e ⊎ IsFirstFault First text.now e.line e.why) }
@@ -199,7 +200,7 @@ pub fn read_cert_1(alloc: Global, text: &[u8]) -> Result<Cert, CertError>
 }
 
 /// Each text is, as one of a version, one certificate's or has one first fault, and never both; the plain reader answers
-/// just that; and what it answers is within the limits of certificates, with lengths of the version. Does nothing.
+/// just that; and what it answers is within the limits of certificates, and what the version says. Does nothing.
 pub fn text_or_fault()
     ensures either { (version : TheVersion) (text : List ℕ)
         → ((c : TheCert) × IsCertificateText version text c) ⊎ ((line : ℕ) × (why : CertWhy) × IsFirstFault version text line why) }
@@ -216,7 +217,7 @@ pub fn text_or_fault()
     ensures faulty { (version : TheVersion) (text : List ℕ) (line : ℕ) (why : CertWhy)
         → IsFirstFault version text line why → cert_of_text version text ≡ Err (line, why) }
     ensures fits { (version : TheVersion) (text : List ℕ) (c : TheCert)
-        → cert_of_text version text ≡ Ok c → WellFormed c × All (IsLengthIn version) c.schedule.lengths }
+        → cert_of_text version text ≡ Ok c → WellFormed c × IsOfVersion version c }
 {
     line_or_fault();
 }

@@ -1,13 +1,15 @@
 -- All items of a line: what is spelled of facts is read as these facts.
-use Rattle.std.proofs.Common.{◌≡◌, ℕ, zero, suc, ◌+◌, ◌<◌, ◌≤◌, Bool, true, false, cond, not, ◌&&◌, ◌||◌, eqb, leb, ltb, List, [], ◌∷◌}
+use Rattle.std.proofs.Common.{◌≡◌, ℕ, zero, suc, ◌+◌, ◌-◌, ◌<◌, ◌≤◌, Bool, true, false, cond, not, ◌&&◌, ◌||◌, eqb, leb, ltb, List, [], ◌∷◌}
 use Rattle.std.proofs.Common.{◌++◌, map, length, take, get_or, decimal, codes, bytes_eq, lit<, lit≤, refl, sym, ◌∙◌, ap, subst}
 use Rattle.std.proofs.Common.{append_assoc, append-nil, add-one, length-append, arith}
 use Rattle.std.specs.Prelude.{Some, Ok, Err, All, slice_get, slice_set}
 use Rattle.std.proofs.lemmas.List.Elements.{All-head, All-tail}
 use Rattle.std.proofs.lemmas.Fmt.{decimal_digit}
-use Rattle.uz_schedule.specs.Limits.{rises_from, rises}
+use Rattle.uz_schedule.specs.Limits.{is_top, rises_from, rises}
+use Rattle.uz_schedule.specs.Ends.{Ends, whole_byte}
+use Rattle.uz_schedule.specs.Schedule.{scanline}
 use Rattle.uz_schedule.specs.Tracked.{tracks}
-use Rattle.uz_schedule.specs.WellFormed.{is_zero_or_one, is_default_flag}
+use Rattle.uz_schedule.specs.WellFormed.{RangeFits, is_zero_or_one, is_default_flag}
 use Rattle.uz_schedule.specs.declared.kinds.Kind.{Kind}
 use Rattle.uz_schedule.specs.declared.header.Cell.{Cell}
 use Rattle.uz_schedule.specs.declared.facts.Fact.{Fact}
@@ -17,7 +19,7 @@ use Rattle.uz_schedule.specs.declared.facts.PairFact.TheVariants.{Loop as LoopPa
 use Rattle.uz_schedule.specs.declared.facts.Bit.{Bit}
 use Rattle.uz_schedule.specs.declared.facts.Bit.TheVariants.{Zero, One, Free, Old as OldBit}
 use Rattle.uz_lines.specs.Values.{raw_of, range, one_number}
-use Rattle.uz_lines.specs.Defaults.{is_default, is_any_pair}
+use Rattle.uz_lines.specs.Defaults.{is_default, is_any_pair, is_default_top, is_default_temp}
 use Rattle.uz_lines.specs.Items.{first_facts, default_flag, default_cells, is_handler, bytes_forms, pair_forms, tracked_count}
 use Rattle.uz_lines.specs.Items.{tracked_before, names_c_or_z, any_names, is_flag_z, take_item, items_from, read_items}
 use Rattle.uz_lines.specs.declared.values.Raw.{Raw}
@@ -25,22 +27,23 @@ use Rattle.uz_lines.specs.declared.values.Raw.TheVariants as raw
 use Rattle.uz_lines.specs.declared.items.Shape.{Shape}
 use Rattle.uz_lines.specs.declared.items.Facts.{Facts}
 use Rattle.uz_lines.specs.declared.why.CertWhy.TheVariants as why
-use Rattle.uz_spelling.specs.Spelling.{item, unless, fact_word, pair_word, flag_word, register_items, pair_items, flag_items, slot_items}
-use Rattle.uz_spelling.specs.Spelling.{cell_items, successor_items}
+use Rattle.uz_spelling.specs.Spelling.{item, unless, range_word, fact_word, pair_word, flag_word, register_items, pair_items, flag_items}
+use Rattle.uz_spelling.specs.Spelling.{slot_items, cell_items, top_items, temp_items, successor_items}
 use Rattle.uz_line_laws.proofs.Tests.{and_true, or_false, fine, fault_not, true_not, then, le_is, number_is, word_is, is_lt, is_not_lt}
-use Rattle.uz_line_laws.proofs.Facts.{FactIn, PairIn, BitIn, raw_by, pair_raw, pair_so}
+use Rattle.uz_line_laws.proofs.Facts.{FactIn, PairIn, BitIn, raw_by, pair_raw, pair_so, whole_ends, part_from}
 use Rattle.uz_line_laws.proofs.Raws.{one_raw}
 use Rattle.uz_line_laws.proofs.Options.{options, Each, each_length, Ordered, section}
 use Rattle.uz_line_laws.proofs.Spelled.{count_from, pair_usual_only, registers, numbered_cells, register_word, flag_item, in_range}
 use Rattle.uz_line_laws.proofs.Spelled.{cell_word, usual_fact, usual_cell, registers_are, registers_usual, cells_are, cells_usual}
 use Rattle.uz_line_laws.proofs.Spelled.{register_only, flag_usual_only, range_only_usual}
-use Rattle.uz_line_laws.proofs.Taken.{with_register, with_pair, with_flag, with_slot, with_cell, cell_form, pair_letter, flag_letter}
-use Rattle.uz_line_laws.proofs.Takes.{register_takes, pair_takes, flag_takes, slot_takes, cell_takes, successor_takes}
+use Rattle.uz_line_laws.proofs.Taken.{with_register, with_pair, with_flag, with_slot, with_cell, with_top, with_temp, cell_form, pair_letter}
+use Rattle.uz_line_laws.proofs.Taken.{flag_letter}
+use Rattle.uz_line_laws.proofs.Takes.{register_takes, pair_takes, flag_takes, slot_takes, cell_takes, top_takes, temp_takes, successor_takes}
 use Rattle.uz_line_laws.proofs.OneMore.{letters_of_pairs, letters_of_flags}
 use Rattle.uz_line_laws.proofs.OnlyItems.{ShapeFits, IsMeant, names_letter}
 
-abbrev pub facts_with : ℕ → ℕ → List Fact → List PairFact → List Bit → List Fact → List Fact → List ℕ → Facts
-facts_with least after regs pairs flags stack cells next = record {
+abbrev pub facts_with : ℕ → ℕ → List Fact → List PairFact → List Bit → List Fact → List Fact → ℕ → Ends → List ℕ → Facts
+facts_with least after regs pairs flags stack cells top temp next = record {
   least = least;
   after = after;
   regs = regs;
@@ -48,8 +51,14 @@ facts_with least after regs pairs flags stack cells next = record {
   flags = flags;
   stack = record { items = stack };
   cells = record { items = cells };
+  top = top;
+  temp = temp;
   next = record { items = next };
 }
+
+-- before the items of the timer
+abbrev facts_before : ℕ → List Fact → List PairFact → List Bit → List Fact → List Fact → Facts
+facts_before least regs pairs flags stack cells = facts_with least 0 regs pairs flags stack cells (scanline - 1) whole_byte []
 
 -- a value in the middle of a list
 set_middle : {A : Type 0} (front back : List A) (n : ℕ) (x y : A) → n ≡ length front → slice_set (front ++ x ∷ back) n y ≡ front ++ y ∷ back
@@ -107,6 +116,15 @@ names_cells (k ∷ ks) [] = refl
 names_cells (k ∷ ks) (f ∷ fs) =
     names_unless (in_range k f) (cell_word k f) (options in_range cell_word ks fs) (names_letter 109 (decimal k.0 ++ 61 ∷ fact_word f) refl)
     (names_cells ks fs)
+
+names_timer : (top : ℕ) (temp : Ends) (ws : List (List ℕ)) → any_names ws ≡ false
+    → any_names (top_items top ++ (temp_items temp ++ ws)) ≡ false
+names_timer top temp ws e =
+    names_append (top_items top) (temp_items temp ++ ws)
+    (names_unless (is_default_top top) (item (codes "top") (decimal top)) [] (names_letter 116 (111 ∷ 112 ∷ 61 ∷ decimal top) refl) refl)
+    (names_append (temp_items temp) ws
+    (names_unless (is_default_temp temp) (item (codes "temp") (range_word temp)) []
+    (names_letter 116 (101 ∷ 109 ∷ 112 ∷ 61 ∷ range_word temp) refl) refl) e)
 
 -- the flag Z
 
@@ -212,18 +230,19 @@ not_flag_z shape f x later p l i z =
 -- one item more
 
 module _ (shape : Shape) (cells : List Cell) (h : ShapeFits shape cells)
-    (regs : List Fact) (pairs : List PairFact) (flags : List Bit) (stack : List Fact) (cs : List Fact) (next : List ℕ) where
+    (regs : List Fact) (pairs : List PairFact) (flags : List Bit) (stack : List Fact) (cs : List Fact) (top : ℕ) (temp : Ends)
+    (next : List ℕ) where
   -- these words say the rest, and with it all
   abbrev pub Done : Facts → List (List ℕ) → Type 0
   Done f words = (least : ℕ) × (after : ℕ)
-      × (items_from shape cells true f words ≡ Ok (facts_with least after regs pairs flags stack cs next))
+      × (items_from shape cells true f words ≡ Ok (facts_with least after regs pairs flags stack cs top temp next))
 
   step : (f more : Facts) (w : List ℕ) (ws : List (List ℕ)) → take_item shape cells f w ws ≡ Ok more → Done more ws → Done f (w ∷ ws)
   step f more w ws e d = (
     d.0,
     d.1,
     then (take_item shape cells f w ws) (λ m. items_from shape cells true m ws) more
-        (Ok (facts_with d.0 d.1 regs pairs flags stack cs next)) e d.2,
+        (Ok (facts_with d.0 d.1 regs pairs flags stack cs top temp next)) e d.2,
   )
 
   at_facts : (f g : Facts) (words : List (List ℕ)) → f ≡ g → Done g words → Done f words
@@ -234,15 +253,15 @@ module _ (shape : Shape) (cells : List Cell) (h : ShapeFits shape cells)
   next_stage : (front ids : List ℕ) (least after : ℕ) → front ++ ids ≡ next → rises_from after ids ≡ true → All (λ id. id < shape.points)
       ids
       → length next ≤ 16 → (shape.plain ≡ true → ids ≡ [])
-      → Done (facts_with least after regs pairs flags stack cs front) (successor_items ids)
+      → Done (facts_with least after regs pairs flags stack cs top temp front) (successor_items ids)
   next_stage front [] least after e r t few p =
-      (least, after, ap (λ (x : List ℕ). fine (facts_with least after regs pairs flags stack cs x)) (sym (append-nil front) ∙ e))
+      (least, after, ap (λ (x : List ℕ). fine (facts_with least after regs pairs flags stack cs top temp x)) (sym (append-nil front) ∙ e))
   next_stage front (id ∷ ids) least after e r t few p =
       let two = and_true (leb after id) (rises_from (id + 1) ids) r in
       let count : length front + length (id ∷ ids) ≡ length next = sym (length-append front (id ∷ ids)) ∙ ap length e in
-      step (facts_with least after regs pairs flags stack cs front) (facts_with 59 (id + 1) regs pairs flags stack cs (front ++ id ∷ []))
+      step (facts_with least after regs pairs flags stack cs top temp front) (facts_with 61 (id + 1) regs pairs flags stack cs top temp (front ++ id ∷ []))
       (62 ∷ decimal id) (successor_items ids)
-      (successor_takes shape cells (facts_with least after regs pairs flags stack cs front) (successor_items ids) id h.places
+      (successor_takes shape cells (facts_with least after regs pairs flags stack cs top temp front) (successor_items ids) id h.places
       (record {
         word = refl;
         whole = whole shape.plain refl;
@@ -250,7 +269,7 @@ module _ (shape : Shape) (cells : List Cell) (h : ShapeFits shape cells)
         room = omega (arith, count);
         order = le_is after id two.0;
       }))
-      (next_stage (front ++ id ∷ []) ids 59 (id + 1) (append_assoc front (id ∷ []) ids ∙ e) two.1
+      (next_stage (front ++ id ∷ []) ids 61 (id + 1) (append_assoc front (id ∷ []) ids ∙ e) two.1
       (All-tail (λ id. id < shape.points) id ids t) few
       (λ q. absurd (some (p q))))
     where
@@ -260,6 +279,68 @@ module _ (shape : Shape) (cells : List Cell) (h : ShapeFits shape cells)
       whole : (t : Bool) → shape.plain ≡ t → shape.plain ≡ false
       whole true e = absurd (some (p e))
       whole false e = e
+
+  abbrev pub NextFits : Type 0
+  NextFits = (rises next ≡ true) × All (λ id. id < shape.points) next × (length next ≤ 16) × (shape.plain ≡ true → next ≡ [])
+
+  -- the timer
+
+  abbrev pub TimerFits : Type 0
+  TimerFits = (is_top top ≡ true) × RangeFits 255 temp × (shape.timed ≡ false → (top ≡ scanline - 1) × (temp ≡ whole_byte))
+
+  abbrev timer_words : List (List ℕ)
+  timer_words = top_items top ++ (temp_items temp ++ successor_items next)
+
+  told : (t u : Bool) → t ≡ false → (u ≡ false → t ≡ true) → u ≡ true
+  told t true o k = refl
+  told t false o k = absurd (true_not t (k refl) o)
+
+  temp_stage : (least : ℕ) → least ≤ 60 → TimerFits → NextFits
+      → Done (facts_with least 0 regs pairs flags stack cs top whole_byte []) (temp_items temp ++ successor_items next)
+  temp_stage least l f n = by_default (is_default_temp temp) refl
+    where
+      by_default : (t : Bool) → is_default_temp temp ≡ t
+          → Done (facts_with least 0 regs pairs flags stack cs top whole_byte [])
+          (unless t (item (codes "temp") (range_word temp)) [] ++ successor_items next)
+      by_default true t =
+          at_facts (facts_with least 0 regs pairs flags stack cs top whole_byte []) (facts_with least 0 regs pairs flags stack cs top temp [])
+          (successor_items next) (ap (λ (e : Ends). facts_with least 0 regs pairs flags stack cs top e []) (whole_ends temp t))
+          (next_stage [] next least 0 refl n.0 n.1 n.2 n.3)
+      by_default false t =
+          let before = facts_with least 0 regs pairs flags stack cs top whole_byte [] in
+          step before (with_temp before temp) (item (codes "temp") (range_word temp)) (successor_items next)
+          (temp_takes shape cells before (successor_items next) temp
+          (record {
+            word = refl;
+            timed = told (is_default_temp temp) shape.timed t (λ u. ap is_default_temp (f.2 u).1);
+            fits = part_from temp f.1 t;
+            order = l;
+          }))
+          (next_stage [] next 61 0 refl n.0 n.1 n.2 n.3)
+
+  top_stage : (least : ℕ) → least ≤ 59 → TimerFits → NextFits → Done (facts_before least regs pairs flags stack cs) timer_words
+  top_stage least l f n = by_default (is_default_top top) refl
+    where
+      by_default : (t : Bool) → is_default_top top ≡ t
+          → Done (facts_before least regs pairs flags stack cs) (unless t (item (codes "top") (decimal top)) []
+          ++ (temp_items temp ++ successor_items next))
+      by_default true t =
+          at_facts (facts_before least regs pairs flags stack cs) (facts_with least 0 regs pairs flags stack cs top whole_byte [])
+          (temp_items temp ++ successor_items next)
+          (ap (λ (m : ℕ). facts_with least 0 regs pairs flags stack cs m whole_byte []) (sym (number_is top (scanline - 1) t)))
+          (temp_stage least (omega arith) f n)
+      by_default false t =
+          let before = facts_before least regs pairs flags stack cs in
+          step before (with_top before top) (item (codes "top") (decimal top)) (temp_items temp ++ successor_items next)
+          (top_takes shape cells before (temp_items temp ++ successor_items next) top
+          (record {
+            word = refl;
+            timed = told (is_default_top top) shape.timed t (λ u. ap is_default_top (f.2 u).0);
+            fits = f.0;
+            order = l;
+            other = t;
+          }))
+          (temp_stage 60 (lit≤ tt) f n)
 
   -- cells
 
@@ -271,20 +352,20 @@ module _ (shape : Shape) (cells : List Cell) (h : ShapeFits shape cells)
   cell_place p = 43 + p.0
 
   abbrev CellsRead : ℕ → List Fact → List (List ℕ) → Type 0
-  CellsRead least values words = Done (facts_with least 0 regs pairs flags stack values []) words
+  CellsRead least values words = Done (facts_before least regs pairs flags stack values) words
 
   cell_step : (front back : List Fact) (p : ℕ × Cell) (x : Fact) (least : ℕ) (words : List (List ℕ)) → CellAt p (length front)
       → FactIn (cell_form shape p.1) x → in_range p x ≡ false → least ≤ cell_place p
       → CellsRead (cell_place p + 1) (front ++ x ∷ back) words → CellsRead least (front ++ usual_cell p ∷ back) (cell_word p x ∷ words)
   cell_step front back p x least words at i o l d =
-      let before = facts_with least 0 regs pairs flags stack (front ++ usual_cell p ∷ back) [] in
+      let before = facts_before least regs pairs flags stack (front ++ usual_cell p ∷ back) in
       step before (with_cell shape cells before p.0 x) (cell_word p x) words
       (cell_takes shape cells before words p.0 p.1 x h.places
       (record { word = refl; below = at.1; there = at.0; own = at.2; fits = i; order = l; other = o }))
-      (at_facts (with_cell shape cells before p.0 x) (facts_with (43 + p.0 + 1) 0 regs pairs flags stack (front ++ x ∷ back) []) words
-      (ap (λ n. facts_with n 0 regs pairs flags stack (slice_set (front ++ usual_cell p ∷ back) (tracked_before shape.kind p.0 cells) x) [])
+      (at_facts (with_cell shape cells before p.0 x) (facts_before (43 + p.0 + 1) regs pairs flags stack (front ++ x ∷ back)) words
+      (ap (λ n. facts_before n regs pairs flags stack (slice_set (front ++ usual_cell p ∷ back) (tracked_before shape.kind p.0 cells) x))
       (plus p.0)
-      ∙ ap (λ (ys : List Fact). facts_with (43 + p.0 + 1) 0 regs pairs flags stack ys [])
+      ∙ ap (λ (ys : List Fact). facts_before (43 + p.0 + 1) regs pairs flags stack ys)
       (set_middle front back (tracked_before shape.kind p.0 cells) (usual_cell p) x at.3)) d)
     where
       plus : (i : ℕ) → 44 + i ≡ 43 + i + 1
@@ -330,45 +411,42 @@ module _ (shape : Shape) (cells : List Cell) (h : ShapeFits shape cells)
           subst (λ j. Ordered CellAt cell_place n least 59 (numbered_cells shape.kind j later)) longer
           (again n least (count_more ∙ ap (λ b. cond b (n + 1) n) t) (omega (arith, longer)))
 
-  abbrev pub NextFits : Type 0
-  NextFits = (rises next ≡ true) × All (λ id. id < shape.points) next × (length next ≤ 16) × (shape.plain ≡ true → next ≡ [])
-
   abbrev pub CellsFit : Type 0
   CellsFit = Each (λ p x. FactIn (cell_form shape p.1) x) (numbered_cells shape.kind 0 cells) cs
 
-  cells_stage : (least : ℕ) → least ≤ 43 → CellsFit → NextFits
-      → Done (facts_with least 0 regs pairs flags stack (map usual_cell (numbered_cells shape.kind 0 cells)) [])
-      (options in_range cell_word (numbered_cells shape.kind 0 cells) cs ++ successor_items next)
-  cells_stage least l c n =
+  cells_stage : (least : ℕ) → least ≤ 43 → CellsFit → TimerFits → NextFits
+      → Done (facts_before least regs pairs flags stack (map usual_cell (numbered_cells shape.kind 0 cells)))
+      (options in_range cell_word (numbered_cells shape.kind 0 cells) cs ++ timer_words)
+  cells_stage least l c f n =
       section in_range cell_word usual_cell cell_place CellAt (λ p x. FactIn (cell_form shape p.1) x) CellsRead
-      (λ p x i e. range_only_usual shape p.1 x i e) cell_step (numbered_cells shape.kind 0 cells) [] cs least 59 (successor_items next) c
+      (λ p x i e. range_only_usual shape p.1 x i e) cell_step (numbered_cells shape.kind 0 cells) [] cs least 59 timer_words c
       (cells_ordered [] cells 0 least refl refl l)
-      (λ low b. next_stage [] next low 0 refl n.0 n.1 n.2 n.3)
+      (λ low b. top_stage low b f n)
 
   -- slots
 
   abbrev cell_words_and_next : List (List ℕ)
-  cell_words_and_next = options in_range cell_word (numbered_cells shape.kind 0 cells) cs ++ successor_items next
+  cell_words_and_next = options in_range cell_word (numbered_cells shape.kind 0 cells) cs ++ timer_words
 
   slots_stage : (front slots : List Fact) (least : ℕ) → least ≤ 42 → front ++ slots ≡ stack → All (FactIn (bytes_forms shape)) slots
       → length stack ≤ shape.depth
-      → CellsFit → NextFits
-      → Done (facts_with least 0 regs pairs flags front (map usual_cell (numbered_cells shape.kind 0 cells)) [])
+      → CellsFit → TimerFits → NextFits
+      → Done (facts_before least regs pairs flags front (map usual_cell (numbered_cells shape.kind 0 cells)))
       (slot_items slots ++ cell_words_and_next)
-  slots_stage front [] least l e a d c n =
-      at_facts (facts_with least 0 regs pairs flags front (map usual_cell (numbered_cells shape.kind 0 cells)) [])
-      (facts_with least 0 regs pairs flags stack (map usual_cell (numbered_cells shape.kind 0 cells)) []) cell_words_and_next
-      (ap (λ (ys : List Fact). facts_with least 0 regs pairs flags ys (map usual_cell (numbered_cells shape.kind 0 cells)) [])
+  slots_stage front [] least l e a d c f n =
+      at_facts (facts_before least regs pairs flags front (map usual_cell (numbered_cells shape.kind 0 cells)))
+      (facts_before least regs pairs flags stack (map usual_cell (numbered_cells shape.kind 0 cells))) cell_words_and_next
+      (ap (λ (ys : List Fact). facts_before least regs pairs flags ys (map usual_cell (numbered_cells shape.kind 0 cells)))
       (sym (append-nil front) ∙ e))
-      (cells_stage least (omega arith) c n)
-  slots_stage front (x ∷ slots) least l e a d c n =
-      let before = facts_with least 0 regs pairs flags front (map usual_cell (numbered_cells shape.kind 0 cells)) [] in
+      (cells_stage least (omega arith) c f n)
+  slots_stage front (x ∷ slots) least l e a d c f n =
+      let before = facts_before least regs pairs flags front (map usual_cell (numbered_cells shape.kind 0 cells)) in
       let count : length front + length (x ∷ slots) ≡ length stack = sym (length-append front (x ∷ slots)) ∙ ap length e in
       step before (with_slot before x) (codes "s:" ++ fact_word x) (slot_items slots ++ cell_words_and_next)
       (slot_takes shape cells before (slot_items slots ++ cell_words_and_next) x
       (record { word = refl; fits = All-head (FactIn (bytes_forms shape)) x slots a; room = omega (arith, count); order = l }))
       (slots_stage (front ++ x ∷ []) slots 42 (lit≤ tt) (append_assoc front (x ∷ []) slots ∙ e)
-      (All-tail (FactIn (bytes_forms shape)) x slots a) d c n)
+      (All-tail (FactIn (bytes_forms shape)) x slots a) d c f n)
 
   -- flags and pairs
 
@@ -376,7 +454,7 @@ module _ (shape : Shape) (cells : List Cell) (h : ShapeFits shape cells)
   slots_and_on = slot_items stack ++ cell_words_and_next
 
   abbrev start : ℕ → List Fact → List PairFact → List Bit → Facts
-  start least rs ps bs = facts_with least 0 rs ps bs [] (map usual_cell (numbered_cells shape.kind 0 cells)) []
+  start least rs ps bs = facts_before least rs ps bs [] (map usual_cell (numbered_cells shape.kind 0 cells))
 
   flag_next : (front rest : List Bit) (b : ℕ) (x : Bit) (least : ℕ) (words : List (List ℕ)) → b ≡ length front → b < 7
       → BitIn (is_handler shape.kind) x → least ≤ 35 + b → (b ≡ 1 → any_names words ≡ false)
@@ -539,82 +617,90 @@ names_then kind c z bs later m = by_c (is_default_flag kind c) (is_default_flag 
 -- what may be said of a state
 
 pub record Sayable (shape : Shape) (cells : List Cell) (regs : List Fact) (pairs : List PairFact) (flags : List Bit) (stack : List Fact)
-    (cs : List Fact)
-    (next : List ℕ) : Type 0 where
+    (cs : List Fact) (top : ℕ) (temp : Ends) (next : List ℕ) : Type 0 where
   pub regs_fit : Each (λ r x. FactIn (bytes_forms shape) x) registers regs
   pub pairs_fit : Each (λ l x. PairIn pair_forms x) letters_of_pairs pairs
   pub flags_fit : Each (λ l x. BitIn (is_handler shape.kind) x) letters_of_flags flags
   pub slots_fit : length stack ≤ shape.depth
   pub stack_fit : All (FactIn (bytes_forms shape)) stack
   pub cells_fit : Each (λ p x. FactIn (cell_form shape p.1) x) (numbered_cells shape.kind 0 cells) cs
+  pub top_fit : is_top top ≡ true
+  pub temp_fit : RangeFits 255 temp
+  pub timed_fit : shape.timed ≡ false → (top ≡ scanline - 1) × (temp ≡ whole_byte)
   pub next_fit : (rises next ≡ true) × All (λ id. id < shape.points) next × (length next ≤ 16) × (shape.plain ≡ true → next ≡ [])
   pub plain_fit : shape.plain ≡ true → All (λ x. is_any_pair x ≡ true) pairs
   pub meant : is_zero_or_one (get_or pairs 2 AnyPair) ≡ true → IsMeant shape.kind flags
 
-abbrev pub items_of : Kind → List Cell → List Fact → List PairFact → List Bit → List Fact → List Fact → List ℕ → List (List ℕ)
-items_of kind cells regs pairs flags stack cs next =
+abbrev pub items_of : Kind → List Cell → List Fact → List PairFact → List Bit → List Fact → List Fact → ℕ → Ends → List ℕ
+    → List (List ℕ)
+items_of kind cells regs pairs flags stack cs top temp next =
     register_items kind 0 regs
     ++ (pair_items letters_of_pairs pairs
     ++ (flag_items kind letters_of_flags flags
     ++ (slot_items stack
     ++ (cell_items kind 0 cells cs
-    ++ successor_items next))))
+    ++ (top_items top
+    ++ (temp_items temp
+    ++ successor_items next))))))
 
 pub record ReadsAs (shape : Shape) (cells : List Cell) (regs : List Fact) (pairs : List PairFact) (flags : List Bit) (stack : List Fact)
-    (cs : List Fact)
-    (next : List ℕ) : Type 0 where
+    (cs : List Fact) (top : ℕ) (temp : Ends) (next : List ℕ) : Type 0 where
   pub least : ℕ
   pub after : ℕ
-  pub read : read_items shape cells (record { list = items_of shape.kind cells regs pairs flags stack cs next; ended = true })
-      ≡ Ok (facts_with least after regs pairs flags stack cs next)
+  pub read : read_items shape cells (record { list = items_of shape.kind cells regs pairs flags stack cs top temp next; ended = true })
+      ≡ Ok (facts_with least after regs pairs flags stack cs top temp next)
 
-module _ (shape : Shape) (cells : List Cell) (h : ShapeFits shape cells) (regs stack cs : List Fact) (next : List ℕ) where
+module _ (shape : Shape) (cells : List Cell) (h : ShapeFits shape cells) (regs stack cs : List Fact) (top : ℕ) (temp : Ends)
+    (next : List ℕ) where
   abbrev dk : Bit
   dk = default_flag shape.kind
 
+  abbrev timer_and_on : List (List ℕ)
+  timer_and_on = top_items top ++ (temp_items temp ++ successor_items next)
+
   abbrev after_flags : List (List ℕ)
-  after_flags = slot_items stack ++ (options in_range cell_word (numbered_cells shape.kind 0 cells) cs ++ successor_items next)
+  after_flags = slot_items stack ++ (options in_range cell_word (numbered_cells shape.kind 0 cells) cs ++ timer_and_on)
 
   no_names_after : any_names after_flags ≡ false
   no_names_after =
-      names_append (slot_items stack) (options in_range cell_word (numbered_cells shape.kind 0 cells) cs ++ successor_items next)
+      names_append (slot_items stack) (options in_range cell_word (numbered_cells shape.kind 0 cells) cs ++ timer_and_on)
       (names_slots stack)
-      (names_append (options in_range cell_word (numbered_cells shape.kind 0 cells) cs) (successor_items next)
-      (names_cells (numbered_cells shape.kind 0 cells) cs) (names_next next))
+      (names_append (options in_range cell_word (numbered_cells shape.kind 0 cells) cs) timer_and_on
+      (names_cells (numbered_cells shape.kind 0 cells) cs) (names_timer top temp (successor_items next) (names_next next)))
 
-  seven_flags : (pairs : List PairFact) (c z n v s a t : Bit) → Sayable shape cells regs pairs (c ∷ z ∷ n ∷ v ∷ s ∷ a ∷ t ∷ []) stack cs
+  seven_flags : (pairs : List PairFact) (c z n v s a t : Bit) → Sayable shape cells regs pairs (c ∷ z ∷ n ∷ v ∷ s ∷ a ∷ t ∷ []) stack cs top temp
       next
       → (least : ℕ) → least ≤ 35
-      → Done shape cells h regs pairs (c ∷ z ∷ n ∷ v ∷ s ∷ a ∷ t ∷ []) stack cs next
-      (start shape cells h regs pairs (c ∷ z ∷ n ∷ v ∷ s ∷ a ∷ t ∷ []) stack cs next least regs pairs
+      → Done shape cells h regs pairs (c ∷ z ∷ n ∷ v ∷ s ∷ a ∷ t ∷ []) stack cs top temp next
+      (start shape cells h regs pairs (c ∷ z ∷ n ∷ v ∷ s ∷ a ∷ t ∷ []) stack cs top temp next least regs pairs
       (dk ∷ dk ∷ dk ∷ dk ∷ dk ∷ dk ∷ dk ∷ []))
       (flags_then shape.kind letters_of_flags (c ∷ z ∷ n ∷ v ∷ s ∷ a ∷ t ∷ []) after_flags)
   seven_flags pairs c z n v s a t say least l =
       let flags = c ∷ z ∷ n ∷ v ∷ s ∷ a ∷ t ∷ [] in
       let f = say.flags_fit in
-      flag_next shape cells h regs pairs flags stack cs next [] (dk ∷ dk ∷ dk ∷ dk ∷ dk ∷ dk ∷ []) 0 c least _ refl (lit< tt) f.0 l
+      flag_next shape cells h regs pairs flags stack cs top temp next [] (dk ∷ dk ∷ dk ∷ dk ∷ dk ∷ dk ∷ []) 0 c least _ refl (lit< tt) f.0 l
       (λ e. absurd (omega arith))
-      (λ l0 b0. flag_next shape cells h regs pairs flags stack cs next (c ∷ []) (dk ∷ dk ∷ dk ∷ dk ∷ dk ∷ []) 1 z l0 _ refl (lit< tt) f.1.0
+      (λ l0 b0. flag_next shape cells h regs pairs flags stack cs top temp next (c ∷ []) (dk ∷ dk ∷ dk ∷ dk ∷ dk ∷ []) 1 z l0 _ refl (lit< tt) f.1.0
       b0
       (λ _. no_names_then shape.kind (n ∷ v ∷ s ∷ a ∷ t ∷ []) after_flags no_names_after)
-      (λ l1 b1. flag_next shape cells h regs pairs flags stack cs next (c ∷ z ∷ []) (dk ∷ dk ∷ dk ∷ dk ∷ []) 2 n l1 _ refl (lit< tt) f.1.1.0
+      (λ l1 b1. flag_next shape cells h regs pairs flags stack cs top temp next (c ∷ z ∷ []) (dk ∷ dk ∷ dk ∷ dk ∷ []) 2 n l1 _ refl (lit< tt) f.1.1.0
       b1 (λ e. absurd (omega arith))
-      (λ l2 b2. flag_next shape cells h regs pairs flags stack cs next (c ∷ z ∷ n ∷ []) (dk ∷ dk ∷ dk ∷ []) 3 v l2 _ refl (lit< tt)
+      (λ l2 b2. flag_next shape cells h regs pairs flags stack cs top temp next (c ∷ z ∷ n ∷ []) (dk ∷ dk ∷ dk ∷ []) 3 v l2 _ refl (lit< tt)
       f.1.1.1.0 b2 (λ e. absurd (omega arith))
-      (λ l3 b3. flag_next shape cells h regs pairs flags stack cs next (c ∷ z ∷ n ∷ v ∷ []) (dk ∷ dk ∷ []) 4 s l3 _ refl (lit< tt)
+      (λ l3 b3. flag_next shape cells h regs pairs flags stack cs top temp next (c ∷ z ∷ n ∷ v ∷ []) (dk ∷ dk ∷ []) 4 s l3 _ refl (lit< tt)
       f.1.1.1.1.0 b3 (λ e. absurd (omega arith))
-      (λ l4 b4. flag_next shape cells h regs pairs flags stack cs next (c ∷ z ∷ n ∷ v ∷ s ∷ []) (dk ∷ []) 5 a l4 _ refl (lit< tt)
+      (λ l4 b4. flag_next shape cells h regs pairs flags stack cs top temp next (c ∷ z ∷ n ∷ v ∷ s ∷ []) (dk ∷ []) 5 a l4 _ refl (lit< tt)
       f.1.1.1.1.1.0 b4 (λ e. absurd (omega arith))
-      (λ l5 b5. flag_next shape cells h regs pairs flags stack cs next (c ∷ z ∷ n ∷ v ∷ s ∷ a ∷ []) [] 6 t l5 _ refl (lit< tt)
+      (λ l5 b5. flag_next shape cells h regs pairs flags stack cs top temp next (c ∷ z ∷ n ∷ v ∷ s ∷ a ∷ []) [] 6 t l5 _ refl (lit< tt)
       f.1.1.1.1.1.1.0 b5 (λ e. absurd (omega arith))
-      (λ l6 b6. slots_stage shape cells h regs pairs flags stack cs next [] stack l6 b6 refl say.stack_fit say.slots_fit say.cells_fit
-      say.next_fit)))))))
+      (λ l6 b6. slots_stage shape cells h regs pairs flags stack cs top temp next [] stack l6 b6 refl say.stack_fit say.slots_fit say.cells_fit
+      (say.top_fit, say.temp_fit, say.timed_fit) say.next_fit)))))))
 
   three_pairs : (x y p : PairFact) (c z n v s a t : Bit) → Sayable shape cells regs (x ∷ y ∷ p ∷ []) (c ∷ z ∷ n ∷ v ∷ s ∷ a ∷ t ∷ []) stack
-      cs next
+      cs top temp next
       → (least : ℕ) → least ≤ 32
-      → Done shape cells h regs (x ∷ y ∷ p ∷ []) (c ∷ z ∷ n ∷ v ∷ s ∷ a ∷ t ∷ []) stack cs next
-      (start shape cells h regs (x ∷ y ∷ p ∷ []) (c ∷ z ∷ n ∷ v ∷ s ∷ a ∷ t ∷ []) stack cs next least regs
+      → Done shape cells h regs (x ∷ y ∷ p ∷ []) (c ∷ z ∷ n ∷ v ∷ s ∷ a ∷ t ∷ []) stack cs top temp next
+      (start shape cells h regs (x ∷ y ∷ p ∷ []) (c ∷ z ∷ n ∷ v ∷ s ∷ a ∷ t ∷ []) stack cs top temp next least regs
       (AnyPair ∷ AnyPair ∷ AnyPair ∷ []) (dk ∷ dk ∷ dk ∷ dk ∷ dk ∷ dk ∷ dk ∷ []))
       (pairs_then letters_of_pairs (x ∷ y ∷ p ∷ []) (flags_then shape.kind letters_of_flags (c ∷ z ∷ n ∷ v ∷ s ∷ a ∷ t ∷ []) after_flags))
   three_pairs x y p c z n v s a t say least l =
@@ -624,41 +710,41 @@ module _ (shape : Shape) (cells : List Cell) (h : ShapeFits shape cells) (regs s
       let f = say.pairs_fit in
       let any : (k : ℕ) → (q : PairFact) → get_or pairs k AnyPair ≡ q → k < 3 → shape.plain ≡ true → q ≡ AnyPair =
       λ k q e b w. pair_usual_only q (ap is_any_pair (sym e) ∙ say.plain_fit w k AnyPair b) in
-      pair_next shape cells h regs pairs flags stack cs next [] (AnyPair ∷ AnyPair ∷ []) ds 0 x least _ refl (lit< tt) f.0
+      pair_next shape cells h regs pairs flags stack cs top temp next [] (AnyPair ∷ AnyPair ∷ []) ds 0 x least _ refl (lit< tt) f.0
       (any 0 x refl (lit< tt)) l (λ e. absurd (omega arith))
-      (λ l0 b0. pair_next shape cells h regs pairs flags stack cs next (x ∷ []) (AnyPair ∷ []) ds 1 y l0 _ refl (lit< tt) f.1.0
+      (λ l0 b0. pair_next shape cells h regs pairs flags stack cs top temp next (x ∷ []) (AnyPair ∷ []) ds 1 y l0 _ refl (lit< tt) f.1.0
       (any 1 y refl (lit< tt)) b0 (λ e. absurd (omega arith))
-      (λ l1 b1. pair_next shape cells h regs pairs flags stack cs next (x ∷ y ∷ []) [] ds 2 p l1 _ refl (lit< tt) f.1.1.0
+      (λ l1 b1. pair_next shape cells h regs pairs flags stack cs top temp next (x ∷ y ∷ []) [] ds 2 p l1 _ refl (lit< tt) f.1.1.0
       (any 2 p refl (lit< tt)) b1
       (λ _ one. names_then shape.kind c z (n ∷ v ∷ s ∷ a ∷ t ∷ []) after_flags (say.meant one))
       (λ l2 b2. seven_flags pairs c z n v s a t say l2 b2)))
 
-  all_again : (x y p : PairFact) (c z n v s a t : Bit) → Sayable shape cells regs (x ∷ y ∷ p ∷ []) (c ∷ z ∷ n ∷ v ∷ s ∷ a ∷ t ∷ []) stack cs
+  all_again : (x y p : PairFact) (c z n v s a t : Bit) → Sayable shape cells regs (x ∷ y ∷ p ∷ []) (c ∷ z ∷ n ∷ v ∷ s ∷ a ∷ t ∷ []) stack cs top temp
       next
-      → ReadsAs shape cells regs (x ∷ y ∷ p ∷ []) (c ∷ z ∷ n ∷ v ∷ s ∷ a ∷ t ∷ []) stack cs next
+      → ReadsAs shape cells regs (x ∷ y ∷ p ∷ []) (c ∷ z ∷ n ∷ v ∷ s ∷ a ∷ t ∷ []) stack cs top temp next
   unfolding read_items first_facts
   all_again x y p c z n v s a t say =
       let pairs = x ∷ y ∷ p ∷ [] in
       let flags = c ∷ z ∷ n ∷ v ∷ s ∷ a ∷ t ∷ [] in
       let ds = dk ∷ dk ∷ dk ∷ dk ∷ dk ∷ dk ∷ dk ∷ [] in
       let later = pairs_then letters_of_pairs pairs (flags_then shape.kind letters_of_flags flags after_flags) in
-      let d = registers_stage shape cells h regs pairs flags stack cs next (AnyPair ∷ AnyPair ∷ AnyPair ∷ []) ds later say.regs_fit
+      let d = registers_stage shape cells h regs pairs flags stack cs top temp next (AnyPair ∷ AnyPair ∷ AnyPair ∷ []) ds later say.regs_fit
       (λ low b. three_pairs x y p c z n v s a t say low b) in
       record {
         least = d.0;
         after = d.1;
         read =
             ap (λ (ws : List (List ℕ)). items_from shape cells true (first_facts shape.kind cells) ws) words
-            ∙ ap (λ (rs : List Fact). items_from shape cells true (facts_with 0 0 rs (AnyPair ∷ AnyPair ∷ AnyPair ∷ []) ds []
-            (default_cells shape.kind cells) [])
+            ∙ ap (λ (rs : List Fact). items_from shape cells true (facts_before 0 rs (AnyPair ∷ AnyPair ∷ AnyPair ∷ []) ds []
+            (default_cells shape.kind cells))
             (options (is_default shape.kind) register_word registers regs ++ later)) (registers_usual shape.kind)
-            ∙ ap (λ (fs : List Fact). items_from shape cells true (facts_with 0 0 (map (usual_fact shape.kind) registers)
-            (AnyPair ∷ AnyPair ∷ AnyPair ∷ []) ds [] fs [])
+            ∙ ap (λ (fs : List Fact). items_from shape cells true (facts_before 0 (map (usual_fact shape.kind) registers)
+            (AnyPair ∷ AnyPair ∷ AnyPair ∷ []) ds [] fs)
             (options (is_default shape.kind) register_word registers regs ++ later)) (cells_usual shape.kind 0 cells)
             ∙ d.2;
       }
     where
-      words : items_of shape.kind cells regs (x ∷ y ∷ p ∷ []) (c ∷ z ∷ n ∷ v ∷ s ∷ a ∷ t ∷ []) stack cs next
+      words : items_of shape.kind cells regs (x ∷ y ∷ p ∷ []) (c ∷ z ∷ n ∷ v ∷ s ∷ a ∷ t ∷ []) stack cs top temp next
           ≡ options (is_default shape.kind) register_word registers regs
           ++ pairs_then letters_of_pairs (x ∷ y ∷ p ∷ []) (flags_then shape.kind letters_of_flags (c ∷ z ∷ n ∷ v ∷ s ∷ a ∷ t ∷ [])
           after_flags)
@@ -666,31 +752,31 @@ module _ (shape : Shape) (cells : List Cell) (h : ShapeFits shape cells) (regs s
           let pairs = x ∷ y ∷ p ∷ [] in
           let flags = c ∷ z ∷ n ∷ v ∷ s ∷ a ∷ t ∷ [] in
           ap (λ ws. ws ++ (pair_items letters_of_pairs pairs ++ (flag_items shape.kind letters_of_flags flags
-          ++ (slot_items stack ++ (cell_items shape.kind 0 cells cs ++ successor_items next)))))
+          ++ (slot_items stack ++ (cell_items shape.kind 0 cells cs ++ timer_and_on)))))
           (registers_are shape.kind 0 32 regs (each_length (λ r x. FactIn (bytes_forms shape) x) registers regs say.regs_fit))
           ∙ ap (λ ws. options (is_default shape.kind) register_word registers regs ++ ws)
           (ap (λ ws. pair_items letters_of_pairs pairs ++ (flag_items shape.kind letters_of_flags flags
-          ++ (slot_items stack ++ (ws ++ successor_items next))))
+          ++ (slot_items stack ++ (ws ++ timer_and_on))))
           (cells_are shape.kind 0 cells cs)
           ∙ ap (λ ws. pair_items letters_of_pairs pairs ++ ws) (flags_then_are shape.kind letters_of_flags flags after_flags)
           ∙ pairs_then_are letters_of_pairs pairs (flags_then shape.kind letters_of_flags flags after_flags))
 
 -- whatever the lists are
 pub items_again : (shape : Shape) (cells : List Cell) (regs : List Fact) (pairs : List PairFact) (flags : List Bit) (stack cs : List Fact)
-    (next : List ℕ)
-    → ShapeFits shape cells → Sayable shape cells regs pairs flags stack cs next → ReadsAs shape cells regs pairs flags stack cs next
-items_again shape cells regs (x ∷ y ∷ p ∷ []) (c ∷ z ∷ n ∷ v ∷ s ∷ a ∷ t ∷ []) stack cs next h say =
-    all_again shape cells h regs stack cs next x y p c z n v s a t say
-items_again shape cells regs [] flags stack cs next h say = absurd say.pairs_fit
-items_again shape cells regs (x ∷ []) flags stack cs next h say = absurd say.pairs_fit.1
-items_again shape cells regs (x ∷ y ∷ []) flags stack cs next h say = absurd say.pairs_fit.1.1
-items_again shape cells regs (x ∷ y ∷ p ∷ q ∷ rest) flags stack cs next h say = absurd say.pairs_fit.1.1.1
-items_again shape cells regs (x ∷ y ∷ p ∷ []) [] stack cs next h say = absurd say.flags_fit
-items_again shape cells regs (x ∷ y ∷ p ∷ []) (c ∷ []) stack cs next h say = absurd say.flags_fit.1
-items_again shape cells regs (x ∷ y ∷ p ∷ []) (c ∷ z ∷ []) stack cs next h say = absurd say.flags_fit.1.1
-items_again shape cells regs (x ∷ y ∷ p ∷ []) (c ∷ z ∷ n ∷ []) stack cs next h say = absurd say.flags_fit.1.1.1
-items_again shape cells regs (x ∷ y ∷ p ∷ []) (c ∷ z ∷ n ∷ v ∷ []) stack cs next h say = absurd say.flags_fit.1.1.1.1
-items_again shape cells regs (x ∷ y ∷ p ∷ []) (c ∷ z ∷ n ∷ v ∷ s ∷ []) stack cs next h say = absurd say.flags_fit.1.1.1.1.1
-items_again shape cells regs (x ∷ y ∷ p ∷ []) (c ∷ z ∷ n ∷ v ∷ s ∷ a ∷ []) stack cs next h say = absurd say.flags_fit.1.1.1.1.1.1
-items_again shape cells regs (x ∷ y ∷ p ∷ []) (c ∷ z ∷ n ∷ v ∷ s ∷ a ∷ t ∷ u ∷ rest) stack cs next h say =
+    (top : ℕ) (temp : Ends) (next : List ℕ)
+    → ShapeFits shape cells → Sayable shape cells regs pairs flags stack cs top temp next → ReadsAs shape cells regs pairs flags stack cs top temp next
+items_again shape cells regs (x ∷ y ∷ p ∷ []) (c ∷ z ∷ n ∷ v ∷ s ∷ a ∷ t ∷ []) stack cs top temp next h say =
+    all_again shape cells h regs stack cs top temp next x y p c z n v s a t say
+items_again shape cells regs [] flags stack cs top temp next h say = absurd say.pairs_fit
+items_again shape cells regs (x ∷ []) flags stack cs top temp next h say = absurd say.pairs_fit.1
+items_again shape cells regs (x ∷ y ∷ []) flags stack cs top temp next h say = absurd say.pairs_fit.1.1
+items_again shape cells regs (x ∷ y ∷ p ∷ q ∷ rest) flags stack cs top temp next h say = absurd say.pairs_fit.1.1.1
+items_again shape cells regs (x ∷ y ∷ p ∷ []) [] stack cs top temp next h say = absurd say.flags_fit
+items_again shape cells regs (x ∷ y ∷ p ∷ []) (c ∷ []) stack cs top temp next h say = absurd say.flags_fit.1
+items_again shape cells regs (x ∷ y ∷ p ∷ []) (c ∷ z ∷ []) stack cs top temp next h say = absurd say.flags_fit.1.1
+items_again shape cells regs (x ∷ y ∷ p ∷ []) (c ∷ z ∷ n ∷ []) stack cs top temp next h say = absurd say.flags_fit.1.1.1
+items_again shape cells regs (x ∷ y ∷ p ∷ []) (c ∷ z ∷ n ∷ v ∷ []) stack cs top temp next h say = absurd say.flags_fit.1.1.1.1
+items_again shape cells regs (x ∷ y ∷ p ∷ []) (c ∷ z ∷ n ∷ v ∷ s ∷ []) stack cs top temp next h say = absurd say.flags_fit.1.1.1.1.1
+items_again shape cells regs (x ∷ y ∷ p ∷ []) (c ∷ z ∷ n ∷ v ∷ s ∷ a ∷ []) stack cs top temp next h say = absurd say.flags_fit.1.1.1.1.1.1
+items_again shape cells regs (x ∷ y ∷ p ∷ []) (c ∷ z ∷ n ∷ v ∷ s ∷ a ∷ t ∷ u ∷ rest) stack cs top temp next h say =
     absurd say.flags_fit.1.1.1.1.1.1.1

@@ -1,10 +1,11 @@
 -- The line of an entry.
-use Rattle.std.proofs.Common.{◌≡◌, ℕ, zero, suc, ◌<◌, ◌≤◌, Bool, true, false, cond, ◌&&◌, eqb, List, [], ◌∷◌, ◌++◌, map, length, decimal}
+use Rattle.std.proofs.Common.{◌≡◌, ℕ, zero, suc, ◌-◌, ◌<◌, ◌≤◌, Bool, true, false, cond, ◌&&◌, eqb, List, [], ◌∷◌, ◌++◌, map, length, decimal}
 use Rattle.std.proofs.Common.{codes, lit<, lit≤, refl, sym, ◌∙◌, ap, subst, append-nil, arith}
 use Rattle.std.specs.Prelude.{All, Some, Result, Ok, slice_get}
 use Rattle.std.proofs.lemmas.List.{length-map}
 use Rattle.std.proofs.lemmas.List.Elements.{All-nil, All-cons, All-head, All-tail}
-use Rattle.uz_schedule.specs.Ends.{Ends}
+use Rattle.uz_schedule.specs.Ends.{Ends, whole_byte}
+use Rattle.uz_schedule.specs.Schedule.{scanline}
 use Rattle.uz_schedule.specs.Tracked.{tracked, depth_of}
 use Rattle.uz_schedule.specs.Limits.{clock_limit}
 use Rattle.uz_schedule.specs.WellFormed.{RangeFits, CellFits, SpansFit, BitFits, EntryKindFits, EntryFactsFit, EntryFits}
@@ -28,7 +29,7 @@ use Rattle.uz_lines.specs.declared.lines.Said.{Said}
 use Rattle.uz_lines.specs.declared.lines.Said.TheVariants as said
 use Rattle.uz_lines.specs.declared.why.CertWhy.{CertWhy}
 use Rattle.uz_spelling.specs.Spelling.{kind_word, range_facts, register_items, pair_items, flag_items, slot_items, cell_items}
-use Rattle.uz_spelling.specs.Spelling.{successor_items, entry_items, entry_words}
+use Rattle.uz_spelling.specs.Spelling.{top_items, temp_items, successor_items, entry_items, entry_words}
 use Rattle.uz_line_laws.specs.Said.{line, PlacesAre}
 use Rattle.uz_line_laws.proofs.Tests.{fine, fine_is, true_not, bind_ok}
 use Rattle.uz_line_laws.proofs.Numbers.{number_so, number_only}
@@ -36,7 +37,7 @@ use Rattle.uz_line_laws.proofs.Facts.{FactIn, BitIn}
 use Rattle.uz_line_laws.proofs.Options.{each_length, each_other}
 use Rattle.uz_line_laws.proofs.Spelled.{registers, numbered_cells}
 use Rattle.uz_line_laws.proofs.Taken.{cell_form}
-use Rattle.uz_line_laws.proofs.OneMore.{letters_of_pairs, letters_of_flags, spelled, Regular}
+use Rattle.uz_line_laws.proofs.OneMore.{letters_of_pairs, letters_of_flags, timer_and_next, spelled, Regular}
 use Rattle.uz_line_laws.proofs.OnlyItems.{ShapeFits, items_only}
 use Rattle.uz_line_laws.proofs.AgainItems.{Sayable, items_of, items_again, facts_with}
 use Rattle.uz_line_laws.proofs.Fitting.{each_of_all, all_of_each, all_other, all_map, map_back, bit_in, bit_out, range_in, SaysRange}
@@ -81,7 +82,7 @@ at_begin Alone e h f = absurd cc
 entry_sayable : (h : Head) (lines points : ℕ) (e : Entry) → EntryFactsFit h e
     → Sayable (shape_of h e.kind true points) h.cells.items (range_facts e.regs) (AnyPair ∷ AnyPair ∷ AnyPair ∷ []) e.flags
     (range_facts e.stack.items)
-    (range_facts e.cells.items) []
+    (range_facts e.cells.items) (scanline - 1) whole_byte []
 entry_sayable h lines points e f =
     let shape = shape_of h e.kind true points in
     record {
@@ -96,6 +97,9 @@ entry_sayable h lines points e f =
           (numbered_cells e.kind 0 h.cells.items) (range_facts e.cells.items)
           (λ p x i. subst (λ (g : FactForms). FactIn g x) (sym (entry_form_is shape p.1 refl)) i)
           (spans_in e.kind 0 h.cells.items e.cells.items f.cells.ranges f.cells.within);
+      top_fit = refl;
+      temp_fit = record { order = lit≤ tt; high = lit≤ tt };
+      timed_fit = λ _. (refl, refl);
       next_fit = (refl, All-nil (λ id. id < points), lit≤ tt, λ _. refl);
       plain_fit = λ _. any_three;
       meant = λ one. absurd (true_not false one refl);
@@ -114,7 +118,7 @@ entry_sayable h lines points e f =
 
 entry_items_are : (cells : List Cell) (e : Entry)
     → entry_items cells e ≡ items_of e.kind cells (range_facts e.regs) (AnyPair ∷ AnyPair ∷ AnyPair ∷ []) e.flags
-    (range_facts e.stack.items) (range_facts e.cells.items) []
+    (range_facts e.stack.items) (range_facts e.cells.items) (scanline - 1) whole_byte []
 entry_items_are cells e =
     ap (λ ws. register_items e.kind 0 (range_facts e.regs) ++ (flag_items e.kind letters_of_flags e.flags
     ++ (slot_items (range_facts e.stack.items) ++ ws)))
@@ -122,7 +126,7 @@ entry_items_are cells e =
 
 entry_back : (h : Head) (e : Entry) (least after : ℕ) → EntryFactsFit h e
     → entry_of e.kind e.id e.pc e.line e.clock (facts_with least after (range_facts e.regs) (AnyPair ∷ AnyPair ∷ AnyPair ∷ []) e.flags
-    (range_facts e.stack.items) (range_facts e.cells.items) []) ≡ e
+    (range_facts e.stack.items) (range_facts e.cells.items) (scanline - 1) whole_byte []) ≡ e
 unfolding entry_of
 entry_back h e least after f =
     with_lists (map span_of_fact (range_facts e.regs)) (map span_of_fact (range_facts e.stack.items))
@@ -182,7 +186,7 @@ entry_after_again h lines points e a f =
     let lines_small = none_small kind lines (omega arith) in
     let clocks_small = none_small kind clock_limit (lit≤ tt) in
     let r = items_again shape cells (range_facts e.regs) (AnyPair ∷ AnyPair ∷ AnyPair ∷ []) e.flags (range_facts e.stack.items)
-    (range_facts e.cells.items) []
+    (range_facts e.cells.items) (scanline - 1) whole_byte []
     (shape_fits h lines points kind true a (no_handler kind e f.kind)) (entry_sayable h lines points e f.facts) in
     let say : Facts → Said = λ x. said.Entry (entry_of kind e.id e.pc e.line e.clock x) in
     advance f0 (decimal e.id) w1 e.id says (number_so (one_of points) e.id (omega arith) (one_so points e.id (omega arith) f.id))
@@ -264,6 +268,8 @@ record FactsSaid (h : Head) (kind : Kind) (points : ℕ) (f : Facts) : Type 0 wh
   pub cells_fit : SpansFit (tracked h kind) (map span_of_fact f.cells.items)
   pub pairs : f.pairs ≡ AnyPair ∷ AnyPair ∷ AnyPair ∷ []
   pub next : f.next.items ≡ []
+  pub top : f.top ≡ scanline - 1
+  pub temp : f.temp ≡ whole_byte
 
 facts_said : (h : Head) (kind : Kind) (points : ℕ) (f : Facts) → Regular (shape_of h kind true points) h.cells.items f → FactsSaid h kind
     points f
@@ -288,6 +294,8 @@ facts_said h kind points f r =
       cells_fit = record { ranges = cells.0; within = cells.1 };
       pairs = r.plain_pairs refl;
       next = r.plain_next refl;
+      top = (r.untimed refl).0;
+      temp = (r.untimed refl).1;
     }
   where
     no_old : (b : Bool) → (b && false) ≡ false
@@ -309,9 +317,11 @@ unfolding entry_of
 spelled_entry h kind points id pc line clock f s =
     let cells = h.cells.items in
     ap (λ (ps : List PairFact). register_items kind 0 f.regs ++ (pair_items letters_of_pairs ps ++ (flag_items kind letters_of_flags f.flags
-    ++ (slot_items f.stack.items ++ (cell_items kind 0 cells f.cells.items ++ successor_items f.next.items))))) s.pairs
-    ∙ ap (λ (ns : List ℕ). register_items kind 0 f.regs ++ (flag_items kind letters_of_flags f.flags
-    ++ (slot_items f.stack.items ++ (cell_items kind 0 cells f.cells.items ++ successor_items ns)))) s.next
+    ++ (slot_items f.stack.items ++ (cell_items kind 0 cells f.cells.items ++ timer_and_next f))))) s.pairs
+    ∙ ap (λ (ws : List (List ℕ)). register_items kind 0 f.regs ++ (flag_items kind letters_of_flags f.flags
+    ++ (slot_items f.stack.items ++ (cell_items kind 0 cells f.cells.items ++ ws))))
+    (ap (λ n. top_items n ++ (temp_items f.temp ++ successor_items f.next.items)) s.top
+    ∙ ap (λ (e : Ends). temp_items e ++ successor_items f.next.items) s.temp ∙ ap successor_items s.next)
     ∙ ap (λ (ws : List (List ℕ)). register_items kind 0 f.regs
     ++ (flag_items kind letters_of_flags f.flags ++ (slot_items f.stack.items ++ ws)))
     (append-nil (cell_items kind 0 cells f.cells.items))

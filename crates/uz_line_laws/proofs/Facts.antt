@@ -13,8 +13,9 @@ use Rattle.uz_schedule.specs.declared.facts.PairFact.TheVariants.{Loop as LoopPa
 use Rattle.uz_schedule.specs.declared.facts.Bit.{Bit}
 use Rattle.uz_schedule.specs.declared.facts.Bit.TheVariants.{Zero, One, Free, Old as OldBit}
 use Rattle.uz_lines.specs.Why.{◌>>=◌}
-use Rattle.uz_lines.specs.Values.{raw_of, is_ordered, ends, fact_of, pair_of, ends_of, bit_of}
+use Rattle.uz_lines.specs.Values.{range, raw_of, is_ordered, ends, fact_of, pair_of, ends_of, bit_of}
 use Rattle.uz_lines.specs.Forms.{span_forms, span_of}
+use Rattle.uz_lines.specs.Items.{temp_forms}
 use Rattle.uz_lines.specs.declared.values.FactForms.{FactForms}
 use Rattle.uz_lines.specs.declared.values.Raw.{Raw}
 use Rattle.uz_lines.specs.declared.values.Raw.TheVariants as raw
@@ -22,7 +23,7 @@ use Rattle.uz_lines.specs.declared.why.CertWhy.TheVariants as why
 use Rattle.uz_spelling.specs.Spelling.{range_word, ends_word, fact_word, pair_word, flag_word}
 use Rattle.uz_line_laws.proofs.Tests.{and_true, both_true, and_false, not_true, fine, fine_is, fault_not, passed, so, else_so, bind_ok}
 use Rattle.uz_line_laws.proofs.Tests.{then, le_is, is_le, lt_is, is_lt, number_is, number_not, same_number, word_is}
-use Rattle.uz_line_laws.proofs.Raws.{raw_word, RawFits, raw_only, raw_so}
+use Rattle.uz_line_laws.proofs.Raws.{raw_word, RawFits, range_only, range_not_all, one_range, two_range, raw_only, raw_so}
 
 -- ranges
 
@@ -335,6 +336,10 @@ part_from e h t = record { range = h; part = either (and_false (eqb e.lo 0) (eqb
     either : (eqb e.lo 0 ≡ false) ⊎ (eqb e.hi 255 ≡ false) → (0 < e.lo) ⊎ (e.hi < 255)
     either d = elim d [ inl f ↦ inl (above e.lo (number_not e.lo 0 f)) | inr f ↦ inr (under e.hi (number_not e.hi 255 f) high) ]
 
+ends_again : (e : Ends) → PartFits 255 e → (t : Bool) → eqb e.lo e.hi ≡ t → ends_of (raw_by false t e) ≡ Ok e
+ends_again e part true t = ap (λ x. fine x) (one_is e t)
+ends_again e part false t = so (is_ordered 255 e.lo e.hi) (Ok e) (Err why.Order) (ordered_two 255 e part t)
+
 pub span_so : (range e : Ends) → range.hi ≤ 255 → RangeFits 255 e → is_within e range ≡ true → span_of range (ends_word 255 e) ≡ Ok e
 unfolding span_of
 span_so range e h i w = by_whole (eqb e.lo 0 && eqb e.hi 255) refl
@@ -343,10 +348,6 @@ span_so range e h i w = by_whole (eqb e.lo 0 && eqb e.hi 255) refl
     in_range =
         let two = and_true (leb range.lo e.lo) (leb e.hi range.hi) w in
         (le_is range.lo e.lo two.0, le_is e.hi range.hi two.1)
-
-    by_single : PartFits 255 e → (t : Bool) → eqb e.lo e.hi ≡ t → ends_of (raw_by false t e) ≡ Ok e
-    by_single part true t = ap (λ x. fine x) (one_is e t)
-    by_single part false t = so (is_ordered 255 e.lo e.hi) (Ok e) (Err why.Order) (ordered_two 255 e part t)
 
     by_whole : (t : Bool) → (eqb e.lo 0 && eqb e.hi 255) ≡ t → raw_of (span_forms range) (ends_word 255 e) >>= (λ raw. ends_of raw) ≡ Ok e
     by_whole true t =
@@ -364,7 +365,55 @@ span_so range e h i w = by_whole (eqb e.lo 0 && eqb e.hi 255) refl
         (Ok e)
         (raw_so (span_forms range) (raw_by false (eqb e.lo e.hi) e) (omega arith)
         (raw_in (span_forms range) 255 e part in_range.0 (omega (arith, in_range.1))))
-        (by_single part (eqb e.lo e.hi) refl)
+        (ends_again e part (eqb e.lo e.hi) refl)
+
+-- the range of TEMP, which isn't the whole one
+
+temp_at : (w : List ℕ) (a b : Ends) → a ≡ b → (w ≡ range_word a) × PartFits 255 a → (w ≡ range_word b) × PartFits 255 b
+temp_at w a b e h = subst (λ (x : Ends). (w ≡ range_word x) × PartFits 255 x) e h
+
+temp_by : (w : List ℕ) (r : Raw) (e : Ends) → (r ≡ raw.All → ⊥) → w ≡ raw_word r → RawFits temp_forms r → ends_of r ≡ Ok e
+    → (w ≡ range_word e) × PartFits 255 e
+temp_by w raw.All e n d i g = absurd (n refl)
+temp_by w (raw.One m) e n d i g =
+    temp_at w (ends m m) e (fine_is (ends m m) e g) (
+      d ∙ sym (so (eqb m m) (decimal m) (decimal m ++ codes ".." ++ decimal m) (same_number m)),
+      part_of_one 255 m (lit< tt) (omega (arith, i.1)),
+    )
+temp_by w (raw.Two lo hi) e n d i g =
+    let p = passed (is_ordered 255 lo hi) (Ok (ends lo hi)) why.Order e g in
+    temp_at w (ends lo hi) e (fine_is (ends lo hi) e p.1) (
+      d ∙ sym (else_so (eqb lo hi) (decimal lo) (decimal lo ++ codes ".." ++ decimal hi) (apart p.0)),
+      part_of_two 255 lo hi p.0 (omega (arith, i.1.1)),
+    )
+  where
+    apart : is_ordered 255 lo hi ≡ true → eqb lo hi ≡ false
+    apart h = grind (arith, nat_tests)
+temp_by w (raw.Line a b) e n d i g = absurd cc
+temp_by w (raw.Loop a b) e n d i g = absurd cc
+temp_by w (raw.Old r) e n d i g = absurd cc
+temp_by w raw.OldFlags e n d i g = absurd cc
+
+pub temp_only : (w : List ℕ) (r : Raw) (e : Ends) → range temp_forms w ≡ Ok r → ends_of r ≡ Ok e → (w ≡ range_word e) × PartFits 255 e
+temp_only w r e h g =
+    let two = range_only temp_forms w r (lit≤ tt) h in
+    temp_by w r e (λ all. range_not_all temp_forms w (h ∙ ap (λ x. fine x) all)) two.0 two.1 g
+
+abbrev pub temp_raw : Ends → Raw
+temp_raw e = raw_by false (eqb e.lo e.hi) e
+
+pub temp_so : (e : Ends) → PartFits 255 e → (range temp_forms (range_word e) ≡ Ok (temp_raw e)) × (ends_of (temp_raw e) ≡ Ok e)
+temp_so e h = (again (eqb e.lo e.hi), ends_again e h (eqb e.lo e.hi) refl)
+  where
+    order : e.lo ≤ e.hi
+    order = h.range.order
+
+    high : e.hi ≤ 255
+    high = h.range.high
+
+    again : (t : Bool) → range temp_forms (cond t (decimal e.lo) (decimal e.lo ++ codes ".." ++ decimal e.hi)) ≡ Ok (raw_by false t e)
+    again true = one_range temp_forms e.lo (lit≤ tt) (omega arith, omega (arith, order, high))
+    again false = two_range temp_forms e.lo e.hi (lit≤ tt) (omega arith, omega (arith, order, high)) (omega arith, omega (arith, high))
 
 -- flags
 

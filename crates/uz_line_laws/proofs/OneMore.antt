@@ -3,29 +3,34 @@ use Rattle.std.proofs.Common.{◌≡◌, ℕ, zero, suc, ◌+◌, ◌-◌, ◌<�
 use Rattle.std.proofs.Common.{codes, lit≤, refl, sym, ◌∙◌, ap, subst, append_assoc, append-nil, add-one, length-append, arith}
 use Rattle.std.proofs.lemmas.List.{length-set}
 use Rattle.std.proofs.lemmas.List.{map-append}
+use Rattle.uz_schedule.specs.Ends.{Ends, whole_byte}
+use Rattle.uz_schedule.specs.Schedule.{scanline}
 use Rattle.uz_schedule.specs.Tracked.{tracks}
+use Rattle.uz_schedule.specs.WellFormed.{RangeFits}
 use Rattle.std.specs.Prelude.{IsTrue, Some, All, slice_get, slice_set}
 use Rattle.std.proofs.lemmas.List.Elements.{All-nil, All-cons, All-append}
-use Rattle.uz_schedule.specs.Limits.{rises_from, rises}
+use Rattle.uz_schedule.specs.Limits.{is_top, rises_from, rises}
 use Rattle.uz_schedule.specs.declared.kinds.Kind.{Kind}
 use Rattle.uz_schedule.specs.declared.header.Cell.{Cell}
 use Rattle.uz_schedule.specs.declared.facts.Fact.{Fact}
 use Rattle.uz_schedule.specs.declared.facts.PairFact.{PairFact}
 use Rattle.uz_schedule.specs.declared.facts.Bit.{Bit}
-use Rattle.uz_lines.specs.Defaults.{is_default, is_any_pair, is_range}
+use Rattle.uz_lines.specs.Defaults.{is_default, is_any_pair, is_range, is_default_top, is_default_temp}
 use Rattle.uz_lines.specs.Items.{is_handler, bytes_forms, pair_forms, tracked_before}
 use Rattle.uz_lines.specs.declared.items.Shape.{Shape}
 use Rattle.uz_lines.specs.declared.items.Facts.{Facts}
-use Rattle.uz_spelling.specs.Spelling.{fact_word, register_items, pair_items, flag_items, slot_items, cell_items, successor_items}
-use Rattle.uz_line_laws.proofs.Tests.{and_true, both_true, is_le, true_not}
-use Rattle.uz_line_laws.proofs.Facts.{FactIn, PairIn, BitIn}
+use Rattle.uz_spelling.specs.Spelling.{fact_word, range_word, item, register_items, pair_items, flag_items, slot_items, cell_items}
+use Rattle.uz_spelling.specs.Spelling.{top_items, temp_items, successor_items}
+use Rattle.uz_line_laws.proofs.Tests.{and_true, both_true, else_so, is_le, true_not}
+use Rattle.uz_line_laws.proofs.Facts.{FactIn, PairIn, BitIn, part_not_whole}
 use Rattle.uz_line_laws.proofs.Options.{options, Each, IsUsual, each_length, each_map, each_set, no_options, option_set, drop_set}
 use Rattle.uz_line_laws.proofs.Options.{drop_later, drop_none}
 use Rattle.uz_line_laws.proofs.Spelled.{registers, numbered_cells, register_word, any_pair, pair_item, usual_flag, flag_item, in_range}
 use Rattle.uz_line_laws.proofs.Spelled.{cell_word, usual_fact, usual_pair, usual_bit, usual_cell, registers_are, pairs_are, flags_are}
 use Rattle.uz_line_laws.proofs.Spelled.{cells_are, register_default, flag_default, range_default, register_at, cell_number}
 use Rattle.uz_line_laws.proofs.Spelled.{cells_before_next, cells_before_rise}
-use Rattle.uz_line_laws.proofs.Taken.{with_register, with_pair, with_flag, with_slot, with_cell, with_successor, TakesRegister, TakesPair}
+use Rattle.uz_line_laws.proofs.Taken.{with_register, with_pair, with_flag, with_slot, with_cell, with_top, with_temp, with_successor}
+use Rattle.uz_line_laws.proofs.Taken.{TakesRegister, TakesPair, TakesTop, TakesTemp, timer_top, timer_temp}
 use Rattle.uz_line_laws.proofs.Taken.{TakesFlag, TakesSlot, TakesCell, TakesSuccessor, Taken, register, pair, flag, slot, cell, successor}
 use Rattle.uz_line_laws.proofs.Taken.{cell_form}
 
@@ -37,6 +42,9 @@ letters_of_flags = codes "cznvsht"
 
 -- what is spelled of facts, in the order of a line
 
+abbrev pub timer_and_next : Facts → List (List ℕ)
+timer_and_next f = top_items f.top ++ (temp_items f.temp ++ successor_items f.next.items)
+
 abbrev pub spelled : Kind → List Cell → Facts → List (List ℕ)
 spelled kind cells f =
     register_items kind 0 f.regs
@@ -44,7 +52,7 @@ spelled kind cells f =
     ++ (flag_items kind letters_of_flags f.flags
     ++ (slot_items f.stack.items
     ++ (cell_items kind 0 cells f.cells.items
-    ++ successor_items f.next.items))))
+    ++ timer_and_next f))))
 
 -- the number after the last one
 abbrev pub number_after : ℕ → List ℕ → ℕ
@@ -53,7 +61,7 @@ number_after least (x ∷ xs) = number_after (x + 1) xs
 
 -- the facts so far: what is due from the next place on is still as where nothing is said
 pub record Regular (shape : Shape) (cells : List Cell) (f : Facts) : Type 0 where
-  pub few : f.least ≤ 59
+  pub few : f.least ≤ 61
   pub regs : Each (λ r x. FactIn (bytes_forms shape) x) registers f.regs
   pub regs_left : drop f.least f.regs ≡ drop f.least (map (usual_fact shape.kind) registers)
   pub pairs : Each (λ l x. PairIn pair_forms x) letters_of_pairs f.pairs
@@ -66,13 +74,18 @@ pub record Regular (shape : Shape) (cells : List Cell) (f : Facts) : Type 0 wher
   pub tracked_cells : Each (λ p x. FactIn (cell_form shape p.1) x) (numbered_cells shape.kind 0 cells) f.cells.items
   pub cells_left : drop (tracked_before shape.kind (f.least - 43) cells) f.cells.items
       ≡ drop (tracked_before shape.kind (f.least - 43) cells) (map usual_cell (numbered_cells shape.kind 0 cells))
+  pub top : is_top f.top ≡ true
+  pub top_left : f.least ≤ 59 → f.top ≡ scanline - 1
+  pub temp : RangeFits 255 f.temp
+  pub temp_left : f.least ≤ 60 → f.temp ≡ whole_byte
   pub next_few : length f.next.items ≤ 16
   pub next_there : All (λ id. id < shape.points) f.next.items
   pub next_rise : IsTrue (rises f.next.items)
   pub next_after : f.after ≡ number_after 0 f.next.items
-  pub next_left : f.least < 59 → f.next.items ≡ []
+  pub next_left : f.least < 61 → f.next.items ≡ []
   pub plain_pairs : shape.plain ≡ true → f.pairs ≡ map usual_pair letters_of_pairs
   pub plain_next : shape.plain ≡ true → f.next.items ≡ []
+  pub untimed : shape.timed ≡ false → (f.top ≡ scanline - 1) × (f.temp ≡ whole_byte)
 
 -- words at the end
 
@@ -144,36 +157,47 @@ module _ (shape : Shape) (cells : List Cell) (f : Facts) (h : Regular shape cell
       ∙ cells_are shape.kind 0 cells ds ∙ no_options in_range cell_word (numbered_cells shape.kind 0 cells) ds
       (usual_cells shape.kind cells)
 
-  next_nothing : f.least < 59 → successor_items f.next.items ≡ []
+  top_nothing : f.least ≤ 59 → top_items f.top ≡ []
+  top_nothing l = ap top_items (h.top_left l)
+
+  temp_nothing : f.least ≤ 60 → temp_items f.temp ≡ []
+  temp_nothing l = ap temp_items (h.temp_left l)
+
+  next_nothing : f.least < 61 → successor_items f.next.items ≡ []
   next_nothing l = ap successor_items (h.next_left l)
 
   none_two : (a b : List (List ℕ)) → a ≡ [] → b ≡ [] → a ++ b ≡ []
   none_two a b e g = ap (λ t. t ++ b) e ∙ g
 
-  from_cells : f.least ≤ 43 → cell_items shape.kind 0 cells f.cells.items ++ successor_items f.next.items ≡ []
-  from_cells l = none_two (cell_items shape.kind 0 cells f.cells.items) (successor_items f.next.items) (cells_nothing l)
-      (next_nothing (omega arith))
+  from_temp : f.least ≤ 60 → temp_items f.temp ++ successor_items f.next.items ≡ []
+  from_temp l = none_two (temp_items f.temp) (successor_items f.next.items) (temp_nothing l) (next_nothing (omega arith))
 
-  from_slots : f.least < 42 → slot_items f.stack.items ++ (cell_items shape.kind 0 cells f.cells.items ++ successor_items f.next.items) ≡ []
-  from_slots l = none_two (slot_items f.stack.items) (cell_items shape.kind 0 cells f.cells.items ++ successor_items f.next.items)
+  from_top : f.least ≤ 59 → timer_and_next f ≡ []
+  from_top l = none_two (top_items f.top) (temp_items f.temp ++ successor_items f.next.items) (top_nothing l) (from_temp (omega arith))
+
+  from_cells : f.least ≤ 43 → cell_items shape.kind 0 cells f.cells.items ++ timer_and_next f ≡ []
+  from_cells l = none_two (cell_items shape.kind 0 cells f.cells.items) (timer_and_next f) (cells_nothing l) (from_top (omega arith))
+
+  from_slots : f.least < 42 → slot_items f.stack.items ++ (cell_items shape.kind 0 cells f.cells.items ++ timer_and_next f) ≡ []
+  from_slots l = none_two (slot_items f.stack.items) (cell_items shape.kind 0 cells f.cells.items ++ timer_and_next f)
       (slots_nothing l) (from_cells (omega arith))
 
   from_flags : f.least ≤ 35
       → flag_items shape.kind letters_of_flags f.flags
-      ++ (slot_items f.stack.items ++ (cell_items shape.kind 0 cells f.cells.items ++ successor_items f.next.items)) ≡ []
+      ++ (slot_items f.stack.items ++ (cell_items shape.kind 0 cells f.cells.items ++ timer_and_next f)) ≡ []
   from_flags l =
       none_two (flag_items shape.kind letters_of_flags f.flags)
-      (slot_items f.stack.items ++ (cell_items shape.kind 0 cells f.cells.items ++ successor_items f.next.items)) (flags_nothing l)
+      (slot_items f.stack.items ++ (cell_items shape.kind 0 cells f.cells.items ++ timer_and_next f)) (flags_nothing l)
       (from_slots (omega arith))
 
   pub from_pairs : f.least ≤ 32
       → pair_items letters_of_pairs f.pairs
       ++ (flag_items shape.kind letters_of_flags f.flags
-      ++ (slot_items f.stack.items ++ (cell_items shape.kind 0 cells f.cells.items ++ successor_items f.next.items))) ≡ []
+      ++ (slot_items f.stack.items ++ (cell_items shape.kind 0 cells f.cells.items ++ timer_and_next f))) ≡ []
   from_pairs l =
       none_two (pair_items letters_of_pairs f.pairs)
       (flag_items shape.kind letters_of_flags f.flags
-      ++ (slot_items f.stack.items ++ (cell_items shape.kind 0 cells f.cells.items ++ successor_items f.next.items)))
+      ++ (slot_items f.stack.items ++ (cell_items shape.kind 0 cells f.cells.items ++ timer_and_next f)))
       (pairs_nothing l) (from_flags (omega arith))
 
   -- one thing is set, and its item is the last
@@ -266,6 +290,10 @@ module _ (shape : Shape) (cells : List Cell) (f : Facts) (h : Regular shape cell
         stack_left = λ l. h.stack_left (omega arith);
         tracked_cells = h.tracked_cells;
         cells_left = later_cells (r + 1) (omega arith);
+        top = h.top;
+        top_left = λ l. h.top_left (omega arith);
+        temp = h.temp;
+        temp_left = λ l. h.temp_left (omega arith);
         next_few = h.next_few;
         next_there = h.next_there;
         next_rise = h.next_rise;
@@ -273,6 +301,7 @@ module _ (shape : Shape) (cells : List Cell) (f : Facts) (h : Regular shape cell
         next_left = λ l. h.next_left (omega arith);
         plain_pairs = h.plain_pairs;
         plain_next = h.plain_next;
+        untimed = h.untimed;
       }
 
   pair_regular : (k letter : ℕ) (x : PairFact) (w : List ℕ) (later : List (List ℕ)) → slice_get letters_of_pairs k ≡ Some letter
@@ -296,6 +325,10 @@ module _ (shape : Shape) (cells : List Cell) (f : Facts) (h : Regular shape cell
         stack_left = λ l. h.stack_left (omega arith);
         tracked_cells = h.tracked_cells;
         cells_left = later_cells (33 + k) (omega arith);
+        top = h.top;
+        top_left = λ l. h.top_left (omega arith);
+        temp = h.temp;
+        temp_left = λ l. h.temp_left (omega arith);
         next_few = h.next_few;
         next_there = h.next_there;
         next_rise = h.next_rise;
@@ -303,6 +336,7 @@ module _ (shape : Shape) (cells : List Cell) (f : Facts) (h : Regular shape cell
         next_left = λ l. h.next_left (omega arith);
         plain_pairs = λ p. absurd (true_not shape.plain p t.whole);
         plain_next = h.plain_next;
+        untimed = h.untimed;
       }
     where
       plus : (k : ℕ) → 33 + k - 32 ≡ suc k
@@ -329,6 +363,10 @@ module _ (shape : Shape) (cells : List Cell) (f : Facts) (h : Regular shape cell
         stack_left = λ l. h.stack_left (omega arith);
         tracked_cells = h.tracked_cells;
         cells_left = later_cells (36 + b) (omega arith);
+        top = h.top;
+        top_left = λ l. h.top_left (omega arith);
+        temp = h.temp;
+        temp_left = λ l. h.temp_left (omega arith);
         next_few = h.next_few;
         next_there = h.next_there;
         next_rise = h.next_rise;
@@ -336,6 +374,7 @@ module _ (shape : Shape) (cells : List Cell) (f : Facts) (h : Regular shape cell
         next_left = λ l. h.next_left (omega arith);
         plain_pairs = h.plain_pairs;
         plain_next = h.plain_next;
+        untimed = h.untimed;
       }
     where
       plus : (b : ℕ) → 36 + b - 35 ≡ suc b
@@ -359,6 +398,10 @@ module _ (shape : Shape) (cells : List Cell) (f : Facts) (h : Regular shape cell
         stack_left = λ l. absurd (omega arith);
         tracked_cells = h.tracked_cells;
         cells_left = later_cells 42 order;
+        top = h.top;
+        top_left = λ l. h.top_left (omega arith);
+        temp = h.temp;
+        temp_left = λ l. h.temp_left (omega arith);
         next_few = h.next_few;
         next_there = h.next_there;
         next_rise = h.next_rise;
@@ -366,6 +409,7 @@ module _ (shape : Shape) (cells : List Cell) (f : Facts) (h : Regular shape cell
         next_left = λ l. h.next_left (omega arith);
         plain_pairs = h.plain_pairs;
         plain_next = h.plain_next;
+        untimed = h.untimed;
       }
 
   cell_regular : (i : ℕ) (c : Cell) (x : Fact) (w : List ℕ) → length cells ≤ 16 → TakesCell shape cells f w i c x → Regular shape cells
@@ -393,6 +437,10 @@ module _ (shape : Shape) (cells : List Cell) (f : Facts) (h : Regular shape cell
         cells_left =
             ap (λ n. drop n (slice_set f.cells.items place x)) next ∙ drop_set f.cells.items place x
             ∙ ap (λ n. drop n f.cells.items) (sym next) ∙ later_cells (44 + i) (omega arith);
+        top = h.top;
+        top_left = λ l. h.top_left (omega arith);
+        temp = h.temp;
+        temp_left = λ l. h.temp_left (omega arith);
         next_few = h.next_few;
         next_there = h.next_there;
         next_rise = h.next_rise;
@@ -400,10 +448,71 @@ module _ (shape : Shape) (cells : List Cell) (f : Facts) (h : Regular shape cell
         next_left = λ l. h.next_left (omega arith);
         plain_pairs = h.plain_pairs;
         plain_next = h.plain_next;
+        untimed = h.untimed;
       }
     where
       plus : (i : ℕ) → 44 + i - 43 ≡ suc i
       plus i = omega arith
+
+  top_regular : (top : ℕ) (w : List ℕ) → TakesTop shape f w top → Regular shape cells (with_top f top)
+  top_regular top w t =
+      let order : f.least ≤ 59 = t.order in
+      record {
+        few = lit≤ tt;
+        regs = h.regs;
+        regs_left = later_regs 60 (omega arith);
+        pairs = h.pairs;
+        pairs_left = later_pairs 60 (omega arith);
+        flags = h.flags;
+        flags_left = later_flags 60 (omega arith);
+        slots = h.slots;
+        stack = h.stack;
+        stack_left = λ l. absurd (omega arith);
+        tracked_cells = h.tracked_cells;
+        cells_left = later_cells 60 (omega arith);
+        top = t.fits;
+        top_left = λ l. absurd (omega arith);
+        temp = h.temp;
+        temp_left = λ l. h.temp_left (omega arith);
+        next_few = h.next_few;
+        next_there = h.next_there;
+        next_rise = h.next_rise;
+        next_after = h.next_after;
+        next_left = λ l. h.next_left (omega arith);
+        plain_pairs = h.plain_pairs;
+        plain_next = h.plain_next;
+        untimed = λ u. absurd (true_not shape.timed t.timed u);
+      }
+
+  temp_regular : (temp : Ends) (w : List ℕ) → TakesTemp shape f w temp → Regular shape cells (with_temp f temp)
+  temp_regular temp w t =
+      let order : f.least ≤ 60 = t.order in
+      record {
+        few = lit≤ tt;
+        regs = h.regs;
+        regs_left = later_regs 61 (omega arith);
+        pairs = h.pairs;
+        pairs_left = later_pairs 61 (omega arith);
+        flags = h.flags;
+        flags_left = later_flags 61 (omega arith);
+        slots = h.slots;
+        stack = h.stack;
+        stack_left = λ l. absurd (omega arith);
+        tracked_cells = h.tracked_cells;
+        cells_left = later_cells 61 (omega arith);
+        top = h.top;
+        top_left = λ l. absurd (omega arith);
+        temp = t.fits.range;
+        temp_left = λ l. absurd (omega arith);
+        next_few = h.next_few;
+        next_there = h.next_there;
+        next_rise = h.next_rise;
+        next_after = h.next_after;
+        next_left = λ l. absurd (omega arith);
+        plain_pairs = h.plain_pairs;
+        plain_next = h.plain_next;
+        untimed = λ u. absurd (true_not shape.timed t.timed u);
+      }
 
   successor_regular : (id : ℕ) (w : List ℕ) → TakesSuccessor shape f w id → Regular shape cells (with_successor f id)
   successor_regular id w t =
@@ -411,16 +520,20 @@ module _ (shape : Shape) (cells : List Cell) (f : Facts) (h : Regular shape cell
       record {
         few = lit≤ tt;
         regs = h.regs;
-        regs_left = later_regs 59 h.few;
+        regs_left = later_regs 61 h.few;
         pairs = h.pairs;
-        pairs_left = later_pairs 59 h.few;
+        pairs_left = later_pairs 61 h.few;
         flags = h.flags;
-        flags_left = later_flags 59 h.few;
+        flags_left = later_flags 61 h.few;
         slots = h.slots;
         stack = h.stack;
         stack_left = λ l. absurd (omega arith);
         tracked_cells = h.tracked_cells;
-        cells_left = later_cells 59 h.few;
+        cells_left = later_cells 61 h.few;
+        top = h.top;
+        top_left = λ l. absurd (omega arith);
+        temp = h.temp;
+        temp_left = λ l. absurd (omega arith);
         next_few = omega (arith, length-append f.next.items (id ∷ []));
         next_there = All-append (λ n. n < shape.points) f.next.items (id ∷ []) h.next_there (All-cons (λ n. n < shape.points) id [] t.there
             (All-nil (λ n. n < shape.points)));
@@ -429,6 +542,7 @@ module _ (shape : Shape) (cells : List Cell) (f : Facts) (h : Regular shape cell
         next_left = λ l. absurd (omega arith);
         plain_pairs = h.plain_pairs;
         plain_next = λ p. absurd (true_not shape.plain p t.whole);
+        untimed = h.untimed;
       }
 
   -- and its word is the last that is spelled
@@ -437,7 +551,7 @@ module _ (shape : Shape) (cells : List Cell) (f : Facts) (h : Regular shape cell
       → spelled shape.kind cells (with_register f r x) ≡ spelled shape.kind cells f ++ w ∷ []
   register_spelled r x w t =
       let tail = pair_items letters_of_pairs f.pairs ++ (flag_items shape.kind letters_of_flags f.flags ++ (slot_items f.stack.items
-      ++ (cell_items shape.kind 0 cells f.cells.items ++ successor_items f.next.items))) in
+      ++ (cell_items shape.kind 0 cells f.cells.items ++ timer_and_next f))) in
       let order : f.least ≤ r = t.order in
       let there : r < 32 = t.there in
       ap (λ ws. ws ++ tail) (regs_more r x there order t.other ∙ ap (λ v. register_items shape.kind 0 f.regs ++ v ∷ []) (sym t.word))
@@ -450,7 +564,7 @@ module _ (shape : Shape) (cells : List Cell) (f : Facts) (h : Regular shape cell
       let regs = register_items shape.kind 0 f.regs in
       let pairs = pair_items letters_of_pairs f.pairs in
       let tail = flag_items shape.kind letters_of_flags f.flags ++ (slot_items f.stack.items
-      ++ (cell_items shape.kind 0 cells f.cells.items ++ successor_items f.next.items)) in
+      ++ (cell_items shape.kind 0 cells f.cells.items ++ timer_and_next f)) in
       let order : f.least ≤ 32 + k = t.order in
       let there : k < 3 = t.there in
       behind regs (pairs ++ tail) (pair_items letters_of_pairs (slice_set f.pairs k x) ++ tail) w
@@ -465,7 +579,7 @@ module _ (shape : Shape) (cells : List Cell) (f : Facts) (h : Regular shape cell
       let pairs = pair_items letters_of_pairs f.pairs in
       let flags = flag_items shape.kind letters_of_flags f.flags in
       let more = flag_items shape.kind letters_of_flags (slice_set f.flags b x) in
-      let tail = slot_items f.stack.items ++ (cell_items shape.kind 0 cells f.cells.items ++ successor_items f.next.items) in
+      let tail = slot_items f.stack.items ++ (cell_items shape.kind 0 cells f.cells.items ++ timer_and_next f) in
       let order : f.least ≤ 35 + b = t.order in
       let there : b < 7 = t.there in
       behind regs (pairs ++ (flags ++ tail)) (pairs ++ (more ++ tail)) w
@@ -484,7 +598,7 @@ module _ (shape : Shape) (cells : List Cell) (f : Facts) (h : Regular shape cell
       let flags = flag_items shape.kind letters_of_flags f.flags in
       let slots = slot_items f.stack.items in
       let more = slot_items (f.stack.items ++ x ∷ []) in
-      let tail = cell_items shape.kind 0 cells f.cells.items ++ successor_items f.next.items in
+      let tail = cell_items shape.kind 0 cells f.cells.items ++ timer_and_next f in
       let order : f.least ≤ 42 = t.order in
       behind regs (pairs ++ (flags ++ (slots ++ tail))) (pairs ++ (flags ++ (more ++ tail))) w
       (behind pairs (flags ++ (slots ++ tail)) (flags ++ (more ++ tail)) w
@@ -500,7 +614,7 @@ module _ (shape : Shape) (cells : List Cell) (f : Facts) (h : Regular shape cell
       let slots = slot_items f.stack.items in
       let facts = cell_items shape.kind 0 cells f.cells.items in
       let more = cell_items shape.kind 0 cells (slice_set f.cells.items (tracked_before shape.kind i cells) x) in
-      let tail = successor_items f.next.items in
+      let tail = timer_and_next f in
       let order : f.least ≤ 43 + i = t.order in
       let below : i < length cells = t.below in
       behind regs (pairs ++ (flags ++ (slots ++ (facts ++ tail)))) (pairs ++ (flags ++ (slots ++ (more ++ tail)))) w
@@ -508,24 +622,62 @@ module _ (shape : Shape) (cells : List Cell) (f : Facts) (h : Regular shape cell
       (behind flags (slots ++ (facts ++ tail)) (slots ++ (more ++ tail)) w
       (behind slots (facts ++ tail) (more ++ tail) w
       (ap (λ ws. ws ++ tail) (cells_more i c x t.there t.own order t.other ∙ ap (λ v. facts ++ v ∷ []) (sym t.word))
-      ∙ last_in facts tail w (next_nothing (omega arith))))))
+      ∙ last_in facts tail w (from_top (omega arith))))))
 
-  successor_spelled : (id : ℕ) (w : List ℕ) → TakesSuccessor shape f w id → spelled shape.kind cells (with_successor f id) ≡ spelled
-      shape.kind cells f ++ w ∷ []
-  successor_spelled id w t =
+  -- the same behind the items of registers to cells
+  behind_cells : (old new : List (List ℕ)) (w : List ℕ) → new ≡ old ++ w ∷ []
+      → register_items shape.kind 0 f.regs ++ (pair_items letters_of_pairs f.pairs ++ (flag_items shape.kind letters_of_flags f.flags
+      ++ (slot_items f.stack.items ++ (cell_items shape.kind 0 cells f.cells.items ++ new))))
+      ≡ (register_items shape.kind 0 f.regs ++ (pair_items letters_of_pairs f.pairs ++ (flag_items shape.kind letters_of_flags f.flags
+      ++ (slot_items f.stack.items ++ (cell_items shape.kind 0 cells f.cells.items ++ old))))) ++ w ∷ []
+  behind_cells old new w e =
       let regs = register_items shape.kind 0 f.regs in
       let pairs = pair_items letters_of_pairs f.pairs in
       let flags = flag_items shape.kind letters_of_flags f.flags in
       let slots = slot_items f.stack.items in
       let facts = cell_items shape.kind 0 cells f.cells.items in
+      behind regs (pairs ++ (flags ++ (slots ++ (facts ++ old)))) (pairs ++ (flags ++ (slots ++ (facts ++ new)))) w
+      (behind pairs (flags ++ (slots ++ (facts ++ old))) (flags ++ (slots ++ (facts ++ new))) w
+      (behind flags (slots ++ (facts ++ old)) (slots ++ (facts ++ new)) w
+      (behind slots (facts ++ old) (facts ++ new) w
+      (behind facts old new w e))))
+
+  top_spelled : (top : ℕ) (w : List ℕ) → TakesTop shape f w top → spelled shape.kind cells (with_top f top) ≡ spelled shape.kind cells f
+      ++ w ∷ []
+  top_spelled top w t =
+      let said = top_items f.top in
+      let tail = temp_items f.temp ++ successor_items f.next.items in
+      let order : f.least ≤ 59 = t.order in
+      let word : top_items top ≡ w ∷ [] =
+      else_so (is_default_top top) [] (item (codes "top") (decimal top) ∷ []) t.other ∙ ap (λ v. v ∷ []) (sym t.word) in
+      behind_cells (said ++ tail) (top_items top ++ tail) w
+      (ap (λ ws. ws ++ tail) (word ∙ ap (λ ws. ws ++ w ∷ []) (sym (top_nothing order))) ∙ last_in said tail w (from_temp (omega arith)))
+
+  temp_spelled : (temp : Ends) (w : List ℕ) → TakesTemp shape f w temp → spelled shape.kind cells (with_temp f temp)
+      ≡ spelled shape.kind cells f ++ w ∷ []
+  temp_spelled temp w t =
+      let top = top_items f.top in
+      let said = temp_items f.temp in
+      let next = successor_items f.next.items in
+      let order : f.least ≤ 60 = t.order in
+      let word : temp_items temp ≡ w ∷ [] =
+      else_so (is_default_temp temp) [] (item (codes "temp") (range_word temp) ∷ []) (part_not_whole 255 temp t.fits)
+      ∙ ap (λ v. v ∷ []) (sym t.word) in
+      behind_cells (top ++ (said ++ next)) (top ++ (temp_items temp ++ next)) w
+      (behind top (said ++ next) (temp_items temp ++ next) w
+      (ap (λ ws. ws ++ next) (word ∙ ap (λ ws. ws ++ w ∷ []) (sym (temp_nothing order))) ∙ last_in said next w (next_nothing (omega arith))))
+
+  successor_spelled : (id : ℕ) (w : List ℕ) → TakesSuccessor shape f w id → spelled shape.kind cells (with_successor f id) ≡ spelled
+      shape.kind cells f ++ w ∷ []
+  successor_spelled id w t =
+      let top = top_items f.top in
+      let temp = temp_items f.temp in
       let ids = successor_items f.next.items in
       let more = successor_items (f.next.items ++ id ∷ []) in
-      behind regs (pairs ++ (flags ++ (slots ++ (facts ++ ids)))) (pairs ++ (flags ++ (slots ++ (facts ++ more)))) w
-      (behind pairs (flags ++ (slots ++ (facts ++ ids))) (flags ++ (slots ++ (facts ++ more))) w
-      (behind flags (slots ++ (facts ++ ids)) (slots ++ (facts ++ more)) w
-      (behind slots (facts ++ ids) (facts ++ more) w
-      (behind facts ids more w
-      (map-append (λ n. 62 ∷ decimal n) f.next.items (id ∷ []) ∙ ap (λ v. ids ++ v ∷ []) (sym t.word))))))
+      behind_cells (top ++ (temp ++ ids)) (top ++ (temp ++ more)) w
+      (behind top (temp ++ ids) (temp ++ more) w
+      (behind temp ids more w
+      (map-append (λ n. 62 ∷ decimal n) f.next.items (id ∷ []) ∙ ap (λ v. ids ++ v ∷ []) (sym t.word))))
 
   -- whatever item is taken
 
@@ -571,4 +723,6 @@ module _ (shape : Shape) (cells : List Cell) (f : Facts) (h : Regular shape cell
     cell_spelled i c x w
         s t,
   )
+  one_more w later more s (timer_top top t e) = at_same w (with_top f top) more e (top_regular top w t, top_spelled top w t)
+  one_more w later more s (timer_temp temp t e) = at_same w (with_temp f temp) more e (temp_regular temp w t, temp_spelled temp w t)
   one_more w later more s (successor id t e) = at_same w (with_successor f id) more e (successor_regular id w t, successor_spelled id w t)

@@ -26,14 +26,14 @@ use Rattle.uz_lines.specs.declared.values.FactForms.{FactForms}
 use Rattle.uz_lines.specs.declared.items.Shape.{Shape}
 use Rattle.uz_lines.specs.declared.items.Facts.{Facts}
 use Rattle.uz_lines.specs.declared.why.CertWhy.TheVariants as why
-use Rattle.uz_spelling.specs.Spelling.{fact_word, pair_word, flag_word, register_items}
+use Rattle.uz_spelling.specs.Spelling.{range_word, fact_word, pair_word, flag_word, register_items}
 use Rattle.uz_line_laws.proofs.Tests.{and_true, or_false, fine_is, fault_not, true_not, bind_ok, number_is, lt_is}
 use Rattle.uz_line_laws.proofs.Facts.{FactIn, PairIn, BitIn, part_from}
 use Rattle.uz_line_laws.proofs.Options.{Each, IsUsual, each_length, each_map, no_options}
 use Rattle.uz_line_laws.proofs.Spelled.{count_from, registers, numbered_cells, register_word, usual_fact, usual_bit, usual_cell}
 use Rattle.uz_line_laws.proofs.Spelled.{registers_are, registers_usual, cells_usual, register_default}
-use Rattle.uz_line_laws.proofs.Taken.{with_pair, with_flag, TakesPair, TakesFlag, Taken, register, pair, flag, slot, cell, successor}
-use Rattle.uz_line_laws.proofs.Taken.{PlacesFit, cell_form, flag_letter, item_taken}
+use Rattle.uz_line_laws.proofs.Taken.{with_pair, with_flag, TakesPair, TakesFlag, Taken, register, pair, flag, slot, cell, timer_top, timer_temp}
+use Rattle.uz_line_laws.proofs.Taken.{successor, PlacesFit, cell_form, flag_letter, item_taken}
 use Rattle.uz_line_laws.proofs.OneMore.{letters_of_pairs, letters_of_flags, spelled, Regular, from_pairs, one_more}
 
 -- the facts where nothing is said
@@ -107,6 +107,10 @@ first_regular shape cells h =
       tracked_cells = subst (λ (x : List Fact). Each (λ p x. FactIn (cell_form shape p.1) x) (numbered_cells shape.kind 0 cells) x) (sym cs)
           (first_cells shape shape.kind 0 cells h.ranges);
       cells_left = ap (λ (x : List Fact). drop (tracked_count shape.kind (take 0 cells)) x) cs;
+      top = refl;
+      top_left = λ l. refl;
+      temp = record { order = lit≤ tt; high = lit≤ tt };
+      temp_left = λ l. refl;
       next_few = lit≤ tt;
       next_there = All-nil (λ id. id < shape.points);
       next_rise = refl;
@@ -114,6 +118,7 @@ first_regular shape cells h =
       next_left = λ l. refl;
       plain_pairs = λ p. refl;
       plain_next = λ p. refl;
+      untimed = λ u. (refl, refl);
     }
 
 none_append : (xs ys : List (List ℕ)) → xs ≡ [] → ys ≡ [] → xs ++ ys ≡ []
@@ -312,9 +317,15 @@ module _ (shape : Shape) (cells : List Cell) (f : Facts) (h : Regular shape cell
   z_follows w ws more (cell i c x t e) z =
       subst (λ (a : Facts). ZFollows shape.kind a ws) (sym e)
       (late w ws (44 + i) (omega (arith, t.order)) (ap names_c_or_z t.word ∙ names_letter 109 (decimal i ++ 61 ∷ fact_word x) refl) z)
+  z_follows w ws more (timer_top top t e) z =
+      subst (λ (a : Facts). ZFollows shape.kind a ws) (sym e)
+      (late w ws 60 (omega (arith, t.order)) (ap names_c_or_z t.word ∙ names_letter 116 (111 ∷ 112 ∷ 61 ∷ decimal top) refl) z)
+  z_follows w ws more (timer_temp temp t e) z =
+      subst (λ (a : Facts). ZFollows shape.kind a ws) (sym e)
+      (late w ws 61 (omega (arith, t.order)) (ap names_c_or_z t.word ∙ names_letter 116 (101 ∷ 109 ∷ 112 ∷ 61 ∷ range_word temp) refl) z)
   z_follows w ws more (successor id t e) z =
       subst (λ (a : Facts). ZFollows shape.kind a ws) (sym e)
-      (late w ws 59 h.few (ap names_c_or_z t.word ∙ names_letter 62 (decimal id) refl) z)
+      (late w ws 61 h.few (ap names_c_or_z t.word ∙ names_letter 62 (decimal id) refl) z)
 
 -- all items
 

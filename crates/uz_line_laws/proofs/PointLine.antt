@@ -3,8 +3,11 @@ use Rattle.std.proofs.Common.{◌≡◌, ℕ, zero, suc, ◌+◌, ◌-◌, ◌*�
 use Rattle.std.proofs.Common.{◌∷◌, decimal, codes, get_or, lit<, lit≤, refl, sym, ◌∙◌, ap, subst, arith}
 use Rattle.std.specs.Prelude.{Some, Result, Ok, slice_get}
 use Rattle.std.proofs.lemmas.Fmt.{decimal_digit}
-use Rattle.uz_schedule.specs.Limits.{clock_limit}
-use Rattle.uz_schedule.specs.WellFormed.{FactFits, PairFits, BitFits, CoreFits, MemoryFits, PointFits, PointKindFits, IsAtBegin, magnitude}
+use Rattle.uz_schedule.specs.Ends.{whole_byte}
+use Rattle.uz_schedule.specs.Limits.{clock_limit, is_top}
+use Rattle.uz_schedule.specs.Schedule.{scanline}
+use Rattle.uz_schedule.specs.WellFormed.{RangeFits, FactFits, PairFits, BitFits, CoreFits, MemoryFits, PointFits, PointKindFits}
+use Rattle.uz_schedule.specs.WellFormed.{IsAtBegin, IsTimerLeftOut, magnitude}
 use Rattle.uz_schedule.specs.WellFormed.{instances_of, is_zero_or_one, is_carry_and_zero_default}
 use Rattle.uz_schedule.specs.declared.kinds.Kind.{Kind}
 use Rattle.uz_schedule.specs.declared.kinds.Kind.TheVariants.{Main, Handler, Alone}
@@ -15,11 +18,13 @@ use Rattle.uz_lines.specs.Why.{◌>>=◌}
 use Rattle.uz_lines.specs.Grammar.{Words, choice_of}
 use Rattle.uz_lines.specs.Items.{is_handler, bytes_forms, pair_forms, read_items}
 use Rattle.uz_lines.specs.Forms.{LineForm, number, slope, items, reads}
-use Rattle.uz_lines.specs.Lines.{within, none_in_main, shape_of, point_kind, pending_limit, count_limit, point_of, point_after, point_form}
+use Rattle.uz_lines.specs.Lines.{within, none_in_main, is_timed, point_shape, IsPointIn, point_kind, pending_limit, count_limit, point_of, point_after, point_form}
 use Rattle.uz_lines.specs.declared.items.Facts.{Facts}
 use Rattle.uz_lines.specs.declared.lines.PointPlace.{PointPlace}
 use Rattle.uz_lines.specs.declared.lines.Said.{Said}
 use Rattle.uz_lines.specs.declared.lines.Said.TheVariants as said
+use Rattle.uz_lines.specs.declared.version.Version.{Version}
+use Rattle.uz_lines.specs.declared.version.Version.TheVariants.{First, Second}
 use Rattle.uz_lines.specs.declared.why.CertWhy.{CertWhy}
 use Rattle.uz_spelling.specs.Spelling.{kind_word, signed_word, truth_word, point_items, point_words}
 use Rattle.uz_line_laws.specs.Said.{line, PlacesAre}
@@ -29,7 +34,7 @@ use Rattle.uz_line_laws.proofs.Facts.{FactIn, PairIn, BitIn}
 use Rattle.uz_line_laws.proofs.Options.{each_length}
 use Rattle.uz_line_laws.proofs.Spelled.{registers}
 use Rattle.uz_line_laws.proofs.OneMore.{letters_of_pairs, letters_of_flags, spelled, Regular}
-use Rattle.uz_line_laws.proofs.OnlyItems.{items_only}
+use Rattle.uz_line_laws.proofs.OnlyItems.{ShapeFits, items_only}
 use Rattle.uz_line_laws.proofs.AgainItems.{Sayable, items_again, facts_with}
 use Rattle.uz_line_laws.proofs.Fitting.{each_of_all, all_of_each, all_other, fact_in, fact_out, cells_in, cells_out, pair_in, pair_out}
 use Rattle.uz_line_laws.proofs.Fitting.{bit_in, bit_out, under_none, none_under, none_small, box_under, under_box}
@@ -40,14 +45,42 @@ use Rattle.uz_line_laws.proofs.EntryLine.{shape_fits}
 -- again
 
 begin_of : (kind : Kind) (p : Point) → PointKindFits kind p → kind ≡ Main → IsAtBegin p
-begin_of Main p h e = h
+begin_of Main p h e = h.0
 begin_of Handler p h e = absurd cc
 begin_of Alone p h e = absurd cc
 
-point_sayable : (h : Head) (lines points : ℕ) (p : Point) → PointFits h lines points p
-    → Sayable (shape_of h p.kind false points) h.cells.items p.regs p.pairs p.flags p.stack.items p.cells.items p.next.items
-point_sayable h lines points p f =
-    let shape = shape_of h p.kind false points in
+-- what is asked of the timer: where its items may not stand, it has the defaults
+
+whole_fits : RangeFits 255 whole_byte
+whole_fits = record { order = lit≤ tt; high = lit≤ tt }
+
+left_out_top : (p : Point) → IsTimerLeftOut p → is_top p.top ≡ true
+left_out_top p h = ap is_top h.top
+
+left_out_temp : (p : Point) → IsTimerLeftOut p → RangeFits 255 p.temp
+left_out_temp p h = subst (RangeFits 255) (sym h.temp) whole_fits
+
+pub point_top : (kind : Kind) (p : Point) → PointKindFits kind p → is_top p.top ≡ true
+point_top Main p h = left_out_top p h.1
+point_top Handler p h = h.top
+point_top Alone p h = left_out_top p h.1
+
+pub point_temp : (kind : Kind) (p : Point) → PointKindFits kind p → RangeFits 255 p.temp
+point_temp Main p h = left_out_temp p h.1
+point_temp Handler p h = h.temp
+point_temp Alone p h = left_out_temp p h.1
+
+point_untimed : (version : Version) (kind : Kind) (p : Point) → PointKindFits kind p → IsPointIn version p → is_timed version kind ≡ false
+    → IsTimerLeftOut p
+point_untimed First kind p h o u = o
+point_untimed Second Main p h o u = h.1
+point_untimed Second Handler p h o u = absurd cc
+point_untimed Second Alone p h o u = h.1
+
+point_sayable : (version : Version) (h : Head) (lines points : ℕ) (p : Point) → PointFits h lines points p → IsPointIn version p
+    → Sayable (point_shape version h p.kind points) h.cells.items p.regs p.pairs p.flags p.stack.items p.cells.items p.top p.temp p.next.items
+point_sayable version h lines points p f o =
+    let shape = point_shape version h p.kind points in
     record {
       regs_fit = each_of_all (FactIn (bytes_forms shape)) registers p.regs f.core.register_count
           (all_other (FactFits p.kind) (FactIn (bytes_forms shape)) p.regs (λ x i. fact_in shape x refl i) f.core.registers);
@@ -58,6 +91,9 @@ point_sayable h lines points p f =
       slots_fit = f.memory.slots;
       stack_fit = all_other (FactFits p.kind) (FactIn (bytes_forms shape)) p.stack.items (λ x i. fact_in shape x refl i) f.memory.stack;
       cells_fit = cells_in shape h.cells.items p.cells.items refl f.memory.cell_count f.memory.cells;
+      top_fit = point_top p.kind p f.kind;
+      temp_fit = point_temp p.kind p f.kind;
+      timed_fit = λ u. let left = point_untimed version p.kind p f.kind o u in (left.top, left.temp);
       next_fit = (f.next.rise, f.next.there, f.next.few, λ e. absurd (true_not false e refl));
       plain_fit = λ e. absurd (true_not false e refl);
       meant = λ one. said_so (is_zero_or_one (get_or p.pairs 2 AnyPair)) (is_carry_and_zero_default p.kind p.flags) one f.core.text;
@@ -83,7 +119,7 @@ place_of p = record {
 
 point_back : (p : Point) (n least after : ℕ) → eqb n 1 ≡ p.pending
     → point_of (record (place_of p) { pending = eqb n 1 }) (facts_with least after p.regs p.pairs p.flags p.stack.items p.cells.items
-    p.next.items) ≡ p
+    p.top p.temp p.next.items) ≡ p
 unfolding point_of
 point_back p n least after e = ap (λ (waits : Bool). record p { pending = waits }) e
 
@@ -101,30 +137,40 @@ truth_back true = refl
 truth_back false = refl
 
 truth_under : (kind : Kind) (p : Point) → PointKindFits kind p → truth_number p.pending < pending_limit kind
-truth_under Main p h = subst (λ b. truth_number b < 1) (sym h.pending) (lit< tt)
+truth_under Main p h = subst (λ b. truth_number b < 1) (sym h.0.pending) (lit< tt)
 truth_under Handler p h = by_case p.pending
   where
     by_case : (b : Bool) → truth_number b < 2
     by_case true = lit< tt
     by_case false = lit< tt
-truth_under Alone p h = subst (λ b. truth_number b < 1) (sym h) (lit< tt)
+truth_under Alone p h = subst (λ b. truth_number b < 1) (sym h.0) (lit< tt)
 
 pending_small : (kind : Kind) → pending_limit kind ≤ 2 ^ 31
 pending_small Main = lit≤ tt
 pending_small Handler = lit≤ tt
 pending_small Alone = lit≤ tt
 
-point_after_again : (h : Head) (lines points left : ℕ) (p : Point) → PlacesAre h lines points → left ≤ 2 ^ 30 → PointFits h lines points p
-    → instances_of p ≤ left
-    → reads (point_after h lines points left p.kind)
+point_shape_fits : (version : Version) (h : Head) (lines points : ℕ) (kind : Kind) → PlacesAre h lines points
+    → ShapeFits (point_shape version h kind points) h.cells.items
+point_shape_fits version h lines points kind a =
+    let s = shape_fits h lines points kind false a (λ _. refl) in
+    record {
+      places = record { few = s.places.few; bytes = s.places.bytes; points = s.places.points };
+      whole = s.whole;
+      ranges = s.ranges;
+    }
+
+point_after_again : (version : Version) (h : Head) (lines points left : ℕ) (p : Point) → PlacesAre h lines points → left ≤ 2 ^ 30
+    → PointFits h lines points p → IsPointIn version p → instances_of p ≤ left
+    → reads (point_after version h lines points left p.kind)
     (line (decimal p.pc ∷ decimal p.l0 ∷ decimal p.l1 ∷ decimal p.c0 ∷ decimal p.c1 ∷ decimal p.clock
     ∷ signed_word p.slope ∷ truth_word p.pending ∷ point_items h.cells.items p)) ≡ Ok (said.Point p)
 unfolding point_after
-point_after_again h lines points left p a small f fits =
+point_after_again version h lines points left p a small f o fits =
     let lines_few : lines ≤ 525 = a.lines_few in
     let kind = p.kind in
     let cells = h.cells.items in
-    let shape = shape_of h kind false points in
+    let shape = point_shape version h kind points in
     let says = Ok (said.Point p) in
     let begin = begin_of kind p f.kind in
     let line_order : p.l0 ≤ p.l1 = f.box.line_order in
@@ -139,7 +185,7 @@ point_after_again h lines points left p a small f fits =
     let w3 = decimal p.c0 ∷ w4 in
     let w2 = decimal p.l1 ∷ w3 in
     let w1 = decimal p.l0 ∷ w2 in
-    let f0 = point_after h lines points left kind in
+    let f0 = point_after version h lines points left kind in
     let f1 = form_rest f0 p.pc in
     let f2 = form_rest f1 p.l0 in
     let f3 = form_rest f2 p.l1 in
@@ -155,8 +201,8 @@ point_after_again h lines points left p a small f fits =
     let limit = count_limit kind left p.l0 p.l1 p.c0 in
     let limit_small = least_small (none_in_main kind 256) (p.c0 + left / (p.l1 - p.l0 + 1)) counts_small in
     let n = truth_number p.pending in
-    let r = items_again shape cells p.regs p.pairs p.flags p.stack.items p.cells.items p.next.items
-    (shape_fits h lines points kind false a (λ _. refl)) (point_sayable h lines points p f) in
+    let r = items_again shape cells p.regs p.pairs p.flags p.stack.items p.cells.items p.top p.temp p.next.items
+    (point_shape_fits version h lines points kind a) (point_sayable version h lines points p f o) in
     advance f0 (decimal p.pc) w1 p.pc says (number_so (within 0 32768) p.pc (lit≤ tt) (within_so 0 32768 p.pc (lit≤ tt) (omega arith) f.pc))
     (advance f1 (decimal p.l0) w2 p.l0 says (number_so (within 0 (none_in_main kind lines)) p.l0 (omega (arith, lines_small))
     (within_so 0 (none_in_main kind lines) p.l0 lines_small (omega arith) (under_none kind lines p.l0 (λ m. (begin m).first_line)
@@ -204,19 +250,19 @@ kind_back Main = refl
 kind_back Handler = refl
 kind_back Alone = refl
 
-pub point_again : (h : Head) (lines points left : ℕ) (p : Point) → PlacesAre h lines points → left ≤ 2 ^ 30 → PointFits h lines points p
-    → instances_of p ≤ left
-    → reads (point_form h lines points left) (line (point_words h.cells.items p)) ≡ Ok (said.Point p)
-point_again h lines points left p a small f fits =
+pub point_again : (version : Version) (h : Head) (lines points left : ℕ) (p : Point) → PlacesAre h lines points → left ≤ 2 ^ 30
+    → PointFits h lines points p → IsPointIn version p → instances_of p ≤ left
+    → reads (point_form version h lines points left) (line (point_words h.cells.items p)) ≡ Ok (said.Point p)
+point_again version h lines points left p a small f o fits =
     let says = Ok (said.Point p) in
     let ws = decimal p.pc ∷ decimal p.l0 ∷ decimal p.l1 ∷ decimal p.c0 ∷ decimal p.c1 ∷ decimal p.clock ∷ signed_word p.slope ∷ truth_word
     p.pending
     ∷ point_items h.cells.items p in
-    let f1 = form_rest (point_form h lines points left) 0 in
-    advance (point_form h lines points left) (codes "point") (kind_word p.kind ∷ ws) 0 says (fixed_word (codes "point"))
+    let f1 = form_rest (point_form version h lines points left) 0 in
+    advance (point_form version h lines points left) (codes "point") (kind_word p.kind ∷ ws) 0 says (fixed_word (codes "point"))
     (advance f1 (kind_word p.kind) ws (kind_place p.kind) says (kind_again p.kind)
-    (ap (λ (k : Kind). reads (point_after h lines points left k) (line ws)) (kind_back p.kind) ∙ point_after_again h lines points left p a
-    small f fits))
+    (ap (λ (k : Kind). reads (point_after version h lines points left k) (line ws)) (kind_back p.kind)
+    ∙ point_after_again version h lines points left p a small f o fits))
 
 -- only
 
@@ -265,33 +311,56 @@ record PlaceSaid (lines : ℕ) (at : PointPlace) : Type 0 where
   pub slope_main : at.kind ≡ Main → magnitude at.slope ≡ 0
   pub waits : (n : ℕ) × (at.pending ≡ eqb n 1) × (n < pending_limit at.kind)
 
-point_kind_fits : (lines : ℕ) (at : PointPlace) (f : Facts) (kind : Kind) → at.kind ≡ kind → PlaceSaid lines at
-    → PointKindFits kind (point_of at f)
+-- the timer, as items say it
+abbrev TimerSaid : Version → Kind → Facts → Type 0
+TimerSaid version kind f =
+    (is_top f.top ≡ true) × RangeFits 255 f.temp × (is_timed version kind ≡ false → (f.top ≡ scanline - 1) × (f.temp ≡ whole_byte))
+
+other_untimed : (version : Version) (kind : Kind) → is_handler kind ≡ false → is_timed version kind ≡ false
+other_untimed First kind e = refl
+other_untimed Second kind e = e
+
+left_out : (at : PointPlace) (f : Facts) → (f.top ≡ scanline - 1) × (f.temp ≡ whole_byte) → IsTimerLeftOut (point_of at f)
 unfolding point_of
-point_kind_fits lines at f Main e p =
-    record {
-      first_line = p.l0_main e;
-      last_line = p.l1_main e;
-      first_count = p.c0_main e;
-      last_count = p.c1_main e;
-      clock = p.clock_main e;
-      slope = no_slope at.slope (p.slope_main e);
-      pending = p.waits.1 ∙ none_waits p.waits.0 (subst (λ k. p.waits.0 < pending_limit k) e p.waits.2);
-    }
-point_kind_fits lines at f Handler e p = tt
-point_kind_fits lines at f Alone e p = p.waits.1 ∙ none_waits p.waits.0 (subst (λ k. p.waits.0 < pending_limit k) e p.waits.2)
+left_out at f h = record { top = h.0; temp = h.1 }
+
+point_is_in : (version : Version) (at : PointPlace) (f : Facts) → TimerSaid version at.kind f → IsPointIn version (point_of at f)
+point_is_in First at f t = left_out at f (t.2 refl)
+point_is_in Second at f t = tt
+
+point_kind_fits : (version : Version) (lines : ℕ) (at : PointPlace) (f : Facts) (kind : Kind) → at.kind ≡ kind → PlaceSaid lines at
+    → TimerSaid version kind f → PointKindFits kind (point_of at f)
+unfolding point_of
+point_kind_fits version lines at f Main e p t = (
+  record {
+    first_line = p.l0_main e;
+    last_line = p.l1_main e;
+    first_count = p.c0_main e;
+    last_count = p.c1_main e;
+    clock = p.clock_main e;
+    slope = no_slope at.slope (p.slope_main e);
+    pending = p.waits.1 ∙ none_waits p.waits.0 (subst (λ k. p.waits.0 < pending_limit k) e p.waits.2);
+  },
+  left_out at f (t.2 (other_untimed version Main refl)),
+)
+point_kind_fits version lines at f Handler e p t = record { top = t.0; temp = t.1 }
+point_kind_fits version lines at f Alone e p t = (
+  p.waits.1 ∙ none_waits p.waits.0 (subst (λ k. p.waits.0 < pending_limit k) e p.waits.2),
+  left_out at f (t.2 (other_untimed version Alone refl)),
+)
 
 has_text : (a b : Bool) → (a ≡ true → b ≡ false) → (a && b) ≡ false
 has_text true b h = h refl
 has_text false b h = refl
 
-core_fits : (h : Head) (points : ℕ) (at : PointPlace) (f : Facts) → Regular (shape_of h at.kind false points) h.cells.items f
+core_fits : (version : Version) (h : Head) (points : ℕ) (at : PointPlace) (f : Facts)
+    → Regular (point_shape version h at.kind points) h.cells.items f
     → (is_zero_or_one (get_or f.pairs 2 AnyPair) ≡ true → is_carry_and_zero_default at.kind f.flags ≡ false)
     → CoreFits (point_of at f)
 unfolding point_of
-core_fits h points at f r z =
+core_fits version h points at f r z =
     let kind = at.kind in
-    let shape = shape_of h kind false points in
+    let shape = point_shape version h kind points in
     record {
       register_count = each_length (λ k x. FactIn (bytes_forms shape) x) registers f.regs r.regs;
       registers = all_other (FactIn (bytes_forms shape)) (FactFits kind) f.regs (fact_out shape)
@@ -304,11 +373,12 @@ core_fits h points at f r z =
       text = has_text (is_zero_or_one (get_or f.pairs 2 AnyPair)) (is_carry_and_zero_default kind f.flags) z;
     }
 
-memory_fits : (h : Head) (points : ℕ) (at : PointPlace) (f : Facts) → Regular (shape_of h at.kind false points) h.cells.items f
+memory_fits : (version : Version) (h : Head) (points : ℕ) (at : PointPlace) (f : Facts)
+    → Regular (point_shape version h at.kind points) h.cells.items f
     → MemoryFits h (point_of at f)
 unfolding point_of
-memory_fits h points at f r =
-    let shape = shape_of h at.kind false points in
+memory_fits version h points at f r =
+    let shape = point_shape version h at.kind points in
     let cells = cells_out shape h.cells.items f.cells.items refl r.tracked_cells in
     record {
       slots = r.slots;
@@ -317,13 +387,14 @@ memory_fits h points at f r =
       cells = cells.1;
     }
 
-point_fits : (h : Head) (lines points : ℕ) (at : PointPlace) (f : Facts) → Regular (shape_of h at.kind false points) h.cells.items f
+point_fits : (version : Version) (h : Head) (lines points : ℕ) (at : PointPlace) (f : Facts)
+    → Regular (point_shape version h at.kind points) h.cells.items f
     → (is_zero_or_one (get_or f.pairs 2 AnyPair) ≡ true → is_carry_and_zero_default at.kind f.flags ≡ false)
     → PlaceSaid lines at → PointFits h lines points (point_of at f)
 unfolding point_of
-point_fits h lines points at f r z p =
+point_fits version h lines points at f r z p =
     record {
-      kind = point_kind_fits lines at f at.kind refl p;
+      kind = point_kind_fits version lines at f at.kind refl p (r.top, r.temp, r.untimed);
       pc = p.pc;
       box = record {
         line_order = p.line_order;
@@ -333,8 +404,8 @@ point_fits h lines points at f r z p =
         clock = p.clock_in;
         slope = p.slope_in;
       };
-      core = core_fits h points at f r z;
-      memory = memory_fits h points at f r;
+      core = core_fits version h points at f r z;
+      memory = memory_fits version h points at f r;
       next = record { few = r.next_few; there = r.next_there; rise = r.next_rise };
     }
 
@@ -369,28 +440,28 @@ on_lines kind pc l0 l1 = record {
   pending = false;
 }
 
-abbrev after_clock : Head → ℕ → PointPlace → LineForm
-after_clock h points at =
+abbrev after_clock : Version → Head → ℕ → PointPlace → LineForm
+after_clock version h points at =
     slope (none_in_main at.kind clock_limit) (λ s. number (within 0 (pending_limit at.kind)) (λ n.
-    items (shape_of h at.kind false points) h.cells.items (λ f. said.Point (point_of (record at { slope = s; pending = eqb n 1 }) f))))
+    items (point_shape version h at.kind points) h.cells.items (λ f. said.Point (point_of (record at { slope = s; pending = eqb n 1 }) f))))
 
-abbrev after_lines : Head → ℕ → ℕ → PointPlace → LineForm
-after_lines h points left at =
+abbrev after_lines : Version → Head → ℕ → ℕ → PointPlace → LineForm
+after_lines version h points left at =
     number (within 0 (none_in_main at.kind 256)) (λ c0. number (within c0 (count_limit at.kind left at.l0 at.l1 c0)) (λ c1.
     number (within 0 (none_in_main at.kind clock_limit)) (λ clock.
-    after_clock h points (record at { c0 = c0; c1 = c1; clock = clock }))))
+    after_clock version h points (record at { c0 = c0; c1 = c1; clock = clock }))))
 
-record KindRead (h : Head) (lines points left : ℕ) (list : List (List ℕ)) (ended : Bool) (says : Said) : Type 0 where
+record KindRead (version : Version) (h : Head) (lines points left : ℕ) (list : List (List ℕ)) (ended : Bool) (says : Said) : Type 0 where
   pub kind : Kind
   pub words : List (List ℕ)
   pub parts : list ≡ codes "point" ∷ kind_word kind ∷ words
-  pub rest : reads (point_after h lines points left kind) (words_in words ended) ≡ Ok says
+  pub rest : reads (point_after version h lines points left kind) (words_in words ended) ≡ Ok says
 
-kind_read : (h : Head) (lines points left : ℕ) (list : List (List ℕ)) (ended : Bool) (says : Said)
-    → reads (point_form h lines points left) (words_in list ended) ≡ Ok says → KindRead h lines points left list ended says
-kind_read h lines points left list ended says e =
-    let b = retreat (point_form h lines points left) list ended says tt e in
-    let k = retreat (form_rest (point_form h lines points left) b.number) b.left ended says tt b.rest in
+kind_read : (version : Version) (h : Head) (lines points left : ℕ) (list : List (List ℕ)) (ended : Bool) (says : Said)
+    → reads (point_form version h lines points left) (words_in list ended) ≡ Ok says → KindRead version h lines points left list ended says
+kind_read version h lines points left list ended says e =
+    let b = retreat (point_form version h lines points left) list ended says tt e in
+    let k = retreat (form_rest (point_form version h lines points left) b.number) b.left ended says tt b.rest in
     record {
       kind = point_kind k.number;
       words = k.left;
@@ -400,7 +471,7 @@ kind_read h lines points left list ended says e =
       rest = k.rest;
     }
 
-record LinesRead (h : Head) (lines points left : ℕ) (kind : Kind) (list : List (List ℕ)) (ended : Bool) (says : Said) : Type 0 where
+record LinesRead (version : Version) (h : Head) (lines points left : ℕ) (kind : Kind) (list : List (List ℕ)) (ended : Bool) (says : Said) : Type 0 where
   pub pc : ℕ
   pub l0 : ℕ
   pub l1 : ℕ
@@ -410,14 +481,14 @@ record LinesRead (h : Head) (lines points left : ℕ) (kind : Kind) (list : List
   pub l0_in : l0 < none_in_main kind lines
   pub order : l0 ≤ l1
   pub l1_in : l1 < none_in_main kind lines
-  pub rest : reads (after_lines h points left (on_lines kind pc l0 l1)) (words_in words ended) ≡ Ok says
+  pub rest : reads (after_lines version h points left (on_lines kind pc l0 l1)) (words_in words ended) ≡ Ok says
 
-lines_read : (h : Head) (lines points left : ℕ) (kind : Kind) (list : List (List ℕ)) (ended : Bool) (says : Said) → lines ≤ 525
-    → reads (point_after h lines points left kind) (words_in list ended) ≡ Ok says → LinesRead h lines points left kind list ended says
+lines_read : (version : Version) (h : Head) (lines points left : ℕ) (kind : Kind) (list : List (List ℕ)) (ended : Bool) (says : Said) → lines ≤ 525
+    → reads (point_after version h lines points left kind) (words_in list ended) ≡ Ok says → LinesRead version h lines points left kind list ended says
 unfolding point_after
-lines_read h lines points left kind list ended says few e =
+lines_read version h lines points left kind list ended says few e =
     let small = none_small kind lines (omega arith) in
-    let f0 = point_after h lines points left kind in
+    let f0 = point_after version h lines points left kind in
     let p = retreat f0 list ended says tt e in
     let f1 = form_rest f0 p.number in
     let l0 = retreat f1 p.left ended says tt p.rest in
@@ -441,7 +512,7 @@ lines_read h lines points left kind list ended says few e =
       rest = l1.rest;
     }
 
-record CountsRead (h : Head) (points left : ℕ) (at : PointPlace) (list : List (List ℕ)) (ended : Bool) (says : Said) : Type 0 where
+record CountsRead (version : Version) (h : Head) (points left : ℕ) (at : PointPlace) (list : List (List ℕ)) (ended : Bool) (says : Said) : Type 0 where
   pub c0 : ℕ
   pub c1 : ℕ
   pub clock : ℕ
@@ -451,14 +522,14 @@ record CountsRead (h : Head) (points left : ℕ) (at : PointPlace) (list : List 
   pub order : c0 ≤ c1
   pub c1_in : c1 < count_limit at.kind left at.l0 at.l1 c0
   pub clock_in : clock < none_in_main at.kind clock_limit
-  pub rest : reads (after_clock h points (record at { c0 = c0; c1 = c1; clock = clock })) (words_in words ended) ≡ Ok says
+  pub rest : reads (after_clock version h points (record at { c0 = c0; c1 = c1; clock = clock })) (words_in words ended) ≡ Ok says
 
-counts_read : (h : Head) (points left : ℕ) (at : PointPlace) (list : List (List ℕ)) (ended : Bool) (says : Said)
-    → reads (after_lines h points left at) (words_in list ended) ≡ Ok says → CountsRead h points left at list ended says
-counts_read h points left at list ended says e =
+counts_read : (version : Version) (h : Head) (points left : ℕ) (at : PointPlace) (list : List (List ℕ)) (ended : Bool) (says : Said)
+    → reads (after_lines version h points left at) (words_in list ended) ≡ Ok says → CountsRead version h points left at list ended says
+counts_read version h points left at list ended says e =
     let counts_small = none_small at.kind 256 (lit≤ tt) in
     let clocks_small = none_small at.kind clock_limit (lit≤ tt) in
-    let f3 = after_lines h points left at in
+    let f3 = after_lines version h points left at in
     let c0 = retreat f3 list ended says tt e in
     let f4 = form_rest f3 c0.number in
     let c1 = retreat f4 c0.left ended says tt c0.rest in
@@ -484,7 +555,7 @@ counts_read h points left at list ended says e =
       rest = c.rest;
     }
 
-record StateRead (h : Head) (points : ℕ) (at : PointPlace) (list : List (List ℕ)) (ended : Bool) (says : Said) : Type 0 where
+record StateRead (version : Version) (h : Head) (points : ℕ) (at : PointPlace) (list : List (List ℕ)) (ended : Bool) (says : Said) : Type 0 where
   pub steps : ℤ
   pub n : ℕ
   pub f : Facts
@@ -492,16 +563,16 @@ record StateRead (h : Head) (points : ℕ) (at : PointPlace) (list : List (List 
   pub end : ended ≡ true
   pub steps_in : magnitude steps < none_in_main at.kind clock_limit
   pub n_in : n < pending_limit at.kind
-  pub regular : Regular (shape_of h at.kind false points) h.cells.items f
+  pub regular : Regular (point_shape version h at.kind points) h.cells.items f
   pub meant : is_zero_or_one (get_or f.pairs 2 AnyPair) ≡ true → is_carry_and_zero_default at.kind f.flags ≡ false
   pub says_is : says ≡ said.Point (point_of (record at { slope = steps; pending = eqb n 1 }) f)
 
-state_read : (h : Head) (lines points : ℕ) (at : PointPlace) (list : List (List ℕ)) (ended : Bool) (says : Said) → PlacesAre h lines points
-    → reads (after_clock h points at) (words_in list ended) ≡ Ok says → StateRead h points at list ended says
-state_read h lines points at list ended says a e =
+state_read : (version : Version) (h : Head) (lines points : ℕ) (at : PointPlace) (list : List (List ℕ)) (ended : Bool) (says : Said) → PlacesAre h lines points
+    → reads (after_clock version h points at) (words_in list ended) ≡ Ok says → StateRead version h points at list ended says
+state_read version h lines points at list ended says a e =
     let kind = at.kind in
     let cells = h.cells.items in
-    let shape = shape_of h kind false points in
+    let shape = point_shape version h kind points in
     let clocks_small = none_small kind clock_limit (lit≤ tt) in
     let say : ℤ → ℕ → Facts → Said = λ s n x. said.Point (point_of (record at { slope = s; pending = eqb n 1 }) x) in
     let after_slope : ℤ → LineForm = λ s. number (within 0 (pending_limit kind)) (λ n. items shape cells (λ x. say s n x)) in
@@ -510,7 +581,7 @@ state_read h lines points at list ended says a e =
     let wn = number_only (within 0 (pending_limit kind)) w.word w.number (omega (arith, pending_small kind)) w.is in
     let waits : w.number < pending_limit kind = wn.1.below in
     let m = bind_ok (read_items shape cells (words_in w.left ended)) (λ x. fine (say s.0 w.number x)) says w.rest in
-    let g = items_only shape cells (words_in w.left ended) m.0 (shape_fits h lines points kind false a (λ _. refl)) m.1 in
+    let g = items_only shape cells (words_in w.left ended) m.0 (point_shape_fits version h lines points kind a) m.1 in
     record {
       steps = s.0;
       n = w.number;
@@ -542,21 +613,21 @@ counted at c0 c1 clock = record at { c0 = c0; c1 = c1; clock = clock }
 abbrev stated : PointPlace → ℤ → ℕ → PointPlace
 stated at steps n = record at { slope = steps; pending = eqb n 1 }
 
-record PointRead (h : Head) (lines points left : ℕ) (words : Words) (says : Said) : Type 0 where
-  pub k : KindRead h lines points left words.list words.ended says
-  pub l : LinesRead h lines points left k.kind k.words words.ended says
-  pub c : CountsRead h points left (on_lines k.kind l.pc l.l0 l.l1) l.words words.ended says
-  pub s : StateRead h points (counted (on_lines k.kind l.pc l.l0 l.l1) c.c0 c.c1 c.clock) c.words words.ended says
+record PointRead (version : Version) (h : Head) (lines points left : ℕ) (words : Words) (says : Said) : Type 0 where
+  pub k : KindRead version h lines points left words.list words.ended says
+  pub l : LinesRead version h lines points left k.kind k.words words.ended says
+  pub c : CountsRead version h points left (on_lines k.kind l.pc l.l0 l.l1) l.words words.ended says
+  pub s : StateRead version h points (counted (on_lines k.kind l.pc l.l0 l.l1) c.c0 c.c1 c.clock) c.words words.ended says
 
-place_read : (h : Head) (lines points left : ℕ) (words : Words) (says : Said) → PointRead h lines points left words says → PointPlace
-place_read h lines points left words says r =
+place_read : (version : Version) (h : Head) (lines points left : ℕ) (words : Words) (says : Said) → PointRead version h lines points left words says → PointPlace
+place_read version h lines points left words says r =
     stated (counted (on_lines r.k.kind r.l.pc r.l.l0 r.l.l1) r.c.c0 r.c.c1 r.c.clock) r.s.steps r.s.n
 
-place_said : (h : Head) (lines points left : ℕ) (words : Words) (says : Said) → 1 ≤ lines → (r : PointRead h lines points left words says)
-    → PlaceSaid lines (place_read h lines points left words says r)
+place_said : (version : Version) (h : Head) (lines points left : ℕ) (words : Words) (says : Said) → 1 ≤ lines → (r : PointRead version h lines points left words says)
+    → PlaceSaid lines (place_read version h lines points left words says r)
     × ((r.l.l1 - r.l.l0 + 1) * (r.c.c1 - r.c.c0 + 1) ≤ left)
 unfolding place_read
-place_said h lines points left words says some r =
+place_said version h lines points left words says some r =
     let kind = r.k.kind in
     let l = r.l in
     let c = r.c in
@@ -587,39 +658,40 @@ place_said h lines points left words says some r =
       under_box left l.l0 l.l1 c.c0 c.c1 c.order both.1,
     )
 
-point_read : (h : Head) (lines points left : ℕ) (words : Words) (says : Said) → PlacesAre h lines points
-    → reads (point_form h lines points left) words ≡ Ok says → PointRead h lines points left words says
-point_read h lines points left words says a e =
-    let k = kind_read h lines points left words.list words.ended says e in
-    let l = lines_read h lines points left k.kind k.words words.ended says a.lines_few k.rest in
-    let c = counts_read h points left (on_lines k.kind l.pc l.l0 l.l1) l.words words.ended says l.rest in
+point_read : (version : Version) (h : Head) (lines points left : ℕ) (words : Words) (says : Said) → PlacesAre h lines points
+    → reads (point_form version h lines points left) words ≡ Ok says → PointRead version h lines points left words says
+point_read version h lines points left words says a e =
+    let k = kind_read version h lines points left words.list words.ended says e in
+    let l = lines_read version h lines points left k.kind k.words words.ended says a.lines_few k.rest in
+    let c = counts_read version h points left (on_lines k.kind l.pc l.l0 l.l1) l.words words.ended says l.rest in
     record {
       k = k;
       l = l;
       c = c;
-      s = state_read h lines points (counted (on_lines k.kind l.pc l.l0 l.l1) c.c0 c.c1 c.clock) c.words words.ended says a c.rest;
+      s = state_read version h lines points (counted (on_lines k.kind l.pc l.l0 l.l1) c.c0 c.c1 c.clock) c.words words.ended says a c.rest;
     }
 
-point_told : (h : Head) (lines points left : ℕ) (words : Words) (says : Said) → 1 ≤ lines → PointRead h lines points left words says
+point_told : (version : Version) (h : Head) (lines points left : ℕ) (words : Words) (says : Said) → 1 ≤ lines → PointRead version h lines points left words says
     → (p : Point) × (says ≡ said.Point p) × (words ≡ line (point_words h.cells.items p)) × PointFits h lines points p
-    × (instances_of p ≤ left)
+    × IsPointIn version p × (instances_of p ≤ left)
 unfolding place_read
-point_told h lines points left words says some r =
-    let at = place_read h lines points left words says r in
+point_told version h lines points left words says some r =
+    let at = place_read version h lines points left words says r in
     let s = r.s in
-    let b = place_said h lines points left words says some r in (
+    let b = place_said version h lines points left words says some r in (
       point_of at s.f,
       s.says_is,
       line_same words.list (point_words h.cells.items (point_of at s.f)) words.ended
           (all_parts at words.list r.k.words r.l.words r.c.words (spelled at.kind h.cells.items s.f) r.k.parts r.l.parts r.c.parts s.parts
           ∙ point_words_are h at s.f) s.end,
-      point_fits h lines points at s.f s.regular s.meant b.0,
+      point_fits version h lines points at s.f s.regular s.meant b.0,
+      point_is_in version at s.f (s.regular.top, s.regular.temp, s.regular.untimed),
       instances_are at left s.f b.1,
     )
 
-pub point_only : (h : Head) (lines points left : ℕ) (words : Words) (says : Said) → PlacesAre h lines points → 1 ≤ lines → left ≤ 2 ^ 30
-    → reads (point_form h lines points left) words ≡ Ok says
+pub point_only : (version : Version) (h : Head) (lines points left : ℕ) (words : Words) (says : Said) → PlacesAre h lines points → 1 ≤ lines → left ≤ 2 ^ 30
+    → reads (point_form version h lines points left) words ≡ Ok says
     → (p : Point) × (says ≡ said.Point p) × (words ≡ line (point_words h.cells.items p)) × PointFits h lines points p
-    × (instances_of p ≤ left)
-point_only h lines points left words says a some small e =
-    point_told h lines points left words says some (point_read h lines points left words says a e)
+    × IsPointIn version p × (instances_of p ≤ left)
+point_only version h lines points left words says a some small e =
+    point_told version h lines points left words says some (point_read version h lines points left words says a e)

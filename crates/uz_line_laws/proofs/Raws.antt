@@ -13,7 +13,7 @@ use Rattle.uz_lines.specs.declared.values.Raw.TheVariants as raw
 use Rattle.uz_lines.specs.declared.why.CertWhy.{CertWhy}
 use Rattle.uz_lines.specs.declared.why.CertWhy.TheVariants as why
 use Rattle.uz_spelling.specs.Spelling.{slope_word}
-use Rattle.uz_line_laws.proofs.Tests.{and_true, both_true, fine_is, passed, so, else_so, bind_ok, then, lt_is, is_lt, number_is, not_number}
+use Rattle.uz_line_laws.proofs.Tests.{and_true, both_true, fine, fine_is, passed, so, else_so, bind_ok, then, lt_is, is_lt, number_is, not_number}
 use Rattle.uz_line_laws.proofs.Tests.{word_is}
 use Rattle.uz_line_laws.proofs.Numbers.{one_only, one_so, two_only, two_so, first_digit, decimal_lacks_below, cut_none}
 
@@ -124,7 +124,7 @@ point_parts lo hi w c m n e f g h =
     h ∙ ap (λ t. t ++ 46 ∷ (c ∷ hi)) e ∙ ap (λ t. decimal m ++ 46 ∷ (t ∷ hi)) g ∙ ap (λ t. decimal m ++ 46 ∷ (46 ∷ t)) f
     ∙ sym (append_assoc (decimal m) (codes "..") (decimal n))
 
-range_only : (f : FactForms) (w : List ℕ) (r : Raw) → f.limit ≤ 2 ^ 32 → range f w ≡ Ok r → Reads f w r
+pub range_only : (f : FactForms) (w : List ℕ) (r : Raw) → f.limit ≤ 2 ^ 32 → range f w ≡ Ok r → (w ≡ raw_word r) × RawFits f r
 unfolding range
 range_only f w r h e = by_cut (cut_at 46 w) refl e
   where
@@ -145,6 +145,30 @@ range_only f w r h e = by_cut (cut_at 46 w) refl e
         let n = one_only f.low f.limit m.0 w h m.1 in
         reads_at f w (raw.One m.0) r (fine_is (raw.One m.0) r m.2) (n.0, (n.1, n.2))
     by_cut (Some p) c e = by_two p.0 p.1 c e
+
+-- a range is read as one number or two
+pub range_not_all : (f : FactForms) (w : List ℕ) → range f w ≡ Ok raw.All → ⊥
+unfolding range
+range_not_all f w e = by_cut (cut_at 46 w) e
+  where
+    one_not : (n : ℕ) → fine (raw.One n) ≡ fine raw.All → ⊥
+    one_not n e = cc
+
+    two_not : (m n : ℕ) → fine (raw.Two m n) ≡ fine raw.All → ⊥
+    two_not m n e = cc
+
+    by_two : (lo back : List ℕ) → range_parts f lo back ≡ Ok raw.All → ⊥
+    by_two lo [] e = cc
+    by_two lo (b ∷ hi) e =
+        let p = passed (eqb b 46) (two_numbers f.low f.low f.limit lo hi >>= (λ n. Ok (raw.Two n.0 n.1))) why.Word raw.All e in
+        let m = bind_ok (two_numbers f.low f.low f.limit lo hi) (λ n. Ok (raw.Two n.0 n.1)) raw.All p.1 in
+        two_not m.0.0 m.0.1 m.2
+
+    by_cut : (o : Option (List ℕ × List ℕ)) → range_cut f w o ≡ Ok raw.All → ⊥
+    by_cut None e =
+        let m = bind_ok (one_number f.low f.limit w) (λ n. Ok (raw.One n)) raw.All e in
+        one_not m.0 m.2
+    by_cut (Some p) e = by_two p.0 p.1 e
 
 head_is : (c b : ℕ) (cs : List ℕ) (f : FactForms) (r : Raw) → eqb c b ≡ true → Reads f (b ∷ cs) r → Reads f (c ∷ cs) r
 head_is c b cs f r e h = subst (λ x. Reads f (x ∷ cs) r) (sym (number_is c b e)) h
@@ -202,33 +226,38 @@ digit_first f (b ∷ bs) r d e =
     apart_below : (b c : ℕ) → b ≤ 57 → 57 < c → b ≢ c
     apart_below b c h k e = omega arith
 
-pub one_raw : (f : FactForms) (n : ℕ) → f.limit ≤ 2 ^ 32 → InForms f n → raw_of f (decimal n) ≡ Ok (raw.One n)
+pub one_range : (f : FactForms) (n : ℕ) → f.limit ≤ 2 ^ 32 → InForms f n → range f (decimal n) ≡ Ok (raw.One n)
 unfolding range
-one_raw f n h i = digit_first f (decimal n) (Ok (raw.One n)) (first_digit n (omega arith)) in_range
-  where
-    in_range : range f (decimal n) ≡ Ok (raw.One n)
-    in_range =
-        ap (range_cut f (decimal n)) (cut_none 46 (decimal n) (decimal_lacks_below 46 n (lit< tt) (omega arith)))
-        ∙ then (one_number f.low f.limit (decimal n)) (λ n. Ok (raw.One n)) n (Ok (raw.One n)) (one_so f.low f.limit n h i.0 i.1) refl
+one_range f n h i =
+    ap (range_cut f (decimal n)) (cut_none 46 (decimal n) (decimal_lacks_below 46 n (lit< tt) (omega arith)))
+    ∙ then (one_number f.low f.limit (decimal n)) (λ n. Ok (raw.One n)) n (Ok (raw.One n)) (one_so f.low f.limit n h i.0 i.1) refl
+
+pub one_raw : (f : FactForms) (n : ℕ) → f.limit ≤ 2 ^ 32 → InForms f n → raw_of f (decimal n) ≡ Ok (raw.One n)
+one_raw f n h i = digit_first f (decimal n) (Ok (raw.One n)) (first_digit n (omega arith)) (one_range f n h i)
 
 first_of : (w v : List ℕ) → (c : ℕ) × (cs : List ℕ) × (w ≡ c ∷ cs) × (48 ≤ c) × (c ≤ 57)
     → (c : ℕ) × (cs : List ℕ) × (w ++ v ≡ c ∷ cs) × (48 ≤ c) × (c ≤ 57)
 first_of w v d = (d.0, d.1 ++ v, ap (λ t. t ++ v) d.2, d.3, d.4)
 
+two_cut : (f : FactForms) (lo hi : ℕ) → f.limit ≤ 2 ^ 32 → InForms f lo → InForms f hi
+    → range f (decimal lo ++ 46 ∷ (46 ∷ decimal hi)) ≡ Ok (raw.Two lo hi)
+unfolding range
+two_cut f lo hi h i k =
+    ap (range_cut f (decimal lo ++ 46 ∷ (46 ∷ decimal hi)))
+    (cut_again 46 (decimal lo) (46 ∷ decimal hi) (decimal_lacks_below 46 lo (lit< tt) (omega arith)))
+    ∙ then (two_numbers f.low f.low f.limit (decimal lo) (decimal hi)) (λ n. Ok (raw.Two n.0 n.1)) (lo, hi) (Ok (raw.Two lo hi))
+    (two_so f.low f.low f.limit lo hi h i.0 i.1 k.0 k.1) refl
+
+pub two_range : (f : FactForms) (lo hi : ℕ) → f.limit ≤ 2 ^ 32 → InForms f lo → InForms f hi
+    → range f (decimal lo ++ codes ".." ++ decimal hi) ≡ Ok (raw.Two lo hi)
+two_range f lo hi h i k = ap (range f) (append_assoc (decimal lo) (codes "..") (decimal hi)) ∙ two_cut f lo hi h i k
+
 pub two_raw : (f : FactForms) (lo hi : ℕ) → f.limit ≤ 2 ^ 32 → InForms f lo → InForms f hi
     → raw_of f (decimal lo ++ codes ".." ++ decimal hi) ≡ Ok (raw.Two lo hi)
-unfolding range
 two_raw f lo hi h i k =
     ap (raw_of f) (append_assoc (decimal lo) (codes "..") (decimal hi))
     ∙ digit_first f (decimal lo ++ 46 ∷ (46 ∷ decimal hi)) (Ok (raw.Two lo hi))
-    (first_of (decimal lo) (46 ∷ (46 ∷ decimal hi)) (first_digit lo (omega arith))) in_range
-  where
-    in_range : range f (decimal lo ++ 46 ∷ (46 ∷ decimal hi)) ≡ Ok (raw.Two lo hi)
-    in_range =
-        ap (range_cut f (decimal lo ++ 46 ∷ (46 ∷ decimal hi)))
-        (cut_again 46 (decimal lo) (46 ∷ decimal hi) (decimal_lacks_below 46 lo (lit< tt) (omega arith)))
-        ∙ then (two_numbers f.low f.low f.limit (decimal lo) (decimal hi)) (λ n. Ok (raw.Two n.0 n.1)) (lo, hi) (Ok (raw.Two lo hi))
-        (two_so f.low f.low f.limit lo hi h i.0 i.1 k.0 k.1) refl
+    (first_of (decimal lo) (46 ∷ (46 ∷ decimal hi)) (first_digit lo (omega arith))) (two_cut f lo hi h i k)
 
 sloped_raw : (is_line : Bool) (f : FactForms) (a b : ℕ) → f.limit ≤ 2 ^ 32 → (1 ≤ a) → (a < f.limit) → (b < f.limit)
     → sloped_cut is_line f (decimal a ++ codes "+" ++ decimal b) ≡ Ok (slope is_line (a, b))

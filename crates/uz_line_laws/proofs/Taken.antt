@@ -1,27 +1,30 @@
--- What it takes that an item is taken: its word is spelled as one of the six forms, and it sets one thing.
+-- What it takes that an item is taken: its word is spelled as one of the eight forms, and it sets one thing.
 use Rattle.std.proofs.Common.{◌≡◌, ℕ, zero, suc, ◌+◌, ◌<◌, ◌≤◌, ◌≢◌, ◌^◌, Bool, true, false, cond, not, ◌&&◌, ◌||◌, eqb, leb, ltb, List, []}
-use Rattle.std.proofs.Common.{◌∷◌, ◌++◌, length, decimal, codes, lit<, lit≤, refl, sym, ◌∙◌, ap, subst, arith}
+use Rattle.std.proofs.Common.{◌∷◌, ◌++◌, length, decimal, codes, bytes_eq, lit<, lit≤, refl, sym, ◌∙◌, ap, subst, arith}
 use Rattle.std.specs.Prelude.{Option, Some, None, Result, Ok, Err, All, slice_get, slice_set, slice_index}
 use Rattle.std.proofs.lemmas.List.Elements.{All-head, All-tail}
 use Rattle.uz_text.specs.Cutting.{cut_at}
 use Rattle.uz_text.specs.Numbers.{is_numeral, number_below}
 use Rattle.uz_text.proofs.Cuts.{cut_read}
 use Rattle.uz_text.proofs.NumberWords.{number_read}
+use Rattle.uz_schedule.specs.Ends.{Ends}
+use Rattle.uz_schedule.specs.Limits.{is_top}
+use Rattle.uz_schedule.specs.Schedule.{scanline}
 use Rattle.uz_schedule.specs.Tracked.{tracks}
-use Rattle.uz_schedule.specs.WellFormed.{is_default_flag}
+use Rattle.uz_schedule.specs.WellFormed.{PartFits, is_default_flag}
 use Rattle.uz_schedule.specs.declared.header.Cell.{Cell}
 use Rattle.uz_schedule.specs.declared.facts.Fact.{Fact}
 use Rattle.uz_schedule.specs.declared.facts.PairFact.{PairFact}
 use Rattle.uz_schedule.specs.declared.facts.Bit.{Bit}
 use Rattle.uz_lines.specs.Why.{◌>>=◌}
-use Rattle.uz_lines.specs.Values.{digits, raw_of, fact_of, pair_of, bit_of}
-use Rattle.uz_lines.specs.Defaults.{is_default, is_any_pair, is_range}
+use Rattle.uz_lines.specs.Values.{digits, one_number, range, raw_of, fact_of, pair_of, ends_of, bit_of}
+use Rattle.uz_lines.specs.Defaults.{is_default, is_any_pair, is_range, is_default_top}
 use Rattle.uz_lines.specs.Items.{in_order, is_handler, bytes_forms, register_set, register_key, take_register, pair_forms, pair_set}
 use Rattle.uz_lines.specs.Items.{take_pair}
 use Rattle.uz_lines.specs.Items.{flag_set, take_flag, slot_set, slot_room, take_slot, tracked_before, with_number, cell_at, cell_forms}
 use Rattle.uz_lines.specs.Items.{numbered}
 use Rattle.uz_lines.specs.Items.{cell_set, cell_value, take_cell, successor_set, take_successor, is_flag_z, take_letter, take_keyed}
-use Rattle.uz_lines.specs.Items.{take_cut}
+use Rattle.uz_lines.specs.Items.{top_set, top_value, take_top, temp_forms, temp_set, take_temp, take_timer, take_cut}
 use Rattle.uz_lines.specs.Items.{take_named, take_second, take_item}
 use Rattle.uz_lines.specs.declared.values.FactForms.{FactForms}
 use Rattle.uz_lines.specs.declared.values.Raw.{Raw}
@@ -29,10 +32,11 @@ use Rattle.uz_lines.specs.declared.items.Shape.{Shape}
 use Rattle.uz_lines.specs.declared.items.Facts.{Facts}
 use Rattle.uz_lines.specs.declared.why.CertWhy.{CertWhy}
 use Rattle.uz_lines.specs.declared.why.CertWhy.TheVariants as why
-use Rattle.uz_spelling.specs.Spelling.{item, fact_word, pair_word, flag_word}
+use Rattle.uz_spelling.specs.Spelling.{range_word, item, fact_word, pair_word, flag_word}
 use Rattle.uz_line_laws.proofs.Tests.{and_true, both_true, or_false, not_true, fine_is, fault_not, passed, failed, so, bind_ok, then, le_is}
-use Rattle.uz_line_laws.proofs.Tests.{is_le, lt_is, number_is}
-use Rattle.uz_line_laws.proofs.Facts.{FactIn, fact_only, PairIn, pair_only, BitIn, bit_only}
+use Rattle.uz_line_laws.proofs.Tests.{is_le, lt_is, number_is, word_is}
+use Rattle.uz_line_laws.proofs.Numbers.{one_only}
+use Rattle.uz_line_laws.proofs.Facts.{FactIn, fact_only, PairIn, pair_only, BitIn, bit_only, temp_only}
 
 -- what items set
 
@@ -52,8 +56,14 @@ abbrev pub with_cell : Shape → List Cell → Facts → ℕ → Fact → Facts
 with_cell shape cells facts i f =
     record facts { cells = record { items = slice_set facts.cells.items (tracked_before shape.kind i cells) f }; least = 44 + i }
 
+abbrev pub with_top : Facts → ℕ → Facts
+with_top facts top = record facts { top = top; least = 60 }
+
+abbrev pub with_temp : Facts → Ends → Facts
+with_temp facts temp = record facts { temp = temp; least = 61 }
+
 abbrev pub with_successor : Facts → ℕ → Facts
-with_successor facts id = record facts { next = record { items = facts.next.items ++ id ∷ [] }; after = id + 1; least = 59 }
+with_successor facts id = record facts { next = record { items = facts.next.items ++ id ∷ [] }; after = id + 1; least = 61 }
 
 -- the letters of pairs and flags
 
@@ -63,7 +73,7 @@ pair_letter k = slice_index (codes "xyz") k
 abbrev pub flag_letter : ℕ → ℕ
 flag_letter b = slice_index (codes "cznvsht") b
 
--- one of the six
+-- one of the eight
 
 pub record TakesRegister (shape : Shape) (facts : Facts) (w : List ℕ) (r : ℕ) (f : Fact) : Type 0 where
   pub word : w ≡ item (114 ∷ decimal r) (fact_word f)
@@ -107,6 +117,19 @@ pub record TakesCell (shape : Shape) (cells : List Cell) (facts : Facts) (w : Li
   pub order : facts.least ≤ 43 + i
   pub other : is_range c.range f ≡ false
 
+pub record TakesTop (shape : Shape) (facts : Facts) (w : List ℕ) (top : ℕ) : Type 0 where
+  pub word : w ≡ item (codes "top") (decimal top)
+  pub timed : shape.timed ≡ true
+  pub fits : is_top top ≡ true
+  pub order : facts.least ≤ 59
+  pub other : is_default_top top ≡ false
+
+pub record TakesTemp (shape : Shape) (facts : Facts) (w : List ℕ) (temp : Ends) : Type 0 where
+  pub word : w ≡ item (codes "temp") (range_word temp)
+  pub timed : shape.timed ≡ true
+  pub fits : PartFits 255 temp
+  pub order : facts.least ≤ 60
+
 pub record TakesSuccessor (shape : Shape) (facts : Facts) (w : List ℕ) (id : ℕ) : Type 0 where
   pub word : w ≡ 62 ∷ decimal id
   pub whole : shape.plain ≡ false
@@ -121,6 +144,8 @@ pub data Taken (shape : Shape) (cells : List Cell) (facts : Facts) (w : List ℕ
   slot : (f : Fact) → TakesSlot shape facts w f → more ≡ with_slot facts f → Taken shape cells facts w later more
   cell : (i : ℕ) (c : Cell) (f : Fact) → TakesCell shape cells facts w i c f → more ≡ with_cell shape cells facts i f → Taken shape cells
       facts w later more
+  timer_top : (top : ℕ) → TakesTop shape facts w top → more ≡ with_top facts top → Taken shape cells facts w later more
+  timer_temp : (temp : Ends) → TakesTemp shape facts w temp → more ≡ with_temp facts temp → Taken shape cells facts w later more
   successor : (id : ℕ) → TakesSuccessor shape facts w id → more ≡ with_successor facts id → Taken shape cells facts w later more
 
 -- what is taken is one of these
@@ -310,6 +335,36 @@ cell_taken shape cells facts w key value later more few bytes e h =
           other = set.1;
         }) set.2
 
+top_taken : (shape : Shape) (cells : List Cell) (facts : Facts) (w value : List ℕ) (later : List (List ℕ)) (more : Facts)
+    → w ≡ codes "top" ++ 61 ∷ value → take_top shape facts value ≡ Ok more → Taken shape cells facts w later more
+unfolding take_top
+top_taken shape cells facts w value later more e h =
+    let p = passed shape.timed (one_number 0 scanline value >>= (λ top. top_value facts top)) why.Word more h in
+    let m = bind_ok (one_number 0 scanline value) (λ top. top_value facts top) more p.1 in
+    let number = one_only 0 scanline m.0 value (lit≤ tt) m.1 in
+    let last = passed (is_top m.0) (top_set facts m.0) why.Limit more m.2 in
+    let set = order_is facts more 59 (is_default_top m.0) (with_top facts m.0) last.1 in
+    timer_top m.0
+    (record {
+      word = e ∙ ap (λ t. codes "top" ++ 61 ∷ t) number.0;
+      timed = p.0;
+      fits = last.0;
+      order = set.0;
+      other = set.1;
+    }) set.2
+
+temp_taken : (shape : Shape) (cells : List Cell) (facts : Facts) (w value : List ℕ) (later : List (List ℕ)) (more : Facts)
+    → w ≡ codes "temp" ++ 61 ∷ value → take_temp shape facts value ≡ Ok more → Taken shape cells facts w later more
+unfolding take_temp
+temp_taken shape cells facts w value later more e h =
+    let p = passed shape.timed (range temp_forms value >>= (λ raw. ends_of raw >>= (λ temp. temp_set facts temp))) why.Word more h in
+    let m = bind_ok (range temp_forms value) (λ raw. ends_of raw >>= (λ temp. temp_set facts temp)) more p.1 in
+    let n = bind_ok (ends_of m.0) (λ temp. temp_set facts temp) more m.2 in
+    let is = temp_only value m.0 n.0 m.1 n.1 in
+    let set = order_is facts more 60 false (with_temp facts n.0) n.2 in
+    timer_temp n.0
+    (record { word = e ∙ ap (λ t. codes "temp" ++ 61 ∷ t) is.0; timed = p.0; fits = is.1; order = set.0 }) set.2
+
 successor_taken : (shape : Shape) (cells : List Cell) (facts : Facts) (w id : List ℕ) (later : List (List ℕ)) (more : Facts)
     → shape.points ≤ 2 ^ 32 → w ≡ 62 ∷ id → take_successor shape facts id ≡ Ok more → Taken shape cells facts w later more
 unfolding take_successor
@@ -473,21 +528,36 @@ keyed_taken shape cells facts w (c ∷ cs) value later more fits e h = is_r (eqb
         some : (n : ℕ) → suc n ≡ 0 → ⊥
         some n e = omega arith
 
-    is_letter : (t : Bool) → eqb (length cs) 0 ≡ t → cond t (take_letter shape facts c value later) (Err why.Word) ≡ Ok more
+    named : (key : List ℕ) → bytes_eq (c ∷ cs) key ≡ true → w ≡ key ++ 61 ∷ value
+    named key t = e ∙ ap (λ ks. ks ++ 61 ∷ value) (word_is (c ∷ cs) key t)
+
+    is_temp : (t : Bool) → bytes_eq (c ∷ cs) (codes "temp") ≡ t → cond t (take_temp shape facts value) (Err why.Word) ≡ Ok more
+        → Taken shape cells facts w later more
+    is_temp true t h = temp_taken shape cells facts w value later more (named (codes "temp") t) h
+    is_temp false t h = absurd (fault_not why.Word more h)
+
+    is_timer : (t : Bool) → bytes_eq (c ∷ cs) (codes "top") ≡ t
+        → cond t (take_top shape facts value) (cond (bytes_eq (c ∷ cs) (codes "temp")) (take_temp shape facts value) (Err why.Word)) ≡ Ok more
+        → Taken shape cells facts w later more
+    is_timer true t h = top_taken shape cells facts w value later more (named (codes "top") t) h
+    is_timer false t h = is_temp (bytes_eq (c ∷ cs) (codes "temp")) refl h
+
+    is_letter : (t : Bool) → eqb (length cs) 0 ≡ t
+        → cond t (take_letter shape facts c value later) (take_timer shape facts (c ∷ cs) value) ≡ Ok more
         → Taken shape cells facts w later more
     is_letter true t h = letter_taken shape cells facts w value c later more (e ∙ ap (λ ks. (c ∷ ks) ++ 61 ∷ value) (no_key cs t)) h
-    is_letter false t h = absurd (fault_not why.Word more h)
+    is_letter false t h = is_timer (bytes_eq (c ∷ cs) (codes "top")) refl h
 
     is_m : (t : Bool) → eqb c 109 ≡ t
-        → cond t (take_cell shape cells facts cs value) (cond (eqb (length cs) 0) (take_letter shape facts c value later) (Err why.Word))
-        ≡ Ok more
+        → cond t (take_cell shape cells facts cs value) (cond (eqb (length cs) 0) (take_letter shape facts c value later)
+        (take_timer shape facts (c ∷ cs) value)) ≡ Ok more
         → Taken shape cells facts w later more
     is_m true t h = cell_taken shape cells facts w cs value later more fits.few fits.bytes (at 109 t) h
     is_m false t h = is_letter (eqb (length cs) 0) refl h
 
     is_r : (t : Bool) → eqb c 114 ≡ t
         → cond t (take_register shape facts cs value) (cond (eqb c 109) (take_cell shape cells facts cs value)
-        (cond (eqb (length cs) 0) (take_letter shape facts c value later) (Err why.Word))) ≡ Ok more
+        (cond (eqb (length cs) 0) (take_letter shape facts c value later) (take_timer shape facts (c ∷ cs) value))) ≡ Ok more
         → Taken shape cells facts w later more
     is_r true t h = register_taken shape cells facts w cs value later more (at 114 t) h
     is_r false t h = is_m (eqb c 109) refl h

@@ -1,11 +1,14 @@
--- An item that is spelled as one of the six forms is taken.
-use Rattle.std.proofs.Common.{◌≡◌, ℕ, zero, suc, ◌+◌, ◌<◌, ◌≤◌, ◌≢◌, ◌^◌, false, cond, not, ◌||◌, leb, ltb, List, ◌∷◌, ◌++◌, length}
+-- An item that is spelled as one of the eight forms is taken.
+use Rattle.std.proofs.Common.{◌≡◌, ℕ, zero, suc, ◌+◌, ◌<◌, ◌≤◌, ◌≢◌, ◌^◌, Bool, true, false, cond, not, ◌-◌, ◌||◌, eqb, leb, ltb, List, ◌∷◌, ◌++◌, length}
 use Rattle.std.proofs.Common.{decimal, codes, lit<, lit≤, refl, ◌∙◌, ap, arith}
 use Rattle.std.specs.Prelude.{Some, Result, Ok, Err}
 use Rattle.uz_text.specs.Numbers.{is_numeral, number_below}
 use Rattle.uz_text.proofs.Cuts.{cut_again}
 use Rattle.uz_text.proofs.NumberWords.{number_again}
 use Rattle.uz_text.proofs.Plain.{Lacks, lacks_cons, decimal_lacks_above}
+use Rattle.uz_schedule.specs.Ends.{Ends}
+use Rattle.uz_schedule.specs.Limits.{is_top}
+use Rattle.uz_schedule.specs.Schedule.{scanline, half_line}
 use Rattle.uz_schedule.specs.Tracked.{tracks}
 use Rattle.uz_schedule.specs.WellFormed.{is_default_flag}
 use Rattle.uz_schedule.specs.declared.header.Cell.{Cell}
@@ -13,21 +16,22 @@ use Rattle.uz_schedule.specs.declared.facts.Fact.{Fact}
 use Rattle.uz_schedule.specs.declared.facts.PairFact.{PairFact}
 use Rattle.uz_schedule.specs.declared.facts.Bit.{Bit}
 use Rattle.uz_lines.specs.Why.{◌>>=◌}
-use Rattle.uz_lines.specs.Values.{digits, raw_of, fact_of, pair_of, bit_of}
-use Rattle.uz_lines.specs.Defaults.{is_default, is_any_pair, is_range}
+use Rattle.uz_lines.specs.Values.{digits, one_number, range, raw_of, fact_of, pair_of, ends_of, bit_of}
+use Rattle.uz_lines.specs.Defaults.{is_default, is_any_pair, is_range, is_default_top}
 use Rattle.uz_lines.specs.Items.{is_handler, bytes_forms, register_set, register_key, take_register, pair_forms, pair_set, take_pair}
 use Rattle.uz_lines.specs.Items.{flag_set, take_flag, slot_set, slot_room, take_slot, with_number, cell_at, cell_forms, numbered}
 use Rattle.uz_lines.specs.Items.{cell_set, cell_value, take_cell, successor_set, take_successor, is_flag_z, take_letter, take_cut}
-use Rattle.uz_lines.specs.Items.{take_named, take_item}
+use Rattle.uz_lines.specs.Items.{top_set, top_value, take_top, temp_forms, temp_set, take_temp, take_named, take_item}
 use Rattle.uz_lines.specs.declared.items.Shape.{Shape}
 use Rattle.uz_lines.specs.declared.items.Facts.{Facts}
 use Rattle.uz_lines.specs.declared.why.CertWhy.{CertWhy}
 use Rattle.uz_lines.specs.declared.why.CertWhy.TheVariants as why
-use Rattle.uz_spelling.specs.Spelling.{item, fact_word, pair_word, flag_word}
-use Rattle.uz_line_laws.proofs.Tests.{so, else_so, then, is_le, is_lt}
-use Rattle.uz_line_laws.proofs.Numbers.{digits_so, numeral_so}
-use Rattle.uz_line_laws.proofs.Facts.{fact_raw, fact_so, PairIn, pair_raw, pair_so, BitIn, bit_so}
-use Rattle.uz_line_laws.proofs.Taken.{with_register, with_pair, with_flag, with_slot, with_cell, with_successor, TakesRegister, TakesPair}
+use Rattle.uz_spelling.specs.Spelling.{range_word, item, fact_word, pair_word, flag_word}
+use Rattle.uz_line_laws.proofs.Tests.{so, else_so, then, is_le, is_lt, number_is}
+use Rattle.uz_line_laws.proofs.Numbers.{digits_so, numeral_so, one_so}
+use Rattle.uz_line_laws.proofs.Facts.{fact_raw, fact_so, PairIn, pair_raw, pair_so, BitIn, bit_so, temp_raw, temp_so}
+use Rattle.uz_line_laws.proofs.Taken.{with_register, with_pair, with_flag, with_slot, with_cell, with_top, with_temp, with_successor}
+use Rattle.uz_line_laws.proofs.Taken.{TakesRegister, TakesPair, TakesTop, TakesTemp}
 use Rattle.uz_line_laws.proofs.Taken.{TakesFlag, TakesSlot, TakesCell, TakesSuccessor, PlacesFit, cell_form, cell_limit, cell_range}
 use Rattle.uz_line_laws.proofs.Taken.{order_so}
 
@@ -209,6 +213,50 @@ cell_takes shape cells facts later i c f fits t =
     (so (tracks shape.kind c.owner) (fact_of (fact_raw f) >>= (λ fact. cell_set shape cells facts i c.range fact)) (Err why.Unknown) t.own
     ∙ then (fact_of (fact_raw f)) (λ fact. cell_set shape cells facts i c.range fact) f (Ok (with_cell shape cells facts i f)) fact.1
     (order_so facts (43 + i) (is_range c.range f) (with_cell shape cells facts i f) t.order t.other))
+
+-- OCR1A and TEMP
+
+top_below : (top : ℕ) → is_top top ≡ true → top < scanline
+top_below top h = by_half (eqb top (half_line - 1)) refl h
+  where
+    by_half : (t : Bool) → eqb top (half_line - 1) ≡ t → (t || eqb top (scanline - 1)) ≡ true → top < scanline
+    by_half true e h = omega (arith, number_is top (half_line - 1) e)
+    by_half false e h = omega (arith, number_is top (scanline - 1) h)
+
+top_is : (shape : Shape) (cells : List Cell) (facts : Facts) (value : List ℕ) (later : List (List ℕ))
+    → take_item shape cells facts (item (codes "top") value) later ≡ take_top shape facts value
+unfolding take_item take_named
+top_is shape cells facts value later = refl
+
+pub top_takes : (shape : Shape) (cells : List Cell) (facts : Facts) (later : List (List ℕ)) (top : ℕ)
+    → TakesTop shape facts (item (codes "top") (decimal top)) top
+    → take_item shape cells facts (item (codes "top") (decimal top)) later ≡ Ok (with_top facts top)
+unfolding take_top
+top_takes shape cells facts later top t =
+    top_is shape cells facts (decimal top) later
+    ∙ so shape.timed (one_number 0 scanline (decimal top) >>= (λ n. top_value facts n)) (Err why.Word) t.timed
+    ∙ then (one_number 0 scanline (decimal top)) (λ n. top_value facts n) top (Ok (with_top facts top))
+    (one_so 0 scanline top (lit≤ tt) (omega arith) (top_below top t.fits))
+    (so (is_top top) (top_set facts top) (Err why.Limit) t.fits
+    ∙ order_so facts 59 (is_default_top top) (with_top facts top) t.order t.other)
+
+temp_is : (shape : Shape) (cells : List Cell) (facts : Facts) (value : List ℕ) (later : List (List ℕ))
+    → take_item shape cells facts (item (codes "temp") value) later ≡ take_temp shape facts value
+unfolding take_item take_named
+temp_is shape cells facts value later = refl
+
+pub temp_takes : (shape : Shape) (cells : List Cell) (facts : Facts) (later : List (List ℕ)) (temp : Ends)
+    → TakesTemp shape facts (item (codes "temp") (range_word temp)) temp
+    → take_item shape cells facts (item (codes "temp") (range_word temp)) later ≡ Ok (with_temp facts temp)
+unfolding take_temp
+temp_takes shape cells facts later temp t =
+    let is = temp_so temp t.fits in
+    temp_is shape cells facts (range_word temp) later
+    ∙ so shape.timed (range temp_forms (range_word temp) >>= (λ raw. ends_of raw >>= (λ e. temp_set facts e))) (Err why.Word) t.timed
+    ∙ then (range temp_forms (range_word temp)) (λ raw. ends_of raw >>= (λ e. temp_set facts e)) (temp_raw temp)
+    (Ok (with_temp facts temp)) is.0
+    (then (ends_of (temp_raw temp)) (λ e. temp_set facts e) temp (Ok (with_temp facts temp)) is.1
+    (order_so facts 60 false (with_temp facts temp) t.order refl))
 
 pub successor_takes : (shape : Shape) (cells : List Cell) (facts : Facts) (later : List (List ℕ)) (id : ℕ) → PlacesFit shape cells
     → TakesSuccessor shape facts (62 ∷ decimal id) id

@@ -1,5 +1,5 @@
 -- Items are taken one after another, or one of them is the first faulty one, and reading them says which.
-use Rattle.std.proofs.Common.{◌≡◌, ◌⊎◌, inl, inr, ℕ, Bool, true, false, List, [], ◌∷◌, refl, sym, ◌∙◌, ap}
+use Rattle.std.proofs.Common.{◌≡◌, inl, inr, ℕ, Bool, true, false, List, [], ◌∷◌, refl, sym, ◌∙◌, ap}
 use Rattle.std.specs.Prelude.{Result, Ok, Err}
 use Rattle.uz_schedule.specs.declared.header.Cell.{Cell}
 use Rattle.uz_lines.specs.Why.{◌>>=◌}

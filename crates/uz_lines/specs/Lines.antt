@@ -1,6 +1,6 @@
 -- The forms of a certificate's lines.
-use Rattle.std.specs.Prelude.{ℕ, ◌+◌, ◌-◌, ◌/◌, ◌≤◌, ◌≡◌, ◌==◌, nat_lt, Bool, true, false, IsTrue, List, [], ◌∷◌, map, codes}
-use Rattle.std.specs.Prelude.{ℤ, if◌then◌else◌}
+use Rattle.std.specs.Prelude.{ℕ, ◌+◌, ◌-◌, ◌/◌, ◌≤◌, ◌≡◌, ◌==◌, ⊤, nat_lt, Bool, true, false, IsTrue, List, [], ◌∷◌, map, codes}
+use Rattle.std.specs.Prelude.{if◌then◌else◌}
 use Rattle.uz_schedule.specs.Ends.{Ends}
 use Rattle.uz_schedule.specs.Limits.{clock_limit, most_events, most_lines, is_length}
 use Rattle.uz_schedule.specs.Schedule.{scanline, half_line}
@@ -18,6 +18,8 @@ use Rattle.uz_schedule.specs.declared.lines.EventKind.TheVariants.{Sync, Pixel, 
 use Rattle.uz_schedule.specs.declared.states.Entry.{Entry}
 use Rattle.uz_schedule.specs.declared.states.Point.{Point}
 use Rattle.uz_schedule.specs.Tracked.{depth_of}
+use Rattle.uz_schedule.specs.WellFormed.{IsTimerLeftOut}
+use Rattle.uz_lines.specs.Items.{is_handler}
 use Rattle.uz_lines.specs.Values.{ends}
 use Rattle.uz_lines.specs.Forms.{LineForm, fixed, number, choice, slope, spans, items, finish}
 use Rattle.uz_lines.specs.declared.words.Asked.{Asked}
@@ -160,7 +162,7 @@ none_in_main Handler limit = limit
 none_in_main Alone limit = limit
 
 abbrev pub shape_of : Head → Kind → Bool → ℕ → Shape
-shape_of h kind plain points = record { kind = kind; plain = plain; points = points; depth = depth_of h kind }
+shape_of h kind plain points = record { kind = kind; plain = plain; timed = false; points = points; depth = depth_of h kind }
 
 -- a range that a fact of an entry says
 abbrev pub span_of_fact : Fact → Ends
@@ -210,6 +212,19 @@ pending_limit Alone = 1
 abbrev pub count_limit : Kind → ℕ → ℕ → ℕ → ℕ → ℕ
 count_limit kind left l0 l1 c0 = least_of (none_in_main kind 256) (c0 + left / (l1 - l0 + 1))
 
+-- the items of the timer stand in the handler's points, in version 2
+abbrev pub is_timed : Version → Kind → Bool
+is_timed First kind = false
+is_timed Second kind = is_handler kind
+
+abbrev pub point_shape : Version → Head → Kind → ℕ → Shape
+point_shape version h kind points = record (shape_of h kind false points) { timed = is_timed version kind }
+
+-- the points that a text says: in version 1 nothing is said of the timer
+abbrev pub IsPointIn : Version → Point → Type 0
+IsPointIn First p = IsTimerLeftOut p
+IsPointIn Second p = ⊤
+
 -- a point of its place and what is known there
 unfoldable pub point_of : PointPlace → Facts → Point
 point_of at f = record {
@@ -227,17 +242,19 @@ point_of at f = record {
   flags = f.flags;
   stack = f.stack;
   cells = f.cells;
+  top = f.top;
+  temp = f.temp;
   next = f.next;
 }
 
 -- point KIND PC L0 L1 C0 C1 CLOCK SLOPE PENDING ITEMS
-unfoldable pub point_after : Head → ℕ → ℕ → ℕ → Kind → LineForm
-point_after h lines points left kind =
+unfoldable pub point_after : Version → Head → ℕ → ℕ → ℕ → Kind → LineForm
+point_after version h lines points left kind =
     number (within 0 32768) (λ pc. number (within 0 (none_in_main kind lines)) (λ l0. number (within l0 (none_in_main kind lines)) (λ l1.
     number (within 0 (none_in_main kind 256)) (λ c0. number (within c0 (count_limit kind left l0 l1 c0)) (λ c1.
     number (within 0 (none_in_main kind clock_limit)) (λ clock. slope (none_in_main kind clock_limit) (λ s.
     number (within 0 (pending_limit kind)) (λ pending.
-    items (shape_of h kind false points) h.cells.items (λ f. said.Point (point_of (record {
+    items (point_shape version h kind points) h.cells.items (λ f. said.Point (point_of (record {
       kind = kind;
       pc = pc;
       l0 = l0;
@@ -249,10 +266,10 @@ point_after h lines points left kind =
       pending = pending == 1;
     }) f))))))))))
 
-abbrev pub point_form : Head → ℕ → ℕ → ℕ → LineForm
-point_form h lines points left =
+abbrev pub point_form : Version → Head → ℕ → ℕ → ℕ → LineForm
+point_form version h lines points left =
     fixed (codes "point") (choice (codes "main" ∷ codes "handler" ∷ codes "alone" ∷ []) (λ n.
-    point_after h lines points left (point_kind n)))
+    point_after version h lines points left (point_kind n)))
 
 -- end
 abbrev pub end_form : LineForm

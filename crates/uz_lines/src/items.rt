@@ -1,29 +1,31 @@
-//! The items of a line: what is said of registers, pairs, flags, slots and cells, and which points follow.
+//! The items of a line: what is said of registers, pairs, flags, slots, cells and the timer, and which points follow.
 
-ghost use Rattle.std.specs.Prelude.{◌≡◌, ◌<◌, ◌≤◌, ◌+◌, ◌-◌, ◌^◌, IfOk, IfErr, IfSome, Ok, Err, length, slice_set};
+ghost use Rattle.std.specs.Prelude.{◌≡◌, ◌<◌, ◌≤◌, ◌-◌, ◌^◌, IfOk, IfErr, IfSome, Ok, Err, length, slice_set};
 ghost use Rattle.uz_lines.specs.Values.{RawBelow};
-ghost use Rattle.uz_schedule.specs.Tracked.{tracks as tracks_cells};
-ghost use Rattle.uz_schedule.specs.WellFormed.{is_default_flag as is_default_bit};
-ghost use Rattle.uz_lines.specs.Defaults.{range_fact as fact_of_range, is_default as is_default_fact};
-ghost use Rattle.uz_lines.specs.Defaults.{is_any as is_any_fact, is_own as is_own_fact, is_any_pair as is_any_pair_fact};
-ghost use Rattle.uz_lines.specs.Defaults.{is_range as is_range_fact};
-ghost use Rattle.uz_lines.specs.Items.{default_cells as default_cells_of, default_regs as default_regs_of};
-ghost use Rattle.uz_lines.specs.Items.{default_flag as default_flag_of, first_facts as first_facts_of, in_order as in_order_of};
-ghost use Rattle.uz_lines.specs.Items.{is_handler as is_handler_kind, bytes_forms as bytes_forms_of, register_set as set_register};
+ghost use Rattle.uz_lines.specs.Items.{first_facts as first_facts_of, in_order as in_order_of};
+ghost use Rattle.uz_lines.specs.Items.{bytes_forms as bytes_forms_of, register_set as set_register};
 ghost use Rattle.uz_lines.specs.Items.{take_register as register_taken, pair_forms as forms_of_pairs, pair_set as set_pair};
 ghost use Rattle.uz_lines.specs.Items.{take_pair as pair_taken, flag_set as set_flag, take_flag as flag_taken, slot_set as set_slot};
 ghost use Rattle.uz_lines.specs.Items.{take_slot as slot_taken, tracked_before as tracked_before_of, cell_at as cell_of_number};
 ghost use Rattle.uz_lines.specs.Items.{cell_forms as forms_of_cell, numbered as numbered_of, cell_set as set_cell};
 ghost use Rattle.uz_lines.specs.Items.{cell_value as value_of_cell, take_cell as cell_taken, successor_set as set_successor};
+ghost use Rattle.uz_lines.specs.Items.{top_set as set_top, top_value as value_of_top, take_top as top_taken, temp_forms as forms_of_temp};
+ghost use Rattle.uz_lines.specs.Items.{temp_set as set_temp, take_temp as temp_taken, take_timer as timer_taken};
 ghost use Rattle.uz_lines.specs.Items.{take_successor as successor_taken, names_c_or_z as is_c_or_z, is_flag_z as z_is_flag};
 ghost use Rattle.uz_lines.specs.Items.{take_letter as letter_taken, take_keyed as keyed_taken, take_named as named_taken};
 ghost use Rattle.uz_lines.specs.Items.{take_second as second_taken, take_item as item_taken, read_items as items_read};
 
-use crate::values::{FactForms, Raw, bit_of, digits, fact_of, pair_of, raw_of};
+use crate::defaults::{
+    default_cells, default_flag, default_regs, is_any_pair, is_default, is_default_flag,
+    is_handler, is_range, tracks,
+};
+use crate::values::{
+    FactForms, Raw, bit_of, digits, fact_of, one_number, pair_of, range, raw_of, span_of,
+};
 use crate::why::CertWhy;
 use crate::words::Words;
 use arrayvec::ArrayVec;
-use uz_schedule::{Bit, Cell, Fact, Kind, Owner, PairFact, Span};
+use uz_schedule::{Bit, Cell, Fact, Kind, PairFact, SCANLINE, Span, is_top};
 
 /// What the items of a line may say.
 #[derive(Clone, Copy, Debug)]
@@ -32,6 +34,8 @@ pub struct Shape {
     pub kind: Kind,
     /// Whether this is the entry, which has ranges alone, no pairs and no successors.
     pub plain: bool,
+    /// Whether the items of the timer may stand there.
+    pub timed: bool,
     /// How many points there are.
     pub points: u32,
     /// How many slots of the stack there may be, at most 32.
@@ -55,106 +59,12 @@ pub struct Facts {
     pub stack: ArrayVec<Fact, 32>,
     /// What is known of each cell that the kind tracks.
     pub cells: ArrayVec<Fact, 16>,
+    /// The timer's OCR1A.
+    pub top: u16,
+    /// The values that the timer's TEMP may have.
+    pub temp: Span,
     /// The numbers of the points where an instruction may lead, rising.
     pub next: ArrayVec<u32, 16>,
-}
-
-/// Each register as it was when the handler was entered.
-const OWN: [Fact; 32] = [
-    Fact::Old(0),
-    Fact::Old(1),
-    Fact::Old(2),
-    Fact::Old(3),
-    Fact::Old(4),
-    Fact::Old(5),
-    Fact::Old(6),
-    Fact::Old(7),
-    Fact::Old(8),
-    Fact::Old(9),
-    Fact::Old(10),
-    Fact::Old(11),
-    Fact::Old(12),
-    Fact::Old(13),
-    Fact::Old(14),
-    Fact::Old(15),
-    Fact::Old(16),
-    Fact::Old(17),
-    Fact::Old(18),
-    Fact::Old(19),
-    Fact::Old(20),
-    Fact::Old(21),
-    Fact::Old(22),
-    Fact::Old(23),
-    Fact::Old(24),
-    Fact::Old(25),
-    Fact::Old(26),
-    Fact::Old(27),
-    Fact::Old(28),
-    Fact::Old(29),
-    Fact::Old(30),
-    Fact::Old(31),
-];
-
-fn default_regs(kind: Kind) -> [Fact; 32]
-    ensures { result ≡ default_regs_of kind }
-{
-    match kind {
-        Kind::Main => [Fact::Any; 32],
-        Kind::Handler => OWN,
-        Kind::Alone => [Fact::Any; 32],
-    }
-}
-
-fn default_flag(kind: Kind) -> Bit
-    ensures { result ≡ default_flag_of kind }
-{
-    match kind {
-        Kind::Main => Bit::Free,
-        Kind::Handler => Bit::Old,
-        Kind::Alone => Bit::Free,
-    }
-}
-
-/// Whether a kind tracks the cells of an owner.
-pub(crate) fn tracks(kind: Kind, owner: Owner) -> bool
-    ensures { result ≡ tracks_cells kind owner }
-{
-    match kind {
-        Kind::Main => match owner {
-            Owner::Main => true,
-            Owner::Handler => false,
-        },
-        Kind::Handler => match owner {
-            Owner::Main => false,
-            Owner::Handler => true,
-        },
-        Kind::Alone => true,
-    }
-}
-
-/// A range as a fact: the whole range is any byte.
-fn range_fact(range: Span) -> Fact
-    ensures { result ≡ fact_of_range range }
-{
-    if range.lo() == 0 && range.hi() == 255 {
-        Fact::Any
-    } else {
-        Fact::Between(range)
-    }
-}
-
-/// The header's ranges of the cells that a kind tracks.
-fn default_cells(kind: Kind, cells: &[Cell]) -> ArrayVec<Fact, 16>
-    requires { length cells.now ≤ 16 }
-    ensures { result.items ≡ default_cells_of kind cells.now }
-{
-    let mut facts = ArrayVec::new();
-    for cell in cells {
-        if tracks(kind, cell.owner) {
-            facts.push(range_fact(cell.range));
-        }
-    }
-    facts
 }
 
 /// What holds where no item says otherwise.
@@ -171,6 +81,8 @@ fn first_facts(kind: Kind, cells: &[Cell]) -> Facts
         flags: [default_flag(kind); 7],
         stack: ArrayVec::new(),
         cells: default_cells(kind, cells),
+        top: SCANLINE - 1,
+        temp: Span::between(0, 255),
         next: ArrayVec::new(),
     }
 }
@@ -187,16 +99,6 @@ fn in_order(facts: &Facts, place: u32, is_default: bool) -> Result<u32, CertWhy>
     }
 }
 
-fn is_handler(kind: Kind) -> bool
-    ensures { result ≡ is_handler_kind kind }
-{
-    match kind {
-        Kind::Main => false,
-        Kind::Handler => true,
-        Kind::Alone => false,
-    }
-}
-
 /// The forms of a byte's word.
 fn bytes_forms(shape: Shape) -> FactForms
     ensures forms { result ≡ bytes_forms_of shape }
@@ -208,87 +110,6 @@ fn bytes_forms(shape: Shape) -> FactForms
         top: 255,
         sloped: !shape.plain,
         old: is_handler(shape.kind) && !shape.plain,
-    }
-}
-
-/// Whether this is what a register has by default.
-fn is_default(kind: Kind, r: u32, fact: &Fact) -> bool
-    ensures { result ≡ is_default_fact kind r fact.now }
-{
-    match kind {
-        Kind::Main => is_any(fact),
-        Kind::Handler => is_own(r, fact),
-        Kind::Alone => is_any(fact),
-    }
-}
-
-fn is_any(fact: &Fact) -> bool
-    ensures { result ≡ is_any_fact fact.now }
-{
-    match fact {
-        Fact::Any => true,
-        Fact::Between(_) => false,
-        Fact::Line(_, _) => false,
-        Fact::Loop(_, _) => false,
-        Fact::Old(_) => false,
-        Fact::OldFlags => false,
-    }
-}
-
-fn is_own(r: u32, fact: &Fact) -> bool
-    ensures { result ≡ is_own_fact r fact.now }
-{
-    match fact {
-        Fact::Any => false,
-        Fact::Between(_) => false,
-        Fact::Line(_, _) => false,
-        Fact::Loop(_, _) => false,
-        Fact::Old(q) => u32::from(*q) == r,
-        Fact::OldFlags => false,
-    }
-}
-
-fn is_any_pair(fact: &PairFact) -> bool
-    ensures { result ≡ is_any_pair_fact fact.now }
-{
-    match fact {
-        PairFact::Any => true,
-        PairFact::Between(_) => false,
-        PairFact::Line(_, _) => false,
-        PairFact::Loop(_, _) => false,
-    }
-}
-
-fn is_default_flag(kind: Kind, bit: Bit) -> bool
-    ensures { result ≡ is_default_bit kind bit }
-{
-    match bit {
-        Bit::Zero => false,
-        Bit::One => false,
-        Bit::Free => match kind {
-            Kind::Main => true,
-            Kind::Handler => false,
-            Kind::Alone => true,
-        },
-        Bit::Old => match kind {
-            Kind::Main => false,
-            Kind::Handler => true,
-            Kind::Alone => false,
-        },
-    }
-}
-
-/// Whether a fact is just this range.
-fn is_range(range: Span, fact: &Fact) -> bool
-    ensures { result ≡ is_range_fact range fact.now }
-{
-    match fact {
-        Fact::Any => range.lo() == 0 && range.hi() == 255,
-        Fact::Between(s) => s.lo() == range.lo() && s.hi() == range.hi(),
-        Fact::Line(_, _) => false,
-        Fact::Loop(_, _) => false,
-        Fact::Old(_) => false,
-        Fact::OldFlags => false,
     }
 }
 
@@ -579,6 +400,92 @@ fn take_cell(
     cell_value(shape, cells, facts, cell_at(cells, number), raw)
 }
 
+fn top_set(facts: &mut Facts, top: u16) -> Result<(), CertWhy>
+    ensures ok { IfOk result (λ _. set_top facts.old top ≡ Ok facts.new) }
+    ensures err { IfErr result (λ e. set_top facts.old top ≡ Err e) }
+{
+    in_order(facts, 59, top == SCANLINE - 1)?;
+    facts.top = top;
+    facts.least = 60;
+    Ok(())
+}
+
+/// A number that has to be the last clock of a line.
+fn top_value(facts: &mut Facts, top: u16) -> Result<(), CertWhy>
+    ensures ok { IfOk result (λ _. value_of_top facts.old top ≡ Ok facts.new) }
+    ensures err { IfErr result (λ e. value_of_top facts.old top ≡ Err e) }
+{
+    if is_top(top) {
+        top_set(facts, top)
+    } else {
+        Err(CertWhy::Limit)
+    }
+}
+
+/// `top=N`, of which this is N.
+#[tactic(auto, unfolding(crate::specs::Items::take_top))]
+fn take_top(shape: Shape, facts: &mut Facts, value: &[u8]) -> Result<(), CertWhy>
+    ensures ok { IfOk result (λ _. top_taken shape facts.old value.now ≡ Ok facts.new) }
+    ensures err { IfErr result (λ e. top_taken shape facts.old value.now ≡ Err e) }
+{
+    if !shape.timed {
+        return Err(CertWhy::Word);
+    }
+    let top = one_number(0, u32::from(SCANLINE), value)?;
+    top_value(facts, top as u16)
+}
+
+/// The forms of the word of TEMP.
+fn temp_forms() -> FactForms
+    ensures { result ≡ forms_of_temp }
+{
+    FactForms {
+        low: 0,
+        limit: 256,
+        top: 255,
+        sloped: false,
+        old: false,
+    }
+}
+
+fn temp_set(facts: &mut Facts, temp: Span) -> Result<(), CertWhy>
+    ensures ok { IfOk result (λ _. set_temp facts.old temp ≡ Ok facts.new) }
+    ensures err { IfErr result (λ e. set_temp facts.old temp ≡ Err e) }
+{
+    in_order(facts, 60, false)?;
+    facts.temp = temp;
+    facts.least = 61;
+    Ok(())
+}
+
+/// `temp=N` and `temp=LO..HI`, of which this follows the `=`.
+#[tactic(auto, unfolding(crate::specs::Items::take_temp))]
+fn take_temp(shape: Shape, facts: &mut Facts, value: &[u8]) -> Result<(), CertWhy>
+    ensures ok { IfOk result (λ _. temp_taken shape facts.old value.now ≡ Ok facts.new) }
+    ensures err { IfErr result (λ e. temp_taken shape facts.old value.now ≡ Err e) }
+{
+    if !shape.timed {
+        return Err(CertWhy::Word);
+    }
+    let raw = range(temp_forms(), value)?;
+    let temp = span_of(raw)?;
+    temp_set(facts, temp)
+}
+
+/// The items of the timer, of which these are the key and the value.
+fn take_timer(shape: Shape, facts: &mut Facts, key: &[u8], value: &[u8]) -> Result<(), CertWhy>
+    ensures ok { IfOk result (λ _. timer_taken shape facts.old key.now value.now ≡ Ok facts.new) }
+    ensures err { IfErr result (λ e. timer_taken shape facts.old key.now value.now ≡ Err e) }
+{
+    if key == b"top".as_slice() {
+        return take_top(shape, facts, value);
+    }
+    if key == b"temp".as_slice() {
+        return take_temp(shape, facts, value);
+    }
+    Err(CertWhy::Word)
+}
+
 fn successor_set(facts: &mut Facts, id: Option<u32>) -> Result<(), CertWhy>
     requires room { length facts.old.next.items < 16 }
     requires few { IfSome id (λ n. n < 2 ^ 32 - 1) }
@@ -592,7 +499,7 @@ fn successor_set(facts: &mut Facts, id: Option<u32>) -> Result<(), CertWhy>
             }
             facts.next.push(id);
             facts.after = id + 1;
-            facts.least = 59;
+            facts.least = 61;
             Ok(())
         }
         None => Err(CertWhy::Unknown),
@@ -694,7 +601,7 @@ fn take_keyed(
             } else if rest.len() == 0 {
                 take_letter(shape, facts, *c, value, later)
             } else {
-                Err(CertWhy::Word)
+                take_timer(shape, facts, key, value)
             }
         }
         [] => Err(CertWhy::Word),

@@ -1,6 +1,7 @@
 //! The words, the items and the lines of a certificate's text.
 #![tactic(auto)]
 
+mod defaults;
 mod items;
 mod laws;
 mod lines;

@@ -7,14 +7,16 @@ ghost use Rattle.uz_lines.specs.Lines.{size_form, irq_form, stack_form, cell_for
 ghost use Rattle.uz_lines.specs.Lines.{entry_form, point_form, end_form, within as within_limits, one_of as number_of_one};
 ghost use Rattle.uz_lines.specs.Lines.{rising as rising_from, least_of as lesser_of, response_of as response_of_clocks};
 ghost use Rattle.uz_lines.specs.Lines.{owner_of as owner_of_place, off_stack as off_the_stack, none_in_main as none_of_main};
-ghost use Rattle.uz_lines.specs.Lines.{shape_of as shape_of_kind, span_of_fact as ends_of_fact};
+ghost use Rattle.uz_lines.specs.Lines.{shape_of as shape_of_kind, is_timed as has_timer, point_shape as shape_of_point};
+ghost use Rattle.uz_lines.specs.Lines.{span_of_fact as ends_of_fact};
 ghost use Rattle.uz_lines.specs.Lines.{entry_of as entry_of_facts, entry_kind as kind_of_entry, point_kind as kind_of_point};
 ghost use Rattle.uz_lines.specs.Lines.{pending_limit as limit_of_pending, count_limit as limit_of_count, point_of as point_of_facts};
 ghost use Rattle.uz_lines.specs.Lines.{length_for as length_for_events, kind_after as kind_after_events};
 ghost use Rattle.uz_schedule.specs.Schedule.{scanline};
 ghost use Rattle.uz_lines.specs.Lines.{event_after as event_after_clock, point_after as point_after_kind};
 
-use crate::items::{Facts, Shape, read_items, tracks};
+use crate::defaults::{is_handler, tracks};
+use crate::items::{Facts, Shape, read_items};
 use crate::version::Version;
 use crate::why::CertWhy;
 use crate::words::{Asked, Words};
@@ -421,6 +423,7 @@ fn shape_of(head: &Head, kind: Kind, plain: bool, points: u32) -> Shape
     Shape {
         kind,
         plain,
+        timed: false,
         points,
         depth: usize::from(depth_of(head, kind)),
     }
@@ -521,6 +524,25 @@ fn point_kind(place: u32) -> Kind
         Kind::Handler
     } else {
         Kind::Alone
+    }
+}
+
+/// The items of the timer stand in the handler's points, in version 2.
+fn is_timed(version: Version, kind: Kind) -> bool
+    ensures { result ≡ has_timer version kind }
+{
+    match version {
+        Version::First => false,
+        Version::Second => is_handler(kind),
+    }
+}
+
+fn point_shape(version: Version, head: &Head, kind: Kind, points: u32) -> Shape
+    ensures { result ≡ shape_of_point version head.now kind points }
+{
+    Shape {
+        timed: is_timed(version, kind),
+        ..shape_of(head, kind, false, points)
     }
 }
 
@@ -635,6 +657,8 @@ fn point_of(place: PointPlace, facts: Facts) -> Point
         flags: facts.flags,
         stack: facts.stack,
         cells: facts.cells,
+        top: facts.top,
+        temp: facts.temp,
         next: facts.next,
     }
 }
@@ -642,6 +666,7 @@ fn point_of(place: PointPlace, facts: Facts) -> Point
 /// What follows the kind of a point.
 #[tactic(auto, unfolding(crate::specs::Lines::point_after))]
 fn point_after(
+    version: Version,
     head: &Head,
     lines: u32,
     points: u32,
@@ -653,7 +678,7 @@ fn point_after(
     requires left { left ≤ 16777216 }
     requires depth { (head.now.main ≤ 32) × (head.now.handler ≤ 32) }
     requires cells { length head.now.cells.items ≤ 16 }
-    ensures { result ≡ reads (point_after_kind head.now lines points left kind) words.old }
+    ensures { result ≡ reads (point_after_kind version head.now lines points left kind) words.old }
 {
     let pc = words.number(within(0, 32768))?;
     let l0 = words.number(within(0, none_in_main(kind, lines)))?;
@@ -663,7 +688,7 @@ fn point_after(
     let clock = words.number(within(0, none_in_main(kind, CLOCKS)))?;
     let slope = words.slope(none_in_main(kind, CLOCKS))?;
     let pending = words.number(within(0, pending_limit(kind)))?;
-    let shape = shape_of(head, kind, false, points);
+    let shape = point_shape(version, head, kind, points);
     let facts = read_items(shape, head.cells.as_slice(), words)?;
     let place = PointPlace {
         kind,
@@ -679,8 +704,10 @@ fn point_after(
     Ok(Said::Point(point_of(place, facts)))
 }
 
-/// `point KIND PC L0 L1 C0 C1 CLOCK SLOPE PENDING ITEMS`, where so many instances are left.
+/// `point KIND PC L0 L1 C0 C1 CLOCK SLOPE PENDING ITEMS`, where so many instances are left. In version 1 no item is one of
+/// the timer.
 pub fn point_line(
+    version: Version,
     head: &Head,
     lines: u32,
     points: u32,
@@ -691,11 +718,11 @@ pub fn point_line(
     requires left { left ≤ 16777216 }
     requires depth { (head.now.main ≤ 32) × (head.now.handler ≤ 32) }
     requires cells { length head.now.cells.items ≤ 16 }
-    ensures { result ≡ reads (point_form head.now lines points left) words.old }
+    ensures { result ≡ reads (point_form version head.now lines points left) words.old }
 {
     words.fixed(b"point")?;
     let kind = point_kind(words.choice(&[b"main", b"handler", b"alone"])?);
-    point_after(head, lines, points, left, kind, words)
+    point_after(version, head, lines, points, left, kind, words)
 }
 
 /// `end`

@@ -198,7 +198,7 @@ fn range_parts(forms: FactForms, lo: &[u8], rest: &[u8]) -> Result<Raw, CertWhy>
 
 /// `n` and `lo..hi`.
 #[tactic(auto, unfolding(crate::specs::Values::range))]
-fn range(forms: FactForms, word: &[u8]) -> Result<Raw, CertWhy>
+pub(crate) fn range(forms: FactForms, word: &[u8]) -> Result<Raw, CertWhy>
     ensures raw { result ≡ range_of forms word.now }
     ensures below { IfOk result (λ r. RawBelow forms.limit r) }
 {

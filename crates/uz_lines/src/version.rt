@@ -6,9 +6,9 @@ ghost use Rattle.uz_lines.specs.Lines.{head_line};
 /// The version of a certificate's text.
 #[derive(Clone, Copy, Debug, PartialEq, Eq)]
 pub enum Version {
-    /// Each kind of line says its number of events, and has the clocks of a scanline.
+    /// Each kind of line says its number of events, and has the clocks of a scanline. No point says anything of the timer.
     First,
-    /// Each kind of line says its number of events and its length.
+    /// Each kind of line says its number of events and its length, and the handler's points may say OCR1A and TEMP.
     Second,
 }
 

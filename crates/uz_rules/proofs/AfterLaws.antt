@@ -1,6 +1,6 @@
 -- The abstract results from the step.
-use Rattle.std.proofs.Common.{◌≡◌, ℕ, ◌∙◌, ap, sym, subst}
-use Rattle.std.specs.Prelude.{Result, Ok, Err}
+use Rattle.std.proofs.Common.{◌≡◌, ℕ, ◌∙◌, ap}
+use Rattle.std.specs.Prelude.{Ok, Err}
 use Rattle.std.specs.Ordering.{nat_cmp}
 use Rattle.std.specs.FinMap.{FinMap}
 use Rattle.uz_schedule.specs.declared.header.Head.{Head}
@@ -12,16 +12,10 @@ use Rattle.uz_transfer.specs.Step.{IsStep}
 use Rattle.uz_rules.specs.declared.next.Next.{Next}
 use Rattle.uz_rules.specs.After.{next_of, IsAfter}
 
-pub after_ok : (head : Head) (lines : Lines) (image : FinMap nat_cmp ℕ) (inst : Instance) (length : ℕ) (step : Step) (next : Next)
-    → length ≡ lines.length inst.line → IsStep head length image inst (Ok step)
-    → Ok next ≡ next_of lines inst (Ok step) → IsAfter head lines image inst (Ok next)
-after_ok head lines image inst length step next same h e =
-    let s : IsStep head (lines.length inst.line) image inst (Ok step) = subst (λ n. IsStep head n image inst (Ok step)) same h in
-    record { row = s.row; reads = s.reads; is = e ∙ ap (next_of lines inst) s.is }
+pub after_ok : (head : Head) (lines : Lines) (image : FinMap nat_cmp ℕ) (inst : Instance) (step : Step) (next : Next)
+    → IsStep head lines image inst (Ok step) → Ok next ≡ next_of lines inst (Ok step) → IsAfter head lines image inst (Ok next)
+after_ok head lines image inst step next s e = record { row = s.row; reads = s.reads; is = e ∙ ap (next_of lines inst) s.is }
 
-pub after_err : (head : Head) (lines : Lines) (image : FinMap nat_cmp ℕ) (inst : Instance) (length : ℕ) (why : Fail) → length ≡ lines.length
-    inst.line → IsStep head length image inst (Err why)
-    → IsAfter head lines image inst (Err why)
-after_err head lines image inst length why same h =
-    let s : IsStep head (lines.length inst.line) image inst (Err why) = subst (λ n. IsStep head n image inst (Err why)) same h in
-    record { row = s.row; reads = s.reads; is = ap (next_of lines inst) s.is }
+pub after_err : (head : Head) (lines : Lines) (image : FinMap nat_cmp ℕ) (inst : Instance) (why : Fail)
+    → IsStep head lines image inst (Err why) → IsAfter head lines image inst (Err why)
+after_err head lines image inst why s = record { row = s.row; reads = s.reads; is = ap (next_of lines inst) s.is }

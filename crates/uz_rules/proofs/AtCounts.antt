@@ -15,10 +15,11 @@ use Rattle.uz_schedule.specs.declared.lines.Schedule.{Schedule}
 use Rattle.uz_schedule.specs.declared.certificate.Cert.{Cert}
 use Rattle.uz_schedule.specs.Schedule.{length_of, start_of, level_at}
 use Rattle.uz_schedule.specs.Instances.{is_in_box, clock_below, clock_at, instance_of, instance_at_clock, instance_in, instance_at}
-use Rattle.uz_transfer.specs.Refusals.{is_some}
+use Rattle.uz_transfer.specs.Refusals.{range_inside, is_some}
 use Rattle.uz_rules.specs.Inside.{same_kind, same_timer, same_place, inside}
 use Rattle.uz_rules.specs.Successors.{lies_at, any_from, lies_in_box, same_program_place}
-use Rattle.uz_rules.specs.FactInclusion.{said_at, facts_inside, has_level, is_line_of, is_beside, stands_beside, IsAtCount, LiesAtSome}
+use Rattle.uz_rules.specs.FactInclusion.{said_at, facts_inside, has_level, is_line_of, timer_inside, is_beside, stands_beside, IsAtCount}
+use Rattle.uz_rules.specs.FactInclusion.{LiesAtSome}
 use Rattle.uz_rules.proofs.InsideMeets.{place_tells}
 
 -- The clock of an instance of a point
@@ -71,21 +72,24 @@ no_level : (x f : Bool) → (((x && true) && false) && f) ≡ false
 no_level true f = refl
 no_level false f = refl
 
-six_parts : (a b d f : Bool) → ((a && (b && (true && (true && d)))) && f) ≡ (((((a && b) && d) && true) && (true && true)) && f)
-six_parts true true true f = refl
-six_parts true true false f = refl
-six_parts true false d f = refl
-six_parts false b d f = refl
+seven_parts : (a b d t f : Bool) → ((a && (b && (true && (true && d)))) && (t && f))
+    ≡ (((((a && b) && (d && t)) && true) && (true && true)) && f)
+seven_parts true true true true f = refl
+seven_parts true true true false f = refl
+seven_parts true true false t f = refl
+seven_parts true false d t f = refl
+seven_parts false b d t f = refl
 
 -- the same at each count
 abbrev alike : Point → Instance → Bool
-alike p inst = same_program_place p inst && same_timer inst (said_at p inst p.c0)
+alike p inst = same_program_place p inst && timer_inside p inst
 
 inside_by_facts : (p : Point) (inst : Instance) (c level : ℕ) → inside inst (instance_of p inst.line c inst.clock level)
     ≡ (((alike p inst && true) && (true && true)) && facts_inside inst p c)
 unfolding facts_inside
 inside_by_facts p inst c level = rw (equal_itself inst.line, equal_itself inst.clock)
-    (six_parts (same_kind inst.kind p.kind) (nat_eq inst.pc p.pc) (same_timer inst (said_at p inst p.c0)) (facts_inside inst p c))
+    (seven_parts (same_kind inst.kind p.kind) (nat_eq inst.pc p.pc) (same_timer inst (said_at p inst p.c0)) (range_inside inst.temp p.temp)
+    (facts_inside inst p c))
 
 by_level : (p : Point) (inst : Instance) (c : ℕ) (levels : ℕ → Option ℕ) (lines below : Bool) (level : Option ℕ) → levels inst.clock ≡ level
     → lies_at (if lines && true then option_and_then (λ k. option_and_then (λ v. Some (instance_of p inst.line c k v)) (levels k))
@@ -204,7 +208,7 @@ by_counts cert id p inst false is beside found told = box_by_point cert id p ins
     let never : false ≡ true = told (record { count = got.0; at = got.1; facts = both.1 }) in
     absurd cc)
 
--- nor has one whose kind, pc, pending or lines are others
+-- nor has one whose kind, pc, timer or lines are others
 pub box_elsewhere : (cert : Cert) (id : ℕ) (p : Point) (inst : Instance) → slice_get cert.points id ≡ Some p → is_beside p inst ≡ false
     → lies_in_box cert id (Some p) inst ≡ false
 unfolding stands_beside

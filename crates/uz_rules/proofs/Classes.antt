@@ -1,6 +1,6 @@
 -- What an instruction makes of core, memory and what is seen, by class of effect.
 use Rattle.std.proofs.Common.{◌≡◌, ℕ, suc, ◌+◌, ◌<◌, ◌≤◌, Bool, true, false, not, if◌then◌else◌, nat_eq, nat_lt, Option, Some, None, List}
-use Rattle.std.proofs.Common.{[], ◌∷◌, length, refl, ◌∙◌, ap, arith}
+use Rattle.std.proofs.Common.{[], ◌∷◌, length, refl, ◌∙◌, ap, subst, arith}
 use Rattle.std.specs.Prelude.{slice_index_or, ◌&&◌, ◌||◌}
 use Rattle.std.proofs.lemmas.Bool.Decides.{nat_tests}
 use Rattle.std.proofs.lemmas.List.{length-set}
@@ -17,6 +17,7 @@ use Rattle.uz_machine.specs.Core.{Core, with_pointer_after, binary_result, unary
 use Rattle.uz_machine.specs.CoreRange.{IsCore}
 use Rattle.uz_machine.specs.Timer.{is_timer_address}
 use Rattle.uz_machine.specs.Space.{PadWiring, Space, is_pin, after_byte}
+use Rattle.uz_schedule.specs.declared.facts.Val.{Val}
 use Rattle.uz_schedule.specs.declared.header.Head.{Head}
 use Rattle.uz_schedule.specs.declared.lines.EventKind.{EventKind}
 use Rattle.uz_schedule.specs.declared.states.Instance.{Instance}
@@ -25,14 +26,14 @@ use Rattle.uz_transfer.specs.declared.fail.Fail.TheVariants.{Mask}
 use Rattle.uz_transfer.specs.Values.{value_at}
 use Rattle.uz_rules.specs.CoreMeets.{CoreMeets}
 use Rattle.uz_rules.specs.MemoryMeets.{MemoryMeets, HeadFits}
-use Rattle.uz_transfer.specs.Kinds.{is_main}
+use Rattle.uz_transfer.specs.Kinds.{is_main, is_handler}
 use Rattle.uz_transfer.specs.Memory.{address_range, with_pointer_range, depth_of}
 use Rattle.uz_transfer.specs.Emission.{emission_at}
-use Rattle.uz_transfer.specs.Refusals.{refuse_if, fail_of}
+use Rattle.uz_transfer.specs.Refusals.{refuse_if, is_setup_register, top_fails, io_fails, fail_of}
 use Rattle.uz_rules.specs.Meets.{InstanceFits}
 use Rattle.uz_rules.proofs.Bits.{bit_of_with_bit}
 use Rattle.uz_rules.proofs.SpaceStores.{choose_if}
-use Rattle.uz_rules.proofs.StoreClasses.{Leads, MayStore, none_shows, room_left}
+use Rattle.uz_rules.proofs.StoreClasses.{Leads, MayStore, SetsNothingElse, none_shows, room_left}
 
 -- What is known before the instruction
 pub record Before {P : Type 0} (head : Head) (inst : Instance) (o : Core) (d : ℕ) (core : Core) (s : Space P) : Type 0 where
@@ -174,6 +175,25 @@ pub not_false : (t : Bool) → not t ≡ false → t ≡ true
 not_false true e = refl
 not_false false e = absurd cc
 
+-- what a store's address tells that isn't refused as Io: a register that sets up the machine it is at OCR1A alone. A handler's store to
+-- OCR1AL gives what is known, and others don't store there
+pub record IoFine (inst : Instance) (at : ℕ) (v : Val) : Type 0 where
+  pub setup : SetsNothingElse at
+  pub low : nat_eq at 0x88 ≡ true → (is_handler inst.kind ≡ true) × (top_fails inst v ≡ false)
+
+pub io_fine : (inst : Instance) (at : ℕ) (v : Val) → io_fails inst at v ≡ false → IoFine inst at v
+io_fine inst at v e = by_case (nat_eq at 0x88) (nat_eq at 0x89) (is_handler inst.kind) refl refl refl e
+  where
+    by_case : (p q h : Bool) → nat_eq at 0x88 ≡ p → nat_eq at 0x89 ≡ q → is_handler inst.kind ≡ h
+        → (if h && p then top_fails inst v else if h && q then false else is_setup_register at) ≡ false → IoFine inst at v
+    by_case true q true low high handler e = record { setup = λ a b. absurd cc; low = λ t. (handler, e) }
+    by_case true q false low high handler e =
+        let i : at ≡ 0x88 = grind (arith, nat_tests) in
+        let z : is_setup_register 0x88 ≡ false = subst (λ n. is_setup_register n ≡ false) i e in absurd cc
+    by_case false true h low high handler e = record { setup = λ a b. absurd cc; low = λ t. absurd cc }
+    by_case false false true low high handler e = record { setup = λ a b. e; low = λ t. absurd cc }
+    by_case false false false low high handler e = record { setup = λ a b. e; low = λ t. absurd cc }
+
 pub may_be_stored : (head : Head) (inst : Instance) (level : ℕ) (to : AddressMode) (r : ℕ) (emitted : Option EventKind)
     → fail_of head (Store to r) inst ≡ None → emission_at level (Store to r) inst ≡ Some emitted → MayStore head inst level
     (address_range to inst) (value_at inst.regs r) emitted
@@ -185,7 +205,7 @@ may_be_stored head inst level to r emitted e f =
     record {
       mask = λ t. single_fails _ _ two.0 t;
       may = not_false _ three.0;
-      io = λ t. single_fails _ _ four.0 t;
+      io = λ t. (io_fine inst (address_range to inst).lo (value_at inst.regs r) (single_fails _ _ four.0 t)).setup;
       emits = f;
     }
 

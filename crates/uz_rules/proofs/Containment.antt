@@ -1,5 +1,5 @@
 -- Containment: the state after an instruction meets the instance at one of the abstract step's exits.
-use Rattle.std.proofs.Common.{◌≡◌, ◌≢◌, ◌⊎◌, inl, inr, ℕ, suc, ◌+◌, ◌-◌, ◌%◌, ◌<◌, ◌≤◌, Bool, true, false, not, if◌then◌else◌, nat_eq}
+use Rattle.std.proofs.Common.{◌≡◌, ◌≢◌, ◌⊎◌, inl, inr, ℕ, ◌+◌, ◌-◌, ◌%◌, ◌≤◌, Bool, true, false, not, if◌then◌else◌, nat_eq}
 use Rattle.std.proofs.Common.{nat_le, Option, Some, None, List, [], ◌∷◌, ◌++◌, map, length, refl, sym, ◌∙◌, ap, subst, arith}
 use Rattle.std.specs.Prelude.{slice_index, ◌&&◌, ◌||◌, ◌==◌, Ok}
 use Rattle.std.specs.Ordering.{nat_cmp}
@@ -50,23 +50,24 @@ use Rattle.uz_transfer.specs.Kinds.{cell_place, is_main, is_handler}
 use Rattle.uz_rules.specs.MemoryMeets.{HeadFits, Untouched}
 use Rattle.uz_transfer.specs.Memory.{depth_of, address_range, with_pointer_range, flags_from, with_cell, stored_in}
 use Rattle.uz_transfer.specs.Transfer.{transfer, bit_of_bool}
-use Rattle.uz_transfer.specs.Exits.{outcomes}
 use Rattle.uz_transfer.specs.Emission.{byte_event, bit_event, level_event, emission, emission_at, level_after}
 use Rattle.uz_transfer.specs.Values.{span_of, value_at, with_flag_list}
 use Rattle.uz_transfer.specs.Refusals.{fail_of}
 use Rattle.uz_events.specs.Events.{event_of, shown_at, shown, listed}
 use Rattle.uz_rules.proofs.StoreShows.{kinds_listed}
-use Rattle.uz_schedule.specs.Lines.{Lines, clock_after}
-use Rattle.uz_transfer.specs.Step.{exits_of, clears_flag, ends_line, following_of, sampled_of, step_unless, step_of_row, successor}
+use Rattle.uz_schedule.specs.Lines.{Lines}
+use Rattle.uz_transfer.specs.Step.{clears_flag, following_of, sampled_of, draft_of, all_exits, step_unless, step_of_row, successor}
 use Rattle.uz_transfer.specs.Step.{IsReadAt}
-use Rattle.uz_rules.specs.Meets.{top_of, TimerMeets, TimerCounts, LevelMeets, Meets, InstanceFits}
-use Rattle.uz_rules.specs.OneStep.{IsNoEntry, MainTimer, OneStep, InstructionBegins, Contained, AloneContained, HandlerContained}
+use Rattle.uz_transfer.specs.InTime.{clock_holds}
+use Rattle.uz_rules.specs.Meets.{TimerMeets, TimerCounts, LevelMeets, Meets, InstanceFits}
+use Rattle.uz_rules.specs.OneStep.{IsNoEntry, MainTimer, OneStep, InstructionBegins, Contained, AloneContained}
 use Rattle.uz_rules.specs.OneStep.{MainContained}
 use Rattle.uz_transfer.specs.Emission.{main_emits}
 use Rattle.uz_transfer.specs.declared.step.Exit.{Exit}
 use Rattle.uz_transfer.specs.declared.step.Step.{Step}
 use Rattle.uz_rules.proofs.LeavesHold.{stores_leave, facts_of}
-use Rattle.uz_rules.proofs.Timing.{loads_beside, stores_beside, later, timed}
+use Rattle.uz_rules.proofs.Timing.{loads_beside, stores_beside, later}
+use Rattle.uz_rules.proofs.TopAndTemp.{top_stays}
 use Rattle.uz_rules.proofs.CoreSteps.{core_same}
 use Rattle.uz_rules.proofs.LoadClasses.{content_bytes}
 use Rattle.uz_rules.proofs.Classes.{Before, memory_same, unless_none, pointer_kind}
@@ -96,20 +97,23 @@ edges_calm clock (k ∷ kinds) h = (h.0, edges_calm clock kinds h.1)
 
 -- What a step that isn't refused tells
 
-record Told (refused : Option Fail) (emitted : Option (Option EventKind)) (plan step : Step) : Type 0 where
+record Told (refused : Option Fail) (emitted : Option (Option EventKind)) (in_time : Bool) (plan step : Step) : Type 0 where
   event : Option EventKind
   fine : refused ≡ None
   emits : emitted ≡ Some event
+  time : in_time ≡ true
   is : step ≡ record plan { emit = event }
 
-step_tells : (refused : Option Fail) (emitted : Option (Option EventKind)) (plan step : Step) → step_unless refused emitted plan ≡ Ok step
-    → Told refused emitted plan step
-step_tells (Some why) emitted plan step e = absurd cc
-step_tells None None plan step e = absurd cc
-step_tells None (Some event) plan step e = record {
+step_tells : (refused : Option Fail) (emitted : Option (Option EventKind)) (in_time : Bool) (plan step : Step)
+    → step_unless refused emitted in_time plan ≡ Ok step → Told refused emitted in_time plan step
+step_tells (Some why) emitted in_time plan step e = absurd cc
+step_tells None None in_time plan step e = absurd cc
+step_tells None (Some event) false plan step e = absurd cc
+step_tells None (Some event) true plan step e = record {
   event = event;
   fine = refl;
   emits = refl;
+  time = refl;
   is = (let q : record plan { emit = event } ≡ step = cc in sym q);
 }
 
@@ -170,7 +174,7 @@ draft_kind e head image following sampled inst = refl
 
 -- An instance that is alone
 
-alone_before : (head : Head) (inst : Instance) (o : Core) (d : ℕ) (s : State PadHistory) → HeadFits head → d ≤ head.main → InstanceFits head
+pub alone_before : (head : Head) (inst : Instance) (o : Core) (d : ℕ) (s : State PadHistory) → HeadFits head → d ≤ head.main → InstanceFits head
     inst → IsState s → Meets head inst o d s → Before head inst o d s.core s.space
 alone_before head inst o d s fits few limits state m = record {
   fits = fits;
@@ -189,7 +193,7 @@ alone_before head inst o d s fits few limits state m = record {
 abbrev result_of : Effect → ℕ → (Outcome → ℕ) → State PadHistory → StepResult (Space PadHistory)
 result_of e words clocks s = effect_result (space_loads history_wiring) s.image e words clocks s.core s.space
 
-abbrev state_of : Effect → ℕ → (Outcome → ℕ) → State PadHistory → State PadHistory
+abbrev pub state_of : Effect → ℕ → (Outcome → ℕ) → State PadHistory → State PadHistory
 state_of e words clocks s = let d = result_of e words clocks s in state_after history_wiring s d.core d.content d.stores d.clocks d.owed
 
 abbrev kinds_of : Effect → ℕ → (Outcome → ℕ) → State PadHistory → List EdgeKind
@@ -201,18 +205,18 @@ edges_of e words clocks s = let d = result_of e words clocks s in
 
 abbrev pub plan_of : Head → ℕ → FinMap nat_cmp ℕ → Effect → ℕ → (Outcome → ℕ) → Instance → Option EventKind → Step
 plan_of head length image e words clocks inst emitted = record {
-  draft = transfer head image (following_of words inst) (sampled_of length e clocks inst) e inst;
-  exits = record { items = exits_of e clocks (following_of words inst) inst (outcomes image (following_of words inst) e inst) };
+  draft = draft_of head length image e words clocks inst;
+  exits = record { items = all_exits image e words clocks inst };
   emit = emitted;
   back = returns_from_interrupt e;
   clears = clears_flag e inst;
 }
 
-abbrev outcome_at : Effect → ℕ → (Outcome → ℕ) → State PadHistory → Outcome
+abbrev pub outcome_at : Effect → ℕ → (Outcome → ℕ) → State PadHistory → Outcome
 outcome_at e words clocks s = outcome_of e s.image words (loaded_bytes (space_loads history_wiring) s.core (sample_clock e clocks) s.space
     (load_addresses e s.core)) s.core
 
-abbrev exit_at : Effect → ℕ → (Outcome → ℕ) → State PadHistory → Exit
+abbrev pub exit_at : Effect → ℕ → (Outcome → ℕ) → State PadHistory → Exit
 exit_at e words clocks s = record {
   pc = next_pc e (outcome_at e words clocks s) words (loaded_bytes (space_loads history_wiring) s.core (sample_clock e clocks) s.space
       (load_addresses e s.core)) s.core;
@@ -230,12 +234,13 @@ effect_step : (head : Head) (lines : Lines) (inst : Instance) (o : Core) (d : �
     → ((n : ℕ) → n ≡ level_after event (sync_level s.space) → n ≡ sync_level (state_of e words clocks s).space → MainTimer inst.kind
     (clocks (outcome_at e words clocks s)) s (state_of e words clocks s))
     → (is_main inst.kind ≡ true → event ≡ None)
+    → (is_handler inst.kind ≡ true → (state_of e words clocks s).space.timer.count ≤ (state_of e words clocks s).space.timer.top)
     → AllByRecursion IsByte (state_of e words clocks s).core.registers → returns_from_interrupt e ≡ false → fail_of head e inst ≡ None
     → emission_at (sync_level s.space) e inst ≡ Some event → (1 ≤ clocks (outcome_at e words clocks s))
     × (clocks (outcome_at e words clocks s) ≤ 4)
     → OneStep head lines inst o d (plan_of head (lines.length inst.line) s.image e words clocks inst event) s (edges_of e words clocks s)
     (state_of e words clocks s)
-effect_step head lines inst o d s e words clocks event fits b m tcnt timer ticks level runs silent bytes stays fine emits time =
+effect_step head lines inst o d s e words clocks event fits b m tcnt timer ticks level runs silent below bytes stays fine emits time =
     let following : following_of words inst ≡ following_pc words s.core = ap (λ n. (n + words) % 32768) (sym m.pc) in
     let plan : Step = plan_of head (lines.length inst.line) s.image e words clocks inst event in
     let parts = parts_of history_wiring e head s.image (following_of words inst) (sampled_of (lines.length inst.line) e clocks inst) words
@@ -283,6 +288,7 @@ effect_step head lines inst o d s e words clocks event fits b m tcnt timer ticks
           (ap length content ∙ b.size) fits b fine);
       silent = silent;
       main_timer = runs (sync_level (state_of e words clocks s).space) (parts.leads.shows.level ∙ ap (level_after event) before) refl;
+      below_top = below;
     }
 
 -- The turn
@@ -299,15 +305,17 @@ record ReadsAs (head : Head) (lines : Lines) (image : FinMap nat_cmp ℕ) (inst 
   event : Option EventKind
   fine : fail_of head (effect_of row) inst ≡ None
   emits : emission (effect_of row) inst ≡ Some event
+  time : clock_holds lines (effect_of row) inst (all_exits image (effect_of row) (words_of row) (clocks_of row) inst) ≡ true
   is : step ≡ plan_of head (lines.length inst.line) image (effect_of row) (words_of row) (clocks_of row) inst event
 
 reads_as : (head : Head) (lines : Lines) (image : FinMap nat_cmp ℕ) (inst : Instance) (step : Step) (row : Option Instr) → IsReadAt image
-    inst.pc row → Ok step ≡ step_of_row head (lines.length inst.line) image row inst → ReadsAs head lines image inst step
+    inst.pc row → Ok step ≡ step_of_row head lines image row inst → ReadsAs head lines image inst step
 reads_as head lines image inst step None reads e = absurd cc
 reads_as head lines image inst step (Some i) reads e =
     let told = step_tells (fail_of head (effect_of i) inst) (emission (effect_of i) inst)
+    (clock_holds lines (effect_of i) inst (all_exits image (effect_of i) (words_of i) (clocks_of i) inst))
     (plan_of head (lines.length inst.line) image (effect_of i) (words_of i) (clocks_of i) inst None) step (sym e) in
-    record { row = i; reads = reads.found; event = told.event; fine = told.fine; emits = told.emits; is = told.is }
+    record { row = i; reads = reads.found; event = told.event; fine = told.fine; emits = told.emits; time = told.time; is = told.is }
 
 -- the timer's part: what a load of TCNT1L gives, and the timer after the instruction
 pub record TimePart (lines : Lines) (head : Head) (inst : Instance) (s : State PadHistory) (e : Effect) (words : ℕ) (clocks : Outcome → ℕ)
@@ -317,6 +325,7 @@ pub record TimePart (lines : Lines) (head : Head) (inst : Instance) (s : State P
   pub timer : TimerMeets inst.kind (successor lines inst (plan_of head (lines.length inst.line) s.image e words clocks inst event)
       (exit_at e words clocks s)) (state_of e words clocks s).space.timer
   pub ticks : TimerCounts inst.kind (state_of e words clocks s).space.timer
+  pub below : is_handler inst.kind ≡ true → (state_of e words clocks s).space.timer.count ≤ (state_of e words clocks s).space.timer.top
 
 -- and beside it the level, the events and main's own part
 pub record KindPart (lines : Lines) (head : Head) (inst : Instance) (s : State PadHistory) (e : Effect) (words : ℕ) (clocks : Outcome → ℕ)
@@ -326,6 +335,7 @@ pub record KindPart (lines : Lines) (head : Head) (inst : Instance) (s : State P
   pub timer : TimerMeets inst.kind (successor lines inst (plan_of head (lines.length inst.line) s.image e words clocks inst event)
       (exit_at e words clocks s)) (state_of e words clocks s).space.timer
   pub ticks : TimerCounts inst.kind (state_of e words clocks s).space.timer
+  pub below : is_handler inst.kind ≡ true → (state_of e words clocks s).space.timer.count ≤ (state_of e words clocks s).space.timer.top
   pub level : (n : ℕ) → n ≡ level_after event (sync_level s.space) → LevelMeets inst.kind
       (if is_main inst.kind then inst.level else level_after event (inst.level % 2)) n
   pub runs : (n : ℕ) → n ≡ level_after event (sync_level s.space) → n ≡ sync_level (state_of e words clocks s).space → MainTimer inst.kind
@@ -356,6 +366,7 @@ pub any_contained : (head : Head) (lines : Lines) (image : FinMap nat_cmp ℕ) (
     (s : State PadHistory) → is_entry s ≡ false → InstructionBegins head lines image inst o d step s
     → ((i : Instr) (event : Option EventKind) → Reads (word_of image (inst.pc % 32768)) (word_of image ((inst.pc + 1) % 32768)) i
     → fail_of head (effect_of i) inst ≡ None → emission (effect_of i) inst ≡ Some event → returns_from_interrupt (effect_of i) ≡ false
+    → clock_holds lines (effect_of i) inst (all_exits image (effect_of i) (words_of i) (clocks_of i) inst) ≡ true
     → (clocks_of i (outcome_at (effect_of i) (words_of i) (clocks_of i) s) ≤ 4) → KindPart lines head inst s (effect_of i) (words_of i)
     (clocks_of i) event)
     → Contained head lines inst o d step s
@@ -394,9 +405,9 @@ any_contained head lines image inst o d step s enters h part =
         (clocks_within r.row (outcome_at (effect_of r.row) (words_of r.row) (clocks_of r.row) s)) in
         let one : OneStep head lines inst o d (plan_of head (lines.length inst.line) s.image (effect_of r.row) (words_of r.row)
         (clocks_of r.row) inst r.event) s (instruction_edges history_wiring r.row s) (after_instruction history_wiring r.row s) =
-        let k = part r.row r.event r.reads r.fine r.emits stays time.1 in
+        let k = part r.row r.event r.reads r.fine r.emits stays r.time time.1 in
         effect_step head lines inst o d s (effect_of r.row) (words_of r.row) (clocks_of r.row) r.event (effect_fits r.row) b h.meets k.tcnt
-        k.timer k.ticks k.level k.runs k.silent after.core.registers stays r.fine k.emits time in
+        k.timer k.ticks k.level k.runs k.silent k.below after.core.registers stays r.fine k.emits time in
         let flash : s.image ≡ image = h.flash in
         let plan : plan_of head (lines.length inst.line) s.image (effect_of r.row) (words_of r.row) (clocks_of r.row) inst r.event ≡ step =
         ap (λ (m : FinMap nat_cmp ℕ). plan_of head (lines.length inst.line) m (effect_of r.row) (words_of r.row) (clocks_of r.row) inst
@@ -407,9 +418,10 @@ any_contained head lines image inst o d step s enters h part =
         (subst (λ n. OneStep head lines inst o d (plan_of head (lines.length inst.line) s.image (effect_of r.row) (words_of r.row)
         (clocks_of r.row) inst r.event) s (instruction_edges history_wiring r.row s) n) (sym goes) one))
 
-outside_contained : (head : Head) (lines : Lines) (image : FinMap nat_cmp ℕ) (inst : Instance) (o : Core) (d : ℕ) (step : Step)
+pub outside_contained : (head : Head) (lines : Lines) (image : FinMap nat_cmp ℕ) (inst : Instance) (o : Core) (d : ℕ) (step : Step)
     (s : State PadHistory) → is_main inst.kind ≡ false → InstructionBegins head lines image inst o d step s
-    → ((i : Instr) (event : Option EventKind) → fail_of head (effect_of i) inst ≡ None
+    → ((i : Instr) (event : Option EventKind) → fail_of head (effect_of i) inst ≡ None → returns_from_interrupt (effect_of i) ≡ false
+    → clock_holds lines (effect_of i) inst (all_exits image (effect_of i) (words_of i) (clocks_of i) inst) ≡ true
     → (clocks_of i (outcome_at (effect_of i) (words_of i) (clocks_of i) s) ≤ 4) → TimePart lines head inst s (effect_of i) (words_of i)
     (clocks_of i) event)
     → Contained head lines inst o d step s
@@ -418,12 +430,13 @@ outside_contained head lines image inst o d step s out h part =
     let enters : is_entry s ≡ false = no_entry (is_due s.space.timer) (bit_is_set s.core.sreg 7) (not s.is_owed) off in
     let level : sync_level s.space ≡ inst.level % 2 = own_bit (slice_index s.space.bytes 0x25) inst.level
     (level_of inst.kind inst.level (sync_level s.space) out h.meets.level) in
-    any_contained head lines image inst o d step s enters h (λ i event reads fine emits back few.
-    let p = part i event fine few in
+    any_contained head lines image inst o d step s enters h (λ i event reads fine emits back in_time few.
+    let p = part i event fine back in_time few in
     record {
       tcnt = p.tcnt;
       timer = p.timer;
       ticks = p.ticks;
+      below = p.below;
       level = λ n q. level_meets inst.kind inst.level (level_after event (inst.level % 2)) n out (q ∙ ap (level_after event) level);
       runs = λ n q r. runs_outside inst.kind _ s _ out;
       silent = λ m. absurd cc;
@@ -432,86 +445,14 @@ outside_contained head lines image inst o d step s out h part =
 
 pub alone_contained : AloneContained
 alone_contained head lines image inst o d step s kind h =
-    outside_contained head lines image inst o d step s (ap is_main kind) h (λ i event fine few. record {
+    outside_contained head lines image inst o d step s (ap is_main kind) h (λ i event fine back in_time few. record {
       tcnt = λ t. (let z : is_handler inst.kind ≡ false = ap is_handler kind in absurd cc);
       timer = subst (λ k. TimerMeets k (successor lines inst (plan_of head (lines.length inst.line) s.image (effect_of i) (words_of i)
           (clocks_of i) inst event) (exit_at (effect_of i) (words_of i) (clocks_of i) s)) (state_of (effect_of i) (words_of i) (clocks_of i)
           s).space.timer) (sym kind) tt;
       ticks = subst (λ k. TimerCounts k (state_of (effect_of i) (words_of i) (clocks_of i) s).space.timer) (sym kind) tt;
+      below = λ t. (let z : is_handler inst.kind ≡ false = ap is_handler kind in absurd cc);
     })
-
--- A handler's instruction
-
--- the timer's top is the line's last clock
-sampled_count : (count top clock length late : ℕ) → count ≡ clock → suc top ≡ length → clock < length → count_after count top
-    late ≡ (clock + late) % length
-sampled_count count top clock length late c t low =
-    let here : nat_le count top ≡ true = grind (arith, nat_tests) in
-    let e : top + 1 ≡ length = omega arith in
-    rw here (rw (e, c) refl)
-
-time_step : (head : Head) (lines : Lines) (inst : Instance) (o : Core) (d : ℕ) (s : State PadHistory) (e : Effect) (words : ℕ)
-    (clocks : Outcome → ℕ) (event : Option EventKind) → inst.kind ≡ Handler → EffectFits e → Before head inst o d s.core s.space
-    → Meets head inst o d s
-    → suc (top_of inst) ≡ lines.length inst.line → inst.clock < lines.length inst.line → 4 ≤ lines.length inst.line → fail_of head e
-    inst ≡ None → clocks (outcome_at e words clocks s) ≤ 4 → TimePart lines head inst s e words clocks event
-time_step head lines inst o d s e words clocks event kind fits b m full low long fine few =
-    let c : ℕ = clocks (outcome_at e words clocks s) in
-    let t = s.space.timer in
-    let meets : (s.space.timer.count ≡ inst.clock) × (s.space.timer.matched ≡ inst.pending) × (s.space.timer.top ≡ top_of inst) =
-    subst (λ k. TimerMeets k inst s.space.timer) kind m.timer in
-    let ticks : (is_counting s.space.timer ≡ true) × (bit_is_set s.space.timer.interrupt_mask 1 ≡ true) =
-    subst (λ k. TimerCounts k s.space.timer) kind m.ticks in
-    let loaded = loads_beside history_wiring (sample_clock e clocks) s.space (load_addresses e s.core) in
-    let content : Space PadHistory = content_after_loads (space_loads history_wiring) (sample_clock e clocks) s.space
-    (load_addresses e s.core) in
-    let counting : is_counting (content_after_loads (space_loads history_wiring) (sample_clock e clocks) s.space
-    (load_addresses e s.core)).timer ≡ true =
-    ap (λ n. n % 32 == 9 && (content_after_loads (space_loads history_wiring) (sample_clock e clocks) s.space
-    (load_addresses e s.core)).timer.control_a % 4 == 0) loaded.control_b
-    ∙ (ap (λ n. s.space.timer.control_b % 32 == 9 && n % 4 == 0) loaded.control_a ∙ ticks.0) in
-    let on = later (clocks (outcome_at e words clocks s)) (content_after_loads (space_loads history_wiring) (sample_clock e clocks) s.space
-    (load_addresses e s.core)).timer counting in
-    let stored = stores_beside history_wiring e head words d inst o s.core s.space (space_after (clocks (outcome_at e words clocks s))
-    (content_after_loads (space_loads history_wiring) (sample_clock e clocks) s.space (load_addresses e s.core))) fits
-    (ap (λ k. is_main k || is_handler k) kind) b fine in
-    let time = timed inst.clock (lines.length inst.line) (clocks (outcome_at e words clocks s))
-    (content_after_loads (space_loads history_wiring) (sample_clock e clocks) s.space (load_addresses e s.core)).timer
-    (loaded.count ∙ meets.0) (ap suc (loaded.top ∙ meets.2) ∙ full) low (omega arith) in
-    let now = later (sample_clock e clocks) s.space.timer ticks.0 in
-    record {
-      tcnt = λ q. ap (λ n. n % 256) (now.count ∙ sampled_count s.space.timer.count s.space.timer.top inst.clock (lines.length inst.line)
-          (sample_clock e clocks) meets.0 (ap suc meets.2 ∙ full) low);
-      timer = subst (λ k. TimerMeets k (placed_as k) (state_of e words clocks s).space.timer) (sym kind) (
-        stored.count ∙ (on.count ∙ time.count),
-        stored.matched ∙ ap (λ x. not (clears_flag e inst) && x)
-            (on.matched ∙ (ap (λ x. x || matches_within (content_after_loads (space_loads history_wiring) (sample_clock e clocks) s.space
-            (load_addresses e s.core)).timer.count (content_after_loads (space_loads history_wiring) (sample_clock e clocks) s.space
-            (load_addresses e s.core)).timer.top (clocks (outcome_at e words clocks s))) (loaded.matched ∙ meets.1)
-            ∙ ap (λ x. inst.pending || x) time.ends)),
-        stored.top ∙ (on.top ∙ (loaded.top ∙ meets.2)),
-      );
-      ticks = subst (λ k. TimerCounts k (state_of e words clocks s).space.timer) (sym kind) (
-        ap (λ n. n % 32 == 9 && (state_of e words clocks s).space.timer.control_a % 4 == 0)
-            (stored.control_b ∙ (on.control_b ∙ loaded.control_b))
-            ∙ (ap (λ n. s.space.timer.control_b % 32 == 9 && n % 4 == 0) (stored.control_a ∙ (on.control_a ∙ loaded.control_a)) ∙ ticks.0),
-        ap (λ n. bit_is_set n 1) (stored.mask ∙ (on.mask ∙ loaded.mask)) ∙ ticks.1,
-      );
-    }
-  where
-    placed_as : Kind → Instance
-    placed_as k = record (successor lines inst (plan_of head (lines.length inst.line) s.image e words clocks inst event)
-        (exit_at e words clocks s)) {
-          clock = if is_main k then inst.clock else clock_after lines inst.line (inst.clock + clocks (outcome_at e words clocks s));
-          pending = if is_handler k then not (clears_flag e inst)
-              && (inst.pending || ends_line lines inst.line (inst.clock + clocks (outcome_at e words clocks s))) else inst.pending;
-        }
-
-pub handler_contained : HandlerContained
-handler_contained head lines image inst o d step s kind full low long h =
-    outside_contained head lines image inst o d step s (ap is_main kind) h (λ i event fine few.
-    time_step head lines inst o d s (effect_of i) (words_of i) (clocks_of i) event kind (effect_fits i)
-    (alone_before head inst o d s h.head_fits h.depth h.fits h.is_state h.meets) h.meets full low long fine few)
 
 -- An instruction of main
 
@@ -620,11 +561,14 @@ main_part head lines inst o d s e words clocks event kind fits b m fine emits ba
     (content_after_loads (space_loads history_wiring) (sample_clock e clocks) s.space (load_addresses e s.core))) fits
     (ap (λ k. is_main k || is_handler k) kind) b fine in
     let keeps : clears_flag e inst ≡ false = main_clears e head inst main fine in
+    let stays = top_stays e head d inst o s.core s.space (timer_after (clocks (outcome_at e words clocks s))
+    (content_after_loads (space_loads history_wiring) (sample_clock e clocks) s.space (load_addresses e s.core)).timer) fits
+    (ap is_handler kind) b fine in
     let nothing : event ≡ None = (let z = silent_emission (inst.level % 2) e inst back silent in let y : Some event ≡ Some None = sym emits
     ∙ z in cc) in
-    let c : ℕ = clocks (outcome_at e words clocks s) in
     record {
       tcnt = λ t. (let z : is_handler inst.kind ≡ false = ap is_handler kind in absurd cc);
+      below = λ t. (let z : is_handler inst.kind ≡ false = ap is_handler kind in absurd cc);
       timer = subst (λ k. TimerMeets k (successor lines inst (plan_of head (lines.length inst.line) s.image e words clocks inst event)
           (exit_at e words clocks s)) (state_of e words clocks s).space.timer) (sym kind) tt;
       ticks = subst (λ k. TimerCounts k (state_of e words clocks s).space.timer) (sym kind) (
@@ -636,7 +580,7 @@ main_part head lines inst o d s e words clocks event kind fits b m fine emits ba
       level = λ n q. subst (λ k. LevelMeets k (if is_main k then inst.level else level_after event (inst.level % 2)) n) (sym kind) tt;
       runs = λ n q r. subst (λ k. MainTimer k (clocks (outcome_at e words clocks s)) s (state_of e words clocks s)) (sym kind) (
         sym r ∙ (q ∙ ap (λ x. level_after x (sync_level s.space)) nothing),
-        stored.top ∙ (on.top ∙ loaded.top),
+        stored.top ∙ (stays ∙ (on.top ∙ loaded.top)),
         stored.count ∙ (on.count ∙ (ap (λ n. count_after n (content_after_loads (space_loads history_wiring) (sample_clock e clocks) s.space
             (load_addresses e s.core)).timer.top (clocks (outcome_at e words clocks s))) loaded.count
             ∙ ap (λ n. count_after s.space.timer.count n (clocks (outcome_at e words clocks s))) loaded.top)),
@@ -656,6 +600,6 @@ main_part head lines inst o d s e words clocks event kind fits b m fine emits ba
 
 pub main_contained : MainContained
 main_contained head lines image inst o d step s kind enters silent h =
-    any_contained head lines image inst o d step s enters h (λ i event reads fine emits back few.
+    any_contained head lines image inst o d step s enters h (λ i event reads fine emits back in_time few.
     main_part head lines inst o d s (effect_of i) (words_of i) (clocks_of i) event kind (effect_fits i)
     (alone_before head inst o d s h.head_fits h.depth h.fits h.is_state h.meets) h.meets fine emits back (silent i reads))

@@ -1,29 +1,26 @@
 -- What lies in all that a point's facts say lies in what one of them says.
-use Rattle.std.proofs.Common.{◌≡◌, ◌<◌, ℕ, Bool, true, false, List, length, map, nat_eq, refl, sym, ◌∙◌, ap}
+use Rattle.std.proofs.Common.{◌≡◌, ◌<◌, ℕ, Bool, true, false, List, length, map, nat_eq, refl, ◌∙◌, ap}
 use Rattle.std.specs.Prelude.{◌&&◌}
-use Rattle.std.proofs.lemmas.List.{get_or_default}
 use Rattle.uz_schedule.specs.Ends.{Ends}
 use Rattle.uz_schedule.specs.declared.facts.Fact.{Fact}
 use Rattle.uz_schedule.specs.declared.facts.Val.{Val}
-use Rattle.uz_schedule.specs.declared.facts.Val.TheVariants.{Range}
 use Rattle.uz_schedule.specs.declared.states.Instance.{Instance}
 use Rattle.uz_schedule.specs.declared.states.Point.{Point}
 use Rattle.uz_schedule.specs.Instances.{val_of, cell_span, pairs_of}
-use Rattle.uz_range.specs.Answers.{ends}
-use Rattle.uz_transfer.specs.Values.{value_at, span_at, pair_at}
+use Rattle.uz_transfer.specs.Values.{value_at, span_at}
 use Rattle.uz_transfer.specs.Refusals.{range_inside}
 use Rattle.uz_rules.specs.Inside.{all_below, value_inside, pairs_inside}
 use Rattle.uz_rules.specs.FactInclusion.{said_at, facts_inside}
-use Rattle.uz_rules.proofs.InsideMeets.{below_tells, KnownInside, known_tells}
+use Rattle.uz_rules.proofs.InsideMeets.{below_tells, ContentsInside, contents_tell}
 
 and_rest : (a b : Bool) → (a && b) ≡ true → b ≡ true
 and_rest true b e = e
 and_rest false b e = absurd cc
 
 module _ (inst : Instance) (p : Point) (c : ℕ) where
-  all_parts : facts_inside inst p c ≡ true → KnownInside inst (said_at p inst c)
+  all_parts : facts_inside inst p c ≡ true → ContentsInside inst (said_at p inst c)
   unfolding facts_inside
-  all_parts e = known_tells inst (said_at p inst c) e
+  all_parts e = contents_tell inst (said_at p inst c) e
 
   pub registers_tell : length inst.regs ≡ 32 → facts_inside inst p c ≡ true
       → all_below (length inst.regs) (λ i. value_inside (value_at inst.regs i) (value_at (map (val_of inst.line c) p.regs) i)) ≡ true

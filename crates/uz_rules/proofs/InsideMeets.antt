@@ -25,12 +25,10 @@ use Rattle.uz_transfer.specs.Kinds.{cell_place}
 use Rattle.uz_rules.specs.MemoryMeets.{MemoryMeets}
 use Rattle.uz_transfer.specs.Refusals.{range_inside}
 use Rattle.uz_rules.specs.Inside.{value_inside, flag_inside, all_below, same_kind, same_bool, same_place, registers_inside, pairs_inside}
-use Rattle.uz_rules.specs.Inside.{flags_inside, slots_inside, cells_inside, known_inside, SamePlace, PlaceTells, PlaceHolds, KnownInItself}
-use Rattle.uz_rules.specs.Inside.{InsideKeeps, StateInside, is_old_register, restored, RestoredGives}
-use Rattle.uz_rules.specs.Meets.{TimerMeets, TimerCounts, LevelMeets, Meets}
-use Rattle.uz_machine.specs.PadLine.{PadHistory}
-use Rattle.uz_machine.specs.Turn.{State, sync_level}
-use Rattle.uz_machine.specs.StateRange.{IsState}
+use Rattle.uz_rules.specs.Inside.{flags_inside, slots_inside, cells_inside, contents_inside, SamePlace, PlaceTells}
+use Rattle.uz_rules.specs.Inside.{PlaceHolds, KnownInItself}
+use Rattle.uz_rules.specs.Inside.{InsideKeeps, StateInside, is_old_register, RestoredGives}
+use Rattle.uz_rules.specs.Meets.{TimerMeets, TimerCounts}
 use Rattle.uz_transfer.specs.Memory.{is_old}
 use Rattle.uz_machine.specs.Arithmetic.{bit_is_set}
 use Rattle.uz_transfer.specs.Kinds.{is_main}
@@ -125,12 +123,14 @@ place_tells a b e =
     let p2 = and_true (nat_eq a.pc b.pc) _ p1.1 in
     let p3 = and_true (nat_eq a.line b.line) _ p2.1 in
     let p4 = and_true (nat_eq a.clock b.clock) _ p3.1 in
+    let p5 = and_true (same_bool a.pending b.pending) _ p4.1 in
     record {
       kind = kind_tells a.kind b.kind p1.0;
       pc = same_number a.pc b.pc p2.0;
       line = same_number a.line b.line p3.0;
       clock = same_number a.clock b.clock p4.0;
-      pending = same_bits a.pending b.pending p4.1;
+      pending = same_bits a.pending b.pending p5.0;
+      top = same_number a.top b.top p5.1;
     }
 
 kind_itself : (k : Kind) → same_kind k k ≡ true
@@ -149,19 +149,21 @@ place_holds a b s =
     let line = eq-eqb a.line b.line s.line in
     let clock = eq-eqb a.clock b.clock s.clock in
     let pending = ap (same_bool a.pending) (sym s.pending) ∙ bit_itself a.pending in
-    λ i. kind i && (pc i && (line i && (clock i && pending i)))
+    let top = eq-eqb a.top b.top s.top in
+    λ i. kind i && (pc i && (line i && (clock i && (pending i && top i))))
 
 -- What is known
 
-pub record KnownInside (a b : Instance) : Type 0 where
+-- the contents, part by part
+pub record ContentsInside (a b : Instance) : Type 0 where
   pub slots : slots_inside a.stack.items b.stack.items ≡ true
   pub cells : cells_inside a.cells.items b.cells.items ≡ true
   pub flags : flags_inside a.flags b.flags ≡ true
   pub pairs : pairs_inside a.pairs b.pairs ≡ true
   pub registers : registers_inside a.regs b.regs ≡ true
 
-pub known_tells : (a b : Instance) → known_inside a b ≡ true → KnownInside a b
-known_tells a b e =
+pub contents_tell : (a b : Instance) → contents_inside a b ≡ true → ContentsInside a b
+contents_tell a b e =
     let two = and_true (slots_inside a.stack.items b.stack.items) _ e in
     let three = and_true (cells_inside a.cells.items b.cells.items) _ two.1 in
     let four = and_true (flags_inside a.flags b.flags) _ three.1 in
@@ -188,7 +190,7 @@ flag_itself Free = refl
 flag_itself OldBit = refl
 
 pub known_in_itself : KnownInItself
-known_in_itself a = λ i. slots i && (cells i && (flags i && (pairs i && registers i)))
+known_in_itself a = λ i. range_itself a.temp i && (slots i && (cells i && (flags i && (pairs i && registers i))))
   where
     slots : slots_inside a.stack.items a.stack.items ≡ true
     slots = λ i. eq-eqb (length a.stack.items) (length a.stack.items) refl i && below_all (length a.stack.items)
@@ -207,9 +209,9 @@ known_in_itself a = λ i. slots i && (cells i && (flags i && (pairs i && registe
     registers : registers_inside a.regs a.regs ≡ true
     registers = below_all 32 (λ r. value_inside (value_at a.regs r) (value_at a.regs r)) (λ r. value_itself (value_at a.regs r))
 
-pub core_widens : (a b : Instance) (o core : Core) → IsCore core → known_inside a b ≡ true → CoreMeets a o core → CoreMeets b o core
+pub core_widens : (a b : Instance) (o core : Core) → IsCore core → contents_inside a b ≡ true → CoreMeets a o core → CoreMeets b o core
 core_widens a b o core c e h =
-    let parts = known_tells a b e in
+    let parts = contents_tell a b e in
     record {
       regs = λ r w. val_widens _ _ o _ (register_byte core r c) (below_tells 32 (λ r. value_inside (value_at a.regs r) (value_at b.regs r))
           parts.registers r w) (h.regs r w);
@@ -220,9 +222,9 @@ core_widens a b o core c e h =
     }
 
 pub memory_widens : (head : Head) (a b : Instance) (o : Core) (d sp : ℕ) (bytes : List ℕ) → AllByRecursion IsByte bytes → a.kind ≡ b.kind
-    → known_inside a b ≡ true → MemoryMeets head a o d sp bytes → MemoryMeets head b o d sp bytes
+    → contents_inside a b ≡ true → MemoryMeets head a o d sp bytes → MemoryMeets head b o d sp bytes
 memory_widens head a b o d sp bytes all kind e h =
-    let parts = known_tells a b e in
+    let parts = contents_tell a b e in
     let slots = and_true (nat_eq (length a.stack.items) (length b.stack.items)) _ parts.slots in
     let cells = and_true (nat_eq (length a.cells.items) (length b.cells.items)) _ parts.cells in
     let size : length a.stack.items ≡ length b.stack.items = same_number (length a.stack.items) (length b.stack.items) slots.0 in
@@ -249,7 +251,8 @@ pub inside_keeps : InsideKeeps
 inside_keeps head a b o core d sp bytes c all e h m =
     let both = and_true (same_place a b) _ e in
     let place = place_tells a b both.0 in
-    (core_widens a b o core c both.1 h, memory_widens head a b o d sp bytes all place.kind both.1 m)
+    let contents = (and_true (range_inside a.temp b.temp) _ both.1).1 in
+    (core_widens a b o core c contents h, memory_widens head a b o d sp bytes all place.kind contents m)
 
 -- A state
 
@@ -257,25 +260,26 @@ pub state_inside : StateInside
 state_inside head a b o d s state e level m =
     let both = and_true (same_place a b) _ e in
     let place = place_tells a b both.0 in
+    let known = and_true (range_inside a.temp b.temp) _ both.1 in
     record {
       pc = m.pc ∙ place.pc;
       enabled = m.enabled ∙ ap is_main place.kind;
-      core = core_widens a b o s.core state.core both.1 m.core;
-      memory = memory_widens head a b o d s.core.sp s.space.bytes state.space.bytes place.kind both.1 m.memory;
-      timer = timer_widens a.kind b.kind place.kind m.timer;
+      core = core_widens a b o s.core state.core known.1 m.core;
+      memory = memory_widens head a b o d s.core.sp s.space.bytes state.space.bytes place.kind known.1 m.memory;
+      timer = timer_widens place known.0 a.kind b.kind place.kind m.timer;
       ticks = subst (λ k. TimerCounts k s.space.timer) place.kind m.ticks;
       level = level;
       response = m.response;
     }
   where
-    timer_widens : (k l : Kind) → k ≡ l → TimerMeets k a s.space.timer → TimerMeets l b s.space.timer
-    timer_widens k l same h = subst (λ x. TimerMeets x b s.space.timer) same
-        (widens k (place_tells a b (and_true (same_place a b) _ e).0) h)
+    timer_widens : SamePlace a b → range_inside a.temp b.temp ≡ true → (k l : Kind) → k ≡ l → TimerMeets k a s.space.timer
+        → TimerMeets l b s.space.timer
+    timer_widens p temp k l same h = subst (λ x. TimerMeets x b s.space.timer) same (widens k h)
       where
-        widens : (k : Kind) → SamePlace a b → TimerMeets k a s.space.timer → TimerMeets k b s.space.timer
-        widens Main p h = tt
-        widens Handler p h = (h.0 ∙ p.clock, h.1 ∙ p.pending, h.2)
-        widens Alone p h = tt
+        widens : (k : Kind) → TimerMeets k a s.space.timer → TimerMeets k b s.space.timer
+        widens Main h = tt
+        widens Handler h = (h.0 ∙ p.clock, h.1 ∙ p.pending, h.2 ∙ p.top, within_both a.temp b.temp s.space.timer.temp temp h.3)
+        widens Alone h = tt
 
 -- Restored
 

@@ -23,7 +23,7 @@ use Rattle.uz_transfer.specs.Values.{span_of, value_at}
 use Rattle.uz_transfer.specs.Kinds.{cell_place, cell_range, depth_limit}
 use Rattle.uz_rules.specs.MemoryMeets.{HeadFits, Untouched}
 use Rattle.uz_transfer.specs.Memory.{address_range, depth_of}
-use Rattle.uz_transfer.specs.Refusals.{cell_admits, flag_fails, mask_fails, is_setup_register, may_store, fail_of}
+use Rattle.uz_transfer.specs.Refusals.{cell_admits, flag_fails, mask_fails, io_fails, may_store, fail_of}
 use Rattle.uz_rules.proofs.MemoryKeeps.{Wrote, missed}
 use Rattle.uz_rules.proofs.SpaceStores.{byte_wrote, bit_kept}
 use Rattle.uz_rules.proofs.StoreClasses.{cell_taken, free_by, room_left}
@@ -138,7 +138,7 @@ pub record StoreFacts (head : Head) (inst : Instance) (a : Ends) (v : Val) : Typ
   pub flag : (is_single a && flag_fails inst.kind a.lo v) ≡ false
   pub mask : (is_single a && mask_fails inst.kind a.lo v) ≡ false
   pub may : not (may_store head inst.kind a v) ≡ false
-  pub io : (is_single a && is_setup_register a.lo) ≡ false
+  pub io : (is_single a && io_fails inst a.lo v) ≡ false
 
 pub facts_of : (head : Head) (inst : Instance) (to : AddressMode) (r : ℕ) → fail_of head (Store to r) inst ≡ None → StoreFacts head inst
     (address_range to inst) (value_at inst.regs r)

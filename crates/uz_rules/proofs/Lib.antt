@@ -11,10 +11,12 @@ pub mod Classes
 pub mod ClassParts
 pub mod ExitsHold
 pub mod Containment
+pub mod HandlerStep
 pub mod InsideMeets
 pub mod SomeStand
 pub mod LeavesHold
 pub mod Timing
+pub mod TopAndTemp
 pub mod Below
 pub mod LocalLaws
 pub mod LimitsHold

@@ -1,6 +1,6 @@
 -- What a certificate's limits and orders give of its header and of each instance.
-use Rattle.std.proofs.Common.{inl, inr, ◌≡◌, ◌⊎◌, ℕ, zero, suc, ◌+◌, ◌-◌, ◌<◌, ◌≤◌, Bool, true, false, not, List, [], ◌∷◌, All, length, map}
-use Rattle.std.proofs.Common.{filter, Option, Some, None, nat_le, nat_lt, nat_eq, refl, sym, ◌∙◌, ap, subst, arith, if◌then◌else◌}
+use Rattle.std.proofs.Common.{inl, inr, ◌≡◌, ◌⊎◌, ℕ, suc, ◌+◌, ◌<◌, ◌≤◌, Bool, true, false, List, [], ◌∷◌, All, length, map}
+use Rattle.std.proofs.Common.{filter, Some, None, nat_le, nat_lt, nat_eq, refl, sym, ◌∙◌, subst, arith, if◌then◌else◌}
 use Rattle.std.specs.Prelude.{◌&&◌, ℤ, pos, negsuc, ◌+ℤ◌, ◌*ℤ◌, slice_get, slice_index_or, option_and_then}
 use Rattle.std.proofs.lemmas.Bool.Decides.{nat_tests}
 use Rattle.std.proofs.lemmas.Option.{slice_get_cases, option_and_then_some}
@@ -13,7 +13,6 @@ use Rattle.uz_schedule.specs.declared.facts.Bit.TheVariants.{Zero, One, Free, Ol
 use Rattle.uz_schedule.specs.declared.kinds.Owner.TheVariants.{Main as MainOwner}
 use Rattle.uz_schedule.specs.declared.header.Cell.{Cell}
 use Rattle.uz_schedule.specs.declared.header.Head.{Head}
-use Rattle.uz_schedule.specs.declared.lines.Schedule.{Schedule}
 use Rattle.uz_schedule.specs.declared.states.Instance.{Instance}
 use Rattle.uz_schedule.specs.declared.states.Point.{Point}
 use Rattle.uz_schedule.specs.declared.certificate.Cert.{Cert}
@@ -22,11 +21,10 @@ use Rattle.uz_schedule.specs.Tracked.{tracked, depth_of as kind_depth}
 use Rattle.uz_schedule.proofs.Starts.{length_within}
 use Rattle.uz_schedule.specs.Instances.{val_of, cell_span, is_in_box, clock_below, clock_at, instance_of, instance_at_clock, instance_in}
 use Rattle.uz_schedule.specs.Instances.{instance_at}
-use Rattle.uz_schedule.specs.WellFormed.{WellFormed, HeadFits as HeaderFits, CellFits, BitFits, PointFits}
+use Rattle.uz_schedule.specs.WellFormed.{WellFormed, HeadFits as HeaderFits, BitFits, PointFits}
 use Rattle.uz_transfer.specs.Kinds.{is_main, depth_limit, range_from, cell_range}
-use Rattle.uz_transfer.specs.Memory.{all_flags, is_old, depth_of}
+use Rattle.uz_transfer.specs.Memory.{all_flags, is_old}
 use Rattle.uz_rules.specs.MemoryMeets.{HeadFits}
-use Rattle.uz_rules.specs.Meets.{InstanceFits}
 use Rattle.uz_rules.specs.Limits.{InstanceLimits, LimitsGive}
 
 -- Elements

@@ -1,9 +1,8 @@
 -- Of a point, a line and a count there is one answer; and what the test of a named successor tells.
-use Rattle.std.proofs.Common.{◌≡◌, ℕ, zero, suc, ◌+◌, ◌-◌, ◌%◌, Bool, true, false, List, Option, Some, None, refl, sym, ◌∙◌, ap, subst}
+use Rattle.std.proofs.Common.{◌≡◌, ℕ, zero, suc, ◌-◌, Bool, true, false, Option, Some, None, refl, sym, ◌∙◌, ap, subst}
 use Rattle.std.specs.Prelude.{◌||◌, slice_get}
 use Rattle.std.specs.Ordering.{nat_cmp}
 use Rattle.std.specs.FinMap.{FinMap}
-use Rattle.uz_hex.specs.Cells.{word_of}
 use Rattle.avr_table.specs.declared.Instr.{Instr}
 use Rattle.avr_decode.specs.Decoded.{Decoded}
 use Rattle.avr_decode.proofs.Unique.{unique}
@@ -13,8 +12,7 @@ use Rattle.uz_schedule.specs.declared.certificate.Cert.{Cert}
 use Rattle.uz_schedule.specs.Instances.{instance_at}
 use Rattle.uz_transfer.specs.declared.fail.Fail.{Fail}
 use Rattle.uz_transfer.specs.Step.{IsReadAt}
-use Rattle.uz_rules.specs.Inside.{inside}
-use Rattle.uz_rules.specs.Successors.{lies_at, any_from, lies_in_box, lies_in_point, LiesIn, LiesInPoint}
+use Rattle.uz_rules.specs.Successors.{lies_at, any_from, lies_in_box, LiesIn, LiesInPoint}
 use Rattle.uz_rules.specs.Local.{IsLocal, OneLocal, local_fail}
 
 -- One answer

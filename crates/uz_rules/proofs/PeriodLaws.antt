@@ -17,7 +17,7 @@ use Rattle.uz_schedule.specs.declared.facts.Val.TheVariants.{Range}
 use Rattle.uz_schedule.specs.declared.states.Instance.{Instance}
 use Rattle.uz_schedule.specs.declared.states.Point.{Point}
 use Rattle.uz_schedule.specs.Instances.{val_of, span_of_val, cell_span, pair_of, pairs_of}
-use Rattle.uz_rules.specs.Inside.{known_inside}
+use Rattle.uz_rules.specs.Inside.{contents_inside}
 use Rattle.uz_rules.specs.Successors.{any_from}
 use Rattle.uz_rules.specs.FactInclusion.{said_at, facts_inside}
 use Rattle.uz_rules.specs.Periods.{count_factor, pair_count_factor, ByteRepeats, PairRepeats, PairsRepeat, PointRepeats}
@@ -161,7 +161,7 @@ facts_again p inst n c r =
     let cells : map (cell_span l (c + n)) p.cells.items ≡ map (cell_span l c) p.cells.items = cells_again p.cells.items n l c r.cells in
     let pairs : pairs_of l (c + n) (map (val_of l (c + n)) p.regs) p.pairs ≡ pairs_of l c (map (val_of l c) p.regs) p.pairs =
     ap (λ vals. pairs_of l (c + n) vals p.pairs) regs ∙ r.pairs l c (map (val_of l c) p.regs) in
-    λ i. known_inside inst (record (said_at p inst c) {
+    λ i. contents_inside inst (record (said_at p inst c) {
       regs = regs i;
       pairs = pairs i;
       stack = record { items = stack i };

@@ -155,11 +155,15 @@ bit_leads w head inst o d sp at b set s emitted fits size m low ha hb e = record
 
 -- ST, STD, STS, OUT: at an address, before the pointer takes its new value
 
+-- an address that is OCR1A's, or no register's that sets up the machine
+abbrev pub SetsNothingElse : ℕ → Type 0
+SetsNothingElse at = nat_eq at 0x88 ≡ false → nat_eq at 0x89 ≡ false → is_setup_register at ≡ false
+
 -- the facts of a store that isn't refused
 pub record MayStore (head : Head) (inst : Instance) (level : ℕ) (a : Ends) (v : Val) (emitted : Option EventKind) : Type 0 where
   pub mask : is_single a ≡ true → mask_fails inst.kind a.lo v ≡ false
   pub may : may_store head inst.kind a v ≡ true
-  pub io : is_single a ≡ true → is_setup_register a.lo ≡ false
+  pub io : is_single a ≡ true → SetsNothingElse a.lo
   pub emits : (if is_single a then byte_event level v a.lo else Some None) ≡ Some emitted
 
 -- the core and what is held for the data space, after a store at an address
@@ -246,13 +250,13 @@ space_stored {P} w head inst o d at v e core s emitted place fits size c h enabl
       });
     }
 
-not_core : (at : ℕ) → 0x20 ≤ at → is_setup_register at ≡ false → nat_eq at 0x5F ≡ false → is_core_address at ≡ false
+not_core : (at : ℕ) → 0x20 ≤ at → SetsNothingElse at → nat_eq at 0x5F ≡ false → is_core_address at ≡ false
 not_core at low io sreg =
     elim (eqb_tells at 0x5D) [
-      | inl t ↦ let z : is_setup_register 0x5D ≡ false = subst (λ a. is_setup_register a ≡ false) t.1 io in absurd cc
+      | inl t ↦ let z : is_setup_register 0x5D ≡ false = subst SetsNothingElse t.1 io refl refl in absurd cc
       | inr t ↦
           elim (eqb_tells at 0x5E) [
-            | inl u ↦ let z : is_setup_register 0x5E ≡ false = subst (λ a. is_setup_register a ≡ false) u.1 io in absurd cc
+            | inl u ↦ let z : is_setup_register 0x5E ≡ false = subst SetsNothingElse u.1 io refl refl in absurd cc
             | inr u ↦ let p = t.1 in let q = u.1 in let v : at ≢ 0x5F = (λ e. grind (arith, nat_tests)) in grind (arith, nat_tests)
           ]
     ]
@@ -345,7 +349,7 @@ store_stored {P} w head inst o d at v a val core s emitted fits size c h enabled
         ]
 
     -- a single address other than SREG's
-    at_one : is_single a ≡ true → a.lo ≡ at → nat_eq at 0x5F ≡ false → is_setup_register at ≡ false → may_store head inst.kind a val ≡ true
+    at_one : is_single a ≡ true → a.lo ≡ at → nat_eq at 0x5F ≡ false → SetsNothingElse at → may_store head inst.kind a val ≡ true
         → byte_event (sync_level s) val at ≡ Some emitted
         → Stored w head inst (with_cell (cell_place head inst.kind at) (span_of val) inst) o d at v core s emitted
     at_one one i sreg io may e =
@@ -374,8 +378,8 @@ store_stored {P} w head inst o d at v a val core s emitted fits size c h enabled
               ]
         ]
 
-    at_sreg : (t : Bool) → is_single a ≡ true → a.lo ≡ at → nat_eq at 0x5F ≡ t → mask_fails inst.kind at val ≡ false → is_setup_register
-        at ≡ false → may_store head inst.kind a val ≡ true → byte_event (sync_level s) val at ≡ Some emitted
+    at_sreg : (t : Bool) → is_single a ≡ true → a.lo ≡ at → nat_eq at 0x5F ≡ t → mask_fails inst.kind at val ≡ false → SetsNothingElse at
+        → may_store head inst.kind a val ≡ true → byte_event (sync_level s) val at ≡ Some emitted
         → Stored w head inst (if t then with_flag_list (flags_from val) inst else with_cell (cell_place head inst.kind at) (span_of val)
         inst) o d at v core s emitted
     at_sreg true one i is mask io may e =
@@ -386,7 +390,7 @@ store_stored {P} w head inst o d at v a val core s emitted fits size c h enabled
     at_sreg false one i is mask io may e = at_one one i is io may e
 
     by_single : (t : Bool) → is_single a ≡ t → (is_single a ≡ true → mask_fails inst.kind a.lo val ≡ false)
-        → (is_single a ≡ true → is_setup_register a.lo ≡ false) → may_store head inst.kind a val ≡ true
+        → (is_single a ≡ true → SetsNothingElse a.lo) → may_store head inst.kind a val ≡ true
         → (if is_single a then byte_event (sync_level s) val a.lo else Some None) ≡ Some emitted → Stored w head inst
         (if t then with_stored head a.lo val inst else inst) o d at v core s emitted
     by_single true one mask io may e =
@@ -395,7 +399,7 @@ store_stored {P} w head inst o d at v a val core s emitted fits size c h enabled
         (rw one at e) in
         subst (λ n. Stored w head inst (with_stored head n val inst) o d at v core s emitted) (sym i)
         (at_sreg (nat_eq at 0x5F) one i refl (subst (λ n. mask_fails inst.kind n val ≡ false) i (mask one))
-        (subst (λ n. is_setup_register n ≡ false) i (io one)) may e')
+        (subst SetsNothingElse i (io one)) may e')
     by_single false many mask io may e =
         let f = free_by head a (rw many at may) in
         let n : emitted ≡ None = none_is emitted (rw many at e) in

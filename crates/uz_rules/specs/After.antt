@@ -1,5 +1,5 @@
 -- The abstract results of an instance under its instruction (this project's profile).
-use Rattle.std.specs.Prelude.{◌≡◌, ℕ, List, [], ◌∷◌, map, Option, Some, None, Result, Ok, Err}
+use Rattle.std.specs.Prelude.{◌≡◌, ℕ, map, Option, Some, None, Result, Ok, Err}
 use Rattle.std.specs.Ordering.{nat_cmp}
 use Rattle.std.specs.FinMap.{FinMap}
 use Rattle.avr_table.specs.declared.Instr.{Instr}
@@ -8,7 +8,6 @@ use Rattle.uz_schedule.specs.declared.lines.EventKind.{EventKind}
 use Rattle.uz_schedule.specs.declared.states.Instance.{Instance}
 use Rattle.uz_schedule.specs.Lines.{Lines}
 use Rattle.uz_transfer.specs.declared.fail.Fail.{Fail}
-use Rattle.uz_transfer.specs.declared.step.Exit.{Exit}
 use Rattle.uz_transfer.specs.declared.step.Step.{Step}
 use Rattle.uz_transfer.specs.Step.{IsReadAt, step_of_row, successor}
 use Rattle.uz_rules.specs.declared.next.Next.{Next}
@@ -31,4 +30,4 @@ next_of lines inst (Ok step) = Ok (record {
 pub record IsAfter (head : Head) (lines : Lines) (image : FinMap nat_cmp ℕ) (inst : Instance) (result : Result Next Fail) : Type 0 where
   pub row : Option Instr
   pub reads : IsReadAt image inst.pc row
-  pub is : result ≡ next_of lines inst (step_of_row head (lines.length inst.line) image row inst)
+  pub is : result ≡ next_of lines inst (step_of_row head lines image row inst)

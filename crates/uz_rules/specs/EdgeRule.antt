@@ -1,11 +1,12 @@
 -- The comparison of what is emitted with the schedule (this project's profile).
-use Rattle.std.specs.Prelude.{ℕ, zero, suc, ◌+◌, ◌-◌, Bool, true, false, ◌&&◌, List, [], ◌∷◌, Option, Some, None, is_none, nat_eq}
+use Rattle.std.specs.Prelude.{ℕ, zero, suc, ◌+◌, ◌-◌, Bool, true, false, ◌&&◌, List, Option, Some, None, is_none, nat_eq}
 use Rattle.uz_schedule.specs.declared.lines.Schedule.{Schedule}
 use Rattle.uz_schedule.specs.declared.lines.EventKind.{EventKind}
 use Rattle.uz_schedule.specs.declared.lines.EventKind.TheVariants.{Sync, Pixel, Sound, Leave}
 use Rattle.uz_schedule.specs.declared.states.Instance.{Instance}
 use Rattle.uz_schedule.specs.Schedule.{start_of, event_at}
 use Rattle.uz_transfer.specs.declared.step.Exit.{Exit}
+pub use Rattle.uz_transfer.specs.Exits.{each_exit}
 
 -- the position of the frame at which an instance stands
 abbrev pub position_of : Schedule → Instance → ℕ
@@ -33,9 +34,5 @@ abbrev pub emits_as_scheduled : Schedule → ℕ → Option EventKind → ℕ �
 emits_as_scheduled s p emitted clocks = is_quiet (event_at s) p (clocks - 1) && is_event (event_at s (p + clocks)) emitted
 
 -- at each exit
-abbrev pub each_exit : (Exit → Bool) → List Exit → Bool
-each_exit test [] = true
-each_exit test (exit ∷ exits) = test exit && each_exit test exits
-
 abbrev pub edges_fit : Schedule → ℕ → Option EventKind → List Exit → Bool
 edges_fit s p emitted exits = each_exit (λ exit. emits_as_scheduled s p emitted exit.clocks) exits

@@ -54,9 +54,9 @@ abbrev pub same_bool : Bool → Bool → Bool
 same_bool true b = b
 same_bool false b = not b
 
--- what is known of the timer besides its clock is one: whether a match is pending
+-- what is known of the timer besides its clock and TEMP is one: whether a match is pending, and OCR1A
 abbrev pub same_timer : Instance → Instance → Bool
-same_timer a b = same_bool a.pending b.pending
+same_timer a b = same_bool a.pending b.pending && nat_eq a.top b.top
 
 -- two instances stand at one place: kind, pc, line and clock are one, and what is known of the timer
 abbrev pub same_place : Instance → Instance → Bool
@@ -78,12 +78,16 @@ slots_inside a b = nat_eq (length a) (length b) && all_below (length a) (λ i. v
 abbrev pub cells_inside : List Ends → List Ends → Bool
 cells_inside a b = nat_eq (length a) (length b) && all_below (length a) (λ j. range_inside (span_at a j) (span_at b j))
 
--- what is known in a lies in what is known in b, of the stack's bytes, the cells, flags, pairs and registers
-abbrev pub known_inside : Instance → Instance → Bool
-known_inside a b =
+-- what is known in a of the stack's bytes, the cells, flags, pairs and registers lies in what is known of them in b
+abbrev pub contents_inside : Instance → Instance → Bool
+contents_inside a b =
     slots_inside a.stack.items b.stack.items
     && (cells_inside a.cells.items b.cells.items
     && (flags_inside a.flags b.flags && (pairs_inside a.pairs b.pairs && registers_inside a.regs b.regs)))
+
+-- and so does what is known of TEMP
+abbrev pub known_inside : Instance → Instance → Bool
+known_inside a b = range_inside a.temp b.temp && contents_inside a b
 
 -- instance a lies in b: they stand at one place, and what is known in a lies in what is known in b. Levels aren't compared
 abbrev pub inside : Instance → Instance → Bool
@@ -96,6 +100,7 @@ pub record SamePlace (a b : Instance) : Type 0 where
   pub line : a.line ≡ b.line
   pub clock : a.clock ≡ b.clock
   pub pending : a.pending ≡ b.pending
+  pub top : a.top ≡ b.top
 
 abbrev pub PlaceTells : Type 0
 PlaceTells = (a b : Instance) → same_place a b ≡ true → SamePlace a b

@@ -7,13 +7,10 @@ use Rattle.avr_table.specs.declared.Instr.{Instr}
 use Rattle.uz_machine.specs.Effects.{effect_of}
 use Rattle.uz_machine.specs.declared.Effect.{Effect}
 use Rattle.uz_machine.specs.declared.Effect.TheVariants.{Stop}
-use Rattle.uz_schedule.specs.declared.kinds.Kind.TheVariants.{Main}
-use Rattle.uz_schedule.specs.declared.lines.Schedule.{Schedule}
 use Rattle.uz_schedule.specs.declared.states.Instance.{Instance}
 use Rattle.uz_schedule.specs.declared.states.Point.{Point}
 use Rattle.uz_schedule.specs.declared.states.Rest.{Rest}
 use Rattle.uz_schedule.specs.declared.certificate.Cert.{Cert}
-use Rattle.uz_schedule.specs.Schedule.{length_of}
 use Rattle.uz_schedule.specs.Lines.{order_of}
 use Rattle.uz_schedule.specs.Instances.{instance_at}
 use Rattle.uz_transfer.specs.declared.fail.Fail.{Fail}
@@ -93,7 +90,7 @@ step_fail cert next inst emits (Ok step) =
 abbrev pub instance_fail : FinMap nat_cmp ℕ → Cert → List ℕ → Option Instr → Option Instance → Option Fail
 instance_fail image cert next row None = Some Box
 instance_fail image cert next row (Some inst) =
-    step_fail cert next inst (row_emits_in_main row inst) (step_of_row cert.head (length_of cert.schedule inst.line) image row inst)
+    step_fail cert next inst (row_emits_in_main row inst) (step_of_row cert.head (order_of cert.schedule) image row inst)
 
 abbrev pub local_fail : FinMap nat_cmp ℕ → Cert → List ℕ → Option Instr → Option Instance → Option Fail
 local_fail image cert next row inst = refuse_if (is_no_opcode row) Opcode (instance_fail image cert next row inst)

@@ -1,6 +1,6 @@
 -- When a state of the machine meets an instance.
-use Rattle.std.specs.Prelude.{length, true, false, ℕ, ⊤, ◌-◌, ◌≡◌, ◌≤◌}
-use Rattle.uz_schedule.specs.Schedule.{scanline, response_clocks}
+use Rattle.std.specs.Prelude.{length, true, false, ℕ, ⊤, ◌≡◌, ◌≤◌}
+use Rattle.uz_schedule.specs.Schedule.{response_clocks}
 use Rattle.uz_schedule.specs.declared.header.Head.{Head}
 use Rattle.uz_schedule.specs.declared.kinds.Kind.{Kind}
 use Rattle.uz_schedule.specs.declared.kinds.Kind.TheVariants.{Alone, Handler, Main}
@@ -10,19 +10,16 @@ use Rattle.uz_machine.specs.Core.{Core}
 use Rattle.uz_machine.specs.PadLine.{PadHistory}
 use Rattle.uz_machine.specs.Timer.{Timer, is_counting}
 use Rattle.uz_machine.specs.Turn.{State, sync_level}
+use Rattle.uz_range.specs.Containment.{IsWithin}
 use Rattle.uz_transfer.specs.Kinds.{depth_limit, is_main}
 use Rattle.uz_transfer.specs.Memory.{all_flags, is_old, depth_of}
 use Rattle.uz_rules.specs.CoreMeets.{CoreMeets}
 use Rattle.uz_rules.specs.MemoryMeets.{MemoryMeets}
 
--- OCR1A in a handler: the last clock of a line, whose length is a scanline's
-abbrev pub top_of : Instance → ℕ
-top_of inst = scanline - 1
-
--- in a handler TCNT1 is the instance's clock, OCF1A its pending match, and OCR1A its top
+-- in a handler TCNT1 is the instance's clock, OCF1A its pending match and OCR1A its top, and TEMP lies in its temp
 abbrev pub TimerMeets : Kind → Instance → Timer → Type 0
 TimerMeets Main inst t = ⊤
-TimerMeets Handler inst t = (t.count ≡ inst.clock) × (t.matched ≡ inst.pending) × (t.top ≡ top_of inst)
+TimerMeets Handler inst t = (t.count ≡ inst.clock) × (t.matched ≡ inst.pending) × (t.top ≡ inst.top) × IsWithin t.temp inst.temp
 TimerMeets Alone inst t = ⊤
 
 -- beside main and under it the timer counts, and its compare match interrupts

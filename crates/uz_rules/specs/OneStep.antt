@@ -4,7 +4,7 @@ use Rattle.avr_table.specs.declared.Instr.{Instr}
 use Rattle.std.specs.FinMap.{FinMap}
 use Rattle.std.specs.List.{AllByRecursion}
 use Rattle.std.specs.Ordering.{nat_cmp}
-use Rattle.std.specs.Prelude.{Bool, true, None, Contains, List, Ok, false, nat_eq, suc, ℕ, ⊤, ◌%◌, ◌&&◌, ◌+◌, ◌<◌, ◌||◌, ◌≡◌, ◌≤◌}
+use Rattle.std.specs.Prelude.{true, None, Contains, List, Ok, false, ℕ, ⊤, ◌%◌, ◌+◌, ◌<◌, ◌||◌, ◌≡◌, ◌≤◌}
 use Rattle.uz_schedule.specs.declared.header.Head.{Head}
 use Rattle.uz_schedule.specs.declared.kinds.Kind.{Kind}
 use Rattle.uz_schedule.specs.declared.kinds.Kind.TheVariants.{Alone, Handler, Main}
@@ -18,21 +18,18 @@ use Rattle.uz_machine.specs.StateRange.{IsState}
 use Rattle.uz_machine.specs.Timer.{count_after, matches_within}
 use Rattle.uz_machine.specs.Turn.{State, Turn, is_entry, sync_level}
 use Rattle.uz_machine.specs.declared.Edge.{Edge}
-use Rattle.uz_machine.specs.declared.Effect.{Effect}
-use Rattle.uz_machine.specs.declared.Effect.TheVariants.{Store, WriteIoBit}
-use Rattle.uz_range.specs.Answers.{is_single}
 use Rattle.uz_transfer.specs.declared.step.Exit.{Exit}
 use Rattle.uz_transfer.specs.declared.step.Step.{Step}
-use Rattle.uz_transfer.specs.Memory.{address_range, depth_of}
+use Rattle.uz_transfer.specs.Memory.{depth_of}
 use Rattle.uz_transfer.specs.Emission.{main_emits}
-use Rattle.uz_transfer.specs.Kinds.{is_main}
+use Rattle.uz_transfer.specs.Kinds.{is_main, is_handler}
 use Rattle.uz_schedule.specs.Lines.{Lines}
 use Rattle.uz_transfer.specs.Step.{successor, IsStep}
 use Rattle.uz_rules.specs.MemoryMeets.{Untouched, HeadFits}
 use Rattle.uz_events.specs.Events.{shown_at, shown, listed}
 use Rattle.uz_machine.specs.declared.EdgeKind.{EdgeKind}
 use Rattle.uz_machine.specs.declared.EdgeKind.TheVariants.{Sync, Pixel, Sound, Enter, Leave}
-use Rattle.uz_rules.specs.Meets.{top_of, Meets, InstanceFits}
+use Rattle.uz_rules.specs.Meets.{Meets, InstanceFits}
 
 -- in main sync and OCR1A stay, and TCNT1 and OCF1A go on by the clocks alone
 abbrev pub MainTimer : Kind → ℕ → State PadHistory → State PadHistory → Type 0
@@ -51,7 +48,7 @@ IsNoEntry (Sound value) = ⊤
 IsNoEntry (Enter count) = ⊥
 IsNoEntry Leave = ⊤
 
--- The state after an instruction meets the instance at one of the step's exits
+-- The state after an instruction meets the instance at one of the step's exits. In a handler TCNT1 isn't above OCR1A
 pub record OneStep (head : Head) (lines : Lines) (inst : Instance) (o : Core) (d : ℕ) (step : Step) (old : State PadHistory)
     (edges : List Edge) (new : State PadHistory) : Type 0 where
   pub exit : Exit
@@ -66,6 +63,7 @@ pub record OneStep (head : Head) (lines : Lines) (inst : Instance) (o : Core) (d
   pub untouched : Untouched head inst.kind (old.core.sp + depth_of inst) old.space.bytes new.space.bytes
   pub silent : is_main inst.kind ≡ true → step.emit ≡ None
   pub main_timer : MainTimer inst.kind exit.clocks old new
+  pub below_top : is_handler inst.kind ≡ true → new.space.timer.count ≤ new.space.timer.top
 
 -- What containment takes of an instance and a state
 pub record InstructionBegins (head : Head) (lines : Lines) (image : FinMap nat_cmp ℕ) (inst : Instance) (o : Core) (d : ℕ) (step : Step)
@@ -76,7 +74,7 @@ pub record InstructionBegins (head : Head) (lines : Lines) (image : FinMap nat_c
   pub fits : InstanceFits head inst
   pub depth : d ≤ head.main
   pub meets : Meets head inst o d s
-  pub step_is : IsStep head (lines.length inst.line) image inst (Ok step)
+  pub step_is : IsStep head lines image inst (Ok step)
   pub no_return : step.back ≡ false
 
 -- Containment: the state has a turn, and each of its turns is one of the step's
@@ -90,12 +88,11 @@ AloneContained =
     (head : Head) (lines : Lines) (image : FinMap nat_cmp ℕ) (inst : Instance) (o : Core) (d : ℕ) (step : Step) (s : State PadHistory)
     → inst.kind ≡ Alone → InstructionBegins head lines image inst o d step s → Contained head lines inst o d step s
 
--- in a handler OCR1A is the last clock of the instance's line
+-- in a handler, which may write OCR1A: that its instance has a step is enough. Lines have four clocks or more
 abbrev pub HandlerContained : Type 0
 HandlerContained =
     (head : Head) (lines : Lines) (image : FinMap nat_cmp ℕ) (inst : Instance) (o : Core) (d : ℕ) (step : Step) (s : State PadHistory)
-    → inst.kind ≡ Handler → suc (top_of inst) ≡ lines.length inst.line → inst.clock < lines.length inst.line → 4 ≤ lines.length
-    inst.line
+    → inst.kind ≡ Handler → inst.clock < lines.length inst.line → 4 ≤ lines.length inst.line
     → InstructionBegins head lines image inst o d step s → Contained head lines inst o d step s
 
 -- in main, where no interrupt is taken now

@@ -4,7 +4,7 @@ ghost use Rattle.std.specs.Prelude.{◌≡◌, ◌<◌, ◌&&◌, not, length, n
 ghost use Rattle.uz_transfer.specs.Values.{value_at, flag_at, pair_at, span_at};
 ghost use Rattle.uz_transfer.specs.Memory.{is_old};
 ghost use Rattle.uz_transfer.specs.Refusals.{range_inside};
-ghost use Rattle.uz_rules.specs.Inside.{value_inside, flag_inside, all_below, same_kind, same_timer, same_place, registers_inside, pairs_inside, flags_inside, slots_inside, cells_inside, known_inside, inside, is_old_register, restored};
+ghost use Rattle.uz_rules.specs.Inside.{value_inside, flag_inside, all_below, same_kind, same_timer, same_place, registers_inside, pairs_inside, flags_inside, slots_inside, cells_inside, contents_inside, known_inside, inside, is_old_register, restored};
 
 use uz_schedule::{Bit, Instance, Kind, Span, Val, Wide};
 
@@ -57,11 +57,11 @@ pub(crate) fn same_kind(a: Kind, b: Kind) -> bool
     }
 }
 
-/// Whether what is known of the timer besides its clock is one: whether a match is pending.
+/// Whether what is known of the timer besides its clock and TEMP is one: whether a match is pending, and OCR1A.
 fn same_timer(a: &Instance, b: &Instance) -> bool
     ensures { result ≡ same_timer a.now b.now }
 {
-    a.pending == b.pending
+    a.pending == b.pending && a.top == b.top
 }
 
 /// Whether two instances stand at one place: kind, pc, line and clock, and what is known of the timer.
@@ -161,10 +161,10 @@ pub(crate) fn cells_inside(a: &[Span], b: &[Span]) -> bool
     a.len() == b.len() && spans_inside(a, b)
 }
 
-/// Whether what is known in instance `a` lies in what is known in `b`: the stacks are as deep, each range of `a` lies in that of
-/// `b`, and what `b` has of interrupted values is the same in `a`.
-fn known_inside(a: &Instance, b: &Instance) -> bool
-    ensures { result ≡ known_inside a.now b.now }
+/// Whether what is known in instance `a` of stack, cells, flags, pairs and registers lies in what is known of them in `b`: the stacks
+/// are as deep, each range of `a` lies in that of `b`, and what `b` has of interrupted values is the same in `a`.
+fn contents_inside(a: &Instance, b: &Instance) -> bool
+    ensures { result ≡ contents_inside a.now b.now }
 {
     slots_inside(a.stack.as_slice(), b.stack.as_slice())
         && (cells_inside(a.cells.as_slice(), b.cells.as_slice())
@@ -172,8 +172,15 @@ fn known_inside(a: &Instance, b: &Instance) -> bool
                 && (pairs_inside(&a.pairs, &b.pairs) && registers_inside(&a.regs, &b.regs))))
 }
 
-/// Whether instance `a` lies in `b`: kind, pc, line, clock, pending and the depth of the stack are equal, each range of `a`
-/// lies in that of `b`, and what `b` has of interrupted values is the same in `a`. Levels aren't compared.
+/// Whether what is known in instance `a` lies in what is known in `b`: its contents, and the range of TEMP.
+fn known_inside(a: &Instance, b: &Instance) -> bool
+    ensures { result ≡ known_inside a.now b.now }
+{
+    span_inside(&a.temp, &b.temp) && contents_inside(a, b)
+}
+
+/// Whether instance `a` lies in `b`: kind, pc, line, clock, pending, top and the depth of the stack are equal, each range of `a`, that
+/// of TEMP too, lies in that of `b`, and what `b` has of interrupted values is the same in `a`. Levels aren't compared.
 pub fn inside(a: &Instance, b: &Instance) -> bool
     ensures { result ≡ inside a.now b.now }
 {

@@ -12,7 +12,7 @@ pub fn alone_contained()
     ensures { AloneContained }
 {}
 
-/// The same of a handler's instance. Does nothing.
+/// The same of a handler's instance, which may write OCR1A. Does nothing.
 pub fn handler_contained()
     ensures { HandlerContained }
 {}
@@ -28,7 +28,7 @@ pub fn some_stand()
     ensures { SomeInstructionBegins }
 {}
 
-/// The law that instances which the test finds at one place have one kind, pc, line, clock and pending match. Does nothing.
+/// The law that instances which the test finds at one place have one kind, pc, line, clock, pending match and top. Does nothing.
 pub fn place_tells()
     ensures { PlaceTells }
 {}

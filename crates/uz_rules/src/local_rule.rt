@@ -170,7 +170,7 @@ fn instance_fail(image: &Image, cert: &Cert, next: &[u32], i: &Instr, at: &Insta
     ensures { result ≡ instance_fail image.now cert.now next.now (Some i.now) (Some at.now) }
 {
     let emits = is_main(at) && main_emits(effect(i), at);
-    match step_of_instruction(image, &cert.head, cert.schedule.length(at.line), at, i) {
+    match step_of_instruction(image, &cert.head, &cert.schedule, at, i) {
         Ok(step) => step_fail(cert, next, at, emits, step),
         Err(why) => Some(why),
     }
@@ -250,8 +250,8 @@ fn count(looked: &mut u64)
     *looked = looked.saturating_add(1);
 }
 
-/// The local rule of point `id` at line `l` and count `c`: the least reason that stands, or none. The instruction is that at the point's pc.
-/// Box where the point has no instance there. Adds one to `looked`, which stays at the greatest u64. Takes no memory.
+/// The local rule of point `id` at line `l` and count `c`: the least reason that stands, or none. The instruction is that at the point's
+/// pc. Box where the point has no instance there. Adds one to `looked`, which stays at the greatest u64. Takes no memory.
 #[tactic(auto, using(crate::proofs::LocalLaws::is_local))]
 pub fn local(
     image: &Image,

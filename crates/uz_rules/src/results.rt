@@ -86,8 +86,8 @@ fn put_next(schedule: &Schedule, at: &Instance, step: &Step, next: &mut Next)
     );
 }
 
-/// Puts the abstract results of an instance in place of others, as `after` gives them; where there are none, it answers the reason, and what
-/// `next` then has isn't told. A caller that asks for many instances keeps one `Next`, so that only the results that there are
+/// Puts the abstract results of an instance in place of others, as `after` gives them; where there are none, it answers the reason, and
+/// what `next` then has isn't told. A caller that asks for many instances keeps one `Next`, so that only the results that there are
 /// get written. Takes no memory.
 #[tactic(auto, using(crate::proofs::AfterLaws::after_ok, crate::proofs::AfterLaws::after_err))]
 pub fn put_after(
@@ -105,7 +105,7 @@ pub fn put_after(
     ensures ok { OnOk result (IsAfter head.now (order_of schedule.now) image.now at.now (Ok next.new)) }
     ensures err { IfErr result (λ why. IsAfter head.now (order_of schedule.now) image.now at.now (Err why)) }
 {
-    match abstract_step(image, head, schedule.length(at.line), at) {
+    match abstract_step(image, head, schedule, at) {
         Ok(step) => {
             put_next(schedule, at, &step, next);
             Ok(())
@@ -115,10 +115,10 @@ pub fn put_after(
 }
 
 /// The abstract results of an instance under the instruction at its pc, in a frame of this schedule's lines; or the least of the reasons
-/// Opcode, Flag, Mask, Stack, Return, Store, Io and Edge that stands, where Edge is an emission that isn't known. The header is within its
-/// limits, and the instance has no more slots than its kind's depth. The schedule has at most 525 lines, the instance's line is one of
-/// them, no longer than a scanline, and its clock is one of that line. A pc counts modulo 32,768, and a level by its bit 0. Takes no
-/// memory.
+/// Opcode, Flag, Mask, Stack, Return, Store, Io, Edge and Clock that stands, where Edge is an emission that isn't known, and Clock that the
+/// timer of a handler doesn't go on with the line. The header is within its limits, and the instance has no more slots than its kind's
+/// depth. The schedule has at most 525 lines, the instance's line is one of them, no longer than a scanline, and its clock is one of that
+/// line. A pc counts modulo 32,768, and a level by its bit 0. Takes no memory.
 pub fn after(image: &Image, head: &Head, schedule: &Schedule, at: &Instance) -> Result<Next, Fail>
     requires depth { depth_limit head.now at.now.kind ≤ 32 }
     requires count { length schedule.now.lines ≤ most_lines }

@@ -8,7 +8,7 @@ use Rattle.uz_schedule.specs.declared.states.Point.{Point}
 use Rattle.uz_schedule.specs.declared.states.Rest.{Rest}
 use Rattle.uz_schedule.specs.declared.certificate.Cert.{Cert}
 use Rattle.uz_spelling.specs.Spelling.{line_of, kind_word, signed_word, truth_word, register_items, pair_items, flag_items, slot_items}
-use Rattle.uz_spelling.specs.Spelling.{cell_items, successor_items, range_facts, ends_word, size_words, irq_words, stack_words, cell_words}
+use Rattle.uz_spelling.specs.Spelling.{cell_items, top_items, temp_items, successor_items, range_facts, ends_word, size_words, irq_words, stack_words, cell_words}
 use Rattle.uz_spelling.specs.Spelling.{fall_words}
 use Rattle.uz_lines.specs.declared.version.Version.TheVariants.{Second}
 use Rattle.uz_spelling.specs.Spelling.{kinds_then, runs_of, run_words, rest_words, entry_words, point_words}
@@ -74,14 +74,18 @@ core_text p =
     spaced (register_items p.kind 0 p.regs)
     ++ (spaced (pair_items (codes "xyz") p.pairs) ++ spaced (flag_items p.kind (codes "cznvsht") p.flags))
 
--- a point's items of slots, cells and successors
+-- a point's items of slots and cells
 abbrev pub memory_text : List Cell → Point → List ℕ
-memory_text cells p =
-    spaced (slot_items p.stack.items) ++ (spaced (cell_items p.kind 0 cells p.cells.items) ++ spaced (successor_items p.next.items))
+memory_text cells p = spaced (slot_items p.stack.items) ++ spaced (cell_items p.kind 0 cells p.cells.items)
+
+-- a point's items of the timer and successors
+abbrev pub onward_text : Point → List ℕ
+onward_text p = spaced (top_items p.top) ++ (spaced (temp_items p.temp) ++ spaced (successor_items p.next.items))
 
 -- the line of a point
 abbrev pub point_text : List Cell → Point → List ℕ
-point_text cells p = codes "point" ++ (spaced (point_place p) ++ (core_text p ++ (memory_text cells p ++ code "\n" ∷ [])))
+point_text cells p =
+    codes "point" ++ (spaced (point_place p) ++ (core_text p ++ (memory_text cells p ++ (onward_text p ++ code "\n" ∷ []))))
 
 -- the lines up to those of the cells
 abbrev pub head_text : Cert → List ℕ

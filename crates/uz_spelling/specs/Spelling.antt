@@ -9,7 +9,7 @@ use Rattle.uz_schedule.specs.declared.kinds.Kind.{Kind}
 use Rattle.uz_schedule.specs.declared.kinds.Kind.TheVariants.{Main, Handler, Alone}
 use Rattle.uz_schedule.specs.Tracked.{tracks}
 use Rattle.uz_schedule.specs.WellFormed.{is_default_flag}
-use Rattle.uz_lines.specs.Defaults.{is_default, is_any_pair, is_range, range_fact}
+use Rattle.uz_lines.specs.Defaults.{is_default, is_any_pair, is_range, is_default_top, is_default_temp, range_fact}
 use Rattle.uz_lines.specs.Lines.{head_line}
 use Rattle.uz_lines.specs.declared.version.Version.{Version}
 use Rattle.uz_lines.specs.declared.version.Version.TheVariants.{First, Second}
@@ -70,7 +70,7 @@ flag_word One = codes "1"
 flag_word Free = codes "?"
 flag_word OldBit = codes "o"
 
--- items: what is said of registers, pairs, flags, slots and cells; a default is left out
+-- items: what is said of registers, pairs, flags, slots, cells and the timer; a default is left out
 
 abbrev pub item : List ℕ → List ℕ → List ℕ
 item key value = key ++ code "=" ∷ value
@@ -108,6 +108,13 @@ cell_items kind i (c ∷ cs) (f ∷ fs) =
     if tracks kind c.owner
     then unless (is_range c.range f) (item (code "m" ∷ decimal i) (fact_word f)) (cell_items kind (suc i) cs fs)
     else cell_items kind (suc i) cs (f ∷ fs)
+
+-- OCR1A, and the range of TEMP, of which `*` is no spelling
+abbrev pub top_items : ℕ → List (List ℕ)
+top_items top = unless (is_default_top top) (item (codes "top") (decimal top)) []
+
+abbrev pub temp_items : Ends → List (List ℕ)
+temp_items temp = unless (is_default_temp temp) (item (codes "temp") (range_word temp)) []
 
 abbrev pub successor_items : List ℕ → List (List ℕ)
 successor_items ids = map (λ id. code ">" ∷ decimal id) ids
@@ -200,7 +207,9 @@ point_items cells p =
     ++ (flag_items p.kind (codes "cznvsht") p.flags
     ++ (slot_items p.stack.items
     ++ (cell_items p.kind 0 cells p.cells.items
-    ++ successor_items p.next.items))))
+    ++ (top_items p.top
+    ++ (temp_items p.temp
+    ++ successor_items p.next.items))))))
 
 abbrev pub point_words : List Cell → Point → List (List ℕ)
 point_words cells p =
@@ -235,6 +244,6 @@ lines_of_certificate version c =
     ∷ (map (λ m. line_of (cell_words m)) c.head.cells.items
     ++ schedule_lines version c.schedule (map (λ r. line_of (rest_words r)) c.rests ++ state_lines c.head.cells.items c.entry c.points))
 
--- the text of a version, which for version 1 says nothing of lengths
+-- the text of a version, which for version 1 says nothing of lengths; and nothing of the timer, where each point has the defaults
 abbrev pub spelling : Version → Cert → List ℕ
 spelling version c = join_with_byte (code "\n") (lines_of_certificate version c)

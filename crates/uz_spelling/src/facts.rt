@@ -9,7 +9,7 @@ use std::alloc::AllocError;
 use uz_schedule::{Bit, Fact, PairFact, Span, Wide};
 
 /// Adds `n`, or `lo..hi`.
-fn add_range(text: &mut Vec<u8>, lo: u16, hi: u16) -> Result<(), AllocError>
+pub(crate) fn add_range(text: &mut Vec<u8>, lo: u16, hi: u16) -> Result<(), AllocError>
     ensures { OnOk result (text.new.items ≡ text.old.items ++ range_word (record { lo = lo; hi = hi })) }
 {
     add_decimal(text, u32::from(lo))?;

@@ -5,13 +5,13 @@ ghost use Rattle.uz_lines.specs.Defaults.{is_any_pair, is_default as default_fac
 ghost use Rattle.uz_schedule.specs.WellFormed.{is_default_flag as default_flag};
 ghost use Rattle.uz_schedule.specs.declared.header.Cell.{Cell};
 ghost use Rattle.uz_spelling.specs.Joined.{spaced};
-ghost use Rattle.uz_spelling.specs.Spelling.{item, unless, fact_word, pair_word, flag_word, register_items, pair_items, flag_items, slot_items, cell_items, successor_items, range_facts};
+ghost use Rattle.uz_spelling.specs.Spelling.{item, unless, fact_word, pair_word, flag_word, register_items, pair_items, flag_items, slot_items, cell_items, top_items, temp_items, successor_items, range_facts};
 
-use crate::facts::{add_fact, add_pair_fact, flag, range_fact};
+use crate::facts::{add_fact, add_pair_fact, add_range, flag, range_fact};
 use crate::words::{add_byte, add_decimal, add_word};
 use arrayvec::ArrayVec;
 use std::alloc::AllocError;
-use uz_schedule::{Bit, Cell, Fact, Kind, PairFact, Span, tracks};
+use uz_schedule::{Bit, Cell, Fact, Kind, PairFact, SCANLINE, Span, tracks};
 
 /// The letters of the pairs and of the flags.
 const PAIR_LETTERS: [u8; 3] = [b'x', b'y', b'z'];
@@ -188,6 +188,28 @@ pub(crate) fn add_cells(
         next = add_tracked(text, kind, number as u8, cell, facts, next)?;
     }
     Ok(())
+}
+
+/// Adds the item of OCR1A, unless that is the last clock of a scanline.
+pub(crate) fn add_top(text: &mut Vec<u8>, top: u16) -> Result<(), AllocError>
+    ensures { OnOk result (text.new.items ≡ text.old.items ++ spaced (top_items top)) }
+{
+    if top == SCANLINE - 1 {
+        return Ok(());
+    }
+    text.extend_from_slice(b" top=")?;
+    add_decimal(text, u32::from(top))
+}
+
+/// Adds the item of TEMP, unless that may be any byte.
+pub(crate) fn add_temp(text: &mut Vec<u8>, temp: Span) -> Result<(), AllocError>
+    ensures { OnOk result (text.new.items ≡ text.old.items ++ spaced (temp_items temp)) }
+{
+    if temp.lo() == 0 && temp.hi() == 255 {
+        return Ok(());
+    }
+    text.extend_from_slice(b" temp=")?;
+    add_range(text, u16::from(temp.lo()), u16::from(temp.hi()))
 }
 
 /// Adds the items of successors.

@@ -2,12 +2,13 @@
 
 ghost use Rattle.std.specs.Prelude.{◌≡◌, ◌≤◌, ◌++◌, OnOk, length, map};
 ghost use Rattle.uz_spelling.specs.Joined.{ended, line_end, spaced, rest_text, entry_place, entry_facts, entry_text};
-ghost use Rattle.uz_spelling.specs.Joined.{point_box, point_steps, point_place, core_text, memory_text, point_text};
+ghost use Rattle.uz_spelling.specs.Joined.{point_box, point_steps, point_place, core_text, memory_text, onward_text, point_text};
 ghost use Rattle.uz_spelling.specs.Spelling.{ends_word, rest_words, kind_word, entry_words, truth_word, point_words, line_of};
 
 use crate::facts::add_span;
 use crate::items::{
-    add_cells, add_flags, add_pairs, add_registers, add_slots, add_successors, facts_of,
+    add_cells, add_flags, add_pairs, add_registers, add_slots, add_successors, add_temp, add_top,
+    facts_of,
 };
 use crate::words::{add_byte, add_number, add_numbers, add_signed, add_word, end_line};
 use std::alloc::AllocError;
@@ -123,13 +124,21 @@ fn add_core(text: &mut Vec<u8>, point: &Point) -> Result<(), AllocError>
     add_flags(text, point.kind, &point.flags)
 }
 
-/// Adds what is known of slots and cells, and the successors.
+/// Adds what is known of slots and cells.
 fn add_memory(text: &mut Vec<u8>, cells: &[Cell], point: &Point) -> Result<(), AllocError>
     requires { length cells.now ≤ 16 }
     ensures { OnOk result (text.new.items ≡ text.old.items ++ memory_text cells.now point.now) }
 {
     add_slots(text, point.stack.as_slice())?;
-    add_cells(text, point.kind, cells, point.cells.as_slice())?;
+    add_cells(text, point.kind, cells, point.cells.as_slice())
+}
+
+/// Adds what is known of the timer, and the successors.
+fn add_onward(text: &mut Vec<u8>, point: &Point) -> Result<(), AllocError>
+    ensures { OnOk result (text.new.items ≡ text.old.items ++ onward_text point.now) }
+{
+    add_top(text, point.top)?;
+    add_temp(text, point.temp)?;
     add_successors(text, point.next.as_slice())
 }
 
@@ -184,6 +193,7 @@ fn add_point_words(text: &mut Vec<u8>, cells: &[Cell], point: &Point) -> Result<
     add_place(text, point)?;
     add_core(text, point)?;
     add_memory(text, cells, point)?;
+    add_onward(text, point)?;
     end_line(text)
 }
 

@@ -19,7 +19,7 @@ use Rattle.uz_schedule.specs.declared.states.Point.{Point}
 use Rattle.uz_lines.specs.Grammar.{Words}
 use Rattle.uz_lines.specs.Forms.{LineForm, reads}
 use Rattle.uz_lines.specs.Lines.{size_form, irq_form, stack_form, cell_form, kind_form, event_form, fall_form, run_form, rest_form}
-use Rattle.uz_lines.specs.Lines.{entry_form, point_form, end_form, SizesFit, KindLineFits}
+use Rattle.uz_lines.specs.Lines.{entry_form, point_form, end_form, SizesFit, KindLineFits, IsPointIn}
 use Rattle.uz_lines.specs.declared.lines.KindLine.{KindLine}
 use Rattle.uz_lines.specs.declared.version.Version.{Version}
 use Rattle.uz_lines.specs.declared.version.Version.TheVariants.{First, Second}
@@ -87,13 +87,14 @@ pub record TwelveLines : Type 0 where
   pub entry_only : (h : Head) (lines points : ℕ) (words : Words) (says : Said) → PlacesAre h lines points → 1 ≤ lines
       → reads (entry_form h lines points) words ≡ Ok says
       → (e : Entry) × (says ≡ said.Entry e) × (words ≡ line (entry_words h.cells.items e)) × EntryFits h lines points e
-  pub point_again : (h : Head) (lines points left : ℕ) (p : Point) → PlacesAre h lines points → left ≤ 2 ^ 30 → PointFits h lines points p
-      → instances_of p ≤ left
-      → reads (point_form h lines points left) (line (point_words h.cells.items p)) ≡ Ok (said.Point p)
-  pub point_only : (h : Head) (lines points left : ℕ) (words : Words) (says : Said) → PlacesAre h lines points → 1 ≤ lines → left ≤ 2 ^ 30
-      → reads (point_form h lines points left) words ≡ Ok says
+  pub point_again : (version : Version) (h : Head) (lines points left : ℕ) (p : Point) → PlacesAre h lines points → left ≤ 2 ^ 30
+      → PointFits h lines points p → IsPointIn version p → instances_of p ≤ left
+      → reads (point_form version h lines points left) (line (point_words h.cells.items p)) ≡ Ok (said.Point p)
+  pub point_only : (version : Version) (h : Head) (lines points left : ℕ) (words : Words) (says : Said) → PlacesAre h lines points
+      → 1 ≤ lines → left ≤ 2 ^ 30
+      → reads (point_form version h lines points left) words ≡ Ok says
       → (p : Point) × (says ≡ said.Point p) × (words ≡ line (point_words h.cells.items p)) × PointFits h lines points p
-      × (instances_of p ≤ left)
+      × IsPointIn version p × (instances_of p ≤ left)
   pub end_again : reads end_form (line (codes "end" ∷ [])) ≡ Ok said.End
   pub end_only : (words : Words) (says : Said) → reads end_form words ≡ Ok says → (says ≡ said.End) × (words ≡ line (codes "end" ∷ []))
 
@@ -273,9 +274,9 @@ line_again t d (said.Entry x) k e f keeps =
     (plain_entry_line d.head d.sizes.lines d.sizes.points x k.sizes.lines_few k.sizes.points_few (cells_few d k) f.fits)
     (t.entry_again d.head d.sizes.lines d.sizes.points x (places d k) f.fits)
 line_again t d (said.Point p) k e f keeps =
-    read_words (point_form d.head d.sizes.lines d.sizes.points d.left) (point_words d.head.cells.items p) (said.Point p) refl
+    read_words (point_form d.version d.head d.sizes.lines d.sizes.points d.left) (point_words d.head.cells.items p) (said.Point p) refl
     (plain_point_line d.head d.sizes.lines d.sizes.points p k.sizes.lines_few k.sizes.points_few (cells_few d k) f.fits)
-    (t.point_again d.head d.sizes.lines d.sizes.points d.left p (places d k) (few_left d k) f.fits f.instances)
+    (t.point_again d.version d.head d.sizes.lines d.sizes.points d.left p (places d k) (few_left d k) f.fits f.own f.instances)
 line_again t d said.End k e f keeps = read_again end_form 101 (codes "nd") [] said.End (refl, tt) t.end_again
 
 -- and only so
@@ -322,8 +323,8 @@ line_only t d due.Entry text s k e h =
     let x = t.entry_only d.head d.sizes.lines d.sizes.points (words_in text true) s (places d k) k.sizes.lines_some h in
     subst (IsLine d due.Entry text) (sym x.1) (joined text _ _ x.2, refl, tt)
 line_only t d due.Point text s k e h =
-    let x = t.point_only d.head d.sizes.lines d.sizes.points d.left (words_in text true) s (places d k) k.sizes.lines_some (few_left d k)
-    h in
+    let x = t.point_only d.version d.head d.sizes.lines d.sizes.points d.left (words_in text true) s (places d k) k.sizes.lines_some
+    (few_left d k) h in
     subst (IsLine d due.Point text) (sym x.1) (joined text _ _ x.2, refl, tt)
 line_only t d due.End text s k e h =
     let x = t.end_only (words_in text true) s h in

@@ -24,7 +24,7 @@ use Rattle.uz_spelling.specs.Spelling.{entry_words, point_words, kinds_then}
 use Rattle.uz_spelling.specs.Spelling.{last_lines}
 use Rattle.uz_lines.specs.Why.{◌>>=◌}
 use Rattle.uz_lines.specs.Forms.{reads}
-use Rattle.uz_lines.specs.Lines.{IsLengthIn}
+use Rattle.uz_lines.specs.Lines.{IsLengthIn, IsPointIn}
 use Rattle.uz_lines.specs.declared.lines.KindLine.{KindLine}
 use Rattle.uz_lines.specs.declared.lines.Said.{Said}
 use Rattle.uz_lines.specs.declared.version.Version.{Version}
@@ -157,12 +157,12 @@ unfolding draft_after
 point_next d p = refl
 
 pub points_again : (l : LineSpelling) (d : Draft) (e : Entry) (ps : List Point) → Kept d → 4 ≤ d.read → PastEntry d e → d.ended ≡ false
-    → length d.points + length ps ≡ d.sizes.points → All (PointFits d.head d.sizes.lines d.sizes.points) ps → sum_by instances_of
-    ps ≤ d.left
+    → length d.points + length ps ≡ d.sizes.points → All (PointFits d.head d.sizes.lines d.sizes.points) ps → All (IsPointIn d.version) ps
+    → sum_by instances_of ps ≤ d.left
     → read_from d (point_lines d.head.cells.items ps) ≡ told (cert_from (record d { points = d.points ++ ps }) e)
-points_again l d e [] k b p o count fits sum =
+points_again l d e [] k b p o count fits own sum =
     end_again l d e k b (p, omega (arith, count)) o ∙ ap (λ ps. told (cert_from (record d { points = ps }) e)) (sym (append-nil d.points))
-points_again l d e (x ∷ xs) k b p o count fits sum =
+points_again l d e (x ∷ xs) k b p o count fits own sum =
     let cells : d.sizes.cells ≡ length d.head.cells.items = p.0.0.0.0.0 in
     let room : length d.points < d.sizes.points = omega (arith, count) in
     let split = sum_by-cons instances_of x xs in
@@ -170,6 +170,7 @@ points_again l d e (x ∷ xs) k b p o count fits sum =
       after = record { body = b; cells = omega (arith, cells) };
       room = room;
       fits = All-head (PointFits d.head d.sizes.lines d.sizes.points) x xs fits;
+      own = All-head (IsPointIn d.version) x xs own;
       instances = omega (arith, sum, split);
     } in
     let next = with_point d x in
@@ -177,7 +178,7 @@ points_again l d e (x ∷ xs) k b p o count fits sum =
     step l d (said.Point x) (point_lines d.head.cells.items xs) k (due_point d e b p room) fit tt (points_more d.head.cells.items xs)
     ∙ (ap (λ y. read_from y (point_lines d.head.cells.items xs)) (point_next d x)
     ∙ (points_again l next e xs kept (omega (arith, b)) p o (simp length-append (omega (arith, count)))
-    (All-tail (PointFits d.head d.sizes.lines d.sizes.points) x xs fits) (less_sum (instances_of x) (sum_by instances_of xs)
+    (All-tail (PointFits d.head d.sizes.lines d.sizes.points) x xs fits) (All-tail (IsPointIn d.version) x xs own) (less_sum (instances_of x) (sum_by instances_of xs)
     (sum_by instances_of (x ∷ xs)) d.left split sum)
     ∙ ap (λ ps. told (cert_from (record d { points = ps }) e)) (append_assoc d.points (x ∷ []) xs)))
   where
@@ -199,9 +200,9 @@ entry_lines cells e ps = line_of (entry_words cells e) ∷ point_lines cells ps
 pub entry_again : (l : LineSpelling) (d : Draft) (e : Entry) (ps : List Point) → Kept d → 4 ≤ d.read → PastRests d → d.entry ≡ None
     → d.points ≡ [] → d.ended ≡ false
     → length ps ≡ d.sizes.points → EntryFits d.head d.sizes.lines d.sizes.points e
-    → All (PointFits d.head d.sizes.lines d.sizes.points) ps → sum_by instances_of ps ≤ d.left
+    → All (PointFits d.head d.sizes.lines d.sizes.points) ps → All (IsPointIn d.version) ps → sum_by instances_of ps ≤ d.left
     → read_from d (entry_lines d.head.cells.items e ps) ≡ told (cert_from (record d { points = ps }) e)
-entry_again l d e ps k b p none no_points o count entry fits sum =
+entry_again l d e ps k b p none no_points o count entry fits own sum =
     let cells : d.sizes.cells ≡ length d.head.cells.items = p.0.0.0.0 in
     let fit : SaidFits d (said.Entry e) = record { after = record { body = b; cells = omega (arith, cells) }; fits = entry } in
     let next = with_entry d e in
@@ -209,7 +210,7 @@ entry_again l d e ps k b p none no_points o count entry fits sum =
     step l d (said.Entry e) (point_lines d.head.cells.items ps) k (due_entry d b p none) fit tt (points_more d.head.cells.items ps)
     ∙ (ap (λ y. read_from y (point_lines d.head.cells.items ps)) (entry_next d e)
     ∙ (points_again l next e ps kept (omega (arith, b)) (p, refl) o (ap (λ xs. length xs + length ps) no_points
-    ∙ (zero-add (length ps) ∙ count)) fits sum
+    ∙ (zero-add (length ps) ∙ count)) fits own sum
     ∙ ap (λ xs. told (cert_from (record d { points = xs ++ ps }) e)) no_points))
 
 -- rests
@@ -230,14 +231,14 @@ StatesFit d rs e ps =
     (d.entry ≡ None) × (d.points ≡ []) × (d.ended ≡ false) × (length d.rests + length rs ≡ d.sizes.rests)
     × All (RestFits d.head d.sizes.lines d.sizes.points) rs × (rises_from d.rest_least (map (λ r. r.line) rs) ≡ true)
     × (length ps ≡ d.sizes.points) × EntryFits d.head d.sizes.lines d.sizes.points e
-    × All (PointFits d.head d.sizes.lines d.sizes.points) ps × (sum_by instances_of ps ≤ d.left)
+    × All (PointFits d.head d.sizes.lines d.sizes.points) ps × All (IsPointIn d.version) ps × (sum_by instances_of ps ≤ d.left)
 
 pub rests_again : (l : LineSpelling) (d : Draft) (rs : List Rest) (e : Entry) (ps : List Point) → Kept d → 4 ≤ d.read → PastRuns d
     → StatesFit d rs e ps
     → read_from d (rest_lines d.head.cells.items rs e ps) ≡ told (cert_from (record d { rests = d.rests ++ rs; points = ps }) e)
 rests_again l d [] e ps k b p s =
     let count = s.3 in
-    entry_again l d e ps k b (p, omega (arith, count)) s.0 s.1 s.2 s.6 s.7 s.8 s.9
+    entry_again l d e ps k b (p, omega (arith, count)) s.0 s.1 s.2 s.6 s.7 s.8 s.9 s.10
     ∙ ap (λ rs. told (cert_from (record d { rests = rs; points = ps }) e)) (sym (append-nil d.rests))
 rests_again l d (r ∷ rs) e ps k b p s =
     let count = s.3 in
@@ -266,6 +267,7 @@ rests_again l d (r ∷ rs) e ps k b p s =
       s.7,
       s.8,
       s.9,
+      s.10,
     )
     ∙ ap (λ xs. told (cert_from (record d { rests = xs; points = ps }) e)) (append_assoc d.rests (r ∷ []) rs)))
 

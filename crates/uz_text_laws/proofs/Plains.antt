@@ -1,8 +1,9 @@
 -- The words of spelled lines: each byte is above the space, so that a line is cut into its words again, and has no line end.
-use Rattle.std.proofs.Common.{◌≡◌, ◌≢◌, ℕ, suc, ◌+◌, ◌<◌, ◌≤◌, ◌^◌, Bool, true, false, ◌&&◌, cond, eqb, ltb, List, [], ◌∷◌, ◌++◌, length}
+use Rattle.std.proofs.Common.{◌≡◌, ◌≢◌, ℕ, suc, ◌+◌, ◌-◌, ◌<◌, ◌≤◌, ◌^◌, Bool, true, false, ◌&&◌, ◌||◌, cond, eqb, ltb, List, [], ◌∷◌, ◌++◌, length}
 use Rattle.std.proofs.Common.{map, All, codes, decimal, lit≤, refl, sym, ◌∙◌, ap, arith}
 use Rattle.std.specs.Prelude.{⊤, ℤ, pos, negsuc}
 use Rattle.std.specs.List.{slice_split, onto_first, join_with_byte}
+use Rattle.std.proofs.lemmas.Bool.{eqb-true}
 use Rattle.std.proofs.lemmas.List.{length-map}
 use Rattle.std.proofs.lemmas.List.Elements.{All-head, All-tail, All-weaker, All-map}
 use Rattle.std.proofs.lemmas.List.Splits.{join_with_byte-slice_split}
@@ -10,7 +11,8 @@ use Rattle.uz_text.proofs.Plain.{plain, EachPlain, Lacks, each_lacks, split_join
 use Rattle.uz_text.proofs.Plain.{each_plain_append}
 use Rattle.uz_schedule.specs.Ends.{Ends}
 use Rattle.uz_schedule.specs.Tracked.{tracks}
-use Rattle.uz_schedule.specs.Limits.{clock_limit, EventFits, KindFits}
+use Rattle.uz_schedule.specs.Limits.{clock_limit, is_top, EventFits, KindFits}
+use Rattle.uz_schedule.specs.Schedule.{scanline, half_line}
 use Rattle.uz_schedule.specs.WellFormed.{RangeFits, FactFits, CellFactFits, PairFits, CellFits, RestFits, EntryFits, PointFits, magnitude}
 use Rattle.uz_schedule.specs.WellFormed.{is_default_flag}
 use Rattle.uz_schedule.specs.declared.kinds.Kind.{Kind}
@@ -31,12 +33,13 @@ use Rattle.uz_schedule.specs.declared.lines.EventKind.TheVariants as event
 use Rattle.uz_schedule.specs.declared.states.Rest.{Rest}
 use Rattle.uz_schedule.specs.declared.states.Entry.{Entry}
 use Rattle.uz_schedule.specs.declared.states.Point.{Point}
-use Rattle.uz_lines.specs.Defaults.{is_default, is_any_pair, is_range, range_fact}
+use Rattle.uz_lines.specs.Defaults.{is_default, is_any_pair, is_range, is_default_top, is_default_temp, range_fact}
 use Rattle.uz_lines.specs.Grammar.{with_byte, cut_words, words_of}
 use Rattle.uz_spelling.specs.Spelling.{line_of, range_word, ends_word, slope_word, fact_word, pair_word, flag_word, item, unless}
-use Rattle.uz_spelling.specs.Spelling.{register_items, pair_items, flag_items, slot_items, cell_items, successor_items}
+use Rattle.uz_spelling.specs.Spelling.{register_items, pair_items, flag_items, slot_items, cell_items, top_items, temp_items, successor_items}
 use Rattle.uz_spelling.specs.Spelling.{owner_word, cell_words, event_kind_words, event_words, rest_words, kind_word, range_facts}
 use Rattle.uz_spelling.specs.Spelling.{entry_words, signed_word, truth_word, point_words}
+use Rattle.uz_line_laws.proofs.PointLine.{point_top, point_temp}
 
 -- lines are cut into their words again
 
@@ -236,6 +239,20 @@ plain_cells kind i (c ∷ cs) (f ∷ fs) h all =
         (plain_fact f (All-head SmallFact f fs all))) a
     by false a b = b
 
+plain_top : (top : ℕ) → is_top top ≡ true → EachPlain (top_items top)
+plain_top top h =
+    plain_unless (is_default_top top) (item (codes "top") (decimal top)) []
+    (plain_item (codes "top") (decimal top) refl (plain_number top (by_half (eqb top (half_line - 1)) refl h))) tt
+  where
+    by_half : (t : Bool) → eqb top (half_line - 1) ≡ t → (t || eqb top (scanline - 1)) ≡ true → top < 1048576
+    by_half true e h = omega (arith, eqb-true top (half_line - 1) e)
+    by_half false e h = omega (arith, eqb-true top (scanline - 1) h)
+
+plain_temp : (temp : Ends) → RangeFits 255 temp → EachPlain (temp_items temp)
+plain_temp temp h =
+    plain_unless (is_default_temp temp) (item (codes "temp") (range_word temp)) []
+    (plain_item (codes "temp") (range_word temp) refl (plain_range temp (small_range 255 temp (omega arith) h))) tt
+
 plain_successors : (most : ℕ) (ids : List ℕ) → most ≤ 1048576 → All (λ id. id < most) ids → EachPlain (successor_items ids)
 plain_successors most [] h all = tt
 plain_successors most (id ∷ ids) h all =
@@ -381,7 +398,9 @@ plain_point_line h lines points p a b cells f =
                             (each_plain_append (cell_items p.kind 0 h.cells.items p.cells.items) _
                             (plain_cells p.kind 0 h.cells.items p.cells.items (omega (arith, cells))
                             (All-weaker CellFactFits SmallFact (λ x g. small_cell x g) p.cells.items f.memory.cells))
-                            (plain_successors points p.next.items (omega (arith, b)) f.next.there))))),
+                            (each_plain_append (top_items p.top) _ (plain_top p.top (point_top p.kind p f.kind))
+                            (each_plain_append (temp_items p.temp) _ (plain_temp p.temp (point_temp p.kind p f.kind))
+                            (plain_successors points p.next.items (omega (arith, b)) f.next.there))))))),
                       ),
                     ),
                   ),

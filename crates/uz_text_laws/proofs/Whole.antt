@@ -1,7 +1,7 @@
 -- Whole texts: a certificate's text is read as it, and a text that is read is its certificate's.
 use Rattle.std.proofs.Common.{◌≡◌, ◌≢◌, ℕ, Bool, true, false, cond, List, [], ◌∷◌, ◌++◌, length}
 use Rattle.std.proofs.Common.{bytes_eq, zero-add, refl, sym, ◌∙◌, ap, subst}
-use Rattle.std.proofs.Common.{All, arith}
+use Rattle.std.proofs.Common.{arith}
 use Rattle.std.specs.Prelude.{Ok, Err}
 use Rattle.std.specs.List.{join_with_byte}
 use Rattle.std.proofs.lemmas.Slice.Eq.{bytes_eq-Decides}
@@ -18,12 +18,13 @@ use Rattle.uz_lines.specs.declared.lines.StackLine.{StackLine}
 use Rattle.uz_lines.specs.declared.lines.Said.TheVariants as said
 use Rattle.uz_lines.specs.declared.why.CertWhy.TheVariants as why
 use Rattle.uz_cert.specs.Drafts.{first_draft}
-use Rattle.uz_lines.specs.Lines.{head_line, IsLengthIn, SizesFit}
+use Rattle.uz_lines.specs.Lines.{head_line, SizesFit}
 use Rattle.uz_lines.specs.declared.version.Version.{Version}
 use Rattle.uz_lines.specs.declared.version.Version.TheVariants.{First, Second}
 use Rattle.uz_cert.proofs.TextLaws.{head_read}
 use Rattle.uz_cert.specs.Kept.{Kept}
 use Rattle.uz_cert.specs.Reading.{pieces_of, is_more, or_fault, cert_from, read_from, read_pieces, cert_of_text}
+use Rattle.uz_cert.specs.Texts.{IsOfVersion}
 use Rattle.uz_cert.specs.declared.draft.Draft.{Draft}
 use Rattle.uz_cert.proofs.KeptLaws.{first_kept, kept_after}
 use Rattle.uz_text_laws.proofs.Due.{due_size, due_irq, due_stack}
@@ -77,7 +78,7 @@ refit : (h : Head) (x : Cell) → CellFits h x
     → CellFits (record { irq = h.irq; lo = h.lo; hi = h.hi; main = h.main; handler = h.handler; cells = record { items = [] } }) x
 refit h x f = record { low = f.low; high = f.high; off_stack = f.off_stack; range = f.range }
 
-middle_again : (l : LineSpelling) (v : Version) (c : Cert) → WellFormed c → All (IsLengthIn v) c.schedule.lengths
+middle_again : (l : LineSpelling) (v : Version) (c : Cert) → WellFormed c → IsOfVersion v c
     → Kept (draft_stack v (sizes_of c) c.head.irq (stack_of c.head))
     → read_from (draft_stack v (sizes_of c) c.head.irq (stack_of c.head)) (middle_lines v c) ≡ told c
 middle_again l v c w own kept =
@@ -91,7 +92,7 @@ middle_again l v c w own kept =
       cell_least = m.least;
     } in
     let k = kinds_again l d_cells c.schedule.kinds c.schedule.lengths (late_lines c) m.kept m.body refl (refl, refl, refl, refl)
-    (zero-add (length c.schedule.kinds)) w.schedule.kinds.each w.schedule.lengths own refl in
+    (zero-add (length c.schedule.kinds)) w.schedule.kinds.each w.schedule.lengths own.lengths refl in
     let d_kinds : Draft = with_kinds d_cells k.read c.schedule.kinds c.schedule.lengths in
     let lines = expand_runs c.schedule.lines in
     let most = w.schedule.kinds.few in
@@ -99,7 +100,7 @@ middle_again l v c w own kept =
     w.schedule.fall_some w.schedule.fall_in_line refl
     (runs_apart (length c.schedule.kinds) 4294967295 c.schedule.lines (omega (arith, most)) w.schedule.lines.there)
     (all_runs (length c.schedule.kinds) c.schedule.lines w.schedule.lines.there) (ap (λ ls. length ls) lines)
-    (refl, refl, refl, zero-add (length c.rests), w.rests.each, w.rests.rise, refl, w.entry, w.points.each, w.points.instances) in
+    (refl, refl, refl, zero-add (length c.rests), w.rests.each, w.rests.rise, refl, w.entry, w.points.each, own.points, w.points.instances) in
     m.same ∙ (k.same ∙ (f ∙ ap (λ ls. told
     (cert_from (record d_kinds { fall = c.schedule.fall; lines = ls; rests = c.rests; points = c.points }) c.entry)) lines))
 
@@ -109,7 +110,7 @@ other_lines v c =
     ∷ spelled v (first_draft v).head
     (said.Stack (stack_of c.head)) ∷ middle_lines v c
 
-lines_again : (l : LineSpelling) (v : Version) (c : Cert) → WellFormed c → All (IsLengthIn v) c.schedule.lengths
+lines_again : (l : LineSpelling) (v : Version) (c : Cert) → WellFormed c → IsOfVersion v c
     → read_from (first_draft v) (other_lines v c) ≡ told c
 lines_again l v c w own =
     let sizes = sizes_fit c w in
@@ -158,7 +159,7 @@ head_lacks First =
 head_lacks Second =
     lacks_cons 10 117 (122 ∷ 99 ∷ 101 ∷ 114 ∷ 116 ∷ 32 ∷ 50 ∷ []) (λ e. omega (arith, e)) (head_begins 50 (λ e. omega (arith, e)))
 
-pub spelling_read : (plain : PlainLines) (l : LineSpelling) (v : Version) (c : Cert) → WellFormed c → All (IsLengthIn v) c.schedule.lengths
+pub spelling_read : (plain : PlainLines) (l : LineSpelling) (v : Version) (c : Cert) → WellFormed c → IsOfVersion v c
     → cert_of_text v (spelling v c) ≡ told c
 spelling_read plain l v c w own =
     let read = lines_again l v c w own in

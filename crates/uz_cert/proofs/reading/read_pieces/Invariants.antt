@@ -1,4 +1,4 @@
-use Rattle.std.proofs.Common.{◌≡◌, ◌+◌, ◌-◌, ◌<◌, ◌^◌}
+use Rattle.std.proofs.Common.{◌≡◌, ◌+◌, ◌<◌, ◌^◌}
 use Rattle.uz_cert.specs.Drafts.{first_draft}
 use Rattle.uz_cert.specs.Kept.{Kept}
 use Rattle.uz_cert.specs.Reading.{bytes_left, pieces_left, read_from}

@@ -1,4 +1,4 @@
-use Rattle.uz_cert.proofs.FitLaws.{gives_lengths}
+use Rattle.uz_cert.proofs.FitLaws.{gives_version}
 use Rattle.uz_cert.proofs.TextLaws.{LineLaw, found_text, only_text, first_fault, faulty_text}
 use Rattle.uz_cert.proofs.reading.read_version.Goals as goal
 
@@ -13,7 +13,7 @@ returns c =
       found = found_text law version text c.read_text.result gives;
       only = only_text law version text c.read_text.result gives;
       well_formed = c.read_text.ensures.well_formed;
-      lengths = gives_lengths version text c.read_text.result gives;
+      version = gives_version version text c.read_text.result gives;
       first = first_fault law version text c.read_text.result gives;
       faulty = faulty_text law version text c.read_text.result gives;
       exact = gives;

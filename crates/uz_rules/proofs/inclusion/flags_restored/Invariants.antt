@@ -1,8 +1,7 @@
 use Rattle.std.proofs.Common.{◌≡◌}
-use Rattle.uz_transfer.specs.Values.{value_at, flag_at, pair_at, span_at}
+use Rattle.uz_transfer.specs.Values.{flag_at}
 use Rattle.uz_transfer.specs.Memory.{is_old}
-use Rattle.uz_transfer.specs.Refusals.{range_inside}
-use Rattle.uz_rules.specs.Inside.{all_below, value_inside, flag_inside, is_old_register}
+use Rattle.uz_rules.specs.Inside.{all_below}
 use Rattle.uz_rules.proofs.inclusion.flags_restored.Given as goal
 
 -- the test so far

@@ -4,7 +4,8 @@ use Rattle.std.proofs.lemmas.List.Elements.{All-nil, All-cons}
 use Rattle.uz_schedule.specs.Limits.{is_length, clocks_below, lengths_fit}
 use Rattle.uz_schedule.specs.WellFormed.{WellFormed}
 use Rattle.uz_schedule.specs.declared.lines.Event.{Event}
-use Rattle.uz_lines.specs.Lines.{IsLengthIn}
+use Rattle.uz_schedule.specs.declared.states.Point.{Point}
+use Rattle.uz_lines.specs.Lines.{IsLengthIn, IsPointIn}
 use Rattle.uz_lines.specs.declared.version.Version.TheVariants.{First, Second}
 use Rattle.uz_schedule.specs.declared.certificate.Cert.{Cert}
 use Rattle.uz_spelling.specs.Spelling.{spelling}
@@ -50,7 +51,8 @@ returns c =
     let l = line_spelling twelve in
     let text = c.text_or_fault.ensures in
     let again : (x : Cert) → WellFormed x → cert_of_text Second (spelling Second x) ≡ answer x =
-    λ x w. spelling_read plain_lines l Second x w (each_length x.schedule.kinds x.schedule.lengths w.schedule.lengths) in
+    λ x w. spelling_read plain_lines l Second x w
+    (record { lengths = each_length x.schedule.kinds x.schedule.lengths w.schedule.lengths; points = each_point x.points }) in
     record {
       read = text_spelled l;
       again = spelling_read plain_lines l;
@@ -74,3 +76,7 @@ returns c =
         let both = and_true (is_length n && clocks_below es n) (lengths_fit kinds lengths) h in
         let this = and_true (is_length n) (clocks_below es n) both.0 in
         All-cons (IsLengthIn Second) n lengths this.0 (each_length kinds lengths both.1)
+
+    each_point : (ps : List Point) → All (IsPointIn Second) ps
+    each_point [] = All-nil (IsPointIn Second)
+    each_point (p ∷ ps) = All-cons (IsPointIn Second) p ps tt (each_point ps)

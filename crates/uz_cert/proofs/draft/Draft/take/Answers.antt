@@ -1,4 +1,4 @@
-use Rattle.std.proofs.Common.{◌≡◌, sym, ◌∙◌}
+use Rattle.std.proofs.Common.{sym, ◌∙◌}
 use Rattle.uz_cert.proofs.KeptLaws.{kept_read}
 use Rattle.uz_cert.proofs.SaidLaws.{said_fits}
 use Rattle.uz_cert.proofs.draft.Draft.take.Goals as goal

@@ -1,6 +1,6 @@
 use Rattle.std.proofs.Common.{◌≡◌, ◌≤◌, ◌++◌, drop, length}
 use Rattle.uz_lines.specs.Items.{default_cells}
-use Rattle.uz_lines.proofs.items.default_cells.Given as goal
+use Rattle.uz_lines.proofs.defaults.default_cells.Given as goal
 
 -- the facts so far, and those of the cells that are left, are those of all cells
 abbrev pub invariant-loop-cell : goal.invariant-loop-cell
