@@ -10,6 +10,7 @@ pub mod SearchingLemmas
 pub mod SpanLists
 pub mod Standing
 pub mod StepLemmas
+pub mod TimerLaws
 pub mod TrailLaws
 pub mod TrailLemmas
 pub mod VisitingLemmas

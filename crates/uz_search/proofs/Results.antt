@@ -1,12 +1,14 @@
 -- Where the results of an instance stand, and what is shown on the way to them.
-use Rattle.std.proofs.Common.{◌≡◌, ◌≢◌, ℕ, zero, suc, ◌<◌, ◌≤◌, ◌+◌, ◌%◌, List, [], ◌∷◌, max, map, Option, Some, None, true}
+use Rattle.std.proofs.Common.{◌≡◌, ◌≢◌, ℕ, zero, suc, ◌<◌, ◌≤◌, ◌+◌, ◌-◌, ◌%◌, List, [], ◌∷◌, max, map, Option, Some, None, true}
 use Rattle.std.proofs.Common.{false, not, ◌&&◌, ◌||◌, refl, sym, ap, ◌∙◌, subst, inl, inr, ⊎_elim, slice_get, if◌then◌else◌, arith}
 use Rattle.std.proofs.Math.Nat.{mod-eq_of_lt}
 use Rattle.uz_machine.specs.Core.{returns_from_interrupt}
 use Rattle.uz_machine.specs.Effects.{effect_of}
 use Rattle.avr_table.specs.Rows.{clocks_of, words_of}
 use Rattle.uz_schedule.specs.Lines.{line_after, clock_after}
-use Rattle.uz_schedule.specs.Schedule.{length_of}
+use Rattle.uz_schedule.specs.Ends.{whole_byte}
+use Rattle.uz_schedule.specs.Limits.{is_top}
+use Rattle.uz_schedule.specs.Schedule.{length_of, scanline}
 use Rattle.uz_schedule.specs.declared.kinds.Kind.{Kind}
 use Rattle.uz_schedule.specs.declared.kinds.Kind.TheVariants.{Main, Handler, Alone}
 use Rattle.uz_schedule.specs.declared.lines.EventKind.{EventKind}
@@ -16,7 +18,7 @@ use Rattle.uz_transfer.specs.declared.step.Exit.{Exit}
 use Rattle.uz_transfer.specs.Emission.{emission, emission_at, level_after}
 use Rattle.uz_transfer.specs.Exits.{outcomes}
 use Rattle.uz_transfer.specs.Kinds.{is_main, is_handler}
-use Rattle.uz_transfer.specs.Step.{clears_flag, ends_line, following_of, at_exit}
+use Rattle.uz_transfer.specs.Step.{clears_flag, ends_line, following_of, at_exit, sampled_of}
 use Rattle.uz_transfer.specs.Values.{pair_range}
 use Rattle.uz_rules.specs.declared.next.Next.{Next}
 use Rattle.uz_rules.specs.After.{timed}
@@ -30,6 +32,7 @@ use Rattle.uz_search.proofs.Lists.{in_map, of_map, kind_cases, bool_cases}
 use Rattle.uz_search.proofs.Exits.{exit_clocks, first_exit_of, emits_one, returns_one, OneExit}
 use Rattle.uz_search.proofs.Events.{Turns, Emits, emits, back_handler, level_turned}
 use Rattle.uz_search.proofs.FramePlaces.{Reaches, length_few, length_some, line_below, reach_after, reach_line, between_of}
+use Rattle.uz_search.proofs.TimerLaws.{handler_not, temp_kept, top_kept, top_stays}
 use Rattle.uz_search.proofs.VisitingLemmas.{some_is}
 
 apart_main : (k : Kind) → k ≢ Main → is_main k ≡ false
@@ -261,11 +264,6 @@ module _ (image : Flash) (program : Program) (fits : ProgramFits program) (x : I
 
 -- Where results stand
 
-handler_not : (k : Kind) → k ≢ Handler → is_handler k ≡ false
-handler_not Handler h = absurd (h refl)
-handler_not Main h = refl
-handler_not Alone h = refl
-
 main_is : (k : Kind) → k ≡ Main → is_main k ≡ true
 main_is k h = ap is_main h
 
@@ -313,6 +311,20 @@ module _ (image : Flash) (program : Program) (fits : ProgramFits program) (x : I
           && (x.pending || ends_line (order_of_program program) x.line (x.clock + r.exit.clocks)) else x.pending)
           (handler_not x.kind not_handler) ∙ stands.pending not_handler
 
+      top : is_top y.top ≡ true
+      top = ap (λ (z : Instance). is_top z.top) (sym r.is) ∙ top_stays program.head (effect_of s.row) x s.fails stands.top
+
+      timer : y.kind ≢ Handler → (y.top ≡ scanline - 1) × (y.temp ≡ whole_byte)
+      timer other =
+          let not_handler : x.kind ≢ Handler = λ e. other (kind ∙ e) in
+          let before = stands.timer not_handler in (
+            ap (λ (z : Instance). z.top) (sym r.is) ∙ top_kept (effect_of s.row) x not_handler ∙ before.0,
+            ap (λ (z : Instance). z.temp) (sym r.is)
+                ∙ temp_kept (sampled_of ((order_of_program program).length x.line) (effect_of s.row) (clocks_of s.row) x) (effect_of s.row)
+                x not_handler
+                ∙ before.1,
+          )
+
       of_main : x.kind ≡ Main → Stands program y
       of_main main = let m = main_line main y h in record {
         line = subst (λ n. n < lines_of program) (sym m.0) stands.line;
@@ -322,6 +334,8 @@ module _ (image : Flash) (program : Program) (fits : ProgramFits program) (x : I
         main = λ e. (m.0 ∙ (stands.main main).0, m.1 ∙ (stands.main main).1);
         entered = λ handler. stands.entered (sym kind ∙ handler);
         pending = pending;
+        top = top;
+        timer = timer;
       }
 
       apart : x.kind ≢ Main → Stands program y
@@ -332,4 +346,6 @@ module _ (image : Flash) (program : Program) (fits : ProgramFits program) (x : I
         main = λ e. absurd (m.apart e);
         entered = λ handler. stands.entered (sym kind ∙ handler);
         pending = pending;
+        top = top;
+        timer = timer;
       }

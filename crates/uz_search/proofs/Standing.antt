@@ -2,6 +2,7 @@
 use Rattle.std.proofs.Common.{◌≡◌, ℕ, zero, suc, ◌<◌, ◌≤◌, List, map, Option, true, false, refl, sym, ap, ◌∙◌, subst, ⊎_elim, if◌then◌else◌}
 use Rattle.std.proofs.Common.{arith}
 use Rattle.std.specs.List.{flat_map}
+use Rattle.uz_schedule.specs.Limits.{is_top}
 use Rattle.uz_schedule.specs.Schedule.{length_of, next_line, response_clocks}
 use Rattle.uz_schedule.specs.declared.kinds.Kind.TheVariants.{Handler}
 use Rattle.uz_schedule.specs.declared.kinds.Response.{Response}
@@ -18,6 +19,7 @@ use Rattle.uz_search.proofs.Lists.{of_map, of_flat, bool_cases}
 use Rattle.uz_search.proofs.OneResult.{Steps, steps}
 use Rattle.uz_search.proofs.Results.{same_kind, stands_next, back_is_handler}
 use Rattle.uz_search.proofs.SearchingLemmas.{tree_all}
+use Rattle.uz_search.proofs.TimerLaws.{last_clock}
 use Rattle.uz_search.proofs.VisitingLemmas.{some_is}
 use Rattle.uz_search.proofs.WidenedLaws.{widened_place, SamePlace}
 
@@ -31,6 +33,8 @@ stands_so program a b same h = record {
   main = λ main. let m = h.main (sym same.kind ∙ main) in (same.line ∙ m.0, same.clock ∙ m.1);
   entered = λ handler. h.entered (sym same.kind ∙ handler);
   pending = λ apart. same.pending ∙ h.pending (λ e. apart (same.kind ∙ e));
+  top = ap is_top same.top ∙ h.top;
+  timer = λ apart. (let t = h.timer (λ e. apart (same.kind ∙ e)) in (same.top ∙ t.0, same.temp ∙ t.1));
 }
 
 few_response : (irq : Response) → response_clocks irq ≤ 5
@@ -64,6 +68,8 @@ stands_entry program end e fits stands handler h =
       main = λ main. cc;
       entered = λ _. stands.entered handler;
       pending = λ other. absurd (other refl);
+      top = last_clock (length_of program.schedule end.line) (fits.lengths end.line);
+      timer = λ other. absurd (other refl);
     })
 
 -- what follows an instance that stands in the frame stands in it

@@ -14,6 +14,8 @@ pub record SamePlace (a b : Instance) : Type 0 where
   pub clock : a.clock ≡ b.clock
   pub level : a.level ≡ b.level
   pub pending : a.pending ≡ b.pending
+  pub top : a.top ≡ b.top
+  pub temp : a.temp ≡ b.temp
   pub flags : a.flags ≡ b.flags
   pub stack : a.stack ≡ b.stack
   pub cells : a.cells ≡ b.cells
@@ -26,6 +28,8 @@ same_self a = record {
   clock = refl;
   level = refl;
   pending = refl;
+  top = refl;
+  temp = refl;
   flags = refl;
   stack = refl;
   cells = refl;
@@ -39,6 +43,8 @@ same_then a b c h k = record {
   clock = h.clock ∙ k.clock;
   level = h.level ∙ k.level;
   pending = h.pending ∙ k.pending;
+  top = h.top ∙ k.top;
+  temp = h.temp ∙ k.temp;
   flags = h.flags ∙ k.flags;
   stack = h.stack ∙ k.stack;
   cells = h.cells ∙ k.cells;
@@ -57,6 +63,8 @@ by_one (Register r range) x = either _ _ x (record {
   clock = refl;
   level = refl;
   pending = refl;
+  top = refl;
+  temp = refl;
   flags = refl;
   stack = refl;
   cells = refl;
@@ -68,6 +76,8 @@ by_one (Pair k range) x = either _ _ x (record {
   clock = refl;
   level = refl;
   pending = refl;
+  top = refl;
+  temp = refl;
   flags = refl;
   stack = refl;
   cells = refl;

@@ -1,8 +1,9 @@
 -- What a search asks of a program, and what holds of each instance on a trail.
-use Rattle.std.specs.Prelude.{◌≡◌, ◌≢◌, ℕ, ◌+◌, ◌<◌, ◌≤◌, false, IsTrue}
-use Rattle.uz_schedule.specs.Schedule.{length_of, response_clocks}
+use Rattle.std.specs.Prelude.{◌≡◌, ◌≢◌, ℕ, ◌+◌, ◌-◌, ◌<◌, ◌≤◌, false, IsTrue}
+use Rattle.uz_schedule.specs.Ends.{whole_byte}
+use Rattle.uz_schedule.specs.Schedule.{length_of, response_clocks, scanline}
 use Rattle.uz_schedule.specs.WellFormed.{HeadFits}
-use Rattle.uz_schedule.specs.Limits.{is_length, most_lines}
+use Rattle.uz_schedule.specs.Limits.{is_length, is_top, most_lines}
 use Rattle.uz_schedule.specs.declared.kinds.Kind.TheVariants.{Main, Handler}
 use Rattle.uz_schedule.specs.declared.states.Instance.{Instance}
 use Rattle.uz_search.specs.declared.program.Program.{Program}
@@ -16,6 +17,9 @@ pub record Stands (p : Program) (x : Instance) : Type 0 where
   pub main : x.kind ≡ Main → (x.line ≡ 0) × (x.clock ≡ 0)
   pub entered : x.kind ≡ Handler → response_clocks p.head.irq + 3 < p.schedule.fall
   pub pending : x.kind ≢ Handler → x.pending ≡ false
+  -- OCR1A is the last clock of a line; outside handlers nothing is known of the timer
+  pub top : IsTrue (is_top x.top)
+  pub timer : x.kind ≢ Handler → (x.top ≡ scanline - 1) × (x.temp ≡ whole_byte)
 
 -- a start: the level is 1, and outside main it stands before the first line's fall
 pub record StartFits (p : Program) (x : Instance) : Type 0 where

@@ -38,9 +38,11 @@ lines_of p = length p.schedule.lines
 abbrev pub After : Flash → Program → Instance → Result Next Fail → Type 0
 After image p x result = IsAfter p.head (order_of_program p) image x result
 
--- the handler's first state after a return that ends so, where the interrupt is taken at clock c of the next line
+-- the handler's first state after a return that ends so, where the interrupt is taken at clock c of the next line: the timer came to the
+-- last clock of the line on which the return ends
 abbrev pub entry_at : Program → Instance → ℕ → Instance
 entry_at p end c = handler_entry end.cells.items ((order_of_program p).next end.line) (c + response_clocks p.head.irq) end.level
+    ((order_of_program p).length end.line - 1)
 
 -- an interrupt may be taken at the clocks 0 to 3
 abbrev pub entries : Program → Instance → List Instance

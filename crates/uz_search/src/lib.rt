@@ -17,7 +17,7 @@ mod widening;
 pub use found::{Found, NotFound};
 pub use laws::nodes_are_reached;
 pub use marks::Mark;
-pub use program::{Program, widened_copy};
+pub use program::{Program, last_clock, widened_copy};
 pub use returns::Return;
 pub use searching::search;
 pub use widening::Widening;

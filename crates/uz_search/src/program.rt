@@ -1,8 +1,9 @@
 //! What a search is told of a program.
 
-ghost use Rattle.std.specs.Prelude.{◌≡◌, ◌<◌, ◌≤◌, ◌++◌, map, true, Ok, Err, IfOk, IfErr, OnOk, IsFalse, IsTrue};
+ghost use Rattle.std.specs.Prelude.{◌≡◌, ◌-◌, ◌<◌, ◌≤◌, ◌++◌, map, true, Ok, Err, IfOk, IfErr, OnOk, IsFalse, IsTrue};
 ghost use Rattle.std.specs.List.{flat_map};
 ghost use Rattle.uz_schedule.specs.Limits.{most_lines};
+ghost use Rattle.uz_schedule.specs.Schedule.{length_of};
 ghost use Rattle.uz_schedule.specs.declared.kinds.Kind.TheVariants.{Main};
 ghost use Rattle.uz_schedule.specs.declared.states.Instance.{Instance};
 ghost use Rattle.uz_search.specs.Widenings.{widened};
@@ -57,6 +58,13 @@ pub(crate) fn put_results(
     put_after(image, &program.head, &program.schedule, at, next)
 }
 
+/// The last clock of a line; 0 where it has none.
+pub fn last_clock(schedule: &Schedule, line: u16) -> u16
+    ensures { result ≡ length_of schedule.now line - 1 }
+{
+    schedule.length(line).saturating_sub(1)
+}
+
 /// The handler's first state after a return that ends so, where its interrupt is taken at clock `c` of the next line.
 fn entry_after(program: &Program, end: &Instance, c: u16) -> Instance
     requires lines { lines_of program.now ≤ most_lines }
@@ -69,6 +77,7 @@ fn entry_after(program: &Program, end: &Instance, c: u16) -> Instance
         program.schedule.next(end.line),
         c + program.head.irq.clocks(),
         end.level,
+        last_clock(&program.schedule, end.line),
     )
 }
 

@@ -1,5 +1,5 @@
 -- The schedule of an ended search: its falls, its returns and its levels.
-use Rattle.std.proofs.Common.{◌≡◌, ◌≢◌, ℕ, zero, suc, ◌<◌, ◌≤◌, ◌+◌, ◌%◌, List, Some, refl, sym, ap, ◌∙◌, subst, ⊎_elim, arith}
+use Rattle.std.proofs.Common.{◌≡◌, ◌≢◌, ℕ, zero, suc, ◌<◌, ◌≤◌, ◌+◌, ◌-◌, ◌%◌, Some, refl, sym, ap, ◌∙◌, subst, ⊎_elim, arith}
 use Rattle.std.proofs.Common.{if◌then◌else◌, ◌==◌}
 use Rattle.std.proofs.Math.Nat.{mod-eq_of_lt}
 use Rattle.std.specs.Prelude.{unwrap_or}
@@ -8,7 +8,6 @@ use Rattle.uz_schedule.specs.Schedule.{length_of, start_of, frame_of, next_line,
 use Rattle.uz_schedule.proofs.Modulo.{level_mod}
 use Rattle.uz_schedule.proofs.Starts.{place_below}
 use Rattle.uz_schedule.specs.declared.header.Head.{Head}
-use Rattle.uz_schedule.specs.Ends.{Ends}
 use Rattle.uz_schedule.specs.declared.kinds.Kind.TheVariants.{Main}
 use Rattle.uz_schedule.specs.declared.lines.EventKind.TheVariants.{Sync, Leave}
 use Rattle.uz_schedule.specs.declared.states.Instance.{Instance}
@@ -164,13 +163,11 @@ rests_enter image p found cert rest r c fits ended head of noted cells few = sub
         ∙ ap (λ k. level_or_zero cert.schedule e.line k) clock
         ∙ ap (λ o. unwrap_or o 0) (levels_are image p found cert.schedule e fits ended of node)
 
+    ranges : rest.cells.items ≡ leave.end.cells.items
+    ranges = cells ∙ ap (λ v. v.items) leave.cells
+
+    top : length_of cert.schedule rest.line - 1 ≡ e.top
+    top = ap (λ n. n - 1) (of.lengths rest.line ∙ ap (length_of p.schedule) leave.line)
+
     same : rest_instance cert rest c ≡ e
-    same =
-        ap (λ (es : List Ends). handler_entry es (next_line cert.schedule rest.line) (c + response_clocks cert.head.irq)
-        (level_or_zero cert.schedule (next_line cert.schedule rest.line) (c + response_clocks cert.head.irq)))
-        (cells ∙ ap (λ v. v.items) leave.cells)
-        ∙ ap (λ l. handler_entry leave.end.cells.items l (c + response_clocks cert.head.irq)
-        (level_or_zero cert.schedule (next_line cert.schedule rest.line) (c + response_clocks cert.head.irq))) line
-        ∙ ap (λ k. handler_entry leave.end.cells.items e.line k (level_or_zero cert.schedule (next_line cert.schedule rest.line)
-        (c + response_clocks cert.head.irq))) clock
-        ∙ ap (λ v. handler_entry leave.end.cells.items e.line e.clock v) level
+    same = λ i. handler_entry (ranges i) (line i) (clock i) (level i) (top i)

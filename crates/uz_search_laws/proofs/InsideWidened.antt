@@ -9,13 +9,11 @@ use Rattle.uz_schedule.specs.declared.facts.Bit.{Bit}
 use Rattle.uz_schedule.specs.declared.facts.Bit.TheVariants.{Zero, One, Free, Old as OldBit}
 use Rattle.uz_schedule.specs.declared.facts.Val.{Val}
 use Rattle.uz_schedule.specs.declared.facts.Val.TheVariants.{Range, Old, OldFlags}
-use Rattle.uz_schedule.specs.declared.kinds.Kind.{Kind}
-use Rattle.uz_schedule.specs.declared.kinds.Kind.TheVariants.{Main, Handler, Alone}
 use Rattle.uz_schedule.specs.declared.states.Instance.{Instance}
 use Rattle.uz_transfer.specs.Refusals.{range_inside}
 use Rattle.uz_transfer.specs.Values.{flag_at, pair_at, span_at, value_at}
-use Rattle.uz_rules.specs.Inside.{all_below, cells_inside, flag_inside, flags_inside, inside, pairs_inside, registers_inside, same_bool}
-use Rattle.uz_rules.specs.Inside.{same_kind, same_place, slots_inside, value_inside}
+use Rattle.uz_rules.specs.Inside.{all_below, cells_inside, flag_inside, flags_inside, inside, pairs_inside, registers_inside}
+use Rattle.uz_rules.specs.Inside.{same_place, slots_inside, value_inside, PlaceHolds}
 use Rattle.uz_search.specs.declared.program.Program.{Program}
 use Rattle.uz_search.specs.declared.widening.Widening.{Widening}
 use Rattle.uz_search.specs.declared.widening.Widening.TheVariants.{Register, Pair}
@@ -160,23 +158,14 @@ unfolding all_below
 below_all zero test all = refl
 below_all (suc n) test all = λ i. below_all n test all i && all n i
 
-kind_self : (k : Kind) → same_kind k k ≡ true
-kind_self Main = refl
-kind_self Handler = refl
-kind_self Alone = refl
-
-bool_self : (b : Bool) → same_bool b b ≡ true
-bool_self true = refl
-bool_self false = refl
-
 flag_self : (b : Bit) → flag_inside b b ≡ true
 flag_self Zero = refl
 flag_self One = refl
 flag_self Free = refl
 flag_self OldBit = refl
 
-pub inside_widened : (p : Program) (x : Instance) → inside x (widened p x) ≡ true
-inside_widened p x = λ i. place i && (slots i && (cells i && (flags i && (pairs i && registers i))))
+pub inside_widened : PlaceHolds → (p : Program) (x : Instance) → inside x (widened p x) ≡ true
+inside_widened holds p x = λ i. place i && (temp i && (slots i && (cells i && (flags i && (pairs i && registers i)))))
   where
     same : SamePlace (widened p x) x
     same = widened_place p x
@@ -185,13 +174,17 @@ inside_widened p x = λ i. place i && (slots i && (cells i && (flags i && (pairs
     wide = widened_wider p x
 
     place : same_place x (widened p x) ≡ true
-    place =
-        let kind = ap (same_kind x.kind) same.kind ∙ kind_self x.kind in
-        let pc = eq-eqb x.pc (widened p x).pc (sym same.pc) in
-        let line = eq-eqb x.line (widened p x).line (sym same.line) in
-        let clock = eq-eqb x.clock (widened p x).clock (sym same.clock) in
-        let pending = ap (same_bool x.pending) same.pending ∙ bool_self x.pending in
-        λ i. kind i && (pc i && (line i && (clock i && pending i)))
+    place = holds x (widened p x) (record {
+      kind = sym same.kind;
+      pc = sym same.pc;
+      line = sym same.line;
+      clock = sym same.clock;
+      pending = sym same.pending;
+      top = sym same.top;
+    })
+
+    temp : range_inside x.temp (widened p x).temp ≡ true
+    temp = ap (range_inside x.temp) same.temp ∙ range_grown x.temp x.temp (omega arith) (omega arith)
 
     slots : slots_inside x.stack.items (widened p x).stack.items ≡ true
     slots = ap (λ s. slots_inside x.stack.items s.items) same.stack

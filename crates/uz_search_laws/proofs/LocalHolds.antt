@@ -29,6 +29,7 @@ use Rattle.uz_transfer.specs.declared.step.Step.{Step}
 use Rattle.uz_transfer.specs.Kinds.{is_main}
 use Rattle.uz_transfer.specs.Emission.{emission}
 use Rattle.uz_transfer.specs.Exits.{outcomes}
+use Rattle.uz_transfer.specs.InTime.{clock_holds}
 use Rattle.uz_transfer.specs.Refusals.{fail_of, range_inside, refuse_if}
 use Rattle.uz_transfer.specs.Step.{IsReadAt, following_of, step_of_row, step_unless, successor}
 use Rattle.uz_transfer.specs.Values.{span_at}
@@ -131,24 +132,26 @@ record Parts (why : Option Fail) (exits : List Exit) (step : Step) : Type 0 wher
   fine : why ≡ None
   same : step.exits.items ≡ exits
 
-parts : (why : Option Fail) (emitted : Option (Option EventKind)) (draft step : Step) → step_unless why emitted draft ≡ Ok step
-    → Parts why draft.exits.items step
-parts (Some why) emitted draft step h = cc
-parts None None draft step h = cc
-parts None (Some e) draft step h = record { fine = refl; same = ap (λ (z : Step). z.exits.items) (sym (step_is _ step h)) }
+parts : (why : Option Fail) (emitted : Option (Option EventKind)) (in_time : Bool) (draft step : Step)
+    → step_unless why emitted in_time draft ≡ Ok step → Parts why draft.exits.items step
+parts (Some why) emitted in_time draft step h = cc
+parts None None in_time draft step h = cc
+parts None (Some e) false draft step h = cc
+parts None (Some e) true draft step h = record { fine = refl; same = ap (λ (z : Step). z.exits.items) (sym (step_is _ step h)) }
   where
     step_is : (a b : Step) → ◌≡◌ {A = Result Step Fail} (Ok a) (Ok b) → a ≡ b
     step_is a b e = cc
 
-row_parts : (head : Head) (long : ℕ) (image : Flash) (x : Instance) (i : Instr) (step : Step)
-    → step_of_row head long image (Some i) x ≡ Ok step → Parts (fail_of head (effect_of i) x) (exits_at image x i) step
-row_parts head long image x i step h = parts (fail_of head (effect_of i) x) (emission (effect_of i) x) _ step h
+row_parts : (head : Head) (lines : Lines) (image : Flash) (x : Instance) (i : Instr) (step : Step)
+    → step_of_row head lines image (Some i) x ≡ Ok step → Parts (fail_of head (effect_of i) x) (exits_at image x i) step
+row_parts head lines image x i step h =
+    parts (fail_of head (effect_of i) x) (emission (effect_of i) x) (clock_holds lines (effect_of i) x (exits_at image x i)) _ step h
 
-exit_bounds : (head : Head) (long : ℕ) (image : Flash) (x : Instance) (row : Option Instr) (step : Step)
-    → step_of_row head long image row x ≡ Ok step → (exit : Exit) → Among step.exits.items exit → (1 ≤ exit.clocks) × (exit.clocks ≤ 4)
-exit_bounds head long image x None step h exit there = cc
-exit_bounds head long image x (Some i) step h exit there =
-    let r = row_parts head long image x i step h in
+exit_bounds : (head : Head) (lines : Lines) (image : Flash) (x : Instance) (row : Option Instr) (step : Step)
+    → step_of_row head lines image row x ≡ Ok step → (exit : Exit) → Among step.exits.items exit → (1 ≤ exit.clocks) × (exit.clocks ≤ 4)
+exit_bounds head lines image x None step h exit there = cc
+exit_bounds head lines image x (Some i) step h exit there =
+    let r = row_parts head lines image x i step h in
     exit_clocks image head i x (following_of (words_of i) x) (outcomes image (following_of (words_of i) x) (effect_of i) x) exit r.fine
     (subst (λ l. Among l exit) r.same there)
 
@@ -199,7 +202,7 @@ module _ (image : Flash) (program : Program) (fits : ProgramFits program) (found
   lines_same = order_same program found.marks.items cert.schedule made.schedule
 
   module _ (row : Option Instr) (reads : IsReadAt image x.pc row)
-      (s : HasStep program x t.next (step_of_row cert.head (length_of cert.schedule x.line) image row x)) where
+      (s : HasStep program x t.next (step_of_row cert.head (lines_of_schedule cert.schedule) image row x)) where
     -- main stores nothing that is seen
     no_emission : row_emits_in_main row x ≡ false
     no_emission = ⊎_elim
@@ -235,7 +238,7 @@ module _ (image : Flash) (program : Program) (fits : ProgramFits program) (found
 
         -- the clocks to the result are the exit's
         clocks : c ≡ exit.clocks
-        clocks = let b = exit_bounds cert.head (length_of cert.schedule x.line) image x row s.step s.is exit there in
+        clocks = let b = exit_bounds cert.head (lines_of_schedule cert.schedule) image x row s.step s.is exit there in
             between_exit program fits x s.step exit stands apart b.0 b.1
 
         position : position_of cert.schedule x ≡ position_of program.schedule x
@@ -343,7 +346,7 @@ module _ (image : Flash) (program : Program) (fits : ProgramFits program) (found
         ∙ ap (λ b. refuse_if (not b) Successor None) (goes_on back))
         (bool_cases t.next.back)
 
-    step_ok : step_fail cert ids x (row_emits_in_main row x) (step_of_row cert.head (length_of cert.schedule x.line) image row x) ≡ None
+    step_ok : step_fail cert ids x (row_emits_in_main row x) (step_of_row cert.head (lines_of_schedule cert.schedule) image row x) ≡ None
     step_ok =
         ap (step_fail cert ids x (row_emits_in_main row x)) s.is
         ∙ ap (λ b. refuse_if b Edge (refuse_if (not (compares_edges cert x s.step)) Edge (result_fail cert ids x s.step))) no_emission
@@ -354,24 +357,24 @@ fails_stop head Stop x h = cc
 fails_stop head NoOperation x h = refl
 fails_stop head e x h = refl
 
-stops_none : (head : Head) (long : ℕ) (image : Flash) (x : Instance) (row : Option Instr) (step : Step)
-    → step_of_row head long image row x ≡ Ok step → is_no_opcode row ≡ false
-stops_none head long image x None step h = cc
-stops_none head long image x (Some i) step h = fails_stop head (effect_of i) x (row_parts head long image x i step h).fine
+stops_none : (head : Head) (lines : Lines) (image : Flash) (x : Instance) (row : Option Instr) (step : Step)
+    → step_of_row head lines image row x ≡ Ok step → is_no_opcode row ≡ false
+stops_none head lines image x None step h = cc
+stops_none head lines image x (Some i) step h = fails_stop head (effect_of i) x (row_parts head lines image x i step h).fine
 
 pub passes_local : EndedPassesLocal
 passes_local image p found cert ids row x fits ended made node lies reads =
     ap (λ b. refuse_if b Opcode (instance_fail image cert ids row (Some x)))
-    (stops_none cert.head (length_of cert.schedule x.line) image x row s.step s.is) ∙ step_ok image p fits found ended cert made ids x node lies row reads s
+    (stops_none cert.head (lines_of_schedule cert.schedule) image x row s.step s.is) ∙ step_ok image p fits found ended cert made ids x node lies row reads s
   where
     s : HasStep p x (cover.treated image p fits found.nodes.keys found.parents.items found.marks.items found.returns.items ended x
-        node).next (step_of_row cert.head (length_of cert.schedule x.line) image row x)
+        node).next (step_of_row cert.head (lines_of_schedule cert.schedule) image row x)
     s =
         let a = (cover.treated image p fits found.nodes.keys found.parents.items found.marks.items found.returns.items ended x
         node).after in
-        let same = made.schedule.lengths x.line in
-        has_step p x _ (step_of_row cert.head (length_of cert.schedule x.line) image row x)
-        (a.is ∙ ap (λ (r : Option Instr). next_of (order_of_program p) x (step_of_row p.head (length_of p.schedule x.line) image r x))
+        let same = order_same p found.marks.items cert.schedule made.schedule in
+        has_step p x _ (step_of_row cert.head (lines_of_schedule cert.schedule) image row x)
+        (a.is ∙ ap (λ (r : Option Instr). next_of (order_of_program p) x (step_of_row p.head (order_of_program p) image r x))
         (decoded_same _ _ a.row row a.reads reads)
-        ∙ ap (λ (h : Head). next_of (order_of_program p) x (step_of_row h (length_of p.schedule x.line) image row x)) (sym made.head)
-        ∙ ap (λ n. next_of (order_of_program p) x (step_of_row cert.head n image row x)) (sym same))
+        ∙ ap (λ (h : Head). next_of (order_of_program p) x (step_of_row h (order_of_program p) image row x)) (sym made.head)
+        ∙ ap (λ (l : Lines). next_of (order_of_program p) x (step_of_row cert.head l image row x)) (sym same))

@@ -4,6 +4,8 @@ ghost use Rattle.uz_search_laws.specs.Complete.{EndedFallsOnce, EndedLevelsFit, 
 ghost use Rattle.uz_search_laws.specs.Complete.{EndedPassesLocal};
 ghost use Rattle.uz_search_laws.specs.Limits.{EndedWithinLimits, LiesInWidened};
 
+use uz_rules::place_holds;
+
 /// Each line of the schedule falls: sync 0 stands at the fall, nothing before it, and no other sync 0.
 pub fn ended_falls_once()
     ensures { EndedFallsOnce }
@@ -42,4 +44,6 @@ pub fn ended_within_limits()
 /// An instance lies in what widening makes of it.
 pub fn lies_in_widened()
     ensures { LiesInWidened }
-{}
+{
+    place_holds();
+}
