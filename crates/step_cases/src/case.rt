@@ -30,6 +30,8 @@ pub(crate) struct Case {
     pub cells: [u8; 4],
     /// TCNT1.
     pub count: u16,
+    /// TEMP.
+    pub temp: u8,
     /// PORTB, whose bit 0 is the level of sync.
     pub port_b: u8,
     /// A byte of PORTC and of RAM that isn't tracked.

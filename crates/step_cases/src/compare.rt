@@ -3,15 +3,15 @@
 ghost use Rattle.std.specs.Prelude.{◌≡◌, ◌<◌, ◌≤◌};
 
 use crate::case::{Case, Core};
-use crate::draw::LINES;
-use crate::program::{STACK, TOP};
+use crate::draw::{LINES, length_of};
+use crate::program::STACK;
 use arrayvec::ArrayVec;
 use uz_console::Console;
 use uz_events::event_of;
 use uz_machine::Edge;
-use uz_machine::address::{OCR1AH, OCR1AL, PORTB, SPH, SPL, SREG, TCNT1L, TIFR1};
+use uz_machine::address::{OCR1AH, OCR1AL, PORTB, SPH, SPL, SREG, TCNT1H, TCNT1L, TIFR1};
 use uz_rules::inside;
-use uz_schedule::{Bit, EventKind, Head, Instance, Kind, SCANLINE, Span, Val, Wide, tracks};
+use uz_schedule::{Bit, EventKind, Head, Instance, Kind, Span, Val, Wide, tracks};
 
 /// What of a console isn't as it is known to be.
 #[derive(Clone, Copy, Debug)]
@@ -26,7 +26,7 @@ pub(crate) enum Fault {
     Depth,
     /// A byte under the slots, a cell that the kind doesn't track, or a cell beyond its header's range.
     Memory,
-    /// In a handler TCNT1's low byte, which is the clock's, or OCR1A.
+    /// In a handler TCNT1's low byte, which is the clock's.
     Timer,
 }
 
@@ -114,11 +114,19 @@ fn place_after(at: &Instance, clocks: u64) -> (u16, u16) {
     if at.kind == Kind::Main {
         return (0, 0);
     }
-    let line = u64::from(SCANLINE);
-    let from = u64::from(at.line) * line;
-    let end = from.wrapping_add(u64::from(at.clock)).wrapping_add(clocks);
-    let position = end % (line * u64::from(LINES));
-    ((position / line) as u16, (position % line) as u16)
+    let length = u64::from(length_of(at.line));
+    let end = u64::from(at.clock).wrapping_add(clocks);
+    let clock = (end % length) as u16;
+    if end < length {
+        (at.line, clock)
+    } else {
+        (at.line.wrapping_add(1) % LINES, clock)
+    }
+}
+
+/// OCR1A.
+fn compare_register(console: &Console) -> u16 {
+    256 * u16::from(console.byte(OCR1AH)) + u16::from(console.byte(OCR1AL))
 }
 
 /// Whether OCF1A is set.
@@ -136,13 +144,15 @@ fn instance_of(
 ) -> Instance {
     let (line, clock) = place_after(&case.at, clocks);
     let kind = case.at.kind;
+    let is_handler = kind == Kind::Handler;
+    let blank = Instance::default();
     Instance {
         kind,
         pc: console.pc(),
         line,
         clock,
         level: console.byte(PORTB) % 2,
-        pending: kind == Kind::Handler && is_matched(console),
+        pending: is_handler && is_matched(console),
         regs: registers_of(console, &known.regs, &case.before),
         pairs: [
             pair_of(console, 26),
@@ -152,7 +162,16 @@ fn instance_of(
         flags: flags_of(console.byte(SREG), &known.flags, case.before.flags),
         stack: slots_of(console, case, known.stack.as_slice()),
         cells: cells_of(console, head, kind),
-        ..Instance::default()
+        top: if is_handler {
+            compare_register(console)
+        } else {
+            blank.top
+        },
+        temp: if is_handler {
+            Span::single(console.byte(TCNT1H))
+        } else {
+            blank.temp
+        },
     }
 }
 
@@ -182,8 +201,7 @@ fn keeps_cells(console: &Console, head: &Head, case: &Case) -> bool {
 
 /// Whether a handler's timer is at this clock of its line.
 fn is_at_clock(console: &Console, clock: u16) -> bool {
-    let top = 256 * u16::from(console.byte(OCR1AH)) + u16::from(console.byte(OCR1AL));
-    console.byte(TCNT1L) == (clock % 256) as u8 && top == TOP
+    console.byte(TCNT1L) == (clock % 256) as u8
 }
 
 /// Whether SP is under the slots that are known.

@@ -1,7 +1,7 @@
 //! Draws a state, and around it an instance.
 
-ghost use Rattle.std.specs.Prelude.{◌≡◌, ◌<◌, ◌≤◌};
-ghost use Rattle.uz_schedule.specs.Schedule.{scanline};
+ghost use Rattle.std.specs.Prelude.{◌≡◌, ◌<◌, ◌≤◌, ◌+◌};
+ghost use Rattle.uz_schedule.specs.Schedule.{scanline, half_line};
 
 use crate::case::{Case, Core};
 use crate::words::words;
@@ -10,8 +10,8 @@ use drawn_numbers::{Random, place};
 use std::alloc::{AllocError, Global};
 use uz_range::hull;
 use uz_schedule::{
-    Bit, Cell, Head, Instance, Kind, Owner, Response, SCANLINE, Schedule, Sequence, Span, Val,
-    Wide, tracks,
+    Bit, Cell, HALF_LINE, Head, Instance, Kind, Owner, Response, SCANLINE, Schedule, Sequence,
+    Span, Val, Wide, tracks,
 };
 
 /// The tracked cells: address, owner, and the ends of the range.
@@ -27,6 +27,17 @@ const EDGES: [u8; 8] = [0, 1, 2, 15, 127, 128, 254, 255];
 
 /// How many lines the frame has.
 pub(crate) const LINES: u16 = 3;
+
+/// The lengths of the lines.
+const LENGTHS: [u16; 3] = [SCANLINE, HALF_LINE, SCANLINE];
+
+/// The low and the high bytes of the last clocks of a half line and of a scanline.
+const LOW: [u8; 2] = [141, 27];
+
+const HIGH: [u8; 2] = [3, 7];
+
+/// The registers that are stored to the timer's.
+const STORED: [u8; 4] = [16, 17, 18, 19];
 
 /// The least count of TCNT1 that a state of main has, so that its timer doesn't go round while it is prepared.
 const LEAST_COUNT: u16 = 40;
@@ -262,17 +273,57 @@ struct Standing {
     clock: u16,
     level: u8,
     pending: bool,
+    top: u16,
 }
 
-/// Draws where an instance stands. Main has line and clock 0, and only a handler has a match that waits.
+/// The length of a line.
+pub(crate) fn length_of(line: u16) -> u16
+    ensures low { half_line ≤ result }
+    ensures high { result ≤ scanline }
+{
+    LENGTHS[line as usize % 3]
+}
+
+/// A clock below a number: any, or one of the last five.
+fn clock(random: &mut Random, length: u16) -> u16
+    requires { 5 < length }
+    ensures { result < length }
+{
+    let any = random.below(u32::from(length)) as u16;
+    let late = length - 5 + random.below(5) as u16;
+    if random.below(2) == 1 { any } else { late }
+}
+
+/// Draws OCR1A of a handler: mostly the last clock of a line of this length, else that of a line of either. Others have that of a
+/// scanline.
+fn top(random: &mut Random, kind: Kind, length: u16) -> u16
+    requires low { half_line ≤ length }
+    requires high { length ≤ scanline }
+    ensures low { half_line ≤ result + 1 }
+    ensures high { result < scanline }
+{
+    let drawn = match random.below(4) {
+        0 => HALF_LINE - 1,
+        1 => SCANLINE - 1,
+        _ => length - 1,
+    };
+    if kind == Kind::Handler {
+        drawn
+    } else {
+        SCANLINE - 1
+    }
+}
+
+/// Draws where an instance stands. Main has line and clock 0, and only a handler has a match that waits. No handler's clock is above
+/// OCR1A.
 fn draw_place(random: &mut Random, kind: Kind) -> Standing
     ensures line { result.line < 3 }
     ensures clock { result.clock < scanline }
 {
     let line = random.below(u32::from(LINES)) as u16;
-    let any = random.below(u32::from(SCANLINE)) as u16;
-    let late = SCANLINE - 5 + random.below(5) as u16;
-    let clock = if random.below(2) == 1 { any } else { late };
+    let length = length_of(line);
+    let top = top(random, kind, length);
+    let clock = clock(random, length.min(top + 1));
     let level = random.below(2) as u8;
     let waits = random.below(2) == 1;
     let is_main = kind == Kind::Main;
@@ -281,6 +332,32 @@ fn draw_place(random: &mut Random, kind: Kind) -> Standing
         clock: if is_main { 0 } else { clock },
         level,
         pending: waits && kind == Kind::Handler,
+        top,
+    }
+}
+
+/// Draws TEMP, and what a handler knows of it. Others know nothing.
+fn temp(random: &mut Random, kind: Kind) -> (u8, Span) {
+    let any = random.byte();
+    let high = HIGH[random.below(2) as usize];
+    let byte = if random.below(4) == 0 { any } else { high };
+    let known = range_around(random, byte, 0, 255);
+    let span = if kind == Kind::Handler {
+        known
+    } else {
+        Span::between(0, 255)
+    };
+    (byte, span)
+}
+
+/// Gives registers that are stored to OCR1A bytes of a line's last clock, which are known.
+fn clock_bytes(random: &mut Random, regs: &mut [u8; 32], known: &mut [Val; 32]) {
+    for r in STORED {
+        let byte = LOW[random.below(2) as usize];
+        if random.below(2) == 1 {
+            regs[r as usize % 32] = byte;
+            known[r as usize % 32] = Val::Range(Span::single(byte));
+        }
     }
 }
 
@@ -303,13 +380,13 @@ fn kind(random: &mut Random) -> Kind {
     }
 }
 
-/// A frame of three scanlines, in which nothing is seen.
+/// A frame of a scanline, a half line and a scanline, in which nothing is seen.
 pub(crate) fn frame(alloc: Global) -> Result<Schedule, AllocError> {
     let mut lengths = Sequence::new(alloc);
-    lengths.push(SCANLINE)?;
     let mut lines = Sequence::new(alloc);
-    for _ in 0..LINES {
-        lines.push(0)?;
+    for line in 0..LINES {
+        lengths.push(length_of(line))?;
+        lines.push(line)?;
     }
     Ok(Schedule {
         kinds: Sequence::new(alloc),
@@ -330,6 +407,7 @@ pub(crate) fn case(random: &mut Random, pc: u16) -> Case
     let place = draw_place(random, kind);
     let before = interrupted(random);
     let (mut regs, mut known) = registers(random, kind, &before);
+    clock_bytes(random, &mut regs, &mut known);
     for low in [26, 28, 30] {
         if random.below(2) == 1 {
             point(random, low, &mut regs, &mut known);
@@ -344,6 +422,7 @@ pub(crate) fn case(random: &mut Random, pc: u16) -> Case
     let most = if kind == Kind::Handler { 6 } else { 4 };
     let (slots, stack) = slots(random, kind, &before, most);
     let (cells, spans) = cells(random, kind);
+    let (temp, temps) = temp(random, kind);
     Case {
         words,
         core: Core { regs, flags },
@@ -352,6 +431,7 @@ pub(crate) fn case(random: &mut Random, pc: u16) -> Case
         slots,
         cells,
         count: count(random, kind, place.clock),
+        temp,
         port_b: random.byte() & 0xFE | place.level,
         filler: random.byte(),
         at: Instance {
@@ -366,7 +446,8 @@ pub(crate) fn case(random: &mut Random, pc: u16) -> Case
             flags: bits,
             stack,
             cells: spans,
-            ..Instance::default()
+            top: place.top,
+            temp: temps,
         },
     }
 }

@@ -14,7 +14,7 @@ use uz_hex::Image;
 use uz_machine::address::{
     OCR1AH, OCR1AL, PORTB, PORTC, SPH, SPL, SREG, TCCR1B, TCNT1H, TCNT1L, TIMSK1,
 };
-use uz_schedule::{Kind, SCANLINE};
+use uz_schedule::Kind;
 
 /// How many cases an image holds.
 pub(crate) const CASES: u16 = 250;
@@ -33,9 +33,6 @@ const LATE: u16 = 23;
 
 /// The highest byte of the stack.
 pub(crate) const STACK: u16 = 0x10FF;
-
-/// The compare register: the last clock of a scanline.
-pub(crate) const TOP: u16 = SCANLINE - 1;
 
 /// The pc of a case. Its words stand there, and the one before it is the stub's last.
 pub(crate) fn pc_of(k: u16) -> u16
@@ -69,17 +66,21 @@ fn put_memory(code: &mut Writer<'_>, case: &Case) {
     code.store(0x200, case.cells[3]);
     code.put_out(PORTB, case.port_b);
     code.put_out(PORTC, case.filler);
-    code.store(0x101, case.filler);
-    code.store(0x40, case.filler);
+    code.store_again(0x101);
+    code.put_out(0x40, case.filler);
 }
 
-/// A timer that stands, whose compare match interrupts, and whose count is so many clocks before the case's.
+/// A timer that stands, whose compare match interrupts, and whose count is so many clocks before the case's. TEMP is the case's.
 fn put_timer(code: &mut Writer<'_>, case: &Case) {
-    let count = (case.count % (TOP + 1) + (TOP + 1 - LATE)) % (TOP + 1);
-    code.store(OCR1AH, (TOP / 256) as u8);
-    code.store(OCR1AL, (TOP % 256) as u8);
+    let top = case.at.top;
+    let period = u32::from(top.max(LATE)) + 1;
+    let late = u32::from(LATE);
+    let count = ((u32::from(case.count) % period + (period - late)) % period) as u16;
+    code.store(OCR1AH, (top / 256) as u8);
+    code.store(OCR1AL, (top % 256) as u8);
     code.store(TCNT1H, (count / 256) as u8);
     code.store(TCNT1L, (count % 256) as u8);
+    code.store(OCR1AH, case.temp);
     code.store(TIMSK1, 2);
 }
 

@@ -57,11 +57,16 @@ impl Writer<'_> {
         self.word(0xB900 + io / 16 * 512 + io % 16);
     }
 
+    /// `sts`, of what r16 has.
+    pub(crate) fn store_again(&mut self, at: u16) {
+        self.word(0x9300);
+        self.word(at);
+    }
+
     /// `ldi r16,value` and `sts`.
     pub(crate) fn store(&mut self, at: u16, value: u8) {
         self.load(16, value);
-        self.word(0x9300);
-        self.word(at);
+        self.store_again(at);
     }
 
     /// `ldi r16,value` and `push r16`.
