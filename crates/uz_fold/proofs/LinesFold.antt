@@ -24,7 +24,7 @@ use Rattle.uz_transfer.specs.declared.step.Step.{Step}
 use Rattle.uz_transfer.specs.Kinds.{is_main}
 use Rattle.uz_transfer.specs.Refusals.{refuse_if}
 use Rattle.uz_transfer.specs.Step.{step_of_row, successor}
-use Rattle.uz_rules.specs.EdgeRule.{is_event, is_quiet, each_exit, edges_fit}
+use Rattle.uz_rules.specs.EdgeRule.{is_event, is_quiet, edges_fit}
 use Rattle.uz_rules.specs.Inside.{same_bool}
 use Rattle.uz_rules.specs.Local.{is_stop, row_emits_in_main, rest_in, return_fail, first_exit, end_of, has_successors, result_fail}
 use Rattle.uz_rules.specs.Local.{compares_edges, step_fail, instance_fail, local_fail}
@@ -32,8 +32,8 @@ use Rattle.uz_rules.specs.Successors.{lies_in_point, lies_in_any}
 use Rattle.uz_fold.specs.Folding.{has_no_line, has_no_line_there, is_plain, kind_of, line_before, kinds_alike, same_rest, rests_alike}
 use Rattle.uz_fold.specs.Folding.{lines_alike, is_on_line, is_even, boxes_even, folds, FoldingLaw}
 use Rattle.uz_fold.proofs.LineEvents.{ScheduleLaws, same_length, long_lines, next_inside, next_before, before_inside, same_two, same_level}
-use Rattle.uz_fold.proofs.StepMoves.{at_line, main_emits_moves, step_at, result_at, row_moves, landed, placed_moves, are_few, FewOf}
-use Rattle.uz_fold.proofs.StepMoves.{few_row}
+use Rattle.uz_fold.proofs.StepMoves.{at_line, main_emits_moves, LengthsAlike, each_same, step_at, result_at, row_moves, landed}
+use Rattle.uz_fold.proofs.StepMoves.{placed_moves, are_few, FewOf, few_row}
 use Rattle.uz_fold.proofs.InstanceMoves.{and_left, and_right, same_is, equal_is, moved, LevelsAlike, instance_moves, IsAt, instance_is_at}
 use Rattle.uz_fold.proofs.InstanceMoves.{by_number, lies_moves, return_moves}
 
@@ -129,10 +129,6 @@ by_way : (Same : ℕ → ℕ → Type 0) (l m n : ℕ) (t u : Bool) → Same l m
 by_way Same l m n true u first second = first
 by_way Same l m n false true first second = first
 by_way Same l m n false false first second = second
-
-each_same : (f g : Exit → Bool) (xs : List Exit) → ((x : Exit) → f x ≡ g x) → each_exit f xs ≡ each_exit g xs
-each_same f g [] same = refl
-each_same f g (x ∷ xs) same = ap (λ b. b && each_exit f xs) (same x) ∙ ap (λ b. g x && b) (each_same f g xs same)
 
 -- what is asked alike of an instance at line l and at line m, and at m and at n, is asked alike of the results at l and at m
 of_result : {A : Type 0} (s : Schedule) (l : ℕ) (i : Instance) (step : Step) (asked : Instance → A)
@@ -291,13 +287,12 @@ instances_same image cert next row l same named runs (Some i) is =
     let m = next_line s l in
     let a = at_line l i in
     let b = at_line m i in
-    let step = step_of_row cert.head (length_of s l) image (Some row) a in
-    steps_same cert next l i (row_emits_in_main (Some row) a) same is.1 named step (few_row cert.head (length_of s l) image row a runs)
+    let step = step_of_row cert.head (order_of s) image (Some row) a in
+    let lengths : LengthsAlike (order_of s) l m = record { own = same.first.lengths; next = same.second.lengths } in
+    steps_same cert next l i (row_emits_in_main (Some row) a) same is.1 named step (few_row cert.head (order_of s) image row a runs)
     ∙ (ap (λ t. step_fail cert next b (is_main i.kind && t) (result_at m step)) (main_emits_moves (effect_of row) l i
     ∙ sym (main_emits_moves (effect_of row) m i))
-    ∙ (ap (step_fail cert next b (row_emits_in_main (Some row) b)) (sym (row_moves cert.head (length_of s l) image (Some row) m a))
-    ∙ ap (λ k. step_fail cert next b (row_emits_in_main (Some row) b) (step_of_row cert.head k image (Some row) b))
-    (sym same.first.lengths)))
+    ∙ ap (step_fail cert next b (row_emits_in_main (Some row) b)) (sym (row_moves cert.head (order_of s) image (Some row) m a lengths)))
 
 own_line : (s : Schedule) (l : ℕ) (o : Option Instance) → IsAt s l o → o ≡ moved l o
 own_line s l None is = refl

@@ -1,7 +1,8 @@
--- The abstract step of an instance looks at no line: at another line of the same length it is the same step.
+-- The abstract step of an instance looks at no line but for the lengths of it and of the next: at another line where these are
+-- the same it is the same step.
 use Rattle.std.proofs.Common.{◌≡◌, ℕ, ◌+◌, ◌≤◌, Bool, true, false, not, if◌then◌else◌, nat_eq, nat_le, nat_lt, Option, Some, None, List, []}
-use Rattle.std.proofs.Common.{◌∷◌, ◌++◌, map, refl, sym, ◌∙◌, ap, arith}
-use Rattle.std.specs.Prelude.{◌&&◌, ◌||◌, ◌%◌, ◌-◌, ⊤, Result, Ok, Err}
+use Rattle.std.proofs.Common.{◌∷◌, ◌++◌, suc, map, refl, sym, ◌∙◌, ap, arith}
+use Rattle.std.specs.Prelude.{◌&&◌, ◌||◌, ◌%◌, ◌-◌, ◌*◌, ⊤, Result, Ok, Err}
 use Rattle.std.specs.Ordering.{nat_cmp}
 use Rattle.std.specs.FinMap.{FinMap}
 use Rattle.std.proofs.lemmas.Bool.Decides.{nat_tests}
@@ -19,11 +20,11 @@ use Rattle.uz_machine.specs.declared.JumpTarget.TheVariants.{Absolute, Relative,
 use Rattle.uz_machine.specs.declared.Effect.{Effect}
 use Rattle.uz_machine.specs.declared.Effect.TheVariants.{CopyByte, Binary, Unary, Load, Store, LoadProgram, Branch, SkipIf, Jump, Return}
 use Rattle.uz_machine.specs.declared.Effect.TheVariants.{Stop, NoOperation}
-use Rattle.uz_machine.specs.Core.{returns_from_interrupt}
+use Rattle.uz_machine.specs.Core.{returns_from_interrupt, sample_clock}
 use Rattle.uz_machine.specs.Effects.{effect_of}
 use Rattle.uz_machine.proofs.RowClocks.{stops, clocks_within}
 use Rattle.uz_schedule.specs.Ends.{Ends}
-use Rattle.uz_schedule.specs.Lines.{Lines}
+use Rattle.uz_schedule.specs.Lines.{Lines, line_after, clock_after}
 use Rattle.uz_schedule.specs.declared.facts.Val.{Val}
 use Rattle.uz_schedule.specs.declared.header.Head.{Head}
 use Rattle.uz_schedule.specs.declared.lines.EventKind.{EventKind}
@@ -36,9 +37,11 @@ use Rattle.uz_transfer.specs.Values.{span_of, value_at, with_flag_list}
 use Rattle.uz_transfer.specs.Kinds.{cell_place, is_main, is_handler}
 use Rattle.uz_transfer.specs.Memory.{address_range, with_pointer_range, flags_from, with_cell, stored_in}
 use Rattle.uz_transfer.specs.Transfer.{transfer}
-use Rattle.uz_transfer.specs.Exits.{outcomes, targets}
+use Rattle.uz_transfer.specs.Exits.{outcomes, targets, each_exit}
 use Rattle.uz_transfer.specs.Emission.{emission, main_emits, level_after}
 use Rattle.uz_transfer.specs.Refusals.{fail_of}
+use Rattle.uz_transfer.specs.InTime.{keeps_time, sets_ahead, returns_with_top, is_in_time, clock_holds}
+use Rattle.uz_transfer.specs.Timer.{handler_stores, stores_top, top_after, temp_loaded, temp_after, with_timer}
 use Rattle.uz_transfer.specs.Step.{exits_of, clears_flag, following_of, sampled_of, step_unless, step_of, step_of_row, at_exit}
 use Rattle.uz_rules.specs.Local.{is_stop}
 
@@ -179,6 +182,76 @@ transfer_moves head image following sampled (Return true) m inst = refl
 transfer_moves head image following sampled (Return false) m inst = refl
 transfer_moves head image following sampled e m inst = refl
 
+-- What it makes of the timer
+
+handler_stores_move : (at : ℕ) (to : AddressMode) (m : ℕ) (inst : Instance) → handler_stores at to (at_line m inst) ≡ handler_stores at to inst
+handler_stores_move at to m inst = ap (λ a. is_handler inst.kind && (is_single a && nat_eq a.lo at)) (address_moves to m inst)
+
+stores_top_moves : (e : Effect) (m : ℕ) (inst : Instance) → stores_top e (at_line m inst) ≡ stores_top e inst
+stores_top_moves (Store to r) m inst = handler_stores_move 0x88 to m inst
+stores_top_moves e m inst = refl
+
+top_moves : (e : Effect) (m : ℕ) (inst : Instance) → top_after e (at_line m inst) ≡ top_after e inst
+top_moves (Store to r) m inst =
+    ap (λ b. if b then inst.temp.lo * 256 + (span_of (value_at inst.regs r)).lo else inst.top) (handler_stores_move 0x88 to m inst)
+top_moves e m inst = refl
+
+temp_moves : (sampled : ℕ) (e : Effect) (m : ℕ) (inst : Instance) → temp_after sampled e (at_line m inst) ≡ temp_after sampled e inst
+temp_moves sampled (Load d from) m inst =
+    ap (λ a. if is_handler inst.kind then temp_loaded sampled a inst.temp else inst.temp) (address_moves from m inst)
+temp_moves sampled (Store to r) m inst =
+    ap (λ b. if b then span_of (value_at inst.regs r) else inst.temp) (handler_stores_move 0x89 to m inst)
+temp_moves sampled e m inst = refl
+
+-- lines l and m have one length, and so have those that follow them
+pub record LengthsAlike (lines : Lines) (l m : ℕ) : Type 0 where
+  pub own : lines.length m ≡ lines.length l
+  pub next : lines.length (lines.next m) ≡ lines.length (lines.next l)
+
+keeps_moves : (lines : Lines) (m : ℕ) (inst : Instance) (x : Exit) → LengthsAlike lines inst.line m
+    → keeps_time lines (at_line m inst) x ≡ keeps_time lines inst x
+keeps_moves lines m inst x h =
+    ap (λ n. nat_eq (suc inst.top) n || (nat_le (inst.clock + x.clocks) inst.top && nat_lt (inst.clock + x.clocks) n)) h.own
+
+sets_moves : (lines : Lines) (e : Effect) (m : ℕ) (inst : Instance) (x : Exit) → LengthsAlike lines inst.line m
+    → sets_ahead lines e (at_line m inst) x ≡ sets_ahead lines e inst x
+sets_moves lines e m inst x h =
+    let k = inst.clock + x.clocks in
+    ap (λ b. not b || nat_le (clock_after lines m k) (top_after e (at_line m inst))) (stores_top_moves e m inst)
+    ∙ (ap (λ n. not (stores_top e inst) || nat_le (clock_after lines m k) n) (top_moves e m inst)
+    ∙ ap (λ n. not (stores_top e inst) || nat_le (if nat_lt k n then k else k - n) (top_after e inst)) h.own)
+
+-- the length of the line on which an instruction ends
+ends_alike : (lines : Lines) (l m k : ℕ) → LengthsAlike lines l m → lines.length (line_after lines m k) ≡ lines.length (line_after lines l k)
+ends_alike lines l m k h =
+    ap (λ n. lines.length (if nat_lt k n then m else lines.next m)) h.own ∙ by_case (nat_lt k (lines.length l))
+  where
+    by_case : (b : Bool) → lines.length (if b then m else lines.next m) ≡ lines.length (if b then l else lines.next l)
+    by_case true = h.own
+    by_case false = h.next
+
+returns_move : (lines : Lines) (e : Effect) (m : ℕ) (inst : Instance) (x : Exit) → LengthsAlike lines inst.line m
+    → returns_with_top lines e (at_line m inst) x ≡ returns_with_top lines e inst x
+returns_move lines e m inst x h =
+    ap (λ n. not (returns_from_interrupt e) || nat_eq (suc inst.top) n) (ends_alike lines inst.line m (inst.clock + x.clocks) h)
+
+in_time_moves : (lines : Lines) (e : Effect) (m : ℕ) (inst : Instance) (x : Exit) → LengthsAlike lines inst.line m
+    → is_in_time lines e (at_line m inst) x ≡ is_in_time lines e inst x
+in_time_moves lines e m inst x h =
+    ap (λ b. b && (sets_ahead lines e (at_line m inst) x && returns_with_top lines e (at_line m inst) x)) (keeps_moves lines m inst x h)
+    ∙ (ap (λ b. keeps_time lines inst x && (b && returns_with_top lines e (at_line m inst) x)) (sets_moves lines e m inst x h)
+    ∙ ap (λ b. keeps_time lines inst x && (sets_ahead lines e inst x && b)) (returns_move lines e m inst x h))
+
+pub each_same : (f g : Exit → Bool) (xs : List Exit) → ((x : Exit) → f x ≡ g x) → each_exit f xs ≡ each_exit g xs
+each_same f g [] same = refl
+each_same f g (x ∷ xs) same = ap (λ b. b && each_exit f xs) (same x) ∙ ap (λ b. g x && b) (each_same f g xs same)
+
+time_moves : (lines : Lines) (e : Effect) (m : ℕ) (inst : Instance) (xs : List Exit) → LengthsAlike lines inst.line m
+    → clock_holds lines e (at_line m inst) xs ≡ clock_holds lines e inst xs
+time_moves lines e m inst xs h =
+    ap (λ b. not (is_handler inst.kind) || b)
+    (each_same (λ x. is_in_time lines e (at_line m inst) x) (λ x. is_in_time lines e inst x) xs (λ x. in_time_moves lines e m inst x h))
+
 -- The step
 
 abbrev pub step_at : ℕ → Step → Step
@@ -188,42 +261,53 @@ abbrev pub result_at : ℕ → Result Step Fail → Result Step Fail
 result_at m (Ok step) = Ok (step_at m step)
 result_at m (Err why) = Err why
 
-unless_moves : (why : Option Fail) (emitted : Option (Option EventKind)) (m : ℕ) (step : Step) → step_unless why emitted (step_at m step)
-    ≡ result_at m (step_unless why emitted step)
-unless_moves (Some why) emitted m step = refl
-unless_moves None None m step = refl
-unless_moves None (Some event) m step = refl
+unless_moves : (why : Option Fail) (emitted : Option (Option EventKind)) (in_time : Bool) (m : ℕ) (step : Step)
+    → step_unless why emitted in_time (step_at m step) ≡ result_at m (step_unless why emitted in_time step)
+unless_moves (Some why) emitted in_time m step = refl
+unless_moves None None in_time m step = refl
+unless_moves None (Some event) false m step = refl
+unless_moves None (Some event) true m step = refl
 
-abbrev drafted : Instance → List Exit → Bool → Bool → Step
-drafted draft exits back clears = record { draft = draft; exits = record { items = exits }; emit = None; back = back; clears = clears }
+abbrev drafted : Instance → ℕ → Ends → List Exit → Bool → Bool → Step
+drafted draft top temp exits back clears =
+    record {
+      draft = with_timer top temp draft;
+      exits = record { items = exits };
+      emit = None;
+      back = back;
+      clears = clears;
+    }
 
-step_moves : (head : Head) (length : ℕ) (image : FinMap nat_cmp ℕ) (e : Effect) (words : ℕ) (clocks : Outcome → ℕ) (m : ℕ) (inst : Instance)
-    → step_of head length image e words clocks (at_line m inst) ≡ result_at m (step_of head length image e words clocks inst)
-step_moves head length image e words clocks m inst =
+step_moves : (head : Head) (lines : Lines) (image : FinMap nat_cmp ℕ) (e : Effect) (words : ℕ) (clocks : Outcome → ℕ) (m : ℕ) (inst : Instance)
+    → LengthsAlike lines inst.line m
+    → step_of head lines image e words clocks (at_line m inst) ≡ result_at m (step_of head lines image e words clocks inst)
+step_moves head lines image e words clocks m inst h =
     let next = following_of words inst in
     let now = at_line m inst in
-    let sampled = sampled_of length e clocks inst in
     let back = returns_from_interrupt e in
-    ap (λ f. step_unless f (emission e now) (drafted (transfer head image next sampled e now)
-    (exits_of e clocks next now (outcomes image next e now)) back (clears_flag e now))) (fail_moves head e m inst)
-    ∙ (ap (λ v. step_unless (fail_of head e inst) v (drafted (transfer head image next sampled e now)
-    (exits_of e clocks next now (outcomes image next e now)) back (clears_flag e now))) (emission_moves e m inst)
-    ∙ (ap (λ d. step_unless (fail_of head e inst) (emission e inst) (drafted d (exits_of e clocks next now (outcomes image next e now)) back
-    (clears_flag e now))) (transfer_moves head image next sampled e m inst)
-    ∙ (ap (λ os. step_unless (fail_of head e inst) (emission e inst) (drafted (at_line m (transfer head image next sampled e inst))
-    (exits_of e clocks next now os) back (clears_flag e now))) (outcomes_move image next e m inst)
-    ∙ (ap (λ xs. step_unless (fail_of head e inst) (emission e inst) (drafted (at_line m (transfer head image next sampled e inst)) xs back
-    (clears_flag e now))) (exits_move e clocks next m inst (outcomes image next e inst))
-    ∙ (ap (λ b. step_unless (fail_of head e inst) (emission e inst) (drafted (at_line m (transfer head image next sampled e inst))
-    (exits_of e clocks next inst (outcomes image next e inst)) back b)) (clears_moves e m inst)
-    ∙ unless_moves (fail_of head e inst) (emission e inst) m (drafted (transfer head image next sampled e inst)
-    (exits_of e clocks next inst (outcomes image next e inst)) back (clears_flag e inst)))))))
+    let there = sampled_of (lines.length m) e clocks now in
+    let here = sampled_of (lines.length inst.line) e clocks inst in
+    let same : there ≡ here = ap (λ n. (inst.clock + sample_clock e clocks) % n) h.own in
+    let exits : exits_of e clocks next now (outcomes image next e now) ≡ exits_of e clocks next inst (outcomes image next e inst) =
+    ap (exits_of e clocks next now) (outcomes_move image next e m inst) ∙ exits_move e clocks next m inst (outcomes image next e inst) in
+    let time : clock_holds lines e now (exits_of e clocks next now (outcomes image next e now)) ≡ clock_holds lines e inst
+    (exits_of e clocks next inst (outcomes image next e inst)) =
+    ap (clock_holds lines e now) exits ∙ time_moves lines e m inst (exits_of e clocks next inst (outcomes image next e inst)) h in
+    let draft : transfer head image next there e now ≡ at_line m (transfer head image next here e inst) =
+    ap (λ k. transfer head image next k e now) same ∙ transfer_moves head image next here e m inst in
+    let temp : temp_after there e now ≡ temp_after here e inst = ap (λ k. temp_after k e now) same ∙ temp_moves here e m inst in
+    (λ i. step_unless (fail_moves head e m inst i) (emission_moves e m inst i) (time i)
+    (drafted (draft i) (top_moves e m inst i) (temp i) (exits i) back (clears_moves e m inst i)))
+    ∙ unless_moves (fail_of head e inst) (emission e inst) (clock_holds lines e inst (exits_of e clocks next inst (outcomes image next e inst))) m
+    (drafted (transfer head image next here e inst) (top_after e inst) (temp_after here e inst)
+    (exits_of e clocks next inst (outcomes image next e inst)) back (clears_flag e inst))
 
 -- the step of an instance that is moved to another line is its step, moved
-pub row_moves : (head : Head) (length : ℕ) (image : FinMap nat_cmp ℕ) (row : Option Instr) (m : ℕ) (inst : Instance)
-    → step_of_row head length image row (at_line m inst) ≡ result_at m (step_of_row head length image row inst)
-row_moves head length image None m inst = refl
-row_moves head length image (Some i) m inst = step_moves head length image (effect_of i) (words_of i) (clocks_of i) m inst
+pub row_moves : (head : Head) (lines : Lines) (image : FinMap nat_cmp ℕ) (row : Option Instr) (m : ℕ) (inst : Instance)
+    → LengthsAlike lines inst.line m
+    → step_of_row head lines image row (at_line m inst) ≡ result_at m (step_of_row head lines image row inst)
+row_moves head lines image None m inst h = refl
+row_moves head lines image (Some i) m inst h = step_moves head lines image (effect_of i) (words_of i) (clocks_of i) m inst h
 
 -- Results
 
@@ -278,11 +362,12 @@ abbrev pub FewOf : Result Step Fail → Type 0
 FewOf (Ok step) = are_few step.exits.items ≡ true
 FewOf (Err why) = ⊤
 
-few_unless : (why : Option Fail) (emitted : Option (Option EventKind)) (step : Step) → are_few step.exits.items ≡ true
-    → FewOf (step_unless why emitted step)
-few_unless (Some why) emitted step h = tt
-few_unless None None step h = tt
-few_unless None (Some event) step h = h
+few_unless : (why : Option Fail) (emitted : Option (Option EventKind)) (in_time : Bool) (step : Step) → are_few step.exits.items ≡ true
+    → FewOf (step_unless why emitted in_time step)
+few_unless (Some why) emitted in_time step h = tt
+few_unless None None in_time step h = tt
+few_unless None (Some event) false step h = tt
+few_unless None (Some event) true step h = h
 
 same_stops : (e : Effect) → is_stop e ≡ stops e
 same_stops Stop = refl
@@ -293,13 +378,15 @@ low_of : (t : Bool) (n : ℕ) → t ≡ false → (t || (nat_le 1 n && nat_le n 
 low_of true n s e = absurd cc
 low_of false n s e = grind (arith, nat_tests)
 
-pub few_row : (head : Head) (length : ℕ) (image : FinMap nat_cmp ℕ) (i : Instr) (inst : Instance) → is_stop (effect_of i) ≡ false
-    → FewOf (step_of_row head length image (Some i) inst)
-few_row head length image i inst h =
+pub few_row : (head : Head) (lines : Lines) (image : FinMap nat_cmp ℕ) (i : Instr) (inst : Instance) → is_stop (effect_of i) ≡ false
+    → FewOf (step_of_row head lines image (Some i) inst)
+few_row head lines image i inst h =
     let e = effect_of i in
     let next = following_of (words_of i) inst in
-    few_unless (fail_of head e inst) (emission e inst)
-    (drafted (transfer head image next (sampled_of length e (clocks_of i) inst) e inst)
-    (exits_of e (clocks_of i) next inst (outcomes image next e inst)) (returns_from_interrupt e) (clears_flag e inst))
+    let here = sampled_of (lines.length inst.line) e (clocks_of i) inst in
+    let exits = exits_of e (clocks_of i) next inst (outcomes image next e inst) in
+    few_unless (fail_of head e inst) (emission e inst) (clock_holds lines e inst exits)
+    (drafted (transfer head image next here e inst) (top_after e inst) (temp_after here e inst) exits (returns_from_interrupt e)
+    (clears_flag e inst))
     (few_exits e (clocks_of i) next inst (outcomes image next e inst) (λ o. low_of (stops e) (clocks_of i o) (sym (same_stops e) ∙ h)
     (clocks_within i o)))

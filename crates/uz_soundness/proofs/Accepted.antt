@@ -44,7 +44,6 @@ pub premises_hold : (laws : RuleLaws) (image : FinMap nat_cmp ℕ) (cert : Cert)
 premises_hold laws image cert formed h = record {
   laws = laws;
   limits = limits_of cert formed;
-  scanlines = h.scanlines;
   local = local_holds laws image cert h;
   rests = λ rest has. rest_holds laws cert rest (h.rests rest has);
   entry = covered laws.lies cert cert.entry.id (entry_instance cert) h.entry.lies;

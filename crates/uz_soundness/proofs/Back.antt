@@ -43,7 +43,7 @@ use Rattle.uz_soundness.specs.Invariant.{RunsMain, RunsHandler, HandlerRuns, pus
 use Rattle.uz_soundness.proofs.Turned.{Turned}
 use Rattle.uz_schedule.proofs.Places.{at_more, at_same, at_after}
 use Rattle.uz_soundness.proofs.Timer.{timer_keeps_top, timer_keeps_mask, counting_kept}
-use Rattle.uz_soundness.proofs.Timing.{timed}
+use Rattle.uz_soundness.proofs.Timing.{on_time, timed}
 use Rattle.uz_soundness.proofs.Ram.{pushed_high, pushed_low, pushed_off}
 use Rattle.uz_soundness.proofs.Bits.{set_seven, set_others}
 use Rattle.uz_soundness.proofs.ReturnTurn.{returned, return_is}
@@ -51,7 +51,7 @@ use Rattle.uz_soundness.proofs.Quiet.{scheduled_mod, level_along, last_in}
 use Rattle.uz_soundness.proofs.Fitting.{is_placed, main_slots, room_below, line_long, cells_widen}
 use Rattle.uz_soundness.proofs.Cells.{mains_alone, head_fits, off_pushed}
 use Rattle.uz_soundness.proofs.Restored.{given_back}
-use Rattle.uz_soundness.proofs.Returns.{IsReturn, return_tells}
+use Rattle.uz_soundness.proofs.Returns.{return_exit, IsReturn, return_tells}
 
 -- the two bytes are the interrupted pc's
 popped : (head : Head) (was s : State PadHistory) (n : ℕ) → was.core.sp + n ≡ head.hi → 1 ≤ was.core.sp → was.core.sp < length
@@ -112,7 +112,7 @@ placed_back cert inst step exit s kind clears four =
 returned_follows : (image : FinMap nat_cmp ℕ) (cert : Cert) (p : ℕ) (s : State PadHistory) (inst main : Instance) (o : Core)
     (was : State PadHistory) (local : LocalHolds image cert inst)
     → Premises image cert → IsState (returned s) → s.image ≡ image → level_at cert.schedule p ≡ Some (sync_level s.space) → HandlerRuns cert
-    p s inst main o was → IsReturn image inst local.step
+    p s inst main o was → IsReturn (order_of cert.schedule) image inst local.step
     → Returns cert inst local.step → depth_of inst ≡ 0 → Turned image cert p s (RunsHandler inst main o was) (leave_edge s) (returned s)
 returned_follows image cert p s inst main o was local h then_state flash level runs reti back empty =
     let z = cert.schedule in
@@ -120,13 +120,14 @@ returned_follows image cert p s inst main o was local h then_state flash level r
     let kind = runs.stands.of_kind in
     let meets = runs.stands.meets in
     let r = successor (order_of z) inst local.step back.exit in
-    let only = one_exit local.step.exits.items back.exit (record { pc = inst.pc % 32768; clocks = 4 }) reti.exits back.is_exit in
+    let only = one_exit local.step.exits.items back.exit (return_exit inst) reti.exits back.is_exit in
     let end = placed_back cert inst local.step back.exit s kind reti.clears (sym (ap (λ (x : Exit). x.clocks) only)) in
     let t = s.space.timer in
     let ticks : TimerCounts Handler t = subst (λ k. TimerCounts k t) kind meets.ticks in
     let timer : TimerMeets Handler inst t = subst (λ k. TimerMeets k inst t) kind meets.timer in
     let long = line_long z inst.line h.limits.schedule fits.line in
-    let time = timed z inst t 4 ticks.0 timer (omega (arith, timer.2, h.scanlines inst.line fits.line)) fits.clock (omega (arith, long)) in
+    let time = timed z inst t 4 ticks.0 timer (on_time (order_of z) inst (return_exit inst) reti.time.keeps) fits.clock
+    (omega (arith, long)) in
     let count : (timer_after 4 t).count ≡ r.clock = time.count ∙ sym end.clock in
     let draft : CoreMeets r was.core s.core = subst (λ d. CoreMeets (record r { regs = d.regs; pairs = d.pairs; flags = d.flags }) was.core
     s.core) (sym reti.draft) (record { regs = meets.core.regs; pairs = meets.core.pairs; flags = meets.core.flags }) in
@@ -158,7 +159,6 @@ returned_follows image cert p s inst main o was local h then_state flash level r
     in
     let there : At z (p + 4) r.line r.clock = at_same z (p + 4) _ r.line _ r.clock (sym end.line) (sym end.clock)
     (at_after z (p + 4) inst.line (inst.clock + 4) (at_more z p inst.line inst.clock 4 runs.place)) in
-    let rest_line = (h.limits.rests back.rest back.is_rest).line in
     let rest_holds = h.rests back.rest back.is_rest in
     let was_meets = runs.main_stands.meets in
     let was_memory = was_meets.memory in
@@ -212,7 +212,7 @@ returned_follows image cert p s inst main o was local h then_state flash level r
               is_rest = back.is_rest;
               cells = cells_widen cert.head Handler local.step.draft.cells.items back.rest.cells.items s.space.bytes then_state.space.bytes
                   back.cells drafted;
-              top = ap suc (timer_keeps_top t 4 ∙ timer.2) ∙ sym (h.scanlines back.rest.line rest_line);
+              top = ap suc (timer_keeps_top t 4 ∙ timer.2) ∙ (reti.time.top ∙ ap (length_of z) (sym end.line ∙ back.line));
               phase = inl (record {
                 place = at_same z (p + 4) r.line back.rest.line r.clock (timer_after 4 t).count back.line (sym count) there;
                 rested = omega (arith, count, back.clock);
@@ -236,7 +236,7 @@ pub handler_back : (image : FinMap nat_cmp ℕ) (cert : Cert) (p : ℕ) (s : Sta
     (after_instruction history_wiring Reti s)
 handler_back image cert p s inst main o was local h then_state flash level runs is_back back =
     let z = cert.schedule in
-    let reti = return_tells cert.head (length_of z inst.line) image inst local.step local.step_is is_back in
+    let reti = return_tells cert.head (order_of z) image inst local.step local.step_is is_back in
     let meets = runs.stands.meets in
     let main_fits = is_placed cert h.limits runs.main_stands.id runs.main_stands.l runs.main_stands.c main runs.main_stands.is in
     let depth = main_slots cert main main_fits runs.main_stands.of_kind in

@@ -40,7 +40,8 @@ use Rattle.uz_soundness.proofs.Premises.{Premises}
 use Rattle.uz_soundness.specs.Invariant.{RunsMain, RunsHandler, MainRuns, Due, pushed}
 use Rattle.uz_soundness.proofs.Turned.{Turned}
 use Rattle.uz_schedule.proofs.Places.{at_more, at_same, event_here, level_here}
-use Rattle.uz_soundness.proofs.Timer.{count_within, count_counting, matched_within, timer_keeps_top, timer_keeps_mask, counting_kept}
+use Rattle.uz_soundness.proofs.Timer.{count_within, count_counting, matched_within, timer_keeps_top, timer_keeps_temp}
+use Rattle.uz_soundness.proofs.Timer.{timer_keeps_mask, counting_kept}
 use Rattle.uz_soundness.proofs.Ram.{pushed_level}
 use Rattle.uz_soundness.proofs.Bits.{clear_seven, clear_others}
 use Rattle.uz_soundness.proofs.EntryTurn.{entered, entry_is, entry_seen}
@@ -99,7 +100,6 @@ entered_follows : (image : FinMap nat_cmp ℕ) (cert : Cert) (p : ℕ) (s : Stat
     → Turned image cert p s (RunsMain main o rest) (enter_edge s) (entered s)
 entered_follows image cert p s main o rest h is_state then_state flash level runs due =
     let rule = h.rests rest runs.rests.is_rest in
-    let full = h.scanlines rest.line (h.limits.rests rest runs.rests.is_rest).line in
     let limits = h.limits in
     let schedule = cert.schedule in
     let of_kind = runs.stands.of_kind in
@@ -165,7 +165,12 @@ entered_follows image cert p s main o rest h is_state then_state flash level run
         ranges = ranges;
         depth = omega (arith, at_stack, low, limits.head.low);
       };
-      timer = (count ∙ ap (λ k. n + k) meets.response, flag, timer_keeps_top t s.response ∙ omega (arith, runs.rests.top, full));
+      timer = (
+        count ∙ ap (λ k. n + k) meets.response,
+        flag,
+        timer_keeps_top t s.response ∙ omega (arith, runs.rests.top),
+        record { above = omega arith; below = omega (arith, timer_keeps_temp t s.response, is_state.space.timer.temp) },
+      );
       ticks = (counting_kept t s.response ∙ ticks.0, ap (λ m. bit_is_set m 1) (timer_keeps_mask t s.response) ∙ ticks.1);
       level = old_level;
       response = meets.response;
@@ -183,6 +188,7 @@ entered_follows image cert p s main o rest h is_state then_state flash level run
           runs = record {
             stands = to;
             place = then_place;
+            below_top = omega (arith, count, within, timer_keeps_top t s.response);
             was_state = is_state;
             main_stands = runs.stands;
             kept = record { sp = at_stack; stack = λ a above below. refl; cells = λ a j e. refl };

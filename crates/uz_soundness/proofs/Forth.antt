@@ -23,7 +23,7 @@ use Rattle.uz_transfer.specs.declared.step.Exit.{Exit}
 use Rattle.uz_transfer.specs.declared.step.Step.{Step}
 use Rattle.uz_rules.specs.MemoryMeets.{Untouched, depth_below}
 use Rattle.uz_transfer.specs.Kinds.{cell_place}
-use Rattle.uz_transfer.specs.Kinds.{is_main}
+use Rattle.uz_transfer.specs.Kinds.{is_main, is_handler}
 use Rattle.uz_transfer.specs.Memory.{depth_of}
 use Rattle.uz_events.specs.Events.{shown, shown_at, listed}
 use Rattle.uz_transfer.specs.Emission.{level_after}
@@ -226,6 +226,7 @@ handler_forth image cert p s inst main o was edges new local h carries plain lev
           runs = record {
             stands = to.stands;
             place = to.place;
+            below_top = one.below_top (ap is_handler runs.stands.of_kind);
             was_state = runs.was_state;
             main_stands = runs.main_stands;
             kept = still_kept cert (depth_of main) inst was s new runs.stands.of_kind runs.stands.meets.memory.depth one.untouched

@@ -13,7 +13,7 @@ use Rattle.uz_schedule.specs.declared.kinds.Kind.TheVariants.{Main, Handler, Alo
 use Rattle.uz_schedule.specs.declared.states.Rest.{Rest}
 use Rattle.uz_schedule.specs.declared.states.Instance.{Instance}
 use Rattle.uz_schedule.specs.declared.certificate.Cert.{Cert}
-use Rattle.uz_schedule.specs.Schedule.{length_of, event_at, level_at}
+use Rattle.uz_schedule.specs.Schedule.{event_at, level_at}
 use Rattle.uz_machine.specs.declared.Edge.{Edge}
 use Rattle.uz_machine.specs.declared.Effect.TheVariants.{Stop}
 use Rattle.uz_machine.specs.Arithmetic.{bit_is_set}
@@ -115,7 +115,6 @@ handler_goes image cert p s inst main o was local h is_state flash runs forth =
     let main_fits = is_placed cert h.limits runs.main_stands.id runs.main_stands.l runs.main_stands.c main runs.main_stands.is in
     let long = line_long cert.schedule inst.line h.limits.schedule fits.line in
     h.laws.handler cert.head (order_of cert.schedule) image inst was.core (depth_of main) local.step s runs.stands.of_kind
-    (omega (arith, h.scanlines inst.line fits.line))
     fits.clock (omega (arith, long))
     (begins image cert s Handler was.core (depth_of main) inst local h is_state flash runs.stands
     (main_slots cert main main_fits runs.main_stands.of_kind) forth)
@@ -156,7 +155,7 @@ reti_goes : (image : FinMap nat_cmp ℕ) (cert : Cert) (s : State PadHistory) (i
     → IsState s → s.image ≡ image → s.core.pc ≡ inst.pc → is_entry s ≡ false → local.step.back ≡ true → Goes s
 unfolding Goes
 reti_goes image cert s inst local is_state flash pc later back =
-    let reti = return_tells cert.head (length_of cert.schedule inst.line) image inst local.step local.step_is back in (
+    let reti = return_tells cert.head (order_of cert.schedule) image inst local.step local.step_is back in (
       instruction_edges history_wiring Reti s,
       after_instruction history_wiring Reti s,
       inr (record {
@@ -217,14 +216,14 @@ plain image cert s edges next inst local is_state flash pc forth turn =
     let again = subst (λ k. Reads (word_of image k) (word_of image ((inst.pc + 1) % 32768)) turn.row) (sym (in_flash s inst.pc is_state pc))
     reads in
     subst (All (λ e. IsPlain e.kind)) (sym turn.emits)
-    (no_marks turn.row s (forth_plain cert.head (length_of cert.schedule inst.line) image inst local.step turn.row local.step_is again
+    (no_marks turn.row s (forth_plain cert.head (order_of cert.schedule) image inst local.step turn.row local.step_is again
     forth))
 
 reti_is : (image : FinMap nat_cmp ℕ) (cert : Cert) (s : State PadHistory) (edges : List Edge) (next : State PadHistory) (inst : Instance)
     (local : LocalHolds image cert inst) → IsState s → s.image ≡ image → s.core.pc ≡ inst.pc → local.step.back ≡ true
     → (turn : IsInstructionTurn history_wiring s edges next) → turn.row ≡ Reti
 reti_is image cert s edges next inst local is_state flash pc back turn =
-    let reti = return_tells cert.head (length_of cert.schedule inst.line) image inst local.step local.step_is back in
+    let reti = return_tells cert.head (order_of cert.schedule) image inst local.step local.step_is back in
     unique _ turn.row Reti turn.reads (reti_at image s inst.pc flash pc (plain_reads image inst.pc Reti (in_flash s inst.pc is_state pc)
     reti.reads))
 

@@ -13,7 +13,7 @@ use Rattle.avr_decode.proofs.Unique.{unique}
 use Rattle.uz_machine.specs.Effects.{effect_of}
 use Rattle.uz_schedule.specs.Instances.{instance_in, instance_at}
 use Rattle.uz_schedule.specs.Lines.{order_of}
-use Rattle.uz_schedule.specs.Schedule.{length_of, event_at}
+use Rattle.uz_schedule.specs.Schedule.{event_at}
 use Rattle.uz_schedule.specs.declared.kinds.Kind.{Kind}
 use Rattle.uz_schedule.specs.declared.kinds.Kind.TheVariants.{Main, Handler, Alone}
 use Rattle.uz_schedule.specs.declared.lines.EventKind.{EventKind}
@@ -32,7 +32,8 @@ use Rattle.uz_transfer.specs.Emission.{main_emits}
 use Rattle.uz_transfer.specs.Refusals.{refuse_if}
 use Rattle.uz_transfer.specs.Step.{IsReadAt, IsStep, step_of_row, successor}
 use Rattle.uz_rules.specs.Inside.{cells_inside, restored}
-use Rattle.uz_rules.specs.EdgeRule.{position_of, is_kind, is_event, is_quiet, emits_as_scheduled, each_exit, edges_fit}
+use Rattle.uz_rules.specs.EdgeRule.{position_of, is_kind, is_event, is_quiet, emits_as_scheduled, edges_fit}
+use Rattle.uz_transfer.specs.Exits.{each_exit}
 use Rattle.uz_rules.specs.Successors.{lies_in_point, lies_in_any, LiesInPoint}
 use Rattle.uz_rules.specs.Local.{is_no_opcode, row_emits_in_main, rest_in, return_fail, first_exit, end_of, has_successors, compares_edges}
 use Rattle.uz_rules.specs.Local.{step_fail, instance_fail, IsLocal}
@@ -194,14 +195,14 @@ return_told cert end (Some rest) is e =
 -- The rule
 
 result_tells : (laws : LiesInPoint) (image : FinMap nat_cmp ℕ) (cert : Cert) (next : List ℕ) (inst : Instance) (step : Step)
-    → IsStep cert.head (length_of cert.schedule inst.line) image inst (Ok step) → (back : Bool) → step.back ≡ back
+    → IsStep cert.head (order_of cert.schedule) image inst (Ok step) → (back : Bool) → step.back ≡ back
     → None ≡ cond back (return_fail (rest_in cert.rests (end_of cert inst step).line) (end_of cert inst step))
     (refuse_if (not (has_successors cert next inst step)) fail.Successor None) → Succeeds cert inst step back
 result_tells laws image cert next inst step is true back e =
     let told = return_told cert (end_of cert inst step) (rest_in cert.rests (end_of cert inst step).line) refl e in
-    let reti = return_tells cert.head (length_of cert.schedule inst.line) image inst step is back in
+    let reti = return_tells cert.head (order_of cert.schedule) image inst step is back in
     record {
-      kind = handler_returns cert.head (length_of cert.schedule inst.line) image inst step is back;
+      kind = handler_returns cert.head (order_of cert.schedule) image inst step is back;
       rest = told.rest;
       is_rest = told.has;
       exit = first_exit step.exits.items;
@@ -249,13 +250,13 @@ edge_tells image cert row inst step reads opcode silent compares Alone kind =
 
 step_tells : (laws : LiesInPoint) (image : FinMap nat_cmp ℕ) (cert : Cert) (next : List ℕ) (row : Option Instr) (inst : Instance)
     (result : Result Step Fail) → IsReadAt image inst.pc row → is_no_opcode row ≡ false → step_of_row cert.head
-    (length_of cert.schedule inst.line) image row inst ≡ result
+    (order_of cert.schedule) image row inst ≡ result
     → None ≡ step_fail cert next inst (row_emits_in_main row inst) result → LocalHolds image cert inst
 step_tells laws image cert next row inst (Err why) reads opcode is e = absurd cc
 step_tells laws image cert next row inst (Ok step) reads opcode is e =
     let silent = unrefused _ _ _ e in
     let compares = unrefused _ _ _ silent.1 in
-    let step_is : IsStep cert.head (length_of cert.schedule inst.line) image inst (Ok step) = record {
+    let step_is : IsStep cert.head (order_of cert.schedule) image inst (Ok step) = record {
       row = row;
       reads = reads;
       is = sym is;

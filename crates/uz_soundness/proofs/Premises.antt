@@ -20,7 +20,6 @@ use Rattle.uz_events.specs.Events.{shown_at, listed}
 use Rattle.uz_transfer.specs.Step.{IsStep, successor}
 use Rattle.uz_rules.specs.OneStep.{AloneContained, HandlerContained, MainContained}
 use Rattle.uz_transfer.specs.Emission.{main_emits}
-use Rattle.uz_soundness.specs.Steady.{AreScanlines}
 use Rattle.uz_soundness.specs.Claim.{scheduled}
 use Rattle.uz_schedule.specs.Lines.{order_of}
 use Rattle.uz_rules.specs.EdgeRule.{position_of}
@@ -66,7 +65,7 @@ Succeeds cert inst step true = Returns cert inst step
 
 pub record LocalHolds (image : FinMap nat_cmp ℕ) (cert : Cert) (inst : Instance) : Type 0 where
   pub step : Step
-  pub step_is : IsStep cert.head (length_of cert.schedule inst.line) image inst (Ok step)
+  pub step_is : IsStep cert.head (order_of cert.schedule) image inst (Ok step)
   pub edge : EdgeHolds image cert inst.kind inst step
   pub successor : Succeeds cert inst step step.back
 
@@ -92,7 +91,6 @@ pub record RuleLaws : Type 0 where
 pub record Premises (image : FinMap nat_cmp ℕ) (cert : Cert) : Type 0 where
   pub laws : RuleLaws
   pub limits : Limits cert
-  pub scanlines : AreScanlines cert.schedule
   pub local : (id l c : ℕ) (inst : Instance) → instance_at cert id l c ≡ Some inst → LocalHolds image cert inst
   pub rests : (rest : Rest) → Contains cert.rests rest → RestHolds cert rest
   pub entry : IsCovered cert (entry_instance cert)

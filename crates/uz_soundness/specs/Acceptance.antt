@@ -7,13 +7,11 @@ use Rattle.uz_schedule.specs.declared.states.Rest.{Rest}
 use Rattle.uz_schedule.specs.declared.states.Point.{Point}
 use Rattle.uz_schedule.specs.declared.certificate.Cert.{Cert}
 use Rattle.uz_rules.specs.Local.{IsLocal}
-use Rattle.uz_soundness.specs.Steady.{IsSteady, AreScanlines}
+use Rattle.uz_soundness.specs.Steady.{IsSteady}
 use Rattle.uz_soundness.specs.FrameRules.{RestPasses, EntryPasses}
 
--- each line is a scanline, the frame rules hold, and at each line and count of each point's box the local rule refuses
--- nothing
+-- the frame rules hold, and at each line and count of each point's box the local rule refuses nothing
 pub record Accepts (image : FinMap nat_cmp ℕ) (cert : Cert) : Type 0 where
-  pub scanlines : AreScanlines cert.schedule
   pub steady : IsSteady cert.schedule
   pub rests : (rest : Rest) → Contains cert.rests rest → RestPasses cert rest
   pub entry : EntryPasses cert

@@ -52,7 +52,7 @@ pub record Due (cert : Cert) (p : ℕ) (s : State PadHistory) (rest : Rest) : Ty
   pub set : s.space.timer.matched ≡ true
   pub settled : s.is_owed ≡ false
 
--- at a rest; the handler's cells lie in its ranges
+-- at a rest: the handler's cells lie in its ranges, and OCR1A is the last clock of its line
 pub record Rests (cert : Cert) (p : ℕ) (s : State PadHistory) (rest : Rest) : Type 0 where
   pub is_rest : Contains cert.rests rest
   pub cells : CellsHold cert.head Handler rest.cells.items s.space.bytes
@@ -88,10 +88,12 @@ pub record MainRuns (cert : Cert) (p : ℕ) (s : State PadHistory) (inst : Insta
   pub stands : Stands cert Main o 0 inst s
   pub rests : Rests cert p s rest
 
+-- OCR1A is the instance's top, and TCNT1 isn't above it
 pub record HandlerRuns (cert : Cert) (p : ℕ) (s : State PadHistory) (inst main : Instance) (o : Core) (was : State PadHistory) : Type
     0 where
   pub stands : Stands cert Handler was.core (depth_of main) inst s
   pub place : At cert.schedule p inst.line inst.clock
+  pub below_top : s.space.timer.count ≤ s.space.timer.top
   pub was_state : IsState was
   pub main_stands : Stands cert Main o 0 main was
   pub kept : IsKept cert.head (depth_of main) was s

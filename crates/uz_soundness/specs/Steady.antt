@@ -1,13 +1,9 @@
--- Lines of one length, and steady ones: each begins with the fall of sync.
+-- Steady lines: each begins with the fall of sync.
 use Rattle.std.specs.Prelude.{◌≡◌, ◌≢◌, All, ℕ, ◌<◌, List, ◌∷◌, Some, length}
 use Rattle.uz_schedule.specs.declared.lines.Event.{Event}
 use Rattle.uz_schedule.specs.declared.lines.EventKind.TheVariants.{Sync}
 use Rattle.uz_schedule.specs.declared.lines.Schedule.{Schedule}
-use Rattle.uz_schedule.specs.Schedule.{scanline, length_of, events_of}
-
--- each line has the clocks of a scanline, none those of half of one
-abbrev pub AreScanlines : Schedule → Type 0
-AreScanlines s = (l : ℕ) → l < length s.lines → length_of s l ≡ scanline
+use Rattle.uz_schedule.specs.Schedule.{events_of}
 
 -- the first event of a line is sync 0 at the fall's clock, and no later one of it is sync 0
 pub record IsSteadyLine (fall : ℕ) (events : List Event) : Type 0 where
