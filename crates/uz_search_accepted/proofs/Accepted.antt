@@ -18,8 +18,7 @@ use Rattle.uz_search_accepted.specs.Accepting.{EndedAccepts}
 use Rattle.uz_search_accepted.proofs.SteadyLines.{steady}
 
 pub accepted : EndedAccepts
-accepted image p found cert fits ended made schedule scanlines of = record {
-  scanlines = scanlines;
+accepted image p found cert fits ended made schedule of = record {
   steady = steady p found.marks.items cert.schedule schedule made.schedule fits
       (falls_once image p found cert.schedule fits ended made.schedule);
   rests = rest_passes;

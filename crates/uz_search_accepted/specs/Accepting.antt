@@ -9,7 +9,6 @@ use Rattle.uz_schedule.specs.declared.states.Point.{Point}
 use Rattle.uz_schedule.specs.declared.states.Rest.{Rest}
 use Rattle.uz_rules.specs.Successors.{lies_in_point}
 use Rattle.uz_soundness.specs.Acceptance.{Accepts}
-use Rattle.uz_soundness.specs.Steady.{AreScanlines}
 use Rattle.uz_search.specs.declared.found.Found.{Found}
 use Rattle.uz_search.specs.declared.program.Program.{Program}
 use Rattle.uz_search.specs.declared.returns.Return.{Return}
@@ -47,5 +46,4 @@ pub record ArePointsOf (image : Flash) (p : Program) (found : Found) (cert : Cer
 
 abbrev pub EndedAccepts : Type 0
 EndedAccepts = (image : Flash) (p : Program) (found : Found) (cert : Cert) → ProgramFits p → IsEnded image p found → IsMadeOf p found cert
-    → ScheduleFits cert.schedule → AreScanlines cert.schedule
-    → ArePointsOf image p found cert → Accepts image cert
+    → ScheduleFits cert.schedule → ArePointsOf image p found cert → Accepts image cert
