@@ -5,4 +5,5 @@ pub mod OutcomeLemmas
 pub mod ReadingLemmas
 pub mod ReadsLemmas
 pub mod TextLemmas
+pub mod WorkLemmas
 pub mod WriteLemmas
