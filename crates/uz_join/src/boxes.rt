@@ -72,6 +72,8 @@ fn point_of(first: &Point, second: &Point, last: &Point, next: ArrayVec<u32, 16>
         clock: first.clock,
         slope: first.slope,
         pending: first.pending,
+        top: first.top,
+        temp: first.temp,
         regs: registers(&first.regs, &second.regs, first.l0),
         pairs: copied_pairs(&first.pairs),
         flags: first.flags,

@@ -12,6 +12,11 @@ pub(crate) fn is_joinable(point: &Point) -> bool {
         }
 }
 
+/// Whether two points say the same of the timer.
+fn same_timer(a: &Point, b: &Point) -> bool {
+    a.pending == b.pending && a.top == b.top && a.temp == b.temp
+}
+
 /// Whether two points stand at the same place of the program and of the line.
 fn same_place(a: &Point, b: &Point) -> bool {
     a.kind == b.kind
@@ -20,12 +25,12 @@ fn same_place(a: &Point, b: &Point) -> bool {
         && a.slope == b.slope
         && a.c0 == b.c0
         && a.c1 == b.c1
-        && a.pending == b.pending
 }
 
 /// Whether two points have one shape.
 pub(crate) fn same_shape(a: &Point, b: &Point) -> bool {
     same_place(a, b)
+        && same_timer(a, b)
         && a.flags == b.flags
         && a.pairs == b.pairs
         && same_but_bytes(&a.regs, &b.regs)
@@ -87,7 +92,7 @@ fn flag_code(flag: Bit) -> u64 {
 /// A number that points of one shape have alike. Few others have it.
 pub(crate) fn key(point: &Point) -> u64 {
     let place = mixed(mixed(SEED, u64::from(point.pc)), u64::from(point.clock));
-    let mut key = mixed(place, u64::from(point.c1));
+    let mut key = mixed(mixed(place, u64::from(point.c1)), u64::from(point.top));
     for flag in &point.flags {
         key = mixed(key, flag_code(*flag));
     }
