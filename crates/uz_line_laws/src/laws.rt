@@ -15,7 +15,9 @@ ghost use Rattle.uz_schedule.specs.declared.states.Entry.{Entry};
 ghost use Rattle.uz_schedule.specs.declared.states.Point.{Point};
 ghost use Rattle.uz_lines.specs.Grammar.{Words, words_of};
 ghost use Rattle.uz_lines.specs.Forms.{reads};
-ghost use Rattle.uz_lines.specs.Lines.{SizesFit, KindLineFits, IsPointIn, size_form, irq_form, stack_form, cell_form, kind_form, event_form, fall_form, run_form, rest_form, entry_form, point_form, end_form};
+ghost use Rattle.uz_lines.specs.Lines.{SizesFit, KindLineFits, IsPointIn};
+ghost use Rattle.uz_lines.specs.Lines.{size_form, irq_form, stack_form, cell_form, kind_form};
+ghost use Rattle.uz_lines.specs.Lines.{event_form, fall_form, run_form, rest_form, entry_form, point_form, end_form};
 ghost use Rattle.uz_lines.specs.declared.lines.KindLine.{KindLine};
 ghost use Rattle.uz_lines.specs.declared.version.Version.{Version};
 ghost use Rattle.uz_lines.specs.declared.lines.Run.{Run};
@@ -111,10 +113,10 @@ pub fn point_line()
     ensures again { (version : Version) (h : Head) (lines points left : ℕ) (p : Point) → PlacesAre h lines points → left ≤ 2 ^ 30
         → PointFits h lines points p → IsPointIn version p → instances_of p ≤ left
         → reads (point_form version h lines points left) (line (point_words h.cells.items p)) ≡ Ok (said.Point p) }
-    ensures only { (version : Version) (h : Head) (lines points left : ℕ) (words : Words) (says : Said) → PlacesAre h lines points → 1 ≤ lines
-        → left ≤ 2 ^ 30 → reads (point_form version h lines points left) words ≡ Ok says
-        → (p : Point) × (says ≡ said.Point p) × (words ≡ line (point_words h.cells.items p)) × PointFits h lines points p × IsPointIn version p
-        × (instances_of p ≤ left) }
+    ensures only { (version : Version) (h : Head) (lines points left : ℕ) (words : Words) (says : Said) → PlacesAre h lines points
+        → 1 ≤ lines → left ≤ 2 ^ 30 → reads (point_form version h lines points left) words ≡ Ok says
+        → (p : Point) × (says ≡ said.Point p) × (words ≡ line (point_words h.cells.items p)) × PointFits h lines points p
+        × IsPointIn version p × (instances_of p ≤ left) }
 {}
 
 /// `end`

@@ -5,7 +5,9 @@ ghost use Rattle.uz_lines.specs.Defaults.{is_any_pair, is_default as default_fac
 ghost use Rattle.uz_schedule.specs.WellFormed.{is_default_flag as default_flag};
 ghost use Rattle.uz_schedule.specs.declared.header.Cell.{Cell};
 ghost use Rattle.uz_spelling.specs.Joined.{spaced};
-ghost use Rattle.uz_spelling.specs.Spelling.{item, unless, fact_word, pair_word, flag_word, register_items, pair_items, flag_items, slot_items, cell_items, top_items, temp_items, successor_items, range_facts};
+ghost use Rattle.uz_spelling.specs.Spelling.{item, unless, fact_word, pair_word, flag_word, range_facts};
+ghost use Rattle.uz_spelling.specs.Spelling.{register_items, pair_items, flag_items, slot_items, cell_items};
+ghost use Rattle.uz_spelling.specs.Spelling.{top_items, temp_items, successor_items};
 
 use crate::facts::{add_fact, add_pair_fact, add_range, flag, range_fact};
 use crate::words::{add_byte, add_decimal, add_word};
