@@ -1,5 +1,5 @@
 -- Whether the timer keeps time with the lines over a handler's instruction: what the reason Clock asks of it besides the rest clock.
-use Rattle.std.specs.Prelude.{Bool, List, nat_eq, nat_le, nat_lt, not, suc, ℕ, ◌&&◌, ◌+◌, ◌||◌}
+use Rattle.std.specs.Prelude.{Bool, List, nat_eq, nat_le, nat_lt, not, suc, ◌&&◌, ◌+◌, ◌||◌}
 use Rattle.uz_schedule.specs.Lines.{Lines, line_after, clock_after}
 use Rattle.uz_schedule.specs.declared.states.Instance.{Instance}
 use Rattle.uz_machine.specs.Core.{returns_from_interrupt}

@@ -1,12 +1,12 @@
 //! Whether the timer keeps time with the lines over a handler's instruction.
 
-ghost use Rattle.std.specs.Prelude.{◌≡◌, ◌<◌, ◌≤◌, ◌+◌, length, nat_eq, suc};
+ghost use Rattle.std.specs.Prelude.{◌≡◌, ◌<◌, ◌≤◌, ◌+◌, ◌&&◌, ◌||◌, length, nat_eq, nat_le, nat_lt, suc};
 ghost use Rattle.uz_machine.specs.OperandRanges.{EffectFits};
 ghost use Rattle.uz_schedule.specs.Limits.{most_lines};
 ghost use Rattle.uz_schedule.specs.Schedule.{scanline};
 ghost use Rattle.uz_schedule.specs.Lines.{order_of};
 ghost use Rattle.uz_transfer.specs.Exits.{each_exit};
-ghost use Rattle.uz_transfer.specs.InTime.{keeps_time as time_is_kept, sets_ahead as is_set_ahead, returns_with_top as returns_with, is_in_time as in_time_by, clock_holds as clock_by};
+ghost use Rattle.uz_transfer.specs.InTime.{sets_ahead as is_set_ahead, returns_with_top as returns_with, is_in_time as in_time_by, clock_holds as clock_by};
 
 use crate::memory::is_handler;
 use crate::one_step::is_return;
@@ -22,15 +22,11 @@ fn is_last_clock(top: u16, clocks: u16) -> bool
     u32::from(top) + 1 == u32::from(clocks)
 }
 
-/// Whether the timer counts to the end clock of an exit as the line does. OCR1A is that of before the instruction, since a store
-/// acts after the timer has counted.
-fn keeps_time(schedule: &Schedule, at: &Instance, exit: Exit) -> bool
-    requires { at.now.clock < scanline }
-    ensures { result ≡ time_is_kept (order_of schedule.now) at.now exit }
+/// Whether a timer that counts to `top` comes to an end clock as a line of so many clocks does.
+fn counts_along(top: u16, clocks: u16, end: u16) -> bool
+    ensures { result ≡ (nat_eq (suc top) clocks || (nat_le end top && nat_lt end clocks)) }
 {
-    let clocks = schedule.length(at.line);
-    let end = at.clock + u16::from(exit.clocks);
-    is_last_clock(at.top, clocks) || (end <= at.top && end < clocks)
+    is_last_clock(top, clocks) || (end <= top && end < clocks)
 }
 
 /// Whether a store leaves OCR1A at the timer's count or above, which is the clock of the line on which it ends.
@@ -62,7 +58,8 @@ fn returns_with_top(schedule: &Schedule, e: Effect, at: &Instance, exit: Exit) -
     is_last_clock(at.top, schedule.length(line))
 }
 
-/// Whether the timer keeps time to an exit.
+/// Whether the timer keeps time to an exit. It counts to the end clock with OCR1A as it is before the instruction, since a store acts
+/// after the timer has counted.
 fn is_in_time(schedule: &Schedule, e: Effect, at: &Instance, exit: Exit) -> bool
     requires count { length schedule.now.lines ≤ most_lines }
     requires line { at.now.line < length schedule.now.lines }
@@ -70,7 +67,8 @@ fn is_in_time(schedule: &Schedule, e: Effect, at: &Instance, exit: Exit) -> bool
     requires fits { EffectFits e }
     ensures { result ≡ in_time_by (order_of schedule.now) e at.now exit }
 {
-    keeps_time(schedule, at, exit)
+    let end = at.clock + u16::from(exit.clocks);
+    counts_along(at.top, schedule.length(at.line), end)
         && sets_ahead(schedule, e, at, exit)
         && returns_with_top(schedule, e, at, exit)
 }

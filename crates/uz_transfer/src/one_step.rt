@@ -69,28 +69,29 @@ pub fn word_after(pc: u16, words: u8) -> u16
     ((pc as u32 + words as u32) % 32768) as u16
 }
 
-/// What is known after an instruction that isn't refused, wherever it leads. `line_length` is that of the instance's line, in clocks.
-fn draft_of(
+/// Puts what is known after an instruction of `at` that isn't refused, wherever it leads, into a copy of `at`. `line_length` is that of
+/// the instance's line, in clocks.
+fn put_known(
+    draft: &mut Instance,
     image: &Image,
     head: &Head,
     line_length: u16,
     at: &Instance,
     i: &Instr,
     e: Effect,
-) -> Instance
+)
+    requires copy { draft.old ≡ at.now }
     requires limits { limit_of_depth head.now at.now.kind ≤ 32 }
     requires clock { at.now.clock < line_length }
     requires line { line_length ≤ scanline }
     requires fits { EffectFits e }
     requires fine { fail_of_effect head.now e at.now ≡ None }
-    ensures { result ≡ known_after head.now line_length image.now e (words_of i.now) (clocks_of i.now) at.now }
+    ensures { draft.new ≡ known_after head.now line_length image.now e (words_of i.now) (clocks_of i.now) at.now }
 {
     let following = word_after(at.pc, words(i));
     let sampled = sampled(at.clock, line_length, sample(e, i));
-    let mut draft = copied(at);
-    transfer(&mut draft, head, image, following, sampled, e);
-    put_timer(&mut draft, at, sampled, e);
-    draft
+    transfer(draft, head, image, following, sampled, e);
+    put_timer(draft, at, sampled, e);
 }
 
 /// The step of an instance under an instruction and its effect.
@@ -120,8 +121,10 @@ pub(crate) fn step_of(
     if !clock_holds(schedule, e, at, exits.as_slice()) {
         return Err(Fail::Clock);
     }
+    let mut draft = copied(at);
+    put_known(&mut draft, image, head, schedule.length(at.line), at, i, e);
     Ok(Step {
-        draft: draft_of(image, head, schedule.length(at.line), at, i, e),
+        draft,
         exits,
         emit,
         back: is_return(e),
