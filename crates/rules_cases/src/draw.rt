@@ -1,21 +1,32 @@
 //! Draws an instance and the words at its pc.
 
-ghost use Rattle.std.specs.Prelude.{◌≡◌, ◌≤◌};
+ghost use Rattle.std.specs.Prelude.{◌≡◌, ◌<◌};
 
 use arrayvec::ArrayVec;
 use drawn_numbers::{ROWS, Random, place};
 use std::alloc::{AllocError, Global};
 use uz_range::hull;
 use uz_schedule::{
-    Bit, Cell, Head, Instance, Kind, Owner, Response, SCANLINE, Schedule, Sequence, Span, Val,
-    Wide, tracks,
+    Bit, Cell, HALF_LINE, Head, Instance, Kind, Owner, Response, SCANLINE, Schedule, Sequence,
+    Span, Val, Wide, tracks,
 };
 
 /// How many rows of the instruction table are drawn: all but BREAK and WDR, which the expected sums don't have.
 const DRAWN_ROWS: u32 = 82;
 
-/// How many lines the frame has.
-const LINES: u16 = 3;
+/// The lengths of the lines.
+const LENGTHS: [u16; 3] = [SCANLINE, HALF_LINE, SCANLINE];
+
+/// TCNT1L, OCR1AL and OCR1AH.
+const TIMER: [u16; 3] = [0x84, 0x88, 0x89];
+
+/// STS and LDS.
+const DIRECT: [u16; 2] = [0x9200, 0x9000];
+
+/// The low and the high bytes of the last clocks of a half line and of a scanline.
+const LOW: [u8; 2] = [141, 27];
+
+const HIGH: [u8; 2] = [3, 7];
 
 /// A range of bytes between two.
 fn between(a: u8, b: u8) -> Span {
@@ -68,8 +79,19 @@ pub(crate) fn header() -> Head
     }
 }
 
+/// A store or a load of a register of the timer, and a word after it.
+fn timer_words(random: &mut Random) -> [u16; 3] {
+    let direct = DIRECT[random.below(2) as usize];
+    let r = random.below(32) as u16;
+    let at = TIMER[random.below(3) as usize];
+    [direct | r * 16, at, random.word()]
+}
+
 /// The words at the pc.
 pub(crate) fn words(random: &mut Random) -> [u16; 3] {
+    if random.below(8) == 0 {
+        return timer_words(random);
+    }
     let is_row = random.below(4) > 0;
     let (fixed, fields) = ROWS[random.below(DRAWN_ROWS) as usize];
     let any = random.word();
@@ -88,7 +110,8 @@ fn value(random: &mut Random, kind: Kind) -> Val {
     let b = random.byte();
     let r = random.below(32) as u8;
     match form {
-        0..=2 => Val::Range(Span::single(a)),
+        0 | 1 => Val::Range(Span::single(a)),
+        2 => Val::Range(Span::single(LOW[a as usize % 2])),
         3..=5 => Val::Range(between(a, b)),
         6 if kind == Kind::Handler => Val::Old(r),
         _ if kind == Kind::Handler => Val::OldFlags,
@@ -182,15 +205,29 @@ struct Standing {
     pending: bool,
 }
 
+/// A clock of a line of so many: any, or one of the last five.
+fn clock(random: &mut Random, length: u16) -> u16
+    requires { 5 < length }
+{
+    if random.below(2) == 1 {
+        random.below(u32::from(length)) as u16
+    } else {
+        length - 5 + random.below(5) as u16
+    }
+}
+
+/// The length of a line.
+fn length_of(line: u16) -> u16
+    ensures { 5 < result }
+{
+    LENGTHS[line as usize % 3]
+}
+
 /// Draws where an instance stands. Main has line and clock 0, and only a handler has a match that waits.
 fn draw_place(random: &mut Random, kind: Kind) -> Standing {
     let pc = random.below(32768) as u16;
-    let line = random.below(u32::from(LINES)) as u16;
-    let clock = if random.below(2) == 1 {
-        random.below(u32::from(SCANLINE)) as u16
-    } else {
-        SCANLINE - 5 + random.below(5) as u16
-    };
+    let line = random.below(3) as u16;
+    let clock = clock(random, length_of(line));
     let level = random.below(2) as u8;
     let waits = random.below(2) == 1;
     let is_main = kind == Kind::Main;
@@ -203,13 +240,36 @@ fn draw_place(random: &mut Random, kind: Kind) -> Standing {
     }
 }
 
-/// A frame of three scanlines, in which nothing is seen.
+/// Draws OCR1A: mostly the last clock of a line of this length, else that of a line of either.
+fn top(random: &mut Random, length: u16) -> u16
+    requires { 5 < length }
+{
+    match random.below(4) {
+        0 => HALF_LINE - 1,
+        1 => SCANLINE - 1,
+        _ => length - 1,
+    }
+}
+
+/// Draws what is known of TEMP: the high byte of a line's last clock, a range, or nothing.
+fn temp(random: &mut Random) -> Span {
+    let form = random.below(4) as usize;
+    let a = random.byte();
+    let b = random.byte();
+    match form {
+        0 | 1 => Span::single(HIGH[form]),
+        2 => between(a, b),
+        _ => Span::between(0, 255),
+    }
+}
+
+/// A frame of a scanline, a half line and a scanline, in which nothing is seen.
 pub(crate) fn frame(alloc: Global) -> Result<Schedule, AllocError> {
     let mut lengths = Sequence::new(alloc);
-    lengths.push(SCANLINE)?;
     let mut lines = Sequence::new(alloc);
-    for _ in 0..LINES {
-        lines.push(0)?;
+    for line in 0..3u16 {
+        lengths.push(length_of(line))?;
+        lines.push(line)?;
     }
     Ok(Schedule {
         kinds: Sequence::new(alloc),
@@ -229,6 +289,10 @@ pub(crate) fn instance(random: &mut Random, head: &Head, kind: Kind) -> Instance
     let flags = flags(random, kind);
     let stack = stack(random, kind);
     let cells = cells(random, head, kind);
+    let top = top(random, length_of(place.line));
+    let temp = temp(random);
+    let blank = Instance::default();
+    let is_handler = kind == Kind::Handler;
     Instance {
         kind,
         pc: place.pc,
@@ -241,6 +305,7 @@ pub(crate) fn instance(random: &mut Random, head: &Head, kind: Kind) -> Instance
         flags,
         stack,
         cells,
-        ..Instance::default()
+        top: if is_handler { top } else { blank.top },
+        temp: if is_handler { temp } else { blank.temp },
     }
 }

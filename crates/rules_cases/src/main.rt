@@ -1,7 +1,7 @@
 //! First the answers of a table of instances on standard input, of `uz_rules::local` and `uz_rules::after`. Then it draws 100,000
 //! instances and the words at their pcs, the same in every run, and sums up the whole answers of `uz_rules::after`. After each 5,000 it
-//! prints the sum so far. The table's expected answers, and the sums, come from two further implementations of the rules, in another
-//! language, each written from the rules' tables.
+//! prints the sum so far. The table's expected answers, and the sums, come from further implementations of the rules, in another
+//! language, each written from the rules' tables; those of lines of half a scanline and of OCR1A and TEMP were worked by hand.
 #![tactic(auto)]
 
 ghost use Rattle.std.specs.Prelude.{◌≡◌};

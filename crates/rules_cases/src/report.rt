@@ -102,6 +102,18 @@ fn tell_place(rt: &HostRuntime, at: &Instance) -> Result<()> {
     Ok(())
 }
 
+/// Tells where a handler's first state stands, and OCR1A and TEMP there.
+pub(crate) fn tell_first_state(rt: &HostRuntime, at: &Instance) -> Result<()> {
+    let pending = if at.pending { 1 } else { 0 };
+    print!(rt;
+        "{} {} {} {} {} top={} temp=",
+        at.pc, at.line, at.clock, at.level, pending, at.top
+    )?;
+    tell_span(rt, &at.temp)?;
+    println!(rt; "")?;
+    Ok(())
+}
+
 /// Tells registers that are known otherwise than before.
 fn tell_registers(rt: &HostRuntime, old: &[Val; 32], new: &[Val; 32]) -> Result<()> {
     for r in 0..32usize {
@@ -159,13 +171,26 @@ fn tell_cells(rt: &HostRuntime, old: &[Span], new: &[Span]) -> Result<()> {
     Ok(())
 }
 
+/// Tells OCR1A and TEMP where they are known otherwise than before.
+fn tell_timer(rt: &HostRuntime, old: &Instance, new: &Instance) -> Result<()> {
+    if old.top != new.top {
+        print!(rt; " top={}", new.top)?;
+    }
+    if old.temp != new.temp {
+        print!(rt; " temp=")?;
+        tell_span(rt, &new.temp)?;
+    }
+    Ok(())
+}
+
 /// Tells what is known at a result otherwise than at the instance.
 fn tell_changes(rt: &HostRuntime, old: &Instance, new: &Instance) -> Result<()> {
     tell_registers(rt, &old.regs, &new.regs)?;
     tell_pairs(rt, &old.pairs, &new.pairs)?;
     tell_flags(rt, &old.flags, &new.flags)?;
     tell_stack(rt, old.stack.as_slice(), new.stack.as_slice())?;
-    tell_cells(rt, old.cells.as_slice(), new.cells.as_slice())
+    tell_cells(rt, old.cells.as_slice(), new.cells.as_slice())?;
+    tell_timer(rt, old, new)
 }
 
 /// Tells the abstract results of an instance.

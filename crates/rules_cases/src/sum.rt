@@ -120,6 +120,12 @@ impl Sum {
         }
     }
 
+    /// Adds what is known of a result's timer.
+    fn add_timer(&mut self, at: &Instance) {
+        self.add(u64::from(at.top));
+        self.add_span(&at.temp);
+    }
+
     /// Adds a whole answer: where each result stands, and what is known of the first, which is the same in all.
     pub(crate) fn add_answer(&mut self, answer: &Result<Next, Fail>) {
         match answer {
@@ -132,6 +138,7 @@ impl Sum {
                     self.add_place(at);
                 }
                 if let Some(first) = results.first() {
+                    self.add_timer(first);
                     self.add_core(first);
                     self.add_memory(first);
                 }

@@ -6,6 +6,8 @@
 //! - `read`: the certificate of the lines so far.
 //! - `word AT WORD`: a word of the flash, both as decimal numbers.
 //! - `ask N`: what `uz_rules::local` and `uz_rules::after` answer of point N at the first line and the first count of its box.
+//! - `rest N C`: the handler's first state after rest N, where its interrupt is taken at clock C of the next line: pc, line, clock,
+//!   level, pending, OCR1A and TEMP.
 //!
 //! Other rows are printed as they are.
 
@@ -13,13 +15,15 @@ ghost use Rattle.std.specs.Prelude.{◌≡◌, ◌<◌, ◌≤◌, length, true}
 ghost use Rattle.uz_schedule.specs.Limits.{most_lines};
 ghost use Rattle.uz_schedule.specs.Schedule.{scanline, length_of};
 
-use crate::report::{tell_answer, tell_reason};
+use crate::report::{tell_answer, tell_first_state, tell_reason};
 use anyhow::Result;
 use std::alloc::Global;
 use uz_cert::read_cert;
 use uz_hex::Image;
 use uz_rules::{after, local};
-use uz_schedule::{Cert, Head, Instance, MOST_LINES, SCANLINE, Schedule, well_formed};
+use uz_schedule::{
+    Cert, Head, Instance, MOST_LINES, SCANLINE, Schedule, schedule_fits, well_formed,
+};
 
 /// What the table has said so far.
 #[derive(Drop)]
@@ -99,6 +103,21 @@ fn tell_point(rt: &HostRuntime, flash: &Image, cert: &Cert, id: u32) -> Result<(
     }
 }
 
+/// Tells the handler's first state after a rest, at clock `c` of the next line.
+fn tell_rest(rt: &HostRuntime, cert: &Cert, n: u16, c: u16) -> Result<()> {
+    let Some(rest) = cert.rests.as_slice().get(usize::from(n)) else {
+        println!(rt; "{} is no rest", n)?;
+        return Ok(());
+    };
+    let is_line = usize::from(rest.line) < cert.schedule.lines.len();
+    if c > 255 || !is_line || !schedule_fits(&cert.schedule) {
+        println!(rt; "not well formed")?;
+        return Ok(());
+    }
+    print!(rt; "rest {} {}: ", n, c)?;
+    tell_first_state(rt, &cert.rest_instance(rest, c as u8))
+}
+
 impl Table {
     /// An empty table.
     pub(crate) fn new(alloc: Global) -> Result<Table> {
@@ -134,6 +153,11 @@ impl Table {
         if let Some(rest) = row.strip_prefix("ask ") {
             if let (Ok(id), Some(cert)) = (rest.parse::<u32>(), &self.cert) {
                 return tell_point(rt, &self.flash, cert, id);
+            }
+        }
+        if let Some(rest) = row.strip_prefix("rest ") {
+            if let (Some((n, c)), Some(cert)) = (two_numbers(rest), &self.cert) {
+                return tell_rest(rt, cert, n, c);
             }
         }
         println!(rt; "{}", row)?;
