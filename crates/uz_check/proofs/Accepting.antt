@@ -14,7 +14,7 @@ use Rattle.uz_schedule.specs.declared.states.Point.{Point}
 use Rattle.uz_schedule.specs.declared.certificate.Cert.{Cert}
 use Rattle.uz_transfer.specs.declared.fail.Fail.{Fail}
 use Rattle.uz_schedule.specs.Instances.{is_in_box}
-use Rattle.uz_soundness.specs.Steady.{IsSteady, AreScanlines}
+use Rattle.uz_soundness.specs.Steady.{IsSteady}
 use Rattle.uz_soundness.specs.FrameRules.{RestPasses, EntryPasses}
 use Rattle.uz_rules.specs.Local.{IsLocal, OneLocal}
 use Rattle.uz_soundness.specs.Acceptance.{Accepts}
@@ -23,7 +23,7 @@ use Rattle.uz_check.specs.declared.refusal.RefusedWhy.TheVariants.{Schedule, Res
 use Rattle.uz_check.specs.Unsteady.{first_unsteady}
 use Rattle.uz_check.specs.Refusal.{Why, ScheduleRefusal, RestRefusal, RestsRefusal, EntryRefusal, InstanceRefusal, LineRefusal}
 use Rattle.uz_check.specs.Refusal.{PointRefusal, PointsRefusal, FirstRefusal, IsThere}
-use Rattle.uz_check.proofs.SteadyTold.{and_true, scanlines_tell, steady_tells, steady_told, unsteady_there}
+use Rattle.uz_check.proofs.SteadyTold.{and_true, steady_tells, steady_told, unsteady_there}
 
 -- an element of a list has a place
 at_place : {A : Type 0} (xs : List A) (x : A) → Contains xs x → (i : ℕ) × (i < length xs) × (slice_get xs i ≡ Some x)
@@ -45,14 +45,10 @@ schedule_none : (s : Frame) → ScheduleFits s → ScheduleRefusal s None → Is
 unfolding ScheduleRefusal
 schedule_none s fits h = steady_tells s fits (no_place (first_unsteady s) h)
 
-lines_none : (s : Frame) → ScheduleRefusal s None → AreScanlines s
+schedule_some : (s : Frame) (why : RefusedWhy) → IsSteady s → ScheduleRefusal s (Some why) → ⊥
 unfolding ScheduleRefusal
-lines_none s h = scanlines_tell s (no_place (first_unsteady s) h)
-
-schedule_some : (s : Frame) (why : RefusedWhy) → AreScanlines s → IsSteady s → ScheduleRefusal s (Some why) → ⊥
-unfolding ScheduleRefusal
-schedule_some s why long steady h =
-    let e : Some why ≡ None = h ∙ ap (option_map (λ place. Schedule place.0 place.1)) (steady_told s long steady) in
+schedule_some s why steady h =
+    let e : Some why ≡ None = h ∙ ap (option_map (λ place. Schedule place.0 place.1)) (steady_told s steady) in
     cc e
 
 -- The rests
@@ -175,7 +171,6 @@ points_some one image cert why passes (id, low, high, (point, found, refuses), b
 
 pub rules_hold : (image : FinMap nat_cmp ℕ) (cert : Cert) → ScheduleFits cert.schedule → FirstRefusal image cert None → Accepts image cert
 rules_hold image cert fits h = record {
-  scanlines = lines_none cert.schedule h.0;
   steady = schedule_none cert.schedule fits h.0;
   rests = rests_none cert h.1.0;
   entry = entry_none cert h.1.1.0;
@@ -184,7 +179,7 @@ rules_hold image cert fits h = record {
 
 pub none_refuses : OneLocal → (image : FinMap nat_cmp ℕ) (cert : Cert) (why : RefusedWhy) → Accepts image cert → FirstRefusal image cert
     (Some why) → ⊥
-none_refuses one image cert why h (inl schedule) = schedule_some cert.schedule why h.scanlines h.steady schedule
+none_refuses one image cert why h (inl schedule) = schedule_some cert.schedule why h.steady schedule
 none_refuses one image cert why h (inr (_, inl rests)) = rests_some cert why h.rests rests
 none_refuses one image cert why h (inr (_, inr (_, inl entry))) = entry_some cert why h.entry entry
 none_refuses one image cert why h (inr (_, inr (_, inr (_, points)))) = points_some one image cert why h.points points

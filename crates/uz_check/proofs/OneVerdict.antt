@@ -128,7 +128,7 @@ verdict_is_one image cert a b h g = one_refusal local_is_unique image cert a b h
 
 schedule_accepts : (cert : Cert) (image : FinMap nat_cmp ℕ) → Accepts image cert → ScheduleRefusal cert.schedule None
 unfolding ScheduleRefusal
-schedule_accepts cert image h = sym (ap (option_map (λ place. Schedule place.0 place.1)) (steady_told cert.schedule h.scanlines h.steady))
+schedule_accepts cert image h = sym (ap (option_map (λ place. Schedule place.0 place.1)) (steady_told cert.schedule h.steady))
 
 rest_accepts : (cert : Cert) (rest : Rest) → RestPasses cert rest → RestRefusal cert rest None
 unfolding RestRefusal

@@ -1,4 +1,4 @@
--- All lines are scanlines and steady exactly where nothing breaks the steadiness of any.
+-- A schedule is steady exactly where no event breaks the steadiness of any of its lines.
 use Rattle.std.proofs.Common.{◌≡◌, ◌≢◌, inl, inr, All, ℕ, zero, suc, ◌+◌, ◌<◌, ◌≤◌, Bool, true, false, cond, eqb, List, [], ◌∷◌, length}
 use Rattle.std.proofs.Common.{refl, sym, ◌∙◌, ap, subst, arith}
 use Rattle.std.specs.Prelude.{Option, Some, None, ◌&&◌, slice_index}
@@ -11,8 +11,8 @@ use Rattle.uz_schedule.specs.declared.lines.Event.{Event}
 use Rattle.uz_schedule.specs.declared.lines.EventKind.{EventKind}
 use Rattle.uz_schedule.specs.declared.lines.EventKind.TheVariants.{Sync, Pixel, Sound, Leave}
 use Rattle.uz_schedule.specs.declared.lines.Schedule.{Schedule}
-use Rattle.uz_schedule.specs.Schedule.{scanline, length_of, events_of}
-use Rattle.uz_soundness.specs.Steady.{IsSteadyLine, IsSteady, AreScanlines}
+use Rattle.uz_schedule.specs.Schedule.{events_of}
+use Rattle.uz_soundness.specs.Steady.{IsSteadyLine, IsSteady}
 use Rattle.uz_check.specs.Unsteady.{is_fall, second_fall, unsteady_clock, unsteady_in}
 use Rattle.uz_check.specs.Unsteady.{unsteady_line, at_line, unsteady_from, first_unsteady}
 
@@ -105,33 +105,17 @@ in_told : (fall : ℕ) (o : Option (List Event)) → ((events : List Event) → 
 in_told fall None h = refl
 in_told fall (Some events) h = h events refl
 
--- of a line whose events alone could break it
-scanline_tells : (s : Schedule) (l : ℕ) → unsteady_line s l ≡ None
-    → (length_of s l ≡ scanline) × (unsteady_in s.fall (events_of s l) ≡ None)
-scanline_tells s l e =
-    let both = first_tells (eqb (length_of s l) scanline) (length_of s l) (unsteady_in s.fall (events_of s l)) e in
-    (eqb-true (length_of s l) scanline both.0, both.1)
-
-scanline_told : (s : Schedule) (l : ℕ) → length_of s l ≡ scanline → unsteady_in s.fall (events_of s l) ≡ None → unsteady_line s l ≡ None
-scanline_told s l long e =
-    let same : eqb (length_of s l) scanline ≡ true = grind (arith, nat_tests, long) in
-    ap (λ b. cond b (unsteady_in s.fall (events_of s l)) (Some (length_of s l))) same ∙ e
-
-pub scanlines_tell : (s : Schedule) → first_unsteady s ≡ None → AreScanlines s
-scanlines_tell s e l h = (scanline_tells s l (lines_tell s 0 (length s.lines) l e (omega arith) (omega (arith, h)))).0
-
 pub steady_tells : (s : Schedule) → ScheduleFits s → first_unsteady s ≡ None → IsSteady s
 steady_tells s fits e l events h f =
     let k = slice_index s.lines l in
     let each = All-get_or EventsFit s.kinds k [] (slice_get_within s.kinds k events f) fits.kinds.each in
     let here : EventsFit events = subst EventsFit (get_or_from_slice_get s.kinds k events [] f) each in
     line_tells s.fall events here.some
-    (in_tells s.fall (events_of s l) events f (scanline_tells s l (lines_tell s 0 (length s.lines) l e (omega arith) (omega (arith, h)))).1)
+    (in_tells s.fall (events_of s l) events f (lines_tell s 0 (length s.lines) l e (omega arith) (omega (arith, h))))
 
-pub steady_told : (s : Schedule) → AreScanlines s → IsSteady s → first_unsteady s ≡ None
-steady_told s long h = lines_told s 0 (length s.lines)
-    (λ j b. scanline_told s j (long j (omega (arith, b))) (in_told s.fall (events_of s j)
-    (λ events f. line_told s.fall events (h j events (omega (arith, b)) f))))
+pub steady_told : (s : Schedule) → IsSteady s → first_unsteady s ≡ None
+steady_told s h = lines_told s 0 (length s.lines)
+    (λ j b. in_told s.fall (events_of s j) (λ events f. line_told s.fall events (h j events (omega (arith, b)) f)))
 
 -- the line that is named is one of the frame
 line_there : (l count : ℕ) (place : ℕ × ℕ) (o : Option ℕ) (later : Option (ℕ × ℕ)) → (later ≡ Some place → place.0 < suc l + count)

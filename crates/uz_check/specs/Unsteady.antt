@@ -1,10 +1,10 @@
--- The first line of a schedule that isn't as it should be: by its length, or by an event.
+-- The first event of a schedule that isn't as it should be.
 use Rattle.std.specs.Prelude.{ℕ, zero, suc, ◌==◌, Bool, false, ◌&&◌, List, [], ◌∷◌, Option, Some, None, length, if◌then◌else◌}
 use Rattle.uz_schedule.specs.declared.lines.Event.{Event}
 use Rattle.uz_schedule.specs.declared.lines.EventKind.{EventKind}
 use Rattle.uz_schedule.specs.declared.lines.EventKind.TheVariants.{Sync, Pixel, Sound, Leave}
 use Rattle.uz_schedule.specs.declared.lines.Schedule.{Schedule}
-use Rattle.uz_schedule.specs.Schedule.{scanline, length_of, events_of}
+use Rattle.uz_schedule.specs.Schedule.{events_of}
 
 abbrev pub is_fall : EventKind → Bool
 is_fall (Sync level) = level == 0
@@ -26,11 +26,10 @@ abbrev pub unsteady_in : ℕ → Option (List Event) → Option ℕ
 unsteady_in fall None = None
 unsteady_in fall (Some events) = unsteady_clock fall events
 
--- what breaks a line's steadiness: its length, where that isn't a scanline's, and else the clock of an event
 abbrev pub unsteady_line : Schedule → ℕ → Option ℕ
-unsteady_line s l = if length_of s l == scanline then unsteady_in s.fall (events_of s l) else Some (length_of s l)
+unsteady_line s l = unsteady_in s.fall (events_of s l)
 
--- the first line of which that is so, and what breaks it, of count lines from l on
+-- the line and the clock of the first such event, of count lines from l on
 abbrev pub at_line : ℕ → Option ℕ → Option (ℕ × ℕ) → Option (ℕ × ℕ)
 at_line l None later = later
 at_line l (Some clock) later = Some (l, clock)

@@ -6,12 +6,12 @@ use uz_transfer::Fail;
 /// entry, then points by number, line and count.
 #[derive(Clone, Copy, Debug, PartialEq, Eq)]
 pub enum RefusedWhy {
-    /// The line's length isn't a scanline's (`clock` is the length); else its first event isn't sync 0 at the schedule's
-    /// fall (`clock` is that event's), or a later event of it is sync 0 (`clock` is the first such event's).
+    /// The line's first event isn't sync 0 at the schedule's fall (`clock` is that event's), or a later event of it is
+    /// sync 0 (`clock` is the first such event's).
     Schedule {
         /// The line, counted from 0.
         line: u16,
-        /// The clock of the line; or its length, in clocks.
+        /// The clock of the line.
         clock: u16,
     },
     /// The rest's clock isn't one of its line, the handler's return doesn't stand there, an event stands after it on its

@@ -1,13 +1,12 @@
-//! The first line of a schedule that isn't as it should be.
+//! The first event of a schedule that isn't as it should be.
 
 ghost use Rattle.std.specs.Prelude.{◌≡◌, ◌<◌, length};
 ghost use Rattle.uz_schedule.specs.Limits.{ScheduleFits};
-ghost use Rattle.uz_schedule.specs.Schedule.{events_of};
 ghost use Rattle.uz_check.specs.Refusal.{ScheduleRefusal};
-ghost use Rattle.uz_check.specs.Unsteady.{is_fall as falls, second_fall as second, unsteady_clock as unsteady, unsteady_in, unsteady_line as line_breaks, first_unsteady as unsteady_place};
+ghost use Rattle.uz_check.specs.Unsteady.{is_fall as falls, second_fall as second, unsteady_clock as unsteady, unsteady_line as breaks, first_unsteady as unsteady_place};
 
 use crate::refusal::RefusedWhy;
-use uz_schedule::{Event, EventKind, SCANLINE, Schedule};
+use uz_schedule::{Event, EventKind, Schedule};
 
 /// Whether an event is the fall of sync.
 fn is_fall(kind: EventKind) -> bool
@@ -48,9 +47,9 @@ fn unsteady_clock(fall: u16, events: &[Event]) -> Option<u16>
 }
 
 /// The same of a line of the schedule.
-fn unsteady_event(schedule: &Schedule, line: u16) -> Option<u16>
+fn unsteady_line(schedule: &Schedule, line: u16) -> Option<u16>
     requires { line < length schedule.now.lines }
-    ensures { result ≡ unsteady_in schedule.now.fall (events_of schedule.now line) }
+    ensures { result ≡ breaks schedule.now line }
 {
     let lines = schedule.lines.as_slice();
     let kind = lines[line as usize];
@@ -58,20 +57,7 @@ fn unsteady_event(schedule: &Schedule, line: u16) -> Option<u16>
     unsteady_clock(schedule.fall, events.as_slice())
 }
 
-/// What breaks a line's steadiness: its length, where that isn't a scanline's, and else the clock of an event.
-fn unsteady_line(schedule: &Schedule, line: u16) -> Option<u16>
-    requires { line < length schedule.now.lines }
-    ensures { result ≡ line_breaks schedule.now line }
-{
-    let clocks = schedule.length(line);
-    if clocks == SCANLINE {
-        unsteady_event(schedule, line)
-    } else {
-        Some(clocks)
-    }
-}
-
-/// The first line of the frame that isn't steady, and what breaks it.
+/// The line and the clock of the first event of the frame that isn't as it should be.
 fn first_unsteady(schedule: &Schedule) -> Option<(u16, u16)>
     requires { ScheduleFits schedule.now }
     ensures { result ≡ unsteady_place schedule.now }

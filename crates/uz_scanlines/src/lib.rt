@@ -1,0 +1,7 @@
+//! Frames whose lines all have the clocks of a scanline: laws that what is said of lines of any length is then what is said by
+//! positions of 1820 clocks a line. No code.
+#![tactic(auto)]
+
+mod laws;
+
+pub use laws::{frame_rules_by_position, instances_by_position, scanlines_by_position};
