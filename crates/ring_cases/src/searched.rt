@@ -1,7 +1,8 @@
 //! A ring of ten words: sync falls at clock 1 and rises at clock 2 of its one line, and three waits fill the rest of the
 //! scanline.
 
-ghost use Rattle.std.specs.Prelude.{◌≡◌, ◌<◌, ◌≤◌, ℕ, IfOk, false, length};
+ghost use Rattle.std.specs.Prelude.{◌≡◌, ◌-◌, ◌<◌, ◌≤◌, ℕ, IfOk, false, length};
+ghost use Rattle.uz_schedule.specs.Ends.{whole_byte};
 ghost use Rattle.uz_schedule.specs.Schedule.{length_of, scanline};
 ghost use Rattle.uz_schedule.specs.declared.kinds.Kind.TheVariants.{Alone};
 ghost use Rattle.uz_search.specs.Fitting.{ProgramFits};
@@ -40,6 +41,8 @@ fn start() -> Instance
     ensures clock { result.clock ≡ 0 }
     ensures level { result.level ≡ 1 }
     ensures pending { result.pending ≡ false }
+    ensures top { result.top ≡ scanline - 1 }
+    ensures temp { result.temp ≡ whole_byte }
 {
     let mut regs = [Val::Range(Span::between(0, 255)); 32];
     regs[16] = Val::Range(Span::single(0));
