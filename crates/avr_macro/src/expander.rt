@@ -84,7 +84,7 @@ fn put_text(text: &mut Vec<u8>, line: &[u8]) -> Result<(), AllocError>
 }
 
 /// The level of a block that is expanded some times, where its end comes after so many lines.
-fn repeated(alloc: Global, frame: &Frame, times: u32, n: usize) -> Result<Frame, AllocError>
+fn repeated(frame: &Frame, times: u32, n: usize) -> Result<Frame, AllocError>
     requires shallow { frame.now.blocks < 16 }
     requires left { frame.now.at + (n + 2) ≤ frame.now.end }
     ensures { IfOk result (λ inner. seen_frame inner ≡ repeated_level times n (seen_frame frame.now)) }
@@ -92,37 +92,29 @@ fn repeated(alloc: Global, frame: &Frame, times: u32, n: usize) -> Result<Frame,
     if times == 0 {
         frame.block(0, 0, 0, false, true)
     } else {
-        let well = frame.closed_by(alloc, n)?;
-        frame.block(0, n, times - 1, true, well)
+        frame.block(0, n, times - 1, true, frame.closed_by(n))
     }
 }
 
 /// The level of a conditional block without `.else`.
-fn one_part(alloc: Global, frame: &Frame, chosen: bool, n: usize) -> Result<Frame, AllocError>
+fn one_part(frame: &Frame, chosen: bool, n: usize) -> Result<Frame, AllocError>
     requires shallow { frame.now.blocks < 16 }
     requires left { frame.now.at + (n + 2) ≤ frame.now.end }
     ensures { IfOk result (λ inner. seen_frame inner ≡ one_part_of chosen n (seen_frame frame.now)) }
 {
-    let well = frame.closed_by(alloc, n)?;
     let to = if chosen { n } else { 0 };
-    frame.block(0, to, 0, false, well)
+    frame.block(0, to, 0, false, frame.closed_by(n))
 }
 
 /// The level of a conditional block whose `.else` comes after so many lines.
-fn two_parts(
-    alloc: Global,
-    frame: &Frame,
-    chosen: bool,
-    m: usize,
-    n: usize,
-) -> Result<Frame, AllocError>
+fn two_parts(frame: &Frame, chosen: bool, m: usize, n: usize) -> Result<Frame, AllocError>
     requires shallow { frame.now.blocks < 16 }
     requires left { frame.now.at + (n + 2) ≤ frame.now.end }
     requires parted { m < n }
     ensures { IfOk result (λ inner. seen_frame inner ≡ two_parts_of chosen m n (seen_frame frame.now)) }
 {
-    let parts_well = frame.closed_by(alloc, m)?;
-    let ends_well = frame.closed_by(alloc, n)?;
+    let parts_well = frame.closed_by(m);
+    let ends_well = frame.closed_by(n);
     let well = parts_well && ends_well;
     if chosen {
         frame.block(0, m, 0, false, well)
@@ -134,20 +126,15 @@ fn two_parts(
 }
 
 /// The level of the chosen part of a conditional block, whose end and `.else` come after so many lines.
-fn chosen_part(
-    alloc: Global,
-    frame: &Frame,
-    chosen: bool,
-    closing: Closing,
-) -> Result<Frame, AllocError>
+fn chosen_part(frame: &Frame, chosen: bool, closing: Closing) -> Result<Frame, AllocError>
     requires shallow { frame.now.blocks < 16 }
     requires left { frame.now.at + (closing.end + 2) ≤ frame.now.end }
     requires inside { IfSome closing.part (λ m. m < closing.end) }
     ensures { IfOk result (λ inner. seen_frame inner ≡ chosen_part_of chosen closing.part closing.end (seen_frame frame.now)) }
 {
     match closing.part {
-        None => one_part(alloc, frame, chosen, closing.end),
-        Some(m) => two_parts(alloc, frame, chosen, m, closing.end),
+        None => one_part(frame, chosen, closing.end),
+        Some(m) => two_parts(frame, chosen, m, closing.end),
     }
 }
 
@@ -292,8 +279,7 @@ impl Expander {
         if self.macros.get(name).is_some() {
             return Err(MacroWhy::Twice);
         }
-        let well = frame.closed_by(alloc, n)?;
-        let inner = frame.block(0, 0, 0, false, well)?;
+        let inner = frame.block(0, 0, 0, false, frame.closed_by(n))?;
         let body = frame.body_after(alloc, n)?;
         self.macros.define(alloc, name, body)?;
         self.enter(inner, frame.passed(n + 2))
@@ -319,13 +305,7 @@ impl Expander {
     }
 
     /// A block is repeated, whose end comes after so many lines.
-    fn repeat(
-        &mut self,
-        alloc: Global,
-        frame: Frame,
-        times: Option<i64>,
-        n: usize,
-    ) -> Result<(), MacroWhy>
+    fn repeat(&mut self, frame: Frame, times: Option<i64>, n: usize) -> Result<(), MacroWhy>
         requires shallow { frame.blocks < 16 }
         requires left { frame.at + (n + 2) ≤ frame.end }
         ensures gives { Gives result (seen_expander self.new) (repeat_times_move times n (seen_frame frame) (seen_expander self.old)) }
@@ -333,7 +313,7 @@ impl Expander {
     {
         match times {
             Some(times) if times >= 0 && times <= 65535 => {
-                let inner = repeated(alloc, &frame, times as u32, n)?;
+                let inner = repeated(&frame, times as u32, n)?;
                 self.enter(inner, frame.passed(n + 2))
             }
             _ => Err(MacroWhy::Value),
@@ -357,19 +337,13 @@ impl Expander {
             None => Err(MacroWhy::Unclosed),
             Some(n) => {
                 let times = text_value(alloc, &self.constants, operands)?;
-                self.repeat(alloc, frame, times, n)
+                self.repeat(frame, times, n)
             }
         }
     }
 
     /// A part of a conditional block is chosen, whose end and `.else` come after so many lines.
-    fn choose(
-        &mut self,
-        alloc: Global,
-        frame: Frame,
-        value: Option<i64>,
-        closing: Closing,
-    ) -> Result<(), MacroWhy>
+    fn choose(&mut self, frame: Frame, value: Option<i64>, closing: Closing) -> Result<(), MacroWhy>
         requires shallow { frame.blocks < 16 }
         requires left { frame.at + (closing.end + 2) ≤ frame.end }
         requires parted { closing.part ≡ if_else_in (part (seen_frame frame) 0 closing.end) }
@@ -379,7 +353,7 @@ impl Expander {
     {
         match value {
             Some(value) => {
-                let inner = chosen_part(alloc, &frame, !is_null(value), closing)?;
+                let inner = chosen_part(&frame, !is_null(value), closing)?;
                 self.enter(inner, frame.passed(closing.end + 2))
             }
             None => Err(MacroWhy::Value),
@@ -403,7 +377,7 @@ impl Expander {
             None => Err(MacroWhy::Unclosed),
             Some(closing) => {
                 let value = text_value(alloc, &self.constants, operands)?;
-                self.choose(alloc, frame, value, closing)
+                self.choose(frame, value, closing)
             }
         }
     }
