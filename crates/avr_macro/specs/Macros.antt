@@ -9,6 +9,7 @@ use Rattle.avr_macro.specs.declared.bodies.Macro.TheVariants as kinds
 abbrev pub seen_macro : Macro → List (List ℕ)
 seen_macro (kinds.Settled settled) = slice_range settled.lines.body.value settled.lines.start settled.lines.end
 seen_macro (kinds.Template template) = template.text.value.lines
+seen_macro (kinds.Unmade lines) = slice_range lines.body.value lines.start lines.end
 
 -- names and bodies as lists of bytes and of lines
 abbrev pub named : List (Vec ℕ Global × Macro) → List (List ℕ × List (List ℕ))

@@ -10,6 +10,7 @@ ghost use Rattle.avr_macro_lines.specs.Ends.{blocks_from, closing_at};
 ghost use Rattle.avr_macro_lines.specs.Kinds.{AreBlocks};
 ghost use Rattle.avr_macro_lines.specs.declared.directives.Word.TheVariants as words;
 
+use crate::errors::MacroWhy;
 use avr_macro_lines::{
     Blocks, Closing, Lines, Substitution, are_plain, are_quiet, are_steady, closes_well,
     closes_well_in_call, closing_of, have_dot, needed_by, replaced,
@@ -17,6 +18,9 @@ use avr_macro_lines::{
 use std::alloc::{AllocError, Global};
 use std::marker::Model;
 use std::rc::Rc;
+
+/// The greatest number of arguments of a call.
+const ARGUMENT_LIMIT: usize = 10;
 
 /// Lines, and where their blocks end.
 #[derive(Drop)]
@@ -112,8 +116,19 @@ pub(crate) struct Template {
 /// The body of a macro.
 #[derive(Drop)]
 pub(crate) enum Macro {
+    /// Calls share its lines.
     Settled(Settled),
+    /// Each call puts its arguments into its lines.
     Template(Template),
+    /// The same, but its lines are those of a call and aren't made yet.
+    Unmade(Called),
+}
+
+/// The lines of a call, and those of the macro where this call made them.
+#[derive(Drop)]
+pub(crate) struct Call {
+    pub lines: Called,
+    pub made: Option<Template>,
 }
 
 impl Called {
@@ -130,10 +145,18 @@ impl Called {
             end: self.end,
         })
     }
+
+    /// The same lines, made for a macro.
+    fn made(&self, alloc: Global) -> Result<Template, AllocError>
+        ensures { IfOk result (λ template. template.text.value.lines ≡ seen_called self.now) }
+    {
+        let lines = self.body.as_ref().copied(alloc, self.start, self.end)?;
+        Template::new(alloc, lines)
+    }
 }
 
 impl Template {
-    ghost use Rattle.avr_macro.specs.Views.{seen_called};
+    ghost use Rattle.avr_macro.specs.Views.{CallsBody, seen_called};
 
     /// Lines with their blocks, and what their `@`s name.
     fn new(alloc: Global, lines: Lines) -> Result<Template, AllocError>
@@ -196,14 +219,50 @@ impl Template {
             end,
         })
     }
+
+    /// Whether a call has more than ten arguments, or lacks one that the lines name.
+    #[tactic(auto, using(avr_macro_lines::proofs::Needed::lacks_by_need))]
+    fn lacks_one(&self, count: usize) -> bool
+        ensures { result ≡ (nat_lt 10 count || any_lacks count self.now.text.value.lines) }
+    {
+        count > ARGUMENT_LIMIT || count < self.needed
+    }
+
+    /// The same, where the call lacks no argument.
+    fn call(&self, alloc: Global, substitution: Substitution) -> Result<Called, MacroWhy>
+        ensures { CallsBody result substitution.arguments substitution.call self.now.text.value.lines }
+    {
+        if self.lacks_one(substitution.arguments.count()) {
+            return Err(MacroWhy::Argument);
+        }
+        let lines = self.in_call(alloc, substitution)?;
+        Ok(lines)
+    }
+}
+
+impl Settled {
+    ghost use Rattle.avr_macro.specs.Views.{CallsBody};
+
+    /// The lines in a call.
+    #[tactic(auto, using(avr_macro_lines::proofs::Settled::lacks_none, avr_macro_lines::proofs::Settled::lines_stay))]
+    fn call(&self, substitution: Substitution) -> Result<Called, MacroWhy>
+        ensures { CallsBody result substitution.arguments substitution.call
+            (slice_range self.now.lines.body.value self.now.lines.start self.now.lines.end) }
+    {
+        if substitution.arguments.count() > ARGUMENT_LIMIT {
+            return Err(MacroWhy::Argument);
+        }
+        let lines = self.lines.shared()?;
+        Ok(lines)
+    }
 }
 
 impl Macro {
     ghost use Rattle.avr_macro.specs.Macros.{seen_macro};
-    ghost use Rattle.avr_macro.specs.Views.{seen_called};
+    ghost use Rattle.avr_macro.specs.Calls.{CallsMacro};
 
-    /// The macro whose body are some of the lines of a body: those from a place to before another. They are copied only
-    /// where a call may change them.
+    /// The macro whose body are some of the lines of a body: those from a place to before another. The lines of a call
+    /// aren't copied; those of a file are where they have an `@`.
     pub fn new(
         alloc: Global,
         body: &Rc<Body>,
@@ -214,35 +273,40 @@ impl Macro {
         requires bound { end ≤ length body.now.value }
         ensures { IfOk result (λ defined. seen_macro defined ≡ slice_range body.now.value start end) }
     {
-        if body.as_ref().stay(start, end) {
-            let body = share(body)?;
-            let lines = Called { body, start, end };
-            return Ok(Macro::Settled(Settled { lines }));
-        }
-        let lines = body.as_ref().copied(alloc, start, end)?;
-        Ok(Macro::Template(Template::new(alloc, lines)?))
-    }
-
-    /// Whether a call has more than ten arguments, or lacks one that the body names.
-    #[tactic(auto, using(avr_macro_lines::proofs::Settled::lacks_none, avr_macro_lines::proofs::Needed::lacks_by_need))]
-    pub fn lacks_one(&self, count: usize) -> bool
-        ensures { result ≡ (nat_lt 10 count || any_lacks count (seen_macro self.now)) }
-    {
-        match self {
-            Macro::Settled(_) => count > 10,
-            Macro::Template(template) => count > 10 || count < template.needed,
+        let stay = body.as_ref().stay(start, end);
+        let called = body.as_ref().is_call();
+        let body = share(body)?;
+        let lines = Called { body, start, end };
+        if stay {
+            Ok(Macro::Settled(Settled { lines }))
+        } else if called {
+            Ok(Macro::Unmade(lines))
+        } else {
+            Ok(Macro::Template(lines.made(alloc)?))
         }
     }
 
-    /// The lines in a call.
-    #[tactic(auto, using(avr_macro_lines::proofs::Settled::lines_stay))]
-    pub fn in_call(&self, alloc: Global, substitution: Substitution) -> Result<Called, AllocError>
-        ensures { IfOk result (λ called. seen_called called
-            ≡ map (replaced_line substitution.arguments substitution.call) (seen_macro self.now)) }
+    /// A call.
+    pub fn call(&self, alloc: Global, substitution: Substitution) -> Result<Call, MacroWhy>
+        ensures { CallsMacro result substitution.arguments substitution.call (seen_macro self.now) }
     {
         match self {
-            Macro::Settled(settled) => settled.lines.shared(),
-            Macro::Template(template) => template.in_call(alloc, substitution),
+            Macro::Settled(settled) => {
+                let lines = settled.call(substitution)?;
+                Ok(Call { lines, made: None })
+            }
+            Macro::Template(template) => {
+                let lines = template.call(alloc, substitution)?;
+                Ok(Call { lines, made: None })
+            }
+            Macro::Unmade(unmade) => {
+                let template = unmade.made(alloc)?;
+                let lines = template.call(alloc, substitution)?;
+                Ok(Call {
+                    lines,
+                    made: Some(template),
+                })
+            }
         }
     }
 }
@@ -277,13 +341,22 @@ impl Body {
         Ok(body)
     }
 
+    /// Whether the lines are those of a call.
+    fn is_call(&self) -> bool {
+        self.substitution.is_some()
+    }
+
     /// Whether it is known that no call changes some of the lines: those from a place to before another.
     fn stay(&self, start: usize, end: usize) -> bool
         requires order { start ≤ end }
         requires bound { end ≤ length self.now }
         ensures { result ≡ true → are_settled (slice_range self.now start end) ≡ true }
     {
-        puts_no_at(&self.substitution) || are_plain(&self.text.as_ref().lines, start, end)
+        if self.is_call() {
+            puts_no_at(&self.substitution)
+        } else {
+            are_plain(&self.text.as_ref().lines, start, end)
+        }
     }
 
     /// A line by its place, where lines are taken as they are.

@@ -6,6 +6,7 @@ ghost use Rattle.std.specs.Bool.{OnFalse};
 ghost use Rattle.std.specs.Option.{option_map};
 ghost use Rattle.avr_macro_lines.specs.Arguments.{arguments_of as arguments_of_line};
 ghost use Rattle.avr_macro_lines.specs.Blocks.{if_else as if_else_in};
+ghost use Rattle.avr_macro.specs.Calls.{CallsMacro};
 ghost use Rattle.avr_macro.specs.Macros.{seen_macro};
 ghost use Rattle.avr_macro_lines.specs.Directives.{after_first_word as after_first_word_in};
 ghost use Rattle.avr_macro_lines.specs.Directives.{first_word as first_word_of, operands_of as operands_of_line};
@@ -22,10 +23,10 @@ ghost use Rattle.avr_macro.specs.Moves.{two_parts as two_parts_of, with_setting,
 ghost use Rattle.avr_macro.specs.States.{first_state, inside as inside_level, passed as passed_level};
 ghost use Rattle.avr_macro_lines.specs.Values.{setting_of as setting_of_text};
 ghost use Rattle.avr_macro_lines.specs.declared.directives.Word.TheVariants as words;
-ghost use Rattle.avr_macro.specs.Views.{CallsBody, IsAt, seen_called, seen_frame, seen_frames};
+ghost use Rattle.avr_macro.specs.Views.{IsAt, seen_called, seen_frame, seen_frames};
 ghost use Rattle.avr_macro_lines.specs.Views.{seen_setting};
 
-use crate::bodies::{Called, Macro, share};
+use crate::bodies::{Call, Called, Macro, share};
 use crate::errors::MacroWhy;
 use crate::frames::{BLOCK_LIMIT, Frame, INCLUDE_LIMIT};
 use crate::macros::Macros;
@@ -159,16 +160,12 @@ fn set(alloc: Global, constants: &mut Symbols, setting: Option<Setting>) -> Resu
     }
 }
 
-/// The body of a call, by the line that calls.
-fn called_body(alloc: Global, line: &[u8], call: u32, body: &Macro) -> Result<Called, MacroWhy>
-    ensures { CallsBody result (arguments_of_line (after_first_word_in line.now)) call (seen_macro body.now) }
+/// A call, by the line that calls.
+fn called(alloc: Global, line: &[u8], call: u32, body: &Macro) -> Result<Call, MacroWhy>
+    ensures { CallsMacro result (arguments_of_line (after_first_word_in line.now)) call (seen_macro body.now) }
 {
     let arguments = arguments_of(alloc, after_first_word(line))?;
-    if body.lacks_one(arguments.count()) {
-        return Err(MacroWhy::Argument);
-    }
-    let lines = body.in_call(alloc, Substitution { arguments, call })?;
-    Ok(lines)
+    body.call(alloc, Substitution { arguments, call })
 }
 
 /// The name of a file: some UTF-8.
@@ -433,16 +430,6 @@ impl Expander {
         Ok(())
     }
 
-    /// The body of the macro that a line calls.
-    fn called(&self, line: &[u8]) -> Option<&Macro>
-        ensures { option_map (λ body. seen_macro body.now) result ≡ body_of_word (first_word_of line.now) (seen_expander self.now) }
-    {
-        match first_word(line) {
-            Some(name) => self.macros.get(name),
-            None => None,
-        }
-    }
-
     /// A line that is no directive of macros and blocks.
     fn other_line(&mut self, alloc: Global, frame: Frame, line: &[u8]) -> Result<(), MacroWhy>
         requires { frame.at < frame.end }
@@ -450,17 +437,21 @@ impl Expander {
         ensures nearer { OnOk result (Nearer self.old self.new) }
     {
         let calls = self.calls;
-        match self.called(line) {
-            None => self.put_line(alloc, frame, line, None),
-            Some(body) => {
-                if frame.blocks >= BLOCK_LIMIT {
-                    return Err(MacroWhy::Depth);
-                }
-                match called_body(alloc, line, calls, body) {
-                    Ok(lines) => self.call(frame, lines),
-                    Err(why) => Err(why),
-                }
+        let Some(name) = first_word(line) else {
+            return self.put_line(alloc, frame, line, None);
+        };
+        let Some(body) = self.macros.get(name) else {
+            return self.put_line(alloc, frame, line, None);
+        };
+        if frame.blocks >= BLOCK_LIMIT {
+            return Err(MacroWhy::Depth);
+        }
+        match called(alloc, line, calls, body) {
+            Ok(call) => {
+                self.macros.keep(alloc, name, call.made)?;
+                self.call(frame, call.lines)
             }
+            Err(why) => Err(why),
         }
     }
 
