@@ -7,7 +7,7 @@ use Rattle.avr_macro.specs.declared.frames.Frame.{Frame}
 use Rattle.avr_macro_lines.specs.Arguments.{arguments_of, replaced}
 use Rattle.avr_macro_lines.specs.Directives.{after_first_word, first_word}
 use Rattle.avr_macro.specs.Moves.{Move, refuses, body_of, call, enter, lacks_one, line_move, move_at, move_of, other_by, other_move, unless}
-use Rattle.avr_macro.specs.States.{Level, State, inside, passed}
+use Rattle.avr_macro.specs.States.{Level, MacroMap, State, inside, passed}
 use Rattle.avr_macro.specs.Views.{seen_frame}
 use Rattle.avr_macro_lines.proofs.Slices.{next_line}
 
@@ -15,7 +15,7 @@ use Rattle.avr_macro_lines.proofs.Slices.{next_line}
 abbrev pub entered : List (List ℕ) → Level → State → Move
 entered lines level s = enter (inside level lines 0 false true) (passed 1 level) (call s)
 
-pub calls : (line : List ℕ) (level : Level) (s : State) (body lines : List (List ℕ)) → Some body ≡ body_of (first_word line) s
+calls : (line : List ℕ) (level : Level) (s : State) (body lines : List (List ℕ)) → Some body ≡ body_of (first_word line) s
     → nat_le 16 level.blocks ≡ false
     → lacks_one (arguments_of (after_first_word line)) body ≡ false → lines ≡ map (replaced (arguments_of (after_first_word line)) s.calls)
     body
@@ -27,6 +27,27 @@ calls line level s body lines e shallow some is =
     s))) shallow
     ∙ ap (λ b. unless b why.Argument (entered (map (replaced arguments s.calls) body) level s)) some
     ∙ ap (λ ls. entered ls level s) (sym is))
+
+-- the same where the macros were written anew as they are
+abbrev pub with_macros : MacroMap → State → State
+with_macros macros s =
+    record {
+      levels = s.levels;
+      macros = macros;
+      constants = s.constants;
+      calls = s.calls;
+      reached = s.reached;
+      text = s.text;
+      origins = s.origins;
+    }
+
+pub calls_kept : (macros : MacroMap) (line : List ℕ) (level : Level) (s : State) (body lines : List (List ℕ)) → macros ≡ s.macros
+    → Some body ≡ body_of (first_word line) s → nat_le 16 level.blocks ≡ false
+    → lacks_one (arguments_of (after_first_word line)) body ≡ false → lines ≡ map (replaced (arguments_of (after_first_word line)) s.calls)
+    body
+    → entered lines level (with_macros macros s) ≡ other_move line level s
+calls_kept macros line level s body lines kept e shallow some is =
+    ap (λ m. entered lines level (with_macros m s)) kept ∙ calls line level s body lines e shallow some is
 
 pub refused_call : (line : List ℕ) (level : Level) (s : State) (body : List (List ℕ)) (reason : MacroWhy) → Some body ≡ body_of
     (first_word line) s → nat_le 16 level.blocks ≡ false

@@ -14,6 +14,7 @@ use Rattle.std.specs.FinMap.{find, get, insert, from_entries, get-insert, get-fr
 use Rattle.std.proofs.lemmas.Map.Lookups.{exact_bytes}
 use Rattle.avr_macro.specs.declared.bodies.Macro.{Macro}
 use Rattle.avr_macro.specs.Macros.{named, seen_macro}
+use Rattle.avr_macro.specs.States.{MacroMap}
 
 -- keys are compared by their bytes
 abbrev pub by_bytes : Vec ℕ Global → Vec ℕ Global → Ordering
@@ -95,6 +96,15 @@ put_name es k v = same_map nat_list_cmp_total exact_bytes _ _ (λ q.
     get-from_entries nat_list_cmp_total (named (insert_entry by_bytes es k v)) q ∙ inserted es k v q
     ∙ ap (cond (eq_by_cmp (slice_cmp nat_cmp) q k.items) (Some (seen_macro v))) (sym (get-from_entries nat_list_cmp_total (named es) q))
     ∙ sym (get-insert nat_list_cmp_total (from_entries (named es)) k.items (seen_macro v) q))
+
+-- a body that is put in once more
+pub same_body : (m : MacroMap) (k : List ℕ) (v : List (List ℕ)) → get m k ≡ Some v → insert m k v ≡ m
+same_body m k v e = same_map nat_list_cmp_total exact_bytes _ _ (λ q.
+    get-insert nat_list_cmp_total m k v q ∙ by_test q (eq_by_cmp (slice_cmp nat_cmp) q k) refl)
+  where
+    by_test : (q : List ℕ) (t : Bool) → eq_by_cmp (slice_cmp nat_cmp) q k ≡ t → cond t (Some v) (get m q) ≡ get m q
+    by_test q true f = sym (ap (get m) (same_name q k f) ∙ e)
+    by_test q false f = refl
 
 -- a body that is borrowed
 pub lent_body : (o : Option (Bor (Macro))) → option_map (λ body. seen_macro body.now) o ≡ option_map seen_macro (option_copied o)

@@ -3,6 +3,7 @@ pub mod States
 pub mod Moves
 pub mod Expansion
 pub mod Views
+pub mod Calls
 pub mod Steps
 pub mod Answers
 pub mod WhyNames

@@ -6,6 +6,7 @@ ghost use Rattle.std.specs.Bool.{OnFalse};
 ghost use Rattle.std.specs.Option.{option_map};
 ghost use Rattle.avr_macro_lines.specs.Arguments.{arguments_of as arguments_of_line};
 ghost use Rattle.avr_macro_lines.specs.Blocks.{if_else as if_else_in};
+ghost use Rattle.avr_macro.specs.Calls.{CallsMacro};
 ghost use Rattle.avr_macro.specs.Macros.{seen_macro};
 ghost use Rattle.avr_macro_lines.specs.Directives.{after_first_word as after_first_word_in};
 ghost use Rattle.avr_macro_lines.specs.Directives.{first_word as first_word_of, operands_of as operands_of_line};
@@ -22,10 +23,10 @@ ghost use Rattle.avr_macro.specs.Moves.{two_parts as two_parts_of, with_setting,
 ghost use Rattle.avr_macro.specs.States.{first_state, inside as inside_level, passed as passed_level};
 ghost use Rattle.avr_macro_lines.specs.Values.{setting_of as setting_of_text};
 ghost use Rattle.avr_macro_lines.specs.declared.directives.Word.TheVariants as words;
-ghost use Rattle.avr_macro.specs.Views.{CallsBody, IsAt, seen_called, seen_frame, seen_frames};
+ghost use Rattle.avr_macro.specs.Views.{IsAt, seen_called, seen_frame, seen_frames};
 ghost use Rattle.avr_macro_lines.specs.Views.{seen_setting};
 
-use crate::bodies::{Called, Macro, share};
+use crate::bodies::{Call, Called, Macro, share};
 use crate::errors::MacroWhy;
 use crate::frames::{BLOCK_LIMIT, Frame, INCLUDE_LIMIT};
 use crate::macros::Macros;
@@ -84,7 +85,7 @@ fn put_text(text: &mut Vec<u8>, line: &[u8]) -> Result<(), AllocError>
 }
 
 /// The level of a block that is expanded some times, where its end comes after so many lines.
-fn repeated(alloc: Global, frame: &Frame, times: u32, n: usize) -> Result<Frame, AllocError>
+fn repeated(frame: &Frame, times: u32, n: usize) -> Result<Frame, AllocError>
     requires shallow { frame.now.blocks < 16 }
     requires left { frame.now.at + (n + 2) ≤ frame.now.end }
     ensures { IfOk result (λ inner. seen_frame inner ≡ repeated_level times n (seen_frame frame.now)) }
@@ -92,37 +93,29 @@ fn repeated(alloc: Global, frame: &Frame, times: u32, n: usize) -> Result<Frame,
     if times == 0 {
         frame.block(0, 0, 0, false, true)
     } else {
-        let well = frame.closed_by(alloc, n)?;
-        frame.block(0, n, times - 1, true, well)
+        frame.block(0, n, times - 1, true, frame.closed_by(n))
     }
 }
 
 /// The level of a conditional block without `.else`.
-fn one_part(alloc: Global, frame: &Frame, chosen: bool, n: usize) -> Result<Frame, AllocError>
+fn one_part(frame: &Frame, chosen: bool, n: usize) -> Result<Frame, AllocError>
     requires shallow { frame.now.blocks < 16 }
     requires left { frame.now.at + (n + 2) ≤ frame.now.end }
     ensures { IfOk result (λ inner. seen_frame inner ≡ one_part_of chosen n (seen_frame frame.now)) }
 {
-    let well = frame.closed_by(alloc, n)?;
     let to = if chosen { n } else { 0 };
-    frame.block(0, to, 0, false, well)
+    frame.block(0, to, 0, false, frame.closed_by(n))
 }
 
 /// The level of a conditional block whose `.else` comes after so many lines.
-fn two_parts(
-    alloc: Global,
-    frame: &Frame,
-    chosen: bool,
-    m: usize,
-    n: usize,
-) -> Result<Frame, AllocError>
+fn two_parts(frame: &Frame, chosen: bool, m: usize, n: usize) -> Result<Frame, AllocError>
     requires shallow { frame.now.blocks < 16 }
     requires left { frame.now.at + (n + 2) ≤ frame.now.end }
     requires parted { m < n }
     ensures { IfOk result (λ inner. seen_frame inner ≡ two_parts_of chosen m n (seen_frame frame.now)) }
 {
-    let parts_well = frame.closed_by(alloc, m)?;
-    let ends_well = frame.closed_by(alloc, n)?;
+    let parts_well = frame.closed_by(m);
+    let ends_well = frame.closed_by(n);
     let well = parts_well && ends_well;
     if chosen {
         frame.block(0, m, 0, false, well)
@@ -134,20 +127,15 @@ fn two_parts(
 }
 
 /// The level of the chosen part of a conditional block, whose end and `.else` come after so many lines.
-fn chosen_part(
-    alloc: Global,
-    frame: &Frame,
-    chosen: bool,
-    closing: Closing,
-) -> Result<Frame, AllocError>
+fn chosen_part(frame: &Frame, chosen: bool, closing: Closing) -> Result<Frame, AllocError>
     requires shallow { frame.now.blocks < 16 }
     requires left { frame.now.at + (closing.end + 2) ≤ frame.now.end }
     requires inside { IfSome closing.part (λ m. m < closing.end) }
     ensures { IfOk result (λ inner. seen_frame inner ≡ chosen_part_of chosen closing.part closing.end (seen_frame frame.now)) }
 {
     match closing.part {
-        None => one_part(alloc, frame, chosen, closing.end),
-        Some(m) => two_parts(alloc, frame, chosen, m, closing.end),
+        None => one_part(frame, chosen, closing.end),
+        Some(m) => two_parts(frame, chosen, m, closing.end),
     }
 }
 
@@ -172,16 +160,12 @@ fn set(alloc: Global, constants: &mut Symbols, setting: Option<Setting>) -> Resu
     }
 }
 
-/// The body of a call, by the line that calls.
-fn called_body(alloc: Global, line: &[u8], call: u32, body: &Macro) -> Result<Called, MacroWhy>
-    ensures { CallsBody result (arguments_of_line (after_first_word_in line.now)) call (seen_macro body.now) }
+/// A call, by the line that calls.
+fn called(alloc: Global, line: &[u8], call: u32, body: &Macro) -> Result<Call, MacroWhy>
+    ensures { CallsMacro result (arguments_of_line (after_first_word_in line.now)) call (seen_macro body.now) }
 {
     let arguments = arguments_of(alloc, after_first_word(line))?;
-    if body.lacks_one(arguments.count()) {
-        return Err(MacroWhy::Argument);
-    }
-    let lines = body.in_call(alloc, Substitution { arguments, call })?;
-    Ok(lines)
+    body.call(alloc, Substitution { arguments, call })
 }
 
 /// The name of a file: some UTF-8.
@@ -292,8 +276,7 @@ impl Expander {
         if self.macros.get(name).is_some() {
             return Err(MacroWhy::Twice);
         }
-        let well = frame.closed_by(alloc, n)?;
-        let inner = frame.block(0, 0, 0, false, well)?;
+        let inner = frame.block(0, 0, 0, false, frame.closed_by(n))?;
         let body = frame.body_after(alloc, n)?;
         self.macros.define(alloc, name, body)?;
         self.enter(inner, frame.passed(n + 2))
@@ -319,13 +302,7 @@ impl Expander {
     }
 
     /// A block is repeated, whose end comes after so many lines.
-    fn repeat(
-        &mut self,
-        alloc: Global,
-        frame: Frame,
-        times: Option<i64>,
-        n: usize,
-    ) -> Result<(), MacroWhy>
+    fn repeat(&mut self, frame: Frame, times: Option<i64>, n: usize) -> Result<(), MacroWhy>
         requires shallow { frame.blocks < 16 }
         requires left { frame.at + (n + 2) ≤ frame.end }
         ensures gives { Gives result (seen_expander self.new) (repeat_times_move times n (seen_frame frame) (seen_expander self.old)) }
@@ -333,7 +310,7 @@ impl Expander {
     {
         match times {
             Some(times) if times >= 0 && times <= 65535 => {
-                let inner = repeated(alloc, &frame, times as u32, n)?;
+                let inner = repeated(&frame, times as u32, n)?;
                 self.enter(inner, frame.passed(n + 2))
             }
             _ => Err(MacroWhy::Value),
@@ -357,19 +334,13 @@ impl Expander {
             None => Err(MacroWhy::Unclosed),
             Some(n) => {
                 let times = text_value(alloc, &self.constants, operands)?;
-                self.repeat(alloc, frame, times, n)
+                self.repeat(frame, times, n)
             }
         }
     }
 
     /// A part of a conditional block is chosen, whose end and `.else` come after so many lines.
-    fn choose(
-        &mut self,
-        alloc: Global,
-        frame: Frame,
-        value: Option<i64>,
-        closing: Closing,
-    ) -> Result<(), MacroWhy>
+    fn choose(&mut self, frame: Frame, value: Option<i64>, closing: Closing) -> Result<(), MacroWhy>
         requires shallow { frame.blocks < 16 }
         requires left { frame.at + (closing.end + 2) ≤ frame.end }
         requires parted { closing.part ≡ if_else_in (part (seen_frame frame) 0 closing.end) }
@@ -379,7 +350,7 @@ impl Expander {
     {
         match value {
             Some(value) => {
-                let inner = chosen_part(alloc, &frame, !is_null(value), closing)?;
+                let inner = chosen_part(&frame, !is_null(value), closing)?;
                 self.enter(inner, frame.passed(closing.end + 2))
             }
             None => Err(MacroWhy::Value),
@@ -403,7 +374,7 @@ impl Expander {
             None => Err(MacroWhy::Unclosed),
             Some(closing) => {
                 let value = text_value(alloc, &self.constants, operands)?;
-                self.choose(alloc, frame, value, closing)
+                self.choose(frame, value, closing)
             }
         }
     }
@@ -459,16 +430,6 @@ impl Expander {
         Ok(())
     }
 
-    /// The body of the macro that a line calls.
-    fn called(&self, line: &[u8]) -> Option<&Macro>
-        ensures { option_map (λ body. seen_macro body.now) result ≡ body_of_word (first_word_of line.now) (seen_expander self.now) }
-    {
-        match first_word(line) {
-            Some(name) => self.macros.get(name),
-            None => None,
-        }
-    }
-
     /// A line that is no directive of macros and blocks.
     fn other_line(&mut self, alloc: Global, frame: Frame, line: &[u8]) -> Result<(), MacroWhy>
         requires { frame.at < frame.end }
@@ -476,17 +437,21 @@ impl Expander {
         ensures nearer { OnOk result (Nearer self.old self.new) }
     {
         let calls = self.calls;
-        match self.called(line) {
-            None => self.put_line(alloc, frame, line, None),
-            Some(body) => {
-                if frame.blocks >= BLOCK_LIMIT {
-                    return Err(MacroWhy::Depth);
-                }
-                match called_body(alloc, line, calls, body) {
-                    Ok(lines) => self.call(frame, lines),
-                    Err(why) => Err(why),
-                }
+        let Some(name) = first_word(line) else {
+            return self.put_line(alloc, frame, line, None);
+        };
+        let Some(body) = self.macros.get(name) else {
+            return self.put_line(alloc, frame, line, None);
+        };
+        if frame.blocks >= BLOCK_LIMIT {
+            return Err(MacroWhy::Depth);
+        }
+        match called(alloc, line, calls, body) {
+            Ok(call) => {
+                self.macros.keep(alloc, name, call.made)?;
+                self.call(frame, call.lines)
             }
+            Err(why) => Err(why),
         }
     }
 

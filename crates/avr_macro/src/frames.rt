@@ -6,7 +6,7 @@ ghost use Rattle.avr_macro.specs.States.{passed as passed_level, place_after as 
 
 use crate::bodies::{Body, Called, Macro, share};
 use crate::origin::Origin;
-use avr_macro_lines::{Closing, closes_well, closing_after, end_of, lines_of};
+use avr_macro_lines::{Closing, closing_after, end_of, lines_of};
 use std::alloc::{AllocError, Global};
 use std::rc::Rc;
 
@@ -137,23 +137,16 @@ impl Frame {
         ensures { IfOk result (λ body. seen_macro body ≡ part (seen_frame self.now) 0 n) }
     {
         let start = self.at + 1;
-        self.body.as_ref().part(alloc, start, start + n)
+        Macro::new(alloc, &self.body, start, start + n)
     }
 
     /// Whether the line after the next one and so many more has no words that it may not have.
     #[tactic(auto, using(avr_macro_lines::proofs::Slices::later_line))]
-    pub fn closed_by(&self, alloc: Global, n: usize) -> Result<bool, AllocError>
+    pub fn closed_by(&self, n: usize) -> bool
         requires { self.now.at + (n + 2) ≤ self.now.end }
-        ensures { IfOk result (λ well. well ≡ closed_by_line (later (seen_frame self.now)) n) }
+        ensures { result ≡ closed_by_line (later (seen_frame self.now)) n }
     {
-        let place = self.at + 1 + n;
-        match self.body.as_ref().kept_line(place) {
-            Some(line) => Ok(closes_well(line)),
-            None => {
-                let line = self.body.as_ref().new_line(alloc, place)?;
-                Ok(closes_well(line.as_slice()))
-            }
-        }
+        self.body.as_ref().closes_well(self.at + 1 + n)
     }
 
     /// How many of the lines after the next one stand before the end of the macro that begins there.

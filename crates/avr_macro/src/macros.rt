@@ -1,11 +1,11 @@
 //! The macros that are defined.
 
-ghost use Rattle.std.specs.Prelude.{◌≡◌, OnErr, OnOk};
+ghost use Rattle.std.specs.Prelude.{◌≡◌, IfSome, OnErr, OnOk, Some};
 ghost use Rattle.std.specs.Option.{option_map};
 ghost use Rattle.std.specs.FinMap as finmap;
 ghost use Rattle.avr_macro.specs.Macros.{seen_macro};
 
-use crate::bodies::Macro;
+use crate::bodies::{Macro, Template};
 use std::alloc::{AllocError, Global};
 use std::collections::BTreeMap;
 use std::marker::Model;
@@ -58,5 +58,22 @@ impl Macros {
         let name = Vec::from_slice(alloc, name)?;
         self.bodies.insert(name, body)?;
         Ok(())
+    }
+
+    /// Keeps the lines of a macro, which were made for a call.
+    #[tactic(auto, using(crate::proofs::MacroMaps::same_body))]
+    pub fn keep(
+        &mut self,
+        alloc: Global,
+        name: &[u8],
+        made: Option<Template>,
+    ) -> Result<(), AllocError>
+        requires { IfSome made (λ template. finmap.get self.old name.now ≡ Some template.text.value.lines) }
+        ensures { self.new ≡ self.old }
+    {
+        match made {
+            Some(template) => self.define(alloc, name, Macro::Template(template)),
+            None => Ok(()),
+        }
     }
 }

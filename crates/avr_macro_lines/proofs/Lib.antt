@@ -1,8 +1,11 @@
 pub mod Fronts
 pub mod Slices
 pub mod Kept
-pub mod Unchanged
+pub mod Settled
 pub mod Needed
+pub mod SameBlocks
 pub mod Steady
+pub mod Quiet
 pub mod Filled
 pub mod BlockEnds
+pub mod Reading

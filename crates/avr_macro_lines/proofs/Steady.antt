@@ -7,9 +7,8 @@ use Rattle.avr_text.specs.Characters.{is_word}
 use Rattle.avr_macro_lines.specs.declared.directives.Word.{Word}
 use Rattle.avr_macro_lines.specs.declared.directives.Word.TheVariants.{Other}
 use Rattle.avr_macro_lines.specs.Arguments.{replaced, replaced_from}
-use Rattle.avr_macro_lines.specs.AtSigns.{are_steady, is_steady, is_steady_front, lacks_at}
+use Rattle.avr_macro_lines.specs.AtSigns.{KeepsDirectives, are_steady, is_steady, is_steady_front, lacks_at}
 use Rattle.avr_macro_lines.specs.Directives.{directive_of, dot_word, named_word}
-use Rattle.avr_macro_lines.specs.Ends.{blocks_before, blocks_from, open_before, open_from}
 use Rattle.avr_macro_lines.specs.Lines.{after_blanks, after_word, word_of}
 
 module _ (arguments : List (List ℕ)) (call : ℕ) where
@@ -103,38 +102,12 @@ module _ (arguments : List (List ℕ)) (call : ℕ) where
   directive_stays line e =
       ap dot_word (blanks_stay line (front_lacks (after_blanks line) e)) ∙ front_stays (after_blanks line) e
 
-  first_steady : (line : List ℕ) (lines : List (List ℕ)) → are_steady (line ∷ lines) ≡ true → is_steady line ≡ true
-  first_steady line lines e = by_test (is_steady line) e
+  pub steady_kept : (lines : List (List ℕ)) → are_steady lines ≡ true → KeepsDirectives (replaced arguments call) lines
+  steady_kept [] e = tt
+  steady_kept (line ∷ lines) e = by_test (is_steady line) refl e (steady_kept lines)
     where
-      by_test : (t : Bool) → cond t (are_steady lines) false ≡ true → t ≡ true
-      by_test true e = refl
-      by_test false e = e
-
-  later_steady : (line : List ℕ) (lines : List (List ℕ)) → are_steady (line ∷ lines) ≡ true → are_steady lines ≡ true
-  later_steady line lines e = by_test (is_steady line) e
-    where
-      by_test : (t : Bool) → cond t (are_steady lines) false ≡ true → are_steady lines ≡ true
-      by_test true e = e
-      by_test false e = absurd cc
-
-  -- so the same blocks end in the same lines
-  opens_stay : (opens closes : Word) (at : ℕ) (lines : List (List ℕ)) → are_steady lines ≡ true
-      → open_from opens closes at (map (replaced arguments call) lines) ≡ open_from opens closes at lines
-  unfolding open_from
-  opens_stay opens closes at [] e = refl
-  opens_stay opens closes at (line ∷ lines) e =
-      ap (λ w. open_before w opens closes at (open_from opens closes (at + 1) (map (replaced arguments call) lines)))
-      (directive_stays line (first_steady line lines e))
-      ∙ ap (open_before (directive_of line) opens closes at) (opens_stay opens closes (at + 1) lines (later_steady line lines e))
-
-  pub blocks_stay : (opens closes : Word) (at : ℕ) (lines : List (List ℕ)) → are_steady lines ≡ true
-      → blocks_from opens closes at (map (replaced arguments call) lines) ≡ blocks_from opens closes at lines
-  unfolding blocks_from
-  blocks_stay opens closes at [] e = refl
-  blocks_stay opens closes at (line ∷ lines) e =
-      ap (λ w. blocks_before w opens at (open_from opens closes (at + 1) (map (replaced arguments call) lines))
-      (blocks_from opens closes (at + 1) (map (replaced arguments call) lines))) (directive_stays line (first_steady line lines e))
-      ∙ ap (λ o. blocks_before (directive_of line) opens at o (blocks_from opens closes (at + 1) (map (replaced arguments call) lines)))
-      (opens_stay opens closes (at + 1) lines (later_steady line lines e))
-      ∙ ap (blocks_before (directive_of line) opens at (open_from opens closes (at + 1) lines))
-      (blocks_stay opens closes (at + 1) lines (later_steady line lines e))
+      by_test : (t : Bool) → is_steady line ≡ t → cond t (are_steady lines) false ≡ true
+          → (are_steady lines ≡ true → KeepsDirectives (replaced arguments call) lines)
+          → KeepsDirectives (replaced arguments call) (line ∷ lines)
+      by_test true f e rest = (directive_stays line f, rest e)
+      by_test false f e rest = absurd cc

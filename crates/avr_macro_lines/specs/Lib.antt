@@ -5,5 +5,7 @@ pub mod Bodies
 pub mod AtSigns
 pub mod Blocks
 pub mod Ends
+pub mod Kinds
+pub mod Readers
 pub mod Values
 pub mod Views

@@ -86,7 +86,7 @@ pub fn arguments_of(alloc: Global, text: &[u8]) -> Result<Lines, AllocError>
 }
 
 /// The argument of a number.
-fn argument(arguments: &Lines, k: usize) -> &[u8]
+pub(crate) fn argument(arguments: &Lines, k: usize) -> &[u8]
     ensures { result.now ≡ argument_of arguments.now k }
 {
     if k < arguments.count() {

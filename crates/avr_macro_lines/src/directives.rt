@@ -60,7 +60,7 @@ pub(crate) fn same_word(a: Word, b: Word) -> bool
 }
 
 /// The directive that a word names, in either case.
-fn named_word(word: &[u8]) -> Word
+pub(crate) fn named_word(word: &[u8]) -> Word
     ensures { result ≡ named_word_of word.now }
 {
     if is_word_named(word, b"macro") {

@@ -2,14 +2,18 @@
 //! the next line that opens one.
 
 ghost use Rattle.std.specs.Prelude.{◌≡◌, ◌+◌, ◌<◌, ◌≤◌, true, false, IfOk, IfSome, length, nat_lt, reverse, slice_get};
-ghost use Rattle.std.specs.Option.{option_map};
+ghost use Rattle.std.specs.Option.{option_copied, option_map};
 ghost use Rattle.std.specs.List.Sorted.{IsNonDecreasingBy, IsPartitionPoint};
+ghost use Rattle.avr_macro_lines.specs.AtSigns.{filled, line_in};
+ghost use Rattle.avr_macro_lines.specs.Directives.{directive_of as directive_of_line};
 ghost use Rattle.avr_macro_lines.specs.Ends.{blocks_before as blocks_before_line, blocks_from, closing_at};
 ghost use Rattle.avr_macro_lines.specs.Ends.{closing_here, closing_within, open_before as open_before_line, open_from};
 ghost use Rattle.avr_macro_lines.specs.Ends.{part_within, parted as parted_in};
 
+use crate::arguments::Substitution;
 use crate::directives::{Word, directive_of, same_word};
 use crate::kept_lines::Lines;
+use crate::readers::directive_in_call;
 use std::alloc::{AllocError, Global};
 
 /// Where a block ends.
@@ -92,21 +96,37 @@ fn blocks_before(
     Ok(blocks)
 }
 
-/// The blocks that begin with one word and end with another, by their first lines.
-pub fn blocks_of(
+/// Which directive a line is, in a call or as it is.
+fn word_of_line(
+    alloc: Global,
+    substitution: Option<&Substitution>,
+    line: &[u8],
+) -> Result<Word, AllocError>
+    ensures { IfOk result (λ word. word ≡ directive_of_line (line_in (option_copied substitution.entry) line.now)) }
+{
+    match substitution {
+        Some(substitution) => directive_in_call(alloc, substitution, line),
+        None => Ok(directive_of(line)),
+    }
+}
+
+/// The blocks of lines, in a call or as they are, that begin with one word and end with another, by their first lines.
+pub(crate) fn blocks_of(
     alloc: Global,
     lines: &Lines,
+    substitution: Option<&Substitution>,
     opens: Word,
     closes: Word,
 ) -> Result<Vec<Block>, AllocError>
-    ensures { IfOk result (λ blocks. blocks.items ≡ blocks_from opens closes 0 lines.now) }
+    ensures { IfOk result (λ blocks. blocks.items
+        ≡ blocks_from opens closes 0 (filled (option_copied substitution.entry) lines.now)) }
 {
     let mut pending = Vec::new(alloc);
     let mut blocks = Vec::new(alloc);
     let mut n = lines.count();
     while n > 0 {
         n -= 1;
-        let word = directive_of(lines.line(n));
+        let word = word_of_line(alloc, substitution, lines.line(n))?;
         blocks = blocks_before(blocks, pending.as_slice(), word, opens, n)?;
         pending = open_before(pending, word, opens, closes, n)?;
     }

@@ -1,4 +1,6 @@
 use Rattle.std.proofs.Common.{◌≡◌, ◌≤◌, drop, length, reverse}
+use Rattle.std.specs.Option.{option_copied}
+use Rattle.avr_macro_lines.specs.AtSigns.{filled}
 use Rattle.avr_macro_lines.specs.Ends.{blocks_from, open_from}
 use Rattle.avr_macro_lines.proofs.ends.blocks_of.Given as goal
 
@@ -6,8 +8,8 @@ use Rattle.avr_macro_lines.proofs.ends.blocks_of.Given as goal
 abbrev pub invariant-loop-n : goal.invariant-loop-n
 invariant-loop-n l = record {
   within : l.n ≤ length l.lines;
-  open_ends : reverse l.pending.items ≡ open_from l.opens l.closes l.n (drop l.n l.lines);
-  closed : reverse l.blocks.items ≡ blocks_from l.opens l.closes l.n (drop l.n l.lines);
+  open_ends : reverse l.pending.items ≡ open_from l.opens l.closes l.n (drop l.n (filled (option_copied l.substitution) l.lines));
+  closed : reverse l.blocks.items ≡ blocks_from l.opens l.closes l.n (drop l.n (filled (option_copied l.substitution) l.lines));
 }
 
 abbrev pub decreases-loop-n : goal.decreases-loop-n

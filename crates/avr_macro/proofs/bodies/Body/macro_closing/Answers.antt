@@ -1,12 +1,13 @@
-use Rattle.std.proofs.Common.{◌∙◌, ap}
-use Rattle.avr_macro.specs.declared.bodies.Text.{Text}
+use Rattle.std.proofs.Common.{sym, subst, ◌∙◌, ap}
+use Rattle.std.specs.List.Sorted.{IsNonDecreasingBy}
+use Rattle.avr_macro_lines.specs.declared.blocks.Blocks.{Blocks}
 use Rattle.avr_macro_lines.specs.declared.directives.Word.TheVariants.{Macro, EndMacro}
-use Rattle.avr_macro_lines.specs.Ends.{blocks_from, closing_at}
-use Rattle.avr_macro_lines.proofs.Filled.{shown_blocks}
+use Rattle.avr_macro_lines.specs.AtSigns.{filled}
+use Rattle.avr_macro_lines.proofs.BlockEnds.{blocks_in_order}
 use Rattle.avr_macro.proofs.bodies.Body.macro_closing.Goals as goal
 
-pub returns : goal.returns
-returns c =
-    c.macro_closing.ensures ∙ ap (λ (t : Text). closing_at c.args.line (blocks_from Macro EndMacro 0 t.lines)) c.as_ref.ensures
-    ∙ ap (closing_at c.args.line)
-    (shown_blocks Macro EndMacro c.self.inside.substitution c.self.inside.text.value.lines c.args.self.now c.self.invariant c.self.view_is)
+pub closing_of-requires : goal.closing_of-requires
+closing_of-requires c =
+    let kept = c.as_slice.ensures.value ∙ ap (λ (b : Blocks). b.macros.items) c.as_ref.ensures ∙ c.self.invariant.macros in
+    subst (IsNonDecreasingBy (λ b. b.line)) (sym kept)
+    (blocks_in_order Macro EndMacro (filled c.self.inside.substitution c.self.inside.text.value.lines))

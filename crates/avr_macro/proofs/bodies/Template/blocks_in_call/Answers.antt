@@ -1,0 +1,15 @@
+use Rattle.std.proofs.Common.{sym, subst, ◌∙◌, ap}
+use Rattle.std.specs.Prelude.{Some}
+use Rattle.avr_macro.specs.declared.bodies.Text.{Text}
+use Rattle.avr_macro_lines.specs.AtSigns.{filled}
+use Rattle.avr_macro_lines.specs.Kinds.{AreBlocks}
+use Rattle.avr_macro_lines.proofs.Filled.{same_blocks}
+use Rattle.avr_macro.proofs.bodies.Template.blocks_in_call.Goals as goal
+
+pub returns-then-keeps_directives : goal.returns-then-keeps_directives
+returns-then-keeps_directives c =
+    let text = c.args.self.now.text.value in
+    let kept = c.in_ok-blocks.ensures ∙ ap (λ (t : Text). t.blocks.value) c.as_ref.ensures in
+    subst (AreBlocks (filled (Some c.args.substitution.now) text.lines)) (sym kept)
+    (same_blocks c.args.substitution.now text.lines text.blocks.value (c.keeps_directives.ensures c.if-keeps_directives.true)
+    text.all_blocks)
