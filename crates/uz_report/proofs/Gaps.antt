@@ -1,5 +1,5 @@
 -- From each return to the next entry, out of what is told of main's time.
-use Rattle.std.proofs.Common.{◌≡◌, inl, inr, All, Contains, ℕ, ◌+◌, ◌-◌, ◌≤◌, List, [], ◌∷◌, ◌++◌, refl, sym, ◌∙◌, ap, subst, arith, append_assoc}
+use Rattle.std.proofs.Common.{◌≡◌, All, ℕ, ◌+◌, ◌-◌, ◌≤◌, List, [], ◌∷◌, ◌++◌, ◌∙◌, ap, subst, arith, append_assoc}
 use Rattle.std.specs.Ordering.{nat_cmp}
 use Rattle.std.specs.FinMap.{FinMap}
 use Rattle.std.proofs.lemmas.List.{map-append}
@@ -7,12 +7,10 @@ use Rattle.std.proofs.lemmas.List.Elements.{All-tail}
 use Rattle.uz_machine.specs.declared.Edge.{Edge}
 use Rattle.uz_machine.specs.declared.EdgeKind.{EdgeKind}
 use Rattle.uz_machine.specs.declared.EdgeKind.TheVariants.{Sync, Pixel, Sound, Enter, Leave}
-use Rattle.uz_schedule.specs.declared.states.Rest.{Rest}
 use Rattle.uz_schedule.specs.declared.certificate.Cert.{Cert}
 use Rattle.uz_schedule.specs.Schedule.{length_of}
-use Rattle.uz_soundness.specs.Ways.{IsPlain, Phase, InMain, InHandler, ReturnsAt, MainsTime, told, MainsTimeHolds}
-use Rattle.uz_report.specs.Slacks.{least_after}
-use Rattle.uz_report.specs.MainsTime.{IsWithin, Rested, EachGap, GapsHold}
+use Rattle.uz_soundness.specs.Ways.{IsPlain, Phase, InMain, InHandler, MainsTime, told, MainsTimeHolds}
+use Rattle.uz_report.specs.MainsTime.{Rested, EachGap, GapsHold}
 
 -- what is told after one more entry or return
 one_on : (cert : Cert) (start p : ℕ) (phase : Phase) (clock : ℕ) (kind : EdgeKind) (tail : List (ℕ × EdgeKind))

@@ -1,13 +1,12 @@
 -- One gap after each rest: the sums.
-use Rattle.std.proofs.Common.{◌≡◌, All, ℕ, ◌+◌, ◌*◌, ◌≤◌, List, [], ◌∷◌, length, map, sym, ◌∙◌, arith}
+use Rattle.std.proofs.Common.{All, ℕ, ◌+◌, ◌*◌, ◌≤◌, List, [], ◌∷◌, length, map, arith}
 use Rattle.std.specs.List.{sum_by}
-use Rattle.std.specs.List.Sorted.{IsPermutation}
 use Rattle.std.proofs.lemmas.List.Elements.{All-head, All-tail}
 use Rattle.std.proofs.lemmas.List.Sums.{sum_by-cons}
 use Rattle.std.proofs.lemmas.List.Sorted.{sum_by-IsPermutation, length_permutation}
 use Rattle.uz_schedule.specs.declared.states.Rest.{Rest}
 use Rattle.uz_schedule.specs.declared.certificate.Cert.{Cert}
-use Rattle.uz_report.specs.Slacks.{least_after, frame_least, frame_most}
+use Rattle.uz_report.specs.Slacks.{least_after}
 use Rattle.uz_report.specs.MainsTime.{IsWithin, Gap, RoundsHold}
 
 abbrev rest_of : Gap → Rest

@@ -1,12 +1,12 @@
 -- What an edge adds to the samples.
-use Rattle.std.proofs.Common.{◌≡◌, ℕ, Bool, true, false, List, [], ◌∷◌, ◌++◌, if◌then◌else◌, refl, sym, ap, ◌∙◌, append-nil}
+use Rattle.std.proofs.Common.{◌≡◌, ℕ, Bool, true, false, List, [], ◌∷◌, ◌++◌, if◌then◌else◌, sym, ap, ◌∙◌, append-nil}
 use Rattle.uz_machine.specs.declared.Edge.{Edge}
 use Rattle.uz_scan.specs.declared.records.LineInfo.{LineInfo}
 use Rattle.uz_scan.specs.declared.records.FrameInfo.{FrameInfo}
 use Rattle.uz_scan.specs.declared.scanner.Scan.{Scan}
 use Rattle.uz_scan.specs.declared.scanner.Scan.TheVariants.{More, Line, Frame}
 use Rattle.uz_scan.specs.Lines.{ends_line}
-use Rattle.uz_scan.specs.Pictures.{ends_frame, frame_ended, line_ended, shown_by, sound_of}
+use Rattle.uz_scan.specs.Pictures.{ends_frame, frame_ended, line_ended, shown_by}
 use Rattle.uz_report.specs.Waves.{heard, samples}
 
 by_end : (t u : Bool) (xs : List ℕ) (line : LineInfo) (frame : FrameInfo) (shown : Scan)

@@ -54,6 +54,10 @@ heard More = []
 heard (Line line) = line.sound ∷ []
 heard (Frame frame) = []
 
+-- the last edge's clock
+abbrev pub clock_of : Wave → ℕ
+clock_of wave = scanning.clock_of wave.scanner
+
 -- what a growing file has seen: a list of edges (newest first)
 pub record Holds (wave : Wave) (edges : List Edge) : Type 0 where
   pub scanner : scanning.StandsFor wave.scanner edges

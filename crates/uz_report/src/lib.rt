@@ -10,4 +10,4 @@ mod sound_file;
 
 pub use header::wave_header;
 pub use main_time::{Slack, frame_slack, slacks};
-pub use sound_file::Wave;
+pub use sound_file::{Wave, WaveError};

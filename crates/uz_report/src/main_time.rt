@@ -21,6 +21,18 @@ pub struct Slack {
     pub least: u16,
 }
 
+impl Slack {
+    ghost use Rattle.std.specs.Prelude.{◌+◌};
+    ghost use Rattle.uz_report.specs.Slacks.{latest};
+
+    /// The most clocks from the return to the next entry.
+    pub fn most(self) -> u32
+        ensures { result ≡ self.least + latest }
+    {
+        u32::from(self.least) + LATEST
+    }
+}
+
 /// What main has after a rest.
 fn slack_of(schedule: &Schedule, rest: &Rest) -> Slack
     ensures { result ≡ slack_after schedule.now rest.now }

@@ -1,6 +1,6 @@
 //! The sound of a run as a file whose samples grow with its lines.
 
-ghost use Rattle.std.specs.Prelude.{◌≡◌, ◌≤◌, ◌<◌, ◌^◌, ◌∷◌, ◌++◌, [], List, length, IfOk, OnOk};
+ghost use Rattle.std.specs.Prelude.{◌≡◌, ◌≤◌, ◌<◌, ◌^◌, ◌+◌, ◌↔◌, ◌∷◌, ◌++◌, [], List, length, Err, OnErr, OnOk, vec_capacity, vec_len};
 ghost use Rattle.uz_machine.specs.declared.Edge.{Edge};
 
 use crate::header::wave_header;
@@ -8,8 +8,28 @@ use std::alloc::{AllocError, Global};
 use uz_machine::Edge;
 use uz_scan::{Scan, Scanner};
 
-/// A file holds fewer samples than this: its lengths are 32-bit numbers.
-const MOST_SAMPLES: usize = 1 << 30;
+/// The most samples of a file, whose lengths are 32-bit numbers.
+const MOST_SAMPLES: usize = (1 << 30) - 1;
+
+/// Why a file takes no edge.
+#[derive(Clone, Copy, Debug, PartialEq, Eq)]
+pub enum WaveError {
+    /// It has 2^30 - 1 samples, the most.
+    Full,
+    /// There was not enough memory.
+    Memory,
+}
+
+impl From<AllocError> for WaveError {
+    ghost use Rattle.std.specs.Prelude.{◌≡◌};
+    ghost use Rattle.uz_report.specs.declared.sound_file.WaveError.TheVariants.{Memory};
+
+    ghost from_gives = { λ _ error. error ≡ Memory };
+
+    fn from(_e: AllocError) -> WaveError {
+        WaveError::Memory
+    }
+}
 
 /// The WAVE file of the lines that have ended so far, in three parts: its head, one byte a line, the sound value at its end,
 /// and a byte that makes their number even.
@@ -21,13 +41,12 @@ pub struct Wave {
 }
 
 impl Wave {
-    ghost use Rattle.uz_report.specs.Waves.{Holds, header_bytes, heard, pad_after, samples};
-    ghost use Rattle.uz_scan.specs.Scanning.{clock_of};
+    ghost use Rattle.uz_report.specs.Waves.{Holds, clock_of, header_bytes, heard, pad_after, samples};
 
     /// The file of no edge.
     pub fn new(alloc: Global) -> Wave
         ensures holds { Holds result [] }
-        ensures clock { clock_of result.scanner ≡ 0 }
+        ensures clock { clock_of result ≡ 0 }
     {
         Wave {
             scanner: Scanner::new(),
@@ -35,39 +54,47 @@ impl Wave {
         }
     }
 
-    /// Takes the next edge, whose clock isn't below the last one's. Refused for want of memory, which it also answers where a
-    /// file would have 2^30 samples: a run of 1,000,000,000 clocks has fewer lines.
-    pub fn edge(&mut self, edge: Edge) -> Result<(), AllocError>
-        requires { clock_of self.old.scanner ≤ edge.clock }
+    /// Takes the next edge, whose clock isn't below the last one's. Refused exactly where the file has the most samples, and for
+    /// want of memory; the file is then as it was.
+    pub fn edge(&mut self, edge: Edge) -> Result<(), WaveError>
+        requires { clock_of self.old ≤ edge.clock }
         ensures ok { OnOk result ((edges : List Edge) → Holds self.old edges → Holds self.new (edge ∷ edges)) }
-        ensures clock { clock_of self.new.scanner ≡ edge.clock }
+        ensures err { OnErr result ((edges : List Edge) → Holds self.old edges → Holds self.new edges) }
+        ensures full { (edges : List Edge) → Holds self.old edges → (result ≡ Err WaveError.Full) ↔ (length (samples edges) + 1 ≡ 2 ^ 30) }
+        ensures clock { OnOk result (clock_of self.new ≡ edge.clock) }
+        ensures clock_stays { OnErr result (clock_of self.new ≡ clock_of self.old) }
     {
+        if self.sounds.len() == MOST_SAMPLES {
+            return Err(WaveError::Full);
+        }
+        self.sounds.reserve(1)?;
         let shown = self.scanner.edge(edge);
-        self.take(shown)
+        self.take(shown);
+        Ok(())
     }
 
     /// Adds the sample of a line that has ended.
-    fn take(&mut self, shown: Scan) -> Result<(), AllocError>
-        ensures ok { OnOk result (self.new.sounds.items ≡ self.old.sounds.items ++ heard shown) }
+    fn take(&mut self, shown: Scan)
+        requires room { vec_len self.old.sounds + 1 ≤ vec_capacity self.old.sounds }
+        requires few { vec_len self.old.sounds + 1 < 2 ^ 30 }
+        ensures sounds { self.new.sounds.items ≡ self.old.sounds.items ++ heard shown }
         ensures same { self.new.scanner ≡ self.old.scanner }
     {
         match shown {
             Scan::Line(line) => self.sample(line.sound),
-            Scan::More => Ok(()),
-            Scan::Frame(_) => Ok(()),
+            Scan::More => {}
+            Scan::Frame(_) => {}
         }
     }
 
-    /// Adds a sample.
-    fn sample(&mut self, sound: u8) -> Result<(), AllocError>
-        ensures ok { OnOk result (self.new.sounds.items ≡ self.old.sounds.items ++ sound ∷ []) }
+    /// Adds a sample, for which there is room.
+    fn sample(&mut self, sound: u8)
+        requires room { vec_len self.old.sounds + 1 ≤ vec_capacity self.old.sounds }
+        requires few { vec_len self.old.sounds + 1 < 2 ^ 30 }
+        ensures sounds { self.new.sounds.items ≡ self.old.sounds.items ++ sound ∷ [] }
         ensures same { self.new.scanner ≡ self.old.scanner }
     {
-        if self.sounds.len() + 1 >= MOST_SAMPLES {
-            return Err(AllocError);
-        }
-        self.sounds.push(sound)?;
-        Ok(())
+        let _ = self.sounds.push(sound); // it has room
     }
 
     /// The head of the file.
