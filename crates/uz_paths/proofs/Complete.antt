@@ -15,10 +15,6 @@ use Rattle.uz_schedule.specs.Tracked.{tracked}
 use Rattle.uz_schedule.specs.WellFormed.{EntryFits, EntryKindFits, PointFits, PointsFit, RangeFits, RestFits, RestsFit}
 use Rattle.uz_schedule.specs.WellFormed.{WellFormed, instances_of, spans_fit}
 use Rattle.uz_schedule.specs.declared.certificate.Cert.{Cert}
-use Rattle.uz_schedule.specs.declared.facts.Bit.{Bit}
-use Rattle.uz_schedule.specs.declared.facts.Bit.TheVariants.{Zero, One, Free, Old as OldBit}
-use Rattle.uz_schedule.specs.declared.facts.Val.{Val}
-use Rattle.uz_schedule.specs.declared.facts.Val.TheVariants.{Range, Old, OldFlags}
 use Rattle.uz_schedule.specs.declared.kinds.Kind.{Kind}
 use Rattle.uz_schedule.specs.declared.kinds.Kind.TheVariants.{Main, Handler, Alone}
 use Rattle.uz_schedule.specs.declared.kinds.Response.{Response}
@@ -28,13 +24,9 @@ use Rattle.uz_schedule.specs.declared.states.Entry.{Entry}
 use Rattle.uz_schedule.specs.declared.states.Instance.{Instance}
 use Rattle.uz_schedule.specs.declared.states.Point.{Point}
 use Rattle.uz_schedule.specs.declared.states.Rest.{Rest}
-use Rattle.uz_transfer.specs.Refusals.{range_inside}
-use Rattle.uz_transfer.specs.Values.{flag_at, pair_at, span_at, value_at}
-use Rattle.uz_rules.specs.Inside.{all_below, flag_inside, inside, same_bool}
-use Rattle.uz_rules.specs.Inside.{same_kind, same_place, value_inside}
+use Rattle.uz_rules.specs.Inside.{inside, known_inside, same_place, KnownInItself, PlaceHolds, PlaceTells}
 use Rattle.uz_rules.specs.Successors.{any_from, lies_at, lies_in_any, lies_in_box, lies_in_point}
 use Rattle.uz_soundness.specs.Acceptance.{Accepts}
-use Rattle.uz_soundness.specs.Steady.{AreScanlines as AreScanlinesOf}
 use Rattle.uz_search.specs.declared.found.Found.{Found}
 use Rattle.uz_search.specs.declared.program.Program.{Program}
 use Rattle.uz_search.specs.Fitting.{ProgramFits, Stands}
@@ -42,6 +34,7 @@ use Rattle.uz_search.specs.Following.{Among, Flash, order_of_program, lines_of}
 use Rattle.uz_search.specs.Returning.{ReturnAt}
 use Rattle.uz_search.specs.Searching.{IsEnded}
 use Rattle.uz_search.specs.Widenings.{widened}
+use Rattle.uz_search.proofs.TimerLaws.{last_clock}
 use Rattle.uz_search.proofs.VisitingLemmas.{some_is}
 use Rattle.uz_search_laws.specs.Complete.{EndedFallsOnce, EndedLevels, EndedLevelsFit, EndedRestsAreQuiet, EndedRestsEnter, HasSuccessors}
 use Rattle.uz_search_laws.specs.Limits.{EndedWithinLimits, IsWithinLimits, LiesInWidened}
@@ -52,8 +45,7 @@ use Rattle.uz_paths.specs.Certificate.{ArePartsOf, IsEntry, ReturnsFromMain, cer
 use Rattle.uz_paths.specs.Kinds.{IsScheduleOf}
 use Rattle.uz_paths.specs.Linked.{AreEntered, NamesFit, NamesResults, first_after}
 use Rattle.uz_paths.specs.Numbers.{Numbered}
-use Rattle.uz_paths.specs.Points.{IsOrdered, point_of, vector_point}
-use Rattle.uz_paths.specs.ProgramOf.{AreScanlines}
+use Rattle.uz_paths.specs.Points.{IsOrdered, point_of, vector_after}
 use Rattle.uz_paths.specs.Rests.{rests_of}
 use Rattle.uz_paths.proofs.Counting.{at_least, sum_few}
 use Rattle.uz_paths.proofs.MadeSchedule.{EventByLine, is_fit, is_made}
@@ -72,6 +64,9 @@ pub record Laws : Type 0 where
   pub enter : EndedRestsEnter
   pub within : EndedWithinLimits
   pub widens : LiesInWidened
+  pub tells : PlaceTells
+  pub holds : PlaceHolds
+  pub itself : KnownInItself
   pub accepts : EndedAccepts
   pub stand : (image : Flash) (p : Program) (s : Found) (x : Instance) → ProgramFits p → IsEnded image p s → Among s.nodes.keys x
       → Stands p x
@@ -83,63 +78,18 @@ there_is [] k h = absurd (omega arith)
 there_is (x ∷ xs) zero h = (x, refl)
 there_is (x ∷ xs) (suc k) h = there_is xs k (omega arith)
 
--- An instance lies in itself
-
-below_all : (n : ℕ) (test : ℕ → Bool) → ((k : ℕ) → test k ≡ true) → all_below n test ≡ true
-unfolding all_below
-below_all zero test all = refl
-below_all (suc n) test all = λ i. below_all n test all i && all n i
-
-le_self : (n : ℕ) → nat_le n n ≡ true
-le_self n = grind (arith, nat_tests)
-
-range_self : (e : Ends) → range_inside e e ≡ true
-range_self e = λ i. le_self e.lo i && le_self e.hi i
-
-value_self : (v : Val) → value_inside v v ≡ true
-value_self (Range e) = range_self e
-value_self (Old r) = eq-eqb r r refl
-value_self OldFlags = refl
-
-flag_self : (b : Bit) → flag_inside b b ≡ true
-flag_self Zero = refl
-flag_self One = refl
-flag_self Free = refl
-flag_self OldBit = refl
-
-kind_self : (k : Kind) → same_kind k k ≡ true
-kind_self Main = refl
-kind_self Handler = refl
-kind_self Alone = refl
-
-bool_self : (b : Bool) → same_bool b b ≡ true
-bool_self true = refl
-bool_self false = refl
-
-inside_self : (x : Instance) → inside x x ≡ true
-inside_self x =
-    λ i. (kind_self x.kind i && (eq-eqb x.pc x.pc refl i
-    && (eq-eqb x.line x.line refl i && (eq-eqb x.clock x.clock refl i && bool_self x.pending i))))
-    && ((eq-eqb (length x.stack.items) (length x.stack.items) refl i && below_all (length x.stack.items)
-    (λ k. value_inside (value_at x.stack.items k) (value_at x.stack.items k)) (λ k. value_self (value_at x.stack.items k)) i)
-    && ((eq-eqb (length x.cells.items) (length x.cells.items) refl i && below_all (length x.cells.items)
-    (λ k. range_inside (span_at x.cells.items k) (span_at x.cells.items k)) (λ k. range_self (span_at x.cells.items k)) i)
-    && (below_all 7 (λ k. flag_inside (flag_at x.flags k) (flag_at x.flags k)) (λ k. flag_self (flag_at x.flags k)) i
-    && (below_all 3 (λ k. range_inside (pair_at x.pairs k) (pair_at x.pairs k)) (λ k. range_self (pair_at x.pairs k)) i
-    && below_all 32 (λ k. value_inside (value_at x.regs k) (value_at x.regs k)) (λ k. value_self (value_at x.regs k)) i))))
-
 eq_of : (a b : ℕ) → nat_eq a b ≡ true → a ≡ b
 eq_of a b e = grind (arith, nat_tests)
 
 le_of : (a b : ℕ) → nat_le a b ≡ true → a ≤ b
 le_of a b e = grind (arith, nat_tests)
 
-line_of : (a b : Instance) → inside a b ≡ true → a.line ≡ b.line
-line_of a b h =
-    let place : same_place a b ≡ true = (both (same_place a b) _ h).0 in
-    let kind = both (same_kind a.kind b.kind) _ place in
-    let pc = both (nat_eq a.pc b.pc) _ kind.1 in
-    eq_of a.line b.line (both (nat_eq a.line b.line) _ pc.1).0
+line_of : PlaceTells → (a b : Instance) → inside a b ≡ true → a.line ≡ b.line
+line_of tells a b h = (tells a b (both (same_place a b) (known_inside a b) h).0).line
+
+inside_self : PlaceHolds → KnownInItself → (x : Instance) → inside x x ≡ true
+inside_self holds itself x = λ i. holds x x (record { kind = refl; pc = refl; line = refl; clock = refl; pending = refl; top = refl }) i
+    && itself x i
 
 -- Where instances lie
 
@@ -164,12 +114,12 @@ pub record IsKnownAt (cert : Cert) (n : ℕ) (x : Instance) : Type 0 where
   pub high : count ≤ point.c1
   pub is : instance_at cert n x.line count ≡ Some x
 
-lies : (cert : Cert) (n : ℕ) (x y : Instance) → IsKnownAt cert n x → inside y x ≡ true → lies_in_point cert n y ≡ true
-lies cert n x y known h =
+lies : PlaceTells → (cert : Cert) (n : ℕ) (x y : Instance) → IsKnownAt cert n x → inside y x ≡ true → lies_in_point cert n y ≡ true
+lies tells cert n x y known h =
     ap (λ o. lies_in_box cert n o y) known.at
     ∙ any_true (λ c. lies_at (instance_at cert n y.line c) y) known.point.c0 (suc known.point.c1 - known.point.c0) known.count known.low
     (let low = known.low in let high = known.high in omega arith)
-    (ap (λ l. lies_at (instance_at cert n l known.count) y) (line_of y x h) ∙ (ap (λ o. lies_at o y) known.is ∙ h))
+    (ap (λ l. lies_at (instance_at cert n l known.count) y) (line_of tells y x h) ∙ (ap (λ o. lies_at o y) known.is ∙ h))
 
 any_named : (cert : Cert) (ids : List ℕ) (i n : ℕ) (y : Instance) → slice_get ids i ≡ Some n → lies_in_point cert n y ≡ true
     → lies_in_any cert ids y ≡ true
@@ -222,8 +172,7 @@ entered image p found entry s enter fits ended made k c rest at few =
 
 module _ (image : Flash) (p : Program) (entry : Entry) (found : Found) (parts : Parts) (laws : Laws) (fits : ProgramFits p)
     (ended : IsEnded image p found)
-    (few : length found.nodes.keys < 524288) (entering : IsEntry p entry) (long : AreScanlines p.schedule)
-    (returns : ReturnsFromMain p found)
+    (few : length found.nodes.keys < 524288) (entering : IsEntry p entry) (returns : ReturnsFromMain p found)
     (of : ArePartsOf image p entry found parts) where
   abbrev cert : Cert
   cert = cert_of p parts
@@ -243,6 +192,13 @@ module _ (image : Flash) (p : Program) (entry : Entry) (found : Found) (parts : 
   same_next : (l : ℕ) → next_line parts.schedule l ≡ next l
   same_next l = ap (λ n. if suc l == n then 0 else suc l) of.schedule.count
 
+  -- the last clock of a line
+  abbrev last : ℕ → ℕ
+  last l = (order_of_program p).length l - 1
+
+  same_last : (l : ℕ) → length_of parts.schedule l - 1 ≡ last l
+  same_last l = ap (λ n. n - 1) (of.schedule.lengths l)
+
   limits : (x : Instance) → Among found.nodes.keys x → IsWithinLimits p x
   limits x node = laws.within image p found x fits entering.limits ended node
 
@@ -255,9 +211,6 @@ module _ (image : Flash) (p : Program) (entry : Entry) (found : Found) (parts : 
   -- lines are as long as the program's
   clock_in : (x : Instance) → Among found.nodes.keys x → x.clock < length_of parts.schedule x.line
   clock_in x node = subst (λ n. x.clock < n) (sym (of.schedule.lengths x.line)) (stand x node).clock
-
-  scanlines : AreScanlinesOf parts.schedule
-  scanlines l below = of.schedule.lengths l ∙ long l
 
   -- Rests
 
@@ -283,8 +236,8 @@ module _ (image : Flash) (p : Program) (entry : Entry) (found : Found) (parts : 
       ∙ level x (first k c rest at le) in
       let room = (length_within parts.schedule schedule_fits (next rest.line)).0 in
       ap (λ l. instance_at cert k l c) (same_next rest.line)
-      ∙ (vector_instance cert k rest.cells.items (next rest.line) response c x.level v.next v.is le (omega arith) there
-      ∙ ap (λ l. Some (handler_entry rest.cells.items l (c + response) x.level)) (sym (same_next rest.line)))
+      ∙ (vector_instance cert k rest.cells.items (next rest.line) response c x.level (last rest.line) v.next v.is le (omega arith) there
+      ∙ (λ j. Some (handler_entry rest.cells.items (sym (same_next rest.line) j) (c + response) x.level (sym (same_last rest.line) j))))
 
   -- a vector says what is known of each of its first states
   vector_known : (k c : ℕ) (rest : Rest) → slice_get parts.rests.items k ≡ Some rest → c ≤ 3 → IsKnownAt cert k
@@ -292,7 +245,7 @@ module _ (image : Flash) (p : Program) (entry : Entry) (found : Found) (parts : 
   vector_known k c rest at le =
       let v = of.points.vectors k rest at in
       record {
-        point = vector_point rest.cells.items (next rest.line) response v.next;
+        point = vector_after response (order_of_program p) rest v.next;
         at = v.is;
         count = c;
         low = omega arith;
@@ -316,15 +269,15 @@ module _ (image : Flash) (p : Program) (entry : Entry) (found : Found) (parts : 
           x.level =
           (λ j. level_at parts.schedule (start_of parts.schedule (v.after.line j) + same j)) ∙ level x (i, node) in
           record {
-            point = vector_point v.rest.cells.items (next v.rest.line) response vec.next;
+            point = vector_after response (order_of_program p) v.rest vec.next;
             at = vec.is;
             count = x.clock - response;
             low = omega arith;
             high = omega arith;
             is = ap (λ l. instance_at cert n l (x.clock - response)) (sym v.after.line)
-                ∙ (vector_instance cert n v.rest.cells.items (next v.rest.line) response (x.clock - response) x.level vec.next vec.is
-                (omega arith) (omega arith) there
-                ∙ (λ j. Some (handler_entry v.rest.cells.items (v.after.line j) (same j) x.level)) ∙ ap (λ y. Some y)
+                ∙ (vector_instance cert n v.rest.cells.items (next v.rest.line) response (x.clock - response) x.level (last v.rest.line)
+                vec.next vec.is (omega arith) (omega arith) there
+                ∙ (λ j. Some (handler_entry v.rest.cells.items (v.after.line j) (same j) x.level (last v.rest.line))) ∙ ap (λ y. Some y)
                 (sym v.after.first.is));
           }
       by (inr h) =
@@ -342,7 +295,7 @@ module _ (image : Flash) (p : Program) (entry : Entry) (found : Found) (parts : 
   succeeded x ids named result y after on there =
       let h = named result y after on there in
       any_named cert ids h.named.0 h.number y h.named.1
-      (lies cert h.number (widened p y) y (known h.place h.number (widened p y) h.node h.is) (laws.widens p y))
+      (lies laws.tells cert h.number (widened p y) y (known h.place h.number (widened p y) h.node h.is) (laws.widens p y))
 
   -- Points
 
@@ -351,7 +304,7 @@ module _ (image : Flash) (p : Program) (entry : Entry) (found : Found) (parts : 
     at : slice_get parts.rests.items id ≡ Some rest
     below : id < length parts.rests.items
     ids : List ℕ
-    is : point ≡ vector_point rest.cells.items (next rest.line) response ids
+    is : point ≡ vector_after response (order_of_program p) rest ids
 
   record IsOwn (id : ℕ) (point : Point) : Type 0 where
     place : ℕ
@@ -394,7 +347,7 @@ module _ (image : Flash) (p : Program) (entry : Entry) (found : Found) (parts : 
     where
       vector : IsVector id point → StandsFor image p found cert id l c point
       vector v =
-          let inside : is_in_box (vector_point v.rest.cells.items (next v.rest.line) response v.ids) l c ≡ true =
+          let inside : is_in_box (vector_after response (order_of_program p) v.rest v.ids) l c ≡ true =
           subst (λ (z : Point). is_in_box z l c ≡ true) v.is box in
           let parts_of_box = both (nat_le (next v.rest.line) l && nat_le l (next v.rest.line)) (nat_le 0 c && nat_le c 3) inside in
           let lines = both (nat_le (next v.rest.line) l) (nat_le l (next v.rest.line)) parts_of_box.0 in
@@ -449,7 +402,7 @@ module _ (image : Flash) (p : Program) (entry : Entry) (found : Found) (parts : 
         clock = o.is_clock;
         cells = ap (λ v. v.items) o.are_cells;
         vector = λ c le node. (let x = first_after p parts.schedule rest c in
-            lies cert rest.vector x x (subst (λ n. IsKnownAt cert n x) vector (vector_known has.0 c rest at le)) (inside_self x));
+            lies laws.tells cert rest.vector x x (subst (λ n. IsKnownAt cert n x) vector (vector_known has.0 c rest at le)) (inside_self laws.holds laws.itself x));
       }
 
   -- The entry
@@ -467,8 +420,8 @@ module _ (image : Flash) (p : Program) (entry : Entry) (found : Found) (parts : 
   entry_lies =
       let e = of.entry_number in
       subst (λ z. lies_in_point cert parts.entry.id z ≡ true) (sym enters_start)
-      (lies cert parts.entry.id (entry_instance_at entry 1) (entry_instance_at entry 1)
-      (known e.place parts.entry.id (entry_instance_at entry 1) e.node e.is) (inside_self (entry_instance_at entry 1)))
+      (lies laws.tells cert parts.entry.id (entry_instance_at entry 1) (entry_instance_at entry 1)
+      (known e.place parts.entry.id (entry_instance_at entry 1) e.node e.is) (inside_self laws.holds laws.itself (entry_instance_at entry 1)))
 
   some_rest : parts.entry.kind ≡ Main → (rest : Rest) × Contains parts.rests.items rest
   some_rest main =
@@ -515,7 +468,15 @@ module _ (image : Flash) (p : Program) (entry : Entry) (found : Found) (parts : 
           by m (inr h) = absurd (h.0 n (record {
             rest = rest;
             there = at;
-            after = record { line = sym (same_next rest.line); first = record { earliest = omega arith; latest = omega arith; is = refl } };
+            after = record {
+              line = sym (same_next rest.line);
+              first = record {
+                earliest = omega arith;
+                latest = omega arith;
+                is = (let x = first_after p parts.schedule rest 0 in
+                    λ j. handler_entry rest.cells.items x.line x.clock x.level (same_last rest.line j));
+              };
+            };
           }))
 
   few_points : length parts.points.items < 524288
@@ -540,8 +501,9 @@ module _ (image : Flash) (p : Program) (entry : Entry) (found : Found) (parts : 
           let small = few_clocks p.head.irq in
           let names = subst (λ (z : Point). NamesFit (length parts.points.items) z.next.items) v.is (of.points.names id point at) in
           subst (PointFits p.head (lines_of p) (length parts.points.items)) (sym v.is)
-          (vector_fits p (length parts.points.items) v.rest.cells.items (next v.rest.line) response v.ids
-          (next_below (lines_of p) v.rest.line (rest_line id v.rest v.at)) (omega arith) (cells_fit id v.rest v.at)
+          (vector_fits p (length parts.points.items) v.rest.cells.items (next v.rest.line) response (last v.rest.line) v.ids
+          (next_below (lines_of p) v.rest.line (rest_line id v.rest v.at)) (omega arith)
+          (last_clock (length_of p.schedule v.rest.line) (fits.lengths v.rest.line)) (cells_fit id v.rest v.at)
           (of.points.vectors id v.rest v.at).ordered names)
 
       own : IsOwn id point → PointFits p.head (lines_of p) (length parts.points.items) point
@@ -637,5 +599,5 @@ module _ (image : Flash) (p : Program) (entry : Entry) (found : Found) (parts : 
 
   pub accepted : Accepts image cert
   accepted = laws.accepts image p found cert fits ended
-      (record { head = refl; schedule = made; rests = all_in found.returns.items parts.rests.items of.rests }) schedule_fits scanlines
+      (record { head = refl; schedule = made; rests = all_in found.returns.items parts.rests.items of.rests }) schedule_fits
       are_points

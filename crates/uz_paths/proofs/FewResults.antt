@@ -113,9 +113,9 @@ few_results image p x = few_by image p x 16 (omega arith) aims
         either_false false b e = (refl, e)
 
 -- of the handler's first states nothing is known of Z, so that an indirect jump is refused
-pub few_entries : (image : Flash) (p : Program) (cells : List Ends) (line clock level : ℕ) → HasFew image p
-    (handler_entry cells line clock level) 2
-few_entries image p cells line clock level = few_by image p (handler_entry cells line clock level) 2 (omega arith) (λ h. absurd (aims h))
+pub few_entries : (image : Flash) (p : Program) (cells : List Ends) (line clock level top : ℕ) → HasFew image p
+    (handler_entry cells line clock level top) 2
+few_entries image p cells line clock level top = few_by image p (handler_entry cells line clock level top) 2 (omega arith) (λ h. absurd (aims h))
   where
-    aims : target_fails Indirect (handler_entry cells line clock level) ≡ false → ⊥
+    aims : target_fails Indirect (handler_entry cells line clock level top) ≡ false → ⊥
     aims h = cc

@@ -5,7 +5,7 @@ use Rattle.std.specs.Ordering.{nat_cmp}
 use Rattle.std.specs.FinMap.{FinMap}
 use Rattle.std.proofs.lemmas.Option.{slice_get_within}
 use Rattle.avr_asm.specs.declared.output.Hint.{Hint as SourceHint}
-use Rattle.avr_asm.specs.declared.output.Hint.TheVariants.{Start, Lines, Stack, Cell, Fact}
+use Rattle.avr_asm.specs.declared.output.Hint.TheVariants.{Fact}
 use Rattle.uz_schedule.specs.declared.kinds.Response.{Response}
 use Rattle.uz_schedule.specs.declared.certificate.Cert.{Cert}
 use Rattle.uz_schedule.specs.declared.states.Entry.{Entry}
@@ -41,11 +41,8 @@ found_by image p entry found parts cert is a ended trails = subst (IsFoundBy ima
 
 fact_part : (image : FinMap nat_cmp ℕ) (irq : Response) (hints : List SourceHint) (i : ℕ) (h : SourceHint) → IsFine image irq hints i h
     → FactPart h
-fact_part image irq hints i (Start kind at) f = tt
-fact_part image irq hints i (Lines lines fall) f = tt
-fact_part image irq hints i (Stack lo hi main handler) f = tt
-fact_part image irq hints i (Cell at owner lo hi first) f = tt
 fact_part image irq hints i (Fact at place lo hi) f = (f.order, f.there, f.byte)
+fact_part image irq hints i other f = tt
 
 pub facts_fine : (image : FinMap nat_cmp ℕ) (irq : Response) (hints : List SourceHint) (r : Reading) → IsReading image irq hints r
     → FactsFine hints

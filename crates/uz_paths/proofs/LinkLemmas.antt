@@ -21,7 +21,7 @@ use Rattle.uz_search.specs.Following.{Among, Flash}
 use Rattle.uz_search.specs.Widenings.{widened}
 use Rattle.uz_paths.specs.Linked.{IsVectorAt, IsPointAt, HasName, NamesFit, NamesMore, NamesResults, NamesEntries, NamesVectors, NamesOwn}
 use Rattle.uz_paths.specs.Linked.{ArePoints, Renamed}
-use Rattle.uz_paths.specs.Points.{AreOrdered, IsOrdered, point_of, vector_point}
+use Rattle.uz_paths.specs.Points.{AreOrdered, IsOrdered, point_of, vector_after}
 use Rattle.uz_paths.specs.Successors.{count_below, is_number, with_number}
 use Rattle.uz_paths.specs.Numbers.{IsVectorOf, AreNumbers}
 use Rattle.uz_paths.proofs.NumberLemmas.{at_more, keeps, last_there, more_vector, more_own, none_numbered}
@@ -181,8 +181,8 @@ still_named_all image p nodes numbers x ms ns kept h = λ result y after on ther
 -- Points
 
 vector_again : (response : ℕ) (lines : Lines) (p q : Point) (rest : Rest) (next later : List ℕ)
-    → q ≡ record p { next = record { items = later } } → p ≡ vector_point rest.cells.items (lines.next rest.line) response next
-    → q ≡ vector_point rest.cells.items (lines.next rest.line) response later
+    → q ≡ record p { next = record { items = later } } → p ≡ vector_after response lines rest next
+    → q ≡ vector_after response lines rest later
 vector_again response lines p q rest next later r e = r ∙ ap {A = Point} (λ x. record x { next = record { items = later } }) e
 
 point_again : (p q : Point) (x : Instance) (next later : List ℕ) → q ≡ record p { next = record { items = later } } → p ≡ point_of x next
@@ -235,7 +235,7 @@ points_again response lines rests nodes numbers count n next points p q a there 
         (set points n q) k rest
     vector_cases k rest v true e =
         let same : n ≡ k = grind (arith, nat_tests, e) in
-        let is : p ≡ vector_point rest.cells.items (lines.next rest.line) response v.next =
+        let is : p ≡ vector_after response lines rest v.next =
         some_is p _ (sym there ∙ (ap (slice_get points) same ∙ v.is)) in
         let later = vector_again response lines p q rest v.next next r.is is in
         record {
@@ -350,27 +350,26 @@ names_on_end count count' points p le bare names n q at = ⊎_elim
 
 pub vector_more : (response : ℕ) (lines : Lines) (rests : List Rest) (rest : Rest) (points : List Point) (count : ℕ)
     → length rests ≡ count → AreOrdered 255 rest.cells.items → ArePoints response lines rests [] [] count points
-    → ArePoints response lines (rests ++ rest ∷ []) [] [] (count + 1) (points ++ vector_point rest.cells.items (lines.next rest.line)
-    response [] ∷ [])
+    → ArePoints response lines (rests ++ rest ∷ []) [] [] (count + 1) (points ++ vector_after response lines rest [] ∷ [])
 vector_more response lines rests rest points count same ordered a = record {
-  size = let s = a.size in let l = length-append points (vector_point rest.cells.items (lines.next rest.line) response [] ∷ []) in
+  size = let s = a.size in let l = length-append points (vector_after response lines rest [] ∷ []) in
       omega arith;
   vectors = λ k r at. ⊎_elim
       (λ h. let v = a.vectors k r h in
       record {
         next = v.next;
-        is = keeps points (vector_point rest.cells.items (lines.next rest.line) response []) _ k v.is;
+        is = keeps points (vector_after response lines rest []) _ k v.is;
         ordered = v.ordered;
       })
       (λ h. let s = a.size in let place : k ≡ length points = h.0 ∙ (same ∙ sym s) in record {
         next = [];
-        is = ap (slice_get (points ++ vector_point rest.cells.items (lines.next rest.line) response [] ∷ [])) place
-            ∙ (last_there points _ ∙ ap (λ x. Some (vector_point x.cells.items (lines.next x.line) response [])) h.1);
+        is = ap (slice_get (points ++ vector_after response lines rest [] ∷ [])) place
+            ∙ (last_there points _ ∙ ap (λ x. Some (vector_after response lines x [])) h.1);
         ordered = subst (λ (z : Rest). AreOrdered 255 z.cells.items) h.1 ordered;
       })
       (at_more rests rest r k at);
   own = λ i n x at number low. absurd (cc);
-  names = names_on_end count (count + 1) points (vector_point rest.cells.items (lines.next rest.line) response []) (omega arith) refl
+  names = names_on_end count (count + 1) points (vector_after response lines rest []) (omega arith) refl
       a.names;
 }
 
@@ -382,14 +381,13 @@ length_some (x ∷ xs) (suc i) h = ap suc (length_some xs i (omega arith))
 
 pub vectors_next : (response : ℕ) (lines : Lines) (rests : List Rest) (i : ℕ) (d : Rest) (points points' : List Point) → i < length rests
     → ArePoints response lines (take i rests) [] [] i points
-    → points' ≡ points ++ vector_point (get_or rests i d).cells.items (lines.next (get_or rests i d).line) response [] ∷ []
+    → points' ≡ points ++ vector_after response lines (get_or rests i d) [] ∷ []
     → AreOrdered 255 (get_or rests i d).cells.items → ArePoints response lines (take (i + 1) rests) [] [] (i + 1) points'
 vectors_next response lines rests i d points points' within a e ordered =
     let more : take (i + 1) rests ≡ take i rests ++ get_or rests i d ∷ [] = rw add-one (take-suc rests i d within) in
     let next = vector_more response lines (take i rests) (get_or rests i d) points i (length_some rests i (omega arith)) ordered a in
     subst (ArePoints response lines (take (i + 1) rests) [] [] (i + 1)) (sym e)
-    (subst (λ rs. ArePoints response lines rs [] [] (i + 1) (points ++ vector_point (get_or rests i d).cells.items
-    (lines.next (get_or rests i d).line) response [] ∷ [])) (sym more) next)
+    (subst (λ rs. ArePoints response lines rs [] [] (i + 1) (points ++ vector_after response lines (get_or rests i d) [] ∷ [])) (sym more) next)
 
 all_taken : {A : Type 0} (xs : List A) (i : ℕ) → length xs ≤ i → take i xs ≡ xs
 all_taken [] zero h = refl

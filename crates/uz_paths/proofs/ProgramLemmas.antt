@@ -1,16 +1,18 @@
 -- One more fact, and that the program of hints that aren't at fault is fit to be searched.
-use Rattle.std.proofs.Common.{◌≡◌, ◌≢◌, ◌∙◌, sym, ap, refl, arith, ℕ, zero, suc, ◌+◌, ◌<◌, ◌≤◌, true, List, [], ◌∷◌, ◌++◌}
-use Rattle.std.proofs.Common.{append_assoc, length, drop, get_or, add-one, subst}
+use Rattle.std.proofs.Common.{◌≡◌, ◌≢◌, ◌∙◌, sym, ap, refl, arith, ℕ, zero, suc, ◌+◌, ◌-◌, ◌<◌, ◌≤◌, true, List, [], ◌∷◌, ◌++◌}
+use Rattle.std.proofs.Common.{append_assoc, length, length-append, drop, get_or, add-one, subst, ⊎_elim, Bool, false, if◌then◌else◌}
 use Rattle.std.specs.Prelude.{Option, Some, None, slice_get}
 use Rattle.std.specs.Ordering.{nat_cmp}
 use Rattle.std.specs.FinMap.{FinMap}
 use Rattle.std.proofs.Math.Seq.{drop-cons}
-use Rattle.std.proofs.lemmas.Option.{slice_get-get_or}
+use Rattle.std.proofs.lemmas.Bool.{cases_lt}
+use Rattle.std.proofs.lemmas.Option.{slice_get-get_or, slice_get_cases}
+use borrow.Author.Count.{below_more}
 use Rattle.avr_asm.specs.declared.output.Hint.{Hint}
 use Rattle.uz_schedule.specs.Ends.{Ends}
 use Rattle.uz_schedule.specs.Instances.{entry_instance_at}
-use Rattle.uz_schedule.specs.Limits.{is_length}
-use Rattle.uz_schedule.specs.Schedule.{length_of, length_of_kind, response_clocks, scanline}
+use Rattle.uz_schedule.specs.Limits.{is_length, is_top}
+use Rattle.uz_schedule.specs.Schedule.{length_of, length_of_kind, response_clocks, scanline, half_line}
 use Rattle.uz_schedule.specs.WellFormed.{HeadFits}
 use Rattle.uz_schedule.specs.declared.kinds.Kind.{Kind}
 use Rattle.uz_schedule.specs.declared.kinds.Kind.TheVariants.{Main, Handler, Alone}
@@ -21,12 +23,15 @@ use Rattle.uz_schedule.specs.declared.states.Instance.{Instance}
 use Rattle.uz_search.specs.declared.program.Program.{Program}
 use Rattle.uz_search.specs.Fitting.{StartFits, ProgramFits}
 use Rattle.uz_search.specs.Following.{Among, lines_of}
+use Rattle.uz_search.proofs.TimerLaws.{last_clock}
 use Rattle.uz_transfer.specs.Kinds.{is_main}
 use Rattle.uz_hints.specs.declared.words.Beginning.{Beginning}
 use Rattle.uz_hints.specs.declared.reading.Reading.{Reading}
 use Rattle.uz_hints.specs.Faults.{FactPart, FactsFine}
-use Rattle.uz_hints.specs.Reading.{IsReading, ReadingFits}
-use Rattle.uz_paths.specs.ProgramOf.{entry_with, first_state, first_states, starts_of, AreScanlines}
+use Rattle.uz_hints.specs.Reading.{IsReading, ReadingFits, LengthsFit}
+use Rattle.uz_hints.specs.Words.{is_half, length_by}
+use Rattle.uz_paths.specs.ProgramOf.{entry_with, first_state, first_states, starts_of, kind_by, AreKindsBy}
+use Rattle.uz_paths.proofs.NumberLemmas.{keeps, last_there}
 
 some_is : {A : Type 0} (a b : A) → Some a ≡ Some b → a ≡ b
 some_is a b e = cc
@@ -47,16 +52,44 @@ facts_more f all step hints i d old new within is =
 
 -- The frame
 
--- where there is one kind of line, and it is a scanline, each line is one
-pub scanline_each : (s : Schedule) (none one : List ℕ) → none ≡ [] → one ≡ none ++ scanline ∷ [] → s.lengths ≡ one → AreScanlines s
-scanline_each s none one e f g l =
-    let lengths : s.lengths ≡ scanline ∷ [] = g ∙ (f ∙ ap (λ ns. ns ++ scanline ∷ []) e) in
-    ap (λ ns. length_of_kind ns (slice_get s.lines l)) lengths ∙ of_one (slice_get s.lines l)
+pub kinds_none : (hints : List Hint) (lines : List ℕ) → lines ≡ [] → AreKindsBy hints 0 lines
+kinds_none hints lines e = record { count = ap length e; each = λ l less. absurd (omega arith) }
+
+pub kinds_more : (hints : List Hint) (n k : ℕ) (old new : List ℕ) → AreKindsBy hints n old → k ≡ kind_by hints n → new ≡ old ++ k ∷ []
+    → AreKindsBy hints (n + 1) new
+kinds_more hints n k old new are is e = record {
+  count = ap length e ∙ (length-append old (k ∷ []) ∙ ap (λ m. m + 1) are.count);
+  each = below_more (λ l. slice_get new l ≡ Some (kind_by hints l)) n
+      (λ l less. ap (λ ns. slice_get ns l) e ∙ keeps old k (kind_by hints l) l (are.each l less))
+      (ap (λ ns. slice_get ns n) e ∙ (ap (slice_get (old ++ k ∷ [])) (sym are.count) ∙ (last_there old k ∙ ap Some is)));
+}
+
+-- lines of these kinds are as long as the hints say, also past the last one
+pub long_by : (hints : List Hint) (n : ℕ) (s : Schedule) → s.lengths ≡ scanline ∷ half_line ∷ [] → AreKindsBy hints n s.lines
+    → ((line : ℕ) → is_half line hints ≡ true → line < n) → (l : ℕ) → length_of s l ≡ length_by hints l
+long_by hints n s long are below l =
+    ap (λ ns. length_of_kind ns (slice_get s.lines l)) long ∙ ⊎_elim within past (cases_lt l n)
   where
-    of_one : (o : Option ℕ) → length_of_kind (scanline ∷ []) o ≡ scanline
-    of_one None = refl
-    of_one (Some zero) = refl
-    of_one (Some (suc kind)) = refl
+    of_kind : (b : Bool) → length_of_kind (scanline ∷ half_line ∷ []) (Some (if b then 1 else 0)) ≡ (if b then half_line else scanline)
+    of_kind true = refl
+    of_kind false = refl
+
+    within : l < n → length_of_kind (scanline ∷ half_line ∷ []) (slice_get s.lines l) ≡ length_by hints l
+    within less = ap (length_of_kind (scanline ∷ half_line ∷ [])) (are.each l less) ∙ of_kind (is_half l hints)
+
+    none : n ≤ l → slice_get s.lines l ≡ None
+    none after = ⊎_elim
+        (λ (there : (x : ℕ) × (l < length s.lines) × (slice_get s.lines l ≡ Some x) × (get_or s.lines l x ≡ x)).
+        let less = there.1 in let count = are.count in absurd (omega (arith, less, count, after)))
+        (λ (gone : (length s.lines ≤ l) × (slice_get s.lines l ≡ None)). gone.1)
+        (slice_get_cases s.lines l).1
+
+    past : n ≤ l → length_of_kind (scanline ∷ half_line ∷ []) (slice_get s.lines l) ≡ length_by hints l
+    past after = ap (length_of_kind (scanline ∷ half_line ∷ [])) (none after) ∙ by_test (is_half l hints) refl
+      where
+        by_test : (b : Bool) → is_half l hints ≡ b → scanline ≡ (if b then half_line else scanline)
+        by_test true e = let less = below l e in absurd (omega (arith, less, after))
+        by_test false e = refl
 
 -- Starts
 
@@ -78,15 +111,17 @@ start_fits p start registers head s = record {
     main = λ e. (refl, refl);
     entered = λ e. absurd (s.enters e);
     pending = λ e. refl;
+    top = refl;
+    timer = λ e. (refl, refl);
   };
   level = refl;
   line = λ e. refl;
   before = λ e. let some = s.fall_some in omega arith;
 }
 
-first_fits : (p : Program) (start : Beginning) (cells : List Ends) (c : ℕ) → Sizes p start → is_main start.kind ≡ true → c ≤ 3
-    → StartFits p (first_state p.head.irq cells c)
-first_fits p start cells c s main few =
+first_fits : (p : Program) (start : Beginning) (top : ℕ) (cells : List Ends) (c : ℕ) → Sizes p start → is_main start.kind ≡ true
+    → is_top top ≡ true → c ≤ 3 → StartFits p (first_state p.head.irq top cells c)
+first_fits p start top cells c s main last few =
     let above = s.above main in
     let low = s.fall_in_line 0 in
     let some = s.some in
@@ -98,6 +133,8 @@ first_fits p start cells c s main few =
         main = λ e. absurd (cc);
         entered = λ e. above;
         pending = λ e. refl;
+        top = last;
+        timer = λ e. absurd (e refl);
       };
       level = refl;
       line = λ e. refl;
@@ -117,44 +154,45 @@ pub first_of_one : {A : Type 0} (P : A → Type 0) (a x : A) (i : ℕ) → P a �
 first_of_one P a x zero pa h = subst P (some_is a x h) pa
 first_of_one P a x (suc i) pa h = absurd (cc)
 
-all_start : (p : Program) (start : Beginning) (registers cells : List Ends) (head : Head) (kind : Kind) → start.kind ≡ kind → Sizes p start
-    → p.starts ≡ entry_instance_at (entry_with registers head start 0) 1 ∷ first_states kind p.head.irq cells → (x : Instance)
+all_start : (p : Program) (start : Beginning) (registers : List Ends) (top : ℕ) (cells : List Ends) (head : Head) (kind : Kind)
+    → start.kind ≡ kind → Sizes p start → is_top top ≡ true
+    → p.starts ≡ entry_instance_at (entry_with registers head start 0) 1 ∷ first_states kind p.head.irq top cells → (x : Instance)
     → Among p.starts x → StartFits p x
-all_start p start registers cells head Main k s e x (i, there) =
+all_start p start registers top cells head Main k s last e x (i, there) =
     let main : is_main start.kind ≡ true = ap is_main k in
-    first_of_five (StartFits p) _ _ _ _ _ x i (start_fits p start registers head s) (first_fits p start cells 0 s main (omega arith))
-    (first_fits p start cells 1 s main (omega arith)) (first_fits p start cells 2 s main (omega arith))
-    (first_fits p start cells 3 s main (omega arith))
+    first_of_five (StartFits p) _ _ _ _ _ x i (start_fits p start registers head s)
+    (first_fits p start top cells 0 s main last (omega arith)) (first_fits p start top cells 1 s main last (omega arith))
+    (first_fits p start top cells 2 s main last (omega arith)) (first_fits p start top cells 3 s main last (omega arith))
     (ap (λ xs. slice_get xs i) (sym e) ∙ there)
-all_start p start registers cells head Handler k s e x a = absurd (s.enters k)
-all_start p start registers cells head Alone k s e x (i, there) =
+all_start p start registers top cells head Handler k s last e x a = absurd (s.enters k)
+all_start p start registers top cells head Alone k s last e x (i, there) =
     first_of_one (StartFits p) _ x i (start_fits p start registers head s) (ap (λ xs. slice_get xs i) (sym e) ∙ there)
 
-one_begins : (p : Program) (start : Beginning) (registers cells : List Ends) (head : Head) (kind : Kind) → start.kind ≡ kind
-    → kind ≢ Handler
-    → p.starts ≡ entry_instance_at (entry_with registers head start 0) 1 ∷ first_states kind p.head.irq cells → (x : Instance)
+one_begins : (p : Program) (start : Beginning) (registers : List Ends) (top : ℕ) (cells : List Ends) (head : Head) (kind : Kind)
+    → start.kind ≡ kind → kind ≢ Handler
+    → p.starts ≡ entry_instance_at (entry_with registers head start 0) 1 ∷ first_states kind p.head.irq top cells → (x : Instance)
     × Among p.starts x × (x.kind ≢ Main)
-one_begins p start registers cells head Main k n e = (first_state p.head.irq cells 0, (1, ap (λ xs. slice_get xs 1) e), λ h. cc)
-one_begins p start registers cells head Handler k n e = absurd (n refl)
-one_begins p start registers cells head Alone k n e = (
+one_begins p start registers top cells head Main k n e = (first_state p.head.irq top cells 0, (1, ap (λ xs. slice_get xs 1) e), λ h. cc)
+one_begins p start registers top cells head Handler k n e = absurd (n refl)
+one_begins p start registers top cells head Alone k n e = (
   entry_instance_at (entry_with registers head start 0) 1,
   (0, ap (λ xs. slice_get xs 0) e),
   λ h. cc,
 )
 
-pub program_fits : (r : Reading) (p : Program) → ReadingFits r → p.head ≡ r.head → lines_of p ≡ r.size.lines
-    → p.schedule.fall ≡ r.size.fall → AreScanlines p.schedule
-    → p.starts ≡ entry_instance_at (entry_with r.registers r.head r.start 0) 1 ∷ first_states r.start.kind p.head.irq r.firsts.items
+pub program_fits : (hints : List Hint) (r : Reading) (p : Program) (last : ℕ) → ReadingFits r → p.head ≡ r.head → lines_of p ≡ r.size.lines
+    → p.schedule.fall ≡ r.size.fall → LengthsFit hints r → ((l : ℕ) → length_of p.schedule l ≡ length_by hints l)
+    → p.starts ≡ entry_instance_at (entry_with r.registers r.head r.start 0) 1
+    ∷ first_states r.start.kind p.head.irq (length_of p.schedule last - 1) r.firsts.items
     → ProgramFits p
-program_fits r p fits head lines fall scanlines starts =
+program_fits hints r p last fits head lines fall lengths long starts =
     let some = fits.some in
     let few = fits.few in
     let fall_some = fits.fall_some in
-    let fall_in_line = fits.fall_in_line in
     let sizes : Sizes p r.start = record {
       some = omega arith;
       fall_some = omega arith;
-      fall_in_line = λ l. let long = scanlines l in omega arith;
+      fall_in_line = in_line;
       above = λ main. subst (λ h. response_clocks h.irq + 3 < p.schedule.fall) (sym head) (let low = fits.above main in omega arith);
       enters = fits.enters;
     } in
@@ -162,18 +200,30 @@ program_fits r p fits head lines fall scanlines starts =
       head = subst HeadFits (sym head) fits.head;
       some = omega arith;
       few = omega arith;
-      lengths = λ l. ap is_length (scanlines l);
+      lengths = are_lengths;
       fall_some = omega arith;
-      fall_in_line = λ l. let long = scanlines l in omega arith;
-      starts = all_start p r.start r.registers r.firsts.items r.head r.start.kind refl sizes starts;
-      begins = one_begins p r.start r.registers r.firsts.items r.head r.start.kind refl fits.enters starts;
+      fall_in_line = in_line;
+      starts = all_start p r.start r.registers (length_of p.schedule last - 1) r.firsts.items r.head r.start.kind refl sizes
+          (last_clock (length_of p.schedule last) (are_lengths last)) starts;
+      begins = one_begins p r.start r.registers (length_of p.schedule last - 1) r.firsts.items r.head r.start.kind refl fits.enters
+          starts;
     }
+  where
+    in_line : (l : ℕ) → p.schedule.fall < length_of p.schedule l
+    in_line l = let less = lengths.fall l in let is = long l in omega (arith, less, is, fall)
+
+    of_length : (b : Bool) → is_length (if b then half_line else scanline) ≡ true
+    of_length true = refl
+    of_length false = refl
+
+    are_lengths : (l : ℕ) → is_length (length_of p.schedule l) ≡ true
+    are_lengths l = ap is_length (long l) ∙ of_length (is_half l hints)
 
 -- the starts are those of the hints that were read
-pub program_starts : (hints : List Hint) (irq : Response) (r : Reading) (starts : List Instance) → {image : FinMap nat_cmp ℕ}
-    → IsReading image irq hints r
-    → starts ≡ entry_instance_at (entry_with r.registers r.head r.start 0) 1 ∷ first_states r.start.kind r.head.irq r.firsts.items
-    → starts ≡ starts_of irq hints r.head r.start
-program_starts hints irq r starts reading is =
+pub program_starts : (hints : List Hint) (irq : Response) (r : Reading) (top lines : ℕ) (starts : List Instance)
+    → {image : FinMap nat_cmp ℕ} → IsReading image irq hints r → top ≡ length_by hints (lines - 1) - 1
+    → starts ≡ entry_instance_at (entry_with r.registers r.head r.start 0) 1 ∷ first_states r.start.kind r.head.irq top r.firsts.items
+    → starts ≡ starts_of irq hints r.head r.start lines
+program_starts hints irq r top lines starts reading last is =
     is ∙ (λ i. entry_instance_at (entry_with (reading.registers i) r.head r.start 0) 1 ∷ first_states r.start.kind (reading.head.response i)
-    (reading.firsts i))
+    (last i) (reading.firsts i))

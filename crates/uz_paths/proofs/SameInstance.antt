@@ -131,16 +131,9 @@ instance_placed cert id l c clock level p at inside is less there =
     ∙ ap (λ o. option_and_then (λ level. Some (instance_of p l c clock level)) o) there))
 
 own_same : (x : Instance) (next : List ℕ) → length x.pairs ≡ 3 → instance_of (point_of x next) x.line 0 x.clock x.level ≡ x
-own_same x next three = λ i. record {
-  kind = x.kind;
-  pc = x.pc;
-  line = x.line;
-  clock = x.clock;
-  level = x.level;
-  pending = x.pending;
+own_same x next three = λ i. record x {
   regs = vals_back x.line 0 x.regs i;
   pairs = pairs i;
-  flags = x.flags;
   stack = record { items = vals_back x.line 0 x.stack.items i };
   cells = record { items = cells_back x.line 0 x.cells.items i };
 }
@@ -163,19 +156,11 @@ own_instance cert id x next at three less level =
     clock : pos x.clock +ℤ pos 0 *ℤ pos 0 ≡ pos x.clock
     clock = let same : x.clock + 0 * 0 ≡ x.clock = omega arith in ap pos same
 
-vector_same : (cells : List Ends) (line response c level : ℕ) (next : List ℕ) → instance_of (vector_point cells line response next) line c
-    (c + response) level ≡ handler_entry cells line (c + response) level
-vector_same cells line response c level next = λ i. record {
-  kind = Handler;
-  pc = 26;
-  line = line;
-  clock = c + response;
-  level = level;
-  pending = false;
+vector_same : (cells : List Ends) (line response c level top : ℕ) (next : List ℕ) → instance_of (vector_point cells line response top next)
+    line c (c + response) level ≡ handler_entry cells line (c + response) level top
+vector_same cells line response c level top next = λ i. record (handler_entry cells line (c + response) level top) {
   regs = olds_back line c 0 32 i;
   pairs = pairs i;
-  flags = (vector_point cells line response next).flags;
-  stack = record { items = [] };
   cells = record { items = cells_back line c cells i };
 }
   where
@@ -184,16 +169,16 @@ vector_same cells line response c level next = λ i. record {
     pairs = ap (λ regs. pairs_of line c regs (AnyPair ∷ AnyPair ∷ AnyPair ∷ [])) (olds_back line c 0 32) ∙ refl
 
 -- a vector, at its line and a count from 0 to 3
-pub vector_instance : (cert : Cert) (id : ℕ) (cells : List Ends) (line response c level : ℕ) (next : List ℕ) → slice_get cert.points
-    id ≡ Some (vector_point cells line response next) → c ≤ 3 → c + response < length_of cert.schedule line
+pub vector_instance : (cert : Cert) (id : ℕ) (cells : List Ends) (line response c level top : ℕ) (next : List ℕ) → slice_get cert.points
+    id ≡ Some (vector_point cells line response top next) → c ≤ 3 → c + response < length_of cert.schedule line
     → level_at cert.schedule (start_of cert.schedule line + (c + response)) ≡ Some level → instance_at cert id line c ≡ Some
-    (handler_entry cells line (c + response) level)
-vector_instance cert id cells line response c level next at few less there =
-    instance_placed cert id line c (c + response) level (vector_point cells line response next) at
+    (handler_entry cells line (c + response) level top)
+vector_instance cert id cells line response c level top next at few less there =
+    instance_placed cert id line c (c + response) level (vector_point cells line response top next) at
     (box_true (nat_le line line) (nat_le line line) (nat_le 0 c) (nat_le c 3) (le_true line line (omega arith))
     (le_true line line (omega arith)) (le_true 0 c (omega arith)) (le_true c 3 few))
     clock less there
-    ∙ ap (λ y. Some y) (vector_same cells line response c level next)
+    ∙ ap (λ y. Some y) (vector_same cells line response c level top next)
   where
     clock : pos response +ℤ pos 1 *ℤ pos c ≡ pos (c + response)
     clock = let same : response + 1 * c ≡ c + response = omega arith in ap pos same

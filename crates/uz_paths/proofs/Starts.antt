@@ -103,9 +103,9 @@ entry_limits p start registers pc count = record {
     hulls (suc (suc zero)) less at = whole_open (hull_at (map Range registers) 30) at
     hulls (suc (suc (suc k))) less at = absurd (omega arith)
 
-first_limits : (p : Program) (cells : List Ends) (c : ℕ) → spans_fit (tracked p.head Handler) cells ≡ true → IsWithinLimits p
-    (first_state p.head.irq cells c)
-first_limits p cells c fit = record {
+first_limits : (p : Program) (top : ℕ) (cells : List Ends) (c : ℕ) → spans_fit (tracked p.head Handler) cells ≡ true → IsWithinLimits p
+    (first_state p.head.irq top cells c)
+first_limits p top cells c fit = record {
   pc = omega arith;
   register_count = refl;
   registers = λ i v at. olds_known 0 32 i v (omega arith) at;
@@ -125,17 +125,17 @@ first_limits p cells c fit = record {
     hulls (suc (suc zero)) less at = (refl, omega arith)
     hulls (suc (suc (suc k))) less at = absurd (omega arith)
 
-all_limits : (p : Program) (start : Beginning) (registers firsts : List Ends) (kind : Kind) → start.pc < 32768 → length registers ≡ 32
+all_limits : (p : Program) (start : Beginning) (registers : List Ends) (top : ℕ) (firsts : List Ends) (kind : Kind) → start.pc < 32768 → length registers ≡ 32
     → spans_fit (tracked p.head Handler) firsts ≡ true
-    → p.starts ≡ entry_instance_at (entry_with registers p.head start 0) 1 ∷ first_states kind p.head.irq firsts → (x : Instance)
+    → p.starts ≡ entry_instance_at (entry_with registers p.head start 0) 1 ∷ first_states kind p.head.irq top firsts → (x : Instance)
     → Among p.starts x → IsWithinLimits p x
-all_limits p start registers firsts Main pc count fit e x (i, there) =
-    first_of_five (IsWithinLimits p) _ _ _ _ _ x i (entry_limits p start registers pc count) (first_limits p firsts 0 fit)
-    (first_limits p firsts 1 fit) (first_limits p firsts 2 fit) (first_limits p firsts 3 fit)
+all_limits p start registers top firsts Main pc count fit e x (i, there) =
+    first_of_five (IsWithinLimits p) _ _ _ _ _ x i (entry_limits p start registers pc count) (first_limits p top firsts 0 fit)
+    (first_limits p top firsts 1 fit) (first_limits p top firsts 2 fit) (first_limits p top firsts 3 fit)
     (ap (λ xs. slice_get xs i) (sym e) ∙ there)
-all_limits p start registers firsts Handler pc count fit e x (i, there) = first_of_one (IsWithinLimits p) _ x i
+all_limits p start registers top firsts Handler pc count fit e x (i, there) = first_of_one (IsWithinLimits p) _ x i
     (entry_limits p start registers pc count) (ap (λ xs. slice_get xs i) (sym e) ∙ there)
-all_limits p start registers firsts Alone pc count fit e x (i, there) = first_of_one (IsWithinLimits p) _ x i
+all_limits p start registers top firsts Alone pc count fit e x (i, there) = first_of_one (IsWithinLimits p) _ x i
     (entry_limits p start registers pc count) (ap (λ xs. slice_get xs i) (sym e) ∙ there)
 
 -- the entry
@@ -160,21 +160,23 @@ facts_fit head start registers fits count ranges = record {
   };
 }
 
-pub is_entry : (r : Reading) (p : Program) (entry : Entry) → ReadingFits r → p.head ≡ r.head → entry ≡ entry_with r.registers r.head r.start
+pub is_entry : (r : Reading) (p : Program) (entry : Entry) (top : ℕ) → ReadingFits r → p.head ≡ r.head → entry ≡ entry_with r.registers r.head r.start
     0
-    → p.starts ≡ entry_instance_at (entry_with r.registers r.head r.start 0) 1 ∷ first_states r.start.kind p.head.irq r.firsts.items
+    → p.starts ≡ entry_instance_at (entry_with r.registers r.head r.start 0) 1 ∷ first_states r.start.kind p.head.irq top
+    r.firsts.items
     → IsEntry p entry
-is_entry r p entry fits head e starts = subst (IsEntry p) (sym (e ∙ ap (λ h. entry_with r.registers h r.start 0) (sym head))) (record {
+is_entry r p entry top fits head e starts = subst (IsEntry p) (sym (e ∙ ap (λ h. entry_with r.registers h r.start 0) (sym head))) (record {
   start = (0, ap (λ xs. slice_get xs 0) starts');
   kind = kind_fits r.start.kind (entry_with r.registers p.head r.start 0) fits.enters refl refl;
   pc = fits.pc;
   line = refl;
   clock = refl;
   facts = facts_fit p.head r.start r.registers (subst HeadFits (sym head) fits.head) fits.register_count fits.registers;
-  limits = all_limits p r.start r.registers r.firsts.items r.start.kind fits.pc fits.register_count
+  limits = all_limits p r.start r.registers top r.firsts.items r.start.kind fits.pc fits.register_count
       (subst (λ h. spans_fit (tracked h Handler) r.firsts.items ≡ true) (sym head) fits.firsts.within) starts';
 })
   where
-    starts' : p.starts ≡ entry_instance_at (entry_with r.registers p.head r.start 0) 1 ∷ first_states r.start.kind p.head.irq r.firsts.items
-    starts' = starts ∙ ap (λ h. entry_instance_at (entry_with r.registers h r.start 0) 1 ∷ first_states r.start.kind p.head.irq
+    starts' : p.starts ≡ entry_instance_at (entry_with r.registers p.head r.start 0) 1 ∷ first_states r.start.kind p.head.irq top
+        r.firsts.items
+    starts' = starts ∙ ap (λ h. entry_instance_at (entry_with r.registers h r.start 0) 1 ∷ first_states r.start.kind p.head.irq top
         r.firsts.items) (sym head)

@@ -7,10 +7,10 @@ use Rattle.std.proofs.lemmas.List.{length-map}
 use Rattle.std.proofs.lemmas.List.Elements.{All-cons, All-nil}
 use Rattle.std.proofs.lemmas.Option.{slice_get-get_or}
 use Rattle.uz_schedule.specs.Ends.{Ends, whole_byte, whole_pair}
-use Rattle.uz_schedule.specs.Limits.{clock_limit}
+use Rattle.uz_schedule.specs.Limits.{clock_limit, is_top}
 use Rattle.uz_schedule.specs.Instances.{hull_at, span_of_val, val_at}
 use Rattle.uz_schedule.specs.Tracked.{tracked}
-use Rattle.uz_schedule.specs.WellFormed.{BitFits, CellFactFits, FactFits, PairFits, PartFits, PointFits, PointKindFits}
+use Rattle.uz_schedule.specs.WellFormed.{BitFits, CellFactFits, FactFits, PairFits, PartFits, PointFits, PointKindFits, IsTimerLeftOut}
 use Rattle.uz_schedule.specs.WellFormed.{RangeFits, is_carry_and_zero_default, is_zero_or_one, spans_fit}
 use Rattle.uz_schedule.specs.declared.facts.Bit.TheVariants.{Old as OldBit}
 use Rattle.uz_schedule.specs.declared.facts.Fact.TheVariants.{Any, Between, Old as OldFact}
@@ -192,18 +192,25 @@ own_fits p count x next stands limits early ordered names = record {
   next = record { few = names.few; there = names.there; rise = names.rise };
 }
   where
+    left_out : x.kind ≢ Handler → IsTimerLeftOut (point_of x next)
+    left_out other = record { top = (stands.timer other).0; temp = (stands.timer other).1 }
+
     kind : (k : Kind) → x.kind ≡ k → PointKindFits x.kind (point_of x next)
-    kind Main is = subst (λ k. PointKindFits k (point_of x next)) (sym is) (record {
-      first_line = (stands.main is).0;
-      last_line = (stands.main is).0;
-      first_count = refl;
-      last_count = refl;
-      clock = (stands.main is).1;
-      slope = refl;
-      pending = stands.pending (λ h. main_handler (sym is ∙ h));
-    })
-    kind Handler is = subst (λ k. PointKindFits k (point_of x next)) (sym is) tt
-    kind Alone is = subst (λ k. PointKindFits k (point_of x next)) (sym is) (stands.pending (λ h. alone_handler (sym is ∙ h)))
+    kind Main is = subst (λ k. PointKindFits k (point_of x next)) (sym is) (
+      record {
+        first_line = (stands.main is).0;
+        last_line = (stands.main is).0;
+        first_count = refl;
+        last_count = refl;
+        clock = (stands.main is).1;
+        slope = refl;
+        pending = stands.pending (λ h. main_handler (sym is ∙ h));
+      },
+      left_out (λ h. main_handler (sym is ∙ h)),
+    )
+    kind Handler is = subst (λ k. PointKindFits k (point_of x next)) (sym is) (record { top = stands.top; temp = ordered.temp })
+    kind Alone is = subst (λ k. PointKindFits k (point_of x next)) (sym is)
+        (stands.pending (λ h. alone_handler (sym is ∙ h)), left_out (λ h. alone_handler (sym is ∙ h)))
 
     at : (k : ℕ) → k < 3 → slice_get x.pairs k ≡ Some (slice_index_or x.pairs k whole_pair)
     at k less = slice_get-get_or x.pairs k whole_pair (let three = limits.pair_count in omega arith)
@@ -222,12 +229,12 @@ old_flags : (n : ℕ) → All (BitFits Handler) (replicate n OldBit)
 old_flags zero = All-nil (BitFits Handler)
 old_flags (suc n) = All-cons (BitFits Handler) OldBit (replicate n OldBit) refl (old_flags n)
 
-pub vector_fits : (p : Program) (count : ℕ) (cells : List Ends) (line response : ℕ) (next : List ℕ) → line < lines_of p
-    → response < clock_limit
+pub vector_fits : (p : Program) (count : ℕ) (cells : List Ends) (line response top : ℕ) (next : List ℕ) → line < lines_of p
+    → response < clock_limit → is_top top ≡ true
     → spans_fit (tracked p.head Handler) cells ≡ true → AreOrdered 255 cells → NamesFit count next
-    → PointFits p.head (lines_of p) count (vector_point cells line response next)
-vector_fits p count cells line response next below less fit ordered names = record {
-  kind = tt;
+    → PointFits p.head (lines_of p) count (vector_point cells line response top next)
+vector_fits p count cells line response top next below less last fit ordered names = record {
+  kind = record { top = last; temp = record { order = omega arith; high = omega arith } };
   pc = omega arith;
   box = record {
     line_order = omega arith;

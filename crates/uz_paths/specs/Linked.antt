@@ -1,9 +1,9 @@
 -- The points of instances, and the numbers of the points where they lead.
-use Rattle.std.specs.Prelude.{◌≡◌, ℕ, ◌+◌, ◌<◌, ◌≤◌, false, List, Ok, Some, length, slice_get, IsTrue, All}
+use Rattle.std.specs.Prelude.{◌≡◌, ℕ, ◌+◌, ◌-◌, ◌<◌, ◌≤◌, false, List, Ok, Some, length, slice_get, IsTrue, All}
 use Rattle.uz_schedule.specs.Instances.{handler_entry, level_or_zero}
 use Rattle.uz_schedule.specs.Lines.{Lines}
 use Rattle.uz_schedule.specs.Limits.{rises}
-use Rattle.uz_schedule.specs.Schedule.{next_line, response_clocks}
+use Rattle.uz_schedule.specs.Schedule.{length_of, next_line, response_clocks}
 use Rattle.uz_schedule.specs.declared.lines.Schedule.{Schedule}
 use Rattle.uz_schedule.specs.declared.states.Instance.{Instance}
 use Rattle.uz_schedule.specs.declared.states.Point.{Point}
@@ -12,12 +12,12 @@ use Rattle.uz_rules.specs.declared.next.Next.{Next}
 use Rattle.uz_search.specs.declared.program.Program.{Program}
 use Rattle.uz_search.specs.Following.{Among, After, Flash}
 use Rattle.uz_search.specs.Widenings.{widened}
-use Rattle.uz_paths.specs.Points.{AreOrdered, IsOrdered, point_of, vector_point}
+use Rattle.uz_paths.specs.Points.{AreOrdered, IsOrdered, point_of, vector_after}
 
 -- the point of number k is the vector of this rest, the ranges of whose cells are in order
 pub record IsVectorAt (response : ℕ) (lines : Lines) (points : List Point) (k : ℕ) (rest : Rest) : Type 0 where
   pub next : List ℕ
-  pub is : slice_get points k ≡ Some (vector_point rest.cells.items (lines.next rest.line) response next)
+  pub is : slice_get points k ≡ Some (vector_after response lines rest next)
   pub ordered : AreOrdered 255 rest.cells.items
 
 -- the point of number n says what this instance says, whose ranges are in order
@@ -79,7 +79,7 @@ HasFew image p x most = (result : Next) → After image p x (Ok result) → leng
 abbrev pub first_after : Program → Schedule → Rest → ℕ → Instance
 first_after p s rest c =
     handler_entry rest.cells.items (next_line s rest.line) (c + response_clocks p.head.irq)
-    (level_or_zero s (next_line s rest.line) (c + response_clocks p.head.irq))
+    (level_or_zero s (next_line s rest.line) (c + response_clocks p.head.irq)) (length_of s rest.line - 1)
 
 -- the results of a rest's first states are named
 abbrev pub NamesEntries : Flash → Program → Schedule → List Instance → List ℕ → Rest → List ℕ → Type 0

@@ -1,23 +1,24 @@
 -- The numbers of points: first those of the handler's first states after a rest, one for each rest, then one for each other instance in the
 -- order in
 -- which it was found.
-use Rattle.std.specs.Prelude.{◌≡◌, ◌⊎◌, ◌<◌, ◌≤◌, ℕ, ◌+◌, List, Option, Some, None, slice_get, length}
+use Rattle.std.specs.Prelude.{◌≡◌, ◌⊎◌, ◌<◌, ◌≤◌, ℕ, ◌+◌, ◌-◌, List, Option, Some, None, slice_get, length}
 use Rattle.uz_schedule.specs.Ends.{Ends}
 use Rattle.uz_schedule.specs.Lines.{Lines}
 use Rattle.uz_schedule.specs.Instances.{handler_entry}
 use Rattle.uz_schedule.specs.declared.states.Instance.{Instance}
 use Rattle.uz_schedule.specs.declared.states.Rest.{Rest}
 
--- it is the handler's first state on its line, where the interrupt was taken at a clock from 0 to 3 and these are the ranges of its cells
-pub record IsFirst (response : ℕ) (cells : List Ends) (x : Instance) : Type 0 where
+-- it is the handler's first state on its line, where the interrupt was taken at a clock from 0 to 3, these are the ranges of its cells, and
+-- OCR1A is `top`
+pub record IsFirst (response : ℕ) (cells : List Ends) (top : ℕ) (x : Instance) : Type 0 where
   pub earliest : response ≤ x.clock
   pub latest : x.clock ≤ response + 3
-  pub is : x ≡ handler_entry cells x.line x.clock x.level
+  pub is : x ≡ handler_entry cells x.line x.clock x.level top
 
--- and so on the line after a rest
+-- and so on the line after a rest: the timer came to the last clock of the rest's line
 pub record IsFirstAfter (response : ℕ) (lines : Lines) (rest : Rest) (x : Instance) : Type 0 where
   pub line : lines.next rest.line ≡ x.line
-  pub first : IsFirst response rest.cells.items x
+  pub first : IsFirst response rest.cells.items (lines.length rest.line - 1) x
 
 -- after the rest of number k
 pub record IsVectorOf (response : ℕ) (lines : Lines) (rests : List Rest) (k : ℕ) (x : Instance) : Type 0 where

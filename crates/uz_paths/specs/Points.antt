@@ -1,8 +1,9 @@
 -- The point that says what an instance says, and the point of a handler's first states.
-use Rattle.std.specs.Prelude.{◌≡◌, ⊤, ℕ, zero, suc, ◌+◌, ◌==◌, ◌&&◌, nat_eq, nat_lt, pos, Bool, false, List, [], ◌∷◌, Some, map, slice_get}
+use Rattle.std.specs.Prelude.{◌≡◌, ⊤, ℕ, zero, suc, ◌+◌, ◌-◌, ◌==◌, ◌&&◌, nat_eq, nat_lt, pos, Bool, false, List, [], ◌∷◌, Some, map, slice_get}
 use Rattle.std.specs.Prelude.{slice_index_or, replicate, if◌then◌else◌}
-use Rattle.uz_schedule.specs.Ends.{Ends, whole_pair}
+use Rattle.uz_schedule.specs.Ends.{Ends, whole_byte, whole_pair}
 use Rattle.uz_schedule.specs.Instances.{hull_at}
+use Rattle.uz_schedule.specs.Lines.{Lines}
 use Rattle.uz_schedule.specs.WellFormed.{is_carry_and_zero_default, RangeFits}
 use Rattle.uz_schedule.specs.declared.facts.Fact.{Fact}
 use Rattle.uz_schedule.specs.declared.facts.Fact.TheVariants.{Any, Between, Old as OldFact, OldFlags as OldFlagsFact}
@@ -16,6 +17,7 @@ use Rattle.uz_schedule.specs.declared.kinds.Kind.{Kind}
 use Rattle.uz_schedule.specs.declared.kinds.Kind.TheVariants.{Handler}
 use Rattle.uz_schedule.specs.declared.states.Instance.{Instance}
 use Rattle.uz_schedule.specs.declared.states.Point.{Point}
+use Rattle.uz_schedule.specs.declared.states.Rest.{Rest}
 
 -- Facts
 
@@ -62,6 +64,8 @@ point_of x next = record {
   clock = x.clock;
   slope = pos 0;
   pending = x.pending;
+  top = x.top;
+  temp = x.temp;
   regs = map fact_of x.regs;
   pairs = pair_facts x.kind x.regs x.pairs x.flags;
   flags = x.flags;
@@ -75,9 +79,10 @@ abbrev pub old_facts : ℕ → ℕ → List Fact
 old_facts k zero = []
 old_facts k (suc n) = OldFact k ∷ old_facts (suc k) n
 
--- where the interrupt is taken at the clocks 0 to 3 of a line, and so many clocks pass until the handler's first instruction
-abbrev pub vector_point : List Ends → ℕ → ℕ → List ℕ → Point
-vector_point cells line response next = record {
+-- where the interrupt is taken at the clocks 0 to 3 of a line, so many clocks pass until the handler's first instruction, and the timer came
+-- to this OCR1A
+abbrev pub vector_point : List Ends → ℕ → ℕ → ℕ → List ℕ → Point
+vector_point cells line response top next = record {
   kind = Handler;
   pc = 26;
   l0 = line;
@@ -87,6 +92,8 @@ vector_point cells line response next = record {
   clock = response;
   slope = pos 1;
   pending = false;
+  top = top;
+  temp = whole_byte;
   regs = old_facts 0 32;
   pairs = AnyPair ∷ AnyPair ∷ AnyPair ∷ [];
   flags = replicate 7 OldBit;
@@ -94,6 +101,11 @@ vector_point cells line response next = record {
   cells = record { items = map byte_fact cells };
   next = record { items = next };
 }
+
+-- the vector's point of a rest: the timer came to the last clock of the rest's line
+abbrev pub vector_after : ℕ → Lines → Rest → List ℕ → Point
+vector_after response lines rest next =
+    vector_point rest.cells.items (lines.next rest.line) response (lines.length rest.line - 1) next
 
 -- Ranges
 
@@ -116,3 +128,4 @@ pub record IsOrdered (x : Instance) : Type 0 where
   pub pairs : AreOrdered 65535 x.pairs
   pub stack : AreOrderedVals x.stack.items
   pub cells : AreOrdered 255 x.cells.items
+  pub temp : RangeFits 255 x.temp

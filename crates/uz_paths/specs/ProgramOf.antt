@@ -1,10 +1,10 @@
 -- The program that a search is told of by hints: where its trails begin, and by what facts it widens.
-use Rattle.std.specs.Prelude.{◌≡◌, ℕ, ◌+◌, ◌-◌, ◌==◌, nat_lt, List, [], ◌∷◌, ◌++◌, map, replicate, Some}
+use Rattle.std.specs.Prelude.{◌≡◌, ℕ, ◌+◌, ◌-◌, ◌==◌, nat_lt, List, [], ◌∷◌, ◌++◌, ◌<◌, length, map, replicate, Some, slice_get}
 use Rattle.std.specs.Prelude.{if◌then◌else◌}
 use Rattle.avr_asm.specs.declared.output.Hint.{Hint}
-use Rattle.avr_asm.specs.declared.output.Hint.TheVariants.{Start, Lines, Stack, Cell, Fact}
+use Rattle.avr_asm.specs.declared.output.Hint.TheVariants.{Fact}
 use Rattle.uz_schedule.specs.Ends.{Ends}
-use Rattle.uz_schedule.specs.Schedule.{length_of, response_clocks, scanline}
+use Rattle.uz_schedule.specs.Schedule.{length_of, response_clocks}
 use Rattle.uz_schedule.specs.Tracked.{tracked}
 use Rattle.uz_schedule.specs.Instances.{entry_instance_at, handler_entry}
 use Rattle.uz_schedule.specs.declared.facts.Bit.TheVariants.{Free}
@@ -12,7 +12,6 @@ use Rattle.uz_schedule.specs.declared.kinds.Kind.{Kind}
 use Rattle.uz_schedule.specs.declared.kinds.Kind.TheVariants.{Main, Handler, Alone}
 use Rattle.uz_schedule.specs.declared.kinds.Response.{Response}
 use Rattle.uz_schedule.specs.declared.header.Head.{Head}
-use Rattle.uz_schedule.specs.declared.lines.Schedule.{Schedule}
 use Rattle.uz_schedule.specs.declared.states.Entry.{Entry}
 use Rattle.uz_schedule.specs.declared.states.Instance.{Instance}
 use Rattle.uz_search.specs.declared.program.Program.{Program}
@@ -21,7 +20,7 @@ use Rattle.uz_search.specs.declared.widening.Widening.TheVariants.{Register, Pai
 use Rattle.uz_search.specs.Following.{lines_of}
 use Rattle.uz_search.specs.Widenings.{facts_at}
 use Rattle.uz_hints.specs.declared.words.Beginning.{Beginning}
-use Rattle.uz_hints.specs.Words.{first_start, first_lines}
+use Rattle.uz_hints.specs.Words.{first_start, first_lines, is_half, length_by}
 use Rattle.uz_hints.specs.Cells.{cells_of, first_values}
 use Rattle.uz_hints.specs.Reading.{IsHeader, start_registers}
 
@@ -33,11 +32,8 @@ widening_of place lo hi =
     if nat_lt place 32 then Register place (record { lo = lo; hi = hi }) else Pair (place - 32) (record { lo = lo; hi = hi })
 
 abbrev pub hint_facts : ℕ → Hint → List Widening
-hint_facts pc (Start kind at) = []
-hint_facts pc (Lines lines fall) = []
-hint_facts pc (Stack lo hi main handler) = []
-hint_facts pc (Cell at owner lo hi first) = []
 hint_facts pc (Fact at place lo hi) = if at == pc then widening_of place lo hi ∷ [] else []
+hint_facts pc other = []
 
 -- the facts at a program counter, in the order of their hints
 abbrev pub facts_for : ℕ → List Hint → List Widening
@@ -68,23 +64,31 @@ start_entry hints head start id = entry_with (start_registers hints start.pc) he
 abbrev pub start_instance : List Hint → Head → Beginning → Instance
 start_instance hints head start = entry_instance_at (start_entry hints head start 0) 1
 
--- the handler's first state on line 0, where its interrupt is taken at clock c, with these values of its cells
-abbrev pub first_state : Response → List Ends → ℕ → Instance
-first_state irq cells c = handler_entry cells 0 (c + response_clocks irq) 1
+-- the handler's first state on line 0, where its interrupt is taken at clock c, with these values of its cells and this OCR1A
+abbrev pub first_state : Response → ℕ → List Ends → ℕ → Instance
+first_state irq top cells c = handler_entry cells 0 (c + response_clocks irq) 1 top
 
 -- main is interrupted at the clocks 0 to 3
-abbrev pub first_states : Kind → Response → List Ends → List Instance
-first_states Main irq cells = first_state irq cells 0 ∷ first_state irq cells 1 ∷ first_state irq cells 2 ∷ first_state irq cells 3 ∷ []
-first_states Handler irq cells = []
-first_states Alone irq cells = []
+abbrev pub first_states : Kind → Response → ℕ → List Ends → List Instance
+first_states Main irq top cells =
+    first_state irq top cells 0 ∷ first_state irq top cells 1 ∷ first_state irq top cells 2 ∷ first_state irq top cells 3 ∷ []
+first_states Handler irq top cells = []
+first_states Alone irq top cells = []
 
--- each of the handler's cells has its first value
-abbrev pub starts_of : Response → List Hint → Head → Beginning → List Instance
-starts_of irq hints head start = start_instance hints head start ∷ first_states start.kind irq (first_values (cells_of hints))
+-- each of the handler's cells has its first value, and the timer came to the last clock of the frame's last line
+abbrev pub starts_of : Response → List Hint → Head → Beginning → ℕ → List Instance
+starts_of irq hints head start lines =
+    start_instance hints head start
+    ∷ first_states start.kind irq (length_by hints (lines - 1) - 1) (first_values (cells_of hints))
 
--- each line is as long as a scanline
-abbrev pub AreScanlines : Schedule → Type 0
-AreScanlines s = (l : ℕ) → length_of s l ≡ scanline
+-- Before its events are known a line is of kind 1 where a hint says that it has half a scanline's clocks, else of kind 0
+abbrev pub kind_by : List Hint → ℕ → ℕ
+kind_by hints line = if is_half line hints then 1 else 0
+
+-- so are these lines, of which there are n
+pub record AreKindsBy (hints : List Hint) (n : ℕ) (lines : List ℕ) : Type 0 where
+  pub count : length lines ≡ n
+  pub each : (line : ℕ) → line < n → slice_get lines line ≡ Some (kind_by hints line)
 
 -- the program that hints tell of
 pub record IsProgramOf (irq : Response) (hints : List Hint) (p : Program) : Type 0 where
@@ -92,6 +96,7 @@ pub record IsProgramOf (irq : Response) (hints : List Hint) (p : Program) : Type
   pub starts_at : first_start hints ≡ Some start
   pub head : IsHeader irq hints p.head
   pub size : first_lines hints ≡ Some (record { lines = lines_of p; fall = p.schedule.fall })
-  pub lengths : AreScanlines p.schedule
+  -- a line that a hint names has half a scanline's clocks, each other one a scanline's
+  pub lengths : (l : ℕ) → length_of p.schedule l ≡ length_by hints l
   pub facts : (pc : ℕ) → facts_at p pc ≡ facts_for pc hints
-  pub starts : p.starts ≡ starts_of irq hints p.head start
+  pub starts : p.starts ≡ starts_of irq hints p.head start (lines_of p)

@@ -8,7 +8,6 @@ ghost use Rattle.uz_search.specs.Fitting.{ProgramFits};
 ghost use Rattle.uz_search.specs.Refusing.{Refusal};
 ghost use Rattle.uz_search.specs.Searching.{IsEnded};
 ghost use Rattle.uz_paths.specs.Certificate.{IsEntry, ReturnsFromMain};
-ghost use Rattle.uz_paths.specs.ProgramOf.{AreScanlines};
 ghost use Rattle.uz_paths.specs.Finding.{instance_limit, Cause, NoCause, IsFoundBy, IsAsked};
 
 use crate::certificate::{certificate_of, parts_of};
@@ -18,6 +17,7 @@ use std::alloc::{AllocError, Global};
 use uz_hex::Image;
 use uz_hints::read_hints;
 use uz_join::joined;
+use uz_rules::{known_in_itself, place_holds, place_tells};
 use uz_schedule::{Cert, Entry, Response, event_by_line};
 use uz_search::{Found, NotFound, Program, nodes_are_reached, search};
 use uz_search_accepted::ended_accepts;
@@ -39,7 +39,6 @@ fn certificate(
 ) -> Result<Cert, AllocError>
     requires fits { ProgramFits program }
     requires start { IsEntry program entry }
-    requires lengths { AreScanlines program.schedule }
     requires ended { IsEnded image.now program found.now }
     requires few { length found.now.nodes.keys < instance_limit }
     requires returns { ReturnsFromMain program found.now }
@@ -56,6 +55,9 @@ fn certificate(
     ended_rests_enter();
     ended_within_limits();
     lies_in_widened();
+    place_tells();
+    place_holds();
+    known_in_itself();
     ended_accepts();
     let parts = parts_of(alloc, image, &program, entry, found)?;
     Ok(certificate_of(program, parts))
@@ -65,7 +67,6 @@ fn certificate(
 fn find_by(alloc: Global, image: &Image, program: Program, entry: Entry) -> Result<Cert, NotFound>
     requires fits { ProgramFits program }
     requires start { IsEntry program entry }
-    requires lengths { AreScanlines program.schedule }
     ensures accepted { IfOk result (λ cert. WellFormed cert × Accepts image.now cert) }
     ensures found { IfOk result (IsFoundBy image.now program entry) }
     ensures cause { IfErr result (Refusal image.now program instance_limit) }

@@ -8,13 +8,14 @@ ghost use Rattle.uz_schedule.specs.Schedule.{response_clocks};
 ghost use Rattle.uz_schedule.specs.declared.states.Rest.{Rest};
 ghost use Rattle.uz_paths.specs.Linked.{ArePoints};
 ghost use Rattle.uz_paths.specs.Numbers.{AreNumbers};
-ghost use Rattle.uz_paths.specs.Points.{AreOrdered, IsOrdered, point_of as point_for, vector_point as vector_for};
+ghost use Rattle.uz_paths.specs.Points.{AreOrdered, IsOrdered, point_of as point_for, vector_after as vector_for};
 
 use crate::points::{point_of, vector_point};
 use crate::vectors::vector_of;
 use arrayvec::ArrayVec;
 use std::alloc::{AllocError, Global};
 use uz_schedule::{Instance, Point, Response, Rest, Schedule};
+use uz_search::last_clock;
 
 /// The points, and the number of each instance's point.
 #[derive(Drop)]
@@ -29,13 +30,14 @@ pub(crate) struct Numbered {
 fn bare_vector(response: Response, schedule: &Schedule, rest: &Rest) -> Point
     requires few { length schedule.now.lines ≤ most_lines }
     requires line { rest.now.line < length schedule.now.lines }
-    ensures is { result ≡ vector_for rest.now.cells.items ((order_of schedule.now).next rest.now.line) (response_clocks response) [] }
+    ensures is { result ≡ vector_for (response_clocks response) (order_of schedule.now) rest.now [] }
     ensures ordered { AreOrdered 255 rest.now.cells.items }
 {
     vector_point(
         &rest.cells,
         schedule.next(rest.line),
         response.clocks(),
+        last_clock(schedule, rest.line),
         ArrayVec::new(),
     )
 }

@@ -152,6 +152,14 @@ fn pair_facts(at: &Instance) -> [PairFact; 3]
     ]
 }
 
+/// A range of bytes, whose ends are in order.
+fn byte_range(range: Span) -> Span
+    ensures is { result ≡ range }
+    ensures ordered { RangeFits 255 range }
+{
+    Span::between(range.lo(), range.hi())
+}
+
 /// The point of an instance, with the numbers of the points where it leads.
 pub(crate) fn point_of(at: &Instance, next: ArrayVec<u32, 16>) -> Point
     ensures is { result ≡ point_for at.now next.items }
@@ -167,6 +175,8 @@ pub(crate) fn point_of(at: &Instance, next: ArrayVec<u32, 16>) -> Point
         clock: at.clock,
         slope: 0,
         pending: at.pending,
+        top: at.top,
+        temp: byte_range(at.temp),
         regs: register_facts(&at.regs),
         pairs: pair_facts(at),
         flags: at.flags,
@@ -187,14 +197,15 @@ fn old_facts() -> [Fact; 32]
     facts
 }
 
-/// The point of a handler's first states, where its interrupt is taken at the clocks 0 to 3 of a line.
+/// The point of a handler's first states, where its interrupt is taken at the clocks 0 to 3 of a line, and the timer came to this OCR1A.
 pub(crate) fn vector_point(
     cells: &ArrayVec<Span, 16>,
     line: u16,
     response: u16,
+    top: u16,
     next: ArrayVec<u32, 16>,
 ) -> Point
-    ensures is { result ≡ vector_for cells.now.items line response next.items }
+    ensures is { result ≡ vector_for cells.now.items line response top next.items }
     ensures ordered { AreOrdered 255 cells.now.items }
 {
     Point {
@@ -207,6 +218,8 @@ pub(crate) fn vector_point(
         clock: response,
         slope: 1,
         pending: false,
+        top,
+        temp: Span::between(0, 255),
         regs: old_facts(),
         pairs: [PairFact::Any; 3],
         flags: [Bit::Old; 7],

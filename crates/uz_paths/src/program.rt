@@ -1,29 +1,31 @@
 //! The program that a search is told of by hints.
 
-ghost use Rattle.std.specs.Prelude.{◌≡◌, ◌<◌, ◌≤◌, ◌==◌, ◌++◌, [], ◌∷◌, ℕ, IfOk, OnOk, length, map, filter, if◌then◌else◌};
+ghost use Rattle.std.specs.Prelude.{◌≡◌, ◌<◌, ◌≤◌, ◌==◌, ◌++◌, [], ◌∷◌, ℕ, true, IfOk, OnOk, length, map, filter, if◌then◌else◌};
 ghost use Rattle.std.specs.BTreeMap.{get};
 ghost use Rattle.std.specs.FinMap.{FinMap};
 ghost use Rattle.std.specs.Ordering.{nat_cmp};
 ghost use Rattle.uz_schedule.specs.Instances.{entry_instance_at};
+ghost use Rattle.uz_schedule.specs.Schedule.{half_line, length_of, scanline};
 ghost use Rattle.uz_schedule.specs.Tracked.{tracks as tracks_of};
 ghost use Rattle.uz_schedule.specs.declared.kinds.Response.{Response as ResponseKind};
 ghost use Rattle.uz_search.specs.Widenings.{facts_in};
 ghost use Rattle.uz_search.specs.Fitting.{ProgramFits};
 ghost use Rattle.uz_hints.specs.Faults.{FactPart, FactsFine};
-ghost use Rattle.uz_hints.specs.Reading.{IsReading, ReadingFits};
+ghost use Rattle.uz_hints.specs.Words.{is_half as is_half_by, length_by};
+ghost use Rattle.uz_hints.specs.Reading.{IsReading, ReadingFits, LengthsFit};
 ghost use Rattle.uz_paths.specs.Certificate.{IsEntry};
-ghost use Rattle.uz_paths.specs.ProgramOf.{widening_of as fact_of_place, hint_facts, facts_for, entry_with, first_state as state_at_first, first_states as states_at_first, AreScanlines, IsProgramOf};
+ghost use Rattle.uz_paths.specs.ProgramOf.{widening_of as fact_of_place, hint_facts, facts_for, entry_with, first_state as state_at_first, first_states as states_at_first, kind_by as kind_by_hints, AreKindsBy, IsProgramOf};
 
 use arrayvec::ArrayVec;
 use avr_asm::Hint;
 use std::alloc::{AllocError, Global};
 use std::collections::BTreeMap;
-use uz_hints::{Beginning, Reading};
+use uz_hints::{Beginning, Reading, is_half};
 use uz_schedule::{
-    Bit, Cell, Entry, Head, Instance, Kind, LineEvents, Response, SCANLINE, Schedule, Sequence,
-    Span, Wide, entry_state, handler_entry, tracks,
+    Bit, Cell, Entry, HALF_LINE, Head, Instance, Kind, LineEvents, Response, SCANLINE, Schedule,
+    Sequence, Span, Wide, entry_state, handler_entry, tracks,
 };
-use uz_search::{Program, Widening};
+use uz_search::{Program, Widening, last_clock};
 
 /// What a fact says of its place.
 fn widening_of(place: u8, lo: u16, hi: u16) -> Widening
@@ -121,12 +123,12 @@ fn start_entry(head: &Head, start: Beginning, registers: &[Span; 32]) -> Entry
     }
 }
 
-/// The handler's first state on line 0, where its interrupt is taken at clock `c`.
-fn first_state(irq: Response, firsts: &ArrayVec<Span, 16>, c: u16) -> Instance
+/// The handler's first state on line 0, where its interrupt is taken at clock `c` and OCR1A is `top`.
+fn first_state(irq: Response, top: u16, firsts: &ArrayVec<Span, 16>, c: u16) -> Instance
     requires { c ≤ 3 }
-    ensures { result ≡ state_at_first irq firsts.now.items c }
+    ensures { result ≡ state_at_first irq top firsts.now.items c }
 {
-    handler_entry(firsts, 0, c + irq.clocks(), 1)
+    handler_entry(firsts, 0, c + irq.clocks(), 1, top)
 }
 
 /// Puts the handler's first states on line 0 at the end of the starts, where runs enter main.
@@ -134,16 +136,17 @@ fn put_first_states(
     starts: &mut Vec<Instance>,
     kind: Kind,
     irq: Response,
+    top: u16,
     firsts: &ArrayVec<Span, 16>,
 ) -> Result<(), AllocError>
-    ensures { OnOk result (starts.new.items ≡ starts.old.items ++ states_at_first kind irq firsts.now.items) }
+    ensures { OnOk result (starts.new.items ≡ starts.old.items ++ states_at_first kind irq top firsts.now.items) }
 {
     match kind {
         Kind::Main => {
-            starts.push(first_state(irq, firsts, 0))?;
-            starts.push(first_state(irq, firsts, 1))?;
-            starts.push(first_state(irq, firsts, 2))?;
-            starts.push(first_state(irq, firsts, 3))?;
+            starts.push(first_state(irq, top, firsts, 0))?;
+            starts.push(first_state(irq, top, firsts, 1))?;
+            starts.push(first_state(irq, top, firsts, 2))?;
+            starts.push(first_state(irq, top, firsts, 3))?;
             Ok(())
         }
         Kind::Handler | Kind::Alone => Ok(()),
@@ -155,32 +158,58 @@ fn starts_of(
     alloc: Global,
     entry: &Entry,
     irq: Response,
+    top: u16,
     firsts: &ArrayVec<Span, 16>,
 ) -> Result<Vec<Instance>, AllocError>
-    ensures { IfOk result (λ starts. starts.items ≡ entry_instance_at entry.now 1 ∷ states_at_first entry.now.kind irq firsts.now.items) }
+    ensures { IfOk result (λ starts. starts.items ≡ entry_instance_at entry.now 1 ∷ states_at_first entry.now.kind irq top firsts.now.items) }
 {
     let mut starts = Vec::new(alloc);
     starts.push(entry_state(entry, 1))?;
-    put_first_states(&mut starts, entry.kind, irq, firsts)?;
+    put_first_states(&mut starts, entry.kind, irq, top, firsts)?;
     Ok(starts)
 }
 
-/// A frame of so many lines, each as long as a scanline, whose events aren't known yet.
-#[tactic(auto, using(crate::proofs::ProgramLemmas::scanline_each))]
-fn frame_of(alloc: Global, lines: u16, fall: u16) -> Result<Schedule, AllocError>
-    ensures lines { IfOk result (λ s. length s.lines ≡ lines) }
-    ensures lengths { IfOk result AreScanlines }
-    ensures fall { IfOk result (λ s. s.fall ≡ fall) }
+/// The two lengths of lines, and a kind without events for each.
+fn both_kinds(alloc: Global) -> Result<(Vec<LineEvents>, Vec<u16>), AllocError>
+    ensures { IfOk result (λ r. r.1.items ≡ scanline ∷ half_line ∷ []) }
 {
     let mut kinds = Vec::new(alloc);
     kinds.push(LineEvents::new(alloc))?;
+    kinds.push(LineEvents::new(alloc))?;
     let mut lengths = Vec::new(alloc);
     lengths.push(SCANLINE)?;
+    lengths.push(HALF_LINE)?;
+    Ok((kinds, lengths))
+}
+
+/// Which of them a line is of: the shorter one where a hint names it.
+fn kind_by(hints: &[Hint], line: u16) -> u16
+    ensures { result ≡ kind_by_hints hints.now line }
+{
+    if is_half(hints, line) { 1 } else { 0 }
+}
+
+/// Which of them each of so many lines is of.
+fn kinds_by(alloc: Global, hints: &[Hint], lines: u16) -> Result<Vec<u16>, AllocError>
+    ensures { IfOk result (λ v. AreKindsBy hints.now lines v.items) }
+{
     let mut numbers = Vec::new(alloc);
     for line in 0..lines {
-        let _ = line; // said of in the loop's invariant alone
-        numbers.push(0)?;
+        numbers.push(kind_by(hints, line))?;
     }
+    Ok(numbers)
+}
+
+/// A frame of so many lines, each as long as the hints say, whose events aren't known yet.
+#[tactic(auto, using(crate::proofs::ProgramLemmas::long_by))]
+fn frame_of(alloc: Global, hints: &[Hint], lines: u16, fall: u16) -> Result<Schedule, AllocError>
+    requires { (line : ℕ) → is_half_by line hints.now ≡ true → line < lines }
+    ensures lines { IfOk result (λ s. length s.lines ≡ lines) }
+    ensures lengths { IfOk result (λ s. (l : ℕ) → length_of s l ≡ length_by hints.now l) }
+    ensures fall { IfOk result (λ s. s.fall ≡ fall) }
+{
+    let (kinds, lengths) = both_kinds(alloc)?;
+    let numbers = kinds_by(alloc, hints, lines)?;
     Ok(Schedule {
         kinds: Sequence::from_vec(kinds),
         lengths: Sequence::from_vec(lengths),
@@ -197,12 +226,12 @@ pub(crate) fn program_of(
 ) -> Result<(Program, Entry), AllocError>
     requires facts { FactsFine hints.now }
     requires fits { ReadingFits reading }
+    requires lengths { LengthsFit hints.now reading }
     ensures fits { IfOk result (λ r. ProgramFits r.0) }
     ensures program { IfOk result (λ r. (image : FinMap nat_cmp ℕ) (irq : ResponseKind) → IsReading image irq hints.now reading → IsProgramOf irq hints.now r.0) }
     ensures head { IfOk result (λ r. r.0.head ≡ reading.head) }
     ensures entry { IfOk result (λ r. r.1 ≡ entry_with reading.registers reading.head reading.start 0) }
     ensures start { IfOk result (λ r. IsEntry r.0 r.1) }
-    ensures lengths { IfOk result (λ r. AreScanlines r.0.schedule) }
 {
     let Reading {
         head,
@@ -213,8 +242,9 @@ pub(crate) fn program_of(
     } = reading;
     let facts = facts_of(alloc, hints)?;
     let entry = start_entry(&head, start, &registers);
-    let starts = starts_of(alloc, &entry, head.irq, &firsts)?;
-    let schedule = frame_of(alloc, size.lines, size.fall)?;
+    let schedule = frame_of(alloc, hints, size.lines, size.fall)?;
+    let top = last_clock(&schedule, size.lines - 1);
+    let starts = starts_of(alloc, &entry, head.irq, top, &firsts)?;
     Ok((
         Program {
             head,

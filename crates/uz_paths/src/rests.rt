@@ -9,7 +9,7 @@ ghost use Rattle.uz_paths.specs.Rests.{rests_of as rests_of_returns};
 use arrayvec::ArrayVec;
 use std::alloc::{AllocError, Global};
 use uz_schedule::{Instance, Rest, Schedule, Span, handler_entry};
-use uz_search::{Program, Return};
+use uz_search::{Program, Return, last_clock};
 
 /// A copy of the ranges of cells.
 fn copied_cells(cells: &ArrayVec<Span, 16>) -> ArrayVec<Span, 16>
@@ -69,5 +69,11 @@ pub(crate) fn first_after(program: &Program, schedule: &Schedule, rest: &Rest, c
 {
     let line = schedule.next(rest.line);
     let clock = c + program.head.irq.clocks();
-    handler_entry(&rest.cells, line, clock, level_at(schedule, line, clock))
+    handler_entry(
+        &rest.cells,
+        line,
+        clock,
+        level_at(schedule, line, clock),
+        last_clock(schedule, rest.line),
+    )
 }

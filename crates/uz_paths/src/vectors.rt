@@ -11,6 +11,7 @@ use arrayvec::ArrayVec;
 use uz_schedule::{
     Instance, Response, Rest, Schedule, Span, equal_instances_are_one, handler_entry,
 };
+use uz_search::last_clock;
 
 /// The latest clock at which the handler's interrupt is taken.
 const LATEST: u16 = 3;
@@ -23,14 +24,14 @@ fn is_same(a: &Instance, b: &Instance) -> bool
     *a == *b
 }
 
-/// Whether an instance is the handler's first state on its line, with these ranges of its cells.
-fn is_first(response: Response, cells: &ArrayVec<Span, 16>, at: &Instance) -> bool
-    ensures { IsTrue result ↔ IsFirst (response_clocks response) cells.now.items at.now }
+/// Whether an instance is the handler's first state on its line, with these ranges of its cells and this OCR1A.
+fn is_first(response: Response, cells: &ArrayVec<Span, 16>, top: u16, at: &Instance) -> bool
+    ensures { IsTrue result ↔ IsFirst (response_clocks response) cells.now.items top at.now }
 {
     let earliest = response.clocks();
     earliest <= at.clock
         && at.clock <= earliest + LATEST
-        && is_same(at, &handler_entry(cells, at.line, at.clock, at.level))
+        && is_same(at, &handler_entry(cells, at.line, at.clock, at.level, top))
 }
 
 /// Whether an instance is the handler's first state after a rest.
@@ -39,7 +40,8 @@ fn is_first_after(response: Response, schedule: &Schedule, rest: &Rest, at: &Ins
     requires line { rest.now.line < length schedule.now.lines }
     ensures { IsTrue result ↔ IsFirstAfter (response_clocks response) (order_of schedule.now) rest.now at.now }
 {
-    schedule.next(rest.line) == at.line && is_first(response, &rest.cells, at)
+    let top = last_clock(schedule, rest.line);
+    schedule.next(rest.line) == at.line && is_first(response, &rest.cells, top, at)
 }
 
 /// The number of the first rest whose vector an instance is.

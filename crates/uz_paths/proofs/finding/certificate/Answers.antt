@@ -19,12 +19,15 @@ returns-clause-fits c =
       enter = c.ended_rests_enter.ensures;
       within = c.ended_within_limits.ensures;
       widens = c.lies_in_widened.ensures;
+      tells = c.place_tells.ensures;
+      holds = c.place_holds.ensures;
+      itself = c.known_in_itself.ensures;
       accepts = c.ended_accepts.ensures;
       stand = c.nodes_are_reached.ensures.stand;
     } in
     subst WellFormed (sym c.certificate_of.ensures)
     (well_formed c.args.image.now c.args.program c.args.entry c.args.found.now c.in_ok-parts.parts laws c.requires.fits c.requires.ended
-    c.requires.few c.requires.start c.requires.lengths c.requires.returns c.in_ok-parts.ensures)
+    c.requires.few c.requires.start c.requires.returns c.in_ok-parts.ensures)
 
 pub returns-clause-accepted : goal.returns-clause-accepted
 returns-clause-accepted c =
@@ -37,12 +40,15 @@ returns-clause-accepted c =
       enter = c.ended_rests_enter.ensures;
       within = c.ended_within_limits.ensures;
       widens = c.lies_in_widened.ensures;
+      tells = c.place_tells.ensures;
+      holds = c.place_holds.ensures;
+      itself = c.known_in_itself.ensures;
       accepts = c.ended_accepts.ensures;
       stand = c.nodes_are_reached.ensures.stand;
     } in
     subst (Accepts c.args.image.now) (sym c.certificate_of.ensures)
     (accepted c.args.image.now c.args.program c.args.entry c.args.found.now c.in_ok-parts.parts laws c.requires.fits c.requires.ended
-    c.requires.few c.requires.start c.requires.lengths c.requires.returns c.in_ok-parts.ensures)
+    c.requires.few c.requires.start c.requires.returns c.in_ok-parts.ensures)
 
 pub returns-clause-found : goal.returns-clause-found
 returns-clause-found c =

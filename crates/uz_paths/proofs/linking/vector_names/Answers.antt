@@ -24,7 +24,7 @@ name_results-requires-clause-stands c =
 pub name_results-requires-clause-few : goal.name_results-requires-clause-few
 name_results-requires-clause-few c =
     subst (λ (z : Instance). HasFew c.args.image.now c.args.program.now z 2) (sym c.first_after-at.ensures)
-    (few_entries c.args.image.now c.args.program.now c.args.rest.now.cells.items _ _ _)
+    (few_entries c.args.image.now c.args.program.now c.args.rest.now.cells.items _ _ _ _)
 
 pub loop-c-preserved : goal.loop-c-preserved
 loop-c-preserved c = record {

@@ -4,7 +4,7 @@ use Rattle.uz_schedule.specs.Lines.{order_of}
 use Rattle.uz_schedule.specs.Schedule.{response_clocks}
 use Rattle.uz_schedule.specs.declared.states.Rest.{Rest}
 use Rattle.uz_paths.specs.Linked.{ArePoints}
-use Rattle.uz_paths.specs.Points.{AreOrdered, vector_point}
+use Rattle.uz_paths.specs.Points.{AreOrdered, vector_after}
 use Rattle.uz_paths.proofs.LinkLemmas.{no_points, vectors_next, vectors_end}
 use Rattle.uz_paths.proofs.numbers.vectors_of.Goals as goal
 
@@ -19,11 +19,10 @@ bare_vector-requires-clause-line c = c.requires.line c.loop-rest.rest-index c.re
 
 pub loop-rest-preserved : goal.loop-rest-preserved
 loop-rest-preserved c =
-    let vector : c.bare_vector.result ≡ vector_point (get_or c.args.rests.now c.loop-rest.rest-index c.rest-item.result).cells.items
-    ((order_of c.args.schedule.now).next (get_or c.args.rests.now c.loop-rest.rest-index c.rest-item.result).line)
-    (response_clocks c.args.response) [] =
-    c.bare_vector.ensures.is ∙ ap (λ (r : Rest). vector_point r.cells.items ((order_of c.args.schedule.now).next r.line)
-    (response_clocks c.args.response) []) c.rest-item.is in
+    let vector : c.bare_vector.result ≡ vector_after (response_clocks c.args.response) (order_of c.args.schedule.now)
+    (get_or c.args.rests.now c.loop-rest.rest-index c.rest-item.result) [] =
+    c.bare_vector.ensures.is ∙ ap (λ (r : Rest). vector_after (response_clocks c.args.response) (order_of c.args.schedule.now) r [])
+    c.rest-item.is in
     vectors_next (response_clocks c.args.response) (order_of c.args.schedule.now) c.args.rests.now c.loop-rest.rest-index c.rest-item.result
     c.loop-rest.points.items c.push.new.self.items c.loop-rest-test.true c.loop-rest.invariant
     (c.in_ok-push.ensures.items ∙ ap (λ p. c.loop-rest.points.items ++ p ∷ []) vector)
