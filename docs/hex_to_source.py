@@ -3,7 +3,8 @@
 usage: python3 hex_to_source.py LISTING HINTS >SOURCE
 
 Each line of HINTS that begins with a word address as the listing prints it, four digits and a colon, is put before the
-word there: a label, a .start or a .fact. The others (.lines, .stack, .cell, comments) stand at the top as they are.
+word there: a label, a .start or a .fact. The others (.lines, .half, .stack, .cell, comments) stand at the top as they
+are.
 """
 import re
 import sys

@@ -14,7 +14,7 @@ use Rattle.uz_search.proofs.VisitingLemmas.{some_is, among_more}
 use Rattle.uz_search.proofs.MarkingLemmas.{seen_kept}
 use Rattle.uz_transfer.specs.declared.fail.Fail.{Fail}
 use Rattle.uz_search.specs.declared.program.Program.{Program}
-use Rattle.uz_search.specs.Following.{Among, Flash, After, Follows, followers_of, most_clocks, frame_of}
+use Rattle.uz_search.specs.Following.{Among, Flash, After, Follows, followers_of, most_clocks}
 use Rattle.uz_search.specs.Stuck.{StuckWith}
 use Rattle.uz_search.specs.Refusing.{Split}
 use Rattle.uz_search.specs.Trails.{CameFrom}

@@ -1,4 +1,4 @@
-use Rattle.std.proofs.Common.{◌≢◌, ◌≡◌, ◌≤◌, ℕ, subst, ap, ◌∙◌, ⊎_elim}
+use Rattle.std.proofs.Common.{◌≢◌, ◌≤◌, ℕ, subst, ap, ◌∙◌, ⊎_elim}
 use Rattle.uz_schedule.specs.declared.kinds.Kind.TheVariants.{Main}
 use Rattle.uz_search.specs.Marking.{MarksAll}
 use Rattle.uz_search.specs.Following.{most_clocks}

@@ -1,8 +1,8 @@
-use Rattle.std.proofs.Common.{◌+◌, ◌<◌, ◌≤◌, length, ℕ, Option, None, Some, subst, sym, arith}
+use Rattle.std.proofs.Common.{◌+◌, ◌<◌, length, ℕ, Option, None, subst, sym, arith}
 use Rattle.uz_schedule.specs.declared.lines.EventKind.{EventKind}
 use Rattle.uz_search.specs.Following.{place_on, shown_at}
 use Rattle.uz_search.specs.Marking.{MarksOne}
-use Rattle.uz_search.proofs.MarkingLemmas.{seen_more, own_more, differs}
+use Rattle.uz_search.proofs.MarkingLemmas.{seen_more, own_more}
 use Rattle.uz_search.proofs.marks.mark_all.Goals as goal
 
 pub mark_one-requires : goal.mark_one-requires
