@@ -1,16 +1,19 @@
 -- Lines in a call, or as they are.
-use Rattle.std.proofs.Common.{◌≡◌, ℕ, zero, suc, ◌-◌, ◌<◌, true, List, [], ◌∷◌, length, get_or, take, drop, map, refl, sym, ◌∙◌, ap}
-use Rattle.std.proofs.Common.{subst, arith}
+use Rattle.std.proofs.Common.{◌≡◌, ℕ, zero, suc, ◌+◌, ◌-◌, ◌<◌, true, List, [], ◌∷◌, ◌++◌, append_assoc, length, get_or, take, drop, map, refl, sym, ◌∙◌, ap}
+use Rattle.std.proofs.Common.{arith}
 use Rattle.std.specs.Prelude.{Option, Some, None}
 use Rattle.std.specs.List.{slice_range}
-use Rattle.std.proofs.lemmas.List.{drop-map, length-map, take-map}
+use Rattle.std.proofs.lemmas.List.{drop-map, get_or-map, length-map, take-map}
 use Rattle.avr_macro_lines.specs.declared.arguments.Substitution.{Substitution}
 use Rattle.avr_macro_lines.specs.declared.blocks.Blocks.{Blocks}
+use Rattle.avr_macro_lines.specs.declared.directives.Word.{Word}
 use Rattle.avr_macro_lines.specs.declared.directives.Word.TheVariants.{Macro, EndMacro, Repeat, EndRepeat, If, EndIf}
 use Rattle.avr_macro_lines.specs.Arguments.{replaced}
 use Rattle.avr_macro_lines.specs.AtSigns.{KeepsDirectives, are_plain, are_settled, filled, line_in, puts_plain}
+use Rattle.avr_macro_lines.specs.Directives.{directive_of}
 use Rattle.avr_macro_lines.specs.Kinds.{AreBlocks}
 use Rattle.avr_macro_lines.proofs.SameBlocks.{blocks_stay}
+use Rattle.avr_macro_lines.proofs.Slices.{next_line_of_all}
 use Rattle.avr_macro_lines.proofs.Settled.{lines_settled, lines_stay, part_settled, plain_settled}
 
 abbrev Texts : Type 0
@@ -31,6 +34,28 @@ pub filled_line : (s : Option Substitution) (lines : Texts) (n : ℕ) (line : Li
     → line_in s line ≡ get_or (filled s lines) n []
 filled_line None lines n line h e = e
 filled_line (Some s) lines n line h e = ap (replaced s.arguments s.call) e ∙ mapped_line (replaced s.arguments s.call) lines n h
+
+-- ---- their words
+
+pub told_count : (words : List Word) (lines : Texts) → words ≡ map directive_of lines → length words ≡ length lines
+told_count words lines e = ap length e ∙ length-map lines directive_of
+
+pub told_word : (words : List Word) (lines : Texts) (n : ℕ) (d : Word) → words ≡ map directive_of lines → n < length lines
+    → get_or words n d ≡ directive_of (get_or lines n [])
+told_word words lines n d e h = ap (λ ws. get_or ws n d) e ∙ get_or-map directive_of lines n [] d h
+
+-- a word more
+pub words_more : (s : Option Substitution) (lines : Texts) (n : ℕ) (line : List ℕ) (word : Word) (words more whole : List Word)
+    → n < length lines → line ≡ get_or lines n [] → word ≡ directive_of (line_in s line) → more ≡ words ++ word ∷ []
+    → words ++ map directive_of (drop n (filled s lines)) ≡ whole → more ++ map directive_of (drop (n + 1) (filled s lines)) ≡ whole
+words_more s lines n line word words more whole h l w m so_far =
+    let all = filled s lines in
+    let here : n < length all = omega (arith, h, filled_length s lines) in
+    ap (λ ws. ws ++ map directive_of (drop (n + 1) all)) m
+    ∙ append_assoc words (word ∷ []) (map directive_of (drop (n + 1) all))
+    ∙ ap (λ x. words ++ x ∷ map directive_of (drop (n + 1) all)) (w ∙ ap directive_of (filled_line s lines n line h l))
+    ∙ ap (λ ls. words ++ map directive_of ls) (sym (next_line_of_all all n here))
+    ∙ so_far
 
 -- ---- some of the lines
 

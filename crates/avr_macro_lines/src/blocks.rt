@@ -7,7 +7,7 @@ ghost use Rattle.avr_macro_lines.specs.Kinds.{AreBlocks};
 
 use crate::arguments::Substitution;
 use crate::directives::Word;
-use crate::ends::{Block, blocks_of};
+use crate::ends::{Block, blocks_of, words_of};
 use crate::kept_lines::Lines;
 use std::alloc::{AllocError, Global};
 
@@ -28,9 +28,10 @@ impl Blocks {
     ) -> Result<Blocks, AllocError>
         ensures { IfOk result (λ blocks. AreBlocks (filled (option_copied substitution.entry) lines.now) blocks) }
     {
-        let macros = blocks_of(alloc, lines, substitution, Word::Macro, Word::EndMacro)?;
-        let repeats = blocks_of(alloc, lines, substitution, Word::Repeat, Word::EndRepeat)?;
-        let conditions = blocks_of(alloc, lines, substitution, Word::If, Word::EndIf)?;
+        let words = words_of(alloc, lines, substitution)?;
+        let macros = blocks_of(alloc, words.as_slice(), Word::Macro, Word::EndMacro)?;
+        let repeats = blocks_of(alloc, words.as_slice(), Word::Repeat, Word::EndRepeat)?;
+        let conditions = blocks_of(alloc, words.as_slice(), Word::If, Word::EndIf)?;
         Ok(Blocks {
             macros,
             repeats,

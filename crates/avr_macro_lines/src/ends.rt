@@ -1,7 +1,7 @@
 //! Where the blocks of one kind end, read from the last line back: the innermost block that ends further on is closed by
 //! the next line that opens one.
 
-ghost use Rattle.std.specs.Prelude.{◌≡◌, ◌+◌, ◌<◌, ◌≤◌, true, false, IfOk, IfSome, length, nat_lt, reverse, slice_get};
+ghost use Rattle.std.specs.Prelude.{◌≡◌, ◌+◌, ◌<◌, ◌≤◌, ℕ, List, true, false, IfOk, IfSome, length, map, nat_lt, reverse, slice_get};
 ghost use Rattle.std.specs.Option.{option_copied, option_map};
 ghost use Rattle.std.specs.List.Sorted.{IsNonDecreasingBy, IsPartitionPoint};
 ghost use Rattle.avr_macro_lines.specs.AtSigns.{filled, line_in};
@@ -97,36 +97,47 @@ fn blocks_before(
 }
 
 /// Which directive a line is, in a call or as it is.
-fn word_of_line(
-    alloc: Global,
-    substitution: Option<&Substitution>,
-    line: &[u8],
-) -> Result<Word, AllocError>
-    ensures { IfOk result (λ word. word ≡ directive_of_line (line_in (option_copied substitution.entry) line.now)) }
+fn word_of_line(substitution: Option<&Substitution>, line: &[u8]) -> Word
+    ensures { result ≡ directive_of_line (line_in (option_copied substitution.entry) line.now) }
 {
     match substitution {
-        Some(substitution) => directive_in_call(alloc, substitution, line),
-        None => Ok(directive_of(line)),
+        Some(substitution) => directive_in_call(substitution, line),
+        None => directive_of(line),
     }
 }
 
-/// The blocks of lines, in a call or as they are, that begin with one word and end with another, by their first lines.
-pub(crate) fn blocks_of(
+/// Which directives lines are, in a call or as they are.
+pub(crate) fn words_of(
     alloc: Global,
     lines: &Lines,
     substitution: Option<&Substitution>,
+) -> Result<Vec<Word>, AllocError>
+    ensures { IfOk result (λ words. words.items
+        ≡ map directive_of_line (filled (option_copied substitution.entry) lines.now)) }
+{
+    let mut words = Vec::with_capacity(alloc, lines.count())?;
+    for n in 0..lines.count() {
+        words.push(word_of_line(substitution, lines.line(n)))?;
+    }
+    Ok(words)
+}
+
+/// The blocks that begin with one word and end with another, by their first lines, where the lines are of these words.
+pub(crate) fn blocks_of(
+    alloc: Global,
+    words: &[Word],
     opens: Word,
     closes: Word,
 ) -> Result<Vec<Block>, AllocError>
-    ensures { IfOk result (λ blocks. blocks.items
-        ≡ blocks_from opens closes 0 (filled (option_copied substitution.entry) lines.now)) }
+    ensures { (lines : List (List ℕ)) → words.now ≡ map directive_of_line lines →
+        IfOk result (λ blocks. blocks.items ≡ blocks_from opens closes 0 lines) }
 {
     let mut pending = Vec::new(alloc);
     let mut blocks = Vec::new(alloc);
-    let mut n = lines.count();
+    let mut n = words.len();
     while n > 0 {
         n -= 1;
-        let word = word_of_line(alloc, substitution, lines.line(n))?;
+        let word = words[n];
         blocks = blocks_before(blocks, pending.as_slice(), word, opens, n)?;
         pending = open_before(pending, word, opens, closes, n)?;
     }

@@ -1,6 +1,6 @@
 //! A line of a call, read byte by byte without being made.
 
-ghost use Rattle.std.specs.Prelude.{◌≡◌, ◌<◌, ◌++◌, ◌∷◌, [], IfNone, IfOk, decimal, false, length, ℕ};
+ghost use Rattle.std.specs.Prelude.{◌≡◌, ◌<◌, ◌++◌, ◌∷◌, [], IfNone, decimal, false, length, ℕ};
 ghost use Rattle.avr_macro_lines.specs.Arguments.{replaced as replaced_line, replaced_from};
 ghost use Rattle.avr_macro_lines.specs.Directives.{closes_well as closes_well_line, directive_of as directive_of_line};
 ghost use Rattle.avr_macro_lines.specs.Directives.{after_dot as after_dot_in, dot_word as dot_word_of};
@@ -13,9 +13,9 @@ use crate::arguments::{Substitution, argument};
 use crate::at_signs::is_steady;
 use crate::directives::{Word, directive_of, named_word};
 use crate::kept_lines::Lines;
+use arrayvec::ArrayVec;
 use avr_text::{is_digit, is_word};
 use itoa::Buffer;
-use std::alloc::{AllocError, Global};
 use std::marker::Model;
 use uz_text::is_blank;
 
@@ -175,35 +175,35 @@ impl<'a> Reader<'a> {
     }
 
     /// The first letters of the word at the front, by the next byte: all where no directive's name has more.
-    fn name(&mut self, alloc: Global, next: Option<u8>) -> Result<Vec<u8>, AllocError>
+    fn name(&mut self, next: Option<u8>) -> ArrayVec<u8, LONG_NAME>
         requires { IfNone next (self.old ≡ []) }
-        ensures { IfOk result (λ name. named_word_of name.items ≡ named_word_of (word_of_text (from_next next self.old))) }
+        ensures { named_word_of result.items ≡ named_word_of (word_of_text (from_next next self.old)) }
     {
         let mut ahead = next;
-        let mut name = Vec::new(alloc);
+        let mut name = ArrayVec::new();
         while let Some(byte) = letter(name.as_slice().len(), ahead) {
-            name.push(byte)?;
+            name.push(byte);
             ahead = self.next();
         }
-        Ok(name)
+        name
     }
 
     /// The directive that a line is.
-    fn directive(&mut self, alloc: Global) -> Result<Word, AllocError>
-        ensures { IfOk result (λ word. word ≡ dot_word_of (after_blanks_in self.old)) }
+    fn directive(&mut self) -> Word
+        ensures { result ≡ dot_word_of (after_blanks_in self.old) }
     {
         let next = self.next();
         match self.past_blanks(next) {
             Some(byte) => {
                 if byte != b'.' {
-                    return Ok(Word::Other);
+                    return Word::Other;
                 }
                 let next = self.next();
                 let next = self.past_blanks(next);
-                let name = self.name(alloc, next)?;
-                Ok(named_word(name.as_slice()))
+                let name = self.name(next);
+                named_word(name.as_slice())
             }
-            None => Ok(Word::Other),
+            None => Word::Other,
         }
     }
 
@@ -247,21 +247,17 @@ fn letter(count: usize, next: Option<u8>) -> Option<u8>
 
 /// Which directive a line of a call is. The line isn't made.
 #[tactic(auto, using(crate::proofs::Steady::directive_stays), unfolding(crate::specs::Directives::directive_of))]
-pub(crate) fn directive_in_call(
-    alloc: Global,
-    substitution: &Substitution,
-    line: &[u8],
-) -> Result<Word, AllocError>
-    ensures { IfOk result (λ word. word
-        ≡ directive_of_line (replaced_line substitution.now.arguments substitution.now.call line.now)) }
+pub(crate) fn directive_in_call(substitution: &Substitution, line: &[u8]) -> Word
+    ensures { result
+        ≡ directive_of_line (replaced_line substitution.now.arguments substitution.now.call line.now) }
 {
     if is_steady(line) {
-        return Ok(directive_of(line));
+        return directive_of(line);
     }
     let mut buffer = Buffer::new();
     let number = buffer.format(substitution.call).as_bytes();
     let mut reader = Reader::new(substitution, number, line);
-    reader.directive(alloc)
+    reader.directive()
 }
 
 /// Whether a line of a call that closes a block, or parts it, has no further words. The line isn't made.
