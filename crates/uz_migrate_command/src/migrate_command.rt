@@ -12,7 +12,7 @@ ghost use Rattle.uz_files.specs.Formats.{RefusesOldCertificate};
 
 use itoa::Buffer;
 use std::alloc::{AllocError, Global};
-use uz_files::{Failure, Status, Work, finish_work, read_old_certificate};
+use uz_files::{Failure, OldCertificateText, Status, Work, finish_work, read_file};
 use uz_schedule::Cert;
 use uz_shelf::{Shelf, Sink};
 use uz_spelling::write_cert;
@@ -50,7 +50,7 @@ fn prepare<H: Shelf>(alloc: Global, shelf: &mut H, older: &str) -> Result<Work, 
     ensures load_faults { H.load_faults shelf.old ≤ H.load_faults shelf.new }
     ensures write_faults { H.write_faults shelf.new ≡ H.write_faults shelf.old }
 {
-    let certificate = match read_old_certificate(alloc, shelf, older) {
+    let certificate = match read_file::<OldCertificateText, H>(alloc, shelf, older) {
         Ok(certificate) => certificate,
         Err(failure) => return Err(failure),
     };

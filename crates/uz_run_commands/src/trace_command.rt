@@ -15,7 +15,7 @@ use std::alloc::{AllocError, Global};
 use uz_cert::Response;
 use uz_console::{Console, Progress};
 use uz_core::Why;
-use uz_files::{Ending, Failure, Status, read_image, read_pad_file};
+use uz_files::{Ending, Failure, HexText, PadWords, Status, read_file};
 use uz_machine::Edge;
 use uz_shelf::{Shelf, Sink, WriteError};
 
@@ -39,8 +39,8 @@ pub(crate) fn reset_console<H: Shelf>(
     ensures load_faults { H.load_faults shelf.old ≤ H.load_faults shelf.new }
     ensures write_faults { H.write_faults shelf.new ≡ H.write_faults shelf.old }
 {
-    let image = read_image(alloc, shelf, hex)?;
-    let list = match read_pad_file(alloc, shelf, pads) {
+    let image = read_file::<HexText, H>(alloc, shelf, hex)?;
+    let list = match read_file::<PadWords, H>(alloc, shelf, pads) {
         Ok(list) => list,
         Err(failure) => return Err(failure),
     };
