@@ -14,7 +14,7 @@ use crate::certify_lines::not_found;
 use avr_asm::Built;
 use std::alloc::{AllocError, Global};
 use uz_cert::{Cert, write_cert};
-use uz_check_command::accepted;
+use uz_pair_files::accepted;
 use uz_files::{
     Ending, Failure, Status, assemble_file, end_with, give_up, put_no_memory, write_file,
 };
