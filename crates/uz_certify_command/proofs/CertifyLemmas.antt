@@ -9,7 +9,7 @@ use Rattle.uz_schedule.specs.WellFormed.{WellFormed}
 use Rattle.uz_search.specs.declared.found.NotFound.{NotFound}
 use Rattle.uz_search.specs.declared.found.NotFound.TheVariants.{Stuck, Split, Full, Hint, NoRest, Memory as NoRoomToSearch}
 use Rattle.uz_paths.specs.Finding.{Cause}
-use Rattle.uz_files.proofs.WriteLemmas.{holds_after, holds_written}
+use Rattle.uz_files.proofs.WriteLemmas.{comes_after_files, files_cut, files_lack, holds_after, holds_written, with_files}
 use Rattle.uz_shelf.specs.Text.{TakesPrefix}
 use Rattle.uz_hex.specs.Writing.{hex_text}
 use Rattle.uz_hex.specs.Reading.{Flash}
@@ -26,7 +26,7 @@ use Rattle.uz_files.specs.declared.ending.Ending.{Ending}
 use Rattle.uz_files.specs.declared.ending.Failure.{Failure}
 use Rattle.uz_files.specs.declared.status.Status.{Status}
 use Rattle.uz_files.specs.declared.status.Status.TheVariants.{Done, Unread, BadInput, Refused, Unwritten, NoMemory}
-use Rattle.uz_files.specs.Answers.{Answer, ComesOf, IsCut, NoPart, MayCome, Write, WritesAll, WritesPart, one_line, outside}
+use Rattle.uz_files.specs.Answers.{Answer, ComesOf, NoPart, MayCome, Write, WritesAll, WritesPart, one_line, outside}
 use Rattle.uz_files.specs.Lines.{no_memory_line}
 use Rattle.uz_files.specs.Endings.{ComesOfFailure, EndsBy, answer_of}
 use Rattle.uz_files.specs.Reading.{Fails, Says, text_limit}
@@ -37,39 +37,11 @@ use Rattle.uz_pair_files.specs.VerdictLines.{accepted_line}
 use Rattle.uz_files.proofs.EndingLemmas.{comes_by, run_outcome}
 use Rattle.uz_files.proofs.ReadingLemmas.{ends_by}
 use Rattle.uz_files.proofs.ReadsLemmas.{fails_says, fails_status, reads_or_fault, reads_same, says_same}
-use Rattle.uz_files.proofs.TextLemmas.{takes_none}
 use Rattle.avr_asm.specs.Relation.{IsAssembly}
 use Rattle.uz_files.specs.Formats.{Readings, RefusesSource}
 
--- Lists of files
-
-all_part : (files after : Option FileMap) (ws : List Write) → WritesAll files ws after → WritesPart files ws after
-all_part files after [] same = same
-all_part files after (w ∷ ws) (mid, written, rest) = inr (inr (mid, written, all_part mid after ws rest))
-
 abbrev done_with : List Write → List ℕ → Answer
-done_with ws line = record { writes = ws; printed = []; status = Done; line = line }
-
-cut_all : (ws : List Write) (line further : List ℕ) (files after : Option FileMap) (old new : Option (List ℕ)) → WritesAll files ws after
-    → IsCut (one_line Done line) further (outside after old) (outside after new) → IsCut (done_with ws line) further (outside files old)
-    (outside after new)
-cut_all ws line further files after old new written (inl (same, text)) = inl (all_part files after ws written, text)
-cut_all ws line further files after old new written (inr (same, text)) = inr (written, text)
-
-comes_all : (ws : List Write) (line : List ℕ) (write_fault : Type 0) (came : Status) (files after : Option FileMap)
-    (old new : Option (List ℕ)) → WritesAll files ws after → ComesOf (one_line Done line) write_fault came (outside after old)
-    (outside after new) → ComesOf (done_with ws line) write_fault came (outside files old) (outside after new)
-comes_all ws line write_fault came files after old new written (inl ends) = inl (record {
-  status = ends.status;
-  files = written;
-  done = ends.done;
-  whole = ends.whole;
-  text = ends.text;
-})
-comes_all ws line write_fault came files after old new written (inr (inl (more, cut))) =
-    inr (inl (inl refl, (cut.0, cut.1, cut_all ws line [] files after old new written cut.2)))
-comes_all ws line write_fault came files after old new written (inr (inr lacks)) =
-    inr (inr (lacks.0, (lacks.1.0, cut_all ws line (take lacks.1.0 no_memory_line) files after old new written lacks.1.1)))
+done_with ws = with_files ws Done
 
 -- What the search gives
 
@@ -125,8 +97,8 @@ module _ (files mid after : Option FileMap) (load_fault : Type 0) (source : List
         done_with (both_files hex image name text) line,
         is_answer,
         comes_by (done_with (both_files hex image name text) line) came narrow wide (outside files old) (outside after new) widen
-            (comes_all (both_files hex image name text) line narrow came files after old new
-            (subst (λ f. WritesAll f (both_files hex image name text) after) same written) (comes after)),
+            (comes_after_files (both_files hex image name text) Done line files after
+            (subst (λ f. WritesAll f (both_files hex image name text) after) same written) old new narrow came (comes after)),
       ))
 
   pub certify_worth : ((image : Flash) (cert : Cert) → WellFormed cert → Accepts image cert → Certified image cert)
@@ -155,17 +127,8 @@ module _ (files mid after : Option FileMap) (load_fault : Type 0) (source : List
       inr (inl (
         done_with (both_files hex image name text) line,
         is_answer,
-        inr (inl (
-          inl refl,
-          (
-            is,
-            fault,
-            inl (
-              subst (λ f. WritesPart f (both_files hex image name text) after) same part,
-              takes_none text_out,
-            ),
-          ),
-        )),
+        files_cut (record { name = hex; bytes = image }) (record { name = name; bytes = text } ∷ []) Done came line wide files after
+            text_out fault is (subst (λ f. WritesPart f (both_files hex image name text) after) same part),
       ))
 
   pub certify_lacks : (wide : Type 0) (old new : Option (List ℕ)) → came ≡ NoMemory → TakesPrefix old no_memory_line new → WritesPart mid
@@ -175,7 +138,8 @@ module _ (files mid after : Option FileMap) (load_fault : Type 0) (source : List
       inr (inl (
         done_with (both_files hex image name text) line,
         is_answer,
-        inr (inr (is, (said.0, inl (subst (λ f. WritesPart f (both_files hex image name text) after) same part, said.1)))),
+        files_lack (both_files hex image name text) Done came line wide files after old new is said
+            (subst (λ f. WritesPart f (both_files hex image name text) after) same part),
       ))
 
 -- no certificate is found

@@ -1,7 +1,6 @@
 -- What comes of printing the line that ends a command.
 use Rattle.std.proofs.Common.{◌≡◌, ◌≢◌, inl, inr, ℕ, List, [], take, refl, sym, ◌∙◌, subst}
 use Rattle.std.specs.Prelude.{Option, Result, Ok, Err, IfOk}
-use Rattle.std.proofs.lemmas.List.{append-nil}
 use Rattle.uz_shelf.specs.Files.{FileMap}
 use Rattle.uz_shelf.specs.Text.{TakesAll, TakesPrefix}
 use Rattle.uz_files.specs.declared.status.Status.{Status}
@@ -40,7 +39,7 @@ pub comes_unwritten : (s came : Status) (line : List ℕ) (write_fault : Type 0)
     → s ≡ status.Done → came ≡ status.Unwritten → write_fault → TakesPrefix old line new → ComesOf (one_line s line) write_fault came
     (outside files old) (outside files new)
 comes_unwritten s came line write_fault files old new done same fault part =
-    inr (inl (inl done, (same, fault, inr (refl, (part.0, subst (λ p. TakesAll old p new) (sym (append-nil (take part.0 line))) part.1)))))
+    inr (inl (same, fault, inr (refl, (line, inl (done, refl), part))))
 
 pub comes_without_memory : (s came : Status) (line : List ℕ) (write_fault : Type 0) (files : Option FileMap) (old mid new : Option (List ℕ))
     → came ≡ status.NoMemory → TakesPrefix old line mid → TakesPrefix mid no_memory_line new → ComesOf (one_line s line) write_fault came
@@ -57,7 +56,7 @@ comes_by answer came narrow wide old new widen (inl ends) = inl (record {
   whole = λ none. ends.whole (λ fault. none (widen fault));
   text = ends.text;
 })
-comes_by answer came narrow wide old new widen (inr (inl (more, cut))) = inr (inl (more, (cut.0, widen cut.1, cut.2)))
+comes_by answer came narrow wide old new widen (inr (inl lost)) = inr (inl (lost.0, widen lost.1, lost.2))
 comes_by answer came narrow wide old new widen (inr (inr lacks)) = inr (inr lacks)
 
 some_answer : (P Part : Answer → Type 0) (answer : Answer) (came : Status) (narrow wide : Type 0) (old new : Outside) → (narrow → wide)
@@ -80,7 +79,7 @@ outcome_of P Part (Err NoRoom) came narrow wide old new widen given comes = inl 
 done_by : (answer : Answer) (came : Status) (write_fault : Type 0) (old new : Outside) → ComesOf answer write_fault came old new
     → came ≡ status.Done → answer.status ≡ status.Done
 done_by answer came write_fault old new (inl ends) done = sym ends.status ∙ done
-done_by answer came write_fault old new (inr (inl (more, cut))) done = absurd (cc (cut.0, done))
+done_by answer came write_fault old new (inr (inl lost)) done = absurd (cc (lost.0, done))
 done_by answer came write_fault old new (inr (inr lacks)) done = absurd (cc (lacks.0, done))
 
 -- what holds of work that is done

@@ -6,4 +6,5 @@ pub mod PrintedLemmas
 pub mod ReadingLemmas
 pub mod ReadsLemmas
 pub mod TextLemmas
+pub mod WorkLemmas
 pub mod WriteLemmas

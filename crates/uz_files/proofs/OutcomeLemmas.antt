@@ -10,7 +10,7 @@ module _ (Whole Part : Answer → Type 0) (write_fault : Type 0) (came : Status)
       ⊎ (((came ≡ status.Unwritten) × write_fault) ⊎ ((answer : Answer) × Whole answer × Ends answer write_fault came old new))
   came_from (inl starts) = inl starts.status
   came_from (inr (inl (answer, given, inl ends))) = inr (inr (answer, given, ends))
-  came_from (inr (inl (answer, given, inr (inl (more, cut))))) = inr (inl (cut.0, cut.1))
+  came_from (inr (inl (answer, given, inr (inl lost)))) = inr (inl (lost.0, lost.1))
   came_from (inr (inl (answer, given, inr (inr lacks)))) = inl lacks.0
   came_from (inr (inr (answer, given, inl cut))) = inr (inl (cut.0, cut.1))
   came_from (inr (inr (answer, given, inr lacks))) = inl lacks.0

@@ -1,5 +1,5 @@
 -- What comes after a text that is printed already.
-use Rattle.std.proofs.Common.{◌≡◌, inl, inr, ℕ, ◌+◌, List, [], ◌++◌, length, take, refl, sym, subst, append_assoc}
+use Rattle.std.proofs.Common.{◌≡◌, inl, inr, ℕ, ◌+◌, List, [], ◌++◌, length, take, refl, sym, ap, subst, append_assoc}
 use Rattle.std.specs.Prelude.{Option}
 use Rattle.std.proofs.lemmas.List.{append-nil}
 use Rattle.std.proofs.Math.Seq.{take-append-add, take-append_seam}
@@ -8,7 +8,7 @@ use Rattle.uz_shelf.specs.Text.{TakesAll, TakesPrefix}
 use Rattle.uz_files.specs.declared.ending.Ending.{Ending}
 use Rattle.uz_files.specs.declared.status.Status.{Status}
 use Rattle.uz_files.specs.declared.status.Status.TheVariants as status
-use Rattle.uz_files.specs.Answers.{ComesOf, IsCut, WritesMore, ended, one_line, outside}
+use Rattle.uz_files.specs.Answers.{ComesOf, IsCut, ended, one_line, outside}
 use Rattle.uz_files.specs.Endings.{answer_of}
 use Rattle.uz_files.specs.Lines.{no_memory_line}
 use Rattle.uz_files.proofs.TextLemmas.{takes_both}
@@ -45,11 +45,6 @@ cut_after printed line further s files old mid new before (inr (same, (count, te
       ),
     )
 
-writes_more : (printed line : List ℕ) (s : Status) → WritesMore (one_line s line) → WritesMore (ended printed s line)
-writes_more printed line s (inl done) = inl done
-writes_more printed line s (inr (inl none)) = absurd (none refl)
-writes_more printed line s (inr (inr none)) = absurd (none refl)
-
 pub comes_after : (printed line : List ℕ) (s came : Status) (write_fault : Type 0) (files : Option FileMap) (old mid new : Option (List ℕ))
     → TakesAll old printed mid → ComesOf (one_line s line) write_fault came (outside files mid) (outside files new)
     → ComesOf (ended printed s line) write_fault came (outside files old) (outside files new)
@@ -60,8 +55,15 @@ comes_after printed line s came write_fault files old mid new before (inl ends) 
   whole = λ none. takes_both old printed line mid new before (ends.whole none);
   text = (ends.text.0, takes_both old printed (take ends.text.0 line) mid new before ends.text.1);
 })
-comes_after printed line s came write_fault files old mid new before (inr (inl (more, cut))) =
-    inr (inl (writes_more printed line s more, (cut.0, cut.1, cut_after printed line [] s files old mid new before cut.2)))
+comes_after printed line s came write_fault files old mid new before (inr (inl (is, fault, inl (none, part, text)))) = absurd (none refl)
+comes_after printed line s came write_fault files old mid new before (inr (inl (is, fault, inr (same, (text, inl (done, all), part))))) =
+    inr (inl (
+      is,
+      fault,
+      inr (refl, (printed ++ text, inl (done, ap (λ t. printed ++ t) all), takes_then_prefix old mid new printed text before part)),
+    ))
+comes_after printed line s came write_fault files old mid new before (inr (inl (is, fault, inr (same, (text, inr (none, all), part))))) =
+    absurd (none refl)
 comes_after printed line s came write_fault files old mid new before (inr (inr lacks)) =
     inr (inr (lacks.0, (lacks.1.0, cut_after printed line (take lacks.1.0 no_memory_line) s files old mid new before lacks.1.1)))
 

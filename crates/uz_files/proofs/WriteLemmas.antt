@@ -1,6 +1,6 @@
 -- A file that is created and then written, and a line.
-use Rattle.std.proofs.Common.{◌≡◌, ◌≢◌, Bool, true, false, inl, inr, ℕ, ◌+◌, cond, List, [], ◌++◌, length, take, refl, sym, ap, subst}
-use Rattle.std.proofs.Common.{◌∙◌}
+use Rattle.std.proofs.Common.{◌≡◌, ◌≢◌, Bool, true, false, inl, inr, ℕ, ◌+◌, cond, List, [], ◌∷◌, ◌++◌, length, take, refl, sym, ap}
+use Rattle.std.proofs.Common.{subst, ◌∙◌}
 use Rattle.std.specs.Prelude.{Option, Some, None, min, unwrap_or, Result, Ok, Err, OnOk, OnErr}
 use Rattle.std.proofs.lemmas.List.{take-append-le, take_min}
 use Rattle.std.proofs.Math.Nat.{min-le_right}
@@ -10,14 +10,13 @@ use Rattle.std.specs.Cmp.{tied_itself}
 use Rattle.std.specs.Cmp.Lexicographic.{nat_list_cmp_total, slice_cmp, texts_ties}
 use Rattle.std.proofs.lemmas.Slice.Eq.{bytes_eq-Decides}
 use Rattle.std.specs.FinMap.{get, insert, get-insert}
-use Rattle.uz_shelf.specs.Files.{FileMap, HoldsFile, AppendsAll, AppendsPrefix, Creates, CreatesOrKeeps, bytes_so_far}
+use Rattle.uz_shelf.specs.Files.{FileMap, HoldsFile, AppendsAll, AppendsPrefix, Creates, CreatesOrKeeps, LacksFile, bytes_so_far}
 use Rattle.uz_shelf.specs.Text.{TakesPrefix}
 use Rattle.uz_shelf.proofs.HeldLemmas.{insert_again}
 use Rattle.uz_files.specs.declared.status.Status.{Status}
-use Rattle.uz_files.specs.declared.status.Status.TheVariants.{Done, Unwritten, NoMemory}
-use Rattle.uz_files.specs.Answers.{ComesOf, IsCut, WritesFile, WritesPart, one_line, outside}
+use Rattle.uz_files.specs.declared.status.Status.TheVariants.{Unwritten, NoMemory}
+use Rattle.uz_files.specs.Answers.{Answer, ComesOf, IsCut, Write, WritesAll, WritesFile, WritesPart, one_line, outside}
 use Rattle.uz_files.specs.Lines.{no_memory_line}
-use Rattle.uz_files.specs.Writing.{written_then}
 use Rattle.uz_files.specs.Writing.{WritesSome}
 use Rattle.uz_files.proofs.TextLemmas.{takes_none}
 
@@ -77,46 +76,52 @@ create_fails old new name bytes (inl same) = inl same
 create_fails None new name bytes (inr creates) = inr (0, creates)
 create_fails (Some m) new name bytes (inr creates) = inr (0, creates)
 
-cut_written : (name bytes line further : List ℕ) (files after : Option FileMap) (old new : Option (List ℕ)) → WritesFile files name bytes
-    after → IsCut (one_line Done line) further (outside after old) (outside after new)
-    → IsCut (written_then (record { name = name; bytes = bytes }) line) further (outside files old) (outside after new)
-cut_written name bytes line further files after old new written (inl (same, text)) = inl (inr (inr (after, written, refl)), text)
-cut_written name bytes line further files after old new written (inr (same, text)) = inr ((after, written, refl), text)
+-- files are written, and then a line is printed
+abbrev pub with_files : List Write → Status → List ℕ → Answer
+with_files ws s line = record { writes = ws; printed = []; status = s; line = line }
 
-pub comes_written : (name bytes line : List ℕ) (write_fault : Type 0) (came : Status) (files after : Option FileMap)
-    (old new : Option (List ℕ)) → WritesFile files name bytes after → ComesOf (one_line Done line) write_fault came (outside after old)
-    (outside after new) → ComesOf (written_then (record { name = name; bytes = bytes }) line) write_fault came (outside files old)
-    (outside after new)
-comes_written name bytes line write_fault came files after old new written (inl ends) = inl (record {
-  status = ends.status;
-  files = (after, written, refl);
-  done = ends.done;
-  whole = ends.whole;
-  text = ends.text;
-})
-comes_written name bytes line write_fault came files after old new written (inr (inl (more, cut))) =
-    inr (inl (inl refl, (cut.0, cut.1, cut_written name bytes line [] files after old new written cut.2)))
-comes_written name bytes line write_fault came files after old new written (inr (inr lacks)) =
-    inr (inr (lacks.0, (lacks.1.0, cut_written name bytes line (take lacks.1.0 no_memory_line) files after old new written lacks.1.1)))
+module _ (ws : List Write) (s : Status) (line : List ℕ) (files after : Option FileMap) (written : WritesAll files ws after)
+    (old new : Option (List ℕ)) where
+  cut_after_files : (further : List ℕ) → IsCut (one_line s line) further (outside after old) (outside after new)
+      → IsCut (with_files ws s line) further (outside files old) (outside after new)
+  cut_after_files further (inl (same, text)) = inr (written, (0, text))
+  cut_after_files further (inr (same, text)) = inr (written, text)
 
-pub part_written : (name bytes line : List ℕ) (files after : Option FileMap) → WritesSome files name bytes after → WritesPart files
-    (written_then (record { name = name; bytes = bytes }) line).writes after
-part_written name bytes line files after (inl same) = inl same
-part_written name bytes line files after (inr part) = inr (inl part)
+  pub comes_after_files : (write_fault : Type 0) (came : Status) → ComesOf (one_line s line) write_fault came (outside after old)
+      (outside after new) → ComesOf (with_files ws s line) write_fault came (outside files old) (outside after new)
+  comes_after_files write_fault came (inl ends) = inl (record {
+    status = ends.status;
+    files = written;
+    done = ends.done;
+    whole = ends.whole;
+    text = ends.text;
+  })
+  comes_after_files write_fault came (inr (inl (is, fault, inl (none, part, text)))) = absurd (none refl)
+  comes_after_files write_fault came (inr (inl (is, fault, inr (same, lost)))) = inr (inl (is, fault, inr (written, lost)))
+  comes_after_files write_fault came (inr (inr lacks)) =
+      inr (inr (lacks.0, (lacks.1.0, cut_after_files (take lacks.1.0 no_memory_line) lacks.1.1)))
 
--- writing the file failed, before anything was printed
-pub comes_cut : (name bytes line : List ℕ) (write_fault : Type 0) (came : Status) (files after : Option FileMap) (text : Option (List ℕ))
-    → came ≡ Unwritten → write_fault → WritesSome files name bytes after
-    → ComesOf (written_then (record { name = name; bytes = bytes }) line) write_fault came (outside files text) (outside after text)
-comes_cut name bytes line write_fault came files after text is fault part =
-    inr (inl (inl refl, (is, fault, inl (part_written name bytes line files after part, takes_none text))))
+  -- no memory for the line
+  pub lacks_line : (write_fault : Type 0) (came : Status) → came ≡ NoMemory → TakesPrefix old no_memory_line new
+      → ComesOf (with_files ws s line) write_fault came (outside files old) (outside after new)
+  lacks_line write_fault came is text = inr (inr (is, (text.0, inr (written, (0, text.1)))))
 
--- memory was lacking for it
-pub comes_lacking : (name bytes line : List ℕ) (write_fault : Type 0) (came : Status) (files after : Option FileMap)
-    (old new : Option (List ℕ)) → came ≡ NoMemory → TakesPrefix old no_memory_line new → WritesSome files name bytes after
-    → ComesOf (written_then (record { name = name; bytes = bytes }) line) write_fault came (outside files old) (outside after new)
-comes_lacking name bytes line write_fault came files after old new is told part =
-    inr (inr (is, (told.0, inl (part_written name bytes line files after part, told.1))))
+-- a fault of writing, or want of memory, in the midst of the files
+pub files_cut : (w : Write) (ws : List Write) (s came : Status) (line : List ℕ) (write_fault : Type 0) (files after : Option FileMap)
+    (text : Option (List ℕ)) → write_fault → came ≡ Unwritten → WritesPart files (w ∷ ws) after
+    → ComesOf (with_files (w ∷ ws) s line) write_fault came (outside files text) (outside after text)
+files_cut w ws s came line write_fault files after text fault is part =
+    inr (inl (is, fault, inl ((λ none. cc none), part, takes_none text)))
+
+pub files_lack : (ws : List Write) (s came : Status) (line : List ℕ) (write_fault : Type 0) (files after : Option FileMap)
+    (old new : Option (List ℕ)) → came ≡ NoMemory → TakesPrefix old no_memory_line new → WritesPart files ws after
+    → ComesOf (with_files ws s line) write_fault came (outside files old) (outside after new)
+files_lack ws s came line write_fault files after old new is text part = inr (inr (is, (text.0, inl (part, text.1))))
+
+pub part_written : (name bytes : List ℕ) (files after : Option FileMap) → WritesSome files name bytes after
+    → WritesPart files (record { name = name; bytes = bytes } ∷ []) after
+part_written name bytes files after (inl same) = inl same
+part_written name bytes files after (inr part) = inr (inl part)
 
 pub appended_ok : {A E : Type 0} (r : Result A E) (old mid new : Option FileMap) (opened : Option (List ℕ)) (name bytes : List ℕ)
     → Creates old name mid → opened ≡ Some name → OnOk r (AppendsAll mid opened bytes new) → OnOk r (WritesFile old name bytes new)

@@ -88,15 +88,25 @@ LacksMemory answer came old new = (came ≡ NoMemory) × ((count : ℕ) × IsCut
 abbrev pub IsUnwritten : Answer → Type 0 → Status → Outside → Outside → Type 0
 IsUnwritten answer write_fault came old new = (came ≡ Unwritten) × write_fault × IsCut answer [] old new
 
--- there is more to write than the line of a fault, whose own failure changes no status
-abbrev pub WritesMore : Answer → Type 0
-WritesMore answer = (answer.status ≡ Done) ⊎ ((answer.printed ≢ []) ⊎ (answer.writes ≢ []))
+-- a text without which the answer's status doesn't stand: all that is printed where the command did its work, and else what is
+-- printed before the line that ends it. A failure of that line itself changes no other status than Done
+abbrev pub IsOwed : Answer → List ℕ → Type 0
+IsOwed answer text =
+    ((answer.status ≡ Done) × (text ≡ answer.printed ++ answer.line)) ⊎ ((answer.printed ≢ []) × (text ≡ answer.printed))
+
+-- a fault of writing took what the status needs: a file isn't whole and nothing is printed, or all files are whole and a prefix of
+-- such a text is printed
+abbrev pub LosesOutput : Answer → Type 0 → Status → Outside → Outside → Type 0
+LosesOutput answer write_fault came old new =
+    (came ≡ Unwritten) × write_fault
+    × (((answer.writes ≢ []) × WritesPart old.files answer.writes new.files × TakesAll old.text [] new.text)
+    ⊎ (WritesAll old.files answer.writes new.files × ((text : List ℕ) × IsOwed answer text × TakesPrefix old.text text new.text)))
 
 -- what may come of an answer
 abbrev pub ComesOf : Answer → Type 0 → Status → Outside → Outside → Type 0
 ComesOf answer write_fault came old new =
     Ends answer write_fault came old new
-    ⊎ ((WritesMore answer × IsUnwritten answer write_fault came old new) ⊎ LacksMemory answer came old new)
+    ⊎ (LosesOutput answer write_fault came old new ⊎ LacksMemory answer came old new)
 
 -- memory was lacking before anything was put out
 pub record StartsWithoutMemory (came : Status) (old new : Outside) : Type 0 where

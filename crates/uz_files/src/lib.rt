@@ -8,6 +8,7 @@ mod laws;
 mod loading;
 mod status;
 mod text_fault;
+mod work;
 mod writing;
 
 pub use ending::{Ending, Failure, end_fault, end_with, finish, give_up, put_no_memory};
@@ -19,4 +20,5 @@ pub use laws::readings_are_unique;
 pub use loading::{TEXT_LIMIT, bad_input, load, unread};
 pub use status::Status;
 pub use text_fault::TextFault;
+pub use work::{Work, finish_work};
 pub use writing::write_file;

@@ -4,7 +4,7 @@ use Rattle.uz_shelf.specs.Files.{FileMap}
 use Rattle.uz_schedule.specs.declared.certificate.Cert.{Cert}
 use Rattle.uz_lines.specs.declared.version.Version.TheVariants.{Second}
 use Rattle.uz_spelling.specs.Spelling.{spelling}
-use Rattle.uz_migrate_command.specs.declared.migrate_command.Work.{Work}
+use Rattle.uz_files.specs.declared.work.Work.{Work}
 use Rattle.uz_files.specs.Reading.{Says, certificate_limit}
 use Rattle.uz_files.specs.Formats.{SpellsCertificate, SpellsOldCertificate}
 use Rattle.uz_migrate_command.specs.MigrateCommand.{migrated_line}

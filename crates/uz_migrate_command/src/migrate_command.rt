@@ -1,32 +1,22 @@
 //! `migrate OLD NEW`.
 
-ghost use Rattle.std.specs.Prelude.{◌≡◌, ◌≤◌, ◌⊎◌, IfErr, IfOk, IsErrOf, OnErr, OnOk};
+ghost use Rattle.std.specs.Prelude.{◌≡◌, ◌≤◌, ◌⊎◌, IfErr, IfOk};
 ghost use Rattle.uz_schedule.specs.WellFormed.{WellFormed};
 ghost use Rattle.uz_shelf.specs.Faults.{Rose};
-ghost use Rattle.uz_files.specs.Answers.{NoPart, MayCome, WritesFile, outside};
+ghost use Rattle.uz_files.specs.Answers.{NoPart, MayCome, outside};
 ghost use Rattle.uz_migrate_command.specs.MigrateCommand.{FilesMigrated, MigrateAnswers, migrated_line};
 ghost use Rattle.uz_migrate_command.specs.MigrateValues.{IsWork, IsWorkOf};
-ghost use Rattle.uz_files.specs.Writing.{WritesSome};
 ghost use Rattle.uz_files.specs.Endings.{EndsBy};
 ghost use Rattle.uz_files.specs.Reading.{Fails, certificate_limit};
 ghost use Rattle.uz_files.specs.Formats.{RefusesOldCertificate};
 
 use itoa::Buffer;
 use std::alloc::{AllocError, Global};
-use uz_files::{
-    Ending, Failure, Status, end_with, give_up, put_no_memory, read_old_certificate, write_file,
-};
+use uz_files::{Failure, Status, Work, finish_work, read_old_certificate};
 use uz_schedule::Cert;
-use uz_shelf::{Shelf, Sink, WriteError};
+use uz_shelf::{Shelf, Sink};
 use uz_spelling::write_cert;
 use uz_text_laws::text_is_unique;
-
-/// What is written to the new file, and the line that is printed then.
-#[derive(Debug, Drop)]
-pub(crate) struct Work {
-    pub text: Vec<u8>,
-    pub line: Vec<u8>,
-}
 
 /// The line of a certificate that is written anew.
 pub(crate) fn migrated(alloc: Global, cert: &Cert) -> Result<Vec<u8>, AllocError>
@@ -80,19 +70,6 @@ pub fn run_migrate<H: Shelf, K: Sink>(
         result (outside (H.files shelf.old) (K.text out.old)) (outside (H.files shelf.new) (K.text out.new)) }
     ensures migrated { result ≡ Status.Done → FilesMigrated (H.files shelf.old) (H.files shelf.new) older.now newer.now }
 {
-    let work = match prepare(alloc, shelf, older) {
-        Ok(work) => work,
-        Err(failure) => return give_up(alloc, out, &failure),
-    };
-    match write_file(alloc, shelf, newer, work.text.as_slice()) {
-        Ok(()) => {
-            let ending = Ending {
-                status: Status::Done,
-                line: work.line,
-            };
-            end_with(alloc, out, &ending)
-        }
-        Err(WriteError::Failed) => Status::Unwritten,
-        Err(WriteError::Memory) => put_no_memory(alloc, out),
-    }
+    let work = prepare(alloc, shelf, older);
+    finish_work(alloc, newer, work, shelf, out)
 }

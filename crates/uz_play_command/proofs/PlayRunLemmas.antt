@@ -18,7 +18,7 @@ use Rattle.uz_capture.specs.Captures.{IsCapturePart, IsCaptured, IsPlayedInto}
 use Rattle.uz_files.specs.declared.ending.Ending.{Ending}
 use Rattle.uz_files.specs.declared.status.Status.{Status}
 use Rattle.uz_files.specs.declared.status.Status.TheVariants.{Done, Stopped, Unwritten, NoMemory}
-use Rattle.uz_files.specs.Answers.{ComesOf, IsCut, MayCome, WritesPart, one_line, outside}
+use Rattle.uz_files.specs.Answers.{ComesOf, MayCome, WritesPart, outside}
 use Rattle.uz_files.specs.Endings.{answer_of}
 use Rattle.uz_files.specs.Lines.{no_memory_line}
 use Rattle.uz_play_command.specs.PlayCommand.{IsFramedPart, IsFramedRun, entered_line, framed, frames_file, numbers_line, numbers_of}
@@ -26,35 +26,17 @@ use Rattle.uz_play_command.specs.PlayValues.{counts_text, end_status, end_text, 
 use Rattle.uz_run_files.specs.StopLines.{stopped_at_line}
 use Rattle.uz_files.proofs.EndingLemmas.{comes_by}
 use Rattle.uz_files.proofs.TextLemmas.{takes_none}
+use Rattle.uz_files.proofs.WriteLemmas.{comes_after_files, lacks_line}
 
 -- The file is written, and then a text is printed
 
-module _ (frames : List ℕ) (edges : List Edge) (s : Status) (line : List ℕ) (files after : Option FileMap)
-    (written : WritesFile files frames (records (newest_first edges)) after) where
-  cut_framed : (further : List ℕ) (old new : Option (List ℕ)) → IsCut (one_line s line) further (outside after old) (outside after new)
-      → IsCut (framed frames edges s line) further (outside files old) (outside after new)
-  cut_framed further old new (inl (same, text)) = inl (inr (inr (after, written, refl)), text)
-  cut_framed further old new (inr (same, text)) = inr ((after, written, refl), text)
-
-  comes_framed : (write_fault : Type 0) (came : Status) (old new : Option (List ℕ)) → ComesOf (one_line s line) write_fault came
-      (outside after old) (outside after new) → ComesOf (framed frames edges s line) write_fault came (outside files old)
-      (outside after new)
-  comes_framed write_fault came old new (inl ends) = inl (record {
-    status = ends.status;
-    files = (after, written, refl);
-    done = ends.done;
-    whole = ends.whole;
-    text = ends.text;
-  })
-  comes_framed write_fault came old new (inr (inl (more, cut))) =
-      inr (inl (inr (inr (λ none. cc none)), (cut.0, cut.1, cut_framed [] old new cut.2)))
-  comes_framed write_fault came old new (inr (inr lacks)) =
-      inr (inr (lacks.0, (lacks.1.0, cut_framed (take lacks.1.0 no_memory_line) old new lacks.1.1)))
-
-  -- no memory for the text
-  pub lacks_text : (write_fault : Type 0) (came : Status) (old new : Option (List ℕ)) → came ≡ NoMemory → TakesPrefix old no_memory_line new
-      → ComesOf (framed frames edges s line) write_fault came (outside files old) (outside after new)
-  lacks_text write_fault came old new is text = inr (inr (is, (text.0, inr ((after, written, refl), (0, text.1)))))
+-- no memory for the text
+pub lacks_text : (frames : List ℕ) (edges : List Edge) (s : Status) (line : List ℕ) (files after : Option FileMap)
+    → WritesFile files frames (records (newest_first edges)) after → (write_fault : Type 0) (came : Status) (old new : Option (List ℕ))
+    → came ≡ NoMemory → TakesPrefix old no_memory_line new
+    → ComesOf (framed frames edges s line) write_fault came (outside files old) (outside after new)
+lacks_text frames edges s line files after written write_fault came old new is text =
+    lacks_line (frames_file frames edges ∷ []) s line files after (after, written, refl) old new write_fault came is text
 
 pub comes_of_ending : (ending : Ending) (frames : List ℕ) (edges : List Edge) (s came : Status) (line : List ℕ) (write_fault : Type 0)
     (files after : Option FileMap) (old new : Option (List ℕ)) → (ending.status ≡ s) × (ending.line.items ≡ line) → WritesFile files frames
@@ -64,7 +46,8 @@ pub comes_of_ending : (ending : Ending) (frames : List ℕ) (edges : List Edge) 
 comes_of_ending ending frames edges s came line write_fault files after old new same written comes =
     subst (λ l. ComesOf (framed frames edges s l) write_fault came (outside files old) (outside after new)) same.1
     (subst (λ t. ComesOf (framed frames edges t ending.line.items) write_fault came (outside files old) (outside after new)) same.0
-    (comes_framed frames edges ending.status ending.line.items files after written write_fault came old new comes))
+    (comes_after_files (frames_file frames edges ∷ []) ending.status ending.line.items files after (after, written, refl) old new
+    write_fault came comes))
 
 -- A run that is captured
 

@@ -1,5 +1,5 @@
 -- What stays of a reader's or a writer's bytes over calls that took none.
-use Rattle.std.proofs.Common.{◌≡◌, ℕ, List, [], ◌++◌, None, Some, ◌∙◌, ap, sym}
+use Rattle.std.proofs.Common.{ℕ, List, ◌++◌, None, Some, ◌∙◌, ap, sym}
 use Rattle.std.specs.Prelude.{Option}
 use Rattle.std.specs.Io.KnownBytes.{Appends, Consumes, Keeps}
 

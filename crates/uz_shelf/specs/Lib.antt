@@ -5,3 +5,4 @@ pub mod Planned
 pub mod InMemory
 pub mod SinkInMemory
 pub mod RealOutput
+pub mod RealFiles

@@ -1,8 +1,12 @@
-//! The shelf of real files. To its callers it tells nothing of their content; what it reads and writes of a file
-//! is told here, by the bytes that the kit's readers have left and its writers hold.
+//! The shelf of real files. As a shelf it tells nothing of their content; what it reads and writes of a file
+//! is told by the bytes that the kit's readers have left and its writers hold. Nothing ties a name to them.
 
-ghost use Rattle.std.specs.Prelude.{◌≡◌, ◌≤◌, ◌<◌, ◌+◌, ◌^◌, ◌++◌, ℕ, List, IfOk, IfSome, IsErrOf, OnErr, OnOk, IsSome, None, option_map, length, string_bytes, take, vec_len};
+ghost use Rattle.std.specs.Prelude.{◌≡◌, ◌≤◌, ◌<◌, ◌+◌, ◌^◌, ◌++◌, ◌⊎◌, ℕ, List, IfOk, IfSome, IsErrOf, OnErr, OnOk, IsSome, None, Some, option_map, length, string_bytes, take, vec_len};
 ghost use Rattle.std.specs.Io.KnownBytes.{Appends, Consumes, IsAtEnd};
+ghost use Rattle.uz_shelf.specs.Faults.{Rose};
+ghost use Rattle.uz_shelf.specs.Files.{AppendsAll, AppendsPrefix, Creates, CreatesOrKeeps, HoldsFile, HoldsLonger, LacksFile};
+ghost use Rattle.uz_shelf.specs.RealFiles.{AppendsOpen, IsLonger, IsWhole, count_after_load, count_after_write};
+ghost use Rattle.uz_shelf.specs.RealFiles.{load_faults_of, open_name, told_files, write_faults_of};
 
 use crate::errors::{LoadError, WriteError};
 use crate::shelf::Shelf;
@@ -82,7 +86,9 @@ fn read_all<F: Read>(alloc: Global, file: &mut F, limit: usize) -> Result<Vec<u8
 
 impl<R: Files + Drop> DiskShelf<R> {
     fn read_file(&self, alloc: Global, name: &str, limit: u32) -> Result<Vec<u8>, LoadError>
-        ensures { IfOk result (λ bytes. vec_len bytes ≤ limit) }
+        ensures limit { IfOk result (λ bytes. vec_len bytes ≤ limit) }
+        ensures whole { IfOk result (λ bytes. IsWhole (⟦<R::File as Read>⟧.remaining) bytes.items) }
+        ensures too_long { IsErrOf result LoadError.TooLong → IsLonger (⟦<R::File as Read>⟧.remaining) limit }
     {
         match fs::open(&self.rt, name) {
             Ok(mut file) => read_all(alloc, &mut file, limit as usize),
@@ -111,6 +117,7 @@ fn append_to<R: Files + Drop>(
     ensures names { option_map (λ opened. string_bytes opened.name) target.new ≡ option_map (λ opened. string_bytes opened.name) target.old }
     ensures ok { OnOk result (IfSome target.old (λ a. IfSome target.new (λ b. Appends (⟦<R::File as Write>⟧.contents a.file) (⟦<R::File as Write>⟧.contents b.file) piece.now))) }
     ensures err { OnErr result (IfSome target.old (λ a. IfSome target.new (λ b. (count : ℕ) × Appends (⟦<R::File as Write>⟧.contents a.file) (⟦<R::File as Write>⟧.contents b.file) (take count piece.now)))) }
+    ensures some { OnErr result (0 < length piece.now) }
 {
     match target {
         Some(opened) => write_piece(&mut opened.file, piece),
@@ -119,17 +126,33 @@ fn append_to<R: Files + Drop>(
 }
 
 impl<R: Files + Drop> Shelf for DiskShelf<R> {
-    ghost use Rattle.std.specs.Prelude.{None, option_map, string_bytes};
+    ghost use Rattle.uz_shelf.specs.RealFiles.{load_faults_of, open_name, told_files, write_faults_of};
 
-    ghost files = { λ _. None };
+    ghost files = { λ s. told_files s };
 
-    ghost open_file = { λ s. option_map (λ opened. string_bytes opened.name) s.target };
+    ghost open_file = { λ s. open_name s };
 
-    ghost load_faults = { λ s. s.load_faults };
+    ghost load_faults = { λ s. load_faults_of s };
 
-    ghost write_faults = { λ s. s.write_faults };
+    ghost write_faults = { λ s. write_faults_of s };
 
-    fn load(&mut self, alloc: Global, name: &str, limit: u32) -> Result<Vec<u8>, LoadError> {
+    fn load(&mut self, alloc: Global, name: &str, limit: u32) -> Result<Vec<u8>, LoadError>
+        ensures held { IfOk result (λ bytes. HoldsFile (told_files self.old) name.now bytes.items) }
+        ensures limit { IfOk result (λ bytes. vec_len bytes ≤ limit) }
+        ensures failed { IsErrOf result LoadError.Failed →
+            Rose (load_faults_of self.old) (load_faults_of self.new) ⊎ LacksFile (told_files self.old) name.now }
+        ensures too_long { IsErrOf result LoadError.TooLong → HoldsLonger (told_files self.old) name.now limit }
+        ensures files { told_files self.new ≡ told_files self.old }
+        ensures open_file { open_name self.new ≡ open_name self.old }
+        ensures load_faults { load_faults_of self.old ≤ load_faults_of self.new }
+        ensures write_faults { write_faults_of self.new ≡ write_faults_of self.old }
+
+        // A file was opened: these are all its bytes, or it has more than the limit. Each failure raises the count by one,
+        // and nothing else does.
+        ensures whole { IfOk result (λ bytes. IsWhole (⟦<R::File as Read>⟧.remaining) bytes.items) }
+        ensures longer { IsErrOf result LoadError.TooLong → IsLonger (⟦<R::File as Read>⟧.remaining) limit }
+        ensures counted { load_faults_of self.new ≡ count_after_load result (load_faults_of self.old) }
+    {
         let loaded = self.read_file(alloc, name, limit);
         if matches!(&loaded, Err(LoadError::Failed)) {
             self.load_faults = self.load_faults.saturating_add(1);
@@ -137,7 +160,18 @@ impl<R: Files + Drop> Shelf for DiskShelf<R> {
         loaded
     }
 
-    fn create(&mut self, alloc: Global, name: &str) -> Result<(), WriteError> {
+    fn create(&mut self, alloc: Global, name: &str) -> Result<(), WriteError>
+        ensures ok { OnOk result (Creates (told_files self.old) name.now (told_files self.new)) }
+        ensures open { OnOk result (open_name self.new ≡ Some name.now) }
+        ensures err { OnErr result (CreatesOrKeeps (told_files self.old) name.now (told_files self.new)) }
+        ensures closed { OnErr result (open_name self.new ≡ None) }
+        ensures failed { IsErrOf result WriteError.Failed → Rose (write_faults_of self.old) (write_faults_of self.new) }
+        ensures load_faults { load_faults_of self.new ≡ load_faults_of self.old }
+        ensures write_faults { write_faults_of self.old ≤ write_faults_of self.new }
+
+        // Each failure raises the count by one, and nothing else does.
+        ensures counted { write_faults_of self.new ≡ count_after_write result (write_faults_of self.old) }
+    {
         self.target = None;
         match self.open_new(alloc, name) {
             Ok(open) => {
@@ -152,9 +186,25 @@ impl<R: Files + Drop> Shelf for DiskShelf<R> {
         }
     }
 
-    fn append(&mut self, _alloc: Global, piece: &[u8]) -> Result<(), WriteError> {
+    fn append(&mut self, _alloc: Global, piece: &[u8]) -> Result<(), WriteError>
+        requires { IsSome (open_name self.old) }
+        ensures ok { OnOk result (AppendsAll (told_files self.old) (open_name self.old) piece.now (told_files self.new)) }
+        ensures err { OnErr result (AppendsPrefix (told_files self.old) (open_name self.old) piece.now (told_files self.new)) }
+        ensures failed { IsErrOf result WriteError.Failed → Rose (write_faults_of self.old) (write_faults_of self.new) }
+        ensures open_file { open_name self.new ≡ open_name self.old }
+        ensures load_faults { load_faults_of self.new ≡ load_faults_of self.old }
+        ensures write_faults { write_faults_of self.old ≤ write_faults_of self.new }
+
+        // Where the file tells its bytes, the piece is added to them once, and a prefix of it where this fails, which no empty
+        // piece does. Each failure raises the count by one, and nothing else does.
+        ensures written { OnOk result (AppendsOpen (⟦<R::File as Write>⟧.contents) self.old self.new piece.now) }
+        ensures written_part { OnErr result ((count : ℕ) ×
+            AppendsOpen (⟦<R::File as Write>⟧.contents) self.old self.new (take count piece.now)) }
+        ensures some { OnErr result (0 < length piece.now) }
+        ensures counted { write_faults_of self.new ≡ count_after_write result (write_faults_of self.old) }
+    {
         let written = append_to(&mut self.target, piece);
-        if written.is_err() {
+        if matches!(&written, Err(WriteError::Failed)) {
             self.write_faults = self.write_faults.saturating_add(1);
         }
         written

@@ -1,8 +1,9 @@
 //! The sink of a real output. It tells nothing of its text, but what the output tells of its own bytes.
 
-ghost use Rattle.std.specs.Prelude.{◌≡◌, ◌≤◌, ℕ, IsErrOf, None, OnErr, OnOk, take};
+ghost use Rattle.std.specs.Prelude.{◌≡◌, ◌<◌, ◌≤◌, ℕ, IsErrOf, None, OnErr, OnOk, length, take};
 ghost use Rattle.std.specs.Io.KnownBytes.{Appends};
-ghost use Rattle.uz_shelf.specs.Faults.{Rose, raised};
+ghost use Rattle.uz_shelf.specs.Faults.{Rose};
+ghost use Rattle.uz_shelf.specs.RealFiles.{count_after_write};
 ghost use Rattle.uz_shelf.specs.RealOutput.{faults_of, output_of};
 ghost use Rattle.uz_shelf.specs.Text.{TakesAll, TakesPrefix};
 
@@ -43,15 +44,15 @@ impl<W: Write + Drop> Sink for OutSink<W> {
         ensures failed { IsErrOf result WriteError.Failed → Rose (faults_of self.old) (faults_of self.new) }
         ensures faults { faults_of self.old ≤ faults_of self.new }
 
-        // Where the output tells its bytes, the piece is added to them, and a prefix of it where this fails. Each failure
-        // raises the count by one.
+        // Where the output tells its bytes, the piece is added to them once, and a prefix of it where this fails, which no
+        // empty piece does. Each failure raises the count by one, and nothing else does.
         ensures written { OnOk result (Appends (W.contents (output_of self.old)) (W.contents (output_of self.new)) piece.now) }
         ensures written_part { OnErr result ((count : ℕ) × Appends (W.contents (output_of self.old)) (W.contents (output_of self.new)) (take count piece.now)) }
-        ensures kept { OnOk result (faults_of self.new ≡ faults_of self.old) }
-        ensures counted { OnErr result (faults_of self.new ≡ raised (faults_of self.old)) }
+        ensures some { OnErr result (0 < length piece.now) }
+        ensures counted { faults_of self.new ≡ count_after_write result (faults_of self.old) }
     {
         let written = write_piece(&mut self.out, piece);
-        if written.is_err() {
+        if matches!(&written, Err(WriteError::Failed)) {
             self.faults = self.faults.saturating_add(1);
         }
         written

@@ -1,8 +1,7 @@
 -- What `expand` and `build` answer.
 use Rattle.std.proofs.Common.{◌≡◌, ◌⊎◌, inl, inr, ℕ, List, refl, sym, ap, subst, ◌∙◌}
-use Rattle.std.specs.Prelude.{Option, Some, Result, Ok, Err}
+use Rattle.std.specs.Prelude.{Option, Some, Result, Ok, Err, IfOk, IfErr}
 use Rattle.uz_shelf.specs.Files.{FileMap}
-use Rattle.uz_shelf.specs.Text.{TakesPrefix}
 use Rattle.avr_asm.specs.Assembly.{Output}
 use Rattle.avr_asm.specs.FirstFault.{IsFirstFault}
 use Rattle.avr_asm.specs.Relation.{IsAssembly}
@@ -15,86 +14,36 @@ use Rattle.avr_macro.specs.declared.flat.Flat.{Flat}
 use Rattle.avr_macro.specs.declared.origin.Origin.{Origin}
 use Rattle.avr_macro.specs.Answers.{IsRefused, refused_seen}
 use Rattle.avr_macro.specs.Expansion.{End, Expands, FlatText, Refusal}
-use Rattle.uz_source_commands.specs.declared.asm_command.Work.{Work}
+use Rattle.uz_files.specs.declared.work.Work.{Work}
 use Rattle.uz_files.specs.declared.ending.Failure.{Failure}
-use Rattle.uz_files.specs.declared.status.Status.{Status}
-use Rattle.uz_files.specs.declared.status.Status.TheVariants.{Done, Unread, BadInput, Unwritten, NoMemory}
-use Rattle.uz_files.specs.Answers.{Answer, ComesOf, NoPart, MayCome, Outside, WritesFile, one_line, outside}
-use Rattle.uz_files.specs.Lines.{no_memory_line}
-use Rattle.uz_files.specs.Endings.{ComesOfFailure, EndsBy}
+use Rattle.uz_files.specs.declared.status.Status.TheVariants.{Done, Unread, BadInput}
+use Rattle.uz_files.specs.Answers.{Answer}
+use Rattle.uz_files.specs.Endings.{EndsBy}
 use Rattle.uz_source_commands.specs.AsmCommand.{assembled_line}
-use Rattle.uz_files.specs.Writing.{hex_file, written_then}
-use Rattle.uz_files.specs.Writing.{WritesSome}
+use Rattle.uz_files.specs.Writing.{Prepares, WritesWork, hex_file, written_then}
 use Rattle.uz_source_commands.specs.MacroSource.{ExpandFails, IsRefusedSource, MacroLacks, ReadsFlat, TellsRefusal, flat_of, last_name}
 use Rattle.uz_source_commands.specs.MacroSource.{bad_at, refusal_answer}
 use Rattle.uz_source_commands.specs.MacroCommands.{BuildAnswers, BuildSucceeds, ExpandAnswers, ExpandSucceeds, FilesBuilt, IsBuilt}
 use Rattle.uz_source_commands.specs.MacroCommands.{IsExpanded, IsUnbuilt, expanded_line, origin_of}
-use Rattle.uz_source_commands.specs.MacroValues.{IsImageWork, IsMacroWork, IsWriting, TellsAt}
+use Rattle.uz_source_commands.specs.MacroValues.{IsImageWork, IsMacroWork, TellsAt}
 use Rattle.avr_operands.specs.WhyNames.{asm_why_name}
 use Rattle.uz_files.specs.Formats.{Readings}
 use Rattle.uz_files.specs.Reading.{Fault}
-use Rattle.uz_files.proofs.WriteLemmas.{comes_written, holds_written, part_written}
-use Rattle.uz_files.proofs.EndingLemmas.{comes_by, run_outcome}
+use Rattle.uz_files.proofs.WriteLemmas.{holds_written}
 use Rattle.uz_files.proofs.ReadingLemmas.{ends_by}
-use Rattle.uz_files.proofs.TextLemmas.{takes_none}
 
--- ---- a file is written, and then a line is printed
-
-module _ (files after : Option FileMap) (name bytes line : List ℕ) (came : Status) where
-  pub writing_done : (narrow wide : Type 0) (old new : Option (List ℕ)) → (narrow → wide) → WritesFile files name bytes after
-      → ((f : Option FileMap) → ComesOf (one_line Done line) narrow came (outside f old) (outside f new))
-      → MayCome (IsWriting name bytes line) NoPart wide came (outside files old) (outside after new)
-  writing_done narrow wide old new widen written comes =
-      inr (inl (
-        written_then (record { name = name; bytes = bytes }) line,
-        refl,
-        comes_by (written_then (record { name = name; bytes = bytes }) line) came narrow wide (outside files old) (outside after new) widen
-            (comes_written name bytes line narrow came files after old new written (comes after)),
-      ))
-
-  pub writing_cut : (wide : Type 0) (text : Option (List ℕ)) → wide → came ≡ Unwritten → WritesSome files name bytes after
-      → MayCome (IsWriting name bytes line) NoPart wide came (outside files text) (outside after text)
-  writing_cut wide text fault is part =
-      inr (inl (
-        written_then (record { name = name; bytes = bytes }) line,
-        refl,
-        inr (inl (inl refl, (is, fault, inl (part_written name bytes line files after part, takes_none text)))),
-      ))
-
-  pub writing_lacks : (wide : Type 0) (old new : Option (List ℕ)) → came ≡ NoMemory → TakesPrefix old no_memory_line new → WritesSome files
-      name bytes after → MayCome (IsWriting name bytes line) NoPart wide came (outside files old) (outside after new)
-  writing_lacks wide old new is text part =
-      inr (inl (
-        written_then (record { name = name; bytes = bytes }) line,
-        refl,
-        inr (inr (is, (text.0, inl (part_written name bytes line files after part, text.1)))),
-      ))
-
--- an outcome of some answers is one of others
-outcome_map : (P Q : Answer → Type 0) (narrow wide : Type 0) (came : Status) (old new : Outside) → (narrow → wide)
-    → ((answer : Answer) → P answer → Q answer) → MayCome P NoPart narrow came old new → MayCome Q NoPart wide came old new
-outcome_map P Q narrow wide came old new widen leads (inl starts) = inl starts
-outcome_map P Q narrow wide came old new widen leads (inr (inl (answer, given, comes))) =
-    inr (inl (answer, leads answer given, comes_by answer came narrow wide old new widen comes))
-outcome_map P Q narrow wide came old new widen leads (inr (inr (answer, never, rest))) = absurd never
-
--- the work of an expanded source is written
-pub macro_written : (files mid after : Option FileMap) (load_fault narrow wide : Type 0) (source name : List ℕ)
-    (next : List (List ℕ) → FlatText → Answer → Type 0) (work : Work) (came : Status) (old new : Option (List ℕ)) → mid ≡ files
-    → (narrow → wide)
-    → IsMacroWork files source name next work
-    → MayCome (IsWriting name work.text.items work.line.items) NoPart narrow came (outside mid old) (outside after new)
-    → MayCome (ReadsFlat files load_fault source next) NoPart wide came (outside files old) (outside after new)
-macro_written files mid after load_fault narrow wide source name next work came old new same widen given h =
-    outcome_map (IsWriting name work.text.items work.line.items) (ReadsFlat files load_fault source next) narrow wide came
-    (outside files old) (outside after new) widen
-    (λ answer e. inr (given.names, given.flat, given.expands, subst (next given.names given.flat) (sym e) given.written))
-    (subst (λ f. MayCome (IsWriting name work.text.items work.line.items) NoPart narrow came (outside f old) (outside after new)) same h)
+-- what is prepared of an expanded source leads to the answer, and a source that ends the command to its own
+pub macro_prepared : (files : Option FileMap) (load_fault : Type 0) (source name : List ℕ)
+    (next : List (List ℕ) → FlatText → Answer → Type 0) (prepared : Result Work Failure)
+    → IfOk prepared (IsMacroWork files source name next) → IfErr prepared (EndsBy (ReadsFlat files load_fault source next))
+    → Prepares (ReadsFlat files load_fault source next) name prepared
+macro_prepared files load_fault source name next (Ok work) given fails = inr (given.names, given.flat, given.expands, given.written)
+macro_prepared files load_fault source name next (Err failure) given fails = fails
 
 -- the HEX text of an image is written
-pub build_worth : (files mid after : Option FileMap) (source hex : List ℕ) (work : Work) → IsImageWork files source work
-    → WritesFile mid hex work.text.items after → FilesBuilt files after source hex
-build_worth files mid after source hex work given written = record {
+pub build_worth : (files mid after : Option FileMap) (source hex : List ℕ) (prepared : Result Work Failure)
+    → IfOk prepared (IsImageWork files source) → WritesWork mid hex prepared after → FilesBuilt files after source hex
+build_worth files mid after source hex (Ok work) given written = record {
   names = given.names;
   flat = given.flat;
   expands = given.expands;
@@ -104,15 +53,9 @@ build_worth files mid after source hex work given written = record {
   holds = holds_written mid after hex work.text.items written;
   is_hex = given.reads_back;
 }
+build_worth files mid after source hex (Err failure) given never = absurd never
 
 -- the source ends the command
-pub macro_failed : (files after : Option FileMap) (load_fault narrow wide : Type 0) (source : List ℕ) (next : List (List ℕ) → FlatText
-    → Answer → Type 0) (failure : Failure) (came : Status) (old new : Option (List ℕ)) → after ≡ files → (narrow → wide)
-    → EndsBy (ReadsFlat files load_fault source next) failure → ((f : Option FileMap) → ComesOfFailure failure narrow came (outside f old)
-    (outside f new)) → MayCome (ReadsFlat files load_fault source next) NoPart wide came (outside files old) (outside after new)
-macro_failed files after load_fault narrow wide source next failure came old new same widen given comes =
-    run_outcome (ReadsFlat files load_fault source next) NoPart (Err failure) came narrow wide files after old new widen same given comes
-
 pub fails_flat : (files : Option FileMap) (load_fault : Type 0) (source : List ℕ) (next : List (List ℕ) → FlatText → Answer → Type 0)
     (failure : Failure) → EndsBy (ExpandFails files load_fault source) failure → EndsBy (ReadsFlat files load_fault source next) failure
 fails_flat files load_fault source next failure h = ends_by (ExpandFails files load_fault source) (ReadsFlat files load_fault source next)
@@ -326,10 +269,6 @@ build_done files source hex h = (
   inr (h.names, h.flat, h.expands, inl (h.output, h.assembles, refl)),
   refl,
 )
-
-pub either_same : (narrow wide other : Type 0) → (narrow → wide) → narrow ⊎ other → wide ⊎ other
-either_same narrow wide other f (inl x) = inl (f x)
-either_same narrow wide other f (inr y) = inr y
 
 -- a flat text as the program keeps it
 abbrev pub text_of : Flat → FlatText

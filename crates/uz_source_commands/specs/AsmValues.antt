@@ -4,7 +4,7 @@ use Rattle.uz_shelf.specs.Files.{FileMap}
 use Rattle.uz_hex.specs.HexText.{IsHexOf}
 use Rattle.uz_hex.specs.Writing.{hex_text}
 use Rattle.avr_asm.specs.Assembly.{Output}
-use Rattle.uz_source_commands.specs.declared.asm_command.Work.{Work}
+use Rattle.uz_files.specs.declared.work.Work.{Work}
 use Rattle.uz_files.specs.Reading.{Says, text_limit}
 use Rattle.uz_source_commands.specs.AsmCommand.{assembled_line}
 use Rattle.avr_asm.specs.Relation.{IsAssembly}

@@ -8,16 +8,12 @@ use Rattle.avr_asm.specs.declared.errors.AsmError.{AsmError}
 use Rattle.avr_operands.specs.declared.errors.AsmWhy.TheVariants.{Memory}
 use Rattle.avr_macro.specs.declared.origin.Origin.{Origin}
 use Rattle.avr_macro.specs.Expansion.{Expands, FlatText}
-use Rattle.uz_source_commands.specs.declared.asm_command.Work.{Work}
+use Rattle.uz_files.specs.declared.work.Work.{Work}
 use Rattle.uz_files.specs.Answers.{Answer}
-use Rattle.uz_files.specs.Writing.{written_then}
+use Rattle.uz_files.specs.Writing.{answer_of_work}
 use Rattle.uz_source_commands.specs.MacroCommands.{origin_of}
 use Rattle.uz_source_commands.specs.MacroSource.{bad_at, flat_of}
 use Rattle.avr_operands.specs.WhyNames.{asm_why_name}
-
--- a file is written, and then a line is printed
-abbrev pub IsWriting : List ℕ → List ℕ → List ℕ → Answer → Type 0
-IsWriting name bytes line answer = answer ≡ written_then (record { name = name; bytes = bytes }) line
 
 -- what is to be written and printed of an expanded source
 pub record IsMacroWork (files : Option FileMap) (source name : List ℕ) (next : List (List ℕ) → FlatText → Answer → Type 0)
@@ -25,7 +21,7 @@ pub record IsMacroWork (files : Option FileMap) (source name : List ℕ) (next :
   pub names : List (List ℕ)
   pub flat : FlatText
   pub expands : Expands files source (flat_of names flat)
-  pub written : next names flat (written_then (record { name = name; bytes = work.text.items }) work.line.items)
+  pub written : next names flat (answer_of_work name work)
 
 -- the answer tells the assembler's fault at the origin of its flat line
 abbrev pub TellsAt : List (List ℕ) → List Origin → AsmError → Answer → Type 0

@@ -1,30 +1,19 @@
 //! `asm SRC HEX`.
 
-ghost use Rattle.std.specs.Prelude.{◌≡◌, ◌≤◌, ◌⊎◌, IfErr, IfOk, IsErrOf, OnErr, OnOk};
-ghost use Rattle.std.specs.FinMap as finmap;
+ghost use Rattle.std.specs.Prelude.{◌≡◌, ◌≤◌, ◌⊎◌, IfErr, IfOk};
 ghost use Rattle.uz_shelf.specs.Faults.{Rose};
-ghost use Rattle.uz_files.specs.Answers.{NoPart, MayCome, WritesFile, outside};
+ghost use Rattle.uz_files.specs.Answers.{NoPart, MayCome, outside};
 ghost use Rattle.uz_source_commands.specs.AsmCommand.{AsmAnswers, FilesAssembled, assembled_line};
 ghost use Rattle.uz_source_commands.specs.AsmValues.{IsWork};
-ghost use Rattle.uz_files.specs.Writing.{WritesSome};
 ghost use Rattle.uz_files.specs.Endings.{EndsBy};
 ghost use Rattle.uz_files.specs.Reading.{Fails, text_limit};
 ghost use Rattle.uz_files.specs.Formats.{RefusesSource};
 
 use itoa::Buffer;
 use std::alloc::{AllocError, Global};
-use uz_files::{
-    Ending, Failure, Status, assemble_file, end_with, give_up, put_no_memory, write_file,
-};
+use uz_files::{Failure, Status, Work, assemble_file, finish_work};
 use uz_hex::{Image, write_hex};
-use uz_shelf::{Shelf, Sink, WriteError};
-
-/// What is written to the HEX file, and the line that is printed then.
-#[derive(Debug, Drop)]
-pub(crate) struct Work {
-    pub text: Vec<u8>,
-    pub line: Vec<u8>,
-}
+use uz_shelf::{Shelf, Sink};
 
 /// The line of an assembled image.
 pub(crate) fn assembled(alloc: Global, image: &Image) -> Result<Vec<u8>, AllocError>
@@ -64,19 +53,6 @@ pub fn run_asm<H: Shelf, K: Sink>(
         result (outside (H.files shelf.old) (K.text out.old)) (outside (H.files shelf.new) (K.text out.new)) }
     ensures assembled { result ≡ Status.Done → FilesAssembled (H.files shelf.old) (H.files shelf.new) source.now hex.now }
 {
-    let work = match prepare(alloc, shelf, source) {
-        Ok(work) => work,
-        Err(failure) => return give_up(alloc, out, &failure),
-    };
-    match write_file(alloc, shelf, hex, work.text.as_slice()) {
-        Ok(()) => {
-            let ending = Ending {
-                status: Status::Done,
-                line: work.line,
-            };
-            end_with(alloc, out, &ending)
-        }
-        Err(WriteError::Failed) => Status::Unwritten,
-        Err(WriteError::Memory) => put_no_memory(alloc, out),
-    }
+    let work = prepare(alloc, shelf, source);
+    finish_work(alloc, hex, work, shelf, out)
 }

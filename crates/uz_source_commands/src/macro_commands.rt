@@ -7,22 +7,22 @@ ghost use Rattle.avr_macro.specs.Answers.{names_of};
 ghost use Rattle.uz_hex.specs.HexText.{IsHexOf};
 ghost use Rattle.uz_hex.specs.Writing.{hex_text};
 ghost use Rattle.uz_shelf.specs.Faults.{Rose};
-ghost use Rattle.uz_files.specs.Answers.{NoPart, MayCome, WritesFile, outside};
+ghost use Rattle.uz_files.specs.Answers.{NoPart, MayCome, outside};
 ghost use Rattle.uz_source_commands.specs.AsmCommand.{assembled_line};
 ghost use Rattle.uz_files.specs.Endings.{EndsBy};
 ghost use Rattle.uz_source_commands.specs.MacroCommands.{BuildAnswers, ExpandAnswers, FilesBuilt, IsBuilt, IsExpanded, IsUnbuilt, expanded_line, origin_of as origin_of_line};
 ghost use Rattle.uz_source_commands.specs.MacroSource.{ReadsFlat};
-ghost use Rattle.uz_source_commands.specs.MacroValues.{IsImageWork, IsMacroWork, IsWriting, TellsAt};
+ghost use Rattle.uz_source_commands.specs.MacroValues.{IsImageWork, IsMacroWork, TellsAt};
 
-use crate::asm_command::{Work, assembled};
+use crate::asm_command::assembled;
 use crate::macro_source::{Expanded, bad_line_at, expand_file};
 use avr_asm::{AsmError, AsmWhy, Built, assemble};
 use avr_macro::Origin;
 use itoa::Buffer;
 use std::alloc::{AllocError, Global};
-use uz_files::{Ending, Failure, Status, end_with, give_up, put_no_memory, write_file};
+use uz_files::{Failure, Status, Work, finish_work};
 use uz_hex::{Image, write_hex};
-use uz_shelf::{Shelf, Sink, WriteError};
+use uz_shelf::{Shelf, Sink};
 
 /// The line of an expanded source.
 fn expanded(alloc: Global, origins: &[Origin]) -> Result<Vec<u8>, AllocError>
@@ -44,32 +44,6 @@ fn image_work(alloc: Global, image: &Image) -> Result<Work, AllocError>
     let text = write_hex(alloc, image)?;
     let line = assembled(alloc, image)?;
     Ok(Work { text, line })
-}
-
-/// Writes a whole file, and then prints a line.
-fn write_work<H: Shelf, K: Sink>(
-    alloc: Global,
-    name: &str,
-    work: Work,
-    shelf: &mut H,
-    out: &mut K,
-) -> Status
-    ensures outcome { MayCome (IsWriting name.now work.text.items work.line.items) NoPart
-        (Rose (H.write_faults shelf.old) (H.write_faults shelf.new) ⊎ Rose (K.faults out.old) (K.faults out.new))
-        result (outside (H.files shelf.old) (K.text out.old)) (outside (H.files shelf.new) (K.text out.new)) }
-    ensures written { result ≡ Status.Done → WritesFile (H.files shelf.old) name.now work.text.items (H.files shelf.new) }
-{
-    match write_file(alloc, shelf, name, work.text.as_slice()) {
-        Ok(()) => {
-            let ending = Ending {
-                status: Status::Done,
-                line: work.line,
-            };
-            end_with(alloc, out, &ending)
-        }
-        Err(WriteError::Failed) => Status::Unwritten,
-        Err(WriteError::Memory) => put_no_memory(alloc, out),
-    }
 }
 
 /// Expands the source.
@@ -176,10 +150,8 @@ pub fn run_expand<H: Shelf, K: Sink>(
         (Rose (H.write_faults shelf.old) (H.write_faults shelf.new) ⊎ Rose (K.faults out.old) (K.faults out.new))
         result (outside (H.files shelf.old) (K.text out.old)) (outside (H.files shelf.new) (K.text out.new)) }
 {
-    match prepare_expansion(alloc, shelf, source, file) {
-        Ok(work) => write_work(alloc, file, work, shelf, out),
-        Err(failure) => give_up(alloc, out, &failure),
-    }
+    let work = prepare_expansion(alloc, shelf, source, file);
+    finish_work(alloc, file, work, shelf, out)
 }
 
 /// `build SRC HEX`.
@@ -195,8 +167,6 @@ pub fn run_build<H: Shelf, K: Sink>(
         result (outside (H.files shelf.old) (K.text out.old)) (outside (H.files shelf.new) (K.text out.new)) }
     ensures built { result ≡ Status.Done → FilesBuilt (H.files shelf.old) (H.files shelf.new) source.now hex.now }
 {
-    match prepare_build(alloc, shelf, source, hex) {
-        Ok(work) => write_work(alloc, hex, work, shelf, out),
-        Err(failure) => give_up(alloc, out, &failure),
-    }
+    let work = prepare_build(alloc, shelf, source, hex);
+    finish_work(alloc, hex, work, shelf, out)
 }

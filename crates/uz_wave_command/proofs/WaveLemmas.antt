@@ -31,24 +31,24 @@ use Rattle.uz_run_files.specs.StopLines.{stopped_line}
 use Rattle.uz_run_files.proofs.RunFileLemmas.{preface_answers, run_answers, run_or_fault, run_same, run_status, same_why}
 use Rattle.uz_wave_command.specs.declared.listening.Heard.{Heard}
 use Rattle.uz_wave_command.specs.declared.listening.Heard.TheVariants.{Over, Stopped as StoppedAt}
-use Rattle.uz_wave_command.specs.declared.wave_command.Work.TheVariants.{Write, Stop}
+use Rattle.uz_wave_command.specs.declared.wave_command.Task.TheVariants.{Write, Stop}
 use Rattle.uz_wave_command.specs.WaveCommand.{FilesHeard, IsHeardRun, IsHeardStopped, WaveAnswers, count_line, wave_file}
-use Rattle.uz_wave_command.specs.WaveValues.{IsHeard, IsWork, IsWorkOf}
+use Rattle.uz_wave_command.specs.WaveValues.{IsHeard, IsTask, IsTaskOf}
 
 -- What the steps give
 
 -- the run is over: the file is written, and the line tells its samples
-pub work_over : (clocks : ℕ) (start : State PadHistory) (heard : Heard) (wave : Wave) (line : Vec ℕ Global) → heard ≡ Over wave
+pub task_over : (clocks : ℕ) (start : State PadHistory) (heard : Heard) (wave : Wave) (line : Vec ℕ Global) → heard ≡ Over wave
     → ((edges : List Edge) → Holds wave edges → line.items ≡ count_line (samples edges)) → IsHeard clocks start heard
-    → IsWorkOf clocks start (Write wave line)
-work_over clocks start heard wave line is tells h =
+    → IsTaskOf clocks start (Write wave line)
+task_over clocks start heard wave line is tells h =
     let run = subst (IsHeard clocks start) is h in (run.0, run.1, run.2, run.3, tells (newest_first run.0) run.3)
 
 -- it is stopped
-pub work_stopped : (clocks : ℕ) (start : State PadHistory) (heard : Heard) (pc : ℕ) (why : Why) (line : List ℕ)
+pub task_stopped : (clocks : ℕ) (start : State PadHistory) (heard : Heard) (pc : ℕ) (why : Why) (line : List ℕ)
     → heard ≡ StoppedAt pc why → line ≡ stopped_line pc why → IsHeard clocks start heard
     → IsHeardStopped clocks start (one_line Stopped line)
-work_stopped clocks start heard pc why line is tells h =
+task_stopped clocks start heard pc why line is tells h =
     let run = subst (IsHeard clocks start) is h in
     record {
       edges = run.0;
@@ -73,30 +73,30 @@ wave_failed files after load_fault narrow wide hex pads irq clocks wav failure c
 -- the run is stopped
 pub wave_stopped : (files after : Option FileMap) (load_fault narrow wide : Type 0) (hex pads : List ℕ) (irq : Response) (clocks : ℕ)
     (wav : List ℕ) (ending : Ending) (came : Status) (old new : Option (List ℕ)) → after ≡ files → (narrow → wide)
-    → IsWork files hex pads irq clocks (Stop ending)
+    → IsTask files hex pads irq clocks (Stop ending)
     → ((f : Option FileMap) → ComesOf (answer_of ending) narrow came (outside f old) (outside f new))
     → MayCome (WaveAnswers files load_fault hex pads irq clocks wav) NoPart wide came (outside files old) (outside after new)
-wave_stopped files after load_fault narrow wide hex pads irq clocks wav ending came old new same widen work comes =
+wave_stopped files after load_fault narrow wide hex pads irq clocks wav ending came old new same widen task comes =
     run_outcome (WaveAnswers files load_fault hex pads irq clocks wav) NoPart (Ok ending) came narrow wide files after old new widen same
-    (run_answers (IsHeardRun clocks wav) files load_fault hex pads irq work.image work.list (answer_of ending) work.spelled_image
-    work.spelled_pads (inr work.of)) comes
+    (run_answers (IsHeardRun clocks wav) files load_fault hex pads irq task.image task.list (answer_of ending) task.spelled_image
+    task.spelled_pads (inr task.of)) comes
 
 -- the file is written
 pub wave_written : (files mid after : Option FileMap) (load_fault narrow wide : Type 0) (hex pads : List ℕ) (irq : Response) (clocks : ℕ)
     (wav : List ℕ) (wave : Wave) (line : Vec ℕ Global) (came : Status) (old new : Option (List ℕ)) → mid ≡ files → (narrow → wide)
-    → (work : IsWork files hex pads irq clocks (Write wave line))
+    → (task : IsTask files hex pads irq clocks (Write wave line))
     → ((edges : List Edge) → Holds wave (newest_first edges) → ComesOf (written_then (wave_file wav edges) line.items) narrow came (outside mid old)
     (outside after new))
     → MayCome (WaveAnswers files load_fault hex pads irq clocks wav) NoPart wide came (outside files old) (outside after new)
-wave_written files mid after load_fault narrow wide hex pads irq clocks wav wave line came old new same widen work comes =
-    let edges = work.of.0 in
+wave_written files mid after load_fault narrow wide hex pads irq clocks wav wave line came old new same widen task comes =
+    let edges = task.of.0 in
     let answer = written_then (wave_file wav edges) (count_line (samples_of edges)) in
-    let from = subst (λ l. ComesOf (written_then (wave_file wav edges) l) narrow came (outside mid old) (outside after new)) work.of.4
-    (comes edges work.of.3) in
+    let from = subst (λ l. ComesOf (written_then (wave_file wav edges) l) narrow came (outside mid old) (outside after new)) task.of.4
+    (comes edges task.of.3) in
     inr (inl (
       answer,
-      run_answers (IsHeardRun clocks wav) files load_fault hex pads irq work.image work.list answer work.spelled_image work.spelled_pads
-          (inl (record { edges = edges; last = work.of.1; run = work.of.2; told = refl })),
+      run_answers (IsHeardRun clocks wav) files load_fault hex pads irq task.image task.list answer task.spelled_image task.spelled_pads
+          (inl (record { edges = edges; last = task.of.1; run = task.of.2; told = refl })),
       comes_by answer came narrow wide (outside files old) (outside after new) widen
           (subst (λ f. ComesOf answer narrow came (outside f old) (outside after new)) same from),
     ))

@@ -21,8 +21,8 @@ use Rattle.uz_files.specs.Formats.{SpellsPads}
 use Rattle.uz_run_files.specs.RunFiles.{start_of}
 use Rattle.uz_wave_command.specs.declared.listening.Heard.{Heard}
 use Rattle.uz_wave_command.specs.declared.listening.Heard.TheVariants.{Over, Stopped}
-use Rattle.uz_wave_command.specs.declared.wave_command.Work.{Work}
-use Rattle.uz_wave_command.specs.declared.wave_command.Work.TheVariants.{Write, Stop}
+use Rattle.uz_wave_command.specs.declared.wave_command.Task.{Task}
+use Rattle.uz_wave_command.specs.declared.wave_command.Task.TheVariants.{Write, Stop}
 use Rattle.uz_wave_command.specs.WaveCommand.{IsHeardStopped, count_line}
 
 -- the console has come so far, and these are the samples of that part
@@ -37,16 +37,16 @@ IsHeard limit start (Stopped pc why) =
     (edges : List Edge) × (last : State PadHistory) × IsStoppedRun limit start edges last × Halts last why × (pc ≡ last.core.pc)
 
 -- what it leaves to do
-abbrev pub IsWorkOf : ℕ → State PadHistory → Work → Type 0
-IsWorkOf clocks start (Write wave line) =
+abbrev pub IsTaskOf : ℕ → State PadHistory → Task → Type 0
+IsTaskOf clocks start (Write wave line) =
     (edges : List Edge) × (last : State PadHistory) × IsClockRun clocks start edges last × Holds wave (newest_first edges)
     × (line.items ≡ count_line (samples_of edges))
-IsWorkOf clocks start (Stop ending) = IsHeardStopped clocks start (answer_of ending)
+IsTaskOf clocks start (Stop ending) = IsHeardStopped clocks start (answer_of ending)
 
 -- of the run from reset with what these files say
-pub record IsWork (files : Option FileMap) (hex pads : List ℕ) (irq : Response) (clocks : ℕ) (work : Work) : Type 0 where
+pub record IsTask (files : Option FileMap) (hex pads : List ℕ) (irq : Response) (clocks : ℕ) (task : Task) : Type 0 where
   pub image : Flash
   pub list : List Pad
   pub spelled_image : Says files hex text_limit IsHexOf image
   pub spelled_pads : Says files pads text_limit SpellsPads list
-  pub of : IsWorkOf clocks (start_of image list irq) work
+  pub of : IsTaskOf clocks (start_of image list irq) task

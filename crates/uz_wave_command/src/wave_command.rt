@@ -12,7 +12,7 @@ ghost use Rattle.uz_report.specs.Waves.{Holds};
 ghost use Rattle.uz_scan.specs.Pictures.{newest_first};
 ghost use Rattle.uz_run_files.specs.RunFiles.{RunPreface};
 ghost use Rattle.uz_wave_command.specs.WaveCommand.{FilesHeard, WaveAnswers, wave_file};
-ghost use Rattle.uz_wave_command.specs.WaveValues.{IsHeard, IsWork, IsWorkOf};
+ghost use Rattle.uz_wave_command.specs.WaveValues.{IsHeard, IsTask, IsTaskOf};
 
 use crate::listening::{Heard, listen};
 use crate::wave_file::{samples, write_wave};
@@ -25,7 +25,7 @@ use uz_shelf::{Shelf, Sink, WriteError};
 
 /// What a run leaves to do.
 #[derive(Drop)]
-pub(crate) enum Work {
+pub(crate) enum Task {
     /// The file is written, and then the line is printed.
     Write { wave: Wave, line: Vec<u8> },
     /// The run is stopped, and this ends the command.
@@ -33,15 +33,15 @@ pub(crate) enum Work {
 }
 
 /// What is written and printed of a run.
-fn work_of(alloc: Global, heard: Heard) -> Result<Work, AllocError>
-    ensures { IfOk result (λ work. (clocks : ℕ) (start : State PadHistory) → IsHeard clocks start heard → IsWorkOf clocks start work) }
+fn task_of(alloc: Global, heard: Heard) -> Result<Task, AllocError>
+    ensures { IfOk result (λ task. (clocks : ℕ) (start : State PadHistory) → IsHeard clocks start heard → IsTaskOf clocks start task) }
 {
     match heard {
         Heard::Over(wave) => {
             let line = samples(alloc, &wave)?;
-            Ok(Work::Write { wave, line })
+            Ok(Task::Write { wave, line })
         }
-        Heard::Stopped { pc, why } => Ok(Work::Stop(Ending {
+        Heard::Stopped { pc, why } => Ok(Task::Stop(Ending {
             status: Status::Stopped,
             line: stopped(alloc, pc, why)?,
         })),
@@ -57,8 +57,8 @@ fn prepare<H: Shelf>(
     pads: &str,
     irq: Response,
     clocks: u32,
-) -> Result<Work, Failure>
-    ensures work { IfOk result (IsWork (H.files shelf.old) hex.now pads.now irq clocks) }
+) -> Result<Task, Failure>
+    ensures task { IfOk result (IsTask (H.files shelf.old) hex.now pads.now irq clocks) }
     ensures fails { IfErr result (EndsBy (RunPreface (H.files shelf.old) (Rose (H.load_faults shelf.old) (H.load_faults shelf.new)) hex.now pads.now)) }
     ensures files { H.files shelf.new ≡ H.files shelf.old }
     ensures load_faults { H.load_faults shelf.old ≤ H.load_faults shelf.new }
@@ -66,7 +66,7 @@ fn prepare<H: Shelf>(
 {
     let mut console = reset_console(alloc, shelf, hex, pads, irq)?;
     match listen(alloc, &mut console, clocks as u64) {
-        Ok(heard) => Ok(work_of(alloc, heard)?),
+        Ok(heard) => Ok(task_of(alloc, heard)?),
         Err(_) => Err(Failure::Memory),
     }
 }
@@ -115,12 +115,12 @@ pub fn run_wave<H: Shelf, K: Sink>(
     ensures heard { result ≡ Status.Done → FilesHeard (H.files shelf.old) (H.files shelf.new) hex.now pads.now irq clocks wav.now }
     ensures stopped { result ≡ Status.Stopped → H.files shelf.new ≡ H.files shelf.old }
 {
-    let work = match prepare(alloc, shelf, hex, pads, irq, clocks) {
-        Ok(work) => work,
+    let task = match prepare(alloc, shelf, hex, pads, irq, clocks) {
+        Ok(task) => task,
         Err(failure) => return give_up(alloc, out, &failure),
     };
-    match work {
-        Work::Write { wave, line } => write_and_tell(alloc, &wave, line, wav, shelf, out),
-        Work::Stop(ending) => end_with(alloc, out, &ending),
+    match task {
+        Task::Write { wave, line } => write_and_tell(alloc, &wave, line, wav, shelf, out),
+        Task::Stop(ending) => end_with(alloc, out, &ending),
     }
 }

@@ -1,65 +1,19 @@
-use Rattle.std.proofs.Common.{◌⊎◌, ap, inl, inr, refl, subst, Err}
 use Rattle.uz_shelf.specs.Faults.{Rose}
-use Rattle.uz_files.specs.Answers.{WritesFile}
-use Rattle.uz_files.specs.Writing.{WritesSome}
-use Rattle.std.specs.Prelude.{None}
-use Rattle.uz_files.proofs.EndingLemmas.{holds_if_done}
-use Rattle.uz_source_commands.specs.AsmCommand.{FilesAssembled}
-use Rattle.uz_source_commands.proofs.AsmLemmas.{asm_done, asm_failed, asm_lacks, asm_unwritten, asm_worth}
-use Rattle.uz_files.proofs.FaultLemmas.{rose_same}
+use Rattle.uz_files.proofs.WorkLemmas.{finished}
+use Rattle.uz_source_commands.specs.AsmCommand.{AsmAnswers}
+use Rattle.uz_source_commands.proofs.AsmLemmas.{asm_prepared, asm_worth}
 use Rattle.uz_source_commands.proofs.asm_command.run_asm.Goals as goal
-
-pub returns-in-Err-clause-outcome : goal.returns-in-Err-clause-outcome
-returns-in-Err-clause-outcome g c =
-    asm_failed (g.H.Shelf.files c.args.shelf.now) (g.H.Shelf.files c.prepare.new.shelf) _
-    (Rose (g.K.Sink.faults c.args.out.now) (g.K.Sink.faults c.give_up.new.out))
-    (Rose (g.H.Shelf.write_faults c.args.shelf.now) (g.H.Shelf.write_faults c.prepare.new.shelf) ⊎ Rose (g.K.Sink.faults c.args.out.now)
-    (g.K.Sink.faults c.give_up.new.out))
-    c.args.source.now c.args.hex.now c.in-Err.failure c.give_up.result (g.K.Sink.text c.args.out.now) (g.K.Sink.text c.give_up.new.out)
-    c.prepare.ensures.files inr c.in-Err.ensures.fails c.give_up.ensures.comes
-
-pub returns-in-Ok-write_file-clause-outcome : goal.returns-in-Ok-write_file-clause-outcome
-returns-in-Ok-write_file-clause-outcome g c =
-    let written = subst (λ bytes. WritesFile (g.H.Shelf.files c.prepare.new.shelf) c.args.hex.now bytes
-    (g.H.Shelf.files c.write_file.new.shelf)) c.as_slice.ensures.value c.in-Ok-write_file.ensures.ok in
-    asm_done (g.H.Shelf.files c.args.shelf.now) (g.H.Shelf.files c.prepare.new.shelf) (g.H.Shelf.files c.write_file.new.shelf) _
-    c.args.source.now c.args.hex.now c.in-Ok.work c.end_with.result c.prepare.ensures.files c.in-Ok.ensures.work
-    (Rose (g.K.Sink.faults c.args.out.now) (g.K.Sink.faults c.end_with.new.out))
-    (Rose (g.H.Shelf.write_faults c.args.shelf.now) (g.H.Shelf.write_faults c.write_file.new.shelf) ⊎ Rose (g.K.Sink.faults c.args.out.now)
-    (g.K.Sink.faults c.end_with.new.out))
-    (g.K.Sink.text c.args.out.now) (g.K.Sink.text c.end_with.new.out) inr written c.end_with.ensures.comes
-
-pub returns-in-Err-Failed-clause-outcome : goal.returns-in-Err-Failed-clause-outcome
-returns-in-Err-Failed-clause-outcome g c =
-    let part = subst (λ bytes. WritesSome (g.H.Shelf.files c.prepare.new.shelf) c.args.hex.now bytes
-    (g.H.Shelf.files c.write_file.new.shelf)) c.as_slice.ensures.value c.in-Err-Failed.ensures.err in
-    asm_unwritten (g.H.Shelf.files c.args.shelf.now) (g.H.Shelf.files c.prepare.new.shelf) (g.H.Shelf.files c.write_file.new.shelf) _
-    c.args.source.now c.args.hex.now c.in-Ok.work _ c.prepare.ensures.files c.in-Ok.ensures.work
-    (Rose (g.H.Shelf.write_faults c.args.shelf.now) (g.H.Shelf.write_faults c.write_file.new.shelf) ⊎ Rose (g.K.Sink.faults c.args.out.now)
-    (g.K.Sink.faults c.args.out.now)) (g.K.Sink.text c.args.out.now)
-    (inl (rose_same (g.H.Shelf.write_faults c.args.shelf.now) (g.H.Shelf.write_faults c.prepare.new.shelf)
-    (g.H.Shelf.write_faults c.write_file.new.shelf) c.prepare.ensures.write_faults
-    (c.in-Err-Failed.ensures.failed (ap Err c.in-Err-Failed.field-0-is)))) refl part
 
 pub returns-clause-outcome : goal.returns-clause-outcome
 returns-clause-outcome g c =
-    let part = subst (λ bytes. WritesSome (g.H.Shelf.files c.prepare.new.shelf) c.args.hex.now bytes
-    (g.H.Shelf.files c.write_file.new.shelf)) c.as_slice.ensures.value c.in-Err-Memory.ensures.err in
-    asm_lacks (g.H.Shelf.files c.args.shelf.now) (g.H.Shelf.files c.prepare.new.shelf) (g.H.Shelf.files c.write_file.new.shelf) _
-    c.args.source.now c.args.hex.now c.in-Ok.work c.put_no_memory.result c.prepare.ensures.files c.in-Ok.ensures.work
-    (Rose (g.H.Shelf.write_faults c.args.shelf.now) (g.H.Shelf.write_faults c.write_file.new.shelf) ⊎ Rose (g.K.Sink.faults c.args.out.now)
-    (g.K.Sink.faults c.put_no_memory.new.out))
-    (g.K.Sink.text c.args.out.now) (g.K.Sink.text c.put_no_memory.new.out) c.put_no_memory.ensures.status c.put_no_memory.ensures.text part
+    let files = g.H.Shelf.files c.args.shelf.now in
+    let loads = g.H.Shelf.load_faults c.args.shelf.now in
+    finished (λ n. AsmAnswers files (Rose loads n) c.args.source.now c.args.hex.now) c.args.hex.now c.prepare-work.result files _ _ _ _ _ _ _
+    _ _ _ _ _ c.prepare-work.ensures.files c.prepare-work.ensures.write_faults c.finish_work.ensures.load_faults
+    (asm_prepared files _ c.args.source.now c.args.hex.now c.prepare-work.result c.prepare-work.ensures.work c.prepare-work.ensures.fails)
+    c.finish_work.ensures.outcome
 
-pub returns-in-Err-clause-assembled : goal.returns-in-Err-clause-assembled
-returns-in-Err-clause-assembled g c = λ done.
-    holds_if_done (FilesAssembled (g.H.Shelf.files c.args.shelf.now) (g.H.Shelf.files c.prepare.new.shelf) c.args.source.now c.args.hex.now)
-    (Err c.in-Err.failure) c.give_up.result _ _ _ tt (c.give_up.ensures.comes None) done
-
-pub returns-in-Ok-write_file-clause-assembled : goal.returns-in-Ok-write_file-clause-assembled
-returns-in-Ok-write_file-clause-assembled g c = λ done.
-    let written = subst (λ bytes. WritesFile (g.H.Shelf.files c.prepare.new.shelf) c.args.hex.now bytes
-    (g.H.Shelf.files c.write_file.new.shelf)) c.as_slice.ensures.value c.in-Ok-write_file.ensures.ok in
-    asm_worth (g.H.Shelf.files c.args.shelf.now) (g.H.Shelf.files c.prepare.new.shelf) (g.H.Shelf.files c.write_file.new.shelf)
-    (Rose (g.H.Shelf.load_faults c.args.shelf.now) (g.H.Shelf.load_faults c.prepare.new.shelf)) c.args.source.now c.args.hex.now
-    c.in-Ok.work c.end_with.result c.prepare.ensures.files c.in-Ok.ensures.work written
+pub returns-clause-assembled : goal.returns-clause-assembled
+returns-clause-assembled g c = λ done.
+    asm_worth (g.H.Shelf.files c.args.shelf.now) _ _ c.args.source.now c.args.hex.now c.prepare-work.result c.prepare-work.ensures.work
+    (c.finish_work.ensures.written done)

@@ -1,7 +1,7 @@
 use Rattle.std.proofs.Common.{inl, inr, subst}
 use Rattle.uz_files.proofs.FaultLemmas.{rose_same}
 use Rattle.uz_wave_command.proofs.WaveLemmas.{wave_failed, wave_leaves, wave_stopped, wave_worth, wave_written}
-use Rattle.uz_wave_command.specs.WaveValues.{IsWork}
+use Rattle.uz_wave_command.specs.WaveValues.{IsTask}
 use Rattle.uz_wave_command.proofs.wave_command.run_wave.Goals as goal
 
 pub returns-in-Err-clause-outcome : goal.returns-in-Err-clause-outcome
@@ -18,15 +18,15 @@ returns-in-Write-clause-outcome g c =
           (g.H.Shelf.write_faults c.write_and_tell.new.shelf) c.prepare.ensures.write_faults rose)
       | inr rose ↦ inr rose
     ])
-    (subst (IsWork (g.H.Shelf.files c.args.shelf.now) c.args.hex.now c.args.pads.now c.args.irq c.args.clocks) c.in-Write.is
-    c.in-Ok.ensures.work) c.write_and_tell.ensures.comes
+    (subst (IsTask (g.H.Shelf.files c.args.shelf.now) c.args.hex.now c.args.pads.now c.args.irq c.args.clocks) c.in-Write.is
+    c.in-Ok.ensures.task) c.write_and_tell.ensures.comes
 
 pub returns-in-Stop-clause-outcome : goal.returns-in-Stop-clause-outcome
 returns-in-Stop-clause-outcome g c =
     wave_stopped _ _ _ _ _ c.args.hex.now c.args.pads.now c.args.irq c.args.clocks c.args.wav.now c.in-Stop.ending c.end_with.result _ _
     c.prepare.ensures.files inr
-    (subst (IsWork (g.H.Shelf.files c.args.shelf.now) c.args.hex.now c.args.pads.now c.args.irq c.args.clocks) c.in-Stop.is
-    c.in-Ok.ensures.work) c.end_with.ensures.comes
+    (subst (IsTask (g.H.Shelf.files c.args.shelf.now) c.args.hex.now c.args.pads.now c.args.irq c.args.clocks) c.in-Stop.is
+    c.in-Ok.ensures.task) c.end_with.ensures.comes
 
 pub returns-in-Err-clause-heard : goal.returns-in-Err-clause-heard
 returns-in-Err-clause-heard g c =

@@ -1,0 +1,148 @@
+#!/bin/sh
+# Runs each command of the program once for each status that it can end with, but for that of want of memory (which
+# failing_memory.py looks at), and compares the status of the process, which the program's main makes of the command's.
+#
+#     exit_statuses.sh [PROGRAM]
+#
+# PROGRAM is the built program, and the script uzebox beside this folder where none is named. Of the second form of a row
+# standard output is /dev/full, which takes nothing: where a command did its work that is status 5, and a fault keeps its own.
+# Prints a line for each run that ends otherwise than it should, and at last how many did. Ends with 0 where none did.
+docs=$(dirname -- "$(readlink -f -- "$0")")
+program=$(readlink -f -- "${1:-$docs/../uzebox}")
+folder=$(mktemp -d) || exit 70
+trap 'rm -rf "$folder"' EXIT
+cd "$folder" || exit 70
+cp "$docs"/../examples/*.asm "$docs"/../examples/*.cert "$docs"/../examples/*.hex "$docs"/../examples/no-pads.txt .
+printf 'foo\n' >bad
+printf 'step 1\n' >script
+printf '.dw 0xFFFF\n' | cat - loop-ring.asm >stops.asm # the first word is no instruction
+printf 'ldi r16,1\nout DDRB,r16\nout PORTB,r16\n.dw 0xFFFF\n' >late.asm # nor is the word after sync rises
+sed '/start/d' pulse.asm >unstarted.asm
+runs=0
+wrong=0
+
+# a status, where standard output goes, and the words
+runs_to() {
+    want=$1
+    output=$2
+    shift 2
+    "$program" "$@" >"$output" 2>errors
+    came=$?
+    runs=$((runs + 1))
+    if [ "$came" != "$want" ]; then
+        wrong=$((wrong + 1))
+        echo "status $came and not $want, output to $output: $*"
+    fi
+}
+
+prints() {
+    want=$1
+    shift
+    runs_to "$want" lines "$@"
+}
+
+can_not_print() {
+    want=$1
+    shift
+    runs_to "$want" /dev/full "$@"
+}
+
+# no command
+prints 1
+prints 1 demo 07
+prints 1 play ring.hex ring.cert no-pads.txt 0 frames
+can_not_print 1 what
+
+# asm, build, expand
+for command in asm build expand; do
+    prints 0 $command loop-ring.asm out
+    prints 1 $command loop-ring.asm
+    prints 2 $command none out
+    can_not_print 2 $command none out
+    can_not_print 5 $command loop-ring.asm out
+    prints 5 $command loop-ring.asm no/such/folder
+done
+prints 3 asm bad out
+prints 3 build bad out
+printf '.endr\n' >unopened
+prints 3 expand unopened out
+
+# the files of the rows below
+prints 0 asm stops.asm stops.hex
+prints 0 certify stops.asm 4 stops.hex stops.cert
+prints 0 asm late.asm late.hex
+
+# dis
+prints 0 dis ring.hex
+prints 1 dis
+prints 2 dis none
+prints 3 dis bad
+can_not_print 3 dis bad
+can_not_print 5 dis ring.hex
+
+# trace
+prints 0 trace ring.hex no-pads.txt 4 4000
+prints 1 trace ring.hex no-pads.txt 6 4000
+prints 2 trace ring.hex none 4 4000
+prints 3 trace ring.hex bad 4 4000
+can_not_print 3 trace ring.hex bad 4 4000
+can_not_print 5 trace ring.hex no-pads.txt 4 4000
+prints 6 trace stops.hex no-pads.txt 4 4000
+can_not_print 6 trace stops.hex no-pads.txt 4 4000
+prints 6 trace late.hex no-pads.txt 4 4000
+can_not_print 5 trace late.hex no-pads.txt 4 4000 # the line of the edge comes first
+
+# debug
+prints 0 debug ring.hex no-pads.txt 4 script
+prints 1 debug ring.hex no-pads.txt 4
+prints 2 debug ring.hex no-pads.txt 4 none
+prints 3 debug ring.hex no-pads.txt 4 bad
+can_not_print 5 debug ring.hex no-pads.txt 4 script
+
+# certify
+prints 0 certify pulse.asm 4 out.hex out.cert
+prints 1 certify pulse.asm 3 out.hex out.cert
+prints 2 certify none 4 out.hex out.cert
+prints 3 certify bad 4 out.hex out.cert
+prints 4 certify unstarted.asm 4 out.hex out.cert
+can_not_print 4 certify unstarted.asm 4 out.hex out.cert
+prints 5 certify pulse.asm 4 out.hex no/such/folder
+can_not_print 5 certify pulse.asm 4 out.hex out.cert
+
+# check
+prints 0 check ring.hex ring.cert
+prints 1 check ring.hex
+prints 2 check ring.hex none
+prints 3 check ring.hex bad
+prints 4 check ring-short.hex ring-short.cert
+can_not_print 4 check ring-short.hex ring-short.cert
+can_not_print 5 check ring.hex ring.cert
+
+# play
+prints 0 play ring.hex ring.cert no-pads.txt 4000 frames
+prints 1 play ring.hex ring.cert no-pads.txt 4000
+prints 2 play none ring.cert no-pads.txt 4000 frames
+prints 3 play bad ring.cert no-pads.txt 4000 frames
+prints 4 play ring-short.hex ring-short.cert no-pads.txt 4000 frames
+prints 5 play ring.hex ring.cert no-pads.txt 4000 no/such/folder
+can_not_print 5 play ring.hex ring.cert no-pads.txt 4000 frames
+prints 6 play stops.hex stops.cert no-pads.txt 4000 frames
+can_not_print 6 play stops.hex stops.cert no-pads.txt 4000 frames
+prints 7 play ring.hex ring.cert no-pads.txt 1 frames
+can_not_print 7 play ring.hex ring.cert no-pads.txt 1 frames
+
+# demo
+prints 0 demo 0
+prints 1 demo 65536
+can_not_print 5 demo 0
+
+# migrate
+prints 0 migrate loop-ring-1.cert out
+prints 1 migrate loop-ring-1.cert
+prints 2 migrate none out
+prints 3 migrate ring.cert out
+prints 5 migrate loop-ring-1.cert no/such/folder
+can_not_print 5 migrate loop-ring-1.cert out
+
+echo "$runs runs, $wrong of them otherwise than they should"
+[ "$wrong" = 0 ]
