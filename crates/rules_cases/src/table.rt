@@ -20,10 +20,9 @@ use anyhow::Result;
 use std::alloc::Global;
 use uz_cert::read_cert;
 use uz_hex::Image;
+use uz_cert_limits::well_formed;
 use uz_rules::{after, local};
-use uz_schedule::{
-    Cert, Head, Instance, MOST_LINES, SCANLINE, Schedule, schedule_fits, well_formed,
-};
+use uz_schedule::{Cert, Head, Instance, MOST_LINES, SCANLINE, Schedule, schedule_fits};
 
 /// What the table has said so far.
 #[derive(Drop)]

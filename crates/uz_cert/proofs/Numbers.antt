@@ -6,11 +6,11 @@ use Rattle.std.proofs.lemmas.Bool.{leb-true, ltb-true, leb-false, ltb-false}
 use Rattle.uz_text.proofs.NumberWords.{number_read}
 use Rattle.uz_text.specs.Numbers.{is_numeral, digits_after, number_below, from_low, number_within}
 use Rattle.uz_schedule.specs.WellFormed.{magnitude}
-use Rattle.uz_lines.specs.Why.{◌>>=◌}
-use Rattle.uz_lines.specs.Grammar.{asked, number_or, number_of, signed_or, unsigned_or, slope_of}
-use Rattle.uz_lines.specs.declared.words.Asked.{Asked}
-use Rattle.uz_lines.specs.declared.why.CertWhy.{CertWhy}
-use Rattle.uz_lines.specs.declared.why.CertWhy.TheVariants as why
+use Rattle.uz_cert_words.specs.Why.{◌>>=◌}
+use Rattle.uz_cert_words.specs.Grammar.{asked, number_or, number_of, signed_or, unsigned_or, slope_of}
+use Rattle.uz_cert_words.specs.declared.words.Asked.{Asked}
+use Rattle.uz_cert_words.specs.declared.why.CertWhy.{CertWhy}
+use Rattle.uz_cert_words.specs.declared.why.CertWhy.TheVariants as why
 
 -- steps that may end in a fault
 

@@ -21,7 +21,7 @@ use Rattle.uz_schedule.specs.declared.header.Cell.{Cell}
 use Rattle.uz_schedule.specs.declared.header.Head.{Head}
 use Rattle.uz_schedule.specs.declared.facts.Fact.{Fact}
 use Rattle.uz_schedule.specs.declared.facts.Fact.TheVariants as fact
-use Rattle.uz_lines.specs.Grammar.{Words}
+use Rattle.uz_cert_words.specs.Grammar.{Words}
 use Rattle.uz_schedule.specs.declared.lines.EventKind.{EventKind}
 use Rattle.uz_schedule.specs.declared.lines.EventKind.TheVariants as event
 use Rattle.uz_lines.specs.Forms.{LineForm, number, finish, reads}

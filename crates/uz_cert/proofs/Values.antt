@@ -15,15 +15,15 @@ use Rattle.uz_schedule.specs.declared.facts.PairFact.{PairFact}
 use Rattle.uz_schedule.specs.declared.facts.PairFact.TheVariants as any_pair
 use Rattle.uz_schedule.specs.declared.facts.Bit.{Bit}
 use Rattle.uz_schedule.specs.declared.facts.Bit.TheVariants.{Zero, One, Free, Old as OldBit}
-use Rattle.uz_lines.specs.Why.{◌>>=◌}
-use Rattle.uz_lines.specs.Values.{digits, one_or, one_number, both, two_numbers, whole, slope, sloped_parts, sloped_cut, sloped, old}
-use Rattle.uz_lines.specs.Values.{range_parts, range_cut, range, raw_of, is_ordered, fact_of, pair_of, ends_of, bit_of}
+use Rattle.uz_cert_words.specs.Why.{◌>>=◌}
+use Rattle.uz_cert_words.specs.Values.{digits, one_or, one_number, both, two_numbers, whole, slope, sloped_parts, sloped_cut, sloped, old}
+use Rattle.uz_cert_words.specs.Values.{range_parts, range_cut, range, raw_of, is_ordered, fact_of, pair_of, ends_of, bit_of}
 use Rattle.uz_lines.specs.Items.{is_handler}
-use Rattle.uz_lines.specs.declared.values.FactForms.{FactForms}
-use Rattle.uz_lines.specs.declared.values.Raw.{Raw}
-use Rattle.uz_lines.specs.declared.values.Raw.TheVariants as raw
-use Rattle.uz_lines.specs.declared.why.CertWhy.{CertWhy}
-use Rattle.uz_lines.specs.declared.why.CertWhy.TheVariants as why
+use Rattle.uz_cert_words.specs.declared.values.FactForms.{FactForms}
+use Rattle.uz_cert_words.specs.declared.values.Raw.{Raw}
+use Rattle.uz_cert_words.specs.declared.values.Raw.TheVariants as raw
+use Rattle.uz_cert_words.specs.declared.why.CertWhy.{CertWhy}
+use Rattle.uz_cert_words.specs.declared.why.CertWhy.TheVariants as why
 use Rattle.uz_cert.proofs.Numbers.{bind_ok, and_true, chosen_ok, ok_same, within_limits, within_decimal}
 
 -- a number of these forms

@@ -14,7 +14,8 @@ ghost use Rattle.uz_console.specs.Entry.{NotEntered};
 ghost use Rattle.uz_console.specs.Entering.{EntersAlone, EntersAt, EntersAtOne, FlagsMatch, IsFirstEntry, IsLeast, LevelMatches, MatchesEntry, RegistersMatch, StackMatches, WaitsAt, lesser as lesser_position, position_of};
 
 use crate::Console;
-use uz_schedule::{Bit, Cert, Head, Kind, Rest, Schedule, Span, tracks, well_formed};
+use uz_cert_limits::well_formed;
+use uz_schedule::{Bit, Cert, Head, Kind, Rest, Schedule, Span, tracks};
 
 /// PORTB, whose bit 0 is the sync level.
 const PORTB: u16 = 0x25;

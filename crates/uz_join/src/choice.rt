@@ -9,7 +9,8 @@ use crate::joining::{Parts, joined_parts};
 use std::alloc::Global;
 use uz_check::verdict;
 use uz_hex::Image;
-use uz_schedule::{Cert, well_formed};
+use uz_cert_limits::well_formed;
+use uz_schedule::Cert;
 
 /// Whether a certificate is well formed and accepted.
 fn passes(image: &Image, cert: &Cert) -> bool

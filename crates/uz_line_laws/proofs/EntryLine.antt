@@ -17,17 +17,17 @@ use Rattle.uz_schedule.specs.declared.facts.Fact.{Fact}
 use Rattle.uz_schedule.specs.declared.facts.PairFact.{PairFact}
 use Rattle.uz_schedule.specs.declared.facts.PairFact.TheVariants.{Any as AnyPair}
 use Rattle.uz_schedule.specs.declared.states.Entry.{Entry}
-use Rattle.uz_lines.specs.Why.{◌>>=◌}
-use Rattle.uz_lines.specs.Grammar.{Words, choice_of}
+use Rattle.uz_cert_words.specs.Why.{◌>>=◌}
+use Rattle.uz_cert_words.specs.Grammar.{Words, choice_of}
 use Rattle.uz_lines.specs.Defaults.{is_any_pair, range_fact}
 use Rattle.uz_lines.specs.Items.{is_handler, bytes_forms, read_items}
 use Rattle.uz_lines.specs.Forms.{LineForm, number, items, reads}
 use Rattle.uz_lines.specs.Lines.{within, one_of, none_in_main, shape_of, span_of_fact, entry_of, entry_kind, entry_form}
-use Rattle.uz_lines.specs.declared.values.FactForms.{FactForms}
+use Rattle.uz_cert_words.specs.declared.values.FactForms.{FactForms}
 use Rattle.uz_lines.specs.declared.items.Facts.{Facts}
 use Rattle.uz_lines.specs.declared.lines.Said.{Said}
 use Rattle.uz_lines.specs.declared.lines.Said.TheVariants as said
-use Rattle.uz_lines.specs.declared.why.CertWhy.{CertWhy}
+use Rattle.uz_cert_words.specs.declared.why.CertWhy.{CertWhy}
 use Rattle.uz_spelling.specs.Spelling.{kind_word, range_facts, register_items, pair_items, flag_items, slot_items, cell_items}
 use Rattle.uz_spelling.specs.Spelling.{top_items, temp_items, successor_items, entry_items, entry_words}
 use Rattle.uz_line_laws.specs.Said.{line, PlacesAre}

@@ -10,10 +10,10 @@ use Rattle.uz_text.proofs.NumberWords.{number_read, number_again, within_read, w
 use Rattle.uz_text.proofs.Plain.{Lacks, lacks_nil, lacks_cons}
 use Rattle.std.proofs.lemmas.List.Elements.{All-head, All-tail}
 use Rattle.uz_schedule.specs.WellFormed.{magnitude}
-use Rattle.uz_lines.specs.Grammar.{asked, number_or, number_of, signed_or, unsigned_or, slope_of}
-use Rattle.uz_lines.specs.Values.{digits, one_or, one_number, both, two_numbers}
-use Rattle.uz_lines.specs.declared.words.Asked.{Asked}
-use Rattle.uz_lines.specs.declared.why.CertWhy.TheVariants as why
+use Rattle.uz_cert_words.specs.Grammar.{asked, number_or, number_of, signed_or, unsigned_or, slope_of}
+use Rattle.uz_cert_words.specs.Values.{digits, one_or, one_number, both, two_numbers}
+use Rattle.uz_cert_words.specs.declared.words.Asked.{Asked}
+use Rattle.uz_cert_words.specs.declared.why.CertWhy.TheVariants as why
 use Rattle.uz_spelling.specs.Spelling.{signed_word}
 use Rattle.uz_line_laws.proofs.Tests.{and_true, both_true, and_false, not_true, fine_is, passed, failed, so, else_so, le_is, is_le, is_lt}
 use Rattle.uz_line_laws.proofs.Tests.{not_le, not_lt, number_not, not_number, number_is}

@@ -14,8 +14,8 @@ use Rattle.uz_schedule.specs.declared.kinds.Kind.TheVariants.{Main, Handler, Alo
 use Rattle.uz_schedule.specs.declared.header.Head.{Head}
 use Rattle.uz_schedule.specs.declared.facts.PairFact.TheVariants.{Any as AnyPair}
 use Rattle.uz_schedule.specs.declared.states.Point.{Point}
-use Rattle.uz_lines.specs.Why.{◌>>=◌}
-use Rattle.uz_lines.specs.Grammar.{Words, choice_of}
+use Rattle.uz_cert_words.specs.Why.{◌>>=◌}
+use Rattle.uz_cert_words.specs.Grammar.{Words, choice_of}
 use Rattle.uz_lines.specs.Items.{is_handler, bytes_forms, pair_forms, read_items}
 use Rattle.uz_lines.specs.Forms.{LineForm, number, slope, items, reads}
 use Rattle.uz_lines.specs.Lines.{within, none_in_main, is_timed, point_shape, IsPointIn, point_kind, pending_limit, count_limit, point_of, point_after, point_form}
@@ -25,7 +25,7 @@ use Rattle.uz_lines.specs.declared.lines.Said.{Said}
 use Rattle.uz_lines.specs.declared.lines.Said.TheVariants as said
 use Rattle.uz_lines.specs.declared.version.Version.{Version}
 use Rattle.uz_lines.specs.declared.version.Version.TheVariants.{First, Second}
-use Rattle.uz_lines.specs.declared.why.CertWhy.{CertWhy}
+use Rattle.uz_cert_words.specs.declared.why.CertWhy.{CertWhy}
 use Rattle.uz_spelling.specs.Spelling.{kind_word, signed_word, truth_word, point_items, point_words}
 use Rattle.uz_line_laws.specs.Said.{line, PlacesAre}
 use Rattle.uz_line_laws.proofs.Tests.{fine, fine_is, true_not, bind_ok}

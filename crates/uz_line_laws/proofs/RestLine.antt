@@ -11,14 +11,15 @@ use Rattle.uz_schedule.specs.declared.kinds.Kind.TheVariants.{Handler}
 use Rattle.uz_schedule.specs.declared.header.Cell.{Cell}
 use Rattle.uz_schedule.specs.declared.header.Head.{Head}
 use Rattle.uz_schedule.specs.declared.states.Rest.{Rest}
-use Rattle.uz_lines.specs.Why.{◌>>=◌}
-use Rattle.uz_lines.specs.Grammar.{Words, rest_of, next_as}
-use Rattle.uz_lines.specs.Forms.{finish, with_span, span_of, spans_of, reads}
+use Rattle.uz_cert_words.specs.Why.{◌>>=◌}
+use Rattle.uz_cert_words.specs.Grammar.{Words, rest_of, next_as}
+use Rattle.uz_cert_words.specs.Values.{span_of}
+use Rattle.uz_lines.specs.Forms.{finish, with_span, spans_of, reads}
 use Rattle.uz_lines.specs.Lines.{within, one_of, rising, rest_form}
 use Rattle.uz_lines.specs.declared.lines.Said.{Said}
 use Rattle.uz_lines.specs.declared.lines.Said.TheVariants as said
-use Rattle.uz_lines.specs.declared.why.CertWhy.{CertWhy}
-use Rattle.uz_lines.specs.declared.why.CertWhy.TheVariants as why
+use Rattle.uz_cert_words.specs.declared.why.CertWhy.{CertWhy}
+use Rattle.uz_cert_words.specs.declared.why.CertWhy.TheVariants as why
 use Rattle.uz_spelling.specs.Spelling.{ends_word, rest_words}
 use Rattle.uz_line_laws.specs.Said.{line, PlacesAre}
 use Rattle.uz_line_laws.proofs.Tests.{fine, fault_not, and_true, both_true, bind_ok, then}

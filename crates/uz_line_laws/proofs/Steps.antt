@@ -3,12 +3,12 @@ use Rattle.std.proofs.Common.{◌≡◌, inr, ℕ, suc, ◌+◌, ◌<◌, ◌≤
 use Rattle.std.proofs.Common.{sym, ◌∙◌, ap, arith}
 use Rattle.std.specs.Prelude.{⊤, Some, Result, Ok, Err, slice_get}
 use Rattle.uz_schedule.specs.WellFormed.{magnitude}
-use Rattle.uz_lines.specs.Grammar.{Words, rest_of, next_as, fixed_of, number_of, choice_from, choice_of, slope_of, end_of}
+use Rattle.uz_cert_words.specs.Grammar.{Words, rest_of, next_as, fixed_of, number_of, choice_from, choice_of, slope_of, end_of}
 use Rattle.uz_lines.specs.Forms.{LineForm, fixed, number, choice, slope, spans, items, finish, reads}
 use Rattle.uz_lines.specs.Lines.{within, least_of}
 use Rattle.uz_lines.specs.declared.lines.Said.{Said}
-use Rattle.uz_lines.specs.declared.why.CertWhy.{CertWhy}
-use Rattle.uz_lines.specs.declared.why.CertWhy.TheVariants as why
+use Rattle.uz_cert_words.specs.declared.why.CertWhy.{CertWhy}
+use Rattle.uz_cert_words.specs.declared.why.CertWhy.TheVariants as why
 use Rattle.uz_spelling.specs.Spelling.{signed_word}
 use Rattle.uz_line_laws.specs.Said.{line}
 use Rattle.uz_line_laws.proofs.Tests.{fine_is, fault_not, passed, so, bind_ok, then, word_is, same_word, lt_is, not_lt}

@@ -16,8 +16,8 @@ use Rattle.uz_schedule.specs.declared.header.Cell.{Cell}
 use Rattle.uz_schedule.specs.declared.facts.Fact.{Fact}
 use Rattle.uz_schedule.specs.declared.facts.PairFact.{PairFact}
 use Rattle.uz_schedule.specs.declared.facts.Bit.{Bit}
-use Rattle.uz_lines.specs.Why.{◌>>=◌}
-use Rattle.uz_lines.specs.Values.{digits, one_number, range, raw_of, fact_of, pair_of, ends_of, bit_of}
+use Rattle.uz_cert_words.specs.Why.{◌>>=◌}
+use Rattle.uz_cert_words.specs.Values.{digits, one_number, range, raw_of, fact_of, pair_of, ends_of, bit_of}
 use Rattle.uz_lines.specs.Defaults.{is_default, is_any_pair, is_range, is_default_top}
 use Rattle.uz_lines.specs.Items.{in_order, is_handler, bytes_forms, register_set, register_key, take_register, pair_forms, pair_set}
 use Rattle.uz_lines.specs.Items.{take_pair}
@@ -26,12 +26,12 @@ use Rattle.uz_lines.specs.Items.{numbered}
 use Rattle.uz_lines.specs.Items.{cell_set, cell_value, take_cell, successor_set, take_successor, is_flag_z, take_letter, take_keyed}
 use Rattle.uz_lines.specs.Items.{top_set, top_value, take_top, temp_forms, temp_set, take_temp, take_timer, take_cut}
 use Rattle.uz_lines.specs.Items.{take_named, take_second, take_item}
-use Rattle.uz_lines.specs.declared.values.FactForms.{FactForms}
-use Rattle.uz_lines.specs.declared.values.Raw.{Raw}
+use Rattle.uz_cert_words.specs.declared.values.FactForms.{FactForms}
+use Rattle.uz_cert_words.specs.declared.values.Raw.{Raw}
 use Rattle.uz_lines.specs.declared.items.Shape.{Shape}
 use Rattle.uz_lines.specs.declared.items.Facts.{Facts}
-use Rattle.uz_lines.specs.declared.why.CertWhy.{CertWhy}
-use Rattle.uz_lines.specs.declared.why.CertWhy.TheVariants as why
+use Rattle.uz_cert_words.specs.declared.why.CertWhy.{CertWhy}
+use Rattle.uz_cert_words.specs.declared.why.CertWhy.TheVariants as why
 use Rattle.uz_spelling.specs.Spelling.{range_word, item, fact_word, pair_word, flag_word}
 use Rattle.uz_line_laws.proofs.Tests.{and_true, both_true, or_false, not_true, fine_is, fault_not, passed, failed, so, bind_ok, then, le_is}
 use Rattle.uz_line_laws.proofs.Tests.{is_le, lt_is, number_is, word_is}

@@ -15,8 +15,8 @@ use Rattle.uz_schedule.specs.declared.header.Cell.{Cell}
 use Rattle.uz_schedule.specs.declared.facts.Fact.{Fact}
 use Rattle.uz_schedule.specs.declared.facts.PairFact.{PairFact}
 use Rattle.uz_schedule.specs.declared.facts.Bit.{Bit}
-use Rattle.uz_lines.specs.Why.{◌>>=◌}
-use Rattle.uz_lines.specs.Values.{digits, one_number, range, raw_of, fact_of, pair_of, ends_of, bit_of}
+use Rattle.uz_cert_words.specs.Why.{◌>>=◌}
+use Rattle.uz_cert_words.specs.Values.{digits, one_number, range, raw_of, fact_of, pair_of, ends_of, bit_of}
 use Rattle.uz_lines.specs.Defaults.{is_default, is_any_pair, is_range, is_default_top}
 use Rattle.uz_lines.specs.Items.{is_handler, bytes_forms, register_set, register_key, take_register, pair_forms, pair_set, take_pair}
 use Rattle.uz_lines.specs.Items.{flag_set, take_flag, slot_set, slot_room, take_slot, with_number, cell_at, cell_forms, numbered}
@@ -24,8 +24,8 @@ use Rattle.uz_lines.specs.Items.{cell_set, cell_value, take_cell, successor_set,
 use Rattle.uz_lines.specs.Items.{top_set, top_value, take_top, temp_forms, temp_set, take_temp, take_named, take_item}
 use Rattle.uz_lines.specs.declared.items.Shape.{Shape}
 use Rattle.uz_lines.specs.declared.items.Facts.{Facts}
-use Rattle.uz_lines.specs.declared.why.CertWhy.{CertWhy}
-use Rattle.uz_lines.specs.declared.why.CertWhy.TheVariants as why
+use Rattle.uz_cert_words.specs.declared.why.CertWhy.{CertWhy}
+use Rattle.uz_cert_words.specs.declared.why.CertWhy.TheVariants as why
 use Rattle.uz_spelling.specs.Spelling.{range_word, item, fact_word, pair_word, flag_word}
 use Rattle.uz_line_laws.proofs.Tests.{so, else_so, then, is_le, is_lt, number_is}
 use Rattle.uz_line_laws.proofs.Numbers.{digits_so, numeral_so, one_so}

@@ -1,4 +1,3 @@
-pub mod Cutting
 pub mod ItemLaws
 pub mod Lengths
 pub mod LineLaws

@@ -3,24 +3,17 @@ use Rattle.std.specs.Prelude.{ℕ, ◌+◌, ℤ, false, List, [], ◌∷◌, Res
 use Rattle.uz_schedule.specs.Ends.{Ends}
 use Rattle.uz_schedule.specs.declared.header.Cell.{Cell}
 use Rattle.uz_schedule.specs.declared.kinds.Kind.TheVariants.{Handler}
-use Rattle.uz_lines.specs.Why.{◌>>=◌}
-use Rattle.uz_lines.specs.Grammar.{Words, rest_of, next_as, fixed_of, number_of, choice_of, slope_of, end_of}
-use Rattle.uz_lines.specs.Values.{raw_of, ends_of}
+use Rattle.uz_cert_words.specs.Why.{◌>>=◌}
+use Rattle.uz_cert_words.specs.Grammar.{Words, rest_of, next_as, fixed_of, number_of, choice_of, slope_of, end_of}
+use Rattle.uz_cert_words.specs.Values.{raw_of, ends_of}
 use Rattle.uz_lines.specs.Items.{read_items}
 use Rattle.uz_schedule.specs.Tracked.{tracks}
-use Rattle.uz_lines.specs.declared.words.Asked.{Asked}
-use Rattle.uz_lines.specs.declared.values.FactForms.{FactForms}
+use Rattle.uz_cert_words.specs.declared.words.Asked.{Asked}
+use Rattle.uz_cert_words.specs.declared.values.FactForms.{FactForms}
 use Rattle.uz_lines.specs.declared.items.Shape.{Shape}
 use Rattle.uz_lines.specs.declared.items.Facts.{Facts}
 use Rattle.uz_lines.specs.declared.lines.Said.{Said}
-use Rattle.uz_lines.specs.declared.why.CertWhy.{CertWhy}
-
--- the forms of a range within another
-abbrev pub span_forms : Ends → FactForms
-span_forms range = record { low = range.lo; limit = range.hi + 1; top = 255; sloped = false; old = false }
-
-unfoldable pub span_of : Ends → List ℕ → Result Ends CertWhy
-span_of range w = raw_of (span_forms range) w >>= (λ raw. ends_of raw)
+use Rattle.uz_cert_words.specs.declared.why.CertWhy.{CertWhy}
 
 -- a range for each cell of the handler
 

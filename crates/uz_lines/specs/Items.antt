@@ -17,18 +17,18 @@ use Rattle.uz_schedule.specs.declared.facts.PairFact.{PairFact}
 use Rattle.uz_schedule.specs.declared.facts.PairFact.TheVariants.{Any as AnyPair}
 use Rattle.uz_schedule.specs.declared.facts.Bit.{Bit}
 use Rattle.uz_schedule.specs.declared.facts.Bit.TheVariants.{Free, Old as OldBit}
-use Rattle.uz_lines.specs.Why.{◌>>=◌}
-use Rattle.uz_lines.specs.Values.{digits, one_number, range, raw_of, fact_of, pair_of, ends_of, bit_of}
-use Rattle.uz_lines.specs.Grammar.{Words}
+use Rattle.uz_cert_words.specs.Why.{◌>>=◌}
+use Rattle.uz_cert_words.specs.Values.{digits, one_number, range, raw_of, fact_of, pair_of, ends_of, bit_of}
+use Rattle.uz_cert_words.specs.Grammar.{Words}
 use Rattle.uz_lines.specs.Defaults.{is_default, is_any_pair, is_range, is_default_top, range_fact}
 use Rattle.uz_schedule.specs.Tracked.{tracks}
 use Rattle.uz_schedule.specs.WellFormed.{is_default_flag}
-use Rattle.uz_lines.specs.declared.values.FactForms.{FactForms}
-use Rattle.uz_lines.specs.declared.values.Raw.{Raw}
+use Rattle.uz_cert_words.specs.declared.values.FactForms.{FactForms}
+use Rattle.uz_cert_words.specs.declared.values.Raw.{Raw}
 use Rattle.uz_lines.specs.declared.items.Shape.{Shape}
 use Rattle.uz_lines.specs.declared.items.Facts.{Facts}
-use Rattle.uz_lines.specs.declared.why.CertWhy.{CertWhy}
-use Rattle.uz_lines.specs.declared.why.CertWhy.TheVariants as why
+use Rattle.uz_cert_words.specs.declared.why.CertWhy.{CertWhy}
+use Rattle.uz_cert_words.specs.declared.why.CertWhy.TheVariants as why
 
 -- what holds where no item says otherwise
 
@@ -232,15 +232,6 @@ take_successor shape facts id =
 
 -- `z=` is the flag in entries, after the pairs, and before `?` and `o`. Before `0` and `1` it is the flag unless a later
 -- word of the line begins with `c=` or `z=`. Else it is the pair.
-abbrev pub names_c_or_z : List ℕ → Bool
-names_c_or_z [] = false
-names_c_or_z (c ∷ []) = false
-names_c_or_z (c ∷ d ∷ cs) = ((c == code "c") || (c == code "z")) && (d == code "=")
-
-abbrev pub any_names : List (List ℕ) → Bool
-any_names [] = false
-any_names (w ∷ ws) = names_c_or_z w || any_names ws
-
 abbrev pub is_flag_z : Shape → Facts → List ℕ → List (List ℕ) → Bool
 is_flag_z shape facts value later =
     (shape.plain || nat_lt 35 facts.least)

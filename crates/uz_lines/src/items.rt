@@ -1,7 +1,7 @@
 //! The items of a line: what is said of registers, pairs, flags, slots, cells and the timer, and which points follow.
 
 ghost use Rattle.std.specs.Prelude.{◌≡◌, ◌<◌, ◌≤◌, ◌-◌, ◌^◌, IfOk, IfErr, IfSome, Ok, Err, length, slice_set};
-ghost use Rattle.uz_lines.specs.Values.{RawBelow};
+ghost use Rattle.uz_cert_words.specs.Values.{RawBelow};
 ghost use Rattle.uz_lines.specs.Items.{first_facts as first_facts_of, in_order as in_order_of};
 ghost use Rattle.uz_lines.specs.Items.{bytes_forms as bytes_forms_of, register_set as set_register};
 ghost use Rattle.uz_lines.specs.Items.{take_register as register_taken, pair_forms as forms_of_pairs, pair_set as set_pair};
@@ -11,7 +11,7 @@ ghost use Rattle.uz_lines.specs.Items.{cell_forms as forms_of_cell, numbered as 
 ghost use Rattle.uz_lines.specs.Items.{cell_value as value_of_cell, take_cell as cell_taken, successor_set as set_successor};
 ghost use Rattle.uz_lines.specs.Items.{top_set as set_top, top_value as value_of_top, take_top as top_taken, temp_forms as forms_of_temp};
 ghost use Rattle.uz_lines.specs.Items.{temp_set as set_temp, take_temp as temp_taken, take_timer as timer_taken};
-ghost use Rattle.uz_lines.specs.Items.{take_successor as successor_taken, names_c_or_z as is_c_or_z, is_flag_z as z_is_flag};
+ghost use Rattle.uz_lines.specs.Items.{take_successor as successor_taken, is_flag_z as z_is_flag};
 ghost use Rattle.uz_lines.specs.Items.{take_letter as letter_taken, take_keyed as keyed_taken, take_named as named_taken};
 ghost use Rattle.uz_lines.specs.Items.{take_second as second_taken, take_item as item_taken, read_items as items_read};
 
@@ -19,13 +19,12 @@ use crate::defaults::{
     default_cells, default_flag, default_regs, is_any_pair, is_default, is_default_flag,
     is_handler, is_range, tracks,
 };
-use crate::values::{
-    FactForms, Raw, bit_of, digits, fact_of, one_number, pair_of, range, raw_of, span_of,
-};
-use crate::why::CertWhy;
-use crate::words::Words;
 use arrayvec::ArrayVec;
 use uz_schedule::{Bit, Cell, Fact, Kind, PairFact, SCANLINE, Span, is_top};
+use uz_cert_words::{
+    CertWhy, FactForms, Raw, Words, bit_of, digits, fact_of, one_number, pair_of, range, raw_of,
+    span_of,
+};
 
 /// What the items of a line may say.
 #[derive(Clone, Copy, Debug)]
@@ -522,16 +521,6 @@ fn take_successor(shape: Shape, facts: &mut Facts, id: &[u8]) -> Result<(), Cert
         return Err(CertWhy::Limit);
     }
     successor_set(facts, uz_text::number(id, shape.points))
-}
-
-/// Whether a word begins with `c=` or `z=`.
-pub(crate) fn names_c_or_z(word: &[u8]) -> bool
-    ensures { result ≡ is_c_or_z word.now }
-{
-    match word {
-        [c, d, ..] => (*c == b'c' || *c == b'z') && *d == b'=',
-        _ => false,
-    }
 }
 
 /// Whether `z=` with this value is the flag, where these words follow.

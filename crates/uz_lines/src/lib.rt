@@ -1,14 +1,11 @@
-//! The words, the items and the lines of a certificate's text.
+//! The items and the lines of a certificate's text.
 #![tactic(auto)]
 
 mod defaults;
 mod items;
 mod laws;
 mod lines;
-mod values;
 mod version;
-mod why;
-mod words;
 
 pub use items::{Facts, Shape};
 pub use laws::line_or_fault;
@@ -17,5 +14,3 @@ pub use lines::{
     fall_line, irq_line, kind_line, point_line, rest_line, run_line, size_line, stack_line,
 };
 pub use version::Version;
-pub use why::CertWhy;
-pub use words::{Asked, Words};

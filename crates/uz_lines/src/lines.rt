@@ -18,13 +18,12 @@ ghost use Rattle.uz_lines.specs.Lines.{event_after as event_after_clock, point_a
 use crate::defaults::{is_handler, tracks};
 use crate::items::{Facts, Shape, read_items};
 use crate::version::Version;
-use crate::why::CertWhy;
-use crate::words::{Asked, Words};
 use arrayvec::ArrayVec;
 use uz_schedule::{
     CLOCK_LIMIT, Cell, Entry, Event, EventKind, Fact, HALF_LINE, Head, Kind, MOST_EVENTS, Owner,
     PairFact, Point, Response, Rest, SCANLINE, Span, Wide,
 };
+use uz_cert_words::{Asked, CertWhy, Words};
 
 /// Each clock of a text is below this.
 const CLOCKS: u32 = CLOCK_LIMIT as u32;

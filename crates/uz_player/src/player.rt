@@ -15,7 +15,8 @@ use arrayvec::ArrayVec;
 use uz_console::{Approach, Console, Progress};
 use uz_machine::Edge;
 use uz_scan::{end_record, row_record};
-use uz_schedule::{Cert, well_formed};
+use uz_cert_limits::well_formed;
+use uz_schedule::Cert;
 
 /// A run's next record, or its end.
 #[derive(Drop)]

@@ -3,7 +3,6 @@
 #![tactic(auto)]
 
 mod certificate;
-mod certificate_limits;
 mod fact_values;
 mod facts;
 mod frame;
@@ -22,7 +21,6 @@ mod states;
 mod tracked;
 
 pub use certificate::Cert;
-pub use certificate_limits::well_formed;
 pub use fact_values::{hull_of_bytes, pair_by, span_of, val_of, word_at};
 pub use facts::{Bit, Fact, PairFact, Val};
 pub use header::{Cell, Head};

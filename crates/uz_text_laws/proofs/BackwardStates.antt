@@ -19,7 +19,7 @@ use Rattle.uz_lines.specs.declared.lines.KindLine.{KindLine}
 use Rattle.uz_lines.specs.declared.lines.Run.{Run}
 use Rattle.uz_lines.specs.declared.lines.Said.{Said}
 use Rattle.uz_lines.specs.declared.lines.Said.TheVariants as said
-use Rattle.uz_lines.specs.declared.why.CertWhy.{CertWhy}
+use Rattle.uz_cert_words.specs.declared.why.CertWhy.{CertWhy}
 use Rattle.uz_cert.specs.Drafts.{due_of, form_of, draft_after}
 use Rattle.uz_cert.specs.Kept.{Kept, SaidFits}
 use Rattle.uz_cert.specs.Reading.{Fault, is_more, words_in, line_says, or_fault, cert_from, cert_with, cert_before, read_by, read_from}

@@ -16,7 +16,7 @@ use Rattle.uz_schedule.specs.declared.lines.Event.{Event}
 use Rattle.uz_schedule.specs.declared.states.Rest.{Rest}
 use Rattle.uz_schedule.specs.declared.states.Entry.{Entry}
 use Rattle.uz_schedule.specs.declared.states.Point.{Point}
-use Rattle.uz_lines.specs.Grammar.{Words}
+use Rattle.uz_cert_words.specs.Grammar.{Words}
 use Rattle.uz_lines.specs.Forms.{LineForm, reads}
 use Rattle.uz_lines.specs.Lines.{size_form, irq_form, stack_form, cell_form, kind_form, event_form, fall_form, run_form, rest_form}
 use Rattle.uz_lines.specs.Lines.{entry_form, point_form, end_form, SizesFit, KindLineFits, IsPointIn}

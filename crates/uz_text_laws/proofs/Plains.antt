@@ -34,7 +34,7 @@ use Rattle.uz_schedule.specs.declared.states.Rest.{Rest}
 use Rattle.uz_schedule.specs.declared.states.Entry.{Entry}
 use Rattle.uz_schedule.specs.declared.states.Point.{Point}
 use Rattle.uz_lines.specs.Defaults.{is_default, is_any_pair, is_range, is_default_top, is_default_temp, range_fact}
-use Rattle.uz_lines.specs.Grammar.{with_byte, cut_words, words_of}
+use Rattle.uz_cert_words.specs.Grammar.{with_byte, cut_words, words_of}
 use Rattle.uz_spelling.specs.Spelling.{line_of, range_word, ends_word, slope_word, fact_word, pair_word, flag_word, item, unless}
 use Rattle.uz_spelling.specs.Spelling.{register_items, pair_items, flag_items, slot_items, cell_items, top_items, temp_items, successor_items}
 use Rattle.uz_spelling.specs.Spelling.{owner_word, cell_words, event_kind_words, event_words, rest_words, kind_word, range_facts}

@@ -16,7 +16,7 @@ use Rattle.uz_spelling.specs.Spelling.{kinds_then, runs_of, lines_of_certificate
 use Rattle.uz_lines.specs.declared.lines.Sizes.{Sizes}
 use Rattle.uz_lines.specs.declared.lines.StackLine.{StackLine}
 use Rattle.uz_lines.specs.declared.lines.Said.TheVariants as said
-use Rattle.uz_lines.specs.declared.why.CertWhy.TheVariants as why
+use Rattle.uz_cert_words.specs.declared.why.CertWhy.TheVariants as why
 use Rattle.uz_cert.specs.Drafts.{first_draft}
 use Rattle.uz_lines.specs.Lines.{head_line, SizesFit}
 use Rattle.uz_lines.specs.declared.version.Version.{Version}

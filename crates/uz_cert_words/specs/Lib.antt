@@ -1,0 +1,5 @@
+pub mod FlagNames
+pub mod Grammar
+pub mod Values
+pub mod Why
+pub mod WhyNames
