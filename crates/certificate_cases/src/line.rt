@@ -4,9 +4,9 @@ ghost use Rattle.std.specs.Prelude.{◌≡◌, length};
 
 use arrayvec::ArrayVec;
 use uz_cert::{Cell, CertWhy, Head, Owner, Response, Span, Version};
-use uz_lines::{
-    Said, cell_line, end_line, entry_line, event_line, fall_line, irq_line, kind_line,
-    point_line, rest_line, run_line, size_line, stack_line,
+use uz_cert_lines::{
+    Said, cell_line, end_line, entry_line, event_line, fall_line, irq_line, kind_line, point_line,
+    rest_line, run_line, size_line, stack_line,
 };
 use uz_cert_words::Words;
 

@@ -3,7 +3,7 @@
 ghost use Rattle.std.specs.Prelude.{◌<◌, ◌≤◌};
 ghost use Rattle.uz_debug.specs.Sessions.{IsInRange};
 
-use drawn_numbers::Random;
+use random_numbers::Random;
 use uz_debug::Command;
 
 /// A number of turns, mostly a small one.

@@ -10,8 +10,8 @@ mod draw;
 mod plain;
 
 use anyhow::Result;
-use drawn_numbers::Random;
 use plain::{Plain, pads};
+use random_numbers::Random;
 use std::alloc::Global;
 use uz_console::Response;
 use uz_debug::{Command, Debugger, session_text};

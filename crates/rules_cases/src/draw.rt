@@ -3,7 +3,7 @@
 ghost use Rattle.std.specs.Prelude.{◌≡◌, ◌<◌};
 
 use arrayvec::ArrayVec;
-use drawn_numbers::{ROWS, Random, place};
+use random_numbers::{ROWS, Random, place};
 use std::alloc::{AllocError, Global};
 use uz_range::hull;
 use uz_schedule::{

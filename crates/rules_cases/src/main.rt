@@ -12,7 +12,7 @@ mod sum;
 mod table;
 
 use anyhow::Result;
-use drawn_numbers::Random;
+use random_numbers::Random;
 use sum::Sum;
 use table::{Table, is_on_line, set_word};
 use uz_hex::Image;

@@ -19,8 +19,8 @@ use crate::report::{tell_answer, tell_first_state, tell_reason};
 use anyhow::Result;
 use std::alloc::Global;
 use uz_cert::read_cert;
-use uz_hex::Image;
 use uz_cert_limits::well_formed;
+use uz_hex::Image;
 use uz_rules::{after, local};
 use uz_schedule::{Cert, Head, Instance, MOST_LINES, SCANLINE, Schedule, schedule_fits};
 

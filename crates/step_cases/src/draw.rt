@@ -6,7 +6,7 @@ ghost use Rattle.uz_schedule.specs.Schedule.{scanline, half_line};
 use crate::case::{Case, Core};
 use crate::words::words;
 use arrayvec::ArrayVec;
-use drawn_numbers::{Random, place};
+use random_numbers::{Random, place};
 use std::alloc::{AllocError, Global};
 use uz_range::hull;
 use uz_schedule::{

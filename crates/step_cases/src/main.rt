@@ -17,8 +17,8 @@ mod writer;
 
 use anyhow::Result;
 use case::Case;
-use drawn_numbers::Random;
 use program::{CASES, image_of, pc_of, starts};
+use random_numbers::Random;
 use tally::Tally;
 use trial::attempt;
 use uz_console::{Console, Response, SaveState};

@@ -2,7 +2,7 @@
 
 ghost use Rattle.std.specs.Prelude.{◌<◌, IfSome};
 
-use drawn_numbers::{ROWS, Random, place};
+use random_numbers::{ROWS, Random, place};
 
 /// TCNT1L, OCR1AL and OCR1AH.
 const TIMER: [u16; 3] = [0x84, 0x88, 0x89];

@@ -12,12 +12,12 @@ use Rattle.uz_schedule.specs.declared.header.Cell.{Cell}
 use Rattle.uz_cert_words.specs.Why.{◌>>=◌}
 use Rattle.uz_cert_words.specs.Grammar.{Words, rest_of, first_as, next_as, fixed_of, number_of, choice_of, slope_of, end_of}
 use Rattle.uz_cert_words.specs.Values.{raw_of, ends_of, is_ordered}
-use Rattle.uz_lines.specs.Items.{read_items}
+use Rattle.uz_cert_lines.specs.Items.{read_items}
 use Rattle.uz_cert_words.specs.Values.{span_forms, span_of}
-use Rattle.uz_lines.specs.Forms.{with_span, spans_of, LineForm, fixed, number, choice, slope, spans, items, finish}
-use Rattle.uz_lines.specs.Forms.{reads}
-use Rattle.uz_lines.specs.declared.items.Facts.{Facts}
-use Rattle.uz_lines.specs.declared.lines.Said.{Said}
+use Rattle.uz_cert_lines.specs.Forms.{with_span, spans_of, LineForm, fixed, number, choice, slope, spans, items, finish}
+use Rattle.uz_cert_lines.specs.Forms.{reads}
+use Rattle.uz_cert_lines.specs.declared.items.Facts.{Facts}
+use Rattle.uz_cert_lines.specs.declared.lines.Said.{Said}
 use Rattle.uz_cert_words.specs.declared.values.Raw.{Raw}
 use Rattle.uz_cert_words.specs.declared.values.Raw.TheVariants as raw
 use Rattle.uz_cert_words.specs.declared.why.CertWhy.{CertWhy}

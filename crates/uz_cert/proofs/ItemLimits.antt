@@ -21,13 +21,13 @@ use Rattle.uz_schedule.specs.declared.facts.PairFact.{PairFact}
 use Rattle.uz_schedule.specs.declared.facts.PairFact.TheVariants as pair
 use Rattle.uz_schedule.specs.declared.facts.Bit.{Bit}
 use Rattle.uz_schedule.specs.declared.facts.Bit.TheVariants as bit
-use Rattle.uz_lines.specs.Defaults.{range_fact}
+use Rattle.uz_cert_lines.specs.Defaults.{range_fact}
 use Rattle.uz_cert_words.specs.Grammar.{Words}
-use Rattle.uz_lines.specs.Items.{own_regs, any_regs, default_regs, default_flag, seven, default_cells, first_facts}
+use Rattle.uz_cert_lines.specs.Items.{own_regs, any_regs, default_regs, default_flag, seven, default_cells, first_facts}
 use Rattle.uz_cert_words.specs.FlagNames.{names_c_or_z, any_names}
-use Rattle.uz_lines.specs.Items.{tracked_before, take_item, items_end, items_from, read_items}
-use Rattle.uz_lines.specs.declared.items.Shape.{Shape}
-use Rattle.uz_lines.specs.declared.items.Facts.{Facts}
+use Rattle.uz_cert_lines.specs.Items.{tracked_before, take_item, items_end, items_from, read_items}
+use Rattle.uz_cert_lines.specs.declared.items.Shape.{Shape}
+use Rattle.uz_cert_lines.specs.declared.items.Facts.{Facts}
 use Rattle.uz_cert.specs.Kept.{least_after}
 use Rattle.uz_cert.proofs.KeptLaws.{rises_push, least_push}
 use Rattle.uz_cert.proofs.Numbers.{bind_ok, and_true, ok_same}

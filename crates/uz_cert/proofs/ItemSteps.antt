@@ -22,19 +22,19 @@ use Rattle.uz_schedule.specs.declared.facts.PairFact.TheVariants as pair
 use Rattle.uz_schedule.specs.declared.facts.Bit.{Bit}
 use Rattle.uz_cert_words.specs.Why.{◌>>=◌}
 use Rattle.uz_cert_words.specs.Values.{digits, one_number, range, raw_of, fact_of, pair_of, ends_of, bit_of, is_ordered}
-use Rattle.uz_lines.specs.Lines.{span_of_fact}
-use Rattle.uz_lines.specs.Defaults.{is_default, is_any_pair, is_range, is_default_top}
-use Rattle.uz_lines.specs.Items.{in_order, is_handler, bytes_forms, register_set, register_key, take_register, pair_forms, pair_set}
-use Rattle.uz_lines.specs.Items.{take_pair, flag_set, take_flag, slot_set, slot_room, take_slot, tracked_before, with_number, cell_at}
-use Rattle.uz_lines.specs.Items.{cell_forms, numbered, cell_set, cell_value, take_cell, successor_set, take_successor}
-use Rattle.uz_lines.specs.Items.{top_set, top_value, take_top, temp_forms, temp_set, take_temp, take_timer}
+use Rattle.uz_cert_lines.specs.Lines.{span_of_fact}
+use Rattle.uz_cert_lines.specs.Defaults.{is_default, is_any_pair, is_range, is_default_top}
+use Rattle.uz_cert_lines.specs.Items.{in_order, is_handler, bytes_forms, register_set, register_key, take_register, pair_forms, pair_set}
+use Rattle.uz_cert_lines.specs.Items.{take_pair, flag_set, take_flag, slot_set, slot_room, take_slot, tracked_before, with_number, cell_at}
+use Rattle.uz_cert_lines.specs.Items.{cell_forms, numbered, cell_set, cell_value, take_cell, successor_set, take_successor}
+use Rattle.uz_cert_lines.specs.Items.{top_set, top_value, take_top, temp_forms, temp_set, take_temp, take_timer}
 use Rattle.uz_cert_words.specs.FlagNames.{any_names}
-use Rattle.uz_lines.specs.Items.{is_flag_z, take_letter, take_keyed, take_cut, take_named, take_second, take_item}
+use Rattle.uz_cert_lines.specs.Items.{is_flag_z, take_letter, take_keyed, take_cut, take_named, take_second, take_item}
 use Rattle.uz_cert_words.specs.declared.values.FactForms.{FactForms}
 use Rattle.uz_cert_words.specs.declared.values.Raw.{Raw}
 use Rattle.uz_cert_words.specs.declared.values.Raw.TheVariants as raw
-use Rattle.uz_lines.specs.declared.items.Shape.{Shape}
-use Rattle.uz_lines.specs.declared.items.Facts.{Facts}
+use Rattle.uz_cert_lines.specs.declared.items.Shape.{Shape}
+use Rattle.uz_cert_lines.specs.declared.items.Facts.{Facts}
 use Rattle.uz_cert_words.specs.declared.why.CertWhy.{CertWhy}
 use Rattle.uz_cert_words.specs.declared.why.CertWhy.TheVariants as why
 use Rattle.uz_cert.proofs.Numbers.{bind_ok, accepted, and_true, chosen_ok, passed_ok, ok_same, below_limit}

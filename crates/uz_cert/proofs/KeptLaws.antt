@@ -18,16 +18,16 @@ use Rattle.uz_schedule.specs.declared.lines.Event.{Event}
 use Rattle.uz_schedule.specs.declared.states.Rest.{Rest}
 use Rattle.uz_schedule.specs.declared.states.Entry.{Entry}
 use Rattle.uz_schedule.specs.declared.states.Point.{Point}
-use Rattle.uz_lines.specs.declared.lines.Sizes.{Sizes}
-use Rattle.uz_lines.specs.declared.lines.StackLine.{StackLine}
-use Rattle.uz_lines.specs.declared.lines.Said.{Said}
-use Rattle.uz_lines.specs.declared.lines.KindLine.{KindLine}
-use Rattle.uz_lines.specs.declared.lines.Said.TheVariants as said
-use Rattle.uz_lines.specs.declared.version.Version.{Version}
-use Rattle.uz_lines.specs.declared.version.Version.TheVariants.{First, Second}
+use Rattle.uz_cert_lines.specs.declared.lines.Sizes.{Sizes}
+use Rattle.uz_cert_lines.specs.declared.lines.StackLine.{StackLine}
+use Rattle.uz_cert_lines.specs.declared.lines.Said.{Said}
+use Rattle.uz_cert_lines.specs.declared.lines.KindLine.{KindLine}
+use Rattle.uz_cert_lines.specs.declared.lines.Said.TheVariants as said
+use Rattle.uz_cert_lines.specs.declared.version.Version.{Version}
+use Rattle.uz_cert_lines.specs.declared.version.Version.TheVariants.{First, Second}
 use Rattle.uz_cert.specs.Drafts.{first_draft, with_said, draft_after}
-use Rattle.uz_lines.specs.Lines.{SizesFit, IsLengthIn, IsPointIn}
-use Rattle.uz_lines.proofs.Lengths.{length_few}
+use Rattle.uz_cert_lines.specs.Lines.{SizesFit, IsLengthIn, IsPointIn}
+use Rattle.uz_cert_lines.proofs.Lengths.{length_few}
 use Rattle.uz_cert.specs.Kept.{least_after, CellsKept, KindsKept, LinesKept, RestsKept, PointsKept}
 use Rattle.uz_cert.specs.Kept.{Kept}
 use Rattle.uz_cert.specs.Kept.{CellSaid, KindSaid, EventSaid, RunSaid, RestSaid, EntrySaid, PointSaid, SaidFits}

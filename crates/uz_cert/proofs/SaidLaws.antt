@@ -24,21 +24,21 @@ use Rattle.uz_schedule.specs.declared.facts.Fact.TheVariants as fact
 use Rattle.uz_cert_words.specs.Grammar.{Words}
 use Rattle.uz_schedule.specs.declared.lines.EventKind.{EventKind}
 use Rattle.uz_schedule.specs.declared.lines.EventKind.TheVariants as event
-use Rattle.uz_lines.specs.Forms.{LineForm, number, finish, reads}
-use Rattle.uz_lines.specs.Lines.{within, least_of, none_in_main, shape_of}
-use Rattle.uz_lines.specs.Lines.{span_of_fact, entry_of, entry_kind, point_kind, pending_limit, count_limit, point_of}
-use Rattle.uz_lines.specs.Lines.{is_timed, point_shape, IsPointIn, point_after}
-use Rattle.uz_lines.specs.Items.{is_handler}
-use Rattle.uz_lines.specs.declared.items.Facts.{Facts}
-use Rattle.uz_lines.specs.declared.lines.PointPlace.{PointPlace}
-use Rattle.uz_lines.specs.declared.lines.Said.{Said}
-use Rattle.uz_lines.specs.declared.lines.Said.TheVariants as said
+use Rattle.uz_cert_lines.specs.Forms.{LineForm, number, finish, reads}
+use Rattle.uz_cert_lines.specs.Lines.{within, least_of, none_in_main, shape_of}
+use Rattle.uz_cert_lines.specs.Lines.{span_of_fact, entry_of, entry_kind, point_kind, pending_limit, count_limit, point_of}
+use Rattle.uz_cert_lines.specs.Lines.{is_timed, point_shape, IsPointIn, point_after}
+use Rattle.uz_cert_lines.specs.Items.{is_handler}
+use Rattle.uz_cert_lines.specs.declared.items.Facts.{Facts}
+use Rattle.uz_cert_lines.specs.declared.lines.PointPlace.{PointPlace}
+use Rattle.uz_cert_lines.specs.declared.lines.Said.{Said}
+use Rattle.uz_cert_lines.specs.declared.lines.Said.TheVariants as said
 use Rattle.uz_cert.specs.Drafts.{due_of, form_of}
-use Rattle.uz_lines.specs.Lines.{KindLineFits, kind_after}
-use Rattle.uz_lines.specs.declared.lines.KindLine.{KindLine}
-use Rattle.uz_lines.specs.declared.version.Version.{Version}
-use Rattle.uz_lines.specs.declared.version.Version.TheVariants.{First, Second}
-use Rattle.uz_lines.proofs.Lengths.{length_few, length_asked}
+use Rattle.uz_cert_lines.specs.Lines.{KindLineFits, kind_after}
+use Rattle.uz_cert_lines.specs.declared.lines.KindLine.{KindLine}
+use Rattle.uz_cert_lines.specs.declared.version.Version.{Version}
+use Rattle.uz_cert_lines.specs.declared.version.Version.TheVariants.{First, Second}
+use Rattle.uz_cert_lines.proofs.Lengths.{length_few, length_asked}
 use Rattle.uz_cert.proofs.KeptLaws.{length_in}
 use Rattle.uz_cert.specs.Kept.{CellsKept, Kept, IsAfterCells}
 use Rattle.uz_cert.specs.Kept.{SaidFits}

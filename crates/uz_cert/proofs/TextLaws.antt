@@ -7,12 +7,12 @@ use Rattle.uz_schedule.specs.declared.states.Entry.{Entry}
 use Rattle.uz_schedule.specs.declared.certificate.Cert.{Cert}
 use Rattle.uz_cert_words.specs.Why.{◌>>=◌}
 use Rattle.uz_cert_words.specs.Grammar.{Words}
-use Rattle.uz_lines.specs.Forms.{LineForm, reads}
-use Rattle.uz_lines.specs.FirstFault.{Allows, HasFirstFault}
-use Rattle.uz_lines.specs.Lines.{head_line}
-use Rattle.uz_lines.specs.declared.lines.Said.{Said}
-use Rattle.uz_lines.specs.declared.version.Version.{Version}
-use Rattle.uz_lines.specs.declared.version.Version.TheVariants.{First, Second}
+use Rattle.uz_cert_lines.specs.Forms.{LineForm, reads}
+use Rattle.uz_cert_lines.specs.FirstFault.{Allows, HasFirstFault}
+use Rattle.uz_cert_lines.specs.Lines.{head_line}
+use Rattle.uz_cert_lines.specs.declared.lines.Said.{Said}
+use Rattle.uz_cert_lines.specs.declared.version.Version.{Version}
+use Rattle.uz_cert_lines.specs.declared.version.Version.TheVariants.{First, Second}
 use Rattle.uz_cert_words.specs.declared.why.CertWhy.{CertWhy}
 use Rattle.uz_cert_words.specs.declared.why.CertWhy.TheVariants as why
 use Rattle.uz_cert.specs.Drafts.{first_draft, lacks, due_of, form_of, draft_after}

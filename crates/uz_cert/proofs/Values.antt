@@ -18,7 +18,7 @@ use Rattle.uz_schedule.specs.declared.facts.Bit.TheVariants.{Zero, One, Free, Ol
 use Rattle.uz_cert_words.specs.Why.{◌>>=◌}
 use Rattle.uz_cert_words.specs.Values.{digits, one_or, one_number, both, two_numbers, whole, slope, sloped_parts, sloped_cut, sloped, old}
 use Rattle.uz_cert_words.specs.Values.{range_parts, range_cut, range, raw_of, is_ordered, fact_of, pair_of, ends_of, bit_of}
-use Rattle.uz_lines.specs.Items.{is_handler}
+use Rattle.uz_cert_lines.specs.Items.{is_handler}
 use Rattle.uz_cert_words.specs.declared.values.FactForms.{FactForms}
 use Rattle.uz_cert_words.specs.declared.values.Raw.{Raw}
 use Rattle.uz_cert_words.specs.declared.values.Raw.TheVariants as raw

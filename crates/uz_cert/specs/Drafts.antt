@@ -6,12 +6,12 @@ use Rattle.uz_schedule.specs.WellFormed.{instances_of}
 use Rattle.uz_schedule.specs.declared.kinds.Response.TheVariants.{Four}
 use Rattle.uz_schedule.specs.declared.lines.Event.{Event}
 use Rattle.uz_schedule.specs.declared.states.Entry.{Entry}
-use Rattle.uz_lines.specs.Forms.{LineForm}
-use Rattle.uz_lines.specs.Lines.{size_form, irq_form, stack_form, cell_form, kind_form, event_form, fall_form, run_form, rest_form}
-use Rattle.uz_lines.specs.Lines.{entry_form, point_form, end_form}
-use Rattle.uz_lines.specs.declared.lines.Said.{Said}
-use Rattle.uz_lines.specs.declared.lines.Said.TheVariants as said
-use Rattle.uz_lines.specs.declared.version.Version.{Version}
+use Rattle.uz_cert_lines.specs.Forms.{LineForm}
+use Rattle.uz_cert_lines.specs.Lines.{size_form, irq_form, stack_form, cell_form, kind_form, event_form, fall_form, run_form, rest_form}
+use Rattle.uz_cert_lines.specs.Lines.{entry_form, point_form, end_form}
+use Rattle.uz_cert_lines.specs.declared.lines.Said.{Said}
+use Rattle.uz_cert_lines.specs.declared.lines.Said.TheVariants as said
+use Rattle.uz_cert_lines.specs.declared.version.Version.{Version}
 use Rattle.uz_cert.specs.declared.due.Due.{Due}
 use Rattle.uz_cert.specs.declared.due.Due.TheVariants as due
 use Rattle.uz_cert.specs.declared.draft.Draft.{Draft}

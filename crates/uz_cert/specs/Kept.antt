@@ -9,12 +9,12 @@ use Rattle.uz_schedule.specs.declared.lines.Event.{Event}
 use Rattle.uz_schedule.specs.declared.states.Rest.{Rest}
 use Rattle.uz_schedule.specs.declared.states.Entry.{Entry}
 use Rattle.uz_schedule.specs.declared.states.Point.{Point}
-use Rattle.uz_lines.specs.Lines.{SizesFit, IsLengthIn, KindLineFits, IsPointIn}
-use Rattle.uz_lines.specs.declared.lines.KindLine.{KindLine}
-use Rattle.uz_lines.specs.declared.version.Version.{Version}
-use Rattle.uz_lines.specs.declared.lines.Sizes.{Sizes}
-use Rattle.uz_lines.specs.declared.lines.Said.{Said}
-use Rattle.uz_lines.specs.declared.lines.Said.TheVariants as said
+use Rattle.uz_cert_lines.specs.Lines.{SizesFit, IsLengthIn, KindLineFits, IsPointIn}
+use Rattle.uz_cert_lines.specs.declared.lines.KindLine.{KindLine}
+use Rattle.uz_cert_lines.specs.declared.version.Version.{Version}
+use Rattle.uz_cert_lines.specs.declared.lines.Sizes.{Sizes}
+use Rattle.uz_cert_lines.specs.declared.lines.Said.{Said}
+use Rattle.uz_cert_lines.specs.declared.lines.Said.TheVariants as said
 use Rattle.uz_cert.specs.declared.draft.Draft.{Draft}
 
 -- the least number that keeps the order after these, which rise from this one

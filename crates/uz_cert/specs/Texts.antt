@@ -3,10 +3,10 @@
 use Rattle.std.specs.Prelude.{◌≡◌, ◌≢◌, ◌⊎◌, ℕ, ◌+◌, true, List, [], ◌∷◌, ◌++◌, All, length, Option, Some, None}
 use Rattle.uz_schedule.specs.declared.states.Entry.{Entry}
 use Rattle.uz_schedule.specs.declared.certificate.Cert.{Cert}
-use Rattle.uz_lines.specs.FirstFault.{Allows, HasFirstFault}
-use Rattle.uz_lines.specs.Lines.{head_line, IsLengthIn, IsPointIn}
-use Rattle.uz_lines.specs.declared.lines.Said.{Said}
-use Rattle.uz_lines.specs.declared.version.Version.{Version}
+use Rattle.uz_cert_lines.specs.FirstFault.{Allows, HasFirstFault}
+use Rattle.uz_cert_lines.specs.Lines.{head_line, IsLengthIn, IsPointIn}
+use Rattle.uz_cert_lines.specs.declared.lines.Said.{Said}
+use Rattle.uz_cert_lines.specs.declared.version.Version.{Version}
 use Rattle.uz_cert_words.specs.declared.why.CertWhy.{CertWhy}
 use Rattle.uz_cert_words.specs.declared.why.CertWhy.TheVariants as why
 use Rattle.uz_cert.specs.Drafts.{first_draft, due_of, form_of, draft_after}

@@ -2,8 +2,8 @@
 
 ghost use Rattle.std.specs.Prelude.{◌≡◌, ◌⊎◌, ◌<◌, ◌≤◌, ◌+◌, ◌-◌, ◌*◌, ◌^◌, ◌++◌, [], ◌∷◌, Some, None, Ok, Err, OnOk, IfOk, IfErr, length};
 ghost use Rattle.uz_schedule.specs.WellFormed.{instances_of as instances_of_point};
-ghost use Rattle.uz_lines.specs.Forms.{reads};
-ghost use Rattle.uz_lines.specs.Lines.{rest_form};
+ghost use Rattle.uz_cert_lines.specs.Forms.{reads};
+ghost use Rattle.uz_cert_lines.specs.Lines.{rest_form};
 ghost use Rattle.uz_cert.specs.Drafts.{first_draft, due_of, due_of_schedule, due_of_states, form_of, kind_closed, with_event, with_said, draft_after};
 ghost use Rattle.uz_cert.specs.Kept.{Kept, SaidFits};
 ghost use Rattle.uz_cert.specs.Reading.{IsMemory, line_says};
@@ -13,14 +13,14 @@ use crate::errors::CertError;
 use arrayvec::ArrayVec;
 use std::alloc::{AllocError, Global};
 use std::mem;
-use uz_lines::{
+use uz_cert_lines::{
     KindLine, Run, Said, Sizes, StackLine, Version, cell_line, end_line, entry_line, event_line,
     fall_line, irq_line, kind_line, point_line, rest_line, run_line, size_line, stack_line,
 };
+use uz_cert_words::{CertWhy, Words};
 use uz_schedule::{
     Cell, Entry, Event, Head, LineEvents, Point, Response, Rest, SCANLINE, Sequence,
 };
-use uz_cert_words::{CertWhy, Words};
 
 /// What the lines of a certificate's text say so far.
 #[derive(Debug, Drop)]

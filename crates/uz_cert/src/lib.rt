@@ -12,10 +12,10 @@ pub use due::Due;
 pub use errors::CertError;
 pub use reading::{read_cert, read_cert_1, text_or_fault};
 pub use uz_cert_limits::well_formed;
-pub use uz_lines::Version;
+pub use uz_cert_lines::Version;
+pub use uz_cert_words::CertWhy;
+pub use uz_cert_writer::write_cert;
 pub use uz_schedule::{
     Bit, Cell, Cert, Entry, Event, EventKind, Fact, Head, Instance, Kind, LineEvents, Owner,
     PairFact, Point, Response, Rest, Schedule, Sequence, Span, Val, Wide, hull,
 };
-pub use uz_spelling::write_cert;
-pub use uz_cert_words::CertWhy;

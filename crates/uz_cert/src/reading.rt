@@ -7,16 +7,16 @@ ghost use Rattle.uz_cert.specs.Drafts.{first_draft};
 ghost use Rattle.uz_cert.specs.Texts.{IsCertificateText, IsFirstFault, IsOfVersion};
 ghost use Rattle.uz_schedule.specs.declared.certificate.Cert.{Cert as TheCert};
 ghost use Rattle.uz_cert_words.specs.declared.why.CertWhy.{CertWhy};
-ghost use Rattle.uz_lines.specs.declared.version.Version.{Version as TheVersion};
-ghost use Rattle.uz_lines.specs.declared.version.Version.TheVariants.{First, Second};
+ghost use Rattle.uz_cert_lines.specs.declared.version.Version.{Version as TheVersion};
+ghost use Rattle.uz_cert_lines.specs.declared.version.Version.TheVariants.{First, Second};
 ghost use Rattle.uz_schedule.specs.Schedule.{scanline};
 
 use crate::draft::Draft;
 use crate::errors::CertError;
 use std::alloc::Global;
-use uz_lines::{Version, line_or_fault};
-use uz_schedule::{Cert, Schedule};
+use uz_cert_lines::{Version, line_or_fault};
 use uz_cert_words::CertWhy;
+use uz_schedule::{Cert, Schedule};
 
 /// The first piece of a text, and what follows its LF.
 fn cut_line(text: &[u8]) -> (&[u8], Option<&[u8]>)

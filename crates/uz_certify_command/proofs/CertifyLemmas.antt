@@ -18,8 +18,8 @@ use Rattle.avr_asm.specs.declared.output.Built.{Built}
 use Rattle.avr_asm.specs.declared.output.Hint.{Hint as SourceHint}
 use Rattle.uz_schedule.specs.declared.kinds.Response.{Response}
 use Rattle.uz_schedule.specs.declared.certificate.Cert.{Cert}
-use Rattle.uz_lines.specs.declared.version.Version.TheVariants.{Second}
-use Rattle.uz_spelling.specs.Spelling.{spelling}
+use Rattle.uz_cert_lines.specs.declared.version.Version.TheVariants.{Second}
+use Rattle.uz_cert_writer.specs.Spelling.{spelling}
 use Rattle.uz_certify_command.specs.declared.certify_command.Found.{Found}
 use Rattle.uz_certify_command.specs.declared.certify_command.Found.TheVariants.{Pair, Refusal}
 use Rattle.uz_files.specs.declared.ending.Ending.{Ending}

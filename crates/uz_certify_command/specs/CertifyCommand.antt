@@ -14,8 +14,8 @@ use Rattle.uz_schedule.specs.declared.kinds.Response.{Response}
 use Rattle.uz_schedule.specs.declared.certificate.Cert.{Cert}
 use Rattle.uz_schedule.specs.declared.states.Instance.{Instance}
 use Rattle.uz_schedule.specs.WellFormed.{WellFormed}
-use Rattle.uz_lines.specs.declared.version.Version.TheVariants.{Second}
-use Rattle.uz_spelling.specs.Spelling.{spelling}
+use Rattle.uz_cert_lines.specs.declared.version.Version.TheVariants.{Second}
+use Rattle.uz_cert_writer.specs.Spelling.{spelling}
 use Rattle.uz_soundness.specs.Acceptance.{Accepts}
 use Rattle.uz_soundness.specs.Certified.{Certified}
 use Rattle.uz_transfer.specs.declared.fail.Fail.{Fail}

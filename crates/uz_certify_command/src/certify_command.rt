@@ -14,6 +14,7 @@ use crate::certify_lines::not_found;
 use avr_asm::Built;
 use std::alloc::{AllocError, Global};
 use uz_cert::{Cert, write_cert};
+use uz_cert_text_laws::text_is_unique;
 use uz_check_command::accepted;
 use uz_files::{
     Ending, Failure, Status, assemble_file, end_with, give_up, put_no_memory, write_file,
@@ -23,7 +24,6 @@ use uz_paths::{NotFound, find};
 use uz_schedule::Response;
 use uz_shelf::{Shelf, Sink, WriteError};
 use uz_soundness::soundness;
-use uz_text_laws::text_is_unique;
 
 /// What comes of a search.
 #[derive(Debug, Drop)]

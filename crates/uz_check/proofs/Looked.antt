@@ -11,8 +11,8 @@ use Rattle.uz_schedule.specs.declared.lines.Schedule.{Schedule}
 use Rattle.uz_schedule.specs.declared.states.Point.{Point}
 use Rattle.uz_schedule.specs.declared.certificate.Cert.{Cert}
 use Rattle.uz_rules.specs.Local.{IsLocal}
-use Rattle.uz_fold.specs.Folding.{is_on_line, folds, FoldingLaw}
-use Rattle.uz_fold.specs.Untold.{is_told, untold_lines}
+use Rattle.uz_line_families.specs.Folding.{is_on_line, folds, FoldingLaw}
+use Rattle.uz_line_families.specs.Untold.{is_told, untold_lines}
 use Rattle.uz_check.specs.Refusal.{InstanceRefusal, LineRefusal}
 use Rattle.uz_check.proofs.SteadyTold.{and_true}
 

@@ -2,12 +2,12 @@
 
 ghost use Rattle.std.specs.Prelude.{◌≡◌, ◌<◌, ◌≤◌, ◌+◌, ◌-◌, suc, length, slice_get, Some};
 ghost use Rattle.uz_schedule.specs.WellFormed.{WellFormed, BoxFits};
-ghost use Rattle.uz_fold.specs.Untold.{RunsFrom, untold_of, untold};
+ghost use Rattle.uz_line_families.specs.Untold.{RunsFrom, untold_of, untold};
 ghost use Rattle.uz_check.specs.Refusal.{InstanceRefusal, LineRefusal, PointRefusal, PointsRefusal};
 
 use crate::refusal::RefusedWhy;
-use uz_fold::{alike_runs, lines_fold, next_untold, reach_of};
 use uz_hex::Image;
+use uz_line_families::{alike_runs, lines_fold, next_untold, reach_of};
 use uz_rules::local;
 use uz_schedule::{Cert, Point};
 

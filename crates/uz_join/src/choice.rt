@@ -7,9 +7,9 @@ ghost use Rattle.uz_join.specs.Joined.{SameButPoints, rest_unnumbered, entry_unn
 
 use crate::joining::{Parts, joined_parts};
 use std::alloc::Global;
+use uz_cert_limits::well_formed;
 use uz_check::verdict;
 use uz_hex::Image;
-use uz_cert_limits::well_formed;
 use uz_schedule::Cert;
 
 /// Whether a certificate is well formed and accepted.

@@ -3,8 +3,8 @@
 use Rattle.std.specs.Prelude.{◌≡◌, ℕ, List, ◌++◌, codes, decimal, length, Option}
 use Rattle.uz_shelf.specs.Files.{FileMap, HoldsFile}
 use Rattle.uz_schedule.specs.declared.certificate.Cert.{Cert}
-use Rattle.uz_lines.specs.declared.version.Version.TheVariants.{Second}
-use Rattle.uz_spelling.specs.Spelling.{spelling}
+use Rattle.uz_cert_lines.specs.declared.version.Version.TheVariants.{Second}
+use Rattle.uz_cert_writer.specs.Spelling.{spelling}
 use Rattle.uz_files.specs.Answers.{Answer, Write}
 use Rattle.uz_files.specs.Writing.{written_then}
 use Rattle.uz_files.specs.Reading.{Reads, Says, certificate_limit}

@@ -2,8 +2,8 @@
 use Rattle.std.specs.Prelude.{◌≡◌, ℕ, List, Option}
 use Rattle.uz_shelf.specs.Files.{FileMap}
 use Rattle.uz_schedule.specs.declared.certificate.Cert.{Cert}
-use Rattle.uz_lines.specs.declared.version.Version.TheVariants.{Second}
-use Rattle.uz_spelling.specs.Spelling.{spelling}
+use Rattle.uz_cert_lines.specs.declared.version.Version.TheVariants.{Second}
+use Rattle.uz_cert_writer.specs.Spelling.{spelling}
 use Rattle.uz_files.specs.declared.work.Work.{Work}
 use Rattle.uz_files.specs.Reading.{Says, certificate_limit}
 use Rattle.uz_files.specs.Formats.{SpellsCertificate, SpellsOldCertificate}

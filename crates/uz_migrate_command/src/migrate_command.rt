@@ -12,11 +12,11 @@ ghost use Rattle.uz_files.specs.Formats.{RefusesOldCertificate};
 
 use itoa::Buffer;
 use std::alloc::{AllocError, Global};
+use uz_cert_text_laws::text_is_unique;
+use uz_cert_writer::write_cert;
 use uz_files::{Failure, Status, Work, finish_work, read_old_certificate};
 use uz_schedule::Cert;
 use uz_shelf::{Shelf, Sink};
-use uz_spelling::write_cert;
-use uz_text_laws::text_is_unique;
 
 /// The line of a certificate that is written anew.
 pub(crate) fn migrated(alloc: Global, cert: &Cert) -> Result<Vec<u8>, AllocError>

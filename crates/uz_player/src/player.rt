@@ -12,10 +12,10 @@ use crate::counts::Counts;
 use crate::ending::{Ending, ended};
 use crate::recorder::{Record, Recorder};
 use arrayvec::ArrayVec;
+use uz_cert_limits::well_formed;
 use uz_console::{Approach, Console, Progress};
 use uz_machine::Edge;
 use uz_scan::{end_record, row_record};
-use uz_cert_limits::well_formed;
 use uz_schedule::Cert;
 
 /// A run's next record, or its end.

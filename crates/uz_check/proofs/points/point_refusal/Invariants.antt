@@ -1,6 +1,6 @@
 use Rattle.std.proofs.Common.{◌≡◌, ℕ, suc, false, ◌≤◌, ◌<◌, ◌+◌, ◌-◌, ◌*◌}
 use Rattle.std.specs.Prelude.{None}
-use Rattle.uz_fold.specs.Untold.{is_told, untold_lines}
+use Rattle.uz_line_families.specs.Untold.{is_told, untold_lines}
 use Rattle.uz_check.specs.Refusal.{LineRefusal}
 use Rattle.uz_check.proofs.points.point_refusal.Given as goal
 

@@ -1,6 +1,6 @@
 use Rattle.std.proofs.Common.{◌≡◌, subst}
-use Rattle.uz_lines.specs.Forms.{reads}
-use Rattle.uz_lines.specs.Lines.{rest_form}
+use Rattle.uz_cert_lines.specs.Forms.{reads}
+use Rattle.uz_cert_lines.specs.Lines.{rest_form}
 use Rattle.uz_cert.proofs.draft.Draft.rest.Goals as goal
 
 pub returns : goal.returns

@@ -1,0 +1,734 @@
+//! The lines of a certificate's text, each read as what it says.
+
+ghost use Rattle.std.specs.Prelude.{◌≡◌, ◌<◌, ◌≤◌, ◌+◌, ◌-◌, ◌/◌, IfOk, IfErr, Ok, Err, length, map};
+ghost use Rattle.uz_schedule.specs.Tracked.{depth_of as depth_of_kind};
+ghost use Rattle.uz_cert_lines.specs.Forms.{reads, spans_of};
+ghost use Rattle.uz_cert_lines.specs.Lines.{size_form, irq_form, stack_form, cell_form, kind_form, event_form, fall_form, run_form, rest_form};
+ghost use Rattle.uz_cert_lines.specs.Lines.{entry_form, point_form, end_form, within as within_limits, one_of as number_of_one};
+ghost use Rattle.uz_cert_lines.specs.Lines.{rising as rising_from, least_of as lesser_of, response_of as response_of_clocks};
+ghost use Rattle.uz_cert_lines.specs.Lines.{owner_of as owner_of_place, off_stack as off_the_stack, none_in_main as none_of_main};
+ghost use Rattle.uz_cert_lines.specs.Lines.{shape_of as shape_of_kind, is_timed as has_timer, point_shape as shape_of_point};
+ghost use Rattle.uz_cert_lines.specs.Lines.{span_of_fact as ends_of_fact};
+ghost use Rattle.uz_cert_lines.specs.Lines.{entry_of as entry_of_facts, entry_kind as kind_of_entry, point_kind as kind_of_point};
+ghost use Rattle.uz_cert_lines.specs.Lines.{pending_limit as limit_of_pending, count_limit as limit_of_count, point_of as point_of_facts};
+ghost use Rattle.uz_cert_lines.specs.Lines.{length_for as length_for_events, kind_after as kind_after_events};
+ghost use Rattle.uz_schedule.specs.Schedule.{scanline};
+ghost use Rattle.uz_cert_lines.specs.Lines.{event_after as event_after_clock, point_after as point_after_kind};
+
+use crate::defaults::{is_handler, tracks};
+use crate::items::{Facts, Shape, read_items};
+use crate::version::Version;
+use arrayvec::ArrayVec;
+use uz_cert_words::{Asked, CertWhy, Words};
+use uz_schedule::{
+    CLOCK_LIMIT, Cell, Entry, Event, EventKind, Fact, HALF_LINE, Head, Kind, MOST_EVENTS, Owner,
+    PairFact, Point, Response, Rest, SCANLINE, Span, Wide,
+};
+
+/// Each clock of a text is below this.
+const CLOCKS: u32 = CLOCK_LIMIT as u32;
+
+/// The most events of a kind of line.
+const EVENTS: u32 = MOST_EVENTS as u32;
+
+/// The clocks of a scanline.
+const WHOLE: u32 = SCANLINE as u32;
+
+/// The clocks of half a scanline.
+const HALF: u32 = HALF_LINE as u32;
+
+/// How many of each there are.
+#[derive(Clone, Copy, Debug)]
+pub struct Sizes {
+    pub kinds: u32,
+    pub lines: u32,
+    pub rests: u32,
+    pub points: u32,
+    pub cells: u32,
+}
+
+/// The stack's lowest and highest address, and what main and handler may push.
+#[derive(Clone, Copy, Debug)]
+pub struct StackLine {
+    pub lo: u16,
+    pub hi: u16,
+    pub main: u8,
+    pub handler: u8,
+}
+
+/// How many events a kind of line has, and its length.
+#[derive(Clone, Copy, Debug)]
+pub struct KindLine {
+    pub events: u32,
+    /// The clocks of a line of this kind.
+    pub clocks: u16,
+}
+
+/// Lines of one kind that follow each other.
+#[derive(Clone, Copy, Debug)]
+pub struct Run {
+    pub count: u32,
+    pub kind: u32,
+}
+
+/// What a line says.
+#[derive(Debug, Drop)]
+pub enum Said {
+    /// `size KINDS LINES RESTS POINTS CELLS`
+    Size(Sizes),
+    /// `irq R`
+    Irq(Response),
+    /// `stack LO HI MAIN HANDLER`
+    Stack(StackLine),
+    /// `cell ADDRESS OWNER LO HI`
+    Cell(Cell),
+    /// `kind EVENTS LENGTH`, and in version 1 `kind EVENTS`
+    Kind(KindLine),
+    /// `CLOCK sync V`, `CLOCK pixel`, `CLOCK sound` and `CLOCK leave`
+    Event(Event),
+    /// `fall CLOCK`
+    Fall(u16),
+    /// `run COUNT KIND`
+    Run(Run),
+    /// `rest LINE CLOCK VECTOR SPANS`
+    Rest(Rest),
+    /// `entry KIND ID PC LINE CLOCK ITEMS`
+    Entry(Entry),
+    /// `point KIND PC L0 L1 C0 C1 CLOCK SLOPE PENDING ITEMS`
+    Point(Point),
+    /// `end`
+    End,
+}
+
+/// A number from `low` on and below `limit`.
+fn within(low: u32, limit: u32) -> Asked
+    ensures asked { result ≡ within_limits low limit }
+    ensures low { result.low ≡ low }
+    ensures limit { result.limit ≡ limit }
+{
+    Asked {
+        low,
+        limit,
+        beyond: CertWhy::Limit,
+        hole: 0,
+        hole_end: 0,
+        least: 0,
+        other: u32::MAX,
+    }
+}
+
+/// The number of one of so many, which are counted from 0.
+fn one_of(count: u32) -> Asked
+    ensures asked { result ≡ number_of_one count }
+    ensures limit { result.limit ≡ count }
+{
+    Asked {
+        low: 0,
+        limit: count,
+        beyond: CertWhy::Unknown,
+        hole: 0,
+        hole_end: 0,
+        least: 0,
+        other: u32::MAX,
+    }
+}
+
+/// The same, and at least so much to keep the order.
+fn rising(least: u32, asked: Asked) -> Asked
+    ensures asked { result ≡ rising_from least asked }
+    ensures limit { result.limit ≡ asked.limit }
+{
+    Asked { least, ..asked }
+}
+
+fn least_of(a: u32, b: u32) -> u32
+    ensures { result ≡ lesser_of a b }
+{
+    if a < b { a } else { b }
+}
+
+/// `size KINDS LINES RESTS POINTS CELLS`
+pub fn size_line(words: &mut Words) -> Result<Said, CertWhy>
+    ensures { result ≡ reads size_form words.old }
+{
+    words.fixed(b"size")?;
+    let kinds = words.number(within(1, 526))?;
+    let lines = words.number(within(1, 526))?;
+    let rests = words.number(within(0, lines + 1))?;
+    let points = words.number(within(1, 524289))?;
+    let cells = words.number(within(0, 17))?;
+    words.finish()?;
+    Ok(Said::Size(Sizes {
+        kinds,
+        lines,
+        rests,
+        points,
+        cells,
+    }))
+}
+
+fn response_of(clocks: u32) -> Response
+    ensures { result ≡ response_of_clocks clocks }
+{
+    if clocks == 4 {
+        Response::Four
+    } else {
+        Response::Five
+    }
+}
+
+/// `irq R`
+pub fn irq_line(words: &mut Words) -> Result<Said, CertWhy>
+    ensures { result ≡ reads irq_form words.old }
+{
+    words.fixed(b"irq")?;
+    let clocks = words.number(within(4, 6))?;
+    words.finish()?;
+    Ok(Said::Irq(response_of(clocks)))
+}
+
+/// `stack LO HI MAIN HANDLER`
+pub fn stack_line(words: &mut Words) -> Result<Said, CertWhy>
+    ensures { result ≡ reads stack_form words.old }
+{
+    words.fixed(b"stack")?;
+    let lo = words.number(within(256, 4351))?;
+    let hi = words.number(within(lo + 1, 4352))?;
+    let main = words.number(within(0, least_of(33, hi - lo)))?;
+    let handler = words.number(within(0, least_of(33, hi - lo - main)))?;
+    words.finish()?;
+    Ok(Said::Stack(StackLine {
+        lo: lo as u16,
+        hi: hi as u16,
+        main: main as u8,
+        handler: handler as u8,
+    }))
+}
+
+fn owner_of(place: u32) -> Owner
+    ensures { result ≡ owner_of_place place }
+{
+    if place == 0 {
+        Owner::Main
+    } else {
+        Owner::Handler
+    }
+}
+
+/// An address of RAM, off the stack.
+fn off_stack(lo: u16, hi: u16, least: u32) -> Asked
+    ensures asked { result ≡ off_the_stack lo hi least }
+    ensures limit { result.limit ≡ 4352 }
+{
+    Asked {
+        hole: u32::from(lo),
+        hole_end: u32::from(hi) + 1,
+        least,
+        ..within(256, 4352)
+    }
+}
+
+/// `cell ADDRESS OWNER LO HI`
+pub fn cell_line(lo: u16, hi: u16, least: u32, words: &mut Words) -> Result<Said, CertWhy>
+    ensures { result ≡ reads (cell_form lo hi least) words.old }
+{
+    words.fixed(b"cell")?;
+    let at = words.number(off_stack(lo, hi, least))?;
+    let owner = words.choice(&[b"main", b"handler"])?;
+    let low = words.number(within(0, 256))?;
+    let high = words.number(within(low, 256))?;
+    words.finish()?;
+    Ok(Said::Cell(Cell {
+        at: at as u16,
+        owner: owner_of(owner),
+        range: Span::between(low as u8, high as u8),
+    }))
+}
+
+/// The clocks of half a scanline or of a whole one, and no fewer than there are events.
+fn length_for(events: u32) -> Asked
+    ensures asked { result ≡ length_for_events events }
+    ensures limit { result.limit ≡ scanline + 1 }
+{
+    let low = if HALF < events { WHOLE } else { HALF };
+    Asked {
+        hole: HALF + 1,
+        hole_end: WHOLE,
+        ..within(low, WHOLE + 1)
+    }
+}
+
+/// What follows the number of events.
+fn kind_after(version: Version, events: u32, words: &mut Words) -> Result<Said, CertWhy>
+    ensures { result ≡ reads (kind_after_events version events) words.old }
+{
+    match version {
+        Version::First => {
+            words.finish()?;
+            Ok(Said::Kind(KindLine {
+                events,
+                clocks: SCANLINE,
+            }))
+        }
+        Version::Second => {
+            let clocks = words.number(length_for(events))? as u16;
+            words.finish()?;
+            Ok(Said::Kind(KindLine { events, clocks }))
+        }
+    }
+}
+
+/// `kind EVENTS LENGTH`, and in version 1 `kind EVENTS`
+pub fn kind_line(version: Version, words: &mut Words) -> Result<Said, CertWhy>
+    ensures { result ≡ reads (kind_form version) words.old }
+{
+    words.fixed(b"kind")?;
+    let events = words.number(within(1, EVENTS + 1))?;
+    kind_after(version, events, words)
+}
+
+/// What follows the clock of an event, whose word is of this place.
+fn event_after(clock: u16, place: u32, words: &mut Words) -> Result<Said, CertWhy>
+    ensures { result ≡ reads (event_after_clock clock place) words.old }
+{
+    if place == 0 {
+        let level = words.number(within(0, 2))? as u8;
+        words.finish()?;
+        return Ok(Said::Event(Event {
+            clock,
+            kind: EventKind::Sync(level),
+        }));
+    }
+    words.finish()?;
+    if place == 1 {
+        return Ok(Said::Event(Event {
+            clock,
+            kind: EventKind::Pixel,
+        }));
+    }
+    if place == 2 {
+        return Ok(Said::Event(Event {
+            clock,
+            kind: EventKind::Sound,
+        }));
+    }
+    Ok(Said::Event(Event {
+        clock,
+        kind: EventKind::Leave,
+    }))
+}
+
+/// `CLOCK sync V`, `CLOCK pixel`, `CLOCK sound` and `CLOCK leave`, in a kind of line of so many clocks.
+pub fn event_line(clocks: u16, least: u32, words: &mut Words) -> Result<Said, CertWhy>
+    ensures { result ≡ reads (event_form clocks least) words.old }
+{
+    let clock = words.number(rising(least, within(0, u32::from(clocks))))?;
+    let place = words.choice(&[b"sync", b"pixel", b"sound", b"leave"])?;
+    event_after(clock as u16, place, words)
+}
+
+/// `fall CLOCK`
+pub fn fall_line(words: &mut Words) -> Result<Said, CertWhy>
+    ensures { result ≡ reads fall_form words.old }
+{
+    words.fixed(b"fall")?;
+    let clock = words.number(within(1, CLOCKS))?;
+    words.finish()?;
+    Ok(Said::Fall(clock as u16))
+}
+
+/// `run COUNT KIND`
+pub fn run_line(kinds: u32, left: u32, before: u32, words: &mut Words) -> Result<Said, CertWhy>
+    requires { left ≤ 525 }
+    ensures { result ≡ reads (run_form kinds left before) words.old }
+{
+    words.fixed(b"run")?;
+    let count = words.number(within(1, left + 1))?;
+    let kind = words.number(Asked {
+        other: before,
+        ..one_of(kinds)
+    })?;
+    words.finish()?;
+    Ok(Said::Run(Run { count, kind }))
+}
+
+/// A range for each cell of the handler, each within the one of the header.
+#[tactic(auto, using(crate::proofs::Spans::behind_more))]
+fn spans(cells: &[Cell], words: &mut Words) -> Result<ArrayVec<Span, 16>, CertWhy>
+    requires { length cells.now ≤ 16 }
+    ensures ok { IfOk result (λ v. spans_of cells.now words.old ≡ Ok (v.items, words.new)) }
+    ensures err { IfErr result (λ e. spans_of cells.now words.old ≡ Err e) }
+{
+    let mut list = ArrayVec::new();
+    for cell in cells {
+        if tracks(Kind::Handler, cell.owner) {
+            list.push(words.span(cell.range)?);
+        }
+    }
+    Ok(list)
+}
+
+/// `rest LINE CLOCK VECTOR SPANS`
+pub fn rest_line(
+    lines: u32,
+    points: u32,
+    cells: &[Cell],
+    least: u32,
+    words: &mut Words,
+) -> Result<Said, CertWhy>
+    requires lines { lines ≤ 525 }
+    requires cells { length cells.now ≤ 16 }
+    ensures { result ≡ reads (rest_form lines points cells.now least) words.old }
+{
+    words.fixed(b"rest")?;
+    let line = words.number(rising(least, within(0, lines)))?;
+    let clock = words.number(within(0, CLOCKS))?;
+    let vector = words.number(one_of(points))?;
+    let cells = spans(cells, words)?;
+    words.finish()?;
+    Ok(Said::Rest(Rest {
+        line: line as u16,
+        clock: clock as u16,
+        vector,
+        cells,
+    }))
+}
+
+/// The limit, or 1 in main, where 0 alone may stand.
+fn none_in_main(kind: Kind, limit: u32) -> u32
+    ensures value { result ≡ none_of_main kind limit }
+    ensures few { 1 ≤ limit → result ≤ limit }
+{
+    match kind {
+        Kind::Main => 1,
+        Kind::Handler => limit,
+        Kind::Alone => limit,
+    }
+}
+
+fn depth_of(head: &Head, kind: Kind) -> u8
+    ensures { result ≡ depth_of_kind head.now kind }
+{
+    match kind {
+        Kind::Main => head.main,
+        Kind::Handler => head.handler,
+        Kind::Alone => head.main,
+    }
+}
+
+fn shape_of(head: &Head, kind: Kind, plain: bool, points: u32) -> Shape
+    ensures { result ≡ shape_of_kind head.now kind plain points }
+{
+    Shape {
+        kind,
+        plain,
+        timed: false,
+        points,
+        depth: usize::from(depth_of(head, kind)),
+    }
+}
+
+fn span_of_fact(fact: &Fact) -> Span
+    ensures { result ≡ ends_of_fact fact.now }
+{
+    match fact {
+        Fact::Any => Span::between(0, 255),
+        Fact::Between(s) => Span::between(s.lo(), s.hi()),
+        Fact::Line(_, _) => Span::between(0, 255),
+        Fact::Loop(_, _) => Span::between(0, 255),
+        Fact::Old(_) => Span::between(0, 255),
+        Fact::OldFlags => Span::between(0, 255),
+    }
+}
+
+fn spans_of_regs(facts: &[Fact; 32]) -> [Span; 32]
+    ensures { result ≡ map ends_of_fact facts.now }
+{
+    let mut spans = [Span::between(0, 255); 32];
+    for r in 0..32usize {
+        spans[r] = span_of_fact(&facts[r]);
+    }
+    spans
+}
+
+fn spans_of_slots(facts: &[Fact]) -> ArrayVec<Span, 32>
+    requires { length facts.now ≤ 32 }
+    ensures { result.items ≡ map ends_of_fact facts.now }
+{
+    let mut spans = ArrayVec::new();
+    for fact in facts {
+        spans.push(span_of_fact(fact));
+    }
+    spans
+}
+
+fn spans_of_cells(facts: &[Fact]) -> ArrayVec<Span, 16>
+    requires { length facts.now ≤ 16 }
+    ensures { result.items ≡ map ends_of_fact facts.now }
+{
+    let mut spans = ArrayVec::new();
+    for fact in facts {
+        spans.push(span_of_fact(fact));
+    }
+    spans
+}
+
+#[tactic(auto, unfolding(crate::specs::Lines::entry_of))]
+fn entry_of(kind: Kind, id: u32, pc: u16, line: u16, clock: u16, facts: &Facts) -> Entry
+    ensures { result ≡ entry_of_facts kind id pc line clock facts.now }
+{
+    Entry {
+        kind,
+        id,
+        pc,
+        line,
+        clock,
+        regs: spans_of_regs(&facts.regs),
+        flags: facts.flags,
+        stack: spans_of_slots(facts.stack.as_slice()),
+        cells: spans_of_cells(facts.cells.as_slice()),
+    }
+}
+
+fn entry_kind(place: u32) -> Kind
+    ensures { result ≡ kind_of_entry place }
+{
+    if place == 0 { Kind::Main } else { Kind::Alone }
+}
+
+/// `entry KIND ID PC LINE CLOCK ITEMS`
+pub fn entry_line(head: &Head, lines: u32, points: u32, words: &mut Words) -> Result<Said, CertWhy>
+    requires lines { (1 ≤ lines) × (lines ≤ 525) }
+    requires depth { (head.now.main ≤ 32) × (head.now.handler ≤ 32) }
+    requires cells { length head.now.cells.items ≤ 16 }
+    ensures { result ≡ reads (entry_form head.now lines points) words.old }
+{
+    words.fixed(b"entry")?;
+    let kind = entry_kind(words.choice(&[b"main", b"alone"])?);
+    let id = words.number(one_of(points))?;
+    let pc = words.number(within(0, 32768))?;
+    let line = words.number(within(0, none_in_main(kind, lines)))?;
+    let clock = words.number(within(0, none_in_main(kind, CLOCKS)))?;
+    let shape = shape_of(head, kind, true, points);
+    let facts = read_items(shape, head.cells.as_slice(), words)?;
+    Ok(Said::Entry(entry_of(kind, id, pc as u16, line as u16, clock as u16, &facts)))
+}
+
+fn point_kind(place: u32) -> Kind
+    ensures { result ≡ kind_of_point place }
+{
+    if place == 0 {
+        Kind::Main
+    } else if place == 1 {
+        Kind::Handler
+    } else {
+        Kind::Alone
+    }
+}
+
+/// The items of the timer stand in the handler's points, in version 2.
+fn is_timed(version: Version, kind: Kind) -> bool
+    ensures { result ≡ has_timer version kind }
+{
+    match version {
+        Version::First => false,
+        Version::Second => is_handler(kind),
+    }
+}
+
+fn point_shape(version: Version, head: &Head, kind: Kind, points: u32) -> Shape
+    ensures { result ≡ shape_of_point version head.now kind points }
+{
+    Shape {
+        timed: is_timed(version, kind),
+        ..shape_of(head, kind, false, points)
+    }
+}
+
+fn pending_limit(kind: Kind) -> u32
+    ensures { result ≡ limit_of_pending kind }
+{
+    match kind {
+        Kind::Main => 1,
+        Kind::Handler => 2,
+        Kind::Alone => 1,
+    }
+}
+
+/// A count at which a box of lines stays within what is left of the instances.
+fn count_limit(kind: Kind, left: u32, l0: u32, l1: u32, c0: u32) -> u32
+    requires lines { (l0 ≤ l1) × (l1 < 525) }
+    requires left { left ≤ 16777216 }
+    requires count { c0 < 256 }
+    ensures limit { result ≡ limit_of_count kind left l0 l1 c0 }
+    ensures few { result ≤ 256 }
+{
+    least_of(none_in_main(kind, 256), c0 + left / (l1 - l0 + 1))
+}
+
+/// Where a point stands: what its line says before its items.
+#[derive(Clone, Copy, Debug)]
+pub struct PointPlace {
+    /// What it belongs to.
+    pub kind: Kind,
+    /// The word address of its instruction.
+    pub pc: u16,
+    /// The first line of its box.
+    pub l0: u16,
+    /// The last line of its box.
+    pub l1: u16,
+    /// The first count of its box.
+    pub c0: u8,
+    /// The last count of its box.
+    pub c1: u8,
+    /// The clock of its lines at count 0.
+    pub clock: u16,
+    /// How many clocks later it stands with each count.
+    pub slope: i16,
+    /// Whether an interrupt waits.
+    pub pending: bool,
+}
+
+/// The same fact.
+fn same_fact(fact: &Fact) -> Fact
+    ensures { result ≡ fact.now }
+{
+    match fact {
+        Fact::Any => Fact::Any,
+        Fact::Between(s) => Fact::Between(Span::between(s.lo(), s.hi())),
+        Fact::Line(a, b) => Fact::Line(*a, *b),
+        Fact::Loop(a, b) => Fact::Loop(*a, *b),
+        Fact::Old(r) => Fact::Old(*r),
+        Fact::OldFlags => Fact::OldFlags,
+    }
+}
+
+/// The same facts.
+fn same_regs(facts: &[Fact; 32]) -> [Fact; 32]
+    ensures { result ≡ facts.now }
+{
+    let mut copy = [Fact::Any; 32];
+    for r in 0..32usize {
+        copy[r] = same_fact(&facts[r]);
+    }
+    copy
+}
+
+/// The same fact.
+fn same_pair(fact: &PairFact) -> PairFact
+    ensures { result ≡ fact.now }
+{
+    match fact {
+        PairFact::Any => PairFact::Any,
+        PairFact::Between(w) => PairFact::Between(Wide::between(w.lo(), w.hi())),
+        PairFact::Line(a, b) => PairFact::Line(*a, *b),
+        PairFact::Loop(a, b) => PairFact::Loop(*a, *b),
+    }
+}
+
+/// The same facts.
+fn same_pairs(facts: &[PairFact; 3]) -> [PairFact; 3]
+    ensures { result ≡ facts.now }
+{
+    let mut copy = [PairFact::Any; 3];
+    for k in 0..3usize {
+        copy[k] = same_pair(&facts[k]);
+    }
+    copy
+}
+
+#[tactic(auto, unfolding(crate::specs::Lines::point_of))]
+fn point_of(place: PointPlace, facts: Facts) -> Point
+    ensures { result ≡ point_of_facts place facts }
+{
+    Point {
+        kind: place.kind,
+        pc: place.pc,
+        l0: place.l0,
+        l1: place.l1,
+        c0: place.c0,
+        c1: place.c1,
+        clock: place.clock,
+        slope: place.slope,
+        pending: place.pending,
+        regs: same_regs(&facts.regs),
+        pairs: same_pairs(&facts.pairs),
+        flags: facts.flags,
+        stack: facts.stack,
+        cells: facts.cells,
+        top: facts.top,
+        temp: facts.temp,
+        next: facts.next,
+    }
+}
+
+/// What follows the kind of a point.
+#[tactic(auto, unfolding(crate::specs::Lines::point_after))]
+fn point_after(
+    version: Version,
+    head: &Head,
+    lines: u32,
+    points: u32,
+    left: u32,
+    kind: Kind,
+    words: &mut Words,
+) -> Result<Said, CertWhy>
+    requires lines { (1 ≤ lines) × (lines ≤ 525) }
+    requires left { left ≤ 16777216 }
+    requires depth { (head.now.main ≤ 32) × (head.now.handler ≤ 32) }
+    requires cells { length head.now.cells.items ≤ 16 }
+    ensures { result ≡ reads (point_after_kind version head.now lines points left kind) words.old }
+{
+    let pc = words.number(within(0, 32768))?;
+    let l0 = words.number(within(0, none_in_main(kind, lines)))?;
+    let l1 = words.number(within(l0, none_in_main(kind, lines)))?;
+    let c0 = words.number(within(0, none_in_main(kind, 256)))?;
+    let c1 = words.number(within(c0, count_limit(kind, left, l0, l1, c0)))?;
+    let clock = words.number(within(0, none_in_main(kind, CLOCKS)))?;
+    let slope = words.slope(none_in_main(kind, CLOCKS))?;
+    let pending = words.number(within(0, pending_limit(kind)))?;
+    let shape = point_shape(version, head, kind, points);
+    let facts = read_items(shape, head.cells.as_slice(), words)?;
+    let place = PointPlace {
+        kind,
+        pc: pc as u16,
+        l0: l0 as u16,
+        l1: l1 as u16,
+        c0: c0 as u8,
+        c1: c1 as u8,
+        clock: clock as u16,
+        slope,
+        pending: pending == 1,
+    };
+    Ok(Said::Point(point_of(place, facts)))
+}
+
+/// `point KIND PC L0 L1 C0 C1 CLOCK SLOPE PENDING ITEMS`, where so many instances are left. In version 1 no item is one of
+/// the timer.
+pub fn point_line(
+    version: Version,
+    head: &Head,
+    lines: u32,
+    points: u32,
+    left: u32,
+    words: &mut Words,
+) -> Result<Said, CertWhy>
+    requires lines { (1 ≤ lines) × (lines ≤ 525) }
+    requires left { left ≤ 16777216 }
+    requires depth { (head.now.main ≤ 32) × (head.now.handler ≤ 32) }
+    requires cells { length head.now.cells.items ≤ 16 }
+    ensures { result ≡ reads (point_form version head.now lines points left) words.old }
+{
+    words.fixed(b"point")?;
+    let kind = point_kind(words.choice(&[b"main", b"handler", b"alone"])?);
+    point_after(version, head, lines, points, left, kind, words)
+}
+
+/// `end`
+pub fn end_line(words: &mut Words) -> Result<Said, CertWhy>
+    ensures { result ≡ reads end_form words.old }
+{
+    words.fixed(b"end")?;
+    words.finish()?;
+    Ok(Said::End)
+}

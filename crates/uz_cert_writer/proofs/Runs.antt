@@ -1,0 +1,62 @@
+-- Lines of one kind that follow each other, counted from the front.
+use Rattle.std.proofs.Common.{◌≡◌, ℕ, ◌+◌, Bool, true, false, cond, eqb, List, [], ◌∷◌, ◌++◌, append_assoc, refl, sym, ◌∙◌, ap, arith}
+use Rattle.std.proofs.lemmas.Bool.Decides.{nat_tests}
+use Rattle.uz_cert_writer.specs.Spelling.{run_before, run_words}
+use Rattle.uz_cert_writer.specs.Joined.{ended, line_end, run_lines, run_on}
+use Rattle.uz_cert_writer.proofs.Joining.{line_ended}
+
+pub first_run : (kind : ℕ) (runs : List (ℕ × ℕ)) → run_on 1 kind runs ≡ run_before kind runs
+first_run kind [] = refl
+first_run kind (r ∷ rs) = refl
+
+same : (n : ℕ) → eqb n n ≡ true
+same n = grind (arith, nat_tests)
+
+on_own : (count kind n : ℕ) (rs : List (ℕ × ℕ)) → run_on count kind ((n, kind) ∷ rs) ≡ (n + count, kind) ∷ rs
+on_own count kind n rs = ap (λ t. cond t ((n + count, kind) ∷ rs) ((count, kind) ∷ (n, kind) ∷ rs)) (same kind)
+
+more : (n m kind : ℕ) (rs : List (ℕ × ℕ)) → n ≡ m → (n, kind) ∷ rs ≡ (m, kind) ∷ rs
+more n m kind rs e = ap (λ k. (k, kind) ∷ rs) e
+
+-- one more line of the kind
+pub run_goes_on : (count kind : ℕ) (runs : List (ℕ × ℕ)) → run_on count kind (run_before kind runs) ≡ run_on (count + 1) kind runs
+run_goes_on count kind [] = on_own count kind 1 [] ∙ more (1 + count) (count + 1) kind [] (omega arith)
+run_goes_on count kind (r ∷ rs) = step (eqb r.1 kind)
+  where
+    step : (t : Bool)
+        → run_on count kind (cond t ((r.0 + 1, kind) ∷ rs) ((1, kind) ∷ r ∷ rs))
+        ≡ cond t ((r.0 + (count + 1), kind) ∷ rs) ((count + 1, kind) ∷ r ∷ rs)
+    step true = on_own count kind (r.0 + 1) rs ∙ more (r.0 + 1 + count) (r.0 + (count + 1)) kind rs (omega arith)
+    step false = on_own count kind 1 (r ∷ rs) ∙ more (1 + count) (count + 1) kind (r ∷ rs) (omega arith)
+
+-- a line of another kind
+pub run_ends : (count kind next : ℕ) (runs : List (ℕ × ℕ)) → eqb next kind ≡ false
+    → run_on count kind (run_before next runs) ≡ (count, kind) ∷ run_before next runs
+run_ends count kind next [] ne = ap (λ t. cond t ((1 + count, kind) ∷ []) ((count, kind) ∷ (1, next) ∷ [])) ne
+run_ends count kind next (r ∷ rs) ne = step (eqb r.1 next)
+  where
+    other : (n : ℕ) (rs : List (ℕ × ℕ)) → run_on count kind ((n, next) ∷ rs) ≡ (count, kind) ∷ (n, next) ∷ rs
+    other n rs = ap (λ t. cond t ((n + count, kind) ∷ rs) ((count, kind) ∷ (n, next) ∷ rs)) ne
+
+    step : (t : Bool)
+        → run_on count kind (cond t ((r.0 + 1, next) ∷ rs) ((1, next) ∷ r ∷ rs))
+        ≡ (count, kind) ∷ cond t ((r.0 + 1, next) ∷ rs) ((1, next) ∷ r ∷ rs)
+    step true = other (r.0 + 1) rs
+    step false = other 1 (r ∷ rs)
+
+-- the runs of a text with one more line of the kind
+pub run_kept : (text : List ℕ) (count kind next : ℕ) (runs : List (ℕ × ℕ)) → next ≡ kind
+    → text ++ ended (run_lines (run_on (count + 1) next runs)) ≡ text ++ ended (run_lines (run_on count kind (run_before next runs)))
+run_kept text count kind next runs e =
+    rw e (ap (λ r. text ++ ended (run_lines r)) (sym (run_goes_on count kind runs)))
+
+-- the runs of a text with a line of another kind
+pub run_over : (old new : List ℕ) (count kind next : ℕ) (runs : List (ℕ × ℕ)) → eqb next kind ≡ false → new ≡ old
+    ++ line_end (run_words (count, kind))
+    → new ++ ended (run_lines (run_on 1 next runs)) ≡ old ++ ended (run_lines (run_on count kind (run_before next runs)))
+run_over old new count kind next runs ne e =
+    ap (λ t. t ++ ended (run_lines (run_on 1 next runs))) e
+    ∙ append_assoc old (line_end (run_words (count, kind))) (ended (run_lines (run_on 1 next runs)))
+    ∙ ap (λ r. old ++ (line_end (run_words (count, kind)) ++ ended (run_lines r))) (first_run next runs)
+    ∙ ap (λ t. old ++ t) (line_ended (run_words (count, kind)) (run_lines (run_before next runs)))
+    ∙ ap (λ r. old ++ ended (run_lines r)) (sym (run_ends count kind next runs ne))

@@ -1,0 +1,184 @@
+-- One more word or line at the end of a text.
+use Rattle.std.proofs.Common.{◌≡◌, ℕ, zero, suc, ◌+◌, ◌<◌, ◌≤◌, Bool, true, false, ◌&&◌, cond, List, [], ◌∷◌, ◌++◌, map, drop, get_or, length}
+use Rattle.std.proofs.Common.{decimal, refl, sym, ◌∙◌, ap, arith, append_assoc, append-nil, add-one, drop-cons}
+use Rattle.std.specs.Prelude.{Some, slice_get}
+use Rattle.std.proofs.lemmas.List.{drop_all}
+use Rattle.uz_schedule.specs.Limits.{is_length, clocks_below, lengths_fit}
+use Rattle.uz_schedule.specs.Tracked.{tracks}
+use Rattle.uz_schedule.specs.WellFormed.{is_default_flag}
+use Rattle.uz_schedule.specs.declared.kinds.Kind.{Kind}
+use Rattle.uz_schedule.specs.declared.facts.Fact.{Fact}
+use Rattle.uz_schedule.specs.declared.facts.PairFact.{PairFact}
+use Rattle.uz_schedule.specs.declared.facts.Bit.{Bit}
+use Rattle.uz_schedule.specs.declared.header.Cell.{Cell}
+use Rattle.uz_schedule.specs.declared.lines.Event.{Event}
+use Rattle.uz_cert_lines.specs.Defaults.{is_any_pair, is_range}
+use Rattle.uz_cert_writer.specs.Spelling.{line_of, unless, item, fact_word, pair_word, flag_word, pair_items, flag_items, cell_items}
+use Rattle.uz_cert_lines.specs.declared.version.Version.TheVariants.{Second}
+use Rattle.uz_cert_writer.specs.Spelling.{kind_words, event_words, kinds_then}
+use Rattle.uz_cert_writer.specs.Joined.{spaced, ended, line_end}
+use Rattle.uz_cert_writer.proofs.Joining.{spaced_append, ended_append, line_ended}
+
+-- pieces put one after another
+
+pub added : (old new piece rest all : List ℕ) → new ≡ old ++ piece → old ++ (piece ++ rest) ≡ all → new ++ rest ≡ all
+added old new piece rest all e f = ap (λ t. t ++ rest) e ∙ append_assoc old piece rest ∙ f
+
+pub added_two : (old mid new a b rest all : List ℕ) → mid ≡ old ++ a → new ≡ mid ++ b → old ++ (a ++ (b ++ rest)) ≡ all → new ++ rest ≡ all
+added_two old mid new a b rest all e f g =
+    added mid new b rest all f (added old mid a (b ++ rest) all e g)
+
+-- an item, or none, and then others
+pub unless_first : (t : Bool) (word : List ℕ) (words : List (List ℕ)) → spaced (unless t word words) ≡ spaced (unless t word [])
+    ++ spaced words
+unless_first true word words = refl
+unless_first false word words = ap (λ t. 32 ∷ t) (ap (λ t. t ++ spaced words) (sym (append-nil word)))
+
+left : {A : Type 0} (xs : List A) (k : ℕ) (x d : A) → k < length xs → x ≡ get_or xs k d → drop k xs ≡ x ∷ drop (k + 1) xs
+left xs k x d h e = drop-cons xs k d h ∙ ap (λ y. y ∷ drop (suc k) xs) (sym e) ∙ ap (λ n. x ∷ drop n xs) (sym (add-one k))
+
+-- pieces put, and what was left with one of them
+pub put : (old new piece rest left all : List ℕ) → new ≡ old ++ piece → left ≡ piece ++ rest → old ++ left ≡ all → new ++ rest ≡ all
+put old new piece rest left all e f g = added old new piece rest all e (ap (λ t. old ++ t) (sym f) ∙ g)
+
+pub put_two : (old mid new a b rest left all : List ℕ) → mid ≡ old ++ a → new ≡ mid ++ b → left ≡ a ++ (b ++ rest) → old ++ left ≡ all
+    → new ++ rest ≡ all
+put_two old mid new a b rest left all e f g h = added_two old mid new a b rest all e f (ap (λ t. old ++ t) (sym g) ∙ h)
+
+-- nothing is left
+pub nothing_left : (text left all : List ℕ) → left ≡ [] → text ++ left ≡ all → text ≡ all
+nothing_left text left all e f = sym (append-nil text) ∙ ap (λ t. text ++ t) (sym e) ∙ f
+
+-- pairs and flags
+
+pub pair_left : (letters : List ℕ) (fs : List PairFact) (k letter : ℕ) (x : PairFact)
+    → k < length letters → k < length fs → letter ≡ get_or letters k 0 → x ≡ get_or fs k x
+    → spaced (pair_items (drop k letters) (drop k fs))
+    ≡ spaced (unless (is_any_pair x) (item (letter ∷ []) (pair_word x)) []) ++ spaced (pair_items (drop (k + 1) letters) (drop (k + 1) fs))
+pair_left letters fs k letter x h i e f =
+    ap (λ ls. spaced (pair_items ls (drop k fs))) (left letters k letter 0 h e)
+    ∙ ap (λ ys. spaced (pair_items (letter ∷ drop (k + 1) letters) ys)) (left fs k x x i f)
+    ∙ unless_first (is_any_pair x) (item (letter ∷ []) (pair_word x)) (pair_items (drop (k + 1) letters) (drop (k + 1) fs))
+
+no_pairs : (letters : List ℕ) → pair_items letters [] ≡ []
+no_pairs [] = refl
+no_pairs (letter ∷ letters) = refl
+
+pub pairs_over : (letters : List ℕ) (fs : List PairFact) (k : ℕ) → length fs ≤ k → spaced (pair_items (drop k letters) (drop k fs)) ≡ []
+pairs_over letters fs k h = ap (λ ys. spaced (pair_items (drop k letters) ys)) (drop_all k fs h) ∙ ap spaced (no_pairs (drop k letters))
+
+pub flag_left : (kind : Kind) (letters : List ℕ) (bs : List Bit) (k letter : ℕ) (x d : Bit)
+    → k < length letters → k < length bs → letter ≡ get_or letters k 0 → x ≡ get_or bs k d
+    → spaced (flag_items kind (drop k letters) (drop k bs))
+    ≡ spaced (unless (is_default_flag kind x) (item (letter ∷ []) (flag_word x)) [])
+    ++ spaced (flag_items kind (drop (k + 1) letters) (drop (k + 1) bs))
+flag_left kind letters bs k letter x d h i e f =
+    ap (λ ls. spaced (flag_items kind ls (drop k bs))) (left letters k letter 0 h e)
+    ∙ ap (λ ys. spaced (flag_items kind (letter ∷ drop (k + 1) letters) ys)) (left bs k x d i f)
+    ∙ unless_first (is_default_flag kind x) (item (letter ∷ []) (flag_word x)) (flag_items kind (drop (k + 1) letters) (drop (k + 1) bs))
+
+-- cells
+
+no_cells : (kind : Kind) (i : ℕ) (cs : List Cell) → cell_items kind i cs [] ≡ []
+no_cells kind i [] = refl
+no_cells kind i (c ∷ cs) = refl
+
+next_fact : (fs : List Fact) (k : ℕ) (x : Fact) → slice_get fs k ≡ Some x → drop k fs ≡ x ∷ drop (k + 1) fs
+next_fact [] k x e = absurd cc
+next_fact (f ∷ fs) zero x e = let same : f ≡ x = cc in ap (λ y. y ∷ fs) same
+next_fact (f ∷ fs) (suc k) x e = next_fact fs k x e ∙ ap (λ n. x ∷ drop n (f ∷ fs)) (sym (add-one (k + 1)) ∙ ap (λ n. n + 1) (add-one k))
+
+-- a cell that the kind tracks, with its fact
+pub cell_added : (old new : List ℕ) (kind : Kind) (i next : ℕ) (c : Cell) (cs : List Cell) (fs : List Fact) (x : Fact)
+    → tracks kind c.owner ≡ true → slice_get fs next ≡ Some x
+    → new ≡ old ++ spaced (unless (is_range c.range x) (item (109 ∷ decimal i) (fact_word x)) [])
+    → new ++ spaced (cell_items kind (i + 1) cs (drop (next + 1) fs)) ≡ old ++ spaced (cell_items kind i (c ∷ cs) (drop next fs))
+cell_added old new kind i next c cs fs x t e f =
+    let word = item (109 ∷ decimal i) (fact_word x) in
+    let later = cell_items kind (suc i) cs (drop (next + 1) fs) in
+    ap (λ n. new ++ spaced (cell_items kind n cs (drop (next + 1) fs))) (add-one i)
+    ∙ put old new (spaced (unless (is_range c.range x) word [])) (spaced later) (spaced (unless (is_range c.range x) word later))
+    (old ++ spaced (unless (is_range c.range x) word later)) f (unless_first (is_range c.range x) word later) refl
+    ∙ ap (λ b. old ++ spaced (cond b (unless (is_range c.range x) word later) (cell_items kind (suc i) cs (x ∷ drop (next + 1) fs))))
+    (sym t)
+    ∙ ap (λ ys. old ++ spaced (cell_items kind i (c ∷ cs) ys)) (sym (next_fact fs next x e))
+
+passed : (kind : Kind) (i : ℕ) (c : Cell) (cs : List Cell) (fs : List Fact) → tracks kind c.owner ≡ false
+    → cell_items kind i (c ∷ cs) fs ≡ cell_items kind (suc i) cs fs
+passed kind i c cs [] t = sym (no_cells kind (suc i) cs)
+passed kind i c cs (f ∷ fs) t =
+    ap (λ b. cond b (unless (is_range c.range f) (item (109 ∷ decimal i) (fact_word f)) (cell_items kind (suc i) cs fs))
+    (cell_items kind (suc i) cs (f ∷ fs))) t
+
+-- one that it doesn't track
+pub cell_passed : (text : List ℕ) (kind : Kind) (i next : ℕ) (c : Cell) (cs : List Cell) (fs : List Fact) → tracks kind c.owner ≡ false
+    → text ++ spaced (cell_items kind (i + 1) cs (drop next fs)) ≡ text ++ spaced (cell_items kind i (c ∷ cs) (drop next fs))
+cell_passed text kind i next c cs fs t =
+    ap (λ n. text ++ spaced (cell_items kind n cs (drop next fs))) (add-one i)
+    ∙ ap (λ t. text ++ spaced t) (sym (passed kind i c cs (drop next fs) t))
+
+-- no fact is left
+pub cell_missing : (text : List ℕ) (kind : Kind) (i next : ℕ) (c : Cell) (cs : List Cell) (fs : List Fact) → length fs ≤ next
+    → text ++ spaced (cell_items kind (i + 1) cs (drop next fs)) ≡ text ++ spaced (cell_items kind i (c ∷ cs) (drop next fs))
+cell_missing text kind i next c cs fs e =
+    ap (λ ys. text ++ spaced (cell_items kind (i + 1) cs ys)) (drop_all next fs e)
+    ∙ ap (λ t. text ++ spaced t) (no_cells kind (i + 1) cs)
+    ∙ ap (λ ys. text ++ spaced (cell_items kind i (c ∷ cs) ys)) (sym (drop_all next fs e))
+
+-- kinds of line
+
+pub kind_added : (old mid new : List ℕ) (events : List Event) (clocks : ℕ) (kinds : List (List Event)) (lengths : List ℕ)
+    → mid ≡ old ++ line_end (kind_words Second (length events) clocks) → new ≡ mid ++ ended (map (λ e. line_of (event_words e)) events)
+    → new ++ ended (kinds_then Second kinds lengths []) ≡ old ++ ended (kinds_then Second (events ∷ kinds) (clocks ∷ lengths) [])
+kind_added old mid new events clocks kinds lengths e f =
+    let lines = map (λ e. line_of (event_words e)) events in
+    let words = kind_words Second (length events) clocks in
+    let others = kinds_then Second kinds lengths [] in
+    added_two old mid new (line_end words) (ended lines) (ended others)
+    (old ++ ended (kinds_then Second (events ∷ kinds) (clocks ∷ lengths) [])) e f
+    (ap (λ t. old ++ t) (ap (λ t. line_end words ++ t) (sym (ended_append lines others)) ∙ line_ended words (lines ++ others)))
+
+-- kinds that are left
+pub kinds_left : (kinds : List (List Event)) (lengths : List ℕ) (k : ℕ) (events : List Event) (clocks : ℕ) → k < length kinds
+    → k < length lengths → events ≡ get_or kinds k events → clocks ≡ get_or lengths k clocks
+    → kinds_then Second (drop k kinds) (drop k lengths) []
+    ≡ kinds_then Second (events ∷ drop (k + 1) kinds) (clocks ∷ drop (k + 1) lengths) []
+kinds_left kinds lengths k events clocks h i e f =
+    ap (λ ks. kinds_then Second ks (drop k lengths) []) (left kinds k events events h e)
+    ∙ ap (λ ns. kinds_then Second (events ∷ drop (k + 1) kinds) ns []) (left lengths k clocks clocks i f)
+
+pub kinds_over : (kinds : List (List Event)) (lengths : List ℕ) (k : ℕ) → length kinds ≤ k
+    → ended (kinds_then Second (drop k kinds) (drop k lengths) []) ≡ []
+kinds_over kinds lengths k h = ap (λ ks. ended (kinds_then Second ks (drop k lengths) [])) (drop_all k kinds h)
+
+-- one length for each kind
+pub lengths_count : (kinds : List (List Event)) (lengths : List ℕ) → lengths_fit kinds lengths ≡ true → length kinds ≤ length lengths
+lengths_count [] lengths h = omega arith
+lengths_count (es ∷ kinds) [] h = absurd cc
+lengths_count (es ∷ kinds) (n ∷ lengths) h =
+    let later = lengths_count kinds lengths (both (is_length n && clocks_below es n) (lengths_fit kinds lengths) h) in
+    omega (arith, later)
+  where
+    both : (a b : Bool) → (a && b) ≡ true → b ≡ true
+    both true b e = e
+    both false b e = absurd cc
+
+-- two lists of words
+pub added_both : (old mid new : List ℕ) (ws vs : List (List ℕ)) → mid ≡ old ++ spaced ws → new ≡ mid ++ spaced vs → new ≡ old
+    ++ spaced (ws ++ vs)
+added_both old mid new ws vs e f =
+    f ∙ ap (λ t. t ++ spaced vs) e ∙ append_assoc old (spaced ws) (spaced vs) ∙ ap (λ t. old ++ t) (sym (spaced_append ws vs))
+
+-- four pieces
+pub added_four : (old t1 t2 t3 new a b d e : List ℕ) → t1 ≡ old ++ a → t2 ≡ t1 ++ b → t3 ≡ t2 ++ d → new ≡ t3 ++ e
+    → new ≡ old ++ (a ++ (b ++ (d ++ e)))
+added_four old t1 t2 t3 new a b d e f g h i =
+    i ∙ ap (λ t. t ++ e) (h ∙ ap (λ t. t ++ d) (g ∙ ap (λ t. t ++ b) f))
+    ∙ append_assoc ((old ++ a) ++ b) d e ∙ append_assoc (old ++ a) b (d ++ e) ∙ append_assoc old a (b ++ (d ++ e))
+
+-- lines that are left
+pub lines_left : {A : Type 0} (words : A → List (List ℕ)) (xs : List A) (k : ℕ) (x : A) → k < length xs → x ≡ get_or xs k x
+    → ended (map (λ y. line_of (words y)) (drop k xs)) ≡ line_end (words x) ++ ended (map (λ y. line_of (words y)) (drop (k + 1) xs))
+lines_left words xs k x h e =
+    ap (λ ys. ended (map (λ y. line_of (words y)) ys)) (left xs k x x h e)
+    ∙ sym (line_ended (words x) (map (λ y. line_of (words y)) (drop (k + 1) xs)))

@@ -1,0 +1,72 @@
+-- The lines of rests, entries and points, put piece by piece, are their words joined.
+use Rattle.std.proofs.Common.{◌≡◌, ℕ, List, [], ◌∷◌, ◌++◌, map, decimal, codes, sym, ◌∙◌, ap, append_assoc}
+use Rattle.uz_schedule.specs.declared.header.Cell.{Cell}
+use Rattle.uz_schedule.specs.declared.states.Entry.{Entry}
+use Rattle.uz_schedule.specs.declared.states.Point.{Point}
+use Rattle.uz_schedule.specs.declared.states.Rest.{Rest}
+use Rattle.uz_cert_writer.specs.Spelling.{register_items, pair_items, flag_items, slot_items, cell_items, top_items, temp_items, successor_items}
+use Rattle.uz_cert_writer.specs.Spelling.{range_facts, ends_word, rest_words, entry_items, entry_words, point_items, point_words}
+use Rattle.uz_cert_writer.specs.Joined.{spaced, line_end, rest_text, entry_place, entry_facts, entry_text, point_place, core_text, memory_text}
+use Rattle.uz_cert_writer.specs.Joined.{onward_text, point_text}
+use Rattle.uz_cert_writer.proofs.Joining.{spaced_append, join_words}
+
+-- a first word and two lists of others
+line_of_two : (first : List ℕ) (ws vs : List (List ℕ)) → line_end (first ∷ (ws ++ vs)) ≡ first ++ (spaced ws ++ (spaced vs ++ 10 ∷ []))
+line_of_two first ws vs =
+    ap (λ t. t ++ 10 ∷ []) (join_words first (ws ++ vs) ∙ ap (λ t. first ++ t) (spaced_append ws vs))
+    ∙ append_assoc first (spaced ws ++ spaced vs) (10 ∷ [])
+    ∙ ap (λ t. first ++ t) (append_assoc (spaced ws) (spaced vs) (10 ∷ []))
+
+pub rest_is : (r : Rest) → rest_text r ≡ line_end (rest_words r)
+rest_is r = sym (line_of_two (codes "rest") (decimal r.line ∷ decimal r.clock ∷ decimal r.vector ∷ []) (map (ends_word 255) r.cells.items))
+
+entry_facts_are : (cells : List Cell) (e : Entry) → spaced (entry_items cells e) ≡ entry_facts cells e
+entry_facts_are cells e =
+    let regs = register_items e.kind 0 (range_facts e.regs) in
+    let flags = flag_items e.kind (codes "cznvsht") e.flags in
+    let slots = slot_items (range_facts e.stack.items) in
+    let facts = cell_items e.kind 0 cells (range_facts e.cells.items) in
+    spaced_append regs (flags ++ (slots ++ facts))
+    ∙ ap (λ t. spaced regs ++ t) (spaced_append flags (slots ++ facts) ∙ ap (λ t. spaced flags ++ t) (spaced_append slots facts))
+
+pub entry_is : (cells : List Cell) (e : Entry) → entry_text cells e ≡ line_end (entry_words cells e)
+entry_is cells e =
+    ap (λ t. codes "entry" ++ (spaced (entry_place e) ++ (t ++ 10 ∷ []))) (sym (entry_facts_are cells e))
+    ∙ sym (line_of_two (codes "entry") (entry_place e) (entry_items cells e))
+
+memory_facts_are : (cells : List Cell) (p : Point)
+    → spaced (slot_items p.stack.items ++ (cell_items p.kind 0 cells p.cells.items
+    ++ (top_items p.top ++ (temp_items p.temp ++ successor_items p.next.items)))) ≡ memory_text cells p ++ onward_text p
+memory_facts_are cells p =
+    let slots = slot_items p.stack.items in
+    let facts = cell_items p.kind 0 cells p.cells.items in
+    let top = top_items p.top in
+    let temp = temp_items p.temp in
+    let next = successor_items p.next.items in
+    spaced_append slots (facts ++ (top ++ (temp ++ next)))
+    ∙ ap (λ t. spaced slots ++ t) (spaced_append facts (top ++ (temp ++ next))
+    ∙ ap (λ t. spaced facts ++ t) (spaced_append top (temp ++ next) ∙ ap (λ t. spaced top ++ t) (spaced_append temp next)))
+    ∙ sym (append_assoc (spaced slots) (spaced facts) (onward_text p))
+
+point_facts_are : (cells : List Cell) (p : Point) → spaced (point_items cells p) ≡ core_text p ++ (memory_text cells p ++ onward_text p)
+point_facts_are cells p =
+    let regs = register_items p.kind 0 p.regs in
+    let pairs = pair_items (codes "xyz") p.pairs in
+    let flags = flag_items p.kind (codes "cznvsht") p.flags in
+    let memory = slot_items p.stack.items ++ (cell_items p.kind 0 cells p.cells.items
+    ++ (top_items p.top ++ (temp_items p.temp ++ successor_items p.next.items))) in
+    let told = memory_text cells p ++ onward_text p in
+    spaced_append regs (pairs ++ (flags ++ memory))
+    ∙ ap (λ t. spaced regs ++ t) (spaced_append pairs (flags ++ memory)
+    ∙ ap (λ t. spaced pairs ++ t) (spaced_append flags memory ∙ ap (λ t. spaced flags ++ t) (memory_facts_are cells p))
+    ∙ sym (append_assoc (spaced pairs) (spaced flags) told))
+    ∙ sym (append_assoc (spaced regs) (spaced pairs ++ spaced flags) told)
+
+pub point_is : (cells : List Cell) (p : Point) → point_text cells p ≡ line_end (point_words cells p)
+point_is cells p =
+    ap (λ t. codes "point" ++ (spaced (point_place p) ++ (core_text p ++ t)))
+    (sym (append_assoc (memory_text cells p) (onward_text p) (10 ∷ [])))
+    ∙ ap (λ t. codes "point" ++ (spaced (point_place p) ++ t))
+    (sym (append_assoc (core_text p) (memory_text cells p ++ onward_text p) (10 ∷ [])))
+    ∙ ap (λ t. codes "point" ++ (spaced (point_place p) ++ (t ++ 10 ∷ []))) (sym (point_facts_are cells p))
+    ∙ sym (line_of_two (codes "point") (point_place p) (point_items cells p))

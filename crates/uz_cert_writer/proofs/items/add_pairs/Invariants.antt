@@ -1,0 +1,11 @@
+use Rattle.std.proofs.Common.{◌≡◌, ◌++◌, drop}
+use Rattle.std.specs.Prelude.{codes}
+use Rattle.uz_cert_writer.specs.Joined.{spaced}
+use Rattle.uz_cert_writer.specs.Spelling.{pair_items}
+use Rattle.uz_cert_writer.proofs.items.add_pairs.Given as goal
+
+-- what is written, and what is left
+abbrev pub invariant-loop-k : goal.invariant-loop-k
+invariant-loop-k l =
+    l.text.items ++ spaced (pair_items (drop l.k (codes "xyz")) (drop l.k l.facts))
+    ≡ l.initial.text.items ++ spaced (pair_items (codes "xyz") l.facts)

@@ -1,0 +1,10 @@
+use Rattle.std.proofs.Common.{◌≡◌, ◌++◌, drop, map}
+use Rattle.uz_cert_writer.specs.Joined.{ended}
+use Rattle.uz_cert_writer.specs.Spelling.{line_of, event_words}
+use Rattle.uz_cert_writer.proofs.schedule_lines.add_events.Given as goal
+
+-- what is written, and what is left
+abbrev pub invariant-loop-event : goal.invariant-loop-event
+invariant-loop-event l =
+    l.text.items ++ ended (map (λ e. line_of (event_words e)) (drop l.event-index l.events))
+    ≡ l.initial.text.items ++ ended (map (λ e. line_of (event_words e)) l.events)

@@ -1,0 +1,8 @@
+use Rattle.std.proofs.Common.{arith}
+use Rattle.std.proofs.lemmas.Grind.{common_steps}
+use Rattle.uz_cert_writer.proofs.Steps.{lengths_count}
+use Rattle.uz_cert_writer.proofs.writing.add_schedule.Goals as goal
+
+pub add_kinds-requires-clause-lengths : goal.add_kinds-requires-clause-lengths
+add_kinds-requires-clause-lengths c =
+    grind (arith, common_steps, lengths_count c.args.schedule.now.kinds c.args.schedule.now.lengths c.requires.lengths)

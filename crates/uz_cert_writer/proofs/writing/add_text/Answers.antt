@@ -1,0 +1,7 @@
+use Rattle.std.proofs.Common.{◌++◌, sym, ◌∙◌, ap}
+use Rattle.std.specs.Prelude.{ℕ, List}
+use Rattle.uz_cert_writer.proofs.Joining.{spelling_parts}
+use Rattle.uz_cert_writer.proofs.writing.add_text.Goals as goal
+
+pub returns : goal.returns
+returns c = c.in_ok-add_all.ensures ∙ ap (λ (t : List ℕ). c.args.text.now.items ++ t) (sym (spelling_parts c.args.cert.now))

@@ -1,0 +1,249 @@
+-- The text of a certificate. Its lines end in LF (10), words stand apart by one space (32), numbers are decimal.
+use Rattle.std.specs.Prelude.{ℕ, suc, ◌+◌, ◌==◌, ◌&&◌, Bool, true, false, ℤ, pos, negsuc, List, [], ◌∷◌, ◌++◌, map, length, codes, decimal}
+use Rattle.std.specs.Prelude.{if◌then◌else◌}
+use Rattle.std.specs.List.{join_with_byte}
+use Prim.Native.Char.{code}
+use Rattle.uz_schedule.specs.Ends.{Ends}
+use Rattle.uz_schedule.specs.Schedule.{response_clocks}
+use Rattle.uz_schedule.specs.declared.kinds.Kind.{Kind}
+use Rattle.uz_schedule.specs.declared.kinds.Kind.TheVariants.{Main, Handler, Alone}
+use Rattle.uz_schedule.specs.Tracked.{tracks}
+use Rattle.uz_schedule.specs.WellFormed.{is_default_flag}
+use Rattle.uz_cert_lines.specs.Defaults.{is_default, is_any_pair, is_range, is_default_top, is_default_temp, range_fact}
+use Rattle.uz_cert_lines.specs.Lines.{head_line}
+use Rattle.uz_cert_lines.specs.declared.version.Version.{Version}
+use Rattle.uz_cert_lines.specs.declared.version.Version.TheVariants.{First, Second}
+use Rattle.uz_schedule.specs.declared.kinds.Owner.{Owner}
+use Rattle.uz_schedule.specs.declared.kinds.Owner.TheVariants.{Main as MainCell, Handler as HandlerCell}
+use Rattle.uz_schedule.specs.declared.facts.Fact.{Fact}
+use Rattle.uz_schedule.specs.declared.facts.Fact.TheVariants.{Any, Between, Line, Loop, Old, OldFlags}
+use Rattle.uz_schedule.specs.declared.facts.PairFact.{PairFact}
+use Rattle.uz_schedule.specs.declared.facts.PairFact.TheVariants.{Any as AnyPair, Between as BetweenPair, Line as LinePair}
+use Rattle.uz_schedule.specs.declared.facts.PairFact.TheVariants.{Loop as LoopPair}
+use Rattle.uz_schedule.specs.declared.facts.Bit.{Bit}
+use Rattle.uz_schedule.specs.declared.facts.Bit.TheVariants.{Zero, One, Free, Old as OldBit}
+use Rattle.uz_schedule.specs.declared.header.Cell.{Cell}
+use Rattle.uz_schedule.specs.declared.header.Head.{Head}
+use Rattle.uz_schedule.specs.declared.lines.Event.{Event}
+use Rattle.uz_schedule.specs.declared.lines.EventKind.{EventKind}
+use Rattle.uz_schedule.specs.declared.lines.EventKind.TheVariants.{Sync, Pixel, Sound, Leave}
+use Rattle.uz_schedule.specs.declared.lines.Schedule.{Schedule}
+use Rattle.uz_schedule.specs.declared.states.Entry.{Entry}
+use Rattle.uz_schedule.specs.declared.states.Point.{Point}
+use Rattle.uz_schedule.specs.declared.states.Rest.{Rest}
+use Rattle.uz_schedule.specs.declared.certificate.Cert.{Cert}
+
+abbrev pub line_of : List (List ℕ) → List ℕ
+line_of words = join_with_byte (code " ") words
+
+-- ranges and facts
+
+-- `n`, or `lo..hi`
+abbrev pub range_word : Ends → List ℕ
+range_word e = if e.lo == e.hi then decimal e.lo else decimal e.lo ++ codes ".." ++ decimal e.hi
+
+-- `*` is the whole range up to top
+abbrev pub ends_word : ℕ → Ends → List ℕ
+ends_word top e = if e.lo == 0 && e.hi == top then codes "*" else range_word e
+
+-- `l*A+B` and `c*A+B`
+abbrev pub slope_word : List ℕ → ℕ → ℕ → List ℕ
+slope_word of a b = of ++ codes "*" ++ decimal a ++ codes "+" ++ decimal b
+
+abbrev pub fact_word : Fact → List ℕ
+fact_word Any = codes "*"
+fact_word (Between e) = ends_word 255 e
+fact_word (Line a b) = slope_word (codes "l") a b
+fact_word (Loop a b) = slope_word (codes "c") a b
+fact_word (Old r) = code "o" ∷ decimal r
+fact_word OldFlags = codes "of"
+
+abbrev pub pair_word : PairFact → List ℕ
+pair_word AnyPair = codes "*"
+pair_word (BetweenPair e) = ends_word 65535 e
+pair_word (LinePair a b) = slope_word (codes "l") a b
+pair_word (LoopPair a b) = slope_word (codes "c") a b
+
+abbrev pub flag_word : Bit → List ℕ
+flag_word Zero = codes "0"
+flag_word One = codes "1"
+flag_word Free = codes "?"
+flag_word OldBit = codes "o"
+
+-- items: what is said of registers, pairs, flags, slots, cells and the timer; a default is left out
+
+abbrev pub item : List ℕ → List ℕ → List ℕ
+item key value = key ++ code "=" ∷ value
+
+abbrev pub unless : Bool → List ℕ → List (List ℕ) → List (List ℕ)
+unless is_default word words = if is_default then words else word ∷ words
+
+-- the registers from r on
+abbrev pub register_items : Kind → ℕ → List Fact → List (List ℕ)
+register_items kind r [] = []
+register_items kind r (f ∷ fs) = unless (is_default kind r f) (item (code "r" ∷ decimal r) (fact_word f)) (register_items kind (suc r) fs)
+
+-- the pairs of these letters
+abbrev pub pair_items : List ℕ → List PairFact → List (List ℕ)
+pair_items [] fs = []
+pair_items (letter ∷ letters) [] = []
+pair_items (letter ∷ letters) (f ∷ fs) = unless (is_any_pair f) (item (letter ∷ []) (pair_word f)) (pair_items letters fs)
+
+-- the flags of these letters
+abbrev pub flag_items : Kind → List ℕ → List Bit → List (List ℕ)
+flag_items kind [] bits = []
+flag_items kind (letter ∷ letters) [] = []
+flag_items kind (letter ∷ letters) (b ∷ bs) = unless (is_default_flag kind b) (item (letter ∷ []) (flag_word b))
+    (flag_items kind letters bs)
+
+-- the stack from the bottom, no slot left out
+abbrev pub slot_items : List Fact → List (List ℕ)
+slot_items slots = map (λ f. codes "s:" ++ fact_word f) slots
+
+-- of the cells, i of which came before
+abbrev pub cell_items : Kind → ℕ → List Cell → List Fact → List (List ℕ)
+cell_items kind i [] facts = []
+cell_items kind i (c ∷ cs) [] = []
+cell_items kind i (c ∷ cs) (f ∷ fs) =
+    if tracks kind c.owner
+    then unless (is_range c.range f) (item (code "m" ∷ decimal i) (fact_word f)) (cell_items kind (suc i) cs fs)
+    else cell_items kind (suc i) cs (f ∷ fs)
+
+-- OCR1A, and the range of TEMP, of which `*` is no spelling
+abbrev pub top_items : ℕ → List (List ℕ)
+top_items top = unless (is_default_top top) (item (codes "top") (decimal top)) []
+
+abbrev pub temp_items : Ends → List (List ℕ)
+temp_items temp = unless (is_default_temp temp) (item (codes "temp") (range_word temp)) []
+
+abbrev pub successor_items : List ℕ → List (List ℕ)
+successor_items ids = map (λ id. code ">" ∷ decimal id) ids
+
+-- lines
+
+abbrev pub size_words : Cert → List (List ℕ)
+size_words c = codes "size" ∷ decimal (length c.schedule.kinds) ∷ decimal (length c.schedule.lines) ∷ decimal (length c.rests) ∷ decimal
+    (length c.points) ∷ decimal (length c.head.cells.items) ∷ []
+
+abbrev pub irq_words : Head → List (List ℕ)
+irq_words h = codes "irq" ∷ decimal (response_clocks h.irq) ∷ []
+
+abbrev pub stack_words : Head → List (List ℕ)
+stack_words h = codes "stack" ∷ decimal h.lo ∷ decimal h.hi ∷ decimal h.main ∷ decimal h.handler ∷ []
+
+abbrev pub owner_word : Owner → List ℕ
+owner_word MainCell = codes "main"
+owner_word HandlerCell = codes "handler"
+
+abbrev pub cell_words : Cell → List (List ℕ)
+cell_words c = codes "cell" ∷ decimal c.at ∷ owner_word c.owner ∷ decimal c.range.lo ∷ decimal c.range.hi ∷ []
+
+-- version 2 says the length of a kind of line
+abbrev pub length_words : Version → ℕ → List (List ℕ)
+length_words First clocks = []
+length_words Second clocks = decimal clocks ∷ []
+
+abbrev pub kind_words : Version → ℕ → ℕ → List (List ℕ)
+kind_words version events clocks = codes "kind" ∷ decimal events ∷ length_words version clocks
+
+abbrev pub event_kind_words : EventKind → List (List ℕ)
+event_kind_words (Sync level) = codes "sync" ∷ decimal level ∷ []
+event_kind_words Pixel = codes "pixel" ∷ []
+event_kind_words Sound = codes "sound" ∷ []
+event_kind_words Leave = codes "leave" ∷ []
+
+abbrev pub event_words : Event → List (List ℕ)
+event_words e = decimal e.clock ∷ event_kind_words e.kind
+
+abbrev pub fall_words : Schedule → List (List ℕ)
+fall_words s = codes "fall" ∷ decimal s.fall ∷ []
+
+-- lines that follow each other and are of one kind: how many, and the kind
+abbrev pub run_before : ℕ → List (ℕ × ℕ) → List (ℕ × ℕ)
+run_before kind [] = (1, kind) ∷ []
+run_before kind (r ∷ rs) = if r.1 == kind then (r.0 + 1, kind) ∷ rs else (1, kind) ∷ r ∷ rs
+
+abbrev pub runs_of : List ℕ → List (ℕ × ℕ)
+runs_of [] = []
+runs_of (kind ∷ kinds) = run_before kind (runs_of kinds)
+
+abbrev pub run_words : ℕ × ℕ → List (List ℕ)
+run_words r = codes "run" ∷ decimal r.0 ∷ decimal r.1 ∷ []
+
+abbrev pub rest_words : Rest → List (List ℕ)
+rest_words r = codes "rest" ∷ decimal r.line ∷ decimal r.clock ∷ decimal r.vector ∷ map (ends_word 255) r.cells.items
+
+abbrev pub kind_word : Kind → List ℕ
+kind_word Main = codes "main"
+kind_word Handler = codes "handler"
+kind_word Alone = codes "alone"
+
+abbrev pub range_facts : List Ends → List Fact
+range_facts spans = map range_fact spans
+
+abbrev pub entry_items : List Cell → Entry → List (List ℕ)
+entry_items cells e =
+    register_items e.kind 0 (range_facts e.regs)
+    ++ (flag_items e.kind (codes "cznvsht") e.flags
+    ++ (slot_items (range_facts e.stack.items)
+    ++ cell_items e.kind 0 cells (range_facts e.cells.items)))
+
+abbrev pub entry_words : List Cell → Entry → List (List ℕ)
+entry_words cells e =
+    codes "entry" ∷ kind_word e.kind ∷ decimal e.id ∷ decimal e.pc ∷ decimal e.line ∷ decimal e.clock ∷ entry_items cells e
+
+abbrev pub signed_word : ℤ → List ℕ
+signed_word (pos n) = decimal n
+signed_word (negsuc n) = code "-" ∷ decimal (n + 1)
+
+abbrev pub truth_word : Bool → List ℕ
+truth_word true = codes "1"
+truth_word false = codes "0"
+
+abbrev pub point_items : List Cell → Point → List (List ℕ)
+point_items cells p =
+    register_items p.kind 0 p.regs
+    ++ (pair_items (codes "xyz") p.pairs
+    ++ (flag_items p.kind (codes "cznvsht") p.flags
+    ++ (slot_items p.stack.items
+    ++ (cell_items p.kind 0 cells p.cells.items
+    ++ (top_items p.top
+    ++ (temp_items p.temp
+    ++ successor_items p.next.items))))))
+
+abbrev pub point_words : List Cell → Point → List (List ℕ)
+point_words cells p =
+    codes "point" ∷ kind_word p.kind ∷ decimal p.pc ∷ decimal p.l0 ∷ decimal p.l1 ∷ decimal p.c0 ∷ decimal p.c1
+    ∷ decimal p.clock ∷ signed_word p.slope ∷ truth_word p.pending ∷ point_items cells p
+
+-- the whole text
+
+-- the lines of the kinds, each with its length, and then these
+abbrev pub kinds_then : Version → List (List Event) → List ℕ → List (List ℕ) → List (List ℕ)
+kinds_then version [] lengths others = others
+kinds_then version (events ∷ kinds) [] others = others
+kinds_then version (events ∷ kinds) (clocks ∷ lengths) others =
+    line_of (kind_words version (length events) clocks)
+    ∷ (map (λ e. line_of (event_words e)) events ++ kinds_then version kinds lengths others)
+
+-- `end` and, after the last LF, the empty line
+abbrev pub last_lines : List (List ℕ)
+last_lines = codes "end" ∷ [] ∷ []
+
+abbrev pub state_lines : List Cell → Entry → List Point → List (List ℕ)
+state_lines cells entry points =
+    line_of (entry_words cells entry) ∷ (map (λ p. line_of (point_words cells p)) points ++ last_lines)
+
+abbrev pub schedule_lines : Version → Schedule → List (List ℕ) → List (List ℕ)
+schedule_lines version s others =
+    kinds_then version s.kinds s.lengths (line_of (fall_words s) ∷ (map (λ r. line_of (run_words r)) (runs_of s.lines) ++ others))
+
+abbrev pub lines_of_certificate : Version → Cert → List (List ℕ)
+lines_of_certificate version c =
+    head_line version ∷ line_of (size_words c) ∷ line_of (irq_words c.head) ∷ line_of (stack_words c.head)
+    ∷ (map (λ m. line_of (cell_words m)) c.head.cells.items
+    ++ schedule_lines version c.schedule (map (λ r. line_of (rest_words r)) c.rests ++ state_lines c.head.cells.items c.entry c.points))
+
+-- the text of a version, which for version 1 says nothing of lengths; and nothing of the timer, where each point has the defaults
+abbrev pub spelling : Version → Cert → List ℕ
+spelling version c = join_with_byte (code "\n") (lines_of_certificate version c)

@@ -1,7 +1,0 @@
-use Rattle.std.proofs.Common.{◌++◌, ◌∙◌, ap}
-use Rattle.std.specs.Prelude.{ℕ, List}
-use Rattle.uz_spelling.proofs.WholeLines.{point_is}
-use Rattle.uz_spelling.proofs.state_lines.add_point.Goals as goal
-
-pub returns : goal.returns
-returns c = c.in_ok-add_point_words.ensures ∙ ap (λ (t : List ℕ). c.args.text.now.items ++ t) (point_is c.args.cells.now c.args.point.now)

@@ -1,7 +1,0 @@
-use Rattle.std.proofs.Common.{◌++◌, ◌∙◌, ap}
-use Rattle.std.specs.Prelude.{ℕ, List}
-use Rattle.uz_spelling.proofs.WholeLines.{rest_is}
-use Rattle.uz_spelling.proofs.state_lines.add_rest.Goals as goal
-
-pub returns : goal.returns
-returns c = c.in_ok-add_rest_words.ensures ∙ ap (λ (t : List ℕ). c.args.text.now.items ++ t) (rest_is c.args.rest.now)
