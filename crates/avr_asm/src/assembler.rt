@@ -1,6 +1,7 @@
 //! The second pass over the lines, and the whole.
 
-ghost use Rattle.std.specs.Prelude.{◌≡◌, ◌<◌, ◌≤◌, ◌-◌, ◌+◌, ◌^◌, ◌⊎◌, ℕ, All, IfErr, IfOk, OnOk, MatchResult, Ok, Err, length, drop, map as mapped};
+ghost use Rattle.std.specs.Prelude.{◌≡◌, ◌<◌, ◌≤◌, ◌-◌, ◌+◌, ◌^◌, ◌⊎◌, ℕ, All, IfErr, IfOk, OnOk, MatchResult, Ok, Err};
+ghost use Rattle.std.specs.Prelude.{length, drop, map as mapped};
 ghost use Rattle.avr_operands.specs.Faults.{Gives};
 ghost use Rattle.avr_operands.specs.Operands.{AllLie, EachLies};
 ghost use Rattle.avr_asm.specs.Layout.{EachShort, GivesLayout};
@@ -9,7 +10,9 @@ ghost use Rattle.avr_asm.specs.Items.{IsDecoded, IsInFlash};
 ghost use Rattle.avr_asm.specs.Relation.{IsAssembly};
 ghost use Rattle.avr_asm.specs.FirstFault.{IsFirstFault};
 ghost use Rattle.avr_operands.specs.declared.errors.AsmWhy.{AsmWhy};
-ghost use Rattle.avr_asm.specs.Assembly.{Output, seen_built, with_instruction, with_data, with_hint, with_directive, with_action, with_line, following as following_address, output_from, nothing, assembly};
+ghost use Rattle.avr_asm.specs.Assembly.{Output, seen_built, with_instruction, with_data, with_hint, with_directive};
+ghost use Rattle.avr_asm.specs.Assembly.{with_action, with_line, following as following_address, output_from, nothing};
+ghost use Rattle.avr_asm.specs.Assembly.{assembly};
 
 use crate::directives::Directive;
 use crate::emission::{byte_data, code_of, put, word_data};
@@ -68,7 +71,9 @@ fn put_directive(
 ) -> Result<(), AsmWhy>
     requires lie { EachLies (length line.now) parts.now }
     requires address { address ≤ 65536 }
-    ensures { Gives (λ _. seen_built built.new) result (with_directive directive line.now symbols.now address following (mapped (λ p. p.now) parts.now) (seen_built built.old)) }
+    ensures { Gives (λ _. seen_built built.new) result
+        (with_directive directive line.now symbols.now address following (mapped (λ p. p.now) parts.now)
+        (seen_built built.old)) }
 {
     match directive {
         Directive::Db => {
@@ -102,7 +107,9 @@ fn put_action(
 ) -> Result<(), AsmWhy>
     requires lie { EachLies (length line.now) parts.now }
     requires address { address ≤ 65536 }
-    ensures { Gives (λ _. seen_built built.new) result (with_action action line.now symbols.now number address following (mapped (λ p. p.now) parts.now) (seen_built built.old)) }
+    ensures { Gives (λ _. seen_built built.new) result
+        (with_action action line.now symbols.now number address following (mapped (λ p. p.now) parts.now)
+        (seen_built built.old)) }
 {
     match action {
         Action::Instruction(mnemonic) => {
@@ -168,7 +175,8 @@ fn next_instruction(
     requires short { EachShort lines.now }
     requires same { length addresses.now ≡ length lines.now }
     requires below { All (λ a. a ≤ 65536) addresses.now }
-    ensures { MatchResult result (λ n. n ≡ following_address (drop from (mapped (λ line. line.now) lines.now)) (drop from addresses.now)) (λ why. why ≡ AsmWhy.Memory) }
+    ensures { MatchResult result (λ n. n ≡ following_address (drop from (mapped (λ line. line.now) lines.now))
+        (drop from addresses.now)) (λ why. why ≡ AsmWhy.Memory) }
 {
     for i in from..lines.len() {
         if is_instruction_line(alloc, lines[i])? {
@@ -191,7 +199,8 @@ fn following_line(
     requires below { All (λ a. a ≤ 65536) addresses.now }
     requires within { i < length lines.now }
     requires following { following ≡ following_address (drop i (mapped (λ line. line.now) lines.now)) (drop i addresses.now) }
-    ensures { MatchResult result (λ n. n ≡ following_address (drop (i + 1) (mapped (λ line. line.now) lines.now)) (drop (i + 1) addresses.now)) (λ why. why ≡ AsmWhy.Memory) }
+    ensures { MatchResult result (λ n. n ≡ following_address (drop (i + 1) (mapped (λ line. line.now) lines.now))
+        (drop (i + 1) addresses.now)) (λ why. why ≡ AsmWhy.Memory) }
 {
     if is_instruction_line(alloc, lines[i])? {
         next_instruction(alloc, lines, addresses, i + 1)
@@ -280,7 +289,8 @@ pub fn assemble(alloc: Global, text: &[u8]) -> Result<Built, AsmError>
 
     // Refused exactly with the first fault: one of the first pass before those of the second, of the least line and number.
     ensures first { IfErr result (λ e. (e.why ≡ AsmWhy.Memory) ⊎ IsFirstFault text.now e.line e.why) }
-    ensures faulty { (line : ℕ) (why : AsmWhy) → IsFirstFault text.now line why → GivesLayout seen_built result (Err (record { line = line; why = why })) }
+    ensures faulty { (line : ℕ) (why : AsmWhy) → IsFirstFault text.now line why
+        → GivesLayout seen_built result (Err (record { line = line; why = why })) }
 {
     value_is_kept();
     name_gives_word_count();

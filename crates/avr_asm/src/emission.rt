@@ -4,7 +4,9 @@ ghost use Rattle.std.specs.Prelude.{◌≡◌, ◌≤◌, ◌++◌, ◌∷◌, [
 ghost use Rattle.avr_operands.specs.Faults.{Gives};
 ghost use Rattle.avr_operands.specs.Operands.{AllLie, EachLies};
 ghost use Rattle.avr_asm.specs.Codes.{first_word, second_word, word_count};
-ghost use Rattle.avr_asm.specs.Emission.{low_byte as low_byte_of, bytes_of_number, data_value, data_from, data_state, with_number, least_of_faults, byte_data as byte_data_of, word_data as word_data_of, word_bytes, instruction_bytes, put as put_bytes};
+ghost use Rattle.avr_asm.specs.Emission.{low_byte as low_byte_of, bytes_of_number, data_value, data_from, data_state};
+ghost use Rattle.avr_asm.specs.Emission.{with_number, least_of_faults, byte_data as byte_data_of};
+ghost use Rattle.avr_asm.specs.Emission.{word_data as word_data_of, word_bytes, instruction_bytes, put as put_bytes};
 
 use avr_decode::{Code, encode};
 use avr_operands::{AsmWhy, number};
@@ -177,7 +179,8 @@ pub fn code_of(alloc: Global, instr: &Instr) -> Result<Vec<u8>, AllocError>
 /// Puts bytes at a byte address and after it, where no byte is yet.
 pub fn put(image: &mut Image, at: u32, bytes: &[u8]) -> Result<(), AsmWhy>
     requires { at ≤ 65536 }
-    ensures { MatchResult result (λ _. put_bytes at bytes.now image.old ≡ Ok image.new) (λ why. put_bytes at bytes.now image.old ≡ Err why) }
+    ensures { MatchResult result (λ _. put_bytes at bytes.now image.old ≡ Ok image.new)
+        (λ why. put_bytes at bytes.now image.old ≡ Err why) }
 {
     let mut at = at;
     for byte in bytes {

@@ -3,7 +3,11 @@
 ghost use Rattle.std.specs.Prelude.{◌≡◌, ◌<◌, ◌≤◌, ◌^◌, false, IfOk, length, map};
 ghost use Rattle.avr_operands.specs.Operands.{AllLie, EachLies};
 ghost use Rattle.avr_asm.specs.declared.first_pass.Effect.TheVariants.{Take};
-ghost use Rattle.avr_asm.specs.Layout.{is_reserved as is_reserved_name, is_word as is_word_operand, is_start as is_start_shape, is_cell as is_cell_shape, if_shaped as effect_if_shaped, org_effect as org_effect_of, equ_effect as equ_effect_of, directive_effect as directive_effect_of, effect_of as effect_of_line, address_after as address_after_effect, IsWithin};
+ghost use Rattle.avr_asm.specs.Layout.{is_reserved as is_reserved_name, is_word as is_word_operand};
+ghost use Rattle.avr_asm.specs.Layout.{is_start as is_start_shape, is_cell as is_cell_shape};
+ghost use Rattle.avr_asm.specs.Layout.{if_shaped as effect_if_shaped, org_effect as org_effect_of};
+ghost use Rattle.avr_asm.specs.Layout.{equ_effect as equ_effect_of, directive_effect as directive_effect_of};
+ghost use Rattle.avr_asm.specs.Layout.{effect_of as effect_of_line, address_after as address_after_effect, IsWithin};
 
 use crate::directives::Directive;
 use crate::lines::{Action, is_equals, is_name};

@@ -2,7 +2,11 @@
 
 ghost use Rattle.std.specs.Prelude.{◌≡◌, ◌<◌, length, map};
 ghost use Rattle.avr_operands.specs.Operands.{AllLie, EachLies};
-ghost use Rattle.avr_asm.specs.Hints.{short as short_operand, byte as byte_operand, word_address as word_address_operand, place_of as place_of_operand, start_hint, lines_hint, half_hint, stack_hint, cell_hint, fact_hint, part_at, shorts_at, bytes_at, ranged as ranged_cell, main_cell_hint, handler_cell_hint, pointer_place as pointer_place_of, hint_of as hint_of_directive};
+ghost use Rattle.avr_asm.specs.Hints.{short as short_operand, byte as byte_operand};
+ghost use Rattle.avr_asm.specs.Hints.{word_address as word_address_operand, place_of as place_of_operand, start_hint};
+ghost use Rattle.avr_asm.specs.Hints.{lines_hint, half_hint, stack_hint, cell_hint, fact_hint, part_at, shorts_at};
+ghost use Rattle.avr_asm.specs.Hints.{bytes_at, ranged as ranged_cell, main_cell_hint, handler_cell_hint};
+ghost use Rattle.avr_asm.specs.Hints.{pointer_place as pointer_place_of, hint_of as hint_of_directive};
 
 use crate::directives::Directive;
 use crate::first_pass::is_word;

@@ -49,5 +49,6 @@ pub fn assembly_is_unique()
 /// their lengths if none is an `.org`, and else the last `.org` plus the lengths after it. Does nothing.
 pub fn address_is_origin_and_lengths()
     ensures first { (between : List Statement) → HaveNoOrigin between → end_of 0 between ≡ length_of between }
-    ensures later { (before between : List Statement) (origin : Statement) (to : ℕ) → origin.effect ≡ Move to → HaveNoOrigin between → end_of 0 (before ++ origin ∷ between) ≡ to + length_of between }
+    ensures later { (before between : List Statement) (origin : Statement) (to : ℕ) → origin.effect ≡ Move to → HaveNoOrigin between
+        → end_of 0 (before ++ origin ∷ between) ≡ to + length_of between }
 {}

@@ -5,7 +5,11 @@ ghost use Rattle.std.specs.Option.{option_copied};
 ghost use Rattle.std.specs.FinMap as map;
 ghost use Rattle.avr_operands.specs.Faults.{Gives};
 ghost use Rattle.avr_operands.specs.Operands.{AllLie};
-ghost use Rattle.avr_asm.specs.Layout.{with_value, with_ports, with_core, with_data, predefined as predefined_names, defined, labelled, named, applied as applied_effect, effect_in as effect_in_line, after_line as place_after_line, is_instruction_line as is_line_of_instruction, IsLast, IsWithin, EachShort, arguments_in, layout_of, GivesLayout, seen_layout};
+ghost use Rattle.avr_asm.specs.Layout.{with_value, with_ports, with_core, with_data, predefined as predefined_names};
+ghost use Rattle.avr_asm.specs.Layout.{defined, labelled, named, applied as applied_effect};
+ghost use Rattle.avr_asm.specs.Layout.{effect_in as effect_in_line, after_line as place_after_line};
+ghost use Rattle.avr_asm.specs.Layout.{is_instruction_line as is_line_of_instruction, IsLast, IsWithin, EachShort};
+ghost use Rattle.avr_asm.specs.Layout.{arguments_in, layout_of, GivesLayout, seen_layout};
 ghost use Rattle.avr_asm.specs.Lines.{first_text};
 
 use crate::errors::AsmError;

@@ -5,7 +5,14 @@ ghost use Rattle.std.specs.Option.{option_copied};
 ghost use Rattle.std.specs.List.{prefix_len, slice_split};
 ghost use Rattle.avr_operands.specs.Faults.{Gives};
 ghost use Rattle.avr_operands.specs.Operands.{AllLie, EachLies};
-ghost use Rattle.avr_asm.specs.Lines.{goes_on as goes_on_line, first_len, lines_of as lines_of_text, is_name as is_name_token, is_colon as is_colon_mark, is_dot as is_dot_mark, is_equals as is_equals_mark, begins_with_label as begins_with_label_tokens, label_of as label_of_tokens, body_of as body_of_tokens, dot_action as dot_action_of, action_of as action_of_body, arguments_of as arguments_of_body, content_of as content_of_line, is_content as is_content_token, is_comma as is_comma_token, parts_of as parts_of_tokens};
+ghost use Rattle.avr_asm.specs.Lines.{goes_on as goes_on_line, first_len, lines_of as lines_of_text};
+ghost use Rattle.avr_asm.specs.Lines.{is_name as is_name_token, is_colon as is_colon_mark, is_dot as is_dot_mark};
+ghost use Rattle.avr_asm.specs.Lines.{is_equals as is_equals_mark, begins_with_label as begins_with_label_tokens};
+ghost use Rattle.avr_asm.specs.Lines.{label_of as label_of_tokens, body_of as body_of_tokens};
+ghost use Rattle.avr_asm.specs.Lines.{dot_action as dot_action_of, action_of as action_of_body};
+ghost use Rattle.avr_asm.specs.Lines.{arguments_of as arguments_of_body, content_of as content_of_line};
+ghost use Rattle.avr_asm.specs.Lines.{is_content as is_content_token, is_comma as is_comma_token};
+ghost use Rattle.avr_asm.specs.Lines.{parts_of as parts_of_tokens};
 
 use crate::directives::{Directive, directive_of};
 use avr_operands::{AsmWhy, Mnemonic, mnemonic_of};

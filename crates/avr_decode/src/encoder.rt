@@ -25,7 +25,8 @@ pub fn encode(i: &Instr) -> Code
 
     // Of any two words that are read as the instruction, the first is this one, and the second where it has two.
     ensures same_first { (first second : ℕ) → first < 2 ^ 16 → second < 2 ^ 16 → Reads first second i.now → result.first ≡ first }
-    ensures same_second { (first second : ℕ) → first < 2 ^ 16 → second < 2 ^ 16 → Reads first second i.now → words_of i.now ≡ 2 → result.second ≡ second }
+    ensures same_second { (first second : ℕ) → first < 2 ^ 16 → second < 2 ^ 16 → Reads first second i.now → words_of i.now ≡ 2
+        → result.second ≡ second }
 {
     let number = both_words(i);
     Code {
@@ -37,7 +38,8 @@ pub fn encode(i: &Instr) -> Code
 
 macro_rules! both_words_match {
     (($i:expr) $($variant:ident { $($field:ident $bits:literal),* } $key:ident $name:literal [$($operand:ident($($part:tt),*)),*],
-      words $words:literal, clocks ($next:literal, $taken:literal, $one:literal, $two:literal), fixed $mask:literal is $value:literal;)*) => {
+      words $words:literal, clocks ($next:literal, $taken:literal, $one:literal, $two:literal),
+      fixed $mask:literal is $value:literal;)*) => {
         match $i {
             $(Instr::$variant { $($field),* } => {
                 let number = $value;

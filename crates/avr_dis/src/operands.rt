@@ -120,7 +120,8 @@ macro_rules! in_order {
 
 macro_rules! operands_match {
     (($i:expr) $($variant:ident { $($field:ident $bits:literal),* } $key:ident $name:literal [$($operand:ident($($part:tt),*)),*],
-      words $words:literal, clocks ($next:literal, $taken:literal, $one:literal, $two:literal), fixed $mask:literal is $value:literal;)*) => {
+      words $words:literal, clocks ($next:literal, $taken:literal, $one:literal, $two:literal),
+      fixed $mask:literal is $value:literal;)*) => {
         match $i {
             $(Instr::$variant { $($field),* } => in_order!($($operand($($part),*)),*),)*
         }

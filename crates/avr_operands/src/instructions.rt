@@ -4,7 +4,9 @@ ghost use Rattle.std.specs.Prelude.{◌≡◌, IfOk, length};
 ghost use Rattle.avr_table.specs.Rows.{words_of as row_words};
 ghost use Rattle.avr_operands.specs.Mnemonics.{words_of};
 ghost use Rattle.avr_operands.specs.Operands.{seen, pair_of, EachLies};
-ghost use Rattle.avr_operands.specs.Instructions.{none as no_operand, load as load_row, store as store_row, loaded, stored, loaded_displaced, stored_displaced, program_memory, forms_of as forms_of_name, row_of as row_of_name, instruction_of};
+ghost use Rattle.avr_operands.specs.Instructions.{none as no_operand, load as load_row, store as store_row, loaded};
+ghost use Rattle.avr_operands.specs.Instructions.{stored, loaded_displaced, stored_displaced, program_memory};
+ghost use Rattle.avr_operands.specs.Instructions.{forms_of as forms_of_name, row_of as row_of_name, instruction_of};
 
 use crate::errors::AsmWhy;
 use crate::fields::field;

@@ -11,5 +11,6 @@ ghost use Rattle.avr_operands.specs.Operands.{Operands};
 /// The law that the instruction which a name has with some operands is of as many words as the name says, whatever the
 /// operands are. Does nothing.
 pub fn name_gives_word_count()
-    ensures { (name : Mnemonic) (operands : Operands) (instr : Instr) → instruction_of name operands ≡ Ok instr → row_words instr ≡ words_of name }
+    ensures { (name : Mnemonic) (operands : Operands) (instr : Instr) → instruction_of name operands ≡ Ok instr
+        → row_words instr ≡ words_of name }
 {}

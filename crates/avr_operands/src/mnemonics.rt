@@ -1,7 +1,8 @@
 //! The names of instructions.
 
 ghost use Rattle.std.specs.Prelude.{◌≡◌};
-ghost use Rattle.avr_operands.specs.Mnemonics.{arithmetic_name, branch_name, transfer_name, bit_name, flag_name, condition_name, other_name, mnemonic_of as mnemonic_of_word, words_of};
+ghost use Rattle.avr_operands.specs.Mnemonics.{arithmetic_name, branch_name, transfer_name, bit_name, flag_name};
+ghost use Rattle.avr_operands.specs.Mnemonics.{condition_name, other_name, mnemonic_of as mnemonic_of_word, words_of};
 
 use avr_text::is_word_named;
 

@@ -2,7 +2,11 @@
 
 ghost use Rattle.std.specs.Prelude.{◌≡◌, ◌<◌, ◌≤ℤ◌, IfOk, IfSome, length, option_map};
 ghost use Rattle.std.specs.Option.{option_copied};
-ghost use Rattle.avr_operands.specs.Operands.{AllLie, register_of, name_of as name_of_tokens, expression as expression_of, within as within_range, register as register_operand, half as half_of, number as number_operand, relative as relative_operand, operand as operand_by_form, both as both_values, one_value, pair_of, two_values, seen, EachLies};
+ghost use Rattle.avr_operands.specs.Operands.{AllLie, register_of, name_of as name_of_tokens};
+ghost use Rattle.avr_operands.specs.Operands.{expression as expression_of, within as within_range};
+ghost use Rattle.avr_operands.specs.Operands.{register as register_operand, half as half_of, number as number_operand};
+ghost use Rattle.avr_operands.specs.Operands.{relative as relative_operand, operand as operand_by_form};
+ghost use Rattle.avr_operands.specs.Operands.{both as both_values, one_value, pair_of, two_values, seen, EachLies};
 
 use crate::errors::{AsmWhy, why_without_value};
 use avr_text::{Symbols, Token, TokenKind, text_of, value};

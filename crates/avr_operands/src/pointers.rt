@@ -3,7 +3,8 @@
 ghost use Rattle.std.specs.Prelude.{◌≡◌, All, IfSome, length, option_map};
 ghost use Rattle.avr_text.specs.Tokens.{Lies};
 ghost use Rattle.avr_operands.specs.Operands.{AllLie};
-ghost use Rattle.avr_operands.specs.Instructions.{pointer_named, pointer_of as pointer_of_token, address_of as address_of_tokens, displaced_of};
+ghost use Rattle.avr_operands.specs.Instructions.{pointer_named, pointer_of as pointer_of_token};
+ghost use Rattle.avr_operands.specs.Instructions.{address_of as address_of_tokens, displaced_of};
 
 use avr_text::{Token, TokenKind, is_word_named, text_of};
 

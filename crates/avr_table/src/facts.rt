@@ -7,7 +7,8 @@ use crate::{Instr, Outcome, rows};
 
 macro_rules! words_match {
     (($i:expr) $($variant:ident { $($field:ident $bits:literal),* } $key:ident $name:literal [$($operand:ident($($part:tt),*)),*],
-      words $words:literal, clocks ($next:literal, $taken:literal, $one:literal, $two:literal), fixed $mask:literal is $value:literal;)*) => {
+      words $words:literal, clocks ($next:literal, $taken:literal, $one:literal, $two:literal),
+      fixed $mask:literal is $value:literal;)*) => {
         match $i {
             $(Instr::$variant { .. } => $words,)*
         }
@@ -16,7 +17,8 @@ macro_rules! words_match {
 
 macro_rules! name_match {
     (($i:expr) $($variant:ident { $($field:ident $bits:literal),* } $key:ident $name:literal [$($operand:ident($($part:tt),*)),*],
-      words $words:literal, clocks ($next:literal, $taken:literal, $one:literal, $two:literal), fixed $mask:literal is $value:literal;)*) => {
+      words $words:literal, clocks ($next:literal, $taken:literal, $one:literal, $two:literal),
+      fixed $mask:literal is $value:literal;)*) => {
         match $i {
             $(Instr::$variant { .. } => $name,)*
         }
@@ -24,8 +26,10 @@ macro_rules! name_match {
 }
 
 macro_rules! clocks_match {
-    (($i:expr, $outcome:expr) $($variant:ident { $($field:ident $bits:literal),* } $key:ident $name:literal [$($operand:ident($($part:tt),*)),*],
-      words $words:literal, clocks ($next:literal, $taken:literal, $one:literal, $two:literal), fixed $mask:literal is $value:literal;)*) => {
+    (($i:expr, $outcome:expr)
+      $($variant:ident { $($field:ident $bits:literal),* } $key:ident $name:literal [$($operand:ident($($part:tt),*)),*],
+      words $words:literal, clocks ($next:literal, $taken:literal, $one:literal, $two:literal),
+      fixed $mask:literal is $value:literal;)*) => {
         // the row inside, so that each outcome is a table of numbers and no jump
         match $outcome {
             Outcome::Next => match $i {

@@ -1,7 +1,9 @@
 //! What the operators of expressions compute, on signed numbers of 64 bits.
 
 ghost use Rattle.std.specs.Prelude.{◌≡◌, ◌<◌, ◌^◌, pos, ◌*ℤ◌};
-ghost use Rattle.avr_text.specs.Arithmetic.{checked, sum_of, difference_of, product_of, quotient_of, remainder_of, shifted_left, shifted_right, or_of, xor_of, and_of, negated_of, complement_of, low_of, high_of};
+ghost use Rattle.avr_text.specs.Arithmetic.{checked, sum_of, difference_of, product_of, quotient_of, remainder_of};
+ghost use Rattle.avr_text.specs.Arithmetic.{shifted_left, shifted_right, or_of, xor_of, and_of, negated_of};
+ghost use Rattle.avr_text.specs.Arithmetic.{complement_of, low_of, high_of};
 
 use crate::values::ValueWhy;
 

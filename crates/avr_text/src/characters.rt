@@ -1,7 +1,9 @@
 //! The kinds of bytes.
 
 ghost use Rattle.std.specs.Prelude.{◌≡◌};
-ghost use Rattle.avr_text.specs.Characters.{is_digit as is_digit_byte, begins_name as begins_name_byte, is_word as is_word_byte, is_mark as is_mark_byte, goes_on_line as goes_on_line_byte};
+ghost use Rattle.avr_text.specs.Characters.{is_digit as is_digit_byte, begins_name as begins_name_byte};
+ghost use Rattle.avr_text.specs.Characters.{is_word as is_word_byte, is_mark as is_mark_byte};
+ghost use Rattle.avr_text.specs.Characters.{goes_on_line as goes_on_line_byte};
 
 /// A decimal digit.
 pub fn is_digit(b: u8) -> bool

@@ -18,10 +18,12 @@ pub fn tokens_are_exact()
 
 /// The law that an expression's value stays where names are added and none changes its value. Does nothing.
 pub fn value_is_kept()
-    ensures { (text : List ℕ) (tokens : List Token) (symbols more : NameMap) (dot : Option ℤ) (v : ℤ) → Keeps symbols more → value_of text tokens symbols dot ≡ Ok v → value_of text tokens more dot ≡ Ok v }
+    ensures { (text : List ℕ) (tokens : List Token) (symbols more : NameMap) (dot : Option ℤ) (v : ℤ) → Keeps symbols more
+        → value_of text tokens symbols dot ≡ Ok v → value_of text tokens more dot ≡ Ok v }
 {}
 
 /// The law that tokens spell at most one expression. Does nothing.
 pub fn expression_is_unique()
-    ensures { (text : List ℕ) (tokens : List Token) (dot : Option ℤ) (x y : Tree) → IsExpressionOf text dot tokens x → IsExpressionOf text dot tokens y → x ≡ y }
+    ensures { (text : List ℕ) (tokens : List Token) (dot : Option ℤ) (x y : Tree) → IsExpressionOf text dot tokens x
+        → IsExpressionOf text dot tokens y → x ≡ y }
 {}

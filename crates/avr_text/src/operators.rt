@@ -1,7 +1,9 @@
 //! The operators of expressions.
 
 ghost use Rattle.std.specs.Prelude.{◌≡◌};
-ghost use Rattle.avr_text.specs.Operators.{level_of, applied_to, combined as combined_outcomes, sign_applied as sign_applied_to, bracket_applied as bracket_applied_to, binary_of, is_sign as is_sign_token};
+ghost use Rattle.avr_text.specs.Operators.{level_of, applied_to, combined as combined_outcomes};
+ghost use Rattle.avr_text.specs.Operators.{sign_applied as sign_applied_to, bracket_applied as bracket_applied_to};
+ghost use Rattle.avr_text.specs.Operators.{binary_of, is_sign as is_sign_token};
 
 use crate::arithmetic;
 use crate::tokens::TokenKind;

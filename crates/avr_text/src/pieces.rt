@@ -3,7 +3,8 @@
 ghost use Rattle.std.specs.Prelude.{◌≡◌, ◌<◌, ◌≤◌, length};
 ghost use Rattle.avr_text.specs.Characters.{is_word as is_word_byte, goes_on_line as goes_on_line_byte};
 ghost use Rattle.std.specs.List.{prefix_len};
-ghost use Rattle.avr_text.specs.Pieces.{second as second_byte, word_piece as word_piece_of, other_piece as other_piece_of, piece_at as piece_at_front, piece_len};
+ghost use Rattle.avr_text.specs.Pieces.{second as second_byte, word_piece as word_piece_of};
+ghost use Rattle.avr_text.specs.Pieces.{other_piece as other_piece_of, piece_at as piece_at_front, piece_len};
 
 use crate::characters::{goes_on_line, is_digit, is_mark, is_word};
 use crate::numbers::number_of;

@@ -5,7 +5,10 @@ ghost use Rattle.std.specs.List.{slice_range};
 ghost use Rattle.avr_text.specs.Operators.{sign_applied as sign_applied_to};
 ghost use Rattle.avr_text.specs.Tokens.{Lies, text_of as slice_of};
 ghost use Rattle.avr_text.specs.Words.{bracket_word as bracket_of_word};
-ghost use Rattle.avr_text.specs.Reading.{reduced as reduced_outcome, signed as signed_outcome, name_operand as name_operand_of, operand_of as operand_of_token, opened, closed, operand_step, operator_step, waiting, bracket_step, step as step_of, finished, beginning};
+ghost use Rattle.avr_text.specs.Reading.{reduced as reduced_outcome, signed as signed_outcome};
+ghost use Rattle.avr_text.specs.Reading.{name_operand as name_operand_of, operand_of as operand_of_token, opened};
+ghost use Rattle.avr_text.specs.Reading.{closed, operand_step, operator_step, waiting, bracket_step, step as step_of};
+ghost use Rattle.avr_text.specs.Reading.{finished, beginning};
 
 use crate::operators::{Binary, Bracket, bracket_applied, is_sign, operator_of, sign_applied};
 use crate::symbols::Symbols;

@@ -1,7 +1,8 @@
 //! Runs the core alone.
 //!
 //! Without a word it reads cases from standard input, one a line, and prints what one instruction, or an interrupt's
-//! entry, makes of each: the expected lines come from the Boolean equations of the AVR Instruction Set Manual. With a word, a number of clocks, it
+//! entry, makes of each: the expected lines come from the Boolean equations of the AVR Instruction Set Manual. With a
+//! word, a number of clocks, it
 //! runs a loop of arithmetic, loads, stores and branches for so long: the benchmark of docs/BENCHMARKS.md.
 #![tactic(auto)]
 

@@ -27,7 +27,10 @@ impl Data for Memory {
 
     ghost held = { λ memory. memory.held.items };
 
-    ghost model = { record { byte = λ bytes at late. if nat_lt at 4352 then slice_index bytes at else 0; content_after = λ bytes at late. bytes } };
+    ghost model = { record {
+      byte = λ bytes at late. if nat_lt at 4352 then slice_index bytes at else 0;
+      content_after = λ bytes at late. bytes;
+    } };
 
     fn load(&mut self, at: u16, _late: u8) -> u8 {
         if (at as usize) < DATA_BYTES {

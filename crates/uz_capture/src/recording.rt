@@ -39,9 +39,13 @@ fn append_records<H: Shelf>(
     shelf: &mut H,
 ) -> Result<RunEnd, WriteError>
     requires open { IsSome (H.open_file shelf.old) }
-    ensures ok { IfOk result (λ end. (start : State PadHistory) (old : Option FileMap) (name : List ℕ) → Plays player.old start [] → H.open_file shelf.old ≡ Some name → WritesFile old name [] (H.files shelf.old) →
+    ensures ok { IfOk result (λ end. (start : State PadHistory) (old : Option FileMap) (name : List ℕ)
+        → Plays player.old start [] → H.open_file shelf.old ≡ Some name
+        → WritesFile old name [] (H.files shelf.old) →
         IsPlayedInto (cert_of player.old) (limit_of player.old) start end (counts_of player.new) old name (H.files shelf.new)) }
-    ensures err { OnErr result ((start : State PadHistory) (old : Option FileMap) (name : List ℕ) → Plays player.old start [] → H.open_file shelf.old ≡ Some name → WritesFile old name [] (H.files shelf.old) →
+    ensures err { OnErr result ((start : State PadHistory) (old : Option FileMap) (name : List ℕ)
+        → Plays player.old start [] → H.open_file shelf.old ≡ Some name
+        → WritesFile old name [] (H.files shelf.old) →
         IsCapturePart (limit_of player.old) start old name (H.files shelf.new)) }
     ensures failed { IsErrOf result WriteError.Failed → Rose (H.write_faults shelf.old) (H.write_faults shelf.new) }
     ensures load_faults { H.load_faults shelf.new ≡ H.load_faults shelf.old }
@@ -86,8 +90,10 @@ pub fn capture<H: Shelf>(
     requires clock { console_clock console ≡ 0 }
     requires some { 1 ≤ clocks }
     requires few { clocks ≤ 1000000000 }
-    ensures ok { IfOk result (λ captured. (start : State PadHistory) → StandsFor console start → IsCaptured cert clocks start captured (H.files shelf.old) name.now (H.files shelf.new)) }
-    ensures err { OnErr result ((start : State PadHistory) → StandsFor console start → IsCapturePart clocks start (H.files shelf.old) name.now (H.files shelf.new)) }
+    ensures ok { IfOk result (λ captured. (start : State PadHistory) → StandsFor console start
+        → IsCaptured cert clocks start captured (H.files shelf.old) name.now (H.files shelf.new)) }
+    ensures err { OnErr result ((start : State PadHistory) → StandsFor console start
+        → IsCapturePart clocks start (H.files shelf.old) name.now (H.files shelf.new)) }
     ensures failed { IsErrOf result WriteError.Failed → Rose (H.write_faults shelf.old) (H.write_faults shelf.new) }
     ensures load_faults { H.load_faults shelf.new ≡ H.load_faults shelf.old }
     ensures write_faults { H.write_faults shelf.old ≤ H.write_faults shelf.new }

@@ -4,7 +4,8 @@ ghost use Rattle.std.specs.Prelude.{◌≡◌, ◌⊎◌, ◌<◌, ◌≤◌, �
 ghost use Rattle.uz_schedule.specs.WellFormed.{instances_of as instances_of_point};
 ghost use Rattle.uz_cert_lines.specs.Forms.{reads};
 ghost use Rattle.uz_cert_lines.specs.Lines.{rest_form};
-ghost use Rattle.uz_cert.specs.Drafts.{first_draft, due_of, due_of_schedule, due_of_states, form_of, kind_closed, with_event, with_said, draft_after};
+ghost use Rattle.uz_cert.specs.Drafts.{first_draft, due_of, due_of_schedule, due_of_states, form_of, kind_closed};
+ghost use Rattle.uz_cert.specs.Drafts.{with_event, with_said, draft_after};
 ghost use Rattle.uz_cert.specs.Kept.{Kept, SaidFits};
 ghost use Rattle.uz_cert.specs.Reading.{IsMemory, line_says};
 
@@ -192,7 +193,8 @@ impl Draft {
     /// What the line of a rest says.
     fn rest(&self, words: &mut Words) -> Result<Said, CertWhy>
         requires { Kept self.now }
-        ensures { result ≡ reads (rest_form self.now.sizes.lines self.now.sizes.points self.now.head.cells.items self.now.rest_least) words.old }
+        ensures { result ≡ reads (rest_form self.now.sizes.lines self.now.sizes.points self.now.head.cells.items
+            self.now.rest_least) words.old }
     {
         let cells = self.head.cells.as_slice();
         rest_line(
@@ -353,7 +355,8 @@ impl Draft {
         ensures ok { OnOk result (line_says self.old due line.now ended ≡ Ok self.new) }
         ensures kept { OnOk result (Kept self.new) }
         ensures read { OnOk result (self.new.read ≡ self.old.read + 1) }
-        ensures err { IfErr result (λ e. IsMemory e ⊎ ((e.line ≡ self.old.read + 1) × (line_says self.old due line.now ended ≡ Err e.why))) }
+        ensures err { IfErr result (λ e. IsMemory e ⊎ ((e.line ≡ self.old.read + 1)
+            × (line_says self.old due line.now ended ≡ Err e.why))) }
     {
         let number = self.read + 1;
         match self.line(due, &mut Words::new(line, ended)) {

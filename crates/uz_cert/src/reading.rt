@@ -2,7 +2,8 @@
 
 ghost use Rattle.std.specs.Prelude.{◌≡◌, ◌⊎◌, ◌<◌, ◌≤◌, ◌-◌, ◌^◌, ℕ, List, ◌∷◌, All, length, IfOk, IfErr, OnOk, Some, Ok, Err};
 ghost use Rattle.uz_schedule.specs.WellFormed.{IsTimerLeftOut, WellFormed};
-ghost use Rattle.uz_cert.specs.Reading.{Gives, IsMemory, bytes_left, cert_before, cert_of_text, cert_with as cert_with_entry, is_more, pieces_left, pieces_of, read_from};
+ghost use Rattle.uz_cert.specs.Reading.{Gives, IsMemory, bytes_left, cert_before, cert_of_text};
+ghost use Rattle.uz_cert.specs.Reading.{cert_with as cert_with_entry, is_more, pieces_left, pieces_of, read_from};
 ghost use Rattle.uz_cert.specs.Drafts.{first_draft};
 ghost use Rattle.uz_cert.specs.Texts.{IsCertificateText, IsFirstFault, IsOfVersion};
 ghost use Rattle.uz_schedule.specs.declared.certificate.Cert.{Cert as TheCert};
@@ -211,8 +212,10 @@ pub fn text_or_fault()
         → IsFirstFault version text m v → IsFirstFault version text n w → (m ≡ n) × (v ≡ w) }
     ensures not_both { (version : TheVersion) (text : List ℕ) (c : TheCert) (line : ℕ) (why : CertWhy)
         → IsCertificateText version text c → IsFirstFault version text line why → ⊥ }
-    ensures read { (version : TheVersion) (text : List ℕ) (c : TheCert) → cert_of_text version text ≡ Ok c → IsCertificateText version text c }
-    ensures again { (version : TheVersion) (text : List ℕ) (c : TheCert) → IsCertificateText version text c → cert_of_text version text ≡ Ok c }
+    ensures read { (version : TheVersion) (text : List ℕ) (c : TheCert) → cert_of_text version text ≡ Ok c
+        → IsCertificateText version text c }
+    ensures again { (version : TheVersion) (text : List ℕ) (c : TheCert) → IsCertificateText version text c
+        → cert_of_text version text ≡ Ok c }
     ensures refused { (version : TheVersion) (text : List ℕ) (line : ℕ) (why : CertWhy)
         → cert_of_text version text ≡ Err (line, why) → IsFirstFault version text line why }
     ensures faulty { (version : TheVersion) (text : List ℕ) (line : ℕ) (why : CertWhy)

@@ -1,7 +1,10 @@
 //! The limits and orders of points, one by one and all together.
 
 ghost use Rattle.std.specs.Prelude.{◌≡◌, ◌≤◌, ◌↔◌, ◌+◌, ◌-◌, ◌*◌, All, IsTrue, length, sum_by};
-ghost use Rattle.uz_schedule.specs.WellFormed.{CoreFits, MemoryFits, BoxFits, IsAtBegin, TimerFits, IsTimerLeftOut, PointKindFits, is_zero_or_one as names_flag, is_default_flag as default_flag, is_without_text as without_text, SuccessorsFit, PointFits, instances_of as instances_of_point, PointsFit};
+ghost use Rattle.uz_schedule.specs.WellFormed.{CoreFits, MemoryFits, BoxFits, IsAtBegin, TimerFits, IsTimerLeftOut};
+ghost use Rattle.uz_schedule.specs.WellFormed.{PointKindFits, is_zero_or_one as names_flag};
+ghost use Rattle.uz_schedule.specs.WellFormed.{is_default_flag as default_flag, is_without_text as without_text};
+ghost use Rattle.uz_schedule.specs.WellFormed.{SuccessorsFit, PointFits, instances_of as instances_of_point, PointsFit};
 
 use crate::facts::{cell_facts_fit, flags_fit, pairs_fit, registers_fit, slots_fit};
 use uz_hex::FLASH_WORDS;

@@ -25,7 +25,8 @@ ghost use Rattle.uz_cert_lines.specs.declared.lines.Said.{Said};
 ghost use Rattle.uz_cert_lines.specs.declared.lines.Said.TheVariants as said;
 ghost use Rattle.uz_cert_lines.specs.declared.lines.Sizes.{Sizes};
 ghost use Rattle.uz_cert_lines.specs.declared.lines.StackLine.{StackLine};
-ghost use Rattle.uz_cert_writer.specs.Spelling.{line_of, cell_words, kind_words, event_words, run_words, rest_words, entry_words, point_words};
+ghost use Rattle.uz_cert_writer.specs.Spelling.{line_of, cell_words, kind_words, event_words, run_words, rest_words};
+ghost use Rattle.uz_cert_writer.specs.Spelling.{entry_words, point_words};
 ghost use Rattle.uz_cert_line_laws.specs.Said.{line, sizes_words, response_words, stack_line_words, with_stack, RunFits, PlacesAre};
 
 /// `size KINDS LINES RESTS POINTS CELLS`
@@ -44,7 +45,8 @@ pub fn irq_line()
 
 /// `stack LO HI MAIN HANDLER`
 pub fn stack_line()
-    ensures again { (h : Head) (s : StackLine) → StackFits (with_stack h s) → reads stack_form (line (stack_line_words s)) ≡ Ok (said.Stack s) }
+    ensures again { (h : Head) (s : StackLine) → StackFits (with_stack h s)
+        → reads stack_form (line (stack_line_words s)) ≡ Ok (said.Stack s) }
     ensures only { (words : Words) (says : Said) → reads stack_form words ≡ Ok says
         → (s : StackLine) × (says ≡ said.Stack s) × (words ≡ line (stack_line_words s)) × ((h : Head) → StackFits (with_stack h s)) }
 {}
@@ -78,14 +80,16 @@ pub fn fall_line()
     ensures again { (clock : ℕ) → 1 ≤ clock → clock < clock_limit
         → reads fall_form (line (codes "fall" ∷ decimal clock ∷ [])) ≡ Ok (said.Fall clock) }
     ensures only { (words : Words) (says : Said) → reads fall_form words ≡ Ok says
-        → (clock : ℕ) × (says ≡ said.Fall clock) × (words ≡ line (codes "fall" ∷ decimal clock ∷ [])) × (1 ≤ clock) × (clock < clock_limit) }
+        → (clock : ℕ) × (says ≡ said.Fall clock) × (words ≡ line (codes "fall" ∷ decimal clock ∷ [])) × (1 ≤ clock)
+        × (clock < clock_limit) }
 {}
 
 /// `run COUNT KIND`, where so many lines are left, and not of the kind before
 pub fn run_line()
     ensures again { (kinds left before count kind : ℕ) → kinds ≤ 2 ^ 31 → left < 2 ^ 31 → RunFits kinds left before count kind
         → reads (run_form kinds left before) (line (run_words (count, kind))) ≡ Ok (said.Run (record { count = count; kind = kind })) }
-    ensures only { (kinds left before : ℕ) (words : Words) (says : Said) → kinds ≤ 2 ^ 31 → left < 2 ^ 31 → reads (run_form kinds left before) words ≡ Ok says
+    ensures only { (kinds left before : ℕ) (words : Words) (says : Said) → kinds ≤ 2 ^ 31 → left < 2 ^ 31
+        → reads (run_form kinds left before) words ≡ Ok says
         → (r : Run) × (says ≡ said.Run r) × (words ≡ line (run_words (r.count, r.kind))) × RunFits kinds left before r.count r.kind }
 {}
 
@@ -128,6 +132,7 @@ pub fn end_line()
 /// Words that lack the space, of which the first isn't empty, are the words of the line that they make, cut at each space;
 /// and the words of any line make that line.
 pub fn words_line()
-    ensures again { (w : List ℕ) (ws : List (List ℕ)) → 0 < length w → All (λ v. All (λ b. (b == 32) ≡ false) v) (w ∷ ws) → words_of (line_of (w ∷ ws)) ≡ w ∷ ws }
+    ensures again { (w : List ℕ) (ws : List (List ℕ)) → 0 < length w → All (λ v. All (λ b. (b == 32) ≡ false) v) (w ∷ ws)
+        → words_of (line_of (w ∷ ws)) ≡ w ∷ ws }
     ensures only { (text : List ℕ) → line_of (words_of text) ≡ text }
 {}

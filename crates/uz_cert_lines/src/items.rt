@@ -9,7 +9,8 @@ ghost use Rattle.uz_cert_lines.specs.Items.{take_pair as pair_taken, flag_set as
 ghost use Rattle.uz_cert_lines.specs.Items.{take_slot as slot_taken, tracked_before as tracked_before_of, cell_at as cell_of_number};
 ghost use Rattle.uz_cert_lines.specs.Items.{cell_forms as forms_of_cell, numbered as numbered_of, cell_set as set_cell};
 ghost use Rattle.uz_cert_lines.specs.Items.{cell_value as value_of_cell, take_cell as cell_taken, successor_set as set_successor};
-ghost use Rattle.uz_cert_lines.specs.Items.{top_set as set_top, top_value as value_of_top, take_top as top_taken, temp_forms as forms_of_temp};
+ghost use Rattle.uz_cert_lines.specs.Items.{top_set as set_top, top_value as value_of_top, take_top as top_taken};
+ghost use Rattle.uz_cert_lines.specs.Items.{temp_forms as forms_of_temp};
 ghost use Rattle.uz_cert_lines.specs.Items.{temp_set as set_temp, take_temp as temp_taken, take_timer as timer_taken};
 ghost use Rattle.uz_cert_lines.specs.Items.{take_successor as successor_taken, is_flag_z as z_is_flag};
 ghost use Rattle.uz_cert_lines.specs.Items.{take_letter as letter_taken, take_keyed as keyed_taken, take_named as named_taken};

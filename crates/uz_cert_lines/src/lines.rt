@@ -3,7 +3,8 @@
 ghost use Rattle.std.specs.Prelude.{◌≡◌, ◌<◌, ◌≤◌, ◌+◌, ◌-◌, ◌/◌, IfOk, IfErr, Ok, Err, length, map};
 ghost use Rattle.uz_schedule.specs.Tracked.{depth_of as depth_of_kind};
 ghost use Rattle.uz_cert_lines.specs.Forms.{reads, spans_of};
-ghost use Rattle.uz_cert_lines.specs.Lines.{size_form, irq_form, stack_form, cell_form, kind_form, event_form, fall_form, run_form, rest_form};
+ghost use Rattle.uz_cert_lines.specs.Lines.{size_form, irq_form, stack_form, cell_form, kind_form, event_form};
+ghost use Rattle.uz_cert_lines.specs.Lines.{fall_form, run_form, rest_form};
 ghost use Rattle.uz_cert_lines.specs.Lines.{entry_form, point_form, end_form, within as within_limits, one_of as number_of_one};
 ghost use Rattle.uz_cert_lines.specs.Lines.{rising as rising_from, least_of as lesser_of, response_of as response_of_clocks};
 ghost use Rattle.uz_cert_lines.specs.Lines.{owner_of as owner_of_place, off_stack as off_the_stack, none_in_main as none_of_main};

@@ -5,7 +5,8 @@ ghost use Rattle.uz_text.specs.Numbers.{all_digits};
 ghost use Rattle.uz_cert_words.specs.Values.{RawBelow, digits as digits_of_word, one_number as number_of_word};
 ghost use Rattle.uz_cert_words.specs.Values.{two_numbers as numbers_of_words, whole as whole_of, sloped as sloped_of};
 ghost use Rattle.uz_cert_words.specs.Values.{sloped_cut as sloped_of_cut, old as old_of, range as range_of, range_parts as range_of_parts};
-ghost use Rattle.uz_cert_words.specs.Values.{raw_of as raw_of_word, is_ordered as keeps_order, fact_of as fact_of_raw, pair_of as pair_of_raw};
+ghost use Rattle.uz_cert_words.specs.Values.{raw_of as raw_of_word, is_ordered as keeps_order, fact_of as fact_of_raw};
+ghost use Rattle.uz_cert_words.specs.Values.{pair_of as pair_of_raw};
 ghost use Rattle.uz_cert_words.specs.Values.{ends_of as ends_of_raw, bit_of as bit_of_word};
 
 use crate::why::CertWhy;

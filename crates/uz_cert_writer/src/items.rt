@@ -33,7 +33,8 @@ fn is_default(kind: Kind, register: u8, fact: &Fact) -> bool
 
 /// Adds the item of a register, unless it is the default.
 fn add_register(text: &mut Vec<u8>, kind: Kind, register: u8, fact: &Fact) -> Result<(), AllocError>
-    ensures { OnOk result (text.new.items ≡ text.old.items ++ spaced (unless (default_fact kind register fact.now) (item (114 ∷ decimal register) (fact_word fact.now)) [])) }
+    ensures { OnOk result (text.new.items ≡ text.old.items ++ spaced
+        (unless (default_fact kind register fact.now) (item (114 ∷ decimal register) (fact_word fact.now)) [])) }
 {
     if is_default(kind, register, fact) {
         return Ok(());
@@ -61,7 +62,8 @@ pub(crate) fn add_registers(
 
 /// Adds the item of a pair, unless nothing is known of it.
 fn add_pair(text: &mut Vec<u8>, letter: u8, fact: &PairFact) -> Result<(), AllocError>
-    ensures { OnOk result (text.new.items ≡ text.old.items ++ spaced (unless (is_any_pair fact.now) (item (letter ∷ []) (pair_word fact.now)) [])) }
+    ensures { OnOk result (text.new.items ≡ text.old.items ++ spaced
+        (unless (is_any_pair fact.now) (item (letter ∷ []) (pair_word fact.now)) [])) }
 {
     if let PairFact::Any = *fact {
         return Ok(());
@@ -95,7 +97,8 @@ fn is_default_flag(kind: Kind, bit: Bit) -> bool
 
 /// Adds the item of a flag, unless it is the default.
 fn add_flag(text: &mut Vec<u8>, kind: Kind, letter: u8, bit: &Bit) -> Result<(), AllocError>
-    ensures { OnOk result (text.new.items ≡ text.old.items ++ spaced (unless (default_flag kind bit.now) (item (letter ∷ []) (flag_word bit.now)) [])) }
+    ensures { OnOk result (text.new.items ≡ text.old.items ++ spaced
+        (unless (default_flag kind bit.now) (item (letter ∷ []) (flag_word bit.now)) [])) }
 {
     if is_default_flag(kind, *bit) {
         return Ok(());
@@ -140,7 +143,8 @@ fn is_range(range: &Span, fact: &Fact) -> bool
 
 /// Adds the item of a cell, unless it is in its range of the header.
 fn add_cell(text: &mut Vec<u8>, number: u8, range: &Span, fact: &Fact) -> Result<(), AllocError>
-    ensures { OnOk result (text.new.items ≡ text.old.items ++ spaced (unless (default_cell range.now fact.now) (item (109 ∷ decimal number) (fact_word fact.now)) [])) }
+    ensures { OnOk result (text.new.items ≡ text.old.items ++ spaced
+        (unless (default_cell range.now fact.now) (item (109 ∷ decimal number) (fact_word fact.now)) [])) }
 {
     if is_range(range, fact) {
         return Ok(());
@@ -161,7 +165,9 @@ fn add_tracked(
     facts: &[Fact],
     next: usize,
 ) -> Result<usize, AllocError>
-    ensures { IfOk result (λ n. (cells : List Cell) → text.new.items ++ spaced (cell_items kind (number + 1) cells (drop n facts.now)) ≡ text.old.items ++ spaced (cell_items kind number (cell.now ∷ cells) (drop next facts.now))) }
+    ensures { IfOk result (λ n. (cells : List Cell)
+        → text.new.items ++ spaced (cell_items kind (number + 1) cells (drop n facts.now))
+        ≡ text.old.items ++ spaced (cell_items kind number (cell.now ∷ cells) (drop next facts.now))) }
 {
     if !tracks(kind, cell.owner) {
         return Ok(next);

@@ -5,7 +5,8 @@ ghost use Rattle.uz_schedule.specs.Limits.{most_lines, most_events};
 ghost use Rattle.uz_schedule.specs.declared.lines.Event.{Event};
 ghost use Rattle.uz_cert_lines.specs.declared.version.Version.TheVariants.{Second};
 ghost use Rattle.uz_cert_writer.specs.Joined.{ended, line_end, run_lines, run_on, spaced};
-ghost use Rattle.uz_cert_writer.specs.Spelling.{kind_words, event_kind_words, event_words, fall_words, run_before, runs_of, run_words, kinds_then, line_of};
+ghost use Rattle.uz_cert_writer.specs.Spelling.{kind_words, event_kind_words, event_words, fall_words, run_before};
+ghost use Rattle.uz_cert_writer.specs.Spelling.{runs_of, run_words, kinds_then, line_of};
 
 use crate::words::{add_decimal, add_number, add_numbers, add_word, end_line};
 use std::alloc::AllocError;
@@ -59,7 +60,9 @@ fn add_events(text: &mut Vec<u8>, events: &[Event]) -> Result<(), AllocError>
 #[tactic(auto, using(crate::proofs::Steps::kind_added))]
 fn add_kind_lines(text: &mut Vec<u8>, events: &[Event], clocks: u16) -> Result<(), AllocError>
     requires { length events.now ≤ most_events }
-    ensures { OnOk result ((kinds : List (List Event)) (lengths : List ℕ) → text.new.items ++ ended (kinds_then Second kinds lengths []) ≡ text.old.items ++ ended (kinds_then Second (events.now ∷ kinds) (clocks ∷ lengths) [])) }
+    ensures { OnOk result ((kinds : List (List Event)) (lengths : List ℕ)
+        → text.new.items ++ ended (kinds_then Second kinds lengths [])
+        ≡ text.old.items ++ ended (kinds_then Second (events.now ∷ kinds) (clocks ∷ lengths) [])) }
 {
     add_kind(text, events, clocks)?;
     add_events(text, events)
@@ -105,7 +108,9 @@ fn add_run(text: &mut Vec<u8>, count: u32, kind: u16) -> Result<(), AllocError>
 fn add_line(text: &mut Vec<u8>, count: u32, kind: u16, next: u16) -> Result<u32, AllocError>
     requires { count ≤ most_lines }
     ensures few { IfOk result (λ n. n ≤ count + 1) }
-    ensures runs { IfOk result (λ n. (runs : List (ℕ × ℕ)) → text.new.items ++ ended (run_lines (run_on n next runs)) ≡ text.old.items ++ ended (run_lines (run_on count kind (run_before next runs)))) }
+    ensures runs { IfOk result (λ n. (runs : List (ℕ × ℕ))
+        → text.new.items ++ ended (run_lines (run_on n next runs))
+        ≡ text.old.items ++ ended (run_lines (run_on count kind (run_before next runs)))) }
 {
     if next == kind {
         return Ok(count + 1);

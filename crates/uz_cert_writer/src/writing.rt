@@ -54,7 +54,8 @@ fn add_states(text: &mut Vec<u8>, cert: &Cert) -> Result<(), AllocError>
 /// Adds the three parts of the text.
 fn add_all(text: &mut Vec<u8>, cert: &Cert) -> Result<(), AllocError>
     requires { WellFormed cert.now }
-    ensures { OnOk result (text.new.items ≡ text.old.items ++ (head_text cert.now ++ (schedule_text cert.now.schedule ++ state_text cert.now))) }
+    ensures { OnOk result (text.new.items ≡ text.old.items ++
+        (head_text cert.now ++ (schedule_text cert.now.schedule ++ state_text cert.now))) }
 {
     add_head(text, cert)?;
     add_schedule(text, &cert.schedule)?;

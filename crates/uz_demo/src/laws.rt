@@ -16,5 +16,6 @@ pub fn sizes_of_demos()
     ensures height { (number : ℕ) → (64 ≤ shown number) × (shown number ≤ 224) }
     ensures width { (number : ℕ) → (16 ≤ pixels number) × (pixels number ≤ 80) }
     ensures as_long { (number : ℕ) → 11 * pixels number + gap number ≡ 11 * 80 + 566 }
-    ensures each_comes { (s p : ℕ) → s < 161 → p < 65 → (s + 161 * p < 2 ^ 16) × ((shown (s + 161 * p) ≡ 64 + s) × (pixels (s + 161 * p) ≡ 16 + p)) }
+    ensures each_comes { (s p : ℕ) → s < 161 → p < 65 → (s + 161 * p < 2 ^ 16)
+        × ((shown (s + 161 * p) ≡ 64 + s) × (pixels (s + 161 * p) ≡ 16 + p)) }
 {}

@@ -10,10 +10,12 @@ ghost use Rattle.uz_hex.specs.declared.errors.HexWhy.{HexWhy};
 /// The law that each text is Intel HEX of one image or has one first fault, and never both. Does
 /// nothing.
 pub fn hex_or_fault()
-    ensures either { (text : List ℕ) → ((image : FinMap nat_cmp ℕ) × IsHexOf text image) ⊎ ((line : ℕ) × (why : HexWhy) × IsFirstFault text line why) }
+    ensures either { (text : List ℕ) → ((image : FinMap nat_cmp ℕ) × IsHexOf text image)
+        ⊎ ((line : ℕ) × (why : HexWhy) × IsFirstFault text line why) }
     ensures one_image { (text : List ℕ) (a b : FinMap nat_cmp ℕ) → IsHexOf text a → IsHexOf text b → a ≡ b }
     ensures one_fault { (text : List ℕ) (m n : ℕ) (v w : HexWhy) → IsFirstFault text m v → IsFirstFault text n w → (m ≡ n) × (v ≡ w) }
-    ensures not_both { (text : List ℕ) (image : FinMap nat_cmp ℕ) (line : ℕ) (why : HexWhy) → IsHexOf text image → IsFirstFault text line why → ⊥ }
+    ensures not_both { (text : List ℕ) (image : FinMap nat_cmp ℕ) (line : ℕ) (why : HexWhy) → IsHexOf text image
+        → IsFirstFault text line why → ⊥ }
 {}
 
 /// The law that the plain reader gives an image exactly where the text is Intel HEX of it, and a

@@ -2,7 +2,8 @@
 
 ghost use Rattle.std.specs.Prelude.{◌≡◌, ℕ, ◌⊎◌, Ok, Err, ◌<◌, ◌≤◌, ◌+◌, ◌*◌, ◌-◌, ◌^◌, IsTrue, IfOk, IfErr, length, slice_index};
 ghost use Rattle.uz_hex.specs.Records.{value_of as value_of_bytes};
-ghost use Rattle.uz_hex.specs.Reading.{takes as cell_takes, has_length, with_bytes, place as placed_in, after_record, after_line as line_goes_on, read_text as text_read, GivesHex};
+ghost use Rattle.uz_hex.specs.Reading.{takes as cell_takes, has_length, with_bytes, place as placed_in, after_record};
+ghost use Rattle.uz_hex.specs.Reading.{after_line as line_goes_on, read_text as text_read, GivesHex};
 ghost use Rattle.uz_hex.specs.HexText.{IsHexOf, IsFirstFault};
 ghost use Rattle.uz_hex.specs.declared.errors.HexWhy.{HexWhy};
 ghost use Rattle.std.specs.FinMap.{FinMap};

@@ -3,7 +3,8 @@
 ghost use Rattle.std.specs.Prelude.{◌≡◌, ◌≤◌, ◌+◌, ◌/◌, IsTrue, IfOk, IfErr, take, length, sum, slice_index};
 ghost use Rattle.std.specs.List.{list_all};
 ghost use Rattle.hex.specs.Hex.{is_hex_digit, decode_of};
-ghost use Rattle.uz_hex.specs.Reading.{bytes_of, bytes_of_digits, counted, type_of as type_of_code, has_length as length_fits, kind_of as kind_of_bytes};
+ghost use Rattle.uz_hex.specs.Reading.{bytes_of, bytes_of_digits, counted, type_of as type_of_code};
+ghost use Rattle.uz_hex.specs.Reading.{has_length as length_fits, kind_of as kind_of_bytes};
 
 use crate::errors::HexWhy;
 

@@ -4,7 +4,9 @@ ghost use Rattle.std.specs.Prelude.{◌≡◌, ℕ, ◌≤◌, ◌<◌, ◌+◌,
 ghost use Rattle.std.specs.Vec.{vec_len};
 ghost use Rattle.uz_hex.specs.Cells.{held_from};
 ghost use Rattle.uz_hex.specs.Records.{record_bytes};
-ghost use Rattle.uz_hex.specs.Writing.{data_record, closed, goes_on as goes_on_record, cut, checksum_of as checksum_of_record, line_of, with_lf, lines_text, hex_text, records_of, IsCutOf};
+ghost use Rattle.uz_hex.specs.Writing.{data_record, closed, goes_on as goes_on_record, cut};
+ghost use Rattle.uz_hex.specs.Writing.{checksum_of as checksum_of_record, line_of, with_lf, lines_text, hex_text};
+ghost use Rattle.uz_hex.specs.Writing.{records_of, IsCutOf};
 ghost use Rattle.uz_hex.specs.HexText.{IsHexOf};
 
 use crate::image::Image;
@@ -81,7 +83,9 @@ impl Writer {
         requires before { self.old.start + vec_len self.old.bytes ≤ at }
         ensures few { OnOk result (vec_len self.new.bytes ≤ 16) }
         ensures after { OnOk result (self.new.start + vec_len self.new.bytes ≡ at + 1) }
-        ensures text { OnOk result ((entries : List (ℕ × ℕ)) → self.new.text.items ++ lines_text (cut self.new.start self.new.bytes.items entries) ≡ self.old.text.items ++ lines_text (cut self.old.start self.old.bytes.items ((at, byte) ∷ entries))) }
+        ensures text { OnOk result ((entries : List (ℕ × ℕ))
+            → self.new.text.items ++ lines_text (cut self.new.start self.new.bytes.items entries)
+            ≡ self.old.text.items ++ lines_text (cut self.old.start self.old.bytes.items ((at, byte) ∷ entries))) }
     {
         if self.goes_on(at) {
             self.bytes.push(byte)?;

@@ -1,7 +1,8 @@
 //! The cells of the hints in order of address.
 
 ghost use Rattle.std.specs.Prelude.{◌≡◌, ◌<◌, ◌≤◌, length, map};
-ghost use Rattle.uz_hints.specs.Cells.{owner_of as owner_of_kind, place_in as place_among, with_cell, with_hint, cells_of as cells_of_hints, first_values as values_of, HasRoom};
+ghost use Rattle.uz_hints.specs.Cells.{owner_of as owner_of_kind, place_in as place_among, with_cell, with_hint};
+ghost use Rattle.uz_hints.specs.Cells.{cells_of as cells_of_hints, first_values as values_of, HasRoom};
 ghost use Rattle.uz_hints.specs.Faults.{CellsFine};
 
 use arrayvec::ArrayVec;
@@ -52,7 +53,10 @@ fn put_cell(cells: &mut ArrayVec<Tracked, 16>, tracked: Tracked)
 /// The cell of a hint.
 fn tracked_of(at: u16, owner: Kind, lo: u8, hi: u8, first: u8) -> Tracked
     requires { lo ≤ hi }
-    ensures { result ≡ record { cell = record { at = at; owner = owner_of_kind owner; range = record { lo = lo; hi = hi } }; first = first } }
+    ensures { result ≡ record {
+      cell = record { at = at; owner = owner_of_kind owner; range = record { lo = lo; hi = hi } };
+      first = first;
+    } }
 {
     Tracked {
         cell: Cell {

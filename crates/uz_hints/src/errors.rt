@@ -3,7 +3,9 @@
 ghost use Rattle.std.specs.Prelude.{◌≡◌, ◌≢◌, ◌<◌, ◌≤◌, ◌↔◌, ◌^◌, IsTrue, MatchOption, Some, length, slice_get};
 ghost use Rattle.uz_transfer.specs.Step.{IsReadAt};
 ghost use Rattle.uz_hints.specs.Words.{first_start as start_in, first_stack as stack_in};
-ghost use Rattle.uz_hints.specs.Faults.{Reads, starts_main as enters_main, StartFine, LinesFine, HalvesFit, HalfFine, StackFine, OffStack, CellRangeFine, CellPlaceFine, CellFine, FactFine, IsFine, FineBefore, FirstFault};
+ghost use Rattle.uz_hints.specs.Faults.{Reads, starts_main as enters_main, StartFine, LinesFine, HalvesFit, HalfFine};
+ghost use Rattle.uz_hints.specs.Faults.{StackFine, OffStack, CellRangeFine, CellPlaceFine, CellFine, FactFine, IsFine};
+ghost use Rattle.uz_hints.specs.Faults.{FineBefore, FirstFault};
 
 use crate::words::{
     Beginning, FrameSize, StackRegion, cell_count, first_lines, first_stack, first_start, has_cell,
@@ -166,11 +168,13 @@ fn is_fine(image: &Image, irq: Response, hints: &[Hint], i: usize, hint: &Hint) 
     }
 }
 
-/// The index of the first hint that is at fault. Linear in the number of hints: of starts, lines and stacks the second is at fault, of cells
+/// The index of the first hint that is at fault. Linear in the number of hints: of starts, lines and stacks the second
+/// is at fault, of cells
 /// the 17th, and each `.half` that isn't at fault names further lines of the frame.
 pub(crate) fn first_fault(image: &Image, irq: Response, hints: &[Hint]) -> Option<u32>
     requires { length hints.now < 2 ^ 32 }
-    ensures { MatchOption result (FineBefore image.now irq hints.now (length hints.now)) (λ index. FirstFault image.now irq hints.now index) }
+    ensures { MatchOption result (FineBefore image.now irq hints.now (length hints.now))
+        (λ index. FirstFault image.now irq hints.now index) }
 {
     for (i, hint) in hints.iter().enumerate() {
         if !is_fine(image, irq, hints, i, hint) {

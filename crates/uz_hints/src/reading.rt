@@ -3,7 +3,8 @@
 ghost use Rattle.std.specs.Prelude.{◌≡◌, ◌<◌, ◌≤◌, ◌^◌, ℕ, List, IfOk, IfErr, IfSome, Some, length};
 ghost use Rattle.uz_hints.specs.Words.{first_fact as fact_in, first_stack as first_stack_in};
 ghost use Rattle.uz_hints.specs.Faults.{FineBefore, HintRefusal, FactsFine, CellsFine};
-ghost use Rattle.uz_hints.specs.Reading.{byte_range as range_of, start_registers as registers_at, IsHeader, IsReading, ReadingFits, LengthsFit};
+ghost use Rattle.uz_hints.specs.Reading.{byte_range as range_of, start_registers as registers_at, IsHeader, IsReading};
+ghost use Rattle.uz_hints.specs.Reading.{ReadingFits, LengthsFit};
 ghost use Rattle.uz_hints.specs.Cells.{cells_of as cells_of_hints, first_values as values_of};
 
 use crate::cells::{cells_of, first_values, head_cells};

@@ -1,7 +1,10 @@
 //! The hints of each kind, read off their list.
 
 ghost use Rattle.std.specs.Prelude.{◌≡◌, length};
-ghost use Rattle.uz_hints.specs.Words.{first_start as start_in, first_lines as lines_in, is_half as half_in, first_stack as stack_in, has_cell as cell_in, cell_count as cells_in, first_fact as fact_in, halves as halves_line, halves_some as halves_some_line, has_half as some_half_in, cell_at, cell_hint, range_at};
+ghost use Rattle.uz_hints.specs.Words.{first_start as start_in, first_lines as lines_in, is_half as half_in};
+ghost use Rattle.uz_hints.specs.Words.{first_stack as stack_in, has_cell as cell_in, cell_count as cells_in};
+ghost use Rattle.uz_hints.specs.Words.{first_fact as fact_in, halves as halves_line, halves_some as halves_some_line};
+ghost use Rattle.uz_hints.specs.Words.{has_half as some_half_in, cell_at, cell_hint, range_at};
 
 use avr_asm::Hint;
 use uz_schedule::Kind;

@@ -21,7 +21,8 @@ use uz_soundness::soundness;
 /// A run of so many clocks from a state in range whose sync is low, as it is at reset: once a state of it meets the entry
 /// condition of a certificate that is certified with its image, it keeps to the schedule, and it isn't stopped.
 pub fn played_runs_keep()
-    ensures keeps { (image : FinMap nat_cmp ℕ) (cert : Cert) (start : State PadHistory) (limit clock p : ℕ) → Certified image cert → IsSteady cert.schedule → ScheduleFits cert.schedule
+    ensures keeps { (image : FinMap nat_cmp ℕ) (cert : Cert) (start : State PadHistory) (limit clock p : ℕ)
+        → Certified image cert → IsSteady cert.schedule → ScheduleFits cert.schedule
         → IsState start → start.image ≡ image → sync_level start.space ≡ 0 → EntersFirst cert limit start clock p
         → (edges : List Edge) (last : State PadHistory) → IsClockRun limit start edges last → KeepsSchedule cert limit clock p edges }
     ensures never_stops { (image : FinMap nat_cmp ℕ) (cert : Cert) (start : State PadHistory) (limit clock p : ℕ) → Certified image cert

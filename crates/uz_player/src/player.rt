@@ -57,7 +57,9 @@ fn line_of(cert: &Cert, position: u32) -> u16
 }
 
 impl Player {
-    ghost use Rattle.uz_player.specs.Playing.{GoesFurther, HasTurn, IsNearer, IsNearerBy, IsNext, IsRecordOf, Plays, StartsRecords, ahead_of, cert_of, counts_of, distance_of, left_of, limit_of};
+    ghost use Rattle.uz_player.specs.Playing.{GoesFurther, HasTurn, IsNearer, IsNearerBy, IsNext, IsRecordOf, Plays};
+    ghost use Rattle.uz_player.specs.Playing.{StartsRecords, ahead_of, cert_of, counts_of, distance_of, left_of};
+    ghost use Rattle.uz_player.specs.Playing.{limit_of};
 
     /// The player of the run of `clocks` clocks from the console's state, with no record handed out. The console's clock
     /// is 0.
@@ -85,7 +87,8 @@ impl Player {
         ensures record { IsRecordOf self.old self.new result }
         ensures nearer { IsNearerBy self.old self.new result }
         ensures clock { console_clock self.new.console ≡ console_clock self.old.console }
-        ensures same { (self.new.limit ≡ self.old.limit) × (self.new.cert ≡ self.old.cert) × (self.new.recorder.counts.entered ≡ self.old.recorder.counts.entered) }
+        ensures same { (self.new.limit ≡ self.old.limit) × (self.new.cert ≡ self.old.cert)
+            × (self.new.recorder.counts.entered ≡ self.old.recorder.counts.entered) }
     {
         while self.next < self.edges.len() {
             let edge = self.edges[self.next];
@@ -168,7 +171,8 @@ impl Player {
     /// The next record of the run; and where all are handed out, how it ended, again and again.
     pub fn advance(&mut self) -> Played
         ensures next { IsNext self.old self.new result }
-        ensures part { (start : State PadHistory) (handed : List ℕ) → Plays self.new start handed → StartsRecords (limit_of self.new) start handed }
+        ensures part { (start : State PadHistory) (handed : List ℕ) → Plays self.new start handed
+            → StartsRecords (limit_of self.new) start handed }
         ensures nearer { IsNearer self.old self.new result }
         ensures same { (cert_of self.new ≡ cert_of self.old) × (limit_of self.new ≡ limit_of self.old) }
     {

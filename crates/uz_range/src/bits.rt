@@ -18,7 +18,8 @@ pub fn bld(a: Span, bit: u8, t: Bit) -> Span
     bld_by_rule(a, bit, t)
 }
 
-/// One bit (0 to 7) of a byte, for T (BST; AVR Instruction Set Manual). It is known where it is the same at both ends with the bits above it.
+/// One bit (0 to 7) of a byte, for T (BST; AVR Instruction Set Manual). It is known where it is the same at both ends
+/// with the bits above it.
 pub fn bst(a: Span, bit: u8) -> Bit
     requires { bit < 8 }
     ensures row { result ≡ bst_answer a bit }

@@ -10,7 +10,8 @@ use crate::answer::{WideRanged, exactly_wide, is_single_wide, wide_arithmetic};
 use uz_core::{add16, sub16};
 use uz_schedule::{Bit, Span, Wide};
 
-/// A pair and a constant (ADIW, and the step of a pointer; AVR Instruction Set Manual). Where no sum of the range reaches 65,536, or every one
+/// A pair and a constant (ADIW, and the step of a pointer; AVR Instruction Set Manual). Where no sum of the range
+/// reaches 65,536, or every one
 /// does, the answer is the range of the sums with the carry known.
 pub fn pair_add(a: Wide, k: u8) -> WideRanged
     ensures row { result ≡ pair_add_answer a k }

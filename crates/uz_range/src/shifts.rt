@@ -17,7 +17,8 @@ pub fn lsr(a: Span) -> Ranged
     lsr_by_rule(a)
 }
 
-/// A byte shifted right through the carry (ROR; AVR Instruction Set Manual): half of each end, and 128 more where the carry is set; every byte
+/// A byte shifted right through the carry (ROR; AVR Instruction Set Manual): half of each end, and 128 more where the
+/// carry is set; every byte
 /// where the carry isn't known.
 pub fn ror(a: Span, carry: Bit) -> Ranged
     ensures row { result ≡ ror_answer a carry }

@@ -3,13 +3,15 @@
 ghost use Rattle.std.specs.Prelude.{◌≡◌, ◌≤◌, ◌<◌, ℕ, Bool};
 ghost use Rattle.uz_machine.specs.Arithmetic.{AluResult, sum_of, difference_of, negation_of, increment_of, decrement_of, chained_result};
 ghost use Rattle.uz_range.specs.Containment.{IsWithin, MayBe, Covers};
-ghost use Rattle.uz_range.specs.Rules.{wrapped_sum, sum_answer, wrapped_difference, difference_answer, chained_zero, chained_answer, negate_answer, step_up_answer, step_down_answer};
+ghost use Rattle.uz_range.specs.Rules.{wrapped_sum, sum_answer, wrapped_difference, difference_answer, chained_zero};
+ghost use Rattle.uz_range.specs.Rules.{chained_answer, negate_answer, step_up_answer, step_down_answer};
 
 use crate::answer::{Ranged, arithmetic, exactly, is_fixed, is_set, is_single, least_of, most_of};
 use uz_core::{add8, dec8, inc8, neg8, sub8};
 use uz_schedule::{Bit, Span};
 
-/// The sum of two bytes and a carry (ADD and ADC; AVR Instruction Set Manual). Where no sum of the ranges reaches 256, or every one does, the
+/// The sum of two bytes and a carry (ADD and ADC; AVR Instruction Set Manual). Where no sum of the ranges reaches 256,
+/// or every one does, the
 /// answer is the range of the sums (less 256) with the carry known; where only a part wraps, it is every byte.
 pub fn sum(a: Span, b: Span, carry: Bit) -> Ranged
     ensures row { result ≡ sum_answer a b carry }
@@ -18,11 +20,13 @@ pub fn sum(a: Span, b: Span, carry: Bit) -> Ranged
     sum_by_rule(a, b, carry)
 }
 
-/// A byte less a byte and a borrow (SUB, SUBI, CP, CPI, and SBC, SBCI, CPC before [`chained`]; AVR Instruction Set Manual). Where no difference
+/// A byte less a byte and a borrow (SUB, SUBI, CP, CPI, and SBC, SBCI, CPC before [`chained`]; AVR Instruction Set
+/// Manual). Where no difference
 /// of the ranges falls below 0, or every one does, the answer is the range of the differences (plus 256) with the carry known.
 pub fn difference(a: Span, b: Span, carry: Bit) -> Ranged
     ensures row { result ≡ difference_answer a b carry }
-    ensures holds { (x y : ℕ) (c : Bool) → x < 256 → y < 256 → IsWithin x a → IsWithin y b → MayBe carry c → Covers result (difference_of x y c) }
+    ensures holds { (x y : ℕ) (c : Bool) → x < 256 → y < 256 → IsWithin x a → IsWithin y b → MayBe carry c
+        → Covers result (difference_of x y c) }
 {
     difference_by_rule(a, b, carry)
 }

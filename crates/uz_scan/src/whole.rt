@@ -1,7 +1,8 @@
 //! The picture of a whole list.
 
 ghost use Rattle.std.specs.Prelude.{◌≡◌, ◌≤◌, ◌++◌, ℕ, take, IfOk, OnErr, if◌then◌else◌, is_ok};
-ghost use Rattle.uz_scan.specs.Pictures.{end_records, newest_first, record_of, records, row_records, row_records_of, end_records_of, NeverFalls};
+ghost use Rattle.uz_scan.specs.Pictures.{end_records, newest_first, record_of, records, row_records, row_records_of};
+ghost use Rattle.uz_scan.specs.Pictures.{end_records_of, NeverFalls};
 
 use crate::records::{end_record, row_record};
 use crate::scanner::{Scan, Scanner};

@@ -2,7 +2,11 @@
 //! the handler's next run begins. Instances are made here alone.
 
 ghost use Rattle.std.specs.Prelude.{◌≡◌, ◌<◌, ◌≤◌, ◌+ℤ◌, ◌*ℤ◌, pos, length, map};
-ghost use Rattle.uz_schedule.specs.Instances.{val_of as val_of_fact, cell_span, hull_at, pairs_of, is_in_box as box_holds, clock_below as below, clock_at as clock_at_count, instance_of as instance_of_point, instance_in, instance_at, level_or_zero as level_of_place, entry_instance, entry_instance_at, old_from, rest_instance, handler_entry as entry_of_handler};
+ghost use Rattle.uz_schedule.specs.Instances.{val_of as val_of_fact, cell_span, hull_at, pairs_of};
+ghost use Rattle.uz_schedule.specs.Instances.{is_in_box as box_holds, clock_below as below, clock_at as clock_at_count};
+ghost use Rattle.uz_schedule.specs.Instances.{instance_of as instance_of_point, instance_in, instance_at};
+ghost use Rattle.uz_schedule.specs.Instances.{level_or_zero as level_of_place, entry_instance, entry_instance_at};
+ghost use Rattle.uz_schedule.specs.Instances.{old_from, rest_instance, handler_entry as entry_of_handler};
 ghost use Rattle.uz_schedule.specs.declared.facts.Val.TheVariants.{Range};
 ghost use Rattle.uz_schedule.specs.Limits.{ScheduleFits};
 ghost use Rattle.uz_schedule.specs.WellFormed.{WellFormed};

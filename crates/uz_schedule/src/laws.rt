@@ -3,7 +3,8 @@
 ghost use Rattle.std.specs.Prelude.{◌≡◌, true, All, List, ℕ, suc, ◌+◌, ◌%◌, ◌<◌, ◌≤◌, length, Some};
 ghost use Rattle.uz_schedule.specs.declared.lines.Event.{Event};
 ghost use Rattle.uz_schedule.specs.declared.lines.Schedule.{Schedule};
-ghost use Rattle.uz_schedule.specs.Schedule.{scanline, half_line, length_of, start_of, frame_of, next_line, At, event_at, event_in_kind, events_of, sync_at, or_else, level_at};
+ghost use Rattle.uz_schedule.specs.Schedule.{scanline, half_line, length_of, start_of, frame_of, next_line, At};
+ghost use Rattle.uz_schedule.specs.Schedule.{event_at, event_in_kind, events_of, sync_at, or_else, level_at};
 ghost use Rattle.uz_schedule.specs.Limits.{ScheduleFits};
 ghost use Rattle.uz_schedule.specs.declared.states.Instance.{Instance};
 ghost use Rattle.uz_schedule.specs.declared.certificate.Cert.{Cert};
@@ -17,14 +18,16 @@ use crate::states::Instance;
 /// The event at clock k of line l is that of the line's kind at this clock.
 #[tactic(auto, using(crate::proofs::Starts::event_of_place))]
 pub fn event_by_line()
-    ensures { (s : Schedule) (l k : ℕ) → l < length s.lines → k < length_of s l → event_at s (start_of s l + k) ≡ event_in_kind (events_of s l) k }
+    ensures { (s : Schedule) (l k : ℕ) → l < length s.lines → k < length_of s l
+        → event_at s (start_of s l + k) ≡ event_in_kind (events_of s l) k }
 {}
 
 /// A line has the clocks of half a scanline or more, and of a whole one at most; its events stand at clocks of it; and a
 /// frame has clocks.
 pub fn lines_have_lengths()
     ensures within { (s : Schedule) → ScheduleFits s → (l : ℕ) → (half_line ≤ length_of s l) × (length_of s l ≤ scanline) }
-    ensures events { (s : Schedule) → ScheduleFits s → (l : ℕ) (events : List Event) → l < length s.lines → events_of s l ≡ Some events → All (λ e. e.clock < length_of s l) events }
+    ensures events { (s : Schedule) → ScheduleFits s → (l : ℕ) (events : List Event) → l < length s.lines
+        → events_of s l ≡ Some events → All (λ e. e.clock < length_of s l) events }
     ensures frame { (s : Schedule) → ScheduleFits s → 0 < frame_of s }
 {}
 
@@ -64,7 +67,8 @@ pub fn level_exists()
 /// An instance of a well formed certificate is within limits: its place is one of the frame, it has all registers and flags, no
 /// more slots than its kind may push, a range for each cell that its kind tracks, and interrupted values in handlers alone.
 pub fn instance_is_within_limits()
-    ensures { (cert : Cert) (id l c : ℕ) (inst : Instance) → WellFormed cert → instance_at cert id l c ≡ Some inst → InstanceFits cert inst }
+    ensures { (cert : Cert) (id l c : ℕ) (inst : Instance) → WellFormed cert → instance_at cert id l c ≡ Some inst
+        → InstanceFits cert inst }
 {}
 
 /// Instances that compare equal are one. Does nothing.

@@ -1,7 +1,9 @@
 //! The limits and orders of a schedule.
 
 ghost use Rattle.std.specs.Prelude.{◌≡◌, ◌<◌, ◌≤◌, ◌↔◌, IsTrue, map};
-ghost use Rattle.uz_schedule.specs.Limits.{rises as rising, EventFits, EventsFit, KindsFit, LinesFit, ScheduleFits, is_length as length_is, is_top as top_is, clocks_below as are_below, lengths_fit as fit_lengths};
+ghost use Rattle.uz_schedule.specs.Limits.{rises as rising, EventFits, EventsFit, KindsFit, LinesFit, ScheduleFits};
+ghost use Rattle.uz_schedule.specs.Limits.{is_length as length_is, is_top as top_is, clocks_below as are_below};
+ghost use Rattle.uz_schedule.specs.Limits.{lengths_fit as fit_lengths};
 
 use crate::line_events::LineEvents;
 use crate::line_order::{HALF_LINE, SCANLINE};

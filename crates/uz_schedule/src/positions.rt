@@ -74,7 +74,8 @@ impl Schedule {
         requires fits { ScheduleFits self.now }
         requires some { 0 < count }
         requires few { count ≤ 2 * length self.now.lines }
-        ensures { result ≡ last_of_kind (events_of self.now (line_round self.now (count - 1))) (length_of self.now (line_round self.now (count - 1))) }
+        ensures { result ≡ last_of_kind (events_of self.now (line_round self.now (count - 1)))
+            (length_of self.now (line_round self.now (count - 1))) }
     {
         let lines = self.lines.len() as u16;
         let line = if count - 1 < lines {

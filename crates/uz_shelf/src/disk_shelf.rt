@@ -1,7 +1,8 @@
 //! The shelf of real files. As a shelf it tells nothing of their content; what it reads and writes of a file
 //! is told by the bytes that the kit's readers have left and its writers hold. Nothing ties a name to them.
 
-ghost use Rattle.std.specs.Prelude.{◌≡◌, ◌≤◌, ◌<◌, ◌+◌, ◌^◌, ◌++◌, ◌⊎◌, ℕ, List, IfOk, IfSome, IsErrOf, OnErr, OnOk, IsSome, None, Some, option_map, length, string_bytes, take, vec_len};
+ghost use Rattle.std.specs.Prelude.{◌≡◌, ◌≤◌, ◌<◌, ◌+◌, ◌^◌, ◌++◌, ◌⊎◌, ℕ, List, IfOk, IfSome, IsErrOf, OnErr, OnOk};
+ghost use Rattle.std.specs.Prelude.{IsSome, None, Some, option_map, length, string_bytes, take, vec_len};
 ghost use Rattle.std.specs.Io.KnownBytes.{Appends, Consumes, IsAtEnd};
 ghost use Rattle.uz_shelf.specs.Faults.{Rose};
 ghost use Rattle.uz_shelf.specs.Files.{AppendsAll, AppendsPrefix, Creates, CreatesOrKeeps, HoldsFile, HoldsLonger, LacksFile};
@@ -54,7 +55,8 @@ fn read_some<F: Read>(file: &mut F, bytes: &mut Vec<u8>, room: usize) -> Result<
     requires { 0 < room }
     ensures added { IfOk result (λ count. vec_len bytes.new ≡ vec_len bytes.old + count) }
     ensures room { IfOk result (λ count. count ≤ room) }
-    ensures read { IfOk result (λ count. (piece : List ℕ) × (bytes.new.items ≡ bytes.old.items ++ piece) × Consumes (F.remaining file.old) (F.remaining file.new) piece) }
+    ensures read { IfOk result (λ count. (piece : List ℕ) × (bytes.new.items ≡ bytes.old.items ++ piece)
+        × Consumes (F.remaining file.old) (F.remaining file.new) piece) }
     ensures end { IfOk result (λ count. count ≡ 0 → IsAtEnd (F.remaining file.new)) }
     ensures unlimited { IsErrOf result LoadError.TooLong → ⊥ }
 {
@@ -114,9 +116,13 @@ fn append_to<R: Files + Drop>(
     piece: &[u8],
 ) -> Result<(), WriteError>
     requires { IsSome target.old }
-    ensures names { option_map (λ opened. string_bytes opened.name) target.new ≡ option_map (λ opened. string_bytes opened.name) target.old }
-    ensures ok { OnOk result (IfSome target.old (λ a. IfSome target.new (λ b. Appends (⟦<R::File as Write>⟧.contents a.file) (⟦<R::File as Write>⟧.contents b.file) piece.now))) }
-    ensures err { OnErr result (IfSome target.old (λ a. IfSome target.new (λ b. (count : ℕ) × Appends (⟦<R::File as Write>⟧.contents a.file) (⟦<R::File as Write>⟧.contents b.file) (take count piece.now)))) }
+    ensures names { option_map (λ opened. string_bytes opened.name) target.new
+        ≡ option_map (λ opened. string_bytes opened.name) target.old }
+    ensures ok { OnOk result (IfSome target.old (λ a. IfSome target.new
+        (λ b. Appends (⟦<R::File as Write>⟧.contents a.file) (⟦<R::File as Write>⟧.contents b.file) piece.now))) }
+    ensures err { OnErr result (IfSome target.old (λ a. IfSome target.new
+        (λ b. (count : ℕ) × Appends (⟦<R::File as Write>⟧.contents a.file) (⟦<R::File as Write>⟧.contents b.file)
+        (take count piece.now)))) }
     ensures some { OnErr result (0 < length piece.now) }
 {
     match target {

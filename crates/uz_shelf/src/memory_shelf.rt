@@ -1,6 +1,7 @@
 //! A shelf in memory. It tells its files, and its calls fail as planned.
 
-ghost use Rattle.std.specs.Prelude.{◌≡◌, ◌≢◌, ◌⊎◌, ◌<◌, ◌≤◌, ◌↔◌, ℕ, IfOk, IfSome, IsErr, IsErrOf, IsSome, IsTrue, None, OnErr, OnOk, Some, [], option_map, take, vec_len};
+ghost use Rattle.std.specs.Prelude.{◌≡◌, ◌≢◌, ◌⊎◌, ◌<◌, ◌≤◌, ◌↔◌, ℕ, IfOk, IfSome, IsErr, IsErrOf, IsSome, IsTrue};
+ghost use Rattle.std.specs.Prelude.{None, OnErr, OnOk, Some, [], option_map, take, vec_len};
 ghost use Rattle.std.specs.Prelude.{false};
 ghost use Rattle.std.specs.FinMap as finmap;
 ghost use Rattle.uz_shelf.specs.Files.{AppendsAll, AppendsPrefix};
@@ -58,7 +59,8 @@ fn has_first(files: &[File], name: &str) -> bool
 /// Gives the first file other bytes.
 fn replace_first(files: &mut Vec<File>, bytes: Vec<u8>)
     requires { 0 < vec_len files.old }
-    ensures files { IfSome (first_name files.old.items) (λ name. files_of files.new.items ≡ finmap.insert (files_of files.old.items) name bytes.items) }
+    ensures files { IfSome (first_name files.old.items)
+        (λ name. files_of files.new.items ≡ finmap.insert (files_of files.old.items) name bytes.items) }
     ensures open { open_in files.new.items ≡ open_in files.old.items }
 {
     let first = &mut files[0];
@@ -95,8 +97,10 @@ fn close_first(files: &mut Vec<File>)
 /// Adds bytes at the end of the open file.
 fn extend_first(files: &mut Vec<File>, piece: &[u8]) -> Result<(), AllocError>
     requires { IsSome (open_in files.old.items) }
-    ensures ok { OnOk result (AppendsAll (Some (files_of files.old.items)) (open_in files.old.items) piece.now (Some (files_of files.new.items))) }
-    ensures err { OnErr result (AppendsPrefix (Some (files_of files.old.items)) (open_in files.old.items) piece.now (Some (files_of files.new.items))) }
+    ensures ok { OnOk result (AppendsAll (Some (files_of files.old.items)) (open_in files.old.items) piece.now
+        (Some (files_of files.new.items))) }
+    ensures err { OnErr result (AppendsPrefix (Some (files_of files.old.items)) (open_in files.old.items) piece.now
+        (Some (files_of files.new.items))) }
     ensures open { open_in files.new.items ≡ open_in files.old.items }
 {
     let first = &mut files[0];
@@ -189,7 +193,8 @@ impl Shelf for MemoryShelf {
     fn load(&mut self, alloc: Global, name: &str, limit: u32) -> Result<Vec<u8>, LoadError>
         ensures held { IfOk result (λ bytes. HoldsFile (told_files self.old) name.now bytes.items) }
         ensures limit { IfOk result (λ bytes. vec_len bytes ≤ limit) }
-        ensures failed { IsErrOf result LoadError.Failed → Rose (load_faults_of self.old) (load_faults_of self.new) ⊎ LacksFile (told_files self.old) name.now }
+        ensures failed { IsErrOf result LoadError.Failed → Rose (load_faults_of self.old) (load_faults_of self.new)
+            ⊎ LacksFile (told_files self.old) name.now }
         ensures too_long { IsErrOf result LoadError.TooLong → HoldsLonger (told_files self.old) name.now limit }
         ensures files { told_files self.new ≡ told_files self.old }
         ensures open_file { held_open self.new ≡ held_open self.old }
@@ -198,7 +203,8 @@ impl Shelf for MemoryShelf {
 
         // A planned fault fails, and nothing else raises the count.
         ensures planned { IsSome (planned_fail (plan_of self.old) (calls_of self.old)) → IsErrOf result LoadError.Failed }
-        ensures counted { load_faults_of self.new ≡ counted (planned_fail (plan_of self.old) (calls_of self.old)) (load_faults_of self.old) }
+        ensures counted { load_faults_of self.new ≡ counted (planned_fail (plan_of self.old) (calls_of self.old))
+            (load_faults_of self.old) }
         ensures plan { plan_of self.new ≡ plan_of self.old }
         ensures calls { calls_of self.new ≡ next_call (calls_of self.old) }
     {
@@ -230,7 +236,8 @@ impl Shelf for MemoryShelf {
         ensures planned { IsSome (planned_fail (plan_of self.old) (calls_of self.old)) → IsErrOf result WriteError.Failed }
         ensures unplanned { IsErrOf result WriteError.Failed → IsSome (planned_fail (plan_of self.old) (calls_of self.old)) }
         ensures kept { OnErr result (told_files self.new ≡ told_files self.old) }
-        ensures counted { write_faults_of self.new ≡ counted (planned_fail (plan_of self.old) (calls_of self.old)) (write_faults_of self.old) }
+        ensures counted { write_faults_of self.new ≡ counted (planned_fail (plan_of self.old) (calls_of self.old))
+            (write_faults_of self.old) }
         ensures plan { plan_of self.new ≡ plan_of self.old }
         ensures calls { calls_of self.new ≡ next_call (calls_of self.old) }
     {
@@ -261,8 +268,10 @@ impl Shelf for MemoryShelf {
         // It fails exactly where a fault is planned, which keeps as much as it says. Nothing else raises the count.
         ensures planned { IsSome (planned_fail (plan_of self.old) (calls_of self.old)) → IsErr result }
         ensures unplanned { IsErrOf result WriteError.Failed → IsSome (planned_fail (plan_of self.old) (calls_of self.old)) }
-        ensures kept { IsErrOf result WriteError.Failed → AppendsAll (told_files self.old) (held_open self.old) (kept_of (planned_fail (plan_of self.old) (calls_of self.old)) piece.now) (told_files self.new) }
-        ensures counted { write_faults_of self.new ≡ counted (planned_fail (plan_of self.old) (calls_of self.old)) (write_faults_of self.old) }
+        ensures kept { IsErrOf result WriteError.Failed → AppendsAll (told_files self.old) (held_open self.old)
+            (kept_of (planned_fail (plan_of self.old) (calls_of self.old)) piece.now) (told_files self.new) }
+        ensures counted { write_faults_of self.new ≡ counted (planned_fail (plan_of self.old) (calls_of self.old))
+            (write_faults_of self.old) }
         ensures plan { plan_of self.new ≡ plan_of self.old }
         ensures calls { calls_of self.new ≡ next_call (calls_of self.old) }
     {

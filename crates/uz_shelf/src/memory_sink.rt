@@ -64,7 +64,8 @@ impl Sink for MemorySink {
         // It fails exactly where a fault is planned, which keeps as much as it says. Nothing else raises the count.
         ensures planned { IsSome (planned_fail (plan_of self.old) (calls_of self.old)) → IsErr result }
         ensures unplanned { IsErrOf result WriteError.Failed → IsSome (planned_fail (plan_of self.old) (calls_of self.old)) }
-        ensures kept { IsErrOf result WriteError.Failed → TakesAll (told_text self.old) (kept_of (planned_fail (plan_of self.old) (calls_of self.old)) piece.now) (told_text self.new) }
+        ensures kept { IsErrOf result WriteError.Failed → TakesAll (told_text self.old)
+            (kept_of (planned_fail (plan_of self.old) (calls_of self.old)) piece.now) (told_text self.new) }
         ensures counted { faults_of self.new ≡ counted (planned_fail (plan_of self.old) (calls_of self.old)) (faults_of self.old) }
         ensures plan { plan_of self.new ≡ plan_of self.old }
         ensures calls { calls_of self.new ≡ next_call (calls_of self.old) }

@@ -47,7 +47,8 @@ impl<W: Write + Drop> Sink for OutSink<W> {
         // Where the output tells its bytes, the piece is added to them once, and a prefix of it where this fails, which no
         // empty piece does. Each failure raises the count by one, and nothing else does.
         ensures written { OnOk result (Appends (W.contents (output_of self.old)) (W.contents (output_of self.new)) piece.now) }
-        ensures written_part { OnErr result ((count : ℕ) × Appends (W.contents (output_of self.old)) (W.contents (output_of self.new)) (take count piece.now)) }
+        ensures written_part { OnErr result ((count : ℕ) × Appends (W.contents (output_of self.old)) (W.contents (output_of self.new))
+            (take count piece.now)) }
         ensures some { OnErr result (0 < length piece.now) }
         ensures counted { faults_of self.new ≡ count_after_write result (faults_of self.old) }
     {

@@ -32,7 +32,8 @@ pub trait Shelf {
     fn load(&mut self, alloc: Global, name: &str, limit: u32) -> Result<Vec<u8>, LoadError>
         ensures held { IfOk result (λ bytes. HoldsFile (files self.old) name.now bytes.items) }
         ensures limit { IfOk result (λ bytes. vec_len bytes ≤ limit) }
-        ensures failed { IsErrOf result LoadError.Failed → Rose (load_faults self.old) (load_faults self.new) ⊎ LacksFile (files self.old) name.now }
+        ensures failed { IsErrOf result LoadError.Failed → Rose (load_faults self.old) (load_faults self.new)
+            ⊎ LacksFile (files self.old) name.now }
         ensures too_long { IsErrOf result LoadError.TooLong → HoldsLonger (files self.old) name.now limit }
         ensures files { files self.new ≡ files self.old }
         ensures open_file { open_file self.new ≡ open_file self.old }

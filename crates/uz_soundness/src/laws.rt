@@ -47,6 +47,8 @@ pub fn soundness()
 /// The claim is never empty: whatever the flash image, and whatever the well formed certificate whose schedule is steady and
 /// whose entry, if it is main's, has a rest at a clock of its line, there is a state with that image that meets the entry condition.
 pub fn some_state_enters()
-    ensures { (image : FinMap nat_cmp ℕ) (cert : Cert) → IsFlash image → WellFormed cert → IsSteady cert.schedule → (cert.entry.kind ≡ Main → (rest : Rest) × Contains cert.rests rest × (rest.clock < length_of cert.schedule rest.line))
+    ensures { (image : FinMap nat_cmp ℕ) (cert : Cert) → IsFlash image → WellFormed cert → IsSteady cert.schedule
+        → (cert.entry.kind ≡ Main → (rest : Rest) × Contains cert.rests rest
+        × (rest.clock < length_of cert.schedule rest.line))
         → (s : State PadHistory) × (p : ℕ) × IsState s × (s.image ≡ image) × EntryCondition cert s p }
 {}

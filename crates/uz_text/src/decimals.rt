@@ -1,7 +1,8 @@
 //! Numbers as words: decimal digits without a sign or a leading zero.
 
 ghost use Rattle.std.specs.Prelude.{◌≡◌, ◌<◌, ◌≤◌, IfSome};
-ghost use Rattle.uz_text.specs.Numbers.{all_digits, has_first, is_numeral, number_below, number_within as number_from_low, number_after as number_going_on};
+ghost use Rattle.uz_text.specs.Numbers.{all_digits, has_first, is_numeral, number_below};
+ghost use Rattle.uz_text.specs.Numbers.{number_within as number_from_low, number_after as number_going_on};
 
 /// The number below the limit that these digits make.
 #[tactic(auto, using(crate::proofs::NumberWords::past_limit))]

@@ -7,8 +7,10 @@ ghost use Rattle.uz_text.specs.Numbers.{number_below};
 /// A cut takes the separator out and nothing else, and the first part has no separator.
 #[tactic(auto, using(crate::proofs::Cuts::cut_read, crate::proofs::Cuts::cut_again))]
 pub fn cut_is_unique()
-    ensures joined { (separator : ℕ) (word : List ℕ) (p : List ℕ × List ℕ) → cut_at separator word ≡ Some p → word ≡ p.0 ++ separator ∷ p.1 }
-    ensures first { (separator : ℕ) (front back : List ℕ) → All (λ b. (b == separator) ≡ false) front → cut_at separator (front ++ separator ∷ back) ≡ Some (front, back) }
+    ensures joined { (separator : ℕ) (word : List ℕ) (p : List ℕ × List ℕ) → cut_at separator word ≡ Some p
+        → word ≡ p.0 ++ separator ∷ p.1 }
+    ensures first { (separator : ℕ) (front back : List ℕ) → All (λ b. (b == separator) ≡ false) front
+        → cut_at separator (front ++ separator ∷ back) ≡ Some (front, back) }
 {}
 
 /// A number has one spelling, and a spelling one number: a word is read as a number below a limit exactly where it is
