@@ -3,6 +3,7 @@
 ghost use Rattle.std.specs.Prelude.{◌≡◌, ◌≤◌, ◌↔◌, ◌+◌, ◌-◌, ◌*◌, All, IsTrue, length, sum_by};
 ghost use Rattle.uz_schedule.specs.WellFormed.{CoreFits, MemoryFits, BoxFits, IsAtBegin, TimerFits, IsTimerLeftOut};
 ghost use Rattle.uz_schedule.specs.WellFormed.{PointKindFits, is_zero_or_one as names_flag};
+ghost use Rattle.uz_schedule.specs.WellFormed.{is_carry_and_zero_default as carry_and_zero_default};
 ghost use Rattle.uz_schedule.specs.WellFormed.{is_default_flag as default_flag, is_without_text as without_text};
 ghost use Rattle.uz_schedule.specs.WellFormed.{SuccessorsFit, PointFits, instances_of as instances_of_point, PointsFit};
 
@@ -109,13 +110,19 @@ fn is_default_flag(kind: Kind, bit: Bit) -> bool
     }
 }
 
+/// Whether the text leaves out the flags C and Z.
+fn is_carry_and_zero_default(kind: Kind, flags: &[Bit; 7]) -> bool
+    ensures count { length flags.now ≡ 7 }
+    ensures value { result ≡ carry_and_zero_default kind flags.now }
+{
+    is_default_flag(kind, flags[0]) && is_default_flag(kind, flags[1])
+}
+
 /// Whether the text would say the flag Z where the pair Z is meant.
 fn is_without_text(point: &Point) -> bool
     ensures { result ≡ without_text point.now }
 {
-    is_zero_or_one(&point.pairs[2])
-        && (is_default_flag(point.kind, point.flags[0])
-            && is_default_flag(point.kind, point.flags[1]))
+    is_zero_or_one(&point.pairs[2]) && is_carry_and_zero_default(point.kind, &point.flags)
 }
 
 fn successors_fit(next: &[u32], points: usize) -> bool

@@ -1,6 +1,6 @@
 -- The words of facts, as they are read: what is known of a byte, a pair or a flag.
 use Rattle.std.specs.Prelude.{ℕ, ◌<◌, ◌==◌, ◌&&◌, not, nat_lt, Bool, true, false, ⊤, List, [], ◌∷◌, length, codes, bytes_eq, Option, Some}
-use Rattle.std.specs.Prelude.{None, Result, Ok, Err, if◌then◌else◌}
+use Rattle.std.specs.Prelude.{None, Result, Ok, Err, if◌then◌else◌, ◌+◌}
 use Prim.Native.Char.{code}
 use Rattle.uz_text.specs.Cutting.{cut_at}
 use Rattle.uz_text.specs.Numbers.{all_digits, is_numeral, number_within}
