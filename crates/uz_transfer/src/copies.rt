@@ -11,8 +11,8 @@ fn copied_vals(from: &[Val]) -> ArrayVec<Val, 32>
     ensures { result.items ≡ from.now }
 {
     let mut copy = ArrayVec::new();
-    for v in from {
-        copy.push(*v);
+    if copy.try_extend_from_slice(from).is_err() {
+        unreachable!();
     }
     copy
 }
@@ -23,8 +23,8 @@ fn copied_spans(from: &[Span]) -> ArrayVec<Span, 16>
     ensures { result.items ≡ from.now }
 {
     let mut copy = ArrayVec::new();
-    for v in from {
-        copy.push(*v);
+    if copy.try_extend_from_slice(from).is_err() {
+        unreachable!();
     }
     copy
 }
@@ -34,9 +34,7 @@ fn copied_regs(from: &[Val; 32]) -> [Val; 32]
     ensures { result ≡ from.now }
 {
     let mut copy = [Val::OldFlags; 32];
-    for r in 0..32usize {
-        copy[r] = from[r];
-    }
+    copy.copy_from_slice(from);
     copy
 }
 
