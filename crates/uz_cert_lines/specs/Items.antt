@@ -20,6 +20,7 @@ use Rattle.uz_schedule.specs.declared.facts.Bit.TheVariants.{Free, Old as OldBit
 use Rattle.uz_cert_words.specs.Why.{◌>>=◌}
 use Rattle.uz_cert_words.specs.Values.{digits, one_number, range, raw_of, fact_of, pair_of, ends_of, bit_of}
 use Rattle.uz_cert_words.specs.Grammar.{Words}
+use Rattle.uz_cert_words.specs.FlagNames.{any_names}
 use Rattle.uz_cert_lines.specs.Defaults.{is_default, is_any_pair, is_range, is_default_top, range_fact}
 use Rattle.uz_schedule.specs.Tracked.{tracks}
 use Rattle.uz_schedule.specs.WellFormed.{is_default_flag}
