@@ -1,16 +1,37 @@
 //! When an instance lies in what a point's facts say at the instance's line and a count. The point's instance isn't made: each
 //! item is compared with its fact, and the first that doesn't lie in it is the last that is looked at.
 
-ghost use Rattle.std.specs.Prelude.{◌≡◌, length, map, true};
+ghost use Rattle.std.specs.Prelude.{◌≡◌, ◌<◌, length, map, true};
 ghost use Rattle.uz_schedule.specs.Instances.{val_of, cell_span, pairs_of};
 ghost use Rattle.uz_transfer.specs.Values.{value_at, span_at};
 ghost use Rattle.uz_transfer.specs.Refusals.{range_inside};
 ghost use Rattle.uz_rules.specs.Inside.{value_inside, all_below, registers_inside, pairs_inside, slots_inside, cells_inside};
 ghost use Rattle.uz_rules.specs.FactInclusion.{facts_inside};
 
-use crate::facts::{cell_by, pairs_by, value_by};
+use crate::facts::{cell_by, pairs_by};
 use crate::inclusion::{flags_inside, pairs_inside, span_inside, value_inside};
-use uz_schedule::{Fact, Instance, Point, Span, Val};
+use uz_schedule::{Fact, Instance, Point, Span, Val, val_of};
+
+/// Whether what is known of a byte lies in what a fact says of it. Two ranges, or two interrupted registers, are compared as they
+/// stand, which most are; else the value is made that the fact says at this line and count.
+fn lies_in_fact(val: &Val, fact: &Fact, line: u16, count: u8) -> bool
+    ensures { result ≡ value_inside val.now (val_of line count fact.now) }
+{
+    match (val, fact) {
+        (Val::Range(range), Fact::Between(span)) => span_inside(range, span),
+        (Val::Old(r), Fact::Old(s)) => r == s,
+        _ => value_inside(val, &val_of(fact, line, count)),
+    }
+}
+
+/// Whether what is known of a byte lies in what the fact at a place says.
+#[tactic(auto, using(crate::proofs::FactPlaces::value_of_fact))]
+fn lies_in_fact_at(val: &Val, facts: &[Fact], at: usize, line: u16, count: u8) -> bool
+    requires { at < length facts.now }
+    ensures { result ≡ value_inside val.now (value_at (map (val_of line count) facts.now) at) }
+{
+    lies_in_fact(val, &facts[at], line, count)
+}
 
 /// Whether what is known of bytes lies in what as many facts say.
 #[tactic(auto, using(crate::proofs::Below::below_none, crate::proofs::Below::below_passed))]
@@ -20,7 +41,7 @@ fn values_in_facts(vals: &[Val], facts: &[Fact], line: u16, count: u8) -> bool
         (λ i. value_inside (value_at vals.now i) (value_at (map (val_of line count) facts.now) i)) }
 {
     for i in 0..vals.len() {
-        if !value_inside(&vals[i], &value_by(facts, i, line, count)) {
+        if !lies_in_fact_at(&vals[i], facts, i, line, count) {
             return false;
         }
     }

@@ -1,6 +1,6 @@
 //! The abstract results of an instance, one by one.
 
-ghost use Rattle.std.specs.Prelude.{◌≡◌, ◌<◌, ◌≤◌, Ok, Err, OnOk, IfErr, length, map};
+ghost use Rattle.std.specs.Prelude.{◌≡◌, ◌<◌, ◌≤◌, [], Ok, Err, OnOk, IfErr, length, map};
 ghost use Rattle.uz_schedule.specs.Lines.{order_of};
 ghost use Rattle.uz_schedule.specs.Limits.{most_lines};
 ghost use Rattle.uz_schedule.specs.Schedule.{scanline, length_of};
@@ -44,8 +44,8 @@ fn result_at(
     result
 }
 
-/// Puts what is known at each exit in place of a list.
-fn put_results(
+/// Puts what is known at each of these exits into an empty list.
+fn push_results(
     draft: &Instance,
     schedule: &Schedule,
     at: &Instance,
@@ -57,26 +57,51 @@ fn put_results(
     requires count { length schedule.now.lines ≤ most_lines }
     requires line { at.now.line < length schedule.now.lines }
     requires clock { at.now.clock < scanline }
+    requires empty { out.old.items ≡ [] }
     requires few { length exits.now ≤ 16 }
     ensures { out.new.items ≡ map (λ exit. at_exit (order_of schedule.now) at.now draft.now emitted clears exit) exits.now }
 {
-    out.clear();
     for exit in exits {
         out.push(result_at(draft, schedule, at, emitted, clears, *exit));
     }
 }
 
-/// Puts the results of a step in place of others.
-fn put_next(schedule: &Schedule, at: &Instance, step: &Step, next: &mut Next)
+/// Puts what is known at each exit in place of a list. The draft itself becomes the last result, and is copied for those before it.
+fn put_results(
+    draft: Instance,
+    schedule: &Schedule,
+    at: &Instance,
+    emitted: Option<EventKind>,
+    clears: bool,
+    exits: &[Exit],
+    out: &mut ArrayVec<Instance, 16>,
+)
     requires count { length schedule.now.lines ≤ most_lines }
     requires line { at.now.line < length schedule.now.lines }
     requires clock { at.now.clock < scanline }
-    ensures { Ok next.new ≡ next_of (order_of schedule.now) at.now (Ok step.now) }
+    requires few { length exits.now ≤ 16 }
+    ensures { out.new.items ≡ map (λ exit. at_exit (order_of schedule.now) at.now draft emitted clears exit) exits.now }
+{
+    out.clear();
+    if let Some((last, others)) = exits.split_last() {
+        push_results(&draft, schedule, at, emitted, clears, others, out);
+        let mut result = draft;
+        put_at(&mut result, schedule, at, emitted, clears, *last);
+        out.push(result);
+    }
+}
+
+/// Puts the results of a step in place of others.
+fn put_next(schedule: &Schedule, at: &Instance, step: Step, next: &mut Next)
+    requires count { length schedule.now.lines ≤ most_lines }
+    requires line { at.now.line < length schedule.now.lines }
+    requires clock { at.now.clock < scanline }
+    ensures { Ok next.new ≡ next_of (order_of schedule.now) at.now (Ok step) }
 {
     next.emit = timed(step.emit, first_exit(step.exits.as_slice()).clocks);
     next.back = step.back;
     put_results(
-        &step.draft,
+        step.draft,
         schedule,
         at,
         step.emit,
@@ -107,7 +132,7 @@ pub fn put_after(
 {
     match abstract_step(image, head, schedule, at) {
         Ok(step) => {
-            put_next(schedule, at, &step, next);
+            put_next(schedule, at, step, next);
             Ok(())
         }
         Err(why) => Err(why),

@@ -9,8 +9,8 @@ use Rattle.uz_rules.proofs.Below.{below_failed}
 use Rattle.uz_rules.proofs.fact_inclusion.values_in_facts.Goals as goal
 
 -- the byte that doesn't lie in what its fact says
-pub returns-then-not-value_inside : goal.returns-then-not-value_inside
-returns-then-not-value_inside c =
+pub returns-then-not-lies_in_fact_at : goal.returns-then-not-lies_in_fact_at
+returns-then-not-lies_in_fact_at c =
     let i = c.loop-i.i in
     let vals = c.args.vals.now in
     let facts = map (val_of c.args.line c.args.count) c.args.facts.now in
@@ -18,6 +18,5 @@ returns-then-not-value_inside c =
     let element : c.index-vals-i.result ≡ value_at vals i =
     c.index-vals-i.is ∙ get_or_default vals i c.index-vals-i.result (Range (ends 0 255)) bound in
     let outside : value_inside (value_at vals i) (value_at facts i) ≡ false =
-    ap (λ v. value_inside v (value_at facts i)) (sym element) ∙ (ap (value_inside c.index-vals-i.result) (sym c.value_by.ensures)
-    ∙ (sym c.value_inside.ensures ∙ c.if-not-value_inside.true)) in
+    ap (λ v. value_inside v (value_at facts i)) (sym element) ∙ (sym c.lies_in_fact_at.ensures ∙ c.if-not-lies_in_fact_at.true) in
     sym (below_failed (length vals) i (λ k. value_inside (value_at vals k) (value_at facts k)) bound outside)

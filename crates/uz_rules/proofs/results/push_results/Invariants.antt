@@ -1,7 +1,7 @@
 use Rattle.std.proofs.Common.{◌≡◌, map, take}
 use Rattle.uz_schedule.specs.Lines.{order_of}
 use Rattle.uz_transfer.specs.Step.{at_exit}
-use Rattle.uz_rules.proofs.results.put_results.Given as goal
+use Rattle.uz_rules.proofs.results.push_results.Given as goal
 
 -- the results so far
 abbrev pub invariant-loop-exit : goal.invariant-loop-exit
