@@ -1,4 +1,6 @@
 pub mod History
+pub mod ItemLaws
+pub mod ItemLemmas
 pub mod LineCuts
 pub mod LineLemmas
 pub mod ReadingLaws

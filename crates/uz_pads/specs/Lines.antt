@@ -1,11 +1,11 @@
 -- The text of a pad file: lines that end in LF or CRLF, each blank or a pair of words.
-use Rattle.std.specs.Prelude.{◌≡◌, ℕ, ◌+◌, ◌*◌, ◌≤◌, Bool, true, false, ◌&&◌, ◌==◌, if◌then◌else◌, List, [], ◌∷◌}
-use Rattle.std.specs.Prelude.{◌++◌, length, Option, Some, None, Result, Ok}
+use Rattle.std.specs.Prelude.{◌≡◌, ℕ, ◌+◌, ◌*◌, Bool, true, false, ◌&&◌, ◌==◌, if◌then◌else◌, List, [], ◌∷◌}
+use Rattle.std.specs.Prelude.{Option, Some, None, Result, Ok}
 use Prim.Native.Char.{code}
-use Rattle.std.specs.List.{All}
 use Rattle.hex.specs.Hex.{decode_of}
 use Rattle.hex.specs.declared.error.FromHexError.{FromHexError}
 use Rattle.uz_text.specs.Lines.{is_blank}
+use Rattle.uz_pads.specs.ItemTexts.{IsFirstFaulty, IsText, items_in}
 use Rattle.uz_pads.specs.declared.pads.Pad.{Pad}
 use Rattle.uz_pads.specs.declared.lines.Line.{Line}
 use Rattle.uz_pads.specs.declared.lines.Line.TheVariants.{Blank, Pair, Faulty}
@@ -51,20 +51,23 @@ pads_of Blank = []
 pads_of (Pair pad) = pad ∷ []
 pads_of Faulty = []
 
+abbrev pub pads_on : List ℕ → List Pad
+pads_on line = pads_of (kind_of line)
+
 -- the pairs of some lines, in order
 abbrev pub pads_in : List (List ℕ) → List Pad
-pads_in [] = []
-pads_in (line ∷ lines) = pads_of (kind_of line) ++ pads_in lines
+pads_in = items_in pads_on
 
 abbrev pub is_well_formed : Line → Bool
 is_well_formed Faulty = false
 is_well_formed line = true
 
+abbrev pub is_good_line : List ℕ → Bool
+is_good_line line = is_well_formed (kind_of line)
+
 -- Lines that are each blank or a pair, with at most 65,536 pairs
-pub record IsRead (lines : List (List ℕ)) (pads : List Pad) : Type 0 where
-  pub well_formed : All (λ line. is_well_formed (kind_of line) ≡ true) lines
-  pub few : length (pads_in lines) ≤ 65536
-  pub are : pads ≡ pads_in lines
+abbrev pub IsRead : List (List ℕ) → List Pad → Type 0
+IsRead = IsText pads_on is_good_line
 
 -- What is wrong with a line, where some pairs came before it: it is neither blank nor a pair, or it is pair number 65,537
 abbrev pub IsFault : Line → ℕ → PadWhy → Type 0
@@ -72,12 +75,9 @@ IsFault Faulty before Digits = Unit {0}
 IsFault (Pair pad) before Count = before ≡ 65536
 IsFault line before why = ⊥
 
+abbrev pub HasFault : List ℕ → ℕ → PadWhy → Type 0
+HasFault line before why = IsFault (kind_of line) before why
+
 -- The first faulty line: all lines before it are read, and it has a fault
-pub record IsFirstFault (lines : List (List ℕ)) (number : ℕ) (why : PadWhy) : Type 0 where
-  pub earlier : List (List ℕ)
-  pub line : List ℕ
-  pub later : List (List ℕ)
-  pub cut : lines ≡ earlier ++ line ∷ later
-  pub number_is : number ≡ length earlier + 1
-  pub read : IsRead earlier (pads_in earlier)
-  pub fault : IsFault (kind_of line) (length (pads_in earlier)) why
+abbrev pub IsFirstFault : List (List ℕ) → ℕ → PadWhy → Type 0
+IsFirstFault = IsFirstFaulty pads_on is_good_line HasFault
