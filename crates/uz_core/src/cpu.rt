@@ -1,7 +1,9 @@
 //! The registers.
 
 ghost use Rattle.std.specs.Prelude.{◌≡◌, ◌<◌, ◌≤◌, ◌+◌, ◌*◌, ◌%◌};
-ghost use Rattle.uz_machine.specs.Core.{Core, reset_core, register, pair, with_register, with_pair, with_sp, with_sreg, operand_value, core_byte, with_core_byte, effective_address, with_pointer_after};
+ghost use Rattle.uz_machine.specs.Core.{Core, reset_core, register, pair, with_register, with_pair, with_sp, with_sreg};
+ghost use Rattle.uz_machine.specs.Core.{operand_value, core_byte, with_core_byte, effective_address};
+ghost use Rattle.uz_machine.specs.Core.{with_pointer_after};
 ghost use Rattle.uz_machine.specs.Arithmetic.{FitsMask, flags_of, merged_sreg};
 ghost use Rattle.uz_machine.specs.OperandRanges.{OperandFits, AddressModeFits};
 

@@ -131,7 +131,8 @@ impl Reading {
     /// What is read in two words: the one at this address and the next one.
     pub(crate) fn of(at: u16, first: u16, second: u16) -> Reading
         requires { at < 32768 }
-        ensures { (image : FinMap nat_cmp ℕ) → first ≡ word_of image at → second ≡ word_of image ((at + 1) % 32768) → IsReading image at result }
+        ensures { (image : FinMap nat_cmp ℕ) → first ≡ word_of image at → second ≡ word_of image ((at + 1) % 32768)
+            → IsReading image at result }
     {
         match &decode(first, second) {
             None => Reading::NoRow,

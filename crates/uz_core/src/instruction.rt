@@ -3,8 +3,13 @@
 ghost use Rattle.std.specs.Prelude.{◌≡◌, ◌≢◌, ◌<◌, ◌+◌, ◌-◌, ◌++◌, ◌∷◌, [], length, slice_index, filter, fold, ◌%◌, ◌*◌, true, false};
 ghost use Rattle.std.specs.FinMap as map;
 ghost use Rattle.uz_machine.specs.declared.HeldStore.TheVariants.{Byte, Bit};
-ghost use Rattle.uz_machine.specs.declared.Effect.TheVariants.{CopyByte, CopyPair, Binary, Unary, AddToPair, Multiply, Load, Store, PushByte, PopByte, LoadProgram, WriteIoBit, WriteFlag, LoadBit, StoreBit, Branch, SkipIf, Jump, Return};
-ghost use Rattle.uz_machine.specs.Core.{Core, LoadModel, test_holds, bit_equals, jump_address, load_addresses, with_sp, changed_core, loaded_bytes, content_after_loads, with_store, leaves_core, stores_of, pc_stores, following_pc};
+ghost use Rattle.uz_machine.specs.declared.Effect.TheVariants.{CopyByte, CopyPair, Binary, Unary, AddToPair, Multiply};
+ghost use Rattle.uz_machine.specs.declared.Effect.TheVariants.{Load, Store, PushByte, PopByte, LoadProgram, WriteIoBit};
+ghost use Rattle.uz_machine.specs.declared.Effect.TheVariants.{WriteFlag, LoadBit, StoreBit, Branch, SkipIf, Jump};
+ghost use Rattle.uz_machine.specs.declared.Effect.TheVariants.{Return};
+ghost use Rattle.uz_machine.specs.Core.{Core, LoadModel, test_holds, bit_equals, jump_address, load_addresses, with_sp};
+ghost use Rattle.uz_machine.specs.Core.{changed_core, loaded_bytes, content_after_loads, with_store, leaves_core};
+ghost use Rattle.uz_machine.specs.Core.{stores_of, pc_stores, following_pc};
 ghost use Rattle.uz_machine.specs.OperandRanges.{EffectFits, SkipTestFits, JumpTargetFits};
 
 use crate::arithmetic::mul16;
@@ -98,8 +103,10 @@ impl Cpu {
 
     pub(crate) fn load<D: Data>(&mut self, space: &mut D, d: u8, from: AddressMode, late: u8)
         requires { EffectFits (Load d from) }
-        ensures core { self.new ≡ changed_core (Load d from) map.empty 0 (loaded_bytes D.model self.old late (D.content space.old) (load_addresses (Load d from) self.old)) self.old }
-        ensures after { D.content space.new ≡ content_after_loads D.model late (D.content space.old) (load_addresses (Load d from) self.old) }
+        ensures core { self.new ≡ changed_core (Load d from) map.empty 0
+            (loaded_bytes D.model self.old late (D.content space.old) (load_addresses (Load d from) self.old)) self.old }
+        ensures after { D.content space.new ≡ content_after_loads D.model late (D.content space.old)
+            (load_addresses (Load d from) self.old) }
         ensures held { D.held space.new ≡ D.held space.old }
     {
         let at = self.effective_address(from);
@@ -134,7 +141,8 @@ impl Cpu {
 
     pub(crate) fn pop_byte<D: Data>(&mut self, space: &mut D, d: u8, late: u8)
         requires { EffectFits (PopByte d) }
-        ensures core { self.new ≡ changed_core (PopByte d) map.empty 0 (loaded_bytes D.model self.old late (D.content space.old) (load_addresses (PopByte d) self.old)) self.old }
+        ensures core { self.new ≡ changed_core (PopByte d) map.empty 0
+            (loaded_bytes D.model self.old late (D.content space.old) (load_addresses (PopByte d) self.old)) self.old }
         ensures after { D.content space.new ≡ content_after_loads D.model late (D.content space.old) (load_addresses (PopByte d) self.old) }
         ensures held { D.held space.new ≡ D.held space.old }
     {
@@ -160,9 +168,12 @@ impl Cpu {
     /// Pops a pc, the high byte first, and sets I for RETI.
     pub(crate) fn pop_pc<D: Data>(&mut self, space: &mut D, late: u8, from_interrupt: bool) -> u16
         ensures core { self.new ≡ changed_core (Return from_interrupt) map.empty 0 [] self.old }
-        ensures pc { let loaded = loaded_bytes D.model self.old late (D.content space.old) (load_addresses (Return from_interrupt) self.old) in result ≡ (slice_index loaded 1 + 256 * slice_index loaded 0) % 32768 }
+        ensures pc { let loaded = loaded_bytes D.model self.old late (D.content space.old)
+            (load_addresses (Return from_interrupt) self.old) in result
+            ≡ (slice_index loaded 1 + 256 * slice_index loaded 0) % 32768 }
         ensures below { result < 32768 }
-        ensures after { D.content space.new ≡ content_after_loads D.model late (D.content space.old) (load_addresses (Return from_interrupt) self.old) }
+        ensures after { D.content space.new ≡ content_after_loads D.model late (D.content space.old)
+            (load_addresses (Return from_interrupt) self.old) }
         ensures held { D.held space.new ≡ D.held space.old }
     {
         let sp = self.sp();
@@ -236,8 +247,10 @@ impl Cpu {
     /// Whether a skip's test holds. It samples at the start of the instruction.
     pub(crate) fn test_holds<D: Data>(&self, space: &mut D, test: SkipTest, late: u8) -> bool
         requires { SkipTestFits test }
-        ensures value { result ≡ test_holds test (loaded_bytes D.model self.now late (D.content space.old) (load_addresses (SkipIf test) self.now)) self.now }
-        ensures after { D.content space.new ≡ content_after_loads D.model late (D.content space.old) (load_addresses (SkipIf test) self.now) }
+        ensures value { result ≡ test_holds test (loaded_bytes D.model self.now late (D.content space.old)
+            (load_addresses (SkipIf test) self.now)) self.now }
+        ensures after { D.content space.new ≡ content_after_loads D.model late (D.content space.old)
+            (load_addresses (SkipIf test) self.now) }
         ensures held { D.held space.new ≡ D.held space.old }
     {
         match test {

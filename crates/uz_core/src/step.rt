@@ -2,7 +2,9 @@
 
 ghost use Rattle.std.specs.Prelude.{◌≡◌, ◌≢◌, ◌<◌, ◌≤◌, ◌+◌, ◌-◌, [], ◌∷◌, filter};
 ghost use Rattle.uz_machine.specs.declared.Effect.TheVariants.{Stop};
-ghost use Rattle.uz_machine.specs.Core.{Core, LoadModel, changed_core, loaded_bytes, content_after_loads, load_addresses, stores_of, pc_stores, leaves_core, next_pc, outcome_of, interrupted_core};
+ghost use Rattle.uz_machine.specs.Core.{Core, LoadModel, changed_core, loaded_bytes, content_after_loads};
+ghost use Rattle.uz_machine.specs.Core.{load_addresses, stores_of, pc_stores, leaves_core, next_pc, outcome_of};
+ghost use Rattle.uz_machine.specs.Core.{interrupted_core};
 ghost use Rattle.uz_machine.specs.OperandRanges.{EffectFits};
 ghost use Rattle.uz_core.specs.KnownStores.{StoreFits};
 ghost use Rattle.uz_core.specs.Programs.{IsReading, decoded_result};
@@ -70,10 +72,14 @@ impl Cpu {
         requires words { words < 3 }
         requires free { D.held space.old ≡ [] }
         requires runs { e.now ≢ Stop }
-        ensures core { let loaded = loaded_bytes D.model self.old late (D.content space.old) (load_addresses e.now self.old) in self.new ≡ record (changed_core e.now flash.now words loaded self.old) { pc = next_pc e.now result words loaded self.old } }
+        ensures core { let loaded = loaded_bytes D.model self.old late (D.content space.old)
+            (load_addresses e.now self.old) in self.new
+            ≡ record (changed_core e.now flash.now words loaded self.old)
+            { pc = next_pc e.now result words loaded self.old } }
         ensures content { D.content space.new ≡ content_after_loads D.model late (D.content space.old) (load_addresses e.now self.old) }
         ensures held { D.held space.new ≡ filter leaves_core (stores_of e.now words self.old) }
-        ensures outcome { let loaded = loaded_bytes D.model self.old late (D.content space.old) (load_addresses e.now self.old) in result ≡ outcome_of e.now flash.now words loaded self.old }
+        ensures outcome { let loaded = loaded_bytes D.model self.old late (D.content space.old)
+            (load_addresses e.now self.old) in result ≡ outcome_of e.now flash.now words loaded self.old }
     {
         let following = self.following_pc(words);
         let _same = following;
@@ -152,7 +158,8 @@ impl Cpu {
         ensures core { self.new ≡ (decoded_result D.model flash.now decoded.now self.old (D.content space.old)).core }
         ensures content { D.content space.new ≡ (decoded_result D.model flash.now decoded.now self.old (D.content space.old)).content }
         ensures held { D.held space.new ≡ (decoded_result D.model flash.now decoded.now self.old (D.content space.old)).stores }
-        ensures took { let r = decoded_result D.model flash.now decoded.now self.old (D.content space.old) in result ≡ Took r.clocks r.owed r.returned }
+        ensures took { let r = decoded_result D.model flash.now decoded.now self.old (D.content space.old) in result
+            ≡ Took r.clocks r.owed r.returned }
     {
         let outcome = self.perform(&decoded.effect, flash, decoded.words, decoded.late, space);
         Step::Took {

@@ -66,7 +66,9 @@ impl Board {
     /// The byte that a read of a data address would give, without its effect. The core's own addresses answer 0.
     pub fn byte(&self, at: u16) -> u8
         ensures own { result ≡ (if is_core_address at then 0 else byte_at pads_wiring (space_of self.now) at) }
-        ensures stands { (history : PadHistory) → StandsFor (space_of self.now).pads history → result ≡ (if is_core_address at then 0 else byte_at history_wiring (with_pads history (space_of self.now)) at) }
+        ensures stands { (history : PadHistory) → StandsFor (space_of self.now).pads history
+            → result ≡ (if is_core_address at then 0 else byte_at history_wiring
+            (with_pads history (space_of self.now)) at) }
     {
         self.own_byte(at)
     }

@@ -1,9 +1,11 @@
 //! A turn's end: time moves on, the held stores act, and their edges are noted.
 
-ghost use Rattle.std.specs.Prelude.{◌≡◌, ◌↔◌, ◌<◌, ◌≤◌, ◌+◌, ◌^◌, length, slice_index, option_to_list, ◌++◌, ◌∷◌, [], IfSome, IsTrue, None, Some, false, if◌then◌else◌};
+ghost use Rattle.std.specs.Prelude.{◌≡◌, ◌↔◌, ◌<◌, ◌≤◌, ◌+◌, ◌^◌, length, slice_index, option_to_list, ◌++◌, ◌∷◌, []};
+ghost use Rattle.std.specs.Prelude.{IfSome, IsTrue, None, Some, false, if◌then◌else◌};
 ghost use Rattle.uz_machine.specs.declared.HeldStore.TheVariants.{Bit};
 ghost use Rattle.uz_machine.specs.declared.EdgeKind.TheVariants.{Leave};
-ghost use Rattle.uz_machine.specs.Space.{with_plain_byte, with_port_a, plain_byte, space_after, after_store, after_byte, is_store, is_pin, takes_one_bit, space_taken};
+ghost use Rattle.uz_machine.specs.Space.{with_plain_byte, with_port_a, plain_byte, space_after, after_store};
+ghost use Rattle.uz_machine.specs.Space.{after_byte, is_store, is_pin, takes_one_bit, space_taken};
 ghost use Rattle.uz_machine.specs.Turn.{edge_kinds, address_of, after_stores, all_edge_kinds, edges_at};
 ghost use Rattle.uz_pads.specs.Pads.{pads_wiring};
 ghost use Rattle.uz_ports.specs.Boards.{space_of, held_of, entered_of, clock_of, entry_edge};
@@ -181,7 +183,8 @@ impl Board {
         ensures space { space_of self.new ≡ after_stores pads_wiring (store ∷ []) (space_after clocks (space_of self.old)) }
         ensures idle { (held_of self.new ≡ []) × (entered_of self.new ≡ None) }
         ensures clock { clock_of self.new ≡ clock_of self.old + clocks }
-        ensures edges { option_to_list result ≡ edges_at (clock_of self.old + clocks) (all_edge_kinds pads_wiring (store ∷ []) (space_after clocks (space_of self.old))) }
+        ensures edges { option_to_list result ≡ edges_at (clock_of self.old + clocks)
+            (all_edge_kinds pads_wiring (store ∷ []) (space_after clocks (space_of self.old))) }
     {
         self.pass_many(u32::from(clocks));
         match self.make_known(store) {
@@ -281,7 +284,9 @@ impl Board {
         ensures space { space_of self.new ≡ after_stores pads_wiring (held_of self.old) (space_after clocks (space_of self.old)) }
         ensures idle { (held_of self.new ≡ []) × (entered_of self.new ≡ None) }
         ensures clock { clock_of self.new ≡ clock_of self.old + clocks }
-        ensures edges { result.items ≡ entry_edge (clock_of self.old) (entered_of self.old) ++ edges_at (clock_of self.old + clocks) (all_edge_kinds pads_wiring (held_of self.old) (space_after clocks (space_of self.old)) ++ (if returned then Leave ∷ [] else [])) }
+        ensures edges { result.items ≡ entry_edge (clock_of self.old) (entered_of self.old) ++ edges_at (clock_of self.old + clocks)
+            (all_edge_kinds pads_wiring (held_of self.old) (space_after clocks (space_of self.old)) ++
+            (if returned then Leave ∷ [] else [])) }
     {
         if self.is_quiet(returned) {
             self.pass(clocks);
@@ -324,7 +329,9 @@ impl Board {
         ensures space { space_of self.new ≡ after_stores pads_wiring (held_of self.old) (space_after clocks (space_of self.old)) }
         ensures idle { (held_of self.new ≡ []) × (entered_of self.new ≡ None) }
         ensures clock { clock_of self.new ≡ clock_of self.old + clocks }
-        ensures edges { edges.new.items ≡ entry_edge (clock_of self.old) (entered_of self.old) ++ edges_at (clock_of self.old + clocks) (all_edge_kinds pads_wiring (held_of self.old) (space_after clocks (space_of self.old)) ++ (if returned then Leave ∷ [] else [])) }
+        ensures edges { edges.new.items ≡ entry_edge (clock_of self.old) (entered_of self.old) ++ edges_at
+            (clock_of self.old + clocks) (all_edge_kinds pads_wiring (held_of self.old)
+            (space_after clocks (space_of self.old)) ++ (if returned then Leave ∷ [] else [])) }
     {
         if !returned && self.entered.is_none() {
             if let Some(store) = self.one_store() {
@@ -349,7 +356,9 @@ impl Board {
         ensures space { space_of self.new ≡ after_stores pads_wiring (held_of self.old) (space_after clocks (space_of self.old)) }
         ensures idle { (held_of self.new ≡ []) × (entered_of self.new ≡ None) }
         ensures clock { clock_of self.new ≡ clock_of self.old + clocks }
-        ensures edges { edges.new.items ≡ entry_edge (clock_of self.old) (entered_of self.old) ++ edges_at (clock_of self.old + clocks) (all_edge_kinds pads_wiring (held_of self.old) (space_after clocks (space_of self.old)) ++ (if returned then Leave ∷ [] else [])) }
+        ensures edges { edges.new.items ≡ entry_edge (clock_of self.old) (entered_of self.old) ++ edges_at
+            (clock_of self.old + clocks) (all_edge_kinds pads_wiring (held_of self.old)
+            (space_after clocks (space_of self.old)) ++ (if returned then Leave ∷ [] else [])) }
     {
         *edges = self.finish(clocks, returned);
     }
@@ -360,7 +369,9 @@ impl Board {
         ensures space { space_of self.new ≡ after_stores pads_wiring (held_of self.old) (space_after clocks (space_of self.old)) }
         ensures idle { (held_of self.new ≡ []) × (entered_of self.new ≡ None) }
         ensures clock { clock_of self.new ≡ clock_of self.old + clocks }
-        ensures edges { result.items ≡ entry_edge (clock_of self.old) (entered_of self.old) ++ edges_at (clock_of self.old + clocks) (all_edge_kinds pads_wiring (held_of self.old) (space_after clocks (space_of self.old)) ++ (if returned then Leave ∷ [] else [])) }
+        ensures edges { result.items ≡ entry_edge (clock_of self.old) (entered_of self.old) ++ edges_at (clock_of self.old + clocks)
+            (all_edge_kinds pads_wiring (held_of self.old) (space_after clocks (space_of self.old)) ++
+            (if returned then Leave ∷ [] else [])) }
     {
         let (first, second) = self.held_stores();
         let entered = self.entered;
@@ -422,7 +433,8 @@ fn gathered(
     returned: bool,
 ) -> ArrayVec<Edge, 4>
     requires { length edges.items < 2 }
-    ensures { result.items ≡ edges.items ++ edges_at clock (option_to_list one ++ option_to_list two ++ (if returned then Leave ∷ [] else [])) }
+    ensures { result.items ≡ edges.items ++ edges_at clock
+        (option_to_list one ++ option_to_list two ++ (if returned then Leave ∷ [] else [])) }
 {
     let mut edges = edges;
     if let Some(kind) = one {

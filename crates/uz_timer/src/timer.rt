@@ -1,7 +1,9 @@
 //! Timer 1.
 
 ghost use Rattle.std.specs.Prelude.{◌≡◌, ◌+◌, ◌*◌, ◌<◌, ◌≤◌, ◌^◌, ◌↔◌, ℕ, IsTrue};
-ghost use Rattle.uz_machine.specs.Timer.{timer_at_reset, is_counting, count_after, matches_within, timer_after, timer_taken, is_due, is_timer_address, timer_byte, timer_after_read, timer_after_write};
+ghost use Rattle.uz_machine.specs.Timer.{timer_at_reset, is_counting, count_after, matches_within, timer_after};
+ghost use Rattle.uz_machine.specs.Timer.{timer_taken, is_due, is_timer_address, timer_byte, timer_after_read};
+ghost use Rattle.uz_machine.specs.Timer.{timer_after_write};
 ghost use Rattle.uz_timer.specs.Counts.{EndsAt};
 
 use std::marker::Model;
@@ -33,7 +35,15 @@ impl Model for Timer1 {
 
     ghost Value = { Timer };
 
-    ghost view = { λ t. record { count = count_of t.control_a t.control_b t.still t.end t.left; top = t.top; matched = t.matched; temp = t.temp; interrupt_mask = t.interrupt_mask; control_a = t.control_a; control_b = t.control_b } };
+    ghost view = { λ t. record {
+      count = count_of t.control_a t.control_b t.still t.end t.left;
+      top = t.top;
+      matched = t.matched;
+      temp = t.temp;
+      interrupt_mask = t.interrupt_mask;
+      control_a = t.control_a;
+      control_b = t.control_b;
+    } };
 
     ghost invariant = { λ t. IsTrue (counts t.control_a t.control_b) → GoesRound t.end t.left t.top };
 }
