@@ -411,7 +411,8 @@ macro_rules! row_effect {
 /// A match over all rows, each with its effect.
 macro_rules! effects {
     (($i:expr) $($variant:ident { $($field:ident $bits:literal),* } $key:ident $name:literal [$($operands:tt)*],
-        words $words:literal, clocks ($next:literal, $taken:literal, $one:literal, $two:literal), fixed $mask:literal is $value:literal;)*) => {
+        words $words:literal, clocks ($next:literal, $taken:literal, $one:literal, $two:literal),
+        fixed $mask:literal is $value:literal;)*) => {
         match $i {
             $(Instr::$variant { $($field),* } => row_effect!($key($($field),*)),)*
         }
