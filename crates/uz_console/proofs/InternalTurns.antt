@@ -1,20 +1,18 @@
 -- Instructions that touch the core alone, one after another, are turns without edges.
-use Rattle.std.proofs.Common.{◌≡◌, ◌≢◌, ℕ, zero, suc, ◌+◌, ◌<◌, ◌≤◌, Bool, true, false, not, ◌&&◌, ◌||◌, if◌then◌else◌, List, [], ◌∷◌, ◌++◌}
+use Rattle.std.proofs.Common.{◌≡◌, ℕ, zero, suc, ◌+◌, ◌<◌, ◌≤◌, Bool, true, false, not, ◌&&◌, ◌||◌, if◌then◌else◌, List, [], ◌∷◌, ◌++◌}
 use Rattle.std.proofs.Common.{append-nil, refl, sym, ◌∙◌, ap, subst, inr, arith, add_assoc}
 use Rattle.std.proofs.lemmas.List.Elements.{filter-append}
 use Rattle.std.specs.Prelude.{nat_le}
-use Rattle.std.specs.Ordering.{nat_cmp}
-use Rattle.std.specs.FinMap.{FinMap}
 use Rattle.uz_machine.specs.declared.Edge.{Edge}
 use Rattle.uz_machine.specs.declared.EdgeKind.TheVariants.{Leave}
 use Rattle.uz_machine.specs.Arithmetic.{bit_is_set}
-use Rattle.uz_machine.specs.Core.{Core, StepResult, step_result}
+use Rattle.uz_machine.specs.Core.{Core, StepResult}
 use Rattle.uz_machine.specs.Timer.{Timer, is_counting, is_due, timer_after, count_after, matches_within}
 use Rattle.uz_machine.specs.PadLine.{PadHistory}
 use Rattle.uz_machine.specs.Space.{Space, history_wiring, space_after, space_loads}
 use Rattle.uz_machine.specs.Turn.{State, is_entry, state_after, after_instruction, instruction_edges, edges_at, all_edge_kinds}
 use Rattle.uz_machine.specs.Turn as machine
-use Rattle.uz_machine.specs.Run.{TurnBefore, IsRunPart, edges_until}
+use Rattle.uz_machine.specs.Run.{IsRunPart, edges_until}
 use Rattle.uz_timer.proofs.Counting.{clocks_add}
 use Rattle.uz_core.specs.Internals.{IsInternalStep, InternalRun, RunsInternally}
 use Rattle.uz_core.proofs.PlainSteps.{result_of_step, step_time}
@@ -23,9 +21,9 @@ use Rattle.uz_pads.specs.Pads.{pads_wiring}
 use Rattle.uz_schedule.specs.declared.certificate.Cert.{Cert}
 use Rattle.uz_console.specs.declared.console.Console.{Console}
 use Rattle.uz_console.specs.Consoles.{StateStandsFor, StandsFor, state_of, clock_of}
-use Rattle.uz_console.specs.Entry.{EntryCondition, NotEntered}
-use Rattle.uz_console.specs.Runs.{RunsTo, GoesQuietly, Quietly}
-use Rattle.uz_console.specs.Approaches.{NotEnteredBefore, RunsUnentered}
+use Rattle.uz_console.specs.Entry.{NotEntered}
+use Rattle.uz_console.specs.Runs.{GoesQuietly}
+use Rattle.uz_console.specs.Approaches.{NotEnteredBefore}
 use Rattle.uz_console.specs.ManyTurns.{IsFree, LeadsTo}
 use Rattle.uz_console.proofs.ApproachLemmas.{none_before_more}
 use Rattle.uz_console.proofs.RunLemmas.{part_more, quiet_more, run_more}

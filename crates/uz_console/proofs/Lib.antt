@@ -3,6 +3,7 @@ pub mod EdgeTimes
 pub mod EntryLaws
 pub mod InternalTurns
 pub mod ManyTurns
+pub mod PageLemmas
 pub mod RunLaws
 pub mod RunLemmas
 pub mod SaveLemmas

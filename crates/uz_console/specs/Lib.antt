@@ -3,6 +3,7 @@ pub mod Consoles
 pub mod Entering
 pub mod Entry
 pub mod ManyTurns
+pub mod Pages
 pub mod Runs
 pub mod SaveStates
 pub mod Turns

@@ -1,4 +1,5 @@
 pub mod DebugLemmas
+pub mod LineLemmas
 pub mod TraceAnswerLemmas
 pub mod TraceLemmas
 pub mod TraceSameLemmas

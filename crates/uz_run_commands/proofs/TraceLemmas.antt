@@ -1,19 +1,21 @@
 -- The lines of a run, printed as it goes.
-use Rattle.std.proofs.Common.{◌≡◌, inl, inr, ℕ, ◌+◌, ◌<◌, List, slice_index_or, [], ◌∷◌, ◌++◌, length, take, refl, sym, ap, subst, ◌∙◌}
+use Rattle.std.proofs.Common.{◌≡◌, inl, inr, ℕ, ◌+◌, List, [], ◌∷◌, ◌++◌, length, take, refl, sym, ap, subst, ◌∙◌}
 use Rattle.std.proofs.Common.{append_assoc}
-use Rattle.std.specs.Prelude.{Option, Some, None}
-use Rattle.std.proofs.lemmas.List.{append-nil, take_more}
+use Rattle.std.specs.Prelude.{Option}
+use Rattle.std.proofs.lemmas.List.{append-nil}
 use Rattle.std.proofs.Math.Seq.{take-append-add, take-append_seam}
 use Rattle.uz_shelf.specs.Text.{TakesAll, TakesPrefix}
 use Rattle.uz_machine.specs.declared.Edge.{Edge}
 use Rattle.uz_machine.specs.PadLine.{PadHistory}
 use Rattle.uz_machine.specs.Turn.{State}
+use Rattle.uz_machine.specs.Run.{IsRunPart}
 use Rattle.uz_core.specs.declared.step.Why.{Why}
 use Rattle.uz_console.specs.declared.console.Console.{Console}
+use Rattle.uz_console.specs.declared.paging.Paged.{Paged}
+use Rattle.uz_console.specs.declared.paging.Paged.TheVariants as paged
 use Rattle.uz_console.specs.Consoles.{StandsFor}
-use Rattle.uz_console.specs.Runs.{RunIsOver, RunsTo}
-use Rattle.uz_console.specs.Turns.{Halts}
-use Rattle.uz_machine.specs.Run.{IsStoppedRun}
+use Rattle.uz_console.specs.Pages.{IsPage}
+use Rattle.uz_console.specs.Runs.{RunsTo}
 use Rattle.uz_run_commands.specs.declared.trace_command.RunEnd.TheVariants as end
 use Rattle.uz_shelf.specs.Files.{FileMap}
 use Rattle.uz_files.specs.declared.status.Status.{Status}
@@ -23,7 +25,7 @@ use Rattle.uz_files.specs.declared.ending.Ending.{Ending}
 use Rattle.uz_files.specs.Endings.{answer_of}
 use Rattle.uz_files.specs.Lines.{no_memory_line}
 use Rattle.uz_run_commands.specs.TraceCommand.{edge_line, edge_lines}
-use Rattle.uz_run_commands.specs.TraceValues.{IsPrinted, IsPrintedPart, IsPrintedSoFar, TakesAllBut}
+use Rattle.uz_run_commands.specs.TraceValues.{IsPrinted, IsPrintedPart, IsPrintedSoFar}
 use Rattle.uz_files.proofs.TextLemmas.{takes_both}
 use Rattle.uz_files.proofs.TextLemmas.{takes_none}
 
@@ -41,74 +43,57 @@ takes_then_prefix old mid new a b whole part = (
       part.1),
 )
 
--- a text, of which some bytes wait, that goes on
-flushed : (printed waiting old_waiting more flush : List ℕ) → flush ++ waiting ≡ old_waiting ++ more → (printed ++ flush)
-    ++ waiting ≡ (printed ++ old_waiting) ++ more
-flushed printed waiting old_waiting more flush e = append_assoc printed flush waiting
-    ∙ (ap (λ t. printed ++ t) e ∙ sym (append_assoc printed old_waiting more))
-
 pub starts_printed : (limit : ℕ) (start : State PadHistory) (console : Console) (text : Option (List ℕ)) → RunsTo limit start [] console
-    → IsPrintedSoFar limit start console [] text text
-starts_printed limit start console text run = ([], run, ([], refl, takes_none text))
+    → IsPrintedSoFar limit start console text text
+starts_printed limit start console text run = ([], run, takes_none text)
 
-pub goes_on : (limit : ℕ) (start : State PadHistory) (mid next : Console) (more : List Edge) (waiting waits : List ℕ)
-    (old was new : Option (List ℕ)) → IsPrintedSoFar limit start mid waiting old was
-    → ((s : State PadHistory) (edges : List Edge) → RunsTo limit s edges mid → RunsTo limit s (edges ++ more) next) → TakesAllBut waits was
-    (waiting ++ edge_lines more) new → IsPrintedSoFar limit start next waits old new
-goes_on limit start mid next more waiting waits old was new (edges, run, (printed, whole, takes)) step (flush, rest, piece) = (
-  edges ++ more,
-  step start edges run,
-  (
-    printed ++ flush,
-    flushed printed waits waiting (edge_lines more) flush rest
-        ∙ (ap (λ t. t ++ edge_lines more) whole ∙ sym (edge_lines-append edges more)),
-    takes_both old printed flush was new takes piece,
-  ),
-)
+-- the lines of a page after those of the edges before it
+lines_after : (edges page : List Edge) (old was new : Option (List ℕ)) → TakesAll old (edge_lines edges) was
+    → TakesAll was (edge_lines page) new → TakesAll old (edge_lines (edges ++ page)) new
+lines_after edges page old was new takes piece = subst (λ t. TakesAll old t new) (sym (edge_lines-append edges page))
+    (takes_both old (edge_lines edges) (edge_lines page) was new takes piece)
 
-pub is_cut : (limit : ℕ) (start : State PadHistory) (mid next : Console) (more : List Edge) (waiting : List ℕ)
-    (old was new : Option (List ℕ)) → IsPrintedSoFar limit start mid waiting old was
-    → ((s : State PadHistory) (edges : List Edge) → RunsTo limit s edges mid → RunsTo limit s (edges ++ more) next) → TakesPrefix was
-    (waiting ++ edge_lines more) new → IsPrintedPart limit start old new
-is_cut limit start mid next more waiting old was new (edges, run, (printed, whole, takes)) step piece =
-    let goes = step start edges run in
-    let lines : printed ++ (waiting ++ edge_lines more) ≡ edge_lines (edges ++ more) = sym (append_assoc printed waiting (edge_lines more))
-    ∙ (ap (λ t. t ++ edge_lines more) whole ∙ sym (edge_lines-append edges more)) in (
-      edges ++ more,
-      goes.0,
-      goes.1,
-      subst (λ t. TakesPrefix old t new) lines (takes_then_prefix old was new printed (waiting ++ edge_lines more) takes piece),
+pub goes_on : (limit : ℕ) (start : State PadHistory) (mid next : Console) (page : List Edge) (old was new : Option (List ℕ))
+    → IsPrintedSoFar limit start mid old was → IsPage limit mid next page paged.Full → TakesAll was (edge_lines page) new
+    → IsPrintedSoFar limit start next old new
+goes_on limit start mid next page old was new (edges, run, takes) step piece =
+    (edges ++ page, step start edges run, lines_after edges page old was new takes piece)
+
+-- however far the run came by a page, the edges are those of a part of it
+page_part : (limit : ℕ) (mid next : Console) (page : List Edge) (answer : Paged) → IsPage limit mid next page answer
+    → (start : State PadHistory) (edges : List Edge) → RunsTo limit start edges mid
+    → (last : State PadHistory) × IsRunPart limit start (edges ++ page) last
+page_part limit mid next page paged.Full step start edges run = (let r = step start edges run in (r.0, r.1))
+page_part limit mid next page paged.Over step start edges run = (let r = step start edges run in (r.0, (r.1).part))
+page_part limit mid next page (paged.Stopped why) step start edges run = (let r = step start edges run in (r.0, (r.1).part))
+
+pub is_cut : (limit : ℕ) (start : State PadHistory) (mid next : Console) (page : List Edge) (answer : Paged) (old was new : Option (List ℕ))
+    → IsPrintedSoFar limit start mid old was → IsPage limit mid next page answer → TakesPrefix was (edge_lines page) new
+    → IsPrintedPart limit start old new
+is_cut limit start mid next page answer old was new (edges, run, takes) step piece =
+    let part = page_part limit mid next page answer step start edges run in (
+      edges ++ page,
+      part.0,
+      part.1,
+      subst (λ t. TakesPrefix old t new) (sym (edge_lines-append edges page))
+          (takes_then_prefix old was new (edge_lines edges) (edge_lines page) takes piece),
     )
-
--- the lines that wait at the run's end are cut
-pub end_is_cut : (limit : ℕ) (start : State PadHistory) (mid : Console) (waiting : List ℕ) (old was new : Option (List ℕ)) → IsPrintedSoFar
-    limit start mid waiting old was → TakesPrefix was waiting new → IsPrintedPart limit start old new
-end_is_cut limit start mid waiting old was new (edges, run, (printed, whole, takes)) piece =
-    (edges, run.0, run.1, subst (λ t. TakesPrefix old t new) whole (takes_then_prefix old was new printed waiting takes piece))
 
 -- a run that is over, and one that is stopped
-pub prints_over : (limit : ℕ) (start : State PadHistory) (mid next : Console) (waiting : List ℕ) (old was new : Option (List ℕ))
-    → IsPrintedSoFar limit start mid waiting old was → ((s : State PadHistory) (edges : List Edge) → RunsTo limit s edges mid
-    → RunIsOver limit s edges next) → TakesAll was waiting new → IsPrinted limit start end.Over old new
-prints_over limit start mid next waiting old was new (edges, run, (printed, whole, takes)) step piece =
+pub prints_over : (limit : ℕ) (start : State PadHistory) (mid next : Console) (page : List Edge) (old was new : Option (List ℕ))
+    → IsPrintedSoFar limit start mid old was → IsPage limit mid next page paged.Over → TakesAll was (edge_lines page) new
+    → IsPrinted limit start end.Over old new
+prints_over limit start mid next page old was new (edges, run, takes) step piece =
     let over = step start edges run in
-    (edges, over.0, over.1, subst (λ t. TakesAll old t new) whole (takes_both old printed waiting was new takes piece))
+    (edges ++ page, over.0, over.1, lines_after edges page old was new takes piece)
 
-pub prints_stopped : (limit : ℕ) (start : State PadHistory) (mid next : Console) (pc : ℕ) (why : Why) (waiting : List ℕ)
-    (old was new : Option (List ℕ)) → IsPrintedSoFar limit start mid waiting old was
-    → ((s : State PadHistory) (edges : List Edge) → RunsTo limit s edges mid → (last : State PadHistory) × IsStoppedRun limit s edges last
-    × Halts last why × StandsFor next last) → ((s : State PadHistory) → StandsFor next s → pc ≡ s.core.pc) → TakesAll was waiting new
+pub prints_stopped : (limit : ℕ) (start : State PadHistory) (mid next : Console) (page : List Edge) (pc : ℕ) (why : Why)
+    (old was new : Option (List ℕ)) → IsPrintedSoFar limit start mid old was → IsPage limit mid next page (paged.Stopped why)
+    → ((s : State PadHistory) → StandsFor next s → pc ≡ s.core.pc) → TakesAll was (edge_lines page) new
     → IsPrinted limit start (end.Stopped pc why) old new
-prints_stopped limit start mid next pc why waiting old was new (edges, run, (printed, whole, takes)) step at piece =
-    let stop = step start edges run in (
-      edges,
-      stop.0,
-      stop.1,
-      stop.2,
-      at stop.0 stop.3,
-      subst (λ t. TakesAll old t new) whole
-          (takes_both old printed waiting was new takes piece),
-    )
+prints_stopped limit start mid next page pc why old was new (edges, run, takes) step at piece =
+    let stop = step start edges run in
+    (edges ++ page, stop.0, stop.1, stop.2, at stop.0 stop.3, lines_after edges page old was new takes piece)
 
 -- what comes after what is printed already
 cut_after : (printed line further : List ℕ) (s : Status) (files : Option FileMap) (old mid new : Option (List ℕ)) → TakesAll old printed mid
@@ -196,11 +181,3 @@ comes_ended ending printed line s came write_fault files old mid new same before
     subst (λ l. ComesOf (ended printed s l) write_fault came (outside files old) (outside files new)) same.1
     (subst (λ t. ComesOf (ended printed t ending.line.items) write_fault came (outside files old) (outside files new)) same.0
     (comes_after printed ending.line.items ending.status came write_fault files old mid new before comes))
-
--- the lines of one more edge
-pub edge_lines-take : (edges : List Edge) (i : ℕ) (edge : Edge) → i < length edges → edge_lines (take (i + 1) edges) ≡ edge_lines
-    (take i edges) ++ edge_line (slice_index_or edges i edge)
-edge_lines-take edges i edge below =
-    let more : take (i + 1) edges ≡ take i edges ++ slice_index_or edges i edge ∷ [] = take_more edges i edge below in
-    ap edge_lines more ∙ (edge_lines-append (take i edges) (slice_index_or edges i edge ∷ []) ∙ ap (λ t. edge_lines (take i edges) ++ t)
-    (append-nil (edge_line (slice_index_or edges i edge))))

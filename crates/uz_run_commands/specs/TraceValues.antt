@@ -50,14 +50,10 @@ abbrev pub IsPrintedPart : ℕ → State PadHistory → Option (List ℕ) → Op
 IsPrintedPart limit start old new =
     (edges : List Edge) × (last : State PadHistory) × IsRunPart limit start edges last × TakesPrefix old (edge_lines edges) new
 
--- a whole text is printed but for its end, which waits
-abbrev pub TakesAllBut : List ℕ → Option (List ℕ) → List ℕ → Option (List ℕ) → Type 0
-TakesAllBut waiting old whole new = (printed : List ℕ) × (printed ++ waiting ≡ whole) × TakesAll old printed new
-
--- the console has come so far, and the lines of that part are printed but for those that wait
-abbrev pub IsPrintedSoFar : ℕ → State PadHistory → Console → List ℕ → Option (List ℕ) → Option (List ℕ) → Type 0
-IsPrintedSoFar limit start console waiting old new =
-    (edges : List Edge) × RunsTo limit start edges console × TakesAllBut waiting old (edge_lines edges) new
+-- the console has come so far, and the lines of that part are printed
+abbrev pub IsPrintedSoFar : ℕ → State PadHistory → Console → Option (List ℕ) → Option (List ℕ) → Type 0
+IsPrintedSoFar limit start console old new =
+    (edges : List Edge) × RunsTo limit start edges console × TakesAll old (edge_lines edges) new
 
 -- the status and the line of a run's end
 abbrev pub end_status : RunEnd → Status

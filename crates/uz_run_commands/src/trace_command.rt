@@ -1,6 +1,6 @@
 //! `trace HEX PADS IRQ CLOCKS`.
 
-ghost use Rattle.std.specs.Prelude.{◌≡◌, ◌≤◌, ◌^◌, ◌++◌, [], IfErr, IfOk, IsErrOf, OnErr, OnOk};
+ghost use Rattle.std.specs.Prelude.{◌≡◌, ◌≤◌, ◌^◌, [], length, IfErr, IfOk, IsErrOf, OnErr, OnOk};
 ghost use Rattle.uz_shelf.specs.Faults.{Rose};
 ghost use Rattle.uz_shelf.specs.Text.{TakesAll, TakesPrefix};
 ghost use Rattle.uz_console.specs.Runs.{RunsTo};
@@ -8,12 +8,13 @@ ghost use Rattle.uz_machine.specs.PadLine.{PadHistory};
 ghost use Rattle.uz_machine.specs.Turn.{State};
 ghost use Rattle.uz_files.specs.Endings.{EndsBy};
 ghost use Rattle.uz_run_commands.specs.TraceCommand.{edge_lines};
-ghost use Rattle.uz_run_commands.specs.TraceValues.{IsPrinted, IsPrintedPart, StartsTrace, TakesAllBut, TracePreface, end_status, last_line};
+ghost use Rattle.uz_run_commands.specs.TraceValues.{IsPrinted, IsPrintedPart, StartsTrace, TracePreface, end_status, last_line};
 
-use crate::trace_lines::{add_lines, end, stopped};
+use crate::trace_lines::{PAGE_BYTES, end, stopped, write_lines};
+use arrayvec::ArrayVec;
 use std::alloc::{AllocError, Global};
 use uz_cert::Response;
-use uz_console::{Console, Progress};
+use uz_console::{Console, Paged};
 use uz_core::Why;
 use uz_files::{Ending, Failure, Status, read_image, read_pad_file};
 use uz_machine::Edge;
@@ -47,40 +48,24 @@ pub(crate) fn reset_console<H: Shelf>(
     Ok(Console::reset(alloc, image, list, irq)?)
 }
 
-/// So many bytes of lines are gathered before they are printed.
-const PAGE: usize = 1024;
-
-/// Adds the lines of these edges to those that wait, and prints them all once they fill a page.
-fn keep_lines<K: Sink>(
+/// Prints the lines of a page's edges, which are written at the end of a text.
+fn put_lines<K: Sink>(
     alloc: Global,
     out: &mut K,
-    waiting: &mut Vec<u8>,
     edges: &[Edge],
+    text: &mut [u8; PAGE_BYTES],
 ) -> Result<(), WriteError>
-    ensures ok { OnOk result (TakesAllBut waiting.new.items (K.text out.old) (waiting.old.items ++ edge_lines edges.now) (K.text out.new)) }
-    ensures err { OnErr result (TakesPrefix (K.text out.old) (waiting.old.items ++ edge_lines edges.now) (K.text out.new)) }
+    requires { length edges.now ≤ 64 }
+    ensures ok { OnOk result (TakesAll (K.text out.old) (edge_lines edges.now) (K.text out.new)) }
+    ensures err { OnErr result (TakesPrefix (K.text out.old) (edge_lines edges.now) (K.text out.new)) }
     ensures failed { IsErrOf result WriteError.Failed → Rose (K.faults out.old) (K.faults out.new) }
     ensures faults { K.faults out.old ≤ K.faults out.new }
 {
-    add_lines(waiting, edges)?;
-    if waiting.len() >= PAGE {
-        out.put(alloc, waiting.as_slice())?;
-        waiting.clear();
-    }
-    Ok(())
-}
-
-/// Prints the lines that wait.
-fn put_waiting<K: Sink>(alloc: Global, out: &mut K, waiting: &[u8]) -> Result<(), WriteError>
-    ensures ok { OnOk result (TakesAll (K.text out.old) waiting.now (K.text out.new)) }
-    ensures err { OnErr result (TakesPrefix (K.text out.old) waiting.now (K.text out.new)) }
-    ensures failed { IsErrOf result WriteError.Failed → Rose (K.faults out.old) (K.faults out.new) }
-    ensures faults { K.faults out.old ≤ K.faults out.new }
-{
-    if waiting.is_empty() {
+    if edges.is_empty() {
         return Ok(());
     }
-    out.put(alloc, waiting)
+    let start = write_lines(edges, text);
+    out.put(alloc, &text[start..])
 }
 
 /// Runs the console until its clock has come to the limit, and prints a line for each edge as the run goes, page by page.
@@ -96,31 +81,22 @@ pub(crate) fn print_run<K: Sink>(
     ensures failed { IsErrOf result WriteError.Failed → Rose (K.faults out.old) (K.faults out.new) }
     ensures faults { K.faults out.old ≤ K.faults out.new }
 {
-    let mut waiting = Vec::new(alloc);
+    let mut page = ArrayVec::new();
+    let mut text = [0; PAGE_BYTES];
     'turns: loop {
-        match console.advance(limit) {
-            Progress::Took { edges } => {
-                match keep_lines(alloc, out, &mut waiting, edges.as_slice()) {
-                    Ok(()) => {}
-                    Err(error) => return Err(error),
-                }
-            }
-            Progress::Over => {
-                match put_waiting(alloc, out, waiting.as_slice()) {
-                    Ok(()) => return Ok(RunEnd::Over),
-                    Err(error) => return Err(error),
-                }
-            }
-            Progress::Stopped(why) => {
-                match put_waiting(alloc, out, waiting.as_slice()) {
-                    Ok(()) => {
-                        return Ok(RunEnd::Stopped {
-                            pc: console.pc(),
-                            why,
-                        });
-                    }
-                    Err(error) => return Err(error),
-                }
+        let paged = console.advance_page(limit, &mut page);
+        match put_lines(alloc, out, page.as_slice(), &mut text) {
+            Ok(()) => {}
+            Err(error) => return Err(error),
+        }
+        match paged {
+            Paged::Full => {}
+            Paged::Over => return Ok(RunEnd::Over),
+            Paged::Stopped(why) => {
+                return Ok(RunEnd::Stopped {
+                    pc: console.pc(),
+                    why,
+                });
             }
         }
     }

@@ -8,7 +8,7 @@ use Rattle.uz_run_commands.proofs.trace_command.print_run.Given as goal
 
 abbrev pub invariant-turns : goal.invariant-turns
 invariant-turns g l = record {
-  printed : (start : State PadHistory) → RunsTo l.limit start [] l.initial.console → IsPrintedSoFar l.limit start l.console l.waiting.items
+  printed : (start : State PadHistory) → RunsTo l.limit start [] l.initial.console → IsPrintedSoFar l.limit start l.console
       (g.K.Sink.text l.initial.out) (g.K.Sink.text l.out);
   faults : g.K.Sink.faults l.initial.out ≤ g.K.Sink.faults l.out;
 }

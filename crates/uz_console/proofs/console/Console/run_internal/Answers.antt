@@ -5,7 +5,6 @@ use Rattle.uz_machine.specs.Turn.{State}
 use Rattle.uz_pads.specs.declared.pads.Pads.{Pads}
 use Rattle.uz_ports.specs.Boards.{space_of, clock_of as board_clock}
 use Rattle.uz_console.specs.Consoles.{state_of}
-use Rattle.uz_console.specs.ManyTurns.{IsFree}
 use Rattle.uz_console.proofs.InternalTurns.{leads_internally}
 use Rattle.uz_console.proofs.ManyTurns.{leads_same}
 use Rattle.uz_console.proofs.console.Console.run_internal.Goals as goal
