@@ -18,7 +18,7 @@ use crate::found::{Found, NotFound};
 use crate::passing::line_start;
 use crate::program::{Program, copied_starts, followers, starts_in_main};
 use crate::returns::is_without_return;
-use crate::trail::{copy_at, trail_to};
+use crate::trail::{node_at, trail_to};
 use crate::visited::add_all;
 use indexmap::IndexSet;
 use std::alloc::{AllocError, Global};
@@ -72,11 +72,11 @@ fn step(
     ensures ok { OnOk result (IsSearchOf image.now program.now found.new (done + 1)) }
     ensures refusal { IfErr result (λ e. (limit : ℕ) → Refusal image.now program.now limit e) }
 {
-    let at = copy_at(found.nodes.as_slice(), done as usize);
+    let at = node_at(found.nodes.as_slice(), done as usize);
     match examine(
         image,
         program,
-        &at,
+        at,
         done,
         found.marks.as_mut_slice(),
         found.returns.as_mut_slice(),

@@ -10,8 +10,16 @@ use std::alloc::{AllocError, Global};
 use uz_schedule::{Instance, Sequence};
 use uz_transfer::copied;
 
+/// The node at a place.
+pub(crate) fn node_at(nodes: &[Instance], at: usize) -> &Instance
+    requires { at < length nodes.now }
+    ensures { slice_get nodes.now at ≡ Some result.now }
+{
+    &nodes[at]
+}
+
 /// A copy of the node at a place.
-pub(crate) fn copy_at(nodes: &[Instance], at: usize) -> Instance
+fn copy_at(nodes: &[Instance], at: usize) -> Instance
     requires { at < length nodes.now }
     ensures { slice_get nodes.now at ≡ Some result }
 {

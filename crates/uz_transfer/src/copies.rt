@@ -29,13 +29,11 @@ fn copied_spans(from: &[Span]) -> ArrayVec<Span, 16>
     copy
 }
 
-/// A copy of the registers' values.
-fn copied_regs(from: &[Val; 32]) -> [Val; 32]
-    ensures { result ≡ from.now }
+/// A copy of a value, at once.
+fn copy_of<T: Copy>(value: &T) -> T
+    ensures { result ≡ value.now }
 {
-    let mut copy = [Val::OldFlags; 32];
-    copy.copy_from_slice(from);
-    copy
+    *value
 }
 
 /// A copy of an instance.
@@ -43,7 +41,7 @@ pub fn copied(at: &Instance) -> Instance
     ensures { result ≡ at.now }
 {
     Instance {
-        regs: copied_regs(&at.regs),
+        regs: copy_of(&at.regs),
         stack: copied_vals(at.stack.as_slice()),
         cells: copied_spans(at.cells.as_slice()),
         ..*at

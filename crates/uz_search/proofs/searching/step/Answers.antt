@@ -12,9 +12,9 @@ returns-in-Err-clause-refusal c = λ limit.
     let image = c.args.image.now in
     let program = c.args.program.now in
     let s = c.args.found.now in
-    let x = c.copy_at-at.result in
+    let x = c.node_at-at.result.now in
     let at : slice_get s.nodes.keys c.args.done ≡ Some x = ap (λ l. slice_get l c.args.done) (sym c.as_slice.ensures.keys)
-    ∙ c.copy_at-at.ensures in
+    ∙ c.node_at-at.ensures in
     let keys = c.as_slice-in-Err.ensures.keys in
     let parents = c.as_slice-in-Err-2.ensures.value in
     let tree = subst (λ k. IsTree image program k c.as_slice-in-Err-2.result.now) (sym keys)
@@ -30,9 +30,9 @@ returns-in_ok-add_all-in-Ok-clause-ok c =
     let image = c.args.image.now in
     let program = c.args.program.now in
     let s = c.args.found.now in
-    let x = c.copy_at-at.result in
+    let x = c.node_at-at.result.now in
     let at : slice_get s.nodes.keys c.args.done ≡ Some x = ap (λ l. slice_get l c.args.done) (sym c.as_slice.ensures.keys)
-    ∙ c.copy_at-at.ensures in
+    ∙ c.node_at-at.ensures in
     search_step image program s.nodes.keys c.add_all.new.nodes.keys s.parents.items c.add_all.new.parents.items
     s.marks.items c.as_mut_slice.result.now c.examine.new.marks s.returns.items c.as_mut_slice-2.result.now c.examine.new.returns
     s.marks.len s.returns.len c.args.done x c.examine.new.next c.in_ok-follow-in-Ok.follow.items
@@ -42,17 +42,17 @@ returns-in_ok-add_all-in-Ok-clause-ok c =
 pub examine-requires-clause-stands : goal.examine-requires-clause-stands
 examine-requires-clause-stands c =
     let s = c.args.found.now in
-    stands_all c.args.image.now c.args.program.now s.nodes.keys s.parents.items c.requires.fits c.requires.so_far.tree c.copy_at-at.result
-    (c.args.done, ap (λ l. slice_get l c.args.done) (sym c.as_slice.ensures.keys) ∙ c.copy_at-at.ensures)
+    stands_all c.args.image.now c.args.program.now s.nodes.keys s.parents.items c.requires.fits c.requires.so_far.tree c.node_at-at.result.now
+    (c.args.done, ap (λ l. slice_get l c.args.done) (sym c.as_slice.ensures.keys) ∙ c.node_at-at.ensures)
 
 pub refused-requires-clause-other : goal.refused-requires-clause-other
 refused-requires-clause-other c = λ other is.
     let image = c.args.image.now in
     let program = c.args.program.now in
     let s = c.args.found.now in
-    let x = c.copy_at-at.result in
+    let x = c.node_at-at.result.now in
     let at : slice_get s.nodes.keys c.args.done ≡ Some x = ap (λ l. slice_get l c.args.done) (sym c.as_slice.ensures.keys)
-    ∙ c.copy_at-at.ensures in
+    ∙ c.node_at-at.ensures in
     subst (λ k. other < length k) (sym c.as_slice-in-Err.ensures.keys)
     (split_within image program s.nodes.keys s.parents.items s.marks.items c.as_mut_slice.result.now s.returns.items
     c.as_mut_slice-2.result.now c.args.done other x
@@ -63,8 +63,8 @@ followers-requires-clause-each c = λ back y there.
     let image = c.args.image.now in
     let program = c.args.program.now in
     let s = c.args.found.now in
-    let x = c.copy_at-at.result in
+    let x = c.node_at-at.result.now in
     let next = c.examine.new.next in
     let stands = stands_all image program s.nodes.keys s.parents.items c.requires.fits c.requires.so_far.tree x
-    (c.args.done, ap (λ l. slice_get l c.args.done) (sym c.as_slice.ensures.keys) ∙ c.copy_at-at.ensures) in
+    (c.args.done, ap (λ l. slice_get l c.args.done) (sym c.as_slice.ensures.keys) ∙ c.node_at-at.ensures) in
     (stands_next image program c.requires.fits x stands next (steps image program x next c.in-Ok.ensures.ok.after) y there).line
