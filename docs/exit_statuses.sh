@@ -69,6 +69,7 @@ prints 3 expand unopened out
 
 # the files of the rows below
 prints 0 asm stops.asm stops.hex
+prints 0 asm pulse.asm pulse.hex
 prints 0 certify stops.asm 4 stops.hex stops.cert
 prints 0 asm late.asm late.hex
 
@@ -117,6 +118,29 @@ prints 3 check ring.hex bad
 prints 4 check ring-short.hex ring-short.cert
 can_not_print 4 check ring-short.hex ring-short.cert
 can_not_print 5 check ring.hex ring.cert
+
+# report
+prints 0 report pulse.hex pulse.cert
+prints 0 report ring.hex ring.cert
+prints 1 report ring.hex
+prints 2 report ring.hex none
+prints 3 report ring.hex bad
+prints 4 report ring-short.hex ring-short.cert
+can_not_print 4 report ring-short.hex ring-short.cert
+can_not_print 5 report ring.hex ring.cert
+
+# wave
+prints 0 wave ring.hex no-pads.txt 4 4000 out.wav
+prints 1 wave ring.hex no-pads.txt 4 4000 ring.hex
+prints 2 wave none no-pads.txt 4 4000 out.wav
+prints 3 wave bad no-pads.txt 4 4000 out.wav
+can_not_print 3 wave bad no-pads.txt 4 4000 out.wav
+prints 5 wave ring.hex no-pads.txt 4 4000 no/such/folder
+can_not_print 5 wave ring.hex no-pads.txt 4 4000 out.wav
+rm -f out.wav
+prints 6 wave late.hex no-pads.txt 4 4000 out.wav
+can_not_print 6 wave late.hex no-pads.txt 4 4000 out.wav
+[ -e out.wav ] && wrong=$((wrong + 1)) && echo "a run that is stopped writes a sound file"
 
 # play
 prints 0 play ring.hex ring.cert no-pads.txt 4000 frames

@@ -53,6 +53,8 @@ COMMANDS = [
     'build examples/console-macros.asm made.hex',
     'check pulse.hex pulse.cert',
     'check ring.hex ring.cert',
+    'report pulse.hex pulse.cert',
+    'wave pulse.hex no-pads.txt 4 4000 made.wav',
     'certify pulse.asm 4 made.hex made.cert',
     'play pulse.hex pulse.cert no-pads.txt 4000 made.frames',
     'debug pulse.hex no-pads.txt 4 script.txt',

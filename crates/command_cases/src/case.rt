@@ -47,6 +47,7 @@ impl Case {
             "swap" => self.bench.swap(alloc, rest)?,
             "run" => self.run(rt, alloc, rest)?,
             "show" => self.show(rt, rest)?,
+            "bytes" => self.show_bytes(rt, rest)?,
             _ => {}
         }
         Ok(())
@@ -93,6 +94,18 @@ impl Case {
                 println!(rt; "")?;
             }
         }
+        Ok(())
+    }
+
+    /// Prints a file's bytes, two hexadecimal digits each.
+    fn show_bytes(&self, rt: &HostRuntime, name: &str) -> Result<()> {
+        print!(rt; "file {}:", name)?;
+        if let Some(text) = self.bench.file(name) {
+            for byte in text {
+                print!(rt; " {byte:02X}")?;
+            }
+        }
+        println!(rt; "")?;
         Ok(())
     }
 }

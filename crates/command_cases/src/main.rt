@@ -9,7 +9,7 @@
 //! - `swap FROM TO NUMBER TEXT`: a file as another, with a text in place of the line of this number, counted from 1, or without
 //!   that line where the text is empty.
 //! - `run WORD..`: runs the words, and prints them, what the sink took, and the status.
-//! - `show NAME`: prints a file of the shelf.
+//! - `show NAME`: prints a file of the shelf. `bytes NAME`: prints its bytes in hexadecimal digits.
 //!
 //! Other lines are left out.
 #![tactic(auto)]

@@ -33,7 +33,7 @@ use Rattle.uz_files.specs.Reading.{Fails, Says, text_limit}
 use Rattle.uz_certify_command.specs.CertifyCommand.{Allowed, AllowedOf, CertifyAnswers, CertifyAnswersBy, CertifySucceeds, FilesCertify}
 use Rattle.uz_certify_command.specs.CertifyCommand.{IsCertified, IsCertifiedBy, certify_answer}
 use Rattle.uz_certify_command.specs.CertifyValues.{IsFound, IsFoundIn, IsPair, IsPairOf, IsRefusal, both_files}
-use Rattle.uz_check_command.specs.CheckCommand.{accepted_line}
+use Rattle.uz_pair_files.specs.VerdictLines.{accepted_line}
 use Rattle.uz_files.proofs.EndingLemmas.{comes_by, run_outcome}
 use Rattle.uz_files.proofs.ReadingLemmas.{ends_by}
 use Rattle.uz_files.proofs.ReadsLemmas.{fails_says, fails_status, reads_or_fault, reads_same, says_same}

@@ -25,7 +25,7 @@ use Rattle.uz_paths.specs.Finding.{Cause, IsAsked}
 use Rattle.uz_files.specs.declared.status.Status.TheVariants.{Done, Refused}
 use Rattle.uz_files.specs.Answers.{Answer, Write, one_line}
 use Rattle.uz_files.specs.Writing.{hex_file}
-use Rattle.uz_check_command.specs.CheckCommand.{accepted_line, fail_name}
+use Rattle.uz_pair_files.specs.VerdictLines.{accepted_line, fail_name}
 use Rattle.uz_text.specs.Hexadecimals.{hex_word}
 use Rattle.uz_files.specs.Reading.{Reads, Says, text_limit}
 use Rattle.avr_asm.specs.Relation.{IsAssembly}

@@ -15,11 +15,11 @@ use avr_asm::Built;
 use std::alloc::{AllocError, Global};
 use uz_cert::{Cert, write_cert};
 use uz_cert_text_laws::text_is_unique;
-use uz_check_command::accepted;
 use uz_files::{
     Ending, Failure, Status, assemble_file, end_with, give_up, put_no_memory, write_file,
 };
 use uz_hex::{Image, write_hex};
+use uz_pair_files::accepted;
 use uz_paths::{NotFound, find};
 use uz_schedule::Response;
 use uz_shelf::{Shelf, Sink, WriteError};

@@ -6,7 +6,7 @@ ghost use Rattle.uz_certify_command.specs.CertifyCommand.{last_clock as clock_of
 use itoa::Buffer;
 use std::alloc::{AllocError, Global};
 use uz_check::Fail;
-use uz_check_command::reason_name;
+use uz_pair_files::reason_name;
 use uz_paths::NotFound;
 use uz_schedule::Instance;
 use uz_text::word_digits;

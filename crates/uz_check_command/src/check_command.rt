@@ -1,42 +1,38 @@
 //! `check HEX CERT`.
 
 ghost use Rattle.std.specs.Prelude.{◌≡◌, ◌≤◌, ◌⊎◌, IfOk};
-ghost use Rattle.uz_schedule.specs.WellFormed.{WellFormed};
+ghost use Rattle.uz_hex.specs.Reading.{Flash};
+ghost use Rattle.uz_schedule.specs.declared.certificate.Cert.{Cert as CertValue};
 ghost use Rattle.uz_soundness.specs.Certified.{Certified};
 ghost use Rattle.uz_shelf.specs.Faults.{Rose};
 ghost use Rattle.uz_files.specs.Answers.{NoPart, MayCome, outside};
-ghost use Rattle.uz_check_command.specs.CheckCommand.{CheckAnswers, FilesCertified, IsVerdict};
 ghost use Rattle.uz_files.specs.Endings.{Gives, answer_of};
+ghost use Rattle.uz_pair_files.specs.CheckedValues.{IsChecked};
+ghost use Rattle.uz_pair_files.specs.PairFiles.{IsVerdict};
+ghost use Rattle.uz_pair_files.specs.VerdictLines.{accepted_line};
+ghost use Rattle.uz_check_command.specs.CheckCommand.{CheckAnswers, FilesCertified};
 
-use crate::check_lines::{accepted, refused};
 use std::alloc::{AllocError, Global};
-use uz_cert::Cert;
-use uz_check::{check, verdict_is_unique};
-use uz_files::{Ending, Failure, Status, finish, read_certificate, read_image};
-use uz_hex::Image;
+use uz_files::{Ending, Failure, Status, finish};
+use uz_pair_files::{Checked, accepted, check_files};
 use uz_shelf::{Shelf, Sink};
 
-/// Checks a pair, and says what is printed of it.
-fn check_pair(alloc: Global, image: Image, cert: Cert) -> Result<Ending, AllocError>
-    requires { WellFormed cert }
-    ensures answer { IfOk result (λ e. IsVerdict image cert (answer_of e)) }
-    ensures certified { IfOk result (λ e. e.status ≡ Status.Done → Certified image cert) }
+/// What is printed of a pair that was checked.
+fn ending_of(alloc: Global, checked: Checked) -> Result<Ending, AllocError>
+    ensures answer { IfOk result (λ e. (image : Flash) (cert : CertValue) → IsChecked image cert checked → IsVerdict accepted_line image cert (answer_of e)) }
+    ensures certified { IfOk result (λ e. (image : Flash) (cert : CertValue) → IsChecked image cert checked → e.status ≡ Status.Done → Certified image cert) }
 {
-    verdict_is_unique();
-    match check(image, cert) {
-        Ok(pair) => Ok(Ending {
+    match checked {
+        Checked::Accepted(pair) => Ok(Ending {
             status: Status::Done,
             line: accepted(alloc, pair.cert())?,
         }),
-        Err(pair) => Ok(Ending {
-            status: Status::Refused,
-            line: refused(alloc, &pair.cert, pair.why)?,
-        }),
+        Checked::Refused(ending) => Ok(ending),
     }
 }
 
-/// Reads both files in their order, and checks the pair.
-fn check_files<H: Shelf>(
+/// Reads both files in their order, checks the pair, and says what is printed of it.
+fn verdict_of<H: Shelf>(
     alloc: Global,
     shelf: &mut H,
     hex: &str,
@@ -48,12 +44,8 @@ fn check_files<H: Shelf>(
     ensures load_faults { H.load_faults shelf.old ≤ H.load_faults shelf.new }
     ensures write_faults { H.write_faults shelf.new ≡ H.write_faults shelf.old }
 {
-    let image = read_image(alloc, shelf, hex)?;
-    let certificate = match read_certificate(alloc, shelf, cert) {
-        Ok(certificate) => certificate,
-        Err(failure) => return Err(failure),
-    };
-    Ok(check_pair(alloc, image, certificate)?)
+    let checked = check_files(alloc, shelf, hex, cert)?;
+    Ok(ending_of(alloc, checked)?)
 }
 
 /// `check HEX CERT`.
@@ -70,6 +62,6 @@ pub fn run_check<H: Shelf, K: Sink>(
     ensures certified { result ≡ Status.Done → FilesCertified (H.files shelf.old) hex.now cert.now }
     ensures files { H.files shelf.new ≡ H.files shelf.old }
 {
-    let checked = check_files(alloc, shelf, hex, cert);
+    let checked = verdict_of(alloc, shelf, hex, cert);
     finish(alloc, out, checked)
 }

@@ -2,7 +2,5 @@
 #![tactic(auto)]
 
 mod check_command;
-mod check_lines;
 
 pub use check_command::run_check;
-pub use check_lines::{accepted, reason_name, refused};

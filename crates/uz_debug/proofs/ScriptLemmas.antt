@@ -1,104 +1,53 @@
 -- One more line of a script is read.
 use Rattle.std.proofs.Common.{◌≡◌, ◌≢◌, ℕ, suc, ◌+◌, ◌<◌, ◌≤◌, Bool, true, false, if◌then◌else◌, List, [], ◌∷◌, ◌++◌, length, get_or}
-use Rattle.std.proofs.Common.{take, map, Bor, refl, sym, ◌∙◌, ap, subst, append_assoc, append-nil, arith}
+use Rattle.std.proofs.Common.{take, map, Bor, refl, sym, ◌∙◌, ap, subst, append-nil, arith}
 use Rattle.std.specs.Prelude.{filter}
-use Rattle.std.proofs.lemmas.List.{length-append, map-append}
-use Rattle.std.proofs.lemmas.List.Elements.{All-append, All-nil, All-cons, filter-append}
+use Rattle.std.proofs.lemmas.List.{map-append}
+use Rattle.std.proofs.lemmas.List.Elements.{filter-append}
 use Rattle.std.proofs.Math.Seq.{take-suc}
 use Rattle.uz_text.specs.Lines.{line_at, lines_of_pieces}
-use Rattle.uz_text.proofs.TextLines.{taken_more}
-use Rattle.uz_pads.proofs.LineCuts.{all_taken, cut_at}
+use Rattle.uz_pads.proofs.ItemLemmas.{blank_read, faulty_at, item_read, nothing_read, whole_read}
 use Rattle.uz_debug.specs.declared.command.Command.{Command}
 use Rattle.uz_debug.specs.declared.script_lines.Line.TheVariants as line
 use Rattle.uz_debug.specs.declared.errors.ScriptWhy.{ScriptWhy}
 use Rattle.uz_debug.specs.declared.errors.ScriptWhy.TheVariants.{Word, Count}
-use Rattle.uz_debug.specs.Scripts.{kind_in, kind_of, has_bytes, commands_of, commands_in, is_well_formed, IsScript, IsFault, IsFirstFault}
+use Rattle.uz_debug.specs.Scripts.{HasFault, IsFault, IsFirstFault, IsScript, commands_of, commands_on, has_bytes, is_good_line}
+use Rattle.uz_debug.specs.Scripts.{is_well_formed, kind_in, kind_of}
 
--- commands and good lines of lists of lines
-
-pub commands_in-append : (xs ys : List (List ℕ)) → commands_in (xs ++ ys) ≡ commands_in xs ++ commands_in ys
-commands_in-append [] ys = refl
-commands_in-append (x ∷ xs) ys = ap (λ commands. commands_of (kind_of x) ++ commands) (commands_in-append xs ys)
-    ∙ sym (append_assoc (commands_of (kind_of x)) (commands_in xs) (commands_in ys))
-
--- one more text
-more_read : (earlier : List (List ℕ)) (text : List ℕ) (commands more : List Command) → IsScript earlier commands
-    → commands_of (kind_of text) ≡ more → is_well_formed (kind_of text) ≡ true →
-    length (commands ++ more) ≤ 65536 → IsScript (earlier ++ text ∷ []) (commands ++ more)
-more_read earlier text commands more h e w few =
-    let all : commands_in (earlier ++ text ∷ []) ≡ commands ++ more =
-    commands_in-append earlier (text ∷ []) ∙ (ap (λ xs. xs ++ (commands_of (kind_of text) ++ [])) (sym h.are) ∙ ap (λ xs. commands ++ xs)
-    (append-nil (commands_of (kind_of text)) ∙ e)) in
-    record {
-      well_formed = All-append (λ (x : List ℕ). is_well_formed (kind_of x) ≡ true) earlier (text ∷ []) h.well_formed
-          (All-cons (λ (x : List ℕ). is_well_formed (kind_of x) ≡ true) text [] w
-          (All-nil (λ (x : List ℕ). is_well_formed (kind_of x) ≡ true)));
-      few = subst (λ (xs : List Command). length xs ≤ 65536) (sym all) few;
-      are = sym all;
-    }
-
--- nothing is read of no lines
 pub read_none : (pieces : List (Bor (List ℕ))) → IsScript (take 0 (lines_of_pieces (map (λ piece. piece.now) pieces))) []
-read_none pieces = record { well_formed = All-nil _; few = omega arith; are = refl }
+read_none pieces = nothing_read commands_on is_good_line pieces
 
 pub read_blank : (pieces : List (Bor (List ℕ))) (at : ℕ) (commands : List Command) → at < length pieces
     → kind_of (line_at (map (λ piece. piece.now) pieces) at) ≡ line.Blank →
     IsScript (take at (lines_of_pieces (map (λ piece. piece.now) pieces))) commands
     → IsScript (take (at + 1) (lines_of_pieces (map (λ piece. piece.now) pieces))) commands
 read_blank pieces at commands h e r =
-    let lines = lines_of_pieces (map (λ (piece : Bor (List ℕ)). piece.now) pieces) in
-    let more = more_read (take at lines) (line_at (map (λ (piece : Bor (List ℕ)). piece.now) pieces) at) commands [] r (ap commands_of e)
-    (ap is_well_formed e) (subst (λ (xs : List Command). length xs ≤ 65536) (sym (append-nil commands ∙ r.are)) r.few) in
-    let grown : IsScript (take at lines ++ line_at (map (λ (piece : Bor (List ℕ)). piece.now) pieces) at ∷ []) commands =
-    subst (λ xs. IsScript (take at lines ++ line_at (map (λ (piece : Bor (List ℕ)). piece.now) pieces) at ∷ []) xs)
-    (append-nil commands) more in
-    subst (λ ls. IsScript ls commands) (sym (taken_more pieces at h)) grown
+    blank_read commands_on is_good_line pieces at commands h (ap commands_of e) (ap is_well_formed e) r
 
 pub read_command : (pieces : List (Bor (List ℕ))) (at : ℕ) (commands : List Command) (command : Command) → at < length pieces
     → kind_of (line_at (map (λ piece. piece.now) pieces) at) ≡ line.Command command → length commands ≢ 65536 →
     IsScript (take at (lines_of_pieces (map (λ piece. piece.now) pieces))) commands
     → IsScript (take (at + 1) (lines_of_pieces (map (λ piece. piece.now) pieces))) (commands ++ command ∷ [])
 read_command pieces at commands command h e ne r =
-    let lines = lines_of_pieces (map (λ (piece : Bor (List ℕ)). piece.now) pieces) in
-    let few : length commands ≤ 65536 = subst (λ (xs : List Command). length xs ≤ 65536) (sym r.are) r.few in
-    let room : length (commands ++ command ∷ []) ≤ 65536 = omega (arith, length-append commands (command ∷ [])) in
-    let more = more_read (take at lines) (line_at (map (λ (piece : Bor (List ℕ)). piece.now) pieces) at) commands (command ∷ []) r
-    (ap commands_of e) (ap is_well_formed e) room in
-    subst (λ ls. IsScript ls (commands ++ command ∷ [])) (sym (taken_more pieces at h)) more
+    item_read commands_on is_good_line pieces at commands command h (ap commands_of e) (ap is_well_formed e) ne r
 
 pub read_all : (pieces : List (Bor (List ℕ))) (at : ℕ) (commands : List Command) → length pieces ≤ at
     → IsScript (take at (lines_of_pieces (map (λ piece. piece.now) pieces))) commands →
     IsScript (lines_of_pieces (map (λ piece. piece.now) pieces)) commands
-read_all pieces at commands h r = subst (λ ls. IsScript ls commands) (all_taken pieces at h) r
-
-pub fault_at : (pieces : List (Bor (List ℕ))) (at : ℕ) (commands : List Command) (why : ScriptWhy) → at < length pieces
-    → IsFault (kind_of (line_at (map (λ piece. piece.now) pieces) at)) (length commands) why →
-    IsScript (take at (lines_of_pieces (map (λ piece. piece.now) pieces))) commands
-    → IsFirstFault (lines_of_pieces (map (λ piece. piece.now) pieces)) (at + 1) why
-fault_at pieces at commands why h fault r =
-    let ps = map (λ (piece : Bor (List ℕ)). piece.now) pieces in
-    let here = cut_at pieces at h in
-    record {
-      earlier = take at (lines_of_pieces ps);
-      text = line_at ps at;
-      later = here.later;
-      cut = here.cut;
-      number_is = here.number;
-      read = subst (λ xs. IsScript (take at (lines_of_pieces ps)) xs) r.are r;
-      fault = subst (λ (xs : List Command). IsFault (kind_of (line_at ps at)) (length xs) why) r.are fault;
-    }
+read_all pieces at commands h r = whole_read commands_on is_good_line pieces at commands h r
 
 pub faulty : (pieces : List (Bor (List ℕ))) (at : ℕ) (commands : List Command) (why : ScriptWhy) → at < length pieces
     → kind_of (line_at (map (λ piece. piece.now) pieces) at) ≡ line.Faulty why →
     IsScript (take at (lines_of_pieces (map (λ piece. piece.now) pieces))) commands
     → IsFirstFault (lines_of_pieces (map (λ piece. piece.now) pieces)) (at + 1) why
-faulty pieces at commands why h e r = fault_at pieces at commands why h (subst (λ kind. IsFault kind (length commands) why) (sym e) refl) r
+faulty pieces at commands why h e r = faulty_at commands_on is_good_line HasFault pieces at commands why h
+    (subst (λ kind. IsFault kind (length commands) why) (sym e) refl) r
 
 pub count_fault : (pieces : List (Bor (List ℕ))) (at : ℕ) (commands : List Command) (command : Command) → at < length pieces
     → kind_of (line_at (map (λ piece. piece.now) pieces) at) ≡ line.Command command → length commands ≡ 65536 →
     IsScript (take at (lines_of_pieces (map (λ piece. piece.now) pieces))) commands
     → IsFirstFault (lines_of_pieces (map (λ piece. piece.now) pieces)) (at + 1) Count
-count_fault pieces at commands command h e full r = fault_at pieces at commands Count h
+count_fault pieces at commands command h e full r = faulty_at commands_on is_good_line HasFault pieces at commands Count h
     (subst (λ kind. IsFault kind (length commands) Count) (sym e) (full, refl)) r
 
 -- more than three words are no command

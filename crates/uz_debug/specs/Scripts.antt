@@ -1,8 +1,9 @@
 -- The text of a script: lines that end in LF or CRLF, each blank or a command, whose words stand apart by spaces and tabs.
-use Rattle.std.specs.Prelude.{◌≡◌, ◌≢◌, ℕ, ◌+◌, ◌≤◌, Bool, true, false, if◌then◌else◌, nat_lt, List, [], ◌∷◌, ◌++◌, length}
+use Rattle.std.specs.Prelude.{◌≡◌, ◌≢◌, ℕ, Bool, true, false, if◌then◌else◌, nat_lt, List, [], ◌∷◌, length}
 use Rattle.std.specs.Prelude.{filter, codes, bytes_eq, Option, Some, None, option_map}
-use Rattle.std.specs.List.{slice_split, All}
+use Rattle.std.specs.List.{slice_split}
 use Rattle.uz_text.specs.Numbers.{number_within}
+use Rattle.uz_pads.specs.ItemTexts.{IsFirstFaulty, IsText, items_in}
 use Rattle.uz_debug.specs.declared.command.Command.{Command}
 use Rattle.uz_debug.specs.declared.command.Command.TheVariants.{Step, Run, Back, Break, Clear, Save, Load, Show, Mem}
 use Rattle.uz_debug.specs.declared.script_lines.Line.{Line}
@@ -82,20 +83,23 @@ abbrev pub commands_of : Line → List Command
 commands_of (line.Command command) = command ∷ []
 commands_of other = []
 
+abbrev pub commands_on : List ℕ → List Command
+commands_on text = commands_of (kind_of text)
+
 -- the commands of some lines, in order
 abbrev pub commands_in : List (List ℕ) → List Command
-commands_in [] = []
-commands_in (text ∷ texts) = commands_of (kind_of text) ++ commands_in texts
+commands_in = items_in commands_on
 
 abbrev pub is_well_formed : Line → Bool
 is_well_formed (line.Faulty why) = false
 is_well_formed other = true
 
+abbrev pub is_good_line : List ℕ → Bool
+is_good_line text = is_well_formed (kind_of text)
+
 -- Lines that are each blank or a command, with at most 65,536 commands
-pub record IsScript (lines : List (List ℕ)) (commands : List Command) : Type 0 where
-  pub well_formed : All (λ text. is_well_formed (kind_of text) ≡ true) lines
-  pub few : length (commands_in lines) ≤ 65536
-  pub are : commands ≡ commands_in lines
+abbrev pub IsScript : List (List ℕ) → List Command → Type 0
+IsScript = IsText commands_on is_good_line
 
 -- What is wrong with a line, where some commands came before it: it is faulty by itself, or it is command number 65,537
 abbrev pub IsFault : Line → ℕ → ScriptWhy → Type 0
@@ -103,12 +107,9 @@ IsFault (line.Faulty fault) before why = fault ≡ why
 IsFault (line.Command command) before why = (before ≡ 65536) × (why ≡ Count)
 IsFault line.Blank before why = ⊥
 
+abbrev pub HasFault : List ℕ → ℕ → ScriptWhy → Type 0
+HasFault text before why = IsFault (kind_of text) before why
+
 -- The first faulty line: all lines before it are read, and it has a fault
-pub record IsFirstFault (lines : List (List ℕ)) (number : ℕ) (why : ScriptWhy) : Type 0 where
-  pub earlier : List (List ℕ)
-  pub text : List ℕ
-  pub later : List (List ℕ)
-  pub cut : lines ≡ earlier ++ text ∷ later
-  pub number_is : number ≡ length earlier + 1
-  pub read : IsScript earlier (commands_in earlier)
-  pub fault : IsFault (kind_of text) (length (commands_in earlier)) why
+abbrev pub IsFirstFault : List (List ℕ) → ℕ → ScriptWhy → Type 0
+IsFirstFault = IsFirstFaulty commands_on is_good_line HasFault

@@ -19,9 +19,9 @@ use Rattle.uz_files.specs.Endings.{answer_of}
 use Rattle.uz_files.specs.Lines.{no_memory_line}
 use Rattle.uz_files.proofs.EndingLemmas.{comes_by}
 use Rattle.uz_files.proofs.TextLemmas.{takes_none}
-use Rattle.uz_run_commands.proofs.TraceLemmas.{cut_part}
+use Rattle.uz_files.proofs.PrintedLemmas.{cut_part}
 use Rattle.uz_certify_command.specs.CertifyCommand.{Allowed, not_found_line}
-use Rattle.uz_check_command.specs.CheckCommand.{accepted_line}
+use Rattle.uz_pair_files.specs.VerdictLines.{accepted_line}
 use Rattle.uz_play_command.specs.PlayCommand.{framed}
 use Rattle.uz_play_command.specs.PlayValues.{end_status, end_text}
 use Rattle.uz_play_command.proofs.PlayRunLemmas.{captured_answers}

@@ -12,7 +12,7 @@ use Rattle.uz_files.specs.declared.status.Status.TheVariants as status
 use Rattle.uz_files.specs.Answers.{Answer, ended}
 use Rattle.uz_files.specs.Formats.{Readings}
 use Rattle.uz_certify_command.specs.CertifyCommand.{Allowed}
-use Rattle.uz_check_command.specs.CheckCommand.{accepted_line}
+use Rattle.uz_pair_files.specs.VerdictLines.{accepted_line}
 use Rattle.uz_play_command.specs.PlayCommand.{IsFramedRun}
 use Rattle.uz_play_command.proofs.PlaySameLemmas.{same_run}
 use Rattle.uz_demo_command.specs.DemoCommand.{AllowedOfDemo, Assembles, DemoAnswers, DemoAnswersBy, DemoSucceeds, IsDemoBy, IsDemoRun}

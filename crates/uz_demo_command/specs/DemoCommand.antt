@@ -22,8 +22,8 @@ use Rattle.uz_demo.specs.Source.{source}
 use Rattle.uz_files.specs.declared.status.Status.TheVariants.{Refused, Unwritten}
 use Rattle.uz_files.specs.Answers.{Answer, ended, one_line}
 use Rattle.uz_certify_command.specs.CertifyCommand.{Allowed, not_found_line}
-use Rattle.uz_check_command.specs.CheckCommand.{accepted_line}
-use Rattle.uz_run_commands.specs.TraceCommand.{start_of}
+use Rattle.uz_pair_files.specs.VerdictLines.{accepted_line}
+use Rattle.uz_run_files.specs.RunFiles.{start_of}
 use Rattle.uz_play_command.specs.PlayCommand.{Enters, IsFramedRun}
 
 -- the demo's source has this assembly

@@ -12,7 +12,7 @@ use Rattle.uz_console.specs.Consoles.{StandsFor}
 use Rattle.uz_console.specs.declared.console.Console.{Console}
 use Rattle.uz_search.specs.declared.found.NotFound.{NotFound}
 use Rattle.uz_certify_command.specs.CertifyCommand.{Allowed, not_found_line}
-use Rattle.uz_check_command.specs.CheckCommand.{accepted_line}
+use Rattle.uz_pair_files.specs.VerdictLines.{accepted_line}
 use Rattle.uz_demo_command.specs.declared.demo_start.Start.{Start}
 use Rattle.uz_demo_command.specs.declared.demo_start.Start.TheVariants.{Ready, Refusal}
 use Rattle.uz_demo_command.specs.DemoCommand.{Assembles, demo_clocks, demo_start}

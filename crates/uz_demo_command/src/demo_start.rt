@@ -9,10 +9,10 @@ ghost use Rattle.uz_schedule.specs.WellFormed.{WellFormed};
 use avr_asm::{Built, assemble};
 use std::alloc::{AllocError, Global};
 use uz_certify_command::not_found;
-use uz_check_command::accepted;
 use uz_console::{Console, reset_is_in_range};
 use uz_demo::demo_source;
 use uz_hex::Image;
+use uz_pair_files::accepted;
 use uz_paths::{NotFound, find};
 use uz_schedule::{Cert, Response};
 

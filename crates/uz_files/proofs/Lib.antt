@@ -2,6 +2,7 @@ pub mod EndingLemmas
 pub mod FaultLemmas
 pub mod HintCount
 pub mod OutcomeLemmas
+pub mod PrintedLemmas
 pub mod ReadingLemmas
 pub mod ReadsLemmas
 pub mod TextLemmas

@@ -1,6 +1,10 @@
 -- A file that is created and then written, and a line.
-use Rattle.std.proofs.Common.{◌≡◌, ◌≢◌, ◌⊎◌, Bool, true, false, inl, inr, ℕ, cond, List, [], ◌∷◌, ◌++◌, take, refl, sym, ap, subst, ◌∙◌}
-use Rattle.std.specs.Prelude.{Option, Some, None, unwrap_or, Result, Ok, Err, OnOk, OnErr}
+use Rattle.std.proofs.Common.{◌≡◌, ◌≢◌, Bool, true, false, inl, inr, ℕ, ◌+◌, cond, List, [], ◌∷◌, ◌++◌, length, take, refl, sym, ap}
+use Rattle.std.proofs.Common.{subst, ◌∙◌}
+use Rattle.std.specs.Prelude.{Option, Some, None, min, unwrap_or, Result, Ok, Err, OnOk, OnErr}
+use Rattle.std.proofs.lemmas.List.{take-append-le, take_min}
+use Rattle.std.proofs.Math.Nat.{min-le_right}
+use Rattle.std.proofs.Math.Seq.{take-append-add}
 use Rattle.std.specs.Ordering.{eq_by_cmp, is_eq, nat_cmp}
 use Rattle.std.specs.Cmp.{tied_itself}
 use Rattle.std.specs.Cmp.Lexicographic.{nat_list_cmp_total, slice_cmp, texts_ties}
@@ -16,27 +20,48 @@ use Rattle.uz_files.specs.Lines.{no_memory_line}
 use Rattle.uz_files.specs.Writing.{WritesSome}
 use Rattle.uz_files.proofs.TextLemmas.{takes_none}
 
--- a new file has no bytes
-so_far_new : (m : FileMap) (name : List ℕ) → bytes_so_far (insert m name []) name ≡ []
-so_far_new m name =
-    ap (λ o. unwrap_or o []) (get-insert nat_list_cmp_total m name [] name)
-    ∙ ap (λ b. unwrap_or (cond b (Some []) (get m name)) []) (ap is_eq (tied_itself nat_list_cmp_total name))
+-- a file that was written has just those bytes
+so_far : (m : FileMap) (name bytes : List ℕ) → bytes_so_far (insert m name bytes) name ≡ bytes
+so_far m name bytes =
+    ap (λ o. unwrap_or o []) (get-insert nat_list_cmp_total m name bytes name)
+    ∙ ap (λ b. unwrap_or (cond b (Some bytes) (get m name)) []) (ap is_eq (tied_itself nat_list_cmp_total name))
 
-created_appended : (m : FileMap) (name bytes : List ℕ) → insert (insert m name []) name (bytes_so_far (insert m name []) name ++ bytes)
-    ≡ insert m name bytes
-created_appended m name bytes =
-    insert_again m name [] (bytes_so_far (insert m name []) name ++ bytes)
-    ∙ ap (λ b. insert m name (b ++ bytes)) (so_far_new m name)
+-- a file that is written goes on by a piece
+pub write_append : (old mid new : Option FileMap) (opened : Option (List ℕ)) (name before piece : List ℕ) → WritesFile old name before mid
+    → opened ≡ Some name → AppendsAll mid opened piece new → WritesFile old name (before ++ piece) new
+write_append None mid new opened name before piece written is appends = subst (λ m. AppendsAll m opened piece new) written appends
+write_append (Some m) mid new opened name before piece written is appends =
+    let at_name : AppendsAll mid (Some name) piece new = subst (λ o. AppendsAll mid o piece new) is appends in
+    let at_new : new ≡ Some (insert (insert m name before) name (bytes_so_far (insert m name before) name ++ piece)) =
+    subst (λ x. AppendsAll x (Some name) piece new) written at_name in
+    at_new ∙ ap Some (insert_again m name before (bytes_so_far (insert m name before) name ++ piece) ∙ ap (λ b. insert m name (b ++ piece))
+    (so_far m name before))
+
+-- or by a prefix of it
+pub write_append_part : (old mid new : Option FileMap) (opened : Option (List ℕ)) (name before piece : List ℕ)
+    → WritesFile old name before mid → opened ≡ Some name → AppendsPrefix mid opened piece new → WritesSome old name (before ++ piece) new
+write_append_part old mid new opened name before piece written is (count, appends) =
+    inr (
+      length before + count,
+      subst (λ t. WritesFile old name t new) (sym (take-append-add before piece count))
+          (write_append old mid new opened name before (take count piece) written is appends),
+    )
+
+-- a file that holds a prefix holds one of all that was to come
+pub write_some_more : (old new : Option FileMap) (name bytes more : List ℕ) → WritesSome old name bytes new
+    → WritesSome old name (bytes ++ more) new
+write_some_more old new name bytes more (inl same) = inl same
+write_some_more old new name bytes more (inr (count, written)) =
+    let k = min count (length bytes) in
+    let cut : take k (bytes ++ more) ≡ take count bytes =
+    take-append-le k bytes more (min-le_right count (length bytes)) ∙ take_min count bytes in
+    inr (k, subst (λ t. WritesFile old name t new) (sym cut) written)
 
 -- a file is made empty, and then it goes on by these bytes
 create_append : (old mid new : Option FileMap) (opened : Option (List ℕ)) (name bytes : List ℕ) → Creates old name mid → opened ≡ Some name
     → AppendsAll mid opened bytes new → WritesFile old name bytes new
-create_append None mid new opened name bytes creates is appends = subst (λ m. AppendsAll m opened bytes new) creates appends
-create_append (Some m) mid new opened name bytes creates is appends =
-    let at_name : AppendsAll mid (Some name) bytes new = subst (λ o. AppendsAll mid o bytes new) is appends in
-    let at_new : new ≡ Some (insert (insert m name []) name (bytes_so_far (insert m name []) name ++ bytes)) =
-    subst (λ x. AppendsAll x (Some name) bytes new) creates at_name in
-    at_new ∙ ap Some (created_appended m name bytes)
+create_append None mid new opened name bytes creates = write_append None mid new opened name [] bytes creates
+create_append (Some m) mid new opened name bytes creates = write_append (Some m) mid new opened name [] bytes creates
 
 create_append_part : (old mid new : Option FileMap) (opened : Option (List ℕ)) (name bytes : List ℕ) → Creates old name mid → opened ≡ Some
     name → AppendsPrefix mid opened bytes new → WritesSome old name bytes new

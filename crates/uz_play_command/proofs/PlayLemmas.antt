@@ -22,7 +22,7 @@ use Rattle.uz_files.specs.Endings.{ComesOfFailure, EndsBy, answer_of}
 use Rattle.uz_files.specs.Reading.{Fails, Says, certificate_limit, text_limit}
 use Rattle.uz_play_command.specs.PlayCommand.{IsFramedPart, IsFramedRun, IsPlay, PlayAnswers, PlayLacks, PlayParts, SpellsPlay}
 use Rattle.uz_play_command.specs.PlayValues.{IsChecked, IsReady, IsRefusedPlay, IsStart, PlayPreface}
-use Rattle.uz_run_commands.specs.TraceCommand.{start_of}
+use Rattle.uz_run_files.specs.RunFiles.{start_of}
 use Rattle.uz_files.proofs.FaultLemmas.{rose_later}
 use Rattle.uz_files.proofs.ReadingLemmas.{ends_by, fails_by}
 use Rattle.uz_files.proofs.ReadsLemmas.{fails_status}

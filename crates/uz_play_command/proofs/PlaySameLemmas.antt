@@ -22,10 +22,11 @@ use Rattle.uz_check.specs.declared.refusal.RefusedWhy.{RefusedWhy}
 use Rattle.uz_files.specs.declared.status.Status.TheVariants.{Done, NotEntered, Refused, Stopped}
 use Rattle.uz_files.specs.Answers.{Answer, one_line}
 use Rattle.uz_files.specs.Reading.{certificate_limit, text_limit}
-use Rattle.uz_check_command.specs.CheckCommand.{refused_line}
+use Rattle.uz_pair_files.specs.VerdictLines.{refused_line}
 use Rattle.uz_play_command.specs.PlayCommand.{IsFramedRun, IsPlay, PlayAnswers, PlayAnswersFor, PlayAnswersWith, PlaySucceeds, entered_line}
 use Rattle.uz_play_command.specs.PlayCommand.{framed, not_entered_line, numbers_of}
-use Rattle.uz_run_commands.specs.TraceCommand.{start_of, stopped_at_line}
+use Rattle.uz_run_files.specs.RunFiles.{start_of}
+use Rattle.uz_run_files.specs.StopLines.{stopped_at_line}
 use Rattle.uz_files.proofs.ReadsLemmas.{fails_says, reads_or_fault, reads_same, says_same}
 use Rattle.uz_hex.specs.HexText.{IsHexOf}
 use Rattle.uz_files.specs.Formats.{SpellsCertificate}

@@ -27,7 +27,7 @@ use Rattle.uz_files.specs.Answers.{Answer, ComesOf, NoPart, MayCome, Outside}
 use Rattle.uz_files.specs.Endings.{ComesOfFailure, answer_of}
 use Rattle.uz_play_command.specs.PlayCommand.{FilesHalted, FilesPlayed, IsEnteredRun, IsFramedPart, IsFramedRun, IsHaltedRun}
 use Rattle.uz_play_command.specs.PlayValues.{IsReady}
-use Rattle.uz_run_commands.specs.TraceCommand.{start_of}
+use Rattle.uz_run_files.specs.RunFiles.{start_of}
 use Rattle.uz_files.proofs.OutcomeLemmas.{from_answer}
 
 -- Which status comes of what

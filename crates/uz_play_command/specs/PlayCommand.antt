@@ -25,8 +25,9 @@ use Rattle.uz_files.specs.declared.status.Status.{Status}
 use Rattle.uz_files.specs.declared.status.Status.TheVariants.{Done, NotEntered, Refused, Stopped, Unwritten}
 use Rattle.uz_files.specs.Answers.{Answer, Write, one_line}
 use Rattle.uz_files.specs.Reading.{Reads, Says, certificate_limit, text_limit}
-use Rattle.uz_check_command.specs.CheckCommand.{refused_line}
-use Rattle.uz_run_commands.specs.TraceCommand.{start_of, stopped_at_line}
+use Rattle.uz_pair_files.specs.VerdictLines.{refused_line}
+use Rattle.uz_run_files.specs.RunFiles.{start_of}
+use Rattle.uz_run_files.specs.StopLines.{stopped_at_line}
 use Rattle.uz_hex.specs.HexText.{IsHexOf}
 use Rattle.uz_files.specs.Formats.{SpellsCertificate}
 use Rattle.uz_files.specs.Formats.{RefusesCertificate, RefusesHex, RefusesPads, SpellsPads}

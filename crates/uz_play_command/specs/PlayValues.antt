@@ -21,7 +21,8 @@ use Rattle.uz_files.specs.Answers.{Answer}
 use Rattle.uz_files.specs.Endings.{answer_of}
 use Rattle.uz_files.specs.Reading.{Fails, Says, certificate_limit, text_limit}
 use Rattle.uz_play_command.specs.PlayCommand.{IsPlay, SpellsPlay, edge_numbers, entered_line, not_entered_line, numbers_line}
-use Rattle.uz_run_commands.specs.TraceCommand.{start_of, stopped_at_line}
+use Rattle.uz_run_files.specs.RunFiles.{start_of}
+use Rattle.uz_run_files.specs.StopLines.{stopped_at_line}
 use Rattle.uz_hex.specs.HexText.{IsHexOf}
 use Rattle.uz_files.specs.Formats.{SpellsCertificate}
 use Rattle.uz_files.specs.Formats.{RefusesCertificate, RefusesHex, RefusesPads}

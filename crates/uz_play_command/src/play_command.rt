@@ -8,11 +8,11 @@ ghost use Rattle.uz_play_command.specs.PlayValues.{IsChecked, IsStart, PlayPrefa
 
 use std::alloc::{AllocError, Global};
 use uz_check::check;
-use uz_check_command::refused;
 use uz_console::{Console, reset_is_in_range};
 use uz_files::{Ending, Failure, Status, read_certificate, read_image, read_pad_file};
 use uz_hex::Image;
 use uz_pads::Pad;
+use uz_pair_files::refused;
 use uz_schedule::Cert;
 use uz_shelf::Shelf;
 

@@ -22,7 +22,7 @@ use uz_console::Console;
 use uz_files::{Ending, Status, end_with, give_up, put_no_memory};
 use uz_played::played_runs_keep;
 use uz_player::Counts;
-use uz_run_commands::stopped_at;
+use uz_run_files::stopped_at;
 use uz_schedule::Cert;
 use uz_shelf::{Shelf, Sink, WriteError};
 

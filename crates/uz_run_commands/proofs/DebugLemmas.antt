@@ -24,8 +24,7 @@ use Rattle.uz_files.specs.Endings.{EndsBy}
 use Rattle.uz_files.specs.Reading.{Fails, IsReader, Says, text_limit}
 use Rattle.uz_debug.specs.WhyNames.{script_why_name}
 use Rattle.uz_run_commands.specs.ScriptFile.{HasScriptFault, RefusesScript, SpellsScript}
-use Rattle.uz_run_commands.specs.TraceCommand.{start_of}
-use Rattle.uz_run_commands.specs.TraceValues.{TracePreface}
+use Rattle.uz_run_files.specs.RunFiles.{RunPreface, start_of}
 use Rattle.uz_run_commands.specs.DebugCommand.{DebugAnswers, DebugAnswersFor, DebugAnswersWith, DebugLacks, DebugSucceeds, IsDebugged}
 use Rattle.uz_run_commands.specs.DebugCommand.{IsDebuggedOf, StartsDebug}
 use Rattle.uz_files.proofs.FaultLemmas.{rose_later}
@@ -58,15 +57,15 @@ starts_debug files after hex pads irq image list debugger same says spelled debu
 }
 
 preface_debug : (files : Option FileMap) (load_fault : Type 0) (hex pads : List ℕ) (irq : Response) (script : List ℕ) (answer : Answer)
-    → TracePreface files load_fault hex pads answer → DebugAnswers files load_fault hex pads irq script answer
+    → RunPreface files load_fault hex pads answer → DebugAnswers files load_fault hex pads irq script answer
 preface_debug files load_fault hex pads irq script answer (inl fails) = inl fails
 preface_debug files load_fault hex pads irq script answer (inr (image, says, fails)) = inr (image, says, inl fails)
 
 -- one of the first two files ends the command
 pub debug_without_pads : (files : Option FileMap) (load_fault : Type 0) (hex pads : List ℕ) (irq : Response) (script : List ℕ)
-    (failure : Failure) → EndsBy (TracePreface files load_fault hex pads) failure
+    (failure : Failure) → EndsBy (RunPreface files load_fault hex pads) failure
     → EndsBy (DebugAnswers files load_fault hex pads irq script) failure
-debug_without_pads files load_fault hex pads irq script failure = ends_by (TracePreface files load_fault hex pads)
+debug_without_pads files load_fault hex pads irq script failure = ends_by (RunPreface files load_fault hex pads)
     (DebugAnswers files load_fault hex pads irq script) failure (preface_debug files load_fault hex pads irq script)
 
 -- the script's file does

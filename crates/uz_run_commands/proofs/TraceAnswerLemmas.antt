@@ -1,12 +1,9 @@
 -- What `trace` answers.
 use Rattle.std.proofs.Common.{◌≡◌, ◌⊎◌, ◌≤◌, inl, inr, ℕ, List, [], take, refl, ap, subst, sym}
 use Rattle.std.specs.Prelude.{Option, Err}
-use Rattle.uz_shelf.specs.Faults.{Rose}
 use Rattle.uz_shelf.specs.Files.{FileMap}
 use Rattle.uz_shelf.specs.Text.{TakesAll, TakesPrefix}
-use Rattle.uz_hex.specs.Reading.{Flash}
 use Rattle.uz_schedule.specs.declared.kinds.Response.{Response}
-use Rattle.uz_pads.specs.declared.pads.Pad.{Pad}
 use Rattle.uz_console.specs.declared.console.Console.{Console}
 use Rattle.uz_console.specs.Runs.{RunsTo}
 use Rattle.uz_machine.specs.PadLine.{PadHistory}
@@ -19,18 +16,15 @@ use Rattle.uz_files.specs.declared.status.Status.TheVariants.{Done, Unread, BadI
 use Rattle.uz_files.specs.Answers.{Answer, ComesOf, MayCome, ended, outside}
 use Rattle.uz_files.specs.Endings.{ComesOfFailure, EndsBy}
 use Rattle.uz_files.specs.Lines.{no_memory_line}
-use Rattle.uz_files.specs.Reading.{Fails, Says, text_limit}
-use Rattle.uz_run_commands.specs.TraceCommand.{IsTrace, TraceAnswers, TraceLacks, TraceParts, TraceSucceeds, edge_lines, end_line, start_of}
-use Rattle.uz_run_commands.specs.TraceCommand.{stopped_line}
-use Rattle.uz_run_commands.specs.TraceValues.{IsPrinted, IsPrintedPart, StartsTrace, TracePreface, end_status, last_line}
-use Rattle.uz_files.proofs.FaultLemmas.{rose_later}
-use Rattle.uz_files.proofs.ReadingLemmas.{ends_by, fails_by}
-use Rattle.uz_files.proofs.ReadsLemmas.{fails_status}
-use Rattle.uz_run_commands.proofs.TraceLemmas.{cut_part}
+use Rattle.uz_run_commands.specs.TraceCommand.{IsTrace, TraceAnswers, TraceParts, edge_lines, end_line}
+use Rattle.uz_run_commands.specs.TraceValues.{IsPrinted, IsPrintedPart, end_status, last_line}
+use Rattle.uz_run_files.specs.RunFiles.{RunLacks, RunPreface, RunSucceeds, StartsRun, start_of}
+use Rattle.uz_run_files.specs.StopLines.{stopped_line}
+use Rattle.uz_run_files.proofs.RunFileLemmas.{preface_answers, run_status}
+use Rattle.uz_files.proofs.ReadingLemmas.{ends_by}
+use Rattle.uz_files.proofs.PrintedLemmas.{cut_part}
 use Rattle.uz_files.proofs.TextLemmas.{takes_none}
 use Rattle.uz_files.proofs.EndingLemmas.{comes_by, run_outcome}
-use Rattle.uz_hex.specs.HexText.{IsHexOf}
-use Rattle.uz_files.specs.Formats.{RefusesHex, RefusesPads, SpellsPads}
 
 is_trace_status : (clocks : ℕ) (start : State PadHistory) (answer : Answer) → IsTrace clocks start answer → (answer.status ≡ Done)
     ⊎ (answer.status ≡ Stopped)
@@ -39,25 +33,17 @@ is_trace_status clocks start answer (inr stopped) = inr (ap (λ a. a.status) sto
 
 -- the statuses of `trace`, and the cause of Unread
 pub trace_status : (files : Option FileMap) (load_fault : Type 0) (hex pads : List ℕ) (irq : Response) (clocks : ℕ) (answer : Answer)
-    → TraceAnswers files load_fault hex pads irq clocks answer → ((answer.status ≡ Unread) × (load_fault ⊎ TraceLacks files hex pads))
+    → TraceAnswers files load_fault hex pads irq clocks answer → ((answer.status ≡ Unread) × (load_fault ⊎ RunLacks files hex pads))
     ⊎ ((answer.status ≡ BadInput) ⊎ ((answer.status ≡ Done) ⊎ (answer.status ≡ Stopped)))
-trace_status files load_fault hex pads irq clocks answer (inl fails) =
-    elim (fails_status files load_fault hex text_limit RefusesHex answer fails) [
-      | inl (is, inl fault) ↦ inl (is, inl fault)
-      | inl (is, inr lacks) ↦ inl (is, inr (inl lacks))
-      | inr bad ↦ inr (inl bad)
+trace_status files load_fault hex pads irq clocks answer h =
+    elim (run_status (IsTrace clocks) files load_fault hex pads irq answer h) [
+      | inl unread ↦ inl unread
+      | inr (inl bad) ↦ inr (inl bad)
+      | inr (inr (start, trace)) ↦ inr (inr (is_trace_status clocks start answer trace))
     ]
-trace_status files load_fault hex pads irq clocks answer (inr (image, says, inl fails)) =
-    elim (fails_status files load_fault pads text_limit RefusesPads answer fails) [
-      | inl (is, inl fault) ↦ inl (is, inl fault)
-      | inl (is, inr lacks) ↦ inl (is, inr (inr (image, says, lacks)))
-      | inr bad ↦ inr (inl bad)
-    ]
-trace_status files load_fault hex pads irq clocks answer (inr (image, says, inr (list, spelled, trace))) =
-    inr (inr (is_trace_status clocks (start_of image list irq) answer trace))
 
 -- where all is well the answer is one that is done
-pub trace_done : (files : Option FileMap) (hex pads : List ℕ) (irq : Response) (clocks : ℕ) → TraceSucceeds files hex pads irq clocks
+pub trace_done : (files : Option FileMap) (hex pads : List ℕ) (irq : Response) (clocks : ℕ) → RunSucceeds files hex pads irq clocks
     → (answer : Answer) × TraceAnswers files ⊥ hex pads irq clocks answer × (answer.status ≡ Done)
 trace_done files hex pads irq clocks h = (
   ended (edge_lines h.edges) Done (end_line clocks),
@@ -69,40 +55,9 @@ trace_done files hex pads irq clocks h = (
   refl,
 )
 
--- a file ends the command
-preface_answers : (files : Option FileMap) (load_fault : Type 0) (hex pads : List ℕ) (irq : Response) (clocks : ℕ) (answer : Answer)
-    → TracePreface files load_fault hex pads answer → TraceAnswers files load_fault hex pads irq clocks answer
-preface_answers files load_fault hex pads irq clocks answer (inl fails) = inl fails
-preface_answers files load_fault hex pads irq clocks answer (inr (image, says, fails)) = inr (image, says, inl fails)
-
--- the image is read, and the pad file ends the command
-pub preface_without_pads : (files after : Option FileMap) (old mid new : ℕ) (hex pads : List ℕ) (image : Flash) (failure : Failure)
-    → after ≡ files → old ≤ mid → Says files hex text_limit IsHexOf image
-    → EndsBy (Fails after (Rose mid new) pads text_limit RefusesPads) failure → EndsBy (TracePreface files (Rose old new) hex pads) failure
-preface_without_pads files after old mid new hex pads image failure same up says fails =
-    ends_by (Fails after (Rose mid new) pads text_limit RefusesPads) (TracePreface files (Rose old new) hex pads) failure
-    (λ answer h. inr (
-      image,
-      says,
-      fails_by files (Rose mid new) (Rose old new) pads text_limit RefusesPads answer (rose_later old mid new up)
-          (subst (λ f. Fails f (Rose mid new) pads text_limit RefusesPads answer) same h),
-    )) fails
-
--- both files are read
-pub starts : (files after : Option FileMap) (hex pads : List ℕ) (irq : Response) (image : Flash) (list : List Pad) (console : Console)
-    → after ≡ files → Says files hex text_limit IsHexOf image → Says after pads text_limit SpellsPads list
-    → ((limit : ℕ) → RunsTo limit (start_of image list irq) [] console) → StartsTrace files hex pads irq console
-starts files after hex pads irq image list console same says spelled run = record {
-  image = image;
-  list = list;
-  spelled_image = says;
-  spelled_pads = subst (λ f. Says f pads text_limit SpellsPads list) same spelled;
-  run = run;
-}
-
 -- the whole run is printed
 printed_answers : (files : Option FileMap) (load_fault : Type 0) (hex pads : List ℕ) (irq : Response) (clocks : ℕ) (console : Console)
-    (run_end : RunEnd) (old mid : Option (List ℕ)) → StartsTrace files hex pads irq console
+    (run_end : RunEnd) (old mid : Option (List ℕ)) → StartsRun files hex pads irq console
     → ((start : State PadHistory) → RunsTo clocks start [] console → IsPrinted clocks start run_end old mid) → (printed : List ℕ)
     × TakesAll old printed mid × TraceAnswers files load_fault hex pads irq clocks
     (ended printed (end_status run_end) (last_line clocks run_end))
@@ -140,7 +95,7 @@ printed_answers files load_fault hex pads irq clocks console (end.Stopped pc why
 
 pub trace_outcome : (files after : Option FileMap) (load_fault narrow wide : Type 0) (hex pads : List ℕ) (irq : Response) (clocks : ℕ)
     (console : Console) (run_end : RunEnd) (came : Status) (old mid new : Option (List ℕ)) → after ≡ files → (narrow → wide)
-    → StartsTrace files hex pads irq console → ((start : State PadHistory) → RunsTo clocks start [] console → IsPrinted clocks start run_end
+    → StartsRun files hex pads irq console → ((start : State PadHistory) → RunsTo clocks start [] console → IsPrinted clocks start run_end
     old mid) → ((f : Option FileMap) (was : Option (List ℕ)) (printed : List ℕ) → TakesAll was printed mid
     → ComesOf (ended printed (end_status run_end) (last_line clocks run_end)) narrow came (outside f was) (outside f new))
     → MayCome (TraceAnswers files load_fault hex pads irq clocks) (TraceParts files hex pads irq clocks) wide came (outside files old)
@@ -158,7 +113,7 @@ trace_outcome files after load_fault narrow wide hex pads irq clocks console run
 
 -- a part of the run is printed
 part_answers : (files : Option FileMap) (hex pads : List ℕ) (irq : Response) (clocks : ℕ) (console : Console) (old mid : Option (List ℕ))
-    → StartsTrace files hex pads irq console → ((start : State PadHistory) → RunsTo clocks start [] console → IsPrintedPart clocks start old
+    → StartsRun files hex pads irq console → ((start : State PadHistory) → RunsTo clocks start [] console → IsPrintedPart clocks start old
     mid) → (printed : List ℕ) × TakesPrefix old printed mid × TraceParts files hex pads irq clocks (ended printed Unwritten [])
 part_answers files hex pads irq clocks console old mid starts prints =
     let part = prints (start_of starts.image starts.list irq) (starts.run clocks) in (
@@ -174,7 +129,7 @@ part_answers files hex pads irq clocks console old mid starts prints =
     )
 
 pub trace_unwritten : (files after : Option FileMap) (load_fault wide : Type 0) (hex pads : List ℕ) (irq : Response) (clocks : ℕ)
-    (console : Console) (came : Status) (old new : Option (List ℕ)) → after ≡ files → wide → came ≡ Unwritten → StartsTrace files hex pads
+    (console : Console) (came : Status) (old new : Option (List ℕ)) → after ≡ files → wide → came ≡ Unwritten → StartsRun files hex pads
     irq console → ((start : State PadHistory) → RunsTo clocks start [] console → IsPrintedPart clocks start old new)
     → MayCome (TraceAnswers files load_fault hex pads irq clocks) (TraceParts files hex pads irq clocks) wide came (outside files old)
     (outside after new)
@@ -186,7 +141,7 @@ trace_unwritten files after load_fault wide hex pads irq clocks console came old
 
 pub trace_lacks : (files after : Option FileMap) (load_fault wide : Type 0) (hex pads : List ℕ) (irq : Response) (clocks : ℕ)
     (console : Console) (came : Status) (old mid new : Option (List ℕ)) → after ≡ files → came ≡ NoMemory → TakesPrefix mid no_memory_line
-    new → StartsTrace files hex pads irq console → ((start : State PadHistory) → RunsTo clocks start [] console → IsPrintedPart clocks start
+    new → StartsRun files hex pads irq console → ((start : State PadHistory) → RunsTo clocks start [] console → IsPrintedPart clocks start
     old mid) → MayCome (TraceAnswers files load_fault hex pads irq clocks) (TraceParts files hex pads irq clocks) wide came
     (outside files old) (outside after new)
 trace_lacks files after load_fault wide hex pads irq clocks console came old mid new same is line starts prints =
@@ -202,11 +157,11 @@ trace_lacks files after load_fault wide hex pads irq clocks console came old mid
 -- a file ends the command
 pub trace_failed : (files after : Option FileMap) (load_fault narrow wide : Type 0) (hex pads : List ℕ) (irq : Response) (clocks : ℕ)
     (failure : Failure) (came : Status) (old new : Option (List ℕ)) → after ≡ files → (narrow → wide)
-    → EndsBy (TracePreface files load_fault hex pads) failure → ((f : Option FileMap) → ComesOfFailure failure narrow came (outside f old)
+    → EndsBy (RunPreface files load_fault hex pads) failure → ((f : Option FileMap) → ComesOfFailure failure narrow came (outside f old)
     (outside f new)) → MayCome (TraceAnswers files load_fault hex pads irq clocks) (TraceParts files hex pads irq clocks) wide came
     (outside files old) (outside after new)
 trace_failed files after load_fault narrow wide hex pads irq clocks failure came old new same widen given comes =
     run_outcome (TraceAnswers files load_fault hex pads irq clocks) (TraceParts files hex pads irq clocks) (Err failure) came narrow wide
     files after old new widen same
-    (ends_by (TracePreface files load_fault hex pads) (TraceAnswers files load_fault hex pads irq clocks) failure
-    (preface_answers files load_fault hex pads irq clocks) given) comes
+    (ends_by (RunPreface files load_fault hex pads) (TraceAnswers files load_fault hex pads irq clocks) failure
+    (preface_answers (IsTrace clocks) files load_fault hex pads irq) given) comes

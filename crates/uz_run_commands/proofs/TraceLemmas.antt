@@ -1,9 +1,7 @@
 -- The lines of a run, printed as it goes.
-use Rattle.std.proofs.Common.{◌≡◌, inl, inr, ℕ, ◌+◌, List, [], ◌∷◌, ◌++◌, length, take, refl, sym, ap, subst, ◌∙◌}
+use Rattle.std.proofs.Common.{◌≡◌, ℕ, List, [], ◌∷◌, ◌++◌, refl, sym, ap, subst, ◌∙◌}
 use Rattle.std.proofs.Common.{append_assoc}
 use Rattle.std.specs.Prelude.{Option}
-use Rattle.std.proofs.lemmas.List.{append-nil}
-use Rattle.std.proofs.Math.Seq.{take-append-add, take-append_seam}
 use Rattle.uz_shelf.specs.Text.{TakesAll, TakesPrefix}
 use Rattle.uz_machine.specs.declared.Edge.{Edge}
 use Rattle.uz_machine.specs.PadLine.{PadHistory}
@@ -17,15 +15,9 @@ use Rattle.uz_console.specs.Consoles.{StandsFor}
 use Rattle.uz_console.specs.Pages.{IsPage}
 use Rattle.uz_console.specs.Runs.{RunsTo}
 use Rattle.uz_run_commands.specs.declared.trace_command.RunEnd.TheVariants as end
-use Rattle.uz_shelf.specs.Files.{FileMap}
-use Rattle.uz_files.specs.declared.status.Status.{Status}
-use Rattle.uz_files.specs.declared.status.Status.TheVariants as status
-use Rattle.uz_files.specs.Answers.{ComesOf, IsCut, ended, one_line, outside}
-use Rattle.uz_files.specs.declared.ending.Ending.{Ending}
-use Rattle.uz_files.specs.Endings.{answer_of}
-use Rattle.uz_files.specs.Lines.{no_memory_line}
 use Rattle.uz_run_commands.specs.TraceCommand.{edge_line, edge_lines}
 use Rattle.uz_run_commands.specs.TraceValues.{IsPrinted, IsPrintedPart, IsPrintedSoFar}
+use Rattle.uz_files.proofs.PrintedLemmas.{takes_then_prefix}
 use Rattle.uz_files.proofs.TextLemmas.{takes_both}
 use Rattle.uz_files.proofs.TextLemmas.{takes_none}
 
@@ -33,15 +25,6 @@ edge_lines-append : (a b : List Edge) → edge_lines (a ++ b) ≡ edge_lines a +
 edge_lines-append [] b = refl
 edge_lines-append (x ∷ xs) b = ap (λ t. edge_line x ++ t) (edge_lines-append xs b)
     ∙ sym (append_assoc (edge_line x) (edge_lines xs) (edge_lines b))
-
--- a piece, and then a prefix of another
-takes_then_prefix : (old mid new : Option (List ℕ)) (a b : List ℕ) → TakesAll old a mid → TakesPrefix mid b new → TakesPrefix old (a ++ b)
-    new
-takes_then_prefix old mid new a b whole part = (
-  length a + part.0,
-  subst (λ p. TakesAll old p new) (sym (take-append-add a b part.0)) (takes_both old a (take part.0 b) mid new whole
-      part.1),
-)
 
 pub starts_printed : (limit : ℕ) (start : State PadHistory) (console : Console) (text : Option (List ℕ)) → RunsTo limit start [] console
     → IsPrintedSoFar limit start console text text
@@ -94,90 +77,3 @@ pub prints_stopped : (limit : ℕ) (start : State PadHistory) (mid next : Consol
 prints_stopped limit start mid next page pc why old was new (edges, run, takes) step at piece =
     let stop = step start edges run in
     (edges ++ page, stop.0, stop.1, stop.2, at stop.0 stop.3, lines_after edges page old was new takes piece)
-
--- what comes after what is printed already
-cut_after : (printed line further : List ℕ) (s : Status) (files : Option FileMap) (old mid new : Option (List ℕ)) → TakesAll old printed mid
-    → IsCut (one_line s line) further (outside files mid) (outside files new) → IsCut (ended printed s line) further (outside files old)
-    (outside files new)
-cut_after printed line further s files old mid new before (inl (same, text)) =
-    inr (
-      refl,
-      (
-        length printed,
-        subst (λ p. TakesAll old (p ++ further) new) (sym (take-append_seam printed line))
-            (takes_both old printed further mid new before text),
-      ),
-    )
-cut_after printed line further s files old mid new before (inr (same, (count, text))) =
-    inr (
-      refl,
-      (
-        length printed + count,
-        subst (λ p. TakesAll old (p ++ further) new) (sym (take-append-add printed line count))
-            (subst (λ p. TakesAll old p new) (sym (append_assoc printed (take count line) further))
-            (takes_both old printed (take count line ++ further) mid new before text)),
-      ),
-    )
-
-pub comes_after : (printed line : List ℕ) (s came : Status) (write_fault : Type 0) (files : Option FileMap) (old mid new : Option (List ℕ))
-    → TakesAll old printed mid → ComesOf (one_line s line) write_fault came (outside files mid) (outside files new)
-    → ComesOf (ended printed s line) write_fault came (outside files old) (outside files new)
-comes_after printed line s came write_fault files old mid new before (inl ends) = inl (record {
-  status = ends.status;
-  files = refl;
-  done = λ d. takes_both old printed line mid new before (ends.done d);
-  whole = λ none. takes_both old printed line mid new before (ends.whole none);
-  text = (ends.text.0, takes_both old printed (take ends.text.0 line) mid new before ends.text.1);
-})
-comes_after printed line s came write_fault files old mid new before (inr (inl (is, fault, inl (none, part, text)))) = absurd (none refl)
-comes_after printed line s came write_fault files old mid new before (inr (inl (is, fault, inr (same, (text, inl (done, all), part))))) =
-    inr (inl (
-      is,
-      fault,
-      inr (refl, (printed ++ text, inl (done, ap (λ t. printed ++ t) all), takes_then_prefix old mid new printed text before part)),
-    ))
-comes_after printed line s came write_fault files old mid new before (inr (inl (is, fault, inr (same, (text, inr (none, all), part))))) =
-    absurd (none refl)
-comes_after printed line s came write_fault files old mid new before (inr (inr lacks)) =
-    inr (inr (lacks.0, (lacks.1.0, cut_after printed line (take lacks.1.0 no_memory_line) s files old mid new before lacks.1.1)))
-
-pub lacks_after : (printed line : List ℕ) (s came : Status) (write_fault : Type 0) (files : Option FileMap) (old mid new : Option (List ℕ))
-    → TakesAll old printed mid → came ≡ status.NoMemory → TakesPrefix mid no_memory_line new → ComesOf (ended printed s line) write_fault
-    came (outside files old) (outside files new)
-lacks_after printed line s came write_fault files old mid new before same part =
-    inr (inr (
-      same,
-      (
-        part.0,
-        inr (
-          refl,
-          (
-            length printed,
-            subst (λ p. TakesAll old (p ++ take part.0 no_memory_line) new) (sym (take-append_seam printed line))
-                (takes_both old printed (take part.0 no_memory_line) mid new before part.1),
-          ),
-        ),
-      ),
-    ))
-
--- a part of the lines is printed, and then it is cut short
-pub cut_part : (printed further : List ℕ) (files : Option FileMap) (old mid new : Option (List ℕ)) → TakesPrefix old printed mid
-    → TakesAll mid further new → IsCut (ended printed status.Unwritten []) further (outside files old) (outside files new)
-cut_part printed further files old mid new part rest =
-    inr (
-      refl,
-      (
-        part.0,
-        subst (λ p. TakesAll old (take part.0 p ++ further) new) (sym (append-nil printed))
-            (takes_both old (take part.0 printed) further mid new part.1 rest),
-      ),
-    )
-
-pub comes_ended : (ending : Ending) (printed line : List ℕ) (s came : Status) (write_fault : Type 0) (files : Option FileMap)
-    (old mid new : Option (List ℕ)) → (ending.status ≡ s) × (ending.line.items ≡ line) → TakesAll old printed mid
-    → ComesOf (answer_of ending) write_fault came (outside files mid) (outside files new) → ComesOf (ended printed s line) write_fault came
-    (outside files old) (outside files new)
-comes_ended ending printed line s came write_fault files old mid new same before comes =
-    subst (λ l. ComesOf (ended printed s l) write_fault came (outside files old) (outside files new)) same.1
-    (subst (λ t. ComesOf (ended printed t ending.line.items) write_fault came (outside files old) (outside files new)) same.0
-    (comes_after printed ending.line.items ending.status came write_fault files old mid new before comes))

@@ -1,10 +1,6 @@
 -- The values of the code that make a trace.
-use Rattle.std.specs.Prelude.{◌≡◌, ◌⊎◌, ℕ, List, [], ◌++◌, Option}
-use Rattle.uz_shelf.specs.Files.{FileMap}
+use Rattle.std.specs.Prelude.{◌≡◌, ℕ, List, ◌++◌, Option}
 use Rattle.uz_shelf.specs.Text.{TakesAll, TakesPrefix}
-use Rattle.uz_hex.specs.Reading.{Flash}
-use Rattle.uz_schedule.specs.declared.kinds.Response.{Response}
-use Rattle.uz_pads.specs.declared.pads.Pad.{Pad}
 use Rattle.uz_machine.specs.declared.Edge.{Edge}
 use Rattle.uz_machine.specs.PadLine.{PadHistory}
 use Rattle.uz_machine.specs.Turn.{State}
@@ -14,28 +10,11 @@ use Rattle.uz_console.specs.Runs.{RunsTo}
 use Rattle.uz_console.specs.Turns.{Halts}
 use Rattle.uz_run_commands.specs.declared.trace_command.RunEnd.{RunEnd}
 use Rattle.uz_run_commands.specs.declared.trace_command.RunEnd.TheVariants.{Over, Stopped}
-use Rattle.uz_files.specs.Answers.{Answer}
-use Rattle.uz_files.specs.Reading.{Fails, Says, text_limit}
 use Rattle.uz_files.specs.declared.status.Status.{Status}
 use Rattle.uz_files.specs.declared.status.Status.TheVariants as status
 use Rattle.uz_files.specs.declared.status.Status.TheVariants.{Done}
-use Rattle.uz_run_commands.specs.TraceCommand.{edge_lines, end_line, start_of, stopped_line}
-use Rattle.uz_hex.specs.HexText.{IsHexOf}
-use Rattle.uz_files.specs.Formats.{RefusesHex, RefusesPads, SpellsPads}
-
--- the console is at reset with what the two files say
-pub record StartsTrace (files : Option FileMap) (hex pads : List ℕ) (irq : Response) (console : Console) : Type 0 where
-  pub image : Flash
-  pub list : List Pad
-  pub spelled_image : Says files hex text_limit IsHexOf image
-  pub spelled_pads : Says files pads text_limit SpellsPads list
-  pub run : (limit : ℕ) → RunsTo limit (start_of image list irq) [] console
-
--- a file ends the command, and the one before it is read
-abbrev pub TracePreface : Option FileMap → Type 0 → List ℕ → List ℕ → Answer → Type 0
-TracePreface files load_fault hex pads answer =
-    Fails files load_fault hex text_limit RefusesHex answer
-    ⊎ ((image : Flash) × Says files hex text_limit IsHexOf image × Fails files load_fault pads text_limit RefusesPads answer)
+use Rattle.uz_run_commands.specs.TraceCommand.{edge_lines, end_line}
+use Rattle.uz_run_files.specs.StopLines.{stopped_line}
 
 -- the lines of the whole run from this state are printed
 abbrev pub IsPrinted : ℕ → State PadHistory → RunEnd → Option (List ℕ) → Option (List ℕ) → Type 0

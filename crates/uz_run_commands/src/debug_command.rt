@@ -5,7 +5,7 @@ ghost use Rattle.uz_shelf.specs.Faults.{Rose};
 ghost use Rattle.uz_files.specs.Answers.{NoPart, MayCome, outside};
 ghost use Rattle.uz_run_commands.specs.DebugCommand.{DebugAnswers, StartsDebug};
 ghost use Rattle.uz_files.specs.Endings.{EndsBy, Gives};
-ghost use Rattle.uz_run_commands.specs.TraceValues.{TracePreface};
+ghost use Rattle.uz_run_files.specs.RunFiles.{RunPreface};
 
 use crate::script_file::read_script_file;
 use std::alloc::Global;
@@ -23,7 +23,7 @@ fn reset_debugger<H: Shelf>(
     irq: Response,
 ) -> Result<Debugger, Failure>
     ensures starts { IfOk result (StartsDebug (H.files shelf.old) hex.now pads.now irq) }
-    ensures fails { IfErr result (EndsBy (TracePreface (H.files shelf.old) (Rose (H.load_faults shelf.old) (H.load_faults shelf.new)) hex.now pads.now)) }
+    ensures fails { IfErr result (EndsBy (RunPreface (H.files shelf.old) (Rose (H.load_faults shelf.old) (H.load_faults shelf.new)) hex.now pads.now)) }
     ensures files { H.files shelf.new ≡ H.files shelf.old }
     ensures load_faults { H.load_faults shelf.old ≤ H.load_faults shelf.new }
     ensures write_faults { H.write_faults shelf.new ≡ H.write_faults shelf.old }

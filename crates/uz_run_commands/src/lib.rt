@@ -8,5 +8,4 @@ mod trace_lines;
 mod trace_run;
 
 pub use debug_command::run_debug;
-pub use trace_lines::stopped_at;
 pub use trace_run::run_trace;

@@ -1,51 +1,28 @@
 //! `trace HEX PADS IRQ CLOCKS`.
 
-ghost use Rattle.std.specs.Prelude.{◌≡◌, ◌≤◌, ◌^◌, [], length, IfErr, IfOk, IsErrOf, OnErr, OnOk};
+ghost use Rattle.std.specs.Prelude.{◌≡◌, ◌≤◌, ◌^◌, [], length, IfOk, IsErrOf, OnErr, OnOk};
 ghost use Rattle.uz_shelf.specs.Faults.{Rose};
 ghost use Rattle.uz_shelf.specs.Text.{TakesAll, TakesPrefix};
 ghost use Rattle.uz_console.specs.Runs.{RunsTo};
 ghost use Rattle.uz_machine.specs.PadLine.{PadHistory};
 ghost use Rattle.uz_machine.specs.Turn.{State};
-ghost use Rattle.uz_files.specs.Endings.{EndsBy};
 ghost use Rattle.uz_run_commands.specs.TraceCommand.{edge_lines};
-ghost use Rattle.uz_run_commands.specs.TraceValues.{IsPrinted, IsPrintedPart, StartsTrace, TracePreface, end_status, last_line};
+ghost use Rattle.uz_run_commands.specs.TraceValues.{IsPrinted, IsPrintedPart, end_status, last_line};
 
-use crate::trace_lines::{PAGE_BYTES, end, stopped, write_lines};
+use crate::trace_lines::{PAGE_BYTES, end, write_lines};
 use arrayvec::ArrayVec;
 use std::alloc::{AllocError, Global};
-use uz_cert::Response;
 use uz_console::{Console, Paged};
 use uz_core::Why;
-use uz_files::{Ending, Failure, Status, read_image, read_pad_file};
+use uz_files::{Ending, Status};
 use uz_machine::Edge;
-use uz_shelf::{Shelf, Sink, WriteError};
+use uz_run_files::stopped;
+use uz_shelf::{Sink, WriteError};
 
 /// How a run of so many clocks ended.
 pub(crate) enum RunEnd {
     Over,
     Stopped { pc: u16, why: Why },
-}
-
-/// Reads both files in their order, and resets a console with what they say.
-pub(crate) fn reset_console<H: Shelf>(
-    alloc: Global,
-    shelf: &mut H,
-    hex: &str,
-    pads: &str,
-    irq: Response,
-) -> Result<Console, Failure>
-    ensures starts { IfOk result (StartsTrace (H.files shelf.old) hex.now pads.now irq) }
-    ensures fails { IfErr result (EndsBy (TracePreface (H.files shelf.old) (Rose (H.load_faults shelf.old) (H.load_faults shelf.new)) hex.now pads.now)) }
-    ensures files { H.files shelf.new ≡ H.files shelf.old }
-    ensures load_faults { H.load_faults shelf.old ≤ H.load_faults shelf.new }
-    ensures write_faults { H.write_faults shelf.new ≡ H.write_faults shelf.old }
-{
-    let image = read_image(alloc, shelf, hex)?;
-    let list = match read_pad_file(alloc, shelf, pads) {
-        Ok(list) => list,
-        Err(failure) => return Err(failure),
-    };
-    Ok(Console::reset(alloc, image, list, irq)?)
 }
 
 /// Prints the lines of a page's edges, which are written at the end of a text.

@@ -1,13 +1,11 @@
 //! The lines of a trace.
 
 ghost use Rattle.std.specs.Prelude.{◌≡◌, ◌+◌, ◌*◌, ◌≤◌, ◌++◌, IfOk, codes, decimal, drop, length};
-ghost use Rattle.uz_run_commands.specs.TraceCommand.{edge_line, edge_lines, end_line, kind_text, stopped_at_line, stopped_line, stopping_word};
+ghost use Rattle.uz_run_commands.specs.TraceCommand.{edge_line, edge_lines, end_line, kind_text};
 
 use itoa::{Buffer, write_digits};
 use std::alloc::{AllocError, Global};
-use uz_core::Why;
 use uz_machine::{Edge, EdgeKind};
-use uz_text::word_digits;
 
 /// The lines of a page's 64 edges have so many bytes at most: a line has a clock of 20 digits, a name of 7 letters and spaces, a number
 /// of 5 digits, and its end.
@@ -109,33 +107,4 @@ pub(crate) fn end(alloc: Global, clocks: u32) -> Result<Vec<u8>, AllocError>
     line.extend_from_slice(Buffer::new().format(clocks).as_bytes())?;
     line.extend_from_slice(b"\n")?;
     Ok(line)
-}
-
-fn word_of(why: Why) -> u16
-    ensures { result ≡ stopping_word why }
-{
-    match why {
-        Why::Opcode(word) => word,
-        Why::Spm => 0x95E8,
-    }
-}
-
-/// The line of a run that is stopped at a word address, with the word there.
-pub fn stopped_at(alloc: Global, pc: u16, word: u16) -> Result<Vec<u8>, AllocError>
-    ensures { IfOk result (λ line. line.items ≡ stopped_at_line pc word) }
-{
-    let mut line = Vec::new(alloc);
-    line.extend_from_slice(b"stopped pc 0x")?;
-    line.extend_from_slice(&word_digits(pc))?;
-    line.extend_from_slice(b" word 0x")?;
-    line.extend_from_slice(&word_digits(word))?;
-    line.extend_from_slice(b"\n")?;
-    Ok(line)
-}
-
-/// The line of a run that is stopped, by the reason.
-pub(crate) fn stopped(alloc: Global, pc: u16, why: Why) -> Result<Vec<u8>, AllocError>
-    ensures { IfOk result (λ line. line.items ≡ stopped_line pc why) }
-{
-    stopped_at(alloc, pc, word_of(why))
 }

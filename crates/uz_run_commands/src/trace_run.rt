@@ -8,10 +8,11 @@ ghost use Rattle.uz_files.specs.Answers.{ComesOf, MayCome, ended, outside};
 ghost use Rattle.uz_run_commands.specs.TraceCommand.{TraceAnswers, TraceParts};
 ghost use Rattle.uz_run_commands.specs.TraceValues.{end_status, last_line};
 
-use crate::trace_command::{RunEnd, ending_of, print_run, reset_console};
+use crate::trace_command::{RunEnd, ending_of, print_run};
 use std::alloc::{AllocError, Global};
 use uz_cert::Response;
 use uz_files::{Status, end_with, give_up, put_no_memory};
+use uz_run_files::reset_console;
 use uz_shelf::{Shelf, Sink, WriteError};
 
 /// Prints the line that ends a trace.

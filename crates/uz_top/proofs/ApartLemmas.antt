@@ -6,8 +6,8 @@ use Rattle.std.specs.declared.string.String.{String}
 use Rattle.std.specs.declared.alloc.Global.{Global}
 use Rattle.uz_text.specs.Numbers.{number_below, number_within}
 use Rattle.uz_schedule.specs.declared.kinds.Response.{Response}
-use Rattle.uz_top.specs.Words.{Command, Asm, Build, Check, Expand, Migrate, WritesApart, asm_words, build_words, certify_with}
-use Rattle.uz_top.specs.Words.{certify_words, migrate_words}
+use Rattle.uz_top.specs.Words.{Command, Asm, Build, Check, Expand, Migrate, Report, WritesApart, asm_words, build_words, certify_with}
+use Rattle.uz_top.specs.Words.{certify_words, migrate_words, report_words, wave_with, wave_words}
 use Rattle.uz_top.specs.Words.{check_words, command_of, debug_with, debug_words, demo_with, demo_words, dis_words, expand_words, play_with}
 use Rattle.uz_top.specs.Words.{play_words, response_of, trace_with, trace_words}
 
@@ -131,10 +131,39 @@ migrate_apart (a ∷ []) = tt
 migrate_apart (a ∷ b ∷ []) = by_test (bytes_eq a b) None (Some (Migrate a b)) tt tt
 migrate_apart (a ∷ b ∷ c ∷ words) = tt
 
+report_apart : (words : List (List ℕ)) → Apart (report_words words)
+report_apart [] = tt
+report_apart (a ∷ []) = tt
+report_apart (a ∷ b ∷ []) = by_test (bytes_eq a b) None (Some (Report a b)) tt tt
+report_apart (a ∷ b ∷ c ∷ words) = tt
+
+wave_with_apart : (hex pads : List ℕ) (irq : Option Response) (clocks : Option ℕ) (wav : List ℕ)
+    → Apart (wave_with hex pads irq clocks wav)
+wave_with_apart hex pads (Some irq) (Some clocks) wav = tt
+wave_with_apart hex pads (Some irq) None wav = tt
+wave_with_apart hex pads None clocks wav = tt
+
+wave_apart : (words : List (List ℕ)) → Apart (wave_words words)
+wave_apart [] = tt
+wave_apart (a ∷ []) = tt
+wave_apart (a ∷ b ∷ []) = tt
+wave_apart (a ∷ b ∷ c ∷ []) = tt
+wave_apart (a ∷ b ∷ c ∷ d ∷ []) = tt
+wave_apart (a ∷ b ∷ c ∷ d ∷ e ∷ []) =
+    by_test (bytes_eq a b || (bytes_eq a e || bytes_eq b e)) None (wave_with a b (response_of c) (number_within 1 1000000001 d) e) tt
+    (wave_with_apart a b (response_of c) (number_within 1 1000000001 d) e)
+wave_apart (a ∷ b ∷ c ∷ d ∷ e ∷ f ∷ words) = tt
+
 -- the commands from one of them on, in the order in which the first word is compared
 
+abbrev from_wave : List ℕ → List (List ℕ) → Option Command
+from_wave verb words = if bytes_eq verb (codes "wave") then wave_words words else None
+
+abbrev from_report : List ℕ → List (List ℕ) → Option Command
+from_report verb words = if bytes_eq verb (codes "report") then report_words words else from_wave verb words
+
 abbrev from_migrate : List ℕ → List (List ℕ) → Option Command
-from_migrate verb words = if bytes_eq verb (codes "migrate") then migrate_words words else None
+from_migrate verb words = if bytes_eq verb (codes "migrate") then migrate_words words else from_report verb words
 
 abbrev from_demo : List ℕ → List (List ℕ) → Option Command
 from_demo verb words = if bytes_eq verb (codes "demo") then demo_words words else from_migrate verb words
@@ -176,7 +205,9 @@ command_apart (verb ∷ words) =
     (by_test (bytes_eq verb (codes "build")) (build_words words) (from_certify verb words) (build_apart words)
     (by_test (bytes_eq verb (codes "certify")) (certify_words words) (from_demo verb words) (certify_apart words)
     (by_test (bytes_eq verb (codes "demo")) (demo_words words) (from_migrate verb words) (demo_apart words)
-    (by_test (bytes_eq verb (codes "migrate")) (migrate_words words) None (migrate_apart words) tt))))))))))
+    (by_test (bytes_eq verb (codes "migrate")) (migrate_words words) (from_report verb words) (migrate_apart words)
+    (by_test (bytes_eq verb (codes "report")) (report_words words) (from_wave verb words) (report_apart words)
+    (by_test (bytes_eq verb (codes "wave")) (wave_words words) None (wave_apart words) tt))))))))))))
 
 -- what holds of the command where the names of its files differ
 pub holds_apart : (words : List (String Global)) (c : Command) (holds : Command → Type 0) → Some c ≡ command_of (map string_bytes words)

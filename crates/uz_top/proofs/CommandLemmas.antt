@@ -9,7 +9,7 @@ use Rattle.uz_files.specs.declared.status.Status.{Status}
 use Rattle.uz_files.specs.declared.status.Status.TheVariants as status
 use Rattle.uz_files.specs.Answers.{Answer, Ends, Outside, MayCome}
 use Rattle.uz_files.specs.Formats.{Readings}
-use Rattle.uz_top.specs.Words.{Command, Asm, Build, Certify, Check, Debug, Demo, Dis, Expand, Migrate, Play, Trace}
+use Rattle.uz_top.specs.Words.{Command, Asm, Build, Certify, Check, Debug, Demo, Dis, Expand, Migrate, Play, Report, Trace, Wave}
 use Rattle.uz_top.specs.Commands.{AllowedFor, Answers, AnswersBy, IsDecided, LacksRead, PartAnswers, Succeeds}
 use Rattle.uz_files.proofs.EndingLemmas.{comes_by}
 use Rattle.uz_files.proofs.OutcomeLemmas.{came_from, from_answer, unwritten_by}
@@ -26,7 +26,10 @@ use Rattle.uz_source_commands.proofs.DisLemmas.{dis_status, dis_or_fault, dis_sa
 use Rattle.uz_certify_command.proofs.CertifyLemmas.{certify_always, certify_decided, certify_or_fault, certify_status}
 use Rattle.uz_demo_command.proofs.DemoSameLemmas.{demo_allowed, demo_done, demo_same, demo_status}
 use Rattle.uz_migrate_command.proofs.MigrateLemmas.{migrate_done_answer, migrate_or_fault, migrate_same, migrate_status}
-use Rattle.uz_check_command.proofs.CheckLemmas.{check_status, check_or_fault, check_same, check_done}
+use Rattle.uz_pair_files.proofs.PairLemmas.{pair_done, pair_or_fault, pair_same, pair_status}
+use Rattle.uz_pair_files.specs.VerdictLines.{accepted_line}
+use Rattle.uz_report_command.specs.ReportCommand.{report_text}
+use Rattle.uz_wave_command.proofs.WaveLemmas.{wave_done, wave_or_fault, wave_same, wave_status}
 
 -- a status that a command's own work gives
 abbrev IsOwn : Status → Type 0
@@ -101,11 +104,12 @@ done_as load_fault answer wanted (inr fault) is loads = absurd (loads fault)
 law_of : (one : OneEnd) (readings : Readings) (files : Option FileMap) (load_fault : Type 0) (c : Command) → CommandLaw files load_fault c
 law_of one readings files load_fault (Check hex cert) = record {
   tells = λ answer h. own_three _ answer status.BadInput status.Done status.Refused tt tt tt
-      (check_status files load_fault hex cert answer h);
-  free = λ answer h. check_or_fault files load_fault hex cert answer h;
-  decided = λ told answer p. unsearched told (Check hex cert) answer tt (λ wanted q. check_same readings told ⊥ hex cert answer wanted p q);
-  done = λ told h loads answer p. let d = check_done (Some told) hex cert h in
-      done_as load_fault answer d.0 (check_same readings told load_fault hex cert answer d.0 p d.1) d.2 loads;
+      (pair_status accepted_line files load_fault hex cert answer h);
+  free = λ answer h. pair_or_fault accepted_line files load_fault hex cert answer h;
+  decided = λ told answer p. unsearched told (Check hex cert) answer tt
+      (λ wanted q. pair_same accepted_line readings told ⊥ hex cert answer wanted p q);
+  done = λ told h loads answer p. let d = pair_done accepted_line (Some told) hex cert h in
+      done_as load_fault answer d.0 (pair_same accepted_line readings told load_fault hex cert answer d.0 p d.1) d.2 loads;
 }
 law_of one readings files load_fault (Dis hex) = record {
   tells = λ answer h. own_two _ answer status.BadInput status.Done tt tt (dis_status files load_fault hex answer h);
@@ -197,6 +201,24 @@ law_of one readings files load_fault (Migrate older newer) = record {
       (λ wanted q. migrate_same readings told ⊥ older newer answer wanted p q);
   done = λ told h loads answer p. let d = migrate_done_answer (Some told) older newer h in
       done_as load_fault answer d.0 (migrate_same readings told load_fault older newer answer d.0 p d.1) d.2 loads;
+}
+law_of one readings files load_fault (Report hex cert) = record {
+  tells = λ answer h. own_three _ answer status.BadInput status.Done status.Refused tt tt tt
+      (pair_status report_text files load_fault hex cert answer h);
+  free = λ answer h. pair_or_fault report_text files load_fault hex cert answer h;
+  decided = λ told answer p. unsearched told (Report hex cert) answer tt
+      (λ wanted q. pair_same report_text readings told ⊥ hex cert answer wanted p q);
+  done = λ told h loads answer p. let d = pair_done report_text (Some told) hex cert h in
+      done_as load_fault answer d.0 (pair_same report_text readings told load_fault hex cert answer d.0 p d.1) d.2 loads;
+}
+law_of one readings files load_fault (Wave hex pads irq clocks wav) = record {
+  tells = λ answer h. own_three _ answer status.BadInput status.Done status.Stopped tt tt tt
+      (wave_status files load_fault hex pads irq clocks wav answer h);
+  free = λ answer h. wave_or_fault files load_fault hex pads irq clocks wav answer h;
+  decided = λ told answer p. unsearched told (Wave hex pads irq clocks wav) answer tt
+      (λ wanted q. wave_same readings told ⊥ hex pads irq clocks wav answer wanted p q);
+  done = λ told h loads answer p. let d = wave_done (Some told) hex pads irq clocks wav h in
+      done_as load_fault answer d.0 (wave_same readings told load_fault hex pads irq clocks wav answer d.0 p d.1) d.2 loads;
 }
 
 -- What follows for every command

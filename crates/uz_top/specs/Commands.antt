@@ -5,8 +5,9 @@ use Rattle.uz_schedule.specs.declared.certificate.Cert.{Cert}
 use Rattle.uz_search.specs.declared.found.NotFound.{NotFound}
 use Rattle.uz_files.specs.declared.status.Status.{Status}
 use Rattle.uz_files.specs.Answers.{Answer, Ends, NoPart, Outside}
-use Rattle.uz_top.specs.Words.{Command, Asm, Build, Certify, Check, Debug, Demo, Dis, Expand, Migrate, Play, Trace}
-use Rattle.uz_run_commands.specs.TraceCommand.{TraceAnswers, TraceLacks, TraceParts, TraceSucceeds}
+use Rattle.uz_top.specs.Words.{Command, Asm, Build, Certify, Check, Debug, Demo, Dis, Expand, Migrate, Play, Report, Trace, Wave}
+use Rattle.uz_run_commands.specs.TraceCommand.{TraceAnswers, TraceParts}
+use Rattle.uz_run_files.specs.RunFiles.{RunLacks, RunSucceeds}
 use Rattle.uz_source_commands.specs.MacroCommands.{BuildAnswers, BuildSucceeds, ExpandAnswers, ExpandSucceeds, FilesBuilt}
 use Rattle.uz_source_commands.specs.MacroSource.{MacroLacks}
 use Rattle.uz_play_command.specs.PlayCommand.{FilesHalted, FilesPlayed, PlayAnswers, PlayLacks, PlayParts, PlaySucceeds}
@@ -16,7 +17,11 @@ use Rattle.uz_source_commands.specs.DisCommand.{DisAnswers, DisSucceeds}
 use Rattle.uz_certify_command.specs.CertifyCommand.{AllowedOf, CertifyAnswers, CertifyAnswersBy, CertifySucceeds, FilesCertify}
 use Rattle.uz_demo_command.specs.DemoCommand.{AllowedOfDemo, DemoAnswers, DemoAnswersBy, DemoHalted, DemoParts, DemoPlayed, DemoSucceeds}
 use Rattle.uz_migrate_command.specs.MigrateCommand.{FilesMigrated, MigrateAnswers, MigrateSucceeds}
-use Rattle.uz_check_command.specs.CheckCommand.{CheckAnswers, CheckLacks, CheckSucceeds, FilesCertified}
+use Rattle.uz_check_command.specs.CheckCommand.{CheckAnswers, FilesCertified}
+use Rattle.uz_report_command.specs.ReportCommand.{FilesReported, ReportAnswers}
+use Rattle.uz_wave_command.specs.WaveCommand.{FilesHeard, WaveAnswers}
+use Rattle.uz_pair_files.specs.PairFiles.{PairLacks, SpellPair}
+use Rattle.uz_soundness.specs.Acceptance.{Accepts}
 
 -- the answer of a command, from what its files say
 abbrev pub Answers : Option FileMap → Type 0 → Command → Answer → Type 0
@@ -31,13 +36,15 @@ Answers files load_fault (Debug hex pads irq script) answer = DebugAnswers files
 Answers files load_fault (Certify source irq hex cert) answer = CertifyAnswers files load_fault source irq hex cert answer
 Answers files load_fault (Demo number) answer = DemoAnswers number answer
 Answers files load_fault (Migrate older newer) answer = MigrateAnswers files load_fault older newer answer
+Answers files load_fault (Report hex cert) answer = ReportAnswers files load_fault hex cert answer
+Answers files load_fault (Wave hex pads irq clocks wav) answer = WaveAnswers files load_fault hex pads irq clocks wav answer
 
 -- a file that the command reads isn't there, and all earlier ones are read
 abbrev pub LacksRead : Option FileMap → Command → Type 0
-LacksRead files (Check hex cert) = CheckLacks files hex cert
+LacksRead files (Check hex cert) = PairLacks files hex cert
 LacksRead files (Dis hex) = LacksFile files hex
 LacksRead files (Asm source hex) = LacksFile files source
-LacksRead files (Trace hex pads irq clocks) = TraceLacks files hex pads
+LacksRead files (Trace hex pads irq clocks) = RunLacks files hex pads
 LacksRead files (Expand source flat) = MacroLacks files source
 LacksRead files (Build source hex) = MacroLacks files source
 LacksRead files (Play hex cert pads clocks frames) = PlayLacks files hex cert pads
@@ -45,13 +52,15 @@ LacksRead files (Debug hex pads irq script) = DebugLacks files hex pads script
 LacksRead files (Certify source irq hex cert) = LacksFile files source
 LacksRead files (Demo number) = ⊥
 LacksRead files (Migrate older newer) = LacksFile files older
+LacksRead files (Report hex cert) = PairLacks files hex cert
+LacksRead files (Wave hex pads irq clocks wav) = RunLacks files hex pads
 
 -- all that the command reads is there and in its grammar, and what it asks of it holds
 abbrev pub Succeeds : Option FileMap → Command → Type 0
-Succeeds files (Check hex cert) = CheckSucceeds files hex cert
+Succeeds files (Check hex cert) = SpellPair files hex cert Accepts
 Succeeds files (Dis hex) = DisSucceeds files hex
 Succeeds files (Asm source hex) = AsmSucceeds files source
-Succeeds files (Trace hex pads irq clocks) = TraceSucceeds files hex pads irq clocks
+Succeeds files (Trace hex pads irq clocks) = RunSucceeds files hex pads irq clocks
 Succeeds files (Expand source flat) = ExpandSucceeds files source
 Succeeds files (Build source hex) = BuildSucceeds files source
 Succeeds files (Play hex cert pads clocks frames) = PlaySucceeds files hex cert pads clocks
@@ -59,6 +68,8 @@ Succeeds files (Debug hex pads irq script) = DebugSucceeds files hex pads script
 Succeeds files (Certify source irq hex cert) = CertifySucceeds files source irq
 Succeeds files (Demo number) = DemoSucceeds number
 Succeeds files (Migrate older newer) = MigrateSucceeds files older
+Succeeds files (Report hex cert) = SpellPair files hex cert Accepts
+Succeeds files (Wave hex pads irq clocks wav) = RunSucceeds files hex pads irq clocks
 
 -- the command creates no file
 abbrev pub CreatesNone : Command → Type 0
@@ -73,6 +84,8 @@ CreatesNone (Debug hex pads irq script) = Unit {0}
 CreatesNone (Certify source irq hex cert) = ⊥
 CreatesNone (Demo number) = Unit {0}
 CreatesNone (Migrate older newer) = ⊥
+CreatesNone (Report hex cert) = Unit {0}
+CreatesNone (Wave hex pads irq clocks wav) = ⊥
 
 -- what a command is worth where it is done, with the files before it and after it
 abbrev pub Certifies : Option FileMap → Option FileMap → Command → Type 0
@@ -87,6 +100,8 @@ Certifies files new (Debug hex pads irq script) = Unit {0}
 Certifies files new (Certify source irq hex cert) = FilesCertify files new source irq hex cert
 Certifies files new (Demo number) = DemoPlayed number
 Certifies files new (Migrate older newer) = FilesMigrated files new older newer
+Certifies files new (Report hex cert) = FilesReported files hex cert
+Certifies files new (Wave hex pads irq clocks wav) = FilesHeard files new hex pads irq clocks wav
 
 -- what a command tells where it is stopped
 abbrev pub StopTells : Option FileMap → Command → Type 0
@@ -101,6 +116,8 @@ StopTells files (Debug hex pads irq script) = Unit {0}
 StopTells files (Certify source irq hex cert) = Unit {0}
 StopTells files (Demo number) = DemoHalted number
 StopTells files (Migrate older newer) = Unit {0}
+StopTells files (Report hex cert) = Unit {0}
+StopTells files (Wave hex pads irq clocks wav) = Unit {0}
 
 -- what a command has come to that is cut short in the midst of its work
 abbrev pub PartAnswers : Option FileMap → Command → Answer → Type 0
@@ -115,6 +132,8 @@ PartAnswers files (Debug hex pads irq script) = NoPart
 PartAnswers files (Certify source irq hex cert) = NoPart
 PartAnswers files (Demo number) = DemoParts number
 PartAnswers files (Migrate older newer) = NoPart
+PartAnswers files (Report hex cert) = NoPart
+PartAnswers files (Wave hex pads irq clocks wav) = NoPart
 
 -- Where the shelf tells its files, they decide the answer, and for `certify` and `demo` an answer of the search does besides, as plain data
 
@@ -130,6 +149,8 @@ AnswersBy files found (Debug hex pads irq script) answer = DebugAnswers files �
 AnswersBy files found (Certify source irq hex cert) answer = CertifyAnswersBy files source hex cert found answer
 AnswersBy files found (Demo number) answer = DemoAnswersBy number found answer
 AnswersBy files found (Migrate older newer) answer = MigrateAnswers files ⊥ older newer answer
+AnswersBy files found (Report hex cert) answer = ReportAnswers files ⊥ hex cert answer
+AnswersBy files found (Wave hex pads irq clocks wav) answer = WaveAnswers files ⊥ hex pads irq clocks wav answer
 
 -- what the search's promise allows: a certificate that is accepted and as the hints ask, or a refusal whose cause stands
 abbrev pub AllowedFor : Option FileMap → Command → Result Cert NotFound → Type 0
@@ -144,6 +165,8 @@ AllowedFor files (Debug hex pads irq script) found = Unit {0}
 AllowedFor files (Certify source irq hex cert) found = AllowedOf files source irq found
 AllowedFor files (Demo number) found = AllowedOfDemo number found
 AllowedFor files (Migrate older newer) found = Unit {0}
+AllowedFor files (Report hex cert) found = Unit {0}
+AllowedFor files (Wave hex pads irq clocks wav) found = Unit {0}
 
 -- it ended with the one answer that they decide
 pub record IsDecided (files : Option FileMap) (write_fault : Type 0) (c : Command) (came : Status) (old new : Outside) : Type 0 where

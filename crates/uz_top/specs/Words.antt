@@ -20,6 +20,8 @@ pub data Command : Type 0 where
   Certify : (source : List ℕ) → (irq : Response) → (hex cert : List ℕ) → Command
   Demo : (number : ℕ) → Command
   Migrate : (older newer : List ℕ) → Command
+  Report : (hex cert : List ℕ) → Command
+  Wave : (hex pads : List ℕ) → (irq : Response) → (clocks : ℕ) → (wav : List ℕ) → Command
 
 -- the file words of a command differ
 abbrev pub check_words : List (List ℕ) → Option Command
@@ -99,6 +101,21 @@ abbrev pub migrate_words : List (List ℕ) → Option Command
 migrate_words (older ∷ newer ∷ []) = if bytes_eq older newer then None else Some (Migrate older newer)
 migrate_words other = None
 
+abbrev pub report_words : List (List ℕ) → Option Command
+report_words (hex ∷ cert ∷ []) = if bytes_eq hex cert then None else Some (Report hex cert)
+report_words other = None
+
+abbrev pub wave_with : List ℕ → List ℕ → Option Response → Option ℕ → List ℕ → Option Command
+wave_with hex pads (Some irq) (Some clocks) wav = Some (Wave hex pads irq clocks wav)
+wave_with hex pads irq clocks wav = None
+
+-- the clocks are 1 to 1,000,000,000
+abbrev pub wave_words : List (List ℕ) → Option Command
+wave_words (hex ∷ pads ∷ irq ∷ clocks ∷ wav ∷ []) =
+    if bytes_eq hex pads || (bytes_eq hex wav || bytes_eq pads wav) then None
+    else wave_with hex pads (response_of irq) (number_within 1 1000000001 clocks) wav
+wave_words other = None
+
 abbrev pub command_of : List (List ℕ) → Option Command
 command_of [] = None
 command_of (verb ∷ words) =
@@ -113,6 +130,8 @@ command_of (verb ∷ words) =
     else if bytes_eq verb (codes "certify") then certify_words words
     else if bytes_eq verb (codes "demo") then demo_words words
     else if bytes_eq verb (codes "migrate") then migrate_words words
+    else if bytes_eq verb (codes "report") then report_words words
+    else if bytes_eq verb (codes "wave") then wave_words words
     else None
 
 -- the words are no command

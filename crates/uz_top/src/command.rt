@@ -3,7 +3,7 @@
 ghost use Rattle.std.specs.Prelude.{◌≡◌, map, option_map, string_bytes};
 ghost use Rattle.uz_top.specs.CommandValues.{value_of};
 ghost use Rattle.uz_text.specs.Numbers.{number_below, number_within as number_from_low};
-ghost use Rattle.uz_top.specs.Words.{asm_words, build_words, certify_with as certify_with_response, certify_words, check_words, command_of, debug_with as debug_with_response, debug_words, demo_with as demo_with_number, demo_words, dis_words, expand_words, migrate_words, play_with as play_with_clocks, play_words, response_of, trace_words};
+ghost use Rattle.uz_top.specs.Words.{asm_words, build_words, certify_with as certify_with_response, certify_words, check_words, command_of, debug_with as debug_with_response, debug_words, demo_with as demo_with_number, demo_words, dis_words, expand_words, migrate_words, play_with as play_with_clocks, play_words, report_words, response_of, trace_words, wave_with as wave_with_numbers, wave_words};
 
 use uz_cert::Response;
 use uz_play_command::{Clocks, number_of_clocks};
@@ -63,6 +63,17 @@ pub(crate) enum Command<'a> {
         older: &'a str,
         newer: &'a str,
     },
+    Report {
+        hex: &'a str,
+        cert: &'a str,
+    },
+    Wave {
+        hex: &'a str,
+        pads: &'a str,
+        irq: Response,
+        clocks: u32,
+        wav: &'a str,
+    },
 }
 
 /// The command of these words, without the program's name, or `None` where they are no command.
@@ -84,6 +95,8 @@ pub(crate) fn parse(words: &[String]) -> Option<Command<'_>>
         "certify" => certify(rest),
         "demo" => demo(rest),
         "migrate" => migrate(rest),
+        "report" => report(rest),
+        "wave" => wave(rest),
         _ => None,
     }
 }
@@ -335,6 +348,69 @@ fn migrate(words: &[String]) -> Option<Command<'_>>
             older: older.as_str(),
             newer: newer.as_str(),
         }),
+        _ => None,
+    }
+}
+
+/// `report HEX CERT`, of two files.
+fn report(words: &[String]) -> Option<Command<'_>>
+    ensures { option_map value_of result ≡ report_words (map string_bytes words.now) }
+{
+    match words {
+        [hex, cert] if hex.as_str() != cert.as_str() => Some(Command::Report {
+            hex: hex.as_str(),
+            cert: cert.as_str(),
+        }),
+        _ => None,
+    }
+}
+
+/// The command once its files are known to differ.
+fn wave_with<'a>(
+    hex: &'a str,
+    pads: &'a str,
+    irq: &str,
+    clocks: &str,
+    wav: &'a str,
+) -> Option<Command<'a>>
+    ensures { option_map value_of result ≡ wave_with_numbers hex.now pads.now (response_of irq.now) (number_from_low 1 1000000001 clocks.now) wav.now }
+{
+    match (
+        response(irq),
+        number_within(clocks.as_bytes(), 1, 1_000_000_001),
+    ) {
+        (Some(irq), Some(clocks)) => Some(Command::Wave {
+            hex,
+            pads,
+            irq,
+            clocks,
+            wav,
+        }),
+        _ => None,
+    }
+}
+
+/// `wave HEX PADS IRQ CLOCKS WAV`, of three files, for 1 to 1,000,000,000 clocks.
+fn wave(words: &[String]) -> Option<Command<'_>>
+    ensures { option_map value_of result ≡ wave_words (map string_bytes words.now) }
+{
+    match words {
+        [hex, pads, irq, clocks, wav] => {
+            if hex.as_str() == pads.as_str()
+                || hex.as_str() == wav.as_str()
+                || pads.as_str() == wav.as_str()
+            {
+                None
+            } else {
+                wave_with(
+                    hex.as_str(),
+                    pads.as_str(),
+                    irq.as_str(),
+                    clocks.as_str(),
+                    wav.as_str(),
+                )
+            }
+        }
         _ => None,
     }
 }

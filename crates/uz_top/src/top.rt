@@ -18,9 +18,11 @@ use uz_demo_command::run_demo;
 use uz_files::{Status, end_fault, readings_are_unique};
 use uz_migrate_command::run_migrate;
 use uz_play_command::run_play;
+use uz_report_command::run_report;
 use uz_run_commands::{run_debug, run_trace};
 use uz_shelf::{Shelf, Sink};
 use uz_source_commands::{run_asm, run_build, run_dis, run_expand};
+use uz_wave_command::run_wave;
 
 /// Prints the usage line.
 fn end_usage<K: Sink>(alloc: Global, out: &mut K) -> Status
@@ -32,7 +34,7 @@ fn end_usage<K: Sink>(alloc: Global, out: &mut K) -> Status
         alloc,
         out,
         Status::Usage,
-        b"usage: uzebox asm, dis, trace, certify, check, play, demo, migrate, expand, build, debug\n",
+        b"usage: uzebox asm, dis, trace, certify, check, play, demo, migrate, expand, build, debug, report, wave\n",
     )
 }
 
@@ -83,6 +85,14 @@ fn run<H: Shelf, K: Sink>(
         } => run_certify(alloc, source, *irq, hex, cert, shelf, out),
         Command::Demo { number } => run_demo(alloc, *number, out),
         Command::Migrate { older, newer } => run_migrate(alloc, older, newer, shelf, out),
+        Command::Report { hex, cert } => run_report(alloc, hex, cert, shelf, out),
+        Command::Wave {
+            hex,
+            pads,
+            irq,
+            clocks,
+            wav,
+        } => run_wave(alloc, hex, pads, *irq, *clocks, wav, shelf, out),
     }
 }
 
@@ -135,7 +145,8 @@ pub fn uzebox<H: Shelf, K: Sink>(
 
     // What a command that is done is worth: after `asm` and `build` the written file is Intel HEX of the image that the source
     // assembles to, after `migrate` it is a text of the very certificate that was read; `check` certifies the image and the
-    // certificate that its files spell, `certify` those that the written files spell; and a run that is played, by `play` or
+    // certificate that its files spell, `certify` those that the written files spell; after `report` the clocks that are printed
+    // are those that main has; after `wave` the written file is the sound of the run; and a run that is played, by `play` or
     // `demo`, keeps to the schedule once a state of it has entered. One that is stopped never entered.
     ensures certified { result ≡ Status.Done → IfCommand words.now (Certifies (H.files shelf.old) (H.files shelf.new)) }
     ensures halted { result ≡ Status.Stopped → IfCommand words.now (StopTells (H.files shelf.old)) }

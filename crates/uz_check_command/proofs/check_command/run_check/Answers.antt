@@ -5,11 +5,11 @@ use Rattle.uz_check_command.proofs.check_command.run_check.Goals as goal
 
 pub returns-clause-outcome : goal.returns-clause-outcome
 returns-clause-outcome g c =
-    run_outcome _ _ c.check_files-checked.result c.finish.result _ _ _ _ _ _ inr c.check_files-checked.ensures.files
-    c.check_files-checked.ensures.gives c.finish.ensures.comes
+    run_outcome _ _ c.verdict_of-checked.result c.finish.result _ _ _ _ _ _ inr c.verdict_of-checked.ensures.files
+    c.verdict_of-checked.ensures.gives c.finish.ensures.comes
 
 pub returns-clause-certified : goal.returns-clause-certified
 returns-clause-certified g c =
-    holds_if_done (FilesCertified (g.H.Shelf.files c.args.shelf.now) c.args.hex.now c.args.cert.now) c.check_files-checked.result
+    holds_if_done (FilesCertified (g.H.Shelf.files c.args.shelf.now) c.args.hex.now c.args.cert.now) c.verdict_of-checked.result
     c.finish.result _ _ _
-    c.check_files-checked.ensures.certified (c.finish.ensures.comes (g.H.Shelf.files c.args.shelf.now))
+    c.verdict_of-checked.ensures.certified (c.finish.ensures.comes (g.H.Shelf.files c.args.shelf.now))

@@ -1,4 +1,4 @@
-use Rattle.uz_run_commands.proofs.TraceLemmas.{comes_ended, lacks_after}
+use Rattle.uz_files.proofs.PrintedLemmas.{comes_ended, lacks_after}
 use Rattle.uz_demo_command.proofs.demo_run.end_demo.Goals as goal
 
 pub returns-in-Ok-clause-comes : goal.returns-in-Ok-clause-comes

@@ -1,4 +1,3 @@
-use Rattle.std.proofs.Common.{ℕ, List}
 use Rattle.avr_asm.specs.FirstFault.{IsFirstFault as IsSourceFault}
 use Rattle.avr_operands.specs.WhyNames.{asm_why_name}
 use Rattle.uz_cert.specs.Texts.{IsFirstFault as IsCertificateFault}

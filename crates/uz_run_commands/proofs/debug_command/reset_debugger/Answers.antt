@@ -1,4 +1,4 @@
-use Rattle.uz_run_commands.proofs.TraceAnswerLemmas.{preface_without_pads}
+use Rattle.uz_run_files.proofs.RunFileLemmas.{preface_without_pads}
 use Rattle.uz_run_commands.proofs.DebugLemmas.{starts_debug}
 use Rattle.uz_run_commands.proofs.debug_command.reset_debugger.Goals as goal
 

@@ -1,5 +1,5 @@
 use Rattle.uz_run_commands.specs.TraceValues.{end_status, last_line}
-use Rattle.uz_run_commands.proofs.TraceLemmas.{comes_ended, lacks_after}
+use Rattle.uz_files.proofs.PrintedLemmas.{comes_ended, lacks_after}
 use Rattle.uz_run_commands.proofs.trace_run.end_run.Goals as goal
 
 pub returns-in-Ok-clause-comes : goal.returns-in-Ok-clause-comes

@@ -88,3 +88,19 @@ pub returns-in-Migrate-clause-certified : goal.returns-in-Migrate-clause-certifi
 returns-in-Migrate-clause-certified g c = λ done apart.
     subst (Certifies (g.H.Shelf.files c.args.shelf.now) (g.H.Shelf.files c.run_migrate.new.shelf)) (sym (ap value_of c.in-Migrate.is))
     (c.run_migrate.ensures.migrated done)
+
+pub returns-in-Report-clause-outcome : goal.returns-in-Report-clause-outcome
+returns-in-Report-clause-outcome g c = outcome_at (value_of c.args.command.now) _ _ _ _ _ _ _ (ap value_of c.in-Report.is)
+    c.run_report.ensures.outcome
+
+pub returns-in-Wave-clause-outcome : goal.returns-in-Wave-clause-outcome
+returns-in-Wave-clause-outcome g c = outcome_at (value_of c.args.command.now) _ _ _ _ _ _ _ (ap value_of c.in-Wave.is)
+    c.run_wave.ensures.outcome
+
+pub returns-in-Wave-clause-untouched : goal.returns-in-Wave-clause-untouched
+returns-in-Wave-clause-untouched g c = λ none. absurd (subst CreatesNone (ap value_of c.in-Wave.is) none)
+
+pub returns-in-Wave-clause-certified : goal.returns-in-Wave-clause-certified
+returns-in-Wave-clause-certified g c = λ done apart.
+    subst (Certifies (g.H.Shelf.files c.args.shelf.now) (g.H.Shelf.files c.run_wave.new.shelf)) (sym (ap value_of c.in-Wave.is))
+    (c.run_wave.ensures.heard done)

@@ -1,0 +1,3 @@
+pub mod CheckedValues
+pub mod PairFiles
+pub mod VerdictLines

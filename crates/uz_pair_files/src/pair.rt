@@ -1,0 +1,61 @@
+//! Two files, read and checked.
+
+ghost use Rattle.std.specs.Prelude.{◌≡◌, ◌≤◌, IfErr, IfOk};
+ghost use Rattle.uz_schedule.specs.WellFormed.{WellFormed};
+ghost use Rattle.uz_shelf.specs.Faults.{Rose};
+ghost use Rattle.uz_files.specs.Endings.{EndsBy};
+ghost use Rattle.uz_pair_files.specs.CheckedValues.{AreChecked, IsChecked};
+ghost use Rattle.uz_pair_files.specs.PairFiles.{PairPreface};
+
+use crate::verdict_lines::refused;
+use std::alloc::{AllocError, Global};
+use uz_check::{Accepted, check, verdict_is_unique};
+use uz_files::{Ending, Failure, Status, read_certificate, read_image};
+use uz_hex::Image;
+use uz_schedule::Cert;
+use uz_shelf::Shelf;
+
+/// What the check of a pair came to.
+#[derive(Debug, Drop)]
+pub enum Checked {
+    /// The pair is accepted.
+    Accepted(Accepted),
+    /// It is refused, and this ends the command.
+    Refused(Ending),
+}
+
+/// Checks a pair.
+fn check_pair(alloc: Global, image: Image, cert: Cert) -> Result<Checked, AllocError>
+    requires { WellFormed cert }
+    ensures { IfOk result (IsChecked image cert) }
+{
+    verdict_is_unique();
+    match check(image, cert) {
+        Ok(pair) => Ok(Checked::Accepted(pair)),
+        Err(pair) => Ok(Checked::Refused(Ending {
+            status: Status::Refused,
+            line: refused(alloc, &pair.cert, pair.why)?,
+        })),
+    }
+}
+
+/// Reads both files in their order, and checks the pair.
+pub fn check_files<H: Shelf>(
+    alloc: Global,
+    shelf: &mut H,
+    hex: &str,
+    cert: &str,
+) -> Result<Checked, Failure>
+    ensures checked { IfOk result (AreChecked (H.files shelf.old) hex.now cert.now) }
+    ensures fails { IfErr result (EndsBy (PairPreface (H.files shelf.old) (Rose (H.load_faults shelf.old) (H.load_faults shelf.new)) hex.now cert.now)) }
+    ensures files { H.files shelf.new ≡ H.files shelf.old }
+    ensures load_faults { H.load_faults shelf.old ≤ H.load_faults shelf.new }
+    ensures write_faults { H.write_faults shelf.new ≡ H.write_faults shelf.old }
+{
+    let image = read_image(alloc, shelf, hex)?;
+    let certificate = match read_certificate(alloc, shelf, cert) {
+        Ok(certificate) => certificate,
+        Err(failure) => return Err(failure),
+    };
+    Ok(check_pair(alloc, image, certificate)?)
+}

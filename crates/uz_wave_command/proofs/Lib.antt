@@ -1,0 +1,3 @@
+pub mod HearingLemmas
+pub mod WaveFileLemmas
+pub mod WaveLemmas

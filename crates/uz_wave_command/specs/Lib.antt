@@ -1,0 +1,2 @@
+pub mod WaveCommand
+pub mod WaveValues
