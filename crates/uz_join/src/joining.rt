@@ -2,12 +2,14 @@
 
 ghost use Rattle.std.specs.Prelude.{◌≡◌, IfOk, IfSome, map};
 ghost use Rattle.uz_join.specs.Joined.{rest_unnumbered, entry_unnumbered};
+ghost use Rattle.uz_join.specs.Same.{SameInstances};
 
 use crate::axis::Axis;
 use crate::boxes::joined_points;
 use crate::chains::number_at;
 use crate::copies::{entry_of, rests_of};
 use crate::finding::chains_of;
+use crate::sameness::same_instances;
 use crate::successors::cut_to_successors;
 use std::alloc::{AllocError, Global};
 use uz_schedule::{Cert, Entry, Point, Rest, Sequence};
@@ -80,12 +82,35 @@ fn joined_both(alloc: Global, points: &[Point]) -> Result<Option<Joined>, AllocE
     }
 }
 
+/// Joined points, where they say what the points say that they are joined from, and nothing else.
+fn joined_alike(alloc: Global, points: &[Point]) -> Result<Option<Joined>, AllocError>
+    ensures { IfOk result (λ o. IfSome o (λ j. SameInstances points.now j.points.items)) }
+{
+    let joined = match joined_both(alloc, points)? {
+        Some(joined) => joined,
+        None => return Ok(None),
+    };
+    let Joined {
+        points: made,
+        numbers,
+    } = joined;
+    let (same, numbers) = same_instances(alloc, points, made.as_slice(), numbers)?;
+    if !same {
+        return Ok(None);
+    }
+    Ok(Some(Joined {
+        points: made,
+        numbers,
+    }))
+}
+
 /// The parts of a certificate whose points are joined. None where there are none to join.
 pub(crate) fn joined_parts(alloc: Global, cert: &Cert) -> Result<Option<Parts>, AllocError>
     ensures rests { IfOk result (λ o. IfSome o (λ p. map rest_unnumbered p.rests ≡ map rest_unnumbered cert.now.rests)) }
     ensures entry { IfOk result (λ o. IfSome o (λ p. entry_unnumbered p.entry ≡ entry_unnumbered cert.now.entry)) }
+    ensures points { IfOk result (λ o. IfSome o (λ p. SameInstances cert.now.points p.points)) }
 {
-    let joined = match joined_both(alloc, cert.points.as_slice())? {
+    let joined = match joined_alike(alloc, cert.points.as_slice())? {
         Some(joined) => joined,
         None => return Ok(None),
     };

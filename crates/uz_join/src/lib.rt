@@ -11,6 +11,7 @@ mod copies;
 mod facts;
 mod finding;
 mod joining;
+mod sameness;
 mod shape;
 mod successors;
 
