@@ -4,6 +4,7 @@ ghost use Rattle.std.specs.Prelude.{◌≡◌, true, map};
 ghost use Rattle.uz_schedule.specs.WellFormed.{WellFormed};
 ghost use Rattle.uz_soundness.specs.Acceptance.{Accepts};
 ghost use Rattle.uz_join.specs.Joined.{SameButPoints, rest_unnumbered, entry_unnumbered};
+ghost use Rattle.uz_join.specs.Same.{SameInstances};
 
 use crate::joining::{Parts, joined_parts};
 use std::alloc::Global;
@@ -26,9 +27,11 @@ fn choose(image: &Image, cert: Cert, parts: Parts) -> Cert
     requires accepted { Accepts image.now cert }
     requires rests { map rest_unnumbered parts.rests ≡ map rest_unnumbered cert.rests }
     requires entry { entry_unnumbered parts.entry ≡ entry_unnumbered cert.entry }
+    requires points { SameInstances cert.points parts.points }
     ensures fits { WellFormed result }
     ensures accepted { Accepts image.now result }
     ensures same { SameButPoints cert result }
+    ensures instances { SameInstances cert.points result.points }
 {
     let Cert {
         head,
@@ -57,15 +60,16 @@ fn choose(image: &Image, cert: Cert, parts: Parts) -> Cert
     }
 }
 
-/// An accepted certificate whose points are joined line by line where the joined certificate is accepted too, and else the
-/// same certificate. Header and schedule stay, and so do entry and rests but for the numbers of their points. Where memory
-/// lacks, the certificate stays as it was.
+/// An accepted certificate whose points are joined line by line and count by count where the joined certificate is accepted too,
+/// and else the same certificate. Header and schedule stay, and so do entry and rests but for the numbers of their points, and
+/// the instances of its points are the same ones. Where memory lacks, the certificate stays as it was.
 pub fn joined(alloc: Global, image: &Image, cert: Cert) -> Cert
     requires fits { WellFormed cert }
     requires accepted { Accepts image.now cert }
     ensures fits { WellFormed result }
     ensures accepted { Accepts image.now result }
     ensures same { SameButPoints cert result }
+    ensures instances { SameInstances cert.points result.points }
 {
     match joined_parts(alloc, &cert) {
         Ok(Some(parts)) => choose(image, cert, parts),

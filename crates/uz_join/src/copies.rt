@@ -3,7 +3,7 @@
 ghost use Rattle.std.specs.Prelude.{◌≡◌, ◌≤◌, IfOk, length, map};
 ghost use Rattle.uz_join.specs.Joined.{rest_unnumbered, entry_unnumbered};
 
-use crate::boxes::renumbered;
+use crate::chains::number_at;
 use arrayvec::ArrayVec;
 use std::alloc::{AllocError, Global};
 use uz_schedule::{Entry, Rest, Sequence, Span};
@@ -65,7 +65,7 @@ pub(crate) fn rests_of(
 {
     let mut all = Sequence::new(alloc);
     for rest in rests {
-        all.push(with_vector(rest, renumbered(numbers, rest.vector)))?;
+        all.push(with_vector(rest, number_at(numbers, rest.vector)))?;
     }
     Ok(all)
 }
@@ -76,7 +76,7 @@ pub(crate) fn entry_of(entry: &Entry, numbers: &[u32]) -> Entry
 {
     Entry {
         kind: entry.kind,
-        id: renumbered(numbers, entry.id),
+        id: number_at(numbers, entry.id),
         pc: entry.pc,
         line: entry.line,
         clock: entry.clock,

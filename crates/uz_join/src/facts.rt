@@ -1,12 +1,49 @@
-//! Facts of points that follow each other line by line.
+//! Facts of points that follow each other along an axis.
 
-use uz_schedule::Fact;
+ghost use Rattle.std.specs.Prelude.{◌≡◌, ◌+◌, ◌*◌, ◌%◌, ℕ, IfSome, Some};
+ghost use Rattle.uz_schedule.specs.Ends.{one_number};
+ghost use Rattle.uz_schedule.specs.declared.facts.Fact.TheVariants.{Between};
+ghost use Rattle.uz_schedule.specs.declared.facts.Val.TheVariants.{Range};
+ghost use Rattle.uz_join.specs.Along.{val_along};
+
+use crate::axis::Axis;
+use uz_schedule::{Fact, PairFact};
 
 /// The byte that a fact tells, where it tells one.
-fn single(fact: &Fact) -> Option<u8> {
+#[tactic(auto, using(crate::proofs::Growth::one_of))]
+fn single(fact: &Fact) -> Option<u8>
+    ensures told { IfSome result (λ b. fact.now ≡ Between (one_number b)) }
+    ensures all { (b : ℕ) → fact.now ≡ Between (one_number b) → result ≡ Some b }
+{
     match fact {
         Fact::Between(span) if span.lo() == span.hi() => Some(span.lo()),
         _ => None,
+    }
+}
+
+/// Whether a fact says the same all along an axis.
+fn is_steady(fact: &Fact, axis: Axis) -> bool {
+    match axis {
+        Axis::Lines => !matches!(fact, Fact::Line(_, _)),
+        Axis::Counts => !matches!(fact, Fact::Loop(_, _)),
+    }
+}
+
+/// Whether each of these facts says the same all along an axis.
+pub(crate) fn are_steady(facts: &[Fact], axis: Axis) -> bool {
+    for fact in facts {
+        if !is_steady(fact, axis) {
+            return false;
+        }
+    }
+    true
+}
+
+/// Whether a pair's fact says the same all along an axis.
+pub(crate) fn is_pair_steady(fact: &PairFact, axis: Axis) -> bool {
+    match axis {
+        Axis::Lines => !matches!(fact, PairFact::Line(_, _)),
+        Axis::Counts => !matches!(fact, PairFact::Loop(_, _)),
     }
 }
 
@@ -68,14 +105,44 @@ pub(crate) fn differences(a: &[Fact], b: &[Fact]) -> u32 {
     count
 }
 
-/// What is known at every line of a box that begins at `line`, where `first` is known at its first line and `second` at the one after it.
-pub(crate) fn by_line(first: &Fact, second: &Fact, line: u16) -> Fact {
-    let step = growth(first, second);
-    match single(first) {
-        Some(byte) if step != 0 => {
-            let before = step.wrapping_mul((line % 256) as u8);
-            Fact::Line(step, byte.wrapping_sub(before))
-        }
+/// What `factor * n` has to be raised by to make a byte, modulo 256.
+#[tactic(auto, using(crate::proofs::Growth::offset_makes))]
+fn offset_for(factor: u8, n: u16, byte: u8) -> u8
+    ensures { (factor * n + result) % 256 ≡ byte }
+{
+    let before = u32::from(factor) * u32::from(n) % 256;
+    ((256 + u32::from(byte) - before) % 256) as u8
+}
+
+/// By how much a byte grows to another, modulo 256.
+#[tactic(auto, using(crate::proofs::Growth::step_makes))]
+fn step(from: u8, to: u8) -> u8
+    ensures { (from + result) % 256 ≡ to }
+{
+    ((256 + u32::from(to) - u32::from(from)) % 256) as u8
+}
+
+/// The fact of a byte that is this one at a line or count, and grows by `factor` to the next.
+#[tactic(auto, using(crate::proofs::Growth::next_makes))]
+fn moving(axis: Axis, factor: u8, n: u16, byte: u8) -> Fact
+    ensures here { (m : ℕ) → val_along axis n m result ≡ Range (one_number byte) }
+    ensures next { (m : ℕ) → val_along axis (n + 1) m result ≡ Range (one_number ((byte + factor) % 256)) }
+{
+    let offset = offset_for(factor, n, byte);
+    match axis {
+        Axis::Lines => Fact::Line(factor, offset),
+        Axis::Counts => Fact::Loop(factor, offset),
+    }
+}
+
+/// What is known all along a box that begins at the line or count `start`, where `first` is known there and `second` at the one after it.
+pub(crate) fn fact_along(axis: Axis, first: &Fact, second: &Fact, start: u16) -> Fact
+    ensures first { (m : ℕ) → val_along axis start m result ≡ val_along axis start m first.now }
+    ensures second { (a b m : ℕ) → first.now ≡ Between (one_number a) → second.now ≡ Between (one_number b) →
+        val_along axis (start + 1) m result ≡ Range (one_number b) }
+{
+    match (single(first), single(second)) {
+        (Some(from), Some(to)) if from != to => moving(axis, step(from, to), start, from),
         _ => *first,
     }
 }

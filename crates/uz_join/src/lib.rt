@@ -1,13 +1,18 @@
-//! Joining the points of a certificate: points of one place of the program that follow each other line by line become one,
-//! whose moving values are facts by line. The joined certificate is only believed where the check accepts it.
+//! Joining the points of a certificate: points of one place of the program that follow each other line by line, or count by
+//! count as the turns of a loop, become one, whose moving values are facts by line or by count. The joined certificate is
+//! only believed where the check accepts it.
 #![tactic(auto)]
 
+mod axis;
 mod boxes;
 mod chains;
 mod choice;
 mod copies;
 mod facts;
+mod finding;
 mod joining;
+mod sameness;
 mod shape;
+mod successors;
 
 pub use choice::joined;

@@ -1,11 +1,29 @@
-//! What points of one chain have in common: all but their lines, their successors and the bytes that their facts tell.
+//! What points of one chain have in common: all but their lines or clocks, their successors and the bytes that their facts tell.
 
-use crate::facts::{code, differences, grow_alike, same_but_bytes};
+use crate::axis::Axis;
+use crate::facts::{are_steady, code, differences, grow_alike, is_pair_steady, same_but_bytes};
 use uz_schedule::{Bit, Fact, Kind, Point};
 
-/// Whether a point may be joined with others: it stands at one line, and isn't of main.
-pub(crate) fn is_joinable(point: &Point) -> bool {
-    point.l0 == point.l1
+/// Whether no fact of a point changes along an axis.
+fn is_steady(point: &Point, axis: Axis) -> bool {
+    are_steady(&point.regs, axis)
+        && point.pairs.iter().all(|pair| is_pair_steady(pair, axis))
+        && are_steady(point.stack.as_slice(), axis)
+        && are_steady(point.cells.as_slice(), axis)
+}
+
+/// Whether a point stands at one line, or at one clock and the count 0.
+fn is_at_one(point: &Point, axis: Axis) -> bool {
+    match axis {
+        Axis::Lines => point.l0 == point.l1,
+        Axis::Counts => point.c0 == 0 && point.c1 == 0 && point.slope == 0,
+    }
+}
+
+/// Whether a point may be joined with others: it stands at one place of the axis, and isn't of main.
+pub(crate) fn is_joinable(point: &Point, axis: Axis) -> bool {
+    is_at_one(point, axis)
+        && is_steady(point, axis)
         && match point.kind {
             Kind::Main => false,
             Kind::Handler | Kind::Alone => true,
@@ -17,19 +35,21 @@ fn same_timer(a: &Point, b: &Point) -> bool {
     a.pending == b.pending && a.top == b.top && a.temp == b.temp
 }
 
-/// Whether two points stand at the same place of the program and of the line.
-fn same_place(a: &Point, b: &Point) -> bool {
+/// Whether two points stand at the same place of the program, and of the line or of the frame.
+fn same_place(axis: Axis, a: &Point, b: &Point) -> bool {
     a.kind == b.kind
         && a.pc == b.pc
-        && a.clock == b.clock
-        && a.slope == b.slope
-        && a.c0 == b.c0
-        && a.c1 == b.c1
+        && match axis {
+            Axis::Lines => {
+                a.clock == b.clock && a.slope == b.slope && a.c0 == b.c0 && a.c1 == b.c1
+            }
+            Axis::Counts => a.l0 == b.l0 && a.l1 == b.l1,
+        }
 }
 
 /// Whether two points have one shape.
-pub(crate) fn same_shape(a: &Point, b: &Point) -> bool {
-    same_place(a, b)
+pub(crate) fn same_shape(axis: Axis, a: &Point, b: &Point) -> bool {
+    same_place(axis, a, b)
         && same_timer(a, b)
         && a.flags == b.flags
         && a.pairs == b.pairs
@@ -89,10 +109,18 @@ fn flag_code(flag: Bit) -> u64 {
     }
 }
 
+/// The key of a point's place.
+fn place_key(axis: Axis, point: &Point) -> u64 {
+    let pc = mixed(SEED, u64::from(point.pc));
+    match axis {
+        Axis::Lines => mixed(mixed(pc, u64::from(point.clock)), u64::from(point.c1)),
+        Axis::Counts => mixed(mixed(pc, u64::from(point.l0)), u64::from(point.l1)),
+    }
+}
+
 /// A number that points of one shape have alike. Few others have it.
-pub(crate) fn key(point: &Point) -> u64 {
-    let place = mixed(mixed(SEED, u64::from(point.pc)), u64::from(point.clock));
-    let mut key = mixed(mixed(place, u64::from(point.c1)), u64::from(point.top));
+pub(crate) fn key(axis: Axis, point: &Point) -> u64 {
+    let mut key = mixed(place_key(axis, point), u64::from(point.top));
     for flag in &point.flags {
         key = mixed(key, flag_code(*flag));
     }

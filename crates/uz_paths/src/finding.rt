@@ -79,9 +79,9 @@ fn find_by(alloc: Global, image: &Image, program: Program, entry: Entry) -> Resu
     Ok(joined(alloc, image, cert))
 }
 
-/// Finds a certificate of an image by the hints of its source: one that `check` accepts with it, with the header, the lines, the fall and the
-/// entry that the hints ask for, where each rest is a return of some trail. Its points are joined line by line where the check accepts
-/// them so. Where none of the causes stands, only want of memory leaves it without one.
+/// Finds a certificate of an image by the hints of its source: one that `check` accepts with it, with the header, the lines, the fall and
+/// the entry that the hints ask for, where each rest is a return of some trail. Its points are joined line by line and count by count
+/// where the check accepts them so. Where none of the causes stands, only want of memory leaves it without one.
 ///
 /// Hint comes exactly where a hint is at fault or start, lines or stack are missing, before all other refusals; Stuck and Split only with trails
 /// that show them; Full only where 524,288 distinct instances lie on trails; NoRest only where runs enter main, and the instances on trails hold

@@ -1,0 +1,49 @@
+//! What points follow each other by.
+
+use uz_schedule::Point;
+
+/// What points of one chain follow each other by.
+#[derive(Clone, Copy, Debug, PartialEq, Eq)]
+pub(crate) enum Axis {
+    /// They stand at lines that follow each other, each at one.
+    Lines,
+    /// They stand at clocks with the same distance, each at one: turns of a loop.
+    Counts,
+}
+
+/// The most points of a chain by counts: counts are bytes.
+const MOST_COUNTS: u32 = 256;
+
+impl Axis {
+    /// The line or clock by which points are put in order.
+    pub(crate) fn place(self, point: &Point) -> u16 {
+        match self {
+            Axis::Lines => point.l0,
+            Axis::Counts => point.clock,
+        }
+    }
+
+    /// Whether a place may be the second one of a chain that begins at another: the next line, or a later clock.
+    pub(crate) fn may_follow(self, from: u16, to: u16) -> bool {
+        match self {
+            Axis::Lines => u32::from(to) == u32::from(from) + 1,
+            Axis::Counts => from < to,
+        }
+    }
+
+    /// Whether a chain of so many points may have one more.
+    pub(crate) fn has_room(self, count: u32) -> bool {
+        match self {
+            Axis::Lines => true,
+            Axis::Counts => count < MOST_COUNTS,
+        }
+    }
+
+    /// The line or count at which the box of a chain with this first point begins.
+    pub(crate) fn start(self, first: &Point) -> u16 {
+        match self {
+            Axis::Lines => first.l0,
+            Axis::Counts => 0,
+        }
+    }
+}
