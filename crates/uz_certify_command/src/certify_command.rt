@@ -82,7 +82,8 @@ fn prepare<H: Shelf>(
     irq: Response,
 ) -> Result<Found, Failure>
     ensures found { IfOk result (IsFoundIn (H.files shelf.old) source.now irq) }
-    ensures fails { IfErr result (EndsBy (Fails (H.files shelf.old) (Rose (H.load_faults shelf.old) (H.load_faults shelf.new)) source.now text_limit RefusesSource)) }
+    ensures fails { IfErr result (EndsBy (Fails (H.files shelf.old)
+        (Rose (H.load_faults shelf.old) (H.load_faults shelf.new)) source.now text_limit RefusesSource)) }
     ensures files { H.files shelf.new ≡ H.files shelf.old }
     ensures load_faults { H.load_faults shelf.old ≤ H.load_faults shelf.new }
     ensures write_faults { H.write_faults shelf.new ≡ H.write_faults shelf.old }
@@ -100,8 +101,10 @@ fn write_both<H: Shelf>(
     cert: &str,
     cert_bytes: &[u8],
 ) -> Result<(), WriteError>
-    ensures ok { OnOk result (WritesAll (H.files shelf.old) (both_files hex.now hex_bytes.now cert.now cert_bytes.now) (H.files shelf.new)) }
-    ensures err { OnErr result (WritesPart (H.files shelf.old) (both_files hex.now hex_bytes.now cert.now cert_bytes.now) (H.files shelf.new)) }
+    ensures ok { OnOk result (WritesAll (H.files shelf.old) (both_files hex.now hex_bytes.now cert.now cert_bytes.now)
+        (H.files shelf.new)) }
+    ensures err { OnErr result (WritesPart (H.files shelf.old) (both_files hex.now hex_bytes.now cert.now cert_bytes.now)
+        (H.files shelf.new)) }
     ensures failed { IsErrOf result WriteError.Failed → Rose (H.write_faults shelf.old) (H.write_faults shelf.new) }
     ensures load_faults { H.load_faults shelf.new ≡ H.load_faults shelf.old }
     ensures write_faults { H.write_faults shelf.old ≤ H.write_faults shelf.new }
@@ -125,10 +128,12 @@ pub fn run_certify<H: Shelf, K: Sink>(
     shelf: &mut H,
     out: &mut K,
 ) -> Status
-    ensures outcome { MayCome (CertifyAnswers (H.files shelf.old) (Rose (H.load_faults shelf.old) (H.load_faults shelf.new)) source.now irq hex.now cert.now) NoPart
+    ensures outcome { MayCome (CertifyAnswers (H.files shelf.old)
+        (Rose (H.load_faults shelf.old) (H.load_faults shelf.new)) source.now irq hex.now cert.now) NoPart
         (Rose (H.write_faults shelf.old) (H.write_faults shelf.new) ⊎ Rose (K.faults out.old) (K.faults out.new))
         result (outside (H.files shelf.old) (K.text out.old)) (outside (H.files shelf.new) (K.text out.new)) }
-    ensures certified { result ≡ Status.Done → hex.now ≢ cert.now → FilesCertify (H.files shelf.old) (H.files shelf.new) source.now irq hex.now cert.now }
+    ensures certified { result ≡ Status.Done → hex.now ≢ cert.now
+        → FilesCertify (H.files shelf.old) (H.files shelf.new) source.now irq hex.now cert.now }
 {
     soundness();
     text_is_unique();

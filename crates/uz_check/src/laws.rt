@@ -12,7 +12,8 @@ use uz_rules::local_is_unique;
 
 /// A pair has one first refusal, and none where all rules hold.
 pub fn verdict_is_unique()
-    ensures one { (image : FinMap nat_cmp ℕ) (cert : Cert) (a b : Option RefusedWhy) → FirstRefusal image cert a → FirstRefusal image cert b → a ≡ b }
+    ensures one { (image : FinMap nat_cmp ℕ) (cert : Cert) (a b : Option RefusedWhy) → FirstRefusal image cert a
+        → FirstRefusal image cert b → a ≡ b }
     ensures none { (image : FinMap nat_cmp ℕ) (cert : Cert) → Accepts image cert → FirstRefusal image cert None }
 {
     local_is_unique();

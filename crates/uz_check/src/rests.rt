@@ -4,7 +4,9 @@ ghost use Rattle.std.specs.Prelude.{◌≡◌, ◌<◌, ◌+◌, length, Some, N
 ghost use Rattle.uz_schedule.specs.Limits.{ScheduleFits};
 ghost use Rattle.uz_schedule.specs.Schedule.{events_of as events_on};
 ghost use Rattle.uz_schedule.specs.WellFormed.{WellFormed};
-ghost use Rattle.uz_check.specs.FrameTests.{none_after as after, none_until as until, none_after_in, none_until_in, leaves_at as leaves_at_clock, is_quiet_rest as quiet_rest, enters_at, enters_always, rest_test};
+ghost use Rattle.uz_check.specs.FrameTests.{none_after as after, none_until as until, none_after_in, none_until_in};
+ghost use Rattle.uz_check.specs.FrameTests.{leaves_at as leaves_at_clock, is_quiet_rest as quiet_rest, enters_at};
+ghost use Rattle.uz_check.specs.FrameTests.{enters_always, rest_test};
 ghost use Rattle.uz_check.specs.Refusal.{RestRefusal, RestsRefusal};
 
 use crate::refusal::RefusedWhy;

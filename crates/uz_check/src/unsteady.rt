@@ -3,7 +3,8 @@
 ghost use Rattle.std.specs.Prelude.{◌≡◌, ◌<◌, length};
 ghost use Rattle.uz_schedule.specs.Limits.{ScheduleFits};
 ghost use Rattle.uz_check.specs.Refusal.{ScheduleRefusal};
-ghost use Rattle.uz_check.specs.Unsteady.{is_fall as falls, second_fall as second, unsteady_clock as unsteady, unsteady_line as breaks, first_unsteady as unsteady_place};
+ghost use Rattle.uz_check.specs.Unsteady.{is_fall as falls, second_fall as second, unsteady_clock as unsteady};
+ghost use Rattle.uz_check.specs.Unsteady.{unsteady_line as breaks, first_unsteady as unsteady_place};
 
 use crate::refusal::RefusedWhy;
 use uz_schedule::{Event, EventKind, Schedule};

@@ -19,8 +19,10 @@ use uz_shelf::{Shelf, Sink};
 
 /// What is printed of a pair that was checked.
 fn ending_of(alloc: Global, checked: Checked) -> Result<Ending, AllocError>
-    ensures answer { IfOk result (λ e. (image : Flash) (cert : CertValue) → IsChecked image cert checked → IsVerdict accepted_line image cert (answer_of e)) }
-    ensures certified { IfOk result (λ e. (image : Flash) (cert : CertValue) → IsChecked image cert checked → e.status ≡ Status.Done → Certified image cert) }
+    ensures answer { IfOk result (λ e. (image : Flash) (cert : CertValue) → IsChecked image cert checked
+        → IsVerdict accepted_line image cert (answer_of e)) }
+    ensures certified { IfOk result (λ e. (image : Flash) (cert : CertValue) → IsChecked image cert checked → e.status ≡ Status.Done
+        → Certified image cert) }
 {
     match checked {
         Checked::Accepted(pair) => Ok(Ending {
@@ -38,7 +40,8 @@ fn verdict_of<H: Shelf>(
     hex: &str,
     cert: &str,
 ) -> Result<Ending, Failure>
-    ensures gives { Gives (CheckAnswers (H.files shelf.old) (Rose (H.load_faults shelf.old) (H.load_faults shelf.new)) hex.now cert.now) result }
+    ensures gives { Gives (CheckAnswers (H.files shelf.old)
+        (Rose (H.load_faults shelf.old) (H.load_faults shelf.new)) hex.now cert.now) result }
     ensures certified { IfOk result (λ e. e.status ≡ Status.Done → FilesCertified (H.files shelf.old) hex.now cert.now) }
     ensures files { H.files shelf.new ≡ H.files shelf.old }
     ensures load_faults { H.load_faults shelf.old ≤ H.load_faults shelf.new }
@@ -56,7 +59,8 @@ pub fn run_check<H: Shelf, K: Sink>(
     shelf: &mut H,
     out: &mut K,
 ) -> Status
-    ensures outcome { MayCome (CheckAnswers (H.files shelf.old) (Rose (H.load_faults shelf.old) (H.load_faults shelf.new)) hex.now cert.now) NoPart
+    ensures outcome { MayCome (CheckAnswers (H.files shelf.old)
+        (Rose (H.load_faults shelf.old) (H.load_faults shelf.new)) hex.now cert.now) NoPart
         (Rose (H.write_faults shelf.old) (H.write_faults shelf.new) ⊎ Rose (K.faults out.old) (K.faults out.new))
         result (outside (H.files shelf.old) (K.text out.old)) (outside (H.files shelf.new) (K.text out.new)) }
     ensures certified { result ≡ Status.Done → FilesCertified (H.files shelf.old) hex.now cert.now }

@@ -45,8 +45,10 @@ impl Console {
         pads: Vec<Pad>,
         irq: Response,
     ) -> Result<Console, AllocError>
-        ensures stands { IfOk result (λ console. StandsFor console (state_at_reset image (history_at_reset (pairs_of pads.items)) (response_clocks irq))) }
-        ensures run { (limit : ℕ) → IfOk result (λ console. RunsTo limit (state_at_reset image (history_at_reset (pairs_of pads.items)) (response_clocks irq)) [] console) }
+        ensures stands { IfOk result (λ console. StandsFor console
+            (state_at_reset image (history_at_reset (pairs_of pads.items)) (response_clocks irq))) }
+        ensures run { (limit : ℕ) → IfOk result (λ console. RunsTo limit
+            (state_at_reset image (history_at_reset (pairs_of pads.items)) (response_clocks irq)) [] console) }
     {
         let console = Console::at_reset(alloc, image, pads, irq)?;
         Ok(console)
@@ -58,7 +60,8 @@ impl Console {
         pads: Vec<Pad>,
         irq: Response,
     ) -> Result<Console, AllocError>
-        ensures { IfOk result (λ console. StandsFor console (state_at_reset image (history_at_reset (pairs_of pads.items)) (response_clocks irq))) }
+        ensures { IfOk result (λ console. StandsFor console
+            (state_at_reset image (history_at_reset (pairs_of pads.items)) (response_clocks irq))) }
     {
         Ok(Console {
             program: Program::new(alloc, image)?,

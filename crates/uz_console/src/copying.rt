@@ -77,7 +77,8 @@ impl Console {
 
     /// Goes to a state that was saved, of a console with the same flash, list of pads and response. Takes no memory.
     pub fn load(&mut self, save: &SaveState)
-        ensures stands { (now s : State PadHistory) → StandsFor self.old now → IsSaveOf save.now s → IsSameConsole now s → StandsFor self.new s }
+        ensures stands { (now s : State PadHistory) → StandsFor self.old now → IsSaveOf save.now s → IsSameConsole now s
+            → StandsFor self.new s }
         ensures clock { clock_of self.new ≡ clock_saved save.now }
     {
         self.load_parts(save);

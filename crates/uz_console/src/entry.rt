@@ -11,7 +11,9 @@ ghost use Rattle.uz_machine.specs.Turn.{State};
 ghost use Rattle.uz_console.specs.Consoles.{StandsFor, state_of};
 ghost use Rattle.uz_console.specs.Entry.{BitHolds, CellsHold, EntryCondition, IsIn, TimerWaits};
 ghost use Rattle.uz_console.specs.Entry.{NotEntered};
-ghost use Rattle.uz_console.specs.Entering.{EntersAlone, EntersAt, EntersAtOne, FlagsMatch, IsFirstEntry, IsLeast, LevelMatches, MatchesEntry, RegistersMatch, StackMatches, WaitsAt, lesser as lesser_position, position_of};
+ghost use Rattle.uz_console.specs.Entering.{EntersAlone, EntersAt, EntersAtOne, FlagsMatch, IsFirstEntry, IsLeast};
+ghost use Rattle.uz_console.specs.Entering.{LevelMatches, MatchesEntry, RegistersMatch, StackMatches, WaitsAt};
+ghost use Rattle.uz_console.specs.Entering.{lesser as lesser_position, position_of};
 
 use crate::Console;
 use uz_cert_limits::well_formed;
@@ -92,7 +94,8 @@ impl Console {
 
     /// SP is the stack's top less the depth, and the stack's bytes lie in their ranges, from the one that was pushed first.
     fn stack_matches(&self, top: u16, slots: &[Span]) -> bool
-        ensures { IsTrue result ↔ ((state_of self.now).core.sp + length slots.now ≡ top) × StackMatches slots.now (state_of self.now).core.sp (state_of self.now).space.bytes }
+        ensures { IsTrue result ↔ ((state_of self.now).core.sp + length slots.now ≡ top)
+            × StackMatches slots.now (state_of self.now).core.sp (state_of self.now).space.bytes }
     {
         if self.cpu.sp() as usize + slots.len() != top as usize {
             return false;

@@ -47,7 +47,9 @@ fn finish(board: &mut Board, clocks: u8, returned: bool, edges: &mut ArrayVec<Ed
     ensures space { space_of board.new ≡ after_stores pads_wiring (held_of board.old) (space_after clocks (space_of board.old)) }
     ensures idle { (held_of board.new ≡ []) × (entered_of board.new ≡ None) }
     ensures clock { board_clock board.new ≡ board_clock board.old + clocks }
-    ensures edges { edges.new.items ≡ entry_edge (board_clock board.old) (entered_of board.old) ++ edges_at (board_clock board.old + clocks) (all_edge_kinds pads_wiring (held_of board.old) (space_after clocks (space_of board.old)) ++ (if returned then Leave ∷ [] else [])) }
+    ensures edges { edges.new.items ≡ entry_edge (board_clock board.old) (entered_of board.old) ++ edges_at
+        (board_clock board.old + clocks) (all_edge_kinds pads_wiring (held_of board.old)
+        (space_after clocks (space_of board.old)) ++ (if returned then Leave ∷ [] else [])) }
 {
     board.finish_into(clocks, returned, edges);
 }

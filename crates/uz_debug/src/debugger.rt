@@ -60,7 +60,8 @@ impl Debugger {
 
     /// The console, so many turns from reset.
     pub fn console(&self) -> &Console
-        ensures { (start : State PadHistory) (done : List (Command × Reply)) → Debugs start done self.now → IsAt start (session_of self.now).turn result.now }
+        ensures { (start : State PadHistory) (done : List (Command × Reply)) → Debugs start done self.now
+            → IsAt start (session_of self.now).turn result.now }
     {
         self.timeline.console()
     }
@@ -70,8 +71,10 @@ impl Debugger {
     pub fn act(&mut self, alloc: Global, command: Command) -> Result<Reply, AllocError>
         requires { IsInRange command }
         ensures ok { IsOk result }
-        ensures acts { IfOk result (λ reply. (start : State PadHistory) (done : List (Command × Reply)) → Debugs start done self.old → Acts start (session_of self.old) command reply (session_of self.new)) }
-        ensures session { IfOk result (λ reply. (start : State PadHistory) (done : List (Command × Reply)) → Debugs start done self.old → Debugs start (done ++ (command, reply) ∷ []) self.new) }
+        ensures acts { IfOk result (λ reply. (start : State PadHistory) (done : List (Command × Reply))
+            → Debugs start done self.old → Acts start (session_of self.old) command reply (session_of self.new)) }
+        ensures session { IfOk result (λ reply. (start : State PadHistory) (done : List (Command × Reply))
+            → Debugs start done self.old → Debugs start (done ++ (command, reply) ∷ []) self.new) }
     {
         Ok(self.reply(alloc, command))
     }

@@ -23,7 +23,8 @@ pub(crate) enum Halt {
 
 /// Whether the console is at a breakpoint that is heeded.
 fn stops_at(stops: Option<&Breakpoints>, console: &Console) -> bool
-    ensures { (start : State PadHistory) (turn : ℕ) → IsAt start turn console.now → MatchBool result (IsBreak start (stops_of stops.entry) turn) (IsBreak start (stops_of stops.entry) turn → ⊥) }
+    ensures { (start : State PadHistory) (turn : ℕ) → IsAt start turn console.now
+        → MatchBool result (IsBreak start (stops_of stops.entry) turn) (IsBreak start (stops_of stops.entry) turn → ⊥) }
 {
     match stops {
         Some(breakpoints) => breakpoints.contains(console.pc()),
@@ -42,7 +43,8 @@ pub(crate) fn run_console(
     requires clock { clock_of console.old ≤ 5 * from }
     requires onward { from ≤ goal }
     requires limit { goal ≤ 100000000 }
-    ensures run { (start : State PadHistory) → IsAt start from console.old → IsAt start result.0 console.new × IsHalt start (stops_of stops.entry) from goal result.0 result.1 }
+    ensures run { (start : State PadHistory) → IsAt start from console.old
+        → IsAt start result.0 console.new × IsHalt start (stops_of stops.entry) from goal result.0 result.1 }
     ensures goal { result.1 ≡ Halt.Goal → result.0 ≡ goal }
     ensures clock { clock_of console.new ≤ 5 * result.0 }
     ensures within { result.0 ≤ goal }

@@ -30,7 +30,8 @@ fn read_pieces(alloc: Global, pieces: &[&[u8]]) -> Result<Vec<Command>, ScriptEr
     requires { length pieces.now < 2 ^ 32 }
     ensures read { IfOk result (λ list. IsScript (lines_of_pieces (map (λ piece. piece.now) pieces.now)) list.items) }
     ensures range { IfOk result (λ list. All IsInRange list.items) }
-    ensures refused { IfErr result (λ e. (e.why ≡ Memory) ⊎ IsFirstFault (lines_of_pieces (map (λ piece. piece.now) pieces.now)) e.line e.why) }
+    ensures refused { IfErr result (λ e. (e.why ≡ Memory)
+        ⊎ IsFirstFault (lines_of_pieces (map (λ piece. piece.now) pieces.now)) e.line e.why) }
     ensures memory { IfErr result (λ e. e.why ≡ Memory → e.line ≡ 0) }
 {
     let mut list = Vec::new(alloc);

@@ -3,7 +3,8 @@
 ghost use Rattle.std.specs.Prelude.{◌≡◌, ◌≤◌, ◌<◌, IfOk, IfSome, map, option_map};
 ghost use Rattle.std.specs.List.{slice_split};
 ghost use Rattle.uz_text.specs.Lines.{is_blank as is_blank_byte};
-ghost use Rattle.uz_debug.specs.Scripts.{kind_in, line_in, mem_in, one_number_in, one_word_in, slot_in, two_numbers_in, turns_in, address_in, words_of, IsLineInRange};
+ghost use Rattle.uz_debug.specs.Scripts.{kind_in, line_in, mem_in, one_number_in, one_word_in, slot_in, two_numbers_in};
+ghost use Rattle.uz_debug.specs.Scripts.{turns_in, address_in, words_of, IsLineInRange};
 ghost use Rattle.uz_debug.specs.Sessions.{IsInRange};
 ghost use Rattle.uz_debug.specs.declared.command.Command.TheVariants.{Step, Run, Back, Break, Clear, Save, Load};
 

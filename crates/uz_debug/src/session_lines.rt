@@ -5,7 +5,8 @@ ghost use Rattle.uz_machine.specs.PadLine.{PadHistory};
 ghost use Rattle.uz_machine.specs.Turn.{State};
 ghost use Rattle.uz_debug.specs.Debuggers.{Debugs, read_of, session_of};
 ghost use Rattle.uz_text.specs.Hexadecimals.{hex_byte, hex_word};
-ghost use Rattle.uz_debug.specs.SessionText.{AddsLine, Prints, at_text, bytes_text, gap, show_text, shown_text, status_text, stopped_at, stopped_line, why_name as name_of_why};
+ghost use Rattle.uz_debug.specs.SessionText.{AddsLine, Prints, at_text, bytes_text, gap, show_text, shown_text};
+ghost use Rattle.uz_debug.specs.SessionText.{status_text, stopped_at, stopped_line, why_name as name_of_why};
 ghost use Rattle.uz_debug.specs.Sessions.{IsInRange};
 ghost use Rattle.uz_debug.specs.declared.command.Command.{Command};
 ghost use Rattle.uz_debug.specs.declared.command.Reply.{Reply};
@@ -177,7 +178,8 @@ fn add_console(
 
 /// Adds what a command shows of the console.
 fn add_shown(text: &mut Vec<u8>, debugger: &Debugger, command: Command) -> Result<(), AllocError>
-    ensures { OnOk result ((start : State PadHistory) (done : List (Command × Reply)) → Debugs start done debugger.now → AddsLine start (session_of debugger.now).turn command Reply.Shown text.old.items text.new.items) }
+    ensures { OnOk result ((start : State PadHistory) (done : List (Command × Reply)) → Debugs start done debugger.now
+        → AddsLine start (session_of debugger.now).turn command Reply.Shown text.old.items text.new.items) }
 {
     let console = debugger.console();
     add_console(
@@ -197,7 +199,8 @@ fn add_line(
     command: Command,
     reply: Reply,
 ) -> Result<(), AllocError>
-    ensures { OnOk result ((start : State PadHistory) (done : List (Command × Reply)) → Debugs start done debugger.now → AddsLine start (session_of debugger.now).turn command reply text.old.items text.new.items) }
+    ensures { OnOk result ((start : State PadHistory) (done : List (Command × Reply)) → Debugs start done debugger.now
+        → AddsLine start (session_of debugger.now).turn command reply text.old.items text.new.items) }
 {
     match reply {
         Reply::At { turn, clock, pc } => {
@@ -222,7 +225,8 @@ pub fn session_text(
     commands: &[Command],
 ) -> Result<Vec<u8>, AllocError>
     requires { All IsInRange commands.now }
-    ensures { IfOk result (λ text. (start : State PadHistory) (done : List (Command × Reply)) → Debugs start done debugger.old → Prints start (session_of debugger.old) commands.now text.items (session_of debugger.new)) }
+    ensures { IfOk result (λ text. (start : State PadHistory) (done : List (Command × Reply)) → Debugs start done debugger.old
+        → Prints start (session_of debugger.old) commands.now text.items (session_of debugger.new)) }
 {
     let mut text = Vec::new(alloc);
     for command in commands {

@@ -127,7 +127,9 @@ impl Timeline {
     fn run_to(&mut self, goal: u32, stops: Option<&Breakpoints>) -> Halt
         requires onward { turn_of self.old ≤ goal }
         requires limit { goal ≤ 100000000 }
-        ensures run { (start : State PadHistory) → IsTimeline start self.old → IsTimeline start self.new × IsHalt start (stops_of stops.entry) (turn_of self.old) goal (turn_of self.new) result }
+        ensures run { (start : State PadHistory) → IsTimeline start self.old
+            → IsTimeline start self.new × IsHalt start (stops_of stops.entry) (turn_of self.old) goal
+            (turn_of self.new) result }
         ensures goal { result ≡ Halt.Goal → turn_of self.new ≡ goal }
         ensures within { turn_of self.new ≤ goal }
         ensures onward { turn_of self.old ≤ turn_of self.new }
@@ -141,7 +143,9 @@ impl Timeline {
     pub(crate) fn go_on(&mut self, alloc: Global, goal: u32, stops: Option<&Breakpoints>) -> Halt
         requires onward { turn_of self.old ≤ goal }
         requires limit { goal ≤ 100000000 }
-        ensures { (start : State PadHistory) → IsTimeline start self.old → IsTimeline start self.new × IsHalt start (stops_of stops.entry) (turn_of self.old) goal (turn_of self.new) result }
+        ensures { (start : State PadHistory) → IsTimeline start self.old
+            → IsTimeline start self.new × IsHalt start (stops_of stops.entry) (turn_of self.old) goal
+            (turn_of self.new) result }
     {
         while self.turn < goal {
             match self.run_to(next_goal(self.turn, goal), stops) {
@@ -167,7 +171,8 @@ impl Timeline {
     /// turn isn't behind it and nothing nearer is kept, it goes on from here.
     pub(crate) fn go_to(&mut self, alloc: Global, target: u32)
         requires { target ≤ 100000000 }
-        ensures { (start : State PadHistory) → IsTimeline start self.old → HasState start target → IsTimeline start self.new × (turn_of self.new ≡ target) }
+        ensures { (start : State PadHistory) → IsTimeline start self.old → HasState start target
+            → IsTimeline start self.new × (turn_of self.new ≡ target) }
     {
         self.rewind(target);
         self.go_on(alloc, target, None);

@@ -53,7 +53,8 @@ fn next_end(player: &mut Player) -> Option<RunEnd>
 
 /// Plays a run to its end.
 fn play_out(player: &mut Player) -> RunEnd
-    ensures { (start : State PadHistory) → Plays player.old start [] → IsPlayedOut (cert_of player.old) (limit_of player.old) start result (counts_of player.new) }
+    ensures { (start : State PadHistory) → Plays player.old start []
+        → IsPlayedOut (cert_of player.old) (limit_of player.old) start result (counts_of player.new) }
 {
     'records: loop {
         match next_end(player) {
@@ -81,7 +82,9 @@ fn run_out(console: Console, cert: Cert) -> Captured
 /// Prints the lines of a run, below what is printed already.
 fn end_demo<K: Sink>(alloc: Global, out: &mut K, captured: Captured) -> Status
     ensures comes { (printed : List ℕ) (files : Option FileMap) (old : Option (List ℕ)) → TakesAll old printed (K.text out.old) →
-        ComesOf (ended printed (end_status captured.end captured.counts) (end_text captured.end captured.counts)) (Rose (K.faults out.old) (K.faults out.new)) result (outside files old) (outside files (K.text out.new)) }
+        ComesOf (ended printed (end_status captured.end captured.counts) (end_text captured.end captured.counts))
+        (Rose (K.faults out.old) (K.faults out.new)) result (outside files old)
+        (outside files (K.text out.new)) }
     ensures faults { K.faults out.old ≤ K.faults out.new }
 {
     match ending_of(alloc, captured) {
@@ -101,7 +104,9 @@ fn play_demo<K: Sink>(
     requires fits { WellFormed cert }
     requires clock { console_clock console ≡ 0 }
     ensures outcome { (start : State PadHistory) (files : Option FileMap) → StandsFor console start →
-        MayCome (IsRunAfter line.now cert start) (IsPutPart line.now) (Rose (K.faults out.old) (K.faults out.new)) result (outside files (K.text out.old)) (outside files (K.text out.new)) }
+        MayCome (IsRunAfter line.now cert start) (IsPutPart line.now)
+        (Rose (K.faults out.old) (K.faults out.new)) result (outside files (K.text out.old))
+        (outside files (K.text out.new)) }
     ensures faults { K.faults out.old ≤ K.faults out.new }
 {
     match out.put(alloc, line) {
@@ -119,7 +124,9 @@ fn play_demo<K: Sink>(
 /// Where it is done, the image is certified with the certificate that was found, and the run keeps to its schedule once a
 /// state of it has entered.
 pub fn run_demo<K: Sink>(alloc: Global, number: u16, out: &mut K) -> Status
-    ensures outcome { (files : Option FileMap) → MayCome (DemoAnswers number) (DemoParts number) (Rose (K.faults out.old) (K.faults out.new)) result (outside files (K.text out.old)) (outside files (K.text out.new)) }
+    ensures outcome { (files : Option FileMap) → MayCome (DemoAnswers number) (DemoParts number)
+        (Rose (K.faults out.old) (K.faults out.new)) result (outside files (K.text out.old))
+        (outside files (K.text out.new)) }
     ensures played { result ≡ Status.Done → DemoPlayed number }
     ensures halted { result ≡ Status.Stopped → DemoHalted number }
 {

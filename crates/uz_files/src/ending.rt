@@ -61,7 +61,8 @@ pub fn put_no_memory<K: Sink>(alloc: Global, out: &mut K) -> Status
 #[tactic(auto, using(crate::proofs::EndingLemmas::comes_done, crate::proofs::EndingLemmas::comes_unwritten, crate::proofs::EndingLemmas::comes_without_memory))]
 fn end_done<K: Sink>(alloc: Global, out: &mut K, ending: &Ending) -> Status
     requires { ending.now.status ≡ Status.Done }
-    ensures comes { (files : Option FileMap) → ComesOf (answer_of ending.now) (Rose (K.faults out.old) (K.faults out.new)) result (outside files (K.text out.old)) (outside files (K.text out.new)) }
+    ensures comes { (files : Option FileMap) → ComesOf (answer_of ending.now) (Rose (K.faults out.old) (K.faults out.new)) result
+        (outside files (K.text out.old)) (outside files (K.text out.new)) }
     ensures faults { K.faults out.old ≤ K.faults out.new }
 {
     match out.put(alloc, ending.line.as_slice()) {
@@ -76,7 +77,9 @@ fn end_done<K: Sink>(alloc: Global, out: &mut K, ending: &Ending) -> Status
 pub fn end_fault<K: Sink>(alloc: Global, out: &mut K, status: Status, line: &[u8]) -> Status
     requires { status ≢ Status.Done }
     ensures status { (result ≡ status) ⊎ (result ≡ Status.NoMemory) }
-    ensures comes { (files : Option FileMap) → ComesOf (one_line status line.now) (Rose (K.faults out.old) (K.faults out.new)) result (outside files (K.text out.old)) (outside files (K.text out.new)) }
+    ensures comes { (files : Option FileMap) → ComesOf (one_line status line.now)
+        (Rose (K.faults out.old) (K.faults out.new)) result (outside files (K.text out.old))
+        (outside files (K.text out.new)) }
     ensures faults { K.faults out.old ≤ K.faults out.new }
 {
     match out.put(alloc, line) {
@@ -88,7 +91,8 @@ pub fn end_fault<K: Sink>(alloc: Global, out: &mut K, status: Status, line: &[u8
 
 /// Prints the line that ends a command.
 pub fn end_with<K: Sink>(alloc: Global, out: &mut K, ending: &Ending) -> Status
-    ensures comes { (files : Option FileMap) → ComesOf (answer_of ending.now) (Rose (K.faults out.old) (K.faults out.new)) result (outside files (K.text out.old)) (outside files (K.text out.new)) }
+    ensures comes { (files : Option FileMap) → ComesOf (answer_of ending.now) (Rose (K.faults out.old) (K.faults out.new)) result
+        (outside files (K.text out.old)) (outside files (K.text out.new)) }
     ensures faults { K.faults out.old ≤ K.faults out.new }
 {
     if matches!(ending.status, Status::Done) {
@@ -100,7 +104,8 @@ pub fn end_with<K: Sink>(alloc: Global, out: &mut K, ending: &Ending) -> Status
 
 /// Prints how the work of a command that creates no file ended.
 pub fn finish<K: Sink>(alloc: Global, out: &mut K, worked: Result<Ending, Failure>) -> Status
-    ensures comes { (files : Option FileMap) → ComesOfWork worked (Rose (K.faults out.old) (K.faults out.new)) result (outside files (K.text out.old)) (outside files (K.text out.new)) }
+    ensures comes { (files : Option FileMap) → ComesOfWork worked (Rose (K.faults out.old) (K.faults out.new)) result
+        (outside files (K.text out.old)) (outside files (K.text out.new)) }
     ensures faults { K.faults out.old ≤ K.faults out.new }
 {
     match worked {
@@ -111,7 +116,8 @@ pub fn finish<K: Sink>(alloc: Global, out: &mut K, worked: Result<Ending, Failur
 
 /// Prints why a command ended before its files were read.
 pub fn give_up<K: Sink>(alloc: Global, out: &mut K, failure: &Failure) -> Status
-    ensures comes { (files : Option FileMap) → ComesOfFailure failure.now (Rose (K.faults out.old) (K.faults out.new)) result (outside files (K.text out.old)) (outside files (K.text out.new)) }
+    ensures comes { (files : Option FileMap) → ComesOfFailure failure.now (Rose (K.faults out.old) (K.faults out.new)) result
+        (outside files (K.text out.old)) (outside files (K.text out.new)) }
     ensures faults { K.faults out.old ≤ K.faults out.new }
 {
     match failure {

@@ -61,7 +61,8 @@ pub fn read_file<F: Format, H: Shelf>(
 ) -> Result<F::Value, Failure>
     ensures said { IfOk result (Says (H.files shelf.old) name.now F.LIMIT F.spells) }
     ensures well_formed { IfOk result F.formed }
-    ensures fails { IfErr result (EndsBy (Fails (H.files shelf.old) (Rose (H.load_faults shelf.old) (H.load_faults shelf.new)) name.now F.LIMIT F.refuses)) }
+    ensures fails { IfErr result (EndsBy (Fails (H.files shelf.old)
+        (Rose (H.load_faults shelf.old) (H.load_faults shelf.new)) name.now F.LIMIT F.refuses)) }
     ensures files { H.files shelf.new ≡ H.files shelf.old }
     ensures load_faults { H.load_faults shelf.old ≤ H.load_faults shelf.new }
     ensures write_faults { H.write_faults shelf.new ≡ H.write_faults shelf.old }

@@ -213,7 +213,8 @@ impl Format for PadWords {
 pub fn assemble_file<H: Shelf>(alloc: Global, shelf: &mut H, name: &str) -> Result<Built, Failure>
     ensures said { IfOk result (λ built. Says (H.files shelf.old) name.now text_limit IsAssembly (seen_built built)) }
     ensures few { IfOk result (λ built. length built.hints.items < 2 ^ 32) }
-    ensures fails { IfErr result (EndsBy (Fails (H.files shelf.old) (Rose (H.load_faults shelf.old) (H.load_faults shelf.new)) name.now text_limit RefusesSource)) }
+    ensures fails { IfErr result (EndsBy (Fails (H.files shelf.old)
+        (Rose (H.load_faults shelf.old) (H.load_faults shelf.new)) name.now text_limit RefusesSource)) }
     ensures files { H.files shelf.new ≡ H.files shelf.old }
     ensures load_faults { H.load_faults shelf.old ≤ H.load_faults shelf.new }
     ensures write_faults { H.write_faults shelf.new ≡ H.write_faults shelf.old }
@@ -224,7 +225,8 @@ pub fn assemble_file<H: Shelf>(alloc: Global, shelf: &mut H, name: &str) -> Resu
 /// The image that a HEX file spells.
 pub fn read_image<H: Shelf>(alloc: Global, shelf: &mut H, name: &str) -> Result<Image, Failure>
     ensures said { IfOk result (Says (H.files shelf.old) name.now text_limit IsHexOf) }
-    ensures fails { IfErr result (EndsBy (Fails (H.files shelf.old) (Rose (H.load_faults shelf.old) (H.load_faults shelf.new)) name.now text_limit RefusesHex)) }
+    ensures fails { IfErr result (EndsBy (Fails (H.files shelf.old)
+        (Rose (H.load_faults shelf.old) (H.load_faults shelf.new)) name.now text_limit RefusesHex)) }
     ensures files { H.files shelf.new ≡ H.files shelf.old }
     ensures load_faults { H.load_faults shelf.old ≤ H.load_faults shelf.new }
     ensures write_faults { H.write_faults shelf.new ≡ H.write_faults shelf.old }
@@ -236,7 +238,8 @@ pub fn read_image<H: Shelf>(alloc: Global, shelf: &mut H, name: &str) -> Result<
 pub fn read_certificate<H: Shelf>(alloc: Global, shelf: &mut H, name: &str) -> Result<Cert, Failure>
     ensures said { IfOk result (Says (H.files shelf.old) name.now certificate_limit SpellsCertificate) }
     ensures well_formed { IfOk result WellFormed }
-    ensures fails { IfErr result (EndsBy (Fails (H.files shelf.old) (Rose (H.load_faults shelf.old) (H.load_faults shelf.new)) name.now certificate_limit RefusesCertificate)) }
+    ensures fails { IfErr result (EndsBy (Fails (H.files shelf.old)
+        (Rose (H.load_faults shelf.old) (H.load_faults shelf.new)) name.now certificate_limit RefusesCertificate)) }
     ensures files { H.files shelf.new ≡ H.files shelf.old }
     ensures load_faults { H.load_faults shelf.old ≤ H.load_faults shelf.new }
     ensures write_faults { H.write_faults shelf.new ≡ H.write_faults shelf.old }
@@ -252,7 +255,8 @@ pub fn read_old_certificate<H: Shelf>(
 ) -> Result<Cert, Failure>
     ensures said { IfOk result (Says (H.files shelf.old) name.now certificate_limit SpellsOldCertificate) }
     ensures well_formed { IfOk result WellFormed }
-    ensures fails { IfErr result (EndsBy (Fails (H.files shelf.old) (Rose (H.load_faults shelf.old) (H.load_faults shelf.new)) name.now certificate_limit RefusesOldCertificate)) }
+    ensures fails { IfErr result (EndsBy (Fails (H.files shelf.old)
+        (Rose (H.load_faults shelf.old) (H.load_faults shelf.new)) name.now certificate_limit RefusesOldCertificate)) }
     ensures files { H.files shelf.new ≡ H.files shelf.old }
     ensures load_faults { H.load_faults shelf.old ≤ H.load_faults shelf.new }
     ensures write_faults { H.write_faults shelf.new ≡ H.write_faults shelf.old }
@@ -267,7 +271,8 @@ pub fn read_pad_file<H: Shelf>(
     name: &str,
 ) -> Result<Vec<Pad>, Failure>
     ensures said { IfOk result (λ pads. Says (H.files shelf.old) name.now text_limit SpellsPads pads.items) }
-    ensures fails { IfErr result (EndsBy (Fails (H.files shelf.old) (Rose (H.load_faults shelf.old) (H.load_faults shelf.new)) name.now text_limit RefusesPads)) }
+    ensures fails { IfErr result (EndsBy (Fails (H.files shelf.old)
+        (Rose (H.load_faults shelf.old) (H.load_faults shelf.new)) name.now text_limit RefusesPads)) }
     ensures files { H.files shelf.new ≡ H.files shelf.old }
     ensures load_faults { H.load_faults shelf.old ≤ H.load_faults shelf.new }
     ensures write_faults { H.write_faults shelf.new ≡ H.write_faults shelf.old }

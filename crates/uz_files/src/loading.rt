@@ -53,7 +53,8 @@ pub fn load<H: Shelf>(
 ) -> Result<Vec<u8>, Failure>
     ensures held { IfOk result (λ bytes. HoldsFile (H.files shelf.old) name.now bytes.items) }
     ensures short { IfOk result (λ bytes. vec_len bytes ≤ limit) }
-    ensures unloaded { IfErr result (EndsBy (IsUnloaded (H.files shelf.old) (Rose (H.load_faults shelf.old) (H.load_faults shelf.new)) name.now limit)) }
+    ensures unloaded { IfErr result (EndsBy (IsUnloaded (H.files shelf.old)
+        (Rose (H.load_faults shelf.old) (H.load_faults shelf.new)) name.now limit)) }
     ensures files { H.files shelf.new ≡ H.files shelf.old }
     ensures load_faults { H.load_faults shelf.old ≤ H.load_faults shelf.new }
     ensures write_faults { H.write_faults shelf.new ≡ H.write_faults shelf.old }

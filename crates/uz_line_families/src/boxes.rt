@@ -17,7 +17,8 @@ fn is_on_line(point: &Point, line: u16) -> bool
 
 /// Whether a point's box holds all of three lines or none.
 fn is_even(point: &Point, line: u16, next: u16, after: u16) -> bool
-    ensures { result ≡ (same_bool (on_line point.now line) (on_line point.now next) && same_bool (on_line point.now line) (on_line point.now after)) }
+    ensures { result ≡ (same_bool (on_line point.now line) (on_line point.now next) && same_bool (on_line point.now line)
+        (on_line point.now after)) }
 {
     let here = is_on_line(point, line);
     here == is_on_line(point, next) && here == is_on_line(point, after)

@@ -2,7 +2,9 @@
 
 ghost use Rattle.std.specs.Prelude.{◌≡◌, slice_get};
 ghost use Rattle.std.specs.List.{list_all};
-ghost use Rattle.uz_line_families.specs.Folding.{keeps_by_lines as fact_keeps, pair_keeps_by_lines as pair_fact_keeps, has_no_line as point_has_no_line, has_no_line_there as no_line_there, is_plain as plain};
+ghost use Rattle.uz_line_families.specs.Folding.{keeps_by_lines as fact_keeps, pair_keeps_by_lines as pair_fact_keeps};
+ghost use Rattle.uz_line_families.specs.Folding.{has_no_line as point_has_no_line, has_no_line_there as no_line_there};
+ghost use Rattle.uz_line_families.specs.Folding.{is_plain as plain};
 
 use uz_schedule::{Cert, Fact, PairFact, Point};
 

@@ -5,7 +5,10 @@ ghost use Rattle.std.specs.Option.{option_map};
 ghost use Rattle.uz_schedule.specs.Limits.{ScheduleFits};
 ghost use Rattle.uz_schedule.specs.WellFormed.{WellFormed};
 ghost use Rattle.uz_rules.specs.Local.{rest_in};
-ghost use Rattle.uz_line_families.specs.Folding.{kind_of as line_kind, line_before as line_ahead, kinds_alike as kinds_same, same_spans as spans_same, same_rest as rest_same, rests_alike as rests_same, lines_alike as alike};
+ghost use Rattle.uz_line_families.specs.Folding.{kind_of as line_kind, line_before as line_ahead};
+ghost use Rattle.uz_line_families.specs.Folding.{kinds_alike as kinds_same, same_spans as spans_same};
+ghost use Rattle.uz_line_families.specs.Folding.{same_rest as rest_same, rests_alike as rests_same};
+ghost use Rattle.uz_line_families.specs.Folding.{lines_alike as alike};
 ghost use Rattle.uz_line_families.specs.Untold.{IsRun, RunsFrom};
 
 use uz_schedule::{Cert, Rest, Schedule, Span};

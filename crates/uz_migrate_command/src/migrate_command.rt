@@ -65,7 +65,8 @@ pub fn run_migrate<H: Shelf, K: Sink>(
     shelf: &mut H,
     out: &mut K,
 ) -> Status
-    ensures outcome { MayCome (MigrateAnswers (H.files shelf.old) (Rose (H.load_faults shelf.old) (H.load_faults shelf.new)) older.now newer.now) NoPart
+    ensures outcome { MayCome (MigrateAnswers (H.files shelf.old)
+        (Rose (H.load_faults shelf.old) (H.load_faults shelf.new)) older.now newer.now) NoPart
         (Rose (H.write_faults shelf.old) (H.write_faults shelf.new) ⊎ Rose (K.faults out.old) (K.faults out.new))
         result (outside (H.files shelf.old) (K.text out.old)) (outside (H.files shelf.new) (K.text out.new)) }
     ensures migrated { result ≡ Status.Done → FilesMigrated (H.files shelf.old) (H.files shelf.new) older.now newer.now }

@@ -69,7 +69,8 @@ fn shown(word: u16, at: u8) -> u8
 }
 
 impl Pads {
-    ghost use Rattle.uz_pads.specs.Pads.{StandsFor, StateStandsFor, pairs_of, list_of, pad_state_of, with_pad_state, pads_after, pads_loaded, pads_lines};
+    ghost use Rattle.uz_pads.specs.Pads.{StandsFor, StateStandsFor, pairs_of, list_of, pad_state_of, with_pad_state};
+    ghost use Rattle.uz_pads.specs.Pads.{pads_after, pads_loaded, pads_lines};
     ghost use Rattle.uz_pads.specs.declared.pads.Pad.{Pad};
 
     /// Pads that answer from a list. Before the first latch both lines read 1 (this project's profile).
@@ -114,7 +115,8 @@ impl Pads {
     /// Goes to a state of pads with the same list.
     pub fn set_state(&mut self, state: PadState)
         ensures exact { self.new ≡ with_pad_state state self.old }
-        ensures stands { (list : List Pad) (history : PadHistory) → StateStandsFor list state history → pairs_of (list_of self.old) ≡ pairs_of list → StandsFor self.new history }
+        ensures stands { (list : List Pad) (history : PadHistory) → StateStandsFor list state history
+            → pairs_of (list_of self.old) ≡ pairs_of list → StandsFor self.new history }
     {
         self.take_state(state);
     }

@@ -19,7 +19,8 @@ const MAX_PAIRS: usize = 65_536;
 fn read_pieces(alloc: Global, pieces: &[&[u8]]) -> Result<Vec<Pad>, PadError>
     requires { length pieces.now < 2 ^ 32 }
     ensures read { IfOk result (λ list. IsRead (lines_of_pieces (map (λ piece. piece.now) pieces.now)) list.items) }
-    ensures refused { IfErr result (λ e. (e.why ≡ Memory) ⊎ IsFirstFault (lines_of_pieces (map (λ piece. piece.now) pieces.now)) e.line e.why) }
+    ensures refused { IfErr result (λ e. (e.why ≡ Memory)
+        ⊎ IsFirstFault (lines_of_pieces (map (λ piece. piece.now) pieces.now)) e.line e.why) }
     ensures memory { IfErr result (λ e. e.why ≡ Memory → e.line ≡ 0) }
 {
     let mut list = Vec::new(alloc);

@@ -47,7 +47,8 @@ pub fn check_files<H: Shelf>(
     cert: &str,
 ) -> Result<Checked, Failure>
     ensures checked { IfOk result (AreChecked (H.files shelf.old) hex.now cert.now) }
-    ensures fails { IfErr result (EndsBy (PairPreface (H.files shelf.old) (Rose (H.load_faults shelf.old) (H.load_faults shelf.new)) hex.now cert.now)) }
+    ensures fails { IfErr result (EndsBy (PairPreface (H.files shelf.old)
+        (Rose (H.load_faults shelf.old) (H.load_faults shelf.new)) hex.now cert.now)) }
     ensures files { H.files shelf.new ≡ H.files shelf.old }
     ensures load_faults { H.load_faults shelf.old ≤ H.load_faults shelf.new }
     ensures write_faults { H.write_faults shelf.new ≡ H.write_faults shelf.old }

@@ -60,7 +60,8 @@ pub(crate) fn start_play<H: Shelf>(
     pads: &str,
 ) -> Result<Start, Failure>
     ensures starts { IfOk result (IsStart (H.files shelf.old) hex.now cert.now pads.now) }
-    ensures fails { IfErr result (EndsBy (PlayPreface (H.files shelf.old) (Rose (H.load_faults shelf.old) (H.load_faults shelf.new)) hex.now cert.now pads.now)) }
+    ensures fails { IfErr result (EndsBy (PlayPreface (H.files shelf.old)
+        (Rose (H.load_faults shelf.old) (H.load_faults shelf.new)) hex.now cert.now pads.now)) }
     ensures files { H.files shelf.new ≡ H.files shelf.old }
     ensures load_faults { H.load_faults shelf.old ≤ H.load_faults shelf.new }
     ensures write_faults { H.write_faults shelf.new ≡ H.write_faults shelf.old }

@@ -38,7 +38,8 @@ fn over_status_of(counts: Counts) -> Status
 
 /// The status and the lines of a run whose records are written.
 pub fn ending_of(alloc: Global, captured: Captured) -> Result<Ending, AllocError>
-    ensures { IfOk result (λ e. (e.status ≡ end_status captured.end captured.counts) × (e.line.items ≡ end_text captured.end captured.counts)) }
+    ensures { IfOk result (λ e. (e.status ≡ end_status captured.end captured.counts)
+        × (e.line.items ≡ end_text captured.end captured.counts)) }
 {
     match captured.end {
         RunEnd::Stopped { pc, word } => Ok(Ending {
@@ -54,8 +55,11 @@ pub fn ending_of(alloc: Global, captured: Captured) -> Result<Ending, AllocError
 
 /// Prints the lines of a run whose records are written.
 fn end_play<K: Sink>(alloc: Global, out: &mut K, captured: Captured) -> Status
-    ensures comes { (frames : List ℕ) (edges : List Edge) (old new : Option FileMap) → WritesFile old frames (records (newest_first edges)) new →
-        ComesOf (framed frames edges (end_status captured.end captured.counts) (end_text captured.end captured.counts)) (Rose (K.faults out.old) (K.faults out.new)) result (outside old (K.text out.old)) (outside new (K.text out.new)) }
+    ensures comes { (frames : List ℕ) (edges : List Edge) (old new : Option FileMap)
+        → WritesFile old frames (records (newest_first edges)) new →
+        ComesOf (framed frames edges (end_status captured.end captured.counts) (end_text captured.end captured.counts))
+        (Rose (K.faults out.old) (K.faults out.new)) result (outside old (K.text out.old))
+        (outside new (K.text out.new)) }
     ensures faults { K.faults out.old ≤ K.faults out.new }
 {
     match ending_of(alloc, captured) {
@@ -76,7 +80,9 @@ fn play_on<H: Shelf, K: Sink>(
 ) -> Status
     requires fits { WellFormed cert }
     requires clock { console_clock console ≡ 0 }
-    ensures outcome { (start : State PadHistory) → StandsFor console start → MayCome (IsFramedRun frames.now cert clocks.count start) (IsFramedPart frames.now clocks.count start)
+    ensures outcome { (start : State PadHistory) → StandsFor console start
+        → MayCome (IsFramedRun frames.now cert clocks.count start)
+        (IsFramedPart frames.now clocks.count start)
         (Rose (H.write_faults shelf.old) (H.write_faults shelf.new) ⊎ Rose (K.faults out.old) (K.faults out.new))
         result (outside (H.files shelf.old) (K.text out.old)) (outside (H.files shelf.new) (K.text out.new)) }
     ensures load_faults { H.load_faults shelf.new ≡ H.load_faults shelf.old }
@@ -100,7 +106,9 @@ pub fn run_play<H: Shelf, K: Sink>(
     shelf: &mut H,
     out: &mut K,
 ) -> Status
-    ensures outcome { MayCome (PlayAnswers (H.files shelf.old) (Rose (H.load_faults shelf.old) (H.load_faults shelf.new)) hex.now cert.now pads.now clocks.count frames.now)
+    ensures outcome { MayCome (PlayAnswers (H.files shelf.old)
+        (Rose (H.load_faults shelf.old) (H.load_faults shelf.new)) hex.now cert.now pads.now clocks.count
+        frames.now)
         (PlayParts (H.files shelf.old) hex.now cert.now pads.now clocks.count frames.now)
         (Rose (H.write_faults shelf.old) (H.write_faults shelf.new) ⊎ Rose (K.faults out.old) (K.faults out.new))
         result (outside (H.files shelf.old) (K.text out.old)) (outside (H.files shelf.new) (K.text out.new)) }

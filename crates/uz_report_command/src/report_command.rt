@@ -19,8 +19,10 @@ use uz_shelf::{Shelf, Sink};
 
 /// What is printed of a pair that was checked.
 fn ending_of(alloc: Global, checked: Checked) -> Result<Ending, AllocError>
-    ensures answer { IfOk result (λ e. (image : Flash) (cert : Cert) → IsChecked image cert checked → IsVerdict report_text image cert (answer_of e)) }
-    ensures worth { IfOk result (λ e. (image : Flash) (cert : Cert) → IsChecked image cert checked → e.status ≡ Status.Done → MainsTimeTells image cert) }
+    ensures answer { IfOk result (λ e. (image : Flash) (cert : Cert) → IsChecked image cert checked
+        → IsVerdict report_text image cert (answer_of e)) }
+    ensures worth { IfOk result (λ e. (image : Flash) (cert : Cert) → IsChecked image cert checked → e.status ≡ Status.Done
+        → MainsTimeTells image cert) }
 {
     match checked {
         Checked::Accepted(pair) => Ok(Ending {
@@ -38,7 +40,8 @@ fn report_of<H: Shelf>(
     hex: &str,
     cert: &str,
 ) -> Result<Ending, Failure>
-    ensures gives { Gives (ReportAnswers (H.files shelf.old) (Rose (H.load_faults shelf.old) (H.load_faults shelf.new)) hex.now cert.now) result }
+    ensures gives { Gives (ReportAnswers (H.files shelf.old)
+        (Rose (H.load_faults shelf.old) (H.load_faults shelf.new)) hex.now cert.now) result }
     ensures reported { IfOk result (λ e. e.status ≡ Status.Done → FilesReported (H.files shelf.old) hex.now cert.now) }
     ensures files { H.files shelf.new ≡ H.files shelf.old }
     ensures load_faults { H.load_faults shelf.old ≤ H.load_faults shelf.new }
@@ -56,7 +59,8 @@ pub fn run_report<H: Shelf, K: Sink>(
     shelf: &mut H,
     out: &mut K,
 ) -> Status
-    ensures outcome { MayCome (ReportAnswers (H.files shelf.old) (Rose (H.load_faults shelf.old) (H.load_faults shelf.new)) hex.now cert.now) NoPart
+    ensures outcome { MayCome (ReportAnswers (H.files shelf.old)
+        (Rose (H.load_faults shelf.old) (H.load_faults shelf.new)) hex.now cert.now) NoPart
         (Rose (H.write_faults shelf.old) (H.write_faults shelf.new) ⊎ Rose (K.faults out.old) (K.faults out.new))
         result (outside (H.files shelf.old) (K.text out.old)) (outside (H.files shelf.new) (K.text out.new)) }
     ensures reported { result ≡ Status.Done → FilesReported (H.files shelf.old) hex.now cert.now }

@@ -86,7 +86,8 @@ fn cells_in_facts(spans: &[Span], facts: &[Fact], line: u16, count: u8) -> bool
 
 /// Whether the pairs X, Y and Z lie in what the point's facts say of them.
 pub(crate) fn pairs_in_facts(at: &Instance, point: &Point, count: u8) -> bool
-    ensures { result ≡ pairs_inside at.now.pairs (pairs_of at.now.line count (map (val_of at.now.line count) point.now.regs) point.now.pairs) }
+    ensures { result ≡ pairs_inside at.now.pairs
+        (pairs_of at.now.line count (map (val_of at.now.line count) point.now.regs) point.now.pairs) }
 {
     pairs_inside(
         &at.pairs,

@@ -10,7 +10,8 @@ ghost use Rattle.uz_rules.specs.Successors.{lies_in_any};
 ghost use Rattle.uz_transfer.specs.Kinds.{is_main};
 ghost use Rattle.uz_transfer.specs.Refusals.{refuse_if};
 ghost use Rattle.uz_rules.specs.Limits.{InstanceLimits};
-ghost use Rattle.uz_rules.specs.Local.{is_stop, rest_in, return_fail, first_exit, end_of, has_successors, result_fail, compares_edges, step_fail, instance_fail, local_fail, IsLocal, reason, counted};
+ghost use Rattle.uz_rules.specs.Local.{is_stop, rest_in, return_fail, first_exit, end_of, has_successors, result_fail};
+ghost use Rattle.uz_rules.specs.Local.{compares_edges, step_fail, instance_fail, local_fail, IsLocal, reason, counted};
 
 use crate::edge_rule::edges_fit;
 use crate::inclusion::{cells_inside, restored};
@@ -100,7 +101,8 @@ fn lie_in_successors(
 ) -> bool
     requires fits { WellFormed cert.now }
     requires limits { InstanceLimits cert.now at.now }
-    ensures { result ≡ each_exit (λ exit. lies_in_any cert.now next.now (at_exit (order_of cert.now.schedule) at.now draft.old emitted clears exit)) exits.now }
+    ensures { result ≡ each_exit (λ exit. lies_in_any cert.now next.now
+        (at_exit (order_of cert.now.schedule) at.now draft.old emitted clears exit)) exits.now }
 {
     for exit in exits {
         put_at(draft, &cert.schedule, at, emitted, clears, *exit);

@@ -23,7 +23,8 @@ fn reset_debugger<H: Shelf>(
     irq: Response,
 ) -> Result<Debugger, Failure>
     ensures starts { IfOk result (StartsDebug (H.files shelf.old) hex.now pads.now irq) }
-    ensures fails { IfErr result (EndsBy (RunPreface (H.files shelf.old) (Rose (H.load_faults shelf.old) (H.load_faults shelf.new)) hex.now pads.now)) }
+    ensures fails { IfErr result (EndsBy (RunPreface (H.files shelf.old)
+        (Rose (H.load_faults shelf.old) (H.load_faults shelf.new)) hex.now pads.now)) }
     ensures files { H.files shelf.new ≡ H.files shelf.old }
     ensures load_faults { H.load_faults shelf.old ≤ H.load_faults shelf.new }
     ensures write_faults { H.write_faults shelf.new ≡ H.write_faults shelf.old }
@@ -46,7 +47,8 @@ fn debug_files<H: Shelf>(
     irq: Response,
     script: &str,
 ) -> Result<Ending, Failure>
-    ensures gives { Gives (DebugAnswers (H.files shelf.old) (Rose (H.load_faults shelf.old) (H.load_faults shelf.new)) hex.now pads.now irq script.now) result }
+    ensures gives { Gives (DebugAnswers (H.files shelf.old)
+        (Rose (H.load_faults shelf.old) (H.load_faults shelf.new)) hex.now pads.now irq script.now) result }
     ensures files { H.files shelf.new ≡ H.files shelf.old }
     ensures load_faults { H.load_faults shelf.old ≤ H.load_faults shelf.new }
     ensures write_faults { H.write_faults shelf.new ≡ H.write_faults shelf.old }
@@ -75,7 +77,8 @@ pub fn run_debug<H: Shelf, K: Sink>(
     shelf: &mut H,
     out: &mut K,
 ) -> Status
-    ensures outcome { MayCome (DebugAnswers (H.files shelf.old) (Rose (H.load_faults shelf.old) (H.load_faults shelf.new)) hex.now pads.now irq script.now) NoPart
+    ensures outcome { MayCome (DebugAnswers (H.files shelf.old)
+        (Rose (H.load_faults shelf.old) (H.load_faults shelf.new)) hex.now pads.now irq script.now) NoPart
         (Rose (H.write_faults shelf.old) (H.write_faults shelf.new) ⊎ Rose (K.faults out.old) (K.faults out.new))
         result (outside (H.files shelf.old) (K.text out.old)) (outside (H.files shelf.new) (K.text out.new)) }
     ensures files { H.files shelf.new ≡ H.files shelf.old }

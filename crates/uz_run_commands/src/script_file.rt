@@ -58,7 +58,8 @@ pub(crate) fn read_script_file<H: Shelf>(
 ) -> Result<Vec<Command>, Failure>
     ensures said { IfOk result (λ commands. Says (H.files shelf.old) name.now text_limit SpellsScript commands.items) }
     ensures range { IfOk result (λ commands. All IsInRange commands.items) }
-    ensures fails { IfErr result (EndsBy (Fails (H.files shelf.old) (Rose (H.load_faults shelf.old) (H.load_faults shelf.new)) name.now text_limit RefusesScript)) }
+    ensures fails { IfErr result (EndsBy (Fails (H.files shelf.old)
+        (Rose (H.load_faults shelf.old) (H.load_faults shelf.new)) name.now text_limit RefusesScript)) }
     ensures files { H.files shelf.new ≡ H.files shelf.old }
     ensures load_faults { H.load_faults shelf.old ≤ H.load_faults shelf.new }
     ensures write_faults { H.write_faults shelf.new ≡ H.write_faults shelf.old }

@@ -53,8 +53,10 @@ pub(crate) fn print_run<K: Sink>(
     out: &mut K,
 ) -> Result<RunEnd, WriteError>
     requires { limit ≤ 2 ^ 62 }
-    ensures ok { IfOk result (λ end. (start : State PadHistory) → RunsTo limit start [] console.old → IsPrinted limit start end (K.text out.old) (K.text out.new)) }
-    ensures err { OnErr result ((start : State PadHistory) → RunsTo limit start [] console.old → IsPrintedPart limit start (K.text out.old) (K.text out.new)) }
+    ensures ok { IfOk result (λ end. (start : State PadHistory) → RunsTo limit start [] console.old
+        → IsPrinted limit start end (K.text out.old) (K.text out.new)) }
+    ensures err { OnErr result ((start : State PadHistory) → RunsTo limit start [] console.old
+        → IsPrintedPart limit start (K.text out.old) (K.text out.new)) }
     ensures failed { IsErrOf result WriteError.Failed → Rose (K.faults out.old) (K.faults out.new) }
     ensures faults { K.faults out.old ≤ K.faults out.new }
 {

@@ -18,7 +18,9 @@ use uz_shelf::{Shelf, Sink, WriteError};
 /// Prints the line that ends a trace.
 fn end_run<K: Sink>(alloc: Global, out: &mut K, clocks: u32, run_end: RunEnd) -> Status
     ensures comes { (files : Option FileMap) (old : Option (List ℕ)) (printed : List ℕ) → TakesAll old printed (K.text out.old) →
-        ComesOf (ended printed (end_status run_end) (last_line clocks run_end)) (Rose (K.faults out.old) (K.faults out.new)) result (outside files old) (outside files (K.text out.new)) }
+        ComesOf (ended printed (end_status run_end) (last_line clocks run_end))
+        (Rose (K.faults out.old) (K.faults out.new)) result (outside files old)
+        (outside files (K.text out.new)) }
     ensures faults { K.faults out.old ≤ K.faults out.new }
 {
     match ending_of(alloc, clocks, run_end) {
@@ -37,7 +39,8 @@ pub fn run_trace<H: Shelf, K: Sink>(
     shelf: &mut H,
     out: &mut K,
 ) -> Status
-    ensures outcome { MayCome (TraceAnswers (H.files shelf.old) (Rose (H.load_faults shelf.old) (H.load_faults shelf.new)) hex.now pads.now irq clocks)
+    ensures outcome { MayCome (TraceAnswers (H.files shelf.old)
+        (Rose (H.load_faults shelf.old) (H.load_faults shelf.new)) hex.now pads.now irq clocks)
         (TraceParts (H.files shelf.old) hex.now pads.now irq clocks)
         (Rose (H.write_faults shelf.old) (H.write_faults shelf.new) ⊎ Rose (K.faults out.old) (K.faults out.new))
         result (outside (H.files shelf.old) (K.text out.old)) (outside (H.files shelf.new) (K.text out.new)) }

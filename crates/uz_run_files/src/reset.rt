@@ -20,7 +20,8 @@ pub fn reset_console<H: Shelf>(
     irq: Response,
 ) -> Result<Console, Failure>
     ensures starts { IfOk result (StartsRun (H.files shelf.old) hex.now pads.now irq) }
-    ensures fails { IfErr result (EndsBy (RunPreface (H.files shelf.old) (Rose (H.load_faults shelf.old) (H.load_faults shelf.new)) hex.now pads.now)) }
+    ensures fails { IfErr result (EndsBy (RunPreface (H.files shelf.old)
+        (Rose (H.load_faults shelf.old) (H.load_faults shelf.new)) hex.now pads.now)) }
     ensures files { H.files shelf.new ≡ H.files shelf.old }
     ensures load_faults { H.load_faults shelf.old ≤ H.load_faults shelf.new }
     ensures write_faults { H.write_faults shelf.new ≡ H.write_faults shelf.old }

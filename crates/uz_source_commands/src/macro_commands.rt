@@ -10,7 +10,8 @@ ghost use Rattle.uz_shelf.specs.Faults.{Rose};
 ghost use Rattle.uz_files.specs.Answers.{NoPart, MayCome, outside};
 ghost use Rattle.uz_source_commands.specs.AsmCommand.{assembled_line};
 ghost use Rattle.uz_files.specs.Endings.{EndsBy};
-ghost use Rattle.uz_source_commands.specs.MacroCommands.{BuildAnswers, ExpandAnswers, FilesBuilt, IsBuilt, IsExpanded, IsUnbuilt, expanded_line, origin_of as origin_of_line};
+ghost use Rattle.uz_source_commands.specs.MacroCommands.{BuildAnswers, ExpandAnswers, FilesBuilt, IsBuilt, IsExpanded};
+ghost use Rattle.uz_source_commands.specs.MacroCommands.{IsUnbuilt, expanded_line, origin_of as origin_of_line};
 ghost use Rattle.uz_source_commands.specs.MacroSource.{ReadsFlat};
 ghost use Rattle.uz_source_commands.specs.MacroValues.{IsImageWork, IsMacroWork, TellsAt};
 
@@ -54,7 +55,8 @@ fn prepare_expansion<H: Shelf>(
     file: &str,
 ) -> Result<Work, Failure>
     ensures work { IfOk result (IsMacroWork (H.files shelf.old) source.now file.now (IsExpanded file.now)) }
-    ensures fails { IfErr result (EndsBy (ReadsFlat (H.files shelf.old) (Rose (H.load_faults shelf.old) (H.load_faults shelf.new)) source.now (IsExpanded file.now))) }
+    ensures fails { IfErr result (EndsBy (ReadsFlat (H.files shelf.old)
+        (Rose (H.load_faults shelf.old) (H.load_faults shelf.new)) source.now (IsExpanded file.now))) }
     ensures files { H.files shelf.new ≡ H.files shelf.old }
     ensures load_faults { H.load_faults shelf.old ≤ H.load_faults shelf.new }
     ensures write_faults { H.write_faults shelf.new ≡ H.write_faults shelf.old }
@@ -121,7 +123,8 @@ fn prepare_build<H: Shelf>(
 ) -> Result<Work, Failure>
     ensures work { IfOk result (IsMacroWork (H.files shelf.old) source.now hex.now (IsBuilt hex.now)) }
     ensures image { IfOk result (IsImageWork (H.files shelf.old) source.now) }
-    ensures fails { IfErr result (EndsBy (ReadsFlat (H.files shelf.old) (Rose (H.load_faults shelf.old) (H.load_faults shelf.new)) source.now (IsBuilt hex.now))) }
+    ensures fails { IfErr result (EndsBy (ReadsFlat (H.files shelf.old)
+        (Rose (H.load_faults shelf.old) (H.load_faults shelf.new)) source.now (IsBuilt hex.now))) }
     ensures files { H.files shelf.new ≡ H.files shelf.old }
     ensures load_faults { H.load_faults shelf.old ≤ H.load_faults shelf.new }
     ensures write_faults { H.write_faults shelf.new ≡ H.write_faults shelf.old }
@@ -146,7 +149,8 @@ pub fn run_expand<H: Shelf, K: Sink>(
     shelf: &mut H,
     out: &mut K,
 ) -> Status
-    ensures { MayCome (ExpandAnswers (H.files shelf.old) (Rose (H.load_faults shelf.old) (H.load_faults shelf.new)) source.now file.now) NoPart
+    ensures { MayCome (ExpandAnswers (H.files shelf.old)
+        (Rose (H.load_faults shelf.old) (H.load_faults shelf.new)) source.now file.now) NoPart
         (Rose (H.write_faults shelf.old) (H.write_faults shelf.new) ⊎ Rose (K.faults out.old) (K.faults out.new))
         result (outside (H.files shelf.old) (K.text out.old)) (outside (H.files shelf.new) (K.text out.new)) }
 {
@@ -162,7 +166,8 @@ pub fn run_build<H: Shelf, K: Sink>(
     shelf: &mut H,
     out: &mut K,
 ) -> Status
-    ensures outcome { MayCome (BuildAnswers (H.files shelf.old) (Rose (H.load_faults shelf.old) (H.load_faults shelf.new)) source.now hex.now) NoPart
+    ensures outcome { MayCome (BuildAnswers (H.files shelf.old)
+        (Rose (H.load_faults shelf.old) (H.load_faults shelf.new)) source.now hex.now) NoPart
         (Rose (H.write_faults shelf.old) (H.write_faults shelf.new) ⊎ Rose (K.faults out.old) (K.faults out.new))
         result (outside (H.files shelf.old) (K.text out.old)) (outside (H.files shelf.new) (K.text out.new)) }
     ensures built { result ≡ Status.Done → FilesBuilt (H.files shelf.old) (H.files shelf.new) source.now hex.now }

@@ -72,7 +72,8 @@ pub(crate) fn expand_file<H: Shelf>(
 ) -> Result<Expanded, Failure>
     ensures said { IfOk result (λ e. Expands (H.files shelf.old) source.now (flat_seen (names_of e.names) e.flat)) }
     ensures short { IfOk result (λ e. length e.flat.text.items ≤ 1048576) }
-    ensures fails { IfErr result (EndsBy (ExpandFails (H.files shelf.old) (Rose (H.load_faults shelf.old) (H.load_faults shelf.new)) source.now)) }
+    ensures fails { IfErr result (EndsBy (ExpandFails (H.files shelf.old)
+        (Rose (H.load_faults shelf.old) (H.load_faults shelf.new)) source.now)) }
     ensures files { H.files shelf.new ≡ H.files shelf.old }
     ensures load_faults { H.load_faults shelf.old ≤ H.load_faults shelf.new }
     ensures write_faults { H.write_faults shelf.new ≡ H.write_faults shelf.old }

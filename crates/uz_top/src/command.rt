@@ -3,7 +3,11 @@
 ghost use Rattle.std.specs.Prelude.{◌≡◌, map, option_map, string_bytes};
 ghost use Rattle.uz_top.specs.CommandValues.{value_of};
 ghost use Rattle.uz_text.specs.Numbers.{number_below, number_within as number_from_low};
-ghost use Rattle.uz_top.specs.Words.{asm_words, build_words, certify_with as certify_with_response, certify_words, check_words, command_of, debug_with as debug_with_response, debug_words, demo_with as demo_with_number, demo_words, dis_words, expand_words, migrate_words, play_with as play_with_clocks, play_words, report_words, response_of, trace_words, wave_with as wave_with_numbers, wave_words};
+ghost use Rattle.uz_top.specs.Words.{asm_words, build_words, certify_with as certify_with_response, certify_words};
+ghost use Rattle.uz_top.specs.Words.{check_words, command_of, debug_with as debug_with_response, debug_words};
+ghost use Rattle.uz_top.specs.Words.{demo_with as demo_with_number, demo_words, dis_words, expand_words, migrate_words};
+ghost use Rattle.uz_top.specs.Words.{play_with as play_with_clocks, play_words, report_words, response_of, trace_words};
+ghost use Rattle.uz_top.specs.Words.{wave_with as wave_with_numbers, wave_words};
 
 use uz_cert::Response;
 use uz_play_command::{Clocks, number_of_clocks};
@@ -373,7 +377,8 @@ fn wave_with<'a>(
     clocks: &str,
     wav: &'a str,
 ) -> Option<Command<'a>>
-    ensures { option_map value_of result ≡ wave_with_numbers hex.now pads.now (response_of irq.now) (number_from_low 1 1000000001 clocks.now) wav.now }
+    ensures { option_map value_of result ≡ wave_with_numbers hex.now pads.now (response_of irq.now)
+        (number_from_low 1 1000000001 clocks.now) wav.now }
 {
     match (
         response(irq),

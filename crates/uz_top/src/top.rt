@@ -45,10 +45,12 @@ fn run<H: Shelf, K: Sink>(
     shelf: &mut H,
     out: &mut K,
 ) -> Status
-    ensures outcome { MayCome (Answers (H.files shelf.old) (Rose (H.load_faults shelf.old) (H.load_faults shelf.new)) (value_of command.now)) (PartAnswers (H.files shelf.old) (value_of command.now))
+    ensures outcome { MayCome (Answers (H.files shelf.old) (Rose (H.load_faults shelf.old) (H.load_faults shelf.new))
+        (value_of command.now)) (PartAnswers (H.files shelf.old) (value_of command.now))
         (Rose (H.write_faults shelf.old) (H.write_faults shelf.new) ⊎ Rose (K.faults out.old) (K.faults out.new))
         result (outside (H.files shelf.old) (K.text out.old)) (outside (H.files shelf.new) (K.text out.new)) }
-    ensures certified { result ≡ Status.Done → WritesApart (value_of command.now) → Certifies (H.files shelf.old) (H.files shelf.new) (value_of command.now) }
+    ensures certified { result ≡ Status.Done → WritesApart (value_of command.now)
+        → Certifies (H.files shelf.old) (H.files shelf.new) (value_of command.now) }
     ensures halted { result ≡ Status.Stopped → StopTells (H.files shelf.old) (value_of command.now) }
     ensures untouched { CreatesNone (value_of command.now) → H.files shelf.new ≡ H.files shelf.old }
 {
@@ -117,7 +119,8 @@ pub fn uzebox<H: Shelf, K: Sink>(
 
     // The status, what was printed and what was written come of an answer that the words and the loaded bytes give.
     ensures answered { IfCommand words.now (λ c.
-        MayCome (Answers (H.files shelf.old) (LoadFault (H.load_faults shelf.old) (H.load_faults shelf.new)) c) (PartAnswers (H.files shelf.old) c)
+        MayCome (Answers (H.files shelf.old) (LoadFault (H.load_faults shelf.old) (H.load_faults shelf.new)) c)
+        (PartAnswers (H.files shelf.old) c)
         (WriteFault (H.write_faults shelf.old) (H.write_faults shelf.new) (K.faults out.old) (K.faults out.new))
         result (outside (H.files shelf.old) (K.text out.old)) (outside (H.files shelf.new) (K.text out.new))) }
 
@@ -126,8 +129,10 @@ pub fn uzebox<H: Shelf, K: Sink>(
     ensures exact { IfCommand words.now (λ c. IfSome (H.files shelf.old) (λ files.
         (result ≡ Status.NoMemory)
         ⊎ (LoadFault (H.load_faults shelf.old) (H.load_faults shelf.new)
-        ⊎ (((result ≡ Status.Unwritten) × WriteFault (H.write_faults shelf.old) (H.write_faults shelf.new) (K.faults out.old) (K.faults out.new))
-        ⊎ IsDecided (H.files shelf.old) (WriteFault (H.write_faults shelf.old) (H.write_faults shelf.new) (K.faults out.old) (K.faults out.new)) c
+        ⊎ (((result ≡ Status.Unwritten) × WriteFault (H.write_faults shelf.old) (H.write_faults shelf.new)
+        (K.faults out.old) (K.faults out.new))
+        ⊎ IsDecided (H.files shelf.old) (WriteFault (H.write_faults shelf.old) (H.write_faults shelf.new)
+        (K.faults out.old) (K.faults out.new)) c
         result (outside (H.files shelf.old) (K.text out.old)) (outside (H.files shelf.new) (K.text out.new)))))) }
 
     // When each fault from outside comes.

@@ -5,8 +5,14 @@ ghost use Rattle.uz_machine.specs.OperandRanges.{OperandFits, EffectFits};
 ghost use Rattle.uz_machine.specs.declared.Effect.TheVariants.{CopyByte, CopyPair, Binary, AddToPair};
 ghost use Rattle.uz_schedule.specs.declared.facts.Val.TheVariants.{Range};
 ghost use Rattle.uz_range.specs.Rules.{bld_answer, bst_answer};
-ghost use Rattle.uz_transfer.specs.Values.{exact_pair as exact_range, span_of as span_of_val, value_at, flag_at, pair_range as range_of_pair, with_value, with_pair_range, with_pair_value, with_flag_list, merged_flags};
-ghost use Rattle.uz_transfer.specs.Arithmetic.{known_operand, binary_answer as answer_of_binary, same_register_answer, is_same_register as names_itself, operation_answer, is_self_copy as copies, operation_value, binary_keeps, unary_answer as answer_of_unary, unary_keeps, add_to_pair_answer, pair_keeps, factors_answer, product_keeps};
+ghost use Rattle.uz_transfer.specs.Values.{exact_pair as exact_range, span_of as span_of_val, value_at, flag_at};
+ghost use Rattle.uz_transfer.specs.Values.{pair_range as range_of_pair, with_value, with_pair_range, with_pair_value};
+ghost use Rattle.uz_transfer.specs.Values.{with_flag_list, merged_flags};
+ghost use Rattle.uz_transfer.specs.Arithmetic.{known_operand, binary_answer as answer_of_binary, same_register_answer};
+ghost use Rattle.uz_transfer.specs.Arithmetic.{is_same_register as names_itself, operation_answer};
+ghost use Rattle.uz_transfer.specs.Arithmetic.{is_self_copy as copies, operation_value, binary_keeps};
+ghost use Rattle.uz_transfer.specs.Arithmetic.{unary_answer as answer_of_unary, unary_keeps, add_to_pair_answer};
+ghost use Rattle.uz_transfer.specs.Arithmetic.{pair_keeps, factors_answer, product_keeps};
 ghost use Rattle.uz_transfer.specs.Transfer.{with_flag, bit_of_bool};
 
 use crate::values::{
@@ -44,7 +50,8 @@ pub(crate) fn copy_byte(at: &mut Instance, d: u8, source: Operand)
 /// MOVW.
 pub(crate) fn copy_pair(at: &mut Instance, d: u8, r: u8)
     requires { EffectFits (CopyPair d r) }
-    ensures { at.new ≡ with_pair_range d (range_of_pair at.old r) (with_value (d + 1) (value_at at.old.regs (r + 1)) (with_value d (value_at at.old.regs r) at.old)) }
+    ensures { at.new ≡ with_pair_range d (range_of_pair at.old r)
+        (with_value (d + 1) (value_at at.old.regs (r + 1)) (with_value d (value_at at.old.regs r) at.old)) }
 {
     let range = pair_range(at, r);
     let low = val(at, r);
@@ -144,8 +151,11 @@ fn merge_binary(at: &mut Instance, op: BinaryOp, new: &[Bit; 7])
 pub(crate) fn binary(at: &mut Instance, op: BinaryOp, d: u8, source: Operand, compare: bool)
     requires { EffectFits (Binary op d source compare) }
     ensures { at.new ≡
-        (if compare then with_flag_list (merged_flags (binary_keeps op) (operation_answer op d source compare at.old).flags at.old.flags) at.old
-        else with_value d (operation_value op d source compare at.old) (with_flag_list (merged_flags (binary_keeps op) (operation_answer op d source compare at.old).flags at.old.flags) at.old)) }
+        (if compare then with_flag_list (merged_flags (binary_keeps op)
+        (operation_answer op d source compare at.old).flags at.old.flags) at.old
+        else with_value d (operation_value op d source compare at.old)
+        (with_flag_list (merged_flags (binary_keeps op)
+        (operation_answer op d source compare at.old).flags at.old.flags) at.old)) }
 {
     let answer = answer(at, op, d, source, compare);
     let value = value(at, op, d, source, compare);
@@ -202,7 +212,8 @@ fn merge_unary(at: &mut Instance, op: UnaryOp, new: &[Bit; 7])
 pub(crate) fn unary(at: &mut Instance, op: UnaryOp, d: u8)
     requires { d < 32 }
     ensures { at.new ≡ with_value d (Range (answer_of_unary op (span_of_val (value_at at.old.regs d)) at.old).span)
-        (with_flag_list (merged_flags (unary_keeps op) (answer_of_unary op (span_of_val (value_at at.old.regs d)) at.old).flags at.old.flags) at.old) }
+        (with_flag_list (merged_flags (unary_keeps op)
+        (answer_of_unary op (span_of_val (value_at at.old.regs d)) at.old).flags at.old.flags) at.old) }
 {
     let answer = unary_answer(op, span(at, d), at);
     merge_unary(at, op, &answer.flags);
@@ -272,8 +283,11 @@ pub(crate) fn multiply(
 )
     requires low { d < 32 }
     requires high { r < 32 }
-    ensures { at.new ≡ with_pair_value 0 (factors_answer d_signed r_signed shifted (span_of_val (value_at at.old.regs d)) (span_of_val (value_at at.old.regs r))).span
-        (with_flag_list (merged_flags product_keeps (factors_answer d_signed r_signed shifted (span_of_val (value_at at.old.regs d)) (span_of_val (value_at at.old.regs r))).flags at.old.flags) at.old) }
+    ensures { at.new ≡ with_pair_value 0 (factors_answer d_signed r_signed shifted
+        (span_of_val (value_at at.old.regs d)) (span_of_val (value_at at.old.regs r))).span
+        (with_flag_list (merged_flags product_keeps
+        (factors_answer d_signed r_signed shifted (span_of_val (value_at at.old.regs d))
+        (span_of_val (value_at at.old.regs r))).flags at.old.flags) at.old) }
 {
     let answer = factors(d_signed, r_signed, shifted, span(at, d), span(at, r));
     merge_flags(

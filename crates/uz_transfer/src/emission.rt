@@ -3,7 +3,9 @@
 ghost use Rattle.std.specs.Prelude.{◌||◌, ◌%◌, ◌≡◌, ◌<◌, ◌≤◌, ◌-◌, false, true, Option, None, Some, ◌&&◌, nat_eq, if◌then◌else◌};
 ghost use Rattle.uz_machine.specs.OperandRanges.{EffectFits};
 ghost use Rattle.uz_machine.specs.declared.Effect.TheVariants.{Return, Store, WriteIoBit};
-ghost use Rattle.uz_transfer.specs.Emission.{main_emits as emits_in_main, emission as emitted, bit_event as event_of_bit, level_event as event_of_level, toggle_event as event_of_toggle, byte_event as event_of_byte};
+ghost use Rattle.uz_transfer.specs.Emission.{main_emits as emits_in_main, emission as emitted};
+ghost use Rattle.uz_transfer.specs.Emission.{bit_event as event_of_bit, level_event as event_of_level};
+ghost use Rattle.uz_transfer.specs.Emission.{toggle_event as event_of_toggle, byte_event as event_of_byte};
 ghost use Rattle.uz_transfer.specs.Refusals.{stored_bit as bit_of_stored, flag_is as is_bit};
 ghost use Rattle.uz_transfer.specs.Step.{clears_flag};
 ghost use Rattle.uz_range.specs.Answers.{is_single as is_single_range};
@@ -150,7 +152,9 @@ fn is_seen(at: u16) -> bool
 
 /// Whether a store of a byte is to one of them.
 fn store_is_seen(a: &Wide) -> bool
-    ensures { result ≡ (is_single_range a.now && (nat_eq a.now.lo 0x23 || (nat_eq a.now.lo 0x25 || (nat_eq a.now.lo 0x26 || (nat_eq a.now.lo 0x28 || nat_eq a.now.lo 0xB3))))) }
+    ensures { result ≡ (is_single_range a.now &&
+        (nat_eq a.now.lo 0x23 || (nat_eq a.now.lo 0x25 ||
+        (nat_eq a.now.lo 0x26 || (nat_eq a.now.lo 0x28 || nat_eq a.now.lo 0xB3))))) }
 {
     is_single_wide(a) && is_seen(a.lo())
 }

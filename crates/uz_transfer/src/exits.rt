@@ -1,11 +1,15 @@
 //! Where an instruction leads.
 
-ghost use Rattle.std.specs.Prelude.{◌≡◌, ◌<◌, ◌≤◌, ◌+◌, ◌-◌, ◌%◌, ◌∷◌, ◌++◌, [], false, true, Option, None, Some, ◌&&◌, nat_le, ◌||◌, nat_lt, ◌*◌, map, suc};
+ghost use Rattle.std.specs.Prelude.{◌≡◌, ◌<◌, ◌≤◌, ◌+◌, ◌-◌, ◌%◌, ◌∷◌, ◌++◌, [], false, true, Option, None, Some, ◌&&◌};
+ghost use Rattle.std.specs.Prelude.{nat_le, ◌||◌, nat_lt, ◌*◌, map, suc};
 ghost use Rattle.avr_table.specs.Rows.{clocks_of};
 ghost use Rattle.uz_machine.specs.OperandRanges.{EffectFits, SkipTestFits, JumpTargetFits};
 ghost use Rattle.avr_table.specs.declared.Outcome.TheVariants.{Next, Taken};
 ghost use Rattle.uz_machine.specs.declared.Effect.TheVariants.{Jump, Return, Branch, SkipIf};
-ghost use Rattle.uz_transfer.specs.Exits.{outcomes, decided as decides_it, flag_of_kind as flag_by_kind, are_equal as are_equal_bytes, test_decides as test_decided, choices as choices_of, skip_outcome as outcome_of_skip, numbers_from, skipped as words_skipped};
+ghost use Rattle.uz_transfer.specs.Exits.{outcomes, decided as decides_it, flag_of_kind as flag_by_kind};
+ghost use Rattle.uz_transfer.specs.Exits.{are_equal as are_equal_bytes, test_decides as test_decided};
+ghost use Rattle.uz_transfer.specs.Exits.{choices as choices_of, skip_outcome as outcome_of_skip, numbers_from};
+ghost use Rattle.uz_transfer.specs.Exits.{skipped as words_skipped};
 ghost use Rattle.uz_transfer.specs.Memory.{depth_of};
 ghost use Rattle.uz_transfer.specs.Refusals.{fail_of as fail_of_effect, target_fails as fails_target};
 ghost use Rattle.uz_transfer.specs.Step.{exits_of};
@@ -153,7 +157,8 @@ pub(crate) fn branch(
 ) -> ArrayVec<Exit, 16>
     requires following { following < 32768 }
     requires fits { EffectFits (Branch k set offset) }
-    ensures { result.items ≡ exits_of (Branch k set offset) (clocks_of i.now) following at.now (choices_of (decides_it (flag_by_kind at.now k) set) Taken) }
+    ensures { result.items ≡ exits_of (Branch k set offset) (clocks_of i.now) following at.now
+        (choices_of (decides_it (flag_by_kind at.now k) set) Taken) }
 {
     let on = exit(i, Outcome::Next, following);
     let away = exit(i, Outcome::Taken, moved(following, offset));
@@ -170,7 +175,8 @@ pub(crate) fn skip(
 ) -> ArrayVec<Exit, 16>
     requires following { following < 32768 }
     requires fits { SkipTestFits test }
-    ensures { result.items ≡ exits_of (SkipIf test) (clocks_of i.now) following at.now (choices_of (test_decided test at.now) (outcome_of_skip image.now following)) }
+    ensures { result.items ≡ exits_of (SkipIf test) (clocks_of i.now) following at.now
+        (choices_of (test_decided test at.now) (outcome_of_skip image.now following)) }
 {
     let over = skip_outcome(image, following);
     let on = exit(i, Outcome::Next, moved(following, 0));

@@ -6,7 +6,8 @@ ghost use Rattle.uz_schedule.specs.Limits.{most_lines};
 ghost use Rattle.uz_schedule.specs.Schedule.{scanline};
 ghost use Rattle.uz_schedule.specs.Lines.{order_of};
 ghost use Rattle.uz_transfer.specs.Exits.{each_exit};
-ghost use Rattle.uz_transfer.specs.InTime.{sets_ahead as is_set_ahead, returns_with_top as returns_with, is_in_time as in_time_by, clock_holds as clock_by};
+ghost use Rattle.uz_transfer.specs.InTime.{sets_ahead as is_set_ahead, returns_with_top as returns_with};
+ghost use Rattle.uz_transfer.specs.InTime.{is_in_time as in_time_by, clock_holds as clock_by};
 
 use crate::memory::is_handler;
 use crate::one_step::is_return;

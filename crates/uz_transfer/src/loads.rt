@@ -1,13 +1,19 @@
 //! What loads give: SREG, the timer's count, tracked cells, flash bytes.
 
-ghost use Rattle.std.specs.Prelude.{◌≡◌, ◌<◌, ◌≤◌, ◌+◌, ◌-◌, ◌*◌, ◌%◌, ◌&&◌, not, ℕ, false, true, Option, None, Some, length, if◌then◌else◌};
+ghost use Rattle.std.specs.Prelude.{◌≡◌, ◌<◌, ◌≤◌, ◌+◌, ◌-◌, ◌*◌, ◌%◌, ◌&&◌, not, ℕ, false, true, Option, None, Some};
+ghost use Rattle.std.specs.Prelude.{length, if◌then◌else◌};
 ghost use Rattle.uz_machine.specs.OperandRanges.{AddressModeFits, EffectFits};
 ghost use Rattle.uz_machine.specs.declared.Effect.TheVariants.{Load};
 ghost use Rattle.uz_machine.specs.Arithmetic.{bit_value};
 ghost use Rattle.uz_range.specs.Answers.{is_known as is_known_bit, is_one};
-ghost use Rattle.uz_transfer.specs.Values.{exact_pair as exact_range, pair_range as range_of_pair, with_value, with_pair_value, span_at, known_byte as val_of_byte, any_byte};
-ghost use Rattle.uz_transfer.specs.Kinds.{cell_place as place_of_cell, cell_range as range_of_cell, is_main as is_main_kind, is_handler as is_handler_kind};
-ghost use Rattle.uz_transfer.specs.Memory.{all_flags, is_old as is_old_bit, flags_number, sreg_value as val_of_sreg, cell_value as val_of_cell, value_at_address as val_of_address, loaded_value, address_range as range_of_address, with_pointer_range, flash_value, slot_value, without_slots, depth_of};
+ghost use Rattle.uz_transfer.specs.Values.{exact_pair as exact_range, pair_range as range_of_pair, with_value};
+ghost use Rattle.uz_transfer.specs.Values.{with_pair_value, span_at, known_byte as val_of_byte, any_byte};
+ghost use Rattle.uz_transfer.specs.Kinds.{cell_place as place_of_cell, cell_range as range_of_cell};
+ghost use Rattle.uz_transfer.specs.Kinds.{is_main as is_main_kind, is_handler as is_handler_kind};
+ghost use Rattle.uz_transfer.specs.Memory.{all_flags, is_old as is_old_bit, flags_number, sreg_value as val_of_sreg};
+ghost use Rattle.uz_transfer.specs.Memory.{cell_value as val_of_cell, value_at_address as val_of_address, loaded_value};
+ghost use Rattle.uz_transfer.specs.Memory.{address_range as range_of_address, with_pointer_range, flash_value};
+ghost use Rattle.uz_transfer.specs.Memory.{slot_value, without_slots, depth_of};
 ghost use Rattle.uz_range.specs.Rules.{pair_add_answer};
 ghost use Rattle.uz_schedule.specs.declared.facts.Val.TheVariants.{OldFlags};
 
@@ -145,7 +151,8 @@ fn value_at_address(head: &Head, sampled: u16, at: &Instance, address: u16) -> V
 /// LD, LDD, LDS, IN.
 pub(crate) fn load(at: &mut Instance, head: &Head, sampled: u16, d: u8, from: AddressMode)
     requires fits { EffectFits (Load d from) }
-    ensures { at.new ≡ with_value d (loaded_value head.now sampled at.old (range_of_address from at.old)) (with_pointer_range from at.old at.old) }
+    ensures { at.new ≡ with_value d (loaded_value head.now sampled at.old (range_of_address from at.old))
+        (with_pointer_range from at.old at.old) }
 {
     let address = address_range(at, from);
     let value = if is_single_wide(&address) {
@@ -160,7 +167,8 @@ pub(crate) fn load(at: &mut Instance, head: &Head, sampled: u16, d: u8, from: Ad
 /// LPM.
 pub(crate) fn load_program(at: &mut Instance, image: &Image, d: u8, increment: bool)
     requires { d < 32 }
-    ensures { at.new ≡ with_value d (flash_value image.now (range_of_pair at.old 30)) (if increment then with_pair_value 30 (pair_add_answer (exact_range at.old 30) 1).span at.old else at.old) }
+    ensures { at.new ≡ with_value d (flash_value image.now (range_of_pair at.old 30))
+        (if increment then with_pair_value 30 (pair_add_answer (exact_range at.old 30) 1).span at.old else at.old) }
 {
     let z = pair_range(at, 30);
     let value = if is_single_wide(&z) {

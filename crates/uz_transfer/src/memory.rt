@@ -1,11 +1,16 @@
 //! The stack, the tracked cells, and what loads and stores make of them.
 
-ghost use Rattle.std.specs.Prelude.{◌≡◌, ◌<◌, ◌≤◌, ◌+◌, ◌-◌, ◌&&◌, ◌++◌, ◌∷◌, [], ℕ, false, true, Option, None, Some, length, take, drop, nat_lt, if◌then◌else◌};
+ghost use Rattle.std.specs.Prelude.{◌≡◌, ◌<◌, ◌≤◌, ◌+◌, ◌-◌, ◌&&◌, ◌++◌, ◌∷◌, [], ℕ, false, true, Option, None, Some};
+ghost use Rattle.std.specs.Prelude.{length, take, drop, nat_lt, if◌then◌else◌};
 ghost use Rattle.uz_machine.specs.OperandRanges.{AddressModeFits, EffectFits};
 ghost use Rattle.uz_machine.specs.declared.Effect.TheVariants.{Load, Store};
-ghost use Rattle.uz_transfer.specs.Values.{span_of as span_of_val, value_at, span_at, pair_range as range_of_pair, with_value, with_pair_value, with_flag_list};
-ghost use Rattle.uz_transfer.specs.Kinds.{tracks as is_tracked, place_from, cell_place as place_of_cell, range_from, cell_range as range_of_cell, misses as misses_all, is_main as is_main_kind, is_handler as is_handler_kind};
-ghost use Rattle.uz_transfer.specs.Memory.{cell_value as val_of_cell, address_range as range_of_address, with_pointer_range, with_slots, depth_of, slot_value, without_slots};
+ghost use Rattle.uz_transfer.specs.Values.{span_of as span_of_val, value_at, span_at, pair_range as range_of_pair};
+ghost use Rattle.uz_transfer.specs.Values.{with_value, with_pair_value, with_flag_list};
+ghost use Rattle.uz_transfer.specs.Kinds.{tracks as is_tracked, place_from, cell_place as place_of_cell, range_from};
+ghost use Rattle.uz_transfer.specs.Kinds.{cell_range as range_of_cell, misses as misses_all, is_main as is_main_kind};
+ghost use Rattle.uz_transfer.specs.Kinds.{is_handler as is_handler_kind};
+ghost use Rattle.uz_transfer.specs.Memory.{cell_value as val_of_cell, address_range as range_of_address};
+ghost use Rattle.uz_transfer.specs.Memory.{with_pointer_range, with_slots, depth_of, slot_value, without_slots};
 ghost use Rattle.uz_range.specs.Answers.{ends};
 
 use crate::values::{exact_pair, pair_range, set_pair_val, set_val, val};

@@ -27,8 +27,10 @@ fn place(schedule: &Schedule, at: &Instance, clocks: u8) -> (u16, u16)
     requires count { length schedule.now.lines ≤ most_lines }
     requires line { at.now.line < length schedule.now.lines }
     requires clock { at.now.clock < scanline }
-    ensures line { result.0 ≡ (if is_main_kind at.now.kind then at.now.line else line_after (order_of schedule.now) at.now.line (at.now.clock + clocks)) }
-    ensures clock { result.1 ≡ (if is_main_kind at.now.kind then at.now.clock else clock_after (order_of schedule.now) at.now.line (at.now.clock + clocks)) }
+    ensures line { result.0 ≡ (if is_main_kind at.now.kind then at.now.line else line_after (order_of schedule.now) at.now.line
+        (at.now.clock + clocks)) }
+    ensures clock { result.1 ≡ (if is_main_kind at.now.kind then at.now.clock else clock_after (order_of schedule.now) at.now.line
+        (at.now.clock + clocks)) }
 {
     if is_main(at.kind) {
         (at.line, at.clock)
@@ -59,7 +61,8 @@ fn ends_line(schedule: &Schedule, at: &Instance, clocks: u8) -> bool
 /// Whether a match waits for its interrupt at a result: in a handler where a line ended, unless it was cleared.
 fn is_pending(schedule: &Schedule, at: &Instance, clears: bool, clocks: u8) -> bool
     requires clock { at.now.clock < scanline }
-    ensures { result ≡ (if is_handler_kind at.now.kind then not clears && (at.now.pending || line_ends (order_of schedule.now) at.now.line (at.now.clock + clocks)) else at.now.pending) }
+    ensures { result ≡ (if is_handler_kind at.now.kind then not clears &&
+        (at.now.pending || line_ends (order_of schedule.now) at.now.line (at.now.clock + clocks)) else at.now.pending) }
 {
     if is_handler(at.kind) {
         !clears && (at.pending || ends_line(schedule, at, clocks))

@@ -1,12 +1,20 @@
 //! Why an instruction has no abstract results.
 
-ghost use Rattle.std.specs.Prelude.{◌%◌, ◌≡◌, ◌<◌, ◌≤◌, ◌+◌, ◌-◌, false, true, Option, None, length, ◌&&◌, not, nat_eq, nat_le, ◌||◌, nat_lt, ◌*◌};
+ghost use Rattle.std.specs.Prelude.{◌%◌, ◌≡◌, ◌<◌, ◌≤◌, ◌+◌, ◌-◌, false, true, Option, None, length, ◌&&◌, not, nat_eq};
+ghost use Rattle.std.specs.Prelude.{nat_le, ◌||◌, nat_lt, ◌*◌};
 ghost use Rattle.uz_machine.specs.OperandRanges.{EffectFits};
 ghost use Rattle.uz_machine.specs.declared.Effect.TheVariants.{PushByte, PopByte, Jump, Return, Store, WriteIoBit};
 ghost use Rattle.uz_transfer.specs.Kinds.{depth_limit as limit_of_depth, is_main as is_main_kind, misses as misses_all};
 ghost use Rattle.uz_transfer.specs.Emission.{emission as emitted, bit_event as event_of_bit};
 ghost use Rattle.uz_transfer.specs.Memory.{depth_of, slot_value};
-ghost use Rattle.uz_transfer.specs.Refusals.{fail_of as fail_of_effect, is_known_slot as knows_slot, refuse_if as unless_it, is_setup_register as sets_up_at, is_some, stored_bit as bit_of_stored, flag_is as is_bit, range_inside as lies_within, cell_admits as takes_cell, may_store as may_be_stored, flag_fails as fails_by_flag, mask_fails as fails_by_mask, top_fails as fails_by_top, io_fails as fails_by_io, store_fail as fail_of_store, target_fails as fails_target};
+ghost use Rattle.uz_transfer.specs.Refusals.{fail_of as fail_of_effect, is_known_slot as knows_slot};
+ghost use Rattle.uz_transfer.specs.Refusals.{refuse_if as unless_it, is_setup_register as sets_up_at, is_some};
+ghost use Rattle.uz_transfer.specs.Refusals.{stored_bit as bit_of_stored, flag_is as is_bit};
+ghost use Rattle.uz_transfer.specs.Refusals.{range_inside as lies_within, cell_admits as takes_cell};
+ghost use Rattle.uz_transfer.specs.Refusals.{may_store as may_be_stored, flag_fails as fails_by_flag};
+ghost use Rattle.uz_transfer.specs.Refusals.{mask_fails as fails_by_mask, top_fails as fails_by_top};
+ghost use Rattle.uz_transfer.specs.Refusals.{io_fails as fails_by_io, store_fail as fail_of_store};
+ghost use Rattle.uz_transfer.specs.Refusals.{target_fails as fails_target};
 ghost use Rattle.uz_transfer.specs.declared.fail.Fail.TheVariants.{Flag, Io, Edge};
 ghost use Rattle.uz_range.specs.Answers.{is_known as is_known_bit};
 
@@ -91,7 +99,8 @@ fn is_register(a: &Wide) -> bool
 
 /// Whether addresses lie in RAM, off the stack and the cells.
 fn is_free(head: &Head, a: &Wide) -> bool
-    ensures { result ≡ ((nat_le 0x100 a.now.lo && nat_le a.now.hi 0x10FF) && ((nat_lt a.now.hi head.now.lo || nat_lt head.now.hi a.now.lo) && misses_all head.now.cells.items a.now)) }
+    ensures { result ≡ ((nat_le 0x100 a.now.lo && nat_le a.now.hi 0x10FF) &&
+        ((nat_lt a.now.hi head.now.lo || nat_lt head.now.hi a.now.lo) && misses_all head.now.cells.items a.now)) }
 {
     let ram = 0x100 <= a.lo() && a.hi() <= 0x10FF;
     let off = a.hi() < head.lo || head.hi < a.lo();
@@ -199,7 +208,9 @@ fn is_known_slot(v: &Val) -> bool
 
 /// Why SBI or CBI is refused.
 fn bit_fail(at: &Instance, address: u8, bit: u8, set: bool) -> Option<Fail>
-    ensures { result ≡ unless_it (nat_eq address 0x36 && (set && is_main_kind at.now.kind)) Flag (unless_it (sets_up_at address) Io (unless_it (not (is_some (event_of_bit (at.now.level % 2) bit set address))) Edge None)) }
+    ensures { result ≡ unless_it (nat_eq address 0x36 && (set && is_main_kind at.now.kind)) Flag
+        (unless_it (sets_up_at address) Io
+        (unless_it (not (is_some (event_of_bit (at.now.level % 2) bit set address))) Edge None)) }
 {
     let undecided = bit_event(sync_level(at), bit, set, address as u16).is_none();
     let edge = refuse_if(undecided, Fail::Edge, None);

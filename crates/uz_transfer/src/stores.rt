@@ -4,7 +4,8 @@ ghost use Rattle.std.specs.Prelude.{◌≡◌, ◌<◌, ◌≤◌, ◌-◌, Opti
 ghost use Rattle.uz_machine.specs.OperandRanges.{EffectFits, AddressModeFits};
 ghost use Rattle.uz_machine.specs.declared.Effect.TheVariants.{Store};
 ghost use Rattle.uz_transfer.specs.Values.{value_at};
-ghost use Rattle.uz_transfer.specs.Memory.{flags_from as flags_from_val, with_cell, stored_in, address_range as range_of_address, with_pointer_range};
+ghost use Rattle.uz_transfer.specs.Memory.{flags_from as flags_from_val, with_cell, stored_in};
+ghost use Rattle.uz_transfer.specs.Memory.{address_range as range_of_address, with_pointer_range};
 
 use crate::memory::{address_range, cell_place, step_pointer};
 use crate::values::{is_single_wide, span_of, val};

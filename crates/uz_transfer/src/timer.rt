@@ -3,7 +3,9 @@
 ghost use Rattle.std.specs.Prelude.{◌≡◌, ◌<◌, ◌≤◌, ◌+◌, ◌-◌, ◌*◌, ◌/◌, ◌&&◌, nat_eq, nat_le, if◌then◌else◌};
 ghost use Rattle.uz_machine.specs.OperandRanges.{AddressModeFits, EffectFits};
 ghost use Rattle.uz_machine.specs.declared.Effect.TheVariants.{Load, Store};
-ghost use Rattle.uz_transfer.specs.Timer.{handler_stores as stores_of_handler, stores_top as stores_top_by, top_after as top_by, temp_loaded as loaded_temp, temp_after as temp_by, with_timer};
+ghost use Rattle.uz_transfer.specs.Timer.{handler_stores as stores_of_handler, stores_top as stores_top_by};
+ghost use Rattle.uz_transfer.specs.Timer.{top_after as top_by, temp_loaded as loaded_temp, temp_after as temp_by};
+ghost use Rattle.uz_transfer.specs.Timer.{with_timer};
 
 use crate::memory::{address_range, is_handler};
 use crate::values::{is_single_wide, span};

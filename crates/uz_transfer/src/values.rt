@@ -2,7 +2,10 @@
 
 ghost use Rattle.std.specs.Prelude.{◌≡◌, ◌<◌, ◌+◌, ◌-◌, ◌*◌, ◌/◌, slice_index_or, false, true, if◌then◌else◌};
 ghost use Rattle.uz_range.specs.Answers.{is_single as is_single_range};
-ghost use Rattle.uz_transfer.specs.Values.{exact_pair as exact_range, span_of as span_of_val, value_at, flag_at, pair_at, byte_hull as hull_of_bytes, is_pointer as names_pointer, pair_number, pair_range as range_of_pair, with_value, with_pair_range, with_pair_value, with_flag_list, merged_flags as merged};
+ghost use Rattle.uz_transfer.specs.Values.{exact_pair as exact_range, span_of as span_of_val, value_at, flag_at};
+ghost use Rattle.uz_transfer.specs.Values.{pair_at, byte_hull as hull_of_bytes, is_pointer as names_pointer};
+ghost use Rattle.uz_transfer.specs.Values.{pair_number, pair_range as range_of_pair, with_value, with_pair_range};
+ghost use Rattle.uz_transfer.specs.Values.{with_pair_value, with_flag_list, merged_flags as merged};
 
 use uz_range::{high, hull, low};
 use uz_schedule::{Bit, Instance, Span, Val, Wide};

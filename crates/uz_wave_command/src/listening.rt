@@ -28,7 +28,8 @@ pub(crate) enum Heard {
 /// Takes edges in the order of time.
 fn hear(wave: &mut Wave, edges: &[Edge]) -> Result<(), WaveError>
     requires { NeverFalls (clock_of wave.old) edges.now }
-    ensures ok { OnOk result ((before : List EdgeValue) → Holds wave.old (newest_first before) → Holds wave.new (newest_first (before ++ edges.now))) }
+    ensures ok { OnOk result ((before : List EdgeValue) → Holds wave.old (newest_first before)
+        → Holds wave.new (newest_first (before ++ edges.now))) }
     ensures clock { OnOk result ((to : ℕ) → AreTimed (clock_of wave.old) to edges.now → clock_of wave.new ≤ to) }
 {
     for edge in edges {

@@ -59,7 +59,8 @@ fn prepare<H: Shelf>(
     clocks: u32,
 ) -> Result<Task, Failure>
     ensures task { IfOk result (IsTask (H.files shelf.old) hex.now pads.now irq clocks) }
-    ensures fails { IfErr result (EndsBy (RunPreface (H.files shelf.old) (Rose (H.load_faults shelf.old) (H.load_faults shelf.new)) hex.now pads.now)) }
+    ensures fails { IfErr result (EndsBy (RunPreface (H.files shelf.old)
+        (Rose (H.load_faults shelf.old) (H.load_faults shelf.new)) hex.now pads.now)) }
     ensures files { H.files shelf.new ≡ H.files shelf.old }
     ensures load_faults { H.load_faults shelf.old ≤ H.load_faults shelf.new }
     ensures write_faults { H.write_faults shelf.new ≡ H.write_faults shelf.old }
@@ -81,7 +82,9 @@ fn write_and_tell<H: Shelf, K: Sink>(
     out: &mut K,
 ) -> Status
     ensures comes { (edges : List Edge) → Holds wave.now (newest_first edges) →
-        ComesOf (written_then (wave_file wav.now edges) line.items) (Rose (H.write_faults shelf.old) (H.write_faults shelf.new) ⊎ Rose (K.faults out.old) (K.faults out.new))
+        ComesOf (written_then (wave_file wav.now edges) line.items)
+        (Rose (H.write_faults shelf.old) (H.write_faults shelf.new)
+        ⊎ Rose (K.faults out.old) (K.faults out.new))
         result (outside (H.files shelf.old) (K.text out.old)) (outside (H.files shelf.new) (K.text out.new)) }
     ensures load_faults { H.load_faults shelf.new ≡ H.load_faults shelf.old }
 {
@@ -109,7 +112,9 @@ pub fn run_wave<H: Shelf, K: Sink>(
     shelf: &mut H,
     out: &mut K,
 ) -> Status
-    ensures outcome { MayCome (WaveAnswers (H.files shelf.old) (Rose (H.load_faults shelf.old) (H.load_faults shelf.new)) hex.now pads.now irq clocks wav.now) NoPart
+    ensures outcome { MayCome (WaveAnswers (H.files shelf.old)
+        (Rose (H.load_faults shelf.old) (H.load_faults shelf.new)) hex.now pads.now irq clocks wav.now)
+        NoPart
         (Rose (H.write_faults shelf.old) (H.write_faults shelf.new) ⊎ Rose (K.faults out.old) (K.faults out.new))
         result (outside (H.files shelf.old) (K.text out.old)) (outside (H.files shelf.new) (K.text out.new)) }
     ensures heard { result ≡ Status.Done → FilesHeard (H.files shelf.old) (H.files shelf.new) hex.now pads.now irq clocks wav.now }

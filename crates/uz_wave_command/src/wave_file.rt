@@ -21,8 +21,10 @@ pub(crate) fn write_wave<H: Shelf>(
     name: &str,
     wave: &Wave,
 ) -> Result<(), WriteError>
-    ensures ok { OnOk result ((edges : List Edge) → Holds wave.now edges → WritesFile (H.files shelf.old) name.now (wave_bytes (samples_heard edges)) (H.files shelf.new)) }
-    ensures err { OnErr result ((edges : List Edge) → Holds wave.now edges → WritesSome (H.files shelf.old) name.now (wave_bytes (samples_heard edges)) (H.files shelf.new)) }
+    ensures ok { OnOk result ((edges : List Edge) → Holds wave.now edges
+        → WritesFile (H.files shelf.old) name.now (wave_bytes (samples_heard edges)) (H.files shelf.new)) }
+    ensures err { OnErr result ((edges : List Edge) → Holds wave.now edges
+        → WritesSome (H.files shelf.old) name.now (wave_bytes (samples_heard edges)) (H.files shelf.new)) }
     ensures failed { IsErrOf result WriteError.Failed → Rose (H.write_faults shelf.old) (H.write_faults shelf.new) }
     ensures load_faults { H.load_faults shelf.new ≡ H.load_faults shelf.old }
     ensures write_faults { H.write_faults shelf.old ≤ H.write_faults shelf.new }
