@@ -10,13 +10,26 @@ use crate::chains::{NONE, number_at, number_of};
 use std::alloc::{AllocError, Global};
 use uz_schedule::{Bit, Fact, PairFact, Point, val_of};
 
+/// Whether a fact says of a byte at a line and a count what another says at another count. Two that are alike, as most are, are
+/// compared as they stand.
+fn says_same(a: &Fact, b: &Fact, line: u16, of_a: u8, of_b: u8) -> bool
+    ensures { result ≡ true → val_of_fact line of_a a.now ≡ val_of_fact line of_b b.now }
+{
+    match (a, b) {
+        (Fact::Any, Fact::Any) => true,
+        (Fact::Between(one), Fact::Between(other)) => one == other,
+        (Fact::Old(one), Fact::Old(other)) => one == other,
+        _ => val_of(a, line, of_a) == val_of(b, line, of_b),
+    }
+}
+
 /// Whether facts, as many as others, say of each byte at a line and a count what those say at another count.
 fn say_same_each(a: &[Fact], b: &[Fact], line: u16, of_a: u8, of_b: u8) -> bool
     requires { length a.now ≡ length b.now }
     ensures { result ≡ true → map (val_of_fact line of_a) a.now ≡ map (val_of_fact line of_b) b.now }
 {
     for i in 0..a.len() {
-        if val_of(&a[i], line, of_a) != val_of(&b[i], line, of_b) {
+        if !says_same(&a[i], &b[i], line, of_a, of_b) {
             return false;
         }
     }
