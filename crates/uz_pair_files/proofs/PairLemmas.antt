@@ -20,6 +20,7 @@ use Rattle.uz_files.proofs.FaultLemmas.{rose_later}
 use Rattle.uz_files.proofs.ReadingLemmas.{ends_by, fails_by}
 use Rattle.uz_files.proofs.ReadsLemmas.{fails_status, reads_or_fault, reads_same}
 use Rattle.uz_pair_files.specs.declared.pair.Checked.{Checked}
+use Rattle.uz_pair_files.specs.declared.pair.Checked.TheVariants as pair_is
 use Rattle.uz_pair_files.specs.CheckedValues.{AreChecked, IsChecked}
 use Rattle.uz_pair_files.specs.PairFiles.{IsVerdict, PairAnswers, PairAnswersFor, PairLacks, PairPreface, SpellPair, verdict_answer}
 
@@ -71,6 +72,13 @@ module _ (told : Cert → List ℕ) where
       answers : (answer : Answer) → PairPreface files load_fault hex cert answer → PairAnswers told files load_fault hex cert answer
       answers answer (inl fails) = inl fails
       answers answer (inr (image, says, fails)) = inr (image, says, inl fails)
+
+  -- a pair that is refused, with its line
+  pub refused_verdict : (image : Flash) (certificate : Cert) (checked : Checked) (ending : Ending) → checked ≡ pair_is.Refused ending
+      → IsChecked image certificate checked → IsVerdict told image certificate (answer_of ending)
+  refused_verdict image certificate checked ending is known =
+      let refused : IsChecked image certificate (pair_is.Refused ending) = subst (λ k. IsChecked image certificate k) is known in
+      (Some refused.0, refused.1, refused.2)
 
   -- the pair is checked, and this is the verdict
   pub checked_answers : (files : Option FileMap) (load_fault : Type 0) (hex cert : List ℕ) (checked : Checked) (ending : Ending)

@@ -47,7 +47,10 @@ fn report_of<H: Shelf>(
     ensures load_faults { H.load_faults shelf.old ≤ H.load_faults shelf.new }
     ensures write_faults { H.write_faults shelf.new ≡ H.write_faults shelf.old }
 {
-    let checked = check_files(alloc, shelf, hex, cert)?;
+    let checked = match check_files(alloc, shelf, hex, cert) {
+        Ok(checked) => checked,
+        Err(failure) => return Err(failure),
+    };
     Ok(ending_of(alloc, checked)?)
 }
 

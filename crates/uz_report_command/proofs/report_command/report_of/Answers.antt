@@ -3,12 +3,16 @@ use Rattle.uz_report.specs.MainsTime.{MainsTimeTells}
 use Rattle.uz_report_command.specs.ReportCommand.{report_text}
 use Rattle.uz_report_command.proofs.report_command.report_of.Goals as goal
 
+pub returns-in-Err-clause-gives : goal.returns-in-Err-clause-gives
+returns-in-Err-clause-gives g c =
+    preface_answers report_text _ _ c.args.hex.now c.args.cert.now c.in-Err.failure c.in-Err.ensures.fails
+
 pub returns-clause-gives : goal.returns-clause-gives
 returns-clause-gives g c =
-    checked_answers report_text _ _ c.args.hex.now c.args.cert.now c.in_ok-checked.checked _ c.in_ok-checked.ensures.checked
+    checked_answers report_text _ _ c.args.hex.now c.args.cert.now c.in-Ok.checked c.in_ok-ending_of.field-0 c.in-Ok.ensures.checked
     c.in_ok-ending_of.ensures.answer
 
 pub returns-clause-reported : goal.returns-clause-reported
 returns-clause-reported g c = λ done.
-    checked_pair _ c.args.hex.now c.args.cert.now c.in_ok-checked.checked MainsTimeTells c.in_ok-checked.ensures.checked
+    checked_pair _ c.args.hex.now c.args.cert.now c.in-Ok.checked MainsTimeTells c.in-Ok.ensures.checked
     (λ image cert is. c.in_ok-ending_of.ensures.worth image cert is done)
