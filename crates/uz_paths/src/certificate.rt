@@ -67,10 +67,16 @@ fn linked(
     requires closed { IsClosed image.now program.now nodes.now.keys }
     requires entered { AreEntered program.now schedule.now rests.now nodes.now.keys }
     requires few { length bare.points.items < 2 ^ 32 }
-    requires numbers { AreNumbers (response_clocks program.now.head.irq) (order_of_program program.now) rests.now nodes.now.keys bare.numbers.items (length bare.points.items) }
-    requires points { ArePoints (response_clocks program.now.head.irq) (order_of_program program.now) rests.now nodes.now.keys bare.numbers.items (length bare.points.items) bare.points.items }
-    ensures numbers { AreNumbers (response_clocks program.now.head.irq) (order_of_program program.now) rests.now nodes.now.keys result.numbers.items (length result.points.items) }
-    ensures points { ArePoints (response_clocks program.now.head.irq) (order_of_program program.now) rests.now nodes.now.keys result.numbers.items (length result.points.items) result.points.items }
+    requires numbers { AreNumbers (response_clocks program.now.head.irq)
+        (order_of_program program.now) rests.now nodes.now.keys bare.numbers.items (length bare.points.items) }
+    requires points { ArePoints (response_clocks program.now.head.irq)
+        (order_of_program program.now) rests.now nodes.now.keys bare.numbers.items
+        (length bare.points.items) bare.points.items }
+    ensures numbers { AreNumbers (response_clocks program.now.head.irq)
+        (order_of_program program.now) rests.now nodes.now.keys result.numbers.items (length result.points.items) }
+    ensures points { ArePoints (response_clocks program.now.head.irq)
+        (order_of_program program.now) rests.now nodes.now.keys result.numbers.items
+        (length result.points.items) result.points.items }
     ensures named { AreNamed image.now program.now schedule.now rests.now nodes.now.keys result.numbers.items result.points.items }
 {
     let Numbered {
@@ -107,8 +113,10 @@ fn points_of(
     requires entered { AreEntered program.now schedule.now rests.now nodes.now.keys }
     requires rests { length rests.now ≤ 525 }
     requires few { length nodes.now.keys < 524288 }
-    ensures numbers { IfOk result (λ r. AreNumbers (response_clocks program.now.head.irq) (order_of_program program.now) rests.now nodes.now.keys r.numbers.items (length r.points.items)) }
-    ensures points { IfOk result (λ r. ArePoints (response_clocks program.now.head.irq) (order_of_program program.now) rests.now nodes.now.keys r.numbers.items (length r.points.items) r.points.items) }
+    ensures numbers { IfOk result (λ r. AreNumbers (response_clocks program.now.head.irq)
+        (order_of_program program.now) rests.now nodes.now.keys r.numbers.items (length r.points.items)) }
+    ensures points { IfOk result (λ r. ArePoints (response_clocks program.now.head.irq)
+        (order_of_program program.now) rests.now nodes.now.keys r.numbers.items (length r.points.items) r.points.items) }
     ensures named { IfOk result (λ r. AreNamed image.now program.now schedule.now rests.now nodes.now.keys r.numbers.items r.points.items) }
 {
     let bare = number_points(

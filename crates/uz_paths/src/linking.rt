@@ -9,7 +9,9 @@ ghost use Rattle.uz_search.specs.Fitting.{ProgramFits, Stands};
 ghost use Rattle.uz_search.specs.Following.{Among, order_of_program, lines_of};
 ghost use Rattle.uz_search.specs.Widenings.{widened};
 ghost use Rattle.uz_paths.specs.Numbers.{AreNumbers};
-ghost use Rattle.uz_paths.specs.Linked.{AreEntered, AreNamed, ArePoints, HasFew, HasName, IsClosed, NamesEntries, NamesFit, NamesMore, NamesOwn, NamesResults, NamesVectors, Renamed, first_after as first_state_after};
+ghost use Rattle.uz_paths.specs.Linked.{AreEntered, AreNamed, ArePoints, HasFew, HasName, IsClosed, NamesEntries};
+ghost use Rattle.uz_paths.specs.Linked.{NamesFit, NamesMore, NamesOwn, NamesResults, NamesVectors, Renamed};
+ghost use Rattle.uz_paths.specs.Linked.{first_after as first_state_after};
 
 use crate::rests::first_after;
 use crate::successors::put_number;
@@ -95,7 +97,8 @@ fn name_next(
     requires within { (i n : ℕ) → slice_get numbers.now i ≡ Some n → n < count }
     requires room { length names.old.items + length next.now.out.items ≤ 16 }
     ensures more { NamesMore count (length next.now.out.items) names.old.items names.new.items }
-    ensures named { next.now.back ≡ false → (y : Instance) → Among next.now.out.items y → HasName nodes.now.keys numbers.now (widened program.now y) names.new.items }
+    ensures named { next.now.back ≡ false → (y : Instance) → Among next.now.out.items y
+        → HasName nodes.now.keys numbers.now (widened program.now y) names.new.items }
 {
     if next.back {
         return;
@@ -222,9 +225,12 @@ fn link_vectors(
     requires closed { IsClosed image.now program.now nodes.now.keys }
     requires entered { AreEntered program.now schedule.now rests.now nodes.now.keys }
     requires few { length points.old < 2 ^ 32 }
-    requires numbered { AreNumbers (response_clocks program.now.head.irq) (order_of_program program.now) rests.now nodes.now.keys numbers.now (length points.old) }
-    requires made { ArePoints (response_clocks program.now.head.irq) (order_of_program program.now) rests.now nodes.now.keys numbers.now (length points.old) points.old }
-    ensures made { ArePoints (response_clocks program.now.head.irq) (order_of_program program.now) rests.now nodes.now.keys numbers.now (length points.old) points.new }
+    requires numbered { AreNumbers (response_clocks program.now.head.irq)
+        (order_of_program program.now) rests.now nodes.now.keys numbers.now (length points.old) }
+    requires made { ArePoints (response_clocks program.now.head.irq)
+        (order_of_program program.now) rests.now nodes.now.keys numbers.now (length points.old) points.old }
+    ensures made { ArePoints (response_clocks program.now.head.irq)
+        (order_of_program program.now) rests.now nodes.now.keys numbers.now (length points.old) points.new }
     ensures named { NamesVectors image.now program.now schedule.now rests.now nodes.now.keys numbers.now (length rests.now) points.new }
 {
     let count = points.len() as u32;
@@ -249,10 +255,13 @@ fn link_own(
     requires stand { (x : Instance) → Among nodes.now.keys x → Stands program.now x }
     requires closed { IsClosed image.now program.now nodes.now.keys }
     requires few { length points.old < 2 ^ 32 }
-    requires numbered { AreNumbers (response_clocks program.now.head.irq) (order_of_program program.now) rests.now nodes.now.keys numbers.now (length points.old) }
-    requires made { ArePoints (response_clocks program.now.head.irq) (order_of_program program.now) rests.now nodes.now.keys numbers.now (length points.old) points.old }
+    requires numbered { AreNumbers (response_clocks program.now.head.irq)
+        (order_of_program program.now) rests.now nodes.now.keys numbers.now (length points.old) }
+    requires made { ArePoints (response_clocks program.now.head.irq)
+        (order_of_program program.now) rests.now nodes.now.keys numbers.now (length points.old) points.old }
     requires vectors { NamesVectors image.now program.now schedule.now rests.now nodes.now.keys numbers.now (length rests.now) points.old }
-    ensures made { ArePoints (response_clocks program.now.head.irq) (order_of_program program.now) rests.now nodes.now.keys numbers.now (length points.old) points.new }
+    ensures made { ArePoints (response_clocks program.now.head.irq)
+        (order_of_program program.now) rests.now nodes.now.keys numbers.now (length points.old) points.new }
     ensures vectors { NamesVectors image.now program.now schedule.now rests.now nodes.now.keys numbers.now (length rests.now) points.new }
     ensures own { NamesOwn image.now program.now (length rests.now) nodes.now.keys numbers.now (length nodes.now.keys) points.new }
 {
@@ -285,9 +294,12 @@ pub(crate) fn link_all(
     requires closed { IsClosed image.now program.now nodes.now.keys }
     requires entered { AreEntered program.now schedule.now rests.now nodes.now.keys }
     requires few { length points.old < 2 ^ 32 }
-    requires numbered { AreNumbers (response_clocks program.now.head.irq) (order_of_program program.now) rests.now nodes.now.keys numbers.now (length points.old) }
-    requires made { ArePoints (response_clocks program.now.head.irq) (order_of_program program.now) rests.now nodes.now.keys numbers.now (length points.old) points.old }
-    ensures made { ArePoints (response_clocks program.now.head.irq) (order_of_program program.now) rests.now nodes.now.keys numbers.now (length points.old) points.new }
+    requires numbered { AreNumbers (response_clocks program.now.head.irq)
+        (order_of_program program.now) rests.now nodes.now.keys numbers.now (length points.old) }
+    requires made { ArePoints (response_clocks program.now.head.irq)
+        (order_of_program program.now) rests.now nodes.now.keys numbers.now (length points.old) points.old }
+    ensures made { ArePoints (response_clocks program.now.head.irq)
+        (order_of_program program.now) rests.now nodes.now.keys numbers.now (length points.old) points.new }
     ensures named { AreNamed image.now program.now schedule.now rests.now nodes.now.keys numbers.now points.new }
 {
     let mut next = Next::empty();

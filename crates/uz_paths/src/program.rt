@@ -14,7 +14,9 @@ ghost use Rattle.uz_hints.specs.Faults.{FactPart, FactsFine};
 ghost use Rattle.uz_hints.specs.Words.{is_half as is_half_by, length_by};
 ghost use Rattle.uz_hints.specs.Reading.{IsReading, ReadingFits, LengthsFit};
 ghost use Rattle.uz_paths.specs.Certificate.{IsEntry};
-ghost use Rattle.uz_paths.specs.ProgramOf.{widening_of as fact_of_place, hint_facts, facts_for, entry_with, first_state as state_at_first, first_states as states_at_first, kind_by as kind_by_hints, AreKindsBy, IsProgramOf};
+ghost use Rattle.uz_paths.specs.ProgramOf.{widening_of as fact_of_place, hint_facts, facts_for, entry_with};
+ghost use Rattle.uz_paths.specs.ProgramOf.{first_state as state_at_first, first_states as states_at_first};
+ghost use Rattle.uz_paths.specs.ProgramOf.{kind_by as kind_by_hints, AreKindsBy, IsProgramOf};
 
 use arrayvec::ArrayVec;
 use avr_asm::Hint;
@@ -53,7 +55,8 @@ fn put_fact(
     at: u16,
     fact: Widening,
 ) -> Result<(), AllocError>
-    ensures { OnOk result ((pc : ℕ) → facts_in (get nat_cmp facts.new pc) ≡ facts_in (get nat_cmp facts.old pc) ++ (if at == pc then fact ∷ [] else [])) }
+    ensures { OnOk result ((pc : ℕ) → facts_in (get nat_cmp facts.new pc)
+        ≡ facts_in (get nat_cmp facts.old pc) ++ (if at == pc then fact ∷ [] else [])) }
 {
     let mut here = match facts.remove(&at) {
         Some(here) => here,
@@ -161,7 +164,8 @@ fn starts_of(
     top: u16,
     firsts: &ArrayVec<Span, 16>,
 ) -> Result<Vec<Instance>, AllocError>
-    ensures { IfOk result (λ starts. starts.items ≡ entry_instance_at entry.now 1 ∷ states_at_first entry.now.kind irq top firsts.now.items) }
+    ensures { IfOk result (λ starts. starts.items
+        ≡ entry_instance_at entry.now 1 ∷ states_at_first entry.now.kind irq top firsts.now.items) }
 {
     let mut starts = Vec::new(alloc);
     starts.push(entry_state(entry, 1))?;
@@ -228,7 +232,8 @@ pub(crate) fn program_of(
     requires fits { ReadingFits reading }
     requires lengths { LengthsFit hints.now reading }
     ensures fits { IfOk result (λ r. ProgramFits r.0) }
-    ensures program { IfOk result (λ r. (image : FinMap nat_cmp ℕ) (irq : ResponseKind) → IsReading image irq hints.now reading → IsProgramOf irq hints.now r.0) }
+    ensures program { IfOk result (λ r. (image : FinMap nat_cmp ℕ) (irq : ResponseKind) → IsReading image irq hints.now reading
+        → IsProgramOf irq hints.now r.0) }
     ensures head { IfOk result (λ r. r.0.head ≡ reading.head) }
     ensures entry { IfOk result (λ r. r.1 ≡ entry_with reading.registers reading.head reading.start 0) }
     ensures start { IfOk result (λ r. IsEntry r.0 r.1) }
