@@ -16,13 +16,13 @@ ghost use Rattle.uz_hints.specs.Reading.{IsReading, ReadingFits, LengthsFit};
 ghost use Rattle.uz_paths.specs.Certificate.{IsEntry};
 ghost use Rattle.uz_paths.specs.ProgramOf.{widening_of as fact_of_place, hint_facts, facts_for, entry_with};
 ghost use Rattle.uz_paths.specs.ProgramOf.{first_state as state_at_first, first_states as states_at_first};
-ghost use Rattle.uz_paths.specs.ProgramOf.{kind_by as kind_by_hints, AreKindsBy, IsProgramOf};
+ghost use Rattle.uz_paths.specs.ProgramOf.{AreKindsBy, AreShortened, IsProgramOf};
 
 use arrayvec::ArrayVec;
 use avr_asm::Hint;
 use std::alloc::{AllocError, Global};
 use std::collections::BTreeMap;
-use uz_hints::{Beginning, Reading, is_half};
+use uz_hints::{Beginning, Reading};
 use uz_schedule::{
     Bit, Cell, Entry, HALF_LINE, Head, Instance, Kind, LineEvents, Response, SCANLINE, Schedule,
     Sequence, Span, Wide, entry_state, handler_entry, tracks,
@@ -186,22 +186,35 @@ fn both_kinds(alloc: Global) -> Result<(Vec<LineEvents>, Vec<u16>), AllocError>
     Ok((kinds, lengths))
 }
 
-/// Which of them a line is of: the shorter one where a hint names it.
-fn kind_by(hints: &[Hint], line: u16) -> u16
-    ensures { result ≡ kind_by_hints hints.now line }
+/// Makes the lines from one to another, both among them, of the shorter kind.
+fn shorten(kinds: &mut [u16], from: u16, to: u16)
+    ensures { AreShortened (Hint.Half from to) kinds.old kinds.new }
 {
-    if is_half(hints, line) { 1 } else { 0 }
+    let end = kinds.len().min(to as usize + 1);
+    for line in from as usize..end {
+        kinds[line] = 1;
+    }
 }
 
-/// Which of them each of so many lines is of.
+/// Makes the lines that a hint names of the shorter kind.
+fn put_half(kinds: &mut [u16], hint: &Hint)
+    ensures { AreShortened hint.now kinds.old kinds.new }
+{
+    if let Hint::Half { from, to } = hint {
+        shorten(kinds, *from, *to);
+    }
+}
+
+/// Which of them each of so many lines is of: the shorter one where a hint names it. One walk over the hints, each of
+/// which costs the lines that it names.
 fn kinds_by(alloc: Global, hints: &[Hint], lines: u16) -> Result<Vec<u16>, AllocError>
     ensures { IfOk result (λ v. AreKindsBy hints.now lines v.items) }
 {
-    let mut numbers = Vec::new(alloc);
-    for line in 0..lines {
-        numbers.push(kind_by(hints, line))?;
+    let mut kinds = vec![in alloc; 0; lines as usize]?;
+    for hint in hints {
+        put_half(kinds.as_mut_slice(), hint);
     }
-    Ok(numbers)
+    Ok(kinds)
 }
 
 /// A frame of so many lines, each as long as the hints say, whose events aren't known yet.
