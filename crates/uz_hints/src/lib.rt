@@ -9,4 +9,4 @@ mod words;
 
 pub use cells::Tracked;
 pub use reading::{Reading, read_hints};
-pub use words::{Beginning, FrameSize, PlaceRange, StackRegion, is_half};
+pub use words::{Beginning, FrameSize, PlaceRange, StackRegion};

@@ -1,9 +1,9 @@
 //! The hints of each kind, read off their list.
 
 ghost use Rattle.std.specs.Prelude.{◌≡◌, length};
-ghost use Rattle.uz_hints.specs.Words.{first_start as start_in, first_lines as lines_in, is_half as half_in};
+ghost use Rattle.uz_hints.specs.Words.{first_start as start_in, first_lines as lines_in};
 ghost use Rattle.uz_hints.specs.Words.{first_stack as stack_in, has_cell as cell_in, cell_count as cells_in};
-ghost use Rattle.uz_hints.specs.Words.{first_fact as fact_in, halves as halves_line, halves_some as halves_some_line};
+ghost use Rattle.uz_hints.specs.Words.{first_fact as fact_in, halves_some as halves_some_line};
 ghost use Rattle.uz_hints.specs.Words.{has_half as some_half_in, cell_at, cell_hint, range_at};
 
 use avr_asm::Hint;
@@ -79,29 +79,7 @@ pub(crate) fn first_lines(hints: &[Hint]) -> Option<FrameSize>
     None
 }
 
-/// Whether a hint says that the line has half a scanline's clocks.
-fn halves(hint: &Hint, line: u16) -> bool
-    ensures { result ≡ halves_line line hint.now }
-{
-    match hint {
-        Hint::Half { from, to } => *from <= line && line <= *to,
-        _ => false,
-    }
-}
-
-/// Whether a hint says that the line has half a scanline's clocks; all others have a scanline's.
-pub fn is_half(hints: &[Hint], line: u16) -> bool
-    ensures { result ≡ half_in line hints.now }
-{
-    for hint in hints {
-        if halves(hint, line) {
-            return true;
-        }
-    }
-    false
-}
-
-/// Whether a hint says so of some line from one to another.
+/// Whether a hint says that some line from one to another has half a scanline's clocks.
 fn halves_some(hint: &Hint, from: u16, to: u16) -> bool
     ensures { result ≡ halves_some_line from to hint.now }
 {

@@ -2,14 +2,12 @@
 use Rattle.std.proofs.Common.{◌≡◌, ◌≢◌, ◌∙◌, sym, ap, refl, arith, inl, inr, ⊎_elim, ◌⊎◌, ℕ, zero, suc, ◌+◌, ◌-◌, ◌*◌, ◌<◌, ◌≤◌, Bool, true}
 use Rattle.std.proofs.Common.{false, List, [], ◌∷◌, map, length, subst, if◌then◌else◌}
 use Rattle.std.specs.Prelude.{Contains, Some, ◌&&◌, ◌||◌, ◌==◌, nat_eq, nat_le, slice_get, unwrap_or}
-use Rattle.std.proofs.lemmas.Bool.{cases_eq, cases_lt, eq-eqb}
+use Rattle.std.proofs.lemmas.Bool.{cases_eq, cases_lt}
 use Rattle.std.proofs.lemmas.Bool.Decides.{nat_tests}
 use Rattle.std.proofs.lemmas.Option.{get_or_from_slice_get, slice_get-get_or, slice_get_within}
 use Rattle.uz_schedule.proofs.Starts.{length_within}
-use Rattle.uz_schedule.specs.Ends.{Ends}
 use Rattle.uz_schedule.specs.Instances.{entry_instance, entry_instance_at, handler_entry, instance_at, is_in_box, level_or_zero}
 use Rattle.uz_schedule.specs.Limits.{ScheduleFits, rises}
-use Rattle.uz_schedule.specs.Lines.{Lines}
 use Rattle.uz_schedule.specs.Schedule.{length_of, level_at, next_line, response_clocks, start_of}
 use Rattle.uz_schedule.specs.Tracked.{tracked}
 use Rattle.uz_schedule.specs.WellFormed.{EntryFits, EntryKindFits, PointFits, PointsFit, RangeFits, RestFits, RestsFit}
@@ -42,7 +40,6 @@ use Rattle.uz_search_laws.specs.Made as made_of
 use Rattle.uz_search_accepted.specs.Accepting.{ArePointsOf, EndedAccepts, IsRestOf, StandsFor}
 use Rattle.uz_paths.specs.declared.certificate.Parts.{Parts}
 use Rattle.uz_paths.specs.Certificate.{ArePartsOf, IsEntry, ReturnsFromMain, cert_of}
-use Rattle.uz_paths.specs.Kinds.{IsScheduleOf}
 use Rattle.uz_paths.specs.Linked.{AreEntered, NamesFit, NamesResults, first_after}
 use Rattle.uz_paths.specs.Numbers.{Numbered}
 use Rattle.uz_paths.specs.Points.{IsOrdered, point_of, vector_after}
@@ -163,12 +160,23 @@ few_clocks Five = omega arith
 -- the handler's first states after a rest are instances
 pub entered : (image : Flash) (p : Program) (found : Found) (entry : Entry) (s : Schedule) → EndedRestsEnter → ProgramFits p → IsEnded image
     p found → made_of.IsScheduleOf p found.marks.items s
-    → AreEntered p s (rests_of found.returns.items) found.nodes.keys
+    → (k c : ℕ) (rest : Rest) → slice_get (rests_of found.returns.items) k ≡ Some rest → c ≤ 3
+    → Among found.nodes.keys (first_after p s rest c)
 entered image p found entry s enter fits ended made k c rest at few =
     let o = of_return 0 0 found.returns.items k rest at in
     let line : o.place ≡ rest.line = (let l = o.is_line in omega arith) in
     enter image p found (record { head = p.head; schedule = s; rests = []; entry = entry; points = [] }) rest o.noted c fits ended refl made
     (subst (λ l. ReturnAt found.returns.items l o.noted) line o.there) (ap (λ v. v.items) o.are_cells) few
+
+pub are_entered : (image : Flash) (p : Program) (found : Found) (entry : Entry) (s : Schedule) → EndedRestsEnter → ProgramFits p
+    → IsEnded image p found → made_of.IsScheduleOf p found.marks.items s → ScheduleFits s
+    → AreEntered p s (rests_of found.returns.items) found.nodes.keys
+are_entered image p found entry s enter fits ended made fit k rest at = record {
+  schedule = fit;
+  lines = made.lines;
+  line = lines_of_rests found.returns.items (rests_of found.returns.items) (lines_of p) refl ended.lines k rest at;
+  first = λ c few. entered image p found entry s enter fits ended made k c rest at few;
+}
 
 module _ (image : Flash) (p : Program) (entry : Entry) (found : Found) (parts : Parts) (laws : Laws) (fits : ProgramFits p)
     (ended : IsEnded image p found)

@@ -1,5 +1,5 @@
 -- As many numbers as there are places that they fill, and sums of few.
-use Rattle.std.proofs.Common.{◌≡◌, ◌≢◌, ◌∙◌, sym, ap, refl, arith, inl, inr, ⊎_elim, ℕ, zero, suc, ◌+◌, ◌*◌, ◌<◌, ◌≤◌, Bool, true, false}
+use Rattle.std.proofs.Common.{◌≡◌, ◌≢◌, ◌∙◌, sym, ap, refl, arith, ⊎_elim, ℕ, zero, suc, ◌*◌, ◌<◌, ◌≤◌, false}
 use Rattle.std.proofs.Common.{List, [], ◌∷◌, length, subst, if◌then◌else◌}
 use Rattle.std.specs.Prelude.{Some, nat_eq, slice_get, sum_by}
 use Rattle.std.proofs.lemmas.Bool.{cases_eq, eq-eqb}

@@ -1,10 +1,9 @@
 -- How many results an instance has: at most 16, and the handler's first states at most two.
 use Rattle.std.proofs.Common.{◌≡◌, ◌∙◌, sym, ap, refl, arith, ℕ, zero, suc, ◌+◌, ◌-◌, ◌<◌, ◌≤◌, Bool, true, false, List, [], ◌∷◌, ◌++◌}
-use Rattle.std.proofs.Common.{length, length-append, map, Option, Some, None, Ok, Err, subst, if◌then◌else◌}
-use Rattle.std.specs.Prelude.{◌&&◌, ◌||◌, nat_le, nat_lt}
+use Rattle.std.proofs.Common.{length, map, Option, Some, None, Ok, Err, subst}
+use Rattle.std.specs.Prelude.{◌||◌, nat_le, nat_lt}
 use Rattle.std.proofs.lemmas.Bool.Decides.{nat_tests}
 use Rattle.std.proofs.lemmas.List.{length-map}
-use Rattle.avr_table.specs.declared.Instr.{Instr}
 use Rattle.avr_table.specs.declared.Outcome.{Outcome}
 use Rattle.avr_table.specs.declared.Outcome.TheVariants as outcome
 use Rattle.avr_table.specs.Rows.{clocks_of, words_of}
@@ -20,7 +19,7 @@ use Rattle.uz_schedule.specs.declared.header.Head.{Head}
 use Rattle.uz_schedule.specs.declared.states.Instance.{Instance}
 use Rattle.uz_transfer.specs.declared.fail.Fail.{Fail}
 use Rattle.uz_transfer.specs.declared.step.Exit.{Exit}
-use Rattle.uz_transfer.specs.Exits.{choices, decided, flag_of_kind, jump_pcs, numbers_from, outcomes, skip_outcome, targets, test_decides}
+use Rattle.uz_transfer.specs.Exits.{choices, decided, flag_of_kind, jump_pcs, numbers_from, outcomes, skip_outcome, test_decides}
 use Rattle.uz_transfer.specs.Refusals.{fail_of, refuse_if, target_fails}
 use Rattle.uz_transfer.specs.Step.{exits_of, following_of}
 use Rattle.uz_transfer.specs.Values.{pair_range}

@@ -1,30 +1,31 @@
 -- Names of successors: one more, and points of which one names more.
 use Rattle.std.proofs.Common.{◌≡◌, ◌≢◌, ◌∙◌, sym, ap, refl, arith, inl, inr, ⊎_elim, ℕ, zero, suc, ◌+◌, ◌<◌, ◌≤◌, Bool, true, false, List}
-use Rattle.std.proofs.Common.{[], ◌∷◌, ◌++◌, length, length-append, take, drop, set, get_or, add-one, cond, subst}
+use Rattle.std.proofs.Common.{[], ◌∷◌, ◌++◌, length, length-append, take, set, get_or, add-one, cond, subst}
 use Rattle.std.specs.Prelude.{Option, Some, None, slice_get, ◌⊎◌, ◌&&◌, not, nat_eq, nat_lt, nat_le, insert, position, All, if◌then◌else◌}
 use Rattle.std.specs.List.{position_or_len}
 use Rattle.std.proofs.Math.Seq.{take-suc}
 use Rattle.std.proofs.lemmas.Bool.{cases_eq}
 use Rattle.std.proofs.lemmas.Bool.Decides.{nat_tests}
-use Rattle.std.proofs.lemmas.List.Elements.{All-cons, All-nil, All-append}
+use Rattle.std.proofs.lemmas.List.Elements.{All-cons, All-nil}
 use Rattle.std.proofs.lemmas.List.Edits.{length-insert}
 use Rattle.std.proofs.lemmas.List.Sums.{fails_before_first, passes_at_first}
 use Rattle.std.proofs.lemmas.Option.{get_or_from_slice_get, slice_get_within, slice_get-get_or}
 use Rattle.uz_schedule.specs.Lines.{Lines}
-use Rattle.uz_schedule.specs.Limits.{rises, rises_from}
+use Rattle.uz_schedule.specs.Limits.{rises_from}
 use Rattle.uz_schedule.specs.declared.lines.Schedule.{Schedule}
 use Rattle.uz_schedule.specs.declared.states.Instance.{Instance}
 use Rattle.uz_schedule.specs.declared.states.Point.{Point}
 use Rattle.uz_schedule.specs.declared.states.Rest.{Rest}
 use Rattle.uz_search.specs.declared.program.Program.{Program}
-use Rattle.uz_search.specs.Following.{Among, Flash}
+use Rattle.uz_schedule.specs.Schedule.{response_clocks}
+use Rattle.uz_search.specs.Following.{Among, Flash, order_of_program}
 use Rattle.uz_search.specs.Widenings.{widened}
 use Rattle.uz_paths.specs.Linked.{IsVectorAt, IsPointAt, HasName, NamesFit, NamesMore, NamesResults, NamesEntries, NamesVectors, NamesOwn}
-use Rattle.uz_paths.specs.Linked.{ArePoints, Renamed}
+use Rattle.uz_paths.specs.Linked.{ArePointed, ArePoints, HaveNumbers, Renamed}
 use Rattle.uz_paths.specs.Points.{AreOrdered, IsOrdered, point_of, vector_after}
 use Rattle.uz_paths.specs.Successors.{count_below, is_number, with_number}
 use Rattle.uz_paths.specs.Numbers.{IsVectorOf, AreNumbers}
-use Rattle.uz_paths.proofs.NumberLemmas.{at_more, keeps, last_there, more_vector, more_own, none_numbered}
+use Rattle.uz_paths.proofs.NumberLemmas.{at_more, keeps, last_there, more_vector, more_own, none_numbered, numbers_below}
 
 -- One more name
 
@@ -265,6 +266,23 @@ points_again response lines rests nodes numbers count n next points p q a there 
         point.next.items
     name_cases k point (inl h) = subst (λ x. NamesFit count x.next.items) (sym r.is ∙ h.1) r.fits
     name_cases k point (inr h) = a.names k point h.1
+
+pub pointed_again : (p : Program) (rests : List Rest) (nodes : List Instance) (numbers : List ℕ) (count n : ℕ) (next : List ℕ)
+    (points : List Point) (old new : Point)
+    → ArePointed p rests nodes numbers count points → slice_get points n ≡ Some old → Renamed count next old new
+    → ArePointed p rests nodes numbers count (set points n new)
+pointed_again p rests nodes numbers count n next points old new a there r = record {
+  numbered = a.numbered;
+  made = points_again (response_clocks p.head.irq) (order_of_program p) rests nodes numbers count n next points old new a.made there r;
+}
+
+-- the instances' numbers are those of points
+pub have_numbers : (p : Program) (rests : List Rest) (nodes : List Instance) (numbers : List ℕ) (count : ℕ)
+    → AreNumbers (response_clocks p.head.irq) (order_of_program p) rests nodes numbers count → HaveNumbers nodes numbers count
+have_numbers p rests nodes numbers count a = record {
+  lengths = a.lengths;
+  within = numbers_below (response_clocks p.head.irq) (order_of_program p) rests nodes numbers count a;
+}
 
 -- one more vector names what follows it
 pub vectors_named : (image : Flash) (p : Program) (s : Schedule) (rests : List Rest) (nodes : List Instance) (numbers : List ℕ)

@@ -1,13 +1,12 @@
 -- One more fact, and that the program of hints that aren't at fault is fit to be searched.
 use Rattle.std.proofs.Common.{◌≡◌, ◌≢◌, ◌∙◌, sym, ap, refl, arith, ℕ, zero, suc, ◌+◌, ◌-◌, ◌<◌, ◌≤◌, true, List, [], ◌∷◌, ◌++◌}
-use Rattle.std.proofs.Common.{append_assoc, length, length-append, drop, get_or, add-one, subst, ⊎_elim, Bool, false, if◌then◌else◌}
-use Rattle.std.specs.Prelude.{Option, Some, None, slice_get}
+use Rattle.std.proofs.Common.{append_assoc, length, drop, get_or, add-one, subst, ⊎_elim, Bool, false, if◌then◌else◌}
+use Rattle.std.specs.Prelude.{Some, None, slice_get}
 use Rattle.std.specs.Ordering.{nat_cmp}
 use Rattle.std.specs.FinMap.{FinMap}
 use Rattle.std.proofs.Math.Seq.{drop-cons}
 use Rattle.std.proofs.lemmas.Bool.{cases_lt}
 use Rattle.std.proofs.lemmas.Option.{slice_get-get_or, slice_get_cases}
-use borrow.Author.Count.{below_more}
 use Rattle.avr_asm.specs.declared.output.Hint.{Hint}
 use Rattle.uz_schedule.specs.Ends.{Ends}
 use Rattle.uz_schedule.specs.Instances.{entry_instance_at}
@@ -30,8 +29,7 @@ use Rattle.uz_hints.specs.declared.reading.Reading.{Reading}
 use Rattle.uz_hints.specs.Faults.{FactPart, FactsFine}
 use Rattle.uz_hints.specs.Reading.{IsReading, ReadingFits, LengthsFit}
 use Rattle.uz_hints.specs.Words.{is_half, length_by}
-use Rattle.uz_paths.specs.ProgramOf.{entry_with, first_state, first_states, starts_of, kind_by, AreKindsBy}
-use Rattle.uz_paths.proofs.NumberLemmas.{keeps, last_there}
+use Rattle.uz_paths.specs.ProgramOf.{entry_with, first_state, first_states, starts_of, AreKindsBy}
 
 some_is : {A : Type 0} (a b : A) → Some a ≡ Some b → a ≡ b
 some_is a b e = cc
@@ -51,18 +49,6 @@ facts_more f all step hints i d old new within is =
     (sym (ap all less ∙ step (get_or hints i d) (drop (i + 1) hints))))
 
 -- The frame
-
-pub kinds_none : (hints : List Hint) (lines : List ℕ) → lines ≡ [] → AreKindsBy hints 0 lines
-kinds_none hints lines e = record { count = ap length e; each = λ l less. absurd (omega arith) }
-
-pub kinds_more : (hints : List Hint) (n k : ℕ) (old new : List ℕ) → AreKindsBy hints n old → k ≡ kind_by hints n → new ≡ old ++ k ∷ []
-    → AreKindsBy hints (n + 1) new
-kinds_more hints n k old new are is e = record {
-  count = ap length e ∙ (length-append old (k ∷ []) ∙ ap (λ m. m + 1) are.count);
-  each = below_more (λ l. slice_get new l ≡ Some (kind_by hints l)) n
-      (λ l less. ap (λ ns. slice_get ns l) e ∙ keeps old k (kind_by hints l) l (are.each l less))
-      (ap (λ ns. slice_get ns n) e ∙ (ap (slice_get (old ++ k ∷ [])) (sym are.count) ∙ (last_there old k ∙ ap Some is)));
-}
 
 -- lines of these kinds are as long as the hints say, also past the last one
 pub long_by : (hints : List Hint) (n : ℕ) (s : Schedule) → s.lengths ≡ scanline ∷ half_line ∷ [] → AreKindsBy hints n s.lines

@@ -8,8 +8,7 @@ use Rattle.std.proofs.lemmas.List.Elements.{All-cons, All-head, All-nil, All-tai
 use Rattle.uz_schedule.specs.Ends.{Ends, whole_pair}
 use Rattle.uz_schedule.specs.Instances.{entry_instance_at, hull_at, old_from}
 use Rattle.uz_schedule.specs.Tracked.{tracked, tracks}
-use Rattle.uz_schedule.specs.WellFormed.{BitFits, CellFits, EntryFactsFit, EntryKindFits, HeadFits, RangeFits, SpansFit, spans_fit}
-use Rattle.uz_schedule.specs.declared.facts.Bit.{Bit}
+use Rattle.uz_schedule.specs.WellFormed.{BitFits, CellFits, EntryFactsFit, EntryKindFits, HeadFits, RangeFits, spans_fit}
 use Rattle.uz_schedule.specs.declared.facts.Bit.TheVariants.{Free, Old as OldBit}
 use Rattle.uz_schedule.specs.declared.facts.Val.{Val}
 use Rattle.uz_schedule.specs.declared.facts.Val.TheVariants.{Range, Old}
@@ -30,7 +29,6 @@ use Rattle.uz_hints.specs.Reading.{ReadingFits}
 use Rattle.uz_paths.specs.Certificate.{IsEntry}
 use Rattle.uz_paths.specs.ProgramOf.{entry_with, first_state, first_states}
 use Rattle.uz_paths.proofs.ProgramLemmas.{first_of_five, first_of_one}
-use Rattle.uz_paths.proofs.SameInstance.{both}
 
 -- Elements
 

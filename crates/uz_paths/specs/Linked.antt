@@ -2,7 +2,7 @@
 use Rattle.std.specs.Prelude.{◌≡◌, ℕ, ◌+◌, ◌-◌, ◌<◌, ◌≤◌, false, List, Ok, Some, length, slice_get, IsTrue, All}
 use Rattle.uz_schedule.specs.Instances.{handler_entry, level_or_zero}
 use Rattle.uz_schedule.specs.Lines.{Lines}
-use Rattle.uz_schedule.specs.Limits.{rises}
+use Rattle.uz_schedule.specs.Limits.{ScheduleFits, rises}
 use Rattle.uz_schedule.specs.Schedule.{length_of, next_line, response_clocks}
 use Rattle.uz_schedule.specs.declared.lines.Schedule.{Schedule}
 use Rattle.uz_schedule.specs.declared.states.Instance.{Instance}
@@ -10,8 +10,10 @@ use Rattle.uz_schedule.specs.declared.states.Point.{Point}
 use Rattle.uz_schedule.specs.declared.states.Rest.{Rest}
 use Rattle.uz_rules.specs.declared.next.Next.{Next}
 use Rattle.uz_search.specs.declared.program.Program.{Program}
-use Rattle.uz_search.specs.Following.{Among, After, Flash}
+use Rattle.uz_search.specs.Fitting.{ProgramFits, Stands}
+use Rattle.uz_search.specs.Following.{Among, After, Flash, lines_of, order_of_program}
 use Rattle.uz_search.specs.Widenings.{widened}
+use Rattle.uz_paths.specs.Numbers.{AreNumbers}
 use Rattle.uz_paths.specs.Points.{AreOrdered, IsOrdered, point_of, vector_after}
 
 -- the point of number k is the vector of this rest, the ranges of whose cells are in order
@@ -40,12 +42,23 @@ pub record ArePoints (response : ℕ) (lines : Lines) (rests : List Rest) (nodes
   pub own : (i n : ℕ) (x : Instance) → slice_get nodes i ≡ Some x → slice_get numbers i ≡ Some n → length rests ≤ n → IsPointAt points n x
   pub names : (n : ℕ) (point : Point) → slice_get points n ≡ Some point → NamesFit count point.next.items
 
+-- the instances of a program's search have numbers, and points of these numbers
+pub record ArePointed (p : Program) (rests : List Rest) (nodes : List Instance) (numbers : List ℕ) (count : ℕ) (points : List Point)
+    : Type 0 where
+  pub numbered : AreNumbers (response_clocks p.head.irq) (order_of_program p) rests nodes numbers count
+  pub made : ArePoints (response_clocks p.head.irq) (order_of_program p) rests nodes numbers count points
+
 -- a point has these successors, and says what it said
 pub record Renamed (count : ℕ) (next : List ℕ) (old new : Point) : Type 0 where
   pub is : new ≡ record old { next = record { items = next } }
   pub fits : NamesFit count next
 
 -- Names
+
+-- each instance has a number of one of so many points
+pub record HaveNumbers (nodes : List Instance) (numbers : List ℕ) (count : ℕ) : Type 0 where
+  pub lengths : length numbers ≡ length nodes
+  pub within : (i n : ℕ) → slice_get numbers i ≡ Some n → n < count
 
 -- the number of an instance is among these
 pub record HasName (nodes : List Instance) (numbers : List ℕ) (y : Instance) (next : List ℕ) : Type 0 where
@@ -71,6 +84,12 @@ abbrev pub IsClosed : Flash → Program → List Instance → Type 0
 IsClosed image p nodes = (x y : Instance) (result : Next) → Among nodes x → After image p x (Ok result) → result.back ≡ false
     → Among result.out.items y → Among nodes (widened p y)
 
+-- a program that is fit to be searched, and instances that stand in its frame, with all their results
+pub record AreSearched (image : Flash) (p : Program) (nodes : List Instance) : Type 0 where
+  pub fits : ProgramFits p
+  pub stand : (x : Instance) → Among nodes x → Stands p x
+  pub closed : IsClosed image p nodes
+
 -- an instance has at most so many results
 abbrev pub HasFew : Flash → Program → Instance → ℕ → Type 0
 HasFew image p x most = (result : Next) → After image p x (Ok result) → length result.out.items ≤ most
@@ -85,9 +104,16 @@ first_after p s rest c =
 abbrev pub NamesEntries : Flash → Program → Schedule → List Instance → List ℕ → Rest → List ℕ → Type 0
 NamesEntries image p s nodes numbers rest next = (c : ℕ) → c ≤ 3 → NamesResults image p nodes numbers (first_after p s rest c) next
 
--- the first states after each rest are instances
+-- a rest on a line of the program, whose first states by a schedule of as many lines are instances
+pub record IsEntered (p : Program) (s : Schedule) (nodes : List Instance) (rest : Rest) : Type 0 where
+  pub schedule : ScheduleFits s
+  pub lines : length s.lines ≡ lines_of p
+  pub line : rest.line < lines_of p
+  pub first : (c : ℕ) → c ≤ 3 → Among nodes (first_after p s rest c)
+
+-- each of these rests
 abbrev pub AreEntered : Program → Schedule → List Rest → List Instance → Type 0
-AreEntered p s rests nodes = (k c : ℕ) (rest : Rest) → slice_get rests k ≡ Some rest → c ≤ 3 → Among nodes (first_after p s rest c)
+AreEntered p s rests nodes = (k : ℕ) (rest : Rest) → slice_get rests k ≡ Some rest → IsEntered p s nodes rest
 
 -- so many vectors name what follows them
 abbrev pub NamesVectors : Flash → Program → Schedule → List Rest → List Instance → List ℕ → ℕ → List Point → Type 0

@@ -1,7 +1,6 @@
 -- The numbers of points: first those of the handler's first states after a rest, one for each rest, then one for each other instance in the
--- order in
--- which it was found.
-use Rattle.std.specs.Prelude.{◌≡◌, ◌⊎◌, ◌<◌, ◌≤◌, ℕ, ◌+◌, ◌-◌, List, Option, Some, None, slice_get, length}
+-- order in which it was found.
+use Rattle.std.specs.Prelude.{◌≡◌, ◌⊎◌, ◌<◌, ◌≤◌, ℕ, ◌+◌, ◌-◌, List, Some, slice_get, length}
 use Rattle.uz_schedule.specs.Ends.{Ends}
 use Rattle.uz_schedule.specs.Lines.{Lines}
 use Rattle.uz_schedule.specs.Instances.{handler_entry}

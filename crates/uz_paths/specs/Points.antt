@@ -1,5 +1,5 @@
 -- The point that says what an instance says, and the point of a handler's first states.
-use Rattle.std.specs.Prelude.{◌≡◌, ⊤, ℕ, zero, suc, ◌+◌, ◌-◌, ◌==◌, ◌&&◌, nat_eq, nat_lt, pos, Bool, false, List, [], ◌∷◌, Some, map, slice_get}
+use Rattle.std.specs.Prelude.{◌≡◌, ⊤, ℕ, zero, suc, ◌-◌, ◌&&◌, nat_eq, nat_lt, pos, Bool, false, List, [], ◌∷◌, Some, map, slice_get}
 use Rattle.std.specs.Prelude.{slice_index_or, replicate, if◌then◌else◌}
 use Rattle.uz_schedule.specs.Ends.{Ends, whole_byte, whole_pair}
 use Rattle.uz_schedule.specs.Instances.{hull_at}
@@ -34,8 +34,7 @@ abbrev pub same_ends : Ends → Ends → Bool
 same_ends a b = nat_eq a.lo b.lo && nat_eq a.hi b.hi
 
 -- In the text `z=0` and `z=1` may mean the flag Z, where it and the flag C are left out. The pair Z that is exactly 0 or 1 is said there by
--- a
--- factor of the count, which is 0
+-- a factor of the count, which is 0
 abbrev pub range_fact : Bool → Ends → PairFact
 range_fact ambiguous e = if ambiguous && (nat_eq e.lo e.hi && nat_lt e.hi 2) then LoopPair 1 e.lo else BetweenPair e
 

@@ -1,5 +1,5 @@
 -- The program that a search is told of by hints: where its trails begin, and by what facts it widens.
-use Rattle.std.specs.Prelude.{◌≡◌, ℕ, ◌+◌, ◌-◌, ◌==◌, nat_lt, List, [], ◌∷◌, ◌++◌, ◌<◌, length, map, replicate, Some, slice_get}
+use Rattle.std.specs.Prelude.{◌≡◌, ℕ, ◌+◌, ◌-◌, ◌==◌, nat_lt, true, false, List, [], ◌∷◌, ◌++◌, ◌<◌, length, map, replicate, Some, slice_get}
 use Rattle.std.specs.Prelude.{if◌then◌else◌}
 use Rattle.avr_asm.specs.declared.output.Hint.{Hint}
 use Rattle.avr_asm.specs.declared.output.Hint.TheVariants.{Fact}
@@ -20,7 +20,7 @@ use Rattle.uz_search.specs.declared.widening.Widening.TheVariants.{Register, Pai
 use Rattle.uz_search.specs.Following.{lines_of}
 use Rattle.uz_search.specs.Widenings.{facts_at}
 use Rattle.uz_hints.specs.declared.words.Beginning.{Beginning}
-use Rattle.uz_hints.specs.Words.{first_start, first_lines, is_half, length_by}
+use Rattle.uz_hints.specs.Words.{first_start, first_lines, halves, is_half, length_by}
 use Rattle.uz_hints.specs.Cells.{cells_of, first_values}
 use Rattle.uz_hints.specs.Reading.{IsHeader, start_registers}
 
@@ -89,6 +89,12 @@ kind_by hints line = if is_half line hints then 1 else 0
 pub record AreKindsBy (hints : List Hint) (n : ℕ) (lines : List ℕ) : Type 0 where
   pub count : length lines ≡ n
   pub each : (line : ℕ) → line < n → slice_get lines line ≡ Some (kind_by hints line)
+
+-- the lines that a hint names are of kind 1, each other one is of the kind that it was of
+pub record AreShortened (hint : Hint) (old new : List ℕ) : Type 0 where
+  pub count : length new ≡ length old
+  pub named : (line : ℕ) → line < length old → halves line hint ≡ true → slice_get new line ≡ Some 1
+  pub others : (line : ℕ) → halves line hint ≡ false → slice_get new line ≡ slice_get old line
 
 -- the program that hints tell of
 pub record IsProgramOf (irq : Response) (hints : List Hint) (p : Program) : Type 0 where

@@ -1,5 +1,5 @@
 -- The numbers of the points where an instruction may lead: rising, each once.
-use Rattle.std.specs.Prelude.{ℕ, zero, suc, ◌&&◌, not, nat_lt, nat_eq, Bool, false, List, [], ◌∷◌, Option, Some, None, length, slice_get}
+use Rattle.std.specs.Prelude.{ℕ, suc, ◌&&◌, not, nat_lt, nat_eq, Bool, false, List, [], ◌∷◌, Option, Some, None, length, slice_get}
 use Rattle.std.specs.Prelude.{insert, if◌then◌else◌}
 
 -- how many of these numbers, rising, are below one

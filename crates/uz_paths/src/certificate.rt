@@ -1,17 +1,13 @@
 //! The certificate that an ended search makes.
 
-ghost use Rattle.std.specs.Prelude.{◌≡◌, ◌<◌, ◌≤◌, ◌^◌, ℕ, IfOk, length, slice_get, Some};
+ghost use Rattle.std.specs.Prelude.{◌≡◌, ◌<◌, ◌≤◌, ◌^◌, IfOk, length};
 ghost use Rattle.uz_schedule.specs.Instances.{entry_instance_at};
 ghost use Rattle.uz_schedule.specs.Limits.{ScheduleFits};
-ghost use Rattle.uz_schedule.specs.Schedule.{response_clocks};
-ghost use Rattle.uz_schedule.specs.declared.states.Instance.{Instance};
-ghost use Rattle.uz_schedule.specs.declared.states.Rest.{Rest};
-ghost use Rattle.uz_search.specs.Fitting.{ProgramFits, Stands};
-ghost use Rattle.uz_search.specs.Following.{Among, order_of_program, lines_of};
+ghost use Rattle.uz_search.specs.Fitting.{ProgramFits};
+ghost use Rattle.uz_search.specs.Following.{Among};
 ghost use Rattle.uz_search.specs.Searching.{IsEnded};
 ghost use Rattle.uz_paths.specs.Kinds.{IsScheduleOf};
-ghost use Rattle.uz_paths.specs.Linked.{AreEntered, AreNamed, ArePoints, IsClosed};
-ghost use Rattle.uz_paths.specs.Numbers.{AreNumbers};
+ghost use Rattle.uz_paths.specs.Linked.{AreEntered, AreNamed, ArePointed, AreSearched};
 ghost use Rattle.uz_paths.specs.Rests.{rests_of as rests_of_returns};
 ghost use Rattle.uz_paths.specs.Certificate.{ArePartsOf, IsNumberOf, cert_of};
 
@@ -59,18 +55,13 @@ fn linked(
     nodes: &IndexSet<Instance>,
     bare: Numbered,
 ) -> Numbered
-    requires fits { ProgramFits program.now }
-    requires schedule { ScheduleFits schedule.now }
-    requires lines { length schedule.now.lines ≡ lines_of program.now }
-    requires line { (k : ℕ) (rest : Rest) → slice_get rests.now k ≡ Some rest → rest.line < lines_of program.now }
-    requires stand { (x : Instance) → Among nodes.now.keys x → Stands program.now x }
-    requires closed { IsClosed image.now program.now nodes.now.keys }
+    requires searched { AreSearched image.now program.now nodes.now.keys }
     requires entered { AreEntered program.now schedule.now rests.now nodes.now.keys }
     requires few { length bare.points.items < 2 ^ 32 }
-    requires numbers { AreNumbers (response_clocks program.now.head.irq) (order_of_program program.now) rests.now nodes.now.keys bare.numbers.items (length bare.points.items) }
-    requires points { ArePoints (response_clocks program.now.head.irq) (order_of_program program.now) rests.now nodes.now.keys bare.numbers.items (length bare.points.items) bare.points.items }
-    ensures numbers { AreNumbers (response_clocks program.now.head.irq) (order_of_program program.now) rests.now nodes.now.keys result.numbers.items (length result.points.items) }
-    ensures points { ArePoints (response_clocks program.now.head.irq) (order_of_program program.now) rests.now nodes.now.keys result.numbers.items (length result.points.items) result.points.items }
+    requires pointed { ArePointed program.now rests.now nodes.now.keys bare.numbers.items
+        (length bare.points.items) bare.points.items }
+    ensures pointed { ArePointed program.now rests.now nodes.now.keys result.numbers.items
+        (length result.points.items) result.points.items }
     ensures named { AreNamed image.now program.now schedule.now rests.now nodes.now.keys result.numbers.items result.points.items }
 {
     let Numbered {
@@ -98,17 +89,12 @@ fn points_of(
     rests: &[Rest],
     nodes: &IndexSet<Instance>,
 ) -> Result<Numbered, AllocError>
-    requires fits { ProgramFits program.now }
-    requires schedule { ScheduleFits schedule.now }
-    requires lines { length schedule.now.lines ≡ lines_of program.now }
-    requires line { (k : ℕ) (rest : Rest) → slice_get rests.now k ≡ Some rest → rest.line < lines_of program.now }
-    requires stand { (x : Instance) → Among nodes.now.keys x → Stands program.now x }
-    requires closed { IsClosed image.now program.now nodes.now.keys }
+    requires searched { AreSearched image.now program.now nodes.now.keys }
     requires entered { AreEntered program.now schedule.now rests.now nodes.now.keys }
     requires rests { length rests.now ≤ 525 }
     requires few { length nodes.now.keys < 524288 }
-    ensures numbers { IfOk result (λ r. AreNumbers (response_clocks program.now.head.irq) (order_of_program program.now) rests.now nodes.now.keys r.numbers.items (length r.points.items)) }
-    ensures points { IfOk result (λ r. ArePoints (response_clocks program.now.head.irq) (order_of_program program.now) rests.now nodes.now.keys r.numbers.items (length r.points.items) r.points.items) }
+    ensures pointed { IfOk result (λ r. ArePointed program.now rests.now nodes.now.keys r.numbers.items
+        (length r.points.items) r.points.items) }
     ensures named { IfOk result (λ r. AreNamed image.now program.now schedule.now rests.now nodes.now.keys r.numbers.items r.points.items) }
 {
     let bare = number_points(
@@ -148,7 +134,7 @@ fn made_schedule(
     schedule_of(alloc, found.marks.as_slice(), &program.schedule)
 }
 
-/// The handler's first states after each rest of an ended search are its instances. Does nothing.
+/// An ended search has entered the handler after each of its rests. Does nothing.
 fn rests_are_entered(
     image: &Image,
     program: &Program,
@@ -167,15 +153,16 @@ fn rests_are_entered(
     let _ = schedule; // said of in the contract alone
     let _ = found; // said of in the contract alone
     event_by_line();
+    ended_falls_once();
+    ended_levels_fit();
     ended_rests_enter();
 }
 
-/// The instances of an ended search are closed. Does nothing.
-fn nodes_are_closed(image: &Image, program: &Program, found: &Found)
+/// The instances of an ended search stand in its frame, with all their results. Does nothing.
+fn nodes_are_searched(image: &Image, program: &Program, found: &Found)
     requires fits { ProgramFits program.now }
     requires ended { IsEnded image.now program.now found.now }
-    ensures stand { (x : Instance) → Among found.now.nodes.keys x → Stands program.now x }
-    ensures closed { IsClosed image.now program.now found.now.nodes.keys }
+    ensures { AreSearched image.now program.now found.now.nodes.keys }
 {
     let _ = image; // said of in the contract alone
     let _ = program; // said of in the contract alone
@@ -200,7 +187,7 @@ pub(crate) fn parts_of(
 {
     let schedule = made_schedule(alloc, image, program, found)?;
     let rests = rests_of(alloc, found.returns.as_slice())?;
-    nodes_are_closed(image, program, found);
+    nodes_are_searched(image, program, found);
     rests_are_entered(image, program, &entry, &schedule, found);
     let made = points_of(
         alloc,

@@ -83,16 +83,17 @@ fn find_by(alloc: Global, image: &Image, program: Program, entry: Entry) -> Resu
 /// the entry that the hints ask for, where each rest is a return of some trail. Its points are joined line by line and count by count
 /// where the check accepts them so. Where none of the causes stands, only want of memory leaves it without one.
 ///
-/// Hint comes exactly where a hint is at fault or start, lines or stack are missing, before all other refusals; Stuck and Split only with trails
-/// that show them; Full only where 524,288 distinct instances lie on trails; NoRest only where runs enter main, and the instances on trails hold
-/// no return. Time is linear in the instances and their results.
+/// Hint comes exactly where a hint is at fault or start, lines or stack are missing, before all other refusals; Stuck and
+/// Split only with trails that show them; Full only where 524,288 distinct instances lie on trails; NoRest only where runs
+/// enter main, and the instances on trails hold no return. Time is linear in the instances and their results.
 pub fn find(alloc: Global, image: &Image, hints: &[Hint], irq: Response) -> Result<Cert, NotFound>
     requires { length hints.now < 2 ^ 32 }
     ensures accepted { IfOk result (λ cert. WellFormed cert × Accepts image.now cert) }
     ensures asked { IfOk result (IsAsked image.now irq hints.now) }
     ensures cause { IfErr result (Cause image.now irq hints.now) }
     ensures complete { NoCause image.now irq hints.now → IsOk result ⊎ (result ≡ Err NotFound.Memory) }
-    ensures hint { (index : ℕ) → HintRefusal image.now irq hints.now index → (result ≡ Err (NotFound.Hint index)) ⊎ (result ≡ Err NotFound.Memory) }
+    ensures hint { (index : ℕ) → HintRefusal image.now irq hints.now index
+        → (result ≡ Err (NotFound.Hint index)) ⊎ (result ≡ Err NotFound.Memory) }
 {
     let reading = match read_hints(image, irq, hints) {
         Ok(reading) => reading,

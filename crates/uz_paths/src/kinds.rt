@@ -88,7 +88,8 @@ fn has_length(lengths: &[u16], i: usize, clocks: u16) -> bool
 /// The number of the first kind with these events and so many clocks.
 fn kind_with(kinds: &[LineEvents], lengths: &[u16], events: &[Event], clocks: u16) -> Option<usize>
     requires { length lengths.now ≡ length kinds.now }
-    ensures { MatchOption result ((i : ℕ) → IsKind kinds.now lengths.now i events.now clocks → ⊥) (λ i. IsKind kinds.now lengths.now i events.now clocks) }
+    ensures { MatchOption result ((i : ℕ) → IsKind kinds.now lengths.now i events.now clocks → ⊥)
+        (λ i. IsKind kinds.now lengths.now i events.now clocks) }
 {
     for (i, kind) in kinds.iter().enumerate() {
         if has_length(lengths, i, clocks) && are_same(kind.as_slice(), events) {

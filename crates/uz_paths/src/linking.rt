@@ -1,15 +1,12 @@
 //! Where instances lead: the names of successors.
 
-ghost use Rattle.std.specs.Prelude.{◌≡◌, ◌<◌, ◌≤◌, ◌+◌, ◌^◌, ℕ, Some, false, length, slice_get};
-ghost use Rattle.uz_schedule.specs.Limits.{ScheduleFits};
-ghost use Rattle.uz_schedule.specs.Schedule.{response_clocks};
+ghost use Rattle.std.specs.Prelude.{◌≡◌, ◌<◌, ◌≤◌, ◌+◌, ◌^◌, Some, false, length, slice_get};
 ghost use Rattle.uz_schedule.specs.declared.states.Instance.{Instance};
-ghost use Rattle.uz_schedule.specs.declared.states.Rest.{Rest};
-ghost use Rattle.uz_search.specs.Fitting.{ProgramFits, Stands};
-ghost use Rattle.uz_search.specs.Following.{Among, order_of_program, lines_of};
+ghost use Rattle.uz_search.specs.Following.{Among};
 ghost use Rattle.uz_search.specs.Widenings.{widened};
-ghost use Rattle.uz_paths.specs.Numbers.{AreNumbers};
-ghost use Rattle.uz_paths.specs.Linked.{AreEntered, AreNamed, ArePoints, HasFew, HasName, IsClosed, NamesEntries, NamesFit, NamesMore, NamesOwn, NamesResults, NamesVectors, Renamed, first_after as first_state_after};
+ghost use Rattle.uz_paths.specs.Linked.{AreEntered, AreNamed, ArePointed, AreSearched, HasFew, HasName, HaveNumbers};
+ghost use Rattle.uz_paths.specs.Linked.{IsEntered, NamesEntries, NamesFit, NamesMore, NamesOwn, NamesResults};
+ghost use Rattle.uz_paths.specs.Linked.{NamesVectors, Renamed};
 
 use crate::rests::first_after;
 use crate::successors::put_number;
@@ -49,8 +46,7 @@ fn name(
     names: &mut ArrayVec<u32, 16>,
 )
     requires node { Among nodes.now.keys to.now }
-    requires lengths { length numbers.now ≡ length nodes.now.keys }
-    requires within { (i n : ℕ) → slice_get numbers.now i ≡ Some n → n < count }
+    requires numbered { HaveNumbers nodes.now.keys numbers.now count }
     requires room { length names.old.items < 16 }
     ensures more { NamesMore count 1 names.old.items names.new.items }
     ensures named { HasName nodes.now.keys numbers.now to.now names.new.items }
@@ -70,8 +66,7 @@ fn name_all(
     names: &mut ArrayVec<u32, 16>,
 )
     requires nodes { (y : Instance) → Among results.now y → Among nodes.now.keys (widened program.now y) }
-    requires lengths { length numbers.now ≡ length nodes.now.keys }
-    requires within { (i n : ℕ) → slice_get numbers.now i ≡ Some n → n < count }
+    requires numbered { HaveNumbers nodes.now.keys numbers.now count }
     requires room { length names.old.items + length results.now ≤ 16 }
     ensures more { NamesMore count (length results.now) names.old.items names.new.items }
     ensures named { (y : Instance) → Among results.now y → HasName nodes.now.keys numbers.now (widened program.now y) names.new.items }
@@ -91,11 +86,11 @@ fn name_next(
     names: &mut ArrayVec<u32, 16>,
 )
     requires nodes { next.now.back ≡ false → (y : Instance) → Among next.now.out.items y → Among nodes.now.keys (widened program.now y) }
-    requires lengths { length numbers.now ≡ length nodes.now.keys }
-    requires within { (i n : ℕ) → slice_get numbers.now i ≡ Some n → n < count }
+    requires numbered { HaveNumbers nodes.now.keys numbers.now count }
     requires room { length names.old.items + length next.now.out.items ≤ 16 }
     ensures more { NamesMore count (length next.now.out.items) names.old.items names.new.items }
-    ensures named { next.now.back ≡ false → (y : Instance) → Among next.now.out.items y → HasName nodes.now.keys numbers.now (widened program.now y) names.new.items }
+    ensures named { next.now.back ≡ false → (y : Instance) → Among next.now.out.items y
+        → HasName nodes.now.keys numbers.now (widened program.now y) names.new.items }
 {
     if next.back {
         return;
@@ -117,12 +112,9 @@ fn name_results(
     names: &mut ArrayVec<u32, 16>,
     next: &mut Next,
 )
-    requires fits { ProgramFits program.now }
-    requires stands { Stands program.now at.now }
+    requires searched { AreSearched image.now program.now nodes.now.keys }
     requires node { Among nodes.now.keys at.now }
-    requires closed { IsClosed image.now program.now nodes.now.keys }
-    requires lengths { length numbers.now ≡ length nodes.now.keys }
-    requires within { (i n : ℕ) → slice_get numbers.now i ≡ Some n → n < count }
+    requires numbered { HaveNumbers nodes.now.keys numbers.now count }
     requires few { HasFew image.now program.now at.now most }
     requires room { length names.old.items + most ≤ 16 }
     ensures more { NamesMore count most names.old.items names.new.items }
@@ -145,12 +137,9 @@ fn own_names(
     at: &Instance,
     next: &mut Next,
 ) -> ArrayVec<u32, 16>
-    requires fits { ProgramFits program.now }
-    requires stands { Stands program.now at.now }
+    requires searched { AreSearched image.now program.now nodes.now.keys }
     requires node { Among nodes.now.keys at.now }
-    requires closed { IsClosed image.now program.now nodes.now.keys }
-    requires lengths { length numbers.now ≡ length nodes.now.keys }
-    requires within { (i n : ℕ) → slice_get numbers.now i ≡ Some n → n < count }
+    requires numbered { HaveNumbers nodes.now.keys numbers.now count }
     ensures fits { NamesFit count result.items }
     ensures named { NamesResults image.now program.now nodes.now.keys numbers.now at.now result.items }
 {
@@ -172,15 +161,9 @@ fn vector_names(
     rest: &Rest,
     next: &mut Next,
 ) -> ArrayVec<u32, 16>
-    requires fits { ProgramFits program.now }
-    requires schedule { ScheduleFits schedule.now }
-    requires lines { length schedule.now.lines ≡ lines_of program.now }
-    requires line { rest.now.line < lines_of program.now }
-    requires stand { (x : Instance) → Among nodes.now.keys x → Stands program.now x }
-    requires closed { IsClosed image.now program.now nodes.now.keys }
-    requires entered { (c : ℕ) → c ≤ 3 → Among nodes.now.keys (first_state_after program.now schedule.now rest.now c) }
-    requires lengths { length numbers.now ≡ length nodes.now.keys }
-    requires within { (i n : ℕ) → slice_get numbers.now i ≡ Some n → n < count }
+    requires searched { AreSearched image.now program.now nodes.now.keys }
+    requires entered { IsEntered program.now schedule.now nodes.now.keys rest.now }
+    requires numbered { HaveNumbers nodes.now.keys numbers.now count }
     ensures fits { NamesFit count result.items }
     ensures named { NamesEntries image.now program.now schedule.now nodes.now.keys numbers.now rest.now result.items }
 {
@@ -214,17 +197,11 @@ fn link_vectors(
     points: &mut [Point],
     next: &mut Next,
 )
-    requires fits { ProgramFits program.now }
-    requires schedule { ScheduleFits schedule.now }
-    requires lines { length schedule.now.lines ≡ lines_of program.now }
-    requires line { (k : ℕ) (rest : Rest) → slice_get rests.now k ≡ Some rest → rest.line < lines_of program.now }
-    requires stand { (x : Instance) → Among nodes.now.keys x → Stands program.now x }
-    requires closed { IsClosed image.now program.now nodes.now.keys }
+    requires searched { AreSearched image.now program.now nodes.now.keys }
     requires entered { AreEntered program.now schedule.now rests.now nodes.now.keys }
     requires few { length points.old < 2 ^ 32 }
-    requires numbered { AreNumbers (response_clocks program.now.head.irq) (order_of_program program.now) rests.now nodes.now.keys numbers.now (length points.old) }
-    requires made { ArePoints (response_clocks program.now.head.irq) (order_of_program program.now) rests.now nodes.now.keys numbers.now (length points.old) points.old }
-    ensures made { ArePoints (response_clocks program.now.head.irq) (order_of_program program.now) rests.now nodes.now.keys numbers.now (length points.old) points.new }
+    requires pointed { ArePointed program.now rests.now nodes.now.keys numbers.now (length points.old) points.old }
+    ensures pointed { ArePointed program.now rests.now nodes.now.keys numbers.now (length points.old) points.new }
     ensures named { NamesVectors image.now program.now schedule.now rests.now nodes.now.keys numbers.now (length rests.now) points.new }
 {
     let count = points.len() as u32;
@@ -245,14 +222,11 @@ fn link_own(
     points: &mut [Point],
     next: &mut Next,
 )
-    requires fits { ProgramFits program.now }
-    requires stand { (x : Instance) → Among nodes.now.keys x → Stands program.now x }
-    requires closed { IsClosed image.now program.now nodes.now.keys }
+    requires searched { AreSearched image.now program.now nodes.now.keys }
     requires few { length points.old < 2 ^ 32 }
-    requires numbered { AreNumbers (response_clocks program.now.head.irq) (order_of_program program.now) rests.now nodes.now.keys numbers.now (length points.old) }
-    requires made { ArePoints (response_clocks program.now.head.irq) (order_of_program program.now) rests.now nodes.now.keys numbers.now (length points.old) points.old }
+    requires pointed { ArePointed program.now rests.now nodes.now.keys numbers.now (length points.old) points.old }
     requires vectors { NamesVectors image.now program.now schedule.now rests.now nodes.now.keys numbers.now (length rests.now) points.old }
-    ensures made { ArePoints (response_clocks program.now.head.irq) (order_of_program program.now) rests.now nodes.now.keys numbers.now (length points.old) points.new }
+    ensures pointed { ArePointed program.now rests.now nodes.now.keys numbers.now (length points.old) points.new }
     ensures vectors { NamesVectors image.now program.now schedule.now rests.now nodes.now.keys numbers.now (length rests.now) points.new }
     ensures own { NamesOwn image.now program.now (length rests.now) nodes.now.keys numbers.now (length nodes.now.keys) points.new }
 {
@@ -277,17 +251,11 @@ pub(crate) fn link_all(
     numbers: &[u32],
     points: &mut [Point],
 )
-    requires fits { ProgramFits program.now }
-    requires schedule { ScheduleFits schedule.now }
-    requires lines { length schedule.now.lines ≡ lines_of program.now }
-    requires line { (k : ℕ) (rest : Rest) → slice_get rests.now k ≡ Some rest → rest.line < lines_of program.now }
-    requires stand { (x : Instance) → Among nodes.now.keys x → Stands program.now x }
-    requires closed { IsClosed image.now program.now nodes.now.keys }
+    requires searched { AreSearched image.now program.now nodes.now.keys }
     requires entered { AreEntered program.now schedule.now rests.now nodes.now.keys }
     requires few { length points.old < 2 ^ 32 }
-    requires numbered { AreNumbers (response_clocks program.now.head.irq) (order_of_program program.now) rests.now nodes.now.keys numbers.now (length points.old) }
-    requires made { ArePoints (response_clocks program.now.head.irq) (order_of_program program.now) rests.now nodes.now.keys numbers.now (length points.old) points.old }
-    ensures made { ArePoints (response_clocks program.now.head.irq) (order_of_program program.now) rests.now nodes.now.keys numbers.now (length points.old) points.new }
+    requires pointed { ArePointed program.now rests.now nodes.now.keys numbers.now (length points.old) points.old }
+    ensures pointed { ArePointed program.now rests.now nodes.now.keys numbers.now (length points.old) points.new }
     ensures named { AreNamed image.now program.now schedule.now rests.now nodes.now.keys numbers.now points.new }
 {
     let mut next = Next::empty();

@@ -59,7 +59,8 @@ fn vectors_of(
 ) -> Result<Vec<Point>, AllocError>
     requires lines { length schedule.now.lines ≤ most_lines }
     requires line { (k : ℕ) (rest : Rest) → slice_get rests.now k ≡ Some rest → rest.line < length schedule.now.lines }
-    ensures { IfOk result (λ points. ArePoints (response_clocks response) (order_of schedule.now) rests.now [] [] (length rests.now) points.items) }
+    ensures { IfOk result (λ points. ArePoints (response_clocks response) (order_of schedule.now) rests.now [] []
+        (length rests.now) points.items) }
 {
     let mut points = Vec::new(alloc);
     for rest in rests {
@@ -79,8 +80,10 @@ pub(crate) fn number_points(
     requires few { length rests.now + length nodes.now < 2 ^ 32 }
     requires lines { length schedule.now.lines ≤ most_lines }
     requires line { (k : ℕ) (rest : Rest) → slice_get rests.now k ≡ Some rest → rest.line < length schedule.now.lines }
-    ensures numbers { IfOk result (λ r. AreNumbers (response_clocks response) (order_of schedule.now) rests.now nodes.now r.numbers.items (length r.points.items)) }
-    ensures points { IfOk result (λ r. ArePoints (response_clocks response) (order_of schedule.now) rests.now nodes.now r.numbers.items (length r.points.items) r.points.items) }
+    ensures numbers { IfOk result (λ r. AreNumbers (response_clocks response)
+        (order_of schedule.now) rests.now nodes.now r.numbers.items (length r.points.items)) }
+    ensures points { IfOk result (λ r. ArePoints (response_clocks response)
+        (order_of schedule.now) rests.now nodes.now r.numbers.items (length r.points.items) r.points.items) }
 {
     let mut points = vectors_of(alloc, response, schedule, rests)?;
     let mut numbers = Vec::new(alloc);

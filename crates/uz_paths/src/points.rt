@@ -3,7 +3,10 @@
 ghost use Rattle.std.specs.Prelude.{◌≡◌, ◌<◌, ◌≤◌, ◌&&◌, length, map};
 ghost use Rattle.uz_schedule.specs.Instances.{hull_at, span_of_val};
 ghost use Rattle.uz_schedule.specs.WellFormed.{RangeFits, is_default_flag as default_flag, is_carry_and_zero_default as both_default};
-ghost use Rattle.uz_paths.specs.Points.{AreOrdered, AreOrderedVals, IsOrdered, IsOrderedVal, byte_fact as fact_of_byte, fact_of as fact_of_val, same_ends, range_fact as fact_of_range, pair_fact as fact_of_pair, pair_facts as facts_of_pairs, point_of as point_for, old_facts as facts_of_old, vector_point as vector_for};
+ghost use Rattle.uz_paths.specs.Points.{AreOrdered, AreOrderedVals, IsOrdered, IsOrderedVal, byte_fact as fact_of_byte};
+ghost use Rattle.uz_paths.specs.Points.{fact_of as fact_of_val, same_ends, range_fact as fact_of_range};
+ghost use Rattle.uz_paths.specs.Points.{pair_fact as fact_of_pair, pair_facts as facts_of_pairs, point_of as point_for};
+ghost use Rattle.uz_paths.specs.Points.{old_facts as facts_of_old, vector_point as vector_for};
 
 use arrayvec::ArrayVec;
 use uz_schedule::{Bit, Fact, Instance, Kind, PairFact, Point, Span, Val, Wide, hull};

@@ -14,13 +14,15 @@ ghost use Rattle.uz_hints.specs.Faults.{FactPart, FactsFine};
 ghost use Rattle.uz_hints.specs.Words.{is_half as is_half_by, length_by};
 ghost use Rattle.uz_hints.specs.Reading.{IsReading, ReadingFits, LengthsFit};
 ghost use Rattle.uz_paths.specs.Certificate.{IsEntry};
-ghost use Rattle.uz_paths.specs.ProgramOf.{widening_of as fact_of_place, hint_facts, facts_for, entry_with, first_state as state_at_first, first_states as states_at_first, kind_by as kind_by_hints, AreKindsBy, IsProgramOf};
+ghost use Rattle.uz_paths.specs.ProgramOf.{widening_of as fact_of_place, hint_facts, facts_for, entry_with};
+ghost use Rattle.uz_paths.specs.ProgramOf.{first_state as state_at_first, first_states as states_at_first};
+ghost use Rattle.uz_paths.specs.ProgramOf.{AreKindsBy, AreShortened, IsProgramOf};
 
 use arrayvec::ArrayVec;
 use avr_asm::Hint;
 use std::alloc::{AllocError, Global};
 use std::collections::BTreeMap;
-use uz_hints::{Beginning, Reading, is_half};
+use uz_hints::{Beginning, Reading};
 use uz_schedule::{
     Bit, Cell, Entry, HALF_LINE, Head, Instance, Kind, LineEvents, Response, SCANLINE, Schedule,
     Sequence, Span, Wide, entry_state, handler_entry, tracks,
@@ -53,7 +55,8 @@ fn put_fact(
     at: u16,
     fact: Widening,
 ) -> Result<(), AllocError>
-    ensures { OnOk result ((pc : ℕ) → facts_in (get nat_cmp facts.new pc) ≡ facts_in (get nat_cmp facts.old pc) ++ (if at == pc then fact ∷ [] else [])) }
+    ensures { OnOk result ((pc : ℕ) → facts_in (get nat_cmp facts.new pc)
+        ≡ facts_in (get nat_cmp facts.old pc) ++ (if at == pc then fact ∷ [] else [])) }
 {
     let mut here = match facts.remove(&at) {
         Some(here) => here,
@@ -161,7 +164,8 @@ fn starts_of(
     top: u16,
     firsts: &ArrayVec<Span, 16>,
 ) -> Result<Vec<Instance>, AllocError>
-    ensures { IfOk result (λ starts. starts.items ≡ entry_instance_at entry.now 1 ∷ states_at_first entry.now.kind irq top firsts.now.items) }
+    ensures { IfOk result (λ starts. starts.items
+        ≡ entry_instance_at entry.now 1 ∷ states_at_first entry.now.kind irq top firsts.now.items) }
 {
     let mut starts = Vec::new(alloc);
     starts.push(entry_state(entry, 1))?;
@@ -182,22 +186,35 @@ fn both_kinds(alloc: Global) -> Result<(Vec<LineEvents>, Vec<u16>), AllocError>
     Ok((kinds, lengths))
 }
 
-/// Which of them a line is of: the shorter one where a hint names it.
-fn kind_by(hints: &[Hint], line: u16) -> u16
-    ensures { result ≡ kind_by_hints hints.now line }
+/// Makes the lines from one to another, both among them, of the shorter kind.
+fn shorten(kinds: &mut [u16], from: u16, to: u16)
+    ensures { AreShortened (Hint.Half from to) kinds.old kinds.new }
 {
-    if is_half(hints, line) { 1 } else { 0 }
+    let end = kinds.len().min(to as usize + 1);
+    for line in from as usize..end {
+        kinds[line] = 1;
+    }
 }
 
-/// Which of them each of so many lines is of.
+/// Makes the lines that a hint names of the shorter kind.
+fn put_half(kinds: &mut [u16], hint: &Hint)
+    ensures { AreShortened hint.now kinds.old kinds.new }
+{
+    if let Hint::Half { from, to } = hint {
+        shorten(kinds, *from, *to);
+    }
+}
+
+/// Which of them each of so many lines is of: the shorter one where a hint names it. One walk over the hints, each of
+/// which costs the lines that it names.
 fn kinds_by(alloc: Global, hints: &[Hint], lines: u16) -> Result<Vec<u16>, AllocError>
     ensures { IfOk result (λ v. AreKindsBy hints.now lines v.items) }
 {
-    let mut numbers = Vec::new(alloc);
-    for line in 0..lines {
-        numbers.push(kind_by(hints, line))?;
+    let mut kinds = vec![in alloc; 0; lines as usize]?;
+    for hint in hints {
+        put_half(kinds.as_mut_slice(), hint);
     }
-    Ok(numbers)
+    Ok(kinds)
 }
 
 /// A frame of so many lines, each as long as the hints say, whose events aren't known yet.
@@ -228,7 +245,8 @@ pub(crate) fn program_of(
     requires fits { ReadingFits reading }
     requires lengths { LengthsFit hints.now reading }
     ensures fits { IfOk result (λ r. ProgramFits r.0) }
-    ensures program { IfOk result (λ r. (image : FinMap nat_cmp ℕ) (irq : ResponseKind) → IsReading image irq hints.now reading → IsProgramOf irq hints.now r.0) }
+    ensures program { IfOk result (λ r. (image : FinMap nat_cmp ℕ) (irq : ResponseKind) → IsReading image irq hints.now reading
+        → IsProgramOf irq hints.now r.0) }
     ensures head { IfOk result (λ r. r.0.head ≡ reading.head) }
     ensures entry { IfOk result (λ r. r.1 ≡ entry_with reading.registers reading.head reading.start 0) }
     ensures start { IfOk result (λ r. IsEntry r.0 r.1) }

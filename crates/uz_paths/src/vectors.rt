@@ -54,7 +54,8 @@ pub(crate) fn vector_of(
     requires few { length rests.now < 2 ^ 32 }
     requires lines { length schedule.now.lines ≤ most_lines }
     requires line { (k : ℕ) (rest : Rest) → slice_get rests.now k ≡ Some rest → rest.line < length schedule.now.lines }
-    ensures { MatchOption result ((k : ℕ) → IsVectorOf (response_clocks response) (order_of schedule.now) rests.now k at.now → ⊥) (λ k. IsVectorOf (response_clocks response) (order_of schedule.now) rests.now k at.now) }
+    ensures { MatchOption result ((k : ℕ) → IsVectorOf (response_clocks response) (order_of schedule.now) rests.now k at.now
+        → ⊥) (λ k. IsVectorOf (response_clocks response) (order_of schedule.now) rests.now k at.now) }
 {
     for (k, rest) in rests.iter().enumerate() {
         if is_first_after(response, schedule, rest, at) {

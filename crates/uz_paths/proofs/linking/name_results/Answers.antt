@@ -5,8 +5,14 @@ use Rattle.uz_paths.proofs.FewResults.{one_next, ok_or_err}
 use Rattle.uz_paths.proofs.LinkLemmas.{none_more, names_within}
 use Rattle.uz_paths.proofs.linking.name_results.Goals as goal
 
+pub put_after-requires-clause-line : goal.put_after-requires-clause-line
+put_after-requires-clause-line c = (c.requires.searched.stand c.args.at.now c.requires.node).line
+
+pub put_after-requires-clause-clock : goal.put_after-requires-clause-clock
+put_after-requires-clause-clock c = (c.requires.searched.stand c.args.at.now c.requires.node).clock
+
 pub name_next-requires-clause-nodes : goal.name_next-requires-clause-nodes
-name_next-requires-clause-nodes c = λ on y there. c.requires.closed c.args.at.now y c.put_after.new.next c.requires.node c.in-Ok.ensures.ok
+name_next-requires-clause-nodes c = λ on y there. c.requires.searched.closed c.args.at.now y c.put_after.new.next c.requires.node c.in-Ok.ensures.ok
     on there
 
 pub name_next-requires-clause-room : goal.name_next-requires-clause-room

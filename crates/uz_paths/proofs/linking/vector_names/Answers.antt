@@ -1,9 +1,6 @@
 use Rattle.std.proofs.Common.{arith, sym, subst}
 use borrow.Author.Count.{below_more}
-use Rattle.uz_schedule.specs.Schedule.{next_line, response_clocks}
-use Rattle.uz_schedule.specs.Instances.{level_or_zero}
 use Rattle.uz_schedule.specs.declared.states.Instance.{Instance}
-use Rattle.uz_search.specs.Fitting.{Stands}
 use Rattle.uz_search.specs.Following.{Among}
 use Rattle.uz_paths.specs.Linked.{HasFew, NamesResults, first_after}
 use Rattle.uz_paths.proofs.FewResults.{few_entries}
@@ -13,13 +10,7 @@ use Rattle.uz_paths.proofs.linking.vector_names.Goals as goal
 pub name_results-requires-clause-node : goal.name_results-requires-clause-node
 name_results-requires-clause-node c =
     subst (λ (z : Instance). Among c.args.nodes.now.keys z) (sym c.first_after-at.ensures)
-    (c.requires.entered c.loop-c.c (omega (arith, c.loop-c-test.true)))
-
-pub name_results-requires-clause-stands : goal.name_results-requires-clause-stands
-name_results-requires-clause-stands c =
-    subst (λ (z : Instance). Stands c.args.program.now z) (sym c.first_after-at.ensures)
-    (c.requires.stand (first_after c.args.program.now c.args.schedule.now c.args.rest.now c.loop-c.c)
-    (c.requires.entered c.loop-c.c (omega (arith, c.loop-c-test.true))))
+    (c.requires.entered.first c.loop-c.c (omega (arith, c.loop-c-test.true)))
 
 pub name_results-requires-clause-few : goal.name_results-requires-clause-few
 name_results-requires-clause-few c =
