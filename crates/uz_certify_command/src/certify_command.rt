@@ -16,7 +16,7 @@ use std::alloc::{AllocError, Global};
 use uz_cert::{Cert, write_cert};
 use uz_cert_text_laws::text_is_unique;
 use uz_files::{
-    Ending, Failure, Status, assemble_file, end_with, give_up, put_no_memory, write_file,
+    Ending, Failure, Source, Status, end_with, give_up, put_no_memory, read_file, write_file,
 };
 use uz_hex::{Image, write_hex};
 use uz_pair_files::accepted;
@@ -88,7 +88,7 @@ fn prepare<H: Shelf>(
     ensures load_faults { H.load_faults shelf.old ≤ H.load_faults shelf.new }
     ensures write_faults { H.write_faults shelf.new ≡ H.write_faults shelf.old }
 {
-    let built = assemble_file(alloc, shelf, source)?;
+    let built = read_file::<Source, H>(alloc, shelf, source)?;
     search_built(alloc, &built, irq)
 }
 

@@ -9,8 +9,14 @@ use Rattle.uz_files.specs.declared.text_fault.TextFault.{TextFault}
 use Rattle.uz_files.specs.declared.text_fault.TextFault.TheVariants.{At, Memory}
 use Rattle.uz_files.specs.Endings.{EndsBy}
 use Rattle.uz_files.specs.Answers.{Answer, one_line}
-use Rattle.uz_files.specs.Reading.{Fault, Fails, Refuses}
+use Rattle.uz_files.specs.Reading.{Fault, Fails, Refuses, Says}
 use Rattle.uz_files.specs.TextFaults.{Tells, TellsFault}
+
+-- a value of the code that a file says, and what it stands for
+pub says_seen : {A B : Type 0} (files : Option FileMap) (name : List ℕ) (limit : ℕ) (spells : List ℕ → B → Type 0) (seen : A → B) (said : A)
+    → Says files name limit (λ text x. spells text (seen x)) said → Says files name limit spells (seen said)
+says_seen files name limit spells seen said says =
+    record { bytes = says.bytes; held = says.held; short = says.short; reads = says.reads }
 
 pub ends_by : (P Q : Answer → Type 0) (failure : Failure) → ((answer : Answer) → P answer → Q answer) → EndsBy P failure → EndsBy Q failure
 ends_by P Q (UnreadFile line) leads h = leads (one_line Unread line.items) h

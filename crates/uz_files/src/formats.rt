@@ -1,18 +1,6 @@
 //! The formats of the files that several commands read.
 
-ghost use Rattle.std.specs.Prelude.{◌≡◌, ◌<◌, ◌≤◌, ◌^◌, IfErr, IfOk, length};
-ghost use Rattle.avr_asm.specs.Assembly.{seen_built};
-ghost use Rattle.avr_asm.specs.Relation.{IsAssembly};
-ghost use Rattle.uz_hex.specs.HexText.{IsHexOf};
-ghost use Rattle.uz_schedule.specs.WellFormed.{WellFormed};
-ghost use Rattle.uz_shelf.specs.Faults.{Rose};
-ghost use Rattle.uz_files.specs.Endings.{EndsBy};
-ghost use Rattle.uz_files.specs.Formats.{RefusesCertificate, RefusesHex, RefusesOldCertificate, RefusesPads, RefusesSource};
-ghost use Rattle.uz_files.specs.Formats.{SpellsCertificate, SpellsOldCertificate, SpellsPads};
-ghost use Rattle.uz_files.specs.Reading.{Fails, Says, certificate_limit, text_limit};
-
-use crate::ending::Failure;
-use crate::format::{Format, read_file};
+use crate::format::Format;
 use crate::loading::{CERTIFICATE_LIMIT, TEXT_LIMIT};
 use crate::text_fault::TextFault;
 use avr_asm::{AsmError, AsmWhy, Built, assemble};
@@ -20,10 +8,9 @@ use std::alloc::Global;
 use uz_cert::{Cert, CertError, CertWhy, read_cert, read_cert_1};
 use uz_hex::{HexError, HexWhy, Image, read_hex};
 use uz_pads::{Pad, PadError, PadWhy, read_pads};
-use uz_shelf::Shelf;
 
 /// Source text of the assembler.
-struct Source;
+pub struct Source;
 
 impl Format for Source {
     ghost use Rattle.std.specs.Prelude.{◌<◌, ◌^◌, length};
@@ -63,7 +50,7 @@ impl Format for Source {
 }
 
 /// Intel HEX.
-struct HexText;
+pub struct HexText;
 
 impl Format for HexText {
     ghost use Rattle.uz_hex.specs.HexText.{IsHexOf};
@@ -100,7 +87,7 @@ impl Format for HexText {
 }
 
 /// The text of a certificate.
-struct CertificateText;
+pub struct CertificateText;
 
 impl Format for CertificateText {
     ghost use Rattle.uz_schedule.specs.WellFormed.{WellFormed};
@@ -137,7 +124,7 @@ impl Format for CertificateText {
 }
 
 /// The text of a certificate in version 1.
-struct OldCertificateText;
+pub struct OldCertificateText;
 
 impl Format for OldCertificateText {
     ghost use Rattle.uz_schedule.specs.WellFormed.{WellFormed};
@@ -174,7 +161,7 @@ impl Format for OldCertificateText {
 }
 
 /// Pairs of pad words.
-struct PadWords;
+pub struct PadWords;
 
 impl Format for PadWords {
     ghost use Rattle.uz_files.specs.Formats.{RefusesPads, SpellsPads};
@@ -207,75 +194,4 @@ impl Format for PadWords {
             }),
         }
     }
-}
-
-/// What a source file assembles to.
-pub fn assemble_file<H: Shelf>(alloc: Global, shelf: &mut H, name: &str) -> Result<Built, Failure>
-    ensures said { IfOk result (λ built. Says (H.files shelf.old) name.now text_limit IsAssembly (seen_built built)) }
-    ensures few { IfOk result (λ built. length built.hints.items < 2 ^ 32) }
-    ensures fails { IfErr result (EndsBy (Fails (H.files shelf.old)
-        (Rose (H.load_faults shelf.old) (H.load_faults shelf.new)) name.now text_limit RefusesSource)) }
-    ensures files { H.files shelf.new ≡ H.files shelf.old }
-    ensures load_faults { H.load_faults shelf.old ≤ H.load_faults shelf.new }
-    ensures write_faults { H.write_faults shelf.new ≡ H.write_faults shelf.old }
-{
-    read_file::<Source, H>(alloc, shelf, name)
-}
-
-/// The image that a HEX file spells.
-pub fn read_image<H: Shelf>(alloc: Global, shelf: &mut H, name: &str) -> Result<Image, Failure>
-    ensures said { IfOk result (Says (H.files shelf.old) name.now text_limit IsHexOf) }
-    ensures fails { IfErr result (EndsBy (Fails (H.files shelf.old)
-        (Rose (H.load_faults shelf.old) (H.load_faults shelf.new)) name.now text_limit RefusesHex)) }
-    ensures files { H.files shelf.new ≡ H.files shelf.old }
-    ensures load_faults { H.load_faults shelf.old ≤ H.load_faults shelf.new }
-    ensures write_faults { H.write_faults shelf.new ≡ H.write_faults shelf.old }
-{
-    read_file::<HexText, H>(alloc, shelf, name)
-}
-
-/// The certificate that a file spells.
-pub fn read_certificate<H: Shelf>(alloc: Global, shelf: &mut H, name: &str) -> Result<Cert, Failure>
-    ensures said { IfOk result (Says (H.files shelf.old) name.now certificate_limit SpellsCertificate) }
-    ensures well_formed { IfOk result WellFormed }
-    ensures fails { IfErr result (EndsBy (Fails (H.files shelf.old)
-        (Rose (H.load_faults shelf.old) (H.load_faults shelf.new)) name.now certificate_limit RefusesCertificate)) }
-    ensures files { H.files shelf.new ≡ H.files shelf.old }
-    ensures load_faults { H.load_faults shelf.old ≤ H.load_faults shelf.new }
-    ensures write_faults { H.write_faults shelf.new ≡ H.write_faults shelf.old }
-{
-    read_file::<CertificateText, H>(alloc, shelf, name)
-}
-
-/// The certificate that a file of version 1 spells.
-pub fn read_old_certificate<H: Shelf>(
-    alloc: Global,
-    shelf: &mut H,
-    name: &str,
-) -> Result<Cert, Failure>
-    ensures said { IfOk result (Says (H.files shelf.old) name.now certificate_limit SpellsOldCertificate) }
-    ensures well_formed { IfOk result WellFormed }
-    ensures fails { IfErr result (EndsBy (Fails (H.files shelf.old)
-        (Rose (H.load_faults shelf.old) (H.load_faults shelf.new)) name.now certificate_limit RefusesOldCertificate)) }
-    ensures files { H.files shelf.new ≡ H.files shelf.old }
-    ensures load_faults { H.load_faults shelf.old ≤ H.load_faults shelf.new }
-    ensures write_faults { H.write_faults shelf.new ≡ H.write_faults shelf.old }
-{
-    read_file::<OldCertificateText, H>(alloc, shelf, name)
-}
-
-/// The pairs of pad words that a file spells.
-pub fn read_pad_file<H: Shelf>(
-    alloc: Global,
-    shelf: &mut H,
-    name: &str,
-) -> Result<Vec<Pad>, Failure>
-    ensures said { IfOk result (λ pads. Says (H.files shelf.old) name.now text_limit SpellsPads pads.items) }
-    ensures fails { IfErr result (EndsBy (Fails (H.files shelf.old)
-        (Rose (H.load_faults shelf.old) (H.load_faults shelf.new)) name.now text_limit RefusesPads)) }
-    ensures files { H.files shelf.new ≡ H.files shelf.old }
-    ensures load_faults { H.load_faults shelf.old ≤ H.load_faults shelf.new }
-    ensures write_faults { H.write_faults shelf.new ≡ H.write_faults shelf.old }
-{
-    read_file::<PadWords, H>(alloc, shelf, name)
 }

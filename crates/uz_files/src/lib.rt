@@ -13,9 +13,7 @@ mod writing;
 
 pub use ending::{Ending, Failure, end_fault, end_with, finish, give_up, put_no_memory};
 pub use format::{Format, read_file};
-pub use formats::{
-    assemble_file, read_certificate, read_image, read_old_certificate, read_pad_file,
-};
+pub use formats::{CertificateText, HexText, OldCertificateText, PadWords, Source};
 pub use laws::readings_are_unique;
 pub use loading::{TEXT_LIMIT, bad_input, load, unread};
 pub use status::Status;

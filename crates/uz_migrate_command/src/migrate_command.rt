@@ -14,7 +14,7 @@ use itoa::Buffer;
 use std::alloc::{AllocError, Global};
 use uz_cert_text_laws::text_is_unique;
 use uz_cert_writer::write_cert;
-use uz_files::{Failure, Status, Work, finish_work, read_old_certificate};
+use uz_files::{Failure, OldCertificateText, Status, Work, finish_work, read_file};
 use uz_schedule::Cert;
 use uz_shelf::{Shelf, Sink};
 
@@ -50,7 +50,7 @@ fn prepare<H: Shelf>(alloc: Global, shelf: &mut H, older: &str) -> Result<Work, 
     ensures load_faults { H.load_faults shelf.old ≤ H.load_faults shelf.new }
     ensures write_faults { H.write_faults shelf.new ≡ H.write_faults shelf.old }
 {
-    let certificate = match read_old_certificate(alloc, shelf, older) {
+    let certificate = match read_file::<OldCertificateText, H>(alloc, shelf, older) {
         Ok(certificate) => certificate,
         Err(failure) => return Err(failure),
     };

@@ -10,7 +10,7 @@ ghost use Rattle.uz_pair_files.specs.PairFiles.{PairPreface};
 use crate::verdict_lines::refused;
 use std::alloc::{AllocError, Global};
 use uz_check::{Accepted, check, verdict_is_unique};
-use uz_files::{Ending, Failure, Status, read_certificate, read_image};
+use uz_files::{CertificateText, Ending, Failure, HexText, Status, read_file};
 use uz_hex::Image;
 use uz_schedule::Cert;
 use uz_shelf::Shelf;
@@ -53,8 +53,8 @@ pub fn check_files<H: Shelf>(
     ensures load_faults { H.load_faults shelf.old ≤ H.load_faults shelf.new }
     ensures write_faults { H.write_faults shelf.new ≡ H.write_faults shelf.old }
 {
-    let image = read_image(alloc, shelf, hex)?;
-    let certificate = match read_certificate(alloc, shelf, cert) {
+    let image = read_file::<HexText, H>(alloc, shelf, hex)?;
+    let certificate = match read_file::<CertificateText, H>(alloc, shelf, cert) {
         Ok(certificate) => certificate,
         Err(failure) => return Err(failure),
     };

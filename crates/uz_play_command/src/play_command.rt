@@ -9,7 +9,7 @@ ghost use Rattle.uz_play_command.specs.PlayValues.{IsChecked, IsStart, PlayPrefa
 use std::alloc::{AllocError, Global};
 use uz_check::check;
 use uz_console::{Console, reset_is_in_range};
-use uz_files::{Ending, Failure, Status, read_certificate, read_image, read_pad_file};
+use uz_files::{CertificateText, Ending, Failure, HexText, PadWords, Status, read_file};
 use uz_hex::Image;
 use uz_pads::Pad;
 use uz_pair_files::refused;
@@ -66,12 +66,12 @@ pub(crate) fn start_play<H: Shelf>(
     ensures load_faults { H.load_faults shelf.old ≤ H.load_faults shelf.new }
     ensures write_faults { H.write_faults shelf.new ≡ H.write_faults shelf.old }
 {
-    let image = read_image(alloc, shelf, hex)?;
-    let certificate = match read_certificate(alloc, shelf, cert) {
+    let image = read_file::<HexText, H>(alloc, shelf, hex)?;
+    let certificate = match read_file::<CertificateText, H>(alloc, shelf, cert) {
         Ok(certificate) => certificate,
         Err(failure) => return Err(failure),
     };
-    let list = match read_pad_file(alloc, shelf, pads) {
+    let list = match read_file::<PadWords, H>(alloc, shelf, pads) {
         Ok(list) => list,
         Err(failure) => return Err(failure),
     };

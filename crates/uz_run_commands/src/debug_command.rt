@@ -7,10 +7,10 @@ ghost use Rattle.uz_run_commands.specs.DebugCommand.{DebugAnswers, StartsDebug};
 ghost use Rattle.uz_files.specs.Endings.{EndsBy, Gives};
 ghost use Rattle.uz_run_files.specs.RunFiles.{RunPreface};
 
-use crate::script_file::read_script_file;
+use crate::script_file::Script;
 use std::alloc::Global;
 use uz_debug::{Debugger, session_text};
-use uz_files::{Ending, Failure, Status, finish, read_image, read_pad_file};
+use uz_files::{Ending, Failure, HexText, PadWords, Status, finish, read_file};
 use uz_schedule::Response;
 use uz_shelf::{Shelf, Sink};
 
@@ -29,8 +29,8 @@ fn reset_debugger<H: Shelf>(
     ensures load_faults { H.load_faults shelf.old ≤ H.load_faults shelf.new }
     ensures write_faults { H.write_faults shelf.new ≡ H.write_faults shelf.old }
 {
-    let image = read_image(alloc, shelf, hex)?;
-    let list = match read_pad_file(alloc, shelf, pads) {
+    let image = read_file::<HexText, H>(alloc, shelf, hex)?;
+    let list = match read_file::<PadWords, H>(alloc, shelf, pads) {
         Ok(list) => list,
         Err(failure) => return Err(failure),
     };
@@ -57,7 +57,7 @@ fn debug_files<H: Shelf>(
         Ok(debugger) => debugger,
         Err(failure) => return Err(failure),
     };
-    let commands = match read_script_file(alloc, shelf, script) {
+    let commands = match read_file::<Script, H>(alloc, shelf, script) {
         Ok(commands) => commands,
         Err(failure) => return Err(failure),
     };

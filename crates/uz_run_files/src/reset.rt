@@ -7,7 +7,7 @@ ghost use Rattle.uz_run_files.specs.RunFiles.{RunPreface, StartsRun};
 
 use std::alloc::Global;
 use uz_console::Console;
-use uz_files::{Failure, read_image, read_pad_file};
+use uz_files::{Failure, HexText, PadWords, read_file};
 use uz_schedule::Response;
 use uz_shelf::Shelf;
 
@@ -26,8 +26,8 @@ pub fn reset_console<H: Shelf>(
     ensures load_faults { H.load_faults shelf.old ≤ H.load_faults shelf.new }
     ensures write_faults { H.write_faults shelf.new ≡ H.write_faults shelf.old }
 {
-    let image = read_image(alloc, shelf, hex)?;
-    let list = match read_pad_file(alloc, shelf, pads) {
+    let image = read_file::<HexText, H>(alloc, shelf, hex)?;
+    let list = match read_file::<PadWords, H>(alloc, shelf, pads) {
         Ok(list) => list,
         Err(failure) => return Err(failure),
     };

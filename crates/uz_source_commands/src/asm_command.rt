@@ -11,7 +11,7 @@ ghost use Rattle.uz_files.specs.Formats.{RefusesSource};
 
 use itoa::Buffer;
 use std::alloc::{AllocError, Global};
-use uz_files::{Failure, Status, Work, assemble_file, finish_work};
+use uz_files::{Failure, Source, Status, Work, finish_work, read_file};
 use uz_hex::{Image, write_hex};
 use uz_shelf::{Shelf, Sink};
 
@@ -35,7 +35,7 @@ fn prepare<H: Shelf>(alloc: Global, shelf: &mut H, source: &str) -> Result<Work,
     ensures load_faults { H.load_faults shelf.old ≤ H.load_faults shelf.new }
     ensures write_faults { H.write_faults shelf.new ≡ H.write_faults shelf.old }
 {
-    let built = assemble_file(alloc, shelf, source)?;
+    let built = read_file::<Source, H>(alloc, shelf, source)?;
     let text = write_hex(alloc, &built.image)?;
     let line = assembled(alloc, &built.image)?;
     Ok(Work { text, line })

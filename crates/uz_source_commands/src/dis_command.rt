@@ -8,7 +8,7 @@ ghost use Rattle.uz_files.specs.Endings.{Gives};
 
 use avr_dis::listing;
 use std::alloc::Global;
-use uz_files::{Ending, Failure, Status, finish, read_image};
+use uz_files::{Ending, Failure, HexText, Status, finish, read_file};
 use uz_shelf::{Shelf, Sink};
 
 /// Reads the file, and lists its image.
@@ -18,7 +18,7 @@ fn list_file<H: Shelf>(alloc: Global, shelf: &mut H, hex: &str) -> Result<Ending
     ensures load_faults { H.load_faults shelf.old ≤ H.load_faults shelf.new }
     ensures write_faults { H.write_faults shelf.new ≡ H.write_faults shelf.old }
 {
-    let image = read_image(alloc, shelf, hex)?;
+    let image = read_file::<HexText, H>(alloc, shelf, hex)?;
     Ok(Ending {
         status: Status::Done,
         line: listing(alloc, &image)?,

@@ -3,13 +3,13 @@ use Rattle.uz_pair_files.proofs.pair.check_files.Goals as goal
 
 pub returns-in-Err-clause-fails : goal.returns-in-Err-clause-fails
 returns-in-Err-clause-fails g c =
-    preface_without_certificate (g.H.Shelf.files c.args.shelf.now) (g.H.Shelf.files c.read_image.new.shelf)
-    (g.H.Shelf.load_faults c.args.shelf.now) (g.H.Shelf.load_faults c.read_image.new.shelf)
-    (g.H.Shelf.load_faults c.read_certificate.new.shelf)
+    preface_without_certificate (g.H.Shelf.files c.args.shelf.now) (g.H.Shelf.files c.read_file.new.shelf)
+    (g.H.Shelf.load_faults c.args.shelf.now) (g.H.Shelf.load_faults c.read_file.new.shelf)
+    (g.H.Shelf.load_faults c.read_file-2.new.shelf)
     c.args.hex.now c.args.cert.now c.in_ok-image.image c.in-Err.failure
-    c.read_image.ensures.files c.read_image.ensures.load_faults c.in_ok-image.ensures.said c.in-Err.ensures.fails
+    c.read_file.ensures.files c.read_file.ensures.load_faults c.in_ok-image.ensures.said c.in-Err.ensures.fails
 
 pub returns-clause-checked : goal.returns-clause-checked
 returns-clause-checked g c =
     are_checked _ _ c.args.hex.now c.args.cert.now c.in_ok-image.image c.in-Ok.certificate _
-    c.read_image.ensures.files c.in_ok-image.ensures.said c.in-Ok.ensures.said c.in_ok-check_pair.ensures
+    c.read_file.ensures.files c.in_ok-image.ensures.said c.in-Ok.ensures.said c.in_ok-check_pair.ensures
