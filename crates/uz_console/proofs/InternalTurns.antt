@@ -22,11 +22,10 @@ use Rattle.uz_schedule.specs.declared.certificate.Cert.{Cert}
 use Rattle.uz_console.specs.declared.console.Console.{Console}
 use Rattle.uz_console.specs.Consoles.{StateStandsFor, StandsFor, state_of, clock_of}
 use Rattle.uz_console.specs.Entry.{NotEntered}
-use Rattle.uz_console.specs.Runs.{GoesQuietly}
 use Rattle.uz_console.specs.Approaches.{NotEnteredBefore}
 use Rattle.uz_console.specs.ManyTurns.{IsFree, LeadsTo}
 use Rattle.uz_console.proofs.ApproachLemmas.{none_before_more}
-use Rattle.uz_console.proofs.RunLemmas.{part_more, quiet_more, run_more}
+use Rattle.uz_console.proofs.RunLemmas.{part_more, run_more}
 use Rattle.uz_console.proofs.TurnLemmas.{carried_state}
 
 -- One instruction
@@ -177,12 +176,6 @@ leads limit watched old new passed free high is_free h n run moved below =
           subst (λ es. IsRunPart limit start es next) (append-nil edges) (part_more limit start s next edges [] p before turn) in
           let c = carries limit (λ x. IsRunPart limit start edges x) part_keeps t free is_free n (state_of new).core passed h run last
           stands part in (c.0, c.2, subst (λ u. to u c.0) moved c.1);
-      quiet = λ origin q s stands.
-          let l = q s stands in
-          let quiet_keeps : Keeps limit (λ x. GoesQuietly limit s x) = λ x next before turn at g.
-          quiet_more limit s x next g (before, turn) in
-          let c = carries limit (λ x. GoesQuietly limit s x) quiet_keeps t free is_free n (state_of new).core passed h run l.0 l.2 l.1 in
-          (c.0, c.2, subst (λ u. to u c.0) moved c.1);
       unmet = λ cert pc not s stands. elsewhere cert s watched high pc (subst (λ (core : Core). core.pc < 32768) (sym stands.core) below);
       unentered = λ cert pc not start edges before.
           let P : State PadHistory → Type 0 = λ x. PartUnentered cert limit start edges x × NotEntered cert x in

@@ -10,7 +10,7 @@ use Rattle.uz_console.specs.declared.console.Console.{Console}
 use Rattle.uz_console.specs.declared.turn.Made.{Made}
 use Rattle.uz_console.specs.Consoles.{StandsFor, clock_of, state_of}
 use Rattle.uz_console.specs.Entry.{NotEntered}
-use Rattle.uz_console.specs.Runs.{RunsTo, Quietly}
+use Rattle.uz_console.specs.Runs.{RunsTo}
 use Rattle.uz_console.specs.Approaches.{RunsUnentered}
 use Rattle.uz_console.specs.Turns.{IsMade, HasSome, TakesTime}
 
@@ -22,7 +22,6 @@ IsUnmet cert console = (s : State PadHistory) → StandsFor console s → NotEnt
 -- begins before the limit, and the pc after it isn't the watched one, so that no entry condition of that pc is met on the way
 pub record LeadsTo (limit watched : ℕ) (first mid : Console) : Type 0 where
   pub run : (start : State PadHistory) (edges : List Edge) → RunsTo limit start edges first → RunsTo limit start edges mid
-  pub quiet : (origin : Console) → Quietly limit origin first → Quietly limit origin mid
   pub unmet : (cert : Cert) → cert.entry.pc ≡ watched → IsUnmet cert first → IsUnmet cert mid
   pub unentered : (cert : Cert) → cert.entry.pc ≡ watched → IsUnmet cert first → (start : State PadHistory) (edges : List Edge)
       → RunsUnentered cert limit start edges first → RunsUnentered cert limit start edges mid

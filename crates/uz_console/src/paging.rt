@@ -3,7 +3,7 @@
 ghost use Rattle.std.specs.Prelude.{◌≡◌, ◌≤◌, ◌+◌, ◌^◌, ◌++◌, length};
 ghost use Rattle.arrayvec.specs.ArrayVec.{array_vec_len};
 ghost use Rattle.uz_machine.specs.Run.{edges_until};
-ghost use Rattle.uz_console.specs.Pages.{IsPage, PageIsFull, PageMovesOn};
+ghost use Rattle.uz_console.specs.Pages.{HasFewEdges, IsPage, IsTimedPage, PageIsFull, PageMovesOn};
 
 use crate::Console;
 use crate::turn::{Made, NOWHERE};
@@ -29,7 +29,8 @@ pub enum Paged {
 #[inline(always)]
 fn add_in_time(page: &mut ArrayVec<Edge, PAGE>, edges: &[Edge], limit: u64)
     requires { array_vec_len page.old + length edges.now ≤ 64 }
-    ensures { page.new.items ≡ page.old.items ++ edges_until limit edges.now }
+    ensures added { page.new.items ≡ page.old.items ++ edges_until limit edges.now }
+    ensures few { length page.new.items ≤ length page.old.items + length edges.now }
 {
     for edge in edges {
         if edge.clock <= limit {
@@ -46,6 +47,8 @@ impl Console {
         ensures run { IsPage limit self.old self.new page.new.items result }
         ensures full { PageIsFull page.new.items result }
         ensures time { PageMovesOn limit self.old self.new result }
+        ensures edges { IsTimedPage self.old self.new page.new.items }
+        ensures few { HasFewEdges limit self.old self.new page.new.items }
     {
         page.clear();
         let mut edges = ArrayVec::new();

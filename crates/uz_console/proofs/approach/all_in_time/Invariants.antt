@@ -1,6 +1,6 @@
 use Rattle.std.proofs.Common.{◌≡◌, take}
 use Rattle.uz_machine.specs.Run.{edges_until}
-use Rattle.uz_console.proofs.running.all_in_time.Given as goal
+use Rattle.uz_console.proofs.approach.all_in_time.Given as goal
 
 -- the edges so far are in time
 abbrev pub invariant-loop-edge : goal.invariant-loop-edge
