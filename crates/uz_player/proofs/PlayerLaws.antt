@@ -15,7 +15,7 @@ use Rattle.uz_schedule.specs.Schedule.{frame_of}
 use Rattle.uz_console.specs.declared.console.Console.{Console}
 use Rattle.uz_console.specs.Consoles.{StandsFor, clock_of}
 use Rattle.uz_console.specs.Pages.{HasFewEdges}
-use Rattle.uz_console.specs.Runs.{AreTimed, RunsTo}
+use Rattle.uz_console.specs.Runs.{AreTimed, RunIsOver, RunsTo}
 use Rattle.uz_console.specs.Turns.{Halts}
 use Rattle.uz_console.specs.Approaches.{EntersFirst, NeverEnters, RunsUnentered}
 use Rattle.uz_scan.specs.Pictures.{last_row, newest_first, record_of, records, row_bytes, shown_by}
@@ -221,6 +221,27 @@ entered_stays old new (Some at) start some cert limit run seen h = (
   subst (λ n. RunsTo n start seen new.console) (sym limit) (run seen h.0),
   subst (λ c. IsEntered c new.limit start at.0 at.1) (sym cert) (subst (λ n. IsEntered old.cert n start at.0 at.1) (sym limit) h.1),
 )
+
+-- a last page without edges: the run is over, or it is stopped
+without : (limit : ℕ) (old : Console) (page : List Edge) (P : State PadHistory → List Edge → Type 0) → page ≡ []
+    → ((start : State PadHistory) (edges : List Edge) → RunsTo limit start edges old → P start (edges ++ page))
+    → (start : State PadHistory) (edges : List Edge) → RunsTo limit start edges old → P start edges
+without limit old page P none ends start edges run =
+    subst (P start) (ap (λ es. edges ++ es) none ∙ append-nil edges) (ends start edges run)
+
+pub page_ends : (limit : ℕ) (old new : Console) (page : List Edge) → page ≡ []
+    → ((start : State PadHistory) (edges : List Edge) → RunsTo limit start edges old → RunIsOver limit start (edges ++ page) new)
+    → (start : State PadHistory) (edges : List Edge) → RunsTo limit start edges old → (last : State PadHistory)
+    × IsClockRun limit start edges last × StandsFor new last
+page_ends limit old new page none ends = without limit old page (λ start edges. RunIsOver limit start edges new) none ends
+
+pub page_stops : (limit : ℕ) (old new : Console) (page : List Edge) (why : Why) → page ≡ []
+    → ((start : State PadHistory) (edges : List Edge) → RunsTo limit start edges old → (last : State PadHistory)
+    × IsStoppedRun limit start (edges ++ page) last × Halts last why × StandsFor new last)
+    → (start : State PadHistory) (edges : List Edge) → RunsTo limit start edges old → (last : State PadHistory)
+    × IsStoppedRun limit start edges last × Halts last why × StandsFor new last
+page_stops limit old new page why none stops = without limit old page
+    (λ start edges. (last : State PadHistory) × IsStoppedRun limit start edges last × Halts last why × StandsFor new last) none stops
 
 runs_of : (player : Player) (o : Option (ℕ × ℕ)) (start : State PadHistory) (seen : List Edge) → IsSome o → GoesOn player o start seen
     → RunsTo player.limit start seen player.console

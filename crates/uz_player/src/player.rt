@@ -135,7 +135,7 @@ impl Player {
     {
         let paged = self.console.advance_page(self.limit, &mut self.page);
         self.next = 0;
-        if !self.page.is_empty() {
+        if self.page.len() > 0 {
             return None;
         }
         match paged {
