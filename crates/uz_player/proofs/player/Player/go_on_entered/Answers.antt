@@ -1,8 +1,5 @@
-use Rattle.std.proofs.Common.{◌≡◌, List, length, refl, arith}
+use Rattle.std.proofs.Common.{◌≡◌, length, refl, arith}
 use Rattle.std.proofs.lemmas.List.{nil_from_length}
-use Rattle.uz_machine.specs.declared.Edge.{Edge}
-use Rattle.uz_machine.specs.PadLine.{PadHistory}
-use Rattle.uz_machine.specs.Turn.{State}
 use Rattle.uz_console.proofs.PageLemmas.{page_runs}
 use Rattle.uz_player.proofs.PlayerLaws.{edges_are_nearer, edges_come, entered_edges, entered_over, entered_stopped, page_ends, page_stops}
 use Rattle.uz_player.proofs.player.Player.go_on_entered.Goals as goal
