@@ -1,6 +1,6 @@
 -- Instructions that touch the core alone, one after another, are turns without edges.
 use Rattle.std.proofs.Common.{◌≡◌, ℕ, zero, suc, ◌+◌, ◌<◌, ◌≤◌, Bool, true, false, not, ◌&&◌, ◌||◌, if◌then◌else◌, List, [], ◌∷◌, ◌++◌}
-use Rattle.std.proofs.Common.{append-nil, refl, sym, ◌∙◌, ap, subst, inr, arith, add_assoc}
+use Rattle.std.proofs.Common.{append-nil, refl, sym, ◌∙◌, ap, subst, inl, inr, arith, add_assoc}
 use Rattle.std.proofs.lemmas.List.Elements.{filter-append}
 use Rattle.std.specs.Prelude.{nat_le}
 use Rattle.uz_machine.specs.declared.Edge.{Edge}
@@ -15,6 +15,7 @@ use Rattle.uz_machine.specs.Turn as machine
 use Rattle.uz_machine.specs.Run.{IsRunPart, edges_until}
 use Rattle.uz_timer.proofs.Counting.{clocks_add}
 use Rattle.uz_core.specs.Internals.{IsInternalStep, InternalRun, RunsInternally}
+use Rattle.uz_core.proofs.InternalSteps.{run_keeps_enabled}
 use Rattle.uz_core.proofs.PlainSteps.{result_of_step, step_time}
 use Rattle.uz_pads.specs.declared.pads.Pads.{Pads}
 use Rattle.uz_pads.specs.Pads.{pads_wiring}
@@ -63,6 +64,11 @@ due_stays t clocks same due =
     ap (λ m. m && bit_is_set (timer_after clocks t).interrupt_mask 1) same ∙
     (ap (λ m. t.matched && bit_is_set m 1) (mask_stays (is_counting t) t moved refl) ∙ due)
 
+-- nor is it taken where I is clear
+not_taken : (due enabled free : Bool) → enabled ≡ false → (due && enabled && free) ≡ false
+not_taken true enabled free h = ap (λ b. b && free) h
+not_taken false enabled free h = refl
+
 -- So many instructions
 
 -- the state after them: the first leaves nothing owed
@@ -82,7 +88,10 @@ reaches : (limit : ℕ) (t : State Pads) (free : ℕ) → IsFree limit t free �
 reaches limit t free is_free zero core clocks h run = record {
   image = refl;
   core_is = sym run.1;
-  idle = ap (λ d. d && bit_is_set t.core.sreg 7 && not t.is_owed) is_free.clear;
+  idle = elim is_free.idle [
+    | inl early ↦ ap (λ d. d && bit_is_set t.core.sreg 7 && not t.is_owed) early.clear
+    | inr masked ↦ not_taken (is_due t.space.timer) (bit_is_set t.core.sreg 7) (not t.is_owed) masked
+  ];
   clock = (let none = run.0 in omega (arith, none));
   on = λ next taken.
       let none = run.0 in
@@ -92,8 +101,12 @@ reaches limit t free is_free zero core clocks h run = record {
 reaches limit t free is_free (suc n) core clocks h run = record {
   image = refl;
   core_is = refl;
-  idle = ap (λ d. d && bit_is_set core.sreg 7 && true)
-      (due_stays t.space.timer clocks (is_free.stays clocks h) is_free.clear);
+  idle = elim is_free.idle [
+    | inl early ↦ ap (λ d. d && bit_is_set core.sreg 7 && true)
+        (due_stays t.space.timer clocks (early.stays clocks h) early.clear)
+    | inr masked ↦ not_taken (is_due (timer_after clocks t.space.timer)) (bit_is_set core.sreg 7) true
+        (run_keeps_enabled t.image (suc n) t.core core clocks run ∙ masked)
+  ];
   clock = refl;
   on = λ next taken.
       let by : Timer → ℕ → State Pads = λ timer clock.

@@ -7,7 +7,7 @@ ghost use Rattle.uz_machine.specs.declared.EdgeKind.TheVariants.{Leave};
 ghost use Rattle.uz_pads.specs.Pads.{pads_wiring};
 ghost use Rattle.uz_ports.specs.Boards.{held_of, content_of, space_of, entered_of, entry_edge, clock_of as board_clock};
 ghost use Rattle.uz_console.specs.Consoles.{clock_of, state_of};
-ghost use Rattle.uz_console.specs.ManyTurns.{AreMade, IsFree, LeadsTo};
+ghost use Rattle.uz_console.specs.ManyTurns.{AreMade, IsFree, IsIdle, LeadsTo};
 ghost use Rattle.uz_console.specs.Turns.{IsTurn, TurnTakesTime, IsMade, HasSome, TakesTime, IsBoardStep, IsInstructed};
 
 use crate::Console;
@@ -36,6 +36,9 @@ pub(crate) enum Made {
     /// Nothing.
     Stopped(Why),
 }
+
+/// No more clocks are asked for at once where the interrupt can't be taken.
+const MOST_IDLE: u32 = 65_536;
 
 /// A pc that no console has.
 pub(crate) const NOWHERE: u16 = 0xFFFF;
@@ -160,7 +163,24 @@ impl Console {
         }
     }
 
-    /// So many clocks may pass by instructions that touch the core alone: up to the limit, before the interrupt can be due, and where
+    /// So many clocks may pass before the interrupt can be taken, at most 65,536: where I is clear it can't be, since no instruction
+    /// that touches the core alone sets I.
+    #[inline(always)]
+    fn idle_clocks(&self) -> u32
+        ensures most { result ≤ 65536 }
+        ensures idle { 0 < result → IsIdle (state_of self.now) result }
+    {
+        let timer = self.board.timer();
+        if self.cpu.sreg() >> 7 & 1 == 0 {
+            MOST_IDLE
+        } else if timer.due() {
+            0
+        } else {
+            timer.left()
+        }
+    }
+
+    /// So many clocks may pass by instructions that touch the core alone: up to the limit, before the interrupt can be taken, and where
     /// no pc is watched.
     #[inline(always)]
     fn undisturbed(&self, limit: u64, watched: u16) -> u32
@@ -168,17 +188,16 @@ impl Console {
         ensures watched { 0 < result → 32768 ≤ watched }
         ensures free { 0 < result → IsFree limit (state_of self.now) result }
     {
-        let timer = self.board.timer();
         let clock = self.board.clock();
-        if watched < FLASH_WORDS || limit <= clock || timer.due() {
+        if watched < FLASH_WORDS || limit <= clock {
             return 0;
         }
         let rest = limit - clock;
-        let left = timer.left();
-        if rest < u64::from(left) {
+        let idle = self.idle_clocks();
+        if rest < u64::from(idle) {
             rest as u32
         } else {
-            left
+            idle
         }
     }
 

@@ -1,7 +1,6 @@
 pub mod CoreKeeps
 pub mod MemoryKeeps
 pub mod SpaceStores
-pub mod Bits
 pub mod StoreShows
 pub mod CoreSteps
 pub mod RegisterClasses

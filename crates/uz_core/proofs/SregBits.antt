@@ -5,7 +5,12 @@ use Rattle.std.specs.Prelude.{bit_or, bit_and, slice_index_or, ◌&&◌}
 use Rattle.std.specs.Int.{bit_at}
 use Rattle.std.proofs.lemmas.Bool.Decides.{eqb_tells, nat_tests}
 use Rattle.std.proofs.lemmas.Nat.Bits.{bit_at-suc, bit_at_lowest, bit_at_or, bit_at_and, bit_at-lt, bit_at-pow_same, bit_at-pow_other}
-use Rattle.uz_machine.specs.Arithmetic.{bit_value, bit_is_set, with_bit, merged_sreg}
+use Rattle.uz_machine.specs.declared.BinaryOp.{BinaryOp}
+use Rattle.uz_machine.specs.declared.BinaryOp.TheVariants as binary
+use Rattle.uz_machine.specs.declared.UnaryOp.{UnaryOp}
+use Rattle.uz_machine.specs.declared.UnaryOp.TheVariants as unary
+use Rattle.uz_machine.specs.Arithmetic.{AluResult, bit_value, bit_is_set, with_bit, merged_sreg, chained_result, with_z_cleared, difference_of}
+use Rattle.uz_machine.specs.Core.{add_to_pair_result, binary_result, unary_result}
 
 -- a test that holds of each number below a bound
 unfoldable all_below : ℕ → (ℕ → Bool) → Bool
@@ -91,3 +96,38 @@ bit_of_merged (None ∷ flags) s (suc k) =
 bit_of_merged (Some b ∷ flags) s (suc k) =
     rw (bit_at-suc (bit_value b + 2 * merged_sreg flags (s / 2)) k, half_of b (merged_sreg flags (s / 2)), bit_at-suc s k)
     (bit_of_merged flags (s / 2) k)
+
+-- I isn't among the flags of an operation
+
+chained_seven : (r : AluResult) (c z n v s h t : Option Bool) → r.flags ≡ c ∷ z ∷ n ∷ v ∷ s ∷ h ∷ t ∷ [] → (b : Bool) → slice_index_or
+    (chained_result r b).flags 7 None ≡ None
+chained_seven r c z n v s h t e true = ap (λ fs. slice_index_or fs 7 None) e
+chained_seven r c z n v s h t e false = ap (λ fs. slice_index_or (with_z_cleared fs) 7 None) e
+
+pub binary_seven : (op : BinaryOp) (a b sreg : ℕ) → slice_index_or (binary_result op a b sreg).flags 7 None ≡ None
+binary_seven (binary.Add false) a b sreg = refl
+binary_seven (binary.Add true) a b sreg = refl
+binary_seven (binary.Subtract false) a b sreg = refl
+binary_seven (binary.Subtract true) a b sreg = chained_seven (difference_of a b (bit_is_set sreg 0)) _ _ _ _ _ _ _ refl (bit_is_set sreg 1)
+binary_seven binary.And a b sreg = refl
+binary_seven binary.Or a b sreg = refl
+binary_seven binary.Xor a b sreg = refl
+
+pub unary_seven : (op : UnaryOp) (a sreg : ℕ) → slice_index_or (unary_result op a sreg).flags 7 None ≡ None
+unary_seven unary.Complement a sreg = refl
+unary_seven unary.Negate a sreg = refl
+unary_seven unary.Swap a sreg = refl
+unary_seven unary.Increment a sreg = refl
+unary_seven unary.Decrement a sreg = refl
+unary_seven unary.ArithmeticShiftRight a sreg = refl
+unary_seven unary.LogicalShiftRight a sreg = refl
+unary_seven unary.RotateRight a sreg = refl
+
+pub pair_seven : (subtract : Bool) (p k : ℕ) → slice_index_or (add_to_pair_result subtract p k).flags 7 None ≡ None
+pair_seven false p k = refl
+pair_seven true p k = refl
+
+-- so it stays
+pub enabled_kept : (r : AluResult) (sreg : ℕ) → slice_index_or r.flags 7 None ≡ None → bit_is_set (merged_sreg r.flags sreg) 7 ≡ bit_is_set
+    sreg 7
+enabled_kept r sreg e = bit_of_merged r.flags sreg 7 ∙ ap (λ x. or_kept x (bit_is_set sreg 7)) e
