@@ -1,5 +1,5 @@
 -- Turns one after another, up to one with edges.
-use Rattle.std.proofs.Common.{◌≡◌, ◌≢◌, ℕ, ◌+◌, ◌<◌, ◌≤◌, List, [], refl, sym, ◌∙◌, ap, subst, arith}
+use Rattle.std.proofs.Common.{◌≡◌, ◌≢◌, ℕ, ◌+◌, ◌<◌, ◌≤◌, List, [], ◌∷◌, refl, sym, ◌∙◌, ap, subst, arith}
 use Rattle.std.proofs.Common.{inl, inr}
 use Rattle.std.proofs.lemmas.Bool.{cases_lt}
 use Rattle.uz_machine.specs.declared.Edge.{Edge}
@@ -92,6 +92,8 @@ pub one_made : (watched : ℕ) (old new : Console) (edges : List Edge) (answer :
     → IsMade old new edges answer
 one_made watched old new edges made.Quiet h = subst (λ (t : State Pads). (s : State PadHistory) → StateStandsFor t s →
     (next : State PadHistory) × machine.Turn history_wiring s [] next × StandsFor new next) ((h.quiet).none (omega arith)) h.last
+one_made watched old new edges (made.Edge edge) h = subst (λ (t : State Pads). (s : State PadHistory) → StateStandsFor t s →
+    (next : State PadHistory) × machine.Turn history_wiring s (edge ∷ []) next × StandsFor new next) ((h.quiet).none (omega arith)) h.last
 one_made watched old new edges made.Edges h = subst (λ (t : State Pads). (s : State PadHistory) → StateStandsFor t s →
     (next : State PadHistory) × machine.Turn history_wiring s edges next × StandsFor new next) ((h.quiet).none (omega arith)) h.last
 one_made watched old new edges (made.Stopped why) h = subst (λ (t : State Pads). (state_of new ≡ t)
@@ -104,6 +106,8 @@ one_shows watched old new edges answer h = h.some
 pub one_takes : (watched : ℕ) (old new : Console) (edges : List Edge) (answer : Made) → AreMade 0 watched old new edges answer
     → TakesTime old new answer
 one_takes watched old new edges made.Quiet h = subst (λ (t : State Pads). (t.clock < clock_of new) × (clock_of new ≤ t.clock + 5))
+    ((h.quiet).none (omega arith)) h.time
+one_takes watched old new edges (made.Edge edge) h = subst (λ (t : State Pads). (t.clock < clock_of new) × (clock_of new ≤ t.clock + 5))
     ((h.quiet).none (omega arith)) h.time
 one_takes watched old new edges made.Edges h = subst (λ (t : State Pads). (t.clock < clock_of new) × (clock_of new ≤ t.clock + 5))
     ((h.quiet).none (omega arith)) h.time

@@ -6,7 +6,7 @@ ghost use Rattle.uz_schedule.specs.WellFormed.{WellFormed};
 ghost use Rattle.uz_console.specs.Approaches.{ApproachIsTimed, ApproachMovesOn, IsApproach};
 
 use crate::Console;
-use crate::turn::Made;
+use crate::turn::{Made, put};
 use arrayvec::ArrayVec;
 use uz_core::Why;
 use uz_machine::Edge;
@@ -70,6 +70,12 @@ impl Console {
             }
             match self.make_turns(limit, cert.entry.pc, &mut edges) {
                 Made::Quiet => {}
+                Made::Edge(edge) => {
+                    put(&mut edges, edge);
+                    return Approach::Took {
+                        edges: in_time(edges, limit),
+                    };
+                }
                 Made::Edges => {
                     return Approach::Took {
                         edges: in_time(edges, limit),

@@ -26,11 +26,13 @@ pub enum Turn {
     Stopped(Why),
 }
 
-/// What a turn did, without its edges: most turns have none, and no list is made or moved for them.
+/// What a turn did: most turns have no edge, most others one, and no list is made or moved for them.
 #[derive(Clone, Copy)]
 pub(crate) enum Made {
     /// A turn without edges.
     Quiet,
+    /// A turn with this edge alone.
+    Edge(Edge),
     /// A turn with edges, which the caller's list now has.
     Edges,
     /// Nothing.
@@ -58,8 +60,7 @@ fn finish(board: &mut Board, clocks: u8, returned: bool, edges: &mut ArrayVec<Ed
 }
 
 /// One edge in place of what the list has.
-#[inline(always)]
-fn put(edges: &mut ArrayVec<Edge, 4>, edge: Edge)
+pub(crate) fn put(edges: &mut ArrayVec<Edge, 4>, edge: Edge)
     ensures { edges.new.items ≡ edge ∷ [] }
 {
     edges.clear();
@@ -106,10 +107,7 @@ impl Console {
             Some((store, clocks)) => {
                 self.owed = false;
                 match self.board.finish_with(clocks, store) {
-                    Some(edge) => {
-                        put(edges, edge);
-                        Made::Edges
-                    }
+                    Some(edge) => Made::Edge(edge),
                     None => Made::Quiet,
                 }
             }
@@ -232,6 +230,7 @@ impl Console {
             self.run_internal(limit, watched);
             match self.make(edges) {
                 Made::Quiet => {}
+                Made::Edge(edge) => return Made::Edge(edge),
                 Made::Edges => return Made::Edges,
                 Made::Stopped(why) => return Made::Stopped(why),
             }
@@ -264,6 +263,10 @@ impl Console {
             Made::Quiet => Turn::Took {
                 edges: ArrayVec::new(),
             },
+            Made::Edge(edge) => {
+                put(&mut edges, edge);
+                Turn::Took { edges }
+            }
             Made::Edges => Turn::Took { edges },
             Made::Stopped(why) => Turn::Stopped(why),
         }

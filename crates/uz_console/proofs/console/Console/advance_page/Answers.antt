@@ -1,4 +1,4 @@
-use Rattle.std.proofs.Common.{◌≡◌, ◌<◌, ◌≤◌, ◌++◌, ◌∙◌, ap, arith, length, subst, sym}
+use Rattle.std.proofs.Common.{◌≡◌, ◌<◌, ◌≤◌, [], ◌∷◌, ◌++◌, ◌∙◌, ap, arith, length, subst, sym}
 use Rattle.uz_machine.specs.Run.{edges_until}
 use Rattle.uz_console.specs.Consoles.{clock_of}
 use Rattle.uz_console.specs.Runs.{AreTimed}
@@ -37,6 +37,26 @@ loop-edges-preserved c =
       few = (omega (arith, more, so_far.0), omega (arith, more, so_far.0, so_far.1));
     }
 
+pub loop-edges-preserved-in-Edge : goal.loop-edges-preserved-in-Edge
+loop-edges-preserved-in-Edge c =
+    let made = c.in-Edge.ensures in
+    let page = c.loop-edges.page.items in
+    let before : clock_of c.loop-edges.self < c.args.limit = omega arith in
+    let since : clock_of c.loop-edges.self ≤ clock_of made.mid = (made.quiet).time in
+    let on : clock_of made.mid < clock_of c.make_turns.new.self = made.time.0 in
+    let so_far = c.loop-edges.invariant.few in
+    let more = c.add_edge.ensures.few in
+    let added = c.add_edge.ensures.added in
+    record {
+      run = λ start edges run. page_more c.args.limit made.mid c.make_turns.new.self page (c.in-Edge.edge ∷ [])
+          c.add_edge.new.page.items made.last added ((made.quiet).before before) start edges
+          ((made.quiet).run start (edges ++ page) (c.loop-edges.invariant.run start edges run));
+      time = omega arith;
+      edges = page_timed_on c.args.limit c.args.self.now c.loop-edges.self made.mid c.make_turns.new.self page (c.in-Edge.edge ∷ [])
+          c.add_edge.new.page.items c.loop-edges.invariant.run (made.quiet).run since made.last added c.loop-edges.invariant.edges;
+      few = (omega (arith, more, so_far.0), omega (arith, more, so_far.0, so_far.1));
+    }
+
 pub loop-edges-preserved-in-Quiet : goal.loop-edges-preserved-in-Quiet
 loop-edges-preserved-in-Quiet c =
     let made = c.in-Quiet.ensures in
@@ -72,6 +92,14 @@ returns-clause-run c =
 pub loop-edges-smaller : goal.loop-edges-smaller
 loop-edges-smaller c =
     let made = c.in-Edges.ensures in
+    let before : clock_of c.loop-edges.self < c.args.limit = omega arith in
+    let since : clock_of c.loop-edges.self ≤ clock_of made.mid = (made.quiet).time in
+    let on : clock_of made.mid < clock_of c.make_turns.new.self = made.time.0 in
+    omega arith
+
+pub loop-edges-smaller-in-Edge : goal.loop-edges-smaller-in-Edge
+loop-edges-smaller-in-Edge c =
+    let made = c.in-Edge.ensures in
     let before : clock_of c.loop-edges.self < c.args.limit = omega arith in
     let since : clock_of c.loop-edges.self ≤ clock_of made.mid = (made.quiet).time in
     let on : clock_of made.mid < clock_of c.make_turns.new.self = made.time.0 in
