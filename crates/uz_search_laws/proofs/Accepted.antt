@@ -14,8 +14,8 @@ use Rattle.uz_search.specs.Following.{lines_of}
 use Rattle.uz_search_laws.proofs.Coverage as cover
 use Rattle.uz_search_laws.proofs.Frame.{falls_once, rests_are_quiet, rests_enter}
 use Rattle.uz_search_laws.proofs.LocalHolds.{passes_local}
-use Rattle.uz_search_accepted.specs.Accepting.{EndedAccepts}
-use Rattle.uz_search_accepted.proofs.SteadyLines.{steady}
+use Rattle.uz_search_laws.specs.Accepting.{EndedAccepts}
+use Rattle.uz_search_laws.proofs.SteadyLines.{steady}
 
 pub accepted : EndedAccepts
 accepted image p found cert fits ended made schedule of = record {
