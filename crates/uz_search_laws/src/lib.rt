@@ -4,6 +4,6 @@
 mod laws;
 
 pub use laws::{
-    ended_accepts, ended_falls_once, ended_levels, ended_levels_fit, ended_passes_local, ended_rests_are_quiet,
-    ended_rests_enter, ended_within_limits, lies_in_widened,
+    ended_accepts, ended_falls_once, ended_levels, ended_levels_fit, ended_passes_local,
+    ended_rests_are_quiet, ended_rests_enter, ended_within_limits, lies_in_widened,
 };
