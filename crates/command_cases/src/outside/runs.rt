@@ -1,7 +1,9 @@
 //! A command, run in all ways.
 
-use crate::case::{Case, RunEnd};
-use crate::ends::{Fault, front, has_all_files, is_undisturbed, is_unread, is_wanted, last_line};
+use crate::outside::case::{Case, RunEnd};
+use crate::outside::ends::{
+    Fault, front, has_all_files, is_undisturbed, is_unread, is_wanted, last_line,
+};
 use anyhow::Result;
 use command_bench::{Fail, Status, words_of};
 use std::alloc::Global;

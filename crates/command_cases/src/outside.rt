@@ -1,4 +1,4 @@
-//! Makes the outside fail at each of its calls, and compares what each run leaves with what it is to leave. Standard input has
+//! Makes the outside fail at each of its calls, and compares what each run leaves with what it is to leave. The script has
 //! for each case the files that are there, and what the command asks of the outside: in which order it loads files, and which
 //! it writes by how many pieces of which lengths. So what a run is to leave follows from the run that nothing disturbs.
 //!
@@ -11,7 +11,7 @@
 //!
 //! Each call fails in turn, keeping 0, 1 and 3 bytes, until a run ends as if nothing disturbed it.
 //!
-//! The lines of standard input:
+//! The lines:
 //!
 //! - `case TEXT`: no file is there. The line is printed.
 //! - `file NAME`: a file, whose text are the lines that follow and begin with `|`, each without it and with LF after it.
@@ -24,14 +24,13 @@
 //!   told anew.
 //!
 //! Other lines are left out.
-#![tactic(auto)]
 
 mod case;
 mod ends;
 mod runs;
 
 use anyhow::Result;
-use case::Case;
+pub(crate) use case::Case;
 use std::alloc::Global;
 
 /// Does what a line says.
@@ -52,17 +51,17 @@ fn act(rt: &HostRuntime, alloc: Global, case: &mut Case, word: &str, rest: &str)
     }
 }
 
-fn main(rt: HostRuntime) -> Result<()> {
-    let alloc = rt.alloc();
-    let mut case = Case::new(alloc);
-    for line in rt.lines(alloc) {
-        let line = line?;
-        let line = line.as_str();
-        if let Some(text) = line.strip_prefix("|") {
-            case.continue_file(text)?;
-        } else if let Some((word, rest)) = line.split_once(" ") {
-            act(&rt, alloc, &mut case, word, rest)?;
-        }
+/// Takes a line of the script.
+pub(crate) fn take_line(
+    rt: &HostRuntime,
+    alloc: Global,
+    case: &mut Case,
+    line: &str,
+) -> Result<()> {
+    if let Some(text) = line.strip_prefix("|") {
+        case.continue_file(text)?;
+    } else if let Some((word, rest)) = line.split_once(" ") {
+        act(rt, alloc, case, word, rest)?;
     }
     Ok(())
 }
