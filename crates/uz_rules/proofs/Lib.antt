@@ -24,3 +24,4 @@ pub mod FactPlaces
 pub mod AtCounts
 pub mod CountKeys
 pub mod PeriodLaws
+pub mod VisitLaws
