@@ -17,7 +17,7 @@ use Rattle.avr_asm.specs.declared.layout.Place.{Place}
 use Rattle.avr_asm.specs.Emission.{Flash, put}
 use Rattle.avr_operands.specs.Faults.{OrFault}
 use Rattle.avr_asm.specs.Layout.{is_reserved, defined, with_symbols, labelled, named, with_value, with_values, port_names, core_names}
-use Rattle.avr_asm.specs.Layout.{data_names, with_ports, with_core, with_data, predefined}
+use Rattle.avr_asm.specs.Layout.{data_names, with_first_ports, with_last_ports, with_core, with_data, predefined}
 use Rattle.avr_asm.specs.Relation.{bytes_from, label_entries, equ_entries, predefined_names}
 use Rattle.avr_asm.proofs.OutcomeLemmas.{ok_same}
 use Rattle.avr_asm.proofs.EntryLists.{IsMadeOf, made_more, found_absent}
@@ -133,7 +133,7 @@ unfolding IsDistinct
 nothing_twice = tt
 
 pub predefined_made : IsMadeOf predefined predefined_names
-unfolding with_ports with_core with_data
+unfolding with_first_ports with_last_ports with_core with_data
 predefined_made =
     let none : IsMadeOf empty [] = record { is = refl; once = nothing_twice } in
     let ports = values_made port_names [] empty refl none in

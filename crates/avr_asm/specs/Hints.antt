@@ -98,9 +98,12 @@ handler_cell_hint line symbols parts =
 abbrev pub cell_hint : List ℕ → NameMap → List (List Token) → OrFault Hint
 cell_hint line symbols parts = if length parts == 4 then main_cell_hint line symbols parts else handler_cell_hint line symbols parts
 
+abbrev pub fact_at : ℕ → OrFault ℕ → OrFault (ℕ × ℕ) → OrFault Hint
+fact_at following place range = mapped (both place range) (λ p. hint.Fact following p.0 p.1.0 p.1.1)
+
 abbrev pub fact_hint : List ℕ → NameMap → List (List Token) → ℕ → OrFault Hint
 fact_hint line symbols (place ∷ lo ∷ hi ∷ []) following =
-    mapped (both (place_of line place) (both (short line symbols lo) (short line symbols hi))) (λ p. hint.Fact following p.0 p.1.0 p.1.1)
+    fact_at following (place_of line place) (both (short line symbols lo) (short line symbols hi))
 fact_hint line symbols other following = Err why.Directive
 
 -- the hint of a directive, where it is one

@@ -3,7 +3,7 @@
 -- The address of a line is the value of the last `.org` before it plus the bytes of the lines between. The symbols are
 -- the predefined names, the labels with their lines' addresses, and the `.equ` names.
 use Rattle.std.specs.Prelude.{◌≡◌, ℕ, ◌<◌, ◌≤◌, ◌-◌, ◌^◌, ◌⊎◌, ◌+◌, ◌*◌, ◌%◌, ◌==◌, ◌&&◌, ◌||◌, nat_lt, Bool, true, false, ℤ, pos, not, All}
-use Rattle.std.specs.Prelude.{Vec, List, [], ◌∷◌, length, codes, bytes_eq, drop, Option, Some, None, is_some, is_none, Result, Ok, Err}
+use Rattle.std.specs.Prelude.{Vec, List, [], ◌∷◌, ◌++◌, length, codes, bytes_eq, drop, Option, Some, None, is_some, is_none, Result, Ok, Err}
 use Rattle.std.specs.Prelude.{unsigned_abs, if◌then◌else◌}
 use Rattle.std.specs.List.{list_any}
 use Rattle.std.specs.Borrow.{Bor}
@@ -194,14 +194,20 @@ abbrev pub with_values : List (List ℕ × ℤ) → NameMap → NameMap
 with_values [] m = m
 with_values (n ∷ ns) m = with_values ns (with_value m n.0 n.1)
 
-abbrev pub port_names : List (List ℕ × ℤ)
-port_names =
+abbrev pub first_port_names : List (List ℕ × ℤ)
+first_port_names =
     (codes "PINA", pos 0) ∷ (codes "DDRA", pos 1) ∷ (codes "PORTA", pos 2) ∷ (codes "PINB", pos 3) ∷ (codes "DDRB", pos 4) ∷ (
       codes "PORTB",
       pos 5,
-    ) ∷
+    ) ∷ []
+
+abbrev pub last_port_names : List (List ℕ × ℤ)
+last_port_names =
     (codes "PINC", pos 6) ∷ (codes "DDRC", pos 7) ∷ (codes "PORTC", pos 8) ∷ (codes "PIND", pos 9) ∷ (codes "DDRD", pos 10)
     ∷ (codes "PORTD", pos 11) ∷ []
+
+abbrev pub port_names : List (List ℕ × ℤ)
+port_names = first_port_names ++ last_port_names
 
 abbrev pub core_names : List (List ℕ × ℤ)
 core_names =
@@ -216,8 +222,11 @@ data_names =
     ) ∷
     (codes "OCR1AL", pos 0x88) ∷ (codes "OCR1AH", pos 0x89) ∷ (codes "OCR2A", pos 0xB3) ∷ []
 
-unfoldable pub with_ports : NameMap → NameMap
-with_ports m = with_values port_names m
+unfoldable pub with_first_ports : NameMap → NameMap
+with_first_ports m = with_values first_port_names m
+
+unfoldable pub with_last_ports : NameMap → NameMap
+with_last_ports m = with_values last_port_names m
 
 unfoldable pub with_core : NameMap → NameMap
 with_core m = with_values core_names m
@@ -226,7 +235,7 @@ unfoldable pub with_data : NameMap → NameMap
 with_data m = with_values data_names m
 
 abbrev pub predefined : NameMap
-predefined = with_data (with_core (with_ports map.empty))
+predefined = with_data (with_core (with_last_ports (with_first_ports map.empty)))
 
 -- the whole layout of a source's lines
 abbrev pub start : Place

@@ -4,8 +4,8 @@ ghost use Rattle.std.specs.Prelude.{◌≡◌, ◌<◌, length, map};
 ghost use Rattle.avr_operands.specs.Operands.{AllLie, EachLies};
 ghost use Rattle.avr_asm.specs.Hints.{short as short_operand, byte as byte_operand};
 ghost use Rattle.avr_asm.specs.Hints.{word_address as word_address_operand, place_of as place_of_operand, start_hint};
-ghost use Rattle.avr_asm.specs.Hints.{lines_hint, half_hint, stack_hint, cell_hint, fact_hint, part_at, shorts_at};
-ghost use Rattle.avr_asm.specs.Hints.{bytes_at, ranged as ranged_cell, main_cell_hint, handler_cell_hint};
+ghost use Rattle.avr_asm.specs.Hints.{lines_hint, half_hint, stack_hint, cell_hint, fact_at as fact_at_address, fact_hint, part_at};
+ghost use Rattle.avr_asm.specs.Hints.{shorts_at, bytes_at, ranged as ranged_cell, main_cell_hint, handler_cell_hint};
 ghost use Rattle.avr_asm.specs.Hints.{pointer_place as pointer_place_of, hint_of as hint_of_directive};
 
 use crate::directives::Directive;
@@ -248,6 +248,25 @@ fn cell_of(line: &[u8], symbols: &Symbols, parts: &[&[Token]]) -> Result<Hint, A
     }
 }
 
+/// The fact of a place and of a range at the word address that follows.
+fn fact_at(
+    following: u16,
+    place: Result<u8, AsmWhy>,
+    range: Result<(u16, u16), AsmWhy>,
+) -> Result<Hint, AsmWhy>
+    ensures { result ≡ fact_at_address following place range }
+{
+    match both(place, range) {
+        Ok((place, (lo, hi))) => Ok(Hint::Fact {
+            at: following,
+            place,
+            lo,
+            hi,
+        }),
+        Err(why) => Err(why),
+    }
+}
+
 fn fact_of(
     line: &[u8],
     symbols: &Symbols,
@@ -260,15 +279,7 @@ fn fact_of(
     match parts {
         [place, lo, hi] => {
             let range = both(short(line, symbols, lo), short(line, symbols, hi));
-            match both(place_of(line, place), range) {
-                Ok((place, (lo, hi))) => Ok(Hint::Fact {
-                    at: following,
-                    place,
-                    lo,
-                    hi,
-                }),
-                Err(why) => Err(why),
-            }
+            fact_at(following, place_of(line, place), range)
         }
         _ => Err(AsmWhy::Directive),
     }

@@ -5,7 +5,7 @@ ghost use Rattle.std.specs.Option.{option_copied};
 ghost use Rattle.std.specs.FinMap as map;
 ghost use Rattle.avr_operands.specs.Faults.{Gives};
 ghost use Rattle.avr_operands.specs.Operands.{AllLie};
-ghost use Rattle.avr_asm.specs.Layout.{with_value, with_ports, with_core, with_data, predefined as predefined_names};
+ghost use Rattle.avr_asm.specs.Layout.{with_value, with_first_ports, with_last_ports, with_core, with_data, predefined as predefined_names};
 ghost use Rattle.avr_asm.specs.Layout.{defined, labelled, named, applied as applied_effect};
 ghost use Rattle.avr_asm.specs.Layout.{effect_in as effect_in_line, after_line as place_after_line};
 ghost use Rattle.avr_asm.specs.Layout.{is_instruction_line as is_line_of_instruction, IsLast, IsWithin, EachShort};
@@ -41,16 +41,22 @@ fn predefine(
     Ok(())
 }
 
-#[tactic(auto, unfolding(crate::specs::Layout::with_ports))]
-fn predefine_ports(alloc: Global, symbols: &mut Symbols) -> Result<(), AllocError>
-    ensures { OnOk result (symbols.new ≡ with_ports symbols.old) }
+#[tactic(auto, unfolding(crate::specs::Layout::with_first_ports))]
+fn predefine_first_ports(alloc: Global, symbols: &mut Symbols) -> Result<(), AllocError>
+    ensures { OnOk result (symbols.new ≡ with_first_ports symbols.old) }
 {
     predefine(alloc, symbols, b"PINA", 0x00)?;
     predefine(alloc, symbols, b"DDRA", 0x01)?;
     predefine(alloc, symbols, b"PORTA", 0x02)?;
     predefine(alloc, symbols, b"PINB", 0x03)?;
     predefine(alloc, symbols, b"DDRB", 0x04)?;
-    predefine(alloc, symbols, b"PORTB", 0x05)?;
+    predefine(alloc, symbols, b"PORTB", 0x05)
+}
+
+#[tactic(auto, unfolding(crate::specs::Layout::with_last_ports))]
+fn predefine_last_ports(alloc: Global, symbols: &mut Symbols) -> Result<(), AllocError>
+    ensures { OnOk result (symbols.new ≡ with_last_ports symbols.old) }
+{
     predefine(alloc, symbols, b"PINC", 0x06)?;
     predefine(alloc, symbols, b"DDRC", 0x07)?;
     predefine(alloc, symbols, b"PORTC", 0x08)?;
@@ -90,7 +96,8 @@ pub fn predefined(alloc: Global) -> Result<Symbols, AllocError>
     ensures { IfOk result (λ symbols. symbols ≡ predefined_names) }
 {
     let mut symbols = Symbols::new(alloc)?;
-    predefine_ports(alloc, &mut symbols)?;
+    predefine_first_ports(alloc, &mut symbols)?;
+    predefine_last_ports(alloc, &mut symbols)?;
     predefine_core(alloc, &mut symbols)?;
     predefine_data(alloc, &mut symbols)?;
     Ok(symbols)
