@@ -16,9 +16,9 @@ abbrev pub first_named : List ℕ → List (List ℕ × Mnemonic) → Option Mne
 first_named word [] = None
 first_named word (n ∷ names) = if is_word_named word n.0 then Some n.1 else first_named word names
 
--- arithmetic and logic
-abbrev pub arithmetic_name : List ℕ → Option Mnemonic
-arithmetic_name word = first_named word (
+-- sums and differences
+abbrev pub sum_name : List ℕ → Option Mnemonic
+sum_name word = first_named word (
     (codes "add", Add) ∷
     (codes "adc", Adc) ∷
     (codes "adiw", Adiw) ∷
@@ -27,6 +27,11 @@ arithmetic_name word = first_named word (
     (codes "sbc", Sbc) ∷
     (codes "sbci", Sbci) ∷
     (codes "sbiw", Sbiw) ∷
+    [])
+
+-- logic, and arithmetic of one register
+abbrev pub logic_name : List ℕ → Option Mnemonic
+logic_name word = first_named word (
     (codes "and", And) ∷
     (codes "andi", Andi) ∷
     (codes "or", Or) ∷
@@ -36,6 +41,11 @@ arithmetic_name word = first_named word (
     (codes "neg", Neg) ∷
     (codes "inc", Inc) ∷
     (codes "dec", Dec) ∷
+    [])
+
+-- products
+abbrev pub product_name : List ℕ → Option Mnemonic
+product_name word = first_named word (
     (codes "mul", Mul) ∷
     (codes "muls", Muls) ∷
     (codes "mulsu", Mulsu) ∷
@@ -44,9 +54,9 @@ arithmetic_name word = first_named word (
     (codes "fmulsu", Fmulsu) ∷
     [])
 
--- branches
-abbrev pub branch_name : List ℕ → Option Mnemonic
-branch_name word = first_named word (
+-- jumps, calls and returns
+abbrev pub jump_name : List ℕ → Option Mnemonic
+jump_name word = first_named word (
     (codes "rjmp", Rjmp) ∷
     (codes "ijmp", Ijmp) ∷
     (codes "jmp", Jmp) ∷
@@ -55,6 +65,11 @@ branch_name word = first_named word (
     (codes "call", Call) ∷
     (codes "ret", Ret) ∷
     (codes "reti", Reti) ∷
+    [])
+
+-- comparisons, skips and branches
+abbrev pub branch_name : List ℕ → Option Mnemonic
+branch_name word = first_named word (
     (codes "cpse", Cpse) ∷
     (codes "cp", Cp) ∷
     (codes "cpc", Cpc) ∷
@@ -106,9 +121,9 @@ bit_name word = first_named word (
     (codes "wdr", Wdr) ∷
     [])
 
--- the names that set or clear a flag
-abbrev pub flag_name : List ℕ → Option Mnemonic
-flag_name word = first_named word (
+-- the names that set a flag
+abbrev pub set_name : List ℕ → Option Mnemonic
+set_name word = first_named word (
     (codes "sec", (SetFlag 0)) ∷
     (codes "sez", (SetFlag 1)) ∷
     (codes "sen", (SetFlag 2)) ∷
@@ -117,6 +132,11 @@ flag_name word = first_named word (
     (codes "seh", (SetFlag 5)) ∷
     (codes "set", (SetFlag 6)) ∷
     (codes "sei", (SetFlag 7)) ∷
+    [])
+
+-- the names that clear a flag
+abbrev pub clear_name : List ℕ → Option Mnemonic
+clear_name word = first_named word (
     (codes "clc", (ClearFlag 0)) ∷
     (codes "clz", (ClearFlag 1)) ∷
     (codes "cln", (ClearFlag 2)) ∷
@@ -127,9 +147,9 @@ flag_name word = first_named word (
     (codes "cli", (ClearFlag 7)) ∷
     [])
 
--- the names that branch by a flag
-abbrev pub condition_name : List ℕ → Option Mnemonic
-condition_name word = first_named word (
+-- the names that branch where a flag is set
+abbrev pub branch_if_set_name : List ℕ → Option Mnemonic
+branch_if_set_name word = first_named word (
     (codes "brcs", (BranchIfSet 0)) ∷
     (codes "breq", (BranchIfSet 1)) ∷
     (codes "brmi", (BranchIfSet 2)) ∷
@@ -139,6 +159,11 @@ condition_name word = first_named word (
     (codes "brts", (BranchIfSet 6)) ∷
     (codes "brie", (BranchIfSet 7)) ∷
     (codes "brlo", (BranchIfSet 0)) ∷
+    [])
+
+-- the names that branch where a flag is clear
+abbrev pub branch_if_clear_name : List ℕ → Option Mnemonic
+branch_if_clear_name word = first_named word (
     (codes "brcc", (BranchIfClear 0)) ∷
     (codes "brne", (BranchIfClear 1)) ∷
     (codes "brpl", (BranchIfClear 2)) ∷
@@ -170,8 +195,9 @@ or_else (Some m) other = Some m
 -- the instruction that a word names
 abbrev pub mnemonic_of : List ℕ → Option Mnemonic
 mnemonic_of word =
-    or_else (arithmetic_name word) (or_else (branch_name word) (or_else (transfer_name word) (or_else (bit_name word)
-    (or_else (flag_name word) (or_else (condition_name word) (other_name word))))))
+    or_else (sum_name word) (or_else (logic_name word) (or_else (product_name word) (or_else (jump_name word) (or_else (branch_name word)
+    (or_else (transfer_name word) (or_else (bit_name word) (or_else (set_name word) (or_else (clear_name word)
+    (or_else (branch_if_set_name word) (or_else (branch_if_clear_name word) (other_name word)))))))))))
 
 -- how many words the instruction has
 abbrev pub words_of : Mnemonic → ℕ

@@ -5,7 +5,7 @@ ghost use Rattle.avr_table.specs.Rows.{words_of as row_words};
 ghost use Rattle.avr_operands.specs.Mnemonics.{words_of};
 ghost use Rattle.avr_operands.specs.Operands.{seen, pair_of, EachLies};
 ghost use Rattle.avr_operands.specs.Instructions.{none as no_operand, load as load_row, store as store_row, loaded};
-ghost use Rattle.avr_operands.specs.Instructions.{stored, loaded_displaced, stored_displaced, program_memory};
+ghost use Rattle.avr_operands.specs.Instructions.{stored, loaded_displaced, stored_displaced, program_memory, program_row};
 ghost use Rattle.avr_operands.specs.Instructions.{forms_of as forms_of_name, row_of as row_of_name, instruction_of};
 
 use crate::errors::AsmWhy;
@@ -432,6 +432,24 @@ fn store(r: i64, pointer: Pointer, step: Step) -> Instr
     }
 }
 
+/// LPM with a register, and Z or Z+.
+fn load_from_program(d: i64, address: Option<(Pointer, Step)>) -> Result<Instr, AsmWhy>
+    ensures { result ≡ program_row d address }
+{
+    let Some((pointer, step)) = address else {
+        return Err(AsmWhy::Operand);
+    };
+    match pointer {
+        Pointer::X => Err(AsmWhy::Operand),
+        Pointer::Y => Err(AsmWhy::Operand),
+        Pointer::Z => match step {
+            Step::Plain => Ok(Instr::LpmZ { d: field(d) }),
+            Step::Increment => Ok(Instr::LpmZInc { d: field(d) }),
+            Step::Decrement => Err(AsmWhy::Operand),
+        },
+    }
+}
+
 impl Operands<'_> {
     /// An instruction without operands.
     fn none(&self, instr: Instr) -> Result<Instr, AsmWhy>
@@ -500,13 +518,11 @@ impl Operands<'_> {
         let Some((first, second)) = self.pair() else {
             return Err(AsmWhy::Operand);
         };
+        let stored = register(self.line, second);
         let Some((y, rest)) = displaced(self.line, first) else {
             return Err(AsmWhy::Operand);
         };
-        let (r, q) = both(
-            register(self.line, second),
-            number(0, 63, self.line, self.symbols, rest),
-        )?;
+        let (r, q) = both(stored, number(0, 63, self.line, self.symbols, rest))?;
         Ok(Instr::Std {
             y: field(y),
             q: field(q),
@@ -526,11 +542,7 @@ impl Operands<'_> {
             return Err(AsmWhy::Operand);
         };
         let d = register(self.line, first)?;
-        match address_of(self.line, second) {
-            Some((Pointer::Z, Step::Plain)) => Ok(Instr::LpmZ { d: field(d) }),
-            Some((Pointer::Z, Step::Increment)) => Ok(Instr::LpmZInc { d: field(d) }),
-            _ => Err(AsmWhy::Operand),
-        }
+        load_from_program(d, address_of(self.line, second))
     }
 }
 

@@ -1,8 +1,9 @@
 //! The names of instructions.
 
 ghost use Rattle.std.specs.Prelude.{◌≡◌};
-ghost use Rattle.avr_operands.specs.Mnemonics.{arithmetic_name, branch_name, transfer_name, bit_name, flag_name};
-ghost use Rattle.avr_operands.specs.Mnemonics.{condition_name, other_name, mnemonic_of as mnemonic_of_word, words_of};
+ghost use Rattle.avr_operands.specs.Mnemonics.{sum_name, logic_name, product_name, jump_name, branch_name, transfer_name};
+ghost use Rattle.avr_operands.specs.Mnemonics.{bit_name, set_name, clear_name, branch_if_set_name, branch_if_clear_name};
+ghost use Rattle.avr_operands.specs.Mnemonics.{other_name, mnemonic_of as mnemonic_of_word, words_of};
 
 use avr_text::is_word_named;
 
@@ -117,9 +118,9 @@ macro_rules! named {
     }};
 }
 
-/// Arithmetic and logic.
-fn arithmetic_mnemonic(word: &[u8]) -> Option<Mnemonic>
-    ensures { result ≡ arithmetic_name word.now }
+/// Sums and differences.
+fn sum_mnemonic(word: &[u8]) -> Option<Mnemonic>
+    ensures { result ≡ sum_name word.now }
 {
     named!(word;
         b"add" => Mnemonic::Add,
@@ -129,7 +130,15 @@ fn arithmetic_mnemonic(word: &[u8]) -> Option<Mnemonic>
         b"subi" => Mnemonic::Subi,
         b"sbc" => Mnemonic::Sbc,
         b"sbci" => Mnemonic::Sbci,
-        b"sbiw" => Mnemonic::Sbiw,
+        b"sbiw" => Mnemonic::Sbiw
+    )
+}
+
+/// Logic, and arithmetic of one register.
+fn logic_mnemonic(word: &[u8]) -> Option<Mnemonic>
+    ensures { result ≡ logic_name word.now }
+{
+    named!(word;
         b"and" => Mnemonic::And,
         b"andi" => Mnemonic::Andi,
         b"or" => Mnemonic::Or,
@@ -138,7 +147,15 @@ fn arithmetic_mnemonic(word: &[u8]) -> Option<Mnemonic>
         b"com" => Mnemonic::Com,
         b"neg" => Mnemonic::Neg,
         b"inc" => Mnemonic::Inc,
-        b"dec" => Mnemonic::Dec,
+        b"dec" => Mnemonic::Dec
+    )
+}
+
+/// Products.
+fn product_mnemonic(word: &[u8]) -> Option<Mnemonic>
+    ensures { result ≡ product_name word.now }
+{
+    named!(word;
         b"mul" => Mnemonic::Mul,
         b"muls" => Mnemonic::Muls,
         b"mulsu" => Mnemonic::Mulsu,
@@ -148,9 +165,9 @@ fn arithmetic_mnemonic(word: &[u8]) -> Option<Mnemonic>
     )
 }
 
-/// Branches.
-fn branch_mnemonic(word: &[u8]) -> Option<Mnemonic>
-    ensures { result ≡ branch_name word.now }
+/// Jumps, calls and returns.
+fn jump_mnemonic(word: &[u8]) -> Option<Mnemonic>
+    ensures { result ≡ jump_name word.now }
 {
     named!(word;
         b"rjmp" => Mnemonic::Rjmp,
@@ -160,7 +177,15 @@ fn branch_mnemonic(word: &[u8]) -> Option<Mnemonic>
         b"icall" => Mnemonic::Icall,
         b"call" => Mnemonic::Call,
         b"ret" => Mnemonic::Ret,
-        b"reti" => Mnemonic::Reti,
+        b"reti" => Mnemonic::Reti
+    )
+}
+
+/// Comparisons, skips and branches.
+fn branch_mnemonic(word: &[u8]) -> Option<Mnemonic>
+    ensures { result ≡ branch_name word.now }
+{
+    named!(word;
         b"cpse" => Mnemonic::Cpse,
         b"cp" => Mnemonic::Cp,
         b"cpc" => Mnemonic::Cpc,
@@ -219,9 +244,9 @@ fn bit_mnemonic(word: &[u8]) -> Option<Mnemonic>
     )
 }
 
-/// The names that set or clear a flag.
-fn flag_mnemonic(word: &[u8]) -> Option<Mnemonic>
-    ensures { result ≡ flag_name word.now }
+/// The names that set a flag.
+fn set_mnemonic(word: &[u8]) -> Option<Mnemonic>
+    ensures { result ≡ set_name word.now }
 {
     named!(word;
         b"sec" => Mnemonic::SetFlag(0),
@@ -231,7 +256,15 @@ fn flag_mnemonic(word: &[u8]) -> Option<Mnemonic>
         b"ses" => Mnemonic::SetFlag(4),
         b"seh" => Mnemonic::SetFlag(5),
         b"set" => Mnemonic::SetFlag(6),
-        b"sei" => Mnemonic::SetFlag(7),
+        b"sei" => Mnemonic::SetFlag(7)
+    )
+}
+
+/// The names that clear a flag.
+fn clear_mnemonic(word: &[u8]) -> Option<Mnemonic>
+    ensures { result ≡ clear_name word.now }
+{
+    named!(word;
         b"clc" => Mnemonic::ClearFlag(0),
         b"clz" => Mnemonic::ClearFlag(1),
         b"cln" => Mnemonic::ClearFlag(2),
@@ -243,9 +276,9 @@ fn flag_mnemonic(word: &[u8]) -> Option<Mnemonic>
     )
 }
 
-/// The names that branch by a flag.
-fn condition_mnemonic(word: &[u8]) -> Option<Mnemonic>
-    ensures { result ≡ condition_name word.now }
+/// The names that branch where a flag is set.
+fn branch_if_set_mnemonic(word: &[u8]) -> Option<Mnemonic>
+    ensures { result ≡ branch_if_set_name word.now }
 {
     named!(word;
         b"brcs" => Mnemonic::BranchIfSet(0),
@@ -256,7 +289,15 @@ fn condition_mnemonic(word: &[u8]) -> Option<Mnemonic>
         b"brhs" => Mnemonic::BranchIfSet(5),
         b"brts" => Mnemonic::BranchIfSet(6),
         b"brie" => Mnemonic::BranchIfSet(7),
-        b"brlo" => Mnemonic::BranchIfSet(0),
+        b"brlo" => Mnemonic::BranchIfSet(0)
+    )
+}
+
+/// The names that branch where a flag is clear.
+fn branch_if_clear_mnemonic(word: &[u8]) -> Option<Mnemonic>
+    ensures { result ≡ branch_if_clear_name word.now }
+{
+    named!(word;
         b"brcc" => Mnemonic::BranchIfClear(0),
         b"brne" => Mnemonic::BranchIfClear(1),
         b"brpl" => Mnemonic::BranchIfClear(2),
@@ -288,7 +329,16 @@ fn other_mnemonic(word: &[u8]) -> Option<Mnemonic>
 pub fn mnemonic_of(word: &[u8]) -> Option<Mnemonic>
     ensures { result ≡ mnemonic_of_word word.now }
 {
-    if let Some(mnemonic) = arithmetic_mnemonic(word) {
+    if let Some(mnemonic) = sum_mnemonic(word) {
+        return Some(mnemonic);
+    }
+    if let Some(mnemonic) = logic_mnemonic(word) {
+        return Some(mnemonic);
+    }
+    if let Some(mnemonic) = product_mnemonic(word) {
+        return Some(mnemonic);
+    }
+    if let Some(mnemonic) = jump_mnemonic(word) {
         return Some(mnemonic);
     }
     if let Some(mnemonic) = branch_mnemonic(word) {
@@ -300,10 +350,16 @@ pub fn mnemonic_of(word: &[u8]) -> Option<Mnemonic>
     if let Some(mnemonic) = bit_mnemonic(word) {
         return Some(mnemonic);
     }
-    if let Some(mnemonic) = flag_mnemonic(word) {
+    if let Some(mnemonic) = set_mnemonic(word) {
         return Some(mnemonic);
     }
-    if let Some(mnemonic) = condition_mnemonic(word) {
+    if let Some(mnemonic) = clear_mnemonic(word) {
+        return Some(mnemonic);
+    }
+    if let Some(mnemonic) = branch_if_set_mnemonic(word) {
+        return Some(mnemonic);
+    }
+    if let Some(mnemonic) = branch_if_clear_mnemonic(word) {
         return Some(mnemonic);
     }
     other_mnemonic(word)

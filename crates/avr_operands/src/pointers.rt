@@ -4,7 +4,7 @@ ghost use Rattle.std.specs.Prelude.{◌≡◌, All, IfSome, length, option_map};
 ghost use Rattle.avr_text.specs.Tokens.{Lies};
 ghost use Rattle.avr_operands.specs.Operands.{AllLie};
 ghost use Rattle.avr_operands.specs.Instructions.{pointer_named, pointer_of as pointer_of_token};
-ghost use Rattle.avr_operands.specs.Instructions.{address_of as address_of_tokens, displaced_of};
+ghost use Rattle.avr_operands.specs.Instructions.{address_of as address_of_tokens, base_of, displaced_of};
 
 use avr_text::{Token, TokenKind, is_word_named, text_of};
 
@@ -73,6 +73,23 @@ pub fn address_of(line: &[u8], tokens: &[Token]) -> Option<(Pointer, Step)>
     }
 }
 
+/// A token as Y or Z, 1 for Y and 0 for Z, with the tokens of the displacement after it.
+fn based<'a>(line: &[u8], token: Token, rest: &'a [Token]) -> Option<(i64, &'a [Token])>
+    requires token { Lies (length line.now) token }
+    requires rest { AllLie (length line.now) rest.now }
+    ensures base { option_map (λ d. (d.0, d.1.now)) result ≡ base_of (pointer_of_token line.now token) rest.now }
+    ensures lie { IfSome result (λ d. AllLie (length line.now) d.1.now) }
+{
+    match pointer_of(line, token) {
+        Some(pointer) => match pointer {
+            Pointer::X => None,
+            Pointer::Y => Some((1, rest)),
+            Pointer::Z => Some((0, rest)),
+        },
+        None => None,
+    }
+}
+
 /// `Y+q` or `Z+q`: 1 for Y and 0 for Z, and the tokens of q.
 pub fn displaced<'a>(line: &[u8], tokens: &'a [Token]) -> Option<(i64, &'a [Token])>
     requires { AllLie (length line.now) tokens.now }
@@ -82,11 +99,7 @@ pub fn displaced<'a>(line: &[u8], tokens: &'a [Token]) -> Option<(i64, &'a [Toke
     match tokens {
         [first, second, rest @ ..] => {
             if let TokenKind::Mark(b'+') = second.kind {
-                match pointer_of(line, *first)? {
-                    Pointer::X => None,
-                    Pointer::Y => Some((1, rest)),
-                    Pointer::Z => Some((0, rest)),
-                }
+                based(line, *first, rest)
             } else {
                 None
             }
