@@ -1,2 +1,5 @@
 pub mod Growth
 pub mod SameFacts
+pub mod EachLemmas
+pub mod OldFacts
+pub mod TellingLemmas

@@ -1,3 +1,5 @@
 pub mod Along
 pub mod Joined
+pub mod Points
 pub mod Same
+pub mod Telling

@@ -5,6 +5,7 @@ ghost use Rattle.std.specs.Prelude.{◌≤◌, length};
 use crate::axis::Axis;
 use crate::chains::{Chain, Chains};
 use crate::facts::fact_along;
+use crate::source::Source;
 use arrayvec::ArrayVec;
 use std::alloc::{AllocError, Global};
 use uz_schedule::{Fact, PairFact, Point};
@@ -109,18 +110,26 @@ fn point_of(
     }
 }
 
+/// The point of a chain that leads to these others.
+fn point_for(axis: Axis, source: &Source, chain: &Chain, next: ArrayVec<u32, 16>) -> Option<Point> {
+    let first = source.point(chain.first)?;
+    let second = source.point(chain.second)?;
+    let last = source.point(chain.last)?;
+    Some(point_of(axis, chain, (&first, &second, &last), next))
+}
+
 /// The points of chains that lead to these others.
 pub(crate) fn joined_points(
     alloc: Global,
     axis: Axis,
-    points: &[Point],
+    source: &Source,
     chains: &Chains,
     next: Vec<ArrayVec<u32, 16>>,
 ) -> Result<Vec<Point>, AllocError> {
     let mut joined = Vec::new(alloc);
     for (chain, next) in chains.chains.as_slice().iter().zip(next) {
-        if let Some(ends) = chains.ends(points, chain) {
-            joined.push(point_of(axis, chain, ends, next))?;
+        if let Some(point) = point_for(axis, source, chain, next) {
+            joined.push(point)?;
         }
     }
     Ok(joined)

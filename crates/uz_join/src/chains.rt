@@ -1,7 +1,7 @@
 //! Chains of points: each point is in one, and knows the one after it.
 
+use crate::source::Source;
 use std::alloc::{AllocError, Global};
-use uz_schedule::Point;
 
 /// The number of no point and of no chain.
 pub(crate) const NONE: u32 = u32::MAX;
@@ -72,7 +72,7 @@ fn put_number(numbers: &mut Vec<u32>, at: u32, number: u32) {
 }
 
 /// So many times `NONE`.
-fn nones(alloc: Global, count: usize) -> Result<Vec<u32>, AllocError> {
+pub(crate) fn nones(alloc: Global, count: u32) -> Result<Vec<u32>, AllocError> {
     let mut numbers = Vec::new(alloc);
     for _ in 0..count {
         numbers.push(NONE)?;
@@ -82,7 +82,7 @@ fn nones(alloc: Global, count: usize) -> Result<Vec<u32>, AllocError> {
 
 impl Chains {
     /// No chain, for so many points.
-    pub(crate) fn new(alloc: Global, points: usize) -> Result<Chains, AllocError> {
+    pub(crate) fn new(alloc: Global, points: u32) -> Result<Chains, AllocError> {
         Ok(Chains {
             chains: Vec::new(alloc),
             numbers: nones(alloc, points)?,
@@ -144,9 +144,9 @@ impl Chains {
     }
 
     /// Each point that is in no chain begins one.
-    pub(crate) fn begin_others(&mut self) -> Result<(), AllocError> {
-        for id in 0..number_of(self.numbers.len()) {
-            if self.number(id) == NONE {
+    pub(crate) fn begin_others(&mut self, source: &Source) -> Result<(), AllocError> {
+        for id in 0..source.count() {
+            if self.number(id) == NONE && source.is_there(id) {
                 self.begin(id)?;
             }
         }
@@ -154,15 +154,11 @@ impl Chains {
     }
 
     /// The chains in the order of their first lines, and on one line of their first points.
-    fn ranks(&self, alloc: Global, points: &[Point]) -> Result<Vec<Rank>, AllocError> {
+    fn ranks(&self, alloc: Global, source: &Source) -> Result<Vec<Rank>, AllocError> {
         let mut ranks = Vec::new(alloc);
         for (i, chain) in self.chains.as_slice().iter().enumerate() {
-            let line = match points.get(chain.first as usize) {
-                Some(point) => point.l0,
-                None => u16::MAX,
-            };
             ranks.push(Rank {
-                line,
+                line: source.line(chain.first),
                 first: chain.first,
                 chain: number_of(i),
             })?;
@@ -175,10 +171,10 @@ impl Chains {
     pub(crate) fn put_in_order(
         &mut self,
         alloc: Global,
-        points: &[Point],
+        source: &Source,
     ) -> Result<(), AllocError> {
-        let ranks = self.ranks(alloc, points)?;
-        let mut order = nones(alloc, self.chains.len())?;
+        let ranks = self.ranks(alloc, source)?;
+        let mut order = nones(alloc, number_of(self.chains.len()))?;
         let mut chains = Vec::new(alloc);
         for rank in &ranks {
             if let Some(chain) = self.chain(rank.chain) {
@@ -191,17 +187,5 @@ impl Chains {
         }
         self.chains = chains;
         Ok(())
-    }
-
-    /// The first, the second and the last point of a chain.
-    pub(crate) fn ends<'a>(
-        &self,
-        points: &'a [Point],
-        chain: &Chain,
-    ) -> Option<(&'a Point, &'a Point, &'a Point)> {
-        let first = points.get(chain.first as usize)?;
-        let second = points.get(chain.second as usize)?;
-        let last = points.get(chain.last as usize)?;
-        Some((first, second, last))
     }
 }

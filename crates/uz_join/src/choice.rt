@@ -13,8 +13,8 @@ use uz_check::verdict;
 use uz_hex::Image;
 use uz_schedule::Cert;
 
-/// Whether a certificate is well formed and accepted.
-fn passes(image: &Image, cert: &Cert) -> bool
+/// Whether a certificate is well formed and accepted. Takes no memory.
+pub fn passes(image: &Image, cert: &Cert) -> bool
     ensures fits { result ≡ true → WellFormed cert.now }
     ensures accepted { result ≡ true → Accepts image.now cert.now }
 {

@@ -6,7 +6,7 @@ ghost use Rattle.uz_join.specs.Joined.{rest_unnumbered, entry_unnumbered};
 use crate::chains::number_at;
 use arrayvec::ArrayVec;
 use std::alloc::{AllocError, Global};
-use uz_schedule::{Entry, Rest, Sequence, Span};
+use uz_schedule::{Entry, Fact, Point, Rest, Sequence, Span};
 
 /// A copy of ranges of cells.
 fn copied_cells(from: &[Span]) -> ArrayVec<Span, 16>
@@ -56,7 +56,7 @@ fn with_vector(rest: &Rest, vector: u32) -> Rest
 }
 
 /// The rests with the numbers of their vectors' chains.
-pub(crate) fn rests_of(
+pub fn rests_of(
     alloc: Global,
     rests: &[Rest],
     numbers: &[u32],
@@ -71,7 +71,7 @@ pub(crate) fn rests_of(
 }
 
 /// The entry with the number of its point's chain.
-pub(crate) fn entry_of(entry: &Entry, numbers: &[u32]) -> Entry
+pub fn entry_of(entry: &Entry, numbers: &[u32]) -> Entry
     ensures { entry_unnumbered result ≡ entry_unnumbered entry.now }
 {
     Entry {
@@ -84,5 +84,47 @@ pub(crate) fn entry_of(entry: &Entry, numbers: &[u32]) -> Entry
         flags: entry.flags,
         stack: copied_slots(entry.stack.as_slice()),
         cells: copied_cells(entry.cells.as_slice()),
+    }
+}
+
+/// A copy of a value, at once.
+fn copy_of<T: Copy>(value: &T) -> T {
+    *value
+}
+
+/// A copy of facts of the stack.
+fn copied_slot_facts(from: &[Fact]) -> ArrayVec<Fact, 32> {
+    let mut copy = ArrayVec::new();
+    let _full = copy.try_extend_from_slice(from).is_err();
+    copy
+}
+
+/// A copy of facts of cells.
+fn copied_cell_facts(from: &[Fact]) -> ArrayVec<Fact, 16> {
+    let mut copy = ArrayVec::new();
+    let _full = copy.try_extend_from_slice(from).is_err();
+    copy
+}
+
+/// A copy of a point without successors.
+pub(crate) fn copied_point(from: &Point) -> Point {
+    Point {
+        kind: from.kind,
+        pc: from.pc,
+        l0: from.l0,
+        l1: from.l1,
+        c0: from.c0,
+        c1: from.c1,
+        clock: from.clock,
+        slope: from.slope,
+        pending: from.pending,
+        top: from.top,
+        temp: from.temp,
+        regs: copy_of(&from.regs),
+        pairs: copy_of(&from.pairs),
+        flags: from.flags,
+        stack: copied_slot_facts(from.stack.as_slice()),
+        cells: copied_cell_facts(from.cells.as_slice()),
+        next: ArrayVec::new(),
     }
 }

@@ -7,7 +7,7 @@ ghost use Rattle.uz_schedule.specs.declared.facts.Val.TheVariants.{Range};
 ghost use Rattle.uz_join.specs.Along.{val_along};
 
 use crate::axis::Axis;
-use uz_schedule::{Fact, PairFact};
+use uz_schedule::{Fact, PairFact, Span, Val};
 
 /// The byte that a fact tells, where it tells one.
 #[tactic(auto, using(crate::proofs::Growth::one_of))]
@@ -84,10 +84,32 @@ fn growth_at(from: &[Fact], to: &[Fact], i: usize) -> u8 {
     }
 }
 
-/// Whether each byte grows from `last` to `new` as it does from `first` to `second`.
-pub(crate) fn grow_alike(first: &[Fact], second: &[Fact], last: &[Fact], new: &[Fact]) -> bool {
+/// Writes by how much each byte grows from some facts to others.
+pub(crate) fn put_growths(growths: &mut [u8], from: &[Fact], to: &[Fact]) {
+    for i in 0..growths.len() {
+        growths[i] = growth_at(from, to, i);
+    }
+}
+
+/// Whether a fact follows another with this growth of its byte.
+fn follows(by: u8, last: &Fact, new: &Fact) -> bool {
+    match (single(last), single(new)) {
+        (Some(from), Some(to)) => to.wrapping_sub(from) == by,
+        _ => by == 0 && last == new,
+    }
+}
+
+/// Whether facts follow others with these growths of their bytes.
+pub(crate) fn follow_by(growths: &[u8], last: &[Fact], new: &[Fact]) -> bool {
+    if last.len() != new.len() {
+        return false;
+    }
     for i in 0..new.len() {
-        if growth_at(first, second, i) != growth_at(last, new, i) {
+        let by = match growths.get(i) {
+            Some(by) => *by,
+            None => 0,
+        };
+        if !follows(by, &last[i], &new[i]) {
             return false;
         }
     }
@@ -147,12 +169,29 @@ pub(crate) fn fact_along(axis: Axis, first: &Fact, second: &Fact, start: u16) ->
     }
 }
 
+/// A number for a range of bytes, the same for all that have one byte.
+pub(crate) fn span_code(span: Span) -> u64 {
+    if span.lo() == span.hi() {
+        2
+    } else {
+        3 + 8 * u64::from(span.lo()) + 2048 * u64::from(span.hi())
+    }
+}
+
+/// A number for what is known of a byte, the same for all that are one byte.
+pub(crate) fn val_code(val: &Val) -> u64 {
+    match val {
+        Val::Range(span) => span_code(*span),
+        Val::Old(r) => 6 + 8 * u64::from(*r),
+        Val::OldFlags => 7,
+    }
+}
+
 /// A number for a fact, the same for all that tell one byte.
 pub(crate) fn code(fact: &Fact) -> u64 {
     match fact {
         Fact::Any => 1,
-        Fact::Between(span) if span.lo() == span.hi() => 2,
-        Fact::Between(span) => 3 + 8 * u64::from(span.lo()) + 2048 * u64::from(span.hi()),
+        Fact::Between(span) => span_code(*span),
         Fact::Line(a, b) => 4 + 8 * u64::from(*a) + 2048 * u64::from(*b),
         Fact::Loop(a, b) => 5 + 8 * u64::from(*a) + 2048 * u64::from(*b),
         Fact::Old(r) => 6 + 8 * u64::from(*r),

@@ -1,8 +1,9 @@
 //! Finding chains: points of one shape, in the order of their lines or clocks, each go on from a chain or begin one.
 
 use crate::axis::Axis;
-use crate::chains::{Chain, Chains, NONE, number_of};
-use crate::shape::{distance, goes_on, is_joinable, key, same_shape};
+use crate::chains::{Chains, number_of};
+use crate::shape::{Growth, distance, goes_on, is_joinable, key, node_key, same_shape};
+use crate::source::{Source, is_node_joinable};
 use std::alloc::{AllocError, Global};
 use uz_schedule::Point;
 
@@ -31,39 +32,64 @@ enum Fit {
     Second(u32),
 }
 
-/// Whether a chain of two points or more goes on with a point: at the same distance, and each byte by the same growth.
-fn goes_on_with(axis: Axis, ends: (&Point, &Point, &Point), new: &Point) -> bool {
-    let (first, second, last) = ends;
-    let step = axis.place(second).wrapping_sub(axis.place(first));
-    axis.place(new).wrapping_sub(axis.place(last)) == step
-        && same_shape(axis, last, new)
-        && goes_on(first, second, last, new)
+/// A chain from which points may go on.
+#[derive(Debug, Drop)]
+struct Open {
+    /// Its number.
+    number: u32,
+    /// How many points it has.
+    count: u32,
+    /// From each point to the next, where there are two: how many lines or clocks.
+    step: u16,
+    /// And by how much each byte grows.
+    growth: Growth,
+    /// Its last point.
+    last: Point,
 }
 
-/// How a point fits a chain of these points.
-fn fit_to(axis: Axis, chain: &Chain, ends: (&Point, &Point, &Point), new: &Point) -> Fit {
-    let (first, _, last) = ends;
-    if chain.count > 1 {
-        if axis.has_room(chain.count) && goes_on_with(axis, ends, new) {
+/// The open chain of one point.
+fn open_with(number: u32, first: Point) -> Open {
+    Open {
+        number,
+        count: 1,
+        step: 0,
+        growth: Growth::none(),
+        last: first,
+    }
+}
+
+/// From the last point of an open chain to a point: how many lines or clocks.
+fn step_to(axis: Axis, open: &Open, new: &Point) -> u16 {
+    axis.place(new).wrapping_sub(axis.place(&open.last))
+}
+
+/// An open chain goes on with a point.
+fn go_on(axis: Axis, open: &mut Open, new: Point) {
+    if open.count == 1 {
+        open.step = step_to(axis, open, &new);
+        open.growth = Growth::between(&open.last, &new);
+    }
+    open.count = open.count.saturating_add(1);
+    open.last = new;
+}
+
+/// How a point fits an open chain: with two points or more it goes on at the same distance, and each byte by the same growth.
+fn fit_to(axis: Axis, open: &Open, new: &Point) -> Fit {
+    if open.count > 1 {
+        if axis.has_room(open.count)
+            && step_to(axis, open, new) == open.step
+            && goes_on(axis, &open.growth, &open.last, new)
+        {
             Fit::GoesOn
         } else {
             Fit::No
         }
-    } else if axis.may_follow(axis.place(first), axis.place(new)) && same_shape(axis, last, new) {
-        Fit::Second(distance(last, new))
+    } else if axis.may_follow(axis.place(&open.last), axis.place(new))
+        && same_shape(axis, &open.last, new)
+    {
+        Fit::Second(distance(&open.last, new))
     } else {
         Fit::No
-    }
-}
-
-/// How a point fits the chain of a number.
-fn fit_of(axis: Axis, points: &[Point], chains: &Chains, number: u32, new: &Point) -> Fit {
-    match chains.chain(number) {
-        Some(chain) => match chains.ends(points, &chain) {
-            Some(ends) => fit_to(axis, &chain, ends, new),
-            None => Fit::No,
-        },
-        None => Fit::No,
     }
 }
 
@@ -77,18 +103,12 @@ fn better(best: Option<(u32, usize)>, change: u32, at: usize) -> Option<(u32, us
 
 /// The place of the open chain from which a point goes on: the latest that it fits by its growth, and else the chain of one point
 /// from which the fewest bytes change.
-fn place_of(
-    axis: Axis,
-    points: &[Point],
-    chains: &Chains,
-    open: &[u32],
-    new: &Point,
-) -> Option<usize> {
+fn place_of(axis: Axis, open: &[Open], new: &Point) -> Option<usize> {
     let mut best: Option<(u32, usize)> = None;
     for back in 0..TRIED {
         let at = open.len().wrapping_sub(back).wrapping_sub(1);
         match open.get(at) {
-            Some(number) => match fit_of(axis, points, chains, *number, new) {
+            Some(chain) => match fit_to(axis, chain, new) {
                 Fit::GoesOn => return Some(at),
                 Fit::Second(change) => best = better(best, change, at),
                 Fit::No => {}
@@ -103,43 +123,50 @@ fn place_of(
 }
 
 /// Puts the open chain at a place last, so that it is tried first.
-fn put_last(open: &mut Vec<u32>, at: usize) {
+fn put_last(open: &mut Vec<Open>, at: usize) {
     let last = open.len().saturating_sub(1);
     if at < last {
         open.as_mut_slice().swap(at, last);
     }
 }
 
+/// Puts an open chain behind the others, of which those are let go that are tried no more.
+fn push_open(open: &mut Vec<Open>, new: Open) -> Result<(), AllocError> {
+    if open.len() >= TRIED {
+        let _oldest = open.remove(0);
+    }
+    open.push(new)?;
+    Ok(())
+}
+
 /// A point goes on from an open chain, or begins one.
 fn add(
     axis: Axis,
-    points: &[Point],
     chains: &mut Chains,
-    open: &mut Vec<u32>,
+    open: &mut Vec<Open>,
     id: u32,
+    new: Point,
 ) -> Result<(), AllocError> {
-    let place = match points.get(id as usize) {
-        Some(new) => place_of(axis, points, chains, open.as_slice(), new),
-        None => None,
-    };
-    match place {
+    match place_of(axis, open.as_slice(), &new) {
         Some(at) => {
-            let number = match open.get(at) {
-                Some(number) => *number,
-                None => NONE,
-            };
-            chains.go_on(number, id);
+            if let Some(chain) = open.get_mut(at) {
+                chains.go_on(chain.number, id);
+                go_on(axis, chain, new);
+            }
             put_last(open, at);
         }
-        None => open.push(chains.begin(id)?)?,
+        None => push_open(open, open_with(chains.begin(id)?, new))?,
     }
     Ok(())
 }
 
-/// The points that may be joined along an axis: those of one shape beside each other, in the order of their places.
-fn candidates(alloc: Global, axis: Axis, points: &[Point]) -> Result<Vec<Candidate>, AllocError> {
-    let mut candidates = Vec::new(alloc);
-    for (i, point) in points.iter().enumerate() {
+/// Puts the points that are made and may be joined along an axis among the candidates.
+fn push_made(
+    axis: Axis,
+    source: &Source,
+    candidates: &mut Vec<Candidate>,
+) -> Result<(), AllocError> {
+    for (i, point) in source.made.iter().enumerate() {
         if is_joinable(point, axis) {
             candidates.push(Candidate {
                 key: key(axis, point),
@@ -148,23 +175,50 @@ fn candidates(alloc: Global, axis: Axis, points: &[Point]) -> Result<Vec<Candida
             })?;
         }
     }
+    Ok(())
+}
+
+/// Puts the points of instances that may be joined line by line among the candidates.
+fn push_nodes(source: &Source, candidates: &mut Vec<Candidate>) -> Result<(), AllocError> {
+    for (i, at) in source.nodes.iter().enumerate() {
+        let id = source.own_number(number_of(i));
+        if is_node_joinable(at) && source.is_there(id) {
+            candidates.push(Candidate {
+                key: node_key(at),
+                place: at.line,
+                id,
+            })?;
+        }
+    }
+    Ok(())
+}
+
+/// The points that may be joined along an axis: those of one shape beside each other, in the order of their places.
+fn candidates(alloc: Global, axis: Axis, source: &Source) -> Result<Vec<Candidate>, AllocError> {
+    let mut candidates = Vec::new(alloc);
+    push_made(axis, source, &mut candidates)?;
+    if axis == Axis::Lines {
+        push_nodes(source, &mut candidates)?;
+    }
     candidates.as_mut_slice().sort_unstable();
     Ok(candidates)
 }
 
-/// The chains of a certificate's points along an axis.
-pub(crate) fn chains_of(alloc: Global, axis: Axis, points: &[Point]) -> Result<Chains, AllocError> {
-    let candidates = candidates(alloc, axis, points)?;
-    let mut chains = Chains::new(alloc, points.len())?;
-    let mut open: Vec<u32> = Vec::new(alloc);
+/// The chains of points along an axis.
+pub(crate) fn chains_of(alloc: Global, axis: Axis, source: &Source) -> Result<Chains, AllocError> {
+    let candidates = candidates(alloc, axis, source)?;
+    let mut chains = Chains::new(alloc, source.count())?;
+    let mut open: Vec<Open> = Vec::new(alloc);
     let mut key = 0;
     for candidate in &candidates {
         if candidate.key != key {
             key = candidate.key;
             open.clear();
         }
-        add(axis, points, &mut chains, &mut open, candidate.id)?;
+        if let Some(new) = source.point(candidate.id) {
+            add(axis, &mut chains, &mut open, candidate.id, new)?;
+        }
     }
-    chains.begin_others()?;
+    chains.begin_others(source)?;
     Ok(chains)
 }

@@ -10,6 +10,7 @@ use crate::chains::number_at;
 use crate::copies::{entry_of, rests_of};
 use crate::finding::chains_of;
 use crate::sameness::same_instances;
+use crate::source::Source;
 use crate::successors::cut_to_successors;
 use std::alloc::{AllocError, Global};
 use uz_schedule::{Cert, Entry, Point, Rest, Sequence};
@@ -27,22 +28,26 @@ pub(crate) struct Parts {
 
 /// Points that are joined.
 #[derive(Debug, Drop)]
-struct Joined {
+pub(crate) struct Joined {
     /// The joined points.
-    points: Vec<Point>,
+    pub(crate) points: Vec<Point>,
     /// Of each point the number of the one that it is joined into.
-    numbers: Vec<u32>,
+    pub(crate) numbers: Vec<u32>,
 }
 
 /// Points joined along an axis. None where there are none to join, or their successors are too many.
-fn joined_along(alloc: Global, axis: Axis, points: &[Point]) -> Result<Option<Joined>, AllocError> {
-    let mut chains = chains_of(alloc, axis, points)?;
-    if chains.chains.len() == points.len() {
+pub(crate) fn joined_along(
+    alloc: Global,
+    axis: Axis,
+    source: &Source,
+) -> Result<Option<Joined>, AllocError> {
+    let mut chains = chains_of(alloc, axis, source)?;
+    if chains.chains.len() == source.points() {
         return Ok(None);
     }
-    match cut_to_successors(alloc, points, &mut chains)? {
+    match cut_to_successors(alloc, source, &mut chains)? {
         Some(next) => {
-            let joined = joined_points(alloc, axis, points, &chains, next)?;
+            let joined = joined_points(alloc, axis, source, &chains, next)?;
             Ok(Some(Joined {
                 points: joined,
                 numbers: chains.numbers,
@@ -53,15 +58,19 @@ fn joined_along(alloc: Global, axis: Axis, points: &[Point]) -> Result<Option<Jo
 }
 
 /// Of each point the number of the one that it is joined into, where those of one list are joined again.
-fn joined_numbers(numbers: &mut Vec<u32>, again: &[u32]) {
+pub(crate) fn joined_numbers(numbers: &mut Vec<u32>, again: &[u32]) {
     for number in numbers.as_mut_slice() {
         *number = number_at(again, *number);
     }
 }
 
 /// Joined points that are joined again, count by count.
-fn joined_again(alloc: Global, lines: Joined) -> Result<Joined, AllocError> {
-    match joined_along(alloc, Axis::Counts, lines.points.as_slice())? {
+pub(crate) fn joined_again(alloc: Global, lines: Joined) -> Result<Joined, AllocError> {
+    match joined_along(
+        alloc,
+        Axis::Counts,
+        &Source::of_points(lines.points.as_slice()),
+    )? {
         Some(counts) => {
             let mut numbers = lines.numbers;
             joined_numbers(&mut numbers, counts.numbers.as_slice());
@@ -76,9 +85,10 @@ fn joined_again(alloc: Global, lines: Joined) -> Result<Joined, AllocError> {
 
 /// Points joined line by line, and then count by count. None where there are none to join.
 fn joined_both(alloc: Global, points: &[Point]) -> Result<Option<Joined>, AllocError> {
-    match joined_along(alloc, Axis::Lines, points)? {
+    let source = Source::of_points(points);
+    match joined_along(alloc, Axis::Lines, &source)? {
         Some(lines) => Ok(Some(joined_again(alloc, lines)?)),
-        None => joined_along(alloc, Axis::Counts, points),
+        None => joined_along(alloc, Axis::Counts, &source),
     }
 }
 

@@ -6,7 +6,7 @@ ghost use Rattle.uz_schedule.specs.Instances.{is_in_box as box_holds, pair_by, p
 ghost use Rattle.uz_schedule.specs.declared.facts.Val.{Val};
 ghost use Rattle.uz_join.specs.Same.{AreTold, IsTold, IsWhollyTold, SameAt, SameBytes, SameInstances, SameKept, SamePairs, SamePlace};
 
-use crate::chains::{NONE, number_at, number_of};
+use crate::chains::{nones, number_at, number_of};
 use std::alloc::{AllocError, Global};
 use uz_schedule::{Bit, Fact, PairFact, Point, val_of};
 
@@ -63,14 +63,14 @@ fn pairs_keep(facts: &[PairFact; 3], of_a: u8, of_b: u8) -> bool
 }
 
 /// Whether a line and a count are those of a point's box.
-fn is_in_box(point: &Point, line: u16, count: u8) -> bool
+pub(crate) fn is_in_box(point: &Point, line: u16, count: u8) -> bool
     ensures { result ≡ box_holds point.now line count }
 {
     (point.l0 <= line && line <= point.l1) && (point.c0 <= count && count <= point.c1)
 }
 
 /// The clock of a point at a count.
-fn clock_of(point: &Point, count: u8) -> i32
+pub(crate) fn clock_of(point: &Point, count: u8) -> i32
     ensures { result ≡ pos point.now.clock +ℤ point.now.slope *ℤ pos count }
 {
     i32::from(point.clock) + i32::from(point.slope) * i32::from(count)
@@ -111,7 +111,7 @@ fn same_flags_each(a: &[Bit], b: &[Bit]) -> bool
 }
 
 /// Whether flags are known alike.
-fn same_flags(a: &[Bit], b: &[Bit]) -> bool
+pub(crate) fn same_flags(a: &[Bit], b: &[Bit]) -> bool
     ensures { result ≡ true → a.now ≡ b.now }
 {
     a.len() == b.len() && same_flags_each(a, b)
@@ -178,11 +178,11 @@ fn is_same_at(a: &Point, b: &Point, line: u16, of_a: u8, of_b: u8) -> bool
 
 /// Where to look for what points say: a choice of speed, of which nothing is believed.
 #[derive(Debug, Drop)]
-struct Guide {
+pub(crate) struct Guide {
     /// Of each point where its numbers begin; where there are none, each has one number.
-    starts: Vec<u32>,
+    pub(crate) starts: Vec<u32>,
     /// The numbers of points, for each line and count of a box, or one for each point.
-    numbers: Vec<u32>,
+    pub(crate) numbers: Vec<u32>,
 }
 
 /// How many counts a point's box has.
@@ -191,7 +191,7 @@ fn width(point: &Point) -> u32 {
 }
 
 /// The place of a line and a count in a point's box, count after count and line after line.
-fn offset(point: &Point, line: u16, count: u8) -> u32 {
+pub(crate) fn offset(point: &Point, line: u16, count: u8) -> u32 {
     u32::from(line.saturating_sub(point.l0))
         .saturating_mul(width(point))
         .saturating_add(u32::from(count.saturating_sub(point.c0)))
@@ -203,7 +203,7 @@ fn size(point: &Point) -> u32 {
 }
 
 /// The count at which a point has a clock.
-fn count_at(point: &Point, clock: i32, count: u8) -> u8 {
+pub(crate) fn count_at(point: &Point, clock: i32, count: u8) -> u8 {
     if point.c0 == point.c1 {
         point.c0
     } else {
@@ -219,7 +219,7 @@ fn count_at(point: &Point, clock: i32, count: u8) -> u8 {
 
 impl Guide {
     /// The number of the point that has what the point of a number has at a line and a count.
-    fn number(&self, id: u32, point: &Point, line: u16, count: u8) -> u32 {
+    pub(crate) fn number(&self, id: u32, point: &Point, line: u16, count: u8) -> u32 {
         match self.starts.get(id as usize) {
             Some(start) => number_at(
                 self.numbers.as_slice(),
@@ -281,7 +281,7 @@ fn all_told(guide: &Guide, points: &[Point], others: &[Point]) -> bool
 }
 
 /// Where the numbers of each point begin, and how many there are.
-fn starts_of(alloc: Global, points: &[Point]) -> Result<(Vec<u32>, u32), AllocError> {
+pub(crate) fn starts_of(alloc: Global, points: &[Point]) -> Result<(Vec<u32>, u32), AllocError> {
     let mut starts = Vec::new(alloc);
     let mut start: u32 = 0;
     for point in points {
@@ -329,13 +329,9 @@ fn back(
     numbers: &[u32],
 ) -> Result<Guide, AllocError> {
     let (starts, count) = starts_of(alloc, joined)?;
-    let mut all = Vec::new(alloc);
-    for _ in 0..count {
-        all.push(NONE)?;
-    }
     let mut guide = Guide {
         starts,
-        numbers: all,
+        numbers: nones(alloc, count)?,
     };
     for (i, point) in points.iter().enumerate() {
         let id = number_of(i);

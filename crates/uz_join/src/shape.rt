@@ -1,8 +1,11 @@
 //! What points of one chain have in common: all but their lines or clocks, their successors and the bytes that their facts tell.
 
 use crate::axis::Axis;
-use crate::facts::{are_steady, code, differences, grow_alike, is_pair_steady, same_but_bytes};
-use uz_schedule::{Bit, Fact, Kind, Point};
+use crate::facts::{
+    are_steady, code, differences, follow_by, is_pair_steady, put_growths, same_but_bytes,
+    span_code, val_code,
+};
+use uz_schedule::{Bit, Fact, Instance, Kind, Point, Span, Val};
 
 /// Whether no fact of a point changes along an axis.
 fn is_steady(point: &Point, axis: Axis) -> bool {
@@ -47,32 +50,61 @@ fn same_place(axis: Axis, a: &Point, b: &Point) -> bool {
         }
 }
 
+/// Whether two points have one shape but for what they say of registers, stack and cells.
+fn same_frame(axis: Axis, a: &Point, b: &Point) -> bool {
+    same_place(axis, a, b) && same_timer(a, b) && a.flags == b.flags && a.pairs == b.pairs
+}
+
 /// Whether two points have one shape.
 pub(crate) fn same_shape(axis: Axis, a: &Point, b: &Point) -> bool {
-    same_place(axis, a, b)
-        && same_timer(a, b)
-        && a.flags == b.flags
-        && a.pairs == b.pairs
+    same_frame(axis, a, b)
         && same_but_bytes(&a.regs, &b.regs)
         && same_but_bytes(a.stack.as_slice(), b.stack.as_slice())
         && same_but_bytes(a.cells.as_slice(), b.cells.as_slice())
 }
 
-/// Whether each byte grows from `last` to `new` as it does from `first` to `second`.
-pub(crate) fn goes_on(first: &Point, second: &Point, last: &Point, new: &Point) -> bool {
-    grow_alike(&first.regs, &second.regs, &last.regs, &new.regs)
-        && grow_alike(
-            first.stack.as_slice(),
-            second.stack.as_slice(),
-            last.stack.as_slice(),
-            new.stack.as_slice(),
-        )
-        && grow_alike(
-            first.cells.as_slice(),
-            second.cells.as_slice(),
-            last.cells.as_slice(),
-            new.cells.as_slice(),
-        )
+/// By how much each byte grows from one point of a chain to the next, modulo 256.
+#[derive(Clone, Copy, Debug, Drop)]
+pub(crate) struct Growth {
+    regs: [u8; 32],
+    stack: [u8; 32],
+    cells: [u8; 16],
+}
+
+impl Growth {
+    /// None.
+    pub(crate) fn none() -> Growth {
+        Growth {
+            regs: [0; 32],
+            stack: [0; 32],
+            cells: [0; 16],
+        }
+    }
+
+    /// From one point to another.
+    pub(crate) fn between(from: &Point, to: &Point) -> Growth {
+        let mut growth = Growth::none();
+        put_growths(&mut growth.regs, &from.regs, &to.regs);
+        put_growths(
+            &mut growth.stack,
+            from.stack.as_slice(),
+            to.stack.as_slice(),
+        );
+        put_growths(
+            &mut growth.cells,
+            from.cells.as_slice(),
+            to.cells.as_slice(),
+        );
+        growth
+    }
+}
+
+/// Whether a point has the shape of another, and each byte grows by so much from that one to it.
+pub(crate) fn goes_on(axis: Axis, growth: &Growth, last: &Point, new: &Point) -> bool {
+    same_frame(axis, last, new)
+        && follow_by(&growth.regs, &last.regs, &new.regs)
+        && follow_by(&growth.stack, last.stack.as_slice(), new.stack.as_slice())
+        && follow_by(&growth.cells, last.cells.as_slice(), new.cells.as_slice())
 }
 
 /// How many bytes differ in two points.
@@ -109,6 +141,22 @@ fn flag_code(flag: Bit) -> u64 {
     }
 }
 
+fn mixed_vals(key: u64, vals: &[Val]) -> u64 {
+    let mut key = mixed(key, vals.len() as u64);
+    for val in vals {
+        key = mixed(key, val_code(val));
+    }
+    key
+}
+
+fn mixed_spans(key: u64, spans: &[Span]) -> u64 {
+    let mut key = mixed(key, spans.len() as u64);
+    for span in spans {
+        key = mixed(key, span_code(*span));
+    }
+    key
+}
+
 /// The key of a point's place.
 fn place_key(axis: Axis, point: &Point) -> u64 {
     let pc = mixed(SEED, u64::from(point.pc));
@@ -129,4 +177,15 @@ pub(crate) fn key(axis: Axis, point: &Point) -> u64 {
         mixed_facts(regs, point.stack.as_slice()),
         point.cells.as_slice(),
     )
+}
+
+/// A number that instances have alike which differ in their lines and in single bytes. Few others have it.
+pub(crate) fn node_key(at: &Instance) -> u64 {
+    let place = mixed(mixed(SEED, u64::from(at.pc)), u64::from(at.clock));
+    let mut key = mixed(place, u64::from(at.top));
+    for flag in &at.flags {
+        key = mixed(key, flag_code(*flag));
+    }
+    let vals = mixed_vals(mixed_vals(key, &at.regs), at.stack.as_slice());
+    mixed_spans(vals, at.cells.as_slice())
 }

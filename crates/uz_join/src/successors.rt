@@ -1,15 +1,15 @@
 //! Where the points of a chain lead: to at most 16 chains. Where there would be more, a new chain begins.
 
 use crate::chains::{Chains, NONE, number_at, number_of};
+use crate::source::Source;
 use arrayvec::ArrayVec;
 use std::alloc::{AllocError, Global};
-use uz_schedule::Point;
 
 /// How often chains are gone over. Each time those are cut that lead to too many others, and that may have come to be more.
 const PASSES: u32 = 64;
 
 /// Numbers with one more, rising and each once. None where there is no room.
-fn with_number(numbers: &ArrayVec<u32, 16>, new: u32) -> Option<ArrayVec<u32, 16>> {
+pub(crate) fn with_number(numbers: &ArrayVec<u32, 16>, new: u32) -> Option<ArrayVec<u32, 16>> {
     let mut all = ArrayVec::new();
     let mut is_in = false;
     for number in numbers.as_slice() {
@@ -56,17 +56,18 @@ fn with_successors(
 /// The successors of each chain. None where one has more than 16.
 fn all_successors(
     alloc: Global,
-    points: &[Point],
+    source: &Source,
     chains: &Chains,
 ) -> Result<Option<Vec<ArrayVec<u32, 16>>>, AllocError> {
     let mut all = Vec::new(alloc);
     for _ in 0..chains.chains.len() {
         all.push(ArrayVec::new())?;
     }
-    for (i, point) in points.iter().enumerate() {
-        let number = chains.number(number_of(i));
+    for id in 0..source.count() {
+        let number = chains.number(id);
         if let Some(next) = all.get_mut(number as usize) {
-            match with_successors(next, chains.numbers.as_slice(), point.next.as_slice()) {
+            let ids = source.next(id);
+            match with_successors(next, chains.numbers.as_slice(), ids.as_slice()) {
                 Some(more) => *next = more,
                 None => return Ok(None),
             }
@@ -77,33 +78,36 @@ fn all_successors(
 
 /// The successors of a chain with those of a point. None where they are more than 16.
 fn with_point(
-    points: &[Point],
+    source: &Source,
     chains: &Chains,
     next: &ArrayVec<u32, 16>,
     id: u32,
 ) -> Option<ArrayVec<u32, 16>> {
-    let point = points.get(id as usize)?;
-    with_successors(next, chains.numbers.as_slice(), point.next.as_slice())
+    if !source.is_there(id) {
+        return None;
+    }
+    let ids = source.next(id);
+    with_successors(next, chains.numbers.as_slice(), ids.as_slice())
 }
 
 /// Cuts a chain before each point whose successors would be the seventeenth and more of those before it.
-fn cut(points: &[Point], chains: &mut Chains, number: u32) -> Result<(), AllocError> {
+fn cut(source: &Source, chains: &mut Chains, number: u32) -> Result<(), AllocError> {
     let mut number = number;
     let mut id = match chains.chain(number) {
         Some(chain) => chain.first,
         None => NONE,
     };
     let mut after = chains.after(id);
-    let mut next = with_point(points, chains, &ArrayVec::new(), id);
+    let mut next = with_point(source, chains, &ArrayVec::new(), id);
     chains.restart(number, id);
-    for _ in 1..points.len() {
+    for _ in 1..source.count() {
         id = after;
         if id == NONE {
             break;
         }
         after = chains.after(id);
         let more = match &next {
-            Some(next) => with_point(points, chains, next, id),
+            Some(next) => with_point(source, chains, next, id),
             None => None,
         };
         if more.is_some() {
@@ -111,17 +115,17 @@ fn cut(points: &[Point], chains: &mut Chains, number: u32) -> Result<(), AllocEr
             next = more;
         } else {
             number = chains.begin(id)?;
-            next = with_point(points, chains, &ArrayVec::new(), id);
+            next = with_point(source, chains, &ArrayVec::new(), id);
         }
     }
     Ok(())
 }
 
 /// Cuts each chain, the latest first: where chains lead to later ones, those are cut before.
-fn cut_all(points: &[Point], chains: &mut Chains) -> Result<(), AllocError> {
+fn cut_all(source: &Source, chains: &mut Chains) -> Result<(), AllocError> {
     let count = number_of(chains.chains.len());
     for k in 0..count {
-        cut(points, chains, count - 1 - k)?;
+        cut(source, chains, count - 1 - k)?;
     }
     Ok(())
 }
@@ -130,15 +134,15 @@ fn cut_all(points: &[Point], chains: &mut Chains) -> Result<(), AllocError> {
 /// were gone over too often.
 pub(crate) fn cut_to_successors(
     alloc: Global,
-    points: &[Point],
+    source: &Source,
     chains: &mut Chains,
 ) -> Result<Option<Vec<ArrayVec<u32, 16>>>, AllocError> {
     for _ in 0..PASSES {
-        chains.put_in_order(alloc, points)?;
-        if let Some(next) = all_successors(alloc, points, chains)? {
+        chains.put_in_order(alloc, source)?;
+        if let Some(next) = all_successors(alloc, source, chains)? {
             return Ok(Some(next));
         }
-        cut_all(points, chains)?;
+        cut_all(source, chains)?;
     }
     Ok(None)
 }

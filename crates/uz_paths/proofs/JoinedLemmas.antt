@@ -1,5 +1,5 @@
 -- Joining points leaves what was asked of a certificate.
-use Rattle.std.proofs.Common.{◌≡◌, ◌∙◌, sym, ap, ℕ, length, map}
+use Rattle.std.proofs.Common.{◌≡◌, ◌∙◌, sym, ap, refl, subst, ℕ, [], length, map}
 use Rattle.std.specs.Prelude.{Contains, Some, slice_get}
 use Rattle.std.specs.Ordering.{nat_cmp}
 use Rattle.std.specs.FinMap.{FinMap}
@@ -11,8 +11,17 @@ use Rattle.uz_schedule.specs.declared.states.Entry.{Entry}
 use Rattle.uz_schedule.specs.declared.states.Rest.{Rest}
 use Rattle.uz_join.specs.Joined.{SameButPoints, rest_unnumbered}
 use Rattle.uz_search.specs.declared.program.Program.{Program}
+use Rattle.uz_schedule.specs.declared.states.Instance.{Instance}
 use Rattle.uz_search.proofs.Lists.{in_map, of_map}
+use Rattle.uz_search.specs.declared.found.Found.{Found}
+use Rattle.uz_search.specs.Following.{Among}
+use Rattle.uz_search.specs.Searching.{IsEnded}
+use Rattle.uz_search.specs.Trails.{OnTrail}
+use Rattle.uz_paths.specs.declared.joined.JoinedParts.{JoinedParts}
 use Rattle.uz_paths.specs.Finding.{IsFoundBy, IsReturn}
+use Rattle.uz_paths.specs.JoinedParts.{AreJoinedOf, joined_cert}
+use Rattle.uz_paths.specs.Rests.{rests_of}
+use Rattle.uz_paths.proofs.RestLemmas.{is_return}
 
 -- a return is told of but the vector's number
 again : (image : FinMap nat_cmp ℕ) (p : Program) (a b : Rest) → rest_unnumbered a ≡ rest_unnumbered b → IsReturn image p a → IsReturn image
@@ -50,3 +59,31 @@ found_joined image p entry a b same f = record {
           get_or_from_slice_get a.rests
               has.0 old.0 old.0 old.1,
         ))
+
+-- the certificate of joined points is what was asked
+pub found_parts : (image : FinMap nat_cmp ℕ) (p : Program) (entry : Entry) (found : Found) (parts : JoinedParts) (cert : Cert)
+    → cert ≡ joined_cert p parts → AreJoinedOf p entry found parts → IsEnded image p found
+    → ((x : Instance) → Among found.nodes.keys x → OnTrail image p x) → IsFoundBy image p entry cert
+found_parts image p entry found parts cert is a ended trails =
+    let plain : Cert = record {
+      head = p.head;
+      schedule = parts.schedule;
+      rests = rests_of found.returns.items;
+      entry = entry;
+      points = [];
+    } in
+    let found_plain : IsFoundBy image p entry plain = record {
+      head = refl;
+      lines = a.schedule.count;
+      lengths = a.schedule.lengths;
+      fall = a.schedule.falls;
+      enters = refl;
+      rests = is_return image p found (rests_of found.returns.items) refl ended trails;
+    } in
+    let same : SameButPoints plain (joined_cert p parts) = record {
+      head = refl;
+      schedule = refl;
+      entry = sym a.enters;
+      rests = sym a.rests;
+    } in
+    subst (IsFoundBy image p entry) (sym is) (found_joined image p entry plain (joined_cert p parts) same found_plain)

@@ -1,4 +1,3 @@
-pub mod EachLemmas
 pub mod NumberLemmas
 pub mod KindLemmas
 pub mod ProgramLemmas

@@ -1,9 +1,9 @@
 pub mod Certificate
 pub mod Finding
+pub mod JoinedParts
 pub mod Kinds
 pub mod Linked
 pub mod Numbers
-pub mod Points
 pub mod ProgramOf
 pub mod Rests
 pub mod Successors

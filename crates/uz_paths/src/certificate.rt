@@ -108,7 +108,7 @@ fn points_of(
 }
 
 /// An entry at the point of this number.
-fn with_id(entry: Entry, id: u32) -> Entry
+pub(crate) fn with_id(entry: Entry, id: u32) -> Entry
     ensures { result ≡ record entry { id = id } }
 {
     let mut entry = entry;
@@ -117,7 +117,7 @@ fn with_id(entry: Entry, id: u32) -> Entry
 }
 
 /// The schedule of an ended search is one of a certificate.
-fn made_schedule(
+pub(crate) fn made_schedule(
     alloc: Global,
     image: &Image,
     program: &Program,

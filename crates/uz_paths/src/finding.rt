@@ -11,6 +11,7 @@ ghost use Rattle.uz_paths.specs.Certificate.{IsEntry, ReturnsFromMain};
 ghost use Rattle.uz_paths.specs.Finding.{instance_limit, Cause, NoCause, IsFoundBy, IsAsked};
 
 use crate::certificate::{certificate_of, parts_of};
+use crate::joined::joined_certificate;
 use crate::program::program_of;
 use avr_asm::Hint;
 use std::alloc::{AllocError, Global};
@@ -74,8 +75,13 @@ fn find_by(alloc: Global, image: &Image, program: Program, entry: Entry) -> Resu
         Ok(found) => found,
         Err(refusal) => return Err(refusal),
     };
-    let cert = certificate(alloc, image, program, entry, &found)?;
-    Ok(joined(alloc, image, cert))
+    match joined_certificate(alloc, image, program, &entry, &found) {
+        Ok(cert) => Ok(cert),
+        Err(program) => {
+            let cert = certificate(alloc, image, program, entry, &found)?;
+            Ok(joined(alloc, image, cert))
+        }
+    }
 }
 
 /// Finds a certificate of an image by the hints of its source: one that `check` accepts with it, with the header, the lines, the fall and

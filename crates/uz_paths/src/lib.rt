@@ -3,10 +3,10 @@
 
 mod certificate;
 mod finding;
+mod joined;
 mod kinds;
 mod linking;
 mod numbers;
-mod points;
 mod program;
 mod rests;
 mod successors;

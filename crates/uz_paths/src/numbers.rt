@@ -8,12 +8,12 @@ ghost use Rattle.uz_schedule.specs.Schedule.{response_clocks};
 ghost use Rattle.uz_schedule.specs.declared.states.Rest.{Rest};
 ghost use Rattle.uz_paths.specs.Linked.{ArePoints};
 ghost use Rattle.uz_paths.specs.Numbers.{AreNumbers};
-ghost use Rattle.uz_paths.specs.Points.{AreOrdered, IsOrdered, point_of as point_for, vector_after as vector_for};
+ghost use Rattle.uz_join.specs.Points.{AreOrdered, IsOrdered, point_of as point_for, vector_after as vector_for};
 
-use crate::points::{point_of, vector_point};
 use crate::vectors::vector_of;
 use arrayvec::ArrayVec;
 use std::alloc::{AllocError, Global};
+use uz_join::{point_of, vector_point};
 use uz_schedule::{Instance, Point, Response, Rest, Schedule};
 use uz_search::last_clock;
 
@@ -50,8 +50,8 @@ fn bare_point(at: &Instance) -> Point
     point_of(at, ArrayVec::new())
 }
 
-/// The points of the rests' vectors.
-fn vectors_of(
+/// The points of the rests' vectors, without successors.
+pub(crate) fn vectors_of(
     alloc: Global,
     response: Response,
     schedule: &Schedule,

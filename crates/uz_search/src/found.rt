@@ -2,6 +2,7 @@
 
 use crate::marks::Mark;
 use crate::returns::Return;
+use crate::ways::Ways;
 use indexmap::IndexSet;
 use std::alloc::AllocError;
 use uz_rules::Fail;
@@ -59,4 +60,6 @@ pub struct Found {
     pub marks: Vec<Option<Mark>>,
     /// By line where the handler returns.
     pub returns: Vec<Option<Return>>,
+    /// Where each instance leads: a choice of speed, of which nothing is said.
+    pub ways: Ways,
 }

@@ -12,6 +12,7 @@ mod searching;
 mod stuck;
 mod trail;
 mod visited;
+mod ways;
 mod widening;
 
 pub use found::{Found, NotFound};
@@ -20,4 +21,5 @@ pub use marks::Mark;
 pub use program::{Program, last_clock, widened_copy};
 pub use returns::Return;
 pub use searching::search;
+pub use ways::Ways;
 pub use widening::Widening;

@@ -20,6 +20,7 @@ use crate::program::{Program, copied_starts, followers, starts_in_main};
 use crate::returns::is_without_return;
 use crate::trail::{node_at, trail_to};
 use crate::visited::add_all;
+use crate::ways::Ways;
 use indexmap::IndexSet;
 use std::alloc::{AllocError, Global};
 use uz_hex::Image;
@@ -91,7 +92,15 @@ fn step(
         )),
         Ok(()) => {
             let follow = followers(alloc, program, next)?;
-            add_all(&mut found.nodes, &mut found.parents, follow, Some(done))?;
+            found.ways.begin()?;
+            add_all(
+                &mut found.nodes,
+                &mut found.parents,
+                &mut found.ways,
+                follow,
+                Some(done),
+                !next.back,
+            )?;
             Ok(())
         }
     }
@@ -116,7 +125,8 @@ fn begin(alloc: Global, program: &Program) -> Result<Found, AllocError>
     let mut nodes = IndexSet::new(alloc);
     let mut parents = Vec::new(alloc);
     let starts = copied_starts(alloc, program.starts.as_slice())?;
-    add_all(&mut nodes, &mut parents, starts, None)?;
+    let mut ways = Ways::new(alloc);
+    add_all(&mut nodes, &mut parents, &mut ways, starts, None, false)?;
     let lines = program.lines();
     let marks = blank(alloc, line_start(lines))?;
     let returns = blank(alloc, u32::from(lines))?;
@@ -125,6 +135,7 @@ fn begin(alloc: Global, program: &Program) -> Result<Found, AllocError>
         parents,
         marks,
         returns,
+        ways,
     })
 }
 

@@ -5,40 +5,44 @@ ghost use Rattle.uz_search.specs.declared.program.Program.{Program};
 ghost use Rattle.uz_search.specs.Following.{Flash};
 ghost use Rattle.uz_search.specs.Visiting.{Adds, AddsAll, IsTree, ComeFrom};
 
+use crate::ways::Ways;
 use indexmap::IndexSet;
 use std::alloc::AllocError;
 use uz_schedule::{Instance, equal_instances_are_one};
 
-/// Adds an instance with its parent, unless it is there.
+/// Adds an instance with its parent, unless it is there. Answers its place.
 fn add(
     nodes: &mut IndexSet<Instance>,
     parents: &mut Vec<Option<u32>>,
     item: Instance,
     parent: Option<u32>,
-) -> Result<(), AllocError>
+) -> Result<usize, AllocError>
     ensures { OnOk result (Adds nodes.old.keys parents.old.items item parent nodes.new.keys parents.new.items) }
 {
     equal_instances_are_one();
-    let (_, added) = nodes.insert_full(item)?;
+    let (place, added) = nodes.insert_full(item)?;
     if added {
         parents.push(parent)?;
     }
-    Ok(())
+    Ok(place)
 }
 
-/// Adds each of these, which came from one parent or are starts.
+/// Adds each of these, which came from one parent or are starts, and notes their places where they are results that a point names.
 pub(crate) fn add_all(
     nodes: &mut IndexSet<Instance>,
     parents: &mut Vec<Option<u32>>,
+    ways: &mut Ways,
     items: Vec<Instance>,
     parent: Option<u32>,
+    named: bool,
 ) -> Result<(), AllocError>
     ensures { OnOk result ((image : Flash) (p : Program) →
         IsTree image p nodes.old.keys parents.old.items → ComeFrom image p nodes.old.keys parent items.items →
         AddsAll image p nodes.old.keys items.items nodes.new.keys parents.new.items) }
 {
     'each: for item in items {
-        add(nodes, parents, item, parent)?;
+        let place = add(nodes, parents, item, parent)?;
+        ways.put(place, named)?;
     }
     Ok(())
 }

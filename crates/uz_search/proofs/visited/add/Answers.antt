@@ -5,9 +5,9 @@ use Rattle.uz_search.proofs.visited.add.Goals as goal
 
 pub returns-else-added : goal.returns-else-added
 returns-else-added c =
-    let there = not_false _ (sym c.in_ok-added.ensures.added ∙ c.if-added.false) in
+    let there = not_false _ (sym c.in_ok-place.ensures.added ∙ c.if-added.false) in
     inl (
       among_from_Contains _ _ (Contains-list_any _ c.equal_instances_are_one.ensures c.args.nodes.now.keys c.args.item there),
-      c.in_ok-added.ensures.keys ∙ ap (λ b. if b then c.args.nodes.now.keys else c.args.nodes.now.keys ++ c.args.item ∷ []) there,
+      c.in_ok-place.ensures.keys ∙ ap (λ b. if b then c.args.nodes.now.keys else c.args.nodes.now.keys ++ c.args.item ∷ []) there,
       refl,
     )

@@ -11,5 +11,5 @@ each-preserved c =
       added = λ image program tree come. adds_more image program c.args.nodes.now.keys c.args.parent c.args.items.items c.each.yielded
           c.in-Some.item
           c.next.new.self.rest.items c.each.nodes.keys c.each.parents.items c.add.new.nodes.keys c.add.new.parents.items
-          (cut ∙ ap (λ r. c.each.yielded ++ r) rest) come (c.each.invariant.added image program tree come) c.in_ok-add.ensures;
+          (cut ∙ ap (λ r. c.each.yielded ++ r) rest) come (c.each.invariant.added image program tree come) c.in_ok-place.ensures;
     }

@@ -3,10 +3,10 @@
 ghost use Rattle.std.specs.Prelude.{◌≡◌, ◌<◌, ◌≤◌, ◌&&◌, length, map};
 ghost use Rattle.uz_schedule.specs.Instances.{hull_at, span_of_val};
 ghost use Rattle.uz_schedule.specs.WellFormed.{RangeFits, is_default_flag as default_flag, is_carry_and_zero_default as both_default};
-ghost use Rattle.uz_paths.specs.Points.{AreOrdered, AreOrderedVals, IsOrdered, IsOrderedVal, byte_fact as fact_of_byte};
-ghost use Rattle.uz_paths.specs.Points.{fact_of as fact_of_val, same_ends, range_fact as fact_of_range};
-ghost use Rattle.uz_paths.specs.Points.{pair_fact as fact_of_pair, pair_facts as facts_of_pairs, point_of as point_for};
-ghost use Rattle.uz_paths.specs.Points.{old_facts as facts_of_old, vector_point as vector_for};
+ghost use Rattle.uz_join.specs.Points.{AreOrdered, AreOrderedVals, IsOrdered, IsOrderedVal, byte_fact as fact_of_byte};
+ghost use Rattle.uz_join.specs.Points.{fact_of as fact_of_val, same_ends, range_fact as fact_of_range};
+ghost use Rattle.uz_join.specs.Points.{pair_fact as fact_of_pair, pair_facts as facts_of_pairs, point_of as point_for};
+ghost use Rattle.uz_join.specs.Points.{old_facts as facts_of_old, vector_point as vector_for};
 
 use arrayvec::ArrayVec;
 use uz_schedule::{Bit, Fact, Instance, Kind, PairFact, Point, Span, Val, Wide, hull};
@@ -93,7 +93,7 @@ fn span_of(val: &Val) -> Span
 }
 
 /// What the bytes of the pair say whose low register is `low`.
-fn hull_of(regs: &[Val; 32], low: usize) -> Wide
+pub(crate) fn hull_of(regs: &[Val; 32], low: usize) -> Wide
     requires { low < 31 }
     ensures { result ≡ hull_at regs.now low }
 {
@@ -163,8 +163,8 @@ fn byte_range(range: Span) -> Span
     Span::between(range.lo(), range.hi())
 }
 
-/// The point of an instance, with the numbers of the points where it leads.
-pub(crate) fn point_of(at: &Instance, next: ArrayVec<u32, 16>) -> Point
+/// The point of an instance at its line and count 0, with the numbers of the points where it leads. Takes no memory.
+pub fn point_of(at: &Instance, next: ArrayVec<u32, 16>) -> Point
     ensures is { result ≡ point_for at.now next.items }
     ensures ordered { IsOrdered at.now }
 {
@@ -201,7 +201,8 @@ fn old_facts() -> [Fact; 32]
 }
 
 /// The point of a handler's first states, where its interrupt is taken at the clocks 0 to 3 of a line, and the timer came to this OCR1A.
-pub(crate) fn vector_point(
+/// Takes no memory.
+pub fn vector_point(
     cells: &ArrayVec<Span, 16>,
     line: u16,
     response: u16,

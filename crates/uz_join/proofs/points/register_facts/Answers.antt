@@ -1,8 +1,8 @@
 use Rattle.std.proofs.Common.{arith, refl, subst, sym}
 use Rattle.std.proofs.lemmas.Grind.{common_steps}
-use Rattle.uz_paths.specs.Points.{IsOrderedVal}
-use Rattle.uz_paths.proofs.EachLemmas.{each_more, each_all}
-use Rattle.uz_paths.proofs.points.register_facts.Goals as goal
+use Rattle.uz_join.specs.Points.{IsOrderedVal}
+use Rattle.uz_join.proofs.EachLemmas.{each_more, each_all}
+use Rattle.uz_join.proofs.points.register_facts.Goals as goal
 
 pub loop-r-preserved : goal.loop-r-preserved
 loop-r-preserved c = record {

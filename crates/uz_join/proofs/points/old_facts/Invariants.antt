@@ -1,6 +1,6 @@
 use Rattle.std.proofs.Common.{◌≡◌, length, take}
-use Rattle.uz_paths.specs.Points.{old_facts}
-use Rattle.uz_paths.proofs.points.old_facts.Given as goal
+use Rattle.uz_join.specs.Points.{old_facts}
+use Rattle.uz_join.proofs.points.old_facts.Given as goal
 
 -- the first r registers
 abbrev pub invariant-loop-r : goal.invariant-loop-r

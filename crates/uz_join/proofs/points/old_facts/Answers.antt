@@ -1,7 +1,7 @@
 use Rattle.std.proofs.Common.{arith}
 use Rattle.std.proofs.lemmas.Grind.{common_steps}
-use Rattle.uz_paths.proofs.NumberLemmas.{old_facts_more}
-use Rattle.uz_paths.proofs.points.old_facts.Goals as goal
+use Rattle.uz_join.proofs.OldFacts.{old_facts_more}
+use Rattle.uz_join.proofs.points.old_facts.Goals as goal
 
 pub loop-r-preserved : goal.loop-r-preserved
 loop-r-preserved c =

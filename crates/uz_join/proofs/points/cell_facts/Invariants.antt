@@ -2,8 +2,8 @@ use Rattle.std.proofs.Common.{◌≡◌, ◌<◌, ℕ, Some, map, slice_get, tak
 use Rattle.arrayvec.specs.ArrayVec.{array_vec_len}
 use Rattle.uz_schedule.specs.Ends.{Ends}
 use Rattle.uz_schedule.specs.WellFormed.{RangeFits}
-use Rattle.uz_paths.specs.Points.{byte_fact}
-use Rattle.uz_paths.proofs.points.cell_facts.Given as goal
+use Rattle.uz_join.specs.Points.{byte_fact}
+use Rattle.uz_join.proofs.points.cell_facts.Given as goal
 
 -- one fact for each so far
 abbrev pub invariant-loop-range : goal.invariant-loop-range

@@ -1,7 +1,7 @@
 use Rattle.std.proofs.Common.{◌≡◌, ◌<◌, ℕ, Some, length, map, slice_get, take}
 use Rattle.uz_schedule.specs.declared.facts.Val.{Val}
-use Rattle.uz_paths.specs.Points.{IsOrderedVal, fact_of}
-use Rattle.uz_paths.proofs.points.register_facts.Given as goal
+use Rattle.uz_join.specs.Points.{IsOrderedVal, fact_of}
+use Rattle.uz_join.proofs.points.register_facts.Given as goal
 
 -- the first r facts are of the first r registers
 abbrev pub invariant-loop-r : goal.invariant-loop-r

@@ -1,8 +1,8 @@
 use Rattle.std.proofs.Common.{arith}
 use Rattle.std.proofs.lemmas.Grind.{common_steps}
 use Rattle.uz_schedule.specs.WellFormed.{RangeFits}
-use Rattle.uz_paths.proofs.EachLemmas.{each_more, each_all}
-use Rattle.uz_paths.proofs.points.cell_facts.Goals as goal
+use Rattle.uz_join.proofs.EachLemmas.{each_more, each_all}
+use Rattle.uz_join.proofs.points.cell_facts.Goals as goal
 
 pub loop-range-preserved : goal.loop-range-preserved
 loop-range-preserved c = record {

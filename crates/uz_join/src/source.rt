@@ -1,0 +1,135 @@
+//! What is joined: points that are made, and behind them those of instances, of which each is made where it is looked at.
+
+use crate::chains::{number_at, number_of};
+use crate::copies::copied_point;
+use crate::points::point_of;
+use arrayvec::ArrayVec;
+use uz_schedule::{Instance, Kind, Point};
+
+/// Points that are made, and behind them those of instances. An instance may be one of those that a made point stands for: then it has no
+/// point of its own.
+#[derive(Clone, Copy, Debug, Drop)]
+pub(crate) struct Source<'a> {
+    /// The points that are made.
+    pub(crate) made: &'a [Point],
+    /// The instances.
+    pub(crate) nodes: &'a [Instance],
+    /// Of each instance the number of its point.
+    pub(crate) numbers: &'a [u32],
+    /// Where in the places the part of each instance begins.
+    pub(crate) starts: &'a [u32],
+    /// The places of the instances where each instance leads, part after part.
+    pub(crate) places: &'a [u32],
+}
+
+impl<'a> Source<'a> {
+    /// Points alone.
+    pub(crate) fn of_points(made: &'a [Point]) -> Source<'a> {
+        Source {
+            made,
+            nodes: &[],
+            numbers: &[],
+            starts: &[],
+            places: &[],
+        }
+    }
+
+    /// How many numbers points may have.
+    pub(crate) fn count(&self) -> u32 {
+        number_of(self.made.len()).saturating_add(number_of(self.nodes.len()))
+    }
+
+    /// The number of the point of the instance at a place, where it has its own.
+    pub(crate) fn own_number(&self, place: u32) -> u32 {
+        number_of(self.made.len()).saturating_add(place)
+    }
+
+    /// The place of the instance whose own point has a number.
+    fn place(&self, id: u32) -> usize {
+        (id as usize).wrapping_sub(self.made.len())
+    }
+
+    /// Whether there is a point of this number.
+    pub(crate) fn is_there(&self, id: u32) -> bool {
+        match self.made.get(id as usize) {
+            Some(_) => true,
+            None => match self.numbers.get(self.place(id)) {
+                Some(number) => *number == id,
+                None => false,
+            },
+        }
+    }
+
+    /// How many points there are.
+    pub(crate) fn points(&self) -> usize {
+        let mut count: usize = 0;
+        for id in 0..self.count() {
+            if self.is_there(id) {
+                count = count.saturating_add(1);
+            }
+        }
+        count
+    }
+
+    /// The point of a number.
+    pub(crate) fn point(&self, id: u32) -> Option<Point> {
+        match self.made.get(id as usize) {
+            Some(point) => Some(copied_point(point)),
+            None => match self.nodes.get(self.place(id)) {
+                Some(at) => Some(point_of(at, ArrayVec::new())),
+                None => None,
+            },
+        }
+    }
+
+    /// The first line of a point.
+    pub(crate) fn line(&self, id: u32) -> u16 {
+        match self.made.get(id as usize) {
+            Some(point) => point.l0,
+            None => match self.nodes.get(self.place(id)) {
+                Some(at) => at.line,
+                None => u16::MAX,
+            },
+        }
+    }
+
+    /// The numbers of the points where the instance at a place leads, as many as a point may name.
+    pub(crate) fn next_of_node(&self, place: usize) -> ArrayVec<u32, 16> {
+        let mut next = ArrayVec::new();
+        let start = match self.starts.get(place) {
+            Some(start) => *start,
+            None => 0,
+        };
+        let end = match self.starts.get(place.wrapping_add(1)) {
+            Some(end) => *end,
+            None => number_of(self.places.len()),
+        };
+        for at in start..end {
+            let number = number_at(self.numbers, number_at(self.places, at));
+            let _full = next.try_push(number).is_err();
+        }
+        next
+    }
+
+    /// The numbers of the points where a point leads.
+    pub(crate) fn next(&self, id: u32) -> ArrayVec<u32, 16> {
+        match self.made.get(id as usize) {
+            Some(point) => {
+                let mut next = ArrayVec::new();
+                for number in point.next.as_slice() {
+                    let _full = next.try_push(*number).is_err();
+                }
+                next
+            }
+            None => self.next_of_node(self.place(id)),
+        }
+    }
+}
+
+/// Whether an instance may be joined with others line by line: it isn't of main.
+pub(crate) fn is_node_joinable(at: &Instance) -> bool {
+    match at.kind {
+        Kind::Main => false,
+        Kind::Handler | Kind::Alone => true,
+    }
+}
