@@ -1,9 +1,9 @@
 #!/usr/bin/env python3
 """What uzebox answers to small files that are cut or changed, worked out without it.
 
-    hostile_answers.py <crates/hostile_cases/stdin
+    hostile_answers.py <crates/command_cases/stdin
 
-reads the script of the program hostile_cases and prints the lines of its directives `cut` and `change`: how many runs there
+reads the script of the program command_cases and prints the lines of its directives `cut` and `change`: how many runs there
 were of each answer, and a sum over all answers in order. The readers below are written from docs/FORMATS.md, SOURCE.md,
 CERTIFICATES.md and MESSAGES.md, each as plainly as its text allows. Of the commands they know what the script's cases need:
 an assembler of LDI, RJMP and JMP, a machine that stands at `rjmp .-2`, and the check of an image without instructions."""

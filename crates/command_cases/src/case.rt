@@ -11,7 +11,7 @@ const NONE_FAILS: Fail = Fail { call: 0, keep: 0 };
 /// Files in memory, and the plan of the sinks.
 #[derive(Drop)]
 pub(crate) struct Case {
-    bench: Bench,
+    pub(crate) bench: Bench,
     sink: Fail,
 }
 
@@ -30,10 +30,17 @@ impl Case {
             self.bench.add_line(text)?;
             return Ok(());
         }
-        self.bench.end_file(alloc)?;
         match line.split_once(" ") {
-            Some((word, rest)) => self.act(rt, alloc, word, rest),
-            None => Ok(()),
+            Some(("+", digits)) => self.add_bytes(alloc, "1", digits),
+            Some(("*", rest)) => {
+                let (count, digits) = rest.split_once(" ").unwrap_or((rest, ""));
+                self.add_bytes(alloc, count, digits)
+            }
+            Some((word, rest)) => {
+                self.bench.end_file(alloc)?;
+                self.act(rt, alloc, word, rest)
+            }
+            None => Ok(self.bench.end_file(alloc)?),
         }
     }
 
@@ -48,6 +55,9 @@ impl Case {
             "run" => self.run(rt, alloc, rest)?,
             "show" => self.show(rt, rest)?,
             "bytes" => self.show_bytes(rt, rest)?,
+            "count" => self.count(rt, alloc, rest)?,
+            "cut" => self.cut(rt, alloc, rest)?,
+            "change" => self.change(rt, alloc, rest)?,
             _ => {}
         }
         Ok(())

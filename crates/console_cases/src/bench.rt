@@ -3,8 +3,9 @@
 use crate::command::Command;
 use crate::report::{print_edges, print_place, print_stop};
 use anyhow::Result;
+use arrayvec::ArrayVec;
 use std::alloc::{AllocError, Global};
-use uz_console::{Console, Progress, Response, SaveState, Turn};
+use uz_console::{Console, Paged, Response, SaveState, Turn};
 use uz_hex::Image;
 
 /// No clock of a case comes so far.
@@ -31,11 +32,14 @@ fn reset(alloc: Global, flash: &Image, irq: Response) -> Result<Console, AllocEr
 
 /// The run of so many clocks from reset, from where the console is.
 fn run(rt: &impl Print, console: &mut Console, clocks: u32) -> Result<()> {
+    let mut page = ArrayVec::new();
     for _ in 0..clocks {
-        match console.advance(u64::from(clocks)) {
-            Progress::Took { edges } => print_edges(rt, edges.as_slice())?,
-            Progress::Over => break,
-            Progress::Stopped(why) => {
+        let paged = console.advance_page(u64::from(clocks), &mut page);
+        print_edges(rt, page.as_slice())?;
+        match paged {
+            Paged::Full => {}
+            Paged::Over => break,
+            Paged::Stopped(why) => {
                 print_stop(rt, why)?;
                 break;
             }

@@ -3,12 +3,13 @@
 ghost use Rattle.std.specs.Prelude.{◌≡◌, ◌<◌, ◌≤◌, ◌+◌, ◌-◌, suc, length, slice_get, Some};
 ghost use Rattle.uz_schedule.specs.WellFormed.{WellFormed, BoxFits};
 ghost use Rattle.uz_line_families.specs.Untold.{RunsFrom, untold_of, untold};
+ghost use Rattle.uz_rules.specs.Visit.{IsVisit};
 ghost use Rattle.uz_check.specs.Refusal.{InstanceRefusal, LineRefusal, PointRefusal, PointsRefusal};
 
 use crate::refusal::RefusedWhy;
 use uz_hex::Image;
 use uz_line_families::{alike_runs, lines_fold, next_untold, reach_of};
-use uz_rules::local;
+use uz_rules::Visit;
 use uz_schedule::{Cert, Point};
 
 /// Why an instance is refused. It is looked at once.
@@ -19,14 +20,17 @@ fn instance_refusal(
     id: u32,
     l: u16,
     c: u8,
+    visit: &mut Visit,
     looked: &mut u64,
 ) -> Option<RefusedWhy>
     requires fits { WellFormed cert.now }
     requires point { id < length cert.now.points }
+    requires visit { IsVisit image.now cert.now id visit.old }
     ensures why { InstanceRefusal image.now cert.now id l c result }
     ensures one { looked.new ≤ looked.old + 1 }
+    ensures visit { IsVisit image.now cert.now id visit.new }
 {
-    match local(image, cert, id, l, c, looked) {
+    match visit.local(image, cert, id, l, c, looked) {
         Ok(()) => None,
         Err(why) => Some(RefusedWhy::Point { id, l, c, why }),
     }
@@ -40,17 +44,20 @@ fn line_refusal(
     id: u32,
     point: &Point,
     l: u16,
+    visit: &mut Visit,
     looked: &mut u64,
 ) -> Option<RefusedWhy>
     requires fits { WellFormed cert.now }
     requires point { id < length cert.now.points }
+    requires visit { IsVisit image.now cert.now id visit.old }
     requires counts { point.now.c1 ≤ 255 }
     requires order { point.now.c0 ≤ point.now.c1 }
     ensures first { LineRefusal image.now cert.now id point.now l result }
     ensures few { looked.new ≤ looked.old + (suc point.now.c1 - point.now.c0) }
+    ensures visit { IsVisit image.now cert.now id visit.new }
 {
     for c in u16::from(point.c0)..u16::from(point.c1) + 1 {
-        if let Some(why) = instance_refusal(image, cert, id, l, c as u8, looked) {
+        if let Some(why) = instance_refusal(image, cert, id, l, c as u8, visit, looked) {
             return Some(why);
         }
     }
@@ -76,9 +83,10 @@ fn point_refusal(
 {
     lines_fold();
     let reach = reach_of(cert, point);
+    let mut visit = Visit::begin(image, cert, id);
     let mut l = point.l0;
     'lines: while l <= point.l1 {
-        if let Some(why) = line_refusal(image, cert, id, point, l, looked) {
+        if let Some(why) = line_refusal(image, cert, id, point, l, &mut visit, looked) {
             return Some(why);
         }
         l = next_untold(cert, runs, reach, point, l + 1);

@@ -1,5 +1,5 @@
 -- The clocks of a turn's edges lie between the clocks of its states.
-use Rattle.std.proofs.Common.{◌≡◌, ℕ, ◌+◌, ◌≤◌, nat_le, Bool, true, false, cond, List, [], ◌∷◌, sym, subst, inl, inr, arith}
+use Rattle.std.proofs.Common.{◌≡◌, ℕ, ◌+◌, ◌≤◌, nat_le, Bool, true, false, cond, List, [], ◌∷◌, ◌++◌, refl, sym, subst, inl, inr, arith}
 use Rattle.std.specs.Prelude.{filter}
 use Rattle.uz_machine.specs.declared.Edge.{Edge}
 use Rattle.uz_machine.specs.declared.EdgeKind.{EdgeKind}
@@ -9,6 +9,7 @@ use Rattle.uz_machine.specs.Turn.{State, Turn, edges_at, entry_edges, instructio
 use Rattle.uz_machine.specs.Run.{edges_until}
 use Rattle.uz_console.specs.declared.console.Console.{Console}
 use Rattle.uz_console.specs.Consoles.{StandsFor, clock_of}
+use Rattle.uz_console.specs.Pages.{IsTimedPage}
 use Rattle.uz_console.specs.Runs.{AreTimed, RunsTo}
 use Rattle.uz_console.proofs.RunLemmas.{begins}
 
@@ -16,6 +17,16 @@ use Rattle.uz_console.proofs.RunLemmas.{begins}
 pub timed_earlier : (from earlier to : ℕ) (edges : List Edge) → earlier ≤ from → AreTimed from to edges → AreTimed earlier to edges
 timed_earlier from earlier to [] h t = omega arith
 timed_earlier from earlier to (e ∷ edges) h t = (let first = t.0 in omega arith, t.1)
+
+-- to a later clock
+pub timed_later : (from to later : ℕ) (edges : List Edge) → to ≤ later → AreTimed from to edges → AreTimed from later edges
+timed_later from to later [] h t = omega arith
+timed_later from to later (e ∷ edges) h t = (t.0, timed_later e.clock to later edges h t.1)
+
+-- and then those of a later time
+timed_append : (from mid to : ℕ) (edges more : List Edge) → AreTimed from mid edges → AreTimed mid to more → AreTimed from to (edges ++ more)
+timed_append from mid to [] more h g = timed_earlier mid from to more h g
+timed_append from mid to (e ∷ edges) more h g = (h.0, timed_append e.clock mid to edges more h.1 g)
 
 at_one_clock : (from clock to : ℕ) (kinds : List EdgeKind) → from ≤ clock → clock ≤ to → AreTimed from to (edges_at clock kinds)
 at_one_clock from clock to [] h g = omega arith
@@ -55,3 +66,15 @@ timed_on old mid new limit all more run on turn cut s stands =
     (timed_part (λ (edge : Edge). nat_le edge.clock limit) _ _ all
     (timed_earlier (clock_of mid) (clock_of old) (clock_of new) all on
     (subst (λ n. AreTimed n (clock_of new) all) (sym from) (subst (λ n. AreTimed (there.0).clock n all) (t.2).clock timed))))
+
+-- the edges of a page, and of one more turn, where turns without edges come before it
+pub page_timed_on : (limit : ℕ) (first here mid new : Console) (page all more : List Edge) → ((start : State PadHistory) (edges : List Edge)
+    → RunsTo limit start edges first → RunsTo limit start (edges ++ page) here) → ((start : State PadHistory) (edges : List Edge)
+    → RunsTo limit start edges here → RunsTo limit start edges mid) → clock_of here ≤ clock_of mid →
+    ((s : State PadHistory) → StandsFor mid s → (next : State PadHistory) × Turn history_wiring s all next × StandsFor new next)
+    → more ≡ page ++ edges_until limit all → IsTimedPage first here page → IsTimedPage first new more
+page_timed_on limit first here mid new page all more run quiet on turn added timed s stands =
+    let there = run s [] (begins first s limit stands) in
+    subst (AreTimed (clock_of first) (clock_of new)) (sym added)
+    (timed_append (clock_of first) (clock_of here) (clock_of new) page (edges_until limit all) (timed s stands)
+    (timed_on here mid new limit all (edges_until limit all) quiet on turn refl there.0 there.2))

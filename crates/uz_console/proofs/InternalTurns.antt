@@ -1,6 +1,6 @@
 -- Instructions that touch the core alone, one after another, are turns without edges.
 use Rattle.std.proofs.Common.{◌≡◌, ℕ, zero, suc, ◌+◌, ◌<◌, ◌≤◌, Bool, true, false, not, ◌&&◌, ◌||◌, if◌then◌else◌, List, [], ◌∷◌, ◌++◌}
-use Rattle.std.proofs.Common.{append-nil, refl, sym, ◌∙◌, ap, subst, inr, arith, add_assoc}
+use Rattle.std.proofs.Common.{append-nil, refl, sym, ◌∙◌, ap, subst, inl, inr, arith, add_assoc}
 use Rattle.std.proofs.lemmas.List.Elements.{filter-append}
 use Rattle.std.specs.Prelude.{nat_le}
 use Rattle.uz_machine.specs.declared.Edge.{Edge}
@@ -15,6 +15,7 @@ use Rattle.uz_machine.specs.Turn as machine
 use Rattle.uz_machine.specs.Run.{IsRunPart, edges_until}
 use Rattle.uz_timer.proofs.Counting.{clocks_add}
 use Rattle.uz_core.specs.Internals.{IsInternalStep, InternalRun, RunsInternally}
+use Rattle.uz_core.proofs.InternalSteps.{run_keeps_enabled}
 use Rattle.uz_core.proofs.PlainSteps.{result_of_step, step_time}
 use Rattle.uz_pads.specs.declared.pads.Pads.{Pads}
 use Rattle.uz_pads.specs.Pads.{pads_wiring}
@@ -22,11 +23,10 @@ use Rattle.uz_schedule.specs.declared.certificate.Cert.{Cert}
 use Rattle.uz_console.specs.declared.console.Console.{Console}
 use Rattle.uz_console.specs.Consoles.{StateStandsFor, StandsFor, state_of, clock_of}
 use Rattle.uz_console.specs.Entry.{NotEntered}
-use Rattle.uz_console.specs.Runs.{GoesQuietly}
 use Rattle.uz_console.specs.Approaches.{NotEnteredBefore}
 use Rattle.uz_console.specs.ManyTurns.{IsFree, LeadsTo}
 use Rattle.uz_console.proofs.ApproachLemmas.{none_before_more}
-use Rattle.uz_console.proofs.RunLemmas.{part_more, quiet_more, run_more}
+use Rattle.uz_console.proofs.RunLemmas.{part_more, run_more}
 use Rattle.uz_console.proofs.TurnLemmas.{carried_state}
 
 -- One instruction
@@ -64,6 +64,11 @@ due_stays t clocks same due =
     ap (λ m. m && bit_is_set (timer_after clocks t).interrupt_mask 1) same ∙
     (ap (λ m. t.matched && bit_is_set m 1) (mask_stays (is_counting t) t moved refl) ∙ due)
 
+-- nor is it taken where I is clear
+not_taken : (due enabled free : Bool) → enabled ≡ false → (due && enabled && free) ≡ false
+not_taken true enabled free h = ap (λ b. b && free) h
+not_taken false enabled free h = refl
+
 -- So many instructions
 
 -- the state after them: the first leaves nothing owed
@@ -83,7 +88,10 @@ reaches : (limit : ℕ) (t : State Pads) (free : ℕ) → IsFree limit t free �
 reaches limit t free is_free zero core clocks h run = record {
   image = refl;
   core_is = sym run.1;
-  idle = ap (λ d. d && bit_is_set t.core.sreg 7 && not t.is_owed) is_free.clear;
+  idle = elim is_free.idle [
+    | inl early ↦ ap (λ d. d && bit_is_set t.core.sreg 7 && not t.is_owed) early.clear
+    | inr masked ↦ not_taken (is_due t.space.timer) (bit_is_set t.core.sreg 7) (not t.is_owed) masked
+  ];
   clock = (let none = run.0 in omega (arith, none));
   on = λ next taken.
       let none = run.0 in
@@ -93,8 +101,12 @@ reaches limit t free is_free zero core clocks h run = record {
 reaches limit t free is_free (suc n) core clocks h run = record {
   image = refl;
   core_is = refl;
-  idle = ap (λ d. d && bit_is_set core.sreg 7 && true)
-      (due_stays t.space.timer clocks (is_free.stays clocks h) is_free.clear);
+  idle = elim is_free.idle [
+    | inl early ↦ ap (λ d. d && bit_is_set core.sreg 7 && true)
+        (due_stays t.space.timer clocks (early.stays clocks h) early.clear)
+    | inr masked ↦ not_taken (is_due (timer_after clocks t.space.timer)) (bit_is_set core.sreg 7) true
+        (run_keeps_enabled t.image (suc n) t.core core clocks run ∙ masked)
+  ];
   clock = refl;
   on = λ next taken.
       let by : Timer → ℕ → State Pads = λ timer clock.
@@ -177,12 +189,6 @@ leads limit watched old new passed free high is_free h n run moved below =
           subst (λ es. IsRunPart limit start es next) (append-nil edges) (part_more limit start s next edges [] p before turn) in
           let c = carries limit (λ x. IsRunPart limit start edges x) part_keeps t free is_free n (state_of new).core passed h run last
           stands part in (c.0, c.2, subst (λ u. to u c.0) moved c.1);
-      quiet = λ origin q s stands.
-          let l = q s stands in
-          let quiet_keeps : Keeps limit (λ x. GoesQuietly limit s x) = λ x next before turn at g.
-          quiet_more limit s x next g (before, turn) in
-          let c = carries limit (λ x. GoesQuietly limit s x) quiet_keeps t free is_free n (state_of new).core passed h run l.0 l.2 l.1 in
-          (c.0, c.2, subst (λ u. to u c.0) moved c.1);
       unmet = λ cert pc not s stands. elsewhere cert s watched high pc (subst (λ (core : Core). core.pc < 32768) (sym stands.core) below);
       unentered = λ cert pc not start edges before.
           let P : State PadHistory → Type 0 = λ x. PartUnentered cert limit start edges x × NotEntered cert x in

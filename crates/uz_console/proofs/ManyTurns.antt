@@ -1,5 +1,5 @@
 -- Turns one after another, up to one with edges.
-use Rattle.std.proofs.Common.{◌≡◌, ◌≢◌, ℕ, ◌+◌, ◌<◌, ◌≤◌, List, [], refl, sym, ◌∙◌, ap, subst, arith}
+use Rattle.std.proofs.Common.{◌≡◌, ◌≢◌, ℕ, ◌+◌, ◌<◌, ◌≤◌, List, [], ◌∷◌, refl, sym, ◌∙◌, ap, subst, arith}
 use Rattle.std.proofs.Common.{inl, inr}
 use Rattle.std.proofs.lemmas.Bool.{cases_lt}
 use Rattle.uz_machine.specs.declared.Edge.{Edge}
@@ -16,13 +16,12 @@ use Rattle.uz_console.specs.Consoles.{StateStandsFor, StandsFor, state_of, clock
 use Rattle.uz_console.specs.ManyTurns.{AreMade, LeadsTo}
 use Rattle.uz_console.specs.Turns.{Halts, IsMade, HasSome, TakesTime}
 use Rattle.uz_console.proofs.ApproachLemmas.{unentered_quietly}
-use Rattle.uz_console.proofs.RunLemmas.{goes_on_quietly, quietly_more}
+use Rattle.uz_console.proofs.RunLemmas.{goes_on_quietly}
 
 -- no turn yet
 pub leads_nowhere : (limit watched : ℕ) (console : Console) → LeadsTo limit watched console console
 leads_nowhere limit watched console = record {
   run = λ start edges run. run;
-  quiet = λ origin quiet. quiet;
   unmet = λ cert pc not. not;
   unentered = λ cert pc not start edges run. run;
   time = omega arith;
@@ -39,7 +38,6 @@ leads_on limit watched first old new quiet turn later within apart =
     let since : clock_of first ≤ clock_of old = quiet.time in
     record {
       run = λ start edges run. goes_on_quietly old new limit turn before start edges (quiet.run start edges run);
-      quiet = λ origin q. quietly_more limit origin old new (quiet.quiet origin q) turn before;
       unmet = λ cert pc not s stands p meets. apart (ap (λ (core : Core). core.pc) (sym stands.core) ∙ (meets.pc ∙ pc));
       unentered = λ cert pc not start edges run. unentered_quietly cert old new limit turn before (quiet.unmet cert pc not) start edges
           (quiet.unentered cert pc not start edges run);
@@ -54,9 +52,6 @@ leads_same limit watched old new e =
     let clock : clock_of new ≡ clock_of old = ap (λ (t : State Pads). t.clock) e in
     record {
       run = λ start edges (last, part, stands). (last, part, subst (λ t. StateStandsFor t last) (sym e) stands);
-      quiet = λ origin q s stands.
-          let l = q s stands in
-          (l.0, l.1, subst (λ t. StateStandsFor t l.0) (sym e) l.2);
       unmet = λ cert pc not s stands. not s (subst (λ t. StateStandsFor t s) e stands);
       unentered = λ cert pc not start edges run. record {
         last = run.last;
@@ -74,7 +69,6 @@ pub leads_further : (limit watched : ℕ) (first mid last : Console) → LeadsTo
     → LeadsTo limit watched first last
 leads_further limit watched first mid last a b = record {
   run = λ start edges run. b.run start edges (a.run start edges run);
-  quiet = λ origin quiet. b.quiet origin (a.quiet origin quiet);
   unmet = λ cert pc not. b.unmet cert pc (a.unmet cert pc not);
   unentered = λ cert pc not start edges run. b.unentered cert pc (a.unmet cert pc not) start edges
       (a.unentered cert pc not start edges run);
@@ -98,6 +92,8 @@ pub one_made : (watched : ℕ) (old new : Console) (edges : List Edge) (answer :
     → IsMade old new edges answer
 one_made watched old new edges made.Quiet h = subst (λ (t : State Pads). (s : State PadHistory) → StateStandsFor t s →
     (next : State PadHistory) × machine.Turn history_wiring s [] next × StandsFor new next) ((h.quiet).none (omega arith)) h.last
+one_made watched old new edges (made.Edge edge) h = subst (λ (t : State Pads). (s : State PadHistory) → StateStandsFor t s →
+    (next : State PadHistory) × machine.Turn history_wiring s (edge ∷ []) next × StandsFor new next) ((h.quiet).none (omega arith)) h.last
 one_made watched old new edges made.Edges h = subst (λ (t : State Pads). (s : State PadHistory) → StateStandsFor t s →
     (next : State PadHistory) × machine.Turn history_wiring s edges next × StandsFor new next) ((h.quiet).none (omega arith)) h.last
 one_made watched old new edges (made.Stopped why) h = subst (λ (t : State Pads). (state_of new ≡ t)
@@ -110,6 +106,8 @@ one_shows watched old new edges answer h = h.some
 pub one_takes : (watched : ℕ) (old new : Console) (edges : List Edge) (answer : Made) → AreMade 0 watched old new edges answer
     → TakesTime old new answer
 one_takes watched old new edges made.Quiet h = subst (λ (t : State Pads). (t.clock < clock_of new) × (clock_of new ≤ t.clock + 5))
+    ((h.quiet).none (omega arith)) h.time
+one_takes watched old new edges (made.Edge edge) h = subst (λ (t : State Pads). (t.clock < clock_of new) × (clock_of new ≤ t.clock + 5))
     ((h.quiet).none (omega arith)) h.time
 one_takes watched old new edges made.Edges h = subst (λ (t : State Pads). (t.clock < clock_of new) × (clock_of new ≤ t.clock + 5))
     ((h.quiet).none (omega arith)) h.time

@@ -7,7 +7,10 @@ use Rattle.uz_machine.specs.Turn.{State}
 use Rattle.uz_machine.specs.Turn as machine
 use Rattle.uz_machine.specs.Run.{edges_until}
 use Rattle.uz_console.specs.declared.console.Console.{Console}
+use Rattle.uz_console.specs.declared.paging.Paged.{Paged}
+use Rattle.uz_console.specs.declared.paging.Paged.TheVariants as paging
 use Rattle.uz_console.specs.Consoles.{StandsFor, clock_of}
+use Rattle.uz_console.specs.Pages.{IsPage}
 use Rattle.uz_console.specs.Runs.{RunsTo}
 use Rattle.uz_console.proofs.RunLemmas.{goes_on}
 
@@ -27,3 +30,10 @@ page_more limit mid new page all more turn e h start edges run =
     subst (λ p. RunsTo limit start (edges ++ p) new) (sym e)
     (subst (λ es. RunsTo limit start es new) (append_assoc edges page (edges_until limit all))
     (goes_on mid new limit all (edges_until limit all) turn refl h start (edges ++ page) run))
+
+-- however a page ends, the run has its edges too
+pub page_runs : (limit : ℕ) (old new : Console) (page : List Edge) (paged : Paged) → IsPage limit old new page paged
+    → (start : State PadHistory) (edges : List Edge) → RunsTo limit start edges old → RunsTo limit start (edges ++ page) new
+page_runs limit old new page paging.Full more = more
+page_runs limit old new page paging.Over ends = λ start edges run. (let end = ends start edges run in (end.0, (end.1).part, end.2))
+page_runs limit old new page (paging.Stopped why) ends = λ start edges run. (let end = ends start edges run in (end.0, (end.1).part, end.3))

@@ -1,5 +1,5 @@
 -- A run of so many clocks, turn by turn.
-use Rattle.std.proofs.Common.{◌≡◌, ◌≢◌, ℕ, zero, suc, ◌<◌, ◌≤◌, nat_le, List, [], ◌++◌, append_assoc, append-nil, refl, sym, ◌∙◌, ap, subst}
+use Rattle.std.proofs.Common.{◌≡◌, ℕ, zero, suc, ◌<◌, ◌≤◌, nat_le, List, [], ◌++◌, append_assoc, append-nil, refl, sym, ◌∙◌, ap, subst}
 use Rattle.std.proofs.lemmas.List.Elements.{filter-append}
 use Rattle.uz_machine.specs.declared.Edge.{Edge}
 use Rattle.uz_machine.specs.PadLine.{PadHistory}
@@ -12,7 +12,7 @@ use Rattle.uz_pads.specs.declared.pads.Pads.{Pads}
 use Rattle.uz_console.specs.declared.console.Console.{Console}
 use Rattle.uz_console.specs.Consoles.{StateStandsFor, StandsFor, state_of, clock_of}
 use Rattle.uz_console.specs.Turns.{Halts}
-use Rattle.uz_console.specs.Runs.{RunsTo, RunIsOver, GoesQuietly, Quietly}
+use Rattle.uz_console.specs.Runs.{RunsTo, RunIsOver}
 
 -- no turn yet
 pub begins : (console : Console) (start : State PadHistory) (limit : ℕ) → StandsFor console start → RunsTo limit start [] console
@@ -86,49 +86,3 @@ stops old new limit why same halts h start edges (last, part, stands) =
       halt,
       subst (λ (t : State Pads). StateStandsFor t last) (sym same) stands,
     )
-
--- Turns without edges
-
-pub quiet_more : (limit : ℕ) (s mid next : State PadHistory) → GoesQuietly limit s mid → TurnBefore limit mid [] next
-    → GoesQuietly limit s next
-quiet_more limit s mid next (n, run) turn = (suc n, run_more limit n s mid next [] [] run turn)
-
-pub quietly_begins : (limit : ℕ) (console : Console) → Quietly limit console console
-quietly_begins limit console s h = (s, (0, (refl, refl)), h)
-
-before_limit : (limit : ℕ) (console : Console) (s : State PadHistory) → StandsFor console s → clock_of console < limit → s.clock < limit
-before_limit limit console s stands h = subst (λ n. n < limit) (sym stands.clock) h
-
-pub quietly_more : (limit : ℕ) (first old new : Console) → Quietly limit first old →
-    ((s : State PadHistory) → StandsFor old s → (next : State PadHistory) × machine.Turn history_wiring s [] next × StandsFor new next)
-    → clock_of old < limit → Quietly limit first new
-quietly_more limit first old new quiet turn h s stands =
-    let q = quiet s stands in
-    let t = turn q.0 q.2 in
-    (t.0, quiet_more limit s q.0 t.0 q.1 (before_limit limit old q.0 q.2 h, t.1), t.2)
-
-pub next_shows : (limit : ℕ) (first old new : Console) (all more : List Edge) → Quietly limit first old →
-    ((s : State PadHistory) → StandsFor old s → (next : State PadHistory) × machine.Turn history_wiring s all next × StandsFor new next)
-    → all ≢ [] → more ≡ edges_until limit all → clock_of old < limit →
-    (s : State PadHistory) → StandsFor first s →
-    (mid : State PadHistory) × (shown : List Edge) × (next : State PadHistory) ×
-    GoesQuietly limit s mid × TurnBefore limit mid shown next × (shown ≢ []) × (more ≡ edges_until limit shown) × StandsFor new next
-next_shows limit first old new all more quiet turn some e h s stands =
-    let q = quiet s stands in
-    let t = turn q.0 q.2 in
-    (q.0, all, t.0, q.1, (before_limit limit old q.0 q.2 h, t.1), some, e, t.2)
-
-pub next_over : (limit : ℕ) (first old : Console) → Quietly limit first old → limit ≤ clock_of old →
-    (s : State PadHistory) → StandsFor first s → (last : State PadHistory) × GoesQuietly limit s last × (limit ≤ last.clock) × StandsFor old
-    last
-next_over limit first old quiet h s stands =
-    let q = quiet s stands in
-    (q.0, q.1, subst (λ n. limit ≤ n) (sym q.2.clock) h, q.2)
-
-pub next_stops : (limit : ℕ) (first old new : Console) (why : Why) → Quietly limit first old → state_of new ≡ state_of old
-    → ((s : State PadHistory) → StandsFor old s → Halts s why) → clock_of old < limit →
-    (s : State PadHistory) → StandsFor first s → (last : State PadHistory) × GoesQuietly limit s last × (last.clock < limit)
-    × Halts last why × StandsFor new last
-next_stops limit first old new why quiet same halts h s stands =
-    let q = quiet s stands in
-    (q.0, q.1, before_limit limit old q.0 q.2 h, halts q.0 q.2, subst (λ (t : State Pads). StateStandsFor t q.0) (sym same) q.2)

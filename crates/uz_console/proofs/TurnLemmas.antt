@@ -1,6 +1,6 @@
 -- A turn of the console, from its parts.
 use Rattle.std.proofs.Common.{◌≡◌, ◌≢◌, ℕ, ◌+◌, ◌<◌, ◌≤◌, Bool, true, false, not, ◌&&◌, ◌||◌, if◌then◌else◌, nat_le, List, refl, sym, ◌∙◌}
-use Rattle.std.proofs.Common.{ap, subst, inl, inr, lit<, lit≤, arith, []}
+use Rattle.std.proofs.Common.{ap, subst, inl, inr, lit<, lit≤, arith, [], ◌∷◌}
 use Rattle.std.specs.Ordering.{nat_cmp}
 use Rattle.std.specs.FinMap.{FinMap}
 use Rattle.std.proofs.lemmas.Bool.Decides.{nat_tests}
@@ -200,6 +200,8 @@ pub instructed : (old new : Console) (edges : List Edge) (answer : Made) → is_
     (state_of new) edges answer → IsMade old new edges answer
 instructed old new edges made.Quiet e h = carried old new []
     (inr (record { enters = e; row = h.0; reads = h.1.reads; runs = h.2; goes_to = h.3; emits = h.4 }))
+instructed old new edges (made.Edge edge) e h = carried old new (edge ∷ [])
+    (inr (record { enters = e; row = h.0; reads = h.1.reads; runs = h.2; goes_to = h.3; emits = h.4 }))
 instructed old new edges made.Edges e h = carried old new edges
     (inr (record { enters = e; row = h.0; reads = h.1.reads; runs = h.2; goes_to = h.3; emits = h.4 }))
 instructed old new edges (made.Stopped why) e h = (h.1, λ s stands. halts old s why stands e h.0)
@@ -223,25 +225,28 @@ later old new i runs goes =
 pub instructed_time : (old new : Console) (edges : List Edge) (answer : Made) → IsInstructed (state_of old) (state_of new) edges answer
     → TakesTime old new answer
 instructed_time old new edges made.Quiet h = later old new h.0 h.2 h.3
+instructed_time old new edges (made.Edge edge) h = later old new h.0 h.2 h.3
 instructed_time old new edges made.Edges h = later old new h.0 h.2 h.3
 instructed_time old new edges (made.Stopped why) h = ap (λ s. s.clock) h.1
 
--- a turn without edges, as one with an empty list of them
-pub quiet_turn : (old new : Console) (edges : List Edge) → edges ≡ [] →
-    ((s : State PadHistory) → console.StandsFor old s → (next : State PadHistory) × machine.Turn history_wiring s [] next
+-- a turn whose edges are those of a list
+pub same_edges : (old new : Console) (all edges : List Edge) → edges ≡ all →
+    ((s : State PadHistory) → console.StandsFor old s → (next : State PadHistory) × machine.Turn history_wiring s all next
     × console.StandsFor new next) →
     (s : State PadHistory) → console.StandsFor old s → (next : State PadHistory) × machine.Turn history_wiring s edges next
     × console.StandsFor new next
-quiet_turn old new edges e turn s h = let t = turn s h in (t.0, subst (λ es. machine.Turn history_wiring s es t.0) (sym e) t.1, t.2)
+same_edges old new all edges e turn s h = let t = turn s h in (t.0, subst (λ es. machine.Turn history_wiring s es t.0) (sym e) t.1, t.2)
 
 -- a turn whose edges aren't told
 
 pub passed : (old new : Console) (edges : List Edge) (answer : Made) → IsMade old new edges answer → IsPassed old new (stop_in answer)
 passed old new edges made.Quiet h = λ s stands. let t = h s stands in ([], t.0, t.1, t.2)
+passed old new edges (made.Edge edge) h = λ s stands. let t = h s stands in (edge ∷ [], t.0, t.1, t.2)
 passed old new edges made.Edges h = λ s stands. let t = h s stands in (edges, t.0, t.1, t.2)
 passed old new edges (made.Stopped why) h = h
 
 pub passed_time : (old new : Console) (answer : Made) → TakesTime old new answer → PassedTakesTime old new (stop_in answer)
 passed_time old new made.Quiet h = h
+passed_time old new (made.Edge edge) h = h
 passed_time old new made.Edges h = h
 passed_time old new (made.Stopped why) h = h

@@ -1,5 +1,5 @@
 -- Runs of so many clocks, a page of edges at a time.
-use Rattle.std.specs.Prelude.{ℕ, ◌<◌, ◌≤◌, List, ◌++◌, length}
+use Rattle.std.specs.Prelude.{ℕ, ◌+◌, ◌-◌, ◌*◌, ◌<◌, ◌≤◌, List, ◌++◌, length}
 use Rattle.uz_machine.specs.declared.Edge.{Edge}
 use Rattle.uz_machine.specs.PadLine.{PadHistory}
 use Rattle.uz_machine.specs.Turn.{State}
@@ -8,7 +8,7 @@ use Rattle.uz_console.specs.declared.console.Console.{Console}
 use Rattle.uz_console.specs.declared.paging.Paged.{Paged}
 use Rattle.uz_console.specs.declared.paging.Paged.TheVariants.{Full, Over, Stopped}
 use Rattle.uz_console.specs.Consoles.{StandsFor, clock_of}
-use Rattle.uz_console.specs.Runs.{RunsTo, RunIsOver}
+use Rattle.uz_console.specs.Runs.{AreTimed, RunsTo, RunIsOver}
 use Rattle.uz_console.specs.Turns.{Halts}
 
 -- Full: more turns of each run of which the console is a part, and the page has their edges. Over, Stopped: with these that run is at
@@ -33,3 +33,11 @@ abbrev pub PageMovesOn : ℕ → Console → Console → Paged → Type 0
 PageMovesOn limit old new Full = (clock_of old < clock_of new) × (clock_of old < limit)
 PageMovesOn limit old new Over = clock_of old ≤ clock_of new
 PageMovesOn limit old new (Stopped why) = clock_of old ≤ clock_of new
+
+-- the edges of a page lie between the clocks before it and after it
+abbrev pub IsTimedPage : Console → Console → List Edge → Type 0
+IsTimedPage old new page = (s : State PadHistory) → StandsFor old s → AreTimed (clock_of old) (clock_of new) page
+
+-- at most four edges a turn, each of which begins before the limit and takes a clock or more
+abbrev pub HasFewEdges : ℕ → Console → Console → List Edge → Type 0
+HasFewEdges limit old new page = (length page + 4 * clock_of old ≤ 4 * clock_of new) × (length page ≤ 4 * (limit - clock_of old))

@@ -1,5 +1,5 @@
 -- What a console's turn does.
-use Rattle.std.specs.Prelude.{◌≡◌, ◌≢◌, ℕ, ◌+◌, ◌<◌, ◌≤◌, List, [], IsFalse, Option, None, Some}
+use Rattle.std.specs.Prelude.{◌≡◌, ◌≢◌, ℕ, ◌+◌, ◌<◌, ◌≤◌, List, [], ◌∷◌, IsFalse, Option, None, Some}
 use Rattle.std.specs.Ordering.{nat_cmp}
 use Rattle.std.specs.FinMap.{FinMap}
 use Rattle.uz_hex.specs.Cells.{word_of}
@@ -79,6 +79,9 @@ abbrev pub IsInstructed : State Pads → State Pads → List Edge → Made → T
 IsInstructed old new edges made.Quiet =
     (i : Instr) × IsInstruction old.image old.core i × (effect_of i ≢ Stop) ×
     (new ≡ after_instruction pads_wiring i old) × ([] ≡ instruction_edges pads_wiring i old)
+IsInstructed old new edges (made.Edge edge) =
+    (i : Instr) × IsInstruction old.image old.core i × (effect_of i ≢ Stop) ×
+    (new ≡ after_instruction pads_wiring i old) × (edge ∷ [] ≡ instruction_edges pads_wiring i old)
 IsInstructed old new edges made.Edges =
     (i : Instr) × IsInstruction old.image old.core i × (effect_of i ≢ Stop) ×
     (new ≡ after_instruction pads_wiring i old) × (edges ≡ instruction_edges pads_wiring i old)
@@ -87,23 +90,28 @@ IsInstructed old new edges (made.Stopped why) = StopsAt old.image old.core why �
 abbrev pub IsMade : Console → Console → List Edge → Made → Type 0
 IsMade old new edges made.Quiet =
     (s : State PadHistory) → StandsFor old s → (next : State PadHistory) × machine.Turn history_wiring s [] next × StandsFor new next
+IsMade old new edges (made.Edge edge) =
+    (s : State PadHistory) → StandsFor old s → (next : State PadHistory) × machine.Turn history_wiring s (edge ∷ []) next × StandsFor new next
 IsMade old new edges made.Edges =
     (s : State PadHistory) → StandsFor old s → (next : State PadHistory) × machine.Turn history_wiring s edges next × StandsFor new next
 IsMade old new edges (made.Stopped why) = (state_of new ≡ state_of old) × ((s : State PadHistory) → StandsFor old s → Halts s why)
 
--- an answer with edges has some
+-- a list of edges has some
 abbrev pub HasSome : List Edge → Made → Type 0
 HasSome edges made.Quiet = Unit {0}
+HasSome edges (made.Edge edge) = Unit {0}
 HasSome edges made.Edges = edges ≢ []
 HasSome edges (made.Stopped why) = Unit {0}
 
 abbrev pub TakesTime : Console → Console → Made → Type 0
 TakesTime old new made.Quiet = (clock_of old < clock_of new) × (clock_of new ≤ clock_of old + 5)
+TakesTime old new (made.Edge edge) = (clock_of old < clock_of new) × (clock_of new ≤ clock_of old + 5)
 TakesTime old new made.Edges = (clock_of old < clock_of new) × (clock_of new ≤ clock_of old + 5)
 TakesTime old new (made.Stopped why) = clock_of new ≡ clock_of old
 
 -- why there is no turn, where there is none
 abbrev pub stop_in : Made → Option Why
 stop_in made.Quiet = None
+stop_in (made.Edge edge) = None
 stop_in made.Edges = None
 stop_in (made.Stopped why) = Some why

@@ -1,12 +1,12 @@
 //! Runs of so many clocks up to the first state that meets the entry condition of a certificate.
 
-ghost use Rattle.std.specs.Prelude.{◌≤◌, ◌^◌};
+ghost use Rattle.std.specs.Prelude.{◌≡◌, ◌≤◌, ◌^◌, IsTrue};
+ghost use Rattle.uz_machine.specs.Run.{edges_until};
 ghost use Rattle.uz_schedule.specs.WellFormed.{WellFormed};
 ghost use Rattle.uz_console.specs.Approaches.{ApproachIsTimed, ApproachMovesOn, IsApproach};
 
 use crate::Console;
-use crate::running::in_time;
-use crate::turn::Made;
+use crate::turn::{Made, put};
 use arrayvec::ArrayVec;
 use uz_core::Why;
 use uz_machine::Edge;
@@ -23,6 +23,34 @@ pub enum Approach {
     Over,
     /// The next turn begins before the limit, and there is none; no state meets it.
     Stopped(Why),
+}
+
+/// Whether every edge is of clock at most the limit.
+fn all_in_time(edges: &[Edge], limit: u64) -> bool
+    ensures { IsTrue result → edges_until limit edges.now ≡ edges.now }
+{
+    for edge in edges {
+        if edge.clock > limit {
+            return false;
+        }
+    }
+    true
+}
+
+/// The edges of clock at most the limit.
+fn in_time(edges: ArrayVec<Edge, 4>, limit: u64) -> ArrayVec<Edge, 4>
+    ensures { result.items ≡ edges_until limit edges.items }
+{
+    if all_in_time(edges.as_slice(), limit) {
+        return edges;
+    }
+    let mut kept = ArrayVec::new();
+    for edge in edges.as_slice() {
+        if edge.clock <= limit {
+            kept.push(*edge);
+        }
+    }
+    kept
 }
 
 impl Console {
@@ -42,6 +70,12 @@ impl Console {
             }
             match self.make_turns(limit, cert.entry.pc, &mut edges) {
                 Made::Quiet => {}
+                Made::Edge(edge) => {
+                    put(&mut edges, edge);
+                    return Approach::Took {
+                        edges: in_time(edges, limit),
+                    };
+                }
                 Made::Edges => {
                     return Approach::Took {
                         edges: in_time(edges, limit),

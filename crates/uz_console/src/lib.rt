@@ -8,7 +8,6 @@ mod entry;
 mod laws;
 mod paging;
 mod passing;
-mod running;
 mod turn;
 
 pub use approach::Approach;
@@ -16,6 +15,5 @@ pub use console::Console;
 pub use copying::{SaveState, run_keeps_console};
 pub use laws::{reset_is_in_range, run_is_unique, run_keeps_states, turn_is_unique};
 pub use paging::{PAGE, Paged};
-pub use running::Progress;
 pub use turn::Turn;
 pub use uz_schedule::Response;

@@ -1,9 +1,9 @@
 //! Runs of so many clocks, a page of edges at a time.
 
-ghost use Rattle.std.specs.Prelude.{◌≡◌, ◌≤◌, ◌+◌, ◌^◌, ◌++◌, length};
+ghost use Rattle.std.specs.Prelude.{◌≡◌, ◌<◌, ◌≤◌, ◌+◌, ◌^◌, ◌∷◌, [], ◌++◌, length};
 ghost use Rattle.arrayvec.specs.ArrayVec.{array_vec_len};
 ghost use Rattle.uz_machine.specs.Run.{edges_until};
-ghost use Rattle.uz_console.specs.Pages.{IsPage, PageIsFull, PageMovesOn};
+ghost use Rattle.uz_console.specs.Pages.{HasFewEdges, IsPage, IsTimedPage, PageIsFull, PageMovesOn};
 
 use crate::Console;
 use crate::turn::{Made, NOWHERE};
@@ -25,16 +25,26 @@ pub enum Paged {
     Stopped(Why),
 }
 
-/// Adds the edges of clock at most the limit.
+/// Adds an edge of clock at most the limit.
 #[inline(always)]
+fn add_edge(page: &mut ArrayVec<Edge, PAGE>, edge: Edge, limit: u64)
+    requires { array_vec_len page.old < 64 }
+    ensures added { page.new.items ≡ page.old.items ++ edges_until limit (edge ∷ []) }
+    ensures few { length page.new.items ≤ length page.old.items + 1 }
+{
+    if edge.clock <= limit {
+        page.push(edge);
+    }
+}
+
+/// Adds the edges of clock at most the limit.
 fn add_in_time(page: &mut ArrayVec<Edge, PAGE>, edges: &[Edge], limit: u64)
     requires { array_vec_len page.old + length edges.now ≤ 64 }
-    ensures { page.new.items ≡ page.old.items ++ edges_until limit edges.now }
+    ensures added { page.new.items ≡ page.old.items ++ edges_until limit edges.now }
+    ensures few { length page.new.items ≤ length page.old.items + length edges.now }
 {
     for edge in edges {
-        if edge.clock <= limit {
-            page.push(*edge);
-        }
+        add_edge(page, *edge, limit);
     }
 }
 
@@ -46,6 +56,8 @@ impl Console {
         ensures run { IsPage limit self.old self.new page.new.items result }
         ensures full { PageIsFull page.new.items result }
         ensures time { PageMovesOn limit self.old self.new result }
+        ensures edges { IsTimedPage self.old self.new page.new.items }
+        ensures few { HasFewEdges limit self.old self.new page.new.items }
     {
         page.clear();
         let mut edges = ArrayVec::new();
@@ -55,6 +67,7 @@ impl Console {
             }
             match self.make_turns(limit, NOWHERE, &mut edges) {
                 Made::Quiet => {}
+                Made::Edge(edge) => add_edge(page, edge, limit),
                 Made::Edges => add_in_time(page, edges.as_slice(), limit),
                 Made::Stopped(why) => return Paged::Stopped(why),
             }

@@ -15,6 +15,7 @@ fn stop_of(made: Made) -> Option<Why>
 {
     match made {
         Made::Quiet => None,
+        Made::Edge(_) => None,
         Made::Edges => None,
         Made::Stopped(why) => Some(why),
     }

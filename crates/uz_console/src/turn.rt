@@ -7,7 +7,7 @@ ghost use Rattle.uz_machine.specs.declared.EdgeKind.TheVariants.{Leave};
 ghost use Rattle.uz_pads.specs.Pads.{pads_wiring};
 ghost use Rattle.uz_ports.specs.Boards.{held_of, content_of, space_of, entered_of, entry_edge, clock_of as board_clock};
 ghost use Rattle.uz_console.specs.Consoles.{clock_of, state_of};
-ghost use Rattle.uz_console.specs.ManyTurns.{AreMade, IsFree, LeadsTo};
+ghost use Rattle.uz_console.specs.ManyTurns.{AreMade, IsFree, IsIdle, LeadsTo};
 ghost use Rattle.uz_console.specs.Turns.{IsTurn, TurnTakesTime, IsMade, HasSome, TakesTime, IsBoardStep, IsInstructed};
 
 use crate::Console;
@@ -26,16 +26,21 @@ pub enum Turn {
     Stopped(Why),
 }
 
-/// What a turn did, without its edges: most turns have none, and no list is made or moved for them.
+/// What a turn did: most turns have no edge, most others one, and no list is made or moved for them.
 #[derive(Clone, Copy)]
 pub(crate) enum Made {
     /// A turn without edges.
     Quiet,
+    /// A turn with this edge alone.
+    Edge(Edge),
     /// A turn with edges, which the caller's list now has.
     Edges,
     /// Nothing.
     Stopped(Why),
 }
+
+/// No more clocks are asked for at once where the interrupt can't be taken.
+const MOST_IDLE: u32 = 65_536;
 
 /// A pc that no console has.
 pub(crate) const NOWHERE: u16 = 0xFFFF;
@@ -55,8 +60,7 @@ fn finish(board: &mut Board, clocks: u8, returned: bool, edges: &mut ArrayVec<Ed
 }
 
 /// One edge in place of what the list has.
-#[inline(always)]
-fn put(edges: &mut ArrayVec<Edge, 4>, edge: Edge)
+pub(crate) fn put(edges: &mut ArrayVec<Edge, 4>, edge: Edge)
     ensures { edges.new.items ≡ edge ∷ [] }
 {
     edges.clear();
@@ -103,10 +107,7 @@ impl Console {
             Some((store, clocks)) => {
                 self.owed = false;
                 match self.board.finish_with(clocks, store) {
-                    Some(edge) => {
-                        put(edges, edge);
-                        Made::Edges
-                    }
+                    Some(edge) => Made::Edge(edge),
                     None => Made::Quiet,
                 }
             }
@@ -160,7 +161,24 @@ impl Console {
         }
     }
 
-    /// So many clocks may pass by instructions that touch the core alone: up to the limit, before the interrupt can be due, and where
+    /// So many clocks may pass before the interrupt can be taken, at most 65,536: where I is clear it can't be, since no instruction
+    /// that touches the core alone sets I.
+    #[inline(always)]
+    fn idle_clocks(&self) -> u32
+        ensures most { result ≤ 65536 }
+        ensures idle { 0 < result → IsIdle (state_of self.now) result }
+    {
+        let timer = self.board.timer();
+        if self.cpu.sreg() >> 7 & 1 == 0 {
+            MOST_IDLE
+        } else if timer.due() {
+            0
+        } else {
+            timer.left()
+        }
+    }
+
+    /// So many clocks may pass by instructions that touch the core alone: up to the limit, before the interrupt can be taken, and where
     /// no pc is watched.
     #[inline(always)]
     fn undisturbed(&self, limit: u64, watched: u16) -> u32
@@ -168,17 +186,16 @@ impl Console {
         ensures watched { 0 < result → 32768 ≤ watched }
         ensures free { 0 < result → IsFree limit (state_of self.now) result }
     {
-        let timer = self.board.timer();
         let clock = self.board.clock();
-        if watched < FLASH_WORDS || limit <= clock || timer.due() {
+        if watched < FLASH_WORDS || limit <= clock {
             return 0;
         }
         let rest = limit - clock;
-        let left = timer.left();
-        if rest < u64::from(left) {
+        let idle = self.idle_clocks();
+        if rest < u64::from(idle) {
             rest as u32
         } else {
-            left
+            idle
         }
     }
 
@@ -213,6 +230,7 @@ impl Console {
             self.run_internal(limit, watched);
             match self.make(edges) {
                 Made::Quiet => {}
+                Made::Edge(edge) => return Made::Edge(edge),
                 Made::Edges => return Made::Edges,
                 Made::Stopped(why) => return Made::Stopped(why),
             }
@@ -245,6 +263,10 @@ impl Console {
             Made::Quiet => Turn::Took {
                 edges: ArrayVec::new(),
             },
+            Made::Edge(edge) => {
+                put(&mut edges, edge);
+                Turn::Took { edges }
+            }
             Made::Edges => Turn::Took { edges },
             Made::Stopped(why) => Turn::Stopped(why),
         }

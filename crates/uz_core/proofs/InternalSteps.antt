@@ -1,6 +1,6 @@
 -- Instructions that touch the core alone are steps of the machine.
-use Rattle.std.proofs.Common.{◌≡◌, ◌≢◌, ℕ, suc, ◌+◌, ◌%◌, ◌<◌, Bool, true, false, if◌then◌else◌, []}
-use Rattle.std.proofs.Common.{refl, sym, ◌∙◌, ap, subst}
+use Rattle.std.proofs.Common.{◌≡◌, ◌≢◌, ℕ, zero, suc, ◌+◌, ◌%◌, ◌<◌, Bool, true, false, if◌then◌else◌, []}
+use Rattle.std.proofs.Common.{refl, sym, ◌∙◌, ap, subst, arith}
 use Rattle.std.specs.Prelude.{filter}
 use Rattle.std.specs.Ordering.{nat_cmp}
 use Rattle.std.specs.FinMap.{FinMap}
@@ -12,11 +12,14 @@ use Rattle.avr_table.specs.Rows.{words_of, clocks_of}
 use Rattle.uz_machine.specs.declared.Effect.{Effect}
 use Rattle.uz_machine.specs.declared.Effect.TheVariants.{Stop}
 use Rattle.uz_machine.specs.Effects.{effect_of}
-use Rattle.uz_machine.specs.Core.{Core, bit_equals, changed_core, load_addresses}
+use Rattle.uz_machine.specs.Arithmetic.{bit_is_set, decrement_of, increment_of, logical_shift_of, product_of, rotation_of}
+use Rattle.uz_machine.specs.Core.{Core, add_to_pair_result, binary_result, bit_equals, changed_core, load_addresses, operand_value}
+use Rattle.uz_machine.specs.Core.{pair, register, unary_result}
 use Rattle.uz_machine.specs.Core.{stores_of, outcome_of, next_pc, owes_instruction, returns_from_interrupt}
 use Rattle.uz_machine.specs.Core.{leaves_core}
 use Rattle.uz_machine.specs.OperandRanges.{EffectFits}
 use Rattle.uz_machine.proofs.EffectRanges.{effect_fits}
+use Rattle.uz_core.proofs.SregBits.{binary_seven, bit_of_with_bit, enabled_kept, pair_seven, unary_seven}
 use Rattle.uz_core.specs.declared.internal.Action.{Action}
 use Rattle.uz_core.specs.declared.internal.Action.TheVariants as action
 use Rattle.uz_core.specs.declared.internal.Internal.{Internal}
@@ -25,7 +28,7 @@ use Rattle.uz_core.specs.RowClocks.{clocks_in}
 use Rattle.uz_core.specs.Programs.{IsDecoded, IsInstructionAt, IsReading}
 use Rattle.uz_core.specs.declared.decoded.Reading.TheVariants as reading
 use Rattle.uz_core.specs.Internals.{effect_in, target_in, pc_in, clocks_taken, IsInternal, core_in, clocks_of_internal}
-use Rattle.uz_core.specs.Internals.{IsInternalStep, RunsInternally}
+use Rattle.uz_core.specs.Internals.{InternalRun, IsInternalStep, RunsInternally}
 
 -- An action's effect
 
@@ -182,6 +185,31 @@ takes (action.Branch flag set offset) image words s clocks next taken n t = by_f
 takes (action.JumpTo address) image words s clocks next taken n t = n
 takes (action.JumpBy offset) image words s clocks next taken n t = n
 
+-- the bit of interrupts stays as it is
+keeps_enabled : (a : Action) (s : Core) → bit_is_set (changed_core (effect_in a) map.empty 0 [] s).sreg 7 ≡ bit_is_set s.sreg 7
+keeps_enabled action.Nothing s = refl
+keeps_enabled (action.CopyRegister d r) s = refl
+keeps_enabled (action.CopyConstant d k) s = refl
+keeps_enabled (action.CopyPair d r) s = refl
+keeps_enabled (action.Binary op d source true) s =
+    enabled_kept (binary_result op (register s d) (operand_value source s) s.sreg) s.sreg (binary_seven op _ _ s.sreg)
+keeps_enabled (action.Binary op d source false) s =
+    enabled_kept (binary_result op (register s d) (operand_value source s) s.sreg) s.sreg (binary_seven op _ _ s.sreg)
+keeps_enabled (action.Increment d) s = enabled_kept (increment_of (register s d)) s.sreg refl
+keeps_enabled (action.Decrement d) s = enabled_kept (decrement_of (register s d)) s.sreg refl
+keeps_enabled (action.ShiftRight d) s = enabled_kept (logical_shift_of (register s d)) s.sreg refl
+keeps_enabled (action.RotateRight d) s = enabled_kept (rotation_of (register s d) (bit_is_set s.sreg 0)) s.sreg refl
+keeps_enabled (action.Unary op d) s = enabled_kept (unary_result op (register s d) s.sreg) s.sreg (unary_seven op _ s.sreg)
+keeps_enabled (action.AddToPair d constant subtract) s =
+    enabled_kept (add_to_pair_result subtract (pair s d) constant) s.sreg (pair_seven subtract _ constant)
+keeps_enabled (action.Multiply d r d_signed r_signed shifted) s =
+    enabled_kept (product_of (register s d) (register s r) d_signed r_signed shifted) s.sreg refl
+keeps_enabled (action.LoadBit d bit) s = refl
+keeps_enabled (action.StoreBit d bit) s = bit_of_with_bit 6 7 s.sreg (bit_is_set (register s d) bit) (omega arith) (omega arith)
+keeps_enabled (action.Branch flag set offset) s = refl
+keeps_enabled (action.JumpTo address) s = refl
+keeps_enabled (action.JumpBy offset) s = refl
+
 -- its operands are in range
 pub internal_fits : (image : FinMap nat_cmp ℕ) (at : ℕ) (internal : Internal) → IsReading image at (reading.Internal internal)
     → EffectFits (effect_in internal.action)
@@ -241,6 +269,7 @@ internal_step image i internal s next passed at runs h core took below =
         clocks_are = d.clocks_are;
       };
       below = below;
+      enabled = ap (λ (t : Core). bit_is_set t.sreg 7) core ∙ keeps_enabled internal.action s;
     }
 
 pub step_read : (image : FinMap nat_cmp ℕ) (internal : Internal) (s next : Core) (passed : ℕ) →
@@ -257,3 +286,10 @@ runs_nowhere image s = (0, (refl, refl))
 pub runs_on : (image : FinMap nat_cmp ℕ) (s mid last : Core) (before taken : ℕ) → RunsInternally image s before mid →
     IsInternalStep image mid last taken → RunsInternally image s (before + taken) last
 runs_on image s mid last before taken run step = (suc run.0, (mid, before, taken, run.1, step, refl))
+
+-- I stays as it is on the way
+pub run_keeps_enabled : (image : FinMap nat_cmp ℕ) (n : ℕ) (s last : Core) (clocks : ℕ) → InternalRun image n s clocks last
+    → bit_is_set last.sreg 7 ≡ bit_is_set s.sreg 7
+run_keeps_enabled image zero s last clocks run = ap (λ (t : Core). bit_is_set t.sreg 7) run.1
+run_keeps_enabled image (suc n) s last clocks (mid, before, taken, run, step, sum) =
+    step.enabled ∙ run_keeps_enabled image n s mid before run

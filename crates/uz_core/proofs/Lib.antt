@@ -1,3 +1,4 @@
+pub mod SregBits
 pub mod Decoding
 pub mod InternalSteps
 pub mod PlainSteps

@@ -10,6 +10,7 @@ use Rattle.uz_machine.specs.declared.UnaryOp.TheVariants as unary
 use Rattle.uz_machine.specs.declared.JumpTarget.TheVariants.{Absolute, Relative}
 use Rattle.uz_machine.specs.declared.Effect.{Effect}
 use Rattle.uz_machine.specs.declared.Effect.TheVariants as effect
+use Rattle.uz_machine.specs.Arithmetic.{bit_is_set}
 use Rattle.uz_machine.specs.Core.{Core, bit_equals, changed_core}
 use Rattle.uz_core.specs.declared.internal.Action.{Action}
 use Rattle.uz_core.specs.declared.internal.Action.TheVariants as action
@@ -73,10 +74,11 @@ clocks_of_internal internal s = clocks_taken internal.action internal.next inter
 
 -- By the machine's definitions
 
--- one instruction that touches the core alone, in so many clocks
+-- one instruction that touches the core alone, in so many clocks: I stays as it is
 pub record IsInternalStep (image : FinMap nat_cmp ℕ) (s next : Core) (clocks : ℕ) : Type 0 where
   pub step : IsPlainStep image s next [] clocks
   pub below : next.pc < 32768
+  pub enabled : bit_is_set next.sreg 7 ≡ bit_is_set s.sreg 7
 
 -- so many of them one after another, in so many clocks
 abbrev pub InternalRun : FinMap nat_cmp ℕ → ℕ → Core → ℕ → Core → Type 0

@@ -34,14 +34,8 @@ pub(crate) struct Decoded {
     /// The clocks from the instruction's start to where its loads are sampled.
     pub(crate) late: u8,
     pub(crate) clocks: Clocks,
-    /// Whether one more instruction is made before the next interrupt.
-    pub(crate) owed: bool,
-    /// Whether it is RETI.
-    pub(crate) returned: bool,
     ghost short: { words < 3 },
     ghost late_is: { late ≡ sample_clock effect (clocks_in clocks) },
-    ghost owed_is: { owed ≡ owes_instruction effect },
-    ghost returned_is: { returned ≡ returns_from_interrupt effect },
 }
 
 /// What is read at a word of the flash.
@@ -100,8 +94,6 @@ impl Decoded {
             words: words(i),
             late: sample_clock(effect, clocks),
             clocks,
-            owed: owes_instruction(effect),
-            returned: returns_from_interrupt(effect),
         }
     }
 }
@@ -158,7 +150,8 @@ fn sample_clock(e: Effect, clocks: Clocks) -> u8
     }
 }
 
-fn owes_instruction(e: Effect) -> bool
+/// Whether one more instruction is made before the next interrupt.
+pub(crate) fn owes_instruction(e: Effect) -> bool
     ensures { result ≡ owes_instruction e }
 {
     match e {
@@ -168,7 +161,8 @@ fn owes_instruction(e: Effect) -> bool
     }
 }
 
-fn returns_from_interrupt(e: Effect) -> bool
+/// Whether it is RETI.
+pub(crate) fn returns_from_interrupt(e: Effect) -> bool
     ensures { result ≡ returns_from_interrupt e }
 {
     match e {

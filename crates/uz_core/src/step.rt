@@ -11,7 +11,7 @@ ghost use Rattle.uz_core.specs.Programs.{IsReading, decoded_result};
 ghost use Rattle.uz_core.specs.Steps.{IsStep};
 ghost use Rattle.uz_core.specs.declared.step.Step.TheVariants.{Took};
 
-use crate::decoded::{Decoded, Reading};
+use crate::decoded::{Decoded, Reading, owes_instruction, returns_from_interrupt};
 use crate::instruction::bit_equals;
 use crate::operation::{I, with_bit};
 use crate::program::{Program, read_at};
@@ -164,8 +164,8 @@ impl Cpu {
         let outcome = self.perform(&decoded.effect, flash, decoded.words, decoded.late, space);
         Step::Took {
             clocks: decoded.clocks.at(outcome),
-            owed: decoded.owed,
-            returned: decoded.returned,
+            owed: owes_instruction(decoded.effect),
+            returned: returns_from_interrupt(decoded.effect),
         }
     }
 

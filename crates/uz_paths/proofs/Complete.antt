@@ -37,7 +37,7 @@ use Rattle.uz_search.proofs.VisitingLemmas.{some_is}
 use Rattle.uz_search_laws.specs.Complete.{EndedFallsOnce, EndedLevels, EndedLevelsFit, EndedRestsAreQuiet, EndedRestsEnter, HasSuccessors}
 use Rattle.uz_search_laws.specs.Limits.{EndedWithinLimits, IsWithinLimits, LiesInWidened}
 use Rattle.uz_search_laws.specs.Made as made_of
-use Rattle.uz_search_accepted.specs.Accepting.{ArePointsOf, EndedAccepts, IsRestOf, StandsFor}
+use Rattle.uz_search_laws.specs.Accepting.{ArePointsOf, EndedAccepts, IsRestOf, StandsFor}
 use Rattle.uz_paths.specs.declared.certificate.Parts.{Parts}
 use Rattle.uz_paths.specs.Certificate.{ArePartsOf, IsEntry, ReturnsFromMain, cert_of}
 use Rattle.uz_paths.specs.Linked.{AreEntered, NamesFit, NamesResults, first_after}

@@ -20,10 +20,9 @@ use uz_join::joined;
 use uz_rules::{known_in_itself, place_holds, place_tells};
 use uz_schedule::{Cert, Entry, Response, event_by_line};
 use uz_search::{Found, NotFound, Program, nodes_are_reached, search};
-use uz_search_accepted::ended_accepts;
 use uz_search_laws::{
-    ended_falls_once, ended_levels, ended_levels_fit, ended_rests_are_quiet, ended_rests_enter,
-    ended_within_limits, lies_in_widened,
+    ended_accepts, ended_falls_once, ended_levels, ended_levels_fit, ended_rests_are_quiet,
+    ended_rests_enter, ended_within_limits, lies_in_widened,
 };
 
 /// The most distinct instances of a search.

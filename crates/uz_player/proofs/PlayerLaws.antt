@@ -1,4 +1,4 @@
--- A player, edge by edge and turn by turn.
+-- A player, edge by edge and page by page.
 use Rattle.std.proofs.Common.{◌≡◌, ℕ, ◌+◌, ◌*◌, ◌^◌, ◌<◌, ◌≤◌, List, [], ◌∷◌, ◌++◌, length, drop, Option, Some, None, refl, sym, ap, subst}
 use Rattle.std.proofs.Common.{◌∙◌, append_assoc, append-nil, length-append, arith}
 use Rattle.std.specs.Prelude.{IsSome}
@@ -14,7 +14,8 @@ use Rattle.uz_schedule.specs.WellFormed.{WellFormed}
 use Rattle.uz_schedule.specs.Schedule.{frame_of}
 use Rattle.uz_console.specs.declared.console.Console.{Console}
 use Rattle.uz_console.specs.Consoles.{StandsFor, clock_of}
-use Rattle.uz_console.specs.Runs.{AreTimed, RunsTo}
+use Rattle.uz_console.specs.Pages.{HasFewEdges}
+use Rattle.uz_console.specs.Runs.{AreTimed, RunIsOver, RunsTo}
 use Rattle.uz_console.specs.Turns.{Halts}
 use Rattle.uz_console.specs.Approaches.{EntersFirst, NeverEnters, RunsUnentered}
 use Rattle.uz_scan.specs.Pictures.{last_row, newest_first, record_of, records, row_bytes, shown_by}
@@ -43,11 +44,11 @@ unentered_at_first player start stands = record {
 }
 
 pub begins : (player : Player) (start : State PadHistory) → StandsFor player.console start → WellFormed player.cert
-    → clock_of player.console ≡ 0 → player.edges.items ≡ [] → player.next ≡ 0 →
+    → clock_of player.console ≡ 0 → player.page.items ≡ [] → player.next ≡ 0 →
     player.recorder.counts.entered ≡ None → HasSeen player.recorder [] → scanning.clock_of player.recorder.scanner ≡ 0 → Plays player start
     []
 begins player start stands fits at_zero none next entered seen scan =
-    let left : left_of player ≡ [] = ap (λ n. drop n player.edges.items) next ∙ none in
+    let left : left_of player ≡ [] = ap (λ n. drop n player.page.items) next ∙ none in
     record {
       edges = [];
       played = record {
@@ -130,22 +131,25 @@ timed_earlier from earlier to (e ∷ edges) h t = (let first = t.0 in omega arit
 all_seen : (player : Player) (seen : List Edge) → left_of player ≡ [] → seen ++ left_of player ≡ seen
 all_seen player seen none = ap (λ x. seen ++ x) none ∙ append-nil seen
 
--- the edges of one more turn come
-pub turn_comes : (old new : Player) (more : List Edge) (start : State PadHistory) (handed : List ℕ) → left_of old ≡ [] →
-    new.cert ≡ old.cert → new.limit ≡ old.limit → new.recorder ≡ old.recorder → left_of new ≡ more → length more ≤ 4
-    → clock_of old.console < clock_of new.console → clock_of old.console < old.limit → old.limit ≤ 1000000000 →
+-- more edges come: at most four a turn, each of which begins before the limit and takes a clock or more
+pub edges_come : (old new : Player) (more : List Edge) (start : State PadHistory) (handed : List ℕ) → left_of old ≡ [] →
+    new.cert ≡ old.cert → new.limit ≡ old.limit → new.recorder ≡ old.recorder → left_of new ≡ more →
+    HasFewEdges old.limit old.console new.console more → old.limit ≤ 1000000000 →
     ((seen : List Edge) → GoesOn old old.recorder.counts.entered start seen → GoesOn new old.recorder.counts.entered start (seen ++ more)
     × AreTimed (clock_of old.console) (clock_of new.console) more) →
     Plays old start handed → Plays new start handed
-turn_comes old new more start handed none cert limit same left few on within short goes plays =
+edges_come old new more start handed none cert limit same left few short goes plays =
     let played = plays.played in
     let seen = plays.edges in
     let all = all_seen old seen none in
     let g = goes seen (subst (GoesOn old old.recorder.counts.entered start) all played.goes) in
     let timed = subst (AreTimed (scanning.clock_of old.recorder.scanner) (clock_of old.console)) none played.timed in
     let so_far : length seen ≤ 4 * clock_of old.console = subst (λ (es : List Edge). length es ≤ 4 * clock_of old.console) all played.few in
+    let bound : length seen ≤ 4000000000 = subst (λ (es : List Edge). length es ≤ 4000000000) all played.bounded in
     let size : length (seen ++ left_of new) ≡ length seen + length more = ap (λ (es : List Edge). length (seen ++ es)) left ∙ length-append
     seen more in
+    let by_clock = few.0 in
+    let by_limit = few.1 in
     record {
       edges = seen;
       played = record {
@@ -192,15 +196,15 @@ console_goes_on old new start handed none still cert same see on goes plays =
     }
 
 -- once a state has entered
-pub entered_turn : (old new : Player) (o : Option (ℕ × ℕ)) (more : List Edge) (start : State PadHistory) → IsSome o → new.cert ≡ old.cert
+pub entered_edges : (old new : Player) (o : Option (ℕ × ℕ)) (more : List Edge) (start : State PadHistory) → IsSome o → new.cert ≡ old.cert
     → new.limit ≡ old.limit →
     ((start : State PadHistory) (edges : List Edge) → RunsTo old.limit start edges old.console → RunsTo old.limit start (edges ++ more)
     new.console) →
     ((s : State PadHistory) → StandsFor old.console s → AreTimed (clock_of old.console) (clock_of new.console) more) →
     (seen : List Edge) → GoesOn old o start seen → GoesOn new o start (seen ++ more) × AreTimed (clock_of old.console)
     (clock_of new.console) more
-entered_turn old new None more start some cert limit run timed seen h = absurd (false≢true some)
-entered_turn old new (Some at) more start some cert limit run timed seen h = (
+entered_edges old new None more start some cert limit run timed seen h = absurd (false≢true some)
+entered_edges old new (Some at) more start some cert limit run timed seen h = (
   (
     subst (λ n. RunsTo n start (seen ++ more) new.console) (sym limit) (run start seen h.0),
     subst (λ c. IsEntered c new.limit start at.0 at.1) (sym cert) (subst (λ n. IsEntered old.cert n start at.0 at.1) (sym limit) h.1),
@@ -217,6 +221,27 @@ entered_stays old new (Some at) start some cert limit run seen h = (
   subst (λ n. RunsTo n start seen new.console) (sym limit) (run seen h.0),
   subst (λ c. IsEntered c new.limit start at.0 at.1) (sym cert) (subst (λ n. IsEntered old.cert n start at.0 at.1) (sym limit) h.1),
 )
+
+-- a last page without edges: the run is over, or it is stopped
+without : (limit : ℕ) (old : Console) (page : List Edge) (P : State PadHistory → List Edge → Type 0) → page ≡ []
+    → ((start : State PadHistory) (edges : List Edge) → RunsTo limit start edges old → P start (edges ++ page))
+    → (start : State PadHistory) (edges : List Edge) → RunsTo limit start edges old → P start edges
+without limit old page P none ends start edges run =
+    subst (P start) (ap (λ es. edges ++ es) none ∙ append-nil edges) (ends start edges run)
+
+pub page_ends : (limit : ℕ) (old new : Console) (page : List Edge) → page ≡ []
+    → ((start : State PadHistory) (edges : List Edge) → RunsTo limit start edges old → RunIsOver limit start (edges ++ page) new)
+    → (start : State PadHistory) (edges : List Edge) → RunsTo limit start edges old → (last : State PadHistory)
+    × IsClockRun limit start edges last × StandsFor new last
+page_ends limit old new page none ends = without limit old page (λ start edges. RunIsOver limit start edges new) none ends
+
+pub page_stops : (limit : ℕ) (old new : Console) (page : List Edge) (why : Why) → page ≡ []
+    → ((start : State PadHistory) (edges : List Edge) → RunsTo limit start edges old → (last : State PadHistory)
+    × IsStoppedRun limit start (edges ++ page) last × Halts last why × StandsFor new last)
+    → (start : State PadHistory) (edges : List Edge) → RunsTo limit start edges old → (last : State PadHistory)
+    × IsStoppedRun limit start edges last × Halts last why × StandsFor new last
+page_stops limit old new page why none stops = without limit old page
+    (λ start edges. (last : State PadHistory) × IsStoppedRun limit start edges last × Halts last why × StandsFor new last) none stops
 
 runs_of : (player : Player) (o : Option (ℕ × ℕ)) (start : State PadHistory) (seen : List Edge) → IsSome o → GoesOn player o start seen
     → RunsTo player.limit start seen player.console
@@ -437,11 +462,18 @@ next_from a b c (Stopped pc word) f g = λ start handed plays. (let r = f start 
 
 -- what is ahead
 
-pub turn_is_nearer : (old new : Player) (more : List Edge) → left_of new ≡ more → length more ≤ 4 → new.limit ≡ old.limit
-    → clock_of old.console < clock_of new.console → clock_of old.console < old.limit → ahead_of new ≤ ahead_of old
-turn_is_nearer old new more left few limit on within =
+pub edges_are_nearer : (old new : Player) (more : List Edge) → left_of new ≡ more → new.limit ≡ old.limit
+    → HasFewEdges old.limit old.console new.console more → ahead_of new ≤ ahead_of old
+edges_are_nearer old new more left limit few =
     let size : length (left_of new) ≡ length more = ap (λ (es : List Edge). length es) left in
+    let by_clock = few.0 in
+    let by_limit = few.1 in
     omega arith
+
+-- a turn's
+pub turn_has_few : (limit : ℕ) (old new : Console) (edges : List Edge) → length edges ≤ 4 → clock_of old < clock_of new
+    → clock_of old < limit → HasFewEdges limit old new edges
+turn_has_few limit old new edges few on within = (omega arith, omega arith)
 
 pub console_is_nearer : (old new : Player) → left_of new ≡ left_of old → new.limit ≡ old.limit → clock_of old.console ≤ clock_of new.console
     → ahead_of new ≤ ahead_of old

@@ -34,9 +34,9 @@ cert_of player = player.cert
 abbrev pub counts_of : Player → Counts
 counts_of player = player.recorder.counts
 
--- the edges of the last turn that aren't taken yet
+-- the edges of the last page that aren't taken yet
 abbrev pub left_of : Player → List Edge
-left_of player = drop player.next player.edges.items
+left_of player = drop player.next player.page.items
 
 -- before a state has entered, and after
 abbrev pub GoesOn : Player → Option (ℕ × ℕ) → State PadHistory → List Edge → Type 0
@@ -103,7 +103,7 @@ GoesFurther old new (Some at) = left_of old ≡ [] → IsNext old new (played_of
 -- the player with the edges of a turn
 abbrev pub HasTurn : List Edge → Player → Player → Type 0
 HasTurn edges old new =
-    (new.edges.items ≡ edges) × (new.next ≡ 0) × (length edges ≤ 4) ×
+    (new.page.items ≡ edges) × (new.next ≡ 0) × (length edges ≤ 4) ×
     (new.console ≡ old.console) × (new.cert ≡ old.cert) × (new.limit ≡ old.limit) × (new.recorder ≡ old.recorder)
 
 -- how far it is to the end of the run

@@ -13,7 +13,7 @@ use crate::ending::{Ending, ended};
 use crate::recorder::{Record, Recorder};
 use arrayvec::ArrayVec;
 use uz_cert_limits::well_formed;
-use uz_console::{Approach, Console, Progress};
+use uz_console::{Approach, Console, PAGE, Paged};
 use uz_machine::Edge;
 use uz_scan::{end_record, row_record};
 use uz_schedule::Cert;
@@ -31,15 +31,15 @@ pub enum Played {
     Stopped { pc: u16, word: u16 },
 }
 
-/// A run of so many clocks from a console's state. It holds one turn's edges and one line.
+/// A run of so many clocks from a console's state. It holds a page of edges and one line.
 #[derive(Drop)]
 pub struct Player {
     pub(crate) console: Console,
     pub(crate) cert: Cert,
     pub(crate) limit: u64,
     pub(crate) recorder: Recorder,
-    /// The edges of the last turn that had some.
-    pub(crate) edges: ArrayVec<Edge, 4>,
+    /// The last edges of the run, so many as a page has.
+    pub(crate) page: ArrayVec<Edge, PAGE>,
     /// So many of them are taken.
     pub(crate) next: usize,
     ghost short: { limit ≤ 1000000000 },
@@ -77,7 +77,7 @@ impl Player {
             cert,
             limit: u64::from(clocks),
             recorder: Recorder::new(),
-            edges: ArrayVec::new(),
+            page: ArrayVec::new(),
             next: 0,
         }
     }
@@ -90,8 +90,8 @@ impl Player {
         ensures same { (self.new.limit ≡ self.old.limit) × (self.new.cert ≡ self.old.cert)
             × (self.new.recorder.counts.entered ≡ self.old.recorder.counts.entered) }
     {
-        while self.next < self.edges.len() {
-            let edge = self.edges[self.next];
+        while self.next < self.page.len() {
+            let edge = self.page[self.next];
             self.next += 1;
             if let Some(record) = self.recorder.take(edge) {
                 return Some(record);
@@ -113,15 +113,19 @@ impl Player {
         }
     }
 
+    /// The page is the edges of a turn.
     fn take_turn(&mut self, edges: ArrayVec<Edge, 4>)
         ensures { HasTurn edges.items self.old self.new }
     {
         let _few = edges.len();
-        self.edges = edges;
+        self.page.clear();
+        for edge in edges.as_slice() {
+            self.page.push(*edge);
+        }
         self.next = 0;
     }
 
-    /// A state has entered.
+    /// A state has entered. The last page may come before the end, which is told once it has no edge.
     fn go_on_entered(&mut self) -> Option<Ending>
         requires { IsSome self.old.recorder.counts.entered }
         ensures further { GoesFurther self.old self.new result }
@@ -129,13 +133,15 @@ impl Player {
         ensures nearer { left_of self.old ≡ [] → IfNone result (ahead_of self.new ≤ ahead_of self.old) }
         ensures same { (self.new.limit ≡ self.old.limit) × (self.new.cert ≡ self.old.cert) }
     {
-        match self.console.advance(self.limit) {
-            Progress::Took { edges } => {
-                self.take_turn(edges);
-                None
-            }
-            Progress::Over => Some(Ending::Over),
-            Progress::Stopped(_) => Some(Ending::Stopped {
+        let paged = self.console.advance_page(self.limit, &mut self.page);
+        self.next = 0;
+        if self.page.len() > 0 {
+            return None;
+        }
+        match paged {
+            Paged::Full => None,
+            Paged::Over => Some(Ending::Over),
+            Paged::Stopped(_) => Some(Ending::Stopped {
                 pc: self.console.pc(),
                 word: self.console.word(),
             }),

@@ -35,15 +35,15 @@ use Rattle.uz_transfer.specs.Refusals.{fail_of}
 use Rattle.uz_machine.specs.Core.{returns_from_interrupt}
 use Rattle.uz_rules.proofs.CoreKeeps.{register_byte, pair_word}
 use Rattle.uz_rules.proofs.MemoryKeeps.{pop_meets}
-use Rattle.uz_rules.proofs.Bits.{bit_of_with_bit}
-use Rattle.uz_rules.proofs.CoreSteps.{core_same, enabled_kept, pointer_meets, address_holds}
+use Rattle.uz_core.proofs.SregBits.{binary_seven, bit_of_with_bit, enabled_kept, pair_seven, unary_seven}
+use Rattle.uz_rules.proofs.CoreSteps.{core_same, pointer_meets, address_holds}
 use Rattle.uz_rules.proofs.RegisterClasses.{copy_byte, copy_pair, binary_meets, unary_meets, add_to_pair_meets, multiply_meets}
 use Rattle.uz_rules.proofs.RegisterClasses.{write_flag_meets, load_bit_meets, store_bit_meets, set_byte}
 use Rattle.uz_rules.proofs.LoadClasses.{content_bytes, load_meets, load_program_meets, pop_byte_meets, ram_not_core}
 use Rattle.uz_rules.proofs.StoreClasses.{Leads, none_shows, room_left, push_core, push_calls, push_leads, call_leads, bit_leads}
 use Rattle.uz_rules.proofs.StoreClasses.{store_stored}
 use Rattle.uz_rules.proofs.Classes.{Before, Parts, low_room, memory_same, quiet, pointer_sp, pointer_sreg, pointer_stack, pointer_cells}
-use Rattle.uz_rules.proofs.Classes.{pointer_kind, binary_seven, unary_seven, pair_seven, flag_enabled, unless_none, none_is, not_false}
+use Rattle.uz_rules.proofs.Classes.{pointer_kind, flag_enabled, unless_none, none_is, not_false}
 use Rattle.uz_rules.proofs.Classes.{may_be_stored, size_stored}
 
 and_true : (a b : Bool) → (a && b) ≡ true → (a ≡ true) × (b ≡ true)

@@ -6,10 +6,6 @@ use Rattle.std.proofs.lemmas.Bool.Decides.{nat_tests}
 use Rattle.std.proofs.lemmas.List.{length-set}
 use Rattle.uz_machine.specs.declared.AddressMode.{AddressMode}
 use Rattle.uz_machine.specs.declared.AddressMode.TheVariants.{Direct, Displacement, PostIncrement, PreDecrement}
-use Rattle.uz_machine.specs.declared.BinaryOp.{BinaryOp}
-use Rattle.uz_machine.specs.declared.BinaryOp.TheVariants as binary
-use Rattle.uz_machine.specs.declared.UnaryOp.{UnaryOp}
-use Rattle.uz_machine.specs.declared.UnaryOp.TheVariants as unary
 use Rattle.uz_machine.specs.declared.Effect.TheVariants.{Store}
 use Rattle.uz_machine.specs.declared.HeldStore.{HeldStore}
 use Rattle.uz_machine.specs.Arithmetic.{AluResult, bit_is_set, with_bit, chained_result, with_z_cleared, difference_of}
@@ -31,7 +27,7 @@ use Rattle.uz_transfer.specs.Memory.{address_range, with_pointer_range, depth_of
 use Rattle.uz_transfer.specs.Emission.{emission_at}
 use Rattle.uz_transfer.specs.Refusals.{refuse_if, is_setup_register, top_fails, io_fails, fail_of}
 use Rattle.uz_rules.specs.Meets.{InstanceFits}
-use Rattle.uz_rules.proofs.Bits.{bit_of_with_bit}
+use Rattle.uz_core.proofs.SregBits.{bit_of_with_bit}
 use Rattle.uz_rules.proofs.SpaceStores.{choose_if}
 use Rattle.uz_rules.proofs.StoreClasses.{Leads, MayStore, SetsNothingElse, none_shows, room_left}
 
@@ -115,35 +111,7 @@ pointer_kind (Displacement p q) old now = refl
 pointer_kind (PostIncrement p) old now = refl
 pointer_kind (PreDecrement p) old now = refl
 
--- I after an operation
-
-chained_seven : (r : AluResult) (c z n v s h t : Option Bool) → r.flags ≡ c ∷ z ∷ n ∷ v ∷ s ∷ h ∷ t ∷ [] → (b : Bool) → slice_index_or
-    (chained_result r b).flags 7 None ≡ None
-chained_seven r c z n v s h t e true = ap (λ fs. slice_index_or fs 7 None) e
-chained_seven r c z n v s h t e false = ap (λ fs. slice_index_or (with_z_cleared fs) 7 None) e
-
-pub binary_seven : (op : BinaryOp) (a b sreg : ℕ) → slice_index_or (binary_result op a b sreg).flags 7 None ≡ None
-binary_seven (binary.Add false) a b sreg = refl
-binary_seven (binary.Add true) a b sreg = refl
-binary_seven (binary.Subtract false) a b sreg = refl
-binary_seven (binary.Subtract true) a b sreg = chained_seven (difference_of a b (bit_is_set sreg 0)) _ _ _ _ _ _ _ refl (bit_is_set sreg 1)
-binary_seven binary.And a b sreg = refl
-binary_seven binary.Or a b sreg = refl
-binary_seven binary.Xor a b sreg = refl
-
-pub unary_seven : (op : UnaryOp) (a sreg : ℕ) → slice_index_or (unary_result op a sreg).flags 7 None ≡ None
-unary_seven unary.Complement a sreg = refl
-unary_seven unary.Negate a sreg = refl
-unary_seven unary.Swap a sreg = refl
-unary_seven unary.Increment a sreg = refl
-unary_seven unary.Decrement a sreg = refl
-unary_seven unary.ArithmeticShiftRight a sreg = refl
-unary_seven unary.LogicalShiftRight a sreg = refl
-unary_seven unary.RotateRight a sreg = refl
-
-pub pair_seven : (subtract : Bool) (p k : ℕ) → slice_index_or (add_to_pair_result subtract p k).flags 7 None ≡ None
-pair_seven false p k = refl
-pair_seven true p k = refl
+-- I after it is written
 
 -- a flag of SREG, which may be I where the kind has it clear
 pub flag_enabled : (flag : ℕ) (set main : Bool) (sreg : ℕ) → flag < 8 → refuse_if (nat_eq flag 7 && (set || main)) Mask None ≡ None

@@ -28,7 +28,7 @@ use Rattle.uz_rules.specs.CoreMeets.{ValueHolds, FlagHolds, CoreMeets}
 use Rattle.uz_transfer.specs.Memory.{address_range, with_pointer_range, all_flags, is_old, flags_number, sreg_value, flags_from}
 use Rattle.uz_transfer.specs.Kinds.{is_main}
 use Rattle.uz_rules.proofs.CoreKeeps.{hull_holds, set_same, set_other, whole, pair_word, pair_holds, val_meets, range_meets, core_with}
-use Rattle.uz_rules.proofs.Bits.{or_kept, bit_of_merged}
+use Rattle.uz_core.proofs.SregBits.{or_kept, bit_of_merged}
 
 -- registers, pairs and flags of two instances, and of two cores, may be the same
 pub core_same : (a b : Instance) (o c d : Core) → a.regs ≡ b.regs → a.pairs ≡ b.pairs → a.flags ≡ b.flags → c.registers ≡ d.registers
@@ -98,11 +98,6 @@ flags_meet inst o core keeps new r e all h = record {
       (merge_one (flag_at new k) (flag_at inst.flags k) (slice_index_or r.flags k None) (bit_is_set o.sreg k) (bit_is_set core.sreg k)
       (admits_at new r.flags k all) (h.flags k w));
 }
-
--- I isn't among the flags of an operation
-pub enabled_kept : (r : AluResult) (sreg : ℕ) → slice_index_or r.flags 7 None ≡ None → bit_is_set (merged_sreg r.flags sreg) 7 ≡ bit_is_set
-    sreg 7
-enabled_kept r sreg e = bit_of_merged r.flags sreg 7 ∙ ap (λ x. or_kept x (bit_is_set sreg 7)) e
 
 -- Pairs
 

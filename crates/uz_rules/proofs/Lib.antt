@@ -1,7 +1,6 @@
 pub mod CoreKeeps
 pub mod MemoryKeeps
 pub mod SpaceStores
-pub mod Bits
 pub mod StoreShows
 pub mod CoreSteps
 pub mod RegisterClasses
@@ -25,3 +24,4 @@ pub mod FactPlaces
 pub mod AtCounts
 pub mod CountKeys
 pub mod PeriodLaws
+pub mod VisitLaws

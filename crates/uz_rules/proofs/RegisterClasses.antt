@@ -47,7 +47,7 @@ use Rattle.uz_transfer.specs.Arithmetic.{product_keeps}
 use Rattle.uz_transfer.specs.Transfer.{bit_of_bool, with_flag, transfer}
 use Rattle.uz_rules.proofs.CoreKeeps.{set_same, or_other, or_same, in_span, register_byte, pair_word, pair_holds, val_meets, range_meets}
 use Rattle.uz_rules.proofs.CoreKeeps.{core_with}
-use Rattle.uz_rules.proofs.Bits.{bit_of_with_bit}
+use Rattle.uz_core.proofs.SregBits.{bit_of_with_bit}
 use Rattle.uz_rules.proofs.CoreSteps.{exact_holds, core_same, may_be, told, KeepsAt, flags_meet, pair_val_meets, pair_is}
 
 -- Operands

@@ -25,7 +25,7 @@ use Rattle.uz_transfer.specs.Transfer.{bit_of_bool}
 use Rattle.uz_events.specs.Events.{event_of}
 use Rattle.uz_rules.specs.OneStep.{IsNoEntry}
 use Rattle.uz_rules.proofs.SpaceStores.{level_other, level_stored, level_toggled}
-use Rattle.uz_rules.proofs.Bits.{bit_of_with_bit}
+use Rattle.uz_core.proofs.SregBits.{bit_of_with_bit}
 
 abbrev pub kinds_listed : Option EventKind → List EventKind
 kinds_listed None = []

@@ -8,6 +8,7 @@ pub mod EdgeRule
 pub mod Successors
 pub mod FactInclusion
 pub mod Periods
+pub mod Visit
 pub mod Local
 pub mod Limits
 pub mod After

@@ -12,6 +12,7 @@ mod next;
 mod periods;
 mod results;
 mod successors;
+mod visit;
 
 pub use inclusion::{inside, restored};
 pub use laws::{
@@ -24,3 +25,4 @@ pub use next::Next;
 pub use results::{after, put_after};
 pub use successors::lies_in_point;
 pub use uz_transfer::Fail;
+pub use visit::Visit;

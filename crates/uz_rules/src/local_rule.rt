@@ -1,7 +1,6 @@
 //! The local rule: why an instance of a point is refused.
 
 ghost use Rattle.std.specs.Prelude.{◌≡◌, ◌<◌, Ok, Some, length, slice_get};
-ghost use Rattle.uz_schedule.specs.Instances.{instance_at};
 ghost use Rattle.uz_schedule.specs.WellFormed.{WellFormed};
 ghost use Rattle.uz_schedule.specs.Lines.{order_of};
 ghost use Rattle.uz_transfer.specs.Step.{IsReadAt, at_exit};
@@ -11,11 +10,12 @@ ghost use Rattle.uz_transfer.specs.Kinds.{is_main};
 ghost use Rattle.uz_transfer.specs.Refusals.{refuse_if};
 ghost use Rattle.uz_rules.specs.Limits.{InstanceLimits};
 ghost use Rattle.uz_rules.specs.Local.{is_stop, rest_in, return_fail, first_exit, end_of, has_successors, result_fail};
-ghost use Rattle.uz_rules.specs.Local.{compares_edges, step_fail, instance_fail, local_fail, IsLocal, reason, counted};
+ghost use Rattle.uz_rules.specs.Local.{compares_edges, step_fail, instance_fail, IsLocal, reason, counted};
 
 use crate::edge_rule::edges_fit;
 use crate::inclusion::{cells_inside, restored};
 use crate::successors::lies_in_any;
+use crate::visit::Visit;
 use avr_decode::decode;
 use avr_table::Instr;
 use uz_core::effect;
@@ -32,7 +32,7 @@ fn refuse_if(stands: bool, why: Fail, later: Option<Fail>) -> Option<Fail>
 }
 
 /// Whether an effect is that of SPM, which stops the machine.
-fn is_stop(e: Effect) -> bool
+pub(crate) fn is_stop(e: Effect) -> bool
     ensures { result ≡ is_stop e }
 {
     matches!(e, Effect::Stop)
@@ -166,7 +166,13 @@ fn step_fail(cert: &Cert, next: &[u32], at: &Instance, emits: bool, step: Step) 
 }
 
 /// Why an instance is refused, under its instruction.
-fn instance_fail(image: &Image, cert: &Cert, next: &[u32], i: &Instr, at: &Instance) -> Option<Fail>
+pub(crate) fn instance_fail(
+    image: &Image,
+    cert: &Cert,
+    next: &[u32],
+    i: &Instr,
+    at: &Instance,
+) -> Option<Fail>
     requires fits { WellFormed cert.now }
     requires limits { InstanceLimits cert.now at.now }
     ensures { result ≡ instance_fail image.now cert.now next.now (Some i.now) (Some at.now) }
@@ -178,31 +184,8 @@ fn instance_fail(image: &Image, cert: &Cert, next: &[u32], i: &Instr, at: &Insta
     }
 }
 
-/// Why a line and a count of a point are refused, under the point's instruction.
-#[tactic(auto, using(crate::proofs::LimitsHold::instance_limits))]
-fn row_fail(
-    image: &Image,
-    cert: &Cert,
-    id: u32,
-    l: u16,
-    c: u8,
-    next: &[u32],
-    i: &Instr,
-) -> Option<Fail>
-    requires fits { WellFormed cert.now }
-    ensures { result ≡ local_fail image.now cert.now next.now (Some i.now) (instance_at cert.now id l c) }
-{
-    if is_stop(effect(i)) {
-        return Some(Fail::Opcode);
-    }
-    match cert.instance(id, l, c) {
-        Some(at) => instance_fail(image, cert, next, i, &at),
-        None => Some(Fail::Box),
-    }
-}
-
 /// The answer where this is the reason.
-fn answer(why: Option<Fail>) -> Result<(), Fail>
+pub(crate) fn answer(why: Option<Fail>) -> Result<(), Fail>
     ensures { reason result ≡ why }
 {
     match why {
@@ -212,7 +195,7 @@ fn answer(why: Option<Fail>) -> Result<(), Fail>
 }
 
 /// A point of the certificate.
-fn point_of(cert: &Cert, id: u32) -> &Point
+pub(crate) fn point_of(cert: &Cert, id: u32) -> &Point
     requires { id < length cert.now.points }
     ensures { slice_get cert.now.points id ≡ Some result.now }
 {
@@ -220,33 +203,14 @@ fn point_of(cert: &Cert, id: u32) -> &Point
 }
 
 /// The instruction at a pc, where there is one.
-fn read_at(image: &Image, pc: u16) -> Option<Instr>
+pub(crate) fn read_at(image: &Image, pc: u16) -> Option<Instr>
     ensures { IsReadAt image.now pc result }
 {
     decode(image.word(word_after(pc, 0)), image.word(word_after(pc, 1)))
 }
 
-/// Why a line and a count of a point are refused, under the instruction that is read.
-fn read_fail(
-    image: &Image,
-    cert: &Cert,
-    id: u32,
-    l: u16,
-    c: u8,
-    next: &[u32],
-    row: Option<Instr>,
-) -> Option<Fail>
-    requires fits { WellFormed cert.now }
-    ensures { result ≡ local_fail image.now cert.now next.now row (instance_at cert.now id l c) }
-{
-    match row {
-        Some(i) => row_fail(image, cert, id, l, c, next, &i),
-        None => Some(Fail::Opcode),
-    }
-}
-
 /// One more call is counted.
-fn count(looked: &mut u64)
+pub(crate) fn count(looked: &mut u64)
     ensures { looked.new ≡ counted looked.old }
 {
     *looked = looked.saturating_add(1);
@@ -254,7 +218,6 @@ fn count(looked: &mut u64)
 
 /// The local rule of point `id` at line `l` and count `c`: the least reason that stands, or none. The instruction is that at the point's
 /// pc. Box where the point has no instance there. Adds one to `looked`, which stays at the greatest u64. Takes no memory.
-#[tactic(auto, using(crate::proofs::LocalLaws::is_local))]
 pub fn local(
     image: &Image,
     cert: &Cert,
@@ -268,8 +231,6 @@ pub fn local(
     ensures answer { IsLocal image.now cert.now id l c (reason result) }
     ensures counted { looked.new ≡ counted looked.old }
 {
-    count(looked);
-    let point = point_of(cert, id);
-    let row = read_at(image, point.pc);
-    answer(read_fail(image, cert, id, l, c, point.next.as_slice(), row))
+    let mut visit = Visit::begin(image, cert, id);
+    visit.local(image, cert, id, l, c, looked)
 }

@@ -1,3 +1,4 @@
+pub mod Accepted
 pub mod Closing
 pub mod Coverage
 pub mod Frame
@@ -11,4 +12,5 @@ pub mod NewFlags
 pub mod NodeLaws
 pub mod Positions
 pub mod ScheduleOf
+pub mod SteadyLines
 pub mod WithinLimits

@@ -1,3 +1,4 @@
+pub mod Accepting
 pub mod Complete
 pub mod Limits
 pub mod Made

@@ -1,5 +1,6 @@
 //! Laws of an ended search. Each function does nothing: its clause is the law.
 
+ghost use Rattle.uz_search_laws.specs.Accepting.{EndedAccepts};
 ghost use Rattle.uz_search_laws.specs.Complete.{EndedFallsOnce, EndedLevelsFit, EndedRestsAreQuiet, EndedLevels, EndedRestsEnter};
 ghost use Rattle.uz_search_laws.specs.Complete.{EndedPassesLocal};
 ghost use Rattle.uz_search_laws.specs.Limits.{EndedWithinLimits, LiesInWidened};
@@ -47,3 +48,8 @@ pub fn lies_in_widened()
 {
     place_holds();
 }
+
+/// A certificate that is made of an ended search, with points for its instances, is accepted.
+pub fn ended_accepts()
+    ensures { EndedAccepts }
+{}

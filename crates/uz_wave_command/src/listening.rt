@@ -10,8 +10,9 @@ ghost use Rattle.uz_report.specs.Waves.{Holds, clock_of};
 ghost use Rattle.uz_scan.specs.Pictures.{NeverFalls, newest_first};
 ghost use Rattle.uz_wave_command.specs.WaveValues.{IsHeard};
 
+use arrayvec::ArrayVec;
 use std::alloc::Global;
-use uz_console::{Console, Progress};
+use uz_console::{Console, Paged};
 use uz_core::Why;
 use uz_machine::Edge;
 use uz_report::{Wave, WaveError};
@@ -45,11 +46,17 @@ pub(crate) fn listen(alloc: Global, console: &mut Console, limit: u64) -> Result
     ensures { IfOk result (λ heard. (start : State PadHistory) → RunsTo limit start [] console.old → IsHeard limit start heard) }
 {
     let mut wave = Wave::new(alloc);
-    'turns: loop {
-        match console.advance(limit) {
-            Progress::Took { edges } => hear(&mut wave, edges.as_slice())?,
-            Progress::Over => return Ok(Heard::Over(wave)),
-            Progress::Stopped(why) => {
+    let mut page = ArrayVec::new();
+    'pages: loop {
+        let paged = console.advance_page(limit, &mut page);
+        match hear(&mut wave, page.as_slice()) {
+            Ok(()) => {}
+            Err(error) => return Err(error),
+        }
+        match paged {
+            Paged::Full => {}
+            Paged::Over => return Ok(Heard::Over(wave)),
+            Paged::Stopped(why) => {
                 return Ok(Heard::Stopped {
                     pc: console.pc(),
                     why,

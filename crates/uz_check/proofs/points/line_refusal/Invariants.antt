@@ -1,5 +1,6 @@
 use Rattle.std.proofs.Common.{ℕ, ◌≤◌, ◌<◌, ◌+◌, ◌-◌}
 use Rattle.std.specs.Prelude.{None}
+use Rattle.uz_rules.specs.Visit.{IsVisit}
 use Rattle.uz_check.specs.Refusal.{InstanceRefusal}
 use Rattle.uz_check.proofs.points.line_refusal.Given as goal
 
@@ -8,4 +9,5 @@ abbrev pub invariant-loop-c : goal.invariant-loop-c
 invariant-loop-c l = record {
   none : (j : ℕ) → l.point.c0 ≤ j → j < l.c → InstanceRefusal l.image l.cert l.id l.l j None;
   few : l.looked ≤ l.fn.looked + (l.c - l.point.c0);
+  visit : IsVisit l.image l.cert l.id l.visit;
 }

@@ -28,4 +28,5 @@ lines-preserved c =
           c.requires.box_fits.line next.within next.told inv.none c.in_default.ensures.first;
       few = omega (arith, one, inv.few, seen);
       untold = next.untold;
+      visit = c.line_refusal.ensures.visit;
     }

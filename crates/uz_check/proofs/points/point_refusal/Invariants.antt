@@ -1,6 +1,7 @@
 use Rattle.std.proofs.Common.{◌≡◌, ℕ, suc, false, ◌≤◌, ◌<◌, ◌+◌, ◌-◌, ◌*◌}
 use Rattle.std.specs.Prelude.{None}
 use Rattle.uz_line_families.specs.Untold.{is_told, untold_lines}
+use Rattle.uz_rules.specs.Visit.{IsVisit}
 use Rattle.uz_check.specs.Refusal.{LineRefusal}
 use Rattle.uz_check.proofs.points.point_refusal.Given as goal
 
@@ -12,6 +13,7 @@ invariant-lines l = record {
   none : (j : ℕ) → l.point.l0 ≤ j → j < l.l → LineRefusal l.image l.cert l.id l.point j None;
   few : l.looked ≤ l.fn.looked + untold_lines l.cert l.point (l.l - l.point.l0) * (suc l.point.c1 - l.point.c0);
   untold : l.l ≤ l.point.l1 → is_told l.cert l.point l.l ≡ false;
+  visit : IsVisit l.image l.cert l.id l.visit;
 }
 
 abbrev pub decreases-lines : goal.decreases-lines

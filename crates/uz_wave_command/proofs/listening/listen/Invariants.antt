@@ -7,13 +7,13 @@ use Rattle.uz_report.specs.Waves as wave
 use Rattle.uz_wave_command.specs.WaveValues.{IsHeardSoFar}
 use Rattle.uz_wave_command.proofs.listening.listen.Given as goal
 
-abbrev pub invariant-turns : goal.invariant-turns
-invariant-turns l = record {
+abbrev pub invariant-pages : goal.invariant-pages
+invariant-pages l = record {
   heard : (start : State PadHistory) → RunsTo l.limit start [] l.initial.console → IsHeardSoFar l.limit start l.console l.wave;
   stands : (s : State PadHistory) × StandsFor l.console s;
   timed : wave.clock_of l.wave ≤ clock_of l.console;
 }
 
 -- the clocks that are left
-abbrev pub decreases-turns : goal.decreases-turns
-decreases-turns l = l.limit - clock_of l.console
+abbrev pub decreases-pages : goal.decreases-pages
+decreases-pages l = l.limit - clock_of l.console

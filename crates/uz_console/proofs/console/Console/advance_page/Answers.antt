@@ -1,6 +1,8 @@
-use Rattle.std.proofs.Common.{◌≡◌, ◌<◌, ◌≤◌, ◌++◌, ◌∙◌, ap, arith, length}
+use Rattle.std.proofs.Common.{◌≡◌, ◌<◌, ◌≤◌, [], ◌∷◌, ◌++◌, ◌∙◌, ap, arith, length, subst, sym}
 use Rattle.uz_machine.specs.Run.{edges_until}
 use Rattle.uz_console.specs.Consoles.{clock_of}
+use Rattle.uz_console.specs.Runs.{AreTimed}
+use Rattle.uz_console.proofs.EdgeTimes.{page_timed_on, timed_later}
 use Rattle.uz_console.proofs.PageLemmas.{page_begins, page_more}
 use Rattle.uz_console.proofs.RunLemmas.{ends, goes_on_quietly, stops}
 use Rattle.uz_console.proofs.console.Console.advance_page.Goals as goal
@@ -11,7 +13,8 @@ loop-edges-init c =
     record {
       run = page_begins c.args.limit c.args.self.now c.clear.new.self.items c.clear.ensures;
       time = omega arith;
-      on = λ some. omega (arith, none, some);
+      edges = λ s stands. subst (AreTimed (clock_of c.args.self.now) (clock_of c.args.self.now)) (sym c.clear.ensures) (omega arith);
+      few = (omega (arith, none), omega (arith, none));
     }
 
 pub loop-edges-preserved : goal.loop-edges-preserved
@@ -21,13 +24,37 @@ loop-edges-preserved c =
     let before : clock_of c.loop-edges.self < c.args.limit = omega arith in
     let since : clock_of c.loop-edges.self ≤ clock_of made.mid = (made.quiet).time in
     let on : clock_of made.mid < clock_of c.make_turns.new.self = made.time.0 in
-    let added = c.add_in_time.ensures ∙ ap (λ x. page ++ edges_until c.args.limit x) c.as_slice.ensures.value in
+    let so_far = c.loop-edges.invariant.few in
+    let more = c.add_in_time.ensures.few in
+    let added = c.add_in_time.ensures.added ∙ ap (λ x. page ++ edges_until c.args.limit x) c.as_slice.ensures.value in
     record {
       run = λ start edges run. page_more c.args.limit made.mid c.make_turns.new.self page c.make_turns.new.edges.items
           c.add_in_time.new.page.items made.last added ((made.quiet).before before) start edges
           ((made.quiet).run start (edges ++ page) (c.loop-edges.invariant.run start edges run));
       time = omega arith;
-      on = λ some. omega arith;
+      edges = page_timed_on c.args.limit c.args.self.now c.loop-edges.self made.mid c.make_turns.new.self page c.make_turns.new.edges.items
+          c.add_in_time.new.page.items c.loop-edges.invariant.run (made.quiet).run since made.last added c.loop-edges.invariant.edges;
+      few = (omega (arith, more, so_far.0), omega (arith, more, so_far.0, so_far.1));
+    }
+
+pub loop-edges-preserved-in-Edge : goal.loop-edges-preserved-in-Edge
+loop-edges-preserved-in-Edge c =
+    let made = c.in-Edge.ensures in
+    let page = c.loop-edges.page.items in
+    let before : clock_of c.loop-edges.self < c.args.limit = omega arith in
+    let since : clock_of c.loop-edges.self ≤ clock_of made.mid = (made.quiet).time in
+    let on : clock_of made.mid < clock_of c.make_turns.new.self = made.time.0 in
+    let so_far = c.loop-edges.invariant.few in
+    let more = c.add_edge.ensures.few in
+    let added = c.add_edge.ensures.added in
+    record {
+      run = λ start edges run. page_more c.args.limit made.mid c.make_turns.new.self page (c.in-Edge.edge ∷ [])
+          c.add_edge.new.page.items made.last added ((made.quiet).before before) start edges
+          ((made.quiet).run start (edges ++ page) (c.loop-edges.invariant.run start edges run));
+      time = omega arith;
+      edges = page_timed_on c.args.limit c.args.self.now c.loop-edges.self made.mid c.make_turns.new.self page (c.in-Edge.edge ∷ [])
+          c.add_edge.new.page.items c.loop-edges.invariant.run (made.quiet).run since made.last added c.loop-edges.invariant.edges;
+      few = (omega (arith, more, so_far.0), omega (arith, more, so_far.0, so_far.1));
     }
 
 pub loop-edges-preserved-in-Quiet : goal.loop-edges-preserved-in-Quiet
@@ -37,11 +64,14 @@ loop-edges-preserved-in-Quiet c =
     let before : clock_of c.loop-edges.self < c.args.limit = omega arith in
     let since : clock_of c.loop-edges.self ≤ clock_of made.mid = (made.quiet).time in
     let on : clock_of made.mid < clock_of c.make_turns.new.self = made.time.0 in
+    let so_far = c.loop-edges.invariant.few in
     record {
       run = λ start edges run. goes_on_quietly made.mid c.make_turns.new.self c.args.limit made.last ((made.quiet).before before) start
           (edges ++ page) ((made.quiet).run start (edges ++ page) (c.loop-edges.invariant.run start edges run));
       time = omega arith;
-      on = λ some. omega arith;
+      edges = λ s stands. timed_later (clock_of c.args.self.now) (clock_of c.loop-edges.self) (clock_of c.make_turns.new.self) page
+          (omega arith) (c.loop-edges.invariant.edges s stands);
+      few = (omega (arith, so_far.0), so_far.1);
     }
 
 pub returns-in-Stopped-clause-run : goal.returns-in-Stopped-clause-run
@@ -67,6 +97,14 @@ loop-edges-smaller c =
     let on : clock_of made.mid < clock_of c.make_turns.new.self = made.time.0 in
     omega arith
 
+pub loop-edges-smaller-in-Edge : goal.loop-edges-smaller-in-Edge
+loop-edges-smaller-in-Edge c =
+    let made = c.in-Edge.ensures in
+    let before : clock_of c.loop-edges.self < c.args.limit = omega arith in
+    let since : clock_of c.loop-edges.self ≤ clock_of made.mid = (made.quiet).time in
+    let on : clock_of made.mid < clock_of c.make_turns.new.self = made.time.0 in
+    omega arith
+
 pub loop-edges-smaller-in-Quiet : goal.loop-edges-smaller-in-Quiet
 loop-edges-smaller-in-Quiet c =
     let made = c.in-Quiet.ensures in
@@ -81,3 +119,19 @@ returns-in-Stopped-clause-time c =
     let since : clock_of c.loop-edges.self ≤ clock_of made.mid = (made.quiet).time in
     let same = made.time in
     omega arith
+
+pub returns-in-Stopped-clause-edges : goal.returns-in-Stopped-clause-edges
+returns-in-Stopped-clause-edges c =
+    let made = c.in-Stopped.ensures in
+    let since : clock_of c.loop-edges.self ≤ clock_of made.mid = (made.quiet).time in
+    let same = made.time in
+    λ s stands. timed_later (clock_of c.args.self.now) (clock_of c.loop-edges.self) (clock_of c.make_turns.new.self)
+    c.loop-edges.page.items (omega (arith, since, same)) (c.loop-edges.invariant.edges s stands)
+
+pub returns-in-Stopped-clause-few : goal.returns-in-Stopped-clause-few
+returns-in-Stopped-clause-few c =
+    let made = c.in-Stopped.ensures in
+    let since : clock_of c.loop-edges.self ≤ clock_of made.mid = (made.quiet).time in
+    let same = made.time in
+    let so_far = c.loop-edges.invariant.few in
+    (omega (arith, since, same, so_far.0), so_far.1)

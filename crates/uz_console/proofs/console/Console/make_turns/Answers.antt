@@ -33,6 +33,16 @@ turns-smaller c =
     let within : clock_of c.make.new.self < c.args.limit = omega arith in
     omega arith
 
+pub returns-in-Edge : goal.returns-in-Edge
+returns-in-Edge c = record {
+  mid = c.run_internal.new.self;
+  quiet = leads_further c.args.limit c.args.watched c.args.self.now c.turns.self c.run_internal.new.self c.turns.invariant.quiet
+      c.run_internal.ensures;
+  last = c.in-Edge.ensures.turn;
+  some = tt;
+  time = c.in-Edge.ensures.time;
+}
+
 pub returns-in-Edges : goal.returns-in-Edges
 returns-in-Edges c = record {
   mid = c.run_internal.new.self;

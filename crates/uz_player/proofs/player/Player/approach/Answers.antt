@@ -7,7 +7,7 @@ use Rattle.uz_console.specs.declared.console.Console.{Console}
 use Rattle.uz_console.specs.Runs.{AreTimed}
 use Rattle.uz_console.specs.Approaches.{RunsUnentered}
 use Rattle.uz_player.proofs.PlayerLaws.{approach_enters, approach_over, approach_stopped, approach_turn, entered_kept, position_found}
-use Rattle.uz_player.proofs.PlayerLaws.{turn_comes, turn_is_nearer}
+use Rattle.uz_player.proofs.PlayerLaws.{edges_come, edges_are_nearer, turn_has_few}
 use Rattle.uz_player.proofs.player.Player.approach.Goals as goal
 
 pub returns-in-Took-clause-further : goal.returns-in-Took-clause-further
@@ -15,7 +15,7 @@ returns-in-Took-clause-further c =
     λ start handed none plays.
     let t = c.take_turn.ensures in
     let fits = (plays.played).fits in
-    let left = ap (λ n. drop n c.take_turn.new.self.edges.items) t.1 ∙ t.0 in
+    let left = ap (λ n. drop n c.take_turn.new.self.page.items) t.1 ∙ t.0 in
     let on : clock_of c.args.self.now.console < clock_of c.take_turn.new.self.console =
     subst (λ (x : Console). clock_of c.args.self.now.console < clock_of x) (sym t.3) (c.in-Took.ensures.time).0 in
     let run = λ (s : State PadHistory) (es : List Edge) (r : RunsUnentered c.args.self.now.cert c.args.self.now.limit s es
@@ -24,8 +24,9 @@ returns-in-Took-clause-further c =
     let timed = λ (s : State PadHistory) (st : StandsFor c.args.self.now.console s). subst
     (λ (x : Console). AreTimed (clock_of c.args.self.now.console) (clock_of x) c.in-Took.edges.items) (sym t.3)
     (c.in-Took.ensures.edges s st) in
-    turn_comes c.args.self.now c.take_turn.new.self c.in-Took.edges.items start handed none t.4 t.5 t.6 left t.2 on
-    (c.in-Took.ensures.time).1 (c.args.self.now).short
+    edges_come c.args.self.now c.take_turn.new.self c.in-Took.edges.items start handed none t.4 t.5 t.6 left
+    (turn_has_few c.args.self.now.limit c.args.self.now.console c.take_turn.new.self.console c.in-Took.edges.items t.2 on
+    (c.in-Took.ensures.time).1) (c.args.self.now).short
     (approach_turn c.args.self.now c.take_turn.new.self c.in-Took.edges.items start c.requires t.4 t.5 run timed) plays
 
 pub returns-in-Entered-clause-further : goal.returns-in-Entered-clause-further
@@ -54,7 +55,9 @@ pub returns-in-Took-clause-nearer : goal.returns-in-Took-clause-nearer
 returns-in-Took-clause-nearer c =
     λ none.
     let t = c.take_turn.ensures in
-    let left = ap (λ n. drop n c.take_turn.new.self.edges.items) t.1 ∙ t.0 in
+    let left = ap (λ n. drop n c.take_turn.new.self.page.items) t.1 ∙ t.0 in
     let on : clock_of c.args.self.now.console < clock_of c.take_turn.new.self.console =
     subst (λ (x : Console). clock_of c.args.self.now.console < clock_of x) (sym t.3) (c.in-Took.ensures.time).0 in
-    turn_is_nearer c.args.self.now c.take_turn.new.self c.in-Took.edges.items left t.2 t.5 on (c.in-Took.ensures.time).1
+    edges_are_nearer c.args.self.now c.take_turn.new.self c.in-Took.edges.items left t.5
+    (turn_has_few c.args.self.now.limit c.args.self.now.console c.take_turn.new.self.console c.in-Took.edges.items t.2 on
+    (c.in-Took.ensures.time).1)

@@ -15,4 +15,4 @@ invariant-loop-self l = record {
 }
 
 abbrev pub decreases-loop-self : goal.decreases-loop-self
-decreases-loop-self l = length l.self.edges.items - l.self.next
+decreases-loop-self l = length l.self.page.items - l.self.next

@@ -1,0 +1,177 @@
+-- Where a visit of a point's instances comes to.
+use Rattle.std.proofs.Common.{◌≡◌, ℕ, ◌+◌, Bool, true, false, Option, Some, None, refl, sym, ◌∙◌, ap, subst, if◌then◌else◌}
+use Rattle.std.specs.Prelude.{slice_get, option_and_then}
+use Rattle.std.specs.Ordering.{nat_cmp}
+use Rattle.std.specs.FinMap.{FinMap}
+use Rattle.uz_schedule.specs.declared.lines.Schedule.{Schedule}
+use Rattle.uz_schedule.specs.declared.states.Instance.{Instance}
+use Rattle.uz_schedule.specs.declared.states.Point.{Point}
+use Rattle.uz_schedule.specs.declared.certificate.Cert.{Cert}
+use Rattle.uz_schedule.specs.Schedule.{start_of, level_at}
+use Rattle.uz_schedule.specs.Instances.{is_in_box, clock_at, instance_of, instance_at_clock, instance_in, instance_at}
+use Rattle.uz_schedule.specs.WellFormed.{WellFormed}
+use Rattle.uz_moves.specs.Moving.{place_at_clock, place_in, IsGrowing, IsOfPoint}
+use Rattle.uz_rules.specs.Limits.{InstanceLimits}
+use Rattle.uz_rules.proofs.LimitsHold.{instance_limits}
+use Rattle.uz_rules.specs.declared.visit.Visit.{Visit}
+use Rattle.uz_rules.specs.Visit.{Keeps, IsVisit, IsAt}
+use Rattle.uz_rules.specs.Local.{local_fail, IsLocal}
+use Rattle.uz_rules.proofs.LocalLaws.{is_local}
+use Rattle.uz_transfer.specs.declared.fail.Fail.{Fail}
+use Rattle.uz_transfer.specs.Step.{IsReadAt}
+
+some_same : {A : Type 0} (a b : A) → Some a ≡ Some b → a ≡ b
+some_same a b e = cc
+
+-- The place of a point
+
+placed : (s : Schedule) (p : Point) (l c clock level : ℕ) → place_in s p l c ≡ Some (clock, level)
+    → instance_in s p l c ≡ Some (instance_of p l c clock level)
+placed s p l c clock level e = by_box (is_in_box p l c) e
+  where
+    by_level : (k : ℕ) (v : Option ℕ) → option_and_then {U = ℕ × ℕ} (λ x. Some (k, x)) v ≡ Some (clock, level)
+        → option_and_then (λ x. Some (instance_of p l c k x)) v ≡ Some (instance_of p l c clock level)
+    by_level k None e = absurd cc
+    by_level k (Some v) e = ap (λ (q : ℕ × ℕ). Some (instance_of p l c q.0 q.1)) (some_same (k, v) (clock, level) e)
+
+    by_clock : (k : Option ℕ) → option_and_then (place_at_clock s l) k ≡ Some (clock, level)
+        → option_and_then (instance_at_clock s p l c) k ≡ Some (instance_of p l c clock level)
+    by_clock None e = absurd cc
+    by_clock (Some k) e = by_level k (level_at s (start_of s l + k)) e
+
+    by_box : (t : Bool) → (if t then option_and_then (place_at_clock s l) (clock_at s p l c) else None) ≡ Some (clock, level)
+        → (if t then option_and_then (instance_at_clock s p l c) (clock_at s p l c) else None) ≡ Some (instance_of p l c clock level)
+    by_box true e = by_clock (clock_at s p l c) e
+    by_box false e = absurd cc
+
+not_placed : (s : Schedule) (p : Point) (l c : ℕ) → place_in s p l c ≡ None → instance_in s p l c ≡ None
+not_placed s p l c e = by_box (is_in_box p l c) e
+  where
+    by_level : (k : ℕ) (v : Option ℕ) → option_and_then {U = ℕ × ℕ} (λ x. Some (k, x)) v ≡ None
+        → option_and_then (λ x. Some (instance_of p l c k x)) v ≡ None
+    by_level k None e = refl
+    by_level k (Some v) e = absurd cc
+
+    by_clock : (k : Option ℕ) → option_and_then (place_at_clock s l) k ≡ None → option_and_then (instance_at_clock s p l c) k ≡ None
+    by_clock None e = refl
+    by_clock (Some k) e = by_level k (level_at s (start_of s l + k)) e
+
+    by_box : (t : Bool) → (if t then option_and_then (place_at_clock s l) (clock_at s p l c) else None) ≡ None
+        → (if t then option_and_then (instance_at_clock s p l c) (clock_at s p l c) else None) ≡ None
+    by_box true e = by_clock (clock_at s p l c) e
+    by_box false e = refl
+
+said_in : (s : Schedule) (p : Point) (l c : ℕ) (inst : Instance) → instance_in s p l c ≡ Some inst → IsOfPoint p inst
+said_in s p l c inst e = by_box (is_in_box p l c) e
+  where
+    by_level : (k : ℕ) (v : Option ℕ) → option_and_then (λ x. Some (instance_of p l c k x)) v ≡ Some inst → IsOfPoint p inst
+    by_level k None e = absurd cc
+    by_level k (Some v) e = record {
+      line = l;
+      count = c;
+      clock = k;
+      level = v;
+      is = sym (some_same (instance_of p l c k v) inst e);
+    }
+
+    by_clock : (k : Option ℕ) → option_and_then (instance_at_clock s p l c) k ≡ Some inst → IsOfPoint p inst
+    by_clock None e = absurd cc
+    by_clock (Some k) e = by_level k (level_at s (start_of s l + k)) e
+
+    by_box : (t : Bool) → (if t then option_and_then (instance_at_clock s p l c) (clock_at s p l c) else None) ≡ Some inst → IsOfPoint p inst
+    by_box true e = by_clock (clock_at s p l c) e
+    by_box false e = absurd cc
+
+-- The point of a certificate
+
+of_point : (cert : Cert) (id l c : ℕ) (p : Point) → slice_get cert.points id ≡ Some p
+    → instance_at cert id l c ≡ instance_in cert.schedule p l c
+of_point cert id l c p found = ap (option_and_then (λ q. instance_in cert.schedule q l c)) found
+
+-- the first instance is made
+pub first_there : (cert : Cert) (id l c : ℕ) (p : Point) (visit : Visit) → slice_get cert.points id ≡ Some p
+    → instance_at cert id l c ≡ Some visit.at → (visit.kept ≡ true → IsGrowing p visit.growing) → IsAt cert id l c p true visit
+first_there cert id l c p visit found e growing = record {
+  is = e;
+  keeps = record {
+    instance = λ k. said_in cert.schedule p l c visit.at (sym (of_point cert id l c p found) ∙ e);
+    growing = growing;
+  };
+}
+
+-- none is kept
+pub first_none : (cert : Cert) (id l c : ℕ) (p : Point) (visit : Visit) → visit.kept ≡ false → instance_at cert id l c ≡ None
+    → IsAt cert id l c p false visit
+first_none cert id l c p visit bare e = record {
+  is = e;
+  keeps = record { instance = λ k. absurd (never k); growing = λ k. absurd (never k) };
+}
+  where
+    never : visit.kept ≡ true → ⊥
+    never k = let both : true ≡ false = sym k ∙ bare in cc
+
+-- the last one is moved
+pub moved_there : (cert : Cert) (id l c clock level : ℕ) (p : Point) (visit : Visit) → slice_get cert.points id ≡ Some p
+    → place_in cert.schedule p l c ≡ Some (clock, level) → visit.at ≡ instance_of p l c clock level → IsGrowing p visit.growing
+    → IsAt cert id l c p true visit
+moved_there cert id l c clock level p visit found e at growing = record {
+  is = of_point cert id l c p found ∙ (placed cert.schedule p l c clock level e ∙ ap (λ i. Some i) (sym at));
+  keeps = record {
+    instance = λ k. record { line = l; count = c; clock = clock; level = level; is = at };
+    growing = λ k. growing;
+  };
+}
+
+pub moved_none : (cert : Cert) (id l c : ℕ) (p : Point) (visit : Visit) → slice_get cert.points id ≡ Some p
+    → place_in cert.schedule p l c ≡ None → Keeps p visit → IsAt cert id l c p false visit
+moved_none cert id l c p visit found e keeps = record {
+  is = of_point cert id l c p found ∙ not_placed cert.schedule p l c e;
+  keeps = keeps;
+}
+
+-- an instance at which a visit stands is within limits
+pub there_limits : (cert : Cert) (id l c : ℕ) (p : Point) (visit : Visit) → WellFormed cert → IsAt cert id l c p true visit
+    → InstanceLimits cert visit.at
+there_limits cert id l c p visit fits at = instance_limits cert id l c visit.at fits at.is
+
+-- What a visit has of its point
+
+point_same : (p q : Point) → Some p ≡ Some q → p ≡ q
+point_same p q e = cc
+
+pub keeps_all : (image : FinMap nat_cmp ℕ) (cert : Cert) (id : ℕ) (p : Point) (visit : Visit) → IsVisit image cert id visit
+    → slice_get cert.points id ≡ Some p → Keeps p visit
+keeps_all image cert id p visit v found =
+    subst (λ (q : Point). Keeps q visit) (point_same v.point p (sym v.is_point ∙ found)) v.keeps
+
+visit_reads : (image : FinMap nat_cmp ℕ) (cert : Cert) (id : ℕ) (p : Point) (visit : Visit) → IsVisit image cert id visit
+    → slice_get cert.points id ≡ Some p → IsReadAt image p.pc visit.row
+visit_reads image cert id p visit v found =
+    subst (λ (q : Point). IsReadAt image q.pc visit.row) (point_same v.point p (sym v.is_point ∙ found)) v.reads
+
+pub tells : (image : FinMap nat_cmp ℕ) (cert : Cert) (id l c : ℕ) (p : Point) (visit : Visit) (why : Option Fail)
+    → IsVisit image cert id visit → slice_get cert.points id ≡ Some p
+    → why ≡ local_fail image cert p.next.items visit.row (instance_at cert id l c) → IsLocal image cert id l c why
+tells image cert id l c p visit why v found e =
+    is_local image cert id l c p visit.row why found (visit_reads image cert id p visit v found) e
+
+pub goes_on : (image : FinMap nat_cmp ℕ) (cert : Cert) (id : ℕ) (p : Point) (visit after : Visit) → IsVisit image cert id visit
+    → slice_get cert.points id ≡ Some p → after.row ≡ visit.row → Keeps p after → IsVisit image cert id after
+goes_on image cert id p visit after v found same keeps = record {
+  point = p;
+  is_point = found;
+  reads = subst (IsReadAt image p.pc) (sym same) (visit_reads image cert id p visit v found);
+  keeps = keeps;
+}
+
+pub begins : (image : FinMap nat_cmp ℕ) (cert : Cert) (id : ℕ) (p : Point) (visit : Visit) → slice_get cert.points id ≡ Some p
+    → IsReadAt image p.pc visit.row → visit.kept ≡ false → IsVisit image cert id visit
+begins image cert id p visit found reads bare = record {
+  point = p;
+  is_point = found;
+  reads = reads;
+  keeps = record { instance = λ k. absurd (never k); growing = λ k. absurd (never k) };
+}
+  where
+    never : visit.kept ≡ true → ⊥
+    never k = let both : true ≡ false = sym k ∙ bare in cc
