@@ -24,7 +24,7 @@ use uz_schedule::{
 };
 
 /// What the lines of a certificate's text say so far.
-#[derive(Debug, Drop)]
+#[derive(Drop)]
 pub struct Draft {
     /// The version of the text.
     pub version: Version,

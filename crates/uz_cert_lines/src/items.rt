@@ -28,7 +28,7 @@ use uz_cert_words::{
 use uz_schedule::{Bit, Cell, Fact, Kind, PairFact, SCANLINE, Span, is_top};
 
 /// What the items of a line may say.
-#[derive(Clone, Copy, Debug)]
+#[derive(Clone, Copy)]
 pub struct Shape {
     /// What the line's state belongs to.
     pub kind: Kind,
@@ -43,7 +43,7 @@ pub struct Shape {
 }
 
 /// What the items of a line say.
-#[derive(Debug, Drop)]
+#[derive(Drop)]
 pub struct Facts {
     /// The least place in the order of items that the next one may have.
     pub least: u32,

@@ -39,7 +39,7 @@ const WHOLE: u32 = SCANLINE as u32;
 const HALF: u32 = HALF_LINE as u32;
 
 /// How many of each there are.
-#[derive(Clone, Copy, Debug)]
+#[derive(Clone, Copy)]
 pub struct Sizes {
     pub kinds: u32,
     pub lines: u32,
@@ -49,7 +49,7 @@ pub struct Sizes {
 }
 
 /// The stack's lowest and highest address, and what main and handler may push.
-#[derive(Clone, Copy, Debug)]
+#[derive(Clone, Copy)]
 pub struct StackLine {
     pub lo: u16,
     pub hi: u16,
@@ -58,7 +58,7 @@ pub struct StackLine {
 }
 
 /// How many events a kind of line has, and its length.
-#[derive(Clone, Copy, Debug)]
+#[derive(Clone, Copy)]
 pub struct KindLine {
     pub events: u32,
     /// The clocks of a line of this kind.
@@ -66,14 +66,14 @@ pub struct KindLine {
 }
 
 /// Lines of one kind that follow each other.
-#[derive(Clone, Copy, Debug)]
+#[derive(Clone, Copy)]
 pub struct Run {
     pub count: u32,
     pub kind: u32,
 }
 
 /// What a line says.
-#[derive(Debug, Drop)]
+#[derive(Drop)]
 pub enum Said {
     /// `size KINDS LINES RESTS POINTS CELLS`
     Size(Sizes),
@@ -568,7 +568,7 @@ fn count_limit(kind: Kind, left: u32, l0: u32, l1: u32, c0: u32) -> u32
 }
 
 /// Where a point stands: what its line says before its items.
-#[derive(Clone, Copy, Debug)]
+#[derive(Clone, Copy)]
 pub struct PointPlace {
     /// What it belongs to.
     pub kind: Kind,

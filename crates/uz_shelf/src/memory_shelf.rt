@@ -13,7 +13,7 @@ use crate::shelf::Shelf;
 use std::alloc::{AllocError, Global};
 
 /// A file's name and bytes, and whether it is open for writing, as only the first of a shelf can be.
-#[derive(Debug, Drop)]
+#[derive(Drop)]
 struct File {
     name: Vec<u8>,
     bytes: Vec<u8>,
@@ -25,7 +25,7 @@ struct File {
 /// A call is one of `load`, `create` and `append`, and calls are counted from 1. A planned fault raises
 /// the count of load or write faults. A planned `load` or `create` leaves the files as they are, and a
 /// planned `append` adds the first `keep` bytes of its piece. With no fault planned the counts stay at 0.
-#[derive(Debug, Drop)]
+#[derive(Drop)]
 pub struct MemoryShelf {
     files: Vec<File>,
     fails: Vec<Fail>,

@@ -11,7 +11,7 @@ use std::alloc::{AllocError, Global};
 ///
 /// A call is a `put`, and calls are counted from 1. A planned fault raises the count and adds the first
 /// `keep` bytes of the piece. With no fault planned the count stays at 0.
-#[derive(Debug, Drop)]
+#[derive(Drop)]
 pub struct MemorySink {
     text: Vec<u8>,
     fails: Vec<Fail>,
