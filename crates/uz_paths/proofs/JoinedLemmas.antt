@@ -1,6 +1,6 @@
 -- Joining points leaves what was asked of a certificate.
 use Rattle.std.proofs.Common.{◌≡◌, ◌∙◌, sym, ap, refl, subst, ℕ, [], length, map}
-use Rattle.std.specs.Prelude.{Contains, Some, slice_get}
+use Rattle.std.specs.Prelude.{Contains, Some, slice_get, Result, Ok, Err, IfOk}
 use Rattle.std.specs.Ordering.{nat_cmp}
 use Rattle.std.specs.FinMap.{FinMap}
 use Rattle.std.proofs.lemmas.Option.{get_or_from_slice_get, slice_get-get_or, slice_get_within}
@@ -87,3 +87,10 @@ found_parts image p entry found parts cert is a ended trails =
       rests = sym a.rests;
     } in
     subst (IsFoundBy image p entry) (sym is) (found_joined image p entry plain (joined_cert p parts) same found_plain)
+
+-- so an answer, where it is one
+pub found_ok : (image : FinMap nat_cmp ℕ) (p : Program) (entry : Entry) (found : Found) (parts : JoinedParts) (answer : Result Cert Program)
+    → IfOk answer (λ cert. cert ≡ joined_cert p parts) → AreJoinedOf p entry found parts → IsEnded image p found
+    → ((x : Instance) → Among found.nodes.keys x → OnTrail image p x) → IfOk answer (IsFoundBy image p entry)
+found_ok image p entry found parts (Ok cert) is a ended trails = found_parts image p entry found parts cert is a ended trails
+found_ok image p entry found parts (Err q) is a ended trails = tt

@@ -182,7 +182,6 @@ fn choose(image: &Image, program: Program, parts: JoinedParts) -> Result<Cert, P
 /// The certificate of an ended search whose points are joined line by line and count by count, where there are points to join line
 /// by line and the check accepts it so; and else the program as it was. Its points say what the instances of the search say, and nothing
 /// else.
-#[tactic(auto, using(crate::proofs::JoinedLemmas::found_parts))]
 pub(crate) fn joined_certificate(
     alloc: Global,
     image: &Image,

@@ -5,6 +5,6 @@ use Rattle.uz_paths.proofs.finding.find_by.Goals as goal
 
 pub returns-clause-found : goal.returns-clause-found
 returns-clause-found c =
-    let found = subst (λ p. IsFoundBy c.args.image.now p c.args.entry c.in_ok-cert.cert) c.in-Err-2.ensures.same
-    c.in_ok-cert.ensures.found in
-    found_joined c.args.image.now c.args.program c.args.entry c.in_ok-cert.cert c.joined.result c.joined.ensures.same found
+    let made = c.in_ok-cert-in-Err-joined_certificate in
+    let found = subst (λ p. IsFoundBy c.args.image.now p c.args.entry made.cert) c.in-Err-joined_certificate.ensures.same made.ensures.found in
+    found_joined c.args.image.now c.args.program c.args.entry made.cert c.joined.result c.joined.ensures.same found
