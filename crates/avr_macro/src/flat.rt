@@ -3,7 +3,7 @@
 use crate::origin::Origin;
 
 /// A text without macros, blocks and includes.
-#[derive(Debug, Drop)]
+#[derive(Drop)]
 pub struct Flat {
     /// Its bytes, of which there are at most 1,048,576. Each line ends in LF.
     pub text: Vec<u8>,

@@ -53,7 +53,7 @@ pub fn text_value(
 }
 
 /// A name with its value.
-#[derive(Debug, Drop)]
+#[derive(Drop)]
 pub struct Setting {
     pub name: Vec<u8>,
     pub value: i64,

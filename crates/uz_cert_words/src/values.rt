@@ -13,7 +13,7 @@ use crate::why::CertWhy;
 use uz_schedule::{Bit, Fact, PairFact, Span, Wide};
 
 /// The forms that a fact's word may have.
-#[derive(Clone, Copy, Debug)]
+#[derive(Clone, Copy)]
 pub struct FactForms {
     /// The least number.
     pub low: u32,
@@ -28,7 +28,7 @@ pub struct FactForms {
 }
 
 /// A fact's word, before its order is asked.
-#[derive(Clone, Copy, Debug)]
+#[derive(Clone, Copy)]
 pub enum Raw {
     /// `*`
     All,

@@ -14,7 +14,7 @@ use std::marker::Model;
 use uz_schedule::Span;
 
 /// What is asked of a number.
-#[derive(Clone, Copy, Debug)]
+#[derive(Clone, Copy)]
 pub struct Asked {
     /// The least number within the limits.
     pub low: u32,
@@ -33,7 +33,7 @@ pub struct Asked {
 }
 
 /// The words of a line that are still to come.
-#[derive(Debug, Drop)]
+#[derive(Drop)]
 pub struct Words<'a> {
     left: Option<&'a [u8]>,
     ended: bool,

@@ -26,7 +26,7 @@ use uz_shelf::{Shelf, Sink, WriteError};
 use uz_soundness::soundness;
 
 /// What comes of a search.
-#[derive(Debug, Drop)]
+#[derive(Drop)]
 pub(crate) enum Found {
     /// What is written to HEX and to CERT, and the line that is printed then.
     Pair {

@@ -19,7 +19,7 @@ use uz_schedule::Cert;
 use uz_soundness::soundness;
 
 /// An image and a certificate that meet all rules. Only `check` makes one.
-#[derive(Debug, Drop)]
+#[derive(Drop)]
 pub struct Accepted {
     image: Image,
     cert: Cert,
@@ -72,7 +72,7 @@ impl Accepted {
 }
 
 /// An image and a certificate that are refused, and the first failing item.
-#[derive(Debug, Drop)]
+#[derive(Drop)]
 pub struct Refused {
     /// The first failing item.
     pub why: RefusedWhy,

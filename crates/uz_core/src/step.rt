@@ -32,7 +32,7 @@ pub enum Why {
 }
 
 /// What a step did.
-#[derive(Clone, Copy, Debug, PartialEq, Eq)]
+#[derive(Clone, Copy, PartialEq, Eq)]
 pub enum Step {
     /// One instruction, of so many clocks. `owed` is true exactly after RETI and BSET 7: one more instruction is made
     /// before the next interrupt. `returned` is true exactly after RETI.

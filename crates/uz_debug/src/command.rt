@@ -37,7 +37,7 @@ pub enum DebugWhy {
 }
 
 /// What a command answers.
-#[derive(Clone, Copy, Debug, PartialEq, Eq)]
+#[derive(Clone, Copy, PartialEq, Eq)]
 pub enum Reply {
     /// The turn where the debugger is now, with the clock and the program counter (a word address).
     At { turn: u32, clock: u64, pc: u16 },

@@ -13,14 +13,14 @@ use std::alloc::{AllocError, Global};
 use uz_shelf::{Sink, WriteError};
 
 /// The status of a command and the line that ends it, with its LF.
-#[derive(Debug, Drop)]
+#[derive(Drop)]
 pub struct Ending {
     pub status: Status,
     pub line: Vec<u8>,
 }
 
 /// Why a command ended before its files were read, with the line that says so.
-#[derive(Debug, Drop)]
+#[derive(Drop)]
 pub enum Failure {
     Unread(Vec<u8>),
     BadInput(Vec<u8>),

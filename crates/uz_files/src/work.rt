@@ -12,7 +12,7 @@ use std::alloc::Global;
 use uz_shelf::{Shelf, Sink, WriteError};
 
 /// What a command writes to its file, and the line that it prints then.
-#[derive(Debug, Drop)]
+#[derive(Drop)]
 pub struct Work {
     pub text: Vec<u8>,
     pub line: Vec<u8>,

@@ -19,7 +19,7 @@ pub const ERASED: u8 = 255;
 /// The flash of an ATmega644, of which some bytes are present.
 ///
 /// A clause sees a finite map from byte addresses, 0 to 65,535, to bytes.
-#[derive(Debug, Drop)]
+#[derive(Drop)]
 pub struct Image {
     cells: Vec<Option<u8>>,
 }

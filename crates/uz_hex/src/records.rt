@@ -26,7 +26,7 @@ pub enum RecordType {
 }
 
 /// How reading goes on after a line.
-#[derive(Clone, Copy, Debug, PartialEq, Eq)]
+#[derive(Clone, Copy, PartialEq, Eq)]
 pub enum Progress {
     /// With the next line, at this base.
     More(u32),

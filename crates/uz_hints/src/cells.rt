@@ -10,7 +10,7 @@ use avr_asm::Hint;
 use uz_schedule::{Cell, Kind, Owner, Span, tracks};
 
 /// A tracked cell, with the value that the handler finds in it at the start.
-#[derive(Clone, Copy, Debug, Default)]
+#[derive(Clone, Copy, Default)]
 pub struct Tracked {
     /// The cell.
     pub cell: Cell,

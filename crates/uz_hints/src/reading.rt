@@ -19,7 +19,7 @@ use uz_hex::Image;
 use uz_schedule::{Cell, Head, Response, Span};
 
 /// What the hints of a source say.
-#[derive(Debug, Drop)]
+#[derive(Drop)]
 pub struct Reading {
     /// The header: response, stack, and cells in order of address.
     pub head: Head,

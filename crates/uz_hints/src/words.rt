@@ -10,7 +10,7 @@ use avr_asm::Hint;
 use uz_schedule::Kind;
 
 /// Where runs enter.
-#[derive(Clone, Copy, Debug)]
+#[derive(Clone, Copy)]
 pub struct Beginning {
     /// Main, or a program that is alone.
     pub kind: Kind,
@@ -19,7 +19,7 @@ pub struct Beginning {
 }
 
 /// The lines of a frame.
-#[derive(Clone, Copy, Debug)]
+#[derive(Clone, Copy)]
 pub struct FrameSize {
     /// How many there are.
     pub lines: u16,
@@ -28,7 +28,7 @@ pub struct FrameSize {
 }
 
 /// The stack's region, and how many bytes main and the handler may push.
-#[derive(Clone, Copy, Debug)]
+#[derive(Clone, Copy)]
 pub struct StackRegion {
     /// Its lowest address.
     pub lo: u16,
@@ -41,7 +41,7 @@ pub struct StackRegion {
 }
 
 /// A fact of a place: both ends are in its range.
-#[derive(Clone, Copy, Debug)]
+#[derive(Clone, Copy)]
 pub struct PlaceRange {
     /// The least number.
     pub lo: u16,

@@ -7,7 +7,7 @@ use std::alloc::{AllocError, Global};
 pub(crate) const NONE: u32 = u32::MAX;
 
 /// A chain, by the numbers of three of its points.
-#[derive(Clone, Copy, Debug, Drop)]
+#[derive(Clone, Copy, Drop)]
 pub(crate) struct Chain {
     /// The first.
     pub(crate) first: u32,
@@ -30,7 +30,7 @@ fn chain_of(id: u32) -> Chain {
 }
 
 /// A chain's place among the others.
-#[derive(Clone, Copy, Debug, Drop, PartialEq, Eq, PartialOrd, Ord)]
+#[derive(Clone, Copy, Drop, PartialEq, Eq, PartialOrd, Ord)]
 struct Rank {
     /// The line of its first point.
     line: u16,
@@ -41,7 +41,7 @@ struct Rank {
 }
 
 /// The chains of a certificate's points.
-#[derive(Debug, Drop)]
+#[derive(Drop)]
 pub(crate) struct Chains {
     /// The chains, numbered from 0.
     pub(crate) chains: Vec<Chain>,

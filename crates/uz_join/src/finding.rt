@@ -11,7 +11,7 @@ use uz_schedule::Point;
 const TRIED: usize = 64;
 
 /// A point that may be joined, in the order in which they are looked at.
-#[derive(Clone, Copy, Debug, Drop, PartialEq, Eq, PartialOrd, Ord)]
+#[derive(Clone, Copy, Drop, PartialEq, Eq, PartialOrd, Ord)]
 struct Candidate {
     /// The key of its shape.
     key: u64,
@@ -22,7 +22,7 @@ struct Candidate {
 }
 
 /// How a point fits a chain.
-#[derive(Clone, Copy, Debug, PartialEq, Eq)]
+#[derive(Clone, Copy, PartialEq, Eq)]
 enum Fit {
     /// Not at all.
     No,
@@ -33,7 +33,7 @@ enum Fit {
 }
 
 /// A chain from which points may go on.
-#[derive(Debug, Drop)]
+#[derive(Drop)]
 struct Open {
     /// Its number.
     number: u32,

@@ -16,7 +16,7 @@ use std::alloc::{AllocError, Global};
 use uz_schedule::{Cert, Entry, Point, Rest, Sequence};
 
 /// The parts of a certificate that joining makes anew.
-#[derive(Debug, Drop)]
+#[derive(Drop)]
 pub(crate) struct Parts {
     /// The rests, with their vectors' numbers among the joined points.
     pub(crate) rests: Sequence<Rest>,
@@ -27,7 +27,7 @@ pub(crate) struct Parts {
 }
 
 /// Points that are joined.
-#[derive(Debug, Drop)]
+#[derive(Drop)]
 pub(crate) struct Joined {
     /// The joined points.
     pub(crate) points: Vec<Point>,

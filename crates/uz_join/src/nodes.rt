@@ -13,7 +13,7 @@ use std::alloc::{AllocError, Global};
 use uz_schedule::{Instance, Point};
 
 /// The points into which instances are joined.
-#[derive(Debug, Drop)]
+#[derive(Drop)]
 pub struct JoinedNodes {
     /// The points.
     pub points: Vec<Point>,

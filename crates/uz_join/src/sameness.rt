@@ -177,7 +177,7 @@ fn is_same_at(a: &Point, b: &Point, line: u16, of_a: u8, of_b: u8) -> bool
 }
 
 /// Where to look for what points say: a choice of speed, of which nothing is believed.
-#[derive(Debug, Drop)]
+#[derive(Drop)]
 pub(crate) struct Guide {
     /// Of each point where its numbers begin; where there are none, each has one number.
     pub(crate) starts: Vec<u32>,

@@ -64,7 +64,7 @@ pub(crate) fn same_shape(axis: Axis, a: &Point, b: &Point) -> bool {
 }
 
 /// By how much each byte grows from one point of a chain to the next, modulo 256.
-#[derive(Clone, Copy, Debug, Drop)]
+#[derive(Clone, Copy, Drop)]
 pub(crate) struct Growth {
     regs: [u8; 32],
     stack: [u8; 32],

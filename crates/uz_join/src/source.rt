@@ -8,7 +8,7 @@ use uz_schedule::{Instance, Kind, Point};
 
 /// Points that are made, and behind them those of instances. An instance may be one of those that a made point stands for: then it has no
 /// point of its own.
-#[derive(Clone, Copy, Debug, Drop)]
+#[derive(Clone, Copy, Drop)]
 pub(crate) struct Source<'a> {
     /// The points that are made.
     pub(crate) made: &'a [Point],

@@ -9,7 +9,7 @@ use crate::facts::is_plain;
 use uz_schedule::{Cert, Point};
 
 /// What is asked of a point whatever the line.
-#[derive(Clone, Copy, Debug)]
+#[derive(Clone, Copy)]
 pub struct Reach {
     /// Whether no fact of the point and of its named successors is `Line`.
     pub plain: bool,

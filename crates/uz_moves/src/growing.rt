@@ -8,7 +8,7 @@ use arrayvec::ArrayVec;
 use uz_schedule::{Fact, PairFact, Point};
 
 /// The places of a point's facts that depend on the line or the count, and which of X, Y and Z don't.
-#[derive(Debug, Drop)]
+#[derive(Drop)]
 pub struct Growing {
     /// Of the registers.
     pub registers: ArrayVec<u8, 32>,

@@ -9,14 +9,14 @@ use std::alloc::{AllocError, Global};
 
 /// The two players' words of one latch. Bits 0 to 11 are B, Y, Select, Start, Up, Down, Left, Right, A, X, L and R
 /// (Uzebox kernel documentation). A set bit means pressed. Bits 12 to 15 are ignored.
-#[derive(Clone, Copy, Debug, PartialEq, Eq)]
+#[derive(Clone, Copy, PartialEq, Eq)]
 pub struct Pad {
     pub one: u16,
     pub two: u16,
 }
 
 /// What changes of pads, beside their list: PORTA's value, how far the list is used, and what the lines show.
-#[derive(Clone, Copy, Debug)]
+#[derive(Clone, Copy)]
 pub struct PadState {
     level: u8,
     next: usize,

@@ -16,7 +16,7 @@ use uz_schedule::Cert;
 use uz_shelf::Shelf;
 
 /// What the check of a pair came to.
-#[derive(Debug, Drop)]
+#[derive(Drop)]
 pub enum Checked {
     /// The pair is accepted.
     Accepted(Accepted),

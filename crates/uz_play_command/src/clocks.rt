@@ -6,7 +6,7 @@ ghost use Rattle.uz_text.specs.Numbers.{number_within as number_from_low};
 use uz_text::number_within;
 
 /// A number of clocks, 1 to 1,000,000,000.
-#[derive(Clone, Copy, Debug)]
+#[derive(Clone, Copy)]
 pub struct Clocks {
     pub count: u32,
     ghost some: { 1 ≤ count },

@@ -6,7 +6,7 @@ use arrayvec::ArrayVec;
 use uz_schedule::{EventKind, Instance};
 
 /// What an instruction makes of an instance.
-#[derive(Debug, Drop)]
+#[derive(Drop)]
 pub struct Next {
     /// What is emitted, and how many clocks after the start: at the instruction's end. RETI emits a leave.
     pub emit: Option<(u8, EventKind)>,

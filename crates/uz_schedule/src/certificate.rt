@@ -6,7 +6,7 @@ use crate::sequence::Sequence;
 use crate::states::{Entry, Point, Rest};
 
 /// The claim that a program keeps the timing of a frame's lines, with what shows it.
-#[derive(Debug, Drop)]
+#[derive(Drop)]
 pub struct Cert {
     /// What is said once.
     pub head: Head,

@@ -3,7 +3,7 @@
 use crate::ranges::{Span, Wide};
 
 /// What is known of a byte (a register, a stack slot or a cell) at the instances of a point.
-#[derive(Clone, Copy, Debug, Default, PartialEq, Eq)]
+#[derive(Clone, Copy, Default, PartialEq, Eq)]
 pub enum Fact {
     /// Any byte.
     #[default]
@@ -21,7 +21,7 @@ pub enum Fact {
 }
 
 /// What is known of one of the register pairs X, Y and Z at the instances of a point.
-#[derive(Clone, Copy, Debug, PartialEq, Eq)]
+#[derive(Clone, Copy, PartialEq, Eq)]
 pub enum PairFact {
     /// What the two bytes say.
     Any,
@@ -45,7 +45,7 @@ pub enum Bit {
 }
 
 /// What is known of a byte in one instance.
-#[derive(Clone, Copy, Debug, PartialEq, Eq, Hash)]
+#[derive(Clone, Copy, PartialEq, Eq, Hash)]
 pub enum Val {
     /// A byte in a range.
     Range(Span),

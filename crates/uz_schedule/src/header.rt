@@ -5,7 +5,7 @@ use crate::ranges::Span;
 use arrayvec::ArrayVec;
 
 /// A byte of RAM whose values the certificate tracks.
-#[derive(Clone, Copy, Debug, Default, PartialEq, Eq)]
+#[derive(Clone, Copy, Default, PartialEq, Eq)]
 pub struct Cell {
     /// Its address in the data space, 256 to 4351, off the stack.
     pub at: u16,
@@ -16,7 +16,7 @@ pub struct Cell {
 }
 
 /// What a certificate says once, for all its points.
-#[derive(Debug, Drop)]
+#[derive(Drop)]
 pub struct Head {
     /// The clocks of an interrupt entry.
     pub irq: Response,

@@ -13,7 +13,7 @@ use std::marker::Model;
 
 /// The events of a kind of line, in their order. Contracts see it as their list. Beside them those of sync are kept once
 /// more, apart, so that the last level before a clock is found without going over pixels.
-#[derive(Debug, Drop)]
+#[derive(Drop)]
 pub struct LineEvents {
     events: Vec<Event>,
     syncs: Vec<Event>,

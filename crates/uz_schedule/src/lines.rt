@@ -26,7 +26,7 @@ pub struct Event {
 }
 
 /// The events of a frame's lines.
-#[derive(Debug, Drop)]
+#[derive(Drop)]
 pub struct Schedule {
     /// The kinds of line: of each its events, clocks rising.
     pub kinds: Sequence<LineEvents>,

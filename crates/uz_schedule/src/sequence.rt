@@ -7,7 +7,7 @@ use std::marker::Model;
 
 /// A vector whose value, in contracts, is the list of its elements. Public fields of certificates that hold a vector
 /// are of this type. Only `push` takes memory.
-#[derive(Debug, Drop)]
+#[derive(Drop)]
 pub struct Sequence<T> {
     items: Vec<T>,
 }

@@ -7,7 +7,7 @@ use crate::ranges::{Span, Wide};
 use arrayvec::ArrayVec;
 
 /// Where the handler of a line returns to the main loop, and what holds there.
-#[derive(Debug, Drop)]
+#[derive(Drop)]
 pub struct Rest {
     /// The line, counted from 0.
     pub line: u16,
@@ -20,7 +20,7 @@ pub struct Rest {
 }
 
 /// The states at which the claim of a certificate begins.
-#[derive(Debug, Drop)]
+#[derive(Drop)]
 pub struct Entry {
     /// Main or alone.
     pub kind: Kind,
@@ -43,7 +43,7 @@ pub struct Entry {
 }
 
 /// A place of the program, for a box of lines and counts of a loop.
-#[derive(Debug, Drop)]
+#[derive(Drop)]
 pub struct Point {
     /// What it belongs to.
     pub kind: Kind,
@@ -83,7 +83,7 @@ pub struct Point {
 }
 
 /// A point at one line and one count of its box.
-#[derive(Debug, Drop, PartialEq, Eq, Hash)]
+#[derive(Drop, PartialEq, Eq, Hash)]
 pub struct Instance {
     /// What it belongs to.
     pub kind: Kind,

@@ -22,7 +22,7 @@ use uz_rules::{Fail, Next};
 use uz_schedule::{Instance, Kind};
 
 /// Why an instance ends the search.
-#[derive(Debug, Drop)]
+#[derive(Drop)]
 pub(crate) enum Stop {
     /// A trail that ends in it is refused, for this reason.
     Stuck(Fail),

@@ -9,7 +9,7 @@ use uz_rules::Fail;
 use uz_schedule::{Instance, Sequence};
 
 /// Why no certificate is found.
-#[derive(Debug, Drop)]
+#[derive(Drop)]
 pub enum NotFound {
     /// The trail's last instance can't be certified, for this reason.
     Stuck {

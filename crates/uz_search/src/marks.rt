@@ -10,7 +10,7 @@ use crate::program::Program;
 use uz_schedule::{EventKind, Instance};
 
 /// What the first instance that passes a position shows there.
-#[derive(Clone, Copy, Debug)]
+#[derive(Clone, Copy)]
 pub struct Mark {
     /// The event, or None where it passes with none.
     pub event: Option<EventKind>,

@@ -19,7 +19,7 @@ use uz_schedule::{Head, Instance, Kind, Schedule, Sequence, handler_entry};
 use uz_transfer::copied;
 
 /// What a search is told of a program, beside its image.
-#[derive(Debug, Drop)]
+#[derive(Drop)]
 pub struct Program {
     /// The header: response, stack and cells.
     pub head: Head,

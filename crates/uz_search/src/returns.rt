@@ -9,7 +9,7 @@ use std::alloc::AllocError;
 use uz_schedule::{Instance, Span};
 
 /// The first return found on a line.
-#[derive(Debug, Drop)]
+#[derive(Drop)]
 pub struct Return {
     /// The clock of its line at which it ends.
     pub clock: u16,

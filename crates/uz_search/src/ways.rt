@@ -8,7 +8,7 @@ fn number_of(place: usize) -> u32 {
 }
 
 /// The places of the instances where each one leads, in one list. A return leads to none.
-#[derive(Debug, Drop)]
+#[derive(Drop)]
 pub struct Ways {
     /// Where the part of each instance begins.
     starts: Vec<u32>,

@@ -6,7 +6,7 @@ ghost use Rattle.uz_shelf.specs.Planned.{planned_fail};
 /// The call of that number fails, counted from 1 over all trait methods of the object.
 ///
 /// Of several entries with one number the first holds. No entry makes a call past number 2^32 - 1 fail.
-#[derive(Clone, Copy, Debug, PartialEq, Eq)]
+#[derive(Clone, Copy, PartialEq, Eq)]
 pub struct Fail {
     /// The number of the call, from 1.
     pub call: u32,

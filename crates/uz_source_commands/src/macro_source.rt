@@ -14,7 +14,7 @@ use uz_files::{Failure, bad_input, unread};
 use uz_shelf::Shelf;
 
 /// A flat text with its origins, and the names of the files that they speak of.
-#[derive(Debug, Drop)]
+#[derive(Drop)]
 pub(crate) struct Expanded {
     pub flat: Flat,
     pub names: Vec<String>,

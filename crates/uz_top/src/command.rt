@@ -14,7 +14,7 @@ use uz_play_command::{Clocks, number_of_clocks};
 use uz_text::{number, number_within};
 
 /// A command, with the names of its files.
-#[derive(Clone, Copy, Debug)]
+#[derive(Clone, Copy)]
 pub(crate) enum Command<'a> {
     Check {
         hex: &'a str,

@@ -4,7 +4,7 @@ use arrayvec::ArrayVec;
 use uz_schedule::{EventKind, Instance};
 
 /// A pc, and the clocks that it takes to come there.
-#[derive(Clone, Copy, Debug, Default, PartialEq, Eq)]
+#[derive(Clone, Copy, Default, PartialEq, Eq)]
 pub struct Exit {
     /// A word address.
     pub pc: u16,
@@ -14,7 +14,7 @@ pub struct Exit {
 
 /// What an instruction makes of an instance. OCR1A, TEMP, registers, pairs, flags, stack and cells are the
 /// same wherever it goes.
-#[derive(Debug, Drop)]
+#[derive(Drop)]
 pub struct Step {
     /// Its OCR1A, TEMP, registers, pairs, flags, stack and cells are those of each result; the rest is the instance's own.
     pub draft: Instance,
