@@ -3,7 +3,7 @@
 ghost use Rattle.std.specs.Prelude.{◌≡◌};
 ghost use Rattle.uz_debug.specs.WhyNames.{script_why_name};
 
-use std::alloc::{AllocError, AllocFailed};
+use uz_text::{LineError, LineWhy};
 
 /// Why a line is refused, in the order of the numbers, from 1.
 #[derive(Clone, Copy, Debug, PartialEq, Eq)]
@@ -32,37 +32,16 @@ impl ScriptWhy {
     }
 }
 
+impl LineWhy for ScriptWhy {
+    ghost use Rattle.std.specs.Prelude.{◌≡◌};
+    ghost use Rattle.uz_debug.specs.declared.errors.ScriptWhy.TheVariants.{Memory};
+
+    ghost memory = { Memory };
+
+    fn memory() -> ScriptWhy {
+        ScriptWhy::Memory
+    }
+}
+
 /// The first faulty line, counted from 1, and why it is refused. With `Memory` the line is 0.
-#[derive(Clone, Copy, Debug, PartialEq, Eq)]
-pub struct ScriptError {
-    pub line: u32,
-    pub why: ScriptWhy,
-}
-
-impl From<AllocError> for ScriptError {
-    ghost use Rattle.std.specs.Prelude.{◌≡◌};
-    ghost use Rattle.uz_debug.specs.declared.errors.ScriptWhy.TheVariants.{Memory};
-
-    ghost from_gives = { λ _ e. (e.line ≡ 0) × (e.why ≡ Memory) };
-
-    fn from(_e: AllocError) -> ScriptError {
-        ScriptError {
-            line: 0,
-            why: ScriptWhy::Memory,
-        }
-    }
-}
-
-impl<T: Drop> From<AllocFailed<T>> for ScriptError {
-    ghost use Rattle.std.specs.Prelude.{◌≡◌};
-    ghost use Rattle.uz_debug.specs.declared.errors.ScriptWhy.TheVariants.{Memory};
-
-    ghost from_gives = { λ _ e. (e.line ≡ 0) × (e.why ≡ Memory) };
-
-    fn from(_e: AllocFailed<T>) -> ScriptError {
-        ScriptError {
-            line: 0,
-            why: ScriptWhy::Memory,
-        }
-    }
-}
+pub type ScriptError = LineError<ScriptWhy>;

@@ -3,7 +3,7 @@
 ghost use Rattle.std.specs.Prelude.{◌≡◌};
 ghost use Rattle.uz_pads.specs.WhyNames.{pad_why_name};
 
-use std::alloc::{AllocError, AllocFailed};
+use uz_text::{LineError, LineWhy};
 
 /// Why a line is refused, in the order of the numbers, from 1.
 #[derive(Clone, Copy, Debug, PartialEq, Eq)]
@@ -29,37 +29,16 @@ impl PadWhy {
     }
 }
 
+impl LineWhy for PadWhy {
+    ghost use Rattle.std.specs.Prelude.{◌≡◌};
+    ghost use Rattle.uz_pads.specs.declared.errors.PadWhy.TheVariants.{Memory};
+
+    ghost memory = { Memory };
+
+    fn memory() -> PadWhy {
+        PadWhy::Memory
+    }
+}
+
 /// The first faulty line, counted from 1, and why it is refused. With `Memory` the line is 0.
-#[derive(Clone, Copy, Debug, PartialEq, Eq)]
-pub struct PadError {
-    pub line: u32,
-    pub why: PadWhy,
-}
-
-impl From<AllocError> for PadError {
-    ghost use Rattle.std.specs.Prelude.{◌≡◌};
-    ghost use Rattle.uz_pads.specs.declared.errors.PadWhy.TheVariants.{Memory};
-
-    ghost from_gives = { λ _ e. (e.line ≡ 0) × (e.why ≡ Memory) };
-
-    fn from(_e: AllocError) -> PadError {
-        PadError {
-            line: 0,
-            why: PadWhy::Memory,
-        }
-    }
-}
-
-impl<T: Drop> From<AllocFailed<T>> for PadError {
-    ghost use Rattle.std.specs.Prelude.{◌≡◌};
-    ghost use Rattle.uz_pads.specs.declared.errors.PadWhy.TheVariants.{Memory};
-
-    ghost from_gives = { λ _ e. (e.line ≡ 0) × (e.why ≡ Memory) };
-
-    fn from(_e: AllocFailed<T>) -> PadError {
-        PadError {
-            line: 0,
-            why: PadWhy::Memory,
-        }
-    }
-}
+pub type PadError = LineError<PadWhy>;
