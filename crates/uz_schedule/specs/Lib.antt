@@ -6,6 +6,7 @@ pub mod Levels
 pub mod Limits
 pub mod LineEvents
 pub mod Lines
+pub mod Numbers
 pub mod Schedule
 pub mod Tracked
 pub mod WellFormed

@@ -45,7 +45,7 @@ pub enum Bit {
 }
 
 /// What is known of a byte in one instance.
-#[derive(Clone, Copy, PartialEq, Eq, Hash)]
+#[derive(Clone, Copy, PartialEq, Eq)]
 pub enum Val {
     /// A byte in a range.
     Range(Span),

@@ -6,7 +6,7 @@ ghost use Rattle.std.specs.Prelude.{◌≡◌, ◌≤◌, ◌↔◌, IsSome, IfS
 use std::marker::Model;
 
 /// A range of bytes, both ends in it: `lo <= hi` holds of every value.
-#[derive(Clone, Copy, PartialEq, Eq, Hash)]
+#[derive(Clone, Copy, PartialEq, Eq)]
 pub struct Span {
     lo: u8,
     hi: u8,
@@ -87,7 +87,7 @@ impl Default for Span {
 }
 
 /// A range of 16-bit numbers, both ends in it: `lo <= hi` holds of every value.
-#[derive(Clone, Copy, PartialEq, Eq, Hash)]
+#[derive(Clone, Copy, PartialEq, Eq)]
 pub struct Wide {
     lo: u16,
     hi: u16,
