@@ -87,7 +87,8 @@ fn tell_advance(rt: HostRuntime, schedule: &Schedule, row: &mut Row) -> Result<(
 {
     let line = row.short();
     if usize::from(line) < schedule.lines.len() {
-        println!(rt; "{:?}", schedule.advance(line, row.short()))?;
+        let (line, clock) = schedule.advance(line, row.short());
+        println!(rt; "({line}, {clock})")?;
     }
     Ok(())
 }

@@ -24,24 +24,29 @@ mod row;
 use anyhow::Result;
 use row::Row;
 use std::mem::size_of;
-use uz_cert::read_cert;
+use uz_cert::{CertError, read_cert};
 use uz_schedule::{Cert, Point};
 
 /// A point is kept small, since a certificate may have 524,288 of them.
 const _: () = prove!(size_of::<Point>() < 600);
+
+/// Says what is wrong with a text that is no certificate.
+fn tell_fault(rt: HostRuntime, fault: CertError) -> Result<()> {
+    println!(rt; "line {} {:?}", fault.line, fault.why)?;
+    Ok(())
+}
 
 /// The certificate of a text. Says what is wrong with a text that is none.
 fn read(rt: HostRuntime, text: &[u8]) -> Result<Option<Cert>> {
     if text.len() >= 1_000_000 {
         return Ok(None);
     }
-    match read_cert(rt.alloc(), text) {
-        Ok(cert) => Ok(Some(cert)),
-        Err(error) => {
-            println!(rt; "line {} {:?}", error.line, error.why)?;
-            Ok(None)
-        }
-    }
+    let fault = match read_cert(rt.alloc(), text) {
+        Ok(cert) => return Ok(Some(cert)),
+        Err(fault) => fault,
+    };
+    tell_fault(rt, fault)?;
+    Ok(None)
 }
 
 /// What a row says that needs no certificate.
