@@ -3,14 +3,15 @@
 
 ghost use Rattle.std.specs.Prelude.{◌≡◌, ◌<◌, length, map, true};
 ghost use Rattle.uz_schedule.specs.Ends.{whole_byte};
-ghost use Rattle.uz_schedule.specs.Instances.{val_of, cell_span, pairs_of};
+ghost use Rattle.uz_schedule.specs.Instances.{val_of, cell_span};
 ghost use Rattle.uz_transfer.specs.Values.{value_at, span_at};
 ghost use Rattle.uz_transfer.specs.Refusals.{range_inside};
-ghost use Rattle.uz_rules.specs.Inside.{value_inside, all_below, registers_inside, pairs_inside, slots_inside, cells_inside};
+ghost use Rattle.uz_rules.specs.Inside.{value_inside, all_below, registers_inside, slots_inside, cells_inside};
 ghost use Rattle.uz_rules.specs.FactInclusion.{facts_inside};
 
-use crate::facts::{cell_by, pairs_by};
-use crate::inclusion::{flags_inside, pairs_inside, span_inside, value_inside};
+use crate::facts::cell_by;
+use crate::inclusion::{flags_inside, span_inside, value_inside};
+use crate::pair_inclusion::pairs_in_facts;
 use uz_schedule::{Fact, Instance, Point, Span, Val, val_of};
 
 /// Whether a range is one of bytes, as each is.
@@ -91,17 +92,6 @@ fn cells_in_facts(spans: &[Span], facts: &[Fact], line: u16, count: u8) -> bool
     ensures { result ≡ cells_inside spans.now (map (cell_span line count) facts.now) }
 {
     spans.len() == facts.len() && spans_in_facts(spans, facts, line, count)
-}
-
-/// Whether the pairs X, Y and Z lie in what the point's facts say of them.
-pub(crate) fn pairs_in_facts(at: &Instance, point: &Point, count: u8) -> bool
-    ensures { result ≡ pairs_inside at.now.pairs
-        (pairs_of at.now.line count (map (val_of at.now.line count) point.now.regs) point.now.pairs) }
-{
-    pairs_inside(
-        &at.pairs,
-        &pairs_by(&point.pairs, &point.regs, at.line, count),
-    )
 }
 
 /// Whether all that is known in an instance lies in what a point's facts say at the instance's line and this count.
