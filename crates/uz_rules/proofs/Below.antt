@@ -18,6 +18,14 @@ below_more n test = let e : n + 1 ≡ suc n = omega arith in ap (λ m. all_below
 pub below_passed : (n : ℕ) (test : ℕ → Bool) → all_below n test ≡ true → test n ≡ true → all_below (n + 1) test ≡ true
 below_passed n test all here = rw (below_more n test, all, here) refl
 
+pub below_three : (test : ℕ → Bool) → all_below 3 test ≡ (test 0 && (test 1 && test 2))
+unfolding all_below
+below_three test = by_first (test 0)
+  where
+    by_first : (t : Bool) → ((t && test 1) && test 2) ≡ (t && (test 1 && test 2))
+    by_first true = refl
+    by_first false = refl
+
 -- where one test fails, not all hold
 pub below_failed : (n k : ℕ) (test : ℕ → Bool) → k < n → test k ≡ false → all_below n test ≡ false
 below_failed n k test h f = by_case (all_below n test) refl

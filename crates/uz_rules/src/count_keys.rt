@@ -8,9 +8,9 @@ ghost use Rattle.uz_transfer.specs.Refusals.{range_inside};
 ghost use Rattle.uz_rules.specs.Inside.{value_inside, all_below};
 ghost use Rattle.uz_rules.specs.FactInclusion.{facts_inside};
 
-use crate::fact_inclusion::pairs_in_facts;
 use crate::facts::{cell_by, value_by};
 use crate::inclusion::{span_inside, value_inside};
+use crate::pair_inclusion::pairs_in_facts;
 use crate::periods::Periods;
 use uz_schedule::{Fact, Instance, Point, Span, Val};
 

@@ -2,24 +2,34 @@
 //! item is compared with its fact, and the first that doesn't lie in it is the last that is looked at.
 
 ghost use Rattle.std.specs.Prelude.{◌≡◌, ◌<◌, length, map, true};
-ghost use Rattle.uz_schedule.specs.Instances.{val_of, cell_span, pairs_of};
+ghost use Rattle.uz_schedule.specs.Ends.{whole_byte};
+ghost use Rattle.uz_schedule.specs.Instances.{val_of, cell_span};
 ghost use Rattle.uz_transfer.specs.Values.{value_at, span_at};
 ghost use Rattle.uz_transfer.specs.Refusals.{range_inside};
-ghost use Rattle.uz_rules.specs.Inside.{value_inside, all_below, registers_inside, pairs_inside, slots_inside, cells_inside};
+ghost use Rattle.uz_rules.specs.Inside.{value_inside, all_below, registers_inside, slots_inside, cells_inside};
 ghost use Rattle.uz_rules.specs.FactInclusion.{facts_inside};
 
-use crate::facts::{cell_by, pairs_by};
-use crate::inclusion::{flags_inside, pairs_inside, span_inside, value_inside};
+use crate::facts::cell_by;
+use crate::inclusion::{flags_inside, span_inside, value_inside};
+use crate::pair_inclusion::pairs_in_facts;
 use uz_schedule::{Fact, Instance, Point, Span, Val, val_of};
 
+/// Whether a range is one of bytes, as each is.
+fn is_of_bytes(range: &Span) -> bool
+    ensures { result ≡ range_inside range.now whole_byte }
+{
+    range.hi() <= 255
+}
+
 /// Whether what is known of a byte lies in what a fact says of it. Two ranges, or two interrupted registers, are compared as they
-/// stand, which most are; else the value is made that the fact says at this line and count.
+/// stand, which most are, and a range lies in any byte; else the value is made that the fact says at this line and count.
 fn lies_in_fact(val: &Val, fact: &Fact, line: u16, count: u8) -> bool
     ensures { result ≡ value_inside val.now (val_of line count fact.now) }
 {
     match (val, fact) {
         (Val::Range(range), Fact::Between(span)) => span_inside(range, span),
         (Val::Old(r), Fact::Old(s)) => r == s,
+        (Val::Range(range), Fact::Any) => is_of_bytes(range),
         _ => value_inside(val, &val_of(fact, line, count)),
     }
 }
@@ -82,17 +92,6 @@ fn cells_in_facts(spans: &[Span], facts: &[Fact], line: u16, count: u8) -> bool
     ensures { result ≡ cells_inside spans.now (map (cell_span line count) facts.now) }
 {
     spans.len() == facts.len() && spans_in_facts(spans, facts, line, count)
-}
-
-/// Whether the pairs X, Y and Z lie in what the point's facts say of them.
-pub(crate) fn pairs_in_facts(at: &Instance, point: &Point, count: u8) -> bool
-    ensures { result ≡ pairs_inside at.now.pairs
-        (pairs_of at.now.line count (map (val_of at.now.line count) point.now.regs) point.now.pairs) }
-{
-    pairs_inside(
-        &at.pairs,
-        &pairs_by(&point.pairs, &point.regs, at.line, count),
-    )
 }
 
 /// Whether all that is known in an instance lies in what a point's facts say at the instance's line and this count.

@@ -18,7 +18,7 @@ pub(crate) fn span_inside(a: &Span, b: &Span) -> bool
 }
 
 /// Whether a range of pairs lies in another.
-fn wide_inside(a: &Wide, b: &Wide) -> bool
+pub(crate) fn wide_inside(a: &Wide, b: &Wide) -> bool
     ensures { result ≡ range_inside a.now b.now }
 {
     b.lo() <= a.lo() && a.hi() <= b.hi()
@@ -89,7 +89,7 @@ fn registers_inside(a: &[Val; 32], b: &[Val; 32]) -> bool
 
 /// Whether the pairs X, Y and Z lie in others.
 #[tactic(auto, using(crate::proofs::Below::below_none, crate::proofs::Below::below_more))]
-pub(crate) fn pairs_inside(a: &[Wide; 3], b: &[Wide; 3]) -> bool
+fn pairs_inside(a: &[Wide; 3], b: &[Wide; 3]) -> bool
     ensures { result ≡ pairs_inside a.now b.now }
 {
     let mut within = true;

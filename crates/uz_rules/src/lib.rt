@@ -9,6 +9,7 @@ mod inclusion;
 mod laws;
 mod local_rule;
 mod next;
+mod pair_inclusion;
 mod periods;
 mod results;
 mod successors;

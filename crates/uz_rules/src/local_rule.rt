@@ -1,6 +1,8 @@
 //! The local rule: why an instance of a point is refused.
 
 ghost use Rattle.std.specs.Prelude.{◌≡◌, ◌<◌, Ok, Some, length, slice_get};
+ghost use Rattle.uz_machine.specs.Effects.{effect_of};
+ghost use Rattle.uz_machine.specs.OperandRanges.{EffectFits};
 ghost use Rattle.uz_schedule.specs.WellFormed.{WellFormed};
 ghost use Rattle.uz_schedule.specs.Lines.{order_of};
 ghost use Rattle.uz_transfer.specs.Step.{IsReadAt, at_exit};
@@ -18,11 +20,10 @@ use crate::successors::lies_in_any;
 use crate::visit::Visit;
 use avr_decode::decode;
 use avr_table::Instr;
-use uz_core::effect;
 use uz_hex::Image;
 use uz_machine::Effect;
 use uz_schedule::{Cert, EventKind, Instance, Kind, Point, Rest};
-use uz_transfer::{Exit, Fail, Step, main_emits, put_at, step_of_instruction, word_after};
+use uz_transfer::{Exit, Fail, Step, main_emits, put_at, put_step, word_after};
 
 /// The reason, where it stands, else the later one.
 fn refuse_if(stands: bool, why: Fail, later: Option<Fail>) -> Option<Fail>
@@ -76,16 +77,22 @@ pub(crate) fn first_exit(exits: &[Exit]) -> Exit
     }
 }
 
-/// Why RETI is refused. Its draft is put to where it ends.
-fn end_fail(cert: &Cert, at: &Instance, step: Step) -> Option<Fail>
+/// Why RETI is refused. The step's draft is put to where it ends.
+fn end_fail(cert: &Cert, at: &Instance, step: &mut Step) -> Option<Fail>
     requires fits { WellFormed cert.now }
     requires limits { InstanceLimits cert.now at.now }
-    ensures { result ≡ return_fail (rest_in cert.now.rests (end_of cert.now at.now step).line) (end_of cert.now at.now step) }
+    ensures { result ≡ return_fail (rest_in cert.now.rests (end_of cert.now at.now step.old).line) (end_of cert.now at.now step.old) }
 {
     let exit = first_exit(step.exits.as_slice());
-    let mut end = step.draft;
-    put_at(&mut end, &cert.schedule, at, step.emit, step.clears, exit);
-    return_fail(cert.rests.as_slice(), &end)
+    put_at(
+        &mut step.draft,
+        &cert.schedule,
+        at,
+        step.emit,
+        step.clears,
+        exit,
+    );
+    return_fail(cert.rests.as_slice(), &step.draft)
 }
 
 /// Whether what is known after an instruction lies, at each of these exits, in an instance of a named successor. `draft` is put to one exit
@@ -113,18 +120,17 @@ fn lie_in_successors(
     true
 }
 
-/// Whether each result lies in an instance of a named successor.
-fn has_successors(cert: &Cert, next: &[u32], at: &Instance, step: Step) -> bool
+/// Whether each result lies in an instance of a named successor. The step's draft is put to one exit after another.
+fn has_successors(cert: &Cert, next: &[u32], at: &Instance, step: &mut Step) -> bool
     requires fits { WellFormed cert.now }
     requires limits { InstanceLimits cert.now at.now }
-    ensures { result ≡ has_successors cert.now next.now at.now step }
+    ensures { result ≡ has_successors cert.now next.now at.now step.old }
 {
-    let mut draft = step.draft;
     lie_in_successors(
         cert,
         next,
         at,
-        &mut draft,
+        &mut step.draft,
         step.emit,
         step.clears,
         step.exits.as_slice(),
@@ -132,10 +138,10 @@ fn has_successors(cert: &Cert, next: &[u32], at: &Instance, step: Step) -> bool
 }
 
 /// Why the results of an instance are refused.
-fn result_fail(cert: &Cert, next: &[u32], at: &Instance, step: Step) -> Option<Fail>
+fn result_fail(cert: &Cert, next: &[u32], at: &Instance, step: &mut Step) -> Option<Fail>
     requires fits { WellFormed cert.now }
     requires limits { InstanceLimits cert.now at.now }
-    ensures { result ≡ result_fail cert.now next.now at.now step }
+    ensures { result ≡ result_fail cert.now next.now at.now step.old }
 {
     if step.back {
         end_fail(cert, at, step)
@@ -154,32 +160,36 @@ fn compares_edges(cert: &Cert, at: &Instance, step: &Step) -> bool
 }
 
 /// Why an instance is refused, whose instruction has this step.
-fn step_fail(cert: &Cert, next: &[u32], at: &Instance, emits: bool, step: Step) -> Option<Fail>
+fn step_fail(cert: &Cert, next: &[u32], at: &Instance, emits: bool, step: &mut Step) -> Option<Fail>
     requires fits { WellFormed cert.now }
     requires limits { InstanceLimits cert.now at.now }
-    ensures { result ≡ step_fail cert.now next.now at.now emits (Ok step) }
+    ensures { result ≡ step_fail cert.now next.now at.now emits (Ok step.old) }
 {
-    if emits || !compares_edges(cert, at, &step) {
+    if emits || !compares_edges(cert, at, step) {
         return Some(Fail::Edge);
     }
     result_fail(cert, next, at, step)
 }
 
-/// Why an instance is refused, under its instruction.
+/// Why an instance is refused, under its instruction and the instruction's effect. `step` is room for its step, whatever it has.
 pub(crate) fn instance_fail(
     image: &Image,
     cert: &Cert,
     next: &[u32],
     i: &Instr,
+    e: Effect,
     at: &Instance,
+    step: &mut Step,
 ) -> Option<Fail>
     requires fits { WellFormed cert.now }
     requires limits { InstanceLimits cert.now at.now }
+    requires effect { e ≡ effect_of i.now }
+    requires operands { EffectFits e }
     ensures { result ≡ instance_fail image.now cert.now next.now (Some i.now) (Some at.now) }
 {
-    let emits = is_main(at) && main_emits(effect(i), at);
-    match step_of_instruction(image, &cert.head, &cert.schedule, at, i) {
-        Ok(step) => step_fail(cert, next, at, emits, step),
+    let emits = is_main(at) && main_emits(e, at);
+    match put_step(image, &cert.head, &cert.schedule, at, i, e, step) {
+        Ok(()) => step_fail(cert, next, at, emits, step),
         Err(why) => Some(why),
     }
 }

@@ -13,7 +13,7 @@ use uz_core::effect;
 use uz_hex::Image;
 use uz_moves::{Growing, growing_of, move_to, place_of};
 use uz_schedule::{Cert, Instance, Point};
-use uz_transfer::Fail;
+use uz_transfer::{Fail, Step};
 
 /// What the local rule keeps of a point while its instances are asked one after another.
 #[derive(Drop)]
@@ -26,6 +26,8 @@ pub struct Visit {
     pub at: Instance,
     /// Which facts of the point depend on the line or the count.
     pub growing: Growing,
+    /// Room for the step of an instance.
+    pub step: Step,
 }
 
 /// Whether a point's box has more than one instance.
@@ -107,11 +109,20 @@ fn row_fail(
     ensures keeps { Keeps point.now visit.new }
     ensures row { visit.new.row ≡ visit.old.row }
 {
-    if is_stop(effect(i)) {
+    let e = effect(i);
+    if is_stop(e) {
         return Some(Fail::Opcode);
     }
     if come_to(visit, cert, id, point, l, c) {
-        instance_fail(image, cert, point.next.as_slice(), i, &visit.at)
+        instance_fail(
+            image,
+            cert,
+            point.next.as_slice(),
+            i,
+            e,
+            &visit.at,
+            &mut visit.step,
+        )
     } else {
         Some(Fail::Box)
     }
@@ -153,6 +164,7 @@ impl Visit {
             kept: false,
             at: Instance::default(),
             growing: Growing::none(),
+            step: Step::empty(),
         }
     }
 

@@ -76,14 +76,14 @@ fn pairs_by(facts: &[PairFact; 3], line: u16, count: u8, regs: &[Val; 32]) -> [W
 }
 
 /// Whether a line and a count are those of a point's box.
-fn is_in_box(point: &Point, line: u16, count: u8) -> bool
+pub fn is_in_box(point: &Point, line: u16, count: u8) -> bool
     ensures { result ≡ box_holds point.now line count }
 {
     (point.l0 <= line && line <= point.l1) && (point.c0 <= count && count <= point.c1)
 }
 
-/// A clock, where it is one of a line of this length.
-fn clock_below(length: u16, clock: i32) -> Option<u16>
+/// A clock, where it is one of a line of this length in clocks: None exactly where it is below 0, or isn't below the length.
+pub fn clock_below(length: u16, clock: i32) -> Option<u16>
     ensures { result ≡ below length clock }
 {
     match u16::try_from(clock) {
@@ -92,8 +92,8 @@ fn clock_below(length: u16, clock: i32) -> Option<u16>
     }
 }
 
-/// The clock of a point at a count.
-fn clock_of(point: &Point, count: u8) -> i32
+/// The clock of a point at a count, by the point's slope. It may be one of no line, also below 0.
+pub fn clock_of(point: &Point, count: u8) -> i32
     ensures { result ≡ pos point.now.clock +ℤ point.now.slope *ℤ pos count }
 {
     i32::from(point.clock) + i32::from(point.slope) * i32::from(count)

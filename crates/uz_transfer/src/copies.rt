@@ -11,9 +11,7 @@ fn copied_vals(from: &[Val]) -> ArrayVec<Val, 32>
     ensures { result.items ≡ from.now }
 {
     let mut copy = ArrayVec::new();
-    if copy.try_extend_from_slice(from).is_err() {
-        unreachable!();
-    }
+    copy_slots(&mut copy, from);
     copy
 }
 
@@ -23,10 +21,30 @@ fn copied_spans(from: &[Span]) -> ArrayVec<Span, 16>
     ensures { result.items ≡ from.now }
 {
     let mut copy = ArrayVec::new();
-    if copy.try_extend_from_slice(from).is_err() {
+    copy_cells(&mut copy, from);
+    copy
+}
+
+/// Slots become copies of others.
+fn copy_slots(slots: &mut ArrayVec<Val, 32>, from: &[Val])
+    requires { length from.now ≤ 32 }
+    ensures { slots.new.items ≡ from.now }
+{
+    slots.clear();
+    if slots.try_extend_from_slice(from).is_err() {
         unreachable!();
     }
-    copy
+}
+
+/// Ranges of cells become copies of others.
+fn copy_cells(cells: &mut ArrayVec<Span, 16>, from: &[Span])
+    requires { length from.now ≤ 16 }
+    ensures { cells.new.items ≡ from.now }
+{
+    cells.clear();
+    if cells.try_extend_from_slice(from).is_err() {
+        unreachable!();
+    }
 }
 
 /// A copy of a value, at once.
@@ -46,4 +64,23 @@ pub fn copied(at: &Instance) -> Instance
         cells: copied_spans(at.cells.as_slice()),
         ..*at
     }
+}
+
+/// An instance becomes a copy of another one.
+pub(crate) fn copy_to(draft: &mut Instance, at: &Instance)
+    ensures { draft.new ≡ at.now }
+{
+    draft.kind = at.kind;
+    draft.pc = at.pc;
+    draft.line = at.line;
+    draft.clock = at.clock;
+    draft.level = at.level;
+    draft.pending = at.pending;
+    draft.top = at.top;
+    draft.temp = at.temp;
+    draft.regs = copy_of(&at.regs);
+    draft.pairs = at.pairs;
+    draft.flags = at.flags;
+    copy_slots(&mut draft.stack, at.stack.as_slice());
+    copy_cells(&mut draft.cells, at.cells.as_slice());
 }

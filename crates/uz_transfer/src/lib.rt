@@ -21,6 +21,6 @@ mod values;
 pub use copies::copied;
 pub use emission::main_emits;
 pub use fail::Fail;
-pub use one_step::{abstract_step, step_of_instruction, word_after};
+pub use one_step::{abstract_step, put_step, word_after};
 pub use place::put_at;
 pub use step::{Exit, Step};

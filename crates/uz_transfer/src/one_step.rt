@@ -1,8 +1,9 @@
 //! The abstract step of an instance under its instruction.
 
-ghost use Rattle.std.specs.Prelude.{Some, ◌≡◌, ◌<◌, ◌≤◌, ◌+◌, ◌-◌, ◌%◌, true, None, length};
+ghost use Rattle.std.specs.Prelude.{Some, ◌≡◌, ◌<◌, ◌≤◌, ◌+◌, ◌-◌, ◌%◌, true, None, length, Ok, Err, OnOk, IfErr};
 ghost use Rattle.avr_table.specs.Rows.{words_of, clocks_of};
 ghost use Rattle.uz_machine.specs.Core.{sample_clock, returns_from_interrupt};
+ghost use Rattle.uz_machine.specs.Effects.{effect_of};
 ghost use Rattle.uz_machine.specs.OperandRanges.{EffectFits};
 ghost use Rattle.avr_table.specs.declared.Outcome.TheVariants.{Next};
 ghost use Rattle.uz_machine.specs.declared.Effect.TheVariants.{Return, SkipIf};
@@ -15,7 +16,7 @@ ghost use Rattle.uz_transfer.specs.Refusals.{fail_of as fail_of_effect};
 ghost use Rattle.uz_transfer.specs.Step.{draft_of as known_after, step_of_row, step_of as step_of_effect, IsStep};
 ghost use Rattle.uz_transfer.specs.declared.fail.Fail.TheVariants.{Clock, Edge};
 
-use crate::copies::copied;
+use crate::copies::copy_to;
 use crate::emission::{clears, emission};
 use crate::exits::exits;
 use crate::fail::Fail;
@@ -94,22 +95,29 @@ fn put_known(
     put_timer(draft, at, sampled, e);
 }
 
-/// The step of an instance under an instruction and its effect.
-pub(crate) fn step_of(
+/// Puts the abstract step of an instance under an instruction in place of another, in a frame of this schedule's lines. Where there is
+/// none, it answers the reason, and what `step` then has isn't told. A caller that asks for many instances keeps one `Step`, so that
+/// little is copied, and finds the instruction's effect `e` once. The head and the instance are within the limits of a certificate; the
+/// schedule has at most 525 lines, the instance's line is one of them, no longer than a scanline, and its clock is one of that line.
+/// Takes no memory.
+pub fn put_step(
     image: &Image,
     head: &Head,
     schedule: &Schedule,
     at: &Instance,
     i: &Instr,
     e: Effect,
-) -> Result<Step, Fail>
+    step: &mut Step,
+) -> Result<(), Fail>
     requires limits { limit_of_depth head.now at.now.kind ≤ 32 }
     requires count { length schedule.now.lines ≤ most_lines }
     requires line { at.now.line < length schedule.now.lines }
     requires long { length_of schedule.now at.now.line ≤ scanline }
     requires clock { at.now.clock < length_of schedule.now at.now.line }
+    requires effect { e ≡ effect_of i.now }
     requires fits { EffectFits e }
-    ensures { result ≡ step_of_effect head.now (order_of schedule.now) image.now e (words_of i.now) (clocks_of i.now) at.now }
+    ensures ok { OnOk result (Ok step.new ≡ step_of_row head.now (order_of schedule.now) image.now (Some i.now) at.now) }
+    ensures err { IfErr result (λ why. Err why ≡ step_of_row head.now (order_of schedule.now) image.now (Some i.now) at.now) }
 {
     if let Some(why) = fail_of(head, e, at) {
         return Err(why);
@@ -117,25 +125,53 @@ pub(crate) fn step_of(
     let Some(emit) = emission(e, at) else {
         return Err(Fail::Edge);
     };
-    let exits = exits(at, head, image, i, e, word_after(at.pc, words(i)));
-    if !clock_holds(schedule, e, at, exits.as_slice()) {
+    step.exits = exits(at, head, image, i, e, word_after(at.pc, words(i)));
+    if !clock_holds(schedule, e, at, step.exits.as_slice()) {
         return Err(Fail::Clock);
     }
-    let mut draft = copied(at);
-    put_known(&mut draft, image, head, schedule.length(at.line), at, i, e);
-    Ok(Step {
-        draft,
-        exits,
-        emit,
-        back: is_return(e),
-        clears: clears(e, at),
-    })
+    copy_to(&mut step.draft, at);
+    put_known(
+        &mut step.draft,
+        image,
+        head,
+        schedule.length(at.line),
+        at,
+        i,
+        e,
+    );
+    step.emit = emit;
+    step.back = is_return(e);
+    step.clears = clears(e, at);
+    Ok(())
+}
+
+/// The abstract step of an instance under an instruction.
+fn step_of(
+    image: &Image,
+    head: &Head,
+    schedule: &Schedule,
+    at: &Instance,
+    i: &Instr,
+) -> Result<Step, Fail>
+    requires limits { limit_of_depth head.now at.now.kind ≤ 32 }
+    requires count { length schedule.now.lines ≤ most_lines }
+    requires line { at.now.line < length schedule.now.lines }
+    requires long { length_of schedule.now at.now.line ≤ scanline }
+    requires clock { at.now.clock < length_of schedule.now at.now.line }
+    ensures { result ≡ step_of_effect head.now (order_of schedule.now) image.now (effect_of i.now) (words_of i.now) (clocks_of i.now)
+        at.now }
+{
+    let mut step = Step::empty();
+    match put_step(image, head, schedule, at, i, effect(i), &mut step) {
+        Ok(()) => Ok(step),
+        Err(why) => Err(why),
+    }
 }
 
 /// The abstract step of an instance, in a frame of this schedule's lines. The head and the instance are within the limits of a
 /// certificate; the schedule has at most 525 lines, the instance's line is one of them, no longer than a scanline, and its clock is
 /// one of that line. A pc counts modulo 32,768 words. Takes no memory.
-#[tactic(auto, using(crate::proofs::StepsOf::steps_some, crate::proofs::StepsOf::steps_none))]
+#[tactic(auto, using(crate::proofs::StepsOf::steps_none))]
 pub fn abstract_step(
     image: &Image,
     head: &Head,
@@ -153,27 +189,7 @@ pub fn abstract_step(
         image.word(word_after(at.pc, 0)),
         image.word(word_after(at.pc, 1)),
     ) {
-        Some(i) => step_of(image, head, schedule, at, &i, effect(&i)),
+        Some(i) => step_of(image, head, schedule, at, &i),
         None => Err(Fail::Opcode),
     }
-}
-
-/// The abstract step of an instance under an instruction, in a frame of this schedule's lines. The head and the instance are within the
-/// limits of a certificate; the schedule has at most 525 lines, the instance's line is one of them, no longer than a scanline, and its
-/// clock is one of that line. Takes no memory.
-pub fn step_of_instruction(
-    image: &Image,
-    head: &Head,
-    schedule: &Schedule,
-    at: &Instance,
-    i: &Instr,
-) -> Result<Step, Fail>
-    requires limits { limit_of_depth head.now at.now.kind ≤ 32 }
-    requires count { length schedule.now.lines ≤ most_lines }
-    requires line { at.now.line < length schedule.now.lines }
-    requires long { length_of schedule.now at.now.line ≤ scanline }
-    requires clock { at.now.clock < length_of schedule.now at.now.line }
-    ensures { result ≡ step_of_row head.now (order_of schedule.now) image.now (Some i.now) at.now }
-{
-    step_of(image, head, schedule, at, i, effect(i))
 }

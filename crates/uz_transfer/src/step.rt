@@ -27,3 +27,16 @@ pub struct Step {
     /// Whether TIFR1 is stored with bit 1 set.
     pub clears: bool,
 }
+
+impl Step {
+    /// A step that leads nowhere: room, to begin with, where one step is put in place of another.
+    pub fn empty() -> Step {
+        Step {
+            draft: Instance::default(),
+            exits: ArrayVec::new(),
+            emit: None,
+            back: false,
+            clears: false,
+        }
+    }
+}
