@@ -8,6 +8,6 @@ mod sameness;
 mod telling;
 
 pub use numbers::{NONE, nones, number_at, number_of};
-pub use points::{point_of, vector_point};
+pub use points::{pair_facts, point_of, vector_point};
 pub use sameness::same_instances;
 pub use telling::say_instances;

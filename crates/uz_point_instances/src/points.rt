@@ -142,8 +142,8 @@ fn is_ambiguous(kind: Kind, flags: &[Bit; 7]) -> bool
     is_default_flag(kind, flags[0]) && is_default_flag(kind, flags[1])
 }
 
-/// The facts of the pairs X, Y and Z.
-fn pair_facts(at: &Instance) -> [PairFact; 3]
+/// The facts of the pairs X, Y and Z, in this order, at the point of an instance. Takes no memory.
+pub fn pair_facts(at: &Instance) -> [PairFact; 3]
     ensures is { result ≡ facts_of_pairs at.now.kind at.now.regs at.now.pairs at.now.flags }
     ensures ordered { AreOrdered 65535 at.now.pairs }
 {
