@@ -6,8 +6,8 @@ use Rattle.std.proofs.lemmas.Bool.{cases_eq}
 use Rattle.uz_schedule.specs.Instances.{pairs_of, val_of}
 use Rattle.uz_schedule.specs.declared.states.Instance.{Instance}
 use Rattle.uz_schedule.specs.declared.states.Point.{Point}
-use Rattle.uz_point_instances.specs.Telling.{AreSaid, AreSaidBack, IsNoted, IsSaid, IsSaidBack, SaidAt, SaidBytes, SaidBy, SaidKept, SaidPlace}
-use Rattle.uz_point_instances.specs.Telling.{SaysInstances}
+use Rattle.uz_point_instances.specs.Telling.{AreSaid, AreSaidBack, IsNoted, IsSaid, IsSaidBack, SaidAt, SaidBytes}
+use Rattle.uz_point_instances.specs.Telling.{SaidBy, SaidKept, SaidPlace, SaysInstances}
 
 -- a list whose elements are made of another one's
 pub map_is : {A B : Type 0} (f : A → B) (xs : List A) (ys : List B) → length xs ≡ length ys

@@ -78,8 +78,8 @@ abbrev pub old_facts : ℕ → ℕ → List Fact
 old_facts k zero = []
 old_facts k (suc n) = OldFact k ∷ old_facts (suc k) n
 
--- where the interrupt is taken at the clocks 0 to 3 of a line, so many clocks pass until the handler's first instruction, and the timer came
--- to this OCR1A
+-- where the interrupt is taken at the clocks 0 to 3 of a line, so many clocks pass until the handler's first instruction, and the timer
+-- came to this OCR1A
 abbrev pub vector_point : List Ends → ℕ → ℕ → ℕ → List ℕ → Point
 vector_point cells line response top next = record {
   kind = Handler;

@@ -4,7 +4,8 @@ ghost use Rattle.std.specs.Prelude.{◌≡◌, ◌≤◌, ◌+ℤ◌, ◌*ℤ◌
 ghost use Rattle.uz_schedule.specs.Ends.{Ends};
 ghost use Rattle.uz_schedule.specs.Instances.{is_in_box as box_holds, pair_by, pairs_of, val_of as val_of_fact};
 ghost use Rattle.uz_schedule.specs.declared.facts.Val.{Val};
-ghost use Rattle.uz_point_instances.specs.Same.{AreTold, IsTold, IsWhollyTold, SameAt, SameBytes, SameInstances, SameKept, SamePairs, SamePlace};
+ghost use Rattle.uz_point_instances.specs.Same.{AreTold, IsTold, IsWhollyTold, SameAt, SameInstances};
+ghost use Rattle.uz_point_instances.specs.Same.{SameBytes, SameKept, SamePairs, SamePlace};
 
 use crate::numbers::{nones, number_at, number_of};
 use std::alloc::{AllocError, Global};
