@@ -1,5 +1,1 @@
 pub mod Growth
-pub mod SameFacts
-pub mod EachLemmas
-pub mod OldFacts
-pub mod TellingLemmas

@@ -15,14 +15,6 @@ pub(crate) enum Axis {
 const MOST_COUNTS: u32 = 256;
 
 impl Axis {
-    /// The line or clock by which points are put in order.
-    pub(crate) fn place(self, point: &Point) -> u16 {
-        match self {
-            Axis::Lines => point.l0,
-            Axis::Counts => point.clock,
-        }
-    }
-
     /// Whether a place may be the second one of a chain that begins at another: the next line, or a later clock.
     pub(crate) fn may_follow(self, from: u16, to: u16) -> bool {
         match self {

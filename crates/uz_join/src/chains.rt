@@ -2,9 +2,7 @@
 
 use crate::source::Source;
 use std::alloc::{AllocError, Global};
-
-/// The number of no point and of no chain.
-pub(crate) const NONE: u32 = u32::MAX;
+use uz_point_instances::{NONE, nones, number_at, number_of};
 
 /// A chain, by the numbers of three of its points.
 #[derive(Clone, Copy, Drop)]
@@ -51,33 +49,11 @@ pub(crate) struct Chains {
     after: Vec<u32>,
 }
 
-/// A number that counts things, of which there are fewer than `NONE`.
-pub(crate) fn number_of(count: usize) -> u32 {
-    u32::try_from(count).unwrap_or(NONE)
-}
-
-/// The number at a place of a list.
-pub(crate) fn number_at(numbers: &[u32], at: u32) -> u32 {
-    match numbers.get(at as usize) {
-        Some(number) => *number,
-        None => NONE,
-    }
-}
-
 /// Puts a number at a place of a list.
 fn put_number(numbers: &mut Vec<u32>, at: u32, number: u32) {
     if let Some(slot) = numbers.get_mut(at as usize) {
         *slot = number;
     }
-}
-
-/// So many times `NONE`.
-pub(crate) fn nones(alloc: Global, count: u32) -> Result<Vec<u32>, AllocError> {
-    let mut numbers = Vec::new(alloc);
-    for _ in 0..count {
-        numbers.push(NONE)?;
-    }
-    Ok(numbers)
 }
 
 impl Chains {

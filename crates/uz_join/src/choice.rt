@@ -4,7 +4,7 @@ ghost use Rattle.std.specs.Prelude.{◌≡◌, true, map};
 ghost use Rattle.uz_schedule.specs.WellFormed.{WellFormed};
 ghost use Rattle.uz_soundness.specs.Acceptance.{Accepts};
 ghost use Rattle.uz_join.specs.Joined.{SameButPoints, rest_unnumbered, entry_unnumbered};
-ghost use Rattle.uz_join.specs.Same.{SameInstances};
+ghost use Rattle.uz_point_instances.specs.Same.{SameInstances};
 
 use crate::joining::{Parts, joined_parts};
 use std::alloc::Global;

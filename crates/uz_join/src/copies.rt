@@ -3,9 +3,9 @@
 ghost use Rattle.std.specs.Prelude.{◌≡◌, ◌≤◌, IfOk, length, map};
 ghost use Rattle.uz_join.specs.Joined.{rest_unnumbered, entry_unnumbered};
 
-use crate::chains::number_at;
 use arrayvec::ArrayVec;
 use std::alloc::{AllocError, Global};
+use uz_point_instances::number_at;
 use uz_schedule::{Entry, Fact, Point, Rest, Sequence, Span};
 
 /// A copy of ranges of cells.

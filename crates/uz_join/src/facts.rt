@@ -47,16 +47,62 @@ pub(crate) fn is_pair_steady(fact: &PairFact, axis: Axis) -> bool {
     }
 }
 
+/// What is known of a byte.
+pub(crate) trait Told {
+    /// The byte, where one is told.
+    fn told(&self) -> Option<u8>;
+
+    /// Whether the same is known.
+    fn is_as(&self, other: &Self) -> bool;
+}
+
+impl Told for Fact {
+    fn told(&self) -> Option<u8> {
+        single(self)
+    }
+
+    fn is_as(&self, other: &Fact) -> bool {
+        *self == *other
+    }
+}
+
+impl Told for Span {
+    fn told(&self) -> Option<u8> {
+        if self.lo() == self.hi() {
+            Some(self.lo())
+        } else {
+            None
+        }
+    }
+
+    fn is_as(&self, other: &Span) -> bool {
+        *self == *other
+    }
+}
+
+impl Told for Val {
+    fn told(&self) -> Option<u8> {
+        match self {
+            Val::Range(span) => span.told(),
+            Val::Old(_) | Val::OldFlags => None,
+        }
+    }
+
+    fn is_as(&self, other: &Val) -> bool {
+        *self == *other
+    }
+}
+
 /// Whether two facts are the same but for the byte that they tell.
-fn same_but_byte(a: &Fact, b: &Fact) -> bool {
-    match (single(a), single(b)) {
+fn same_but_byte<T: Told>(a: &T, b: &T) -> bool {
+    match (a.told(), b.told()) {
         (Some(_), Some(_)) => true,
-        _ => a == b,
+        _ => a.is_as(b),
     }
 }
 
 /// Whether two lists of facts are the same but for the bytes that they tell.
-pub(crate) fn same_but_bytes(a: &[Fact], b: &[Fact]) -> bool {
+pub(crate) fn same_but_bytes<T: Told>(a: &[T], b: &[T]) -> bool {
     if a.len() != b.len() {
         return false;
     }
@@ -69,38 +115,33 @@ pub(crate) fn same_but_bytes(a: &[Fact], b: &[Fact]) -> bool {
 }
 
 /// By how much the byte of a fact grows to that of another, modulo 256: 0 where one of them tells none.
-fn growth(from: &Fact, to: &Fact) -> u8 {
-    match (single(from), single(to)) {
+fn growth<T: Told>(from: &T, to: &T) -> u8 {
+    match (from.told(), to.told()) {
         (Some(from), Some(to)) => to.wrapping_sub(from),
         _ => 0,
     }
 }
 
-/// The growth of the fact at a place.
-fn growth_at(from: &[Fact], to: &[Fact], i: usize) -> u8 {
-    match (from.get(i), to.get(i)) {
-        (Some(from), Some(to)) => growth(from, to),
-        _ => 0,
-    }
-}
-
 /// Writes by how much each byte grows from some facts to others.
-pub(crate) fn put_growths(growths: &mut [u8], from: &[Fact], to: &[Fact]) {
+pub(crate) fn put_growths<T: Told>(growths: &mut [u8], from: &[T], to: &[T]) {
     for i in 0..growths.len() {
-        growths[i] = growth_at(from, to, i);
+        growths[i] = match (from.get(i), to.get(i)) {
+            (Some(from), Some(to)) => growth(from, to),
+            _ => 0,
+        };
     }
 }
 
 /// Whether a fact follows another with this growth of its byte.
-fn follows(by: u8, last: &Fact, new: &Fact) -> bool {
-    match (single(last), single(new)) {
+fn follows<T: Told>(by: u8, last: &T, new: &T) -> bool {
+    match (last.told(), new.told()) {
         (Some(from), Some(to)) => to.wrapping_sub(from) == by,
-        _ => by == 0 && last == new,
+        _ => by == 0 && last.is_as(new),
     }
 }
 
 /// Whether facts follow others with these growths of their bytes.
-pub(crate) fn follow_by(growths: &[u8], last: &[Fact], new: &[Fact]) -> bool {
+pub(crate) fn follow_by<T: Told>(growths: &[u8], last: &[T], new: &[T]) -> bool {
     if last.len() != new.len() {
         return false;
     }
@@ -117,11 +158,13 @@ pub(crate) fn follow_by(growths: &[u8], last: &[Fact], new: &[Fact]) -> bool {
 }
 
 /// How many bytes differ.
-pub(crate) fn differences(a: &[Fact], b: &[Fact]) -> u32 {
+pub(crate) fn differences<T: Told>(a: &[T], b: &[T]) -> u32 {
     let mut count: u32 = 0;
     for i in 0..a.len() {
-        if growth_at(a, b, i) != 0 {
-            count = count.saturating_add(1);
+        if let Some(other) = b.get(i) {
+            if growth(&a[i], other) != 0 {
+                count = count.saturating_add(1);
+            }
         }
     }
     count

@@ -1,11 +1,11 @@
 //! Finding chains: points of one shape, in the order of their lines or clocks, each go on from a chain or begin one.
 
 use crate::axis::Axis;
-use crate::chains::{Chains, number_of};
-use crate::shape::{Growth, distance, goes_on, is_joinable, key, node_key, same_shape};
+use crate::chains::Chains;
+use crate::shape::{Growth, Shaped, distance, goes_on, is_joinable, key, node_key, same_shape};
 use crate::source::{Source, is_node_joinable};
 use std::alloc::{AllocError, Global};
-use uz_schedule::Point;
+use uz_point_instances::number_of;
 
 /// The most chains that are tried for a point, so that the time stays linear in the points.
 const TRIED: usize = 64;
@@ -32,9 +32,9 @@ enum Fit {
     Second(u32),
 }
 
-/// A chain from which points may go on.
-#[derive(Drop)]
-struct Open {
+/// A chain from which others may go on.
+#[derive(Clone, Copy, Drop)]
+struct Open<'a, P: Shaped> {
     /// Its number.
     number: u32,
     /// How many points it has.
@@ -44,11 +44,11 @@ struct Open {
     /// And by how much each byte grows.
     growth: Growth,
     /// Its last point.
-    last: Point,
+    last: &'a P,
 }
 
 /// The open chain of one point.
-fn open_with(number: u32, first: Point) -> Open {
+fn open_with<'a, P: Shaped>(number: u32, first: &'a P) -> Open<'a, P> {
     Open {
         number,
         count: 1,
@@ -59,35 +59,35 @@ fn open_with(number: u32, first: Point) -> Open {
 }
 
 /// From the last point of an open chain to a point: how many lines or clocks.
-fn step_to(axis: Axis, open: &Open, new: &Point) -> u16 {
-    axis.place(new).wrapping_sub(axis.place(&open.last))
+fn step_to<P: Shaped>(axis: Axis, open: &Open<'_, P>, new: &P) -> u16 {
+    new.place(axis).wrapping_sub(open.last.place(axis))
 }
 
 /// An open chain goes on with a point.
-fn go_on(axis: Axis, open: &mut Open, new: Point) {
+fn go_on<'a, P: Shaped>(axis: Axis, open: &mut Open<'a, P>, new: &'a P) {
     if open.count == 1 {
-        open.step = step_to(axis, open, &new);
-        open.growth = Growth::between(&open.last, &new);
+        open.step = step_to(axis, open, new);
+        open.growth = Growth::between(open.last, new);
     }
     open.count = open.count.saturating_add(1);
     open.last = new;
 }
 
 /// How a point fits an open chain: with two points or more it goes on at the same distance, and each byte by the same growth.
-fn fit_to(axis: Axis, open: &Open, new: &Point) -> Fit {
+fn fit_to<P: Shaped>(axis: Axis, open: &Open<'_, P>, new: &P) -> Fit {
     if open.count > 1 {
         if axis.has_room(open.count)
             && step_to(axis, open, new) == open.step
-            && goes_on(axis, &open.growth, &open.last, new)
+            && goes_on(axis, &open.growth, open.last, new)
         {
             Fit::GoesOn
         } else {
             Fit::No
         }
-    } else if axis.may_follow(axis.place(&open.last), axis.place(new))
-        && same_shape(axis, &open.last, new)
+    } else if axis.may_follow(open.last.place(axis), new.place(axis))
+        && same_shape(axis, open.last, new)
     {
-        Fit::Second(distance(&open.last, new))
+        Fit::Second(distance(open.last, new))
     } else {
         Fit::No
     }
@@ -103,7 +103,7 @@ fn better(best: Option<(u32, usize)>, change: u32, at: usize) -> Option<(u32, us
 
 /// The place of the open chain from which a point goes on: the latest that it fits by its growth, and else the chain of one point
 /// from which the fewest bytes change.
-fn place_of(axis: Axis, open: &[Open], new: &Point) -> Option<usize> {
+fn place_of<P: Shaped>(axis: Axis, open: &[Open<'_, P>], new: &P) -> Option<usize> {
     let mut best: Option<(u32, usize)> = None;
     for back in 0..TRIED {
         let at = open.len().wrapping_sub(back).wrapping_sub(1);
@@ -123,31 +123,22 @@ fn place_of(axis: Axis, open: &[Open], new: &Point) -> Option<usize> {
 }
 
 /// Puts the open chain at a place last, so that it is tried first.
-fn put_last(open: &mut Vec<Open>, at: usize) {
+fn put_last<P: Shaped>(open: &mut Vec<Open<'_, P>>, at: usize) {
     let last = open.len().saturating_sub(1);
     if at < last {
         open.as_mut_slice().swap(at, last);
     }
 }
 
-/// Puts an open chain behind the others, of which those are let go that are tried no more.
-fn push_open(open: &mut Vec<Open>, new: Open) -> Result<(), AllocError> {
-    if open.len() >= TRIED {
-        let _oldest = open.remove(0);
-    }
-    open.push(new)?;
-    Ok(())
-}
-
 /// A point goes on from an open chain, or begins one.
-fn add(
+fn add<'a, P: Shaped>(
     axis: Axis,
     chains: &mut Chains,
-    open: &mut Vec<Open>,
+    open: &mut Vec<Open<'a, P>>,
     id: u32,
-    new: Point,
+    new: &'a P,
 ) -> Result<(), AllocError> {
-    match place_of(axis, open.as_slice(), &new) {
+    match place_of(axis, open.as_slice(), new) {
         Some(at) => {
             if let Some(chain) = open.get_mut(at) {
                 chains.go_on(chain.number, id);
@@ -155,31 +146,57 @@ fn add(
             }
             put_last(open, at);
         }
-        None => push_open(open, open_with(chains.begin(id)?, new))?,
+        None => open.push(open_with(chains.begin(id)?, new))?,
     }
     Ok(())
 }
 
-/// Puts the points that are made and may be joined along an axis among the candidates.
-fn push_made(
+/// Chains of points, which are looked at in the order of these candidates; their numbers begin with this one.
+fn chain<P: Shaped>(
+    alloc: Global,
     axis: Axis,
-    source: &Source,
-    candidates: &mut Vec<Candidate>,
+    points: &[P],
+    first: u32,
+    candidates: &[Candidate],
+    chains: &mut Chains,
 ) -> Result<(), AllocError> {
-    for (i, point) in source.made.iter().enumerate() {
-        if is_joinable(point, axis) {
-            candidates.push(Candidate {
-                key: key(axis, point),
-                place: axis.place(point),
-                id: number_of(i),
-            })?;
+    let mut open: Vec<Open<'_, P>> = Vec::new(alloc);
+    let mut key = 0;
+    for candidate in candidates {
+        if candidate.key != key {
+            key = candidate.key;
+            open.clear();
+        }
+        if let Some(new) = points.get(candidate.id.wrapping_sub(first) as usize) {
+            add(axis, chains, &mut open, candidate.id, new)?;
         }
     }
     Ok(())
 }
 
-/// Puts the points of instances that may be joined line by line among the candidates.
-fn push_nodes(source: &Source, candidates: &mut Vec<Candidate>) -> Result<(), AllocError> {
+/// The points that are made and may be joined along an axis: those of one shape beside each other, in the order of their places.
+fn made_candidates(
+    alloc: Global,
+    axis: Axis,
+    source: &Source,
+) -> Result<Vec<Candidate>, AllocError> {
+    let mut candidates = Vec::new(alloc);
+    for (i, point) in source.made.iter().enumerate() {
+        if is_joinable(point, axis) {
+            candidates.push(Candidate {
+                key: key(axis, point),
+                place: point.place(axis),
+                id: number_of(i),
+            })?;
+        }
+    }
+    candidates.as_mut_slice().sort_unstable();
+    Ok(candidates)
+}
+
+/// So the instances that have points of their own and may be joined line by line.
+fn node_candidates(alloc: Global, source: &Source) -> Result<Vec<Candidate>, AllocError> {
+    let mut candidates = Vec::new(alloc);
     for (i, at) in source.nodes.iter().enumerate() {
         let id = source.own_number(number_of(i));
         if is_node_joinable(at) && source.is_there(id) {
@@ -190,34 +207,26 @@ fn push_nodes(source: &Source, candidates: &mut Vec<Candidate>) -> Result<(), Al
             })?;
         }
     }
-    Ok(())
-}
-
-/// The points that may be joined along an axis: those of one shape beside each other, in the order of their places.
-fn candidates(alloc: Global, axis: Axis, source: &Source) -> Result<Vec<Candidate>, AllocError> {
-    let mut candidates = Vec::new(alloc);
-    push_made(axis, source, &mut candidates)?;
-    if axis == Axis::Lines {
-        push_nodes(source, &mut candidates)?;
-    }
     candidates.as_mut_slice().sort_unstable();
     Ok(candidates)
 }
 
 /// The chains of points along an axis.
 pub(crate) fn chains_of(alloc: Global, axis: Axis, source: &Source) -> Result<Chains, AllocError> {
-    let candidates = candidates(alloc, axis, source)?;
     let mut chains = Chains::new(alloc, source.count())?;
-    let mut open: Vec<Open> = Vec::new(alloc);
-    let mut key = 0;
-    for candidate in &candidates {
-        if candidate.key != key {
-            key = candidate.key;
-            open.clear();
-        }
-        if let Some(new) = source.point(candidate.id) {
-            add(axis, &mut chains, &mut open, candidate.id, new)?;
-        }
+    let made = made_candidates(alloc, axis, source)?;
+    chain(alloc, axis, source.made, 0, made.as_slice(), &mut chains)?;
+    if axis == Axis::Lines {
+        let nodes = node_candidates(alloc, source)?;
+        let first = source.own_number(0);
+        chain(
+            alloc,
+            axis,
+            source.nodes,
+            first,
+            nodes.as_slice(),
+            &mut chains,
+        )?;
     }
     chains.begin_others(source)?;
     Ok(chains)

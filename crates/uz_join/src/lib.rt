@@ -12,14 +12,10 @@ mod facts;
 mod finding;
 mod joining;
 mod nodes;
-mod points;
-mod sameness;
 mod shape;
 mod source;
 mod successors;
-mod telling;
 
 pub use choice::{joined, passes};
 pub use copies::{entry_of, rests_of};
 pub use nodes::{JoinedNodes, joined_nodes};
-pub use points::{point_of, vector_point};

@@ -1,15 +1,14 @@
 //! The points into which the instances of a search are joined: none is made of each instance before.
 
 ghost use Rattle.std.specs.Prelude.{◌≡◌, IfOk, IfSome};
-ghost use Rattle.uz_join.specs.Telling.{SaysInstances};
+ghost use Rattle.uz_point_instances.specs.Telling.{SaysInstances};
 
 use crate::axis::Axis;
-use crate::chains::number_at;
 use crate::joining::{Joined, joined_again, joined_along};
 use crate::source::Source;
 use crate::successors::with_number;
-use crate::telling::say_instances;
 use std::alloc::{AllocError, Global};
+use uz_point_instances::{number_at, say_instances};
 use uz_schedule::{Instance, Point};
 
 /// The points into which instances are joined.

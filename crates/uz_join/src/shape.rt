@@ -2,9 +2,10 @@
 
 use crate::axis::Axis;
 use crate::facts::{
-    are_steady, code, differences, follow_by, is_pair_steady, put_growths, same_but_bytes,
+    Told, are_steady, code, differences, follow_by, is_pair_steady, put_growths, same_but_bytes,
     span_code, val_code,
 };
+use uz_point_instances::pair_facts;
 use uz_schedule::{Bit, Fact, Instance, Kind, Point, Span, Val};
 
 /// Whether no fact of a point changes along an axis.
@@ -33,36 +34,6 @@ pub(crate) fn is_joinable(point: &Point, axis: Axis) -> bool {
         }
 }
 
-/// Whether two points say the same of the timer.
-fn same_timer(a: &Point, b: &Point) -> bool {
-    a.pending == b.pending && a.top == b.top && a.temp == b.temp
-}
-
-/// Whether two points stand at the same place of the program, and of the line or of the frame.
-fn same_place(axis: Axis, a: &Point, b: &Point) -> bool {
-    a.kind == b.kind
-        && a.pc == b.pc
-        && match axis {
-            Axis::Lines => {
-                a.clock == b.clock && a.slope == b.slope && a.c0 == b.c0 && a.c1 == b.c1
-            }
-            Axis::Counts => a.l0 == b.l0 && a.l1 == b.l1,
-        }
-}
-
-/// Whether two points have one shape but for what they say of registers, stack and cells.
-fn same_frame(axis: Axis, a: &Point, b: &Point) -> bool {
-    same_place(axis, a, b) && same_timer(a, b) && a.flags == b.flags && a.pairs == b.pairs
-}
-
-/// Whether two points have one shape.
-pub(crate) fn same_shape(axis: Axis, a: &Point, b: &Point) -> bool {
-    same_frame(axis, a, b)
-        && same_but_bytes(&a.regs, &b.regs)
-        && same_but_bytes(a.stack.as_slice(), b.stack.as_slice())
-        && same_but_bytes(a.cells.as_slice(), b.cells.as_slice())
-}
-
 /// By how much each byte grows from one point of a chain to the next, modulo 256.
 #[derive(Clone, Copy, Drop)]
 pub(crate) struct Growth {
@@ -81,37 +52,156 @@ impl Growth {
         }
     }
 
-    /// From one point to another.
-    pub(crate) fn between(from: &Point, to: &Point) -> Growth {
+    /// From one to another.
+    pub(crate) fn between<P: Shaped>(from: &P, to: &P) -> Growth {
         let mut growth = Growth::none();
-        put_growths(&mut growth.regs, &from.regs, &to.regs);
-        put_growths(
-            &mut growth.stack,
-            from.stack.as_slice(),
-            to.stack.as_slice(),
-        );
-        put_growths(
-            &mut growth.cells,
-            from.cells.as_slice(),
-            to.cells.as_slice(),
-        );
+        put_growths(&mut growth.regs, from.regs(), to.regs());
+        put_growths(&mut growth.stack, from.stack(), to.stack());
+        put_growths(&mut growth.cells, from.cells(), to.cells());
         growth
     }
 }
 
-/// Whether a point has the shape of another, and each byte grows by so much from that one to it.
-pub(crate) fn goes_on(axis: Axis, growth: &Growth, last: &Point, new: &Point) -> bool {
-    same_frame(axis, last, new)
-        && follow_by(&growth.regs, &last.regs, &new.regs)
-        && follow_by(&growth.stack, last.stack.as_slice(), new.stack.as_slice())
-        && follow_by(&growth.cells, last.cells.as_slice(), new.cells.as_slice())
+/// What chains are made of: points, and instances in place of their points.
+pub(crate) trait Shaped {
+    /// What is known of a register or of a byte of the stack.
+    type Byte: Told;
+    /// What is known of a cell.
+    type Cell: Told;
+
+    /// The line or clock by which chains are put in order.
+    fn place(&self, axis: Axis) -> u16;
+
+    /// Whether another has the same shape but for what is said of registers, stack and cells.
+    fn same_frame(&self, axis: Axis, other: &Self) -> bool;
+
+    /// What is known of each register.
+    fn regs(&self) -> &[Self::Byte];
+
+    /// What is known of each byte of the stack.
+    fn stack(&self) -> &[Self::Byte];
+
+    /// What is known of each cell.
+    fn cells(&self) -> &[Self::Cell];
 }
 
-/// How many bytes differ in two points.
-pub(crate) fn distance(a: &Point, b: &Point) -> u32 {
-    differences(&a.regs, &b.regs)
-        .saturating_add(differences(a.stack.as_slice(), b.stack.as_slice()))
-        .saturating_add(differences(a.cells.as_slice(), b.cells.as_slice()))
+/// Whether two points say the same of the timer.
+fn same_timer(a: &Point, b: &Point) -> bool {
+    a.pending == b.pending && a.top == b.top && a.temp == b.temp
+}
+
+/// Whether two points stand at the same place of the program, and of the line or of the frame.
+fn same_place(axis: Axis, a: &Point, b: &Point) -> bool {
+    a.kind == b.kind
+        && a.pc == b.pc
+        && match axis {
+            Axis::Lines => {
+                a.clock == b.clock && a.slope == b.slope && a.c0 == b.c0 && a.c1 == b.c1
+            }
+            Axis::Counts => a.l0 == b.l0 && a.l1 == b.l1,
+        }
+}
+
+impl Shaped for Point {
+    type Byte = Fact;
+
+    type Cell = Fact;
+
+    fn place(&self, axis: Axis) -> u16 {
+        match axis {
+            Axis::Lines => self.l0,
+            Axis::Counts => self.clock,
+        }
+    }
+
+    fn same_frame(&self, axis: Axis, other: &Point) -> bool {
+        same_place(axis, self, other)
+            && same_timer(self, other)
+            && self.flags == other.flags
+            && self.pairs == other.pairs
+    }
+
+    fn regs(&self) -> &[Fact] {
+        &self.regs
+    }
+
+    fn stack(&self) -> &[Fact] {
+        self.stack.as_slice()
+    }
+
+    fn cells(&self) -> &[Fact] {
+        self.cells.as_slice()
+    }
+}
+
+/// Whether two instances stand at the same place of the program, and of the line or of the frame.
+fn same_instance_place(axis: Axis, a: &Instance, b: &Instance) -> bool {
+    a.kind == b.kind
+        && a.pc == b.pc
+        && match axis {
+            Axis::Lines => a.clock == b.clock,
+            Axis::Counts => a.line == b.line,
+        }
+}
+
+/// Whether two instances have the same timer.
+fn same_instance_timer(a: &Instance, b: &Instance) -> bool {
+    a.pending == b.pending && a.top == b.top && a.temp == b.temp
+}
+
+impl Shaped for Instance {
+    type Byte = Val;
+
+    type Cell = Span;
+
+    fn place(&self, axis: Axis) -> u16 {
+        match axis {
+            Axis::Lines => self.line,
+            Axis::Counts => self.clock,
+        }
+    }
+
+    fn same_frame(&self, axis: Axis, other: &Instance) -> bool {
+        same_instance_place(axis, self, other)
+            && same_instance_timer(self, other)
+            && self.flags == other.flags
+            && pair_facts(self) == pair_facts(other)
+    }
+
+    fn regs(&self) -> &[Val] {
+        &self.regs
+    }
+
+    fn stack(&self) -> &[Val] {
+        self.stack.as_slice()
+    }
+
+    fn cells(&self) -> &[Span] {
+        self.cells.as_slice()
+    }
+}
+
+/// Whether two have one shape.
+pub(crate) fn same_shape<P: Shaped>(axis: Axis, a: &P, b: &P) -> bool {
+    a.same_frame(axis, b)
+        && same_but_bytes(a.regs(), b.regs())
+        && same_but_bytes(a.stack(), b.stack())
+        && same_but_bytes(a.cells(), b.cells())
+}
+
+/// Whether one has the shape of the last of a chain, and each byte grows by so much from that one to it.
+pub(crate) fn goes_on<P: Shaped>(axis: Axis, growth: &Growth, last: &P, new: &P) -> bool {
+    last.same_frame(axis, new)
+        && follow_by(&growth.regs, last.regs(), new.regs())
+        && follow_by(&growth.stack, last.stack(), new.stack())
+        && follow_by(&growth.cells, last.cells(), new.cells())
+}
+
+/// How many bytes differ.
+pub(crate) fn distance<P: Shaped>(a: &P, b: &P) -> u32 {
+    differences(a.regs(), b.regs())
+        .saturating_add(differences(a.stack(), b.stack()))
+        .saturating_add(differences(a.cells(), b.cells()))
 }
 
 /// The key of no number, and the factor for each: those of the hash FNV-1a of 64 bits.

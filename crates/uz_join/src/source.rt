@@ -1,9 +1,8 @@
 //! What is joined: points that are made, and behind them those of instances, of which each is made where it is looked at.
 
-use crate::chains::{number_at, number_of};
 use crate::copies::copied_point;
-use crate::points::point_of;
 use arrayvec::ArrayVec;
+use uz_point_instances::{number_at, number_of, point_of};
 use uz_schedule::{Instance, Kind, Point};
 
 /// Points that are made, and behind them those of instances. An instance may be one of those that a made point stands for: then it has no

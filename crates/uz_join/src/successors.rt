@@ -1,9 +1,10 @@
 //! Where the points of a chain lead: to at most 16 chains. Where there would be more, a new chain begins.
 
-use crate::chains::{Chains, NONE, number_at, number_of};
+use crate::chains::Chains;
 use crate::source::Source;
 use arrayvec::ArrayVec;
 use std::alloc::{AllocError, Global};
+use uz_point_instances::{NONE, number_at, number_of};
 
 /// How often chains are gone over. Each time those are cut that lead to too many others, and that may have come to be more.
 const PASSES: u32 = 64;

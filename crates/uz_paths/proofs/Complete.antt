@@ -42,7 +42,7 @@ use Rattle.uz_paths.specs.declared.certificate.Parts.{Parts}
 use Rattle.uz_paths.specs.Certificate.{ArePartsOf, IsEntry, ReturnsFromMain, cert_of}
 use Rattle.uz_paths.specs.Linked.{AreEntered, NamesFit, NamesResults, first_after}
 use Rattle.uz_paths.specs.Numbers.{Numbered}
-use Rattle.uz_join.specs.Points.{IsOrdered, point_of, vector_after}
+use Rattle.uz_point_instances.specs.Points.{IsOrdered, point_of, vector_after}
 use Rattle.uz_paths.specs.Rests.{rests_of}
 use Rattle.uz_paths.proofs.Counting.{at_least, sum_few}
 use Rattle.uz_paths.proofs.MadeSchedule.{EventByLine, is_fit, is_made}

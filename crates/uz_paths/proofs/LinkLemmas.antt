@@ -22,7 +22,7 @@ use Rattle.uz_search.specs.Following.{Among, Flash, order_of_program}
 use Rattle.uz_search.specs.Widenings.{widened}
 use Rattle.uz_paths.specs.Linked.{IsVectorAt, IsPointAt, HasName, NamesFit, NamesMore, NamesResults, NamesEntries, NamesVectors, NamesOwn}
 use Rattle.uz_paths.specs.Linked.{ArePointed, ArePoints, HaveNumbers, Renamed}
-use Rattle.uz_join.specs.Points.{AreOrdered, IsOrdered, point_of, vector_after}
+use Rattle.uz_point_instances.specs.Points.{AreOrdered, IsOrdered, point_of, vector_after}
 use Rattle.uz_paths.specs.Successors.{count_below, is_number, with_number}
 use Rattle.uz_paths.specs.Numbers.{IsVectorOf, AreNumbers}
 use Rattle.uz_paths.proofs.NumberLemmas.{at_more, keeps, last_there, more_vector, more_own, none_numbered, numbers_below}

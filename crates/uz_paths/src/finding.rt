@@ -29,19 +29,19 @@ use uz_search_laws::{
 /// The most distinct instances of a search.
 const INSTANCE_LIMIT: u32 = 524288;
 
-/// The certificate of an ended search.
+/// The certificate of an ended search, which is let go when its points are made.
 fn certificate(
     alloc: Global,
     image: &Image,
     program: Program,
     entry: Entry,
-    found: &Found,
+    found: Found,
 ) -> Result<Cert, AllocError>
     requires fits { ProgramFits program }
     requires start { IsEntry program entry }
-    requires ended { IsEnded image.now program found.now }
-    requires few { length found.now.nodes.keys < instance_limit }
-    requires returns { ReturnsFromMain program found.now }
+    requires ended { IsEnded image.now program found }
+    requires few { length found.nodes.keys < instance_limit }
+    requires returns { ReturnsFromMain program found }
     ensures fits { IfOk result WellFormed }
     ensures accepted { IfOk result (Accepts image.now) }
     ensures found { IfOk result (IsFoundBy image.now program entry) }
@@ -59,7 +59,7 @@ fn certificate(
     place_holds();
     known_in_itself();
     ended_accepts();
-    let parts = parts_of(alloc, image, &program, entry, found)?;
+    let parts = parts_of(alloc, image, &program, entry, &found)?;
     Ok(certificate_of(program, parts))
 }
 
@@ -78,7 +78,7 @@ fn find_by(alloc: Global, image: &Image, program: Program, entry: Entry) -> Resu
     match joined_certificate(alloc, image, program, &entry, &found) {
         Ok(cert) => Ok(cert),
         Err(program) => {
-            let cert = certificate(alloc, image, program, entry, &found)?;
+            let cert = certificate(alloc, image, program, entry, found)?;
             Ok(joined(alloc, image, cert))
         }
     }

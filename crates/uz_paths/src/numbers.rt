@@ -8,12 +8,12 @@ ghost use Rattle.uz_schedule.specs.Schedule.{response_clocks};
 ghost use Rattle.uz_schedule.specs.declared.states.Rest.{Rest};
 ghost use Rattle.uz_paths.specs.Linked.{ArePoints};
 ghost use Rattle.uz_paths.specs.Numbers.{AreNumbers};
-ghost use Rattle.uz_join.specs.Points.{AreOrdered, IsOrdered, point_of as point_for, vector_after as vector_for};
+ghost use Rattle.uz_point_instances.specs.Points.{AreOrdered, IsOrdered, point_of as point_for, vector_after as vector_for};
 
 use crate::vectors::vector_of;
 use arrayvec::ArrayVec;
 use std::alloc::{AllocError, Global};
-use uz_join::{point_of, vector_point};
+use uz_point_instances::{point_of, vector_point};
 use uz_schedule::{Instance, Point, Response, Rest, Schedule};
 use uz_search::last_clock;
 

@@ -1,4 +1,4 @@
-use Rattle.uz_join.proofs.SameFacts.{same_as_itself}
+use Rattle.uz_point_instances.proofs.SameFacts.{same_as_itself}
 use Rattle.uz_join.proofs.choice.joined.Goals as goal
 
 pub returns-in_default-clause-instances : goal.returns-in_default-clause-instances

@@ -26,7 +26,7 @@ returns-clause-fits c =
       stand = c.nodes_are_reached.ensures.stand;
     } in
     subst WellFormed (sym c.certificate_of.ensures)
-    (well_formed c.args.image.now c.args.program c.args.entry c.args.found.now c.in_ok-parts.parts laws c.requires.fits c.requires.ended
+    (well_formed c.args.image.now c.args.program c.args.entry c.args.found c.in_ok-parts.parts laws c.requires.fits c.requires.ended
     c.requires.few c.requires.start c.requires.returns c.in_ok-parts.ensures)
 
 pub returns-clause-accepted : goal.returns-clause-accepted
@@ -47,11 +47,11 @@ returns-clause-accepted c =
       stand = c.nodes_are_reached.ensures.stand;
     } in
     subst (Accepts c.args.image.now) (sym c.certificate_of.ensures)
-    (accepted c.args.image.now c.args.program c.args.entry c.args.found.now c.in_ok-parts.parts laws c.requires.fits c.requires.ended
+    (accepted c.args.image.now c.args.program c.args.entry c.args.found c.in_ok-parts.parts laws c.requires.fits c.requires.ended
     c.requires.few c.requires.start c.requires.returns c.in_ok-parts.ensures)
 
 pub returns-clause-found : goal.returns-clause-found
 returns-clause-found c =
-    found_by c.args.image.now c.args.program c.args.entry c.args.found.now c.in_ok-parts.parts c.certificate_of.result
+    found_by c.args.image.now c.args.program c.args.entry c.args.found c.in_ok-parts.parts c.certificate_of.result
     c.certificate_of.ensures c.in_ok-parts.ensures c.requires.ended
-    (λ x among. c.nodes_are_reached.ensures.on_trail c.args.image.now c.args.program c.args.found.now x c.requires.ended among)
+    (λ x among. c.nodes_are_reached.ensures.on_trail c.args.image.now c.args.program c.args.found x c.requires.ended among)

@@ -4,8 +4,8 @@ use Rattle.uz_paths.specs.Finding.{IsFoundBy}
 use Rattle.uz_paths.proofs.JoinedLemmas.{found_joined}
 use Rattle.uz_paths.proofs.finding.find_by.Goals as goal
 
-pub returns-clause-found : goal.returns-clause-found
-returns-clause-found c =
+pub returns-in_ok-cert-in-Err-joined_certificate-clause-found : goal.returns-in_ok-cert-in-Err-joined_certificate-clause-found
+returns-in_ok-cert-in-Err-joined_certificate-clause-found c =
     let made = c.in_ok-cert-in-Err-joined_certificate in
     let found = subst (λ p. IsFoundBy c.args.image.now p c.args.entry made.cert) c.in-Err-joined_certificate.ensures.same made.ensures.found in
     found_joined c.args.image.now c.args.program c.args.entry made.cert c.joined.result c.joined.ensures.same found

@@ -1,0 +1,4 @@
+pub mod EachLemmas
+pub mod OldFacts
+pub mod SameFacts
+pub mod TellingLemmas

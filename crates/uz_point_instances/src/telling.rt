@@ -1,0 +1,391 @@
+//! Whether points say what instances of a search say, and nothing else.
+
+ghost use Rattle.std.specs.Prelude.{◌≡◌, ◌<◌, ◌≤◌, ℕ, IfOk, IfSome, Some, true, length, map, slice_get};
+ghost use Rattle.uz_schedule.specs.Instances.{cell_span, pair_of, pairs_of, val_of as val_of_fact};
+ghost use Rattle.uz_point_instances.specs.Telling.{AreSaid, AreSaidBack, IsNoted, IsOnLine, IsSaid, IsSaidBack, IsSaidOver};
+ghost use Rattle.uz_point_instances.specs.Telling.{SaidAt, SaidBytes, SaidKept, SaidPlace, SaysInstances};
+
+use crate::numbers::{nones, number_of};
+use crate::points::hull_of;
+use crate::sameness::{Guide, clock_of, count_at, is_in_box, offset, same_flags, starts_of};
+use std::alloc::{AllocError, Global};
+use uz_schedule::{Fact, Instance, PairFact, Point, Span, Val, Wide, pair_by, span_of, val_of};
+
+/// Whether a fact says this of a byte at a line and a count.
+fn says(fact: &Fact, val: &Val, line: u16, count: u8) -> bool
+    ensures { result ≡ true → val_of_fact line count fact.now ≡ val.now }
+{
+    val_of(fact, line, count) == *val
+}
+
+/// Whether facts say these values, as many, at a line and a count.
+fn say_each(facts: &[Fact], vals: &[Val], line: u16, count: u8) -> bool
+    requires { length facts.now ≡ length vals.now }
+    ensures { result ≡ true → map (val_of_fact line count) facts.now ≡ vals.now }
+{
+    for i in 0..facts.len() {
+        if !says(&facts[i], &vals[i], line, count) {
+            return false;
+        }
+    }
+    true
+}
+
+/// Whether facts say these values at a line and a count.
+fn say(facts: &[Fact], vals: &[Val], line: u16, count: u8) -> bool
+    ensures { result ≡ true → map (val_of_fact line count) facts.now ≡ vals.now }
+{
+    facts.len() == vals.len() && say_each(facts, vals, line, count)
+}
+
+/// Whether a fact says this range of a cell at a line and a count.
+fn says_cell(fact: &Fact, span: Span, line: u16, count: u8) -> bool
+    ensures { result ≡ true → cell_span line count fact.now ≡ span }
+{
+    span_of(&val_of(fact, line, count)) == span
+}
+
+/// Whether facts say these ranges of cells, as many, at a line and a count.
+fn say_cells_each(facts: &[Fact], spans: &[Span], line: u16, count: u8) -> bool
+    requires { length facts.now ≡ length spans.now }
+    ensures { result ≡ true → map (cell_span line count) facts.now ≡ spans.now }
+{
+    for i in 0..facts.len() {
+        if !says_cell(&facts[i], spans[i], line, count) {
+            return false;
+        }
+    }
+    true
+}
+
+/// Whether facts say these ranges of cells at a line and a count.
+fn say_cells(facts: &[Fact], spans: &[Span], line: u16, count: u8) -> bool
+    ensures { result ≡ true → map (cell_span line count) facts.now ≡ spans.now }
+{
+    facts.len() == spans.len() && say_cells_each(facts, spans, line, count)
+}
+
+/// What a fact says of the pair whose low register is `low`.
+fn pair_in(fact: &PairFact, regs: &[Val; 32], low: usize, line: u16, count: u8) -> Wide
+    requires { low < 31 }
+    ensures { result ≡ pair_of line count regs.now low fact.now }
+{
+    pair_by(fact, line, count, hull_of(regs, low))
+}
+
+/// What facts say of the pairs X, Y and Z.
+fn pairs_in(facts: &[PairFact; 3], regs: &[Val; 32], line: u16, count: u8) -> [Wide; 3]
+    ensures { result ≡ pairs_of line count regs.now facts.now }
+{
+    [
+        pair_in(&facts[0], regs, 26, line, count),
+        pair_in(&facts[1], regs, 28, line, count),
+        pair_in(&facts[2], regs, 30, line, count),
+    ]
+}
+
+/// Whether ranges, as many as others, are the same.
+fn same_ranges_each(a: &[Wide], b: &[Wide]) -> bool
+    requires { length a.now ≡ length b.now }
+    ensures { result ≡ true → a.now ≡ b.now }
+{
+    for i in 0..a.len() {
+        if a[i] != b[i] {
+            return false;
+        }
+    }
+    true
+}
+
+/// Whether ranges are the same.
+fn same_ranges(a: &[Wide], b: &[Wide]) -> bool
+    ensures { result ≡ true → a.now ≡ b.now }
+{
+    a.len() == b.len() && same_ranges_each(a, b)
+}
+
+/// Whether a point's facts say these pairs of an instance.
+fn says_pairs(point: &Point, at: &Instance, line: u16, count: u8) -> bool
+    ensures { result ≡ true → pairs_of line count at.now.regs point.now.pairs ≡ at.now.pairs }
+{
+    same_ranges(&pairs_in(&point.pairs, &at.regs, line, count), &at.pairs)
+}
+
+/// Whether a point has a line and a count, and the instance's line and clock there.
+fn says_place(point: &Point, at: &Instance, line: u16, count: u8) -> bool
+    ensures { result ≡ true → SaidPlace point.now line count at.now }
+{
+    is_in_box(point, line, count)
+        && (at.line == line && i32::from(at.clock) == clock_of(point, count))
+}
+
+/// Whether a point says an instance's place of the program.
+fn says_program(point: &Point, at: &Instance) -> bool
+    ensures { result ≡ true → (at.now.kind ≡ point.now.kind) × (at.now.pc ≡ point.now.pc) }
+{
+    at.kind == point.kind && at.pc == point.pc
+}
+
+/// Whether a point says what an instance says of the timer but for TEMP.
+fn says_timer(point: &Point, at: &Instance) -> bool
+    ensures { result ≡ true → (at.now.pending ≡ point.now.pending) × (at.now.top ≡ point.now.top) }
+{
+    at.pending == point.pending && at.top == point.top
+}
+
+/// Whether a point says what an instance says of TEMP and of flags.
+fn says_rest(point: &Point, at: &Instance) -> bool
+    ensures { result ≡ true → (at.now.temp ≡ point.now.temp) × (at.now.flags ≡ point.now.flags) }
+{
+    at.temp == point.temp && same_flags(&at.flags, &point.flags)
+}
+
+/// Whether a point says what an instance says of the program, the timer and the flags.
+fn says_kept(point: &Point, at: &Instance) -> bool
+    ensures { result ≡ true → SaidKept point.now at.now }
+{
+    says_program(point, at) && (says_timer(point, at) && says_rest(point, at))
+}
+
+/// Whether a point says what an instance says of registers, stack and cells.
+fn says_bytes(point: &Point, at: &Instance, line: u16, count: u8) -> bool
+    ensures { result ≡ true → SaidBytes point.now line count at.now }
+{
+    say(&point.regs, &at.regs, line, count)
+        && (say(point.stack.as_slice(), at.stack.as_slice(), line, count)
+            && say_cells(point.cells.as_slice(), at.cells.as_slice(), line, count))
+}
+
+/// Whether a point says at a line and a count what an instance says.
+#[tactic(auto, using(crate::proofs::TellingLemmas::said))]
+fn is_said(point: &Point, at: &Instance, line: u16, count: u8) -> bool
+    ensures { result ≡ true → IsSaid point.now line count at.now }
+{
+    (says_place(point, at, line, count) && says_kept(point, at))
+        && (says_bytes(point, at, line, count) && says_pairs(point, at, line, count))
+}
+
+/// The count at which the point of a number says what an instance says, where it does.
+fn count_of(points: &[Point], number: u32, at: &Instance) -> Option<u8>
+    ensures { IfSome result (λ c. SaidAt points.now number c at.now) }
+{
+    match points.get(number as usize) {
+        Some(point) => {
+            let count = count_at(point, i32::from(at.clock), 0);
+            if is_said(point, at, at.line, count) {
+                Some(count)
+            } else {
+                None
+            }
+        }
+        None => None,
+    }
+}
+
+/// The number at a place of a list.
+fn number_in(numbers: &[u32], i: usize) -> u32
+    requires { i < length numbers.now }
+    ensures { slice_get numbers.now i ≡ Some result }
+{
+    numbers[i]
+}
+
+/// The instance at a place of a list.
+fn node_in(nodes: &[Instance], i: usize) -> &Instance
+    requires { i < length nodes.now }
+    ensures { slice_get nodes.now i ≡ Some result.now }
+{
+    &nodes[i]
+}
+
+/// The counts at which points say what instances say, each the point of its number; None where one doesn't.
+fn counts_of(
+    alloc: Global,
+    points: &[Point],
+    numbers: &[u32],
+    nodes: &[Instance],
+) -> Result<Option<Vec<u8>>, AllocError>
+    requires { length numbers.now ≡ length nodes.now }
+    ensures { IfOk result (λ o. IfSome o (λ counts. AreSaid points.now numbers.now counts.items nodes.now)) }
+{
+    let mut counts = Vec::new(alloc);
+    for i in 0..nodes.len() {
+        match count_of(points, number_in(numbers, i), node_in(nodes, i)) {
+            Some(count) => counts.push(count)?,
+            None => return Ok(None),
+        }
+    }
+    Ok(Some(counts))
+}
+
+/// Notes an instance at the place of its line and count in the box of its point.
+fn note(guide: &mut Guide, points: &[Point], number: u32, id: u32, at: &Instance, count: u8) {
+    if let Some(point) = points.get(number as usize) {
+        if let Some(start) = guide.starts.get(number as usize) {
+            let place = start.saturating_add(offset(point, at.line, count));
+            if let Some(slot) = guide.numbers.get_mut(place as usize) {
+                *slot = id;
+            }
+        }
+    }
+}
+
+/// From the lines and counts of points back to the instances.
+fn back(
+    alloc: Global,
+    points: &[Point],
+    numbers: &[u32],
+    counts: &[u8],
+    nodes: &[Instance],
+) -> Result<Guide, AllocError> {
+    let (starts, count) = starts_of(alloc, points)?;
+    let mut guide = Guide {
+        starts,
+        numbers: nones(alloc, count)?,
+    };
+    for (i, at) in nodes.iter().enumerate() {
+        if let (Some(number), Some(count)) = (numbers.get(i), counts.get(i)) {
+            note(&mut guide, points, *number, number_of(i), at, *count);
+        }
+    }
+    Ok(guide)
+}
+
+/// Whether the number at a place of a list is this one.
+fn has_number(numbers: &[u32], i: usize, number: usize) -> bool
+    ensures { result ≡ true → slice_get numbers.now i ≡ Some number }
+{
+    match numbers.get(i) {
+        Some(of) => *of as usize == number,
+        None => false,
+    }
+}
+
+/// Whether the count at a place of a list is this one.
+fn has_count(counts: &[u8], i: usize, count: u8) -> bool
+    ensures { result ≡ true → slice_get counts.now i ≡ Some count }
+{
+    match counts.get(i) {
+        Some(of) => *of == count,
+        None => false,
+    }
+}
+
+/// Whether the instance at a place of a list stands on this line.
+fn is_on_line(nodes: &[Instance], i: usize, line: u16) -> bool
+    ensures { result ≡ true → IsOnLine nodes.now i line }
+{
+    match nodes.get(i) {
+        Some(at) => at.line == line,
+        None => false,
+    }
+}
+
+/// Whether at a place of the lists are this number of a point, this count and an instance on this line.
+fn is_noted(
+    numbers: &[u32],
+    counts: &[u8],
+    nodes: &[Instance],
+    i: usize,
+    number: usize,
+    line: u16,
+    count: u8,
+) -> bool
+    ensures { result ≡ true → IsNoted numbers.now counts.now nodes.now i number line count }
+{
+    has_number(numbers, i, number) && (has_count(counts, i, count) && is_on_line(nodes, i, line))
+}
+
+/// Whether each count of a point on a line is of an instance.
+fn counts_are_said(
+    guide: &Guide,
+    points: &[Point],
+    numbers: &[u32],
+    counts: &[u8],
+    nodes: &[Instance],
+    number: usize,
+    point: &Point,
+    line: u16,
+) -> bool
+    requires said { AreSaid points.now numbers.now counts.now nodes.now }
+    requires there { slice_get points.now number ≡ Some point.now }
+    ensures { result ≡ true → (c : ℕ) → point.now.c0 ≤ c → c ≤ point.now.c1 → IsSaidBack nodes.now point.now line c }
+{
+    for count in u16::from(point.c0)..u16::from(point.c1) + 1 {
+        let i = guide.number(number_of(number), point, line, count as u8) as usize;
+        if !is_noted(numbers, counts, nodes, i, number, line, count as u8) {
+            return false;
+        }
+    }
+    true
+}
+
+/// Whether each line and count of a point is of an instance.
+fn lines_are_said(
+    guide: &Guide,
+    points: &[Point],
+    numbers: &[u32],
+    counts: &[u8],
+    nodes: &[Instance],
+    number: usize,
+    point: &Point,
+) -> bool
+    requires said { AreSaid points.now numbers.now counts.now nodes.now }
+    requires there { slice_get points.now number ≡ Some point.now }
+    ensures { result ≡ true → IsSaidOver nodes.now point.now }
+{
+    for line in u32::from(point.l0)..u32::from(point.l1) + 1 {
+        if !counts_are_said(
+            guide,
+            points,
+            numbers,
+            counts,
+            nodes,
+            number,
+            point,
+            line as u16,
+        ) {
+            return false;
+        }
+    }
+    true
+}
+
+/// Whether each line and count of points is of an instance.
+fn are_said_back(
+    guide: &Guide,
+    points: &[Point],
+    numbers: &[u32],
+    counts: &[u8],
+    nodes: &[Instance],
+) -> bool
+    requires said { AreSaid points.now numbers.now counts.now nodes.now }
+    ensures { result ≡ true → AreSaidBack nodes.now points.now }
+{
+    for i in 0..points.len() {
+        if !lines_are_said(guide, points, numbers, counts, nodes, i, &points[i]) {
+            return false;
+        }
+    }
+    true
+}
+
+/// Whether points say what instances say, and nothing else, where of each instance the number of its point is known.
+pub fn say_instances(
+    alloc: Global,
+    points: &[Point],
+    numbers: &[u32],
+    nodes: &[Instance],
+) -> Result<bool, AllocError>
+    ensures { IfOk result (λ same. same ≡ true → SaysInstances nodes.now points.now) }
+{
+    if numbers.len() != nodes.len() {
+        return Ok(false);
+    }
+    let counts = match counts_of(alloc, points, numbers, nodes)? {
+        Some(counts) => counts,
+        None => return Ok(false),
+    };
+    let guide = back(alloc, points, numbers, counts.as_slice(), nodes)?;
+    Ok(are_said_back(&guide, points, numbers, counts.as_slice(), nodes))
+}
