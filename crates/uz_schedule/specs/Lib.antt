@@ -1,5 +1,7 @@
 pub mod Blank
 pub mod Ends
+pub mod Exact
+pub mod HashWrites
 pub mod InstanceLimits
 pub mod Instances
 pub mod Levels
