@@ -1,5 +1,4 @@
 pub mod Amounts
-pub mod Exact
 pub mod Fitting
 pub mod LastLevel
 pub mod Modulo

@@ -1,12 +1,13 @@
 pub mod Blank
 pub mod Ends
+pub mod Exact
+pub mod HashWrites
 pub mod InstanceLimits
 pub mod Instances
 pub mod Levels
 pub mod Limits
 pub mod LineEvents
 pub mod Lines
-pub mod Numbers
 pub mod Schedule
 pub mod Tracked
 pub mod WellFormed

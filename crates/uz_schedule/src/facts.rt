@@ -1,6 +1,10 @@
 //! What a certificate says of a byte, of a pair of registers and of a flag.
 
+ghost use Rattle.std.proofs.Common.{rules};
+ghost use Rattle.std.specs.Cmp.Rules.{hashing};
+
 use crate::ranges::{Span, Wide};
+use std::hash::{Hash, Hasher};
 
 /// What is known of a byte (a register, a stack slot or a cell) at the instances of a point.
 #[derive(Clone, Copy, Default, PartialEq, Eq)]
@@ -34,7 +38,7 @@ pub enum PairFact {
 }
 
 /// What is known of a flag of the status register.
-#[derive(Clone, Copy, Debug, PartialEq, Eq, Hash)]
+#[derive(Clone, Copy, Debug, PartialEq, Eq)]
 pub enum Bit {
     Zero,
     One,
@@ -53,6 +57,23 @@ pub enum Val {
     Old(u8),
     /// The status register when the handler was entered, with bit 7 clear.
     OldFlags,
+}
+
+impl Hash for Val {
+    ghost use Rattle.uz_schedule.specs.HashWrites.{val_writes};
+
+    ghost hash_input = { val_writes };
+
+    ghost respects_eq = { Prim.search (hashing, rules) };
+
+    /// One byte, so that a list of what is known is hashed in few steps.
+    fn hash<H: Hasher>(&self, state: &mut H) {
+        match self {
+            Val::Range(span) => state.write_u8(span.lo()),
+            Val::Old(r) => state.write_u8(*r),
+            Val::OldFlags => state.write_u8(255),
+        }
+    }
 }
 
 impl Default for Val {

@@ -25,7 +25,7 @@ impl Response {
 
 /// What a point of a program belongs to: the main loop, which interrupts break into; the interrupt handler, which
 /// begins at the timer's compare match; or a program that is alone, with interrupts disabled throughout.
-#[derive(Clone, Copy, Debug, PartialEq, Eq, Hash)]
+#[derive(Clone, Copy, Debug, PartialEq, Eq)]
 pub enum Kind {
     Main,
     Handler,

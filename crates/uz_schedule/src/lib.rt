@@ -6,7 +6,6 @@ mod certificate;
 mod fact_values;
 mod facts;
 mod frame;
-mod hashing;
 mod header;
 mod instances;
 mod kinds;

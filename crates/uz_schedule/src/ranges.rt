@@ -1,8 +1,11 @@
 //! Ranges of bytes and of 16-bit numbers. Both ends belong to the range, and the lower end is never above the upper one.
 
+ghost use Rattle.std.proofs.Common.{rules};
+ghost use Rattle.std.specs.Cmp.Rules.{hashing};
 ghost use Rattle.uz_schedule.specs.Ends.{hull as hull_of};
 ghost use Rattle.std.specs.Prelude.{◌≡◌, ◌≤◌, ◌↔◌, IsSome, IfSome};
 
+use std::hash::{Hash, Hasher};
 use std::marker::Model;
 
 /// A range of bytes, both ends in it: `lo <= hi` holds of every value.
@@ -25,6 +28,19 @@ impl Model for Span {
     ghost invariant = { λ s. s.lo ≤ s.hi };
 
     ghost inverse = { λ e. record { lo = e.lo; hi = e.hi } };
+}
+
+impl Hash for Span {
+    ghost use Rattle.uz_schedule.specs.HashWrites.{bytes_writes};
+
+    ghost hash_input = { bytes_writes };
+
+    ghost respects_eq = { Prim.search (hashing, rules) };
+
+    /// Both ends in one.
+    fn hash<H: Hasher>(&self, state: &mut H) {
+        state.write_u16(u16::from(self.lo) + 256 * u16::from(self.hi));
+    }
 }
 
 impl Span {
@@ -106,6 +122,19 @@ impl Model for Wide {
     ghost invariant = { λ w. w.lo ≤ w.hi };
 
     ghost inverse = { λ e. record { lo = e.lo; hi = e.hi } };
+}
+
+impl Hash for Wide {
+    ghost use Rattle.uz_schedule.specs.HashWrites.{ends_writes};
+
+    ghost hash_input = { ends_writes };
+
+    ghost respects_eq = { Prim.search (hashing, rules) };
+
+    /// Both ends in one.
+    fn hash<H: Hasher>(&self, state: &mut H) {
+        state.write_u32(u32::from(self.lo) + 65536 * u32::from(self.hi));
+    }
 }
 
 impl Wide {

@@ -5,6 +5,7 @@ use crate::kinds::Kind;
 use crate::line_order::SCANLINE;
 use crate::ranges::{Span, Wide};
 use arrayvec::ArrayVec;
+use std::hash::{Hash, Hasher};
 
 /// Where the handler of a line returns to the main loop, and what holds there.
 #[derive(Drop)]
@@ -83,7 +84,7 @@ pub struct Point {
 }
 
 /// A point at one line and one count of its box.
-#[derive(Drop, PartialEq, Eq, Hash)]
+#[derive(Drop, PartialEq, Eq)]
 pub struct Instance {
     /// What it belongs to.
     pub kind: Kind,
@@ -111,6 +112,27 @@ pub struct Instance {
     pub stack: ArrayVec<Val, 32>,
     /// The values that each cell may have that its kind tracks.
     pub cells: ArrayVec<Span, 16>,
+}
+
+impl Hash for Instance {
+    ghost use Rattle.std.proofs.Common.{ap};
+    ghost use Rattle.uz_schedule.specs.HashWrites.{instance_writes};
+    ghost use Rattle.uz_schedule.specs.Exact.{exact_instance};
+
+    ghost hash_input = { instance_writes };
+
+    ghost respects_eq = { λ x y same. ap instance_writes (exact_instance x y same) };
+
+    /// Its place, and what is known of the pairs, the registers, the stack and the cells: few others have all these alike.
+    fn hash<H: Hasher>(&self, state: &mut H) {
+        state.write_u16(self.pc);
+        state.write_u16(self.line);
+        state.write_u16(self.clock);
+        self.pairs.hash(state);
+        self.regs.hash(state);
+        self.stack.hash(state);
+        self.cells.hash(state);
+    }
 }
 
 impl Default for Instance {

@@ -4,7 +4,7 @@ use Rattle.std.proofs.lemmas.Bool.{eq-eqb}
 use lib.Pointwise.{pointwise}
 use Rattle.uz_schedule.specs.declared.ranges.Span.{Span}
 use Rattle.uz_schedule.specs.contracts.ranges.SpanPartialEq as spans
-use Rattle.uz_schedule.proofs.Exact.{exact_list, exact_span}
+use Rattle.uz_schedule.specs.Exact.{exact_list, exact_span}
 
 own_span : (a : Span) → (spans.TheImpl.eq-value).it a a ≡ true
 own_span a = λ i. eq-eqb a.lo a.lo refl i && eq-eqb a.hi a.hi refl i

@@ -1,4 +1,4 @@
-use Rattle.uz_schedule.proofs.Exact.{exact_instance}
+use Rattle.uz_schedule.specs.Exact.{exact_instance}
 use Rattle.uz_schedule.proofs.laws.equal_instances_are_one.Goals as goal
 
 pub returns : goal.returns
