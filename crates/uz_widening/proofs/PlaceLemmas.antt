@@ -1,5 +1,6 @@
 -- Facts of one place tell nothing of another one: widening is a fold of its own at each place.
-use Rattle.std.proofs.Common.{◌≡◌, ◌≢◌, ℕ, zero, suc, ◌+◌, ◌<◌, ◌≤◌, ◌==◌, List, [], ◌∷◌, ◌++◌, length, Some, None, Option, Bool, true, false, not}
+use Rattle.std.proofs.Common.{◌≡◌, ◌≢◌, ℕ, zero, suc, ◌+◌, ◌<◌, ◌≤◌, ◌==◌, List, [], ◌∷◌, ◌++◌, length, Some, None, Option}
+use Rattle.std.proofs.Common.{Bool, true, false, not}
 use Rattle.std.proofs.Common.{◌&&◌, nat_lt, if◌then◌else◌, refl, sym, ap, ◌∙◌, subst, arith, slice_index_or, slice_set, length-set, reverse}
 use Rattle.std.specs.Prelude.{⊤}
 use Rattle.std.proofs.lemmas.Bool.{eqb-true, eq-eqb}
@@ -34,11 +35,13 @@ abbrev pairs_all : List Widening → List Ends → List Ends
 pairs_all [] pairs = pairs
 pairs_all (fact ∷ facts) pairs = pairs_all facts (pairs_by fact pairs)
 
-one_apart : (fact : Widening) (x : Instance) → widened_by fact x ≡ record x { regs = registers_by fact x.regs; pairs = pairs_by fact x.pairs }
+one_apart : (fact : Widening) (x : Instance)
+    → widened_by fact x ≡ record x { regs = registers_by fact x.regs; pairs = pairs_by fact x.pairs }
 unfolding widened_by
 one_apart (Register r fact) x = by (nat_lt r 32)
   where
-    by : (b : Bool) → (if b then record x { regs = slice_set x.regs r (widened_value fact (slice_index_or x.regs r (Range whole_byte))) } else x)
+    by : (b : Bool)
+        → (if b then record x { regs = slice_set x.regs r (widened_value fact (slice_index_or x.regs r (Range whole_byte))) } else x)
         ≡ record x {
           regs = if b then slice_set x.regs r (widened_value fact (slice_index_or x.regs r (Range whole_byte))) else x.regs;
           pairs = x.pairs;
@@ -184,7 +187,8 @@ module _ (q : ℕ) (few : q < 3) (ranges : List Ends) where
       by false w = refl
 
 register_folded : (facts : List Widening) (q : ℕ) (regs : List Val) → q < 32 → length regs ≡ 32
-    → slice_index_or (registers_all facts regs) q (Range whole_byte) ≡ folded_value (ranges_of q facts) (slice_index_or regs q (Range whole_byte))
+    → slice_index_or (registers_all facts regs) q (Range whole_byte)
+    ≡ folded_value (ranges_of q facts) (slice_index_or regs q (Range whole_byte))
 register_folded [] q regs few size = value_nil (slice_index_or regs q (Range whole_byte))
 register_folded (fact ∷ facts) q regs few size =
     register_folded facts q (registers_by fact regs) few (registers_by_length fact regs ∙ size)
@@ -210,8 +214,9 @@ same_by n d xs ys p q each = same_lists xs ys (p ∙ sym q) (λ k e less.
 pub by_places : (facts : List Widening) (chains : List (List Ends)) (x : Instance) (regs : List Val) (pairs : List Ends)
     → AreChains facts chains → length x.regs ≡ 32 → length x.pairs ≡ 3 → length regs ≡ 32 → length pairs ≡ 3
     → ((q : ℕ) → q < 32 → slice_index_or regs q (Range whole_byte)
-        ≡ folded_value (slice_index_or chains q []) (slice_index_or x.regs q (Range whole_byte)))
-    → ((k : ℕ) → k < 3 → slice_index_or pairs k whole_pair ≡ folded (slice_index_or chains (32 + k) []) (slice_index_or x.pairs k whole_pair))
+    ≡ folded_value (slice_index_or chains q []) (slice_index_or x.regs q (Range whole_byte)))
+    → ((k : ℕ) → k < 3 → slice_index_or pairs k whole_pair
+    ≡ folded (slice_index_or chains (32 + k) []) (slice_index_or x.pairs k whole_pair))
     → record x { regs = regs; pairs = pairs } ≡ widened_all facts x
 by_places facts chains x regs pairs are x_regs x_pairs l_regs l_pairs each_reg each_pair =
     (λ i. record x {
@@ -237,7 +242,8 @@ byte_still (fact ∷ ranges) e all low = byte_still ranges (if is_within e fact 
 
 -- The chains of facts
 
-pub none_more : (chains : List (List Ends)) (q : ℕ) → ((k : ℕ) → slice_index_or chains k [] ≡ []) → slice_index_or (chains ++ [] ∷ []) q [] ≡ []
+pub none_more : (chains : List (List Ends)) (q : ℕ) → ((k : ℕ) → slice_index_or chains k [] ≡ [])
+    → slice_index_or (chains ++ [] ∷ []) q [] ≡ []
 none_more [] zero h = refl
 none_more [] (suc q) h = refl
 none_more (c ∷ chains) zero h = h 0

@@ -1,5 +1,6 @@
 -- Facts by the place that they speak of, and what they make of its range. Places 0 to 31 are registers, 32 to 34 the pairs X, Y and Z.
-use Rattle.std.specs.Prelude.{◌≡◌, ℕ, ◌+◌, ◌<◌, ◌≤◌, ◌==◌, nat_lt, not, ◌&&◌, List, [], ◌∷◌, Option, Some, None, length, slice_index_or, slice_set}
+use Rattle.std.specs.Prelude.{◌≡◌, ℕ, ◌+◌, ◌<◌, ◌≤◌, ◌==◌, nat_lt, not, ◌&&◌, List, [], ◌∷◌, Option, Some, None, length}
+use Rattle.std.specs.Prelude.{slice_index_or, slice_set}
 use Rattle.std.specs.Prelude.{if◌then◌else◌, ⊤}
 use Rattle.uz_schedule.specs.Ends.{Ends, is_within}
 use Rattle.uz_schedule.specs.declared.facts.Val.{Val}

@@ -65,9 +65,7 @@ fn is_within(a: Wide, b: Wide) -> bool
 fn passes(node: &Node, range: Wide) -> bool
     ensures { result ≡ is_passed node.now range }
 {
-    range.lo() < node.least
-        || node.greatest < range.hi()
-        || node.longest < range.hi() - range.lo()
+    range.lo() < node.least || node.greatest < range.hi() || node.longest < range.hi() - range.lo()
 }
 
 /// What a range becomes by the facts.

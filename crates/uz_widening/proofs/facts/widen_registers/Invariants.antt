@@ -10,5 +10,6 @@ invariant-each l = record {
   size : length l.registers ≡ 32;
   done : (q : ℕ) → q < l.register → slice_index_or l.registers q (Range whole_byte)
       ≡ folded_value (slice_index_or l.chains q []) (slice_index_or l.initial.registers q (Range whole_byte));
-  left : (q : ℕ) → l.register ≤ q → slice_index_or l.registers q (Range whole_byte) ≡ slice_index_or l.initial.registers q (Range whole_byte);
+  left : (q : ℕ) → l.register ≤ q → slice_index_or l.registers q (Range whole_byte)
+      ≡ slice_index_or l.initial.registers q (Range whole_byte);
 }

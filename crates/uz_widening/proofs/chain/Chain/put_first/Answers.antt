@@ -12,10 +12,10 @@ invariant_of-self c = subst (λ (l : List Node). IsChain l) (sym c.in_err-push.e
 
 pub invariant_of-self-2 : goal.invariant_of-self-2
 invariant_of-self-2 c = subst (λ (l : List Node). IsChain l) (sym c.in_ok-push.ensures.items) (
-  chain_more c.self.inside.nodes.items c.first_block-node.result c.self.invariant (
+    chain_more c.self.inside.nodes.items c.first_block-node.result c.self.invariant (
     subst (λ (l : List Node). IsNode l (length l) c.first_block-node.result) c.as_slice.ensures.value c.first_block-node.ensures.node
-  )
-)
+    )
+    )
 
 pub returns : goal.returns
 returns c =
