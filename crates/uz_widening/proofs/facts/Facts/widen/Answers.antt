@@ -1,4 +1,4 @@
-use Rattle.std.proofs.Common.{◌∙◌, ◌≡◌, ◌+◌, ◌<◌, List, [], ap, slice_index_or, subst, sym, ℕ}
+use Rattle.std.proofs.Common.{◌∙◌, ◌≡◌, ◌+◌, ◌<◌, List, [], ap, slice_index_or, subst, ℕ}
 use Rattle.uz_schedule.specs.Ends.{Ends, whole_byte, whole_pair}
 use Rattle.uz_schedule.specs.declared.facts.Val.TheVariants.{Range}
 use Rattle.uz_widening.specs.Widenings.{widened_all}
