@@ -1,6 +1,6 @@
 -- One more fact, and that the program of hints that aren't at fault is fit to be searched.
 use Rattle.std.proofs.Common.{◌≡◌, ◌≢◌, ◌∙◌, sym, ap, refl, arith, ℕ, zero, suc, ◌+◌, ◌-◌, ◌<◌, ◌≤◌, true, List, [], ◌∷◌, ◌++◌}
-use Rattle.std.proofs.Common.{append_assoc, length, drop, get_or, add-one, subst, ⊎_elim, Bool, false, if◌then◌else◌}
+use Rattle.std.proofs.Common.{length, drop, get_or, subst, ⊎_elim, Bool, false, if◌then◌else◌}
 use Rattle.std.specs.Prelude.{Some, None, slice_get}
 use Rattle.std.specs.Ordering.{nat_cmp}
 use Rattle.std.specs.FinMap.{FinMap}
