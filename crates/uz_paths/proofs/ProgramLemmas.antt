@@ -1,6 +1,6 @@
 -- One more fact, and that the program of hints that aren't at fault is fit to be searched.
 use Rattle.std.proofs.Common.{◌≡◌, ◌≢◌, ◌∙◌, sym, ap, refl, arith, ℕ, zero, suc, ◌+◌, ◌-◌, ◌<◌, ◌≤◌, true, List, [], ◌∷◌, ◌++◌}
-use Rattle.std.proofs.Common.{append_assoc, length, drop, get_or, add-one, subst, ⊎_elim, Bool, false, if◌then◌else◌}
+use Rattle.std.proofs.Common.{length, drop, get_or, subst, ⊎_elim, Bool, false, if◌then◌else◌}
 use Rattle.std.specs.Prelude.{Some, None, slice_get}
 use Rattle.std.specs.Ordering.{nat_cmp}
 use Rattle.std.specs.FinMap.{FinMap}
@@ -39,14 +39,13 @@ some_is a b e = cc
 pub fact_at : (hints : List Hint) (i : ℕ) (d : Hint) → FactsFine hints → i < length hints → FactPart (get_or hints i d)
 fact_at hints i d fine within = fine i (get_or hints i d) (slice_get-get_or hints i d within)
 
-pub facts_more : {A : Type 0} (f : Hint → List A) (all : List Hint → List A) → ((h : Hint) (hs : List Hint) → all (h ∷ hs) ≡ f h ++ all hs)
-    → (hints : List Hint) (i : ℕ) (d : Hint) (old new : List A) → i < length hints → new ≡ old ++ f (get_or hints i d) → new
-    ++ all (drop (i + 1) hints) ≡ old ++ all (drop i hints)
-facts_more f all step hints i d old new within is =
-    let less : drop i hints ≡ get_or hints i d ∷ drop (i + 1) hints = rw add-one (drop-cons hints i d within) in
-    ap (λ xs. xs ++ all (drop (i + 1) hints)) is
-    ∙ (append_assoc old (f (get_or hints i d)) (all (drop (i + 1) hints)) ∙ ap (λ xs. old ++ xs)
-    (sym (ap all less ∙ step (get_or hints i d) (drop (i + 1) hints))))
+-- one more before those of the hints from n on
+pub facts_before : {A : Type 0} (f : Hint → List A) (all : List Hint → List A)
+    → ((h : Hint) (hs : List Hint) → all (h ∷ hs) ≡ f h ++ all hs) → (hints : List Hint) (n i : ℕ) (d : Hint) (old new : List A)
+    → n ≡ suc i → i < length hints → new ≡ f (get_or hints i d) ++ old → old ≡ all (drop n hints) → new ≡ all (drop i hints)
+facts_before f all step hints n i d old new next within is was =
+    is ∙ (ap (λ xs. f (get_or hints i d) ++ xs) (was ∙ ap (λ k. all (drop k hints)) next)
+    ∙ sym (ap all (drop-cons hints i d within) ∙ step (get_or hints i d) (drop (suc i) hints)))
 
 -- The frame
 

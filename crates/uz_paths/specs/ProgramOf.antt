@@ -15,8 +15,8 @@ use Rattle.uz_schedule.specs.declared.header.Head.{Head}
 use Rattle.uz_schedule.specs.declared.states.Entry.{Entry}
 use Rattle.uz_schedule.specs.declared.states.Instance.{Instance}
 use Rattle.uz_search.specs.declared.program.Program.{Program}
-use Rattle.uz_search.specs.declared.widening.Widening.{Widening}
-use Rattle.uz_search.specs.declared.widening.Widening.TheVariants.{Register, Pair}
+use Rattle.uz_widening.specs.declared.widening.Widening.{Widening}
+use Rattle.uz_widening.specs.declared.widening.Widening.TheVariants.{Register, Pair}
 use Rattle.uz_search.specs.Following.{lines_of}
 use Rattle.uz_search.specs.Widenings.{facts_at}
 use Rattle.uz_hints.specs.declared.words.Beginning.{Beginning}

@@ -27,7 +27,8 @@ use uz_schedule::{
     Bit, Cell, Entry, HALF_LINE, Head, Instance, Kind, LineEvents, Response, SCANLINE, Schedule,
     Sequence, Span, Wide, entry_state, handler_entry, tracks,
 };
-use uz_search::{Program, Widening, last_clock};
+use uz_search::{Program, last_clock};
+use uz_widening::{Facts, Widening};
 
 /// What a fact says of its place.
 fn widening_of(place: u8, lo: u16, hi: u16) -> Widening
@@ -48,33 +49,29 @@ fn widening_of(place: u8, lo: u16, hi: u16) -> Widening
     }
 }
 
-/// Puts a fact at the end of those of its program counter.
+/// Puts a fact before those of its program counter.
 fn put_fact(
     alloc: Global,
-    facts: &mut BTreeMap<u16, Vec<Widening>>,
+    facts: &mut BTreeMap<u16, Facts>,
     at: u16,
     fact: Widening,
 ) -> Result<(), AllocError>
     ensures { OnOk result ((pc : ℕ) → facts_in (get nat_cmp facts.new pc)
-        ≡ facts_in (get nat_cmp facts.old pc) ++ (if at == pc then fact ∷ [] else [])) }
+        ≡ (if at == pc then fact ∷ [] else []) ++ facts_in (get nat_cmp facts.old pc)) }
 {
-    let mut here = match facts.remove(&at) {
+    let here = match facts.remove(&at) {
         Some(here) => here,
-        None => Vec::new(alloc),
+        None => Facts::new(alloc)?,
     };
-    here.push(fact)?;
-    facts.insert(at, here)?;
+    let more = here.with_first(fact)?;
+    facts.insert(at, more)?;
     Ok(())
 }
 
-/// Puts the fact that a hint is, where it is one, at the end of those of its program counter.
-fn put_hint(
-    alloc: Global,
-    facts: &mut BTreeMap<u16, Vec<Widening>>,
-    hint: &Hint,
-) -> Result<(), AllocError>
+/// Puts the fact that a hint is, where it is one, before those of its program counter.
+fn put_hint(alloc: Global, facts: &mut BTreeMap<u16, Facts>, hint: &Hint) -> Result<(), AllocError>
     requires { FactPart hint.now }
-    ensures { OnOk result ((pc : ℕ) → facts_in (get nat_cmp facts.new pc) ≡ facts_in (get nat_cmp facts.old pc) ++ hint_facts pc hint.now) }
+    ensures { OnOk result ((pc : ℕ) → facts_in (get nat_cmp facts.new pc) ≡ hint_facts pc hint.now ++ facts_in (get nat_cmp facts.old pc)) }
 {
     if let Hint::Fact { at, place, lo, hi } = hint {
         put_fact(alloc, facts, *at, widening_of(*place, *lo, *hi))?;
@@ -82,14 +79,16 @@ fn put_hint(
     Ok(())
 }
 
-/// The facts of the hints by their program counters.
-fn facts_of(alloc: Global, hints: &[Hint]) -> Result<BTreeMap<u16, Vec<Widening>>, AllocError>
+/// The facts of the hints by their program counters, taken from the last hint to the first.
+fn facts_of(alloc: Global, hints: &[Hint]) -> Result<BTreeMap<u16, Facts>, AllocError>
     requires { FactsFine hints.now }
     ensures { IfOk result (λ facts. (pc : ℕ) → facts_in (get nat_cmp facts pc) ≡ facts_for pc hints.now) }
 {
     let mut facts = BTreeMap::new(alloc);
-    for hint in hints {
-        put_hint(alloc, &mut facts, hint)?;
+    let mut left = hints.len();
+    'each: while left > 0 {
+        left -= 1;
+        put_hint(alloc, &mut facts, &hints[left])?;
     }
     Ok(facts)
 }

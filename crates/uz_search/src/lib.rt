@@ -22,4 +22,3 @@ pub use program::{Program, last_clock, widened_copy};
 pub use returns::Return;
 pub use searching::search;
 pub use ways::Ways;
-pub use widening::Widening;

@@ -10,13 +10,14 @@ ghost use Rattle.uz_search.specs.Widenings.{widened};
 ghost use Rattle.uz_search.specs.Following.{Among, After, entry_at, entries, followers_of, lines_of};
 ghost use Rattle.uz_search.specs.Fitting.{ProgramFits, Stands};
 
-use crate::widening::{Widening, widen};
+use crate::widening::widen;
 use std::alloc::{AllocError, Global};
 use std::collections::BTreeMap;
 use uz_hex::Image;
 use uz_rules::{Fail, Next, put_after};
 use uz_schedule::{Head, Instance, Kind, Schedule, Sequence, handler_entry};
 use uz_transfer::copied;
+use uz_widening::Facts;
 
 /// What a search is told of a program, beside its image.
 #[derive(Drop)]
@@ -27,7 +28,7 @@ pub struct Program {
     /// yet: no kind has any.
     pub schedule: Schedule,
     /// By program counter the facts of registers and pointers there, in the order of their hints.
-    pub facts: BTreeMap<u16, Vec<Widening>>,
+    pub facts: BTreeMap<u16, Facts>,
     /// The instances at which trails begin.
     pub starts: Sequence<Instance>,
 }
