@@ -10,7 +10,7 @@ use std::marker::Model;
 use uz_schedule::Wide;
 
 /// A fact, and what is known of a block of facts that it is the first of.
-#[derive(Clone, Copy, Debug)]
+#[derive(Clone, Copy)]
 pub(crate) struct Node {
     /// The range of the fact.
     range: Wide,
@@ -32,7 +32,7 @@ pub(crate) struct Node {
 /// where its ends tell that no fact in it has the range. Where the ends tell it of each such block, a search meets some four
 /// facts for each doubling of their number. The worst case is all facts: those with ends far apart and ranges short, in no
 /// order.
-#[derive(Debug, Drop)]
+#[derive(Drop)]
 pub(crate) struct Chain {
     /// The facts, the last one first.
     nodes: Vec<Node>,

@@ -14,7 +14,7 @@ use std::marker::Model;
 use uz_schedule::{Instance, Span, Val, Wide};
 
 /// The facts of one program counter, in the order of their hints. They are made from the last one to the first.
-#[derive(Debug, Drop)]
+#[derive(Drop)]
 pub struct Facts {
     /// The facts as they were written, the last one first.
     facts: Vec<Widening>,
