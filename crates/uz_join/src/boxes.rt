@@ -2,12 +2,11 @@
 
 ghost use Rattle.std.specs.Prelude.{◌≤◌, length};
 
-use crate::axis::Axis;
 use crate::chains::{Chain, Chains};
-use crate::facts::fact_along;
 use crate::source::Source;
 use arrayvec::ArrayVec;
 use std::alloc::{AllocError, Global};
+use uz_point_shapes::{Axis, fact_along};
 use uz_schedule::{Fact, PairFact, Point};
 
 /// What is known of each register all along a box.

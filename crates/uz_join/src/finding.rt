@@ -1,11 +1,12 @@
 //! Finding chains: points of one shape, in the order of their lines or clocks, each go on from a chain or begin one.
 
-use crate::axis::Axis;
 use crate::chains::Chains;
-use crate::shape::{Growth, Shaped, distance, goes_on, is_joinable, key, node_key, same_shape};
 use crate::source::{Source, is_node_joinable};
 use std::alloc::{AllocError, Global};
 use uz_point_instances::number_of;
+use uz_point_shapes::{
+    Axis, Growth, Shaped, distance, goes_on, is_joinable, key, node_key, same_shape,
+};
 
 /// The most chains that are tried for a point, so that the time stays linear in the points.
 const TRIED: usize = 64;

@@ -4,7 +4,6 @@ ghost use Rattle.std.specs.Prelude.{◌≡◌, IfOk, IfSome, map};
 ghost use Rattle.uz_join.specs.Joined.{rest_unnumbered, entry_unnumbered};
 ghost use Rattle.uz_point_instances.specs.Same.{SameInstances};
 
-use crate::axis::Axis;
 use crate::boxes::joined_points;
 use crate::copies::{entry_of, rests_of};
 use crate::finding::chains_of;
@@ -12,6 +11,7 @@ use crate::source::Source;
 use crate::successors::cut_to_successors;
 use std::alloc::{AllocError, Global};
 use uz_point_instances::{number_at, same_instances};
+use uz_point_shapes::Axis;
 use uz_schedule::{Cert, Entry, Point, Rest, Sequence};
 
 /// The parts of a certificate that joining makes anew.

@@ -3,16 +3,13 @@
 //! only believed where the check accepts it.
 #![tactic(auto)]
 
-mod axis;
 mod boxes;
 mod chains;
 mod choice;
 mod copies;
-mod facts;
 mod finding;
 mod joining;
 mod nodes;
-mod shape;
 mod source;
 mod successors;
 

@@ -3,12 +3,12 @@
 ghost use Rattle.std.specs.Prelude.{◌≡◌, IfOk, IfSome};
 ghost use Rattle.uz_point_instances.specs.Telling.{SaysInstances};
 
-use crate::axis::Axis;
 use crate::joining::{Joined, joined_again, joined_along};
 use crate::source::Source;
 use crate::successors::with_number;
 use std::alloc::{AllocError, Global};
 use uz_point_instances::{number_at, say_instances};
+use uz_point_shapes::Axis;
 use uz_schedule::{Instance, Point};
 
 /// The points into which instances are joined.

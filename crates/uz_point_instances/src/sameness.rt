@@ -1,15 +1,15 @@
 //! Whether joined points say what the points say that they are joined from, and nothing else.
 
-ghost use Rattle.std.specs.Prelude.{◌≡◌, ◌≤◌, ◌+ℤ◌, ◌*ℤ◌, ℕ, IfOk, List, pos, true, length, map};
+ghost use Rattle.std.specs.Prelude.{◌≡◌, ◌≤◌, ℕ, IfOk, List, true, length, map};
 ghost use Rattle.uz_schedule.specs.Ends.{Ends};
-ghost use Rattle.uz_schedule.specs.Instances.{is_in_box as box_holds, pair_by, pairs_of, val_of as val_of_fact};
+ghost use Rattle.uz_schedule.specs.Instances.{pair_by, pairs_of, val_of as val_of_fact};
 ghost use Rattle.uz_schedule.specs.declared.facts.Val.{Val};
 ghost use Rattle.uz_point_instances.specs.Same.{AreTold, IsTold, IsWhollyTold, SameAt, SameInstances};
 ghost use Rattle.uz_point_instances.specs.Same.{SameBytes, SameKept, SamePairs, SamePlace};
 
 use crate::numbers::{nones, number_at, number_of};
 use std::alloc::{AllocError, Global};
-use uz_schedule::{Bit, Fact, PairFact, Point, val_of};
+use uz_schedule::{Bit, Fact, PairFact, Point, clock_of, is_in_box, val_of};
 
 /// Whether a fact says of a byte at a line and a count what another says at another count. Two that are alike, as most are, are
 /// compared as they stand.
@@ -61,20 +61,6 @@ fn pairs_keep(facts: &[PairFact; 3], of_a: u8, of_b: u8) -> bool
     of_a == of_b
         || (keeps_by_counts(&facts[0])
             && (keeps_by_counts(&facts[1]) && keeps_by_counts(&facts[2])))
-}
-
-/// Whether a line and a count are those of a point's box.
-pub(crate) fn is_in_box(point: &Point, line: u16, count: u8) -> bool
-    ensures { result ≡ box_holds point.now line count }
-{
-    (point.l0 <= line && line <= point.l1) && (point.c0 <= count && count <= point.c1)
-}
-
-/// The clock of a point at a count.
-pub(crate) fn clock_of(point: &Point, count: u8) -> i32
-    ensures { result ≡ pos point.now.clock +ℤ point.now.slope *ℤ pos count }
-{
-    i32::from(point.clock) + i32::from(point.slope) * i32::from(count)
 }
 
 /// Whether two points have a line, each a count, and one clock there.

@@ -7,9 +7,11 @@ ghost use Rattle.uz_point_instances.specs.Telling.{SaidAt, SaidBytes, SaidKept, 
 
 use crate::numbers::{nones, number_of};
 use crate::points::hull_of;
-use crate::sameness::{Guide, clock_of, count_at, is_in_box, offset, same_flags, starts_of};
+use crate::sameness::{Guide, count_at, offset, same_flags, starts_of};
 use std::alloc::{AllocError, Global};
-use uz_schedule::{Fact, Instance, PairFact, Point, Span, Val, Wide, pair_by, span_of, val_of};
+use uz_schedule::{
+    Fact, Instance, PairFact, Point, Span, Val, Wide, clock_of, is_in_box, pair_by, span_of, val_of,
+};
 
 /// Whether a fact says this of a byte at a line and a count.
 fn says(fact: &Fact, val: &Val, line: u16, count: u8) -> bool

@@ -4,13 +4,13 @@ ghost use Rattle.std.specs.Prelude.{◌≡◌, ◌+◌, ◌*◌, ◌%◌, ℕ, I
 ghost use Rattle.uz_schedule.specs.Ends.{one_number};
 ghost use Rattle.uz_schedule.specs.declared.facts.Fact.TheVariants.{Between};
 ghost use Rattle.uz_schedule.specs.declared.facts.Val.TheVariants.{Range};
-ghost use Rattle.uz_join.specs.Along.{val_along};
+ghost use Rattle.uz_point_shapes.specs.Along.{val_along};
 
 use crate::axis::Axis;
 use uz_schedule::{Fact, PairFact, Span, Val};
 
 /// The byte that a fact tells, where it tells one.
-#[tactic(auto, using(crate::proofs::Growth::one_of))]
+#[tactic(auto, using(crate::proofs::GrowthLemmas::one_of))]
 fn single(fact: &Fact) -> Option<u8>
     ensures told { IfSome result (λ b. fact.now ≡ Between (one_number b)) }
     ensures all { (b : ℕ) → fact.now ≡ Between (one_number b) → result ≡ Some b }
@@ -48,7 +48,7 @@ pub(crate) fn is_pair_steady(fact: &PairFact, axis: Axis) -> bool {
 }
 
 /// What is known of a byte.
-pub(crate) trait Told {
+pub trait Told {
     /// The byte, where one is told.
     fn told(&self) -> Option<u8>;
 
@@ -171,7 +171,7 @@ pub(crate) fn differences<T: Told>(a: &[T], b: &[T]) -> u32 {
 }
 
 /// What `factor * n` has to be raised by to make a byte, modulo 256.
-#[tactic(auto, using(crate::proofs::Growth::offset_makes))]
+#[tactic(auto, using(crate::proofs::GrowthLemmas::offset_makes))]
 fn offset_for(factor: u8, n: u16, byte: u8) -> u8
     ensures { (factor * n + result) % 256 ≡ byte }
 {
@@ -180,7 +180,7 @@ fn offset_for(factor: u8, n: u16, byte: u8) -> u8
 }
 
 /// By how much a byte grows to another, modulo 256.
-#[tactic(auto, using(crate::proofs::Growth::step_makes))]
+#[tactic(auto, using(crate::proofs::GrowthLemmas::step_makes))]
 fn step(from: u8, to: u8) -> u8
     ensures { (from + result) % 256 ≡ to }
 {
@@ -188,7 +188,7 @@ fn step(from: u8, to: u8) -> u8
 }
 
 /// The fact of a byte that is this one at a line or count, and grows by `factor` to the next.
-#[tactic(auto, using(crate::proofs::Growth::next_makes))]
+#[tactic(auto, using(crate::proofs::GrowthLemmas::next_makes))]
 fn moving(axis: Axis, factor: u8, n: u16, byte: u8) -> Fact
     ensures here { (m : ℕ) → val_along axis n m result ≡ Range (one_number byte) }
     ensures next { (m : ℕ) → val_along axis (n + 1) m result ≡ Range (one_number ((byte + factor) % 256)) }
@@ -201,7 +201,7 @@ fn moving(axis: Axis, factor: u8, n: u16, byte: u8) -> Fact
 }
 
 /// What is known all along a box that begins at the line or count `start`, where `first` is known there and `second` at the one after it.
-pub(crate) fn fact_along(axis: Axis, first: &Fact, second: &Fact, start: u16) -> Fact
+pub fn fact_along(axis: Axis, first: &Fact, second: &Fact, start: u16) -> Fact
     ensures first { (m : ℕ) → val_along axis start m result ≡ val_along axis start m first.now }
     ensures second { (a b m : ℕ) → first.now ≡ Between (one_number a) → second.now ≡ Between (one_number b) →
         val_along axis (start + 1) m result ≡ Range (one_number b) }

@@ -25,7 +25,7 @@ fn is_at_one(point: &Point, axis: Axis) -> bool {
 }
 
 /// Whether a point may be joined with others: it stands at one place of the axis, and isn't of main.
-pub(crate) fn is_joinable(point: &Point, axis: Axis) -> bool {
+pub fn is_joinable(point: &Point, axis: Axis) -> bool {
     is_at_one(point, axis)
         && is_steady(point, axis)
         && match point.kind {
@@ -36,7 +36,7 @@ pub(crate) fn is_joinable(point: &Point, axis: Axis) -> bool {
 
 /// By how much each byte grows from one point of a chain to the next, modulo 256.
 #[derive(Clone, Copy, Drop)]
-pub(crate) struct Growth {
+pub struct Growth {
     regs: [u8; 32],
     stack: [u8; 32],
     cells: [u8; 16],
@@ -44,7 +44,7 @@ pub(crate) struct Growth {
 
 impl Growth {
     /// None.
-    pub(crate) fn none() -> Growth {
+    pub fn none() -> Growth {
         Growth {
             regs: [0; 32],
             stack: [0; 32],
@@ -53,7 +53,7 @@ impl Growth {
     }
 
     /// From one to another.
-    pub(crate) fn between<P: Shaped>(from: &P, to: &P) -> Growth {
+    pub fn between<P: Shaped>(from: &P, to: &P) -> Growth {
         let mut growth = Growth::none();
         put_growths(&mut growth.regs, from.regs(), to.regs());
         put_growths(&mut growth.stack, from.stack(), to.stack());
@@ -63,7 +63,7 @@ impl Growth {
 }
 
 /// What chains are made of: points, and instances in place of their points.
-pub(crate) trait Shaped {
+pub trait Shaped {
     /// What is known of a register or of a byte of the stack.
     type Byte: Told;
     /// What is known of a cell.
@@ -182,7 +182,7 @@ impl Shaped for Instance {
 }
 
 /// Whether two have one shape.
-pub(crate) fn same_shape<P: Shaped>(axis: Axis, a: &P, b: &P) -> bool {
+pub fn same_shape<P: Shaped>(axis: Axis, a: &P, b: &P) -> bool {
     a.same_frame(axis, b)
         && same_but_bytes(a.regs(), b.regs())
         && same_but_bytes(a.stack(), b.stack())
@@ -190,7 +190,7 @@ pub(crate) fn same_shape<P: Shaped>(axis: Axis, a: &P, b: &P) -> bool {
 }
 
 /// Whether one has the shape of the last of a chain, and each byte grows by so much from that one to it.
-pub(crate) fn goes_on<P: Shaped>(axis: Axis, growth: &Growth, last: &P, new: &P) -> bool {
+pub fn goes_on<P: Shaped>(axis: Axis, growth: &Growth, last: &P, new: &P) -> bool {
     last.same_frame(axis, new)
         && follow_by(&growth.regs, last.regs(), new.regs())
         && follow_by(&growth.stack, last.stack(), new.stack())
@@ -198,7 +198,7 @@ pub(crate) fn goes_on<P: Shaped>(axis: Axis, growth: &Growth, last: &P, new: &P)
 }
 
 /// How many bytes differ.
-pub(crate) fn distance<P: Shaped>(a: &P, b: &P) -> u32 {
+pub fn distance<P: Shaped>(a: &P, b: &P) -> u32 {
     differences(a.regs(), b.regs())
         .saturating_add(differences(a.stack(), b.stack()))
         .saturating_add(differences(a.cells(), b.cells()))
@@ -257,7 +257,7 @@ fn place_key(axis: Axis, point: &Point) -> u64 {
 }
 
 /// A number that points of one shape have alike. Few others have it.
-pub(crate) fn key(axis: Axis, point: &Point) -> u64 {
+pub fn key(axis: Axis, point: &Point) -> u64 {
     let mut key = mixed(place_key(axis, point), u64::from(point.top));
     for flag in &point.flags {
         key = mixed(key, flag_code(*flag));
@@ -270,7 +270,7 @@ pub(crate) fn key(axis: Axis, point: &Point) -> u64 {
 }
 
 /// A number that instances have alike which differ in their lines and in single bytes. Few others have it.
-pub(crate) fn node_key(at: &Instance) -> u64 {
+pub fn node_key(at: &Instance) -> u64 {
     let place = mixed(mixed(SEED, u64::from(at.pc)), u64::from(at.clock));
     let mut key = mixed(place, u64::from(at.top));
     for flag in &at.flags {

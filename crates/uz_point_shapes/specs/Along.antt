@@ -3,8 +3,8 @@ use Rattle.std.specs.Prelude.{ℕ}
 use Rattle.uz_schedule.specs.Instances.{val_of}
 use Rattle.uz_schedule.specs.declared.facts.Fact.{Fact}
 use Rattle.uz_schedule.specs.declared.facts.Val.{Val}
-use Rattle.uz_join.specs.declared.axis.Axis.{Axis}
-use Rattle.uz_join.specs.declared.axis.Axis.TheVariants.{Lines, Counts}
+use Rattle.uz_point_shapes.specs.declared.axis.Axis.{Axis}
+use Rattle.uz_point_shapes.specs.declared.axis.Axis.TheVariants.{Lines, Counts}
 
 abbrev pub val_along : Axis → ℕ → ℕ → Fact → Val
 val_along Lines n m f = val_of n m f

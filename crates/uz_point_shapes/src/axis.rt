@@ -4,7 +4,7 @@ use uz_schedule::Point;
 
 /// What points of one chain follow each other by.
 #[derive(Clone, Copy, Debug, PartialEq, Eq)]
-pub(crate) enum Axis {
+pub enum Axis {
     /// They stand at lines that follow each other, each at one.
     Lines,
     /// They stand at clocks with the same distance, each at one: turns of a loop.
@@ -16,7 +16,7 @@ const MOST_COUNTS: u32 = 256;
 
 impl Axis {
     /// Whether a place may be the second one of a chain that begins at another: the next line, or a later clock.
-    pub(crate) fn may_follow(self, from: u16, to: u16) -> bool {
+    pub fn may_follow(self, from: u16, to: u16) -> bool {
         match self {
             Axis::Lines => u32::from(to) == u32::from(from) + 1,
             Axis::Counts => from < to,
@@ -24,7 +24,7 @@ impl Axis {
     }
 
     /// Whether a chain of so many points may have one more.
-    pub(crate) fn has_room(self, count: u32) -> bool {
+    pub fn has_room(self, count: u32) -> bool {
         match self {
             Axis::Lines => true,
             Axis::Counts => count < MOST_COUNTS,
@@ -32,7 +32,7 @@ impl Axis {
     }
 
     /// The line or count at which the box of a chain with this first point begins.
-    pub(crate) fn start(self, first: &Point) -> u16 {
+    pub fn start(self, first: &Point) -> u16 {
         match self {
             Axis::Lines => first.l0,
             Axis::Counts => 0,
