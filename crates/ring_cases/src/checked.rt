@@ -3,9 +3,9 @@
 ghost use Rattle.std.specs.Prelude.{◌<◌};
 ghost use Rattle.uz_schedule.specs.WellFormed.{WellFormed};
 
-use crate::row::Row;
 use anyhow::Result;
 use std::alloc::Global;
+use table_rows::Row;
 use uz_cert::read_cert;
 use uz_check::{RefusedWhy, check, check_counted, verdict};
 use uz_hex::Image;

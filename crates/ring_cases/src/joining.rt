@@ -29,7 +29,14 @@ fn image(alloc: Global) -> Result<Image> {
 
 /// What r18 is at a clock of a line: it grows by 128 in each line.
 fn value(line: u32, clock: u32) -> u8 {
-    if (line == 1) == (clock < 2) { 128 } else { 0 }
+    let early = clock < 2;
+    if line == 1 {
+        if early { 128 } else { 0 }
+    } else if early {
+        0
+    } else {
+        128
+    }
 }
 
 /// Two lines, on each of which sync falls at clock 1 and rises at 137.

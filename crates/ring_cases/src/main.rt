@@ -15,11 +15,10 @@
 
 mod checked;
 mod joining;
-mod row;
 mod searched;
 
 use anyhow::Result;
-use row::Row;
+use table_rows::Row;
 
 fn main(rt: HostRuntime) -> Result<()> {
     for line in rt.lines(rt.alloc()) {

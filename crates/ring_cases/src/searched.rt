@@ -7,10 +7,11 @@ ghost use Rattle.uz_schedule.specs.Schedule.{length_of, scanline};
 ghost use Rattle.uz_schedule.specs.declared.kinds.Kind.TheVariants.{Alone};
 ghost use Rattle.uz_search.specs.Fitting.{ProgramFits};
 
-use crate::row::Row;
+use crate::checked::set_word;
 use arrayvec::ArrayVec;
 use std::alloc::{AllocError, Global};
 use std::collections::BTreeMap;
+use table_rows::Row;
 use uz_hex::Image;
 use uz_rules::Fail;
 use uz_schedule::{
@@ -27,9 +28,7 @@ const WORDS: [u16; 10] = [
 fn image(alloc: Global) -> Result<Image, AllocError> {
     let mut image = Image::empty(alloc)?;
     for at in 0..10u16 {
-        let word = WORDS[at as usize];
-        image.set(2 * at, (word % 256) as u8);
-        image.set(2 * at + 1, (word / 256) as u8);
+        set_word(&mut image, at, WORDS[at as usize]);
     }
     Ok(image)
 }

@@ -4,8 +4,8 @@ ghost use Rattle.uz_schedule.specs.Limits.{ScheduleFits};
 ghost use Rattle.uz_schedule.specs.WellFormed.{WellFormed};
 
 use crate::instance;
-use crate::row::Row;
 use anyhow::Result;
+use table_rows::Row;
 use uz_cert_limits::well_formed;
 use uz_schedule::{Cert, Kind, Owner, Schedule, schedule_fits, tracks};
 

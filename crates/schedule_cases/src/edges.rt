@@ -1,7 +1,7 @@
 //! The event that an edge is.
 
-use crate::row::Row;
 use anyhow::Result;
+use table_rows::Row;
 use uz_events::event_of;
 use uz_machine::EdgeKind;
 

@@ -1,7 +1,7 @@
 //! Prints instances. A register of which nothing is known is left out, and so is such a pair.
 
-use crate::row::Row;
 use anyhow::Result;
+use table_rows::Row;
 use uz_schedule::{Bit, Instance, Kind, SCANLINE, Span, Val, Wide, hull};
 
 fn kind_name(kind: Kind) -> &'static str {

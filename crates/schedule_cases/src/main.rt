@@ -19,11 +19,10 @@ mod certificate;
 mod edges;
 mod instance;
 mod picture;
-mod row;
 
 use anyhow::Result;
-use row::Row;
 use std::mem::size_of;
+use table_rows::Row;
 use uz_cert::{CertError, read_cert};
 use uz_schedule::{Cert, Point};
 
