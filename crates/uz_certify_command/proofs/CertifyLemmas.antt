@@ -30,7 +30,8 @@ use Rattle.uz_files.specs.Answers.{Answer, ComesOf, NoPart, MayCome, Write, Writ
 use Rattle.uz_files.specs.Lines.{no_memory_line}
 use Rattle.uz_files.specs.Endings.{ComesOfFailure, EndsBy, answer_of}
 use Rattle.uz_files.specs.Reading.{Fails, Says, text_limit}
-use Rattle.uz_certify_command.specs.CertifyCommand.{Allowed, AllowedOf, CertifyAnswers, CertifyAnswersBy, CertifySucceeds, FilesCertify}
+use Rattle.uz_certify_command.specs.CertifyCommand.{AllowedOf, CertifyAnswers, CertifyAnswersBy, CertifySucceeds, FilesCertify}
+use Rattle.uz_outcome_lines.specs.SearchLines.{Allowed}
 use Rattle.uz_certify_command.specs.CertifyCommand.{IsCertified, IsCertifiedBy, certify_answer}
 use Rattle.uz_certify_command.specs.CertifyValues.{IsFound, IsFoundIn, IsPair, IsPairOf, IsRefusal, both_files}
 use Rattle.uz_pair_files.specs.VerdictLines.{accepted_line}

@@ -10,7 +10,6 @@ ghost use Rattle.uz_files.specs.Endings.{EndsBy};
 ghost use Rattle.uz_files.specs.Reading.{Fails, text_limit};
 ghost use Rattle.uz_files.specs.Formats.{RefusesSource};
 
-use crate::certify_lines::not_found;
 use avr_asm::Built;
 use std::alloc::{AllocError, Global};
 use uz_cert::{Cert, write_cert};
@@ -19,6 +18,7 @@ use uz_files::{
     Ending, Failure, Source, Status, end_with, give_up, put_no_memory, read_file, write_file,
 };
 use uz_hex::{Image, write_hex};
+use uz_outcome_lines::not_found;
 use uz_pair_files::accepted;
 use uz_paths::{NotFound, find};
 use uz_schedule::Response;

@@ -20,11 +20,11 @@ use Rattle.uz_files.specs.Lines.{no_memory_line}
 use Rattle.uz_files.proofs.EndingLemmas.{comes_by}
 use Rattle.uz_files.proofs.TextLemmas.{takes_none}
 use Rattle.uz_files.proofs.PrintedLemmas.{cut_part}
-use Rattle.uz_certify_command.specs.CertifyCommand.{Allowed, not_found_line}
+use Rattle.uz_outcome_lines.specs.SearchLines.{Allowed, not_found_line}
 use Rattle.uz_pair_files.specs.VerdictLines.{accepted_line}
-use Rattle.uz_play_command.specs.PlayCommand.{framed}
-use Rattle.uz_play_command.specs.PlayValues.{end_status, end_text}
-use Rattle.uz_play_command.proofs.PlayRunLemmas.{captured_answers}
+use Rattle.uz_outcome_lines.specs.Runs.{framed}
+use Rattle.uz_outcome_lines.specs.RunValues.{end_status, end_text}
+use Rattle.uz_outcome_lines.proofs.RunLemmas.{captured_answers}
 use Rattle.uz_demo_command.specs.declared.demo_start.Start.{Start}
 use Rattle.uz_demo_command.specs.declared.demo_start.Start.TheVariants.{Ready, Refusal}
 use Rattle.uz_demo_command.specs.DemoCommand.{DemoAnswers, DemoParts, demo_clocks, demo_start}

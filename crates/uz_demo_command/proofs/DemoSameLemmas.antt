@@ -11,10 +11,10 @@ use Rattle.uz_files.specs.declared.status.Status.{Status}
 use Rattle.uz_files.specs.declared.status.Status.TheVariants as status
 use Rattle.uz_files.specs.Answers.{Answer, ended}
 use Rattle.uz_files.specs.Formats.{Readings}
-use Rattle.uz_certify_command.specs.CertifyCommand.{Allowed}
+use Rattle.uz_outcome_lines.specs.SearchLines.{Allowed}
 use Rattle.uz_pair_files.specs.VerdictLines.{accepted_line}
-use Rattle.uz_play_command.specs.PlayCommand.{IsFramedRun}
-use Rattle.uz_play_command.proofs.PlaySameLemmas.{same_run}
+use Rattle.uz_outcome_lines.specs.Runs.{IsFramedRun}
+use Rattle.uz_outcome_lines.proofs.SameRunLemmas.{same_run}
 use Rattle.uz_demo_command.specs.DemoCommand.{AllowedOfDemo, Assembles, DemoAnswers, DemoAnswersBy, DemoSucceeds, IsDemoBy, IsDemoRun}
 use Rattle.uz_demo_command.specs.DemoCommand.{RunEnters, demo_clocks, demo_start}
 use Rattle.uz_demo.specs.Source.{source}

@@ -14,8 +14,8 @@ use Rattle.uz_files.specs.declared.status.Status.{Status}
 use Rattle.uz_files.specs.declared.status.Status.TheVariants as status
 use Rattle.uz_files.specs.Answers.{Answer, MayCome, Outside}
 use Rattle.uz_files.proofs.OutcomeLemmas.{from_answer}
-use Rattle.uz_play_command.specs.PlayCommand.{IsEnteredRun, IsFramedRun, IsHaltedRun}
-use Rattle.uz_play_command.proofs.PlayWorthLemmas.{NeverStops, RunsKeep}
+use Rattle.uz_outcome_lines.specs.Runs.{IsEnteredRun, IsFramedRun, IsHaltedRun}
+use Rattle.uz_outcome_lines.proofs.RunWorthLemmas.{NeverStops, RunsKeep}
 use Rattle.uz_demo_command.specs.declared.demo_start.Start.{Start}
 use Rattle.uz_demo_command.specs.DemoCommand.{DemoHalted, DemoPlayed, demo_clocks, demo_start}
 use Rattle.uz_demo_command.specs.DemoValues.{IsPutPart, IsReady, IsRunAfter, IsStart}

@@ -21,10 +21,10 @@ use Rattle.uz_paths.specs.Finding.{IsAsked}
 use Rattle.uz_demo.specs.Source.{source}
 use Rattle.uz_files.specs.declared.status.Status.TheVariants.{Refused, Unwritten}
 use Rattle.uz_files.specs.Answers.{Answer, ended, one_line}
-use Rattle.uz_certify_command.specs.CertifyCommand.{Allowed, not_found_line}
+use Rattle.uz_outcome_lines.specs.SearchLines.{Allowed, not_found_line}
 use Rattle.uz_pair_files.specs.VerdictLines.{accepted_line}
 use Rattle.uz_run_files.specs.RunFiles.{start_of}
-use Rattle.uz_play_command.specs.PlayCommand.{Enters, IsFramedRun}
+use Rattle.uz_outcome_lines.specs.Runs.{Enters, IsFramedRun}
 
 -- the demo's source has this assembly
 abbrev pub Assembles : ℕ → Output → Type 0

@@ -11,7 +11,7 @@ use Rattle.uz_machine.specs.Turn.{State}
 use Rattle.uz_console.specs.Consoles.{StandsFor}
 use Rattle.uz_console.specs.declared.console.Console.{Console}
 use Rattle.uz_search.specs.declared.found.NotFound.{NotFound}
-use Rattle.uz_certify_command.specs.CertifyCommand.{Allowed, not_found_line}
+use Rattle.uz_outcome_lines.specs.SearchLines.{Allowed, not_found_line}
 use Rattle.uz_pair_files.specs.VerdictLines.{accepted_line}
 use Rattle.uz_demo_command.specs.declared.demo_start.Start.{Start}
 use Rattle.uz_demo_command.specs.declared.demo_start.Start.TheVariants.{Ready, Refusal}
@@ -20,7 +20,7 @@ use Rattle.uz_capture.specs.Captures.{IsPlayedInto}
 use Rattle.uz_capture.specs.declared.recording.RunEnd.{RunEnd}
 use Rattle.uz_files.specs.Answers.{Answer, ended}
 use Rattle.uz_files.specs.declared.status.Status.TheVariants.{Unwritten}
-use Rattle.uz_play_command.specs.PlayCommand.{IsFramedRun}
+use Rattle.uz_outcome_lines.specs.Runs.{IsFramedRun}
 use Rattle.uz_player.specs.declared.counts.Counts.{Counts}
 use Rattle.uz_player.specs.declared.player.Player.{Player}
 use Rattle.uz_player.specs.Playing.{Plays, cert_of, counts_of, limit_of}

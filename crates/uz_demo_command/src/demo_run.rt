@@ -7,7 +7,7 @@ ghost use Rattle.uz_demo_command.specs.DemoValues.{GoesOn, IsPlayedOut, IsPutPar
 ghost use Rattle.uz_files.specs.Answers.{ComesOf, MayCome, ended, outside};
 ghost use Rattle.uz_machine.specs.PadLine.{PadHistory};
 ghost use Rattle.uz_machine.specs.Turn.{State};
-ghost use Rattle.uz_play_command.specs.PlayValues.{end_status, end_text};
+ghost use Rattle.uz_outcome_lines.specs.RunValues.{end_status, end_text};
 ghost use Rattle.uz_player.specs.Playing.{Plays, ahead_of, cert_of, counts_of, limit_of};
 ghost use Rattle.uz_schedule.specs.WellFormed.{WellFormed};
 ghost use Rattle.uz_shelf.specs.Faults.{Rose};
@@ -19,7 +19,7 @@ use std::alloc::{AllocError, Global};
 use uz_capture::{Captured, RunEnd};
 use uz_console::Console;
 use uz_files::{Ending, Status, end_with, put_no_memory};
-use uz_play_command::ending_of;
+use uz_outcome_lines::ending_of;
 use uz_played::played_runs_keep;
 use uz_player::{Played, Player};
 use uz_schedule::Cert;

@@ -8,10 +8,10 @@ ghost use Rattle.uz_schedule.specs.WellFormed.{WellFormed};
 
 use avr_asm::{Built, assemble};
 use std::alloc::{AllocError, Global};
-use uz_certify_command::not_found;
 use uz_console::{Console, reset_is_in_range};
 use uz_demo::demo_source;
 use uz_hex::Image;
+use uz_outcome_lines::not_found;
 use uz_pair_files::accepted;
 use uz_paths::{NotFound, find};
 use uz_schedule::{Cert, Response};

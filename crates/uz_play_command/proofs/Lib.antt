@@ -1,4 +1,3 @@
 pub mod PlayLemmas
-pub mod PlayRunLemmas
 pub mod PlaySameLemmas
 pub mod PlayWorthLemmas

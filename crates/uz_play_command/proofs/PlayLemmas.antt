@@ -20,7 +20,8 @@ use Rattle.uz_files.specs.declared.status.Status.TheVariants.{Unread, BadInput, 
 use Rattle.uz_files.specs.Answers.{Answer, ComesOf, MayCome, Outside, outside}
 use Rattle.uz_files.specs.Endings.{ComesOfFailure, EndsBy, answer_of}
 use Rattle.uz_files.specs.Reading.{Fails, Says, certificate_limit, text_limit}
-use Rattle.uz_play_command.specs.PlayCommand.{IsFramedPart, IsFramedRun, IsPlay, PlayAnswers, PlayLacks, PlayParts, SpellsPlay}
+use Rattle.uz_play_command.specs.PlayCommand.{IsPlay, PlayAnswers, PlayLacks, PlayParts, SpellsPlay}
+use Rattle.uz_outcome_lines.specs.Runs.{IsFramedPart, IsFramedRun}
 use Rattle.uz_play_command.specs.PlayValues.{IsChecked, IsReady, IsRefusedPlay, IsStart, PlayPreface}
 use Rattle.uz_run_files.specs.RunFiles.{start_of}
 use Rattle.uz_files.proofs.FaultLemmas.{rose_later}

@@ -1,102 +1,32 @@
 -- `play HEX CERT PADS CLOCKS FRAMES`: the three files are read in their order, and the pair is checked. Once it is accepted, the
 -- file of frames is created, and the machine runs from reset: the records of the picture of its edges are written. Two lines tell
 -- the first state that meets the certificate's entry condition, and the numbers of the run.
-use Rattle.std.specs.Prelude.{◌≡◌, ◌⊎◌, ℕ, ◌<◌, List, [], ◌∷◌, ◌++◌, codes, decimal, Option, Some, None}
+use Rattle.std.specs.Prelude.{◌≡◌, ◌⊎◌, ℕ, List, Option, Some, None}
 use Rattle.uz_shelf.specs.Files.{FileMap, LacksFile}
-use Rattle.uz_hex.specs.Cells.{word_of}
 use Rattle.uz_hex.specs.Reading.{Flash}
 use Rattle.uz_schedule.specs.declared.certificate.Cert.{Cert}
 use Rattle.uz_pads.specs.declared.pads.Pad.{Pad}
-use Rattle.uz_core.specs.declared.step.Why.{Why}
 use Rattle.uz_machine.specs.declared.Edge.{Edge}
 use Rattle.uz_machine.specs.PadLine.{PadHistory}
 use Rattle.uz_machine.specs.Turn.{State}
-use Rattle.uz_machine.specs.Run.{IsClockRun, IsRunPart, IsStoppedRun, Run, TurnBefore}
-use Rattle.uz_console.specs.Approaches.{EntersFirst, NeverEnters}
-use Rattle.uz_console.specs.Entry.{EntryCondition}
-use Rattle.uz_console.specs.Turns.{Halts}
-use Rattle.uz_scan.specs.Pictures.{end_records, newest_first, records, row_records}
+use Rattle.uz_machine.specs.Run.{IsClockRun}
+use Rattle.uz_console.specs.Approaches.{EntersFirst}
+use Rattle.uz_scan.specs.Pictures.{records}
 use Rattle.uz_played.specs.Keeping.{KeepsSchedule}
-use Rattle.uz_player.specs.Counting.{IsInLine, count_of, is_pixel, is_sound, is_sync}
 use Rattle.uz_soundness.specs.Acceptance.{Accepts}
 use Rattle.uz_check.specs.Refusal.{FirstRefusal}
 use Rattle.uz_check.specs.declared.refusal.RefusedWhy.{RefusedWhy}
-use Rattle.uz_files.specs.declared.status.Status.{Status}
-use Rattle.uz_files.specs.declared.status.Status.TheVariants.{Done, NotEntered, Refused, Stopped, Unwritten}
-use Rattle.uz_files.specs.Answers.{Answer, Write, one_line}
+use Rattle.uz_files.specs.declared.status.Status.TheVariants.{Refused}
+use Rattle.uz_files.specs.Answers.{Answer, one_line}
 use Rattle.uz_files.specs.Reading.{Reads, Says, certificate_limit, text_limit}
 use Rattle.uz_pair_files.specs.VerdictLines.{refused_line}
 use Rattle.uz_run_files.specs.RunFiles.{start_of}
-use Rattle.uz_run_files.specs.StopLines.{stopped_at_line}
 use Rattle.uz_hex.specs.HexText.{IsHexOf}
 use Rattle.uz_files.specs.Formats.{SpellsCertificate}
 use Rattle.uz_files.specs.Formats.{RefusesCertificate, RefusesHex, RefusesPads, SpellsPads}
-
--- Lines
-
--- the clock and the line of the first state that meets the entry condition
-abbrev pub entered_line : ℕ → ℕ → List ℕ
-entered_line clock line = codes "entered clock " ++ decimal clock ++ codes " line " ++ decimal line ++ codes "\n"
-
-abbrev pub edge_numbers : ℕ → ℕ → ℕ → List ℕ
-edge_numbers sync pixels sounds = codes " sync " ++ decimal sync ++ codes " pixels " ++ decimal pixels ++ codes " sounds " ++ decimal sounds
-    ++ codes "\n"
-
-abbrev pub numbers_line : ℕ → ℕ → ℕ → ℕ → ℕ → List ℕ
-numbers_line frames rows sync pixels sounds =
-    codes "frames " ++ decimal frames ++ codes " rows " ++ decimal rows ++ edge_numbers sync pixels sounds
-
--- how many records of frames' ends and of rows these edges have, and how many of them are sync, pixels and sounds
-abbrev pub numbers_of : List Edge → List ℕ
-numbers_of edges =
-    let history = newest_first edges in
-    numbers_line (end_records history) (row_records history) (count_of is_sync history) (count_of is_pixel history)
-    (count_of is_sound history)
-
-abbrev pub not_entered_line : List ℕ
-not_entered_line = codes "not entered\n"
+use Rattle.uz_outcome_lines.specs.Runs.{IsFramedRun, IsFramedPart, Enters}
 
 -- Answers
-
--- the file of frames has the records of these edges; one text is printed
-abbrev pub frames_file : List ℕ → List Edge → Write
-frames_file name edges = record { name = name; bytes = records (newest_first edges) }
-
-abbrev pub framed : List ℕ → List Edge → Status → List ℕ → Answer
-framed frames edges status line = record { writes = frames_file frames edges ∷ []; printed = []; status = status; line = line }
-
--- the run of so many clocks is over, and this is the first state of it that meets the entry condition
-pub record IsEnteredRun (frames : List ℕ) (certificate : Cert) (clocks : ℕ) (start : State PadHistory) (answer : Answer) : Type 0 where
-  pub edges : List Edge
-  pub last : State PadHistory
-  pub run : IsClockRun clocks start edges last
-  pub clock : ℕ
-  pub position : ℕ
-  pub line : ℕ
-  pub enters : EntersFirst certificate clocks start clock position
-  pub in_line : IsInLine certificate.schedule position line
-  pub told : answer ≡ framed frames edges Done (entered_line clock line ++ numbers_of edges)
-
--- it is over, and no state meets it
-pub record IsUnenteredRun (frames : List ℕ) (certificate : Cert) (clocks : ℕ) (start : State PadHistory) (answer : Answer) : Type 0 where
-  pub edges : List Edge
-  pub last : State PadHistory
-  pub run : IsClockRun clocks start edges last
-  pub never : NeverEnters certificate clocks start
-  pub told : answer ≡ framed frames edges NotEntered not_entered_line
-
--- it is stopped
-pub record IsHaltedRun (frames : List ℕ) (clocks : ℕ) (start : State PadHistory) (answer : Answer) : Type 0 where
-  pub edges : List Edge
-  pub last : State PadHistory
-  pub run : IsStoppedRun clocks start edges last
-  pub halts : (why : Why) × Halts last why
-  pub told : answer ≡ framed frames edges Stopped (stopped_at_line last.core.pc (word_of last.image last.core.pc))
-
-abbrev pub IsFramedRun : List ℕ → Cert → ℕ → State PadHistory → Answer → Type 0
-IsFramedRun frames certificate clocks start answer =
-    IsEnteredRun frames certificate clocks start answer ⊎ (IsUnenteredRun frames certificate clocks start answer ⊎ IsHaltedRun frames clocks
-    start answer)
 
 -- once all files are read: the pair is refused, with the first item that refuses it, or it is accepted, and the machine runs
 abbrev pub IsPlay : ℕ → List ℕ → Flash → Cert → List Pad → Answer → Type 0
@@ -118,13 +48,6 @@ PlayAnswersFor files load_fault cert pads clocks frames image =
 abbrev pub PlayAnswers : Option FileMap → Type 0 → List ℕ → List ℕ → List ℕ → ℕ → List ℕ → Answer → Type 0
 PlayAnswers files load_fault hex cert pads clocks frames =
     Reads files load_fault hex text_limit IsHexOf RefusesHex (PlayAnswersFor files load_fault cert pads clocks frames)
-
--- a part of the run: the records of its edges; the status of a part is never asked
-pub record IsFramedPart (frames : List ℕ) (clocks : ℕ) (start : State PadHistory) (answer : Answer) : Type 0 where
-  pub edges : List Edge
-  pub last : State PadHistory
-  pub run : IsRunPart clocks start edges last
-  pub told : answer ≡ framed frames edges Unwritten []
 
 -- the three files spell this
 pub record SpellsPlay (files : Option FileMap) (hex cert pads : List ℕ) (image : Flash) (certificate : Cert) (list : List Pad) : Type
@@ -149,16 +72,6 @@ PlayLacks files hex cert pads =
     ⊎ (((image : Flash) × Says files hex text_limit IsHexOf image × LacksFile files cert)
     ⊎ ((image : Flash) × (certificate : Cert) × Says files hex text_limit IsHexOf image × Says files cert certificate_limit
     SpellsCertificate certificate × LacksFile files pads))
-
--- a state of a run of so many clocks meets the entry condition
-pub record Enters (certificate : Cert) (clocks : ℕ) (start : State PadHistory) : Type 0 where
-  pub turns : ℕ
-  pub edges : List Edge
-  pub state : State PadHistory
-  pub run : Run (TurnBefore clocks) turns start edges state
-  pub in_run : state.clock < clocks
-  pub position : ℕ
-  pub meets : EntryCondition certificate state position
 
 -- the three files are within their limits and grammars, the pair is accepted, the run isn't stopped, and a state of it meets the
 -- entry condition

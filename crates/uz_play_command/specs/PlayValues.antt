@@ -1,5 +1,5 @@
 -- The values of the code that make a play.
-use Rattle.std.specs.Prelude.{◌≡◌, ◌⊎◌, ℕ, List, ◌++◌, Option, Some, None}
+use Rattle.std.specs.Prelude.{◌≡◌, ◌⊎◌, ℕ, List, Option}
 use Rattle.uz_shelf.specs.Files.{FileMap}
 use Rattle.uz_hex.specs.Reading.{Flash}
 use Rattle.uz_schedule.specs.declared.certificate.Cert.{Cert}
@@ -7,22 +7,18 @@ use Rattle.uz_schedule.specs.WellFormed.{WellFormed}
 use Rattle.uz_pads.specs.declared.pads.Pad.{Pad}
 use Rattle.uz_console.specs.Consoles.{StandsFor}
 use Rattle.uz_console.specs.declared.console.Console.{Console}
-use Rattle.uz_player.specs.declared.counts.Counts.{Counts}
 use Rattle.uz_machine.specs.StateRange.{IsState}
 use Rattle.uz_soundness.specs.Acceptance.{Accepts}
 use Rattle.uz_soundness.specs.Certified.{Certified}
-use Rattle.uz_capture.specs.declared.recording.RunEnd.{RunEnd}
 use Rattle.uz_capture.specs.declared.recording.RunEnd.TheVariants as end
 use Rattle.uz_play_command.specs.declared.play_command.Start.{Start}
 use Rattle.uz_play_command.specs.declared.play_command.Start.TheVariants.{Ready, Refused as RefusedPair}
-use Rattle.uz_files.specs.declared.status.Status.{Status}
-use Rattle.uz_files.specs.declared.status.Status.TheVariants.{Done, NotEntered, Refused, Stopped}
+use Rattle.uz_files.specs.declared.status.Status.TheVariants.{Refused}
 use Rattle.uz_files.specs.Answers.{Answer}
 use Rattle.uz_files.specs.Endings.{answer_of}
 use Rattle.uz_files.specs.Reading.{Fails, Says, certificate_limit, text_limit}
-use Rattle.uz_play_command.specs.PlayCommand.{IsPlay, SpellsPlay, edge_numbers, entered_line, not_entered_line, numbers_line}
+use Rattle.uz_play_command.specs.PlayCommand.{IsPlay, SpellsPlay}
 use Rattle.uz_run_files.specs.RunFiles.{start_of}
-use Rattle.uz_run_files.specs.StopLines.{stopped_at_line}
 use Rattle.uz_hex.specs.HexText.{IsHexOf}
 use Rattle.uz_files.specs.Formats.{SpellsCertificate}
 use Rattle.uz_files.specs.Formats.{RefusesCertificate, RefusesHex, RefusesPads}
@@ -76,26 +72,3 @@ IsChecked image cert list (RefusedPair ending) = IsRefusedPair image cert list (
 abbrev pub IsStart : Option FileMap → List ℕ → List ℕ → List ℕ → Start → Type 0
 IsStart files hex cert pads (Ready console certificate) = IsReady files hex cert pads console certificate
 IsStart files hex cert pads (RefusedPair ending) = IsRefusedPlay files hex cert pads (answer_of ending)
-
-abbrev pub edge_counts : Counts → List ℕ
-edge_counts counts = edge_numbers counts.sync counts.pixels counts.sounds
-
-abbrev pub counts_text : Counts → List ℕ
-counts_text counts = numbers_line counts.frames counts.rows counts.sync counts.pixels counts.sounds
-
--- the status and the lines of a run that is captured
-abbrev pub over_status : Option (ℕ × ℕ) → Status
-over_status None = NotEntered
-over_status (Some at) = Done
-
-abbrev pub over_text : Option (ℕ × ℕ) → Counts → List ℕ
-over_text None counts = not_entered_line
-over_text (Some at) counts = entered_line at.0 at.1 ++ counts_text counts
-
-abbrev pub end_status : RunEnd → Counts → Status
-end_status end.Over counts = over_status counts.entered
-end_status (end.Stopped pc word) counts = Stopped
-
-abbrev pub end_text : RunEnd → Counts → List ℕ
-end_text end.Over counts = over_text counts.entered counts
-end_text (end.Stopped pc word) counts = stopped_at_line pc word

@@ -1,6 +1,6 @@
 //! `play HEX CERT PADS CLOCKS FRAMES`, from its words to its status.
 
-ghost use Rattle.std.specs.Prelude.{◌≡◌, ◌≤◌, ◌⊎◌, IfOk, List, Option, ℕ};
+ghost use Rattle.std.specs.Prelude.{◌≡◌, ◌≤◌, ◌⊎◌, List, Option, ℕ};
 ghost use Rattle.uz_console.specs.Consoles.{StandsFor, clock_of as console_clock};
 ghost use Rattle.uz_machine.specs.PadLine.{PadHistory};
 ghost use Rattle.uz_machine.specs.Turn.{State};
@@ -10,48 +10,20 @@ ghost use Rattle.uz_shelf.specs.Files.{FileMap, WritesFile};
 ghost use Rattle.uz_scan.specs.Pictures.{newest_first, records};
 ghost use Rattle.uz_machine.specs.declared.Edge.{Edge};
 ghost use Rattle.uz_files.specs.Answers.{ComesOf, MayCome, outside};
-ghost use Rattle.uz_play_command.specs.PlayCommand.{FilesHalted, FilesPlayed, IsFramedPart, IsFramedRun, PlayAnswers, PlayParts, framed};
-ghost use Rattle.uz_play_command.specs.PlayValues.{end_status, end_text, over_status};
+ghost use Rattle.uz_play_command.specs.PlayCommand.{FilesHalted, FilesPlayed, PlayAnswers, PlayParts};
+ghost use Rattle.uz_outcome_lines.specs.Runs.{IsFramedPart, IsFramedRun, framed};
+ghost use Rattle.uz_outcome_lines.specs.RunValues.{end_status, end_text};
 
 use crate::clocks::Clocks;
 use crate::play_command::{Start, start_play};
-use crate::play_lines::over;
 use std::alloc::{AllocError, Global};
-use uz_capture::{Captured, RunEnd, capture};
+use uz_capture::{Captured, capture};
 use uz_console::Console;
-use uz_files::{Ending, Status, end_with, give_up, put_no_memory};
+use uz_files::{Status, end_with, give_up, put_no_memory};
+use uz_outcome_lines::ending_of;
 use uz_played::played_runs_keep;
-use uz_player::Counts;
-use uz_run_files::stopped_at;
 use uz_schedule::Cert;
 use uz_shelf::{Shelf, Sink, WriteError};
-
-/// The status of a run that is over.
-fn over_status_of(counts: Counts) -> Status
-    ensures { result ≡ over_status counts.entered }
-{
-    match counts.entered {
-        Some(_) => Status::Done,
-        None => Status::NotEntered,
-    }
-}
-
-/// The status and the lines of a run whose records are written.
-pub fn ending_of(alloc: Global, captured: Captured) -> Result<Ending, AllocError>
-    ensures { IfOk result (λ e. (e.status ≡ end_status captured.end captured.counts)
-        × (e.line.items ≡ end_text captured.end captured.counts)) }
-{
-    match captured.end {
-        RunEnd::Stopped { pc, word } => Ok(Ending {
-            status: Status::Stopped,
-            line: stopped_at(alloc, pc, word)?,
-        }),
-        RunEnd::Over => Ok(Ending {
-            status: over_status_of(captured.counts),
-            line: over(alloc, captured.counts)?,
-        }),
-    }
-}
 
 /// Prints the lines of a run whose records are written.
 fn end_play<K: Sink>(alloc: Global, out: &mut K, captured: Captured) -> Status

@@ -1,4 +1,4 @@
-use Rattle.uz_play_command.proofs.PlayRunLemmas.{comes_of_ending, lacks_text}
+use Rattle.uz_outcome_lines.proofs.RunLemmas.{comes_of_ending, lacks_text}
 use Rattle.uz_play_command.proofs.play_run.end_play.Goals as goal
 
 pub returns-in-Ok-clause-comes : goal.returns-in-Ok-clause-comes

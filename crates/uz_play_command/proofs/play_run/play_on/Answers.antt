@@ -1,5 +1,5 @@
 use Rattle.std.proofs.Common.{ap, inl, inr, refl, Err}
-use Rattle.uz_play_command.proofs.PlayRunLemmas.{run_captured, run_lacks, run_unwritten}
+use Rattle.uz_outcome_lines.proofs.RunLemmas.{run_captured, run_lacks, run_unwritten}
 use Rattle.uz_play_command.proofs.play_run.play_on.Goals as goal
 
 pub returns-in-Ok-clause-outcome : goal.returns-in-Ok-clause-outcome

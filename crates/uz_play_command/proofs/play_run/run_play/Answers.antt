@@ -4,8 +4,9 @@ use Rattle.uz_play_command.specs.PlayValues.{IsStart}
 use Rattle.uz_run_files.specs.RunFiles.{start_of}
 use Rattle.uz_files.proofs.FaultLemmas.{rose_same}
 use Rattle.uz_play_command.proofs.PlayLemmas.{play_failed, play_refused, play_runs}
-use Rattle.uz_play_command.proofs.PlayWorthLemmas.{failed_not_done, failed_not_stopped, is_halted, is_played, refused_not_done}
-use Rattle.uz_play_command.proofs.PlayWorthLemmas.{refused_not_stopped}
+use Rattle.uz_play_command.proofs.PlayWorthLemmas.{is_halted, is_played}
+use Rattle.uz_outcome_lines.proofs.RunWorthLemmas.{failed_not_done, failed_not_stopped, refused_not_done}
+use Rattle.uz_outcome_lines.proofs.RunWorthLemmas.{refused_not_stopped}
 use Rattle.uz_play_command.proofs.play_run.run_play.Goals as goal
 
 pub returns-in-Err-clause-outcome : goal.returns-in-Err-clause-outcome

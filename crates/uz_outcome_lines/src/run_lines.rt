@@ -1,12 +1,15 @@
-//! The lines of a play.
+//! The lines of a run that is played.
 
 ghost use Rattle.std.specs.Prelude.{◌≡◌, ◌++◌, IfOk, OnOk};
-ghost use Rattle.uz_play_command.specs.PlayCommand.{entered_line, not_entered_line};
-ghost use Rattle.uz_play_command.specs.PlayValues.{counts_text, edge_counts, over_text};
+ghost use Rattle.uz_outcome_lines.specs.Runs.{entered_line, not_entered_line};
+ghost use Rattle.uz_outcome_lines.specs.RunValues.{counts_text, edge_counts, end_status, end_text, over_status, over_text};
 
 use itoa::Buffer;
 use std::alloc::{AllocError, Global};
+use uz_capture::{Captured, RunEnd};
+use uz_files::{Ending, Status};
 use uz_player::Counts;
+use uz_run_files::stopped_at;
 
 /// Adds the numbers of the run.
 fn push_counts(text: &mut Vec<u8>, counts: Counts) -> Result<(), AllocError>
@@ -46,7 +49,7 @@ fn entered(alloc: Global, clock: u64, line: u16) -> Result<Vec<u8>, AllocError>
 }
 
 /// The lines of a run that is over.
-pub(crate) fn over(alloc: Global, counts: Counts) -> Result<Vec<u8>, AllocError>
+fn over(alloc: Global, counts: Counts) -> Result<Vec<u8>, AllocError>
     ensures { IfOk result (λ text. text.items ≡ over_text counts.entered counts) }
 {
     match counts.entered {
@@ -60,5 +63,32 @@ pub(crate) fn over(alloc: Global, counts: Counts) -> Result<Vec<u8>, AllocError>
             text.extend_from_slice(b"not entered\n")?;
             Ok(text)
         }
+    }
+}
+
+/// The status of a run that is over.
+fn over_status_of(counts: Counts) -> Status
+    ensures { result ≡ over_status counts.entered }
+{
+    match counts.entered {
+        Some(_) => Status::Done,
+        None => Status::NotEntered,
+    }
+}
+
+/// The status and the lines of a run whose records are written.
+pub fn ending_of(alloc: Global, captured: Captured) -> Result<Ending, AllocError>
+    ensures { IfOk result (λ e. (e.status ≡ end_status captured.end captured.counts)
+        × (e.line.items ≡ end_text captured.end captured.counts)) }
+{
+    match captured.end {
+        RunEnd::Stopped { pc, word } => Ok(Ending {
+            status: Status::Stopped,
+            line: stopped_at(alloc, pc, word)?,
+        }),
+        RunEnd::Over => Ok(Ending {
+            status: over_status_of(captured.counts),
+            line: over(alloc, captured.counts)?,
+        }),
     }
 }

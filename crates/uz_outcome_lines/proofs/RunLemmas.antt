@@ -21,8 +21,8 @@ use Rattle.uz_files.specs.declared.status.Status.TheVariants.{Done, Stopped, Unw
 use Rattle.uz_files.specs.Answers.{ComesOf, MayCome, WritesPart, outside}
 use Rattle.uz_files.specs.Endings.{answer_of}
 use Rattle.uz_files.specs.Lines.{no_memory_line}
-use Rattle.uz_play_command.specs.PlayCommand.{IsFramedPart, IsFramedRun, entered_line, framed, frames_file, numbers_line, numbers_of}
-use Rattle.uz_play_command.specs.PlayValues.{counts_text, end_status, end_text, over_status, over_text}
+use Rattle.uz_outcome_lines.specs.Runs.{IsFramedPart, IsFramedRun, entered_line, framed, frames_file, numbers_line, numbers_of}
+use Rattle.uz_outcome_lines.specs.RunValues.{counts_text, end_status, end_text, over_status, over_text}
 use Rattle.uz_run_files.specs.StopLines.{stopped_at_line}
 use Rattle.uz_files.proofs.EndingLemmas.{comes_by}
 use Rattle.uz_files.proofs.TextLemmas.{takes_none}

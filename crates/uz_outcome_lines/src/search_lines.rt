@@ -1,9 +1,9 @@
 //! The line that says why no certificate is found.
 
 ghost use Rattle.std.specs.Prelude.{◌≡◌, IfOk};
-ghost use Rattle.uz_certify_command.specs.CertifyCommand.{last_clock as clock_of_last, last_line as line_of_last};
-ghost use Rattle.uz_certify_command.specs.CertifyCommand.{last_pc as pc_of_last, not_found_line, number_line};
-ghost use Rattle.uz_certify_command.specs.CertifyCommand.{split_line, stuck_line};
+ghost use Rattle.uz_outcome_lines.specs.SearchLines.{last_clock as clock_of_last, last_line as line_of_last};
+ghost use Rattle.uz_outcome_lines.specs.SearchLines.{last_pc as pc_of_last, not_found_line, number_line};
+ghost use Rattle.uz_outcome_lines.specs.SearchLines.{split_line, stuck_line};
 
 use itoa::Buffer;
 use std::alloc::{AllocError, Global};

@@ -1,0 +1,3 @@
+pub mod RunValues
+pub mod Runs
+pub mod SearchLines
