@@ -60,9 +60,14 @@ fn image(alloc: Global, jump: u16, third: u16) -> Result<Image>
 fn text(alloc: Global, ring: &Ring) -> Result<String> {
     let last = ring.lines.saturating_sub(1);
     let mut text = format!(in alloc;
-        "uzcert 2\nsize 1 {} 0 {} 0\nirq 4\nstack 4350 4351 0 0\nkind 2 1820\n1 sync 0\n{} sync 1\nfall {}\nrun {} 0\nentry alone 0 {} 0 0 r16=0 r17=1\n",
-        ring.lines, ring.points, ring.rise, ring.fall, ring.lines, ring.pc
+        "uzcert 2\nsize 1 {} 0 {} 0\nirq 4\nstack 4350 4351 0 0\n",
+        ring.lines, ring.points
     )?;
+    let kind = format!(in alloc;
+        "kind 2 1820\n1 sync 0\n{} sync 1\nfall {}\nrun {} 0\nentry alone 0 {} 0 0 r16=0 r17=1\n",
+        ring.rise, ring.fall, ring.lines, ring.pc
+    )?;
+    text.push_str(kind.as_str())?;
     for k in 0..u32::from(ring.points) {
         let next = if k + 1 == u32::from(ring.points) {
             0

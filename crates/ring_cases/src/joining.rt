@@ -43,8 +43,9 @@ fn value(line: u32, clock: u32) -> u8 {
 fn text(alloc: Global) -> Result<String> {
     let mut text = String::from_str(
         alloc,
-        "uzcert 2\nsize 1 2 0 3638 0\nirq 4\nstack 4350 4351 0 0\nkind 2 1820\n1 sync 0\n137 sync 1\nfall 1\nrun 2 0\nentry alone 0 2 0 0 r16=0 r17=1 r18=0\n",
+        "uzcert 2\nsize 1 2 0 3638 0\nirq 4\nstack 4350 4351 0 0\nkind 2 1820\n1 sync 0\n137 sync 1\nfall 1\n",
     )?;
+    text.push_str("run 2 0\nentry alone 0 2 0 0 r16=0 r17=1 r18=0\n")?;
     for id in 0..2 * COUNT {
         let line = id / COUNT;
         let clock = id % COUNT;
