@@ -12,8 +12,8 @@ use Rattle.uz_schedule.specs.declared.states.Point.{Point}
 use Rattle.uz_schedule.specs.declared.certificate.Cert.{Cert}
 use Rattle.uz_rules.specs.Local.{IsLocal}
 use Rattle.uz_line_families.specs.Folding.{is_on_line, folds, FoldingLaw}
-use Rattle.uz_line_families.specs.Untold.{is_told, untold_lines}
-use Rattle.uz_check.specs.Refusal.{InstanceRefusal, LineRefusal}
+use Rattle.uz_line_families.specs.Untold.{is_told, untold_lines, untold_of}
+use Rattle.uz_check.specs.Refusal.{Why, InstanceRefusal, LineRefusal, PointRefusal}
 use Rattle.uz_check.proofs.SteadyTold.{and_true}
 
 next_is : (s : Schedule) (l : ℕ) → suc l < length s.lines → next_line s l ≡ suc l
@@ -157,3 +157,19 @@ pub first_untold : (cert : Cert) (p : Point) → is_told cert p p.l0 ≡ false
 first_untold cert p =
     let no : nat_lt p.l0 p.l0 ≡ false = grind (arith, nat_tests) in
     rw no refl
+
+-- A point whose box has one line
+
+pub one_line_refusal : (image : FinMap nat_cmp ℕ) (cert : Cert) (id : ℕ) (p : Point) (why : Why) → p.l0 ≡ p.l1
+    → LineRefusal image cert id p p.l0 why → PointRefusal image cert id p why
+unfolding PointRefusal
+one_line_refusal image cert id p None same line = λ l low high.
+    subst (λ k. LineRefusal image cert id p k None) (omega (arith, low, high, same)) line
+one_line_refusal image cert id p (Some why) same line =
+    (p.l0, omega arith, omega (arith, same), line, λ j low high. absurd (omega (arith, low, high)))
+
+pub one_line_looked : (cert : Cert) (p : Point) (seen looked : ℕ) → p.l0 ≡ p.l1 → looked ≤ seen + (suc p.c1 - p.c0)
+    → looked ≤ seen + untold_of cert p
+one_line_looked cert p seen looked same few =
+    let part = line_of_box cert p p.l0 (suc p.c1 - p.c0) (omega arith) (omega (arith, same)) (first_untold cert p) in
+    omega (arith, part, few)

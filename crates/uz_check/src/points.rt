@@ -64,8 +64,59 @@ fn line_refusal(
     None
 }
 
-/// The first refusal among a point's instances. Those on lines of which the line before tells aren't looked at.
+/// The first refusal among a point's instances, line by line. Those on lines of which the line before tells aren't looked at.
 #[tactic(auto, unfolding(crate::specs::Refusal::PointRefusal))]
+fn lines_refusal(
+    image: &Image,
+    cert: &Cert,
+    runs: &[u16; 525],
+    id: u32,
+    point: &Point,
+    visit: &mut Visit,
+    looked: &mut u64,
+) -> Option<RefusedWhy>
+    requires fits { WellFormed cert.now }
+    requires point { slice_get cert.now.points id ≡ Some point.now }
+    requires box_fits { BoxFits (length cert.now.schedule.lines) point.now }
+    requires noted { RunsFrom cert.now runs.now 0 }
+    requires visit { IsVisit image.now cert.now id visit.old }
+    ensures first { PointRefusal image.now cert.now id point.now result }
+    ensures few { looked.new ≤ looked.old + untold_of cert.now point.now }
+{
+    lines_fold();
+    let reach = reach_of(cert, point);
+    let mut l = point.l0;
+    'lines: while l <= point.l1 {
+        if let Some(why) = line_refusal(image, cert, id, point, l, visit, looked) {
+            return Some(why);
+        }
+        l = next_untold(cert, runs, reach, point, l + 1);
+    }
+    None
+}
+
+/// The first refusal among the instances of a point whose box has one line. No other line is told of, so nothing is asked of that.
+#[tactic(auto, using(crate::proofs::Looked::one_line_refusal, crate::proofs::Looked::one_line_looked))]
+fn one_line_refusal(
+    image: &Image,
+    cert: &Cert,
+    id: u32,
+    point: &Point,
+    visit: &mut Visit,
+    looked: &mut u64,
+) -> Option<RefusedWhy>
+    requires fits { WellFormed cert.now }
+    requires point { id < length cert.now.points }
+    requires visit { IsVisit image.now cert.now id visit.old }
+    requires box_fits { BoxFits (length cert.now.schedule.lines) point.now }
+    requires one { point.now.l0 ≡ point.now.l1 }
+    ensures first { PointRefusal image.now cert.now id point.now result }
+    ensures few { looked.new ≤ looked.old + untold_of cert.now point.now }
+{
+    line_refusal(image, cert, id, point, point.l0, visit, looked)
+}
+
+/// The first refusal among a point's instances.
 fn point_refusal(
     image: &Image,
     cert: &Cert,
@@ -81,17 +132,12 @@ fn point_refusal(
     ensures first { PointRefusal image.now cert.now id point.now result }
     ensures few { looked.new ≤ looked.old + untold_of cert.now point.now }
 {
-    lines_fold();
-    let reach = reach_of(cert, point);
     let mut visit = Visit::begin(image, cert, id);
-    let mut l = point.l0;
-    'lines: while l <= point.l1 {
-        if let Some(why) = line_refusal(image, cert, id, point, l, &mut visit, looked) {
-            return Some(why);
-        }
-        l = next_untold(cert, runs, reach, point, l + 1);
+    if point.l0 == point.l1 {
+        one_line_refusal(image, cert, id, point, &mut visit, looked)
+    } else {
+        lines_refusal(image, cert, runs, id, point, &mut visit, looked)
     }
-    None
 }
 
 /// A point of the certificate.

@@ -3,7 +3,7 @@ use Rattle.std.specs.Prelude.{None}
 use Rattle.uz_line_families.specs.Untold.{is_told, untold_lines}
 use Rattle.uz_rules.specs.Visit.{IsVisit}
 use Rattle.uz_check.specs.Refusal.{LineRefusal}
-use Rattle.uz_check.proofs.points.point_refusal.Given as goal
+use Rattle.uz_check.proofs.points.lines_refusal.Given as goal
 
 -- none so far is refused, those that aren't told were looked at, and this line isn't told
 abbrev pub invariant-lines : goal.invariant-lines

@@ -1,6 +1,6 @@
 use Rattle.std.proofs.Common.{◌-◌, suc, arith}
 use Rattle.uz_check.proofs.Looked.{lines_more, one_more_line, line_of_box}
-use Rattle.uz_check.proofs.points.point_refusal.Goals as goal
+use Rattle.uz_check.proofs.points.lines_refusal.Goals as goal
 
 pub returns-in-Some-clause-few : goal.returns-in-Some-clause-few
 returns-in-Some-clause-few c =
