@@ -116,13 +116,14 @@ fn one_line_refusal(
     line_refusal(image, cert, id, point, point.l0, visit, looked)
 }
 
-/// The first refusal among a point's instances.
+/// The first refusal among a point's instances. `visit` is room for the visit of the point, whatever it has.
 fn point_refusal(
     image: &Image,
     cert: &Cert,
     runs: &[u16; 525],
     id: u32,
     point: &Point,
+    visit: &mut Visit,
     looked: &mut u64,
 ) -> Option<RefusedWhy>
     requires fits { WellFormed cert.now }
@@ -132,11 +133,11 @@ fn point_refusal(
     ensures first { PointRefusal image.now cert.now id point.now result }
     ensures few { looked.new ≤ looked.old + untold_of cert.now point.now }
 {
-    let mut visit = Visit::begin(image, cert, id);
+    visit.begin(image, cert, id);
     if point.l0 == point.l1 {
-        one_line_refusal(image, cert, id, point, &mut visit, looked)
+        one_line_refusal(image, cert, id, point, visit, looked)
     } else {
-        lines_refusal(image, cert, runs, id, point, &mut visit, looked)
+        lines_refusal(image, cert, runs, id, point, visit, looked)
     }
 }
 
@@ -151,7 +152,7 @@ fn point_of(cert: &Cert, id: u32) -> &Point
     &cert.points.as_slice()[id as usize]
 }
 
-/// The first refusal among all points.
+/// The first refusal among all points. One visit serves them all.
 #[tactic(auto, unfolding(crate::specs::Refusal::PointsRefusal))]
 pub(crate) fn points_refusal(image: &Image, cert: &Cert, looked: &mut u64) -> Option<RefusedWhy>
     requires { WellFormed cert.now }
@@ -159,9 +160,10 @@ pub(crate) fn points_refusal(image: &Image, cert: &Cert, looked: &mut u64) -> Op
     ensures few { looked.new ≤ looked.old + untold cert.now }
 {
     let runs = alike_runs(cert);
+    let mut visit = Visit::empty();
     'points: for id in 0..cert.points.len() as u32 {
         let point = point_of(cert, id);
-        if let Some(why) = point_refusal(image, cert, &runs, id, point, looked) {
+        if let Some(why) = point_refusal(image, cert, &runs, id, point, &mut visit, looked) {
             return Some(why);
         }
     }

@@ -241,6 +241,7 @@ pub fn local(
     ensures answer { IsLocal image.now cert.now id l c (reason result) }
     ensures counted { looked.new ≡ counted looked.old }
 {
-    let mut visit = Visit::begin(image, cert, id);
+    let mut visit = Visit::empty();
+    visit.begin(image, cert, id);
     visit.local(image, cert, id, l, c, looked)
 }

@@ -152,20 +152,28 @@ fn visit_fail(
 }
 
 impl Visit {
-    /// A visit of a point's instances begins. Its instruction is read. Takes no memory.
-    #[tactic(auto, using(crate::proofs::VisitLaws::begins))]
-    pub fn begin(image: &Image, cert: &Cert, id: u32) -> Visit
-        requires { id < length cert.now.points }
-        ensures { IsVisit image.now cert.now id result }
-    {
-        let point = point_of(cert, id);
+    /// A visit of no point: room, to begin with, for those of one point after another.
+    pub fn empty() -> Visit {
         Visit {
-            row: read_at(image, point.pc),
+            row: None,
             kept: false,
             at: Instance::default(),
             growing: Growing::none(),
             step: Step::empty(),
         }
+    }
+
+    /// The visit of a point's instances begins, in place of that of another's, of which nothing counts any more. The point's instruction
+    /// is read. A caller that asks of many points keeps one `Visit`, so that little is written for a point of one instance. Takes no
+    /// memory.
+    #[tactic(auto, using(crate::proofs::VisitLaws::begins))]
+    pub fn begin(&mut self, image: &Image, cert: &Cert, id: u32)
+        requires { id < length cert.now.points }
+        ensures { IsVisit image.now cert.now id self.new }
+    {
+        let point = point_of(cert, id);
+        self.row = read_at(image, point.pc);
+        self.kept = false;
     }
 
     /// The local rule of the visited point at line `l` and count `c`, as `local` answers it. Adds one to `looked`, which stays at the
