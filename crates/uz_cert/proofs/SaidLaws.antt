@@ -388,6 +388,7 @@ point_fits version h lines points left at f some p i text =
     let count = in_limit kind at.c1 256 (omega arith) few.0 in
     record {
       kind = point_kind_fits version lines left at f kind refl p (i.top, i.temp, i.untimed);
+      told = refl;
       pc = p.word;
       box = record {
         line_order = p.lines_rise;

@@ -3,9 +3,11 @@ use Rattle.std.proofs.Common.{◌≡◌, ℕ, zero, suc, ◌+◌, ◌-◌, ◌*�
 use Rattle.std.proofs.Common.{◌∷◌, decimal, codes, get_or, lit<, lit≤, refl, sym, ◌∙◌, ap, subst, arith}
 use Rattle.std.specs.Prelude.{Some, Result, Ok, slice_get}
 use Rattle.std.proofs.lemmas.Fmt.{decimal_digit}
+use Rattle.uz_schedule.specs.Blank.{blank_point}
 use Rattle.uz_schedule.specs.Ends.{whole_byte}
 use Rattle.uz_schedule.specs.Limits.{clock_limit, is_top}
 use Rattle.uz_schedule.specs.Schedule.{scanline}
+use Rattle.uz_schedule.specs.Told.{IsPointTold, point_told as told_over}
 use Rattle.uz_schedule.specs.WellFormed.{RangeFits, FactFits, PairFits, BitFits, CoreFits, MemoryFits, PointFits, PointKindFits}
 use Rattle.uz_schedule.specs.WellFormed.{IsAtBegin, IsTimerLeftOut, magnitude}
 use Rattle.uz_schedule.specs.WellFormed.{instances_of, is_zero_or_one, is_carry_and_zero_default}
@@ -117,11 +119,11 @@ place_of p = record {
   pending = p.pending;
 }
 
-point_back : (p : Point) (n least after : ℕ) → eqb n 1 ≡ p.pending
+point_back : (p : Point) (n least after : ℕ) → IsPointTold p → eqb n 1 ≡ p.pending
     → point_of (record (place_of p) { pending = eqb n 1 }) (facts_with least after p.regs p.pairs p.flags p.stack.items p.cells.items
     p.top p.temp p.next.items) ≡ p
 unfolding point_of
-point_back p n least after e = ap (λ (waits : Bool). record p { pending = waits }) e
+point_back p n least after told e = ap (λ (waits : Bool). told_over blank_point (record p { pending = waits })) e ∙ told
 
 -- the number of the word for pending
 abbrev truth_number : Bool → ℕ
@@ -228,7 +230,7 @@ point_after_again version h lines points left p a small f o fits =
     ∙ advance f7 (decimal n) w8 n says (number_so (within 0 (pending_limit kind)) n (omega (arith, pending_small kind))
     (within_so 0 (pending_limit kind) n (pending_small kind) (omega arith) (truth_under kind p f.kind)))
     (ap (λ (m : Result Facts CertWhy). m >>= (λ x. fine (say n x))) r.read
-    ∙ ap (λ (x : Point). fine (said.Point x)) (point_back p n r.least r.after (truth_back p.pending))))))))))
+    ∙ ap (λ (x : Point). fine (said.Point x)) (point_back p n r.least r.after f.told (truth_back p.pending))))))))))
 
 kind_place : Kind → ℕ
 kind_place Main = 0
@@ -395,6 +397,7 @@ unfolding point_of
 point_fits version h lines points at f r z p =
     record {
       kind = point_kind_fits version lines at f at.kind refl p (r.top, r.temp, r.untimed);
+      told = refl;
       pc = p.pc;
       box = record {
         line_order = p.line_order;

@@ -89,23 +89,15 @@ fn point_of(
     let (first, second, last) = ends;
     let start = axis.start(first);
     Point {
-        kind: first.kind,
-        pc: first.pc,
-        l0: first.l0,
         l1: last.l1,
-        c0: first.c0,
         c1: last_count(axis, chain, first),
-        clock: first.clock,
         slope: slope(axis, chain, first, second),
-        pending: first.pending,
-        top: first.top,
-        temp: first.temp,
         regs: registers(axis, &first.regs, &second.regs, start),
         pairs: copied_pairs(&first.pairs),
-        flags: first.flags,
         stack: slots(axis, first.stack.as_slice(), second.stack.as_slice(), start),
         cells: cells(axis, first.cells.as_slice(), second.cells.as_slice(), start),
         next,
+        ..*first
     }
 }
 

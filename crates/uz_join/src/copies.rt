@@ -109,22 +109,11 @@ fn copied_cell_facts(from: &[Fact]) -> ArrayVec<Fact, 16> {
 /// A copy of a point without successors.
 pub(crate) fn copied_point(from: &Point) -> Point {
     Point {
-        kind: from.kind,
-        pc: from.pc,
-        l0: from.l0,
-        l1: from.l1,
-        c0: from.c0,
-        c1: from.c1,
-        clock: from.clock,
-        slope: from.slope,
-        pending: from.pending,
-        top: from.top,
-        temp: from.temp,
         regs: copy_of(&from.regs),
         pairs: copy_of(&from.pairs),
-        flags: from.flags,
         stack: copied_slot_facts(from.stack.as_slice()),
         cells: copied_cell_facts(from.cells.as_slice()),
         next: ArrayVec::new(),
+        ..*from
     }
 }

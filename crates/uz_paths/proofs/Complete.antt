@@ -22,7 +22,7 @@ use Rattle.uz_schedule.specs.declared.states.Entry.{Entry}
 use Rattle.uz_schedule.specs.declared.states.Instance.{Instance}
 use Rattle.uz_schedule.specs.declared.states.Point.{Point}
 use Rattle.uz_schedule.specs.declared.states.Rest.{Rest}
-use Rattle.uz_rules.specs.Inside.{inside, known_inside, same_place, KnownInItself, PlaceHolds, PlaceTells}
+use Rattle.uz_rules.specs.Inside.{inside, known_inside, place_of_itself, same_place, KnownInItself, PlaceHolds, PlaceTells}
 use Rattle.uz_rules.specs.Successors.{any_from, lies_at, lies_in_any, lies_in_box, lies_in_point}
 use Rattle.uz_soundness.specs.Acceptance.{Accepts}
 use Rattle.uz_search.specs.declared.found.Found.{Found}
@@ -85,8 +85,7 @@ line_of : PlaceTells → (a b : Instance) → inside a b ≡ true → a.line ≡
 line_of tells a b h = (tells a b (both (same_place a b) (known_inside a b) h).0).line
 
 inside_self : PlaceHolds → KnownInItself → (x : Instance) → inside x x ≡ true
-inside_self holds itself x = λ i. holds x x (record { kind = refl; pc = refl; line = refl; clock = refl; pending = refl; top = refl }) i
-    && itself x i
+inside_self holds itself x = λ i. holds x x (place_of_itself x) i && itself x i
 
 -- Where instances lie
 

@@ -98,6 +98,7 @@ start_fits p start registers head s = record {
     pending = λ e. refl;
     top = refl;
     timer = λ e. (refl, refl);
+    told = refl;
   };
   level = refl;
   line = λ e. refl;
@@ -120,6 +121,7 @@ first_fits p start top cells c s main last few =
         pending = λ e. refl;
         top = last;
         timer = λ e. absurd (e refl);
+        told = refl;
       };
       level = refl;
       line = λ e. refl;

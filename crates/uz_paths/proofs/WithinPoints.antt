@@ -161,6 +161,7 @@ pub own_fits : (p : Program) (count : ℕ) (x : Instance) (next : List ℕ) → 
     → x.clock < clock_limit → IsOrdered x → NamesFit count next → PointFits p.head (lines_of p) count (point_of x next)
 own_fits p count x next stands limits early ordered names = record {
   kind = kind x.kind refl;
+  told = ap (λ (z : Instance). point_of z next) stands.told;
   pc = limits.pc;
   box = record {
     line_order = omega arith;
@@ -235,6 +236,7 @@ pub vector_fits : (p : Program) (count : ℕ) (cells : List Ends) (line response
     → PointFits p.head (lines_of p) count (vector_point cells line response top next)
 vector_fits p count cells line response top next below less last fit ordered names = record {
   kind = record { top = last; temp = record { order = omega arith; high = omega arith } };
+  told = refl;
   pc = omega arith;
   box = record {
     line_order = omega arith;

@@ -3,11 +3,11 @@ use Rattle.std.proofs.Common.{◌≡◌, ◌∙◌, ap, sym, subst, arith, refl,
 use Rattle.std.proofs.Common.{◌≢◌, ⊎_elim}
 use Rattle.std.specs.Prelude.{Some, slice_get}
 use Rattle.std.proofs.lemmas.Bool.{cases_eq}
-use Rattle.uz_schedule.specs.Instances.{pairs_of, val_of}
+use Rattle.uz_schedule.specs.Instances.{instance_of}
 use Rattle.uz_schedule.specs.declared.states.Instance.{Instance}
 use Rattle.uz_schedule.specs.declared.states.Point.{Point}
-use Rattle.uz_point_instances.specs.Telling.{AreSaid, AreSaidBack, IsNoted, IsSaid, IsSaidBack, SaidAt, SaidBytes}
-use Rattle.uz_point_instances.specs.Telling.{SaidBy, SaidKept, SaidPlace, SaysInstances}
+use Rattle.uz_point_instances.specs.Telling.{AreSaid, AreSaidBack, IsNoted, IsSaid, IsSaidBack, SaidAt}
+use Rattle.uz_point_instances.specs.Telling.{SaidBy, SaidPlace, SaysInstances}
 
 -- a list whose elements are made of another one's
 pub map_is : {A B : Type 0} (f : A → B) (xs : List A) (ys : List B) → length xs ≡ length ys
@@ -20,29 +20,8 @@ map_is f (x ∷ xs) (y ∷ ys) e each =
     let rest : map f xs ≡ ys = map_is f xs ys (omega (arith, e)) (λ k d z less. each (suc k) d z (omega (arith, less))) in
     λ i. here i ∷ rest i
 
-pub said : (q : Point) (l c : ℕ) (x : Instance) → SaidPlace q l c x → SaidKept q x → SaidBytes q l c x
-    → pairs_of l c x.regs q.pairs ≡ x.pairs → IsSaid q l c x
-said q l c x place kept bytes pairs =
-    let both : x.pairs ≡ pairs_of l c (map (val_of l c) q.regs) q.pairs =
-    sym pairs ∙ ap (λ regs. pairs_of l c regs q.pairs) (sym bytes.regs) in
-    record {
-      box = place.box;
-      line = place.place.0;
-      clock = place.place.1;
-      is = λ i. record x {
-        kind = kept.program.0 i;
-        pc = kept.program.1 i;
-        line = place.place.0 i;
-        pending = kept.timer.0 i;
-        top = kept.timer.1 i;
-        temp = kept.rest.0 i;
-        regs = sym bytes.regs i;
-        pairs = both i;
-        flags = kept.rest.1 i;
-        stack = record { items = sym bytes.stack i };
-        cells = record { items = sym bytes.cells i };
-      };
-    }
+pub said : (q : Point) (l c : ℕ) (x : Instance) → SaidPlace q l c x → x ≡ instance_of q l c x.clock x.level → IsSaid q l c x
+said q l c x place is = record { box = place.box; line = place.place.0; clock = place.place.1; is = is }
 
 one_of : {A : Type 0} (a b : A) → Some a ≡ Some b → a ≡ b
 one_of a b e = cc

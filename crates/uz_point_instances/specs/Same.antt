@@ -1,7 +1,6 @@
 -- When the instances of two lists of points are the same ones.
-use Rattle.std.specs.Prelude.{◌≡◌, ◌≤◌, ℕ, pos, ◌+ℤ◌, ◌*ℤ◌, true, List, Some, map, slice_get}
-use Rattle.uz_schedule.specs.Instances.{instance_in, is_in_box, pairs_of, val_of}
-use Rattle.uz_schedule.specs.declared.facts.Val.{Val}
+use Rattle.std.specs.Prelude.{◌≡◌, ◌≤◌, ℕ, pos, ◌+ℤ◌, ◌*ℤ◌, true, List, slice_get, Some}
+use Rattle.uz_schedule.specs.Instances.{instance_in, is_in_box}
 use Rattle.uz_schedule.specs.declared.lines.Schedule.{Schedule}
 use Rattle.uz_schedule.specs.declared.states.Point.{Point}
 
@@ -14,23 +13,6 @@ pub record SamePlace (p q : Point) (l c d : ℕ) : Type 0 where
   pub in_one : is_in_box p l c ≡ true
   pub in_other : is_in_box q l d ≡ true
   pub clock : pos p.clock +ℤ p.slope *ℤ pos c ≡ pos q.clock +ℤ q.slope *ℤ pos d
-
--- they say the same of the program, the timer and the flags
-pub record SameKept (p q : Point) : Type 0 where
-  pub program : (p.kind ≡ q.kind) × (p.pc ≡ q.pc)
-  pub timer : (p.pending ≡ q.pending) × (p.top ≡ q.top)
-  pub rest : (p.temp ≡ q.temp) × (p.flags ≡ q.flags)
-
--- of pairs, whatever their bytes are
-pub record SamePairs (p q : Point) (c d : ℕ) : Type 0 where
-  pub facts : p.pairs ≡ q.pairs
-  pub keep : (l : ℕ) (vals : List Val) → pairs_of l c vals p.pairs ≡ pairs_of l d vals p.pairs
-
--- and of registers, stack and cells
-pub record SameBytes (p q : Point) (l c d : ℕ) : Type 0 where
-  pub regs : map (val_of l c) p.regs ≡ map (val_of l d) q.regs
-  pub stack : map (val_of l c) p.stack.items ≡ map (val_of l d) q.stack.items
-  pub cells : map (val_of l c) p.cells.items ≡ map (val_of l d) q.cells.items
 
 -- one of these points has what p has at line l and count c
 pub record IsTold (points : List Point) (p : Point) (l c : ℕ) : Type 0 where

@@ -1,6 +1,6 @@
 -- When points say what instances of a search say, and nothing else.
-use Rattle.std.specs.Prelude.{◌≡◌, ◌≤◌, ℕ, pos, ◌+ℤ◌, ◌*ℤ◌, true, List, Some, map, slice_get}
-use Rattle.uz_schedule.specs.Instances.{cell_span, instance_of, is_in_box, val_of}
+use Rattle.std.specs.Prelude.{◌≡◌, ◌≤◌, ℕ, pos, ◌+ℤ◌, ◌*ℤ◌, true, List, Some, slice_get}
+use Rattle.uz_schedule.specs.Instances.{instance_of, is_in_box}
 use Rattle.uz_schedule.specs.declared.states.Instance.{Instance}
 use Rattle.uz_schedule.specs.declared.states.Point.{Point}
 
@@ -15,18 +15,6 @@ pub record IsSaid (q : Point) (l c : ℕ) (x : Instance) : Type 0 where
 pub record SaidPlace (q : Point) (l c : ℕ) (x : Instance) : Type 0 where
   pub box : is_in_box q l c ≡ true
   pub place : (x.line ≡ l) × (pos x.clock ≡ pos q.clock +ℤ q.slope *ℤ pos c)
-
--- they say the same of the program, the timer and the flags
-pub record SaidKept (q : Point) (x : Instance) : Type 0 where
-  pub program : (x.kind ≡ q.kind) × (x.pc ≡ q.pc)
-  pub timer : (x.pending ≡ q.pending) × (x.top ≡ q.top)
-  pub rest : (x.temp ≡ q.temp) × (x.flags ≡ q.flags)
-
--- and of registers, stack and cells
-pub record SaidBytes (q : Point) (l c : ℕ) (x : Instance) : Type 0 where
-  pub regs : map (val_of l c) q.regs ≡ x.regs
-  pub stack : map (val_of l c) q.stack.items ≡ x.stack.items
-  pub cells : map (cell_span l c) q.cells.items ≡ x.cells.items
 
 -- the point of this number says at the count c what the instance says
 pub record SaidAt (points : List Point) (n c : ℕ) (x : Instance) : Type 0 where

@@ -2,9 +2,11 @@
 //! points say the same instances as others.
 #![tactic(auto)]
 
+mod comparing;
 mod numbers;
 mod points;
 mod sameness;
+mod saying;
 mod telling;
 
 pub use numbers::{NONE, nones, number_at, number_of};

@@ -1,67 +1,13 @@
 //! Whether joined points say what the points say that they are joined from, and nothing else.
 
-ghost use Rattle.std.specs.Prelude.{◌≡◌, ◌≤◌, ℕ, IfOk, List, true, length, map};
-ghost use Rattle.uz_schedule.specs.Ends.{Ends};
-ghost use Rattle.uz_schedule.specs.Instances.{pair_by, pairs_of, val_of as val_of_fact};
-ghost use Rattle.uz_schedule.specs.declared.facts.Val.{Val};
+ghost use Rattle.std.specs.Prelude.{◌≡◌, ◌≤◌, ℕ, IfOk, true, length};
 ghost use Rattle.uz_point_instances.specs.Same.{AreTold, IsTold, IsWhollyTold, SameAt, SameInstances};
-ghost use Rattle.uz_point_instances.specs.Same.{SameBytes, SameKept, SamePairs, SamePlace};
+ghost use Rattle.uz_point_instances.specs.Same.{SamePlace};
 
+use crate::comparing::say_one;
 use crate::numbers::{nones, number_at, number_of};
 use std::alloc::{AllocError, Global};
-use uz_schedule::{Bit, Fact, PairFact, Point, clock_of, is_in_box, val_of};
-
-/// Whether a fact says of a byte at a line and a count what another says at another count. Two that are alike, as most are, are
-/// compared as they stand.
-fn says_same(a: &Fact, b: &Fact, line: u16, of_a: u8, of_b: u8) -> bool
-    ensures { result ≡ true → val_of_fact line of_a a.now ≡ val_of_fact line of_b b.now }
-{
-    match (a, b) {
-        (Fact::Any, Fact::Any) => true,
-        (Fact::Between(one), Fact::Between(other)) => one == other,
-        (Fact::Old(one), Fact::Old(other)) => one == other,
-        _ => val_of(a, line, of_a) == val_of(b, line, of_b),
-    }
-}
-
-/// Whether facts, as many as others, say of each byte at a line and a count what those say at another count.
-fn say_same_each(a: &[Fact], b: &[Fact], line: u16, of_a: u8, of_b: u8) -> bool
-    requires { length a.now ≡ length b.now }
-    ensures { result ≡ true → map (val_of_fact line of_a) a.now ≡ map (val_of_fact line of_b) b.now }
-{
-    for i in 0..a.len() {
-        if !says_same(&a[i], &b[i], line, of_a, of_b) {
-            return false;
-        }
-    }
-    true
-}
-
-/// Whether facts say of each byte at a line and a count what others say at another count.
-fn say_same(a: &[Fact], b: &[Fact], line: u16, of_a: u8, of_b: u8) -> bool
-    ensures { result ≡ true → map (val_of_fact line of_a) a.now ≡ map (val_of_fact line of_b) b.now }
-{
-    a.len() == b.len() && say_same_each(a, b, line, of_a, of_b)
-}
-
-/// Whether a pair's fact says the same at each count.
-fn keeps_by_counts(fact: &PairFact) -> bool
-    ensures { result ≡ true → (l c d : ℕ) (bytes : Ends) → pair_by l c bytes fact.now ≡ pair_by l d bytes fact.now }
-{
-    match fact {
-        PairFact::Any | PairFact::Between(_) | PairFact::Line(_, _) => true,
-        PairFact::Loop(_, _) => false,
-    }
-}
-
-/// Whether facts of pairs say at one count what they say at another.
-fn pairs_keep(facts: &[PairFact; 3], of_a: u8, of_b: u8) -> bool
-    ensures { result ≡ true → (l : ℕ) (regs : List Val) → pairs_of l of_a regs facts.now ≡ pairs_of l of_b regs facts.now }
-{
-    of_a == of_b
-        || (keeps_by_counts(&facts[0])
-            && (keeps_by_counts(&facts[1]) && keeps_by_counts(&facts[2])))
-}
+use uz_schedule::{Point, clock_of, is_in_box};
 
 /// Whether two points have a line, each a count, and one clock there.
 fn same_place(a: &Point, b: &Point, line: u16, of_a: u8, of_b: u8) -> bool
@@ -70,97 +16,12 @@ fn same_place(a: &Point, b: &Point, line: u16, of_a: u8, of_b: u8) -> bool
     is_in_box(a, line, of_a) && (is_in_box(b, line, of_b) && clock_of(a, of_a) == clock_of(b, of_b))
 }
 
-/// Whether two points stand at one place of the program.
-fn same_program(a: &Point, b: &Point) -> bool
-    ensures { result ≡ true → (a.now.kind ≡ b.now.kind) × (a.now.pc ≡ b.now.pc) }
-{
-    a.kind == b.kind && a.pc == b.pc
-}
-
-/// Whether two points say the same of the timer but for TEMP.
-fn same_timer(a: &Point, b: &Point) -> bool
-    ensures { result ≡ true → (a.now.pending ≡ b.now.pending) × (a.now.top ≡ b.now.top) }
-{
-    a.pending == b.pending && a.top == b.top
-}
-
-/// Whether flags, as many as others, are known alike.
-fn same_flags_each(a: &[Bit], b: &[Bit]) -> bool
-    requires { length a.now ≡ length b.now }
-    ensures { result ≡ true → a.now ≡ b.now }
-{
-    for i in 0..a.len() {
-        if a[i] != b[i] {
-            return false;
-        }
-    }
-    true
-}
-
-/// Whether flags are known alike.
-pub(crate) fn same_flags(a: &[Bit], b: &[Bit]) -> bool
-    ensures { result ≡ true → a.now ≡ b.now }
-{
-    a.len() == b.len() && same_flags_each(a, b)
-}
-
-/// Whether facts of pairs, as many as others, are the same.
-fn same_pair_facts_each(a: &[PairFact], b: &[PairFact]) -> bool
-    requires { length a.now ≡ length b.now }
-    ensures { result ≡ true → a.now ≡ b.now }
-{
-    for i in 0..a.len() {
-        if a[i] != b[i] {
-            return false;
-        }
-    }
-    true
-}
-
-/// Whether facts of pairs are the same.
-fn same_pair_facts(a: &[PairFact], b: &[PairFact]) -> bool
-    ensures { result ≡ true → a.now ≡ b.now }
-{
-    a.len() == b.len() && same_pair_facts_each(a, b)
-}
-
-/// Whether two points say the same of TEMP and of flags.
-fn same_rest(a: &Point, b: &Point) -> bool
-    ensures { result ≡ true → (a.now.temp ≡ b.now.temp) × (a.now.flags ≡ b.now.flags) }
-{
-    a.temp == b.temp && same_flags(&a.flags, &b.flags)
-}
-
-/// Whether two points say the same of the program, the timer and the flags.
-fn same_kept(a: &Point, b: &Point) -> bool
-    ensures { result ≡ true → SameKept a.now b.now }
-{
-    same_program(a, b) && (same_timer(a, b) && same_rest(a, b))
-}
-
-/// Whether two points say the same of pairs, each at its count.
-fn same_pairs(a: &Point, b: &Point, of_a: u8, of_b: u8) -> bool
-    ensures { result ≡ true → SamePairs a.now b.now of_a of_b }
-{
-    same_pair_facts(&a.pairs, &b.pairs) && pairs_keep(&a.pairs, of_a, of_b)
-}
-
-/// Whether two points say the same of registers, stack and cells at a line, each at its count.
-fn same_bytes(a: &Point, b: &Point, line: u16, of_a: u8, of_b: u8) -> bool
-    ensures { result ≡ true → SameBytes a.now b.now line of_a of_b }
-{
-    say_same(&a.regs, &b.regs, line, of_a, of_b)
-        && (say_same(a.stack.as_slice(), b.stack.as_slice(), line, of_a, of_b)
-            && say_same(a.cells.as_slice(), b.cells.as_slice(), line, of_a, of_b))
-}
-
 /// Whether a point has at a line and a count what another has there at another count.
 #[tactic(auto, using(crate::proofs::SameFacts::same_instance))]
 fn is_same_at(a: &Point, b: &Point, line: u16, of_a: u8, of_b: u8) -> bool
     ensures { result ≡ true → SameAt a.now b.now line of_a of_b }
 {
-    (same_place(a, b, line, of_a, of_b) && same_kept(a, b))
-        && (same_pairs(a, b, of_a, of_b) && same_bytes(a, b, line, of_a, of_b))
+    same_place(a, b, line, of_a, of_b) && say_one(a, b, line, of_a, of_b)
 }
 
 /// Where to look for what points say: a choice of speed, of which nothing is believed.

@@ -1,117 +1,14 @@
 //! Whether points say what instances of a search say, and nothing else.
 
 ghost use Rattle.std.specs.Prelude.{◌≡◌, ◌<◌, ◌≤◌, ℕ, IfOk, IfSome, Some, true, length, map, slice_get};
-ghost use Rattle.uz_schedule.specs.Instances.{cell_span, pair_of, pairs_of, val_of as val_of_fact};
 ghost use Rattle.uz_point_instances.specs.Telling.{AreSaid, AreSaidBack, IsNoted, IsOnLine, IsSaid, IsSaidBack, IsSaidOver};
-ghost use Rattle.uz_point_instances.specs.Telling.{SaidAt, SaidBytes, SaidKept, SaidPlace, SaysInstances};
+ghost use Rattle.uz_point_instances.specs.Telling.{SaidAt, SaidPlace, SaysInstances};
 
+use crate::comparing::says;
 use crate::numbers::{nones, number_of};
-use crate::points::hull_of;
-use crate::sameness::{Guide, count_at, offset, same_flags, starts_of};
+use crate::sameness::{Guide, count_at, offset, starts_of};
 use std::alloc::{AllocError, Global};
-use uz_schedule::{
-    Fact, Instance, PairFact, Point, Span, Val, Wide, clock_of, is_in_box, pair_by, span_of, val_of,
-};
-
-/// Whether a fact says this of a byte at a line and a count.
-fn says(fact: &Fact, val: &Val, line: u16, count: u8) -> bool
-    ensures { result ≡ true → val_of_fact line count fact.now ≡ val.now }
-{
-    val_of(fact, line, count) == *val
-}
-
-/// Whether facts say these values, as many, at a line and a count.
-fn say_each(facts: &[Fact], vals: &[Val], line: u16, count: u8) -> bool
-    requires { length facts.now ≡ length vals.now }
-    ensures { result ≡ true → map (val_of_fact line count) facts.now ≡ vals.now }
-{
-    for i in 0..facts.len() {
-        if !says(&facts[i], &vals[i], line, count) {
-            return false;
-        }
-    }
-    true
-}
-
-/// Whether facts say these values at a line and a count.
-fn say(facts: &[Fact], vals: &[Val], line: u16, count: u8) -> bool
-    ensures { result ≡ true → map (val_of_fact line count) facts.now ≡ vals.now }
-{
-    facts.len() == vals.len() && say_each(facts, vals, line, count)
-}
-
-/// Whether a fact says this range of a cell at a line and a count.
-fn says_cell(fact: &Fact, span: Span, line: u16, count: u8) -> bool
-    ensures { result ≡ true → cell_span line count fact.now ≡ span }
-{
-    span_of(&val_of(fact, line, count)) == span
-}
-
-/// Whether facts say these ranges of cells, as many, at a line and a count.
-fn say_cells_each(facts: &[Fact], spans: &[Span], line: u16, count: u8) -> bool
-    requires { length facts.now ≡ length spans.now }
-    ensures { result ≡ true → map (cell_span line count) facts.now ≡ spans.now }
-{
-    for i in 0..facts.len() {
-        if !says_cell(&facts[i], spans[i], line, count) {
-            return false;
-        }
-    }
-    true
-}
-
-/// Whether facts say these ranges of cells at a line and a count.
-fn say_cells(facts: &[Fact], spans: &[Span], line: u16, count: u8) -> bool
-    ensures { result ≡ true → map (cell_span line count) facts.now ≡ spans.now }
-{
-    facts.len() == spans.len() && say_cells_each(facts, spans, line, count)
-}
-
-/// What a fact says of the pair whose low register is `low`.
-fn pair_in(fact: &PairFact, regs: &[Val; 32], low: usize, line: u16, count: u8) -> Wide
-    requires { low < 31 }
-    ensures { result ≡ pair_of line count regs.now low fact.now }
-{
-    pair_by(fact, line, count, hull_of(regs, low))
-}
-
-/// What facts say of the pairs X, Y and Z.
-fn pairs_in(facts: &[PairFact; 3], regs: &[Val; 32], line: u16, count: u8) -> [Wide; 3]
-    ensures { result ≡ pairs_of line count regs.now facts.now }
-{
-    [
-        pair_in(&facts[0], regs, 26, line, count),
-        pair_in(&facts[1], regs, 28, line, count),
-        pair_in(&facts[2], regs, 30, line, count),
-    ]
-}
-
-/// Whether ranges, as many as others, are the same.
-fn same_ranges_each(a: &[Wide], b: &[Wide]) -> bool
-    requires { length a.now ≡ length b.now }
-    ensures { result ≡ true → a.now ≡ b.now }
-{
-    for i in 0..a.len() {
-        if a[i] != b[i] {
-            return false;
-        }
-    }
-    true
-}
-
-/// Whether ranges are the same.
-fn same_ranges(a: &[Wide], b: &[Wide]) -> bool
-    ensures { result ≡ true → a.now ≡ b.now }
-{
-    a.len() == b.len() && same_ranges_each(a, b)
-}
-
-/// Whether a point's facts say these pairs of an instance.
-fn says_pairs(point: &Point, at: &Instance, line: u16, count: u8) -> bool
-    ensures { result ≡ true → pairs_of line count at.now.regs point.now.pairs ≡ at.now.pairs }
-{
-    same_ranges(&pairs_in(&point.pairs, &at.regs, line, count), &at.pairs)
-}
+use uz_schedule::{Instance, Point, clock_of, is_in_box};
 
 /// Whether a point has a line and a count, and the instance's line and clock there.
 fn says_place(point: &Point, at: &Instance, line: u16, count: u8) -> bool
@@ -121,50 +18,12 @@ fn says_place(point: &Point, at: &Instance, line: u16, count: u8) -> bool
         && (at.line == line && i32::from(at.clock) == clock_of(point, count))
 }
 
-/// Whether a point says an instance's place of the program.
-fn says_program(point: &Point, at: &Instance) -> bool
-    ensures { result ≡ true → (at.now.kind ≡ point.now.kind) × (at.now.pc ≡ point.now.pc) }
-{
-    at.kind == point.kind && at.pc == point.pc
-}
-
-/// Whether a point says what an instance says of the timer but for TEMP.
-fn says_timer(point: &Point, at: &Instance) -> bool
-    ensures { result ≡ true → (at.now.pending ≡ point.now.pending) × (at.now.top ≡ point.now.top) }
-{
-    at.pending == point.pending && at.top == point.top
-}
-
-/// Whether a point says what an instance says of TEMP and of flags.
-fn says_rest(point: &Point, at: &Instance) -> bool
-    ensures { result ≡ true → (at.now.temp ≡ point.now.temp) × (at.now.flags ≡ point.now.flags) }
-{
-    at.temp == point.temp && same_flags(&at.flags, &point.flags)
-}
-
-/// Whether a point says what an instance says of the program, the timer and the flags.
-fn says_kept(point: &Point, at: &Instance) -> bool
-    ensures { result ≡ true → SaidKept point.now at.now }
-{
-    says_program(point, at) && (says_timer(point, at) && says_rest(point, at))
-}
-
-/// Whether a point says what an instance says of registers, stack and cells.
-fn says_bytes(point: &Point, at: &Instance, line: u16, count: u8) -> bool
-    ensures { result ≡ true → SaidBytes point.now line count at.now }
-{
-    say(&point.regs, &at.regs, line, count)
-        && (say(point.stack.as_slice(), at.stack.as_slice(), line, count)
-            && say_cells(point.cells.as_slice(), at.cells.as_slice(), line, count))
-}
-
 /// Whether a point says at a line and a count what an instance says.
 #[tactic(auto, using(crate::proofs::TellingLemmas::said))]
 fn is_said(point: &Point, at: &Instance, line: u16, count: u8) -> bool
     ensures { result ≡ true → IsSaid point.now line count at.now }
 {
-    (says_place(point, at, line, count) && says_kept(point, at))
-        && (says_bytes(point, at, line, count) && says_pairs(point, at, line, count))
+    says_place(point, at, line, count) && says(point, at, line, count)
 }
 
 /// The count at which the point of a number says what an instance says, where it does.

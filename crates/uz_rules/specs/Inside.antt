@@ -1,4 +1,5 @@
 -- When one instance lies in another, and when a handler has restored what it interrupted.
+use Rattle.std.proofs.Common.{refl}
 use Rattle.std.specs.List.{AllByRecursion}
 use Rattle.std.specs.Prelude.{Bool, List, false, length, nat_eq, not, suc, true, zero, ℕ, ◌&&◌, ◌≡◌, ◌%◌}
 use Rattle.uz_schedule.specs.declared.facts.Bit.{Bit}
@@ -101,6 +102,10 @@ pub record SamePlace (a b : Instance) : Type 0 where
   pub clock : a.clock ≡ b.clock
   pub pending : a.pending ≡ b.pending
   pub top : a.top ≡ b.top
+
+-- each stands at its own place
+pub place_of_itself : (a : Instance) → SamePlace a a
+place_of_itself a = record { kind = refl; pc = refl; line = refl; clock = refl; pending = refl; top = refl }
 
 abbrev pub PlaceTells : Type 0
 PlaceTells = (a b : Instance) → same_place a b ≡ true → SamePlace a b

@@ -7,8 +7,9 @@ ghost use Rattle.uz_transfer.specs.Refusals.{range_inside};
 ghost use Rattle.uz_rules.specs.Inside.{value_inside, flag_inside, all_below, same_kind, same_timer, same_place};
 ghost use Rattle.uz_rules.specs.Inside.{registers_inside, pairs_inside, flags_inside, slots_inside, cells_inside};
 ghost use Rattle.uz_rules.specs.Inside.{contents_inside, known_inside, inside, is_old_register, restored};
+ghost use Rattle.uz_rules.specs.FactInclusion.{timer_inside};
 
-use uz_schedule::{Bit, Instance, Kind, Span, Val, Wide};
+use uz_schedule::{Bit, Instance, Kind, Point, Span, Val, Wide};
 
 /// Whether a range of bytes lies in another.
 pub(crate) fn span_inside(a: &Span, b: &Span) -> bool
@@ -64,6 +65,14 @@ fn same_timer(a: &Instance, b: &Instance) -> bool
     ensures { result ≡ same_timer a.now b.now }
 {
     a.pending == b.pending && a.top == b.top
+}
+
+/// Whether what is known of the timer besides its clock lies in what a point says of it: one pending match or none, one OCR1A, and
+/// the range of TEMP in the point's.
+pub(crate) fn timer_inside(point: &Point, at: &Instance) -> bool
+    ensures { result ≡ timer_inside point.now at.now }
+{
+    (at.pending == point.pending && at.top == point.top) && span_inside(&at.temp, &point.temp)
 }
 
 /// Whether two instances stand at one place: kind, pc, line and clock, and what is known of the timer.

@@ -5,11 +5,11 @@ ghost use Rattle.std.specs.Int.RustNames.{unsigned_abs};
 ghost use Rattle.uz_schedule.specs.Limits.{ScheduleFits};
 ghost use Rattle.uz_schedule.specs.WellFormed.{WellFormed};
 ghost use Rattle.uz_rules.specs.Successors.{same_program_place, lies_in_box, any_from, lies_in_point, lies_in_any};
-ghost use Rattle.uz_rules.specs.FactInclusion.{facts_inside, has_level, is_line_of, timer_inside, is_beside, IsAtCount, LiesAtSome};
+ghost use Rattle.uz_rules.specs.FactInclusion.{facts_inside, has_level, is_line_of, is_beside, IsAtCount, LiesAtSome};
 
 use crate::count_keys::{CountKey, key_of, may_lie};
 use crate::fact_inclusion::facts_inside;
-use crate::inclusion::{same_kind, span_inside};
+use crate::inclusion::{same_kind, timer_inside};
 use crate::periods::{last_of_period, periods_of};
 use uz_schedule::{Cert, Instance, Point, Schedule};
 
@@ -33,14 +33,6 @@ fn has_level(schedule: &Schedule, line: u16, clock: u16) -> bool
     ensures { result ≡ has_level schedule.now line clock }
 {
     clock < schedule.length(line) && schedule.level_at_clock(line, clock).is_some()
-}
-
-/// Whether what is known of the timer besides its clock lies in what a point says of it: one pending match or none, one OCR1A, and
-/// the range of TEMP in the point's.
-fn timer_inside(point: &Point, at: &Instance) -> bool
-    ensures { result ≡ timer_inside point.now at.now }
-{
-    (at.pending == point.pending && at.top == point.top) && span_inside(&at.temp, &point.temp)
 }
 
 /// Whether a point has an instance's kind and pc, the instance's timer lies in what it says, and its box has the instance's line. All of

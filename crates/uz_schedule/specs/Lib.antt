@@ -9,5 +9,6 @@ pub mod Limits
 pub mod LineEvents
 pub mod Lines
 pub mod Schedule
+pub mod Told
 pub mod Tracked
 pub mod WellFormed

@@ -4,6 +4,7 @@ use Rattle.std.specs.Prelude.{List, [], ◌∷◌, All, length, map, sum_by, sli
 use Rattle.uz_schedule.specs.Ends.{Ends, is_within, whole_byte}
 use Rattle.uz_schedule.specs.Limits.{clock_limit, is_top, rises, ScheduleFits}
 use Rattle.uz_schedule.specs.Schedule.{scanline}
+use Rattle.uz_schedule.specs.Told.{IsPointTold}
 use Rattle.uz_schedule.specs.Tracked.{tracked, depth_of}
 use Rattle.uz_schedule.specs.declared.kinds.Kind.{Kind}
 use Rattle.uz_schedule.specs.declared.kinds.Kind.TheVariants.{Main, Handler, Alone}
@@ -241,6 +242,7 @@ pub record SuccessorsFit (points : ℕ) (ids : List ℕ) : Type 0 where
 
 pub record PointFits (h : Head) (lines points : ℕ) (p : Point) : Type 0 where
   pub kind : PointKindFits p.kind p
+  pub told : IsPointTold p
   pub pc : p.pc < 32768
   pub box : BoxFits lines p
   pub core : CoreFits p

@@ -99,8 +99,8 @@ pub fn clock_of(point: &Point, count: u8) -> i32
     i32::from(point.clock) + i32::from(point.slope) * i32::from(count)
 }
 
-/// The instance of a point at a line and a count, with its clock and level.
-fn instance_of(point: &Point, line: u16, count: u8, clock: u16, level: u8) -> Instance
+/// The instance of a point at a line and a count, with its clock and level. Takes no memory.
+pub fn instance_of(point: &Point, line: u16, count: u8, clock: u16, level: u8) -> Instance
     ensures { result ≡ instance_of_point point.now line count clock level }
 {
     let regs = registers_of(&point.regs, line, count);

@@ -24,7 +24,7 @@ pub use certificate::Cert;
 pub use fact_values::{hull_of_bytes, pair_by, span_of, val_of, word_at};
 pub use facts::{Bit, Fact, PairFact, Val};
 pub use header::{Cell, Head};
-pub use instances::{clock_below, clock_of, entry_state, handler_entry, is_in_box};
+pub use instances::{clock_below, clock_of, entry_state, handler_entry, instance_of, is_in_box};
 pub use kinds::{Kind, Owner, Response};
 pub use laws::{
     equal_instances_are_one, event_by_line, instance_is_within_limits, level_exists, level_goes_on,

@@ -11,6 +11,7 @@ pub mod SpanLists
 pub mod Standing
 pub mod StepLemmas
 pub mod TimerLaws
+pub mod ToldLaws
 pub mod TrailLaws
 pub mod TrailLemmas
 pub mod VisitingLemmas

@@ -9,6 +9,7 @@ use Rattle.uz_schedule.specs.Lines.{line_after, clock_after}
 use Rattle.uz_schedule.specs.Ends.{whole_byte}
 use Rattle.uz_schedule.specs.Limits.{is_top}
 use Rattle.uz_schedule.specs.Schedule.{length_of, scanline}
+use Rattle.uz_schedule.specs.Told.{IsInstanceTold}
 use Rattle.uz_schedule.specs.declared.kinds.Kind.{Kind}
 use Rattle.uz_schedule.specs.declared.kinds.Kind.TheVariants.{Main, Handler, Alone}
 use Rattle.uz_schedule.specs.declared.lines.EventKind.{EventKind}
@@ -19,6 +20,7 @@ use Rattle.uz_transfer.specs.Emission.{emission, emission_at, level_after}
 use Rattle.uz_transfer.specs.Exits.{outcomes}
 use Rattle.uz_transfer.specs.Kinds.{is_main, is_handler}
 use Rattle.uz_transfer.specs.Step.{clears_flag, ends_line, following_of, at_exit, sampled_of}
+use Rattle.uz_transfer.specs.Timer.{with_timer}
 use Rattle.uz_transfer.specs.Values.{pair_range}
 use Rattle.uz_rules.specs.declared.next.Next.{Next}
 use Rattle.uz_rules.specs.After.{timed}
@@ -33,6 +35,7 @@ use Rattle.uz_search.proofs.Exits.{exit_clocks, first_exit_of, emits_one, return
 use Rattle.uz_search.proofs.Events.{Turns, Emits, emits, back_handler, level_turned}
 use Rattle.uz_search.proofs.FramePlaces.{Reaches, length_few, length_some, line_below, reach_after, reach_line, between_of}
 use Rattle.uz_search.proofs.TimerLaws.{handler_not, temp_kept, top_kept, top_stays}
+use Rattle.uz_search.proofs.ToldLaws.{told_so, transfer_leaves}
 use Rattle.uz_search.proofs.VisitingLemmas.{some_is}
 
 apart_main : (k : Kind) → k ≢ Main → is_main k ≡ false
@@ -325,6 +328,15 @@ module _ (image : Flash) (program : Program) (fits : ProgramFits program) (x : I
                 ∙ before.1,
           )
 
+      told : IsInstanceTold y
+      told = subst IsInstanceTold r.is (told_so x
+          (at_exit (order_of_program program) x (draft_at image program x s.row) s.emitted (clears_flag (effect_of s.row) x) r.exit)
+          (ap (λ (z : Instance). at_exit (order_of_program program) x (with_timer (draft_at image program x s.row).top
+          (draft_at image program x s.row).temp z) s.emitted (clears_flag (effect_of s.row) x) r.exit)
+          (transfer_leaves program.head image (following_of (words_of s.row) x)
+          (sampled_of ((order_of_program program).length x.line) (effect_of s.row) (clocks_of s.row) x) (effect_of s.row) x))
+          stands.told)
+
       of_main : x.kind ≡ Main → Stands program y
       of_main main = let m = main_line main y h in record {
         line = subst (λ n. n < lines_of program) (sym m.0) stands.line;
@@ -336,6 +348,7 @@ module _ (image : Flash) (program : Program) (fits : ProgramFits program) (x : I
         pending = pending;
         top = top;
         timer = timer;
+        told = told;
       }
 
       apart : x.kind ≢ Main → Stands program y
@@ -348,4 +361,5 @@ module _ (image : Flash) (program : Program) (fits : ProgramFits program) (x : I
         pending = pending;
         top = top;
         timer = timer;
+        told = told;
       }

@@ -4,6 +4,7 @@ use Rattle.std.proofs.Common.{arith}
 use Rattle.std.specs.List.{flat_map}
 use Rattle.uz_schedule.specs.Limits.{is_top}
 use Rattle.uz_schedule.specs.Schedule.{length_of, next_line, response_clocks}
+use Rattle.uz_schedule.specs.Told.{IsInstanceTold}
 use Rattle.uz_schedule.specs.declared.kinds.Kind.TheVariants.{Handler}
 use Rattle.uz_schedule.specs.declared.kinds.Response.{Response}
 use Rattle.uz_schedule.specs.declared.kinds.Response.TheVariants.{Four, Five}
@@ -20,12 +21,13 @@ use Rattle.uz_search.proofs.OneResult.{Steps, steps}
 use Rattle.uz_search.proofs.Results.{same_kind, stands_next, back_is_handler}
 use Rattle.uz_search.proofs.SearchingLemmas.{tree_all}
 use Rattle.uz_search.proofs.TimerLaws.{last_clock}
+use Rattle.uz_search.proofs.ToldLaws.{told_so}
 use Rattle.uz_search.proofs.VisitingLemmas.{some_is}
-use Rattle.uz_search.proofs.WidenedLaws.{widened_place, SamePlace}
+use Rattle.uz_search.proofs.WidenedLaws.{widened_place, widened_rest, LeavesRest, SamePlace}
 
 -- a place of another instance
-pub stands_so : (program : Program) (a b : Instance) → SamePlace a b → Stands program b → Stands program a
-stands_so program a b same h = record {
+pub stands_so : (program : Program) (a b : Instance) → SamePlace a b → LeavesRest a b → Stands program b → Stands program a
+stands_so program a b same rest h = record {
   line = subst (λ n. n < lines_of program) (sym same.line) h.line;
   clock = subst (λ l. a.clock < length_of program.schedule l) (sym same.line)
       (subst (λ n. n < length_of program.schedule b.line) (sym same.clock) h.clock);
@@ -35,6 +37,7 @@ stands_so program a b same h = record {
   pending = λ apart. same.pending ∙ h.pending (λ e. apart (same.kind ∙ e));
   top = ap is_top same.top ∙ h.top;
   timer = λ apart. (let t = h.timer (λ e. apart (same.kind ∙ e)) in (same.top ∙ t.0, same.temp ∙ t.1));
+  told = subst IsInstanceTold (sym rest) (told_so b (record b { regs = a.regs; pairs = a.pairs }) refl h.told);
 }
 
 few_response : (irq : Response) → response_clocks irq ≤ 5
@@ -70,6 +73,7 @@ stands_entry program end e fits stands handler h =
       pending = λ other. absurd (other refl);
       top = last_clock (length_of program.schedule end.line) (fits.lengths end.line);
       timer = λ other. absurd (other refl);
+      told = refl;
     })
 
 -- what follows an instance that stands in the frame stands in it
@@ -87,7 +91,7 @@ stands_more image program fits x y stands follows = ⊎_elim
     let mapped : Among (map (widened program) next.out.items) y = subst (λ l. Among l y)
     (ap (λ b. if b then flat_map (entries program) next.out.items else map (widened program) next.out.items) back) follows.is in
     let from = of_map (widened program) next.out.items mapped.0 y mapped.1 in
-    subst (Stands program) from.2 (stands_so program (widened program from.0) from.0 (widened_place program from.0)
+    subst (Stands program) from.2 (stands_so program (widened program from.0) from.0 (widened_place program from.0) (widened_rest program from.0)
     (stands_next image program fits x stands next s from.0 (mapped.0, from.1))))
     (bool_cases next.back)
   where

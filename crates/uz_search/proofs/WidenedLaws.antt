@@ -1,5 +1,5 @@
 -- Widening leaves where an instance stands, and all that no fact speaks of.
-use Rattle.std.proofs.Common.{◌≡◌, List, [], ◌∷◌, Bool, true, false, refl, ◌∙◌, if◌then◌else◌}
+use Rattle.std.proofs.Common.{◌≡◌, List, [], ◌∷◌, Bool, true, false, refl, ap, ◌∙◌, if◌then◌else◌}
 use Rattle.uz_schedule.specs.declared.states.Instance.{Instance}
 use Rattle.uz_search.specs.declared.program.Program.{Program}
 use Rattle.uz_widening.specs.declared.widening.Widening.{Widening}
@@ -21,74 +21,40 @@ pub record SamePlace (a b : Instance) : Type 0 where
   pub stack : a.stack ≡ b.stack
   pub cells : a.cells ≡ b.cells
 
-same_self : (a : Instance) → SamePlace a a
-same_self a = record {
-  kind = refl;
-  pc = refl;
-  line = refl;
-  clock = refl;
-  level = refl;
-  pending = refl;
-  top = refl;
-  temp = refl;
-  flags = refl;
-  stack = refl;
-  cells = refl;
-}
+-- registers and pairs alone are others
+abbrev pub LeavesRest : Instance → Instance → Type 0
+LeavesRest y x = y ≡ record x { regs = y.regs; pairs = y.pairs }
 
-same_then : (a b c : Instance) → SamePlace a b → SamePlace b c → SamePlace a c
-same_then a b c h k = record {
-  kind = h.kind ∙ k.kind;
-  pc = h.pc ∙ k.pc;
-  line = h.line ∙ k.line;
-  clock = h.clock ∙ k.clock;
-  level = h.level ∙ k.level;
-  pending = h.pending ∙ k.pending;
-  top = h.top ∙ k.top;
-  temp = h.temp ∙ k.temp;
-  flags = h.flags ∙ k.flags;
-  stack = h.stack ∙ k.stack;
-  cells = h.cells ∙ k.cells;
-}
-
-either : (b : Bool) (y x : Instance) → SamePlace y x → SamePlace (if b then y else x) x
+either : (b : Bool) (y x : Instance) → LeavesRest y x → LeavesRest (if b then y else x) x
 either true y x h = h
-either false y x h = same_self x
+either false y x h = refl
 
-by_one : (fact : Widening) (x : Instance) → SamePlace (widened_by fact x) x
+by_one : (fact : Widening) (x : Instance) → LeavesRest (widened_by fact x) x
 unfolding widened_by
-by_one (Register r range) x = either _ _ x (record {
-  kind = refl;
-  pc = refl;
-  line = refl;
-  clock = refl;
-  level = refl;
-  pending = refl;
-  top = refl;
-  temp = refl;
-  flags = refl;
-  stack = refl;
-  cells = refl;
-})
-by_one (Pair k range) x = either _ _ x (record {
-  kind = refl;
-  pc = refl;
-  line = refl;
-  clock = refl;
-  level = refl;
-  pending = refl;
-  top = refl;
-  temp = refl;
-  flags = refl;
-  stack = refl;
-  cells = refl;
-})
+by_one (Register r range) x = either _ _ x refl
+by_one (Pair k range) x = either _ _ x refl
 
-by_all : (facts : List Widening) (x : Instance) → SamePlace (widened_all facts x) x
-by_all [] x = same_self x
-by_all (fact ∷ facts) x = same_then (widened_all facts (widened_by fact x)) (widened_by fact x) x (by_all facts (widened_by fact x))
+by_all : (facts : List Widening) (x : Instance) → LeavesRest (widened_all facts x) x
+by_all [] x = refl
+by_all (fact ∷ facts) x = by_all facts (widened_by fact x)
+    ∙ ap (λ (z : Instance). record z { regs = (widened_all (fact ∷ facts) x).regs; pairs = (widened_all (fact ∷ facts) x).pairs })
     (by_one fact x)
 
-pub widened_place : (program : Program) (x : Instance) → SamePlace (widened program x) x
+pub widened_rest : (program : Program) (x : Instance) → LeavesRest (widened program x) x
 unfolding widened
-widened_place program x = by_all (facts_at program x.pc) x
+widened_rest program x = by_all (facts_at program x.pc) x
+
+pub widened_place : (program : Program) (x : Instance) → SamePlace (widened program x) x
+widened_place program x = let is = widened_rest program x in record {
+  kind = ap (λ (z : Instance). z.kind) is;
+  pc = ap (λ (z : Instance). z.pc) is;
+  line = ap (λ (z : Instance). z.line) is;
+  clock = ap (λ (z : Instance). z.clock) is;
+  level = ap (λ (z : Instance). z.level) is;
+  pending = ap (λ (z : Instance). z.pending) is;
+  top = ap (λ (z : Instance). z.top) is;
+  temp = ap (λ (z : Instance). z.temp) is;
+  flags = ap (λ (z : Instance). z.flags) is;
+  stack = ap (λ (z : Instance). z.stack) is;
+  cells = ap (λ (z : Instance). z.cells) is;
+}

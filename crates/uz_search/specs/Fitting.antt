@@ -2,6 +2,7 @@
 use Rattle.std.specs.Prelude.{◌≡◌, ◌≢◌, ℕ, ◌+◌, ◌-◌, ◌<◌, ◌≤◌, false, IsTrue}
 use Rattle.uz_schedule.specs.Ends.{whole_byte}
 use Rattle.uz_schedule.specs.Schedule.{length_of, response_clocks, scanline}
+use Rattle.uz_schedule.specs.Told.{IsInstanceTold}
 use Rattle.uz_schedule.specs.WellFormed.{HeadFits}
 use Rattle.uz_schedule.specs.Limits.{is_length, is_top, most_lines}
 use Rattle.uz_schedule.specs.declared.kinds.Kind.TheVariants.{Main, Handler}
@@ -20,6 +21,7 @@ pub record Stands (p : Program) (x : Instance) : Type 0 where
   -- OCR1A is the last clock of a line; outside handlers nothing is known of the timer
   pub top : IsTrue (is_top x.top)
   pub timer : x.kind ≢ Handler → (x.top ≡ scanline - 1) × (x.temp ≡ whole_byte)
+  pub told : IsInstanceTold x
 
 -- a start: the level is 1, and outside main it stands before the first line's fall
 pub record StartFits (p : Program) (x : Instance) : Type 0 where

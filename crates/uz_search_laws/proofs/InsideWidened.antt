@@ -13,14 +13,14 @@ use Rattle.uz_schedule.specs.declared.states.Instance.{Instance}
 use Rattle.uz_transfer.specs.Refusals.{range_inside}
 use Rattle.uz_transfer.specs.Values.{flag_at, pair_at, span_at, value_at}
 use Rattle.uz_rules.specs.Inside.{all_below, cells_inside, flag_inside, flags_inside, inside, pairs_inside, registers_inside}
-use Rattle.uz_rules.specs.Inside.{same_place, slots_inside, value_inside, PlaceHolds}
+use Rattle.uz_rules.specs.Inside.{place_of_itself, same_place, slots_inside, value_inside, PlaceHolds}
 use Rattle.uz_search.specs.declared.program.Program.{Program}
 use Rattle.uz_widening.specs.declared.widening.Widening.{Widening}
 use Rattle.uz_widening.specs.declared.widening.Widening.TheVariants.{Register, Pair}
 use Rattle.uz_widening.specs.Widenings.{is_whole, widened_all, widened_by, widened_pair, widened_value}
 use Rattle.uz_search.specs.Widenings.{facts_at, widened}
 use Rattle.uz_search.proofs.Lists.{choose}
-use Rattle.uz_search.proofs.WidenedLaws.{SamePlace, widened_place}
+use Rattle.uz_search.proofs.WidenedLaws.{SamePlace, widened_place, widened_rest}
 
 -- Values
 
@@ -175,14 +175,7 @@ inside_widened holds p x = λ i. place i && (temp i && (slots i && (cells i && (
     wide = widened_wider p x
 
     place : same_place x (widened p x) ≡ true
-    place = holds x (widened p x) (record {
-      kind = sym same.kind;
-      pc = sym same.pc;
-      line = sym same.line;
-      clock = sym same.clock;
-      pending = sym same.pending;
-      top = sym same.top;
-    })
+    place = ap (same_place x) (widened_rest p x) ∙ holds x x (place_of_itself x)
 
     temp : range_inside x.temp (widened p x).temp ≡ true
     temp = ap (range_inside x.temp) same.temp ∙ range_grown x.temp x.temp (omega arith) (omega arith)

@@ -1,6 +1,6 @@
 use Rattle.std.proofs.Common.{arith}
 use Rattle.std.proofs.lemmas.List.{same_lists}
-use Rattle.uz_point_instances.proofs.telling.same_ranges_each.Goals as goal
+use Rattle.uz_point_instances.proofs.saying.same_ranges_each.Goals as goal
 
 pub returns : goal.returns
 returns c =

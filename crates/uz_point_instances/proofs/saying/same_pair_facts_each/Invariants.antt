@@ -1,6 +1,6 @@
 use Rattle.std.proofs.Common.{◌≡◌, ◌<◌, ℕ, get_or}
 use Rattle.uz_schedule.specs.declared.facts.PairFact.{PairFact}
-use Rattle.uz_point_instances.proofs.sameness.same_pair_facts_each.Given as goal
+use Rattle.uz_point_instances.proofs.saying.same_pair_facts_each.Given as goal
 
 -- those so far are the same
 abbrev pub invariant-loop-i : goal.invariant-loop-i

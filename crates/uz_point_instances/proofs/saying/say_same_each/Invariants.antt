@@ -1,7 +1,7 @@
 use Rattle.std.proofs.Common.{◌≡◌, ◌<◌, ℕ, get_or}
 use Rattle.uz_schedule.specs.Instances.{val_of}
 use Rattle.uz_schedule.specs.declared.facts.Fact.{Fact}
-use Rattle.uz_point_instances.proofs.sameness.say_same_each.Given as goal
+use Rattle.uz_point_instances.proofs.saying.say_same_each.Given as goal
 
 -- those so far say the same
 abbrev pub invariant-loop-i : goal.invariant-loop-i

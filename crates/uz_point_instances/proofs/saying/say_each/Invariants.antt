@@ -2,7 +2,7 @@ use Rattle.std.proofs.Common.{◌≡◌, ◌<◌, ℕ, get_or}
 use Rattle.uz_schedule.specs.Instances.{val_of}
 use Rattle.uz_schedule.specs.declared.facts.Fact.{Fact}
 use Rattle.uz_schedule.specs.declared.facts.Val.{Val}
-use Rattle.uz_point_instances.proofs.telling.say_each.Given as goal
+use Rattle.uz_point_instances.proofs.saying.say_each.Given as goal
 
 -- those so far are said
 abbrev pub invariant-loop-i : goal.invariant-loop-i

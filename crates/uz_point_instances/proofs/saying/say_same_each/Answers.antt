@@ -1,7 +1,7 @@
 use Rattle.std.proofs.Common.{arith}
 use Rattle.uz_schedule.specs.Instances.{val_of}
 use Rattle.uz_point_instances.proofs.SameFacts.{map_same}
-use Rattle.uz_point_instances.proofs.sameness.say_same_each.Goals as goal
+use Rattle.uz_point_instances.proofs.saying.say_same_each.Goals as goal
 
 pub returns : goal.returns
 returns c =

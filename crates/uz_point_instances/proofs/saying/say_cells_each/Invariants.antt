@@ -2,7 +2,7 @@ use Rattle.std.proofs.Common.{◌≡◌, ◌<◌, ℕ, get_or}
 use Rattle.uz_schedule.specs.Ends.{Ends}
 use Rattle.uz_schedule.specs.Instances.{cell_span}
 use Rattle.uz_schedule.specs.declared.facts.Fact.{Fact}
-use Rattle.uz_point_instances.proofs.telling.say_cells_each.Given as goal
+use Rattle.uz_point_instances.proofs.saying.say_cells_each.Given as goal
 
 -- those so far are said
 abbrev pub invariant-loop-i : goal.invariant-loop-i
