@@ -2,6 +2,7 @@ pub mod NumberLemmas
 pub mod KindLemmas
 pub mod ProgramLemmas
 pub mod LinkLemmas
+pub mod MakeLemmas
 pub mod RestLemmas
 pub mod FindLemmas
 pub mod FewResults

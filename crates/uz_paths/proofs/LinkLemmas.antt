@@ -21,11 +21,12 @@ use Rattle.uz_schedule.specs.Schedule.{response_clocks}
 use Rattle.uz_search.specs.Following.{Among, Flash, order_of_program}
 use Rattle.uz_search.specs.Widenings.{widened}
 use Rattle.uz_paths.specs.Linked.{IsVectorAt, IsPointAt, HasName, NamesFit, NamesMore, NamesResults, NamesEntries, NamesVectors, NamesOwn}
-use Rattle.uz_paths.specs.Linked.{ArePointed, ArePoints, HaveNumbers, Renamed}
-use Rattle.uz_point_instances.specs.Points.{AreOrdered, IsOrdered, point_of, vector_after}
+use Rattle.uz_paths.specs.Linked.{ArePoints, HaveNumbers, Renamed}
+use Rattle.uz_paths.specs.Plan.{AreMade}
+use Rattle.uz_point_instances.specs.Points.{AreOrdered, point_of, vector_after}
 use Rattle.uz_paths.specs.Successors.{count_below, is_number, with_number}
-use Rattle.uz_paths.specs.Numbers.{IsVectorOf, AreNumbers}
-use Rattle.uz_paths.proofs.NumberLemmas.{at_more, keeps, last_there, more_vector, more_own, none_numbered, numbers_below}
+use Rattle.uz_paths.specs.Numbers.{AreNumbers}
+use Rattle.uz_paths.proofs.NumberLemmas.{at_more, keeps, last_there, numbers_below}
 
 -- One more name
 
@@ -218,12 +219,11 @@ length_write (y ∷ ys) zero q = refl
 length_write (y ∷ ys) (suc i) q = ap suc (length_write ys i q)
 
 -- one point names more
-pub points_again : (response : ℕ) (lines : Lines) (rests : List Rest) (nodes : List Instance) (numbers : List ℕ) (count n : ℕ)
+pub made_again : (response : ℕ) (lines : Lines) (rests : List Rest) (nodes : List Instance) (numbers : List ℕ) (total n : ℕ)
     (next : List ℕ) (points : List Point) (p q : Point)
-    → ArePoints response lines rests nodes numbers count points → slice_get points n ≡ Some p → Renamed count next p q → ArePoints response
-    lines rests nodes numbers count (set points n q)
-points_again response lines rests nodes numbers count n next points p q a there r = record {
-  size = length_write points n q ∙ a.size;
+    → AreMade response lines rests nodes numbers total points → slice_get points n ≡ Some p → Renamed total next p q → AreMade response
+    lines rests nodes numbers total (set points n q)
+made_again response lines rests nodes numbers total n next points p q a there r = record {
   vectors = λ k rest at. vector_cases k rest (a.vectors k rest at) (nat_eq n k) refl;
   own = λ i m x at number low. own_cases m x (a.own i m x at number low) (nat_eq n m) refl;
   names = λ k point at. name_cases k point (at_write points n k q point at within);
@@ -262,19 +262,10 @@ points_again response lines rests nodes numbers count n next points p q a there 
         let apart : n ≢ m = grind (arith, nat_tests, e) in
         record { next = v.next; is = unwritten points n m q _ apart v.is; ordered = v.ordered }
 
-    name_cases : (k : ℕ) (point : Point) → ((n ≡ k) × (q ≡ point)) ⊎ ((n ≢ k) × (slice_get points k ≡ Some point)) → NamesFit count
+    name_cases : (k : ℕ) (point : Point) → ((n ≡ k) × (q ≡ point)) ⊎ ((n ≢ k) × (slice_get points k ≡ Some point)) → NamesFit total
         point.next.items
-    name_cases k point (inl h) = subst (λ x. NamesFit count x.next.items) (sym r.is ∙ h.1) r.fits
+    name_cases k point (inl h) = subst (λ x. NamesFit total x.next.items) (sym r.is ∙ h.1) r.fits
     name_cases k point (inr h) = a.names k point h.1
-
-pub pointed_again : (p : Program) (rests : List Rest) (nodes : List Instance) (numbers : List ℕ) (count n : ℕ) (next : List ℕ)
-    (points : List Point) (old new : Point)
-    → ArePointed p rests nodes numbers count points → slice_get points n ≡ Some old → Renamed count next old new
-    → ArePointed p rests nodes numbers count (set points n new)
-pointed_again p rests nodes numbers count n next points old new a there r = record {
-  numbered = a.numbered;
-  made = points_again (response_clocks p.head.irq) (order_of_program p) rests nodes numbers count n next points old new a.made there r;
-}
 
 -- the instances' numbers are those of points
 pub have_numbers : (p : Program) (rests : List Rest) (nodes : List Instance) (numbers : List ℕ) (count : ℕ)
@@ -297,39 +288,6 @@ vectors_named image p s rests nodes numbers count k next points old new rest wit
     (subst (λ z. NamesEntries image p s nodes numbers z next) same names))
     (λ h. let apart = h.0 in before j other point (omega arith) there h.1)
     (at_write points k j new point is within)
-
--- vectors stay where another point names what follows it
-pub vectors_stay : (image : Flash) (p : Program) (s : Schedule) (rests : List Rest) (nodes : List Instance) (numbers : List ℕ) (n : ℕ)
-    (points : List Point) (new : Point) → length rests ≤ n → n < length points
-    → NamesVectors image p s rests nodes numbers (length rests) points → NamesVectors image p s rests nodes numbers (length rests)
-    (set points n new)
-vectors_stay image p s rests nodes numbers n points new low within before j rest point less there is = ⊎_elim
-    (λ h. let same = h.0 in absurd (omega arith))
-    (λ h. before j rest point less there h.1)
-    (at_write points n j new point is within)
-
--- one more instance's point names its results
-pub own_named : (image : Flash) (p : Program) (response : ℕ) (lines : Lines) (rests : List Rest) (nodes : List Instance) (numbers : List ℕ)
-    (count i n : ℕ) (next : List ℕ) (points : List Point) (old new : Point) (x : Instance)
-    → AreNumbers response lines rests nodes numbers count → n < length points → slice_get nodes i ≡ Some x → slice_get numbers i ≡ Some n
-    → length rests ≤ n
-    → NamesOwn image p (length rests) nodes numbers i points → Renamed count next old new → NamesResults image p nodes numbers x next
-    → NamesOwn image p (length rests) nodes numbers (i + 1) (set points n new)
-own_named image p response lines rests nodes numbers count i n next points old new x are within at number low before r names j m y point
-    less there is above point_is = ⊎_elim
-    (λ h.
-    let place : j ≡ i = are.apart j i m above is (number ∙ ap Some h.0) in
-    let same : x ≡ y = some_is x y (sym at ∙ (ap (slice_get nodes) (sym place) ∙ there)) in
-    subst (λ (z : Point). NamesResults image p nodes numbers y z.next.items) (sym r.is ∙ h.1)
-    (subst (λ z. NamesResults image p nodes numbers z next) same names))
-    (λ h. before j m y point (earlier h.0) there is above h.1)
-    (at_write points n m new point point_is within)
-  where
-    earlier : n ≢ m → j < i
-    earlier other = ⊎_elim
-        (λ (same : j ≡ i). absurd (other (some_is n m (sym number ∙ (ap (slice_get numbers) (sym same) ∙ is)))))
-        (λ (apart : j ≢ i). omega arith)
-        (cases_eq j i)
 
 -- an instance whose point is a vector names nothing itself
 pub own_passed : (image : Flash) (p : Program) (rests : List Rest) (nodes : List Instance) (numbers : List ℕ) (i n : ℕ)
@@ -420,110 +378,15 @@ vectors_end response lines rests i points past within a =
     subst (λ n. ArePoints response lines rests [] [] n points) same (subst (λ rs. ArePoints response lines rs [] [] i points)
     (all_taken rests i past) a)
 
--- One more instance
-
-points_vector : (response : ℕ) (lines : Lines) (rests : List Rest) (ns : List Instance) (of : List ℕ) (count k : ℕ) (x : Instance)
-    (points : List Point)
-    → length of ≡ length ns → k < length rests → ArePoints response lines rests ns of count points → ArePoints response lines rests
-    (ns ++ x ∷ []) (of ++ k ∷ []) count points
-points_vector response lines rests ns of count k x points same less a = record {
-  size = a.size;
+-- vectors without successors, where other points are to come
+pub made_bare : (response : ℕ) (lines : Lines) (rests : List Rest) (count total : ℕ) (points : List Point) → count ≤ total → ArePoints
+    response lines rests [] [] count points → AreMade response lines rests [] [] total points
+made_bare response lines rests count total points le a = record {
   vectors = a.vectors;
-  own = λ i n y node number low. own_cases i n y low (at_more ns x y i node) (at_more of k n i number);
-  names = a.names;
-}
-  where
-    own_cases : (i n : ℕ) (y : Instance) → length rests ≤ n → (slice_get ns i ≡ Some y) ⊎ ((i ≡ length ns) × (x ≡ y))
-        → (slice_get of i ≡ Some n) ⊎ ((i ≡ length of) × (k ≡ n)) → IsPointAt points n y
-    own_cases i n y low (inl h) (inl g) = a.own i n y h g low
-    own_cases i n y low (inl h) (inr g) = let e = g.1 in absurd (omega arith)
-    own_cases i n y low (inr h) (inl g) = let within = slice_get_within of i n g in let e = h.0 in absurd (omega arith)
-    own_cases i n y low (inr h) (inr g) = let e = g.1 in absurd (omega arith)
-
-points_own : (response : ℕ) (lines : Lines) (rests : List Rest) (ns : List Instance) (of : List ℕ) (count : ℕ) (x : Instance)
-    (points : List Point)
-    → length of ≡ length ns → IsOrdered x → ArePoints response lines rests ns of count points → ArePoints response lines rests
-    (ns ++ x ∷ []) (of ++ count ∷ []) (count + 1) (points ++ point_of x [] ∷ [])
-points_own response lines rests ns of count x points same ordered a = record {
-  size = let s = a.size in let l = length-append points (point_of x [] ∷ []) in omega arith;
-  vectors = λ k rest at. let v = a.vectors k rest at in record {
-    next = v.next;
-    is = keeps points (point_of x []) _ k v.is;
-    ordered = v.ordered;
+  own = a.own;
+  names = λ n point at. let f = a.names n point at in record {
+    few = f.few;
+    there = λ k d within. let low = f.there k d within in omega arith;
+    rise = f.rise;
   };
-  own = λ i n y node number low. own_cases i n y low (at_more ns x y i node) (at_more of count n i number);
-  names = names_on_end count (count + 1) points (point_of x []) (omega arith) refl a.names;
 }
-  where
-    own_cases : (i n : ℕ) (y : Instance) → length rests ≤ n → (slice_get ns i ≡ Some y) ⊎ ((i ≡ length ns) × (x ≡ y))
-        → (slice_get of i ≡ Some n) ⊎ ((i ≡ length of) × (count ≡ n)) → IsPointAt (points ++ point_of x [] ∷ []) n y
-    own_cases i n y low (inl h) (inl g) = let v = a.own i n y h g low in record {
-      next = v.next;
-      is = keeps points (point_of x []) _ n v.is;
-      ordered = v.ordered;
-    }
-    own_cases i n y low (inl h) (inr g) = let within = slice_get_within ns i y h in let e = g.0 in absurd (omega arith)
-    own_cases i n y low (inr h) (inl g) = let within = slice_get_within of i n g in let e = h.0 in absurd (omega arith)
-    own_cases i n y low (inr h) (inr g) = record {
-      next = [];
-      is = ap (slice_get (points ++ point_of x [] ∷ [])) (sym g.1 ∙ sym a.size)
-          ∙ (last_there points (point_of x []) ∙ ap (λ z. Some (point_of z [])) h.1);
-      ordered = subst IsOrdered h.1 ordered;
-    }
-
--- so many instances numbered, with their points
-pub record AreNumbered (response : ℕ) (lines : Lines) (rests : List Rest) (nodes : List Instance) (numbers : List ℕ) (points : List Point) :
-    Type 0 where
-  pub numbers_are : AreNumbers response lines rests nodes numbers (length points)
-  pub points_are : ArePoints response lines rests nodes numbers (length points) points
-
-more_taken : (response : ℕ) (lines : Lines) (rests : List Rest) (nodes : List Instance) (i : ℕ) (x : Instance) (numbers numbers' : List ℕ)
-    (points points' : List Point) (n : ℕ) → i < length nodes → x ≡ get_or nodes i x
-    → numbers' ≡ numbers ++ n ∷ [] → AreNumbered response lines rests (take i nodes ++ x ∷ []) (numbers ++ n ∷ []) points'
-    → AreNumbered response lines rests (take (i + 1) nodes) numbers' points'
-more_taken response lines rests nodes i x numbers numbers' points points' n within is e a =
-    let more : take (i + 1) nodes ≡ take i nodes ++ get_or nodes i x ∷ [] = rw add-one (take-suc nodes i x within) in
-    let same : take (i + 1) nodes ≡ take i nodes ++ x ∷ [] = more ∙ ap (λ y. take i nodes ++ y ∷ []) (sym is) in
-    subst (λ ns. AreNumbered response lines rests ns numbers' points') (sym same)
-    (subst (λ ms. AreNumbered response lines rests (take i nodes ++ x ∷ []) ms points') (sym e) a)
-
-pub vector_step : (response : ℕ) (lines : Lines) (rests : List Rest) (nodes : List Instance) (i : ℕ) (x : Instance)
-    (numbers numbers' : List ℕ) (points points' : List Point) (k : ℕ) → i < length nodes → x ≡ get_or nodes i x
-    → AreNumbered response lines rests (take i nodes) numbers points → IsVectorOf response lines rests k x → numbers' ≡ numbers ++ k ∷ []
-    → points' ≡ points → AreNumbered response lines rests (take (i + 1) nodes) numbers' points'
-vector_step response lines rests nodes i x numbers numbers' points points' k within is a v e f =
-    more_taken response lines rests nodes i x numbers numbers' points points' k within is e
-    (subst (AreNumbered response lines rests (take i nodes ++ x ∷ []) (numbers ++ k ∷ [])) (sym f) (record {
-      numbers_are = more_vector response lines rests (take i nodes) numbers (length points) k x a.numbers_are v;
-      points_are = points_vector response lines rests (take i nodes) numbers (length points) k x points a.numbers_are.lengths
-          (slice_get_within rests k v.rest v.there) a.points_are;
-    }))
-
-pub own_step : (response : ℕ) (lines : Lines) (rests : List Rest) (nodes : List Instance) (i : ℕ) (x : Instance) (numbers numbers' : List ℕ)
-    (points points' : List Point) → i < length nodes → x ≡ get_or nodes i x
-    → AreNumbered response lines rests (take i nodes) numbers points → ((k : ℕ) → IsVectorOf response lines rests k x → ⊥)
-    → numbers' ≡ numbers ++ length points ∷ [] → points' ≡ points ++ point_of x [] ∷ []
-    → IsOrdered x → AreNumbered response lines rests (take (i + 1) nodes) numbers' points'
-own_step response lines rests nodes i x numbers numbers' points points' within is a none e f ordered =
-    let longer : length (points ++ point_of x [] ∷ []) ≡ length points + 1 = length-append points (point_of x [] ∷ []) in
-    more_taken response lines rests nodes i x numbers numbers' points points' (length points) within is e
-    (subst (AreNumbered response lines rests (take i nodes ++ x ∷ []) (numbers ++ length points ∷ [])) (sym f) (record {
-      numbers_are = subst (AreNumbers response lines rests (take i nodes ++ x ∷ []) (numbers ++ length points ∷ [])) (sym longer)
-          (more_own response lines rests (take i nodes) numbers (length points) x a.numbers_are none);
-      points_are = subst (λ n. ArePoints response lines rests (take i nodes ++ x ∷ []) (numbers ++ length points ∷ []) n
-          (points ++ point_of x [] ∷ [])) (sym longer)
-          (points_own response lines rests (take i nodes) numbers (length points) x points a.numbers_are.lengths ordered a.points_are);
-    }))
-
-pub none_yet : (response : ℕ) (lines : Lines) (rests : List Rest) (points : List Point) → ArePoints response lines rests [] []
-    (length rests) points → AreNumbered response lines rests [] [] points
-none_yet response lines rests points a = record {
-  numbers_are = subst (AreNumbers response lines rests [] []) (sym a.size) (none_numbered response lines rests);
-  points_are = subst (λ n. ArePoints response lines rests [] [] n points) (sym a.size) a;
-}
-
-pub all_numbered : (response : ℕ) (lines : Lines) (rests : List Rest) (nodes : List Instance) (i : ℕ) (numbers : List ℕ)
-    (points : List Point) → length nodes ≤ i → AreNumbered response lines rests (take i nodes) numbers points → AreNumbered response lines
-    rests nodes numbers points
-all_numbered response lines rests nodes i numbers points past a = subst (λ ns. AreNumbered response lines rests ns numbers points)
-    (all_taken nodes i past) a

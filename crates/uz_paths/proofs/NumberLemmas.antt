@@ -4,13 +4,16 @@ use Rattle.std.proofs.Common.{◌<◌, ◌≤◌, List, [], ◌∷◌, ◌++◌,
 use Rattle.std.specs.Prelude.{Some, None, slice_get, ◌⊎◌}
 use borrow.Author.Count.{below_more}
 use Rattle.std.proofs.Math.Seq.{take-suc}
+use Rattle.std.proofs.lemmas.Bool.{cases_lt}
 use Rattle.std.proofs.lemmas.Bool.Decides.{nat_tests}
+use Rattle.std.proofs.lemmas.List.{length-take-le, take-append-le, take_at}
 use Rattle.std.proofs.lemmas.Option.{slice_get_within, slice_get-get_or, slice_get_cases, slice_get_read}
 use Rattle.uz_search.specs.Following.{Among}
 use Rattle.uz_schedule.specs.Lines.{Lines}
 use Rattle.uz_schedule.specs.declared.states.Instance.{Instance}
 use Rattle.uz_schedule.specs.declared.states.Rest.{Rest}
 use Rattle.uz_paths.specs.Numbers.{IsFirstAfter, IsVectorOf, Numbered, AreNumbers}
+use Rattle.uz_paths.specs.Plan.{AreCounted}
 
 -- Rests
 
@@ -207,3 +210,45 @@ numbers_below r l rests nodes of count a i n number = by_node (slice_get_cases n
 
 pub among_at : (xs ys : List Instance) (i : ℕ) (x : Instance) → xs ≡ ys → i < length xs → x ≡ get_or xs i x → Among ys x
 among_at xs ys i x e within is = (i, ap (λ zs. slice_get zs i) (sym e) ∙ slice_get_read xs (length xs) i x refl within is)
+
+-- Numbers in the order in which the instances were found
+
+-- so many points are numbered by these numbers alone
+pub same_count : (r : ℕ) (l : Lines) (rests : List Rest) (nodes : List Instance) (of : List ℕ) (count other : ℕ)
+    → AreNumbers r l rests nodes of count → AreNumbers r l rests nodes of other → count ≡ other
+same_count r l rests nodes of count other a b = ⊎_elim
+    (λ (less : count < other). absurd (missing count other a b less))
+    (λ (past : other ≤ count). ⊎_elim
+    (λ (less : other < count). absurd (missing other count b a less))
+    (λ (le : count ≤ other). omega arith)
+    (cases_lt other count))
+    (cases_lt count other)
+  where
+    missing : (m n : ℕ) → AreNumbers r l rests nodes of m → AreNumbers r l rests nodes of n → m < n → ⊥
+    missing m n x y less =
+        let there = y.there m x.some less in
+        let below = numbers_below r l rests nodes of m x there.0 m there.1 in
+        omega arith
+
+-- one more vector's number, and one more number of a point of its own
+pub counted_vector : (r : ℕ) (l : Lines) (rests : List Rest) (nodes : List Instance) (of of' : List ℕ) (k : ℕ) (x : Instance)
+    → AreCounted r l rests nodes of → IsVectorOf r l rests k x → of' ≡ of ++ k ∷ [] → AreCounted r l rests nodes of'
+counted_vector r l rests nodes of of' k x a v e = subst (AreCounted r l rests nodes) (sym e) (λ j m there low. ⊎_elim
+    (λ h. let within = slice_get_within of j m h in
+    subst (λ ms. AreNumbers r l rests (take j nodes) ms m) (sym (take-append-le j of (k ∷ []) (omega arith))) (a j m h low))
+    (λ h. let within = below_rests r l rests k x v in let same = h.1 in absurd (omega arith))
+    (at_more of k m j there))
+
+pub counted_own : (r : ℕ) (l : Lines) (rests : List Rest) (nodes : List Instance) (i : ℕ) (of of' : List ℕ) (count : ℕ)
+    → i < length nodes → AreNumbers r l rests (take i nodes) of count → AreCounted r l rests nodes of → of' ≡ of ++ count ∷ []
+    → AreCounted r l rests nodes of'
+counted_own r l rests nodes i of of' count within are a e = subst (AreCounted r l rests nodes) (sym e) (λ j m there low. ⊎_elim
+    (λ h. let inside = slice_get_within of j m h in
+    subst (λ ms. AreNumbers r l rests (take j nodes) ms m) (sym (take-append-le j of (count ∷ []) (omega arith))) (a j m h low))
+    (λ h.
+    let long : length of ≡ i = are.lengths ∙ length-take-le i nodes (omega arith) in
+    let place : j ≡ i = h.0 ∙ long in
+    let all : take j (of ++ count ∷ []) ≡ of = ap (λ n. take n (of ++ count ∷ [])) h.0 ∙ take_at of (count ∷ []) (length of) refl in
+    subst (λ ms. AreNumbers r l rests (take j nodes) ms m) (sym all) (subst (λ n. AreNumbers r l rests (take n nodes) of m) (sym place)
+    (subst (AreNumbers r l rests (take i nodes) of) h.1 are)))
+    (at_more of count m j there))

@@ -3,7 +3,9 @@ pub mod Finding
 pub mod JoinedParts
 pub mod Kinds
 pub mod Linked
+pub mod Lists
 pub mod Numbers
+pub mod Plan
 pub mod ProgramOf
 pub mod Rests
 pub mod Successors

@@ -1,19 +1,19 @@
 //! The certificate that an ended search makes.
 
-ghost use Rattle.std.specs.Prelude.{◌≡◌, ◌<◌, ◌≤◌, ◌^◌, IfOk, length};
+ghost use Rattle.std.specs.Prelude.{◌≡◌, ◌<◌, IfOk, length};
 ghost use Rattle.uz_schedule.specs.Instances.{entry_instance_at};
 ghost use Rattle.uz_schedule.specs.Limits.{ScheduleFits};
 ghost use Rattle.uz_search.specs.Fitting.{ProgramFits};
 ghost use Rattle.uz_search.specs.Following.{Among};
 ghost use Rattle.uz_search.specs.Searching.{IsEnded};
 ghost use Rattle.uz_paths.specs.Kinds.{IsScheduleOf};
-ghost use Rattle.uz_paths.specs.Linked.{AreEntered, AreNamed, ArePointed, AreSearched};
+ghost use Rattle.uz_paths.specs.Linked.{AreEntered, AreSearched};
 ghost use Rattle.uz_paths.specs.Rests.{rests_of as rests_of_returns};
 ghost use Rattle.uz_paths.specs.Certificate.{ArePartsOf, IsNumberOf, cert_of};
 
 use crate::kinds::schedule_of;
-use crate::linking::{link_all, number_at, place_of};
-use crate::numbers::{Numbered, number_points};
+use crate::linking::{number_at, place_of, plan_of};
+use crate::making::points_of;
 use crate::rests::rests_of;
 use indexmap::IndexSet;
 use std::alloc::{AllocError, Global};
@@ -44,67 +44,6 @@ fn number_of(nodes: &IndexSet<Instance>, numbers: &[u32], at: &Instance) -> u32
     ensures { IsNumberOf nodes.now.keys numbers.now at.now result }
 {
     number_at(numbers, place_of(nodes, at))
-}
-
-/// Points that name their successors.
-fn linked(
-    image: &Image,
-    program: &Program,
-    schedule: &Schedule,
-    rests: &[Rest],
-    nodes: &IndexSet<Instance>,
-    bare: Numbered,
-) -> Numbered
-    requires searched { AreSearched image.now program.now nodes.now.keys }
-    requires entered { AreEntered program.now schedule.now rests.now nodes.now.keys }
-    requires few { length bare.points.items < 2 ^ 32 }
-    requires pointed { ArePointed program.now rests.now nodes.now.keys bare.numbers.items
-        (length bare.points.items) bare.points.items }
-    ensures pointed { ArePointed program.now rests.now nodes.now.keys result.numbers.items
-        (length result.points.items) result.points.items }
-    ensures named { AreNamed image.now program.now schedule.now rests.now nodes.now.keys result.numbers.items result.points.items }
-{
-    let Numbered {
-        numbers,
-        mut points,
-    } = bare;
-    link_all(
-        image,
-        program,
-        schedule,
-        rests,
-        nodes,
-        numbers.as_slice(),
-        points.as_mut_slice(),
-    );
-    Numbered { numbers, points }
-}
-
-/// The points of all instances.
-fn points_of(
-    alloc: Global,
-    image: &Image,
-    program: &Program,
-    schedule: &Schedule,
-    rests: &[Rest],
-    nodes: &IndexSet<Instance>,
-) -> Result<Numbered, AllocError>
-    requires searched { AreSearched image.now program.now nodes.now.keys }
-    requires entered { AreEntered program.now schedule.now rests.now nodes.now.keys }
-    requires rests { length rests.now ≤ 525 }
-    requires few { length nodes.now.keys < 524288 }
-    ensures pointed { IfOk result (λ r. ArePointed program.now rests.now nodes.now.keys r.numbers.items
-        (length r.points.items) r.points.items) }
-    ensures named { IfOk result (λ r. AreNamed image.now program.now schedule.now rests.now nodes.now.keys r.numbers.items r.points.items) }
-{
-    let bare = number_points(
-        alloc,
-        program.head.irq,
-        &program.schedule,
-        rests,
-        nodes.as_slice(),
-    )?;
-    Ok(linked(image, program, schedule, rests, nodes, bare))
 }
 
 /// An entry at the point of this number.
@@ -170,26 +109,35 @@ fn nodes_are_searched(image: &Image, program: &Program, found: &Found)
     nodes_are_reached();
 }
 
-/// The parts of the certificate of what a search has found, whose runs enter where the search starts.
+/// The instances that a search has found. All else is let go.
+fn nodes_of(found: Found) -> IndexSet<Instance>
+    ensures { result ≡ found.nodes }
+{
+    let Found { nodes, .. } = found;
+    nodes
+}
+
+/// The parts of the certificate of what a search has found, whose runs enter where the search starts. Each instance is let go when its
+/// point is made, so that the instances and the points aren't all there at once.
 #[tactic(auto, using(crate::proofs::RestLemmas::few_of, crate::proofs::RestLemmas::lines_of_rests))]
 pub(crate) fn parts_of(
     alloc: Global,
     image: &Image,
     program: &Program,
     entry: Entry,
-    found: &Found,
+    found: Found,
 ) -> Result<Parts, AllocError>
     requires fits { ProgramFits program.now }
-    requires ended { IsEnded image.now program.now found.now }
-    requires few { length found.now.nodes.keys < 524288 }
+    requires ended { IsEnded image.now program.now found }
+    requires few { length found.nodes.keys < 524288 }
     requires start { Among program.now.starts (entry_instance_at entry 1) }
-    ensures { IfOk result (ArePartsOf image.now program.now entry found.now) }
+    ensures { IfOk result (ArePartsOf image.now program.now entry found) }
 {
-    let schedule = made_schedule(alloc, image, program, found)?;
+    let schedule = made_schedule(alloc, image, program, &found)?;
     let rests = rests_of(alloc, found.returns.as_slice())?;
-    nodes_are_searched(image, program, found);
-    rests_are_entered(image, program, &entry, &schedule, found);
-    let made = points_of(
+    nodes_are_searched(image, program, &found);
+    rests_are_entered(image, program, &entry, &schedule, &found);
+    let plan = plan_of(
         alloc,
         image,
         program,
@@ -199,14 +147,22 @@ pub(crate) fn parts_of(
     )?;
     let id = number_of(
         &found.nodes,
-        made.numbers.as_slice(),
+        plan.numbers.as_slice(),
         &entry_state(&entry, 1),
     );
+    let points = points_of(
+        image,
+        program,
+        &schedule,
+        rests.as_slice(),
+        nodes_of(found),
+        plan,
+    )?;
     Ok(Parts {
         schedule,
         rests,
         entry: with_id(entry, id),
-        points: made.points,
+        points,
     })
 }
 

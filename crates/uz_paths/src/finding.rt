@@ -29,7 +29,7 @@ use uz_search_laws::{
 /// The most distinct instances of a search.
 const INSTANCE_LIMIT: u32 = 524288;
 
-/// The certificate of an ended search, which is let go when its points are made.
+/// The certificate of an ended search, which is let go while its points are made.
 fn certificate(
     alloc: Global,
     image: &Image,
@@ -59,7 +59,7 @@ fn certificate(
     place_holds();
     known_in_itself();
     ended_accepts();
-    let parts = parts_of(alloc, image, &program, entry, &found)?;
+    let parts = parts_of(alloc, image, &program, entry, found)?;
     Ok(certificate_of(program, parts))
 }
 

@@ -6,6 +6,8 @@ mod finding;
 mod joined;
 mod kinds;
 mod linking;
+mod lists;
+mod making;
 mod numbers;
 mod program;
 mod rests;

@@ -1,21 +1,38 @@
 //! Where instances lead: the names of successors.
 
-ghost use Rattle.std.specs.Prelude.{◌≡◌, ◌<◌, ◌≤◌, ◌+◌, ◌^◌, Some, false, length, slice_get};
+ghost use Rattle.std.specs.Prelude.{◌≡◌, ◌<◌, ◌≤◌, ◌+◌, [], IfOk, Some, false, length, slice_get};
+ghost use Rattle.uz_schedule.specs.Schedule.{response_clocks};
 ghost use Rattle.uz_schedule.specs.declared.states.Instance.{Instance};
-ghost use Rattle.uz_search.specs.Following.{Among};
+ghost use Rattle.uz_search.specs.Following.{Among, order_of_program};
 ghost use Rattle.uz_search.specs.Widenings.{widened};
-ghost use Rattle.uz_paths.specs.Linked.{AreEntered, AreNamed, ArePointed, AreSearched, HasFew, HasName, HaveNumbers};
-ghost use Rattle.uz_paths.specs.Linked.{IsEntered, NamesEntries, NamesFit, NamesMore, NamesOwn, NamesResults};
-ghost use Rattle.uz_paths.specs.Linked.{NamesVectors, Renamed};
+ghost use Rattle.uz_paths.specs.Linked.{AreEntered, AreSearched, HasFew, HasName, HaveNumbers, IsEntered, NamesEntries, NamesFit};
+ghost use Rattle.uz_paths.specs.Linked.{NamesMore, NamesResults, NamesVectors, Renamed};
+ghost use Rattle.uz_paths.specs.Plan.{AreLinks, AreMade, IsPlan};
 
+use crate::lists::{Lists, no_lists, put_list};
+use crate::numbers::{Numbers, numbers_of, vectors_of};
 use crate::rests::first_after;
 use crate::successors::put_number;
 use arrayvec::ArrayVec;
 use indexmap::IndexSet;
+use std::alloc::{AllocError, Global};
 use uz_hex::Image;
 use uz_rules::{Next, put_after};
 use uz_schedule::{Instance, Point, Rest, Schedule, equal_instances_are_one};
 use uz_search::{Program, widened_copy};
+
+/// What is known of the points of instances before they are made.
+#[derive(Drop)]
+pub(crate) struct Plan {
+    /// The number of each instance's point, by the place of the instance.
+    pub numbers: Vec<u32>,
+    /// How many points there are.
+    pub count: u32,
+    /// Where each instance leads that has a point of its own.
+    pub links: Lists,
+    /// The points of the vectors, with their successors.
+    pub points: Vec<Point>,
+}
 
 /// The number at a place.
 pub(crate) fn number_at(numbers: &[u32], i: usize) -> u32
@@ -194,75 +211,163 @@ fn link_vectors(
     rests: &[Rest],
     nodes: &IndexSet<Instance>,
     numbers: &[u32],
+    count: u32,
     points: &mut [Point],
     next: &mut Next,
 )
     requires searched { AreSearched image.now program.now nodes.now.keys }
     requires entered { AreEntered program.now schedule.now rests.now nodes.now.keys }
-    requires few { length points.old < 2 ^ 32 }
-    requires pointed { ArePointed program.now rests.now nodes.now.keys numbers.now (length points.old) points.old }
-    ensures pointed { ArePointed program.now rests.now nodes.now.keys numbers.now (length points.old) points.new }
+    requires numbered { HaveNumbers nodes.now.keys numbers.now count }
+    requires size { length points.old ≡ length rests.now }
+    requires made { AreMade (response_clocks program.now.head.irq) (order_of_program program.now) rests.now [] [] count points.old }
+    ensures size { length points.new ≡ length rests.now }
+    ensures made { AreMade (response_clocks program.now.head.irq) (order_of_program program.now) rests.now [] [] count points.new }
     ensures named { NamesVectors image.now program.now schedule.now rests.now nodes.now.keys numbers.now (length rests.now) points.new }
 {
-    let count = points.len() as u32;
     for (k, rest) in rests.iter().enumerate() {
         let names = vector_names(image, program, schedule, nodes, numbers, count, rest, next);
         put_names(&mut points[k], count, names);
     }
 }
 
-/// Names the points where each instance leads among the successors of its point, where that is its own.
-fn link_own(
+/// The numbers of the points where an instance leads, where it has a point of its own, by its number.
+fn link_of(
     image: &Image,
     program: &Program,
-    schedule: &Schedule,
     rests: &[Rest],
     nodes: &IndexSet<Instance>,
     numbers: &[u32],
-    points: &mut [Point],
+    count: u32,
+    number: usize,
+    at: &Instance,
     next: &mut Next,
-)
+) -> ArrayVec<u32, 16>
     requires searched { AreSearched image.now program.now nodes.now.keys }
-    requires few { length points.old < 2 ^ 32 }
-    requires pointed { ArePointed program.now rests.now nodes.now.keys numbers.now (length points.old) points.old }
-    requires vectors { NamesVectors image.now program.now schedule.now rests.now nodes.now.keys numbers.now (length rests.now) points.old }
-    ensures pointed { ArePointed program.now rests.now nodes.now.keys numbers.now (length points.old) points.new }
-    ensures vectors { NamesVectors image.now program.now schedule.now rests.now nodes.now.keys numbers.now (length rests.now) points.new }
-    ensures own { NamesOwn image.now program.now (length rests.now) nodes.now.keys numbers.now (length nodes.now.keys) points.new }
+    requires node { Among nodes.now.keys at.now }
+    requires numbered { HaveNumbers nodes.now.keys numbers.now count }
+    ensures fits { NamesFit count result.items }
+    ensures named { length rests.now ≤ number → NamesResults image.now program.now nodes.now.keys numbers.now at.now result.items }
 {
-    let _ = schedule; // said of in the contract alone
-    let count = points.len() as u32;
-    for (i, at) in nodes.as_slice().iter().enumerate() {
-        let number = number_at(numbers, i) as usize;
-        if number >= rests.len() {
-            let names = own_names(image, program, nodes, numbers, count, at, next);
-            put_names(&mut points[number], count, names);
-        }
+    if number >= rests.len() {
+        return own_names(image, program, nodes, numbers, count, at, next);
     }
+    ArrayVec::new()
 }
 
-/// Names the points where each instance leads among the successors of its point.
-pub(crate) fn link_all(
+/// The numbers of the points where each instance leads that has a point of its own.
+fn links_of(
+    alloc: Global,
+    image: &Image,
+    program: &Program,
+    rests: &[Rest],
+    nodes: &IndexSet<Instance>,
+    numbers: &[u32],
+    count: u32,
+    next: &mut Next,
+) -> Result<Lists, AllocError>
+    requires searched { AreSearched image.now program.now nodes.now.keys }
+    requires numbered { HaveNumbers nodes.now.keys numbers.now count }
+    requires few { length nodes.now.keys < 524288 }
+    ensures { IfOk result (λ lists. AreLinks image.now program.now (length rests.now) nodes.now.keys numbers.now count lists
+        (length nodes.now.keys)) }
+{
+    let mut links = no_lists(alloc)?;
+    for (i, at) in nodes.as_slice().iter().enumerate() {
+        let number = number_at(numbers, i) as usize;
+        let names = link_of(
+            image, program, rests, nodes, numbers, count, number, at, next,
+        );
+        put_list(&mut links, i, names.as_slice())?;
+    }
+    Ok(links)
+}
+
+/// The points of the vectors, of which each names the points where the handler's first states lead.
+fn vector_points(
+    alloc: Global,
     image: &Image,
     program: &Program,
     schedule: &Schedule,
     rests: &[Rest],
     nodes: &IndexSet<Instance>,
     numbers: &[u32],
-    points: &mut [Point],
-)
+    count: u32,
+    next: &mut Next,
+) -> Result<Vec<Point>, AllocError>
     requires searched { AreSearched image.now program.now nodes.now.keys }
     requires entered { AreEntered program.now schedule.now rests.now nodes.now.keys }
-    requires few { length points.old < 2 ^ 32 }
-    requires pointed { ArePointed program.now rests.now nodes.now.keys numbers.now (length points.old) points.old }
-    ensures pointed { ArePointed program.now rests.now nodes.now.keys numbers.now (length points.old) points.new }
-    ensures named { AreNamed image.now program.now schedule.now rests.now nodes.now.keys numbers.now points.new }
+    requires numbered { HaveNumbers nodes.now.keys numbers.now count }
+    requires some { length rests.now ≤ count }
+    ensures size { IfOk result (λ points. length points.items ≡ length rests.now) }
+    ensures made { IfOk result (λ points. AreMade (response_clocks program.now.head.irq) (order_of_program program.now) rests.now [] []
+        count points.items) }
+    ensures named { IfOk result (λ points. NamesVectors image.now program.now schedule.now rests.now nodes.now.keys numbers.now
+        (length rests.now) points.items) }
+{
+    let mut points = vectors_of(alloc, program.head.irq, &program.schedule, rests)?;
+    link_vectors(
+        image,
+        program,
+        schedule,
+        rests,
+        nodes,
+        numbers,
+        count,
+        points.as_mut_slice(),
+        next,
+    );
+    Ok(points)
+}
+
+/// The numbers of the points of all instances, where each leads, and the points of the vectors.
+pub(crate) fn plan_of(
+    alloc: Global,
+    image: &Image,
+    program: &Program,
+    schedule: &Schedule,
+    rests: &[Rest],
+    nodes: &IndexSet<Instance>,
+) -> Result<Plan, AllocError>
+    requires searched { AreSearched image.now program.now nodes.now.keys }
+    requires entered { AreEntered program.now schedule.now rests.now nodes.now.keys }
+    requires rests { length rests.now ≤ 525 }
+    requires few { length nodes.now.keys < 524288 }
+    ensures { IfOk result (λ plan. IsPlan image.now program.now schedule.now rests.now nodes.now.keys plan.numbers.items plan.count
+        plan.links plan.points.items) }
 {
     let mut next = Next::empty();
-    link_vectors(
-        image, program, schedule, rests, nodes, numbers, points, &mut next,
-    );
-    link_own(
-        image, program, schedule, rests, nodes, numbers, points, &mut next,
-    );
+    let Numbers { of, count } = numbers_of(
+        alloc,
+        program.head.irq,
+        &program.schedule,
+        rests,
+        nodes.as_slice(),
+    )?;
+    let points = vector_points(
+        alloc,
+        image,
+        program,
+        schedule,
+        rests,
+        nodes,
+        of.as_slice(),
+        count,
+        &mut next,
+    )?;
+    let links = links_of(
+        alloc,
+        image,
+        program,
+        rests,
+        nodes,
+        of.as_slice(),
+        count,
+        &mut next,
+    )?;
+    Ok(Plan {
+        numbers: of,
+        count,
+        links,
+        points,
+    })
 }

@@ -1,4 +1,4 @@
-//! The points of instances and their numbers: first the vectors', one for each rest, then one for each other instance in the order in which
+//! The numbers of the points of instances: first the vectors', one for each rest, then one for each other instance in the order in which
 //! it was found.
 
 ghost use Rattle.std.specs.Prelude.{◌≡◌, ◌<◌, ◌≤◌, ◌+◌, ◌^◌, [], ℕ, IfOk, length, slice_get, Some};
@@ -8,22 +8,23 @@ ghost use Rattle.uz_schedule.specs.Schedule.{response_clocks};
 ghost use Rattle.uz_schedule.specs.declared.states.Rest.{Rest};
 ghost use Rattle.uz_paths.specs.Linked.{ArePoints};
 ghost use Rattle.uz_paths.specs.Numbers.{AreNumbers};
-ghost use Rattle.uz_point_instances.specs.Points.{AreOrdered, IsOrdered, point_of as point_for, vector_after as vector_for};
+ghost use Rattle.uz_paths.specs.Plan.{AreCounted};
+ghost use Rattle.uz_point_instances.specs.Points.{AreOrdered, vector_after as vector_for};
 
 use crate::vectors::vector_of;
 use arrayvec::ArrayVec;
 use std::alloc::{AllocError, Global};
-use uz_point_instances::{point_of, vector_point};
+use uz_point_instances::vector_point;
 use uz_schedule::{Instance, Point, Response, Rest, Schedule};
 use uz_search::last_clock;
 
-/// The points, and the number of each instance's point.
+/// The numbers of points.
 #[derive(Drop)]
-pub(crate) struct Numbered {
-    /// By the place of an instance.
-    pub numbers: Vec<u32>,
-    /// By number, without successors.
-    pub points: Vec<Point>,
+pub(crate) struct Numbers {
+    /// Of each instance's point, by the place of the instance.
+    pub of: Vec<u32>,
+    /// How many points there are.
+    pub count: u32,
 }
 
 /// The vector's point of a rest, without successors.
@@ -40,14 +41,6 @@ fn bare_vector(response: Response, schedule: &Schedule, rest: &Rest) -> Point
         last_clock(schedule, rest.line),
         ArrayVec::new(),
     )
-}
-
-/// The point of an instance, without successors.
-fn bare_point(at: &Instance) -> Point
-    ensures is { result ≡ point_for at.now [] }
-    ensures ordered { IsOrdered at.now }
-{
-    point_of(at, ArrayVec::new())
 }
 
 /// The points of the rests' vectors, without successors.
@@ -69,32 +62,31 @@ pub(crate) fn vectors_of(
     Ok(points)
 }
 
-/// The points of instances with their numbers.
-pub(crate) fn number_points(
+/// The numbers of the points of instances: of a rest's vector, or on from the vectors in the order in which they were found.
+pub(crate) fn numbers_of(
     alloc: Global,
     response: Response,
     schedule: &Schedule,
     rests: &[Rest],
     nodes: &[Instance],
-) -> Result<Numbered, AllocError>
+) -> Result<Numbers, AllocError>
     requires few { length rests.now + length nodes.now < 2 ^ 32 }
     requires lines { length schedule.now.lines ≤ most_lines }
     requires line { (k : ℕ) (rest : Rest) → slice_get rests.now k ≡ Some rest → rest.line < length schedule.now.lines }
-    ensures numbers { IfOk result (λ r. AreNumbers (response_clocks response)
-        (order_of schedule.now) rests.now nodes.now r.numbers.items (length r.points.items)) }
-    ensures points { IfOk result (λ r. ArePoints (response_clocks response)
-        (order_of schedule.now) rests.now nodes.now r.numbers.items (length r.points.items) r.points.items) }
+    ensures numbers { IfOk result (λ r. AreNumbers (response_clocks response) (order_of schedule.now) rests.now nodes.now
+        r.of.items r.count) }
+    ensures counted { IfOk result (λ r. AreCounted (response_clocks response) (order_of schedule.now) rests.now nodes.now r.of.items) }
 {
-    let mut points = vectors_of(alloc, response, schedule, rests)?;
-    let mut numbers = Vec::new(alloc);
+    let mut of = Vec::new(alloc);
+    let mut count = rests.len() as u32;
     for at in nodes {
         match vector_of(response, schedule, rests, at) {
-            Some(k) => numbers.push(k)?,
+            Some(k) => of.push(k)?,
             None => {
-                numbers.push(points.len() as u32)?;
-                points.push(bare_point(at))?;
+                of.push(count)?;
+                count += 1;
             }
         }
     }
-    Ok(Numbered { numbers, points })
+    Ok(Numbers { of, count })
 }

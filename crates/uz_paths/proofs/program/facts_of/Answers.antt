@@ -1,4 +1,4 @@
-use Rattle.std.proofs.Common.{◌-◌, ◌<◌, ◌≡◌, ◌∙◌, ap, arith, drop, length, refl, suc}
+use Rattle.std.proofs.Common.{◌-◌, ◌<◌, ◌≡◌, arith, length, refl, suc}
 use Rattle.std.specs.BTreeMap.{get}
 use Rattle.std.specs.Ordering.{nat_cmp}
 use Rattle.avr_asm.specs.declared.output.Hint.TheVariants.{Start}

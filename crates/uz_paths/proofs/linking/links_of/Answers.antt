@@ -1,0 +1,25 @@
+use Rattle.std.proofs.Common.{◌≡◌, ◌∙◌, ap, length, refl, subst, sym}
+use Rattle.std.specs.Prelude.{Some, slice_get}
+use Rattle.std.proofs.lemmas.Option.{slice_get_read}
+use Rattle.uz_paths.specs.Lists.{IsListAt}
+use Rattle.uz_paths.proofs.MakeLemmas.{links_more}
+use Rattle.uz_paths.proofs.NumberLemmas.{among_at}
+use Rattle.uz_paths.proofs.linking.links_of.Goals as goal
+
+pub link_of-names-requires-clause-node : goal.link_of-names-requires-clause-node
+link_of-names-requires-clause-node c =
+    among_at c.as_slice-at-items.result.now c.args.nodes.now.keys c.loop-i.i c.at-item.result c.as_slice-at-items.ensures.keys
+    c.loop-i-test.true c.at-item.is
+
+pub loop-i-preserved : goal.loop-i-preserved
+loop-i-preserved c =
+    let at : slice_get c.args.nodes.now.keys c.loop-i.i ≡ Some c.at-item.result =
+    ap (λ zs. slice_get zs c.loop-i.i) (sym c.as_slice-at-items.ensures.keys) ∙ slice_get_read c.as_slice-at-items.result.now
+    (length c.as_slice-at-items.result.now) c.loop-i.i c.at-item.result refl c.loop-i-test.true c.at-item.is in
+    record {
+      lists = c.in_ok-put_list.ensures.more;
+      linked = links_more c.args.image.now c.args.program.now (length c.args.rests.now) c.args.nodes.now.keys c.args.numbers.now
+          c.args.count c.loop-i.i c.number_at-number.result c.at-item.result c.link_of-names.result.items c.loop-i.links
+          c.put_list.new.lists at c.number_at-number.ensures c.link_of-names.ensures.fits c.link_of-names.ensures.named
+          (subst (IsListAt c.put_list.new.lists c.loop-i.i) c.as_slice.ensures.value c.in_ok-put_list.ensures.last) c.in_ok-put_list.ensures.kept c.loop-i.invariant.linked;
+    }

@@ -1,0 +1,23 @@
+use Rattle.std.proofs.Common.{◌≡◌, [], arith, length, subst, sym}
+use Rattle.uz_schedule.specs.Schedule.{response_clocks}
+use Rattle.uz_search.specs.Following.{order_of_program}
+use Rattle.uz_paths.specs.Linked.{NamesVectors}
+use Rattle.uz_paths.specs.Plan.{AreMade}
+use Rattle.uz_paths.proofs.LinkLemmas.{made_bare}
+use Rattle.uz_paths.proofs.MakeLemmas.{written}
+use Rattle.uz_paths.proofs.linking.vector_points.Goals as goal
+
+pub link_vectors-requires-clause-made : goal.link_vectors-requires-clause-made
+link_vectors-requires-clause-made c =
+    subst (AreMade (response_clocks c.args.program.now.head.irq) (order_of_program c.args.program.now) c.args.rests.now [] [] c.args.count)
+    (sym c.as_mut_slice.ensures.value)
+    (made_bare (response_clocks c.args.program.now.head.irq) (order_of_program c.args.program.now) c.args.rests.now
+    (length c.args.rests.now) c.args.count c.in_ok-points.points.items c.requires.some c.in_ok-points.ensures)
+
+pub returns-clause-named : goal.returns-clause-named
+returns-clause-named c =
+    let long : length c.link_vectors.new.points ≡ c.in_ok-points.points.len =
+    omega (arith, c.in_ok-points.points.ok.0, c.link_vectors.ensures.size, c.in_ok-points.ensures.size) in
+    subst (NamesVectors c.args.image.now c.args.program.now c.args.schedule.now c.args.rests.now c.args.nodes.now.keys c.args.numbers.now
+    (length c.args.rests.now)) (sym (written c.in_ok-points.points.items c.link_vectors.new.points c.in_ok-points.points.len long))
+    c.link_vectors.ensures.named

@@ -1,0 +1,128 @@
+//! Points made of instances, each of which is let go when its point is there.
+
+ghost use Rattle.std.specs.Prelude.{◌≡◌, ◌<◌, ◌≤◌, ◌++◌, ◌∷◌, [], ℕ, List, IfOk, OnOk, length};
+ghost use Rattle.uz_paths.specs.Linked.{AreNamed, ArePointed};
+ghost use Rattle.uz_paths.specs.Lists.{HasListAt, IsListAt};
+ghost use Rattle.uz_paths.specs.Plan.{IsPlan};
+ghost use Rattle.uz_point_instances.specs.Points.{IsOrdered, point_of as point_for};
+
+use crate::linking::Plan;
+use crate::lists::{Lists, list_at};
+use indexmap::IndexSet;
+use std::alloc::AllocError;
+use uz_hex::Image;
+use uz_point_instances::point_of;
+use uz_schedule::{Instance, Point, Rest, Schedule};
+use uz_search::Program;
+
+/// How often memory is given back while instances are let go: each time costs as much as there are instances left.
+const TIMES: usize = 16;
+
+/// Gives back the memory of instances that are let go, after every so many.
+fn give_back(nodes: &mut IndexSet<Instance>, every: usize)
+    requires { 0 < every }
+    ensures { nodes.new.keys ≡ nodes.old.keys }
+{
+    if nodes.len() % every == 0 {
+        nodes.shrink_to_fit();
+    }
+}
+
+/// Takes the last instance.
+fn take_last(nodes: &mut IndexSet<Instance>, every: usize) -> Instance
+    requires some { 0 < length nodes.old.keys }
+    requires often { 0 < every }
+    ensures { nodes.old.keys ≡ nodes.new.keys ++ result ∷ [] }
+{
+    let at = nodes.pop().unwrap();
+    give_back(nodes, every);
+    at
+}
+
+/// Puts the point of an instance behind others, where it has one of its own.
+fn put_point(
+    rests: &[Rest],
+    links: &Lists,
+    i: usize,
+    number: u32,
+    at: &Instance,
+    points: &mut Vec<Point>,
+) -> Result<(), AllocError>
+    requires { HasListAt links.now i }
+    ensures own { length rests.now ≤ number → OnOk result ((list : List ℕ) → IsListAt links.now i list
+        → points.new.items ≡ points.old.items ++ point_for at.now list ∷ []) }
+    ensures vector { number < length rests.now → points.new.items ≡ points.old.items }
+    ensures ordered { length rests.now ≤ number → IsOrdered at.now }
+{
+    if (number as usize) < rests.len() {
+        return Ok(());
+    }
+    points.push(point_of(at, list_at(links, i)))?;
+    Ok(())
+}
+
+/// Puts the points of instances behind those of the vectors, by their plan, and lets each instance go.
+fn put_points(
+    image: &Image,
+    program: &Program,
+    schedule: &Schedule,
+    rests: &[Rest],
+    numbers: &[u32],
+    count: u32,
+    links: &Lists,
+    nodes: &mut IndexSet<Instance>,
+    points: &mut Vec<Point>,
+) -> Result<(), AllocError>
+    requires { IsPlan image.now program.now schedule.now rests.now nodes.old.keys numbers.now count links.now points.old.items }
+    ensures pointed { OnOk result (ArePointed program.now rests.now nodes.old.keys numbers.now count points.new.items) }
+    ensures named { OnOk result (AreNamed image.now program.now schedule.now rests.now nodes.old.keys numbers.now points.new.items) }
+{
+    let _ = image; // said of in the contract alone
+    let _ = program; // said of in the contract alone
+    let _ = schedule; // said of in the contract alone
+    let _ = count; // said of in the contract alone
+    let every = numbers.len() / TIMES + 1;
+    nodes.reverse();
+    for (i, number) in numbers.iter().enumerate() {
+        let at = take_last(nodes, every);
+        put_point(rests, links, i, *number, &at, points)?;
+    }
+    Ok(())
+}
+
+/// The points of instances, by their plan.
+pub(crate) fn points_of(
+    image: &Image,
+    program: &Program,
+    schedule: &Schedule,
+    rests: &[Rest],
+    nodes: IndexSet<Instance>,
+    plan: Plan,
+) -> Result<Vec<Point>, AllocError>
+    requires { IsPlan image.now program.now schedule.now rests.now nodes.keys plan.numbers.items plan.count plan.links plan.points.items }
+    ensures pointed { IfOk result (λ points. ArePointed program.now rests.now nodes.keys plan.numbers.items (length points.items)
+        points.items) }
+    ensures named { IfOk result (λ points. AreNamed image.now program.now schedule.now rests.now nodes.keys plan.numbers.items
+        points.items) }
+{
+    let Plan {
+        numbers,
+        count,
+        links,
+        mut points,
+    } = plan;
+    let mut left = nodes;
+    points.reserve_exact(numbers.len())?;
+    put_points(
+        image,
+        program,
+        schedule,
+        rests,
+        numbers.as_slice(),
+        count,
+        &links,
+        &mut left,
+        &mut points,
+    )?;
+    Ok(points)
+}
