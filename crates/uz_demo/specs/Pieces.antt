@@ -27,7 +27,7 @@ hints =
     ∷ codes "  jmp handler"
     ∷ []
 
--- reset: the stack, the ports, and timer 1 with a match every 1820 clocks
+-- reset: the stack, the ports, and timer 1 with a match every scanline
 abbrev pub reset : List (List ℕ)
 reset =
     codes "reset: ldi r16,16"

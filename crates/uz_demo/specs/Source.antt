@@ -1,5 +1,5 @@
 -- The source that `demo` makes of a number: the sample console with a height and a width of its picture that the number fixes. Each
--- line of the picture takes 1820 clocks at every width: what its pixels take less, 11 clocks each, the wait after them takes more.
+-- line of the picture takes a scanline's clocks at every width: what its pixels take less, 11 clocks each, the wait after them takes more.
 use Rattle.std.specs.Prelude.{ℕ, ◌+◌, ◌-◌, ◌*◌, ◌/◌, ◌%◌, List, ◌++◌, codes, decimal}
 use Rattle.uz_demo.specs.Pieces.{ended, names, hints, reset, main_loop, handler, blank, draw, row, pix, next_row, drawn}
 use Rattle.uz_demo.specs.Waits.{set, wait}

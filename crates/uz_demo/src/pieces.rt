@@ -18,7 +18,7 @@ pub(crate) const HINTS: [&[u8]; 7] = [
     b"  jmp handler",
 ];
 
-/// Reset: the stack, the ports, and timer 1 with a match every 1820 clocks.
+/// Reset: the stack, the ports, and timer 1 with a match every scanline.
 pub(crate) const RESET: [&[u8]; 19] = [
     b"reset: ldi r16,16",
     b"  out SPH,r16",

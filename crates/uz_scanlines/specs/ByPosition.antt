@@ -1,5 +1,5 @@
--- A frame of scanlines by positions alone: clock k of line l is position 1820 * l + k, and positions are taken modulo
--- 1820 clocks a line. This is how certificates of version 1 are read, whose lines have no length of their own.
+-- A frame of scanlines by positions alone: clock k of line l is position `scanline` * l + k, and positions are taken modulo as
+-- many clocks a line. This is how certificates of version 1 are read, whose lines have no length of their own.
 use Rattle.std.specs.Prelude.{◌≡◌, All, Contains, ℕ, ◌+◌, ◌-◌, ◌*◌, ◌/◌, ◌%◌, ◌<◌, ◌≤◌, true, pos, ◌+ℤ◌, ◌*ℤ◌, length, Option, Some, None}
 use Rattle.std.specs.Prelude.{unwrap_or, option_and_then, slice_get, if◌then◌else◌}
 use Rattle.uz_schedule.specs.Instances.{is_in_box, clock_below, instance_of, entry_instance_at, handler_entry}

@@ -14,8 +14,8 @@ ghost use Rattle.uz_scanlines.specs.ByPosition.{instance_by_position, RestByPosi
 
 use uz_rules::lies_in_point_tells;
 
-/// In a frame of scanlines each line begins 1820 clocks after the one before it, so that places, events and levels are those
-/// by positions. Does nothing.
+/// In a frame of scanlines each line begins a scanline's clocks after the one before it, so that places, events and levels
+/// are those by positions. Does nothing.
 pub fn scanlines_by_position()
     ensures lengths { (s : Schedule) (l : ℕ) → AreScanlines s → length_of s l ≡ scanline }
     ensures starts { (s : Schedule) (l : ℕ) → AreScanlines s → start_of s l ≡ position l 0 }

@@ -1,5 +1,5 @@
 //! Frames whose lines all have the clocks of a scanline: laws that what is said of lines of any length is then what is said by
-//! positions of 1820 clocks a line. No code.
+//! positions of a scanline's clocks a line. No code.
 #![tactic(auto)]
 
 mod laws;
