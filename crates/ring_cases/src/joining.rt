@@ -85,7 +85,8 @@ fn count_joined(points: &[Point]) -> usize {
     count
 }
 
-/// How many points the ring's certificate has once they are joined, and how many of them stand for both lines.
+/// How many points the ring's certificate has once they are joined, and how many of them stand for both lines. None are left where the
+/// joined certificate isn't accepted.
 fn counts(
     alloc: Global,
     image: Image,
@@ -96,9 +97,13 @@ fn counts(
     match check(image, cert) {
         Ok(accepted) => {
             let (image, cert) = accepted.into_parts();
-            let cert = joined(alloc, &image, cert);
-            let points = cert.points.as_slice();
-            Ok((points.len(), count_joined(points)))
+            match joined(alloc, &image, cert) {
+                Some(cert) => {
+                    let points = cert.points.as_slice();
+                    Ok((points.len(), count_joined(points)))
+                }
+                None => Ok((0, 0)),
+            }
         }
         Err(refused) => Err(refused.why),
     }

@@ -110,7 +110,7 @@ fn point_for(axis: Axis, source: &Source, chain: &Chain, next: ArrayVec<u32, 16>
 }
 
 /// The points of chains that lead to these others.
-pub(crate) fn joined_points(
+pub(crate) fn chain_points(
     alloc: Global,
     axis: Axis,
     source: &Source,

@@ -43,8 +43,8 @@ struct Rank {
 pub(crate) struct Chains {
     /// The chains, numbered from 0.
     pub(crate) chains: Vec<Chain>,
-    /// Of each point the number of its chain.
-    pub(crate) numbers: Vec<u32>,
+    /// Of each point the number of its chain, or `NONE`.
+    numbers: Vec<u32>,
     /// Of each point the one after it in its chain, or `NONE`.
     after: Vec<u32>,
 }
@@ -69,6 +69,12 @@ impl Chains {
     /// The number of a point's chain.
     pub(crate) fn number(&self, id: u32) -> u32 {
         number_at(self.numbers.as_slice(), id)
+    }
+
+    /// Of each point the number of its chain, or `NONE`.
+    pub(crate) fn into_numbers(self) -> Vec<u32> {
+        let Chains { numbers, .. } = self;
+        numbers
     }
 
     /// The point after one in its chain.
@@ -129,6 +135,25 @@ impl Chains {
         Ok(())
     }
 
+    /// How many there are when each point that is in none begins one.
+    pub(crate) fn count_with_others(&self, source: &Source) -> usize {
+        let mut count = self.chains.len();
+        for id in 0..source.count() {
+            if self.number(id) == NONE && source.is_there(id) {
+                count = count.saturating_add(1);
+            }
+        }
+        count
+    }
+
+    /// The number of the first point of a point's chain, or its own where it is in none.
+    pub(crate) fn first(&self, id: u32) -> u32 {
+        match self.chain(self.number(id)) {
+            Some(chain) => chain.first,
+            None => id,
+        }
+    }
+
     /// The chains in the order of their first lines, and on one line of their first points.
     fn ranks(&self, alloc: Global, source: &Source) -> Result<Vec<Rank>, AllocError> {
         let mut ranks = Vec::new(alloc);
@@ -144,24 +169,98 @@ impl Chains {
     }
 
     /// Numbers the chains in the order of their first lines, and on one line of their first points.
-    pub(crate) fn put_in_order(
+    pub(crate) fn put_by_lines(
         &mut self,
         alloc: Global,
         source: &Source,
     ) -> Result<(), AllocError> {
-        let ranks = self.ranks(alloc, source)?;
-        let mut order = nones(alloc, number_of(self.chains.len()))?;
-        let mut chains = Vec::new(alloc);
-        for rank in &ranks {
-            if let Some(chain) = self.chain(rank.chain) {
-                put_number(&mut order, rank.chain, number_of(chains.len()));
-                chains.push(chain)?;
+        let mut order = Order::new(alloc, self)?;
+        for rank in self.ranks(alloc, source)? {
+            order.put(self, rank.chain)?;
+        }
+        self.take(order);
+        Ok(())
+    }
+
+    /// Numbers the chains in the order of the least numbers of their points.
+    pub(crate) fn put_by_points(&mut self, alloc: Global) -> Result<(), AllocError> {
+        let mut order = Order::new(alloc, self)?;
+        for number in self.numbers.as_slice() {
+            order.put(self, *number)?;
+        }
+        self.take(order);
+        Ok(())
+    }
+
+    /// Leaves the chains of more than one point alone. Those of one are none.
+    pub(crate) fn leave_long(&mut self, alloc: Global) -> Result<(), AllocError> {
+        let mut order = Order::new(alloc, self)?;
+        for (i, chain) in self.chains.as_slice().iter().enumerate() {
+            if chain.count > 1 {
+                order.put(self, number_of(i))?;
             }
         }
+        self.take(order);
+        Ok(())
+    }
+
+    /// Has the chains in an order, and no others.
+    fn take(&mut self, order: Order) {
         for number in self.numbers.as_mut_slice() {
-            *number = number_at(order.as_slice(), *number);
+            *number = number_at(order.numbers.as_slice(), *number);
         }
-        self.chains = chains;
+        self.chains = order.chains;
+    }
+
+    /// Of each point its number among the joined ones, where each chain stands in the place of the least of its points and the chains are
+    /// numbered in that order.
+    pub(crate) fn joined_numbers(&self, alloc: Global) -> Result<Vec<u32>, AllocError> {
+        let mut numbers = Vec::new(alloc);
+        numbers.reserve_exact(self.numbers.len())?;
+        let mut begun: Vec<u32> = Vec::new(alloc);
+        let mut count: u32 = 0;
+        for number in self.numbers.as_slice() {
+            match begun.get(*number as usize) {
+                Some(at) => numbers.push(*at)?,
+                None => {
+                    if *number != NONE {
+                        begun.push(count)?;
+                    }
+                    numbers.push(count)?;
+                    count = count.saturating_add(1);
+                }
+            }
+        }
+        Ok(numbers)
+    }
+}
+
+/// Some of the chains in another order.
+#[derive(Drop)]
+struct Order {
+    /// Of each chain its number in the order, or `NONE`.
+    numbers: Vec<u32>,
+    /// The chains.
+    chains: Vec<Chain>,
+}
+
+impl Order {
+    /// None of these.
+    fn new(alloc: Global, of: &Chains) -> Result<Order, AllocError> {
+        Ok(Order {
+            numbers: nones(alloc, number_of(of.chains.len()))?,
+            chains: Vec::new(alloc),
+        })
+    }
+
+    /// The chain of a number is the next one, where it isn't there yet.
+    fn put(&mut self, of: &Chains, number: u32) -> Result<(), AllocError> {
+        if let Some(chain) = of.chain(number) {
+            if number_at(self.numbers.as_slice(), number) == NONE {
+                put_number(&mut self.numbers, number, number_of(self.chains.len()));
+                self.chains.push(chain)?;
+            }
+        }
         Ok(())
     }
 }

@@ -1,17 +1,18 @@
-//! The joined certificate where the check accepts it, and else the one that was there.
+//! The joined certificate, where the check accepts it.
 
-ghost use Rattle.std.specs.Prelude.{◌≡◌, true, map};
+ghost use Rattle.std.specs.Prelude.{◌≡◌, true, IfOk, IfSome};
 ghost use Rattle.uz_schedule.specs.WellFormed.{WellFormed};
 ghost use Rattle.uz_soundness.specs.Acceptance.{Accepts};
-ghost use Rattle.uz_join.specs.Joined.{SameButPoints, rest_unnumbered, entry_unnumbered};
+ghost use Rattle.uz_join.specs.Joined.{SameButPoints};
 ghost use Rattle.uz_point_instances.specs.Same.{SameInstances};
 
-use crate::joining::{Parts, joined_parts};
-use std::alloc::Global;
+use crate::copies::{entry_of, rests_of};
+use crate::joining::joined_both;
+use std::alloc::{AllocError, Global};
 use uz_cert_limits::well_formed;
 use uz_check::verdict;
 use uz_hex::Image;
-use uz_schedule::Cert;
+use uz_schedule::{Cert, Sequence};
 
 /// Whether a certificate is well formed and accepted. Takes no memory.
 pub fn passes(image: &Image, cert: &Cert) -> bool
@@ -21,17 +22,15 @@ pub fn passes(image: &Image, cert: &Cert) -> bool
     well_formed(cert) && verdict(image, cert).is_none()
 }
 
-/// The certificate with joined points where the check accepts it, and else as it was.
-fn choose(image: &Image, cert: Cert, parts: Parts) -> Cert
+/// A certificate whose points are joined. None where points were let go and not all that they say is said, or the check doesn't accept the
+/// joined certificate.
+fn joined_cert(alloc: Global, image: &Image, cert: Cert) -> Result<Option<Cert>, AllocError>
     requires fits { WellFormed cert }
     requires accepted { Accepts image.now cert }
-    requires rests { map rest_unnumbered parts.rests ≡ map rest_unnumbered cert.rests }
-    requires entry { entry_unnumbered parts.entry ≡ entry_unnumbered cert.entry }
-    requires points { SameInstances cert.points parts.points }
-    ensures fits { WellFormed result }
-    ensures accepted { Accepts image.now result }
-    ensures same { SameButPoints cert result }
-    ensures instances { SameInstances cert.points result.points }
+    ensures fits { IfOk result (λ o. IfSome o WellFormed) }
+    ensures accepted { IfOk result (λ o. IfSome o (Accepts image.now)) }
+    ensures same { IfOk result (λ o. IfSome o (SameButPoints cert)) }
+    ensures instances { IfOk result (λ o. IfSome o (λ c. SameInstances cert.points c.points)) }
 {
     let Cert {
         head,
@@ -40,39 +39,50 @@ fn choose(image: &Image, cert: Cert, parts: Parts) -> Cert
         entry,
         points,
     } = cert;
-    let joined = Cert {
+    let joined = match joined_both(alloc, points.into_vec())? {
+        Some(joined) => joined,
+        None => return Ok(None),
+    };
+    let points = Sequence::from_vec(joined.points);
+    let numbers = match joined.numbers {
+        Some(numbers) => numbers,
+        None => {
+            return Ok(Some(Cert {
+                head,
+                schedule,
+                rests,
+                entry,
+                points,
+            }));
+        }
+    };
+    let made = Cert {
         head,
         schedule,
-        rests: parts.rests,
-        entry: parts.entry,
-        points: parts.points,
+        rests: rests_of(alloc, rests.as_slice(), numbers.as_slice())?,
+        entry: entry_of(&entry, numbers.as_slice()),
+        points,
     };
-    if passes(image, &joined) {
-        joined
+    if passes(image, &made) {
+        Ok(Some(made))
     } else {
-        Cert {
-            head: joined.head,
-            schedule: joined.schedule,
-            rests,
-            entry,
-            points,
-        }
+        Ok(None)
     }
 }
 
-/// An accepted certificate whose points are joined line by line and count by count where the joined certificate is accepted too,
-/// and else the same certificate. Header and schedule stay, and so do entry and rests but for the numbers of their points, and
-/// the instances of its points are the same ones. Where memory lacks, the certificate stays as it was.
-pub fn joined(alloc: Global, image: &Image, cert: Cert) -> Cert
+/// An accepted certificate whose points are joined line by line and count by count. Header and schedule stay, and so do entry and rests but
+/// for the numbers of their points, and the instances of its points are the same ones. Its points are let go while the joined ones are made,
+/// so that not all are there twice: so nothing is left where the check doesn't accept the joined certificate, or memory lacks.
+pub fn joined(alloc: Global, image: &Image, cert: Cert) -> Option<Cert>
     requires fits { WellFormed cert }
     requires accepted { Accepts image.now cert }
-    ensures fits { WellFormed result }
-    ensures accepted { Accepts image.now result }
-    ensures same { SameButPoints cert result }
-    ensures instances { SameInstances cert.points result.points }
+    ensures fits { IfSome result WellFormed }
+    ensures accepted { IfSome result (Accepts image.now) }
+    ensures same { IfSome result (SameButPoints cert) }
+    ensures instances { IfSome result (λ c. SameInstances cert.points c.points) }
 {
-    match joined_parts(alloc, &cert) {
-        Ok(Some(parts)) => choose(image, cert, parts),
-        _ => cert,
+    match joined_cert(alloc, image, cert) {
+        Ok(joined) => joined,
+        Err(AllocError) => None,
     }
 }

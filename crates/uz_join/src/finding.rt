@@ -212,7 +212,7 @@ fn node_candidates(alloc: Global, source: &Source) -> Result<Vec<Candidate>, All
     Ok(candidates)
 }
 
-/// The chains of points along an axis.
+/// The chains of points along an axis. A point that may not be joined is in none.
 pub(crate) fn chains_of(alloc: Global, axis: Axis, source: &Source) -> Result<Chains, AllocError> {
     let mut chains = Chains::new(alloc, source.count())?;
     let made = made_candidates(alloc, axis, source)?;
@@ -229,6 +229,5 @@ pub(crate) fn chains_of(alloc: Global, axis: Axis, source: &Source) -> Result<Ch
             &mut chains,
         )?;
     }
-    chains.begin_others(source)?;
     Ok(chains)
 }

@@ -10,6 +10,7 @@ mod copies;
 mod finding;
 mod joining;
 mod nodes;
+mod replacing;
 mod source;
 mod successors;
 

@@ -3,13 +3,21 @@
 ghost use Rattle.std.specs.Prelude.{◌≡◌, IfOk, IfSome};
 ghost use Rattle.uz_point_instances.specs.Telling.{SaysInstances};
 
-use crate::joining::{Joined, joined_again, joined_along};
+use crate::boxes::chain_points;
+use crate::finding::chains_of;
+use crate::joining::{joined_along, joined_numbers};
 use crate::source::Source;
-use crate::successors::with_number;
+use crate::successors::{Numbering, cut_to_successors, renumbered, with_number};
 use std::alloc::{AllocError, Global};
-use uz_point_instances::{number_at, say_instances};
+use uz_point_instances::say_instances;
 use uz_point_shapes::Axis;
 use uz_schedule::{Instance, Point};
+
+/// So many points are made beside the instances however few those are.
+const FEW: usize = 4096;
+
+/// And of more one for so many instances.
+const SHARE: usize = 8;
 
 /// The points into which instances are joined.
 #[derive(Drop)]
@@ -54,8 +62,39 @@ fn put_successors(
     }
 }
 
-/// The points into which the points of instances are joined, where each instance has a number of the point that it is joined
-/// into. None where there are none to join line by line.
+/// Whether it pays to join instances: so many points come of so many instances, and are there beside them.
+fn pays(points: usize, instances: usize) -> bool {
+    points < instances && (points <= FEW || points <= instances / SHARE)
+}
+
+/// Points whose successors, and where else they are spoken of, have these numbers.
+fn put_numbers(points: &mut [Point], numbers: &[u32]) {
+    for point in points {
+        point.next = renumbered(point.next.as_slice(), numbers);
+    }
+}
+
+/// Points and of each of the others the number of the one that it is joined into, where these are joined again count by count. None where
+/// points were let go and not all is said.
+fn joined_again(
+    alloc: Global,
+    points: Vec<Point>,
+    numbers: Vec<u32>,
+) -> Result<Option<(Vec<Point>, Vec<u32>)>, AllocError> {
+    match joined_along(alloc, Axis::Counts, points)? {
+        Some(joined) => {
+            let numbers = match &joined.numbers {
+                Some(again) => joined_numbers(numbers, again.as_slice()),
+                None => numbers,
+            };
+            Ok(Some((joined.points, numbers)))
+        }
+        None => Ok(None),
+    }
+}
+
+/// The points into which the points of instances are joined, and of each of those its number. None where there are none to join line by
+/// line, or so few that the points would be too many beside the instances.
 fn joined_points(
     alloc: Global,
     made: Vec<Point>,
@@ -63,7 +102,7 @@ fn joined_points(
     numbers: &[u32],
     starts: &[u32],
     places: &[u32],
-) -> Result<Option<Joined>, AllocError> {
+) -> Result<Option<(Vec<Point>, Vec<u32>)>, AllocError> {
     let mut made = made;
     put_successors(made.as_mut_slice(), nodes, numbers, starts, places);
     let source = Source {
@@ -73,14 +112,25 @@ fn joined_points(
         starts,
         places,
     };
-    match joined_along(alloc, Axis::Lines, &source)? {
-        Some(lines) => Ok(Some(joined_again(alloc, lines)?)),
+    let mut chains = chains_of(alloc, Axis::Lines, &source)?;
+    if !pays(chains.count_with_others(&source), source.points()) {
+        return Ok(None);
+    }
+    chains.begin_others(&source)?;
+    match cut_to_successors(alloc, Numbering::ByLines, &source, &mut chains)? {
+        Some(next) => {
+            let mut points = chain_points(alloc, Axis::Lines, &source, &chains, next)?;
+            let numbers = chains.into_numbers();
+            put_numbers(points.as_mut_slice(), numbers.as_slice());
+            joined_again(alloc, points, numbers)
+        }
         None => Ok(None),
     }
 }
 
 /// The points into which instances of a search are joined, line by line and then count by count: they say what the
-/// instances say, and nothing else. None where there are none to join line by line.
+/// instances say, and nothing else. None where there are none to join line by line, or so few that the points would be too many beside the
+/// instances.
 ///
 /// `made` are points that each stand for some of the instances, without successors; `numbers` has of each instance the number of
 /// its point, the made ones first and then one for each place; `places` the places of the instances where each one leads, part
@@ -95,18 +145,18 @@ pub fn joined_nodes(
 ) -> Result<Option<JoinedNodes>, AllocError>
     ensures { IfOk result (λ o. IfSome o (λ j. SaysInstances nodes.now j.points.items)) }
 {
-    let joined = match joined_points(alloc, made, nodes, numbers.as_slice(), starts, places)? {
+    let (points, into) = match joined_points(
+        alloc,
+        made,
+        nodes,
+        numbers.as_slice(),
+        starts,
+        places,
+    )? {
         Some(joined) => joined,
         None => return Ok(None),
     };
-    let Joined {
-        points,
-        numbers: into,
-    } = joined;
-    let mut numbers = numbers;
-    for number in numbers.as_mut_slice() {
-        *number = number_at(into.as_slice(), *number);
-    }
+    let numbers = joined_numbers(numbers, into.as_slice());
     if !say_instances(alloc, points.as_slice(), numbers.as_slice(), nodes)? {
         return Ok(None);
     }

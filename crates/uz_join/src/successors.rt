@@ -30,15 +30,26 @@ pub(crate) fn with_number(numbers: &ArrayVec<u32, 16>, new: u32) -> Option<Array
     Some(all)
 }
 
+/// The numbers that others have in a list, rising and each once, as many as there is room for.
+pub(crate) fn renumbered(from: &[u32], numbers: &[u32]) -> ArrayVec<u32, 16> {
+    let mut all = ArrayVec::new();
+    for id in from {
+        if let Some(more) = with_number(&all, number_at(numbers, *id)) {
+            all = more;
+        }
+    }
+    all
+}
+
 /// Whether a number is among others.
 fn is_among(numbers: &ArrayVec<u32, 16>, number: u32) -> bool {
     numbers.as_slice().iter().any(|n| *n == number)
 }
 
-/// The successors of a chain with those of one more point. None where there are more than 16.
+/// The successors of a chain with those of one more point, each by the first point of its own chain. None where there are more than 16.
 fn with_successors(
     next: &ArrayVec<u32, 16>,
-    numbers: &[u32],
+    chains: &Chains,
     ids: &[u32],
 ) -> Option<ArrayVec<u32, 16>> {
     let mut all = ArrayVec::new();
@@ -46,15 +57,15 @@ fn with_successors(
         let _full = all.try_push(*number).is_err();
     }
     for id in ids {
-        let number = number_at(numbers, *id);
-        if !is_among(&all, number) {
-            all = with_number(&all, number)?;
+        let first = chains.first(*id);
+        if !is_among(&all, first) {
+            all = with_number(&all, first)?;
         }
     }
     Some(all)
 }
 
-/// The successors of each chain. None where one has more than 16.
+/// The successors of each chain, each by the first point of its own chain. None where one has more than 16.
 fn all_successors(
     alloc: Global,
     source: &Source,
@@ -68,7 +79,7 @@ fn all_successors(
         let number = chains.number(id);
         if let Some(next) = all.get_mut(number as usize) {
             let ids = source.next(id);
-            match with_successors(next, chains.numbers.as_slice(), ids.as_slice()) {
+            match with_successors(next, chains, ids.as_slice()) {
                 Some(more) => *next = more,
                 None => return Ok(None),
             }
@@ -88,7 +99,7 @@ fn with_point(
         return None;
     }
     let ids = source.next(id);
-    with_successors(next, chains.numbers.as_slice(), ids.as_slice())
+    with_successors(next, chains, ids.as_slice())
 }
 
 /// Cuts a chain before each point whose successors would be the seventeenth and more of those before it.
@@ -131,15 +142,38 @@ fn cut_all(source: &Source, chains: &mut Chains) -> Result<(), AllocError> {
     Ok(())
 }
 
-/// The successors of chains, which are cut until each leads to at most 16, and numbered in the order of their lines. None where they
-/// were gone over too often.
+/// How chains are numbered.
+#[derive(Clone, Copy, PartialEq, Eq)]
+pub(crate) enum Numbering {
+    /// In the order of their first lines.
+    ByLines,
+    /// In the order of the least numbers of their points.
+    ByPoints,
+}
+
+/// Numbers chains.
+fn put_in_order(
+    alloc: Global,
+    numbering: Numbering,
+    source: &Source,
+    chains: &mut Chains,
+) -> Result<(), AllocError> {
+    match numbering {
+        Numbering::ByLines => chains.put_by_lines(alloc, source),
+        Numbering::ByPoints => chains.put_by_points(alloc),
+    }
+}
+
+/// The successors of chains, each by the first point of its own chain. The chains are cut until each leads to at most 16, and numbered.
+/// None where they were gone over too often.
 pub(crate) fn cut_to_successors(
     alloc: Global,
+    numbering: Numbering,
     source: &Source,
     chains: &mut Chains,
 ) -> Result<Option<Vec<ArrayVec<u32, 16>>>, AllocError> {
     for _ in 0..PASSES {
-        chains.put_in_order(alloc, source)?;
+        put_in_order(alloc, numbering, source, chains)?;
         if let Some(next) = all_successors(alloc, source, chains)? {
             return Ok(Some(next));
         }

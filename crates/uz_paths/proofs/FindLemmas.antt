@@ -1,6 +1,6 @@
 -- What the parts of a certificate give, and what a refusal of the search is licensed by.
 use Rattle.std.proofs.Common.{◌≡◌, ◌⊎◌, ◌∙◌, inl, inr, sym, ap, refl, ℕ, List, subst}
-use Rattle.std.specs.Prelude.{Some, Result, Ok, Err, IfOk, IfErr, IsOk}
+use Rattle.std.specs.Prelude.{None, Option, Some, Result, Ok, Err, IfOk, IfErr, IfSome, IsOk}
 use Rattle.std.specs.Ordering.{nat_cmp}
 use Rattle.std.specs.FinMap.{FinMap}
 use Rattle.std.proofs.lemmas.Option.{slice_get_within}
@@ -71,24 +71,43 @@ asked image irq hints r p entry cert is of head e found =
     record { program = p; of = of; found = subst (λ x. IsFoundBy image p x cert) same found }
 
 pub ok_asked : (image : FinMap nat_cmp ℕ) (irq : Response) (hints : List SourceHint) (r : Reading) (p : Program) (entry : Entry)
-    (answer : Result Cert NotFound) → IsReading image irq hints r → IsProgramOf irq hints p → p.head ≡ r.head
-    → entry ≡ entry_with r.registers r.head r.start 0 → IfOk answer (IsFoundBy image p entry) → IfOk answer (IsAsked image irq hints)
-ok_asked image irq hints r p entry (Ok cert) is of head e found = asked image irq hints r p entry cert is of head e found
+    (answer : Result (Option Cert) NotFound) → IsReading image irq hints r → IsProgramOf irq hints p → p.head ≡ r.head
+    → entry ≡ entry_with r.registers r.head r.start 0 → IfOk answer (λ o. IfSome o (IsFoundBy image p entry))
+    → IfOk answer (λ o. IfSome o (IsAsked image irq hints))
+ok_asked image irq hints r p entry (Ok (Some cert)) is of head e found = asked image irq hints r p entry cert is of head e found
+ok_asked image irq hints r p entry (Ok None) is of head e found = tt
 ok_asked image irq hints r p entry (Err why) is of head e found = tt
 
-pub err_cause : (image : FinMap nat_cmp ℕ) (irq : Response) (hints : List SourceHint) (p : Program) (answer : Result Cert NotFound)
+pub err_cause : {A : Type 0} (image : FinMap nat_cmp ℕ) (irq : Response) (hints : List SourceHint) (p : Program) (answer : Result A NotFound)
     → IsProgramOf irq hints p
     → IfErr answer (Refusal image p instance_limit) → IfErr answer (Cause image irq hints)
-err_cause image irq hints p (Ok cert) of shows = tt
+err_cause image irq hints p (Ok found) of shows = tt
 err_cause image irq hints p (Err e) of shows = licensed image irq hints p e of shows
 
 pub no_hint : (r : Reading) (index : ℕ) → Ok r ≡ Err index → ⊥
 no_hint r index e = cc
 
+err_is : {A : Type 0} (a b : NotFound) → ◌≡◌ {A = Result A NotFound} (Err a) (Err b) → a ≡ b
+err_is a b e = cc
+
+-- where something is found, no hint is at fault
+pub found_unhinted : {A B : Type 0} (a : A) (b : B) (index : ℕ) → (◌≡◌ {A = Result A NotFound} (Ok a) (Err (Hint index)))
+    ⊎ (◌≡◌ {A = Result A NotFound} (Ok a) (Err Memory)) → (◌≡◌ {A = Result B NotFound} (Ok b) (Err (Hint index)))
+    ⊎ (◌≡◌ {A = Result B NotFound} (Ok b) (Err Memory))
+found_unhinted a b index (inl e) = absurd (cc)
+found_unhinted a b index (inr e) = absurd (cc)
+
+-- and a refusal is one, whatever was looked for
+pub refused_alike : {A B : Type 0} (why : NotFound) (index : ℕ) → (◌≡◌ {A = Result A NotFound} (Err why) (Err (Hint index)))
+    ⊎ (◌≡◌ {A = Result A NotFound} (Err why) (Err Memory)) → (◌≡◌ {A = Result B NotFound} (Err why) (Err (Hint index)))
+    ⊎ (◌≡◌ {A = Result B NotFound} (Err why) (Err Memory))
+refused_alike why index (inl e) = inl (ap Err (err_is why (Hint index) e))
+refused_alike why index (inr e) = inr (ap Err (err_is why Memory e))
+
 -- without a cause there is a certificate, or memory lacks
-pub complete_answer : (image : FinMap nat_cmp ℕ) (irq : Response) (hints : List SourceHint) (answer : Result Cert NotFound)
+pub complete_answer : {A : Type 0} (image : FinMap nat_cmp ℕ) (irq : Response) (hints : List SourceHint) (answer : Result A NotFound)
     → IfErr answer (Cause image irq hints) → NoCause image irq hints → IsOk answer ⊎ (answer ≡ Err Memory)
-complete_answer image irq hints (Ok cert) cause none = inl refl
+complete_answer image irq hints (Ok found) cause none = inl refl
 complete_answer image irq hints (Err (Stuck trail why)) cause none = absurd (none (Stuck trail why) (λ h. cc) cause)
 complete_answer image irq hints (Err (Split first second)) cause none = absurd (none (Split first second) (λ h. cc) cause)
 complete_answer image irq hints (Err (Full count)) cause none = absurd (none (Full count) (λ h. cc) cause)

@@ -1,6 +1,6 @@
 -- Joining points leaves what was asked of a certificate.
 use Rattle.std.proofs.Common.{◌≡◌, ◌∙◌, sym, ap, refl, subst, ℕ, [], length, map}
-use Rattle.std.specs.Prelude.{Contains, Some, slice_get, Result, Ok, Err, IfOk}
+use Rattle.std.specs.Prelude.{Contains, None, Option, Some, slice_get, Result, Ok, Err, IfOk, IfSome}
 use Rattle.std.specs.Ordering.{nat_cmp}
 use Rattle.std.specs.FinMap.{FinMap}
 use Rattle.std.proofs.lemmas.Option.{get_or_from_slice_get, slice_get-get_or, slice_get_within}
@@ -59,6 +59,12 @@ found_joined image p entry a b same f = record {
           get_or_from_slice_get a.rests
               has.0 old.0 old.0 old.1,
         ))
+
+-- where there is one
+pub some_found_joined : (image : FinMap nat_cmp ℕ) (p : Program) (entry : Entry) (a : Cert) (answer : Option Cert)
+    → IfSome answer (SameButPoints a) → IsFoundBy image p entry a → IfSome answer (IsFoundBy image p entry)
+some_found_joined image p entry a None same f = tt
+some_found_joined image p entry a (Some b) same f = found_joined image p entry a b same f
 
 -- the certificate of joined points is what was asked
 pub found_parts : (image : FinMap nat_cmp ℕ) (p : Program) (entry : Entry) (found : Found) (parts : JoinedParts) (cert : Cert)

@@ -4,7 +4,7 @@ use Rattle.std.proofs.Common.{length-append, take, drop, subst, reverse}
 use Rattle.std.specs.Prelude.{Some, slice_get, ◌⊎◌}
 use borrow.Author.Count.{below_more}
 use Rattle.std.proofs.lemmas.Bool.{cases_eq}
-use Rattle.std.proofs.lemmas.List.{reverse-append, reverse-reverse, take_at}
+use Rattle.std.proofs.lemmas.List.{reverse-reverse, take_at}
 use Rattle.std.proofs.lemmas.Option.{slice_get_within}
 use Rattle.uz_schedule.specs.Lines.{Lines}
 use Rattle.uz_schedule.specs.Schedule.{response_clocks}
@@ -21,6 +21,7 @@ use Rattle.uz_paths.specs.Lists.{HasListAt, IsListAt}
 use Rattle.uz_paths.specs.Numbers.{AreNumbers, IsVectorOf}
 use Rattle.uz_paths.specs.Plan.{AreLinks, AreMade, IsLinkAt, IsPlan}
 use Rattle.uz_point_instances.specs.Points.{IsOrdered, point_of}
+use Rattle.uz_point_instances.proofs.TakenLemmas.{next_taken}
 use Rattle.uz_paths.proofs.LinkLemmas.{own_passed}
 use Rattle.uz_paths.proofs.NumberLemmas.{at_more, keeps, last_there, more_vector, more_own, none_numbered, same_count}
 
@@ -58,33 +59,7 @@ links_more image p vectors nodes numbers count i n x list old new at number fits
 pub written : {A : Type 0} (old new : List A) (n : ℕ) → length new ≡ n → take n (new ++ drop (length new) old) ≡ new
 written old new n e = take_at new (drop (length new) old) n e
 
--- Instances in their order, taken from the end of their reversed list
-
-dropped : {A : Type 0} (xs : List A) (i : ℕ) (x : A) (rest : List A) → x ∷ rest ≡ drop i xs → (slice_get xs i ≡ Some x)
-    × (rest ≡ drop (suc i) xs)
-dropped [] zero x rest e = absurd (cc)
-dropped [] (suc i) x rest e = absurd (cc)
-dropped (y ∷ xs) zero x rest e = (cc, cc)
-dropped (y ∷ xs) (suc i) x rest e = dropped xs i x rest e
-
-none_dropped : {A : Type 0} (xs : List A) (i : ℕ) → [] ≡ drop i xs → length xs ≤ i
-none_dropped [] i e = omega arith
-none_dropped (y ∷ xs) zero e = absurd (cc)
-none_dropped (y ∷ xs) (suc i) e = let le = none_dropped xs i e in omega arith
-
--- the next one is there
-pub next_there : (nodes left : List Instance) (i : ℕ) → reverse left ≡ drop i nodes → i < length nodes → 0 < length left
-next_there nodes [] i e less = absurd (let le = none_dropped nodes i e in omega arith)
-next_there nodes (x ∷ left) i e less = omega arith
-
--- it is the last one
-next_taken : (nodes left later : List Instance) (i : ℕ) (x : Instance) → reverse left ≡ drop i nodes → left ≡ later ++ x ∷ []
-    → (slice_get nodes i ≡ Some x) × (reverse later ≡ drop (i + 1) nodes)
-next_taken nodes left later i x e f =
-    let parts : x ∷ reverse later ≡ drop i nodes = sym (reverse-append later (x ∷ [])) ∙ (ap reverse (sym f) ∙ e) in
-    let next = dropped nodes i x (reverse later) parts in
-    let one : suc i ≡ i + 1 = omega arith in
-    (next.0, next.1 ∙ ap (λ n. drop n nodes) one)
+-- Instances in their order
 
 taken : {A : Type 0} (xs : List A) (i : ℕ) (x : A) → slice_get xs i ≡ Some x → take (suc i) xs ≡ take i xs ++ x ∷ []
 taken [] i x e = absurd (cc)

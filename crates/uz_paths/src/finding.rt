@@ -1,6 +1,6 @@
 //! From hints to a certificate.
 
-ghost use Rattle.std.specs.Prelude.{◌≡◌, ◌<◌, ◌^◌, ◌⊎◌, ℕ, Err, IfOk, IfErr, IsOk, length};
+ghost use Rattle.std.specs.Prelude.{◌≡◌, ◌<◌, ◌^◌, ◌⊎◌, ℕ, Err, IfOk, IfErr, IfSome, IsOk, IsSome, length};
 ghost use Rattle.uz_schedule.specs.WellFormed.{WellFormed};
 ghost use Rattle.uz_soundness.specs.Acceptance.{Accepts};
 ghost use Rattle.uz_hints.specs.Faults.{HintRefusal};
@@ -8,6 +8,7 @@ ghost use Rattle.uz_search.specs.Fitting.{ProgramFits};
 ghost use Rattle.uz_search.specs.Refusing.{Refusal};
 ghost use Rattle.uz_search.specs.Searching.{IsEnded};
 ghost use Rattle.uz_paths.specs.Certificate.{IsEntry, ReturnsFromMain};
+ghost use Rattle.uz_paths.specs.declared.finding.Joining.TheVariants.{LeftOut};
 ghost use Rattle.uz_paths.specs.Finding.{instance_limit, Cause, NoCause, IsFoundBy, IsAsked};
 
 use crate::certificate::{certificate_of, parts_of};
@@ -63,20 +64,40 @@ fn certificate(
     Ok(certificate_of(program, parts))
 }
 
-/// Searches a program, and makes a certificate of what is found, whose points are joined where the joined one is accepted too.
-fn find_by(alloc: Global, image: &Image, program: Program, entry: Entry) -> Result<Cert, NotFound>
+/// Whether points are joined.
+#[derive(Clone, Copy, PartialEq, Eq)]
+enum Joining {
+    /// Where the check accepts the joined certificate.
+    Tried,
+    /// Not at all.
+    LeftOut,
+}
+
+/// Searches a program, and makes a certificate of what is found. None where its points were let go while they were joined, and the joined
+/// certificate isn't accepted.
+fn find_by(
+    alloc: Global,
+    image: &Image,
+    program: Program,
+    entry: Entry,
+    joining: Joining,
+) -> Result<Option<Cert>, NotFound>
     requires fits { ProgramFits program }
     requires start { IsEntry program entry }
-    ensures accepted { IfOk result (λ cert. WellFormed cert × Accepts image.now cert) }
-    ensures found { IfOk result (IsFoundBy image.now program entry) }
+    ensures accepted { IfOk result (λ o. IfSome o (λ cert. WellFormed cert × Accepts image.now cert)) }
+    ensures found { IfOk result (λ o. IfSome o (IsFoundBy image.now program entry)) }
+    ensures there { joining ≡ LeftOut → IfOk result IsSome }
     ensures cause { IfErr result (Refusal image.now program instance_limit) }
 {
     let found = match search(alloc, image, &program, INSTANCE_LIMIT) {
         Ok(found) => found,
         Err(refusal) => return Err(refusal),
     };
+    if joining == Joining::LeftOut {
+        return Ok(Some(certificate(alloc, image, program, entry, found)?));
+    }
     match joined_certificate(alloc, image, program, &entry, &found) {
-        Ok(cert) => Ok(cert),
+        Ok(cert) => Ok(Some(cert)),
         Err(program) => {
             let cert = certificate(alloc, image, program, entry, found)?;
             Ok(joined(alloc, image, cert))
@@ -84,17 +105,19 @@ fn find_by(alloc: Global, image: &Image, program: Program, entry: Entry) -> Resu
     }
 }
 
-/// Finds a certificate of an image by the hints of its source: one that `check` accepts with it, with the header, the lines, the fall and
-/// the entry that the hints ask for, where each rest is a return of some trail. Its points are joined line by line and count by count
-/// where the check accepts them so. Where none of the causes stands, only want of memory leaves it without one.
-///
-/// Hint comes exactly where a hint is at fault or start, lines or stack are missing, before all other refusals; Stuck and
-/// Split only with trails that show them; Full only where 524,288 distinct instances lie on trails; NoRest only where runs
-/// enter main, and the instances on trails hold no return. Time is linear in the instances and their results.
-pub fn find(alloc: Global, image: &Image, hints: &[Hint], irq: Response) -> Result<Cert, NotFound>
+/// Finds a certificate by the hints of a source. None where its points were let go while they were joined, and the joined certificate isn't
+/// accepted.
+fn find_as(
+    alloc: Global,
+    image: &Image,
+    hints: &[Hint],
+    irq: Response,
+    joining: Joining,
+) -> Result<Option<Cert>, NotFound>
     requires { length hints.now < 2 ^ 32 }
-    ensures accepted { IfOk result (λ cert. WellFormed cert × Accepts image.now cert) }
-    ensures asked { IfOk result (IsAsked image.now irq hints.now) }
+    ensures accepted { IfOk result (λ o. IfSome o (λ cert. WellFormed cert × Accepts image.now cert)) }
+    ensures asked { IfOk result (λ o. IfSome o (IsAsked image.now irq hints.now)) }
+    ensures there { joining ≡ LeftOut → IfOk result IsSome }
     ensures cause { IfErr result (Cause image.now irq hints.now) }
     ensures complete { NoCause image.now irq hints.now → IsOk result ⊎ (result ≡ Err NotFound.Memory) }
     ensures hint { (index : ℕ) → HintRefusal image.now irq hints.now index
@@ -105,5 +128,45 @@ pub fn find(alloc: Global, image: &Image, hints: &[Hint], irq: Response) -> Resu
         Err(index) => return Err(NotFound::Hint { index }),
     };
     let (program, entry) = program_of(alloc, hints, reading)?;
-    find_by(alloc, image, program, entry)
+    find_by(alloc, image, program, entry, joining)
+}
+
+/// Finds a certificate by the hints of a source. Its points aren't joined.
+fn find_alone(alloc: Global, image: &Image, hints: &[Hint], irq: Response) -> Result<Cert, NotFound>
+    requires { length hints.now < 2 ^ 32 }
+    ensures accepted { IfOk result (λ cert. WellFormed cert × Accepts image.now cert) }
+    ensures asked { IfOk result (IsAsked image.now irq hints.now) }
+    ensures cause { IfErr result (Cause image.now irq hints.now) }
+    ensures complete { NoCause image.now irq hints.now → IsOk result ⊎ (result ≡ Err NotFound.Memory) }
+    ensures hint { (index : ℕ) → HintRefusal image.now irq hints.now index
+        → (result ≡ Err (NotFound.Hint index)) ⊎ (result ≡ Err NotFound.Memory) }
+{
+    match find_as(alloc, image, hints, irq, Joining::LeftOut) {
+        Ok(cert) => Ok(cert.unwrap()),
+        Err(why) => Err(why),
+    }
+}
+
+/// Finds a certificate of an image by the hints of its source: one that `check` accepts with it, with the header, the lines, the fall and
+/// the entry that the hints ask for, where each rest is a return of some trail. Its points are joined line by line and count by count
+/// where the check accepts them so. Where none of the causes stands, only want of memory leaves it without one.
+///
+/// Hint comes exactly where a hint is at fault or start, lines or stack are missing, before all other refusals; Stuck and
+/// Split only with trails that show them; Full only where 524,288 distinct instances lie on trails; NoRest only where runs
+/// enter main, and the instances on trails hold no return. Time is linear in the instances and their results. Points are let go while they
+/// are joined: where the joined certificate isn't accepted, all is searched again.
+pub fn find(alloc: Global, image: &Image, hints: &[Hint], irq: Response) -> Result<Cert, NotFound>
+    requires { length hints.now < 2 ^ 32 }
+    ensures accepted { IfOk result (λ cert. WellFormed cert × Accepts image.now cert) }
+    ensures asked { IfOk result (IsAsked image.now irq hints.now) }
+    ensures cause { IfErr result (Cause image.now irq hints.now) }
+    ensures complete { NoCause image.now irq hints.now → IsOk result ⊎ (result ≡ Err NotFound.Memory) }
+    ensures hint { (index : ℕ) → HintRefusal image.now irq hints.now index
+        → (result ≡ Err (NotFound.Hint index)) ⊎ (result ≡ Err NotFound.Memory) }
+{
+    match find_as(alloc, image, hints, irq, Joining::Tried) {
+        Ok(Some(cert)) => Ok(cert),
+        Ok(None) => find_alone(alloc, image, hints, irq),
+        Err(why) => Err(why),
+    }
 }

@@ -2,3 +2,4 @@ pub mod EachLemmas
 pub mod OldFacts
 pub mod SameFacts
 pub mod TellingLemmas
+pub mod TakenLemmas

@@ -1,6 +1,8 @@
 -- Points whose facts say the same have the same instance.
-use Rattle.std.proofs.Common.{◌≡◌, ◌∙◌, ap, sym, arith, refl, ℕ, suc, ◌+◌, ◌<◌, List, [], ◌∷◌, length, map, get_or, if◌then◌else◌}
-use Rattle.std.specs.Prelude.{Some, None, option_and_then}
+use Rattle.std.proofs.Common.{◌≡◌, ◌∙◌, ap, sym, arith, refl, ℕ, suc, ◌+◌, ◌<◌, ◌≤◌, List, [], ◌∷◌, length, map, get_or, if◌then◌else◌}
+use Rattle.std.proofs.Common.{true, false, leb, Bool, ◌&&◌}
+use Rattle.std.specs.Prelude.{Some, None, option_and_then, slice_get}
+use Rattle.std.proofs.lemmas.Bool.{le-leb, leb-true}
 use Rattle.uz_schedule.specs.Exact as exact
 use Rattle.uz_schedule.specs.Instances.{cell_span, clock_below, instance_of, is_in_box, pairs_of, span_of_val, val_of}
 use Rattle.uz_schedule.specs.Schedule.{length_of, level_at, start_of}
@@ -9,7 +11,7 @@ use Rattle.uz_schedule.specs.declared.facts.PairFact.{PairFact}
 use Rattle.uz_schedule.specs.declared.facts.Val.{Val}
 use Rattle.uz_schedule.specs.declared.states.Instance.{Instance}
 use Rattle.uz_schedule.specs.declared.states.Point.{Point}
-use Rattle.uz_point_instances.specs.Same.{AreTold, SameAt, SameInstances, SamePlace}
+use Rattle.uz_point_instances.specs.Same.{AreTold, IsWhollyTold, SameAt, SameInstances, SamePlace}
 
 -- lists whose elements are made the same are made the same
 pub map_same : {A B : Type 0} (f g : A → B) (xs ys : List A) → length xs ≡ length ys
@@ -46,15 +48,55 @@ same_instance p q l c d place same s =
     if box i then option_and_then (λ k. option_and_then (λ level. Some (record (same i) { clock = k; level = level }))
     (level_at s (start_of s l + k))) (clock_below (length_of s l) (place.clock i)) else None
 
-told_by_itself : (ps : List Point) → AreTold ps ps
-told_by_itself ps id p there l c low high first last = record {
+-- Boxes
+
+pub box_holds : (p : Point) (l c : ℕ) → p.l0 ≤ l → l ≤ p.l1 → p.c0 ≤ c → c ≤ p.c1 → is_in_box p l c ≡ true
+box_holds p l c low high first last = rw (le-leb p.l0 l low, le-leb l p.l1 high, le-leb p.c0 c first, le-leb c p.c1 last) refl
+
+both : (a b : Bool) → (a && b) ≡ true → (a ≡ true) × (b ≡ true)
+both true b e = (refl, e)
+both false b e = absurd cc
+
+box_tells : (p : Point) (l c : ℕ) → is_in_box p l c ≡ true → (p.l0 ≤ l) × (l ≤ p.l1) × (p.c0 ≤ c) × (c ≤ p.c1)
+box_tells p l c e =
+    let parts = both (leb p.l0 l && leb l p.l1) (leb p.c0 c && leb c p.c1) e in
+    let lines = both (leb p.l0 l) (leb l p.l1) parts.0 in
+    let counts = both (leb p.c0 c) (leb c p.c1) parts.1 in
+    (leb-true p.l0 l lines.0, leb-true l p.l1 lines.1, leb-true p.c0 c counts.0, leb-true c p.c1 counts.1)
+
+-- Points say what they say
+
+pub wholly_itself : (ps : List Point) (id : ℕ) (p : Point) → slice_get ps id ≡ Some p → IsWhollyTold ps p
+wholly_itself ps id p there l c low high first last = record {
   number = id;
   point = p;
   count = c;
   there = there;
+  box = box_holds p l c low high first last;
   same = λ s. refl;
 }
 
--- points say what they say
 pub same_as_itself : (ps : List Point) → SameInstances ps ps
-same_as_itself ps = record { all = told_by_itself ps; only = told_by_itself ps }
+same_as_itself ps = record { all = wholly_itself ps; only = wholly_itself ps }
+
+-- and what those say that say what they say
+
+pub wholly_through : (xs ys : List Point) (p : Point) → AreTold xs ys → IsWhollyTold xs p → IsWhollyTold ys p
+wholly_through xs ys p all told l c low high first last =
+    let by = told l c low high first last in
+    let box = box_tells by.point l by.count by.box in
+    let other = all by.number by.point by.there l by.count box.0 box.1 box.2 box.3 in
+    record {
+      number = other.number;
+      point = other.point;
+      count = other.count;
+      there = other.there;
+      box = other.box;
+      same = λ s. by.same s ∙ other.same s;
+    }
+
+pub same_through : (xs ys zs : List Point) → SameInstances xs ys → SameInstances ys zs → SameInstances xs zs
+same_through xs ys zs a b = record {
+  all = λ id p there. wholly_through ys zs p b.all (a.all id p there);
+  only = λ id p there. wholly_through ys xs p a.only (b.only id p there);
+}

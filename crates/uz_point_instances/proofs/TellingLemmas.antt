@@ -26,12 +26,12 @@ said q l c x place is = record { box = place.box; line = place.place.0; clock = 
 one_of : {A : Type 0} (a b : A) → Some a ≡ Some b → a ≡ b
 one_of a b e = cc
 
-front : {A : Type 0} (xs ys : List A) (i : ℕ) (x : A) → slice_get xs i ≡ Some x → slice_get (xs ++ ys) i ≡ Some x
+pub front : {A : Type 0} (xs ys : List A) (i : ℕ) (x : A) → slice_get xs i ≡ Some x → slice_get (xs ++ ys) i ≡ Some x
 front [] ys i x at = cc
 front (z ∷ xs) ys zero x at = at
 front (z ∷ xs) ys (suc i) x at = front xs ys i x at
 
-last_of : {A : Type 0} (xs : List A) (z : A) → slice_get (xs ++ z ∷ []) (length xs) ≡ Some z
+pub last_of : {A : Type 0} (xs : List A) (z : A) → slice_get (xs ++ z ∷ []) (length xs) ≡ Some z
 last_of [] z = refl
 last_of (x ∷ xs) z = last_of xs z
 

@@ -20,6 +20,7 @@ pub record IsTold (points : List Point) (p : Point) (l c : ℕ) : Type 0 where
   pub point : Point
   pub count : ℕ
   pub there : slice_get points number ≡ Some point
+  pub box : is_in_box point l count ≡ true
   pub same : SameAt p point l c count
 
 -- so it is at each line and count of p's box

@@ -1,7 +1,8 @@
-//! Whether joined points say what the points say that they are joined from, and nothing else.
+//! Whether points say what others say.
 
-ghost use Rattle.std.specs.Prelude.{◌≡◌, ◌≤◌, ℕ, IfOk, true, length};
-ghost use Rattle.uz_point_instances.specs.Same.{AreTold, IsTold, IsWhollyTold, SameAt, SameInstances};
+ghost use Rattle.std.specs.Prelude.{◌≡◌, ◌≤◌, ℕ, IfOk, true};
+ghost use Rattle.uz_schedule.specs.Instances.{is_in_box as box_holds};
+ghost use Rattle.uz_point_instances.specs.Same.{AreTold, IsTold, IsWhollyTold, SameAt};
 ghost use Rattle.uz_point_instances.specs.Same.{SamePlace};
 
 use crate::comparing::say_one;
@@ -19,14 +20,15 @@ fn same_place(a: &Point, b: &Point, line: u16, of_a: u8, of_b: u8) -> bool
 /// Whether a point has at a line and a count what another has there at another count.
 #[tactic(auto, using(crate::proofs::SameFacts::same_instance))]
 fn is_same_at(a: &Point, b: &Point, line: u16, of_a: u8, of_b: u8) -> bool
-    ensures { result ≡ true → SameAt a.now b.now line of_a of_b }
+    ensures same { result ≡ true → SameAt a.now b.now line of_a of_b }
+    ensures inside { result ≡ true → box_holds b.now line of_b ≡ true }
 {
     same_place(a, b, line, of_a, of_b) && say_one(a, b, line, of_a, of_b)
 }
 
 /// Where to look for what points say: a choice of speed, of which nothing is believed.
 #[derive(Drop)]
-pub(crate) struct Guide {
+pub struct Guide {
     /// Of each point where its numbers begin; where there are none, each has one number.
     pub(crate) starts: Vec<u32>,
     /// The numbers of points, for each line and count of a box, or one for each point.
@@ -66,6 +68,25 @@ pub(crate) fn count_at(point: &Point, clock: i32, count: u8) -> u8 {
 }
 
 impl Guide {
+    /// To one point for each, by these numbers.
+    pub fn by_numbers(alloc: Global, numbers: Vec<u32>) -> Guide {
+        Guide {
+            starts: Vec::new(alloc),
+            numbers,
+        }
+    }
+
+    /// The numbers.
+    pub fn numbers(&self) -> &[u32] {
+        self.numbers.as_slice()
+    }
+
+    /// The numbers, without the guide.
+    pub fn into_numbers(self) -> Vec<u32> {
+        let Guide { numbers, .. } = self;
+        numbers
+    }
+
     /// The number of the point that has what the point of a number has at a line and a count.
     pub(crate) fn number(&self, id: u32, point: &Point, line: u16, count: u8) -> u32 {
         match self.starts.get(id as usize) {
@@ -104,8 +125,8 @@ fn counts_told(guide: &Guide, others: &[Point], id: u32, point: &Point, line: u1
     true
 }
 
-/// Whether others have what a point has.
-fn lines_told(guide: &Guide, others: &[Point], id: u32, point: &Point) -> bool
+/// Whether others have what a point has at each line and count of its box, where `id` is its number in the guide.
+pub fn is_wholly_told(guide: &Guide, others: &[Point], id: u32, point: &Point) -> bool
     ensures { result ≡ true → IsWhollyTold others.now point.now }
 {
     for line in u32::from(point.l0)..u32::from(point.l1) + 1 {
@@ -121,7 +142,7 @@ fn all_told(guide: &Guide, points: &[Point], others: &[Point]) -> bool
     ensures { result ≡ true → AreTold points.now others.now }
 {
     for i in 0..points.len() {
-        if !lines_told(guide, others, number_of(i), &points[i]) {
+        if !is_wholly_told(guide, others, number_of(i), &points[i]) {
             return false;
         }
     }
@@ -188,21 +209,16 @@ fn back(
     Ok(guide)
 }
 
-/// Whether joined points say what the points say that they are joined from, and nothing else, where of each the number of the one is
-/// known that it is joined into.
-pub fn same_instances(
+/// Whether joined points say nothing but what the points say that they are joined from, where of each the number of the one is known that
+/// it is joined into: `NONE` where it isn't joined.
+pub fn are_told_back(
     alloc: Global,
     points: &[Point],
     joined: &[Point],
-    numbers: Vec<u32>,
-) -> Result<(bool, Vec<u32>), AllocError>
-    ensures { IfOk result (λ r. r.0 ≡ true → SameInstances points.now joined.now) }
+    numbers: &[u32],
+) -> Result<bool, AllocError>
+    ensures { IfOk result (λ told. told ≡ true → AreTold joined.now points.now) }
 {
-    let there = Guide {
-        starts: Vec::new(alloc),
-        numbers,
-    };
-    let back = back(alloc, points, joined, there.numbers.as_slice())?;
-    let same = all_told(&there, points, joined) && all_told(&back, joined, points);
-    Ok((same, there.numbers))
+    let guide = back(alloc, points, joined, numbers)?;
+    Ok(all_told(&guide, joined, points))
 }

@@ -1,6 +1,6 @@
 use Rattle.std.proofs.Common.{ℕ, ◌≤◌, ◌<◌}
 use Rattle.uz_point_instances.specs.Same.{IsTold}
-use Rattle.uz_point_instances.proofs.sameness.lines_told.Given as goal
+use Rattle.uz_point_instances.proofs.sameness.is_wholly_told.Given as goal
 
 -- those so far are told
 abbrev pub invariant-loop-line : goal.invariant-loop-line

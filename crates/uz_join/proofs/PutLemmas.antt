@@ -1,0 +1,158 @@
+-- Points that are put behind others.
+use Rattle.std.proofs.Common.{◌≡◌, ◌∙◌, ◌≢◌, sym, ap, subst, arith, inl, inr, ⊎_elim, ℕ, zero, suc, ◌+◌, ◌<◌, List, [], ◌∷◌, ◌++◌, length}
+use Rattle.std.proofs.Common.{drop, reverse}
+use Rattle.std.specs.Prelude.{None, Some, slice_get, ◌⊎◌}
+use Rattle.std.proofs.lemmas.Bool.{cases_eq}
+use Rattle.std.proofs.lemmas.List.{reverse-append, reverse-reverse}
+use Rattle.std.proofs.lemmas.Option.{slice_get_within}
+use Rattle.uz_schedule.specs.declared.states.Point.{Point}
+use Rattle.uz_point_instances.specs.Same.{AreTold, IsWhollyTold, SameInstances}
+use Rattle.uz_point_instances.proofs.SameFacts.{wholly_itself}
+use Rattle.uz_point_instances.proofs.TakenLemmas.{next_taken, none_dropped}
+use Rattle.uz_point_instances.proofs.TellingLemmas.{front, last_of}
+use Rattle.uz_join.specs.declared.replacing.Replacing.{Replacing}
+use Rattle.uz_join.specs.Replacing.{AreSoFar, IsPut}
+
+-- One point
+
+put_told : (old new : List Point) (p : Point) → IsPut old new p → IsWhollyTold new p
+put_told old new p put l c low high first last =
+    let by = wholly_itself new (length old) (record p { next = record { items = put.next } })
+    (ap (λ ps. slice_get ps (length old)) put.is ∙ last_of old (record p { next = record { items = put.next } })) l c low high first last in
+    record {
+      number = by.number;
+      point = by.point;
+      count = by.count;
+      there = by.there;
+      box = by.box;
+      same = by.same;
+    }
+
+put_kept : (old new : List Point) (p q : Point) → IsPut old new p → IsWhollyTold old q → IsWhollyTold new q
+put_kept old new p q put told l c low high first last =
+    let by = told l c low high first last in
+    record {
+      number = by.number;
+      point = by.point;
+      count = by.count;
+      there = ap (λ ps. slice_get ps by.number) put.is ∙ front old (record p { next = record { items = put.next } } ∷ []) by.number by.point
+          by.there;
+      box = by.box;
+      same = by.same;
+    }
+
+in_more : {A : Type 0} (xs : List A) (x : A) (i : ℕ) (y : A) → slice_get (xs ++ x ∷ []) i ≡ Some y → (slice_get xs i ≡ Some y) ⊎ (x ≡ y)
+in_more [] x zero y e = inr (cc)
+in_more [] x (suc i) y e = absurd (cc)
+in_more (z ∷ xs) x zero y e = inl e
+in_more (z ∷ xs) x (suc i) y e = in_more xs x i y e
+
+put_only : (old new by : List Point) (p : Point) → IsPut old new p → AreTold old by → IsWhollyTold by p → AreTold new by
+put_only old new by p put all told id q there = ⊎_elim
+    (λ (h : slice_get old id ≡ Some q). all id q h)
+    (λ (h : record p { next = record { items = put.next } } ≡ q). subst (IsWhollyTold by) h renamed)
+    (in_more old (record p { next = record { items = put.next } }) id q (ap (λ ps. slice_get ps id) (sym put.is) ∙ there))
+  where
+    renamed : IsWhollyTold by (record p { next = record { items = put.next } })
+    renamed l c low high first last =
+        let t = told l c low high first last in
+        record {
+          number = t.number;
+          point = t.point;
+          count = t.count;
+          there = t.there;
+          box = t.box;
+          same = t.same;
+        }
+
+in_reverse : {A : Type 0} (xs : List A) (i : ℕ) (y : A) → slice_get (reverse xs) i ≡ Some y → (j : ℕ) × (slice_get xs j ≡ Some y)
+in_reverse [] i y e = absurd (cc)
+in_reverse (x ∷ xs) i y e = ⊎_elim
+    (λ (h : slice_get (reverse xs) i ≡ Some y). let at = in_reverse xs i y h in (suc at.0, at.1))
+    (λ (h : x ≡ y). (0, ap Some h))
+    (in_more (reverse xs) x i y (ap (λ ys. slice_get ys i) (sym (reverse-append (x ∷ []) xs)) ∙ e))
+
+-- The points so far
+
+-- none yet
+pub none_replaced : (points boxes : List Point) (r : Replacing) → r.left.items ≡ reverse points → r.boxes.items ≡ reverse boxes
+    → r.joined.items ≡ [] → AreTold boxes points → AreSoFar points 0 r
+none_replaced points boxes r left turned none all = record {
+  left = ap reverse left ∙ reverse-reverse points;
+  told = λ j p less there. absurd (omega arith);
+  boxes = λ id p there.
+      let at = in_reverse boxes id p (ap (λ ps. slice_get ps id) (sym turned) ∙ there) in
+      all at.0 p at.1;
+  only = λ id p there. absurd (let past : Some p ≡ None = sym there ∙ ap (λ ps. slice_get ps id) none in cc past);
+}
+
+-- a box more
+pub box_put : (points : List Point) (i : ℕ) (r r' : Replacing) (box : Point) → r.boxes.items ≡ r'.boxes.items ++ box ∷ []
+    → IsPut r.joined.items r'.joined.items box → r'.left.items ≡ r.left.items → AreSoFar points i r → AreSoFar points i r'
+box_put points i r r' box taken put left a = record {
+  left = ap reverse left ∙ a.left;
+  told = λ j p less there. put_kept r.joined.items r'.joined.items box p put (a.told j p less there);
+  boxes = λ id p there. a.boxes id p (ap (λ ps. slice_get ps id) taken ∙ front r'.boxes.items (box ∷ []) id p there);
+  only = put_only r.joined.items r'.joined.items points box put a.only (a.boxes (length r'.boxes.items) box
+      (ap (λ ps. slice_get ps (length r'.boxes.items)) taken ∙ last_of r'.boxes.items box));
+}
+
+-- no box is left
+pub no_box : (points : List Point) (i : ℕ) (r r' : Replacing) → r'.boxes.items ≡ r.boxes.items → r'.joined.items ≡ r.joined.items
+    → r'.left.items ≡ r.left.items → AreSoFar points i r → AreSoFar points i r'
+no_box points i r r' boxes joined left a = record {
+  left = ap reverse left ∙ a.left;
+  told = λ j p less there. subst (λ ps. IsWhollyTold ps p) (sym joined) (a.told j p less there);
+  boxes = subst (λ ps. AreTold ps points) (sym boxes) a.boxes;
+  only = subst (λ ps. AreTold ps points) (sym joined) a.only;
+}
+
+-- the next point is said
+next_told : (points left left' joined joined' : List Point) (i : ℕ) (p : Point) → reverse left ≡ drop i points → left ≡ left' ++ p ∷ []
+    → ((j : ℕ) (q : Point) → j < i → slice_get points j ≡ Some q → IsWhollyTold joined q)
+    → ((q : Point) → IsWhollyTold joined q → IsWhollyTold joined' q) → IsWhollyTold joined' p
+    → (j : ℕ) (q : Point) → j < i + 1 → slice_get points j ≡ Some q → IsWhollyTold joined' q
+next_told points left left' joined joined' i p e taken told kept new j q less there = ⊎_elim
+    (λ (same : j ≡ i).
+    let next = next_taken points left left' i p e taken in
+    let is : Some p ≡ Some q = sym next.0 ∙ (ap (slice_get points) (sym same) ∙ there) in
+    subst (IsWhollyTold joined') (one_of p q is) new)
+    (λ (other : j ≢ i). kept q (told j q (omega arith) there))
+    (cases_eq j i)
+  where
+    one_of : (a b : Point) → Some a ≡ Some b → a ≡ b
+    one_of a b same = cc
+
+pub point_kept : (points : List Point) (i : ℕ) (r r' : Replacing) (p : Point) → r.left.items ≡ r'.left.items ++ p ∷ []
+    → IsPut r.joined.items r'.joined.items p → r'.boxes.items ≡ r.boxes.items → AreSoFar points i r → AreSoFar points (i + 1) r'
+point_kept points i r r' p taken put boxes a =
+    let next = next_taken points r.left.items r'.left.items i p a.left taken in
+    record {
+      left = next.1;
+      told = next_told points r.left.items r'.left.items r.joined.items r'.joined.items i p a.left taken a.told
+          (λ q. put_kept r.joined.items r'.joined.items p q put) (put_told r.joined.items r'.joined.items p put);
+      boxes = subst (λ ps. AreTold ps points) (sym boxes) a.boxes;
+      only = put_only r.joined.items r'.joined.items points p put a.only (wholly_itself points i p next.0);
+    }
+
+pub point_let_go : (points : List Point) (i : ℕ) (r r' : Replacing) (p : Point) → r.left.items ≡ r'.left.items ++ p ∷ []
+    → r'.joined.items ≡ r.joined.items → r'.boxes.items ≡ r.boxes.items → IsWhollyTold r'.joined.items p → AreSoFar points i r
+    → AreSoFar points (i + 1) r'
+point_let_go points i r r' p taken joined boxes told a =
+    let next = next_taken points r.left.items r'.left.items i p a.left taken in
+    record {
+      left = next.1;
+      told = next_told points r.left.items r'.left.items r.joined.items r'.joined.items i p a.left taken a.told
+          (λ q. subst (λ ps. IsWhollyTold ps q) (sym joined)) told;
+      boxes = subst (λ ps. AreTold ps points) (sym boxes) a.boxes;
+      only = subst (λ ps. AreTold ps points) (sym joined) a.only;
+    }
+
+-- none of the points is left
+pub all_replaced : (points : List Point) (i : ℕ) (r : Replacing) → r.left.items ≡ [] → AreSoFar points i r → SameInstances points r.joined.items
+all_replaced points i r none a =
+    let past = none_dropped points i (ap reverse (sym none) ∙ a.left) in
+    record {
+      all = λ id p there. a.told id p (let within = slice_get_within points id p there in omega arith) there;
+      only = a.only;
+    }

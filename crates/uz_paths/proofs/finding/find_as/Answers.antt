@@ -1,0 +1,32 @@
+use Rattle.std.specs.Prelude.{Err}
+use Rattle.uz_search.specs.declared.found.NotFound.TheVariants.{Hint}
+use Rattle.uz_paths.proofs.FindLemmas.{complete_answer, facts_fine, ok_asked, err_cause, no_hint}
+use Rattle.uz_paths.proofs.finding.find_as.Goals as goal
+
+pub program_of-requires-clause-facts : goal.program_of-requires-clause-facts
+program_of-requires-clause-facts c = facts_fine c.args.image.now c.args.irq c.args.hints.now c.in-Ok.reading c.in-Ok.ensures.read
+
+pub returns-clause-asked : goal.returns-clause-asked
+returns-clause-asked c =
+    ok_asked c.args.image.now c.args.irq c.args.hints.now c.in-Ok.reading c.in_ok-program.program c.in_ok-program.entry c.find_by.result
+    c.in-Ok.ensures.read
+    (c.in_ok-program.ensures.program c.args.image.now c.args.irq c.in-Ok.ensures.read) c.in_ok-program.ensures.head
+    c.in_ok-program.ensures.entry c.find_by.ensures.found
+
+pub returns-clause-cause : goal.returns-clause-cause
+returns-clause-cause c =
+    err_cause c.args.image.now c.args.irq c.args.hints.now c.in_ok-program.program c.find_by.result
+    (c.in_ok-program.ensures.program c.args.image.now c.args.irq c.in-Ok.ensures.read) c.find_by.ensures.cause
+
+pub returns-clause-hint : goal.returns-clause-hint
+returns-clause-hint c = λ index refused. absurd (no_hint c.in-Ok.reading index (c.in-Ok.ensures.exact index refused))
+
+pub returns-clause-complete : goal.returns-clause-complete
+returns-clause-complete c =
+    complete_answer c.args.image.now c.args.irq c.args.hints.now c.find_by.result
+    (err_cause c.args.image.now c.args.irq c.args.hints.now c.in_ok-program.program c.find_by.result
+    (c.in_ok-program.ensures.program c.args.image.now c.args.irq c.in-Ok.ensures.read) c.find_by.ensures.cause)
+
+pub returns-in-Err-clause-complete : goal.returns-in-Err-clause-complete
+returns-in-Err-clause-complete c = complete_answer c.args.image.now c.args.irq c.args.hints.now (Err (Hint c.in-Err.index))
+    c.in-Err.ensures.refused
