@@ -118,6 +118,7 @@ pub(crate) fn chain_points(
     next: Vec<ArrayVec<u32, 16>>,
 ) -> Result<Vec<Point>, AllocError> {
     let mut joined = Vec::new(alloc);
+    joined.reserve_exact(chains.chains.len())?;
     for (chain, next) in chains.chains.as_slice().iter().zip(next) {
         if let Some(point) = point_for(axis, source, chain, next) {
             joined.push(point)?;

@@ -67,7 +67,7 @@ fn pays(points: usize, instances: usize) -> bool {
     points < instances && (points <= FEW || points <= instances / SHARE)
 }
 
-/// Points whose successors, and where else they are spoken of, have these numbers.
+/// The successors of points have their numbers among these.
 fn put_numbers(points: &mut [Point], numbers: &[u32]) {
     for point in points {
         point.next = renumbered(point.next.as_slice(), numbers);

@@ -164,13 +164,13 @@ pub(crate) fn replaced(
     ensures numbered { IfOk result (λ o. IfSome o (λ j. IsSome j.numbers)) }
 {
     let Boxes {
-        points: stand,
+        points: standing,
         numbers,
         into,
     } = boxes;
     let every = points.len() / TIMES + 1;
     let guide = Guide::by_numbers(alloc, into);
-    let mut replacing = Replacing::new(alloc, points, stand, numbers.as_slice())?;
+    let mut replacing = Replacing::new(alloc, points, standing, numbers.as_slice())?;
     for (i, number) in numbers.iter().enumerate() {
         if !replacing.pass(&guide, every, number_of(i), *number)? {
             return Ok(None);
