@@ -11,8 +11,8 @@ use std::alloc::{AllocError, Global};
 use uz_point_instances::{Guide, NONE, is_wholly_told, number_of};
 use uz_schedule::Point;
 
-/// How often memory is given back while points are let go: each time costs as much as there are points left.
-const TIMES: usize = 16;
+/// How often memory is given back while points are let go.
+const TIMES: usize = 64;
 
 /// Points that each stand for some of others.
 #[derive(Drop)]
