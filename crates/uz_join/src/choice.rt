@@ -70,9 +70,10 @@ fn joined_cert(alloc: Global, image: &Image, cert: Cert) -> Result<Option<Cert>,
     }
 }
 
-/// An accepted certificate whose points are joined line by line and count by count. Header and schedule stay, and so do entry and rests but
-/// for the numbers of their points, and the instances of its points are the same ones. Its points are let go while the joined ones are made,
-/// so that not all are there twice: so nothing is left where the check doesn't accept the joined certificate, or memory lacks.
+/// An accepted certificate whose points are joined line by line and count by count. Header and schedule stay, and so do entry and
+/// rests but for the numbers of their points, and the instances of its points are the same ones. Its points are let go while the
+/// joined ones are made, so that not all are there twice: so nothing is left where the check doesn't accept the joined certificate, or
+/// memory lacks.
 pub fn joined(alloc: Global, image: &Image, cert: Cert) -> Option<Cert>
     requires fits { WellFormed cert }
     requires accepted { Accepts image.now cert }
