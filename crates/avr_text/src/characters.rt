@@ -30,21 +30,10 @@ pub fn is_word(b: u8) -> bool
 pub fn is_mark(b: u8) -> bool
     ensures { result ≡ is_mark_byte b }
 {
-    b == b':'
-        || b == b','
-        || b == b'='
-        || b == b'.'
-        || b == b'+'
-        || b == b'-'
-        || b == b'*'
-        || b == b'/'
-        || b == b'%'
-        || b == b'('
-        || b == b')'
-        || b == b'|'
-        || b == b'^'
-        || b == b'&'
-        || b == b'~'
+    matches!(
+        b,
+        b':' | b',' | b'=' | b'.' | b'+' | b'-' | b'*' | b'/' | b'%' | b'(' | b')' | b'|' | b'^' | b'&' | b'~'
+    )
 }
 
 /// No LF.

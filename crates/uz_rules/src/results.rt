@@ -98,15 +98,22 @@ fn put_next(schedule: &Schedule, at: &Instance, step: Step, next: &mut Next)
     requires clock { at.now.clock < scanline }
     ensures { Ok next.new ≡ next_of (order_of schedule.now) at.now (Ok step) }
 {
-    next.emit = timed(step.emit, first_exit(step.exits.as_slice()).clocks);
-    next.back = step.back;
+    let Step {
+        draft,
+        exits,
+        emit,
+        back,
+        clears,
+    } = step;
+    next.emit = timed(emit, first_exit(exits.as_slice()).clocks);
+    next.back = back;
     put_results(
-        step.draft,
+        draft,
         schedule,
         at,
-        step.emit,
-        step.clears,
-        step.exits.as_slice(),
+        emit,
+        clears,
+        exits.as_slice(),
         &mut next.out,
     );
 }

@@ -11,7 +11,7 @@ use crate::count_keys::{CountKey, key_of, may_lie};
 use crate::fact_inclusion::facts_inside;
 use crate::inclusion::{same_kind, timer_inside};
 use crate::periods::{last_of_period, periods_of};
-use uz_schedule::{Cert, Instance, Point, Schedule};
+use uz_schedule::{Cert, Instance, Point, Schedule, clock_of};
 
 /// Whether a point has an instance's kind and pc.
 fn is_same_place(point: &Point, at: &Instance) -> bool
@@ -110,7 +110,7 @@ fn steps_between(from: u16, to: u16, slope: i16) -> u16
 fn is_at_clock(point: &Point, clock: u16, count: u8) -> bool
     ensures { IsTrue result ↔ (pos point.now.clock +ℤ point.now.slope *ℤ pos count ≡ pos clock) }
 {
-    i32::from(point.clock) + i32::from(point.slope) * i32::from(count) == i32::from(clock)
+    clock_of(point, count) == i32::from(clock)
 }
 
 /// Whether a count is one of a point's box, and the point's clock there is this one.
