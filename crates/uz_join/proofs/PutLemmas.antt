@@ -74,38 +74,51 @@ in_reverse (x ∷ xs) i y e = ⊎_elim
 
 -- The points so far
 
+in_dropped : {A : Type 0} (xs : List A) (i k : ℕ) (x : A) → slice_get (drop i xs) k ≡ Some x → (j : ℕ) × (slice_get xs j ≡ Some x)
+in_dropped [] zero k x e = (k, e)
+in_dropped [] (suc i) k x e = absurd (cc)
+in_dropped (y ∷ xs) zero k x e = (k, e)
+in_dropped (y ∷ xs) (suc i) k x e = let at = in_dropped xs i k x e in (suc at.0, at.1)
+
+in_left : (points left : List Point) (i k : ℕ) (q : Point) → reverse left ≡ drop i points → slice_get left k ≡ Some q
+    → (j : ℕ) × (slice_get points j ≡ Some q)
+in_left points left i k q e there =
+    let turned : reverse (drop i points) ≡ left = ap reverse (sym e) ∙ reverse-reverse left in
+    let at = in_reverse (drop i points) k q (ap (λ ps. slice_get ps k) turned ∙ there) in
+    in_dropped points i at.0 q at.1
+
+-- what those say that are left, all say
+left_tell : (points left : List Point) (i : ℕ) (p : Point) → reverse left ≡ drop i points → IsWhollyTold left p → IsWhollyTold points p
+left_tell points left i p e told l c low high first last =
+    let by = told l c low high first last in
+    let at = in_left points left i by.number by.point e by.there in
+    record {
+      number = at.0;
+      point = by.point;
+      count = by.count;
+      there = at.1;
+      box = by.box;
+      same = by.same;
+    }
+
 -- none yet
-pub none_replaced : (points boxes : List Point) (r : Replacing) → r.left.items ≡ reverse points → r.boxes.items ≡ reverse boxes
-    → r.joined.items ≡ [] → AreTold boxes points → AreSoFar points 0 r
-none_replaced points boxes r left turned none all = record {
+pub none_replaced : (points : List Point) (r : Replacing) → r.left.items ≡ reverse points → r.joined.items ≡ [] → AreSoFar points 0 r
+none_replaced points r left none = record {
   left = ap reverse left ∙ reverse-reverse points;
   told = λ j p less there. absurd (omega arith);
-  boxes = λ id p there.
-      let at = in_reverse boxes id p (ap (λ ps. slice_get ps id) (sym turned) ∙ there) in
-      all at.0 p at.1;
   only = λ id p there. absurd (let past : Some p ≡ None = sym there ∙ ap (λ ps. slice_get ps id) none in cc past);
 }
 
 -- a box more
-pub box_put : (points : List Point) (i : ℕ) (r r' : Replacing) (box : Point) → r.boxes.items ≡ r'.boxes.items ++ box ∷ []
-    → IsPut r.joined.items r'.joined.items box → r'.left.items ≡ r.left.items → AreSoFar points i r → AreSoFar points i r'
-box_put points i r r' box taken put left a = record {
-  left = ap reverse left ∙ a.left;
-  told = λ j p less there. put_kept r.joined.items r'.joined.items box p put (a.told j p less there);
-  boxes = λ id p there. a.boxes id p (ap (λ ps. slice_get ps id) taken ∙ front r'.boxes.items (box ∷ []) id p there);
-  only = put_only r.joined.items r'.joined.items points box put a.only (a.boxes (length r'.boxes.items) box
-      (ap (λ ps. slice_get ps (length r'.boxes.items)) taken ∙ last_of r'.boxes.items box));
-}
-
--- no box is left
-pub no_box : (points : List Point) (i : ℕ) (r r' : Replacing) → r'.boxes.items ≡ r.boxes.items → r'.joined.items ≡ r.joined.items
-    → r'.left.items ≡ r.left.items → AreSoFar points i r → AreSoFar points i r'
-no_box points i r r' boxes joined left a = record {
-  left = ap reverse left ∙ a.left;
-  told = λ j p less there. subst (λ ps. IsWhollyTold ps p) (sym joined) (a.told j p less there);
-  boxes = subst (λ ps. AreTold ps points) (sym boxes) a.boxes;
-  only = subst (λ ps. AreTold ps points) (sym joined) a.only;
-}
+pub box_put : (points : List Point) (i : ℕ) (r r' : Replacing) (box : Point) → IsWhollyTold r.left.items box
+    → r'.joined.items ≡ r.joined.items ++ box ∷ [] → r'.left.items ≡ r.left.items → AreSoFar points i r → AreSoFar points i r'
+box_put points i r r' box told pushed left a =
+    let put : IsPut r.joined.items r'.joined.items box = record { next = box.next.items; is = pushed } in
+    record {
+      left = ap reverse left ∙ a.left;
+      told = λ j p less there. put_kept r.joined.items r'.joined.items box p put (a.told j p less there);
+      only = put_only r.joined.items r'.joined.items points box put a.only (left_tell points r.left.items i box a.left told);
+    }
 
 -- the next point is said
 next_told : (points left left' joined joined' : List Point) (i : ℕ) (p : Point) → reverse left ≡ drop i points → left ≡ left' ++ p ∷ []
@@ -124,27 +137,24 @@ next_told points left left' joined joined' i p e taken told kept new j q less th
     one_of a b same = cc
 
 pub point_kept : (points : List Point) (i : ℕ) (r r' : Replacing) (p : Point) → r.left.items ≡ r'.left.items ++ p ∷ []
-    → IsPut r.joined.items r'.joined.items p → r'.boxes.items ≡ r.boxes.items → AreSoFar points i r → AreSoFar points (i + 1) r'
-point_kept points i r r' p taken put boxes a =
+    → IsPut r.joined.items r'.joined.items p → AreSoFar points i r → AreSoFar points (i + 1) r'
+point_kept points i r r' p taken put a =
     let next = next_taken points r.left.items r'.left.items i p a.left taken in
     record {
       left = next.1;
       told = next_told points r.left.items r'.left.items r.joined.items r'.joined.items i p a.left taken a.told
           (λ q. put_kept r.joined.items r'.joined.items p q put) (put_told r.joined.items r'.joined.items p put);
-      boxes = subst (λ ps. AreTold ps points) (sym boxes) a.boxes;
       only = put_only r.joined.items r'.joined.items points p put a.only (wholly_itself points i p next.0);
     }
 
 pub point_let_go : (points : List Point) (i : ℕ) (r r' : Replacing) (p : Point) → r.left.items ≡ r'.left.items ++ p ∷ []
-    → r'.joined.items ≡ r.joined.items → r'.boxes.items ≡ r.boxes.items → IsWhollyTold r'.joined.items p → AreSoFar points i r
-    → AreSoFar points (i + 1) r'
-point_let_go points i r r' p taken joined boxes told a =
+    → r'.joined.items ≡ r.joined.items → IsWhollyTold r'.joined.items p → AreSoFar points i r → AreSoFar points (i + 1) r'
+point_let_go points i r r' p taken joined told a =
     let next = next_taken points r.left.items r'.left.items i p a.left taken in
     record {
       left = next.1;
       told = next_told points r.left.items r'.left.items r.joined.items r'.joined.items i p a.left taken a.told
           (λ q. subst (λ ps. IsWhollyTold ps q) (sym joined)) told;
-      boxes = subst (λ ps. AreTold ps points) (sym boxes) a.boxes;
       only = subst (λ ps. AreTold ps points) (sym joined) a.only;
     }
 

@@ -9,9 +9,8 @@ pub record IsPut (old new : List Point) (p : Point) : Type 0 where
   pub next : List ℕ
   pub is : new ≡ old ++ record p { next = record { items = next } } ∷ []
 
--- so many of these points are said by the joined ones, and the others are left; what joined points and boxes say, these say
+-- so many of these points are said by the joined ones, and the others are left; what joined points say, these say
 pub record AreSoFar (points : List Point) (i : ℕ) (r : Replacing) : Type 0 where
   pub left : reverse r.left.items ≡ drop i points
   pub told : (j : ℕ) (p : Point) → j < i → slice_get points j ≡ Some p → IsWhollyTold r.joined.items p
-  pub boxes : AreTold r.boxes.items points
   pub only : AreTold r.joined.items points

@@ -2,8 +2,9 @@
 
 ghost use Rattle.std.specs.Prelude.{◌≤◌, length};
 
-use crate::chains::{Chain, Chains};
+use crate::chains::Chains;
 use crate::source::Source;
+use crate::successors::with_numbers;
 use arrayvec::ArrayVec;
 use std::alloc::{AllocError, Global};
 use uz_point_shapes::{Axis, fact_along};
@@ -61,28 +62,28 @@ fn cells(axis: Axis, first: &[Fact], second: &[Fact], start: u16) -> ArrayVec<Fa
     facts
 }
 
-/// The last count of a chain's box: one for each point, where it goes on by counts.
-fn last_count(axis: Axis, chain: &Chain, first: &Point) -> u8 {
+/// The last count of the box of so many points: one for each, where they go on by counts.
+fn last_count(axis: Axis, count: usize, first: &Point) -> u8 {
     match axis {
         Axis::Lines => first.c1,
-        Axis::Counts if chain.count < 2 => first.c1,
-        Axis::Counts => u8::try_from(chain.count - 1).unwrap_or(255),
+        Axis::Counts if count < 2 => first.c1,
+        Axis::Counts => u8::try_from(count - 1).unwrap_or(255),
     }
 }
 
-/// The clocks from one count of a chain's box to the next.
-fn slope(axis: Axis, chain: &Chain, first: &Point, second: &Point) -> i16 {
+/// The clocks from one count of the box of so many points to the next.
+fn slope(axis: Axis, count: usize, first: &Point, second: &Point) -> i16 {
     match axis {
         Axis::Lines => first.slope,
-        Axis::Counts if chain.count < 2 => first.slope,
+        Axis::Counts if count < 2 => first.slope,
         Axis::Counts => i16::try_from(second.clock.saturating_sub(first.clock)).unwrap_or(0),
     }
 }
 
-/// The point of a chain that has these first, second and last points.
-fn point_of(
+/// The box of so many points, of which these are the first, the second and the last one.
+fn box_between(
     axis: Axis,
-    chain: &Chain,
+    count: usize,
     ends: (&Point, &Point, &Point),
     next: ArrayVec<u32, 16>,
 ) -> Point {
@@ -90,8 +91,8 @@ fn point_of(
     let start = axis.start(first);
     Point {
         l1: last.l1,
-        c1: last_count(axis, chain, first),
-        slope: slope(axis, chain, first, second),
+        c1: last_count(axis, count, first),
+        slope: slope(axis, count, first, second),
         regs: registers(axis, &first.regs, &second.regs, start),
         pairs: copied_pairs(&first.pairs),
         stack: slots(axis, first.stack.as_slice(), second.stack.as_slice(), start),
@@ -101,26 +102,38 @@ fn point_of(
     }
 }
 
-/// The point of a chain that leads to these others.
-fn point_for(axis: Axis, source: &Source, chain: &Chain, next: ArrayVec<u32, 16>) -> Option<Point> {
-    let first = source.point(chain.first)?;
-    let second = source.point(chain.second)?;
-    let last = source.point(chain.last)?;
-    Some(point_of(axis, chain, (&first, &second, &last), next))
+/// Where points lead, by the numbers of all points.
+fn next_of(source: &Source, ids: &[u32], numbers: &[u32]) -> ArrayVec<u32, 16> {
+    let mut next = ArrayVec::new();
+    for id in ids {
+        let from = source.next(*id);
+        next = with_numbers(next, from.as_slice(), numbers);
+    }
+    next
 }
 
-/// The points of chains that lead to these others.
+/// The box of a chain of these points, which leads to points of these numbers. None where they aren't there.
+pub(crate) fn box_of(axis: Axis, source: &Source, ids: &[u32], numbers: &[u32]) -> Option<Point> {
+    let first = source.point(*ids.first()?)?;
+    let second = source.point(*ids.get(1).or(ids.first())?)?;
+    let last = source.point(*ids.last()?)?;
+    let next = next_of(source, ids, numbers);
+    Some(box_between(axis, ids.len(), (&first, &second, &last), next))
+}
+
+/// The boxes of chains, where each point is in one.
 pub(crate) fn chain_points(
     alloc: Global,
     axis: Axis,
     source: &Source,
     chains: &Chains,
-    next: Vec<ArrayVec<u32, 16>>,
 ) -> Result<Vec<Point>, AllocError> {
+    let mut ids = Vec::new(alloc);
     let mut joined = Vec::new(alloc);
-    joined.reserve_exact(chains.chains.len())?;
-    for (chain, next) in chains.chains.as_slice().iter().zip(next) {
-        if let Some(point) = point_for(axis, source, chain, next) {
+    joined.reserve_exact(chains.count() as usize)?;
+    for number in 0..chains.count() {
+        chains.put_points(number, &mut ids)?;
+        if let Some(point) = box_of(axis, source, ids.as_slice(), chains.numbers()) {
             joined.push(point)?;
         }
     }

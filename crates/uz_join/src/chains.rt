@@ -1,48 +1,24 @@
-//! Chains of points: each point is in one, and knows the one after it.
+//! Chains of points: each point is in one at most, and knows the one after it.
 
 use crate::source::Source;
 use std::alloc::{AllocError, Global};
 use uz_point_instances::{NONE, nones, number_at, number_of};
 
-/// A chain, by the numbers of three of its points.
-#[derive(Clone, Copy, Drop)]
-pub(crate) struct Chain {
-    /// The first.
-    pub(crate) first: u32,
-    /// The second, or the first where there is no other.
-    pub(crate) second: u32,
-    /// The last so far.
-    pub(crate) last: u32,
-    /// How many points it has.
-    pub(crate) count: u32,
+/// A point's place among the first points of chains, as a number: its line in the upper half, and its own number in the lower one.
+fn rank(line: u16, id: u32) -> u64 {
+    (u64::from(line) << 32) | u64::from(id)
 }
 
-/// The chain of one point.
-fn chain_of(id: u32) -> Chain {
-    Chain {
-        first: id,
-        second: id,
-        last: id,
-        count: 1,
-    }
+/// The number of the point.
+fn id_of(rank: u64) -> u32 {
+    (rank % 0x1_0000_0000) as u32
 }
 
-/// A chain's place among the others.
-#[derive(Clone, Copy, Drop, PartialEq, Eq, PartialOrd, Ord)]
-struct Rank {
-    /// The line of its first point.
-    line: u16,
-    /// The number of its first point.
-    first: u32,
-    /// Its own number.
-    chain: u32,
-}
-
-/// The chains of a certificate's points.
+/// The chains of points.
 #[derive(Drop)]
 pub(crate) struct Chains {
-    /// The chains, numbered from 0.
-    pub(crate) chains: Vec<Chain>,
+    /// Of each chain, numbered from 0, its first point.
+    firsts: Vec<u32>,
     /// Of each point the number of its chain, or `NONE`.
     numbers: Vec<u32>,
     /// Of each point the one after it in its chain, or `NONE`.
@@ -60,75 +36,81 @@ impl Chains {
     /// No chain, for so many points.
     pub(crate) fn new(alloc: Global, points: u32) -> Result<Chains, AllocError> {
         Ok(Chains {
-            chains: Vec::new(alloc),
+            firsts: Vec::new(alloc),
             numbers: nones(alloc, points)?,
             after: nones(alloc, points)?,
         })
     }
 
-    /// The number of a point's chain.
-    pub(crate) fn number(&self, id: u32) -> u32 {
-        number_at(self.numbers.as_slice(), id)
+    /// How many there are.
+    pub(crate) fn count(&self) -> u32 {
+        number_of(self.firsts.len())
     }
 
     /// Of each point the number of its chain, or `NONE`.
+    pub(crate) fn numbers(&self) -> &[u32] {
+        self.numbers.as_slice()
+    }
+
+    /// The same, without the chains.
     pub(crate) fn into_numbers(self) -> Vec<u32> {
         let Chains { numbers, .. } = self;
         numbers
     }
 
-    /// The point after one in its chain.
-    pub(crate) fn after(&self, id: u32) -> u32 {
-        number_at(self.after.as_slice(), id)
-    }
-
-    /// The chain of a number.
-    pub(crate) fn chain(&self, number: u32) -> Option<Chain> {
-        match self.chains.get(number as usize) {
-            Some(chain) => Some(*chain),
-            None => None,
+    /// The number of the first point of a point's chain, or its own where it is in none.
+    pub(crate) fn first(&self, id: u32) -> u32 {
+        let number = number_at(self.numbers.as_slice(), id);
+        match self.firsts.get(number as usize) {
+            Some(first) => *first,
+            None => id,
         }
     }
 
-    /// A point is the last one of a chain.
-    fn put_last(&mut self, number: u32, id: u32) {
-        put_number(&mut self.numbers, id, number);
-        put_number(&mut self.after, id, NONE);
+    /// Puts the numbers of a chain's points, in its order, in place of others.
+    pub(crate) fn put_points(&self, number: u32, ids: &mut Vec<u32>) -> Result<(), AllocError> {
+        ids.clear();
+        let mut id = number_at(self.firsts.as_slice(), number);
+        for _ in 0..self.after.len() {
+            if id == NONE {
+                break;
+            }
+            ids.push(id)?;
+            id = number_at(self.after.as_slice(), id);
+        }
+        Ok(())
     }
 
     /// A point begins a chain. Answers its number.
     pub(crate) fn begin(&mut self, id: u32) -> Result<u32, AllocError> {
-        let number = number_of(self.chains.len());
-        self.chains.push(chain_of(id))?;
-        self.put_last(number, id);
+        let number = number_of(self.firsts.len());
+        self.firsts.push(id)?;
+        put_number(&mut self.numbers, id, number);
+        put_number(&mut self.after, id, NONE);
         Ok(number)
     }
 
-    /// A chain begins anew with a point.
-    pub(crate) fn restart(&mut self, number: u32, id: u32) {
-        if let Some(chain) = self.chains.get_mut(number as usize) {
-            *chain = chain_of(id);
-        }
-        self.put_last(number, id);
+    /// A chain goes on from its last point with another.
+    pub(crate) fn go_on(&mut self, number: u32, last: u32, id: u32) {
+        put_number(&mut self.after, last, id);
+        put_number(&mut self.numbers, id, number);
+        put_number(&mut self.after, id, NONE);
     }
 
-    /// A chain goes on with a point.
-    pub(crate) fn go_on(&mut self, number: u32, id: u32) {
-        if let Some(chain) = self.chains.get_mut(number as usize) {
-            if chain.second == chain.first {
-                chain.second = id;
-            }
-            put_number(&mut self.after, chain.last, id);
-            chain.last = id;
-            chain.count = chain.count.saturating_add(1);
-        }
-        self.put_last(number, id);
+    /// Nothing comes after a point in its chain.
+    pub(crate) fn end(&mut self, id: u32) {
+        put_number(&mut self.after, id, NONE);
+    }
+
+    /// Whether a point is there and in no chain.
+    fn is_alone(&self, source: &Source, id: u32) -> bool {
+        number_at(self.numbers.as_slice(), id) == NONE && source.is_there(id)
     }
 
     /// Each point that is in no chain begins one.
     pub(crate) fn begin_others(&mut self, source: &Source) -> Result<(), AllocError> {
         for id in 0..source.count() {
-            if self.number(id) == NONE && source.is_there(id) {
+            if self.is_alone(source, id) {
                 self.begin(id)?;
             }
         }
@@ -137,46 +119,35 @@ impl Chains {
 
     /// How many there are when each point that is in none begins one.
     pub(crate) fn count_with_others(&self, source: &Source) -> usize {
-        let mut count = self.chains.len();
+        let mut count = self.firsts.len();
         for id in 0..source.count() {
-            if self.number(id) == NONE && source.is_there(id) {
+            if self.is_alone(source, id) {
                 count = count.saturating_add(1);
             }
         }
         count
     }
 
-    /// The number of the first point of a point's chain, or its own where it is in none.
-    pub(crate) fn first(&self, id: u32) -> u32 {
-        match self.chain(self.number(id)) {
-            Some(chain) => chain.first,
-            None => id,
-        }
-    }
-
-    /// The chains in the order of their first lines, and on one line of their first points.
-    fn ranks(&self, alloc: Global, source: &Source) -> Result<Vec<Rank>, AllocError> {
+    /// The first points of the chains in the order of their lines, and on one line of their numbers.
+    fn ranks(&self, alloc: Global, source: &Source) -> Result<Vec<u64>, AllocError> {
         let mut ranks = Vec::new(alloc);
-        for (i, chain) in self.chains.as_slice().iter().enumerate() {
-            ranks.push(Rank {
-                line: source.line(chain.first),
-                first: chain.first,
-                chain: number_of(i),
-            })?;
+        for first in self.firsts.as_slice() {
+            ranks.push(rank(source.line(*first), *first))?;
         }
         ranks.as_mut_slice().sort_unstable();
         Ok(ranks)
     }
 
-    /// Numbers the chains in the order of their first lines, and on one line of their first points.
+    /// Numbers the chains in that order of their first points.
     pub(crate) fn put_by_lines(
         &mut self,
         alloc: Global,
         source: &Source,
     ) -> Result<(), AllocError> {
         let mut order = Order::new(alloc, self)?;
-        for rank in self.ranks(alloc, source)? {
-            order.put(self, rank.chain)?;
+        let ranks = self.ranks(alloc, source)?;
+        for rank in ranks.as_slice() {
+            order.put(self, number_at(self.numbers.as_slice(), id_of(*rank)))?;
         }
         self.take(order);
         Ok(())
@@ -192,73 +163,60 @@ impl Chains {
         Ok(())
     }
 
-    /// Leaves the chains of more than one point alone. Those of one are none.
-    pub(crate) fn leave_long(&mut self, alloc: Global) -> Result<(), AllocError> {
-        let mut order = Order::new(alloc, self)?;
-        for (i, chain) in self.chains.as_slice().iter().enumerate() {
-            if chain.count > 1 {
-                order.put(self, number_of(i))?;
-            }
-        }
-        self.take(order);
-        Ok(())
-    }
-
-    /// Has the chains in an order, and no others.
+    /// Has the chains in an order.
     fn take(&mut self, order: Order) {
         for number in self.numbers.as_mut_slice() {
             *number = number_at(order.numbers.as_slice(), *number);
         }
-        self.chains = order.chains;
+        self.firsts = order.firsts;
     }
 
     /// Of each point its number among the joined ones, where each chain stands in the place of the least of its points and the chains are
-    /// numbered in that order.
-    pub(crate) fn joined_numbers(&self, alloc: Global) -> Result<Vec<u32>, AllocError> {
-        let mut numbers = Vec::new(alloc);
-        numbers.reserve_exact(self.numbers.len())?;
-        let mut begun: Vec<u32> = Vec::new(alloc);
+    /// numbered in that order. With it how many those are.
+    pub(crate) fn joined_numbers(&self, alloc: Global) -> Result<(Vec<u32>, u32), AllocError> {
+        let points = number_of(self.numbers.len());
+        let mut into = nones(alloc, points)?;
+        let mut begun = nones(alloc, self.count())?;
         let mut count: u32 = 0;
-        for number in self.numbers.as_slice() {
-            match begun.get(*number as usize) {
-                Some(at) => numbers.push(*at)?,
-                None => {
-                    if *number != NONE {
-                        begun.push(count)?;
-                    }
-                    numbers.push(count)?;
-                    count = count.saturating_add(1);
-                }
+        for id in 0..points {
+            let number = number_at(self.numbers.as_slice(), id);
+            let of_chain = number_at(begun.as_slice(), number);
+            if of_chain == NONE {
+                put_number(&mut begun, number, count);
+                put_number(&mut into, id, count);
+                count = count.saturating_add(1);
+            } else {
+                put_number(&mut into, id, of_chain);
             }
         }
-        Ok(numbers)
+        Ok((into, count))
     }
 }
 
-/// Some of the chains in another order.
+/// Chains in another order.
 #[derive(Drop)]
 struct Order {
     /// Of each chain its number in the order, or `NONE`.
     numbers: Vec<u32>,
-    /// The chains.
-    chains: Vec<Chain>,
+    /// The first points of the chains.
+    firsts: Vec<u32>,
 }
 
 impl Order {
     /// None of these.
     fn new(alloc: Global, of: &Chains) -> Result<Order, AllocError> {
         Ok(Order {
-            numbers: nones(alloc, number_of(of.chains.len()))?,
-            chains: Vec::new(alloc),
+            numbers: nones(alloc, of.count())?,
+            firsts: Vec::new(alloc),
         })
     }
 
     /// The chain of a number is the next one, where it isn't there yet.
     fn put(&mut self, of: &Chains, number: u32) -> Result<(), AllocError> {
-        if let Some(chain) = of.chain(number) {
+        if let Some(first) = of.firsts.get(number as usize) {
             if number_at(self.numbers.as_slice(), number) == NONE {
-                put_number(&mut self.numbers, number, number_of(self.chains.len()));
-                self.chains.push(chain)?;
+                put_number(&mut self.numbers, number, number_of(self.firsts.len()));
+                self.firsts.push(*first)?;
             }
         }
         Ok(())

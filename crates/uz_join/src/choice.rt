@@ -9,6 +9,7 @@ ghost use Rattle.uz_point_instances.specs.Same.{SameInstances};
 use crate::copies::{entry_of, rests_of};
 use crate::joining::joined_both;
 use std::alloc::{AllocError, Global};
+use std::mem::replace;
 use uz_cert_limits::well_formed;
 use uz_check::verdict;
 use uz_hex::Image;
@@ -32,39 +33,21 @@ fn joined_cert(alloc: Global, image: &Image, cert: Cert) -> Result<Option<Cert>,
     ensures same { IfOk result (λ o. IfSome o (SameButPoints cert)) }
     ensures instances { IfOk result (λ o. IfSome o (λ c. SameInstances cert.points c.points)) }
 {
-    let Cert {
-        head,
-        schedule,
-        rests,
-        entry,
-        points,
-    } = cert;
+    let mut cert = cert;
+    let points = replace(&mut cert.points, Sequence::new(alloc));
     let joined = match joined_both(alloc, points.into_vec())? {
         Some(joined) => joined,
         None => return Ok(None),
     };
-    let points = Sequence::from_vec(joined.points);
+    cert.points = Sequence::from_vec(joined.points);
     let numbers = match joined.numbers {
         Some(numbers) => numbers,
-        None => {
-            return Ok(Some(Cert {
-                head,
-                schedule,
-                rests,
-                entry,
-                points,
-            }));
-        }
+        None => return Ok(Some(cert)),
     };
-    let made = Cert {
-        head,
-        schedule,
-        rests: rests_of(alloc, rests.as_slice(), numbers.as_slice())?,
-        entry: entry_of(&entry, numbers.as_slice()),
-        points,
-    };
-    if passes(image, &made) {
-        Ok(Some(made))
+    cert.rests = rests_of(alloc, cert.rests.as_slice(), numbers.as_slice())?;
+    cert.entry = entry_of(&cert.entry, numbers.as_slice());
+    if passes(image, &cert) {
+        Ok(Some(cert))
     } else {
         Ok(None)
     }

@@ -1,9 +1,9 @@
-//! Finding chains: points of one shape, in the order of their lines or clocks, each go on from a chain or begin one.
+//! Finding chains: points of one shape, in the order of their lines or clocks, each go on from a chain or may begin one.
 
 use crate::chains::Chains;
 use crate::source::{Source, is_node_joinable};
 use std::alloc::{AllocError, Global};
-use uz_point_instances::number_of;
+use uz_point_instances::{NONE, number_of};
 use uz_point_shapes::{
     Axis, Growth, Shaped, distance, goes_on, is_joinable, key, node_key, same_shape,
 };
@@ -11,15 +11,23 @@ use uz_point_shapes::{
 /// The most chains that are tried for a point, so that the time stays linear in the points.
 const TRIED: usize = 64;
 
-/// A point that may be joined, in the order in which they are looked at.
-#[derive(Clone, Copy, Drop, PartialEq, Eq, PartialOrd, Ord)]
-struct Candidate {
-    /// The key of its shape.
-    key: u64,
-    /// Its line or clock.
-    place: u16,
-    /// Its number.
-    id: u32,
+/// Points have numbers below this: a certificate has at most half as many.
+const NUMBERS: u32 = 0x10_0000;
+
+/// A point that may be joined, as a number: in the order of these numbers points are looked at. The 28 upper bits are those of the key of
+/// its shape, the next 16 its line or clock, and the 20 lowest its own number.
+fn candidate(key: u32, place: u16, id: u32) -> u64 {
+    (u64::from(key >> 4) << 36) | (u64::from(place) << 20) | u64::from(id)
+}
+
+/// The bits of its key.
+fn key_of(candidate: u64) -> u64 {
+    candidate >> 36
+}
+
+/// Its number.
+fn id_of(candidate: u64) -> u32 {
+    (candidate % 0x10_0000) as u32
 }
 
 /// How a point fits a chain.
@@ -33,10 +41,10 @@ enum Fit {
     Second(u32),
 }
 
-/// A chain from which others may go on.
+/// A chain from which others may go on, or a point with which one may begin.
 #[derive(Clone, Copy, Drop)]
 struct Open<'a, P: Shaped> {
-    /// Its number.
+    /// Its number, where there are two points.
     number: u32,
     /// How many points it has.
     count: u32,
@@ -46,16 +54,19 @@ struct Open<'a, P: Shaped> {
     growth: Growth,
     /// Its last point.
     last: &'a P,
+    /// The number of that one.
+    id: u32,
 }
 
 /// The open chain of one point.
-fn open_with<'a, P: Shaped>(number: u32, first: &'a P) -> Open<'a, P> {
+fn open_with<'a, P: Shaped>(id: u32, first: &'a P) -> Open<'a, P> {
     Open {
-        number,
+        number: NONE,
         count: 1,
         step: 0,
         growth: Growth::none(),
         last: first,
+        id,
     }
 }
 
@@ -64,14 +75,24 @@ fn step_to<P: Shaped>(axis: Axis, open: &Open<'_, P>, new: &P) -> u16 {
     new.place(axis).wrapping_sub(open.last.place(axis))
 }
 
-/// An open chain goes on with a point.
-fn go_on<'a, P: Shaped>(axis: Axis, open: &mut Open<'a, P>, new: &'a P) {
+/// An open chain goes on with a point: a chain begins where this is the second one.
+fn go_on<'a, P: Shaped>(
+    axis: Axis,
+    chains: &mut Chains,
+    open: &mut Open<'a, P>,
+    id: u32,
+    new: &'a P,
+) -> Result<(), AllocError> {
     if open.count == 1 {
+        open.number = chains.begin(open.id)?;
         open.step = step_to(axis, open, new);
         open.growth = Growth::between(open.last, new);
     }
+    chains.go_on(open.number, open.id, id);
     open.count = open.count.saturating_add(1);
     open.last = new;
+    open.id = id;
+    Ok(())
 }
 
 /// How a point fits an open chain: with two points or more it goes on at the same distance, and each byte by the same growth.
@@ -131,7 +152,15 @@ fn put_last<P: Shaped>(open: &mut Vec<Open<'_, P>>, at: usize) {
     }
 }
 
-/// A point goes on from an open chain, or begins one.
+/// Lets open chains go that are tried no more, where they are as many as those that are tried.
+fn let_go<P: Shaped>(open: &mut Vec<Open<'_, P>>) {
+    if open.len() >= 2 * TRIED {
+        open.rotate_left(TRIED);
+        open.truncate(TRIED);
+    }
+}
+
+/// A point goes on from an open chain, or may begin one.
 fn add<'a, P: Shaped>(
     axis: Axis,
     chains: &mut Chains,
@@ -142,12 +171,14 @@ fn add<'a, P: Shaped>(
     match place_of(axis, open.as_slice(), new) {
         Some(at) => {
             if let Some(chain) = open.get_mut(at) {
-                chains.go_on(chain.number, id);
-                go_on(axis, chain, new);
+                go_on(axis, chains, chain, id, new)?;
             }
             put_last(open, at);
         }
-        None => open.push(open_with(chains.begin(id)?, new))?,
+        None => {
+            let_go(open);
+            open.push(open_with(id, new))?;
+        }
     }
     Ok(())
 }
@@ -158,37 +189,31 @@ fn chain<P: Shaped>(
     axis: Axis,
     points: &[P],
     first: u32,
-    candidates: &[Candidate],
+    candidates: &[u64],
     chains: &mut Chains,
 ) -> Result<(), AllocError> {
     let mut open: Vec<Open<'_, P>> = Vec::new(alloc);
     let mut key = 0;
     for candidate in candidates {
-        if candidate.key != key {
-            key = candidate.key;
+        if key_of(*candidate) != key {
+            key = key_of(*candidate);
             open.clear();
         }
-        if let Some(new) = points.get(candidate.id.wrapping_sub(first) as usize) {
-            add(axis, chains, &mut open, candidate.id, new)?;
+        let id = id_of(*candidate);
+        if let Some(new) = points.get(id.wrapping_sub(first) as usize) {
+            add(axis, chains, &mut open, id, new)?;
         }
     }
     Ok(())
 }
 
 /// The points that are made and may be joined along an axis: those of one shape beside each other, in the order of their places.
-fn made_candidates(
-    alloc: Global,
-    axis: Axis,
-    source: &Source,
-) -> Result<Vec<Candidate>, AllocError> {
+fn made_candidates(alloc: Global, axis: Axis, source: &Source) -> Result<Vec<u64>, AllocError> {
     let mut candidates = Vec::new(alloc);
     for (i, point) in source.made.iter().enumerate() {
-        if is_joinable(point, axis) {
-            candidates.push(Candidate {
-                key: key(axis, point),
-                place: point.place(axis),
-                id: number_of(i),
-            })?;
+        let id = number_of(i);
+        if is_joinable(point, axis) && id < NUMBERS {
+            candidates.push(candidate(key(axis, point), point.place(axis), id))?;
         }
     }
     candidates.as_mut_slice().sort_unstable();
@@ -196,23 +221,19 @@ fn made_candidates(
 }
 
 /// So the instances that have points of their own and may be joined line by line.
-fn node_candidates(alloc: Global, source: &Source) -> Result<Vec<Candidate>, AllocError> {
+fn node_candidates(alloc: Global, source: &Source) -> Result<Vec<u64>, AllocError> {
     let mut candidates = Vec::new(alloc);
     for (i, at) in source.nodes.iter().enumerate() {
         let id = source.own_number(number_of(i));
-        if is_node_joinable(at) && source.is_there(id) {
-            candidates.push(Candidate {
-                key: node_key(at),
-                place: at.line,
-                id,
-            })?;
+        if is_node_joinable(at) && source.is_there(id) && id < NUMBERS {
+            candidates.push(candidate(node_key(at), at.line, id))?;
         }
     }
     candidates.as_mut_slice().sort_unstable();
     Ok(candidates)
 }
 
-/// The chains of points along an axis. A point that may not be joined is in none.
+/// The chains of points along an axis, each of two points or more. A point that may not be joined is in none.
 pub(crate) fn chains_of(alloc: Global, axis: Axis, source: &Source) -> Result<Chains, AllocError> {
     let mut chains = Chains::new(alloc, source.count())?;
     let made = made_candidates(alloc, axis, source)?;

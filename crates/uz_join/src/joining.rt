@@ -1,53 +1,30 @@
 //! Points joined line by line, and count by count.
 
 ghost use Rattle.std.specs.Prelude.{◌≡◌, IfOk, IfSome, None as NoneOf};
-ghost use Rattle.uz_point_instances.specs.Same.{AreTold, SameInstances};
+ghost use Rattle.uz_point_instances.specs.Same.{SameInstances};
 
-use crate::boxes::chain_points;
+use crate::chains::Chains;
 use crate::finding::chains_of;
-use crate::replacing::{Boxes, replaced};
+use crate::replacing::{Joined, replaced};
 use crate::source::Source;
 use crate::successors::{Numbering, cut_to_successors};
 use std::alloc::{AllocError, Global};
-use uz_point_instances::{are_told_back, number_at};
+use uz_point_instances::number_at;
 use uz_point_shapes::Axis;
 use uz_schedule::Point;
 
-/// Points that are joined.
-#[derive(Drop)]
-pub(crate) struct Joined {
-    /// The joined points.
-    pub(crate) points: Vec<Point>,
-    /// Of each point the number of the one that it is joined into. None where all are as they were.
-    pub(crate) numbers: Option<Vec<u32>>,
-}
-
-/// Boxes for the points that are joined along an axis: they say nothing but what the points say. None where there are none to join, or
-/// their successors are too many.
-fn boxes_of(alloc: Global, axis: Axis, points: &[Point]) -> Result<Option<Boxes>, AllocError>
-    ensures { IfOk result (λ o. IfSome o (λ b. AreTold b.points.items points.now)) }
-{
+/// The chains of points along an axis, each of which leads to at most 16 others. None where there are none, or they were cut too often.
+fn chains_along(alloc: Global, axis: Axis, points: &[Point]) -> Result<Option<Chains>, AllocError> {
     let source = Source::of_points(points);
     let mut chains = chains_of(alloc, axis, &source)?;
-    chains.leave_long(alloc)?;
-    if chains.chains.is_empty() {
+    if chains.count() == 0 {
         return Ok(None);
     }
-    let next = match cut_to_successors(alloc, Numbering::ByPoints, &source, &mut chains)? {
-        Some(next) => next,
-        None => return Ok(None),
-    };
-    let boxes = chain_points(alloc, axis, &source, &chains, next)?;
-    let into = chains.joined_numbers(alloc)?;
-    let numbers = chains.into_numbers();
-    if !are_told_back(alloc, points, boxes.as_slice(), numbers.as_slice())? {
-        return Ok(None);
+    if cut_to_successors(alloc, Numbering::ByPoints, &source, &mut chains)? {
+        Ok(Some(chains))
+    } else {
+        Ok(None)
     }
-    Ok(Some(Boxes {
-        points: boxes,
-        numbers,
-        into,
-    }))
 }
 
 /// Points joined along an axis: they say what the points say, and nothing else. Each point is let go when a joined one stands for it. None
@@ -60,8 +37,8 @@ pub(crate) fn joined_along(
     ensures same { IfOk result (λ o. IfSome o (λ j. SameInstances points.items j.points.items)) }
     ensures stay { IfOk result (λ o. IfSome o (λ j. j.numbers ≡ NoneOf → j.points.items ≡ points.items)) }
 {
-    match boxes_of(alloc, axis, points.as_slice())? {
-        Some(boxes) => replaced(alloc, points, boxes),
+    match chains_along(alloc, axis, points.as_slice())? {
+        Some(chains) => replaced(alloc, axis, points, chains),
         None => Ok(Some(Joined {
             points,
             numbers: None,

@@ -7,7 +7,7 @@ use crate::boxes::chain_points;
 use crate::finding::chains_of;
 use crate::joining::{joined_along, joined_numbers};
 use crate::source::Source;
-use crate::successors::{Numbering, cut_to_successors, renumbered, with_number};
+use crate::successors::{Numbering, cut_to_successors, with_number};
 use std::alloc::{AllocError, Global};
 use uz_point_instances::say_instances;
 use uz_point_shapes::Axis;
@@ -17,7 +17,7 @@ use uz_schedule::{Instance, Point};
 const FEW: usize = 4096;
 
 /// And of more one for so many instances.
-const SHARE: usize = 8;
+const SHARE: usize = 32;
 
 /// The points into which instances are joined.
 #[derive(Drop)]
@@ -48,13 +48,7 @@ fn put_successors(
     starts: &[u32],
     places: &[u32],
 ) {
-    let source = Source {
-        made: &[],
-        nodes,
-        numbers,
-        starts,
-        places,
-    };
+    let source = Source::new(&[], nodes, numbers, starts, places);
     for (place, number) in numbers.iter().enumerate() {
         if let Some(point) = made.get_mut(*number as usize) {
             put_next(&source, place, point);
@@ -65,13 +59,6 @@ fn put_successors(
 /// Whether it pays to join instances: so many points come of so many instances, and are there beside them.
 fn pays(points: usize, instances: usize) -> bool {
     points < instances && (points <= FEW || points <= instances / SHARE)
-}
-
-/// The successors of points have their numbers among these.
-fn put_numbers(points: &mut [Point], numbers: &[u32]) {
-    for point in points {
-        point.next = renumbered(point.next.as_slice(), numbers);
-    }
 }
 
 /// Points and of each of the others the number of the one that it is joined into, where these are joined again count by count. None where
@@ -105,27 +92,17 @@ fn joined_points(
 ) -> Result<Option<(Vec<Point>, Vec<u32>)>, AllocError> {
     let mut made = made;
     put_successors(made.as_mut_slice(), nodes, numbers, starts, places);
-    let source = Source {
-        made: made.as_slice(),
-        nodes,
-        numbers,
-        starts,
-        places,
-    };
+    let source = Source::new(made.as_slice(), nodes, numbers, starts, places);
     let mut chains = chains_of(alloc, Axis::Lines, &source)?;
     if !pays(chains.count_with_others(&source), source.points()) {
         return Ok(None);
     }
     chains.begin_others(&source)?;
-    match cut_to_successors(alloc, Numbering::ByLines, &source, &mut chains)? {
-        Some(next) => {
-            let mut points = chain_points(alloc, Axis::Lines, &source, &chains, next)?;
-            let numbers = chains.into_numbers();
-            put_numbers(points.as_mut_slice(), numbers.as_slice());
-            joined_again(alloc, points, numbers)
-        }
-        None => Ok(None),
+    if !cut_to_successors(alloc, Numbering::ByLines, &source, &mut chains)? {
+        return Ok(None);
     }
+    let points = chain_points(alloc, Axis::Lines, &source, &chains)?;
+    joined_again(alloc, points, chains.into_numbers())
 }
 
 /// The points into which instances of a search are joined, line by line and then count by count: they say what the

@@ -1,28 +1,52 @@
-//! Points of which some are joined: those are let go, and a box stands for them.
+//! Points of which some are joined: a box stands for these, which are let go.
 
-ghost use Rattle.std.specs.Prelude.{◌≡◌, ◌+◌, ◌++◌, true, ℕ, List, [], IfOk, IfSome, IsSome, OnOk, option_to_list};
+ghost use Rattle.std.specs.Prelude.{◌≡◌, ◌+◌, ◌++◌, ◌∷◌, true, ℕ, List, [], IfOk, IfSome, IsSome, OnOk, option_to_list};
 ghost use Rattle.uz_schedule.specs.declared.states.Point.{Point as PointType};
-ghost use Rattle.uz_point_instances.specs.Same.{AreTold, SameInstances};
+ghost use Rattle.uz_point_instances.specs.Same.{IsWhollyTold, SameInstances};
 ghost use Rattle.uz_join.specs.Replacing.{AreSoFar, IsPut};
 
-use crate::joining::Joined;
-use crate::successors::renumbered;
+use crate::boxes::box_of;
+use crate::chains::Chains;
+use crate::source::Source;
+use crate::successors::with_numbers;
+use arrayvec::ArrayVec;
 use std::alloc::{AllocError, Global};
-use uz_point_instances::{Guide, NONE, is_wholly_told, number_of};
+use uz_point_instances::{Guide, NONE, is_wholly_told, number_at, number_of};
+use uz_point_shapes::Axis;
 use uz_schedule::Point;
 
 /// How often memory is given back while points are let go.
 const TIMES: usize = 64;
 
-/// Points that each stand for some of others.
+/// Points that are joined.
 #[derive(Drop)]
-pub(crate) struct Boxes {
-    /// The boxes, in the order in which the first of each one's points comes.
+pub(crate) struct Joined {
+    /// The joined points.
     pub(crate) points: Vec<Point>,
-    /// Of each of the others the number of the box that stands for it, or `NONE` where it stays.
-    pub(crate) numbers: Vec<u32>,
-    /// Of each of the others its number when they are joined.
-    pub(crate) into: Vec<u32>,
+    /// Of each point the number of the one that it is joined into. None where all are as they were.
+    pub(crate) numbers: Option<Vec<u32>>,
+}
+
+/// How points are joined.
+#[derive(Drop)]
+struct Plan {
+    /// Along which axis.
+    axis: Axis,
+    /// Into which boxes: one for each chain, numbered in the order of the least numbers of their points.
+    chains: Chains,
+    /// Of each point the number of the one that it is joined into.
+    into: Guide,
+    /// How many points there are.
+    count: usize,
+}
+
+/// What is used again for each box.
+#[derive(Drop)]
+struct Room {
+    /// The numbers of its points.
+    ids: Vec<u32>,
+    /// Where each of its lines and counts is said.
+    guide: Guide,
 }
 
 /// Points on their way: each goes from those that are left to the joined ones, or is let go.
@@ -30,21 +54,10 @@ pub(crate) struct Boxes {
 pub(crate) struct Replacing {
     /// The points that are left, the next one last.
     left: Vec<Point>,
-    /// The boxes that are left, the next one last.
-    boxes: Vec<Point>,
     /// How many boxes are among the joined ones.
     begun: u32,
     /// The joined ones.
     joined: Vec<Point>,
-}
-
-/// Puts a point behind others, with the numbers that its successors have when they are joined.
-fn put(joined: &mut Vec<Point>, into: &[u32], point: Point) -> Result<(), AllocError>
-    ensures { OnOk result (IsPut joined.old.items joined.new.items point) }
-{
-    let next = renumbered(point.next.as_slice(), into);
-    joined.push(Point { next, ..point })?;
-    Ok(())
 }
 
 /// Gives back the memory of points that are let go, after every so many.
@@ -56,93 +69,128 @@ fn give_back(left: &mut Vec<Point>, every: usize)
     }
 }
 
+/// Notes where each line and count of a box is said by the points that it stands for.
+fn note_points(source: &Source, room: &mut Room, point: &Point) -> Result<(), AllocError> {
+    room.guide.begin(point)?;
+    for id in room.ids.as_slice() {
+        let place = source.made_place(*id);
+        if let Some(said) = source.made.get(place) {
+            room.guide.note(point, number_of(place), said);
+        }
+    }
+    Ok(())
+}
+
+/// The box of a chain whose points are left. None where it says what those don't say.
+fn box_for(
+    plan: &Plan,
+    left: &[Point],
+    room: &mut Room,
+    number: u32,
+) -> Result<Option<Point>, AllocError>
+    ensures { IfOk result (λ o. IfSome o (IsWhollyTold left.now)) }
+{
+    let source = Source::of_left(left, plan.count);
+    plan.chains.put_points(number, &mut room.ids)?;
+    let point = match box_of(plan.axis, &source, room.ids.as_slice(), plan.into.numbers()) {
+        Some(point) => point,
+        None => return Ok(None),
+    };
+    note_points(&source, room, &point)?;
+    if is_wholly_told(&room.guide, left, 0, &point) {
+        Ok(Some(point))
+    } else {
+        Ok(None)
+    }
+}
+
 impl Replacing {
-    /// Points that are left, and boxes for some of them.
-    fn new(
-        alloc: Global,
-        points: Vec<Point>,
-        boxes: Vec<Point>,
-        numbers: &[u32],
-    ) -> Result<Replacing, AllocError>
-        requires { AreTold boxes.items points.items }
+    /// Points of which all are left; so many are joined ones in the end.
+    fn new(alloc: Global, points: Vec<Point>, joined: u32) -> Result<Replacing, AllocError>
         ensures { IfOk result (AreSoFar points.items 0) }
     {
-        let stay = numbers.iter().filter(|number| **number == NONE).count();
-        let mut joined = Vec::new(alloc);
-        joined.reserve_exact(stay.saturating_add(boxes.len()))?;
+        let mut room = Vec::new(alloc);
+        room.reserve_exact(joined as usize)?;
         let mut left = points;
         left.reverse();
-        let mut boxes = boxes;
-        boxes.reverse();
         Ok(Replacing {
             left,
-            boxes,
             begun: 0,
-            joined,
+            joined: room,
         })
     }
 
-    /// The next box is the next one of the joined points.
-    fn begin_box(&mut self, into: &[u32]) -> Result<(), AllocError>
-        ensures { OnOk result ((points : List PointType) (i : ℕ) → AreSoFar points i self.old → AreSoFar points i self.new) }
+    /// The next one of the joined points is the box of a chain. Whether the points that are left say all that it says.
+    fn begin_box(&mut self, plan: &Plan, room: &mut Room, number: u32) -> Result<bool, AllocError>
+        ensures { IfOk result (λ told. told ≡ true → (points : List PointType) (i : ℕ) → AreSoFar points i self.old
+            → AreSoFar points i self.new) }
     {
-        self.begun = self.begun.saturating_add(1);
-        if let Some(point) = self.boxes.pop() {
-            put(&mut self.joined, into, point)?;
+        match box_for(plan, self.left.as_slice(), room, number)? {
+            Some(point) => {
+                self.joined.push(point)?;
+                self.begun = self.begun.saturating_add(1);
+                Ok(true)
+            }
+            None => Ok(false),
         }
-        Ok(())
     }
 
-    /// So it is where its number is this one.
-    fn begin(&mut self, into: &[u32], number: u32) -> Result<(), AllocError>
-        ensures { OnOk result ((points : List PointType) (i : ℕ) → AreSoFar points i self.old → AreSoFar points i self.new) }
+    /// So it is where that chain's box is the next one that begins.
+    fn begin(&mut self, plan: &Plan, room: &mut Room, number: u32) -> Result<bool, AllocError>
+        ensures { IfOk result (λ told. told ≡ true → (points : List PointType) (i : ℕ) → AreSoFar points i self.old
+            → AreSoFar points i self.new) }
     {
         if number == self.begun {
-            self.begin_box(into)?;
+            self.begin_box(plan, room, number)
+        } else {
+            Ok(true)
         }
-        Ok(())
     }
 
     /// Takes the next point.
     fn take(&mut self, every: usize) -> Option<Point>
         ensures left { self.old.left.items ≡ self.new.left.items ++ option_to_list result }
-        ensures boxes { self.new.boxes.items ≡ self.old.boxes.items }
         ensures joined { self.new.joined.items ≡ self.old.joined.items }
     {
         give_back(&mut self.left, every);
         self.left.pop()
     }
 
-    /// Keeps a point: it is the next one of the joined points.
+    /// Keeps a point: it is the next one of the joined points, with the numbers that its successors have among those.
     fn keep(&mut self, into: &[u32], point: Point) -> Result<(), AllocError>
         ensures put { OnOk result (IsPut self.old.joined.items self.new.joined.items point) }
         ensures left { OnOk result (self.new.left.items ≡ self.old.left.items) }
-        ensures boxes { OnOk result (self.new.boxes.items ≡ self.old.boxes.items) }
     {
-        put(&mut self.joined, into, point)
+        let next = with_numbers(ArrayVec::new(), point.next.as_slice(), into);
+        self.joined.push(Point { next, ..point })?;
+        Ok(())
     }
 
     /// Lets the next point go where a box has its number, and else keeps it. Whether all that it says is said.
     fn pass(
         &mut self,
-        guide: &Guide,
+        plan: &Plan,
         every: usize,
+        room: &mut Room,
         id: u32,
-        number: u32,
     ) -> Result<bool, AllocError>
         ensures { IfOk result (λ said. said ≡ true → (points : List PointType) (i : ℕ) → AreSoFar points i self.old
             → AreSoFar points (i + 1) self.new) }
     {
-        self.begin(guide.numbers(), number)?;
+        let number = number_at(plan.chains.numbers(), id);
+        let told = self.begin(plan, room, number)?;
+        if !told {
+            return Ok(false);
+        }
         let point = match self.take(every) {
             Some(point) => point,
             None => return Ok(false),
         };
         if number == NONE {
-            self.keep(guide.numbers(), point)?;
+            self.keep(plan.into.numbers(), point)?;
             return Ok(true);
         }
-        Ok(is_wholly_told(guide, self.joined.as_slice(), id, &point))
+        Ok(is_wholly_told(&plan.into, self.joined.as_slice(), id, &point))
     }
 }
 
@@ -153,35 +201,58 @@ fn are_none(points: &[Point]) -> bool
     points.is_empty()
 }
 
-/// Points without those for which boxes stand. None where boxes don't say all that those say.
-pub(crate) fn replaced(
+/// The joined points of a plan. None where not all is said.
+fn joined_by(
     alloc: Global,
     points: Vec<Point>,
-    boxes: Boxes,
-) -> Result<Option<Joined>, AllocError>
-    requires { AreTold boxes.points.items points.items }
-    ensures same { IfOk result (λ o. IfSome o (λ j. SameInstances points.items j.points.items)) }
-    ensures numbered { IfOk result (λ o. IfSome o (λ j. IsSome j.numbers)) }
+    plan: &Plan,
+    joined: u32,
+) -> Result<Option<Vec<Point>>, AllocError>
+    ensures { IfOk result (λ o. IfSome o (λ joined. SameInstances points.items joined.items)) }
 {
-    let Boxes {
-        points: standing,
-        numbers,
-        into,
-    } = boxes;
     let every = points.len() / TIMES + 1;
-    let guide = Guide::by_numbers(alloc, into);
-    let mut replacing = Replacing::new(alloc, points, standing, numbers.as_slice())?;
-    for (i, number) in numbers.iter().enumerate() {
-        if !replacing.pass(&guide, every, number_of(i), *number)? {
+    let mut room = Room {
+        ids: Vec::new(alloc),
+        guide: Guide::by_numbers(alloc, Vec::new(alloc)),
+    };
+    let mut replacing = Replacing::new(alloc, points, joined)?;
+    for i in 0..plan.count {
+        if !replacing.pass(plan, every, &mut room, number_of(i))? {
             return Ok(None);
         }
     }
     let Replacing { left, joined, .. } = replacing;
-    if !are_none(left.as_slice()) {
-        return Ok(None);
+    if are_none(left.as_slice()) {
+        Ok(Some(joined))
+    } else {
+        Ok(None)
     }
+}
+
+/// Points with a box in place of those of each chain. Each point is let go when a box stands for it. None where not all is said.
+pub(crate) fn replaced(
+    alloc: Global,
+    axis: Axis,
+    points: Vec<Point>,
+    chains: Chains,
+) -> Result<Option<Joined>, AllocError>
+    ensures same { IfOk result (λ o. IfSome o (λ j. SameInstances points.items j.points.items)) }
+    ensures numbered { IfOk result (λ o. IfSome o (λ j. IsSome j.numbers)) }
+{
+    let (into, joined) = chains.joined_numbers(alloc)?;
+    let plan = Plan {
+        axis,
+        chains,
+        into: Guide::by_numbers(alloc, into),
+        count: points.len(),
+    };
+    let points = match joined_by(alloc, points, &plan, joined)? {
+        Some(points) => points,
+        None => return Ok(None),
+    };
+    let Plan { into, .. } = plan;
     Ok(Some(Joined {
-        points: joined,
-        numbers: Some(guide.into_numbers()),
+        points,
+        numbers: Some(into.into_numbers()),
     }))
 }

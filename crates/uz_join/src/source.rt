@@ -11,6 +11,8 @@ use uz_schedule::{Instance, Kind, Point};
 pub(crate) struct Source<'a> {
     /// The points that are made.
     pub(crate) made: &'a [Point],
+    /// How many those were, where they are in reverse and some of the first ones are gone.
+    turned: Option<usize>,
     /// The instances.
     pub(crate) nodes: &'a [Instance],
     /// Of each instance the number of its point.
@@ -22,15 +24,48 @@ pub(crate) struct Source<'a> {
 }
 
 impl<'a> Source<'a> {
-    /// Points alone.
-    pub(crate) fn of_points(made: &'a [Point]) -> Source<'a> {
+    /// Points and instances, where the numbers of the instances' points and where each one leads are known.
+    pub(crate) fn new(
+        made: &'a [Point],
+        nodes: &'a [Instance],
+        numbers: &'a [u32],
+        starts: &'a [u32],
+        places: &'a [u32],
+    ) -> Source<'a> {
         Source {
             made,
-            nodes: &[],
-            numbers: &[],
-            starts: &[],
-            places: &[],
+            turned: None,
+            nodes,
+            numbers,
+            starts,
+            places,
         }
+    }
+
+    /// Points alone.
+    pub(crate) fn of_points(made: &'a [Point]) -> Source<'a> {
+        Source::new(made, &[], &[], &[], &[])
+    }
+
+    /// Those that are left of so many points, in reverse.
+    pub(crate) fn of_left(left: &'a [Point], count: usize) -> Source<'a> {
+        Source {
+            turned: Some(count),
+            ..Source::of_points(left)
+        }
+    }
+
+    /// The place of the made point of a number, past the end where there is none.
+    pub(crate) fn made_place(&self, id: u32) -> usize {
+        match self.turned {
+            Some(count) => count.wrapping_sub(1).wrapping_sub(id as usize),
+            None => id as usize,
+        }
+    }
+
+    /// The made point of a number.
+    fn made(&self, id: u32) -> Option<&'a Point> {
+        self.made.get(self.made_place(id))
     }
 
     /// How many numbers points may have.
@@ -50,7 +85,7 @@ impl<'a> Source<'a> {
 
     /// Whether there is a point of this number.
     pub(crate) fn is_there(&self, id: u32) -> bool {
-        match self.made.get(id as usize) {
+        match self.made(id) {
             Some(_) => true,
             None => match self.numbers.get(self.place(id)) {
                 Some(number) => *number == id,
@@ -72,7 +107,7 @@ impl<'a> Source<'a> {
 
     /// The point of a number.
     pub(crate) fn point(&self, id: u32) -> Option<Point> {
-        match self.made.get(id as usize) {
+        match self.made(id) {
             Some(point) => Some(copied_point(point)),
             None => match self.nodes.get(self.place(id)) {
                 Some(at) => Some(point_of(at, ArrayVec::new())),
@@ -83,7 +118,7 @@ impl<'a> Source<'a> {
 
     /// The first line of a point.
     pub(crate) fn line(&self, id: u32) -> u16 {
-        match self.made.get(id as usize) {
+        match self.made(id) {
             Some(point) => point.l0,
             None => match self.nodes.get(self.place(id)) {
                 Some(at) => at.line,
@@ -112,7 +147,7 @@ impl<'a> Source<'a> {
 
     /// The numbers of the points where a point leads.
     pub(crate) fn next(&self, id: u32) -> ArrayVec<u32, 16> {
-        match self.made.get(id as usize) {
+        match self.made(id) {
             Some(point) => {
                 let mut next = ArrayVec::new();
                 for number in point.next.as_slice() {

@@ -4,7 +4,7 @@ use crate::chains::Chains;
 use crate::source::Source;
 use arrayvec::ArrayVec;
 use std::alloc::{AllocError, Global};
-use uz_point_instances::{NONE, number_at, number_of};
+use uz_point_instances::{NONE, number_at};
 
 /// How often chains are gone over. Each time those are cut that lead to too many others, and that may have come to be more.
 const PASSES: u32 = 64;
@@ -30,9 +30,13 @@ pub(crate) fn with_number(numbers: &ArrayVec<u32, 16>, new: u32) -> Option<Array
     Some(all)
 }
 
-/// The numbers that others have in a list, rising and each once, as many as there is room for.
-pub(crate) fn renumbered(from: &[u32], numbers: &[u32]) -> ArrayVec<u32, 16> {
-    let mut all = ArrayVec::new();
+/// Numbers with those that others have in a list, rising and each once, as many as there is room for.
+pub(crate) fn with_numbers(
+    all: ArrayVec<u32, 16>,
+    from: &[u32],
+    numbers: &[u32],
+) -> ArrayVec<u32, 16> {
+    let mut all = all;
     for id in from {
         if let Some(more) = with_number(&all, number_at(numbers, *id)) {
             all = more;
@@ -65,30 +69,7 @@ fn with_successors(
     Some(all)
 }
 
-/// The successors of each chain, each by the first point of its own chain. None where one has more than 16.
-fn all_successors(
-    alloc: Global,
-    source: &Source,
-    chains: &Chains,
-) -> Result<Option<Vec<ArrayVec<u32, 16>>>, AllocError> {
-    let mut all = Vec::new(alloc);
-    for _ in 0..chains.chains.len() {
-        all.push(ArrayVec::new())?;
-    }
-    for id in 0..source.count() {
-        let number = chains.number(id);
-        if let Some(next) = all.get_mut(number as usize) {
-            let ids = source.next(id);
-            match with_successors(next, chains, ids.as_slice()) {
-                Some(more) => *next = more,
-                None => return Ok(None),
-            }
-        }
-    }
-    Ok(Some(all))
-}
-
-/// The successors of a chain with those of a point. None where they are more than 16.
+/// The successors of a chain with those of a point. None where they are more than 16, or there is no such point.
 fn with_point(
     source: &Source,
     chains: &Chains,
@@ -102,42 +83,59 @@ fn with_point(
     with_successors(next, chains, ids.as_slice())
 }
 
-/// Cuts a chain before each point whose successors would be the seventeenth and more of those before it.
-fn cut(source: &Source, chains: &mut Chains, number: u32) -> Result<(), AllocError> {
-    let mut number = number;
-    let mut id = match chains.chain(number) {
-        Some(chain) => chain.first,
-        None => NONE,
-    };
-    let mut after = chains.after(id);
-    let mut next = with_point(source, chains, &ArrayVec::new(), id);
-    chains.restart(number, id);
-    for _ in 1..source.count() {
-        id = after;
-        if id == NONE {
-            break;
+/// Whether a chain of these points leads to at most 16 others.
+fn fits(source: &Source, chains: &Chains, ids: &[u32]) -> bool {
+    let mut next = ArrayVec::new();
+    for id in ids {
+        match with_point(source, chains, &next, *id) {
+            Some(more) => next = more,
+            None => return false,
         }
-        after = chains.after(id);
+    }
+    true
+}
+
+/// Whether each chain leads to at most 16 others.
+fn all_fit(source: &Source, chains: &Chains, ids: &mut Vec<u32>) -> Result<bool, AllocError> {
+    for number in 0..chains.count() {
+        chains.put_points(number, ids)?;
+        if !fits(source, chains, ids.as_slice()) {
+            return Ok(false);
+        }
+    }
+    Ok(true)
+}
+
+/// Cuts a chain of these points before each one whose successors would be the seventeenth and more of those before it.
+fn cut(source: &Source, chains: &mut Chains, number: u32, ids: &[u32]) -> Result<(), AllocError> {
+    let mut number = number;
+    let mut last = NONE;
+    let mut next = Some(ArrayVec::new());
+    for id in ids {
         let more = match &next {
-            Some(next) => with_point(source, chains, next, id),
+            Some(next) => with_point(source, chains, next, *id),
             None => None,
         };
-        if more.is_some() {
-            chains.go_on(number, id);
-            next = more;
+        if more.is_none() && last != NONE {
+            chains.end(last);
+            number = chains.begin(*id)?;
+            next = with_point(source, chains, &ArrayVec::new(), *id);
         } else {
-            number = chains.begin(id)?;
-            next = with_point(source, chains, &ArrayVec::new(), id);
+            chains.go_on(number, last, *id);
+            next = more;
         }
+        last = *id;
     }
     Ok(())
 }
 
 /// Cuts each chain, the latest first: where chains lead to later ones, those are cut before.
-fn cut_all(source: &Source, chains: &mut Chains) -> Result<(), AllocError> {
-    let count = number_of(chains.chains.len());
+fn cut_all(source: &Source, chains: &mut Chains, ids: &mut Vec<u32>) -> Result<(), AllocError> {
+    let count = chains.count();
     for k in 0..count {
-        cut(source, chains, count - 1 - k)?;
+        let number = count - 1 - k;
+        chains.put_points(number, ids)?;
+        cut(source, chains, number, ids.as_slice())?;
     }
     Ok(())
 }
@@ -164,20 +162,20 @@ fn put_in_order(
     }
 }
 
-/// The successors of chains, each by the first point of its own chain. The chains are cut until each leads to at most 16, and numbered.
-/// None where they were gone over too often.
+/// Cuts chains until each leads to at most 16 others, and numbers them. False where they were gone over too often.
 pub(crate) fn cut_to_successors(
     alloc: Global,
     numbering: Numbering,
     source: &Source,
     chains: &mut Chains,
-) -> Result<Option<Vec<ArrayVec<u32, 16>>>, AllocError> {
+) -> Result<bool, AllocError> {
+    let mut ids = Vec::new(alloc);
     for _ in 0..PASSES {
         put_in_order(alloc, numbering, source, chains)?;
-        if let Some(next) = all_successors(alloc, source, chains)? {
-            return Ok(Some(next));
+        if all_fit(source, chains, &mut ids)? {
+            return Ok(true);
         }
-        cut_all(source, chains)?;
+        cut_all(source, chains, &mut ids)?;
     }
-    Ok(None)
+    Ok(false)
 }

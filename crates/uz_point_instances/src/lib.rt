@@ -11,5 +11,5 @@ mod telling;
 
 pub use numbers::{NONE, nones, number_at, number_of};
 pub use points::{pair_facts, point_of, vector_point};
-pub use sameness::{Guide, are_told_back, is_wholly_told};
+pub use sameness::{Guide, is_wholly_told};
 pub use telling::say_instances;

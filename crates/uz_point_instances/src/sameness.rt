@@ -1,12 +1,12 @@
 //! Whether points say what others say.
 
-ghost use Rattle.std.specs.Prelude.{◌≡◌, ◌≤◌, ℕ, IfOk, true};
+ghost use Rattle.std.specs.Prelude.{◌≡◌, ◌≤◌, ℕ, true};
 ghost use Rattle.uz_schedule.specs.Instances.{is_in_box as box_holds};
-ghost use Rattle.uz_point_instances.specs.Same.{AreTold, IsTold, IsWhollyTold, SameAt};
+ghost use Rattle.uz_point_instances.specs.Same.{IsTold, IsWhollyTold, SameAt};
 ghost use Rattle.uz_point_instances.specs.Same.{SamePlace};
 
 use crate::comparing::say_one;
-use crate::numbers::{nones, number_at, number_of};
+use crate::numbers::{NONE, number_at};
 use std::alloc::{AllocError, Global};
 use uz_schedule::{Point, clock_of, is_in_box};
 
@@ -76,6 +76,27 @@ impl Guide {
         }
     }
 
+    /// To no point, for each line and count of this one's box, in place of others.
+    pub fn begin(&mut self, point: &Point) -> Result<(), AllocError> {
+        self.starts.clear();
+        self.starts.push(0)?;
+        self.numbers.clear();
+        self.numbers.resize(size(point) as usize, NONE)
+    }
+
+    /// To a point of this number, for what it has in the box of the point with which the guide began.
+    pub fn note(&mut self, joined: &Point, id: u32, point: &Point) {
+        for line in u32::from(point.l0)..u32::from(point.l1) + 1 {
+            for count in u16::from(point.c0)..u16::from(point.c1) + 1 {
+                let of_joined = count_at(joined, clock_of(point, count as u8), count as u8);
+                let at = offset(joined, line as u16, of_joined);
+                if let Some(slot) = self.numbers.get_mut(at as usize) {
+                    *slot = id;
+                }
+            }
+        }
+    }
+
     /// The numbers.
     pub fn numbers(&self) -> &[u32] {
         self.numbers.as_slice()
@@ -137,18 +158,6 @@ pub fn is_wholly_told(guide: &Guide, others: &[Point], id: u32, point: &Point) -
     true
 }
 
-/// Whether others have what points have.
-fn all_told(guide: &Guide, points: &[Point], others: &[Point]) -> bool
-    ensures { result ≡ true → AreTold points.now others.now }
-{
-    for i in 0..points.len() {
-        if !is_wholly_told(guide, others, number_of(i), &points[i]) {
-            return false;
-        }
-    }
-    true
-}
-
 /// Where the numbers of each point begin, and how many there are.
 pub(crate) fn starts_of(alloc: Global, points: &[Point]) -> Result<(Vec<u32>, u32), AllocError> {
     let mut starts = Vec::new(alloc);
@@ -158,67 +167,4 @@ pub(crate) fn starts_of(alloc: Global, points: &[Point]) -> Result<(Vec<u32>, u3
         start = start.saturating_add(size(point));
     }
     Ok((starts, start))
-}
-
-/// Notes a point at the place of what it has at a line and a count in the box of the one that it is joined into.
-fn note(
-    guide: &mut Guide,
-    joined: &[Point],
-    number: u32,
-    id: u32,
-    point: &Point,
-    line: u16,
-    count: u8,
-) {
-    if let Some(other) = joined.get(number as usize) {
-        let of_other = count_at(other, clock_of(point, count), count);
-        if let Some(start) = guide.starts.get(number as usize) {
-            let at = start.saturating_add(offset(other, line, of_other));
-            if let Some(slot) = guide.numbers.get_mut(at as usize) {
-                *slot = id;
-            }
-        }
-    }
-}
-
-/// Notes a point at the places of all that it has.
-fn note_all(guide: &mut Guide, joined: &[Point], number: u32, id: u32, point: &Point) {
-    for line in u32::from(point.l0)..u32::from(point.l1) + 1 {
-        for count in u16::from(point.c0)..u16::from(point.c1) + 1 {
-            note(guide, joined, number, id, point, line as u16, count as u8);
-        }
-    }
-}
-
-/// From joined points back to those that they are joined from.
-fn back(
-    alloc: Global,
-    points: &[Point],
-    joined: &[Point],
-    numbers: &[u32],
-) -> Result<Guide, AllocError> {
-    let (starts, count) = starts_of(alloc, joined)?;
-    let mut guide = Guide {
-        starts,
-        numbers: nones(alloc, count)?,
-    };
-    for (i, point) in points.iter().enumerate() {
-        let id = number_of(i);
-        note_all(&mut guide, joined, number_at(numbers, id), id, point);
-    }
-    Ok(guide)
-}
-
-/// Whether joined points say nothing but what the points say that they are joined from, where of each the number of the one is known that
-/// it is joined into: `NONE` where it isn't joined.
-pub fn are_told_back(
-    alloc: Global,
-    points: &[Point],
-    joined: &[Point],
-    numbers: &[u32],
-) -> Result<bool, AllocError>
-    ensures { IfOk result (λ told. told ≡ true → AreTold joined.now points.now) }
-{
-    let guide = back(alloc, points, joined, numbers)?;
-    Ok(all_told(&guide, joined, points))
 }

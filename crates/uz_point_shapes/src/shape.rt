@@ -256,26 +256,31 @@ fn place_key(axis: Axis, point: &Point) -> u64 {
     }
 }
 
+/// The upper half of a key.
+fn upper_half(key: u64) -> u32 {
+    (key >> 32) as u32
+}
+
 /// A number that points of one shape have alike. Few others have it.
-pub fn key(axis: Axis, point: &Point) -> u64 {
+pub fn key(axis: Axis, point: &Point) -> u32 {
     let mut key = mixed(place_key(axis, point), u64::from(point.top));
     for flag in &point.flags {
         key = mixed(key, flag_code(*flag));
     }
     let regs = mixed_facts(key, &point.regs);
-    mixed_facts(
+    upper_half(mixed_facts(
         mixed_facts(regs, point.stack.as_slice()),
         point.cells.as_slice(),
-    )
+    ))
 }
 
 /// A number that instances have alike which differ in their lines and in single bytes. Few others have it.
-pub fn node_key(at: &Instance) -> u64 {
+pub fn node_key(at: &Instance) -> u32 {
     let place = mixed(mixed(SEED, u64::from(at.pc)), u64::from(at.clock));
     let mut key = mixed(place, u64::from(at.top));
     for flag in &at.flags {
         key = mixed(key, flag_code(*flag));
     }
     let vals = mixed_vals(mixed_vals(key, &at.regs), at.stack.as_slice());
-    mixed_spans(vals, at.cells.as_slice())
+    upper_half(mixed_spans(vals, at.cells.as_slice()))
 }

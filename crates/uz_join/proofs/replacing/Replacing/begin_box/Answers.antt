@@ -1,14 +1,18 @@
-use Rattle.std.proofs.Common.{refl}
+use Rattle.std.proofs.Common.{refl, subst}
+use Rattle.std.specs.Prelude.{IfSome}
+use Rattle.uz_point_instances.specs.Same.{IsWhollyTold}
 use Rattle.uz_join.proofs.PutLemmas.{box_put}
 use Rattle.uz_join.proofs.replacing.Replacing.begin_box.Goals as goal
 
-pub returns-in_ok-put : goal.returns-in_ok-put
-returns-in_ok-put c = λ points i.
+pub returns-in_ok-push-in-Some : goal.returns-in_ok-push-in-Some
+returns-in_ok-push-in-Some c = λ told points i.
     box_put points i c.args.self.now
     (record {
       left = c.args.self.now.left;
-      boxes = c.pop.new.self;
       begun = c.saturating_add-self.result;
-      joined = c.put.new.joined;
+      joined = c.push.new.self;
     })
-    c.in-Some.point c.in-Some.ensures.items c.in_ok-put.ensures refl
+    c.in-Some.point
+    (subst (λ left. IsWhollyTold left c.in-Some.point) c.as_slice.ensures.value
+    (subst (λ o. IfSome o (IsWhollyTold c.as_slice.result.now)) c.in-Some.is c.in_ok-point.ensures))
+    c.in_ok-push-in-Some.ensures.items refl

@@ -4,11 +4,10 @@ use Rattle.uz_join.proofs.replacing.Replacing.new.Goals as goal
 
 pub returns : goal.returns
 returns c =
-    none_replaced c.args.points.items c.args.boxes.items
+    none_replaced c.args.points.items
     (record {
       left = c.reverse.new.self;
-      boxes = c.reverse-2.new.self;
       begun = 0;
       joined = c.reserve_exact.new.self;
     })
-    c.reverse.ensures.items c.reverse-2.ensures.items (c.reserve_exact.ensures.items ∙ c.new-joined.ensures.items) c.requires
+    c.reverse.ensures.items (c.reserve_exact.ensures.items ∙ c.new-room.ensures.items)
