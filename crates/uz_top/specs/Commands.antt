@@ -10,16 +10,16 @@ use Rattle.uz_run_commands.specs.TraceCommand.{TraceAnswers, TraceParts}
 use Rattle.uz_run_files.specs.RunFiles.{RunLacks, RunSucceeds}
 use Rattle.uz_source_commands.specs.MacroCommands.{BuildAnswers, BuildSucceeds, ExpandAnswers, ExpandSucceeds, FilesBuilt}
 use Rattle.uz_source_commands.specs.MacroSource.{MacroLacks}
-use Rattle.uz_play_command.specs.PlayCommand.{FilesHalted, FilesPlayed, PlayAnswers, PlayLacks, PlayParts, PlaySucceeds}
+use Rattle.uz_play_commands.specs.PlayCommand.{FilesHalted, FilesPlayed, PlayAnswers, PlayLacks, PlayParts, PlaySucceeds}
 use Rattle.uz_run_commands.specs.DebugCommand.{DebugAnswers, DebugLacks, DebugSucceeds}
 use Rattle.uz_source_commands.specs.AsmCommand.{AsmAnswers, AsmSucceeds, FilesAssembled}
 use Rattle.uz_source_commands.specs.DisCommand.{DisAnswers, DisSucceeds}
 use Rattle.uz_certify_command.specs.CertifyCommand.{AllowedOf, CertifyAnswers, CertifyAnswersBy, CertifySucceeds, FilesCertify}
-use Rattle.uz_demo_command.specs.DemoCommand.{AllowedOfDemo, DemoAnswers, DemoAnswersBy, DemoHalted, DemoParts, DemoPlayed, DemoSucceeds}
-use Rattle.uz_migrate_command.specs.MigrateCommand.{FilesMigrated, MigrateAnswers, MigrateSucceeds}
-use Rattle.uz_check_command.specs.CheckCommand.{CheckAnswers, FilesCertified}
-use Rattle.uz_report_command.specs.ReportCommand.{FilesReported, ReportAnswers}
-use Rattle.uz_wave_command.specs.WaveCommand.{FilesHeard, WaveAnswers}
+use Rattle.uz_play_commands.specs.DemoCommand.{AllowedOfDemo, DemoAnswers, DemoAnswersBy, DemoHalted, DemoParts, DemoPlayed, DemoSucceeds}
+use Rattle.uz_certificate_commands.specs.MigrateCommand.{FilesMigrated, MigrateAnswers, MigrateSucceeds}
+use Rattle.uz_certificate_commands.specs.CheckCommand.{CheckAnswers, FilesCertified}
+use Rattle.uz_certificate_commands.specs.ReportCommand.{FilesReported, ReportAnswers}
+use Rattle.uz_run_commands.specs.WaveCommand.{FilesHeard, WaveAnswers}
 use Rattle.uz_pair_files.specs.PairFiles.{PairLacks, SpellPair}
 use Rattle.uz_soundness.specs.Acceptance.{Accepts}
 

@@ -10,7 +10,7 @@ ghost use Rattle.uz_top.specs.Words.{play_with as play_with_clocks, play_words, 
 ghost use Rattle.uz_top.specs.Words.{wave_with as wave_with_numbers, wave_words};
 
 use uz_cert::Response;
-use uz_play_command::{Clocks, number_of_clocks};
+use uz_play_commands::{Clocks, number_of_clocks};
 use uz_text::{number, number_within};
 
 /// A command, with the names of its files.

@@ -12,17 +12,13 @@ ghost use Rattle.uz_top.specs.Words.{AreNoCommand, IfCommand, WritesApart};
 use crate::command::{Command, parse};
 use avr_macro::expansion_is_unique;
 use std::alloc::Global;
+use uz_certificate_commands::{run_check, run_migrate, run_report};
 use uz_certify_command::run_certify;
-use uz_check_command::run_check;
-use uz_demo_command::run_demo;
 use uz_files::{Status, end_fault, readings_are_unique};
-use uz_migrate_command::run_migrate;
-use uz_play_command::run_play;
-use uz_report_command::run_report;
-use uz_run_commands::{run_debug, run_trace};
+use uz_play_commands::{run_demo, run_play};
+use uz_run_commands::{run_debug, run_trace, run_wave};
 use uz_shelf::{Shelf, Sink};
 use uz_source_commands::{run_asm, run_build, run_dis, run_expand};
-use uz_wave_command::run_wave;
 
 /// Prints the usage line.
 fn end_usage<K: Sink>(alloc: Global, out: &mut K) -> Status

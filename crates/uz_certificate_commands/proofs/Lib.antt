@@ -1,0 +1,2 @@
+pub mod MigrateLemmas
+pub mod ReportLemmas

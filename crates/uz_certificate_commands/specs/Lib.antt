@@ -1,0 +1,4 @@
+pub mod CheckCommand
+pub mod MigrateCommand
+pub mod MigrateValues
+pub mod ReportCommand

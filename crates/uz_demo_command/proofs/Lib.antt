@@ -1,3 +1,0 @@
-pub mod DemoLemmas
-pub mod DemoSameLemmas
-pub mod DemoWorthLemmas

@@ -1,2 +1,0 @@
-pub mod DemoCommand
-pub mod DemoValues

@@ -1,2 +1,0 @@
-pub mod MigrateCommand
-pub mod MigrateValues

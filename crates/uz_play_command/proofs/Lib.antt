@@ -1,3 +1,0 @@
-pub mod PlayLemmas
-pub mod PlaySameLemmas
-pub mod PlayWorthLemmas

@@ -1,2 +1,0 @@
-pub mod PlayCommand
-pub mod PlayValues

@@ -1,0 +1,4 @@
+pub mod DemoCommand
+pub mod DemoValues
+pub mod PlayCommand
+pub mod PlayValues

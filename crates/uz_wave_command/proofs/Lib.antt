@@ -1,3 +1,0 @@
-pub mod HearingLemmas
-pub mod WaveFileLemmas
-pub mod WaveLemmas

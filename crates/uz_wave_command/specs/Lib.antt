@@ -1,2 +1,0 @@
-pub mod WaveCommand
-pub mod WaveValues
