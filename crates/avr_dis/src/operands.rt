@@ -1,28 +1,47 @@
 // The operands of an instruction, as its row writes them.
 
-ghost use Rattle.std.specs.Prelude.{◌≡◌, ◌<◌, ◌+◌, ◌*◌, codes, decimal, ◌∷◌, []};
-ghost use Rattle.avr_dis.specs.Operands.{operand_text, operand_texts};
-ghost use Rattle.avr_dis.specs.Text.{displaced, operands_of, register, relative};
+ghost use Rattle.std.specs.Prelude.{◌≡◌};
+ghost use Rattle.avr_dis.specs.Operands.{operand_texts};
+ghost use Rattle.avr_dis.specs.Text.{operands_of};
 
-use avr_table::{Field, Instr, rows};
+use avr_table::{Instr, rows};
 
-/// An operand, by its written form.
+/// A pointer register, with its step.
+#[derive(Clone, Copy)]
+pub(crate) enum PointerForm {
+    X,
+    XInc,
+    XDec,
+    YInc,
+    YDec,
+    Z,
+    ZInc,
+    ZDec,
+}
+
+/// An operand, by its written form, with what its fields hold.
 #[derive(Clone, Copy)]
 pub(crate) enum Operand {
-    /// `r` and the register's number.
+    /// A register.
     Register(u16),
-    /// A number.
+    /// A register, counted from 16.
+    UpperRegister(u16),
+    /// A pair of registers, in pairs.
+    Pair(u16),
+    /// A pair of registers, in pairs from 24.
+    UpperPair(u16),
+    /// A number without a sign.
     Number(u16),
     /// A pointer register, with its step.
-    Pointer(&'static str),
-    /// A displacement from Y.
-    AfterY(u16),
-    /// A displacement from Z.
-    AfterZ(u16),
-    /// So many bytes after the following instruction.
-    Forward(u16),
-    /// So many bytes before the following instruction.
-    Backward(u16),
+    Pointer(PointerForm),
+    /// A displacement, from Y where the first is 1, and else from Z.
+    Displaced(u16, u16),
+    /// A signed number of words in 7 bits, from the following instruction.
+    Relative7(u16),
+    /// A signed number of words in 12 bits, from the following instruction.
+    Relative12(u16),
+    /// A word address.
+    Absolute(u16),
 }
 
 /// The operands of an instruction, in order.
@@ -33,77 +52,66 @@ pub(crate) enum Operands {
     Two(Operand, Operand),
 }
 
-fn register<const BITS: u32>(d: Field<BITS>) -> Operand
-    ensures { operand_text result ≡ register d.entry.value }
-{
-    Operand::Register(d.value)
+/// The pointer of a text.
+macro_rules! row_pointer {
+    ("X") => {
+        PointerForm::X
+    };
+    ("X+") => {
+        PointerForm::XInc
+    };
+    ("-X") => {
+        PointerForm::XDec
+    };
+    ("Y+") => {
+        PointerForm::YInc
+    };
+    ("-Y") => {
+        PointerForm::YDec
+    };
+    ("Z") => {
+        PointerForm::Z
+    };
+    ("Z+") => {
+        PointerForm::ZInc
+    };
+    ("-Z") => {
+        PointerForm::ZDec
+    };
 }
 
-fn upper_register<const BITS: u32>(d: Field<BITS>) -> Operand
-    requires { d.value < 16 }
-    ensures { operand_text result ≡ register (16 + d.entry.value) }
-{
-    Operand::Register(16 + d.value)
-}
-
-fn pair(d: Field<4>) -> Operand
-    ensures { operand_text result ≡ register (2 * d.value) }
-{
-    Operand::Register(2 * d.value)
-}
-
-fn upper_pair(d: Field<2>) -> Operand
-    ensures { operand_text result ≡ register (24 + 2 * d.value) }
-{
-    Operand::Register(24 + 2 * d.value)
-}
-
-fn number<const BITS: u32>(k: Field<BITS>) -> Operand
-    ensures { operand_text result ≡ decimal k.entry.value }
-{
-    Operand::Number(k.value)
-}
-
-fn pointer(text: &'static str) -> Operand
-    ensures { operand_text result ≡ text.now }
-{
-    Operand::Pointer(text)
-}
-
-fn displaced(y: Field<1>, q: Field<6>) -> Operand
-    ensures { operand_text result ≡ displaced y.value q.value }
-{
-    if y.value == 1 {
-        Operand::AfterY(q.value)
-    } else {
-        Operand::AfterZ(q.value)
-    }
-}
-
-fn relative_7(k: Field<7>) -> Operand
-    ensures { operand_text result ≡ relative 7 k.value }
-{
-    if k.value < 64 {
-        Operand::Forward(2 * k.value)
-    } else {
-        Operand::Backward(2 * (128 - k.value))
-    }
-}
-
-fn relative_12(k: Field<12>) -> Operand
-    ensures { operand_text result ≡ relative 12 k.value }
-{
-    if k.value < 2048 {
-        Operand::Forward(2 * k.value)
-    } else {
-        Operand::Backward(2 * (4096 - k.value))
-    }
-}
-
-fn absolute(k: Field<15>) -> Operand
-    ensures { operand_text result ≡ decimal (2 * k.value) }
-{
-    Operand::Number(2 * k.value)
+/// An operand, as a row writes it.
+macro_rules! row_operand {
+    (register($d:ident)) => {
+        Operand::Register($d.value)
+    };
+    (upper_register($d:ident)) => {
+        Operand::UpperRegister($d.value)
+    };
+    (pair($d:ident)) => {
+        Operand::Pair($d.value)
+    };
+    (upper_pair($d:ident)) => {
+        Operand::UpperPair($d.value)
+    };
+    (number($k:ident)) => {
+        Operand::Number($k.value)
+    };
+    (pointer($text:tt)) => {
+        Operand::Pointer(row_pointer!($text))
+    };
+    (displaced($y:ident, $q:ident)) => {
+        Operand::Displaced($y.value, $q.value)
+    };
+    (relative_7($k:ident)) => {
+        Operand::Relative7($k.value)
+    };
+    (relative_12($k:ident)) => {
+        Operand::Relative12($k.value)
+    };
+    (absolute($k:ident)) => {
+        Operand::Absolute($k.value)
+    };
 }
 
 macro_rules! in_order {
@@ -123,7 +131,7 @@ macro_rules! operands_match {
       words $words:literal, clocks ($next:literal, $taken:literal, $one:literal, $two:literal),
       fixed $mask:literal is $value:literal;)*) => {
         match $i {
-            $(Instr::$variant { $($field),* } => in_order!($($operand($($part),*)),*),)*
+            $(Instr::$variant { $($field),* } => in_order!($(row_operand!($operand($($part),*))),*),)*
         }
     };
 }
@@ -132,6 +140,5 @@ macro_rules! operands_match {
 pub(crate) fn row_operands(i: &Instr) -> Operands
     ensures { operand_texts result ≡ operands_of i.now }
 {
-    let i = *i;
-    rows!(operands_match(i))
+    rows!(operands_match(*i))
 }
