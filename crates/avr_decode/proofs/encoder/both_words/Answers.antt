@@ -1,12 +1,10 @@
 use Rattle.std.proofs.Common.{◌≡◌, refl, sym, ap, subst, ◌∙◌, arith}
 use Rattle.avr_table.specs.Pattern.{spelled}
 use Rattle.avr_table.specs.Rows.{pattern_of, words_of, ReadsAt}
-use Rattle.avr_table.specs.declared.Instr.TheVariants.{Add, Adc, Adiw, Sub, Subi, Sbc, Sbci, Sbiw, And, Andi, Or, Ori, Eor, Com, Neg, Inc}
-use Rattle.avr_table.specs.declared.Instr.TheVariants.{Dec, Mul, Muls, Mulsu, Fmul, Fmuls, Fmulsu, Rjmp, Ijmp, Jmp, Rcall, Icall, Call, Ret}
-use Rattle.avr_table.specs.declared.Instr.TheVariants.{Reti, Cpse, Cp, Cpc, Cpi, Sbrc, Sbrs, Sbic, Sbis, Brbs, Brbc, Mov, Movw, Ldi, LdX}
-use Rattle.avr_table.specs.declared.Instr.TheVariants.{LdXInc, LdXDec, LdYInc, LdYDec, LdZInc, LdZDec, Ldd, Lds, StX, StXInc, StXDec}
-use Rattle.avr_table.specs.declared.Instr.TheVariants.{StYInc, StYDec, StZInc, StZDec, Std, Sts, Lpm, LpmZ, LpmZInc, Spm, In, Out, Push}
-use Rattle.avr_table.specs.declared.Instr.TheVariants.{Pop, Lsr, Ror, Asr, Swap, Bset, Bclr, Sbi, Cbi, Bst, Bld, Break, Nop, Sleep, Wdr}
+use Rattle.avr_table.specs.declared.Instr.TheVariants.{Ijmp, Icall, Ret}
+use Rattle.avr_table.specs.declared.Instr.TheVariants.{Reti}
+use Rattle.avr_table.specs.declared.Instr.TheVariants.{Lpm, Spm}
+use Rattle.avr_table.specs.declared.Instr.TheVariants.{Break, Nop, Sleep, Wdr}
 use Rattle.avr_table.proofs.PatternLemmas.{stands_from_mask}
 use Rattle.avr_decode.specs.Gathered.{gathered, ones_below}
 use Rattle.avr_decode.proofs.ReadWords.{letter, reads_at}
