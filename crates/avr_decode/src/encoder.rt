@@ -36,16 +36,28 @@ pub fn encode(i: &Instr) -> Code
     }
 }
 
+/// A row's fixed bits, with each field's bits put into their places.
+macro_rules! row_number {
+    ($fixed:literal) => {
+        $fixed
+    };
+    ($fixed:literal, $a_bits:literal $a:ident) => {
+        scatter($fixed, $a_bits, $a.value)
+    };
+    ($fixed:literal, $a_bits:literal $a:ident, $b_bits:literal $b:ident) => {
+        scatter_two($fixed, $a_bits, $a.value, $b_bits, $b.value)
+    };
+    ($fixed:literal, $a_bits:literal $a:ident, $b_bits:literal $b:ident, $c_bits:literal $c:ident) => {
+        scatter(scatter_two($fixed, $a_bits, $a.value, $b_bits, $b.value), $c_bits, $c.value)
+    };
+}
+
 macro_rules! both_words_match {
     (($i:expr) $($variant:ident { $($field:ident $bits:literal),* } $key:ident $name:literal [$($operand:ident($($part:tt),*)),*],
       words $words:literal, clocks ($next:literal, $taken:literal, $one:literal, $two:literal),
       fixed $mask:literal is $value:literal;)*) => {
         match $i {
-            $(Instr::$variant { $($field),* } => {
-                let number = $value;
-                $(let number = scatter(number, $bits, $field.value);)*
-                number
-            })*
+            $(Instr::$variant { $($field),* } => row_number!($value $(, $bits $field)*),)*
         }
     };
 }
@@ -58,6 +70,21 @@ fn both_words(i: &Instr) -> u32
 {
     let i = *i;
     rows!(both_words_match(i))
+}
+
+/// The number with the bits of `x` and `y` in the places of their masks, lowest first, and `base` in all others.
+fn scatter_two(base: u32, x_mask: u32, x: u16, y_mask: u32, y: u16) -> u32
+    requires x_free { bit_and base x_mask ≡ 0 }
+    requires y_free { bit_and base y_mask ≡ 0 }
+    requires apart { bit_and x_mask y_mask ≡ 0 }
+    requires x_fits { x < 2 ^ ones_below 32 x_mask }
+    requires y_fits { y < 2 ^ ones_below 32 y_mask }
+    ensures x_own { gathered 32 x_mask result ≡ x }
+    ensures y_own { gathered 32 y_mask result ≡ y }
+    ensures others { (m : ℕ) → bit_and m x_mask ≡ 0 → bit_and m y_mask ≡ 0 → bit_and result m ≡ bit_and base m }
+{
+    let number = scatter(base, x_mask, x);
+    scatter(number, y_mask, y)
 }
 
 /// The number with the bits of `x` in the places of the mask, lowest first, and `base` in all others.
