@@ -1,3 +1,4 @@
 pub mod Length
 pub mod Pattern
+pub mod RowClocks
 pub mod Rows
