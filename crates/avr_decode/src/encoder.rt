@@ -74,11 +74,8 @@ fn both_words(i: &Instr) -> u32
 
 /// The number with the bits of `x` and `y` in the places of their masks, lowest first, and `base` in all others.
 fn scatter_two(base: u32, x_mask: u32, x: u16, y_mask: u32, y: u16) -> u32
-    requires x_free { bit_and base x_mask ≡ 0 }
-    requires y_free { bit_and base y_mask ≡ 0 }
-    requires apart { bit_and x_mask y_mask ≡ 0 }
-    requires x_fits { x < 2 ^ ones_below 32 x_mask }
-    requires y_fits { y < 2 ^ ones_below 32 y_mask }
+    requires apart { (bit_and base x_mask ≡ 0) × (bit_and base y_mask ≡ 0) × (bit_and x_mask y_mask ≡ 0) }
+    requires fit { (x < 2 ^ ones_below 32 x_mask) × (y < 2 ^ ones_below 32 y_mask) }
     ensures x_own { gathered 32 x_mask result ≡ x }
     ensures y_own { gathered 32 y_mask result ≡ y }
     ensures others { (m : ℕ) → bit_and m x_mask ≡ 0 → bit_and m y_mask ≡ 0 → bit_and result m ≡ bit_and base m }
