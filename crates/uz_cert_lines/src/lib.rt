@@ -5,6 +5,7 @@ mod defaults;
 mod items;
 mod laws;
 mod lines;
+mod numbers;
 mod version;
 
 pub use items::{Facts, Shape};

@@ -1,12 +1,14 @@
 //! The lines of a certificate's text, each read as what it says.
 
-ghost use Rattle.std.specs.Prelude.{◌≡◌, ◌<◌, ◌≤◌, ◌+◌, ◌-◌, ◌/◌, IfOk, IfErr, Ok, Err, length, map};
+ghost use Rattle.std.specs.Prelude.{ℕ, ◌≡◌, ◌≢◌, ◌<◌, ◌≤◌, ◌+◌, ◌-◌, ◌/◌, IfOk, IfErr, Ok, Err, [], ◌∷◌, codes, length, map};
 ghost use Rattle.uz_schedule.specs.Tracked.{depth_of as depth_of_kind};
-ghost use Rattle.uz_cert_lines.specs.Forms.{reads, spans_of};
+ghost use Rattle.uz_cert_words.specs.Grammar.{choice_of, next_as, number_of, rest_of};
+ghost use Rattle.uz_cert_lines.specs.Forms.{reads, spans_of, finish as ends_with};
+ghost use Rattle.uz_cert_lines.specs.declared.lines.Said.TheVariants as said_of;
 ghost use Rattle.uz_cert_lines.specs.Lines.{size_form, irq_form, stack_form, cell_form, kind_form, event_form};
 ghost use Rattle.uz_cert_lines.specs.Lines.{fall_form, run_form, rest_form};
-ghost use Rattle.uz_cert_lines.specs.Lines.{entry_form, point_form, end_form, within as within_limits, one_of as number_of_one};
-ghost use Rattle.uz_cert_lines.specs.Lines.{rising as rising_from, least_of as lesser_of, response_of as response_of_clocks};
+ghost use Rattle.uz_cert_lines.specs.Lines.{entry_form, point_form, end_form, within as within_limits};
+ghost use Rattle.uz_cert_lines.specs.Lines.{least_of as lesser_of, response_of as response_of_clocks};
 ghost use Rattle.uz_cert_lines.specs.Lines.{owner_of as owner_of_place, off_stack as off_the_stack, none_in_main as none_of_main};
 ghost use Rattle.uz_cert_lines.specs.Lines.{shape_of as shape_of_kind, is_timed as has_timer, point_shape as shape_of_point};
 ghost use Rattle.uz_cert_lines.specs.Lines.{span_of_fact as ends_of_fact};
@@ -18,6 +20,7 @@ ghost use Rattle.uz_cert_lines.specs.Lines.{event_after as event_after_clock, po
 
 use crate::defaults::{is_handler, tracks};
 use crate::items::{Facts, Shape, read_items};
+use crate::numbers::{between, in_order, one_number_of, one_of, within};
 use crate::version::Version;
 use arrayvec::ArrayVec;
 use uz_cert_words::{Asked, CertWhy, Words};
@@ -101,45 +104,12 @@ pub enum Said {
     End,
 }
 
-/// A number from `low` on and below `limit`.
-fn within(low: u32, limit: u32) -> Asked
-    ensures asked { result ≡ within_limits low limit }
-    ensures low { result.low ≡ low }
-    ensures limit { result.limit ≡ limit }
+/// What the line says, where it ends here.
+fn at_end(words: &mut Words, said: Said) -> Result<Said, CertWhy>
+    ensures { result ≡ reads (ends_with said) words.old }
 {
-    Asked {
-        low,
-        limit,
-        beyond: CertWhy::Limit,
-        hole: 0,
-        hole_end: 0,
-        least: 0,
-        other: u32::MAX,
-    }
-}
-
-/// The number of one of so many, which are counted from 0.
-fn one_of(count: u32) -> Asked
-    ensures asked { result ≡ number_of_one count }
-    ensures limit { result.limit ≡ count }
-{
-    Asked {
-        low: 0,
-        limit: count,
-        beyond: CertWhy::Unknown,
-        hole: 0,
-        hole_end: 0,
-        least: 0,
-        other: u32::MAX,
-    }
-}
-
-/// The same, and at least so much to keep the order.
-fn rising(least: u32, asked: Asked) -> Asked
-    ensures asked { result ≡ rising_from least asked }
-    ensures limit { result.limit ≡ asked.limit }
-{
-    Asked { least, ..asked }
+    words.finish()?;
+    Ok(said)
 }
 
 fn least_of(a: u32, b: u32) -> u32
@@ -153,19 +123,21 @@ pub fn size_line(words: &mut Words) -> Result<Said, CertWhy>
     ensures { result ≡ reads size_form words.old }
 {
     words.fixed(b"size")?;
-    let kinds = words.number(within(1, 526))?;
-    let lines = words.number(within(1, 526))?;
-    let rests = words.number(within(0, lines + 1))?;
-    let points = words.number(within(1, 524289))?;
-    let cells = words.number(within(0, 17))?;
-    words.finish()?;
-    Ok(Said::Size(Sizes {
-        kinds,
-        lines,
-        rests,
-        points,
-        cells,
-    }))
+    let kinds = between(words, 1, 526)?;
+    let lines = between(words, 1, 526)?;
+    let rests = between(words, 0, lines + 1)?;
+    let points = between(words, 1, 524289)?;
+    let cells = between(words, 0, 17)?;
+    at_end(
+        words,
+        Said::Size(Sizes {
+            kinds,
+            lines,
+            rests,
+            points,
+            cells,
+        }),
+    )
 }
 
 fn response_of(clocks: u32) -> Response
@@ -183,9 +155,18 @@ pub fn irq_line(words: &mut Words) -> Result<Said, CertWhy>
     ensures { result ≡ reads irq_form words.old }
 {
     words.fixed(b"irq")?;
-    let clocks = words.number(within(4, 6))?;
-    words.finish()?;
-    Ok(Said::Irq(response_of(clocks)))
+    let clocks = between(words, 4, 6)?;
+    at_end(words, Said::Irq(response_of(clocks)))
+}
+
+/// The next word, which has to be a number of bytes that may be pushed where the stack has room for so many.
+fn pushed(words: &mut Words, room: u32) -> Result<u32, CertWhy>
+    ensures number { result ≡ next_as (number_of (within_limits 0 (lesser_of 33 room))) words.old }
+    ensures few { IfOk result (λ n. n < 33) }
+    ensures room { IfOk result (λ n. n ≤ room) }
+    ensures rest { words.new ≡ rest_of words.old }
+{
+    between(words, 0, least_of(33, room))
 }
 
 /// `stack LO HI MAIN HANDLER`
@@ -193,17 +174,27 @@ pub fn stack_line(words: &mut Words) -> Result<Said, CertWhy>
     ensures { result ≡ reads stack_form words.old }
 {
     words.fixed(b"stack")?;
-    let lo = words.number(within(256, 4351))?;
-    let hi = words.number(within(lo + 1, 4352))?;
-    let main = words.number(within(0, least_of(33, hi - lo)))?;
-    let handler = words.number(within(0, least_of(33, hi - lo - main)))?;
-    words.finish()?;
-    Ok(Said::Stack(StackLine {
-        lo: lo as u16,
-        hi: hi as u16,
-        main: main as u8,
-        handler: handler as u8,
-    }))
+    let lo = between(words, 256, 4351)?;
+    let hi = between(words, lo + 1, 4352)?;
+    let main = pushed(words, hi - lo)?;
+    let handler = pushed(words, hi - lo - main)?;
+    at_end(
+        words,
+        Said::Stack(StackLine {
+            lo: lo as u16,
+            hi: hi as u16,
+            main: main as u8,
+            handler: handler as u8,
+        }),
+    )
+}
+
+/// The next word, which has to be an owner; its place among them.
+fn owner_word(words: &mut Words) -> Result<u32, CertWhy>
+    ensures place { result ≡ next_as (choice_of (codes "main" ∷ codes "handler" ∷ [])) words.old }
+    ensures rest { words.new ≡ rest_of words.old }
+{
+    words.choice(&[b"main", b"handler"])
 }
 
 fn owner_of(place: u32) -> Owner
@@ -235,15 +226,17 @@ pub fn cell_line(lo: u16, hi: u16, least: u32, words: &mut Words) -> Result<Said
 {
     words.fixed(b"cell")?;
     let at = words.number(off_stack(lo, hi, least))?;
-    let owner = words.choice(&[b"main", b"handler"])?;
-    let low = words.number(within(0, 256))?;
-    let high = words.number(within(low, 256))?;
-    words.finish()?;
-    Ok(Said::Cell(Cell {
-        at: at as u16,
-        owner: owner_of(owner),
-        range: Span::between(low as u8, high as u8),
-    }))
+    let owner = owner_word(words)?;
+    let low = between(words, 0, 256)?;
+    let high = between(words, low, 256)?;
+    at_end(
+        words,
+        Said::Cell(Cell {
+            at: at as u16,
+            owner: owner_of(owner),
+            range: Span::between(low as u8, high as u8),
+        }),
+    )
 }
 
 /// The clocks of half a scanline or of a whole one, and no fewer than there are events.
@@ -264,17 +257,16 @@ fn kind_after(version: Version, events: u32, words: &mut Words) -> Result<Said, 
     ensures { result ≡ reads (kind_after_events version events) words.old }
 {
     match version {
-        Version::First => {
-            words.finish()?;
-            Ok(Said::Kind(KindLine {
+        Version::First => at_end(
+            words,
+            Said::Kind(KindLine {
                 events,
                 clocks: SCANLINE,
-            }))
-        }
+            }),
+        ),
         Version::Second => {
             let clocks = words.number(length_for(events))? as u16;
-            words.finish()?;
-            Ok(Said::Kind(KindLine { events, clocks }))
+            at_end(words, Said::Kind(KindLine { events, clocks }))
         }
     }
 }
@@ -284,47 +276,50 @@ pub fn kind_line(version: Version, words: &mut Words) -> Result<Said, CertWhy>
     ensures { result ≡ reads (kind_form version) words.old }
 {
     words.fixed(b"kind")?;
-    let events = words.number(within(1, EVENTS + 1))?;
+    let events = between(words, 1, EVENTS + 1)?;
     kind_after(version, events, words)
+}
+
+/// The next word, which has to be one of an event; its place among them.
+fn event_word(words: &mut Words) -> Result<u32, CertWhy>
+    ensures place { result ≡ next_as (choice_of (codes "sync" ∷ codes "pixel" ∷ codes "sound" ∷ codes "leave" ∷ [])) words.old }
+    ensures rest { words.new ≡ rest_of words.old }
+{
+    words.choice(&[b"sync", b"pixel", b"sound", b"leave"])
+}
+
+/// What the word of this place, which isn't `sync`, says of an event.
+fn plain_event(place: u32) -> EventKind
+    requires { place ≢ 0 }
+    ensures { (clock : ℕ) → event_after_clock clock place ≡ ends_with (said_of.Event (record { clock = clock; kind = result })) }
+{
+    if place == 1 {
+        EventKind::Pixel
+    } else if place == 2 {
+        EventKind::Sound
+    } else {
+        EventKind::Leave
+    }
 }
 
 /// What follows the clock of an event, whose word is of this place.
 fn event_after(clock: u16, place: u32, words: &mut Words) -> Result<Said, CertWhy>
     ensures { result ≡ reads (event_after_clock clock place) words.old }
 {
-    if place == 0 {
-        let level = words.number(within(0, 2))? as u8;
-        words.finish()?;
-        return Ok(Said::Event(Event {
-            clock,
-            kind: EventKind::Sync(level),
-        }));
-    }
-    words.finish()?;
-    if place == 1 {
-        return Ok(Said::Event(Event {
-            clock,
-            kind: EventKind::Pixel,
-        }));
-    }
-    if place == 2 {
-        return Ok(Said::Event(Event {
-            clock,
-            kind: EventKind::Sound,
-        }));
-    }
-    Ok(Said::Event(Event {
-        clock,
-        kind: EventKind::Leave,
-    }))
+    let kind = if place == 0 {
+        EventKind::Sync(between(words, 0, 2)? as u8)
+    } else {
+        plain_event(place)
+    };
+    at_end(words, Said::Event(Event { clock, kind }))
 }
 
 /// `CLOCK sync V`, `CLOCK pixel`, `CLOCK sound` and `CLOCK leave`, in a kind of line of so many clocks.
 pub fn event_line(clocks: u16, least: u32, words: &mut Words) -> Result<Said, CertWhy>
     ensures { result ≡ reads (event_form clocks least) words.old }
 {
-    let clock = words.number(rising(least, within(0, u32::from(clocks))))?;
-    let place = words.choice(&[b"sync", b"pixel", b"sound", b"leave"])?;
+    let clock = in_order(words, least, u32::from(clocks))?;
+    let place = event_word(words)?;
     event_after(clock as u16, place, words)
 }
 
@@ -333,9 +328,8 @@ pub fn fall_line(words: &mut Words) -> Result<Said, CertWhy>
     ensures { result ≡ reads fall_form words.old }
 {
     words.fixed(b"fall")?;
-    let clock = words.number(within(1, CLOCKS))?;
-    words.finish()?;
-    Ok(Said::Fall(clock as u16))
+    let clock = between(words, 1, CLOCKS)?;
+    at_end(words, Said::Fall(clock as u16))
 }
 
 /// `run COUNT KIND`
@@ -344,13 +338,12 @@ pub fn run_line(kinds: u32, left: u32, before: u32, words: &mut Words) -> Result
     ensures { result ≡ reads (run_form kinds left before) words.old }
 {
     words.fixed(b"run")?;
-    let count = words.number(within(1, left + 1))?;
+    let count = between(words, 1, left + 1)?;
     let kind = words.number(Asked {
         other: before,
         ..one_of(kinds)
     })?;
-    words.finish()?;
-    Ok(Said::Run(Run { count, kind }))
+    at_end(words, Said::Run(Run { count, kind }))
 }
 
 /// A range for each cell of the handler, each within the one of the header.
@@ -382,17 +375,19 @@ pub fn rest_line(
     ensures { result ≡ reads (rest_form lines points cells.now least) words.old }
 {
     words.fixed(b"rest")?;
-    let line = words.number(rising(least, within(0, lines)))?;
-    let clock = words.number(within(0, CLOCKS))?;
-    let vector = words.number(one_of(points))?;
+    let line = in_order(words, least, lines)?;
+    let clock = between(words, 0, CLOCKS)?;
+    let vector = one_number_of(words, points)?;
     let cells = spans(cells, words)?;
-    words.finish()?;
-    Ok(Said::Rest(Rest {
-        line: line as u16,
-        clock: clock as u16,
-        vector,
-        cells,
-    }))
+    at_end(
+        words,
+        Said::Rest(Rest {
+            line: line as u16,
+            clock: clock as u16,
+            vector,
+            cells,
+        }),
+    )
 }
 
 /// The limit, or 1 in main, where 0 alone may stand.
@@ -405,6 +400,16 @@ fn none_in_main(kind: Kind, limit: u32) -> u32
         Kind::Handler => limit,
         Kind::Alone => limit,
     }
+}
+
+/// The next word, which has to be a number from `low` on and below `limit`, and in main below 1.
+fn of_kind(words: &mut Words, kind: Kind, low: u32, limit: u32) -> Result<u32, CertWhy>
+    ensures number { result ≡ next_as (number_of (within_limits low (none_of_main kind limit))) words.old }
+    ensures low { IfOk result (λ n. low ≤ n) }
+    ensures below { 1 ≤ limit → IfOk result (λ n. n < limit) }
+    ensures rest { words.new ≡ rest_of words.old }
+{
+    between(words, low, none_in_main(kind, limit))
 }
 
 fn depth_of(head: &Head, kind: Kind) -> u8
@@ -491,6 +496,14 @@ fn entry_of(kind: Kind, id: u32, pc: u16, line: u16, clock: u16, facts: &Facts) 
     }
 }
 
+/// The next word, which has to be the kind of an entry; its place among them.
+fn entry_word(words: &mut Words) -> Result<u32, CertWhy>
+    ensures place { result ≡ next_as (choice_of (codes "main" ∷ codes "alone" ∷ [])) words.old }
+    ensures rest { words.new ≡ rest_of words.old }
+{
+    words.choice(&[b"main", b"alone"])
+}
+
 fn entry_kind(place: u32) -> Kind
     ensures { result ≡ kind_of_entry place }
 {
@@ -505,14 +518,22 @@ pub fn entry_line(head: &Head, lines: u32, points: u32, words: &mut Words) -> Re
     ensures { result ≡ reads (entry_form head.now lines points) words.old }
 {
     words.fixed(b"entry")?;
-    let kind = entry_kind(words.choice(&[b"main", b"alone"])?);
-    let id = words.number(one_of(points))?;
-    let pc = words.number(within(0, 32768))?;
-    let line = words.number(within(0, none_in_main(kind, lines)))?;
-    let clock = words.number(within(0, none_in_main(kind, CLOCKS)))?;
+    let kind = entry_kind(entry_word(words)?);
+    let id = one_number_of(words, points)?;
+    let pc = between(words, 0, 32768)?;
+    let line = of_kind(words, kind, 0, lines)?;
+    let clock = of_kind(words, kind, 0, CLOCKS)?;
     let shape = shape_of(head, kind, true, points);
     let facts = read_items(shape, head.cells.as_slice(), words)?;
     Ok(Said::Entry(entry_of(kind, id, pc as u16, line as u16, clock as u16, &facts)))
+}
+
+/// The next word, which has to be the kind of a point; its place among them.
+fn point_word(words: &mut Words) -> Result<u32, CertWhy>
+    ensures place { result ≡ next_as (choice_of (codes "main" ∷ codes "handler" ∷ codes "alone" ∷ [])) words.old }
+    ensures rest { words.new ≡ rest_of words.old }
+{
+    words.choice(&[b"main", b"handler", b"alone"])
 }
 
 fn point_kind(place: u32) -> Kind
@@ -565,6 +586,25 @@ fn count_limit(kind: Kind, left: u32, l0: u32, l1: u32, c0: u32) -> u32
     ensures few { result ≤ 256 }
 {
     least_of(none_in_main(kind, 256), c0 + left / (l1 - l0 + 1))
+}
+
+/// The next word, which has to be the last count of a box whose lines and first count these are.
+fn last_count(
+    kind: Kind,
+    left: u32,
+    l0: u32,
+    l1: u32,
+    c0: u32,
+    words: &mut Words,
+) -> Result<u32, CertWhy>
+    requires lines { (l0 ≤ l1) × (l1 < 525) }
+    requires left { left ≤ 16777216 }
+    requires count { c0 < 256 }
+    ensures number { result ≡ next_as (number_of (within_limits c0 (limit_of_count kind left l0 l1 c0))) words.old }
+    ensures few { IfOk result (λ n. n < 256) }
+    ensures rest { words.new ≡ rest_of words.old }
+{
+    between(words, c0, count_limit(kind, left, l0, l1, c0))
 }
 
 /// Where a point stands: what its line says before its items.
@@ -680,14 +720,14 @@ fn point_after(
     requires cells { length head.now.cells.items ≤ 16 }
     ensures { result ≡ reads (point_after_kind version head.now lines points left kind) words.old }
 {
-    let pc = words.number(within(0, 32768))?;
-    let l0 = words.number(within(0, none_in_main(kind, lines)))?;
-    let l1 = words.number(within(l0, none_in_main(kind, lines)))?;
-    let c0 = words.number(within(0, none_in_main(kind, 256)))?;
-    let c1 = words.number(within(c0, count_limit(kind, left, l0, l1, c0)))?;
-    let clock = words.number(within(0, none_in_main(kind, CLOCKS)))?;
+    let pc = between(words, 0, 32768)?;
+    let l0 = of_kind(words, kind, 0, lines)?;
+    let l1 = of_kind(words, kind, l0, lines)?;
+    let c0 = of_kind(words, kind, 0, 256)?;
+    let c1 = last_count(kind, left, l0, l1, c0, words)?;
+    let clock = of_kind(words, kind, 0, CLOCKS)?;
     let slope = words.slope(none_in_main(kind, CLOCKS))?;
-    let pending = words.number(within(0, pending_limit(kind)))?;
+    let pending = between(words, 0, pending_limit(kind))?;
     let shape = point_shape(version, head, kind, points);
     let facts = read_items(shape, head.cells.as_slice(), words)?;
     let place = PointPlace {
@@ -721,7 +761,7 @@ pub fn point_line(
     ensures { result ≡ reads (point_form version head.now lines points left) words.old }
 {
     words.fixed(b"point")?;
-    let kind = point_kind(words.choice(&[b"main", b"handler", b"alone"])?);
+    let kind = point_kind(point_word(words)?);
     point_after(version, head, lines, points, left, kind, words)
 }
 
@@ -730,6 +770,5 @@ pub fn end_line(words: &mut Words) -> Result<Said, CertWhy>
     ensures { result ≡ reads end_form words.old }
 {
     words.fixed(b"end")?;
-    words.finish()?;
-    Ok(Said::End)
+    at_end(words, Said::End)
 }
