@@ -1,14 +1,15 @@
 //! A shelf in memory. It tells its files, and its calls fail as planned.
 
-ghost use Rattle.std.specs.Prelude.{◌≡◌, ◌≢◌, ◌⊎◌, ◌<◌, ◌≤◌, ◌↔◌, ℕ, IfOk, IfSome, IsErr, IsErrOf, IsSome, IsTrue};
+ghost use Rattle.std.specs.Prelude.{◌≡◌, ◌≢◌, ◌⊎◌, ◌<◌, ◌≤◌, ◌↔◌, ℕ, List, length, IfOk, IfSome, IsErr, IsErrOf, IsSome, IsTrue};
 ghost use Rattle.std.specs.Prelude.{None, OnErr, OnOk, Some, [], option_map, take, vec_len};
 ghost use Rattle.std.specs.Prelude.{false};
 ghost use Rattle.std.specs.FinMap as finmap;
 ghost use Rattle.uz_shelf.specs.Files.{AppendsAll, AppendsPrefix};
 ghost use Rattle.uz_shelf.specs.InMemory.{bytes_of, files_of, first_name, open_in};
+ghost use Rattle.uz_shelf.specs.Planned.{kept_of};
 
 use crate::errors::{LoadError, WriteError};
-use crate::fail::{Fail, planned};
+use crate::fail::{Fail, count_call};
 use crate::shelf::Shelf;
 use std::alloc::{AllocError, Global};
 
@@ -107,10 +108,55 @@ fn extend_first(files: &mut Vec<File>, piece: &[u8]) -> Result<(), AllocError>
     first.bytes.extend_from_slice(piece)
 }
 
+/// Adds the piece at the end of the open file, or as much of it as a planned fault keeps.
+fn extend_as_planned(
+    files: &mut Vec<File>,
+    piece: &[u8],
+    planned: Option<Fail>,
+) -> Result<(), WriteError>
+    requires { IsSome (open_in files.old.items) }
+    ensures ok { OnOk result (AppendsAll (Some (files_of files.old.items)) (open_in files.old.items) piece.now
+        (Some (files_of files.new.items))) }
+    ensures err { OnErr result (AppendsPrefix (Some (files_of files.old.items)) (open_in files.old.items) piece.now
+        (Some (files_of files.new.items))) }
+    ensures planned { IsSome planned → IsErr result }
+    ensures unplanned { IsErrOf result WriteError.Failed → IsSome planned }
+    ensures kept { IsErrOf result WriteError.Failed → AppendsAll (Some (files_of files.old.items)) (open_in files.old.items)
+        (kept_of planned piece.now) (Some (files_of files.new.items)) }
+    ensures open { open_in files.new.items ≡ open_in files.old.items }
+{
+    match planned {
+        Some(fail) => {
+            let keep = piece.len().min(fail.keep as usize);
+            extend_first(files, &piece[..keep])?;
+            Err(WriteError::Failed)
+        }
+        None => {
+            extend_first(files, piece)?;
+            Ok(())
+        }
+    }
+}
+
+/// Adds an empty file of that name in front, which is open.
+fn open_first(files: &mut Vec<File>, alloc: Global, name: &str) -> Result<(), WriteError>
+    ensures ok { OnOk result (files_of files.new.items ≡ finmap.insert (files_of files.old.items) name.now []) }
+    ensures open { OnOk result (open_in files.new.items ≡ Some name.now) }
+    ensures err { OnErr result (files.new.items ≡ files.old.items) }
+    ensures memory { IsErrOf result WriteError.Failed → ⊥ }
+{
+    let name = name.as_bytes().to_vec(alloc)?;
+    let created = File {
+        name,
+        bytes: Vec::new(alloc),
+        is_open: true,
+    };
+    files.insert(0, created)?;
+    Ok(())
+}
+
 impl MemoryShelf {
-    ghost use Rattle.uz_shelf.specs.Faults.{next_call};
     ghost use Rattle.uz_shelf.specs.InMemory.{calls_of, held_files, held_open, load_faults_of, plan_of, write_faults_of};
-    ghost use Rattle.uz_shelf.specs.Planned.{planned_fail};
 
     /// A shelf that holds no file, with those faults planned.
     pub fn new(alloc: Global, fails: &[Fail]) -> Result<MemoryShelf, AllocError>
@@ -165,14 +211,23 @@ impl MemoryShelf {
         bytes_under(self.files.as_slice(), name)
     }
 
-    /// Counts a call, and answers its planned fault, if one is planned.
-    fn count_call(&mut self) -> Option<Fail>
-        ensures planned { result ≡ planned_fail (plan_of self.old) (calls_of self.old) }
-        ensures rest { self.new ≡ record self.old { calls = next_call self.old.calls } }
+    /// A copy of a file's bytes, where there is one and it isn't too long.
+    fn copy_of(alloc: Global, bytes: Option<&[u8]>, limit: u32) -> Result<Vec<u8>, LoadError>
+        ensures held { IfOk result (λ copy. option_map (λ b. b.now) bytes.entry ≡ Some copy.items) }
+        ensures limit { IfOk result (λ copy. vec_len copy ≤ limit) }
+        ensures failed { IsErrOf result LoadError.Failed → option_map (λ b. b.now) bytes.entry ≡ None }
+        ensures too_long { IsErrOf result LoadError.TooLong → (all : List ℕ) × (option_map (λ b. b.now) bytes.entry ≡ Some all)
+            × (limit < length all) }
     {
-        let fail = planned(self.fails.as_slice(), self.calls);
-        self.calls = self.calls.saturating_add(1);
-        fail
+        match bytes {
+            None => Err(LoadError::Failed),
+            Some(bytes) => {
+                if bytes.len() > limit as usize {
+                    return Err(LoadError::TooLong);
+                }
+                Ok(bytes.to_vec(alloc)?)
+            }
+        }
     }
 }
 
@@ -180,7 +235,7 @@ impl Shelf for MemoryShelf {
     ghost use Rattle.uz_shelf.specs.Faults.{Rose, next_call};
     ghost use Rattle.uz_shelf.specs.Files.{AppendsAll, AppendsPrefix, Creates, CreatesOrKeeps, HoldsFile, HoldsLonger, LacksFile};
     ghost use Rattle.uz_shelf.specs.InMemory.{calls_of, held_open, load_faults_of, plan_of, told_files, write_faults_of};
-    ghost use Rattle.uz_shelf.specs.Planned.{counted, kept_of, planned_fail};
+    ghost use Rattle.uz_shelf.specs.Planned.{counted, planned_fail};
 
     ghost files = { told_files };
 
@@ -208,19 +263,16 @@ impl Shelf for MemoryShelf {
         ensures plan { plan_of self.new ≡ plan_of self.old }
         ensures calls { calls_of self.new ≡ next_call (calls_of self.old) }
     {
-        if self.count_call().is_some() {
-            self.load_faults = self.load_faults.saturating_add(1);
+        if count_call(
+            self.fails.as_slice(),
+            &mut self.calls,
+            &mut self.load_faults,
+        )
+        .is_some()
+        {
             return Err(LoadError::Failed);
         }
-        match self.file(name) {
-            None => Err(LoadError::Failed),
-            Some(bytes) => {
-                if bytes.len() > limit as usize {
-                    return Err(LoadError::TooLong);
-                }
-                Ok(bytes.to_vec(alloc)?)
-            }
-        }
+        MemoryShelf::copy_of(alloc, self.file(name), limit)
     }
 
     fn create(&mut self, alloc: Global, name: &str) -> Result<(), WriteError>
@@ -242,18 +294,16 @@ impl Shelf for MemoryShelf {
         ensures calls { calls_of self.new ≡ next_call (calls_of self.old) }
     {
         close_first(&mut self.files);
-        if self.count_call().is_some() {
-            self.write_faults = self.write_faults.saturating_add(1);
+        if count_call(
+            self.fails.as_slice(),
+            &mut self.calls,
+            &mut self.write_faults,
+        )
+        .is_some()
+        {
             return Err(WriteError::Failed);
         }
-        let name = name.as_bytes().to_vec(alloc)?;
-        let created = File {
-            name,
-            bytes: Vec::new(alloc),
-            is_open: true,
-        };
-        self.files.insert(0, created)?;
-        Ok(())
+        open_first(&mut self.files, alloc, name)
     }
 
     fn append(&mut self, _alloc: Global, piece: &[u8]) -> Result<(), WriteError>
@@ -275,17 +325,11 @@ impl Shelf for MemoryShelf {
         ensures plan { plan_of self.new ≡ plan_of self.old }
         ensures calls { calls_of self.new ≡ next_call (calls_of self.old) }
     {
-        match self.count_call() {
-            Some(fail) => {
-                self.write_faults = self.write_faults.saturating_add(1);
-                let keep = piece.len().min(fail.keep as usize);
-                extend_first(&mut self.files, &piece[..keep])?;
-                Err(WriteError::Failed)
-            }
-            None => {
-                extend_first(&mut self.files, piece)?;
-                Ok(())
-            }
-        }
+        let planned = count_call(
+            self.fails.as_slice(),
+            &mut self.calls,
+            &mut self.write_faults,
+        );
+        extend_as_planned(&mut self.files, piece, planned)
     }
 }

@@ -1,9 +1,11 @@
 //! A sink in memory. It tells its text, and its calls fail as planned.
 
-ghost use Rattle.std.specs.Prelude.{◌≡◌, ◌≤◌, IfOk, IsErr, IsErrOf, IsSome, OnErr, OnOk, []};
+ghost use Rattle.std.specs.Prelude.{◌≡◌, ◌≤◌, IfOk, IsErr, IsErrOf, IsSome, OnErr, OnOk, Some, []};
+ghost use Rattle.uz_shelf.specs.Planned.{kept_of};
+ghost use Rattle.uz_shelf.specs.Text.{TakesAll, TakesPrefix};
 
 use crate::errors::WriteError;
-use crate::fail::{Fail, planned};
+use crate::fail::{Fail, count_call};
 use crate::sink::Sink;
 use std::alloc::{AllocError, Global};
 
@@ -17,6 +19,32 @@ pub struct MemorySink {
     fails: Vec<Fail>,
     calls: u32,
     faults: u64,
+}
+
+/// Adds the piece at the end of the text, or as much of it as a planned fault keeps.
+fn take_as_planned(
+    text: &mut Vec<u8>,
+    piece: &[u8],
+    planned: Option<Fail>,
+) -> Result<(), WriteError>
+    ensures ok { OnOk result (TakesAll (Some text.old.items) piece.now (Some text.new.items)) }
+    ensures err { OnErr result (TakesPrefix (Some text.old.items) piece.now (Some text.new.items)) }
+    ensures planned { IsSome planned → IsErr result }
+    ensures unplanned { IsErrOf result WriteError.Failed → IsSome planned }
+    ensures kept { IsErrOf result WriteError.Failed → TakesAll (Some text.old.items) (kept_of planned piece.now)
+        (Some text.new.items) }
+{
+    match planned {
+        Some(fail) => {
+            let keep = piece.len().min(fail.keep as usize);
+            text.extend_from_slice(&piece[..keep])?;
+            Err(WriteError::Failed)
+        }
+        None => {
+            text.extend_from_slice(piece)?;
+            Ok(())
+        }
+    }
 }
 
 impl MemorySink {
@@ -70,19 +98,7 @@ impl Sink for MemorySink {
         ensures plan { plan_of self.new ≡ plan_of self.old }
         ensures calls { calls_of self.new ≡ next_call (calls_of self.old) }
     {
-        let planned = planned(self.fails.as_slice(), self.calls);
-        self.calls = self.calls.saturating_add(1);
-        match planned {
-            Some(fail) => {
-                self.faults = self.faults.saturating_add(1);
-                let keep = piece.len().min(fail.keep as usize);
-                self.text.extend_from_slice(&piece[..keep])?;
-                Err(WriteError::Failed)
-            }
-            None => {
-                self.text.extend_from_slice(piece)?;
-                Ok(())
-            }
-        }
+        let planned = count_call(self.fails.as_slice(), &mut self.calls, &mut self.faults);
+        take_as_planned(&mut self.text, piece, planned)
     }
 }
