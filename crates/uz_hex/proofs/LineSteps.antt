@@ -158,25 +158,11 @@ last_line before base start flash text line r h cut is =
     ∙ (ap (read_lines before base flash) (lines_last (rest_of start text) (sym h))
     ∙ ap (λ a. go_on (suc before) a (no_end before)) (ap (after_line base flash) (sym cut) ∙ is))
 
-pub last_more : (before base start next : ℕ) (flash held : Flash) (text line : List ℕ) (p : Progress)
-    → None ≡ position is_lf (rest_of start text) → line ≡ trimmed (rest_of start text) → p ≡ More next → after_line base flash line ≡ Ok
-    (p, held)
-    → read_lines before base flash (lines_of (drop start text)) ≡ Err (before + 1, why.NoEnd)
-last_more before base start next flash held text line p h cut more is =
+pub last_told : (before base start : ℕ) (flash : Flash) (text : List ℕ) → None ≡ position is_lf (rest_of start text)
+    → go_on (before + 1) (after_line base flash (trimmed (rest_of start text))) (λ next held. Err (before + 1, why.NoEnd))
+    ≡ read_lines before base flash (lines_of (drop start text))
+last_told before base start flash text h =
     let one : suc before ≡ before + 1 = omega arith in
-    last_line before base start flash text line (Ok (More next, held)) h cut (is ∙ ap (λ q. Ok (q, held)) more)
-    ∙ ap (λ k. Err (k, why.NoEnd)) one
-
-pub last_ended : (before base start : ℕ) (flash held : Flash) (text line : List ℕ) (p : Progress)
-    → None ≡ position is_lf (rest_of start text) → line ≡ trimmed (rest_of start text) → p ≡ Ended → after_line base flash line ≡ Ok
-    (p, held)
-    → read_lines before base flash (lines_of (drop start text)) ≡ Ok held
-last_ended before base start flash held text line p h cut ended is =
-    last_line before base start flash text line (Ok (Ended, held)) h cut (is ∙ ap (λ q. Ok (q, held)) ended)
-
-pub last_err : (before base start : ℕ) (flash : Flash) (text line : List ℕ) (w : HexWhy)
-    → None ≡ position is_lf (rest_of start text) → line ≡ trimmed (rest_of start text) → after_line base flash line ≡ Err w
-    → read_lines before base flash (lines_of (drop start text)) ≡ Err (before + 1, w)
-last_err before base start flash text line w h cut is =
-    let one : suc before ≡ before + 1 = omega arith in
-    last_line before base start flash text line (Err w) h cut is ∙ ap (λ k. Err (k, w)) one
+    sym (last_line before base start flash text (trimmed (rest_of start text)) (after_line base flash (trimmed (rest_of start text))) h refl
+    refl
+    ∙ ap (λ k. go_on k (after_line base flash (trimmed (rest_of start text))) (λ next held. Err (k, why.NoEnd))) one)

@@ -3,8 +3,10 @@
 ghost use Rattle.std.specs.Prelude.{◌≡◌, ℕ, ◌⊎◌, Ok, Err, ◌<◌, ◌≤◌, ◌+◌, ◌*◌, ◌-◌, ◌^◌, IsTrue, IfOk, IfErr, length, slice_index};
 ghost use Rattle.uz_hex.specs.Records.{value_of as value_of_bytes};
 ghost use Rattle.uz_hex.specs.Reading.{takes as cell_takes, has_length, with_bytes, place as placed_in, after_record};
-ghost use Rattle.uz_hex.specs.Reading.{after_line as line_goes_on, read_text as text_read, GivesHex};
-ghost use Rattle.uz_hex.specs.HexText.{IsHexOf, IsFirstFault};
+ghost use Rattle.uz_hex.specs.Reading.{data_of as data_of_record};
+ghost use Rattle.uz_hex.specs.Reading.{after_line as line_goes_on, go_on, read_text as text_read, GivesHex};
+ghost use Rattle.uz_hex.specs.HexText.{IsHexOf, IsFirstFault, trimmed};
+ghost use Rattle.uz_hex.specs.declared.errors.HexWhy.TheVariants as HexWhys;
 ghost use Rattle.uz_hex.specs.declared.errors.HexWhy.{HexWhy};
 ghost use Rattle.std.specs.FinMap.{FinMap};
 ghost use Rattle.std.specs.Ordering.{nat_cmp};
@@ -66,6 +68,15 @@ fn value_of(bytes: &[u8]) -> u32
     256 * u32::from(bytes[0]) + u32::from(bytes[1])
 }
 
+/// The data bytes of a record's bytes.
+fn data_of(bytes: &[u8]) -> &[u8]
+    requires { slice_index bytes.now 0 + 5 ≡ length bytes.now }
+    ensures exact { result.now ≡ data_of_record bytes.now }
+    ensures counted { length result.now ≡ slice_index bytes.now 0 }
+{
+    &bytes[4..bytes.len() - 1]
+}
+
 /// Acts on a record that has been checked.
 fn take_record(
     image: &mut Image,
@@ -78,7 +89,7 @@ fn take_record(
     ensures ok { IfOk result (λ next. after_record base image.old bytes.now kind ≡ Ok (next, image.new)) }
     ensures err { IfErr result (λ why. after_record base image.old bytes.now kind ≡ Err why) }
 {
-    let data = &bytes[4..bytes.len() - 1];
+    let data = data_of(bytes);
     match kind {
         RecordType::Data => {
             let address = 256 * u64::from(bytes[1]) + u64::from(bytes[2]);
@@ -107,6 +118,27 @@ fn take_line(image: &mut Image, base: u32, line: &[u8]) -> Result<Progress, HexW
     take_record(image, base, bytes, kind)
 }
 
+/// Reads the last line, behind which no LF stands, after so many others.
+fn read_last(image: Image, base: u32, before: u32, line: &[u8]) -> Result<Image, HexError>
+    requires { before < 2 ^ 32 - 1 }
+    ensures { GivesHex result (go_on (before + 1) (line_goes_on base image (trimmed line.now))
+        (λ next held. Err (before + 1, HexWhys.NoEnd))) }
+{
+    let mut image = image;
+    let line_number = before + 1;
+    match take_line(&mut image, base, without_blanks(line)) {
+        Ok(Progress::More(_)) => Err(HexError {
+            line: line_number,
+            why: HexWhy::NoEnd,
+        }),
+        Ok(Progress::Ended) => Ok(image),
+        Err(why) => Err(HexError {
+            line: line_number,
+            why,
+        }),
+    }
+}
+
 /// Reads a text line by line.
 fn read_text(alloc: Global, text: &[u8]) -> Result<Image, HexError>
     requires { length text.now < 2 ^ 32 - 1 }
@@ -128,15 +160,7 @@ fn read_text(alloc: Global, text: &[u8]) -> Result<Image, HexError>
         start = end + 1;
         before = line;
     }
-    let last = before + 1;
-    match take_line(&mut image, base, without_blanks(&text[start..])) {
-        Ok(Progress::More(_)) => Err(HexError {
-            line: last,
-            why: HexWhy::NoEnd,
-        }),
-        Ok(Progress::Ended) => Ok(image),
-        Err(why) => Err(HexError { line: last, why }),
-    }
+    read_last(image, base, before, &text[start..])
 }
 
 /// Reads an Intel HEX text into an image, or tells its first fault.

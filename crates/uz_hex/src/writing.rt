@@ -38,14 +38,27 @@ fn bytes_of(alloc: Global, start: u16, data: &[u8]) -> Result<Vec<u8>, AllocErro
     ensures { IfOk result (λ v. v.items ≡ record_bytes (data_record start «data».now) (checksum_of_record (data_record start «data».now))) }
 {
     let mut bytes = Vec::with_capacity(alloc, data.len() + 5)?;
-    bytes.push(data.len() as u8)?;
-    bytes.push((start / 256) as u8)?;
-    bytes.push((start % 256) as u8)?;
-    bytes.push(0)?;
+    let head = [
+        data.len() as u8,
+        (start / 256) as u8,
+        (start % 256) as u8,
+        0,
+    ];
+    bytes.extend_from_slice(&head)?;
     bytes.extend_from_slice(data)?;
     let checksum = checksum_of(bytes.as_slice());
     bytes.push(checksum)?;
     Ok(bytes)
+}
+
+/// Adds the line of these digits: the colon before them, and LF behind.
+fn push_line(text: &mut Vec<u8>, digits: &[u8]) -> Result<(), AllocError>
+    ensures { OnOk result (text.new.items ≡ text.old.items ++ with_lf (codes ":" ++ digits.now)) }
+{
+    text.push(b':')?;
+    text.extend_from_slice(digits)?;
+    text.push(b'\n')?;
+    Ok(())
 }
 
 impl Writer {
@@ -70,9 +83,7 @@ impl Writer {
         }
         let bytes = bytes_of(alloc, self.start, self.bytes.as_slice())?;
         let digits = hex::encode_upper(alloc, bytes.as_slice())?;
-        self.text.push(b':')?;
-        self.text.extend_from_slice(digits.as_bytes())?;
-        self.text.push(b'\n')?;
+        push_line(&mut self.text, digits.as_bytes())?;
         self.bytes.clear();
         Ok(())
     }
@@ -96,6 +107,18 @@ impl Writer {
         self.bytes.push(byte)?;
         Ok(())
     }
+
+    /// The text, with the bytes that are kept as a record, and with the end record.
+    fn end(self, alloc: Global) -> Result<Vec<u8>, AllocError>
+        requires { vec_len self.bytes ≤ 16 }
+        ensures { IfOk result (λ v. v.items
+            ≡ (self.text.items ++ lines_text (closed self.start self.bytes.items)) ++ with_lf (codes ":00000001FF")) }
+    {
+        let mut writer = self;
+        writer.close(alloc)?;
+        writer.text.extend_from_slice(b":00000001FF\n")?;
+        Ok(writer.text)
+    }
 }
 
 /// Writes the bytes of cells that stand from address 0 on.
@@ -113,10 +136,7 @@ fn write_cells(alloc: Global, cells: &[Option<u8>]) -> Result<Vec<u8>, AllocErro
             writer.take(alloc, at as u16, byte)?;
         }
     }
-    writer.close(alloc)?;
-    let mut text = writer.text;
-    text.extend_from_slice(b":00000001FF\n")?;
-    Ok(text)
+    writer.end(alloc)
 }
 
 /// Writes an image as Intel HEX: each run of present bytes, from its first address, in data

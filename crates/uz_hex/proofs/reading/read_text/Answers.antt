@@ -1,6 +1,7 @@
-use Rattle.std.proofs.Common.{sym, ap, ◌∙◌, inr, arith}
+use Rattle.std.proofs.Common.{sym, ap, subst, ◌∙◌, inr, arith}
 use Rattle.uz_hex.specs.HexText.{trimmed}
-use Rattle.uz_hex.proofs.LineSteps.{next_more, next_within, next_ended, next_err, last_more, last_ended, last_err}
+use Rattle.uz_hex.specs.Reading.{GivesHex}
+use Rattle.uz_hex.proofs.LineSteps.{next_more, next_within, next_ended, next_err, last_told}
 use Rattle.uz_hex.proofs.reading.read_text.Goals as goal
 
 pub loop-length-preserved : goal.loop-length-preserved
@@ -31,23 +32,8 @@ returns-in-Err c =
     (inr (sym l.invariant.same ∙ next_err l.before l.base l.start c.in-Some.length l.image c.args.text.now
     c.without_blanks-content.result.now c.in-Err.why c.in-Some.ensures cut c.in-Err.ensures.err))
 
-pub returns-in-Ok-More-take_line : goal.returns-in-Ok-More-take_line
-returns-in-Ok-More-take_line c =
+pub returns : goal.returns
+returns c =
     let l = c.loop-length in
-    (inr (sym l.invariant.same ∙ last_more l.before l.base l.start c.in-Ok-More-take_line.field-0-0 l.image c.take_line-2.new.image
-    c.args.text.now
-    c.without_blanks.result.now c.in-Ok-More-take_line.field-0 c.in_default.ensures c.without_blanks.ensures
-    c.in-Ok-More-take_line.field-0-is c.in-Ok-More-take_line.ensures.ok))
-
-pub returns-in-Ok-Ended-take_line : goal.returns-in-Ok-Ended-take_line
-returns-in-Ok-Ended-take_line c =
-    let l = c.loop-length in
-    (sym l.invariant.same ∙ last_ended l.before l.base l.start l.image c.take_line-2.new.image c.args.text.now
-    c.without_blanks.result.now c.in-Ok-Ended-take_line.field-0 c.in_default.ensures c.without_blanks.ensures
-    c.in-Ok-Ended-take_line.field-0-is c.in-Ok-Ended-take_line.ensures.ok)
-
-pub returns-in-Err-take_line : goal.returns-in-Err-take_line
-returns-in-Err-take_line c =
-    let l = c.loop-length in
-    (inr (sym l.invariant.same ∙ last_err l.before l.base l.start l.image c.args.text.now
-    c.without_blanks.result.now c.in-Err-take_line.why c.in_default.ensures c.without_blanks.ensures c.in-Err-take_line.ensures.err))
+    subst (λ read. GivesHex c.read_last.result read) (last_told l.before l.base l.start l.image c.args.text.now c.in_default.ensures
+    ∙ l.invariant.same) c.read_last.ensures
