@@ -7,6 +7,7 @@ pub mod MarkingLemmas
 pub mod OneResult
 pub mod Results
 pub mod SearchingLemmas
+pub mod ShowingLemmas
 pub mod SpanLists
 pub mod Standing
 pub mod StepLemmas

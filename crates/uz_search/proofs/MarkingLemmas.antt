@@ -1,13 +1,44 @@
 -- What is kept where positions are marked.
-use Rattle.std.proofs.Common.{◌≡◌, ℕ, zero, suc, ◌<◌, ◌≤◌, ◌+◌, ◌∷◌, [], List, Option, Some, None, refl, sym, ap, ◌∙◌, subst, length}
+use Rattle.std.proofs.Common.{◌≡◌, ◌≢◌, ℕ, zero, suc, ◌<◌, ◌≤◌, ◌+◌, ◌∷◌, [], List, Option, Some, None, refl, sym, ap, ◌∙◌, subst, replicate}
 use Rattle.std.proofs.Common.{slice_get, slice_set, inl, inr, ⊎_elim, arith}
 use Rattle.std.proofs.lemmas.Bool.{cases_eq}
 use Rattle.uz_schedule.specs.declared.lines.EventKind.{EventKind}
+use Rattle.uz_schedule.specs.declared.lines.EventKind.TheVariants as kinds
 use Rattle.uz_schedule.specs.declared.states.Instance.{Instance}
 use Rattle.uz_search.specs.declared.marks.Mark.{Mark}
+use Rattle.uz_search.specs.declared.marks.Mark.TheVariants.{Unpassed}
+use Rattle.uz_search.specs.declared.marks.Shown.{Shown}
 use Rattle.uz_search.specs.declared.program.Program.{Program}
 use Rattle.uz_search.specs.Following.{place_on, shown_at}
-use Rattle.uz_search.specs.Marking.{MarkAt, Seen, KeepsMarks, MarksOne, MarksOwn, MarksAll}
+use Rattle.uz_search.specs.Marking.{mark_of, event_of_mark, Seen, MarksOne, MarksOwn, MarksAll}
+use Rattle.uz_search.proofs.VisitingLemmas.{some_is}
+
+-- marks and what they stand for
+
+pub event_back : (e : Option EventKind) → event_of_mark (mark_of e) ≡ e
+event_back None = refl
+event_back (Some (kinds.Sync level)) = refl
+event_back (Some kinds.Pixel) = refl
+event_back (Some kinds.Sound) = refl
+event_back (Some kinds.Leave) = refl
+
+marked : (e : Option EventKind) → mark_of e ≢ Unpassed
+marked None h = cc
+marked (Some (kinds.Sync level)) h = cc
+marked (Some kinds.Pixel) h = cc
+marked (Some kinds.Sound) h = cc
+marked (Some kinds.Leave) h = cc
+
+-- one position is marked once
+pub seen_once : (marks : List Mark) (y : ℕ) (d e : Option EventKind) → Seen marks y d → Seen marks y e → d ≡ e
+seen_once marks y d e a b = sym (event_back d) ∙ (ap event_of_mark (some_is (mark_of d) (mark_of e) (sym a ∙ b)) ∙ event_back e)
+
+pub none_marked : (n y : ℕ) (e : Option EventKind) → Seen (replicate n Unpassed) y e → ⊥
+none_marked zero y e h = cc
+none_marked (suc n) zero e h = marked e (sym (some_is Unpassed (mark_of e) h))
+none_marked (suc n) (suc y) e h = none_marked n y e h
+
+-- one position
 
 module _ {A : Type 0} where
   pub get_set_same : (xs : List A) (i : ℕ) (a b : A) → slice_get xs i ≡ Some b → slice_get (slice_set xs i a) i ≡ Some a
@@ -22,59 +53,51 @@ module _ {A : Type 0} where
   get_set_other (x ∷ xs) (suc i) zero a ne = refl
   get_set_other (x ∷ xs) (suc i) (suc j) a ne = get_set_other xs i j a (λ e. ne (ap suc e))
 
-pub marks_new : (old : List (Option Mark)) (x : ℕ) (m : Mark) → slice_get old x ≡ Some None → MarksOne old x m.event m.by None
-    (slice_set old x (Some m))
-marks_new old x m free = (
-  (λ y n h. ⊎_elim
-      (λ e. let two : slice_get old x ≡ Some (Some n) = subst (λ z. slice_get old z ≡ Some (Some n)) e h in cc (two, free))
-      (λ ne. get_set_other old x y (Some m) ne ∙ h)
-      (cases_eq y x)),
-  (m, get_set_same old x (Some m) None free, refl),
-  (λ y n h. ⊎_elim
-      (λ e. let mine : Some m ≡ Some n = some_of (sym (get_set_same old x (Some m) None free)
-      ∙ subst (λ z. slice_get (slice_set old x (Some m)) z ≡ Some (Some n)) e h) in
-      let same : n ≡ m = cc mine in inr (e, ap (λ k. k.event) same, ap (λ k. k.by) same))
-      (λ ne. inl (sym (get_set_other old x y (Some m) ne) ∙ h))
-      (cases_eq y x)),
+pub marks_new : (old new : List Mark) (y : ℕ) (m : Mark) (e : Option EventKind) → slice_get old y ≡ Some m → m ≡ Unpassed
+    → new ≡ slice_set old y (mark_of e) → MarksOne old y e None new
+marks_new old new y m e at free is = (
+  (λ z d h. ⊎_elim
+      (λ same. absurd (marked d (some_is (mark_of d) m (sym (subst (λ k. Seen old k d) same h) ∙ at) ∙ free)))
+      (λ ne. ap (λ l. slice_get l z) is ∙ (get_set_other old y z (mark_of e) ne ∙ h))
+      (cases_eq z y)),
+  mine,
+  (λ z d h. ⊎_elim
+      (λ same. inr (same, seen_once new y d e (subst (λ k. Seen new k d) same h) mine))
+      (λ ne. inl (sym (get_set_other old y z (mark_of e) ne) ∙ (ap (λ l. slice_get l z) (sym is) ∙ h)))
+      (cases_eq z y)),
 )
   where
-    some_of : {B : Type 0} {a b : B} → Some a ≡ Some b → a ≡ b
-    some_of h = cc
-
-pub seen_kept : (old new : List (Option Mark)) (x : ℕ) (e : Option EventKind) → KeepsMarks old new → Seen old x e → Seen new x e
-seen_kept old new x e keeps s = (s.0, keeps x s.0 s.1, s.2)
+    mine : Seen new y e
+    mine = ap (λ l. slice_get l y) is ∙ get_set_same old y (mark_of e) m at
 
 -- one position more
-module _ (p : Program) (x : Instance) (most : ℕ) (emit : Option (ℕ × EventKind)) (by : ℕ)
-    (old mid new : List (Option Mark)) (step : ℕ) where
+module _ (p : Program) (x : Instance) (most : ℕ) (emit : Option (ℕ × EventKind))
+    (old mid new : List Mark) (step : ℕ) where
   pub seen_more : ((k : ℕ) → 1 ≤ k → k ≤ step → Seen mid (place_on p x k) (shown_at emit k))
-      → MarksOne mid (place_on p x (step + 1)) (shown_at emit (step + 1)) by None new
+      → MarksOne mid (place_on p x (step + 1)) (shown_at emit (step + 1)) None new
       → (k : ℕ) → 1 ≤ k → k ≤ step + 1 → Seen new (place_on p x k) (shown_at emit k)
   seen_more seen one k some few =
       ⊎_elim
       (λ e. subst (λ n. Seen new (place_on p x n) (shown_at emit n)) (sym e) one.1)
-      (λ ne. seen_kept mid new (place_on p x k) (shown_at emit k) one.0 (seen k some (omega arith)))
+      (λ ne. one.0 (place_on p x k) (shown_at emit k) (seen k some (omega arith)))
       (cases_eq k (step + 1))
 
-  pub own_more : step < most → MarksOwn p x most emit by old mid
-      → MarksOne mid (place_on p x (step + 1)) (shown_at emit (step + 1)) by None new → MarksOwn p x most emit by old new
-  own_more below own one = λ y m h. ⊎_elim
-      (λ before. own y m before)
-      (λ here. inr (record { clocks = step + 1; some = omega arith; few = omega arith; there = here.0; shows = here.1 }, here.2))
-      (one.2 y m h)
+  pub own_more : step < most → MarksOwn p x most emit old mid
+      → MarksOne mid (place_on p x (step + 1)) (shown_at emit (step + 1)) None new → MarksOwn p x most emit old new
+  own_more below own one = λ y e h. ⊎_elim
+      (λ before. own y e before)
+      (λ here. inr (record { clocks = step + 1; some = omega arith; few = omega arith; there = here.0; shows = here.1 }))
+      (one.2 y e h)
 
-  pub differs : (other : ℕ) → step < most → MarksOwn p x most emit by old mid
-      → MarksOne mid (place_on p x (step + 1)) (shown_at emit (step + 1)) by (Some other) new
-      → MarksAll p x most emit by old (Some other) new
-  differs other below own one = (
-    subst (λ k. MarksOwn p x most emit by old k) (sym one.0) own,
+  pub differs : (noted : Shown) → step < most → MarksOwn p x most emit old mid
+      → MarksOne mid (place_on p x (step + 1)) (shown_at emit (step + 1)) (Some noted) new
+      → MarksAll p x most emit old (Some noted) new
+  differs noted below own one = (
+    subst (λ k. MarksOwn p x most emit old k) (sym one.0) own,
+    subst (λ k. Seen k noted.place noted.event) (sym one.0) one.2,
     (
-      one.1.0,
-      place_on p x (step + 1),
       shown_at emit (step + 1),
-      subst (λ k. MarkAt k (place_on p x (step + 1)) one.1.0) (sym one.0) one.1.1,
-      one.1.2,
-      record { clocks = step + 1; some = omega arith; few = omega arith; there = refl; shows = refl },
-      one.1.3,
+      record { clocks = step + 1; some = omega arith; few = omega arith; there = one.1; shows = refl },
+      one.3,
     ),
   )

@@ -8,13 +8,13 @@ use Rattle.uz_schedule.specs.declared.states.Instance.{Instance}
 use Rattle.uz_schedule.specs.declared.kinds.Kind.TheVariants.{Main}
 use Rattle.uz_rules.specs.declared.next.Next.{Next}
 use Rattle.uz_search.specs.declared.marks.Mark.{Mark}
+use Rattle.uz_search.specs.declared.marks.Shown.{Shown}
 use Rattle.uz_search.specs.declared.returns.Return.{Return}
 use Rattle.uz_search.specs.Returning.{KeepsReturns}
 use Rattle.uz_search.proofs.VisitingLemmas.{some_is, among_more}
-use Rattle.uz_search.proofs.MarkingLemmas.{seen_kept}
 use Rattle.uz_transfer.specs.declared.fail.Fail.{Fail}
 use Rattle.uz_search.specs.declared.program.Program.{Program}
-use Rattle.uz_search.specs.Following.{Among, Flash, After, Follows, followers_of, most_clocks, frame_of}
+use Rattle.uz_search.specs.Following.{Among, Flash, After, Follows, followers_of, most_clocks}
 use Rattle.uz_search.specs.Stuck.{StuckWith}
 use Rattle.uz_search.specs.Refusing.{Split}
 use Rattle.uz_search.specs.Trails.{CameFrom}
@@ -22,30 +22,23 @@ use Rattle.uz_search.specs.Visiting.{IsTree, Extends, AddsAll}
 use Rattle.uz_search.specs.Marking.{KeepsMarks, MarksAll}
 use Rattle.uz_search.specs.Searching.{MarksWay, NotesEnd, Treats, Treated, IsSearch, SplitsFrom}
 
-pub way_from_all : (p : Program) (x : Instance) (next : Next) (by : ℕ) (old : List (Option Mark)) (other : Option ℕ)
-    (new : List (Option Mark)) → x.kind ≢ Main → MarksAll p x (most_clocks p x next.out.items) next.emit by old other new
-    → MarksWay p x next by old other new
-way_from_all p x next by old None new apart all = (
+pub way_from_all : (p : Program) (x : Instance) (next : Next) (old : List Mark) (noted : Option Shown) (new : List Mark)
+    → x.kind ≢ Main → MarksAll p x (most_clocks p x next.out.items) next.emit old noted new → MarksWay p x next old noted new
+way_from_all p x next old None new apart all = (
   all.0,
-  (λ y m h. ⊎_elim (λ before. inl before) (λ own. inr ((apart, own.0), own.1)) (all.1 y m h)),
+  (λ y e h. ⊎_elim (λ before. inl before) (λ own. inr (apart, own)) (all.1 y e h)),
   (λ _. all.2),
 )
-way_from_all p x next by old (Some other) new apart all =
-    let it = all.1 in (
-      it.1,
-      it.0,
-      it.2,
-      ⊎_elim (λ before. inl before) (λ own. inr ((apart, own.0), own.1)) (all.0 it.1 it.0 it.3),
-      it.4,
-      (apart, it.5),
-      it.6,
-    )
+way_from_all p x next old (Some noted) new apart all = (
+  ⊎_elim (λ before. inl before) (λ own. inr (apart, own)) (all.0 noted.place noted.event all.1),
+  (all.2.0, (apart, all.2.1), all.2.2),
+)
 
-pub treats_from : (image : Flash) (program : Program) (x : Instance) (by : ℕ) (marks marks' : List (Option Mark))
+pub treats_from : (image : Flash) (program : Program) (x : Instance) (by : ℕ) (marks marks' : List Mark)
     (returns returns' : List (Option Return)) (next : Next)
     → After image program x (Ok next) → ((y : Instance) × (slice_get next.out.items 0 ≡ Some y))
     → ((why : Fail) → StuckWith image program x next why → ⊥)
-    → MarksWay program x next by marks None marks' → NotesEnd next by returns None returns' → Treats image program x by marks marks' returns
+    → MarksWay program x next marks None marks' → NotesEnd next by returns None returns' → Treats image program x by marks marks' returns
     returns' next
 treats_from image program x by marks marks' returns returns' next after some clear way end = record {
   after = after;
@@ -55,9 +48,7 @@ treats_from image program x by marks marks' returns returns' next after some cle
   noted = end.1;
   keeps_marks = way.0;
   keeps_returns = end.0;
-  own_marks = λ y m h. ⊎_elim (λ before. inl before)
-      (λ own. inr ((next, after, own.0.0, own.0.1), own.1))
-      (way.1 y m h);
+  own_marks = λ y e h. ⊎_elim (λ before. inl before) (λ own. inr (next, after, own.0, own.1)) (way.1 y e h);
   own_returns = λ line r h. ⊎_elim (λ before. inl before)
       (λ own. inr (own.0, (next, after, own.1.0, own.1.1), own.2, own.3, own.4))
       (end.2 line r h);
@@ -91,7 +82,7 @@ module _ (image : Flash) (program : Program) (P : Instance → Type 0)
   pub tree_all : (x : Instance) → Among nodes x → P x
   tree_all x at = below_all (suc at.0) at.0 x (omega arith) at.1
 
-pub treated_more : (image : Flash) (program : Program) (nodes nodes' : List Instance) (marks marks' : List (Option Mark))
+pub treated_more : (image : Flash) (program : Program) (nodes nodes' : List Instance) (marks marks' : List Mark)
     (returns returns' : List (Option Return)) (x : Instance)
     → Extends nodes nodes' → KeepsMarks marks marks' → KeepsReturns returns returns' → Treated image program nodes marks returns x
     → Treated image program nodes' marks' returns' x
@@ -100,13 +91,13 @@ treated_more image program nodes nodes' marks marks' returns returns' x extends 
   after = t.after;
   some = t.some;
   clear = t.clear;
-  seen = λ apart k some few. seen_kept marks marks' _ _ keeps_marks (t.seen apart k some few);
+  seen = λ apart k some few. keeps_marks _ _ (t.seen apart k some few);
   noted = λ back end at. let n = t.noted back end at in (n.0, keeps_returns end.line n.0 n.1, n.2);
   follow = λ y at. among_more nodes nodes' y extends (t.follow y at);
 }
 
 pub search_more : (image : Flash) (program : Program) (nodes nodes' : List Instance) (parents parents' : List (Option ℕ))
-    (marks marks' : List (Option Mark)) (returns returns' : List (Option Return)) (done : ℕ) (x : Instance) (next : Next)
+    (marks marks' : List Mark) (returns returns' : List (Option Return)) (done : ℕ) (x : Instance) (next : Next)
     → IsSearch image program nodes parents marks returns done → slice_get nodes done ≡ Some x
     → Treats image program x done marks marks' returns returns' next
     → length marks' ≡ length marks → length returns' ≡ length returns
@@ -116,10 +107,16 @@ search_more image program nodes nodes' parents parents' marks marks' returns ret
     record {
       tree = adds.tree;
       started = λ y h. among_more nodes nodes' y adds.extends (s.started y h);
-      marked = λ y m h. ⊎_elim
-          (λ old. let was = s.marked y m old in (was.0, adds.extends m.by was.0 was.1, was.2))
-          (λ own. (x, subst (λ n. slice_get nodes' n ≡ Some x) (sym own.1) (adds.extends done x at), own.0))
-          (t.own_marks y m h);
+      marked = λ y e h. ⊎_elim
+          (λ old. let was = s.marked y e old in record {
+            number = was.number;
+            below = (let below = was.below in omega arith);
+            x = was.x;
+            there = adds.extends was.number was.x was.there;
+            shows = was.shows;
+          })
+          (λ own. record { number = done; below = omega arith; x = x; there = adds.extends done x at; shows = own })
+          (t.own_marks y e h);
       ended = λ line r h. ⊎_elim
           (λ old. let was = s.ended line r old in (was.0, was.1, adds.extends r.by was.0 was.2, was.3, was.4, was.5))
           (λ own. (x, own.0, subst (λ n. slice_get nodes' n ≡ Some x) (sym own.4) (adds.extends done x at), own.1, own.2, own.3))
@@ -146,17 +143,12 @@ search_more image program nodes nodes' parents parents' marks marks' returns ret
           (cases_eq i done);
     }
 
-pub split_from : (image : Flash) (program : Program) (nodes : List Instance) (parents : List (Option ℕ)) (marks : List (Option Mark))
+pub split_from : (image : Flash) (program : Program) (nodes : List Instance) (parents : List (Option ℕ)) (marks : List Mark)
     (returns : List (Option Return)) (done other : ℕ) (x : Instance)
-    → IsSearch image program nodes parents marks returns done → slice_get nodes done ≡ Some x → SplitsFrom image program x done other marks
-    returns
+    → IsSearch image program nodes parents marks returns done → SplitsFrom image program nodes x other returns
     → (z : Instance) × (slice_get nodes other ≡ Some z) × Split image program z x
-split_from image program nodes parents marks returns done other x s at (inl h) = ⊎_elim
-    (λ old. let was = s.marked h.0 h.1 old in
-    (was.0, subst (λ n. slice_get nodes n ≡ Some was.0) h.4 was.1, inl (h.0, h.1.event, h.2, was.2, h.5, h.6)))
-    (λ own. (x, subst (λ n. slice_get nodes n ≡ Some x) (sym own.1 ∙ h.4) at, inl (h.0, h.1.event, h.2, own.0, h.5, h.6)))
-    h.3
-split_from image program nodes parents marks returns done other x s at (inr h) =
+split_from image program nodes parents marks returns done other x s (inl h) = (h.0, h.1, inl h.2)
+split_from image program nodes parents marks returns done other x s (inr h) =
     let was = s.ended h.0.line h.1 h.2 in (
       was.0,
       subst (λ n. slice_get nodes n ≡ Some was.0) h.3 was.2,

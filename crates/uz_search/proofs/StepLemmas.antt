@@ -8,14 +8,17 @@ use Rattle.uz_schedule.specs.declared.states.Instance.{Instance}
 use Rattle.uz_rules.specs.declared.next.Next.{Next}
 use Rattle.uz_transfer.specs.declared.fail.Fail.{Fail}
 use Rattle.uz_search.specs.declared.marks.Mark.{Mark}
+use Rattle.uz_search.specs.declared.marks.Mark.TheVariants.{Unpassed}
 use Rattle.uz_search.specs.declared.returns.Return.{Return}
 use Rattle.uz_search.specs.declared.asking.Stop.{Stop}
 use Rattle.uz_search.specs.declared.asking.Stop.TheVariants as stops
 use Rattle.uz_search.specs.declared.program.Program.{Program}
 use Rattle.uz_search.specs.Visiting.{AddsAll, ComeFrom, IsTree}
 use Rattle.uz_search.specs.Following.{Flash, After, followers_of, frame_of, lines_of}
+use Rattle.uz_search.specs.Marking.{Seen}
 use Rattle.uz_search.specs.Stuck.{IsStuck}
 use Rattle.uz_search.specs.Searching.{Treats, IsSearch, SplitsFrom, StopHolds}
+use Rattle.uz_search.proofs.MarkingLemmas.{none_marked}
 use Rattle.uz_search.proofs.SearchingLemmas.{search_more, split_from, whole_back}
 
 pub come_from : (image : Flash) (program : Program) (nodes : List Instance) (done : ℕ) (x : Instance) (next : Next) (follow : List Instance)
@@ -25,7 +28,7 @@ come_from image program nodes done x next follow at after is k y here =
     (x, at, record { next = next; after = after; is = (k, ap (λ l. slice_get l k) (sym is) ∙ here) })
 
 pub search_step : (image : Flash) (program : Program) (nodes nodes' : List Instance) (parents parents' : List (Option ℕ))
-    (marks marks0 marks' : List (Option Mark)) (returns returns0 returns' : List (Option Return)) (nm nr done : ℕ) (x : Instance)
+    (marks marks0 marks' : List Mark) (returns returns0 returns' : List (Option Return)) (nm nr done : ℕ) (x : Instance)
     (next : Next) (follow : List Instance)
     → IsSearch image program nodes parents marks returns done → slice_get nodes done ≡ Some x
     → marks0 ≡ marks → returns0 ≡ returns
@@ -49,27 +52,26 @@ search_step image program nodes nodes' parents parents' marks marks0 marks' retu
     (sym (whole_back marks marks' nm sm en))
     (subst (λ r. IsSearch image program nodes' parents' marks' r (done + 1)) (sym (whole_back returns returns' nr sr er')) more)
 
-pub stop_holds : (image : Flash) (program : Program) (nodes : List Instance) (parents : List (Option ℕ)) (marks marks0 : List (Option Mark))
+pub stop_holds : (image : Flash) (program : Program) (nodes nodes0 : List Instance) (parents : List (Option ℕ)) (marks : List Mark)
     (returns returns0 : List (Option Return)) (done : ℕ) (x : Instance) (stop : Stop)
-    → IsSearch image program nodes parents marks returns done → slice_get nodes done ≡ Some x → marks0 ≡ marks → returns0 ≡ returns
+    → IsSearch image program nodes parents marks returns done → nodes0 ≡ nodes → returns0 ≡ returns
     → ((why : Fail) → ◌≡◌ {A = Result ⊤ Stop} (Err stop) (Err (stops.Stuck why)) → IsStuck image program x why)
-    → ((other : ℕ) → ◌≡◌ {A = Result ⊤ Stop} (Err stop) (Err (stops.Split other)) → SplitsFrom image program x done other marks0
-    returns0)
+    → ((other : ℕ) → ◌≡◌ {A = Result ⊤ Stop} (Err stop) (Err (stops.Split other)) → SplitsFrom image program nodes0 x other returns0)
     → StopHolds image program nodes x stop
-stop_holds image program nodes parents marks marks0 returns returns0 done x (stops.Stuck why) s at em er stuck split = stuck why refl
-stop_holds image program nodes parents marks marks0 returns returns0 done x (stops.Split other) s at em er stuck split =
-    split_from image program nodes parents marks returns done other x s at
-    (subst (λ r. SplitsFrom image program x done other marks r) er (subst (λ m. SplitsFrom image program x done other m returns0) em
+stop_holds image program nodes nodes0 parents marks returns returns0 done x (stops.Stuck why) s en er stuck split = stuck why refl
+stop_holds image program nodes nodes0 parents marks returns returns0 done x (stops.Split other) s en er stuck split =
+    split_from image program nodes parents marks returns done other x s
+    (subst (λ r. SplitsFrom image program nodes x other r) er (subst (λ l. SplitsFrom image program l x other returns0) en
     (split other refl)))
-stop_holds image program nodes parents marks marks0 returns returns0 done x stops.Memory s at em er stuck split = tt
+stop_holds image program nodes nodes0 parents marks returns returns0 done x stops.Memory s en er stuck split = tt
 
-pub split_within : (image : Flash) (program : Program) (nodes : List Instance) (parents : List (Option ℕ))
-    (marks marks0 : List (Option Mark)) (returns returns0 : List (Option Return)) (done other : ℕ) (x : Instance)
-    → IsSearch image program nodes parents marks returns done → slice_get nodes done ≡ Some x → marks0 ≡ marks → returns0 ≡ returns
-    → SplitsFrom image program x done other marks0 returns0 → other < length nodes
-split_within image program nodes parents marks marks0 returns returns0 done other x s at em er h =
-    let z = split_from image program nodes parents marks returns done other x s at
-    (subst (λ r. SplitsFrom image program x done other marks r) er (subst (λ m. SplitsFrom image program x done other m returns0) em h)) in
+pub split_within : (image : Flash) (program : Program) (nodes nodes0 : List Instance) (parents : List (Option ℕ)) (marks : List Mark)
+    (returns returns0 : List (Option Return)) (done other : ℕ) (x : Instance)
+    → IsSearch image program nodes parents marks returns done → nodes0 ≡ nodes → returns0 ≡ returns
+    → SplitsFrom image program nodes0 x other returns0 → other < length nodes
+split_within image program nodes nodes0 parents marks returns returns0 done other x s en er h =
+    let z = split_from image program nodes parents marks returns done other x s
+    (subst (λ r. SplitsFrom image program nodes x other r) er (subst (λ l. SplitsFrom image program l x other returns0) en h)) in
     slice_get_within nodes other z.0 z.1
 
 pub none_blank : {A : Type 0} (n x : ℕ) (m : A) → slice_get (replicate n None) x ≡ Some (Some m) → ⊥
@@ -78,11 +80,11 @@ none_blank (suc n) zero m h = cc
 none_blank (suc n) (suc x) m h = none_blank n x m h
 
 pub search_begin : (image : Flash) (program : Program) (items nodes : List Instance) (parents : List (Option ℕ))
-    (marks : List (Option Mark)) (returns : List (Option Return))
+    (marks : List Mark) (returns : List (Option Return))
     → items ≡ program.starts
     → ((image : Flash) (program : Program) → IsTree image program [] [] → ComeFrom image program [] None items → AddsAll image program []
     items nodes parents)
-    → marks ≡ replicate (frame_of program) None → returns ≡ replicate (lines_of program) None
+    → marks ≡ replicate (frame_of program) Unpassed → returns ≡ replicate (lines_of program) None
     → IsSearch image program nodes parents marks returns 0
 search_begin image program items nodes parents marks returns is adds em er =
     let added = adds image program (record { lengths = refl; earlier = λ i p h. cc; are = record { each = λ i x p h k. cc } })
@@ -90,21 +92,27 @@ search_begin image program items nodes parents marks returns is adds em er =
     record {
       tree = added.tree;
       started = λ y h. added.there h.0 y (subst (λ l. slice_get l h.0 ≡ Some y) (sym is) h.1);
-      marked = λ y m h. absurd (none_blank (frame_of program) y m (subst (λ l. slice_get l y ≡ Some (Some m)) em h));
+      marked = λ y e h. absurd (none_marked (frame_of program) y e (subst (λ l. Seen l y e) em h));
       ended = λ line r h. absurd (none_blank (lines_of program) line r (subst (λ l. slice_get l line ≡ Some (Some r)) er h));
-      frame = ap length em ∙ length-replicate (frame_of program) None;
+      frame = ap length em ∙ length-replicate (frame_of program) Unpassed;
       lines = ap length er ∙ length-replicate (lines_of program) None;
       treated = λ i x below here. absurd (omega arith);
     }
 
-pub search_end : (image : Flash) (program : Program) (nodes : List Instance) (parents : List (Option ℕ)) (marks : List (Option Mark))
+pub search_end : (image : Flash) (program : Program) (nodes : List Instance) (parents : List (Option ℕ)) (marks : List Mark)
     (returns : List (Option Return)) (done : ℕ)
     → IsSearch image program nodes parents marks returns done → length nodes ≤ done → IsSearch image program nodes parents marks returns
     (length nodes)
 search_end image program nodes parents marks returns done s le = record {
   tree = s.tree;
   started = s.started;
-  marked = s.marked;
+  marked = λ y e h. let was = s.marked y e h in record {
+    number = was.number;
+    below = slice_get_within nodes was.number was.x was.there;
+    x = was.x;
+    there = was.there;
+    shows = was.shows;
+  };
   ended = s.ended;
   frame = s.frame;
   lines = s.lines;

@@ -87,7 +87,7 @@ on_trails image program nodes parents limit tree one le = record {
 }
 
 -- a search that ends and has no return is a closed list without one
-pub closed_without : (image : Flash) (program : Program) (nodes : List Instance) (parents : List (Option ℕ)) (marks : List (Option Mark))
+pub closed_without : (image : Flash) (program : Program) (nodes : List Instance) (parents : List (Option ℕ)) (marks : List Mark)
     (returns : List (Option Return))
     → IsSearch image program nodes parents marks returns (length nodes)
     → AreDistinct nodes

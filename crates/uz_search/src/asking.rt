@@ -7,14 +7,15 @@ ghost use Rattle.uz_schedule.specs.declared.states.Instance.{Instance};
 ghost use Rattle.uz_transfer.specs.declared.fail.Fail.{Fail};
 ghost use Rattle.uz_transfer.specs.Values.{pair_range};
 ghost use Rattle.uz_search.specs.Fitting.{ProgramFits, Stands};
-ghost use Rattle.uz_search.specs.Following.{frame_of, lines_of, most_clocks as most_of, place_on as place_of};
+ghost use Rattle.uz_search.specs.Following.{Among, frame_of, lines_of, most_clocks as most_of, place_on as place_of};
 ghost use Rattle.uz_search.specs.Stuck.{IsStuck};
-ghost use Rattle.uz_search.specs.Searching.{Treats, SplitsFrom, MarksWay, NotesEnd};
+ghost use Rattle.uz_search.specs.Searching.{AreMarked, Treats, SplitsFrom, MarksWay, NotesEnd};
 
-use crate::marks::{Mark, mark_all};
+use crate::marks::{Mark, Shown, mark_all};
 use crate::passing::most_clocks;
 use crate::program::{Program, put_results};
 use crate::returns::{Return, note_return};
+use crate::showing::first_to_show;
 use crate::stuck::stuck;
 use std::alloc::AllocError;
 use uz_hex::Image;
@@ -43,25 +44,19 @@ impl From<AllocError> for Stop {
     }
 }
 
-/// Notes what the instance shows on its way, or answers the number of one that shows otherwise.
-fn mark_way(
-    program: &Program,
-    at: &Instance,
-    next: &Next,
-    by: u32,
-    marks: &mut [Option<Mark>],
-) -> Option<u32>
+/// Notes what the instance shows on its way, or answers what else is noted of a position on it.
+fn mark_way(program: &Program, at: &Instance, next: &Next, marks: &mut [Mark]) -> Option<Shown>
     requires lines { lines_of program.now ≤ most_lines }
     requires line { at.now.line < lines_of program.now }
     requires there { at.now.kind ≢ Main → (k : ℕ) → k ≤ most_of program.now at.now next.now.out.items →
         place_of program.now at.now k < length marks.old }
-    ensures { MarksWay program.now at.now next.now by marks.old result marks.new }
+    ensures { MarksWay program.now at.now next.now marks.old result marks.new }
 {
     match at.kind {
         Kind::Main => None,
         Kind::Handler | Kind::Alone => {
             let most = most_clocks(program, at, next.out.as_slice());
-            mark_all(program, at, most, next.emit, by, marks)
+            mark_all(program, at, most, next.emit, marks)
         }
     }
 }
@@ -90,22 +85,27 @@ fn is_ordered(at: &Instance)
 }
 
 /// Asks the instance of this number for its results, which it puts in place of others, and notes what it shows and where it returns.
+/// Where it shows otherwise than is noted, the first instance that shows what is noted is looked for.
 pub(crate) fn examine(
     image: &Image,
     program: &Program,
+    nodes: &[Instance],
     at: &Instance,
     by: u32,
-    marks: &mut [Option<Mark>],
+    marks: &mut [Mark],
     returns: &mut [Option<Return>],
     next: &mut Next,
 ) -> Result<(), Stop>
     requires fits { ProgramFits program.now }
+    requires stand { (x : Instance) → Among nodes.now x → Stands program.now x }
     requires stands { Stands program.now at.now }
+    requires here { slice_get nodes.now by ≡ Some at.now }
+    requires marked { AreMarked image.now program.now nodes.now marks.old by }
     requires frame { length marks.old ≡ frame_of program.now }
     requires lines { length returns.old ≡ lines_of program.now }
     ensures ok { OnOk result (Treats image.now program.now at.now by marks.old marks.new returns.old returns.new next.new) }
     ensures stuck { (why : Fail) → result ≡ Err (Stop.Stuck why) → IsStuck image.now program.now at.now why }
-    ensures split { (other : ℕ) → result ≡ Err (Stop.Split other) → SplitsFrom image.now program.now at.now by other marks.old returns.old }
+    ensures split { (other : ℕ) → result ≡ Err (Stop.Split other) → SplitsFrom image.now program.now nodes.now at.now other returns.old }
 {
     if let Err(why) = put_results(image, program, at, next) {
         return Err(Stop::Stuck(why));
@@ -114,8 +114,8 @@ pub(crate) fn examine(
     if let Some(why) = stuck(image, program, at, next) {
         return Err(Stop::Stuck(why));
     }
-    if let Some(other) = mark_way(program, at, next, by, marks) {
-        return Err(Stop::Split(other));
+    if let Some(noted) = mark_way(program, at, next, marks) {
+        return Err(Stop::Split(first_to_show(image, program, nodes, by, noted, next)));
     }
     if let Some(other) = note_end(next, by, returns)? {
         return Err(Stop::Split(other));

@@ -56,8 +56,8 @@ pub struct Found {
     pub nodes: IndexSet<Instance>,
     /// Of each instance the number of the one that it follows, None of a start.
     pub parents: Vec<Option<u32>>,
-    /// By position what is shown there; None where no instance has passed. Each line has as many positions as the longest one has clocks.
-    pub marks: Vec<Option<Mark>>,
+    /// By position what is shown there. Each line has as many positions as the longest one has clocks.
+    pub marks: Vec<Mark>,
     /// By line where the handler returns.
     pub returns: Vec<Option<Return>>,
     /// Where each instance leads: a choice of speed, of which nothing is said.

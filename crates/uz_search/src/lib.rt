@@ -9,6 +9,7 @@ mod passing;
 mod program;
 mod returns;
 mod searching;
+mod showing;
 mod stuck;
 mod trail;
 mod visited;

@@ -15,6 +15,7 @@ ghost use Rattle.uz_search.specs.Visiting.{IsTree};
 
 use crate::asking::{Stop, examine};
 use crate::found::{Found, NotFound};
+use crate::marks::unpassed;
 use crate::passing::line_start;
 use crate::program::{Program, copied_starts, followers, starts_in_main};
 use crate::returns::is_without_return;
@@ -73,10 +74,12 @@ fn step(
     ensures ok { OnOk result (IsSearchOf image.now program.now found.new (done + 1)) }
     ensures refusal { IfErr result (λ e. (limit : ℕ) → Refusal image.now program.now limit e) }
 {
-    let at = node_at(found.nodes.as_slice(), done as usize);
+    let nodes = found.nodes.as_slice();
+    let at = node_at(nodes, done as usize);
     match examine(
         image,
         program,
+        nodes,
         at,
         done,
         found.marks.as_mut_slice(),
@@ -128,7 +131,7 @@ fn begin(alloc: Global, program: &Program) -> Result<Found, AllocError>
     let mut ways = Ways::new(alloc);
     add_all(&mut nodes, &mut parents, &mut ways, starts, None, false)?;
     let lines = program.lines();
-    let marks = blank(alloc, line_start(lines))?;
+    let marks = unpassed(alloc, line_start(lines))?;
     let returns = blank(alloc, u32::from(lines))?;
     Ok(Found {
         nodes,

@@ -1,4 +1,4 @@
-use Rattle.std.proofs.Common.{◌≡◌, ◌<◌, ℕ, List, Option, Some, Result, Ok, Err, inl, inr, sym, subst}
+use Rattle.std.proofs.Common.{◌≡◌, ◌<◌, ◌+◌, ℕ, List, Option, Some, Result, Ok, Err, inl, inr, sym, subst, slice_get, arith}
 use Rattle.std.specs.Prelude.{⊤}
 use Rattle.uz_transfer.specs.declared.fail.Fail.{Fail}
 use Rattle.uz_search.specs.declared.asking.Stop.{Stop}
@@ -6,10 +6,10 @@ use Rattle.uz_search.specs.declared.asking.Stop.TheVariants.{Split, Stuck}
 use Rattle.uz_schedule.specs.declared.states.Instance.{Instance}
 use Rattle.uz_rules.specs.declared.next.Next.{Next}
 use Rattle.uz_search.specs.declared.marks.Mark.{Mark}
-use Rattle.uz_search.specs.declared.returns.Return.{Return}
+use Rattle.uz_search.specs.declared.marks.Shown.{Shown}
 use Rattle.uz_search.specs.declared.program.Program.{Program}
 use Rattle.uz_search.specs.Stuck.{StuckWith}
-use Rattle.uz_search.specs.Searching.{MarksWay, NotesEnd, SplitsFrom}
+use Rattle.uz_search.specs.Searching.{AreMarked, MarksWay, NotesEnd, ShownBefore}
 use Rattle.uz_search.proofs.OneResult.{steps}
 use Rattle.uz_search.specs.Following.{After, Flash, place_on}
 use Rattle.uz_search.proofs.Results.{passes_within, some_result, stands_next}
@@ -58,29 +58,45 @@ returns-in-Some-clause-stuck c = λ why e.
     let next = c.put_results.new.next in
     inr (next, c.in_default.ensures.ok, subst (StuckWith image program x next) (why_is c.in-Some.why why e) c.in-Some.ensures.some)
 
--- what is shown on the way is shown by the instance
-splits_on_way : (image : Flash) (p : Program) (x : Instance) (next : Next) (by other : ℕ) (old new : List (Option Mark))
-    (returns : List (Option Return)) → After image p x (Ok next) → MarksWay p x next by old (Some other) new
-    → SplitsFrom image p x by other old returns
-splits_on_way image p x next by other old new returns after (y, m, e, was, is_other, here, differ) = inl (
-  y,
-  m,
-  e,
-  elim was [ inl before ↦ inl before | inr (now, own) ↦ inr ((next, after, now.0, now.1), own) ],
-  is_other,
-  (next, after, here.0, here.1),
-  differ,
-)
+-- what is noted is shown by one of the instances so far, or by this one
+noted_before : (image : Flash) (p : Program) (nodes : List Instance) (by : ℕ) (x : Instance) (next : Next) (noted : Shown)
+    (old new : List Mark) → slice_get nodes by ≡ Some x → AreMarked image p nodes old by → After image p x (Ok next)
+    → MarksWay p x next old (Some noted) new → ShownBefore image p nodes (by + 1) noted.place noted.event
+noted_before image p nodes by x next noted old new here marked after (was, _) = elim was [
+  | inl before ↦ let it = marked noted.place noted.event before in record {
+    number = it.number;
+    below = (let below = it.below in omega arith);
+    x = it.x;
+    there = it.there;
+    shows = it.shows;
+  }
+  | inr own ↦ record { number = by; below = omega arith; x = x; there = here; shows = (next, after, own.0, own.1) }
+]
+
+pub first_to_show-requires-clause-some : goal.first_to_show-requires-clause-some
+first_to_show-requires-clause-some c =
+    let next = c.put_results.new.next in
+    noted_before c.args.image.now c.args.program.now c.args.nodes.now c.args.by c.args.at.now next c.in-Some-mark_way.noted
+    c.args.marks.now c.mark_way.new.marks c.requires.here c.requires.marked c.in_default.ensures.ok c.in-Some-mark_way.ensures
 
 other_is : (a b : ℕ) → ◌≡◌ {A = Result ⊤ Stop} (Err (Split a)) (Err (Split b)) → a ≡ b
 other_is a b e = cc
 
 pub returns-in-Some-mark_way-clause-split : goal.returns-in-Some-mark_way-clause-split
 returns-in-Some-mark_way-clause-split c = λ other e.
-    let image = c.args.image.now in
-    let program = c.args.program.now in
-    let x = c.args.at.now in
     let next = c.put_results.new.next in
-    subst (λ o. SplitsFrom image program x c.args.by o c.args.marks.now c.args.returns.now) (other_is c.in-Some-mark_way.other other e)
-    (splits_on_way image program x next c.args.by c.in-Some-mark_way.other c.args.marks.now c.mark_way.new.marks c.args.returns.now
-    c.in_default.ensures.ok c.in-Some-mark_way.ensures)
+    let noted = c.in-Some-mark_way.noted in
+    let first = c.first_to_show.ensures in
+    let way = c.in-Some-mark_way.ensures in
+    inl (
+      first.0,
+      subst (λ n. slice_get c.args.nodes.now n ≡ Some first.0) (other_is c.first_to_show.result other e) first.1,
+      (
+        noted.place,
+        noted.event,
+        way.1.0,
+        first.2,
+        (next, c.in_default.ensures.ok, way.1.1.0, way.1.1.1),
+        way.1.2,
+      ),
+    )

@@ -1,4 +1,4 @@
-use Rattle.std.proofs.Common.{◌≢◌, ◌≡◌, ◌≤◌, ℕ, subst, ap, ◌∙◌, ⊎_elim}
+use Rattle.std.proofs.Common.{◌≢◌, ◌≤◌, ℕ, subst, ap, ◌∙◌, ⊎_elim}
 use Rattle.uz_schedule.specs.declared.kinds.Kind.TheVariants.{Main}
 use Rattle.uz_search.specs.Marking.{MarksAll}
 use Rattle.uz_search.specs.Following.{most_clocks}
@@ -20,5 +20,5 @@ returns-in-Handler c =
     let next = c.args.next.now in
     let apart : x.kind ≢ Main = λ main. ⊎_elim (λ h. cc (h, main)) (λ h. cc (h, main)) c.in-Handler.is in
     let most = c.most_clocks-most.ensures.clocks ∙ ap (most_clocks p x) c.as_slice.ensures.value in
-    way_from_all p x next c.args.by c.args.marks.now c.mark_all.result c.mark_all.new.marks apart
-    (subst (λ (n : ℕ). MarksAll p x n next.emit c.args.by c.args.marks.now c.mark_all.result c.mark_all.new.marks) most c.mark_all.ensures)
+    way_from_all p x next c.args.marks.now c.mark_all.result c.mark_all.new.marks apart
+    (subst (λ (n : ℕ). MarksAll p x n next.emit c.args.marks.now c.mark_all.result c.mark_all.new.marks) most c.mark_all.ensures)

@@ -1,8 +1,8 @@
-use Rattle.std.proofs.Common.{◌+◌, ◌<◌, ◌≤◌, length, ℕ, Option, None, Some, subst, sym, arith}
+use Rattle.std.proofs.Common.{◌+◌, ◌<◌, length, ℕ, Option, None, subst, sym, arith}
 use Rattle.uz_schedule.specs.declared.lines.EventKind.{EventKind}
 use Rattle.uz_search.specs.Following.{place_on, shown_at}
 use Rattle.uz_search.specs.Marking.{MarksOne}
-use Rattle.uz_search.proofs.MarkingLemmas.{seen_more, own_more, differs}
+use Rattle.uz_search.proofs.MarkingLemmas.{seen_more, own_more}
 use Rattle.uz_search.proofs.marks.mark_all.Goals as goal
 
 pub mark_one-requires : goal.mark_one-requires
@@ -20,13 +20,13 @@ each-preserved c =
     let mid = c.each.marks in
     let new = c.mark_one.new.marks in
     let k : ℕ = c.each.step + 1 in
-    let one : MarksOne mid (place_on p x k) (shown_at c.args.emit k) c.args.by None new =
-    subst (λ n. MarksOne mid n (shown_at c.args.emit k) c.args.by None new) c.place_on-place.ensures
-    (subst (λ (e : Option EventKind). MarksOne mid c.place_on-place.result e c.args.by None new) c.shown_after.ensures
+    let one : MarksOne mid (place_on p x k) (shown_at c.args.emit k) None new =
+    subst (λ n. MarksOne mid n (shown_at c.args.emit k) None new) c.place_on-place.ensures
+    (subst (λ (e : Option EventKind). MarksOne mid c.place_on-place.result e None new) c.shown_after.ensures
     c.in_default.ensures) in
     let below : c.each.step < c.args.most = c.each-test.true in
     record {
-      kept = λ y m h. one.0 y m (c.each.invariant.kept y m h);
-      own = own_more p x c.args.most c.args.emit c.args.by old mid new c.each.step below c.each.invariant.own one;
-      seen = seen_more p x c.args.most c.args.emit c.args.by old mid new c.each.step c.each.invariant.seen one;
+      kept = λ y e h. one.0 y e (c.each.invariant.kept y e h);
+      own = own_more p x c.args.most c.args.emit old mid new c.each.step below c.each.invariant.own one;
+      seen = seen_more p x c.args.most c.args.emit old mid new c.each.step c.each.invariant.seen one;
     }

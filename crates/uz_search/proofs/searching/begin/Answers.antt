@@ -1,5 +1,6 @@
 use Rattle.std.proofs.Common.{ℕ, ◌∙◌, ap, replicate, None, Option, List, [], subst}
 use Rattle.uz_schedule.specs.declared.states.Instance.{Instance}
+use Rattle.uz_search.specs.declared.marks.Mark.TheVariants.{Unpassed}
 use Rattle.uz_search.specs.declared.program.Program.{Program}
 use Rattle.uz_search.specs.Following.{Flash, line_start}
 use Rattle.uz_search.specs.Visiting.{IsTree, ComeFrom, AddsAll}
@@ -19,5 +20,5 @@ returns c = λ image.
     (subst (λ (ks : List Instance). (image : Flash) (program : Program) → IsTree image program ks c.new-parents.result.items
     → ComeFrom image program ks None items → AddsAll image program ks items nodes parents)
     c.new-nodes.ensures.empty c.in_ok-add_all.ensures))
-    (c.in_ok-marks.ensures ∙ ap (λ n. replicate n None) (c.line_start.ensures.value ∙ ap line_start c.lines-lines.ensures))
+    (c.in_ok-marks.ensures ∙ ap (λ n. replicate n Unpassed) (c.line_start.ensures.value ∙ ap line_start c.lines-lines.ensures))
     (c.in_ok-returns.ensures ∙ ap (λ n. replicate n None) (c.from.ensures ∙ c.lines-lines.ensures))

@@ -1,6 +1,6 @@
 use Rattle.std.proofs.Common.{◌≡◌, ◌<◌, length, slice_get, Some, Err, sym, subst, ap, ◌∙◌}
 use Rattle.uz_search.specs.Visiting.{IsTree}
-use Rattle.uz_search.specs.Searching.{StopHolds}
+use Rattle.uz_search.specs.Searching.{AreMarked, StopHolds}
 use Rattle.uz_search.proofs.OneResult.{steps}
 use Rattle.uz_search.proofs.Results.{stands_next}
 use Rattle.uz_search.proofs.Standing.{stands_all}
@@ -13,15 +13,15 @@ returns-in-Err-clause-refusal c = λ limit.
     let program = c.args.program.now in
     let s = c.args.found.now in
     let x = c.node_at-at.result.now in
-    let at : slice_get s.nodes.keys c.args.done ≡ Some x = ap (λ l. slice_get l c.args.done) (sym c.as_slice.ensures.keys)
+    let at : slice_get s.nodes.keys c.args.done ≡ Some x = ap (λ l. slice_get l c.args.done) (sym c.as_slice-nodes.ensures.keys)
     ∙ c.node_at-at.ensures in
-    let keys = c.as_slice-in-Err.ensures.keys in
-    let parents = c.as_slice-in-Err-2.ensures.value in
-    let tree = subst (λ k. IsTree image program k c.as_slice-in-Err-2.result.now) (sym keys)
+    let keys = c.as_slice.ensures.keys in
+    let parents = c.as_slice-in-Err.ensures.value in
+    let tree = subst (λ k. IsTree image program k c.as_slice-in-Err.result.now) (sym keys)
     (subst (λ p. IsTree image program s.nodes.keys p) (sym parents) c.requires.so_far.tree) in
-    let holds = stop_holds image program s.nodes.keys s.parents.items s.marks.items c.as_mut_slice.result.now s.returns.items
+    let holds = stop_holds image program s.nodes.keys c.as_slice-nodes.result.now s.parents.items s.marks.items s.returns.items
     c.as_mut_slice-2.result.now c.args.done x c.in-Err.stop
-    c.requires.so_far at c.as_mut_slice.ensures.value c.as_mut_slice-2.ensures.value c.in-Err.ensures.stuck c.in-Err.ensures.split in
+    c.requires.so_far c.as_slice-nodes.ensures.keys c.as_mut_slice-2.ensures.value c.in-Err.ensures.stuck c.in-Err.ensures.split in
     c.refused.ensures image program limit x tree (ap (λ l. slice_get l c.args.done) keys ∙ at)
     (subst (λ k. StopHolds image program k x c.in-Err.stop) (sym keys) holds)
 
@@ -31,7 +31,7 @@ returns-in_ok-add_all-in-Ok-clause-ok c =
     let program = c.args.program.now in
     let s = c.args.found.now in
     let x = c.node_at-at.result.now in
-    let at : slice_get s.nodes.keys c.args.done ≡ Some x = ap (λ l. slice_get l c.args.done) (sym c.as_slice.ensures.keys)
+    let at : slice_get s.nodes.keys c.args.done ≡ Some x = ap (λ l. slice_get l c.args.done) (sym c.as_slice-nodes.ensures.keys)
     ∙ c.node_at-at.ensures in
     search_step image program s.nodes.keys c.add_all.new.nodes.keys s.parents.items c.add_all.new.parents.items
     s.marks.items c.as_mut_slice.result.now c.examine.new.marks s.returns.items c.as_mut_slice-2.result.now c.examine.new.returns
@@ -39,11 +39,25 @@ returns-in_ok-add_all-in-Ok-clause-ok c =
     c.requires.so_far at c.as_mut_slice.ensures.value c.as_mut_slice-2.ensures.value c.in-Ok.ensures.ok
     c.examine.auto.marks c.examine.auto.returns s.marks.ok.0 s.returns.ok.0 c.in_ok-follow-in-Ok.ensures c.in_ok-add_all-in-Ok.ensures
 
+pub examine-requires-clause-stand : goal.examine-requires-clause-stand
+examine-requires-clause-stand c = λ x there.
+    let s = c.args.found.now in
+    stands_all c.args.image.now c.args.program.now s.nodes.keys s.parents.items c.requires.fits c.requires.so_far.tree x
+    (there.0, ap (λ l. slice_get l there.0) (sym c.as_slice-nodes.ensures.keys) ∙ there.1)
+
+pub examine-requires-clause-marked : goal.examine-requires-clause-marked
+examine-requires-clause-marked c =
+    let image = c.args.image.now in
+    let program = c.args.program.now in
+    let s = c.args.found.now in
+    subst (λ l. AreMarked image program l c.as_mut_slice.result.now c.args.done) (sym c.as_slice-nodes.ensures.keys)
+    (subst (λ m. AreMarked image program s.nodes.keys m c.args.done) (sym c.as_mut_slice.ensures.value) c.requires.so_far.marked)
+
 pub examine-requires-clause-stands : goal.examine-requires-clause-stands
 examine-requires-clause-stands c =
     let s = c.args.found.now in
     stands_all c.args.image.now c.args.program.now s.nodes.keys s.parents.items c.requires.fits c.requires.so_far.tree c.node_at-at.result.now
-    (c.args.done, ap (λ l. slice_get l c.args.done) (sym c.as_slice.ensures.keys) ∙ c.node_at-at.ensures)
+    (c.args.done, ap (λ l. slice_get l c.args.done) (sym c.as_slice-nodes.ensures.keys) ∙ c.node_at-at.ensures)
 
 pub refused-requires-clause-other : goal.refused-requires-clause-other
 refused-requires-clause-other c = λ other is.
@@ -51,12 +65,10 @@ refused-requires-clause-other c = λ other is.
     let program = c.args.program.now in
     let s = c.args.found.now in
     let x = c.node_at-at.result.now in
-    let at : slice_get s.nodes.keys c.args.done ≡ Some x = ap (λ l. slice_get l c.args.done) (sym c.as_slice.ensures.keys)
-    ∙ c.node_at-at.ensures in
-    subst (λ k. other < length k) (sym c.as_slice-in-Err.ensures.keys)
-    (split_within image program s.nodes.keys s.parents.items s.marks.items c.as_mut_slice.result.now s.returns.items
+    subst (λ k. other < length k) (sym c.as_slice.ensures.keys)
+    (split_within image program s.nodes.keys c.as_slice-nodes.result.now s.parents.items s.marks.items s.returns.items
     c.as_mut_slice-2.result.now c.args.done other x
-    c.requires.so_far at c.as_mut_slice.ensures.value c.as_mut_slice-2.ensures.value (c.in-Err.ensures.split other (λ i. Err (is i))))
+    c.requires.so_far c.as_slice-nodes.ensures.keys c.as_mut_slice-2.ensures.value (c.in-Err.ensures.split other (λ i. Err (is i))))
 
 pub followers-requires-clause-each : goal.followers-requires-clause-each
 followers-requires-clause-each c = λ back y there.
@@ -66,5 +78,5 @@ followers-requires-clause-each c = λ back y there.
     let x = c.node_at-at.result.now in
     let next = c.examine.new.next in
     let stands = stands_all image program s.nodes.keys s.parents.items c.requires.fits c.requires.so_far.tree x
-    (c.args.done, ap (λ l. slice_get l c.args.done) (sym c.as_slice.ensures.keys) ∙ c.node_at-at.ensures) in
+    (c.args.done, ap (λ l. slice_get l c.args.done) (sym c.as_slice-nodes.ensures.keys) ∙ c.node_at-at.ensures) in
     (stands_next image program c.requires.fits x stands next (steps image program x next c.in-Ok.ensures.ok.after) y there).line
