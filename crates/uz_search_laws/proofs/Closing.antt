@@ -1,4 +1,4 @@
--- What is marked at a position, and places some clocks apart.
+-- What is shown at a clock, and places some clocks apart.
 use Rattle.std.proofs.Common.{◌≡◌, ℕ, zero, suc, ◌<◌, ◌≤◌, ◌-◌, List, [], ◌∷◌, max, Option, Some, None, Bool, true, false, refl, sym, ap}
 use Rattle.std.proofs.Common.{◌∙◌, subst, inl, inr, slice_get, nat_eq, if◌then◌else◌, arith}
 use Rattle.std.proofs.lemmas.Bool.{eqb-true, eq-eqb}
@@ -6,18 +6,10 @@ use Rattle.uz_schedule.specs.Schedule.{length_of}
 use Rattle.uz_schedule.specs.declared.lines.Schedule.{Schedule}
 use Rattle.uz_schedule.specs.declared.states.Instance.{Instance}
 use Rattle.uz_schedule.specs.declared.lines.EventKind.{EventKind}
-use Rattle.uz_search.specs.declared.marks.Mark.{Mark}
 use Rattle.uz_search.specs.declared.program.Program.{Program}
 use Rattle.uz_search.specs.Following.{most_clocks, clocks_between, shown_at}
-use Rattle.uz_search.specs.Marking.{Seen}
 use Rattle.uz_search.proofs.FramePlaces.{IsNext, Reaches, one_next}
 use Rattle.uz_search.proofs.VisitingLemmas.{some_is}
-
--- one position is marked once
-pub seen_once : (marks : List (Option Mark)) (p : ℕ) (d e : Option EventKind) → Seen marks p d → Seen marks p e → d ≡ e
-seen_once marks p d e a b =
-    let same : a.0 ≡ b.0 = some_is a.0 b.0 (some_is (Some a.0) (Some b.0) (sym a.1 ∙ b.1)) in
-    sym a.2 ∙ ap (λ m. m.event) same ∙ b.2
 
 shown_choice : (b : Bool) (d e : EventKind) → (if b then Some d else None) ≡ Some e → (b ≡ true) × (d ≡ e)
 shown_choice true d e h = (refl, some_is d e h)

@@ -1,5 +1,5 @@
 -- A search that ends reaches each line, and its returns end their lines.
-use Rattle.std.proofs.Common.{◌≡◌, ◌≢◌, ℕ, zero, suc, ◌<◌, ◌≤◌, ◌+◌, ◌-◌, ◌%◌, List, map, Option, Some, true, false, refl, sym, ap, ◌∙◌}
+use Rattle.std.proofs.Common.{◌≡◌, ◌≢◌, ℕ, zero, suc, ◌<◌, ◌≤◌, ◌+◌, ◌-◌, List, map, Option, Some, true, false, sym, ap, ◌∙◌}
 use Rattle.std.proofs.Common.{subst, inl, inr, ⊎_elim, length, slice_get, if◌then◌else◌, true≢false, arith}
 use Rattle.std.specs.List.{flat_map}
 use Rattle.std.proofs.lemmas.Bool.{cases_lt}
@@ -22,6 +22,7 @@ use Rattle.uz_search.specs.Searching.{IsSearch, Treated}
 use Rattle.uz_search.specs.Widenings.{widened}
 use Rattle.uz_search.proofs.FramePlaces.{IsNext, Reaches, at, length_few, length_some, one_line, one_clock, one_next, reach_line, reach_on}
 use Rattle.uz_search.proofs.Lists.{kind_cases, bool_cases, in_map, of_map, in_first, of_flat}
+use Rattle.uz_search.proofs.MarkingLemmas.{seen_once}
 use Rattle.uz_search.proofs.OneResult.{steps}
 use Rattle.uz_search.proofs.OneResult as result
 use Rattle.uz_search.proofs.Results.{Moves, back_is_handler, same_kind, main_line, passes}
@@ -31,10 +32,10 @@ use Rattle.uz_search.proofs.VisitingLemmas.{some_is}
 use Rattle.uz_search.proofs.WidenedLaws.{widened_place}
 use Rattle.uz_search_laws.proofs.NodeLaws as node_laws
 use Rattle.uz_search_laws.proofs.NodeLaws.{Owes, Clear, entry_place, some_entry, start_place}
-use Rattle.uz_search_laws.proofs.Closing.{seen_once, shown_is, shown_here, one_emit, clocks_few, reaches_less, reaches_one, reaches_back}
+use Rattle.uz_search_laws.proofs.Closing.{shown_is, shown_here, one_emit, clocks_few, reaches_less, reaches_one, reaches_back}
 
 module _ (image : Flash) (program : Program) (fits : ProgramFits program) (nodes : List Instance) (parents : List (Option ℕ))
-    (marks : List (Option Mark)) (returns : List (Option Return))
+    (marks : List Mark) (returns : List (Option Return))
     (s : IsSearch image program nodes parents marks returns (length nodes)) where
   pub stands : (x : Instance) → Among nodes x → Stands program x
   stands x node = stands_all image program nodes parents fits s.tree x node
@@ -116,32 +117,32 @@ module _ (image : Flash) (program : Program) (fits : ProgramFits program) (nodes
   -- what is marked is shown by one of the instances
   pub who : (l q : ℕ) (e : EventKind) → q < length_of program.schedule l → Seen marks (at l q) (Some e) → Shower l q e
   who l q e in_line seen =
-      let m = seen.0 in
-      let it = s.marked (at l q) m seen.1 in
-      let node : Among nodes it.0 = (m.by, it.1) in
-      let t = treated it.0 node in
-      let next = it.2.0 in
-      let same : next ≡ t.next = result.one_next image program it.0 next t.next it.2.1 t.after in
-      let st = it.2.3 in
-      let few : st.clocks ≤ most_clocks program it.0 t.next.out.items =
-      subst (λ (n : Next). st.clocks ≤ most_clocks program it.0 n.out.items) same st.few in
-      let l' : ℕ = line_on program it.0 st.clocks in
-      let q' : ℕ = clock_on program it.0 st.clocks in
-      let goes = passed it.0 node it.2.2 st.clocks few in
+      let it = s.marked (at l q) (Some e) seen in
+      let x = it.x in
+      let node : Among nodes x = (it.number, it.there) in
+      let t = treated x node in
+      let next = it.shows.0 in
+      let same : next ≡ t.next = result.one_next image program x next t.next it.shows.1 t.after in
+      let st = it.shows.3 in
+      let few : st.clocks ≤ most_clocks program x t.next.out.items =
+      subst (λ (n : Next). st.clocks ≤ most_clocks program x n.out.items) same st.few in
+      let l' : ℕ = line_on program x st.clocks in
+      let q' : ℕ = clock_on program x st.clocks in
+      let goes = passed x node it.shows.2 st.clocks few in
       let here : q < scanline = (let long = length_few program fits l in omega (arith, in_line, long)) in
       let there : q' < scanline = (let long = length_few program fits l' in let below = goes.0 in omega (arith, below, long)) in
       let line = one_line l q l' q' here there st.there in
       let clock = one_clock l q l' q' here there st.there in
       record {
-        x = it.0;
+        x = x;
         node = node;
-        apart = it.2.2;
+        apart = it.shows.2;
         k = st.clocks;
         some = st.some;
         few = few;
-        reach = subst (λ (a : ℕ). Reaches program.schedule it.0.line it.0.clock st.clocks a q) (sym line)
-            (subst (λ (b : ℕ). Reaches program.schedule it.0.line it.0.clock st.clocks l' b) (sym clock) goes);
-        shown = ap (λ (n : Next). shown_at n.emit st.clocks) (sym same) ∙ sym st.shows ∙ seen.2;
+        reach = subst (λ (a : ℕ). Reaches program.schedule x.line x.clock st.clocks a q) (sym line)
+            (subst (λ (b : ℕ). Reaches program.schedule x.line x.clock st.clocks l' b) (sym clock) goes);
+        shown = ap (λ (n : Next). shown_at n.emit st.clocks) (sym same) ∙ sym st.shows;
       }
 
   -- a result of an instance that does not return is there, widened

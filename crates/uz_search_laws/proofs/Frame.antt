@@ -48,17 +48,17 @@ falls_once image p found s fits ended of = record {
 
 -- a mark is shown by an instance, and a level that is shown turns the one before it
 pub levels_fit : EndedLevelsFit
-levels_fit image p found y v m fits ended marked is =
-    let it = ended.marked y m marked in
-    let x = it.0 in
-    let node : Among found.nodes.keys x = (m.by, it.1) in
-    let next = it.2.0 in
+levels_fit image p found y v fits ended is =
+    let it = ended.marked y (Some (Sync v)) (shown_seen found.marks.items y (Sync v) is) in
+    let x = it.x in
+    let node : Among found.nodes.keys x = (it.number, it.there) in
+    let next = it.shows.0 in
     let t = cover.treated image p fits found.nodes.keys found.parents.items found.marks.items found.returns.items ended x node in
-    let same = result.one_next image p x next t.next it.2.1 t.after in
-    let apart = it.2.2 in
-    let passing = it.2.3 in
+    let same = result.one_next image p x next t.next it.shows.1 t.after in
+    let apart = it.shows.2 in
+    let passing = it.shows.3 in
     let emit = subst (λ (n : Next). n.emit ≡ Some (passing.clocks, Sync v)) same
-    (shown_is next.emit passing.clocks (Sync v) (sym passing.shows ∙ is)) in
+    (shown_is next.emit passing.clocks (Sync v) (sym passing.shows)) in
     let o = cover.owed image p fits found.nodes.keys found.parents.items found.marks.items found.returns.items ended x node apart in
     let sum = (o.syncs passing.clocks v o.out.0 emit (0, o.out.1)).1 in
     omega (arith, sum)

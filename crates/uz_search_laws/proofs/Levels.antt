@@ -1,5 +1,5 @@
 -- The level of each instance is that of the last sync event before it.
-use Rattle.std.proofs.Common.{◌≡◌, ◌≢◌, ℕ, ◌<◌, ◌≤◌, ◌+◌, ◌-◌, ◌*◌, ◌%◌, ◌⊎◌, List, map, Option, Some, None, true, false, refl, sym, ap}
+use Rattle.std.proofs.Common.{◌≡◌, ◌≢◌, ℕ, ◌<◌, ◌≤◌, ◌+◌, ◌-◌, ◌%◌, ◌⊎◌, List, map, Option, Some, None, true, false, refl, sym, ap}
 use Rattle.std.proofs.Common.{◌∙◌, subst, inl, inr, ⊎_elim, length, slice_get, if◌then◌else◌, arith}
 use Rattle.std.specs.List.{flat_map}
 use Rattle.std.proofs.lemmas.Bool.{cases_lt}
@@ -23,16 +23,17 @@ use Rattle.uz_search.specs.Searching.{IsSearch, Treated}
 use Rattle.uz_search.specs.Widenings.{widened}
 use Rattle.uz_search.proofs.FramePlaces.{IsNext, Reaches, at, length_some}
 use Rattle.uz_search.proofs.Lists.{kind_cases, bool_cases, of_map, of_flat}
+use Rattle.uz_search.proofs.MarkingLemmas.{seen_once}
 use Rattle.uz_search.proofs.Results.{Moves}
 use Rattle.uz_search.proofs.SearchingLemmas.{tree_all}
 use Rattle.uz_search.proofs.WidenedLaws.{widened_place}
 use Rattle.uz_search_laws.proofs.NodeLaws.{Owes, Before, entry_place, start_place}
-use Rattle.uz_search_laws.proofs.Closing.{seen_once, shown_is, shown_here, one_emit, clocks_few}
+use Rattle.uz_search_laws.proofs.Closing.{shown_is, shown_here, one_emit, clocks_few}
 use Rattle.uz_search_laws.proofs.Coverage as cover
 use Rattle.uz_search_laws.proofs.Positions.{one_place, reach_position}
 
 -- at this clock, counted without end, sync v is marked: at the clock of a line that it is, round the frame
-pub record SyncAt (s : Schedule) (marks : List (Option Mark)) (p v : ℕ) : Type 0 where
+pub record SyncAt (s : Schedule) (marks : List Mark) (p v : ℕ) : Type 0 where
   pub line : ℕ
   pub clock : ℕ
   pub below : line < length s.lines
@@ -41,14 +42,14 @@ pub record SyncAt (s : Schedule) (marks : List (Option Mark)) (p v : ℕ) : Type
   pub seen : Seen marks (at line clock) (Some (Sync v))
 
 -- at this clock, counted without end, the level of sync is v: the last sync event at it or before it gave v
-pub record LevelIs (s : Schedule) (marks : List (Option Mark)) (p v : ℕ) : Type 0 where
+pub record LevelIs (s : Schedule) (marks : List Mark) (p v : ℕ) : Type 0 where
   pub last : ℕ
   pub le : last ≤ p
   pub sync : SyncAt s marks last v
   pub quiet : (j : ℕ) → last < j → j ≤ p → (u : ℕ) → SyncAt s marks j u → ⊥
 
 -- the level at a position of the frame
-pub record LevelAt (s : Schedule) (marks : List (Option Mark)) (place v : ℕ) : Type 0 where
+pub record LevelAt (s : Schedule) (marks : List Mark) (place v : ℕ) : Type 0 where
   pub p : ℕ
   pub at : p % frame_of s ≡ place
   pub level : LevelIs s marks p v
@@ -81,7 +82,7 @@ back_mod frame x n a some h le below =
     (cases_lt (r + n) frame)
 
 module _ (image : Flash) (program : Program) (fits : ProgramFits program) (nodes : List Instance) (parents : List (Option ℕ))
-    (marks : List (Option Mark)) (returns : List (Option Return))
+    (marks : List Mark) (returns : List (Option Return))
     (s : IsSearch image program nodes parents marks returns (length nodes)) where
   abbrev pub Syncs : ℕ → ℕ → Type 0
   Syncs p v = SyncAt program.schedule marks p v

@@ -10,35 +10,45 @@ use Rattle.uz_schedule.specs.declared.lines.Schedule.{Schedule}
 use Rattle.uz_schedule.proofs.Modulo.{event_at_mod, level_mod, level_step}
 use Rattle.uz_schedule.proofs.Starts.{place_below}
 use Rattle.uz_search.specs.declared.marks.Mark.{Mark}
+use Rattle.uz_search.specs.declared.marks.Mark.TheVariants as variants
 use Rattle.uz_search.specs.declared.program.Program.{Program}
 use Rattle.uz_search.specs.Following.{lines_of}
-use Rattle.uz_search.specs.Marking.{Seen}
+use Rattle.uz_search.specs.Marking.{mark_of, event_of_mark, Seen}
 use Rattle.uz_search.proofs.FramePlaces.{at}
+use Rattle.uz_search.proofs.MarkingLemmas.{event_back}
 use Rattle.uz_search_laws.specs.Made.{event_of, marked_at, IsScheduleOf}
 use Rattle.uz_search_laws.proofs.Levels.{LevelIs, SyncAt}
 use Rattle.uz_search_laws.proofs.Positions.{some_place}
 
 -- what is marked is shown
-pub seen_shows : (marks : List (Option Mark)) (y : ℕ) (e : Option EventKind) → Seen marks y e → marked_at marks y ≡ e
-seen_shows marks y e seen = ap event_of seen.1 ∙ seen.2
+pub seen_shows : (marks : List Mark) (y : ℕ) (e : Option EventKind) → Seen marks y e → marked_at marks y ≡ e
+seen_shows marks y e seen = ap event_of seen ∙ event_back e
 
-pub shown_seen : (marks : List (Option Mark)) (y : ℕ) (e : EventKind) → marked_at marks y ≡ Some e → Seen marks y (Some e)
+-- a mark that stands for an event is that event's
+mark_is : (m : Mark) (e : EventKind) → event_of_mark m ≡ Some e → m ≡ mark_of (Some e)
+mark_is variants.Unpassed e h = cc
+mark_is variants.Quiet e h = cc
+mark_is (variants.Sync level) e h = ap mark_of h
+mark_is variants.Pixel e h = ap mark_of h
+mark_is variants.Sound e h = ap mark_of h
+mark_is variants.Leave e h = ap mark_of h
+
+pub shown_seen : (marks : List Mark) (y : ℕ) (e : EventKind) → marked_at marks y ≡ Some e → Seen marks y (Some e)
 shown_seen marks y e h = by (slice_get marks y) refl
   where
-    by : (o : Option (Option Mark)) → slice_get marks y ≡ o → Seen marks y (Some e)
+    by : (o : Option Mark) → slice_get marks y ≡ o → Seen marks y (Some e)
     by None is = let none : None ≡ Some e = sym (ap event_of is) ∙ h in cc
-    by (Some None) is = let none : None ≡ Some e = sym (ap event_of is) ∙ h in cc
-    by (Some (Some m)) is = (m, is, sym (ap event_of is) ∙ h)
+    by (Some m) is = is ∙ ap Some (mark_is m e (sym (ap event_of is) ∙ h))
 
 -- where no event is marked none is shown
-pub none_shown : (marks : List (Option Mark)) (y : ℕ) → ((e : EventKind) → Seen marks y (Some e) → ⊥) → marked_at marks y ≡ None
+pub none_shown : (marks : List Mark) (y : ℕ) → ((e : EventKind) → Seen marks y (Some e) → ⊥) → marked_at marks y ≡ None
 none_shown marks y none = by (marked_at marks y) refl
   where
     by : (o : Option EventKind) → marked_at marks y ≡ o → marked_at marks y ≡ None
     by None is = is
     by (Some e) is = absurd (none e (shown_seen marks y e is))
 
-module _ (program : Program) (marks : List (Option Mark)) (s : Schedule) (of : IsScheduleOf program marks s) where
+module _ (program : Program) (marks : List Mark) (s : Schedule) (of : IsScheduleOf program marks s) where
   -- the lines are the program's
 
   pub order_same : order_of s ≡ order_of program.schedule

@@ -1,6 +1,6 @@
 -- Lines that fall once are steady.
-use Rattle.std.proofs.Common.{◌≡◌, ◌≢◌, ℕ, ◌<◌, ◌≤◌, ◌+◌, List, [], ◌∷◌, map, All, Option, Some, Bool, true, false, ◌&&◌}
-use Rattle.std.proofs.Common.{nat_le, nat_eq, refl, sym, ap, ◌∙◌, subst, ⊎_elim, length, slice_index, ◌==◌, if◌then◌else◌, true≢false}
+use Rattle.std.proofs.Common.{◌≡◌, ◌≢◌, ℕ, ◌<◌, ◌≤◌, ◌+◌, List, [], ◌∷◌, map, All, Some, Bool, true, false, ◌&&◌}
+use Rattle.std.proofs.Common.{nat_le, nat_eq, refl, sym, ap, ◌∙◌, subst, ⊎_elim, slice_index, ◌==◌, if◌then◌else◌, true≢false}
 use Rattle.std.proofs.Common.{arith}
 use Rattle.std.proofs.lemmas.Bool.{cases_eq, eq-eqb}
 use Rattle.std.proofs.lemmas.Bool.Decides.{nat_tests}
@@ -107,7 +107,7 @@ steady_line long fall (e ∷ es) fits rise falls above once = record {
         differ : (a b : ℕ) → a ≢ b → nat_eq a b ≡ false
         differ a b h = grind (arith, nat_tests)
 
-pub steady : (p : Program) (marks : List (Option Mark)) (s : Schedule) → ScheduleFits s → IsScheduleOf p marks s → ProgramFits p
+pub steady : (p : Program) (marks : List Mark) (s : Schedule) → ScheduleFits s → IsScheduleOf p marks s → ProgramFits p
     → FallsOnce p s → IsSteady s
 steady p marks s fits of program falls l events below at =
     let low : l < lines_of p = subst (λ n. l < n) of.lines below in

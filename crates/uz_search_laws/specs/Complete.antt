@@ -16,15 +16,13 @@ use Rattle.uz_rules.specs.EdgeRule.{position_of}
 use Rattle.uz_rules.specs.Local.{local_fail}
 use Rattle.uz_rules.specs.Successors.{lies_in_any}
 use Rattle.uz_search.specs.declared.found.Found.{Found}
-use Rattle.uz_search.specs.declared.marks.Mark.{Mark}
 use Rattle.uz_search.specs.declared.program.Program.{Program}
 use Rattle.uz_search.specs.declared.returns.Return.{Return}
 use Rattle.uz_search.specs.Fitting.{ProgramFits}
 use Rattle.uz_search.specs.Following.{Among, Flash, After, lines_of}
-use Rattle.uz_search.specs.Marking.{MarkAt}
 use Rattle.uz_search.specs.Returning.{ReturnAt}
 use Rattle.uz_search.specs.Searching.{IsEnded}
-use Rattle.uz_search_laws.specs.Made.{IsScheduleOf, IsMadeOf}
+use Rattle.uz_search_laws.specs.Made.{marked_at, IsScheduleOf, IsMadeOf}
 
 -- at the fall of each line stands sync 0, nothing stands before it, and no other sync 0
 pub record FallsOnce (p : Program) (s : Schedule) : Type 0 where
@@ -38,8 +36,8 @@ EndedFallsOnce = (image : Flash) (p : Program) (found : Found) (s : Schedule) �
 
 -- a marked level is 0 or 1
 abbrev pub EndedLevelsFit : Type 0
-EndedLevelsFit = (image : Flash) (p : Program) (found : Found) (y v : ℕ) (m : Mark) → ProgramFits p → IsEnded image p found
-    → MarkAt found.marks.items y m → m.event ≡ Some (Sync v) → v ≤ 1
+EndedLevelsFit = (image : Flash) (p : Program) (found : Found) (y v : ℕ) → ProgramFits p → IsEnded image p found
+    → marked_at found.marks.items y ≡ Some (Sync v) → v ≤ 1
 
 -- a return leaves at its clock, nothing stands after it on its line, nor on the next line up to the latest end of an interrupt's entry
 pub record IsQuietRest (p : Program) (s : Schedule) (l : ℕ) (r : Return) : Type 0 where

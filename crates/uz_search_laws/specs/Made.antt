@@ -11,19 +11,19 @@ use Rattle.uz_search.specs.declared.marks.Mark.{Mark}
 use Rattle.uz_search.specs.declared.program.Program.{Program}
 use Rattle.uz_search.specs.declared.returns.Return.{Return}
 use Rattle.uz_search.specs.Following.{lines_of, line_start}
+use Rattle.uz_search.specs.Marking.{event_of_mark}
 use Rattle.uz_search.specs.Returning.{ReturnAt}
 
 -- what is shown at a position: nothing where no instance passes
-abbrev pub event_of : Option (Option Mark) → Option EventKind
+abbrev pub event_of : Option Mark → Option EventKind
 event_of None = None
-event_of (Some None) = None
-event_of (Some (Some m)) = m.event
+event_of (Some m) = event_of_mark m
 
-abbrev pub marked_at : List (Option Mark) → ℕ → Option EventKind
+abbrev pub marked_at : List Mark → ℕ → Option EventKind
 marked_at marks y = event_of (slice_get marks y)
 
 -- the lines, their lengths and the fall are the program's, and at each clock of each line stands what is shown there
-pub record IsScheduleOf (p : Program) (marks : List (Option Mark)) (s : Schedule) : Type 0 where
+pub record IsScheduleOf (p : Program) (marks : List Mark) (s : Schedule) : Type 0 where
   pub lines : length s.lines ≡ lines_of p
   pub lengths : (l : ℕ) → length_of s l ≡ length_of p.schedule l
   pub fall : s.fall ≡ p.schedule.fall
