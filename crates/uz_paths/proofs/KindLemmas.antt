@@ -13,14 +13,14 @@ use Rattle.uz_search.specs.Following.{line_start}
 use Rattle.uz_paths.specs.Kinds.{noted, event_here, events_from, line_events, AddsKind, AreApart, IsKind, IsLines, IsScheduleOf}
 use Rattle.uz_paths.proofs.NumberLemmas.{at_more, keeps, last_there}
 
-events_step : (marks : List (Option Mark)) (start k n m : ℕ) → n ≡ suc m → events_from marks start k n ≡ event_here k
+events_step : (marks : List Mark) (start k n m : ℕ) → n ≡ suc m → events_from marks start k n ≡ event_here k
     (noted (slice_get marks (start + k))) ++ events_from marks start (k + 1) m
 unfolding events_from
 events_step marks start k n m e =
     let next : suc k ≡ k + 1 = omega arith in
     ap (events_from marks start k) e ∙ ap (λ j. event_here k (noted (slice_get marks (start + k))) ++ events_from marks start j m) next
 
-pub clock_more : (marks : List (Option Mark)) (start k n m : ℕ) (events next : List Event) → n ≡ suc m → next ≡ events ++ event_here k
+pub clock_more : (marks : List Mark) (start k n m : ℕ) (events next : List Event) → n ≡ suc m → next ≡ events ++ event_here k
     (noted (slice_get marks (start + k)))
     → next ++ events_from marks start (k + 1) m ≡ events ++ events_from marks start k n
 clock_more marks start k n m events next e is =
@@ -28,16 +28,16 @@ clock_more marks start k n m events next e is =
     ∙ (append_assoc events (event_here k (noted (slice_get marks (start + k)))) (events_from marks start (k + 1) m)
     ∙ ap (λ es. events ++ es) (sym (events_step marks start k n m e)))
 
-pub none_from : (marks : List (Option Mark)) (start k : ℕ) → events_from marks start k 0 ≡ []
+pub none_from : (marks : List Mark) (start k : ℕ) → events_from marks start k 0 ≡ []
 unfolding events_from
 none_from marks start k = refl
 
-pub begins : (marks : List (Option Mark)) (l clocks n : ℕ) (events : List Event) → events ≡ [] → n ≡ clocks
+pub begins : (marks : List Mark) (l clocks n : ℕ) (events : List Event) → events ≡ [] → n ≡ clocks
     → events ++ events_from marks (line_start l) 0 n ≡ line_events marks l clocks
 unfolding line_events
 begins marks l clocks n events e f = ap (λ es. es ++ events_from marks (line_start l) 0 n) e ∙ ap (events_from marks (line_start l) 0) f
 
-pub ends : (marks : List (Option Mark)) (start k n : ℕ) (events all : List Event) → n ≡ 0 → events ++ events_from marks start k n ≡ all
+pub ends : (marks : List Mark) (start k n : ℕ) (events all : List Event) → n ≡ 0 → events ++ events_from marks start k n ≡ all
     → events ≡ all
 ends marks start k n events all e h =
     sym (ap (λ es. events ++ es) (ap (events_from marks start k) e ∙ none_from marks start k) ∙ append-nil events) ∙ h
@@ -106,12 +106,12 @@ adds_new kinds kinds' lengths lengths' events clocks n sizes none e f last = rec
 -- Lines
 
 -- each of so many lines has its kind
-abbrev pub HaveKinds : List (Option Mark) → Schedule → ℕ → List ℕ → List (List Event) → List ℕ → Type 0
+abbrev pub HaveKinds : List Mark → Schedule → ℕ → List ℕ → List (List Event) → List ℕ → Type 0
 HaveKinds marks frame n numbers kinds lengths = (j : ℕ) → j < n → (k : ℕ) × (slice_get numbers j ≡ Some k)
     × IsKind kinds lengths k (line_events marks j (length_of frame j)) (length_of frame j)
 
 -- so many lines of a frame have their numbers among these kinds
-pub record AreMade (marks : List (Option Mark)) (frame : Schedule) (n : ℕ) (numbers : List ℕ) (kinds : List (List Event))
+pub record AreMade (marks : List Mark) (frame : Schedule) (n : ℕ) (numbers : List ℕ) (kinds : List (List Event))
     (lengths : List ℕ) : Type 0 where
   pub count : length numbers ≡ n
   pub few : length kinds ≤ n
@@ -120,7 +120,7 @@ pub record AreMade (marks : List (Option Mark)) (frame : Schedule) (n : ℕ) (nu
   pub used : (i : ℕ) (kind : List Event) (clocks : ℕ) → IsKind kinds lengths i kind clocks → IsLines marks frame n kind clocks
   pub kind : HaveKinds marks frame n numbers kinds lengths
 
-pub made_none : (marks : List (Option Mark)) (frame : Schedule) → AreMade marks frame 0 [] [] []
+pub made_none : (marks : List Mark) (frame : Schedule) → AreMade marks frame 0 [] [] []
 made_none marks frame = record {
   count = refl;
   few = omega arith;
@@ -130,7 +130,7 @@ made_none marks frame = record {
   kind = λ j less. absurd (omega arith);
 }
 
-pub made_more : (marks : List (Option Mark)) (frame : Schedule) (n k : ℕ) (numbers numbers' : List ℕ) (kinds kinds' : List (List Event))
+pub made_more : (marks : List Mark) (frame : Schedule) (n k : ℕ) (numbers numbers' : List ℕ) (kinds kinds' : List (List Event))
     (lengths lengths' : List ℕ) (events : List Event) (clocks : ℕ) → AreMade marks frame n numbers kinds lengths
     → AddsKind kinds lengths events clocks kinds' lengths' k → numbers' ≡ numbers ++ k ∷ [] → clocks ≡ length_of frame n
     → events ≡ line_events marks n clocks → AreMade marks frame (n + 1) numbers' kinds' lengths'
@@ -173,7 +173,7 @@ past_line s l past = by (slice_get_cases s.lines l).1
     by (inl h) = let less = h.1 in absurd (omega arith)
     by (inr h) = ap (length_of_kind s.lengths) h.1
 
-schedule_is : (marks : List (Option Mark)) (frame : Schedule) (n : ℕ) (s : Schedule) → n ≡ length frame.lines → s.fall ≡ frame.fall
+schedule_is : (marks : List Mark) (frame : Schedule) (n : ℕ) (s : Schedule) → n ≡ length frame.lines → s.fall ≡ frame.fall
     → AreMade marks frame n s.lines s.kinds s.lengths → IsScheduleOf marks frame s
 schedule_is marks frame n s all falls made = record {
   count = made.count ∙ all;
@@ -190,7 +190,7 @@ schedule_is marks frame n s all falls made = record {
   used = λ i kind clocks at. subst (λ m. IsLines marks frame m kind clocks) all (made.used i kind clocks at);
 }
 
-pub schedule_made : (marks : List (Option Mark)) (frame : Schedule) (n : ℕ) (numbers : List ℕ) (kinds : List (List Event))
+pub schedule_made : (marks : List Mark) (frame : Schedule) (n : ℕ) (numbers : List ℕ) (kinds : List (List Event))
     (lengths : List ℕ) (s : Schedule) → s.lines ≡ numbers → s.kinds ≡ kinds → s.lengths ≡ lengths → n ≡ length frame.lines
     → s.fall ≡ frame.fall → AreMade marks frame n numbers kinds lengths → IsScheduleOf marks frame s
 schedule_made marks frame n numbers kinds lengths s e f g all falls made =

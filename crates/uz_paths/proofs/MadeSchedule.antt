@@ -18,10 +18,9 @@ use Rattle.uz_search.specs.declared.marks.Mark.{Mark}
 use Rattle.uz_search.specs.declared.program.Program.{Program}
 use Rattle.uz_search.specs.Fitting.{ProgramFits}
 use Rattle.uz_search.specs.Following.{Flash, line_start, lines_of}
-use Rattle.uz_search.specs.Marking.{MarkAt}
 use Rattle.uz_search.specs.Searching.{IsEnded}
 use Rattle.uz_search_laws.specs.Complete.{EndedFallsOnce, EndedLevelsFit}
-use Rattle.uz_search_laws.specs.Made.{event_of}
+use Rattle.uz_search_laws.specs.Made.{event_of, marked_at}
 use Rattle.uz_search_laws.specs.Made as laws
 use Rattle.uz_paths.specs.Kinds.{event_here, events_from, line_events, noted, IsKind, IsScheduleOf}
 
@@ -43,7 +42,7 @@ here_at : (k : ℕ) (o : Option EventKind) (rest : List Event) → event_in rest
 here_at k None rest none = none
 here_at k (Some kind) rest none = ap (λ b. if b then Some kind else event_in rest k) (eq-eqb k k refl)
 
-none_before : (marks : List (Option Mark)) (start k n q : ℕ) → q < k → event_in (events_from marks start k n) q ≡ None
+none_before : (marks : List Mark) (start k n q : ℕ) → q < k → event_in (events_from marks start k n) q ≡ None
 unfolding events_from
 none_before marks start k zero q less = refl
 none_before marks start k (suc n) q less =
@@ -51,7 +50,7 @@ none_before marks start k (suc n) q less =
     (suc k) n q (omega arith)
 
 -- at each clock stands what is noted there
-at_clock : (marks : List (Option Mark)) (start k n q : ℕ) → k ≤ q → q < k + n → event_in (events_from marks start k n) q ≡ noted
+at_clock : (marks : List Mark) (start k n q : ℕ) → k ≤ q → q < k + n → event_in (events_from marks start k n) q ≡ noted
     (slice_get marks (start + q))
 unfolding events_from
 at_clock marks start k zero q le less = absurd (omega arith)
@@ -64,7 +63,7 @@ at_clock marks start k (suc n) q le less = ⊎_elim
     (suc k) n q (omega arith) (omega arith))
     (cases_eq k q)
 
-pub line_at : (marks : List (Option Mark)) (l clocks k : ℕ) → k < clocks → event_in (line_events marks l clocks) k ≡ noted
+pub line_at : (marks : List Mark) (l clocks k : ℕ) → k < clocks → event_in (line_events marks l clocks) k ≡ noted
     (slice_get marks (line_start l + k))
 unfolding line_events
 line_at marks l clocks k less = at_clock marks (line_start l) 0 clocks k (omega arith) (omega arith)
@@ -73,27 +72,26 @@ few_here : (k n : ℕ) (o : Option EventKind) (rest : List Event) → length res
 few_here k n None rest h = omega arith
 few_here k n (Some kind) rest h = omega arith
 
-few_events : (marks : List (Option Mark)) (start k n : ℕ) → length (events_from marks start k n) ≤ n
+few_events : (marks : List Mark) (start k n : ℕ) → length (events_from marks start k n) ≤ n
 unfolding events_from
 few_events marks start k zero = omega arith
 few_events marks start k (suc n) = few_here k n (noted (slice_get marks (start + k))) (events_from marks start (suc k) n)
     (few_events marks start (suc k) n)
 
--- marked levels are 0 and 1
-abbrev LevelsFit : List (Option Mark) → Type 0
-LevelsFit marks = (y v : ℕ) (m : Mark) → MarkAt marks y m → m.event ≡ Some (Sync v) → v ≤ 1
+same_event : (o : Option Mark) → noted o ≡ event_of o
+same_event None = refl
+same_event (Some m) = refl
 
-noted_fits : (marks : List (Option Mark)) (y : ℕ) (kind : EventKind) → LevelsFit marks → noted (slice_get marks y) ≡ Some kind
+-- marked levels are 0 and 1
+abbrev LevelsFit : List Mark → Type 0
+LevelsFit marks = (y v : ℕ) → marked_at marks y ≡ Some (Sync v) → v ≤ 1
+
+noted_fits : (marks : List Mark) (y : ℕ) (kind : EventKind) → LevelsFit marks → noted (slice_get marks y) ≡ Some kind
     → KindFits kind
 noted_fits marks y Pixel levels is = tt
 noted_fits marks y Sound levels is = tt
 noted_fits marks y Leave levels is = tt
-noted_fits marks y (Sync v) levels is = by (slice_get marks y) refl is
-  where
-    by : (o : Option (Option Mark)) → slice_get marks y ≡ o → noted o ≡ Some (Sync v) → v ≤ 1
-    by None at e = absurd (cc)
-    by (Some None) at e = absurd (cc)
-    by (Some (Some m)) at e = levels y v m at e
+noted_fits marks y (Sync v) levels is = levels y v (sym (same_event (slice_get marks y)) ∙ is)
 
 here_fits : (k : ℕ) (o : Option EventKind) (rest : List Event) → k < clock_limit → ((kind : EventKind) → o ≡ Some kind → KindFits kind)
     → All EventFits rest → All EventFits (event_here k o ++ rest)
@@ -101,7 +99,7 @@ here_fits k None rest less fits all = all
 here_fits k (Some kind) rest less fits all = All-cons EventFits (record { clock = k; kind = kind }) rest
     (record { clock = less; kind = fits kind refl }) all
 
-all_fit : (marks : List (Option Mark)) (start k n : ℕ) → k + n ≤ clock_limit → LevelsFit marks → All EventFits (events_from marks start k n)
+all_fit : (marks : List Mark) (start k n : ℕ) → k + n ≤ clock_limit → LevelsFit marks → All EventFits (events_from marks start k n)
 unfolding events_from
 all_fit marks start k zero le levels = All-nil EventFits
 all_fit marks start k (suc n) le levels =
@@ -117,7 +115,7 @@ here_rises : (least k : ℕ) (o : Option EventKind) (rest : List Event) → leas
 here_rises least k None rest le later = later least (omega arith)
 here_rises least k (Some kind) rest le later = λ i. le_true least k le i && later (k + 1) (omega arith) i
 
-all_rise : (marks : List (Option Mark)) (start k n least : ℕ) → least ≤ k → rises_from least
+all_rise : (marks : List Mark) (start k n least : ℕ) → least ≤ k → rises_from least
     (map (λ e. e.clock) (events_from marks start k n)) ≡ true
 unfolding events_from
 all_rise marks start k zero least le = refl
@@ -129,7 +127,7 @@ some_event : (events : List Event) (k : ℕ) (e : EventKind) → event_in events
 some_event [] k e is = absurd (cc)
 some_event (d ∷ ds) k e is = omega arith
 
-line_fits : (marks : List (Option Mark)) (l clocks k : ℕ) (e : EventKind) → clocks ≤ scanline → LevelsFit marks
+line_fits : (marks : List Mark) (l clocks k : ℕ) (e : EventKind) → clocks ≤ scanline → LevelsFit marks
     → event_in (line_events marks l clocks) k ≡ Some e → EventsFit (line_events marks l clocks)
 unfolding line_events
 line_fits marks l clocks k e short levels is = record {
@@ -148,14 +146,14 @@ here_below : (limit k : ℕ) (o : Option EventKind) (rest : List Event) → k < 
 here_below limit k None rest less below = below
 here_below limit k (Some kind) rest less below = λ i. less_true k limit less i && below i
 
-from_below : (marks : List (Option Mark)) (start k n limit : ℕ) → k + n ≤ limit → clocks_below (events_from marks start k n) limit ≡ true
+from_below : (marks : List Mark) (start k n limit : ℕ) → k + n ≤ limit → clocks_below (events_from marks start k n) limit ≡ true
 unfolding events_from
 from_below marks start k zero limit le = refl
 from_below marks start k (suc n) limit le =
     here_below limit k (noted (slice_get marks (start + k))) (events_from marks start (suc k) n) (omega arith)
     (from_below marks start (suc k) n limit (omega arith))
 
-line_below : (marks : List (Option Mark)) (l clocks : ℕ) → clocks_below (line_events marks l clocks) clocks ≡ true
+line_below : (marks : List Mark) (l clocks : ℕ) → clocks_below (line_events marks l clocks) clocks ≡ true
 unfolding line_events
 line_below marks l clocks = from_below marks (line_start l) 0 clocks clocks (omega arith)
 
@@ -177,12 +175,7 @@ length_short p fits l = length_few (length_of p.schedule l) (fits.lengths l)
 
 -- The schedule
 
-same_event : (o : Option (Option Mark)) → noted o ≡ event_of o
-same_event None = refl
-same_event (Some None) = refl
-same_event (Some (Some m)) = refl
-
-pub is_made : (p : Program) (marks : List (Option Mark)) (s : Schedule) → EventByLine → IsScheduleOf marks p.schedule s
+pub is_made : (p : Program) (marks : List Mark) (s : Schedule) → EventByLine → IsScheduleOf marks p.schedule s
     → laws.IsScheduleOf p marks s
 is_made p marks s by_line of = record {
   lines = of.count;
@@ -214,7 +207,7 @@ is_fit image p found s by_line falls levels fits ended of = record {
     made = is_made p found.marks.items s by_line of
 
     marked : LevelsFit found.marks.items
-    marked y v m at is = levels image p found y v m fits ended at is
+    marked y v is = levels image p found y v fits ended is
 
     long_kind : (i : ℕ) (kind : List Event) (n : ℕ) → IsKind s.kinds s.lengths i kind n → (is_length n && clocks_below kind n) ≡ true
     long_kind i kind n at =

@@ -6,12 +6,12 @@ use Rattle.uz_schedule.specs.declared.lines.EventKind.{EventKind}
 use Rattle.uz_schedule.specs.declared.lines.Schedule.{Schedule}
 use Rattle.uz_search.specs.declared.marks.Mark.{Mark}
 use Rattle.uz_search.specs.Following.{line_start}
+use Rattle.uz_search.specs.Marking.{event_of_mark}
 
 -- what is noted of a position
-abbrev pub noted : Option (Option Mark) → Option EventKind
+abbrev pub noted : Option Mark → Option EventKind
 noted None = None
-noted (Some None) = None
-noted (Some (Some m)) = m.event
+noted (Some m) = event_of_mark m
 
 -- the event at a clock, where there is one
 abbrev pub event_here : ℕ → Option EventKind → List Event
@@ -19,12 +19,12 @@ event_here clock None = []
 event_here clock (Some kind) = record { clock = clock; kind = kind } ∷ []
 
 -- the events at the n clocks from k on of the line that begins at a position
-unfoldable pub events_from : List (Option Mark) → ℕ → ℕ → ℕ → List Event
+unfoldable pub events_from : List Mark → ℕ → ℕ → ℕ → List Event
 events_from marks start k zero = []
 events_from marks start k (suc n) = event_here k (noted (slice_get marks (start + k))) ++ events_from marks start (suc k) n
 
 -- the events of a line of so many clocks
-unfoldable pub line_events : List (Option Mark) → ℕ → ℕ → List Event
+unfoldable pub line_events : List Mark → ℕ → ℕ → List Event
 line_events marks l clocks = events_from marks (line_start l) 0 clocks
 
 -- kind i of line has these events, and so many clocks
@@ -48,7 +48,7 @@ pub record AddsKind (old : List (List Event)) (lengths : List ℕ) (events : Lis
       → IsKind old lengths i kind k ⊎ ((events ≡ kind) × (clocks ≡ k))
 
 -- these events and so many clocks are those of one of the first n lines of a frame
-pub record IsLines (marks : List (Option Mark)) (frame : Schedule) (n : ℕ) (events : List Event) (clocks : ℕ) : Type 0 where
+pub record IsLines (marks : List Mark) (frame : Schedule) (n : ℕ) (events : List Event) (clocks : ℕ) : Type 0 where
   pub line : ℕ
   pub below : line < n
   pub long : clocks ≡ length_of frame line
@@ -56,7 +56,7 @@ pub record IsLines (marks : List (Option Mark)) (frame : Schedule) (n : ℕ) (ev
 
 -- Lines, lengths and fall are those of the frame. Each line has the events of the marks on it, lines that are equal in events and length
 -- share a kind, and each kind is of some line
-pub record IsScheduleOf (marks : List (Option Mark)) (frame s : Schedule) : Type 0 where
+pub record IsScheduleOf (marks : List Mark) (frame s : Schedule) : Type 0 where
   pub count : length s.lines ≡ length frame.lines
   pub falls : s.fall ≡ frame.fall
   pub lengths : (l : ℕ) → length_of s l ≡ length_of frame l

@@ -10,12 +10,12 @@ use uz_schedule::{Event, EventKind, LineEvents, SCANLINE, Schedule, Sequence};
 use uz_search::Mark;
 
 /// What is noted of a position.
-fn noted(marks: &[Option<Mark>], position: usize) -> Option<EventKind>
+fn noted(marks: &[Mark], position: usize) -> Option<EventKind>
     ensures { result ≡ noted_event (slice_get marks.now position) }
 {
     match marks.get(position) {
-        Some(Some(mark)) => mark.event,
-        _ => None,
+        Some(mark) => mark.event(),
+        None => None,
     }
 }
 
@@ -36,7 +36,7 @@ fn push_event(
 /// The events of the marks on a line of so many clocks.
 fn line_events(
     alloc: Global,
-    marks: &[Option<Mark>],
+    marks: &[Mark],
     line: u16,
     clocks: u16,
 ) -> Result<LineEvents, AllocError>
@@ -130,7 +130,7 @@ fn number_of(
 /// The schedule of a frame's lines and lengths.
 pub(crate) fn schedule_of(
     alloc: Global,
-    marks: &[Option<Mark>],
+    marks: &[Mark],
     frame: &Schedule,
 ) -> Result<Schedule, AllocError>
     requires { length frame.now.lines ≤ most_lines }
