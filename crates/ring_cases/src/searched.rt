@@ -116,8 +116,8 @@ enum Answer {
 /// The event that is shown at a clock.
 fn shown(found: &Found, at: usize) -> Option<EventKind> {
     match found.marks.as_slice().get(at) {
-        Some(Some(mark)) => mark.event,
-        _ => None,
+        Some(mark) => mark.event(),
+        None => None,
     }
 }
 
