@@ -1,6 +1,6 @@
 -- What is kept where positions are marked.
-use Rattle.std.proofs.Common.{◌≡◌, ◌≢◌, ℕ, zero, suc, ◌<◌, ◌≤◌, ◌+◌, ◌∷◌, [], List, Option, Some, None, refl, sym, ap, ◌∙◌, subst, replicate}
-use Rattle.std.proofs.Common.{slice_get, slice_set, inl, inr, ⊎_elim, arith}
+use Rattle.std.proofs.Common.{◌≡◌, ◌≢◌, ℕ, zero, suc, ◌<◌, ◌≤◌, ◌+◌, ◌∷◌, [], List, Option, Some, None, refl, sym, ap, ◌∙◌, subst}
+use Rattle.std.proofs.Common.{replicate, slice_get, slice_set, inl, inr, ⊎_elim, arith}
 use Rattle.std.proofs.lemmas.Bool.{cases_eq}
 use Rattle.uz_schedule.specs.declared.lines.EventKind.{EventKind}
 use Rattle.uz_schedule.specs.declared.lines.EventKind.TheVariants as kinds

@@ -97,8 +97,7 @@ pub(crate) fn examine(
     next: &mut Next,
 ) -> Result<(), Stop>
     requires fits { ProgramFits program.now }
-    requires stand { (x : Instance) → Among nodes.now x → Stands program.now x }
-    requires stands { Stands program.now at.now }
+    requires stands { (x : Instance) → Among nodes.now x → Stands program.now x }
     requires here { slice_get nodes.now by ≡ Some at.now }
     requires marked { AreMarked image.now program.now nodes.now marks.old by }
     requires frame { length marks.old ≡ frame_of program.now }

@@ -1,5 +1,6 @@
 use Rattle.std.proofs.Common.{◌≡◌, ◌<◌, ◌+◌, ℕ, List, Option, Some, Result, Ok, Err, inl, inr, sym, subst, slice_get, arith}
 use Rattle.std.specs.Prelude.{⊤}
+use Rattle.std.proofs.lemmas.Option.{slice_get_within}
 use Rattle.uz_transfer.specs.declared.fail.Fail.{Fail}
 use Rattle.uz_search.specs.declared.asking.Stop.{Stop}
 use Rattle.uz_search.specs.declared.asking.Stop.TheVariants.{Split, Stuck}
@@ -16,6 +17,15 @@ use Rattle.uz_search.proofs.Results.{passes_within, some_result, stands_next}
 use Rattle.uz_search.proofs.SearchingLemmas.{treats_from}
 use Rattle.uz_search.proofs.asking.examine.Goals as goal
 
+pub put_results-requires-clause-stands : goal.put_results-requires-clause-stands
+put_results-requires-clause-stands c = c.requires.stands c.args.at.now (c.args.by, c.requires.here)
+
+pub mark_way-requires-clause-line : goal.mark_way-requires-clause-line
+mark_way-requires-clause-line c = (c.requires.stands c.args.at.now (c.args.by, c.requires.here)).line
+
+pub first_to_show-requires-clause-within : goal.first_to_show-requires-clause-within
+first_to_show-requires-clause-within c = slice_get_within c.args.nodes.now c.args.by c.args.at.now c.requires.here
+
 pub note_end-requires : goal.note_end-requires
 note_end-requires c = λ back end at0.
     let image = c.args.image.now in
@@ -23,8 +33,8 @@ note_end-requires c = λ back end at0.
     let x = c.args.at.now in
     let next = c.put_results.new.next in
     subst (λ n. end.line < n) (sym c.requires.lines)
-    (stands_next image program c.requires.fits x c.requires.stands next (steps image program x next c.in_default.ensures.ok) end
-    (0, at0)).line
+    (stands_next image program c.requires.fits x (c.requires.stands x (c.args.by, c.requires.here)) next
+    (steps image program x next c.in_default.ensures.ok) end (0, at0)).line
 
 pub mark_way-requires-clause-there : goal.mark_way-requires-clause-there
 mark_way-requires-clause-there c = λ apart k few.
@@ -33,7 +43,8 @@ mark_way-requires-clause-there c = λ apart k few.
     let x = c.args.at.now in
     let next = c.put_results.new.next in
     subst (λ n. place_on program x k < n) (sym c.requires.frame)
-    (passes_within image program c.requires.fits x c.requires.stands apart next (steps image program x next c.in_default.ensures.ok) k few)
+    (passes_within image program c.requires.fits x (c.requires.stands x (c.args.by, c.requires.here)) apart next
+    (steps image program x next c.in_default.ensures.ok) k few)
 
 pub returns-clause-ok : goal.returns-clause-ok
 returns-clause-ok c =

@@ -39,8 +39,8 @@ returns-in_ok-add_all-in-Ok-clause-ok c =
     c.requires.so_far at c.as_mut_slice.ensures.value c.as_mut_slice-2.ensures.value c.in-Ok.ensures.ok
     c.examine.auto.marks c.examine.auto.returns s.marks.ok.0 s.returns.ok.0 c.in_ok-follow-in-Ok.ensures c.in_ok-add_all-in-Ok.ensures
 
-pub examine-requires-clause-stand : goal.examine-requires-clause-stand
-examine-requires-clause-stand c = λ x there.
+pub examine-requires-clause-stands : goal.examine-requires-clause-stands
+examine-requires-clause-stands c = λ x there.
     let s = c.args.found.now in
     stands_all c.args.image.now c.args.program.now s.nodes.keys s.parents.items c.requires.fits c.requires.so_far.tree x
     (there.0, ap (λ l. slice_get l there.0) (sym c.as_slice-nodes.ensures.keys) ∙ there.1)
@@ -52,12 +52,6 @@ examine-requires-clause-marked c =
     let s = c.args.found.now in
     subst (λ l. AreMarked image program l c.as_mut_slice.result.now c.args.done) (sym c.as_slice-nodes.ensures.keys)
     (subst (λ m. AreMarked image program s.nodes.keys m c.args.done) (sym c.as_mut_slice.ensures.value) c.requires.so_far.marked)
-
-pub examine-requires-clause-stands : goal.examine-requires-clause-stands
-examine-requires-clause-stands c =
-    let s = c.args.found.now in
-    stands_all c.args.image.now c.args.program.now s.nodes.keys s.parents.items c.requires.fits c.requires.so_far.tree c.node_at-at.result.now
-    (c.args.done, ap (λ l. slice_get l c.args.done) (sym c.as_slice-nodes.ensures.keys) ∙ c.node_at-at.ensures)
 
 pub refused-requires-clause-other : goal.refused-requires-clause-other
 refused-requires-clause-other c = λ other is.
