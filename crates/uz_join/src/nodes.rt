@@ -17,7 +17,7 @@ use uz_schedule::{Instance, Point};
 const FEW: usize = 4096;
 
 /// And of more one for so many instances.
-const SHARE: usize = 32;
+const SHARE: usize = 8;
 
 /// The points into which instances are joined.
 #[derive(Drop)]
