@@ -16,7 +16,7 @@ use uz_point_shapes::Axis;
 use uz_schedule::Point;
 
 /// How often memory is given back while points are let go.
-const TIMES: usize = 64;
+const TIMES: usize = 1024;
 
 /// Points that are joined.
 #[derive(Drop)]

@@ -16,7 +16,7 @@ use uz_schedule::{Instance, Point, Rest, Schedule};
 use uz_search::Program;
 
 /// How often memory is given back while instances are let go: each time costs as much as there are instances left.
-const TIMES: usize = 64;
+const TIMES: usize = 128;
 
 /// Gives back the memory of instances that are let go, after every so many.
 fn give_back(nodes: &mut IndexSet<Instance>, every: usize)
