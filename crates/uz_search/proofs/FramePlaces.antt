@@ -1,5 +1,5 @@
 -- Lines and clocks as positions of a frame, and places some clocks on.
-use Rattle.std.proofs.Common.{◌≡◌, ℕ, suc, ◌<◌, ◌≤◌, ◌+◌, ◌-◌, ◌*◌, ◌⊎◌, ◌==◌, nat_lt, Bool, true, false, IsTrue, length, refl, sym, ap}
+use Rattle.std.proofs.Common.{◌≡◌, ℕ, suc, ◌<◌, ◌≤◌, ◌+◌, ◌-◌, ◌⊎◌, ◌==◌, nat_lt, Bool, true, false, length, refl, sym, ap}
 use Rattle.std.proofs.Common.{◌∙◌, inl, inr, if◌then◌else◌, arith}
 use Rattle.std.proofs.lemmas.Bool.Decides.{nat_tests}
 use Rattle.uz_schedule.specs.Lines.{order_of, line_after, clock_after}

@@ -1,6 +1,6 @@
 -- Where the results of an instance stand, and what is shown on the way to them.
-use Rattle.std.proofs.Common.{◌≡◌, ◌≢◌, ℕ, zero, suc, ◌<◌, ◌≤◌, ◌+◌, ◌-◌, ◌%◌, List, [], ◌∷◌, max, map, Option, Some, None, true}
-use Rattle.std.proofs.Common.{false, not, ◌&&◌, ◌||◌, refl, sym, ap, ◌∙◌, subst, inl, inr, ⊎_elim, slice_get, if◌then◌else◌, arith}
+use Rattle.std.proofs.Common.{◌≡◌, ◌≢◌, ℕ, zero, suc, ◌<◌, ◌≤◌, ◌+◌, ◌-◌, ◌%◌, List, [], ◌∷◌, map, Option, Some, None, true}
+use Rattle.std.proofs.Common.{false, not, ◌&&◌, ◌||◌, refl, sym, ap, ◌∙◌, subst, ⊎_elim, slice_get, if◌then◌else◌, arith}
 use Rattle.std.proofs.Math.Nat.{mod-eq_of_lt}
 use Rattle.uz_machine.specs.Core.{returns_from_interrupt}
 use Rattle.uz_machine.specs.Effects.{effect_of}
@@ -18,7 +18,7 @@ use Rattle.uz_schedule.specs.declared.states.Instance.{Instance}
 use Rattle.uz_transfer.specs.declared.step.Exit.{Exit}
 use Rattle.uz_transfer.specs.Emission.{emission, emission_at, level_after}
 use Rattle.uz_transfer.specs.Exits.{outcomes}
-use Rattle.uz_transfer.specs.Kinds.{is_main, is_handler}
+use Rattle.uz_transfer.specs.Kinds.{is_main}
 use Rattle.uz_transfer.specs.Step.{clears_flag, ends_line, following_of, at_exit, sampled_of}
 use Rattle.uz_transfer.specs.Timer.{with_timer}
 use Rattle.uz_transfer.specs.Values.{pair_range}

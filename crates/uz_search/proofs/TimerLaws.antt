@@ -1,5 +1,5 @@
 -- OCR1A stays the last clock of a line, and outside handlers nothing becomes known of the timer.
-use Rattle.std.proofs.Common.{◌≡◌, ◌≢◌, ℕ, ◌+◌, ◌-◌, ◌*◌, Option, Some, None, Bool, true, false, not, ◌&&◌, nat_eq, refl, sym, ap, ◌∙◌}
+use Rattle.std.proofs.Common.{◌≡◌, ◌≢◌, ℕ, ◌+◌, ◌-◌, ◌*◌, Option, None, Bool, true, false, not, ◌&&◌, nat_eq, refl, ap}
 use Rattle.std.proofs.Common.{if◌then◌else◌, true≢false, arith}
 use Rattle.std.proofs.lemmas.Bool.Decides.{nat_tests}
 use Rattle.uz_machine.specs.declared.AddressMode.{AddressMode}
@@ -18,7 +18,7 @@ use Rattle.uz_transfer.specs.Kinds.{is_handler}
 use Rattle.uz_transfer.specs.Memory.{address_range}
 use Rattle.uz_transfer.specs.Refusals.{fail_of, flag_fails, io_fails, is_setup_register, mask_fails, may_store, refuse_if}
 use Rattle.uz_transfer.specs.Refusals.{top_fails}
-use Rattle.uz_transfer.specs.Timer.{handler_stores, temp_after, temp_loaded, top_after}
+use Rattle.uz_transfer.specs.Timer.{temp_after, temp_loaded, top_after}
 use Rattle.uz_transfer.specs.Values.{span_of, value_at}
 
 -- Lines

@@ -1,5 +1,5 @@
 -- A step, a widening and an entry change nothing of an instance but what is told of it.
-use Rattle.std.proofs.Common.{◌≡◌, ℕ, ◌+◌, Bool, true, false, List, Option, Some, None, nat_eq, refl, sym, ap, subst, ◌∙◌, if◌then◌else◌}
+use Rattle.std.proofs.Common.{◌≡◌, ℕ, Bool, true, false, Option, Some, None, nat_eq, refl, ap, ◌∙◌, if◌then◌else◌}
 use Rattle.std.specs.FinMap.{FinMap}
 use Rattle.std.specs.Ordering.{nat_cmp}
 use Rattle.uz_machine.specs.declared.AddressMode.{AddressMode}
@@ -7,7 +7,6 @@ use Rattle.uz_machine.specs.declared.AddressMode.TheVariants.{Direct, PostIncrem
 use Rattle.uz_machine.specs.declared.Effect.{Effect}
 use Rattle.uz_machine.specs.declared.Effect.TheVariants.{Binary, Jump, Load, LoadProgram, NoOperation, Return, Store}
 use Rattle.uz_range.specs.Answers.{is_single}
-use Rattle.uz_schedule.specs.Blank.{blank_instance}
 use Rattle.uz_schedule.specs.Ends.{Ends}
 use Rattle.uz_schedule.specs.Told.{instance_told, IsInstanceTold}
 use Rattle.uz_schedule.specs.declared.facts.Val.{Val}

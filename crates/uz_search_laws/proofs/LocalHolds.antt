@@ -13,7 +13,7 @@ use Rattle.uz_machine.specs.declared.Effect.{Effect}
 use Rattle.uz_machine.specs.declared.Effect.TheVariants.{NoOperation, Stop}
 use Rattle.uz_schedule.specs.Ends.{Ends}
 use Rattle.uz_schedule.specs.Lines.{Lines, line_after, clock_after, order_of as lines_of_schedule}
-use Rattle.uz_schedule.specs.Schedule.{length_of, start_of, frame_of, event_at}
+use Rattle.uz_schedule.specs.Schedule.{length_of, frame_of, event_at}
 use Rattle.uz_schedule.proofs.Starts.{place_below}
 use Rattle.uz_schedule.specs.declared.certificate.Cert.{Cert}
 use Rattle.uz_schedule.specs.declared.header.Head.{Head}
