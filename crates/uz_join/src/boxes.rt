@@ -1,14 +1,13 @@
 //! The points that chains are joined into.
 
-ghost use Rattle.std.specs.Prelude.{◌≤◌, length};
-
 use crate::chains::Chains;
+use crate::copies::copy_of;
 use crate::source::Source;
 use crate::successors::with_numbers;
 use arrayvec::ArrayVec;
 use std::alloc::{AllocError, Global};
 use uz_point_shapes::{Axis, fact_along};
-use uz_schedule::{Fact, PairFact, Point};
+use uz_schedule::{Fact, Point};
 
 /// What is known of each register all along a box.
 fn registers(axis: Axis, first: &[Fact; 32], second: &[Fact; 32], start: u16) -> [Fact; 32] {
@@ -19,15 +18,6 @@ fn registers(axis: Axis, first: &[Fact; 32], second: &[Fact; 32], start: u16) ->
     facts
 }
 
-/// A copy of what is known of the pairs.
-fn copied_pairs(from: &[PairFact; 3]) -> [PairFact; 3] {
-    let mut copy = [PairFact::Any; 3];
-    for k in 0..3usize {
-        copy[k] = from[k];
-    }
-    copy
-}
-
 /// The fact at a place, or what is known where there is none.
 fn fact_at(facts: &[Fact], i: usize) -> Fact {
     match facts.get(i) {
@@ -36,23 +26,13 @@ fn fact_at(facts: &[Fact], i: usize) -> Fact {
     }
 }
 
-/// What is known of each byte of the stack.
-fn slots(axis: Axis, first: &[Fact], second: &[Fact], start: u16) -> ArrayVec<Fact, 32>
-    requires { length first.now ≤ 32 }
-{
-    let mut facts = ArrayVec::new();
-    for i in 0..first.len() {
-        let _full = facts
-            .try_push(fact_along(axis, &first[i], &fact_at(second, i), start))
-            .is_err();
-    }
-    facts
-}
-
-/// What is known of each cell.
-fn cells(axis: Axis, first: &[Fact], second: &[Fact], start: u16) -> ArrayVec<Fact, 16>
-    requires { length first.now ≤ 16 }
-{
+/// What is known of each byte of the stack, or of each cell.
+fn facts<const CAP: usize>(
+    axis: Axis,
+    first: &[Fact],
+    second: &[Fact],
+    start: u16,
+) -> ArrayVec<Fact, CAP> {
     let mut facts = ArrayVec::new();
     for i in 0..first.len() {
         let _full = facts
@@ -80,23 +60,24 @@ fn slope(axis: Axis, count: usize, first: &Point, second: &Point) -> i16 {
     }
 }
 
-/// The box of so many points, of which these are the first, the second and the last one.
+/// The box of so many points up to a line, of which these are the first and the second one.
 fn box_between(
     axis: Axis,
     count: usize,
-    ends: (&Point, &Point, &Point),
+    first: &Point,
+    second: &Point,
+    line: u16,
     next: ArrayVec<u32, 16>,
 ) -> Point {
-    let (first, second, last) = ends;
     let start = axis.start(first);
     Point {
-        l1: last.l1,
+        l1: line,
         c1: last_count(axis, count, first),
         slope: slope(axis, count, first, second),
         regs: registers(axis, &first.regs, &second.regs, start),
-        pairs: copied_pairs(&first.pairs),
-        stack: slots(axis, first.stack.as_slice(), second.stack.as_slice(), start),
-        cells: cells(axis, first.cells.as_slice(), second.cells.as_slice(), start),
+        pairs: copy_of(&first.pairs),
+        stack: facts(axis, first.stack.as_slice(), second.stack.as_slice(), start),
+        cells: facts(axis, first.cells.as_slice(), second.cells.as_slice(), start),
         next,
         ..*first
     }
@@ -112,13 +93,51 @@ fn next_of(source: &Source, ids: &[u32], numbers: &[u32]) -> ArrayVec<u32, 16> {
     next
 }
 
+/// The point at a place of a chain.
+fn point_at(source: &Source, ids: &[u32], at: usize) -> Option<Point> {
+    match ids.get(at) {
+        Some(id) => source.point(*id),
+        None => None,
+    }
+}
+
+/// The last line of the last point of a chain.
+fn last_line(source: &Source, ids: &[u32]) -> Option<u16> {
+    match point_at(source, ids, ids.len().wrapping_sub(1)) {
+        Some(last) => Some(last.l1),
+        None => None,
+    }
+}
+
+/// The box of a chain of these points up to a line, of which this is the first one.
+fn box_from(
+    axis: Axis,
+    source: &Source,
+    ids: &[u32],
+    numbers: &[u32],
+    first: &Point,
+    line: u16,
+) -> Option<Point> {
+    match point_at(source, ids, usize::from(ids.len() > 1)) {
+        Some(second) => Some(box_between(
+            axis,
+            ids.len(),
+            first,
+            &second,
+            line,
+            next_of(source, ids, numbers),
+        )),
+        None => None,
+    }
+}
+
 /// The box of a chain of these points, which leads to points of these numbers. None where they aren't there.
 pub(crate) fn box_of(axis: Axis, source: &Source, ids: &[u32], numbers: &[u32]) -> Option<Point> {
-    let first = source.point(*ids.first()?)?;
-    let second = source.point(*ids.get(1).or(ids.first())?)?;
-    let last = source.point(*ids.last()?)?;
-    let next = next_of(source, ids, numbers);
-    Some(box_between(axis, ids.len(), (&first, &second, &last), next))
+    let line = last_line(source, ids)?;
+    match point_at(source, ids, 0) {
+        Some(first) => box_from(axis, source, ids, numbers, &first, line),
+        None => None,
+    }
 }
 
 /// The boxes of chains, where each point is in one.

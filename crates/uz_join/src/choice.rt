@@ -1,6 +1,6 @@
 //! The joined certificate, where the check accepts it.
 
-ghost use Rattle.std.specs.Prelude.{◌≡◌, true, IfOk, IfSome};
+ghost use Rattle.std.specs.Prelude.{◌≡◌, true, IfSome};
 ghost use Rattle.uz_schedule.specs.WellFormed.{WellFormed};
 ghost use Rattle.uz_soundness.specs.Acceptance.{Accepts};
 ghost use Rattle.uz_join.specs.Joined.{SameButPoints};
@@ -23,33 +23,43 @@ pub fn passes(image: &Image, cert: &Cert) -> bool
     well_formed(cert) && verdict(image, cert).is_none()
 }
 
-/// A certificate whose points are joined. None where points were let go and not all that they say is said, or the check doesn't accept the
-/// joined certificate.
-fn joined_cert(alloc: Global, image: &Image, cert: Cert) -> Result<Option<Cert>, AllocError>
-    requires fits { WellFormed cert }
-    requires accepted { Accepts image.now cert }
-    ensures fits { IfOk result (λ o. IfSome o WellFormed) }
-    ensures accepted { IfOk result (λ o. IfSome o (Accepts image.now)) }
-    ensures same { IfOk result (λ o. IfSome o (SameButPoints cert)) }
-    ensures instances { IfOk result (λ o. IfSome o (λ c. SameInstances cert.points c.points)) }
+/// Has rests and entry name points by other numbers. Whether the check accepts the certificate then; false where memory lacks.
+fn is_numbered(alloc: Global, image: &Image, cert: &mut Cert, numbers: &[u32]) -> bool
+    ensures fits { result ≡ true → WellFormed cert.new }
+    ensures accepted { result ≡ true → Accepts image.now cert.new }
+    ensures same { result ≡ true → SameButPoints cert.old cert.new }
+    ensures points { cert.new.points ≡ cert.old.points }
 {
-    let mut cert = cert;
+    match rests_of(alloc, cert.rests.as_slice(), numbers) {
+        Ok(rests) => {
+            cert.rests = rests;
+            cert.entry = entry_of(&cert.entry, numbers);
+            passes(image, cert)
+        }
+        Err(AllocError) => false,
+    }
+}
+
+/// Joins the points of a certificate. False where points were let go and not all that they say is said, the check doesn't accept the joined
+/// certificate, or memory lacks.
+fn is_joined(alloc: Global, image: &Image, cert: &mut Cert) -> bool
+    requires fits { WellFormed cert.old }
+    requires accepted { Accepts image.now cert.old }
+    ensures fits { result ≡ true → WellFormed cert.new }
+    ensures accepted { result ≡ true → Accepts image.now cert.new }
+    ensures same { result ≡ true → SameButPoints cert.old cert.new }
+    ensures instances { result ≡ true → SameInstances cert.old.points cert.new.points }
+{
     let points = replace(&mut cert.points, Sequence::new(alloc));
-    let joined = match joined_both(alloc, points.into_vec())? {
-        Some(joined) => joined,
-        None => return Ok(None),
-    };
-    cert.points = Sequence::from_vec(joined.points);
-    let numbers = match joined.numbers {
-        Some(numbers) => numbers,
-        None => return Ok(Some(cert)),
-    };
-    cert.rests = rests_of(alloc, cert.rests.as_slice(), numbers.as_slice())?;
-    cert.entry = entry_of(&cert.entry, numbers.as_slice());
-    if passes(image, &cert) {
-        Ok(Some(cert))
-    } else {
-        Ok(None)
+    match joined_both(alloc, points.into_vec()) {
+        Ok(Some(joined)) => {
+            cert.points = Sequence::from_vec(joined.points);
+            match joined.numbers {
+                Some(numbers) => is_numbered(alloc, image, cert, numbers.as_slice()),
+                None => true,
+            }
+        }
+        _ => false,
     }
 }
 
@@ -65,8 +75,10 @@ pub fn joined(alloc: Global, image: &Image, cert: Cert) -> Option<Cert>
     ensures same { IfSome result (SameButPoints cert) }
     ensures instances { IfSome result (λ c. SameInstances cert.points c.points) }
 {
-    match joined_cert(alloc, image, cert) {
-        Ok(joined) => joined,
-        Err(AllocError) => None,
+    let mut cert = cert;
+    if is_joined(alloc, image, &mut cert) {
+        Some(cert)
+    } else {
+        None
     }
 }

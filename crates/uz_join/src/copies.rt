@@ -8,38 +8,20 @@ use std::alloc::{AllocError, Global};
 use uz_point_instances::number_at;
 use uz_schedule::{Entry, Fact, Point, Rest, Sequence, Span};
 
-/// A copy of ranges of cells.
-fn copied_cells(from: &[Span]) -> ArrayVec<Span, 16>
-    requires { length from.now ≤ 16 }
+/// A copy of a value, at once.
+pub(crate) fn copy_of<T: Copy>(value: &T) -> T
+    ensures { result ≡ value.now }
+{
+    *value
+}
+
+/// A copy of ranges of cells, or of slots.
+fn copied_spans<const CAP: usize>(from: &[Span]) -> ArrayVec<Span, CAP>
+    requires { length from.now ≤ CAP }
     ensures { result.items ≡ from.now }
 {
     let mut copy = ArrayVec::new();
-    for span in from {
-        copy.push(*span);
-    }
-    copy
-}
-
-/// A copy of ranges of slots.
-fn copied_slots(from: &[Span]) -> ArrayVec<Span, 32>
-    requires { length from.now ≤ 32 }
-    ensures { result.items ≡ from.now }
-{
-    let mut copy = ArrayVec::new();
-    for span in from {
-        copy.push(*span);
-    }
-    copy
-}
-
-/// A copy of ranges of registers.
-fn copied_registers(from: &[Span; 32]) -> [Span; 32]
-    ensures { result ≡ from.now }
-{
-    let mut copy = [Span::single(0); 32];
-    for r in 0..32usize {
-        copy[r] = from[r];
-    }
+    let _full = copy.try_extend_from_slice(from).is_err();
     copy
 }
 
@@ -51,7 +33,7 @@ fn with_vector(rest: &Rest, vector: u32) -> Rest
         line: rest.line,
         clock: rest.clock,
         vector,
-        cells: copied_cells(rest.cells.as_slice()),
+        cells: copied_spans(rest.cells.as_slice()),
     }
 }
 
@@ -80,27 +62,15 @@ pub fn entry_of(entry: &Entry, numbers: &[u32]) -> Entry
         pc: entry.pc,
         line: entry.line,
         clock: entry.clock,
-        regs: copied_registers(&entry.regs),
+        regs: copy_of(&entry.regs),
         flags: entry.flags,
-        stack: copied_slots(entry.stack.as_slice()),
-        cells: copied_cells(entry.cells.as_slice()),
+        stack: copied_spans(entry.stack.as_slice()),
+        cells: copied_spans(entry.cells.as_slice()),
     }
 }
 
-/// A copy of a value, at once.
-fn copy_of<T: Copy>(value: &T) -> T {
-    *value
-}
-
-/// A copy of facts of the stack.
-fn copied_slot_facts(from: &[Fact]) -> ArrayVec<Fact, 32> {
-    let mut copy = ArrayVec::new();
-    let _full = copy.try_extend_from_slice(from).is_err();
-    copy
-}
-
-/// A copy of facts of cells.
-fn copied_cell_facts(from: &[Fact]) -> ArrayVec<Fact, 16> {
+/// A copy of facts of the stack, or of cells.
+fn copied_facts<const CAP: usize>(from: &[Fact]) -> ArrayVec<Fact, CAP> {
     let mut copy = ArrayVec::new();
     let _full = copy.try_extend_from_slice(from).is_err();
     copy
@@ -111,8 +81,8 @@ pub(crate) fn copied_point(from: &Point) -> Point {
     Point {
         regs: copy_of(&from.regs),
         pairs: copy_of(&from.pairs),
-        stack: copied_slot_facts(from.stack.as_slice()),
-        cells: copied_cell_facts(from.cells.as_slice()),
+        stack: copied_facts(from.stack.as_slice()),
+        cells: copied_facts(from.cells.as_slice()),
         next: ArrayVec::new(),
         ..*from
     }

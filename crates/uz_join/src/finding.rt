@@ -31,7 +31,7 @@ fn id_of(candidate: u64) -> u32 {
 }
 
 /// How a point fits a chain.
-#[derive(Clone, Copy, PartialEq, Eq)]
+#[derive(Clone, Copy)]
 enum Fit {
     /// Not at all.
     No,
@@ -42,7 +42,7 @@ enum Fit {
 }
 
 /// A chain from which others may go on, or a point with which one may begin.
-#[derive(Clone, Copy, Drop)]
+#[derive(Drop)]
 struct Open<'a, P: Shaped> {
     /// Its number, where there are two points.
     number: u32,
@@ -170,17 +170,20 @@ fn add<'a, P: Shaped>(
 ) -> Result<(), AllocError> {
     match place_of(axis, open.as_slice(), new) {
         Some(at) => {
-            if let Some(chain) = open.get_mut(at) {
-                go_on(axis, chains, chain, id, new)?;
-            }
             put_last(open, at);
+            match open.last_mut() {
+                Some(chain) => go_on(axis, chains, chain, id, new),
+                None => Ok(()),
+            }
         }
         None => {
             let_go(open);
-            open.push(open_with(id, new))?;
+            match open.push(open_with(id, new)) {
+                Ok(()) => Ok(()),
+                Err(_) => Err(AllocError),
+            }
         }
     }
-    Ok(())
 }
 
 /// Chains of points, which are looked at in the order of these candidates; their numbers begin with this one.

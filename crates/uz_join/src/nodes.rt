@@ -80,6 +80,23 @@ fn joined_again(
     }
 }
 
+/// The points into which those of a source are joined, and of each of those its number. None where there are none to join line by line, or
+/// so few that the points would be too many beside the instances.
+fn joined_source(
+    alloc: Global,
+    source: &Source,
+) -> Result<Option<(Vec<Point>, Vec<u32>)>, AllocError> {
+    let mut chains = chains_of(alloc, Axis::Lines, source)?;
+    if pays(chains.count_with_others(source), source.points()) {
+        chains.begin_others(source)?;
+        if cut_to_successors(alloc, Numbering::ByLines, source, &mut chains)? {
+            let points = chain_points(alloc, Axis::Lines, source, &chains)?;
+            return joined_again(alloc, points, chains.into_numbers());
+        }
+    }
+    Ok(None)
+}
+
 /// The points into which the points of instances are joined, and of each of those its number. None where there are none to join line by
 /// line, or so few that the points would be too many beside the instances.
 fn joined_points(
@@ -92,17 +109,10 @@ fn joined_points(
 ) -> Result<Option<(Vec<Point>, Vec<u32>)>, AllocError> {
     let mut made = made;
     put_successors(made.as_mut_slice(), nodes, numbers, starts, places);
-    let source = Source::new(made.as_slice(), nodes, numbers, starts, places);
-    let mut chains = chains_of(alloc, Axis::Lines, &source)?;
-    if !pays(chains.count_with_others(&source), source.points()) {
-        return Ok(None);
-    }
-    chains.begin_others(&source)?;
-    if !cut_to_successors(alloc, Numbering::ByLines, &source, &mut chains)? {
-        return Ok(None);
-    }
-    let points = chain_points(alloc, Axis::Lines, &source, &chains)?;
-    joined_again(alloc, points, chains.into_numbers())
+    joined_source(
+        alloc,
+        &Source::new(made.as_slice(), nodes, numbers, starts, places),
+    )
 }
 
 /// The points into which instances of a search are joined, line by line and then count by count: they say what the
@@ -122,24 +132,24 @@ pub fn joined_nodes(
 ) -> Result<Option<JoinedNodes>, AllocError>
     ensures { IfOk result (λ o. IfSome o (λ j. SaysInstances nodes.now j.points.items)) }
 {
-    let (points, into) = match joined_points(
-        alloc,
-        made,
-        nodes,
-        numbers.as_slice(),
-        starts,
-        places,
-    )? {
-        Some(joined) => joined,
-        None => return Ok(None),
-    };
-    let numbers = joined_numbers(numbers, into.as_slice());
-    if !say_instances(alloc, points.as_slice(), numbers.as_slice(), nodes)? {
-        return Ok(None);
+    match joined_points(alloc, made, nodes, numbers.as_slice(), starts, places)? {
+        Some((points, into)) => {
+            let joined = JoinedNodes {
+                points,
+                numbers: joined_numbers(numbers, into.as_slice()),
+                into,
+            };
+            if say_instances(
+                alloc,
+                joined.points.as_slice(),
+                joined.numbers.as_slice(),
+                nodes,
+            )? {
+                Ok(Some(joined))
+            } else {
+                Ok(None)
+            }
+        }
+        None => Ok(None),
     }
-    Ok(Some(JoinedNodes {
-        points,
-        numbers,
-        into,
-    }))
 }

@@ -150,9 +150,7 @@ impl<'a> Source<'a> {
         match self.made(id) {
             Some(point) => {
                 let mut next = ArrayVec::new();
-                for number in point.next.as_slice() {
-                    let _full = next.try_push(*number).is_err();
-                }
+                let _full = next.try_extend_from_slice(point.next.as_slice()).is_err();
                 next
             }
             None => self.next_of_node(self.place(id)),

@@ -9,25 +9,24 @@ use uz_point_instances::{NONE, number_at};
 /// How often chains are gone over. Each time those are cut that lead to too many others, and that may have come to be more.
 const PASSES: u32 = 64;
 
-/// Numbers with one more, rising and each once. None where there is no room.
+/// Numbers with one more, rising and each once. None where there is no room: then there is none for the last of them either.
 pub(crate) fn with_number(numbers: &ArrayVec<u32, 16>, new: u32) -> Option<ArrayVec<u32, 16>> {
     let mut all = ArrayVec::new();
     let mut is_in = false;
+    let mut is_full = false;
     for number in numbers.as_slice() {
         if !is_in && new <= *number {
             is_in = true;
-            if new < *number && all.try_push(new).is_err() {
-                return None;
+            if new < *number {
+                let _full = all.try_push(new).is_err();
             }
         }
-        if all.try_push(*number).is_err() {
-            return None;
-        }
+        is_full = all.try_push(*number).is_err();
     }
-    if !is_in && all.try_push(new).is_err() {
-        return None;
+    if !is_in {
+        is_full = all.try_push(new).is_err();
     }
-    Some(all)
+    if is_full { None } else { Some(all) }
 }
 
 /// Numbers with those that others have in a list, rising and each once, as many as there is room for.
@@ -47,7 +46,7 @@ pub(crate) fn with_numbers(
 
 /// Whether a number is among others.
 fn is_among(numbers: &ArrayVec<u32, 16>, number: u32) -> bool {
-    numbers.as_slice().iter().any(|n| *n == number)
+    numbers.as_slice().contains(&number)
 }
 
 /// The successors of a chain with those of one more point, each by the first point of its own chain. None where there are more than 16.
@@ -57,9 +56,7 @@ fn with_successors(
     ids: &[u32],
 ) -> Option<ArrayVec<u32, 16>> {
     let mut all = ArrayVec::new();
-    for number in next.as_slice() {
-        let _full = all.try_push(*number).is_err();
-    }
+    let _full = all.try_extend_from_slice(next.as_slice()).is_err();
     for id in ids {
         let first = chains.first(*id);
         if !is_among(&all, first) {
@@ -141,7 +138,7 @@ fn cut_all(source: &Source, chains: &mut Chains, ids: &mut Vec<u32>) -> Result<(
 }
 
 /// How chains are numbered.
-#[derive(Clone, Copy, PartialEq, Eq)]
+#[derive(Clone, Copy)]
 pub(crate) enum Numbering {
     /// In the order of their first lines.
     ByLines,
