@@ -1,7 +1,7 @@
 -- One more line of a script is read.
-use Rattle.std.proofs.Common.{◌≡◌, ◌≢◌, ℕ, suc, ◌+◌, ◌<◌, ◌≤◌, Bool, true, false, if◌then◌else◌, List, [], ◌∷◌, ◌++◌, length, get_or}
+use Rattle.std.proofs.Common.{◌≡◌, ◌≢◌, ℕ, suc, ◌+◌, ◌<◌, ◌≤◌, Bool, true, false, if◌then◌else◌, List, [], ◌∷◌, ◌++◌, length, get_or, rules}
 use Rattle.std.proofs.Common.{take, map, Bor, refl, sym, ◌∙◌, ap, subst, append-nil, arith}
-use Rattle.std.specs.Prelude.{filter}
+use Rattle.std.specs.Prelude.{filter, ◌==◌, not}
 use Rattle.std.proofs.lemmas.List.{map-append}
 use Rattle.std.proofs.lemmas.List.Elements.{filter-append}
 use Rattle.std.proofs.Math.Seq.{take-suc}
@@ -12,7 +12,7 @@ use Rattle.uz_debug.specs.declared.script_lines.Line.TheVariants as line
 use Rattle.uz_debug.specs.declared.errors.ScriptWhy.{ScriptWhy}
 use Rattle.uz_debug.specs.declared.errors.ScriptWhy.TheVariants.{Word, Count}
 use Rattle.uz_debug.specs.Scripts.{HasFault, IsFault, IsFirstFault, IsScript, commands_of, commands_on, has_bytes, is_good_line}
-use Rattle.uz_debug.specs.Scripts.{is_well_formed, kind_in, kind_of}
+use Rattle.uz_debug.specs.Scripts.{is_well_formed, kind_in, kind_of, one_number_in, one_word_in, two_numbers_in}
 
 pub read_none : (pieces : List (Bor (List ℕ))) → IsScript (take 0 (lines_of_pieces (map (λ piece. piece.now) pieces))) []
 read_none pieces = nothing_read commands_on is_good_line pieces
@@ -57,6 +57,33 @@ many_words (a ∷ []) h = absurd (omega arith)
 many_words (a ∷ b ∷ []) h = absurd (omega arith)
 many_words (a ∷ b ∷ c ∷ []) h = absurd (omega arith)
 many_words (a ∷ b ∷ c ∷ d ∷ more) h = refl
+
+-- one word, two and three
+pub one_word_kind : (words : List (Bor (List ℕ))) (d : Bor (List ℕ)) → 1 ≤ length words → length words < 2
+    → one_word_in (get_or words 0 d).now ≡ kind_in (map (λ word. word.now) words)
+one_word_kind [] d low high = absurd (omega arith)
+one_word_kind (a ∷ []) d low high = refl
+one_word_kind (a ∷ b ∷ more) d low high = absurd (omega arith)
+
+pub one_number_kind : (words : List (Bor (List ℕ))) (d e : Bor (List ℕ)) → 2 ≤ length words → length words < 3
+    → one_number_in (get_or words 0 d).now (get_or words 1 e).now ≡ kind_in (map (λ word. word.now) words)
+one_number_kind [] d e low high = absurd (omega arith)
+one_number_kind (a ∷ []) d e low high = absurd (omega arith)
+one_number_kind (a ∷ b ∷ []) d e low high = refl
+one_number_kind (a ∷ b ∷ c ∷ more) d e low high = absurd (omega arith)
+
+pub two_numbers_kind : (words : List (Bor (List ℕ))) (d e f : Bor (List ℕ)) → 3 ≤ length words → length words < 4
+    → two_numbers_in (get_or words 0 d).now (get_or words 1 e).now (get_or words 2 f).now ≡ kind_in (map (λ word. word.now) words)
+two_numbers_kind [] d e f low high = absurd (omega arith)
+two_numbers_kind (a ∷ []) d e f low high = absurd (omega arith)
+two_numbers_kind (a ∷ b ∷ []) d e f low high = absurd (omega arith)
+two_numbers_kind (a ∷ b ∷ c ∷ []) d e f low high = refl
+two_numbers_kind (a ∷ b ∷ c ∷ g ∷ more) d e f low high = absurd (omega arith)
+
+-- a piece is a word where it isn't empty
+pub piece_bytes : (piece : List ℕ) (empty : Bool) → empty ≡ (length piece == 0) → not empty ≡ has_bytes piece
+piece_bytes [] empty e = ap not e
+piece_bytes (byte ∷ piece) empty e = ap not e ∙ (search rules)
 
 -- one more word, where a piece has bytes, and none where it has not
 pub word_more : (pieces : List (Bor (List ℕ))) (words : List (Bor (List ℕ))) (at : ℕ) (d : Bor (List ℕ)) → at < length pieces → (b : Bool)

@@ -53,17 +53,19 @@ prints_more start old mid new commands command answer text more prints acts (lin
     line prints acts is)
 
 -- one byte more
-pub bytes_more : (read : ℕ → ℕ) (at n place : ℕ) (start old mid new : List ℕ) → old ≡ start ++ bytes_text read at n → mid ≡ old ++ gap n
-    → new ≡ mid ++ ([] ++ hex_byte (read place)) → place ≡ (at + n) % 65536 → new ≡ start ++ bytes_text read at (n + 1)
-bytes_more read at n place start old mid new first then last same =
+pub bytes_more : (read : ℕ → ℕ) (at n place : ℕ) (start space old new : List ℕ) → old ≡ start ++ bytes_text read at n → space ≡ gap n
+    → new ≡ old ++ (space ++ hex_byte (read place)) → place ≡ (at + n) % 65536 → new ≡ start ++ bytes_text read at (n + 1)
+bytes_more read at n place start space old new first before last same =
     let one : suc n ≡ n + 1 = omega arith in
     let row = bytes_text read at n in
+    let byte = hex_byte (read place) in
     last
-    ∙ (ap (λ t. t ++ hex_byte (read place)) (then ∙ ap (λ t. t ++ gap n) first)
-    ∙ (ap (λ t. t ++ hex_byte (read place)) (append_assoc start row (gap n))
-    ∙ (append_assoc start (row ++ gap n) (hex_byte (read place))
+    ∙ (ap (λ t. t ++ (space ++ byte)) first
+    ∙ (ap (λ g. start ++ row ++ (g ++ byte)) before
+    ∙ (append_assoc start row (gap n ++ byte)
+    ∙ (ap (λ t. start ++ t) (sym (append_assoc row (gap n) byte))
     ∙ (ap (λ p. start ++ (row ++ gap n ++ hex_byte (read p))) same
-    ∙ ap (λ m. start ++ bytes_text read at m) one))))
+    ∙ ap (λ m. start ++ bytes_text read at m) one)))))
 
 -- what a console shows is what the state shows that it stands for
 same_read : (console : Console) (s : State PadHistory) → StandsFor console s → read_of console ≡ state_byte history_wiring s

@@ -25,22 +25,26 @@ const SPH: u16 = 0x5E;
 
 const SREG: u16 = 0x5F;
 
+/// Adds one piece and another behind it.
+fn add_both(text: &mut Vec<u8>, first: &[u8], second: &[u8]) -> Result<(), AllocError>
+    ensures { OnOk result (text.new.items ≡ text.old.items ++ (first.now ++ second.now)) }
+{
+    text.extend_from_slice(first)?;
+    text.extend_from_slice(second)
+}
+
 /// Adds a name and a number in decimal.
 fn add_number(text: &mut Vec<u8>, name: &[u8], value: u64) -> Result<(), AllocError>
     ensures { OnOk result (text.new.items ≡ text.old.items ++ (name.now ++ decimal value)) }
 {
-    text.extend_from_slice(name)?;
-    text.extend_from_slice(Buffer::new().format(value).as_bytes())?;
-    Ok(())
+    add_both(text, name, Buffer::new().format(value).as_bytes())
 }
 
 /// Adds a name and a word in hexadecimal.
 fn add_word(text: &mut Vec<u8>, name: &[u8], value: u16) -> Result<(), AllocError>
     ensures { OnOk result (text.new.items ≡ text.old.items ++ (name.now ++ hex_word value)) }
 {
-    text.extend_from_slice(name)?;
-    text.extend_from_slice(&word_digits(value))?;
-    Ok(())
+    add_both(text, name, &word_digits(value))
 }
 
 /// Adds where the debugger is, without the LF.
@@ -49,16 +53,22 @@ fn add_place(text: &mut Vec<u8>, turn: u32, clock: u64, pc: u16) -> Result<(), A
 {
     add_number(text, b"at ", u64::from(turn))?;
     add_number(text, b" clock ", clock)?;
-    add_word(text, b" pc 0x", pc)?;
-    Ok(())
+    add_word(text, b" pc 0x", pc)
+}
+
+/// Adds the line of where the debugger is.
+fn add_at(text: &mut Vec<u8>, turn: u32, clock: u64, pc: u16) -> Result<(), AllocError>
+    ensures { OnOk result (text.new.items ≡ text.old.items ++ (at_text turn clock pc ++ codes "\n")) }
+{
+    add_place(text, turn, clock, pc)?;
+    text.extend_from_slice(b"\n")
 }
 
 fn add_stop_place(text: &mut Vec<u8>, turn: u32, pc: u16) -> Result<(), AllocError>
     ensures { OnOk result (text.new.items ≡ text.old.items ++ stopped_at turn pc) }
 {
     add_number(text, b"stopped at ", u64::from(turn))?;
-    add_word(text, b" pc 0x", pc)?;
-    Ok(())
+    add_word(text, b" pc 0x", pc)
 }
 
 fn add_stop(text: &mut Vec<u8>, turn: u32, pc: u16, word: u16) -> Result<(), AllocError>
@@ -66,8 +76,7 @@ fn add_stop(text: &mut Vec<u8>, turn: u32, pc: u16, word: u16) -> Result<(), All
 {
     add_stop_place(text, turn, pc)?;
     add_word(text, b" word 0x", word)?;
-    text.extend_from_slice(b"\n")?;
-    Ok(())
+    text.extend_from_slice(b"\n")
 }
 
 /// The name of a why, as it is printed.
@@ -85,29 +94,22 @@ fn why_name(why: DebugWhy) -> &'static [u8]
 fn add_refusal(text: &mut Vec<u8>, why: DebugWhy) -> Result<(), AllocError>
     ensures { OnOk result (text.new.items ≡ text.old.items ++ (codes "refused " ++ name_of_why why ++ codes "\n")) }
 {
-    text.extend_from_slice(b"refused ")?;
-    text.extend_from_slice(why_name(why))?;
-    text.extend_from_slice(b"\n")?;
-    Ok(())
+    add_both(text, b"refused ", why_name(why))?;
+    text.extend_from_slice(b"\n")
 }
 
-/// Adds what stands before byte number n of a row.
-fn add_gap(text: &mut Vec<u8>, n: u8) -> Result<(), AllocError>
-    ensures { OnOk result (text.new.items ≡ text.old.items ++ gap n) }
+/// What stands before byte number n of a row.
+fn gap_before(n: u8) -> &'static [u8]
+    ensures { result.now ≡ gap n }
 {
-    if n != 0 {
-        text.extend_from_slice(b" ")?;
-    }
-    Ok(())
+    if n == 0 { b"" } else { b" " }
 }
 
 /// Adds a name and the byte at a data address.
 fn add_byte(text: &mut Vec<u8>, name: &[u8], console: &Console, at: u16) -> Result<(), AllocError>
     ensures { OnOk result (text.new.items ≡ text.old.items ++ (name.now ++ hex_byte (read_of console.now at))) }
 {
-    text.extend_from_slice(name)?;
-    text.extend_from_slice(&byte_digits(console.byte(at)))?;
-    Ok(())
+    add_both(text, name, &byte_digits(console.byte(at)))
 }
 
 /// Adds so many bytes of the data space, with a space between.
@@ -115,10 +117,17 @@ fn add_bytes(text: &mut Vec<u8>, console: &Console, at: u16, count: u8) -> Resul
     ensures { OnOk result (text.new.items ≡ text.old.items ++ bytes_text (read_of console.now) at count) }
 {
     for n in 0..count {
-        add_gap(text, n)?;
-        add_byte(text, b"", console, at.wrapping_add(u16::from(n)))?;
+        add_byte(text, gap_before(n), console, at.wrapping_add(u16::from(n)))?;
     }
     Ok(())
+}
+
+/// Adds a row of bytes.
+fn add_row(text: &mut Vec<u8>, console: &Console, at: u16, count: u8) -> Result<(), AllocError>
+    ensures { OnOk result (text.new.items ≡ text.old.items ++ (bytes_text (read_of console.now) at count ++ codes "\n")) }
+{
+    add_bytes(text, console, at, count)?;
+    text.extend_from_slice(b"\n")
 }
 
 /// Adds the status register and the stack pointer.
@@ -128,8 +137,7 @@ fn add_status(text: &mut Vec<u8>, console: &Console) -> Result<(), AllocError>
     add_byte(text, b" sreg 0x", console, SREG)?;
     add_byte(text, b" sp 0x", console, SPH)?;
     add_byte(text, b"", console, SPL)?;
-    text.extend_from_slice(b"\n")?;
-    Ok(())
+    text.extend_from_slice(b"\n")
 }
 
 /// Adds what `show` shows.
@@ -144,18 +152,7 @@ fn add_registers(
 {
     add_place(text, turn, clock, pc)?;
     add_status(text, console)?;
-    add_bytes(text, console, 0, 32)?;
-    text.extend_from_slice(b"\n")?;
-    Ok(())
-}
-
-/// Adds a row of bytes.
-fn add_row(text: &mut Vec<u8>, console: &Console, at: u16, count: u8) -> Result<(), AllocError>
-    ensures { OnOk result (text.new.items ≡ text.old.items ++ (bytes_text (read_of console.now) at count ++ codes "\n")) }
-{
-    add_bytes(text, console, at, count)?;
-    text.extend_from_slice(b"\n")?;
-    Ok(())
+    add_row(text, console, 0, 32)
 }
 
 /// Adds what a command shows of a console.
@@ -203,16 +200,9 @@ fn add_line(
         → AddsLine start (session_of debugger.now).turn command reply text.old.items text.new.items) }
 {
     match reply {
-        Reply::At { turn, clock, pc } => {
-            add_place(text, turn, clock, pc)?;
-            text.extend_from_slice(b"\n")?;
-            Ok(())
-        }
+        Reply::At { turn, clock, pc } => add_at(text, turn, clock, pc),
         Reply::Stopped { turn, pc, word } => add_stop(text, turn, pc, word),
-        Reply::Fine => {
-            text.extend_from_slice(b"ok\n")?;
-            Ok(())
-        }
+        Reply::Fine => text.extend_from_slice(b"ok\n"),
         Reply::Shown => add_shown(text, debugger, command),
         Reply::Refused(why) => add_refusal(text, why),
     }

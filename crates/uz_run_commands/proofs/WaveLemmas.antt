@@ -1,6 +1,6 @@
 -- What `wave` answers: a file that is written, and a line.
-use Rattle.std.proofs.Common.{◌≡◌, ◌⊎◌, inl, inr, ℕ, List, Vec, Global, refl, sym, ap, ◌∙◌, subst}
-use Rattle.std.specs.Prelude.{Option, Some, Ok, Err}
+use Rattle.std.proofs.Common.{◌≡◌, ◌⊎◌, inl, inr, ℕ, List, [], Vec, Global, refl, sym, ap, ◌∙◌, subst}
+use Rattle.std.specs.Prelude.{Option, Some, Result, Ok, Err, IfErr, IfOk}
 use Rattle.uz_shelf.specs.Files.{FileMap, HoldsFile}
 use Rattle.uz_schedule.specs.declared.kinds.Response.{Response}
 use Rattle.uz_core.specs.declared.step.Why.{Why}
@@ -8,12 +8,15 @@ use Rattle.uz_machine.specs.declared.Edge.{Edge}
 use Rattle.uz_machine.specs.PadLine.{PadHistory}
 use Rattle.uz_machine.specs.Turn.{State}
 use Rattle.uz_console.proofs.RunLaws.{one_run, one_stopped_run, over_or_stopped}
+use Rattle.uz_console.specs.declared.console.Console.{Console}
+use Rattle.uz_console.specs.Runs.{RunsTo}
 use Rattle.uz_console.specs.Turns.{Halts}
 use Rattle.uz_report.specs.declared.sound_file.Wave.{Wave}
 use Rattle.uz_report.specs.Waves.{Holds, samples, samples_of, wave_of}
 use Rattle.uz_scan.specs.Pictures.{newest_first}
 use Rattle.uz_files.specs.declared.ending.Ending.{Ending}
 use Rattle.uz_files.specs.declared.ending.Failure.{Failure}
+use Rattle.uz_files.specs.declared.ending.Failure.TheVariants.{Memory as NoRoom}
 use Rattle.uz_files.specs.declared.status.Status.{Status}
 use Rattle.uz_files.specs.declared.status.Status.TheVariants.{Done, Unread, BadInput, Stopped}
 use Rattle.uz_files.specs.Answers.{Answer, ComesOf, Ends, MayCome, NoPart, WritesAll, one_line, outside}
@@ -26,16 +29,36 @@ use Rattle.uz_files.proofs.OutcomeLemmas.{came_from}
 use Rattle.uz_files.proofs.ReadingLemmas.{ends_by}
 use Rattle.uz_files.proofs.ReadsLemmas.{fails_status}
 use Rattle.uz_files.proofs.WriteLemmas.{holds_written}
-use Rattle.uz_run_files.specs.RunFiles.{RunLacks, RunPreface, RunSucceeds}
+use Rattle.uz_run_files.specs.RunFiles.{RunLacks, RunPreface, RunSucceeds, StartsRun, start_of}
 use Rattle.uz_run_files.specs.StopLines.{stopped_line}
 use Rattle.uz_run_files.proofs.RunFileLemmas.{preface_answers, run_answers, run_or_fault, run_same, run_status, same_why}
 use Rattle.uz_run_commands.specs.declared.listening.Heard.{Heard}
 use Rattle.uz_run_commands.specs.declared.listening.Heard.TheVariants.{Over, Stopped as StoppedAt}
+use Rattle.uz_run_commands.specs.declared.wave_command.Task.{Task}
 use Rattle.uz_run_commands.specs.declared.wave_command.Task.TheVariants.{Write, Stop}
 use Rattle.uz_run_commands.specs.WaveCommand.{FilesHeard, IsHeardRun, IsHeardStopped, WaveAnswers, count_line, wave_file}
 use Rattle.uz_run_commands.specs.WaveValues.{IsHeard, IsTask, IsTaskOf}
 
 -- What the steps give
+
+-- nothing but memory was lacking
+pub only_room : (P : Answer → Type 0) (r : Result Task Failure) → IfErr r (λ failure. failure ≡ NoRoom) → IfErr r (EndsBy P)
+only_room P (Ok task) h = tt
+only_room P (Err failure) h = subst (EndsBy P) (sym h) tt
+
+-- the run from reset is heard
+pub task_heard : (files : Option FileMap) (hex pads : List ℕ) (irq : Response) (clocks : ℕ) (console : Console) (r : Result Task Failure)
+    → StartsRun files hex pads irq console
+    → IfOk r (λ task. (start : State PadHistory) → RunsTo clocks start [] console → IsTaskOf clocks start task)
+    → IfOk r (IsTask files hex pads irq clocks)
+task_heard files hex pads irq clocks console (Ok task) starts h = record {
+  image = starts.image;
+  list = starts.list;
+  spelled_image = starts.spelled_image;
+  spelled_pads = starts.spelled_pads;
+  of = h (start_of starts.image starts.list irq) (starts.run clocks);
+}
+task_heard files hex pads irq clocks console (Err failure) starts h = tt
 
 -- the run is over: the file is written, and the line tells its samples
 pub task_over : (clocks : ℕ) (start : State PadHistory) (heard : Heard) (wave : Wave) (line : Vec ℕ Global) → heard ≡ Over wave

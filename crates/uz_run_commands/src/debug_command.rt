@@ -1,7 +1,9 @@
 //! `debug HEX PADS IRQ SCRIPT`.
 
-ghost use Rattle.std.specs.Prelude.{◌≡◌, ◌≤◌, ◌⊎◌, IfErr, IfOk};
+ghost use Rattle.std.specs.Prelude.{◌≡◌, ◌≤◌, ◌⊎◌, IfErr, IfOk, List, Option, ℕ};
+ghost use Rattle.uz_schedule.specs.declared.kinds.Response.{Response};
 ghost use Rattle.uz_shelf.specs.Faults.{Rose};
+ghost use Rattle.uz_shelf.specs.Files.{FileMap};
 ghost use Rattle.uz_files.specs.Answers.{NoPart, MayCome, outside};
 ghost use Rattle.uz_run_commands.specs.DebugCommand.{DebugAnswers, StartsDebug};
 ghost use Rattle.uz_files.specs.Endings.{EndsBy, Gives};
@@ -37,8 +39,31 @@ fn reset_debugger<H: Shelf>(
     Ok(Debugger::new(alloc, image, list, irq)?)
 }
 
-/// Reads the three files in their order, and does the script's commands. Their lines are gathered first: a script has at most
-/// 65,536 commands.
+/// Reads the script, and does its commands from reset. Their lines are gathered first: a script has at most 65,536 commands.
+fn debug_script<H: Shelf>(
+    alloc: Global,
+    shelf: &mut H,
+    debugger: &mut Debugger,
+    script: &str,
+) -> Result<Ending, Failure>
+    ensures gives { (files : Option FileMap) (load_old : ℕ) (hex pads : List ℕ) (irq : Response) → H.files shelf.old ≡ files
+        → load_old ≤ H.load_faults shelf.old → StartsDebug files hex pads irq debugger.old
+        → Gives (DebugAnswers files (Rose load_old (H.load_faults shelf.new)) hex pads irq script.now) result }
+    ensures files { H.files shelf.new ≡ H.files shelf.old }
+    ensures load_faults { H.load_faults shelf.old ≤ H.load_faults shelf.new }
+    ensures write_faults { H.write_faults shelf.new ≡ H.write_faults shelf.old }
+{
+    let commands = match read_file::<Script, H>(alloc, shelf, script) {
+        Ok(commands) => commands,
+        Err(failure) => return Err(failure),
+    };
+    Ok(Ending {
+        status: Status::Done,
+        line: session_text(alloc, debugger, commands.as_slice())?,
+    })
+}
+
+/// Reads the three files in their order, and does the script's commands.
 fn debug_files<H: Shelf>(
     alloc: Global,
     shelf: &mut H,
@@ -53,18 +78,10 @@ fn debug_files<H: Shelf>(
     ensures load_faults { H.load_faults shelf.old ≤ H.load_faults shelf.new }
     ensures write_faults { H.write_faults shelf.new ≡ H.write_faults shelf.old }
 {
-    let mut debugger = match reset_debugger(alloc, shelf, hex, pads, irq) {
-        Ok(debugger) => debugger,
-        Err(failure) => return Err(failure),
-    };
-    let commands = match read_file::<Script, H>(alloc, shelf, script) {
-        Ok(commands) => commands,
-        Err(failure) => return Err(failure),
-    };
-    Ok(Ending {
-        status: Status::Done,
-        line: session_text(alloc, &mut debugger, commands.as_slice())?,
-    })
+    match reset_debugger(alloc, shelf, hex, pads, irq) {
+        Ok(mut debugger) => debug_script(alloc, shelf, &mut debugger, script),
+        Err(failure) => Err(failure),
+    }
 }
 
 /// `debug HEX PADS IRQ SCRIPT`.

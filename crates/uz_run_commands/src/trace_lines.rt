@@ -98,13 +98,20 @@ pub(crate) fn write_lines(edges: &[Edge], text: &mut [u8]) -> usize
     start
 }
 
+/// The line of a name and a number.
+pub(crate) fn number_line(alloc: Global, name: &[u8], value: u64) -> Result<Vec<u8>, AllocError>
+    ensures { IfOk result (λ line. line.items ≡ name.now ++ decimal value ++ codes "\n") }
+{
+    let mut line = Vec::new(alloc);
+    line.extend_from_slice(name)?;
+    line.extend_from_slice(Buffer::new().format(value).as_bytes())?;
+    line.extend_from_slice(b"\n")?;
+    Ok(line)
+}
+
 /// The line of a run that is over.
 pub(crate) fn end(alloc: Global, clocks: u32) -> Result<Vec<u8>, AllocError>
     ensures { IfOk result (λ line. line.items ≡ end_line clocks) }
 {
-    let mut line = Vec::new(alloc);
-    line.extend_from_slice(b"end ")?;
-    line.extend_from_slice(Buffer::new().format(clocks).as_bytes())?;
-    line.extend_from_slice(b"\n")?;
-    Ok(line)
+    number_line(alloc, b"end ", u64::from(clocks))
 }

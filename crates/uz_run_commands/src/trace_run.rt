@@ -7,10 +7,13 @@ ghost use Rattle.uz_shelf.specs.Text.{TakesAll};
 ghost use Rattle.uz_files.specs.Answers.{ComesOf, MayCome, ended, outside};
 ghost use Rattle.uz_run_commands.specs.TraceCommand.{TraceAnswers, TraceParts};
 ghost use Rattle.uz_run_commands.specs.TraceValues.{end_status, last_line};
+ghost use Rattle.uz_run_files.specs.RunFiles.{StartsRun};
+ghost use Rattle.uz_schedule.specs.declared.kinds.Response.{Response};
 
 use crate::trace_command::{RunEnd, ending_of, print_run};
 use std::alloc::{AllocError, Global};
 use uz_cert::Response;
+use uz_console::Console;
 use uz_files::{Status, end_with, give_up, put_no_memory};
 use uz_run_files::reset_console;
 use uz_shelf::{Shelf, Sink, WriteError};
@@ -26,6 +29,21 @@ fn end_run<K: Sink>(alloc: Global, out: &mut K, clocks: u32, run_end: RunEnd) ->
     match ending_of(alloc, clocks, run_end) {
         Ok(ending) => end_with(alloc, out, &ending),
         Err(AllocError) => put_no_memory(alloc, out),
+    }
+}
+
+/// Prints a run from reset, and the line that ends it.
+fn trace_on<K: Sink>(alloc: Global, console: &mut Console, clocks: u32, out: &mut K) -> Status
+    ensures { (files after : Option FileMap) (load_old load_new write_old write_new : ℕ) (hex pads : List ℕ) (irq : Response)
+        → after ≡ files → StartsRun files hex pads irq console.old
+        → MayCome (TraceAnswers files (Rose load_old load_new) hex pads irq clocks) (TraceParts files hex pads irq clocks)
+        (Rose write_old write_new ⊎ Rose (K.faults out.old) (K.faults out.new))
+        result (outside files (K.text out.old)) (outside after (K.text out.new)) }
+{
+    match print_run(alloc, console, clocks as u64, out) {
+        Ok(run_end) => end_run(alloc, out, clocks, run_end),
+        Err(WriteError::Failed) => Status::Unwritten,
+        Err(WriteError::Memory) => put_no_memory(alloc, out),
     }
 }
 
@@ -46,13 +64,8 @@ pub fn run_trace<H: Shelf, K: Sink>(
         result (outside (H.files shelf.old) (K.text out.old)) (outside (H.files shelf.new) (K.text out.new)) }
     ensures files { H.files shelf.new ≡ H.files shelf.old }
 {
-    let mut console = match reset_console(alloc, shelf, hex, pads, irq) {
-        Ok(console) => console,
-        Err(failure) => return give_up(alloc, out, &failure),
-    };
-    match print_run(alloc, &mut console, clocks as u64, out) {
-        Ok(run_end) => end_run(alloc, out, clocks, run_end),
-        Err(WriteError::Failed) => Status::Unwritten,
-        Err(WriteError::Memory) => put_no_memory(alloc, out),
+    match reset_console(alloc, shelf, hex, pads, irq) {
+        Ok(mut console) => trace_on(alloc, &mut console, clocks, out),
+        Err(failure) => give_up(alloc, out, &failure),
     }
 }

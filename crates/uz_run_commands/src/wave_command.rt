@@ -1,9 +1,11 @@
 //! `wave HEX PADS IRQ CLOCKS WAV`.
 
-ghost use Rattle.std.specs.Prelude.{◌≡◌, ◌≤◌, ◌⊎◌, IfErr, IfOk, List, ℕ};
+ghost use Rattle.std.specs.Prelude.{◌≡◌, ◌≤◌, ◌⊎◌, [], IfErr, IfOk, List, ℕ};
 ghost use Rattle.uz_machine.specs.declared.Edge.{Edge};
 ghost use Rattle.uz_machine.specs.PadLine.{PadHistory};
 ghost use Rattle.uz_machine.specs.Turn.{State};
+ghost use Rattle.uz_console.specs.Consoles.{StandsFor};
+ghost use Rattle.uz_console.specs.Runs.{RunsTo};
 ghost use Rattle.uz_shelf.specs.Faults.{Rose};
 ghost use Rattle.uz_files.specs.Answers.{ComesOf, MayCome, NoPart, outside};
 ghost use Rattle.uz_files.specs.Endings.{EndsBy};
@@ -17,6 +19,7 @@ ghost use Rattle.uz_run_commands.specs.WaveValues.{IsHeard, IsTask, IsTaskOf};
 use crate::listening::{Heard, listen};
 use crate::wave_file::{samples, write_wave};
 use std::alloc::{AllocError, Global};
+use uz_console::Console;
 use uz_files::{Ending, Failure, Status, end_with, give_up, put_no_memory};
 use uz_report::Wave;
 use uz_run_files::{reset_console, stopped};
@@ -48,8 +51,20 @@ fn task_of(alloc: Global, heard: Heard) -> Result<Task, AllocError>
     }
 }
 
-/// Reads both files in their order, and listens to the run from reset. The samples are kept: a file of 2^30 has more lines than a
+/// Listens to a run of so many clocks. The samples are kept: a file of 2^30 has more lines than a
 /// run of 1,000,000,000 clocks, so that a full one counts as want of memory.
+fn hear_task(alloc: Global, console: &mut Console, clocks: u32) -> Result<Task, Failure>
+    requires { (s : State PadHistory) × StandsFor console.old s }
+    ensures task { IfOk result (λ task. (start : State PadHistory) → RunsTo clocks start [] console.old → IsTaskOf clocks start task) }
+    ensures memory { IfErr result (λ failure. failure ≡ Failure.Memory) }
+{
+    match listen(alloc, console, clocks as u64) {
+        Ok(heard) => Ok(task_of(alloc, heard)?),
+        Err(_) => Err(Failure::Memory),
+    }
+}
+
+/// Reads both files in their order, and listens to the run from reset.
 fn prepare<H: Shelf>(
     alloc: Global,
     shelf: &mut H,
@@ -65,10 +80,9 @@ fn prepare<H: Shelf>(
     ensures load_faults { H.load_faults shelf.old ≤ H.load_faults shelf.new }
     ensures write_faults { H.write_faults shelf.new ≡ H.write_faults shelf.old }
 {
-    let mut console = reset_console(alloc, shelf, hex, pads, irq)?;
-    match listen(alloc, &mut console, clocks as u64) {
-        Ok(heard) => Ok(task_of(alloc, heard)?),
-        Err(_) => Err(Failure::Memory),
+    match reset_console(alloc, shelf, hex, pads, irq) {
+        Ok(mut console) => hear_task(alloc, &mut console, clocks),
+        Err(failure) => Err(failure),
     }
 }
 

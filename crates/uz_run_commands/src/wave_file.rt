@@ -8,7 +8,7 @@ ghost use Rattle.uz_files.specs.Writing.{WritesSome};
 ghost use Rattle.uz_report.specs.Waves.{Holds, samples as samples_heard, wave_bytes};
 ghost use Rattle.uz_run_commands.specs.WaveCommand.{count_line};
 
-use itoa::Buffer;
+use crate::trace_lines::number_line;
 use std::alloc::{AllocError, Global};
 use uz_files::write_file;
 use uz_report::Wave;
@@ -46,9 +46,5 @@ pub(crate) fn write_wave<H: Shelf>(
 pub(crate) fn samples(alloc: Global, wave: &Wave) -> Result<Vec<u8>, AllocError>
     ensures { IfOk result (λ line. (edges : List Edge) → Holds wave.now edges → line.items ≡ count_line (samples_heard edges)) }
 {
-    let mut line = Vec::new(alloc);
-    line.extend_from_slice(b"samples ")?;
-    line.extend_from_slice(Buffer::new().format(wave.samples().len()).as_bytes())?;
-    line.extend_from_slice(b"\n")?;
-    Ok(line)
+    number_line(alloc, b"samples ", wave.samples().len() as u64)
 }

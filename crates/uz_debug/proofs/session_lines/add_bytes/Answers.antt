@@ -6,5 +6,5 @@ use Rattle.uz_debug.proofs.session_lines.add_bytes.Goals as goal
 pub loop-n-preserved : goal.loop-n-preserved
 loop-n-preserved c =
     bytes_more (read_of c.args.console.now) c.args.at c.loop-n.n ((c.args.at + c.from.result) % 65536) c.args.text.now.items
-    c.loop-n.text.items c.add_gap.new.text.items c.add_byte.new.text.items
-    c.loop-n.invariant c.in_ok-add_gap.ensures c.in_ok-add_byte.ensures (ap (λ n. (c.args.at + n) % 65536) c.from.ensures)
+    c.gap_before.result.now c.loop-n.text.items c.add_byte.new.text.items
+    c.loop-n.invariant c.gap_before.ensures c.in_ok-add_byte.ensures (ap (λ n. (c.args.at + n) % 65536) c.from.ensures)

@@ -1,17 +1,18 @@
-use Rattle.uz_run_files.specs.RunFiles.{start_of}
+use Rattle.uz_shelf.specs.Faults.{Rose}
+use Rattle.uz_run_files.specs.RunFiles.{RunPreface}
+use Rattle.uz_run_commands.proofs.WaveLemmas.{only_room, task_heard}
 use Rattle.uz_run_commands.proofs.wave_command.prepare.Goals as goal
 
-pub listen-requires-clause-stands : goal.listen-requires-clause-stands
-listen-requires-clause-stands g c = let run = c.in_ok-console.ensures.starts.run 0 in (run.0, run.2)
+pub hear_task-requires : goal.hear_task-requires
+hear_task-requires g c = let run = c.in-Ok.ensures.starts.run 0 in (run.0, run.2)
 
 pub returns-in-Ok-clause-task : goal.returns-in-Ok-clause-task
 returns-in-Ok-clause-task g c =
-    let starts = c.in_ok-console.ensures.starts in
-    let start = start_of starts.image starts.list c.args.irq in
-    record {
-      image = starts.image;
-      list = starts.list;
-      spelled_image = starts.spelled_image;
-      spelled_pads = starts.spelled_pads;
-      of = c.in_ok-task_of-in-Ok.ensures c.args.clocks start (c.in-Ok.ensures start (starts.run c.args.clocks));
-    }
+    task_heard _ c.args.hex.now c.args.pads.now c.args.irq c.args.clocks c.in-Ok.console c.hear_task.result c.in-Ok.ensures.starts
+    c.hear_task.ensures.task
+
+pub returns-in-Ok-clause-fails : goal.returns-in-Ok-clause-fails
+returns-in-Ok-clause-fails g c =
+    only_room (RunPreface (g.H.Shelf.files c.args.shelf.now)
+    (Rose (g.H.Shelf.load_faults c.args.shelf.now) (g.H.Shelf.load_faults c.reset_console.new.shelf)) c.args.hex.now c.args.pads.now)
+    c.hear_task.result c.hear_task.ensures.memory
