@@ -127,15 +127,17 @@ fn better(best: Option<(u32, usize)>, change: u32, at: usize) -> Option<(u32, us
 /// from which the fewest bytes change.
 fn place_of<P: Shaped>(axis: Axis, open: &[Open<'_, P>], new: &P) -> Option<usize> {
     let mut best: Option<(u32, usize)> = None;
-    for back in 0..TRIED {
-        let at = open.len().wrapping_sub(back).wrapping_sub(1);
-        match open.get(at) {
-            Some(chain) => match fit_to(axis, chain, new) {
-                Fit::GoesOn => return Some(at),
-                Fit::Second(change) => best = better(best, change, at),
-                Fit::No => {}
-            },
-            None => break,
+    let tried = if open.len() < TRIED {
+        open.len()
+    } else {
+        TRIED
+    };
+    for back in 0..tried {
+        let at = open.len() - 1 - back;
+        match fit_to(axis, &open[at], new) {
+            Fit::GoesOn => return Some(at),
+            Fit::Second(change) => best = better(best, change, at),
+            Fit::No => {}
         }
     }
     match best {
@@ -145,7 +147,7 @@ fn place_of<P: Shaped>(axis: Axis, open: &[Open<'_, P>], new: &P) -> Option<usiz
 }
 
 /// Puts the open chain at a place last, so that it is tried first.
-fn put_last<P: Shaped>(open: &mut Vec<Open<'_, P>>, at: usize) {
+fn put_last<T: Drop>(open: &mut Vec<T>, at: usize) {
     let last = open.len().saturating_sub(1);
     if at < last {
         open.as_mut_slice().swap(at, last);
@@ -153,7 +155,7 @@ fn put_last<P: Shaped>(open: &mut Vec<Open<'_, P>>, at: usize) {
 }
 
 /// Lets open chains go that are tried no more, where they are as many as those that are tried.
-fn let_go<P: Shaped>(open: &mut Vec<Open<'_, P>>) {
+fn let_go<T: Drop>(open: &mut Vec<T>) {
     if open.len() >= 2 * TRIED {
         open.rotate_left(TRIED);
         open.truncate(TRIED);

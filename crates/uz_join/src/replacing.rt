@@ -161,8 +161,9 @@ impl Replacing {
         ensures put { OnOk result (IsPut self.old.joined.items self.new.joined.items point) }
         ensures left { OnOk result (self.new.left.items ≡ self.old.left.items) }
     {
-        let next = with_numbers(ArrayVec::new(), point.next.as_slice(), into);
-        self.joined.push(Point { next, ..point })?;
+        let mut point = point;
+        point.next = with_numbers(ArrayVec::new(), point.next.as_slice(), into);
+        self.joined.push(point)?;
         Ok(())
     }
 

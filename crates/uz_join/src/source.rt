@@ -49,10 +49,9 @@ impl<'a> Source<'a> {
 
     /// Those that are left of so many points, in reverse.
     pub(crate) fn of_left(left: &'a [Point], count: usize) -> Source<'a> {
-        Source {
-            turned: Some(count),
-            ..Source::of_points(left)
-        }
+        let mut source = Source::of_points(left);
+        source.turned = Some(count);
+        source
     }
 
     /// The place of the made point of a number, past the end where there is none.
