@@ -7,7 +7,7 @@ use avr_operands::AsmWhy;
 use std::alloc::{AllocError, AllocFailed};
 
 /// The fault for which a source is refused.
-#[derive(Clone, Copy, Debug, PartialEq, Eq)]
+#[derive(Clone, Copy, Debug)]
 pub struct AsmError {
     /// The line, counted from 1; 0 for want of memory.
     pub line: u32,

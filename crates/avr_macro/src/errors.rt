@@ -7,7 +7,7 @@ use crate::origin::Origin;
 use std::alloc::{AllocError, AllocFailed};
 
 /// Why a line is refused.
-#[derive(Clone, Copy, Debug, PartialEq, Eq)]
+#[derive(Clone, Copy, Debug)]
 pub enum MacroWhy {
     /// The file could not be read, or there is none of that name.
     Unread,
@@ -53,7 +53,7 @@ impl MacroWhy {
 }
 
 /// The first line that is refused, and why.
-#[derive(Clone, Copy, Debug, PartialEq, Eq)]
+#[derive(Clone, Copy, Debug)]
 pub struct MacroError {
     /// The line; inside of blocks and calls that at which the outermost one begins. Line 0 of the first file where that
     /// file can't be had.

@@ -1,7 +1,7 @@
 //! Places in files.
 
 /// A line of a file.
-#[derive(Clone, Copy, Debug, PartialEq, Eq)]
+#[derive(Clone, Copy, Debug)]
 pub struct Origin {
     /// The file, by its place in the list of names, counted from 0.
     pub file: u32,

@@ -12,7 +12,7 @@ use std::alloc::{AllocError, AllocFailed};
 /// A first pass over the lines finds Lex, Mnemonic, Twice, Past and Directive, and every fault of `.org` and `.equ`.
 /// A second pass finds the rest. Of all faults one of the first pass goes before those of the second; in a pass
 /// the least line is named, and in a line the fault that stands first here.
-#[derive(Clone, Copy, Debug, PartialEq, Eq)]
+#[derive(Clone, Copy, Debug)]
 pub enum AsmWhy {
     /// The line can't be cut into tokens.
     Lex,

@@ -3,7 +3,7 @@
 use std::alloc::{AllocError, AllocFailed};
 
 /// What a token is.
-#[derive(Clone, Copy, PartialEq, Eq)]
+#[derive(Clone, Copy)]
 pub enum TokenKind {
     /// Letters, digits and `_`, not beginning with a digit. Case counts.
     Name,
@@ -20,7 +20,7 @@ pub enum TokenKind {
 }
 
 /// A token, with its line and its place in the text.
-#[derive(Clone, Copy, PartialEq, Eq)]
+#[derive(Clone, Copy)]
 pub struct Token {
     /// What it is.
     pub kind: TokenKind,
@@ -33,7 +33,7 @@ pub struct Token {
 }
 
 /// Why a text can't be cut into tokens.
-#[derive(Clone, Copy, Debug, PartialEq, Eq)]
+#[derive(Clone, Copy, Debug)]
 pub enum LexWhy {
     /// No token begins at the byte.
     Byte,
@@ -44,7 +44,7 @@ pub enum LexWhy {
 }
 
 /// The first fault of a text.
-#[derive(Clone, Copy, Debug, PartialEq, Eq)]
+#[derive(Clone, Copy, Debug)]
 pub struct LexError {
     /// The line of the fault, counted from 1; 0 for want of memory.
     pub line: u32,

@@ -10,7 +10,7 @@ use crate::symbols::Symbols;
 use crate::tokens::Token;
 
 /// Why an expression has no value.
-#[derive(Clone, Copy, Debug, PartialEq, Eq)]
+#[derive(Clone, Copy, Debug)]
 pub enum ValueWhy {
     /// The tokens are no expression, parentheses stand deeper than 32, or `.` stands where it means nothing.
     Form,

@@ -17,7 +17,7 @@ use uz_schedule::Cert;
 use uz_shelf::{Shelf, WriteError};
 
 /// How a run of so many clocks ended.
-#[derive(Clone, Copy, PartialEq, Eq)]
+#[derive(Clone, Copy)]
 pub enum RunEnd {
     /// Every turn that begins before its last clock is made.
     Over,
@@ -26,7 +26,7 @@ pub enum RunEnd {
 }
 
 /// How a run ended, with its numbers.
-#[derive(Clone, Copy, PartialEq, Eq)]
+#[derive(Clone, Copy)]
 pub struct Captured {
     pub end: RunEnd,
     pub counts: Counts,

@@ -1,7 +1,7 @@
 //! The kinds of line of a certificate's text.
 
 /// A kind of line that may be due, after the first line.
-#[derive(Clone, Copy, PartialEq, Eq)]
+#[derive(Clone, Copy)]
 pub enum Due {
     /// `size KINDS LINES RESTS POINTS CELLS`
     Size,

@@ -4,7 +4,7 @@ use std::alloc::AllocError;
 use uz_cert_words::CertWhy;
 
 /// A refused text: its first faulty line, counted from 1, and why. With `Memory` the line is 0.
-#[derive(Clone, Copy, Debug, PartialEq, Eq)]
+#[derive(Clone, Copy, Debug)]
 pub struct CertError {
     pub line: u32,
     pub why: CertWhy,

@@ -4,7 +4,7 @@ ghost use Rattle.std.specs.Prelude.{◌≡◌};
 ghost use Rattle.uz_cert_lines.specs.Lines.{head_line};
 
 /// The version of a certificate's text.
-#[derive(Clone, Copy, Debug, PartialEq, Eq)]
+#[derive(Clone, Copy)]
 pub enum Version {
     /// Each kind of line says its number of events, and has the clocks of a scanline. No point says anything of the timer.
     First,

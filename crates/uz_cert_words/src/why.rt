@@ -4,7 +4,7 @@ ghost use Rattle.std.specs.Prelude.{◌≡◌};
 ghost use Rattle.uz_cert_words.specs.WhyNames.{cert_why_name};
 
 /// Why a text is refused. The numbers are the places of the variants, counted from 1.
-#[derive(Clone, Copy, Debug, PartialEq, Eq)]
+#[derive(Clone, Copy, Debug)]
 pub enum CertWhy {
     /// 1: line 1 isn't the head.
     Head,

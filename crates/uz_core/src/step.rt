@@ -23,7 +23,7 @@ use uz_machine::address::TIMER1_COMPA;
 use uz_machine::{Effect, HeldStore};
 
 /// Why a step stopped.
-#[derive(Clone, Copy, Debug, PartialEq, Eq)]
+#[derive(Clone, Copy, Debug)]
 pub enum Why {
     /// No row of the instruction table reads the words at pc. It holds the first word.
     Opcode(u16),
@@ -32,7 +32,7 @@ pub enum Why {
 }
 
 /// What a step did.
-#[derive(Clone, Copy, PartialEq, Eq)]
+#[derive(Clone, Copy)]
 pub enum Step {
     /// One instruction, of so many clocks. `owed` is true exactly after RETI and BSET 7: one more instruction is made
     /// before the next interrupt. `returned` is true exactly after RETI.

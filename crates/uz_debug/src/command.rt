@@ -1,7 +1,7 @@
 //! Commands and replies.
 
 /// A command of the debugger. Turns are counted from reset; a turn is one instruction or one interrupt entry.
-#[derive(Clone, Copy, Debug, PartialEq, Eq)]
+#[derive(Clone, Copy, Debug)]
 pub enum Command {
     /// So many turns on, 1 to 100,000,000.
     Step(u32),
@@ -24,7 +24,7 @@ pub enum Command {
 }
 
 /// Why a command is refused.
-#[derive(Clone, Copy, Debug, PartialEq, Eq)]
+#[derive(Clone, Copy, Debug)]
 pub enum DebugWhy {
     /// Step or Run past turn 100,000,000.
     Limit,
@@ -37,7 +37,7 @@ pub enum DebugWhy {
 }
 
 /// What a command answers.
-#[derive(Clone, Copy, PartialEq, Eq)]
+#[derive(Clone, Copy)]
 pub enum Reply {
     /// The turn where the debugger is now, with the clock and the program counter (a word address).
     At { turn: u32, clock: u64, pc: u16 },

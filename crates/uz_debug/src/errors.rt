@@ -6,7 +6,7 @@ ghost use Rattle.uz_debug.specs.WhyNames.{script_why_name};
 use uz_text::{LineError, LineWhy};
 
 /// Why a line is refused, in the order of the numbers, from 1.
-#[derive(Clone, Copy, Debug, PartialEq, Eq)]
+#[derive(Clone, Copy, Debug)]
 pub enum ScriptWhy {
     /// No such command, or another count of words.
     Word,

@@ -11,7 +11,7 @@ use crate::breakpoints::Breakpoints;
 use uz_console::Console;
 
 /// How a run ended.
-#[derive(Clone, Copy, Debug)]
+#[derive(Clone, Copy)]
 pub(crate) enum Halt {
     /// At its goal, and at no breakpoint.
     Goal,

@@ -1,6 +1,6 @@
 //! The lines of a script.
 
-ghost use Rattle.std.specs.Prelude.{◌≡◌, ◌≤◌, ◌<◌, IfOk, IfSome, map, option_map};
+ghost use Rattle.std.specs.Prelude.{◌≡◌, ◌≤◌, ◌<◌, IfOk, IfSome, bytes_eq, map, option_map};
 ghost use Rattle.std.specs.List.{slice_split};
 ghost use Rattle.uz_text.specs.Lines.{is_blank as is_blank_byte};
 ghost use Rattle.uz_debug.specs.Scripts.{kind_in, line_in, mem_in, one_number_in, one_word_in, slot_in, two_numbers_in};
@@ -124,24 +124,31 @@ fn mem(at: &[u8], count: &[u8]) -> Option<Command>
     }
 }
 
+/// Whether a word is a command's name.
+fn spells(word: &[u8], name: &[u8]) -> bool
+    ensures { result ≡ bytes_eq word.now name.now }
+{
+    word == name
+}
+
 /// A command with one number.
 fn one_number(verb: &[u8], word: &[u8]) -> Line
     ensures line { result ≡ one_number_in verb.now word.now }
     ensures range { IsLineInRange result }
 {
-    if verb == b"step".as_slice() {
+    if spells(verb, b"step") {
         line_of(step(word))
-    } else if verb == b"run".as_slice() {
+    } else if spells(verb, b"run") {
         line_of(run(word))
-    } else if verb == b"back".as_slice() {
+    } else if spells(verb, b"back") {
         line_of(back(word))
-    } else if verb == b"break".as_slice() {
+    } else if spells(verb, b"break") {
         line_of(set_breakpoint(word))
-    } else if verb == b"clear".as_slice() {
+    } else if spells(verb, b"clear") {
         line_of(clear_breakpoint(word))
-    } else if verb == b"save".as_slice() {
+    } else if spells(verb, b"save") {
         line_of(save(word))
-    } else if verb == b"load".as_slice() {
+    } else if spells(verb, b"load") {
         line_of(load(word))
     } else {
         Line::Faulty(ScriptWhy::Word)
@@ -153,7 +160,7 @@ fn one_word(verb: &[u8]) -> Line
     ensures line { result ≡ one_word_in verb.now }
     ensures range { IsLineInRange result }
 {
-    if verb == b"show".as_slice() {
+    if spells(verb, b"show") {
         Line::Command(Command::Show)
     } else {
         Line::Faulty(ScriptWhy::Word)
@@ -165,7 +172,7 @@ fn two_numbers(verb: &[u8], at: &[u8], count: &[u8]) -> Line
     ensures line { result ≡ two_numbers_in verb.now at.now count.now }
     ensures range { IsLineInRange result }
 {
-    if verb == b"mem".as_slice() {
+    if spells(verb, b"mem") {
         line_of(mem(at, count))
     } else {
         Line::Faulty(ScriptWhy::Word)

@@ -1,7 +1,7 @@
 //! The exit statuses.
 
 /// How a command ended. The exit status is the variant's place, counted from 0.
-#[derive(Clone, Copy, Debug, PartialEq, Eq)]
+#[derive(Clone, Copy)]
 pub enum Status {
     /// All was done.
     Done,

@@ -6,7 +6,7 @@ ghost use Rattle.uz_hex.specs.WhyNames.{hex_why_name};
 use std::alloc::AllocError;
 
 /// Why a line is refused, in the order that decides where several stand of one line.
-#[derive(Clone, Copy, Debug, PartialEq, Eq)]
+#[derive(Clone, Copy, Debug)]
 pub enum HexWhy {
     /// The line isn't blank and doesn't begin with `:`.
     NoColon,
@@ -51,7 +51,7 @@ impl HexWhy {
 }
 
 /// The first faulty line of a text, counted from 1, and the first of its faults.
-#[derive(Clone, Copy, Debug, PartialEq, Eq)]
+#[derive(Clone, Copy, Debug)]
 pub struct HexError {
     pub line: u32,
     pub why: HexWhy,

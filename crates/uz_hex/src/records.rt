@@ -9,7 +9,7 @@ ghost use Rattle.uz_hex.specs.Reading.{has_length as length_fits, kind_of as kin
 use crate::errors::HexWhy;
 
 /// What a record is, by its record type, 00 to 05.
-#[derive(Clone, Copy, Debug, PartialEq, Eq)]
+#[derive(Clone, Copy)]
 pub enum RecordType {
     /// 00: data bytes at the base plus the load offset.
     Data,
@@ -26,7 +26,7 @@ pub enum RecordType {
 }
 
 /// How reading goes on after a line.
-#[derive(Clone, Copy, PartialEq, Eq)]
+#[derive(Clone, Copy)]
 pub enum Progress {
     /// With the next line, at this base.
     More(u32),

@@ -180,14 +180,14 @@ pub enum Effect {
 }
 
 /// Flags that an operation sets or clears: the bits of SREG in the mask take those of the value.
-#[derive(Clone, Copy, PartialEq, Eq)]
+#[derive(Clone, Copy)]
 pub struct Flags {
     pub value: u8,
     pub mask: u8,
 }
 
 /// A store that is held for the end clock of its turn: of a byte (ST, STD, STS, OUT, PUSH, a call), or of one bit (SBI, CBI).
-#[derive(Clone, Copy, PartialEq, Eq)]
+#[derive(Clone, Copy)]
 pub enum HeldStore {
     Byte { at: u16, value: u8 },
     Bit { at: u16, bit: u8, set: bool },
@@ -201,7 +201,7 @@ impl Default for HeldStore {
 
 /// What is seen outside: a new sync level (PORTB bit 0), a pixel (PORTC), a sound value (OCR2A), an interrupt entered
 /// with this TCNT1, and the end of a RETI.
-#[derive(Clone, Copy, Default, PartialEq, Eq)]
+#[derive(Clone, Copy, Default)]
 pub enum EdgeKind {
     Sync(u8),
     Pixel(u8),
@@ -212,7 +212,7 @@ pub enum EdgeKind {
 }
 
 /// What is seen outside at a clock. Clocks count from reset.
-#[derive(Clone, Copy, Default, PartialEq, Eq)]
+#[derive(Clone, Copy, Default)]
 pub struct Edge {
     pub clock: u64,
     pub kind: EdgeKind,

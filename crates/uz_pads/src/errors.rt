@@ -6,7 +6,7 @@ ghost use Rattle.uz_pads.specs.WhyNames.{pad_why_name};
 use uz_text::{LineError, LineWhy};
 
 /// Why a line is refused, in the order of the numbers, from 1.
-#[derive(Clone, Copy, Debug, PartialEq, Eq)]
+#[derive(Clone, Copy, Debug)]
 pub enum PadWhy {
     /// The line isn't blank and isn't four hexadecimal digits, one space, four hexadecimal digits.
     Digits,

@@ -9,7 +9,7 @@ use std::alloc::{AllocError, Global};
 
 /// The two players' words of one latch. Bits 0 to 11 are B, Y, Select, Start, Up, Down, Left, Right, A, X, L and R
 /// (Uzebox kernel documentation). A set bit means pressed. Bits 12 to 15 are ignored.
-#[derive(Clone, Copy, PartialEq, Eq)]
+#[derive(Clone, Copy)]
 pub struct Pad {
     pub one: u16,
     pub two: u16,

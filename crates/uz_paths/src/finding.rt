@@ -65,7 +65,7 @@ fn certificate(
 }
 
 /// Whether points are joined.
-#[derive(Clone, Copy, PartialEq, Eq)]
+#[derive(Clone, Copy)]
 enum Joining {
     /// Where the check accepts the joined certificate.
     Tried,

@@ -1,7 +1,7 @@
 //! The numbers of a run.
 
 /// The numbers of a run.
-#[derive(Clone, Copy, PartialEq, Eq)]
+#[derive(Clone, Copy)]
 pub struct Counts {
     /// The clock and the line of the first state that meets the entry condition, if one does.
     pub entered: Option<(u64, u16)>,

@@ -3,7 +3,7 @@
 use uz_schedule::Point;
 
 /// What points of one chain follow each other by.
-#[derive(Clone, Copy, Debug, PartialEq, Eq)]
+#[derive(Clone, Copy)]
 pub enum Axis {
     /// They stand at lines that follow each other, each at one.
     Lines,

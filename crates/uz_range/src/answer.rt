@@ -12,7 +12,7 @@ use uz_schedule::{Bit, Span, Wide};
 
 /// The range of a byte after an instruction, and of each flag C, Z, N, V, S, H, T what is known. A flag that the instruction keeps is
 /// [`Bit::Free`] here.
-#[derive(Clone, Copy, PartialEq, Eq)]
+#[derive(Clone, Copy)]
 pub struct Ranged {
     /// The bytes that the result may be.
     pub span: Span,
@@ -21,7 +21,7 @@ pub struct Ranged {
 }
 
 /// The range of a pair of registers after an instruction, and of each flag C, Z, N, V, S, H, T what is known.
-#[derive(Clone, Copy, PartialEq, Eq)]
+#[derive(Clone, Copy)]
 pub struct WideRanged {
     /// The numbers that the pair may be, high byte times 256 plus low byte.
     pub span: Wide,

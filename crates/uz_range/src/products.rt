@@ -10,7 +10,7 @@ use uz_core::{Flags, mul16};
 use uz_schedule::{Bit, Span, Wide};
 
 /// The six products of the AVR Instruction Set Manual.
-#[derive(Clone, Copy, Debug, PartialEq, Eq)]
+#[derive(Clone, Copy)]
 pub enum Form {
     /// Unsigned by unsigned.
     Mul,

@@ -13,7 +13,7 @@ use uz_soundness::soundness;
 const LATEST: u32 = 3;
 
 /// What main has after the handler's return on a line.
-#[derive(Clone, Copy, PartialEq, Eq)]
+#[derive(Clone, Copy)]
 pub struct Slack {
     /// The line of the return, counted from 0.
     pub line: u16,

@@ -12,7 +12,7 @@ use uz_scan::{Scan, Scanner};
 const MOST_SAMPLES: usize = (1 << 30) - 1;
 
 /// Why a file takes no edge.
-#[derive(Clone, Copy, Debug, PartialEq, Eq)]
+#[derive(Clone, Copy, Debug)]
 pub enum WaveError {
     /// It has 2^30 - 1 samples, the most.
     Full,

@@ -6,7 +6,7 @@ ghost use Rattle.uz_scan.specs.Pictures.{end_bytes, row_bytes, row_head};
 use byteorder::{ByteOrder, LittleEndian};
 
 /// A line that has ended.
-#[derive(Clone, Copy, PartialEq, Eq)]
+#[derive(Clone, Copy)]
 pub struct LineInfo {
     /// The frame that it belongs to, counted from 1. 0 means that no frame has begun.
     pub frame: u64,
@@ -21,7 +21,7 @@ pub struct LineInfo {
 }
 
 /// A frame that has ended.
-#[derive(Clone, Copy, PartialEq, Eq)]
+#[derive(Clone, Copy)]
 pub struct FrameInfo {
     /// Its number, counted from 1.
     pub frame: u64,

@@ -9,7 +9,7 @@ use crate::tracker::Tracker;
 use uz_machine::{Edge, EdgeKind};
 
 /// What the picture has more with an edge.
-#[derive(Clone, Copy, PartialEq, Eq)]
+#[derive(Clone, Copy)]
 pub enum Scan {
     More,
     /// A line has ended: the edge is the fall that begins the next one.

@@ -38,7 +38,7 @@ pub enum PairFact {
 }
 
 /// What is known of a flag of the status register.
-#[derive(Clone, Copy, Debug, PartialEq, Eq)]
+#[derive(Clone, Copy, PartialEq, Eq)]
 pub enum Bit {
     Zero,
     One,

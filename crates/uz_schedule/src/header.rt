@@ -5,7 +5,7 @@ use crate::ranges::Span;
 use arrayvec::ArrayVec;
 
 /// A byte of RAM whose values the certificate tracks.
-#[derive(Clone, Copy, Default, PartialEq, Eq)]
+#[derive(Clone, Copy, Default)]
 pub struct Cell {
     /// Its address in the data space, 256 to 4351, off the stack.
     pub at: u16,

@@ -2,7 +2,7 @@
 
 /// The number of clocks that an interrupt entry takes. It is a parameter of this project, which the certificate and the
 /// command line choose: nothing is claimed about which of the two a given chip has.
-#[derive(Clone, Copy, Debug, PartialEq, Eq)]
+#[derive(Clone, Copy)]
 pub enum Response {
     Four,
     Five,
@@ -25,7 +25,7 @@ impl Response {
 
 /// What a point of a program belongs to: the main loop, which interrupts break into; the interrupt handler, which
 /// begins at the timer's compare match; or a program that is alone, with interrupts disabled throughout.
-#[derive(Clone, Copy, Debug, PartialEq, Eq)]
+#[derive(Clone, Copy, PartialEq, Eq)]
 pub enum Kind {
     Main,
     Handler,
@@ -33,7 +33,7 @@ pub enum Kind {
 }
 
 /// Who writes a tracked cell of RAM: the main loop or the interrupt handler.
-#[derive(Clone, Copy, Debug, Default, PartialEq, Eq)]
+#[derive(Clone, Copy, Default)]
 pub enum Owner {
     #[default]
     Main,

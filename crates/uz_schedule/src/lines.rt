@@ -17,7 +17,7 @@ pub enum EventKind {
 }
 
 /// An event of a line.
-#[derive(Clone, Copy, Debug, PartialEq, Eq)]
+#[derive(Clone, Copy, Debug)]
 pub struct Event {
     /// The clock of its line at which it is seen, below the line's length.
     pub clock: u16,

@@ -15,7 +15,7 @@ pub trait LineWhy {
 }
 
 /// The first faulty line, counted from 1, and why it is refused. Where memory ran out the line is 0.
-#[derive(Clone, Copy, Debug, PartialEq, Eq)]
+#[derive(Clone, Copy, Debug)]
 pub struct LineError<W> {
     pub line: u32,
     pub why: W,

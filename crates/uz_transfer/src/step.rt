@@ -4,7 +4,7 @@ use arrayvec::ArrayVec;
 use uz_schedule::{EventKind, Instance};
 
 /// A pc, and the clocks that it takes to come there.
-#[derive(Clone, Copy, Default, PartialEq, Eq)]
+#[derive(Clone, Copy, Default)]
 pub struct Exit {
     /// A word address.
     pub pc: u16,

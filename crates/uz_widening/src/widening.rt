@@ -4,7 +4,7 @@ use uz_schedule::{Span, Wide};
 
 /// A fact of a register or a pointer at a program counter. A place whose range lies in the fact's range has that range from
 /// there on.
-#[derive(Clone, Copy, PartialEq, Eq)]
+#[derive(Clone, Copy)]
 pub enum Widening {
     /// Of a register, 0 to 31.
     Register { register: u8, range: Span },
