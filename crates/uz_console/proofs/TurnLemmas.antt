@@ -250,3 +250,6 @@ passed_time old new made.Quiet h = h
 passed_time old new (made.Edge edge) h = h
 passed_time old new made.Edges h = h
 passed_time old new (made.Stopped why) h = h
+
+-- what a turn shows and the time it takes, whether it is an entry or an instruction
+pub ruleset turns = (entry_shows, entered_time, instructed, instructed_time)

@@ -146,7 +146,7 @@ impl Console {
     }
 
     /// One turn, whose edges the list has afterwards where the answer says so. The loop over turns alone calls it.
-    #[tactic(auto, using(crate::proofs::TurnLemmas::entry_shows, crate::proofs::TurnLemmas::entered_time, crate::proofs::TurnLemmas::instructed, crate::proofs::TurnLemmas::instructed_time))]
+    #[tactic(auto, using(crate::proofs::TurnLemmas::turns))]
     fn make(&mut self, edges: &mut ArrayVec<Edge, 4>) -> Made
         requires { clock_of self.old < 2 ^ 62 }
         ensures turn { IsMade self.old self.new edges.new.items result }

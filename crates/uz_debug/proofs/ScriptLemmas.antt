@@ -106,3 +106,6 @@ word_more pieces words at d h b e same =
         (λ word. word.now) xs ++ (if b then x.now ∷ [] else [])
     with_word true xs x = map-append (λ word. word.now) xs (x ∷ [])
     with_word false xs x = sym (append-nil (map (λ word. word.now) xs))
+
+-- what of a script is read with one more line, and what is wrong with it
+pub ruleset readings = (read_none, read_blank, read_command, read_all, faulty, count_fault)

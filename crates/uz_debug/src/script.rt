@@ -25,7 +25,7 @@ fn kind(alloc: Global, line: &[u8]) -> Result<Line, AllocError>
 }
 
 /// Reads the lines that pieces of a text are.
-#[tactic(auto, using(crate::proofs::ScriptLemmas::read_none, crate::proofs::ScriptLemmas::read_blank, crate::proofs::ScriptLemmas::read_command, crate::proofs::ScriptLemmas::read_all, crate::proofs::ScriptLemmas::faulty, crate::proofs::ScriptLemmas::count_fault))]
+#[tactic(auto, using(crate::proofs::ScriptLemmas::readings))]
 fn read_pieces(alloc: Global, pieces: &[&[u8]]) -> Result<Vec<Command>, ScriptError>
     requires { length pieces.now < 2 ^ 32 }
     ensures read { IfOk result (λ list. IsScript (lines_of_pieces (map (λ piece. piece.now) pieces.now)) list.items) }

@@ -134,3 +134,6 @@ pub run_outcome : (P Part : Answer → Type 0) (worked : Result Ending Failure) 
 run_outcome P Part worked came narrow wide files after old new widen same given comes =
     subst (λ f. MayCome P Part wide came (outside files old) (outside f new)) (sym same)
     (outcome_of P Part worked came narrow wide (outside files old) (outside files new) widen given (comes files))
+
+-- what may come of a line that is printed, that can't be, or for which there is no memory
+pub ruleset endings = (comes_done, comes_unwritten, comes_without_memory)

@@ -58,7 +58,7 @@ pub fn put_no_memory<K: Sink>(alloc: Global, out: &mut K) -> Status
 }
 
 /// Prints the line of a command that did its work.
-#[tactic(auto, using(crate::proofs::EndingLemmas::comes_done, crate::proofs::EndingLemmas::comes_unwritten, crate::proofs::EndingLemmas::comes_without_memory))]
+#[tactic(auto, using(crate::proofs::EndingLemmas::endings))]
 fn end_done<K: Sink>(alloc: Global, out: &mut K, ending: &Ending) -> Status
     requires { ending.now.status ≡ Status.Done }
     ensures comes { (files : Option FileMap) → ComesOf (answer_of ending.now) (Rose (K.faults out.old) (K.faults out.new)) result

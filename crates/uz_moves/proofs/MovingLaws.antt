@@ -226,3 +226,6 @@ all_put p growing l c clock level inst one two three four registers slots cells 
     let second : two ≡ with_stack p l c growing.stack.items (with_registers p l c growing.registers.items begun) =
     is_two ∙ (λ i. with_stack p l c (ss i) (first i)) in
     is_four ∙ ap (with_pairs p l c growing) (is_three ∙ (λ i. with_cells p l c (cs i) (second i)))
+
+-- how much of each is put anew
+pub ruleset put_anew = (registers_below, stack_below, cells_below, slots_as_many, cells_as_many)

@@ -112,7 +112,7 @@ fn put_pairs(at: &mut Instance, point: &Point, growing: &Growing, line: u16, cou
 }
 
 /// All that depends on the line and the count is put, and the clock and level.
-#[tactic(auto, using(crate::proofs::MovingLaws::registers_below, crate::proofs::MovingLaws::stack_below, crate::proofs::MovingLaws::cells_below, crate::proofs::MovingLaws::slots_as_many, crate::proofs::MovingLaws::cells_as_many))]
+#[tactic(auto, using(crate::proofs::MovingLaws::put_anew))]
 fn put_growing(
     at: &mut Instance,
     point: &Point,

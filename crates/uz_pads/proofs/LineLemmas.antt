@@ -40,3 +40,6 @@ pub count_fault : (pieces : List (Bor (List ℕ))) (at : ℕ) (pads : List Pad) 
     → IsFirstFault (lines_of_pieces (map (λ piece. piece.now) pieces)) (at + 1) Count
 count_fault pieces at pads pad h e full r = faulty_at pads_on is_good_line HasFault pieces at pads Count h
     (subst (λ line. IsFault line (length pads) Count) (sym e) full) r
+
+-- what of a pad file is read with one more line, and what is wrong with it
+pub ruleset readings = (read_none, read_blank, read_pair, read_all, digits_fault, count_fault)

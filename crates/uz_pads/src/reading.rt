@@ -15,7 +15,7 @@ use uz_text::{line_at, pieces};
 const MAX_PAIRS: usize = 65_536;
 
 /// Reads the lines that pieces of a text are.
-#[tactic(auto, using(crate::proofs::LineLemmas::read_none, crate::proofs::LineLemmas::read_blank, crate::proofs::LineLemmas::read_pair, crate::proofs::LineLemmas::read_all, crate::proofs::LineLemmas::digits_fault, crate::proofs::LineLemmas::count_fault))]
+#[tactic(auto, using(crate::proofs::LineLemmas::readings))]
 fn read_pieces(alloc: Global, pieces: &[&[u8]]) -> Result<Vec<Pad>, PadError>
     requires { length pieces.now < 2 ^ 32 }
     ensures read { IfOk result (λ list. IsRead (lines_of_pieces (map (λ piece. piece.now) pieces.now)) list.items) }

@@ -5,7 +5,7 @@ use Rattle.std.proofs.lemmas.Bool.Decides.{eqb_tells, leb_tells}
 use Rattle.uz_schedule.specs.declared.lines.Schedule.{Schedule}
 use Rattle.uz_schedule.specs.Schedule.{length_of, start_of, frame_of, next_line, At, event_at, level_at}
 use Rattle.uz_schedule.specs.Lines.{order_of, line_after, clock_after}
-use Rattle.uz_schedule.proofs.Starts.{place_below}
+use Rattle.uz_schedule.proofs.Starts.{order_is, place_below}
 use Rattle.uz_schedule.proofs.Modulo.{event_at_mod, mod_shift, level_mod}
 
 pub at_more : (s : Schedule) (p l k c : ℕ) → At s p l k → At s (p + c) l (k + c)
@@ -44,3 +44,6 @@ level_here s p l k e = level_mod s p (start_of s l + k) e
 
 pub place_inside : (s : Schedule) (l k : ℕ) → l < length s.lines → k < length_of s l → start_of s l + k < frame_of s
 place_inside s l k h j = place_below s l k h j
+
+-- where places go on, and what is there
+pub ruleset places = (at_more, at_next, at_after, event_here, level_here, place_inside, order_is)

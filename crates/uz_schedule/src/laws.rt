@@ -40,7 +40,7 @@ pub fn positions_go_round()
 
 /// A place goes on with its position: clocks count on, also past the line's end, and where they reach it, the next line
 /// begins.
-#[tactic(auto, using(crate::proofs::Places::at_more, crate::proofs::Places::at_next, crate::proofs::Places::at_after, crate::proofs::Places::event_here, crate::proofs::Places::level_here, crate::proofs::Places::place_inside, crate::proofs::Starts::order_is))]
+#[tactic(auto, using(crate::proofs::Places::places))]
 pub fn places_go_on()
     ensures more { (s : Schedule) (p l k c : ℕ) → At s p l k → At s (p + c) l (k + c) }
     ensures next { (s : Schedule) (p l k : ℕ) → At s p l (length_of s l + k) → At s p (next_line s l) k }
