@@ -13,3 +13,4 @@ pub mod Starts
 pub mod Counting
 pub mod Complete
 pub mod JoinedLemmas
+pub mod ListLemmas
