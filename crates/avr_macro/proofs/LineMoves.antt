@@ -1,13 +1,14 @@
 -- What a line does, by what was read of it.
-use Rattle.std.proofs.Common.{◌≡◌, ℕ, ◌<◌, ◌≤◌, true, false, List, [], length, get_or, map, sym, ◌∙◌, ap, inl, inr}
-use Rattle.std.specs.Prelude.{◌⊎◌, nat_le, Some}
+use Rattle.std.proofs.Common.{◌≡◌, ℕ, ◌+◌, ◌<◌, ◌≤◌, true, false, List, [], length, get_or, map, sym, ◌∙◌, ap, inl, inr}
+use Rattle.std.specs.Prelude.{◌⊎◌, not, nat_le, Some}
 use Rattle.avr_macro.specs.declared.errors.MacroWhy.{MacroWhy}
 use Rattle.avr_macro.specs.declared.errors.MacroWhy.TheVariants as why
 use Rattle.avr_macro.specs.declared.frames.Frame.{Frame}
 use Rattle.avr_macro_lines.specs.Arguments.{arguments_of, replaced}
 use Rattle.avr_macro_lines.specs.Directives.{after_first_word, first_word}
-use Rattle.avr_macro.specs.Moves.{Move, refuses, body_of, call, enter, lacks_one, line_move, move_at, move_of, other_by, other_move, unless}
-use Rattle.avr_macro.specs.States.{Level, MacroMap, State, inside, passed}
+use Rattle.avr_macro.specs.Moves.{Move, refuses, body_of, call, enter, included, lacks_one, line_move, move_at, move_of, other_by, other_move, unless}
+use Rattle.avr_macro.specs.States.{Level, MacroMap, State, file_level, include_limit, inside, passed}
+use Rattle.avr_macro_lines.specs.Blocks.{is_zero}
 use Rattle.avr_macro.specs.Views.{seen_frame}
 use Rattle.avr_macro_lines.proofs.Slices.{next_line}
 
@@ -68,3 +69,13 @@ pub line_moves : (frame : Frame) (s : State) (bytes : List ℕ) → frame.at < f
 line_moves frame s bytes some within is =
     ap (λ b. line_move b (seen_frame frame) s) is
     ∙ sym (ap (λ lines. move_at lines (seen_frame frame) s) (next_line frame.body.value frame.at frame.end some within))
+
+-- a file that a line outside all blocks includes, whose level is at hand
+pub file_entered : (file : ℕ) (bytes : List ℕ) (level inner after : Level) (s : State) → nat_le include_limit level.includes ≡ false
+    → is_zero level.blocks ≡ true → inner ≡ file_level file (level.includes + 1) bytes → after ≡ passed 1 level
+    → enter inner after s ≡ included file bytes level s
+file_entered file bytes level inner after s shallow outside is_inner is_after =
+    let entered = enter (file_level file (level.includes + 1) bytes) (passed 1 level) s in
+    ap (λ l. enter l after s) is_inner ∙ ap (λ l. enter (file_level file (level.includes + 1) bytes) l s) is_after
+    ∙ sym (ap (λ b. unless b why.Depth (unless (not (is_zero level.blocks)) why.Form entered)) shallow
+    ∙ ap (λ b. unless (not b) why.Form entered) outside)
