@@ -54,6 +54,7 @@ COMMANDS = [
     'check pulse.hex pulse.cert',
     'check ring.hex ring.cert',
     'report pulse.hex pulse.cert',
+    'migrate loop-ring-1.cert made.cert',
     'wave pulse.hex no-pads.txt 4 4000 made.wav',
     'certify pulse.asm 4 made.hex made.cert',
     'play pulse.hex pulse.cert no-pads.txt 4000 made.frames',
