@@ -43,23 +43,23 @@ ends_at old new count list end are put =
 pub one_more : (old new : Lists) (count : ℕ) (list : List ℕ) (end : ℕ) → AreLists old count → length list ≤ 16 →
     IsPut old new list end → AreLists new (count + 1)
 one_more old new count list end are short put = record {
-    starts = ap length put.starts ∙ length-append old.starts.items _ ∙ ap (λ n. n + 1) are.starts;
-    last = ends_at old new count list end are put ∙ ap Some put.end_is;
-    few = omega (arith, length_after old new list end put, put.end_is, are.few, short);
-  }
+  starts = ap length put.starts ∙ length-append old.starts.items _ ∙ ap (λ n. n + 1) are.starts;
+  last = ends_at old new count list end are put ∙ ap Some put.end_is;
+  few = omega (arith, length_after old new list end put, put.end_is, are.few, short);
+}
 
 pub stays : (old new : Lists) (list : List ℕ) (end : ℕ) → IsPut old new list end →
     (i : ℕ) (there : List ℕ) → IsListAt old i there → IsListAt new i there
 stays old new list end put i there is = record {
-    from = is.from;
-    to = is.to;
-    begins = subst (λ all. slice_get all i ≡ Some is.from) (sym put.starts) (kept_at _ _ i is.from is.begins);
-    ends = subst (λ all. slice_get all (i + 1) ≡ Some is.to) (sym put.starts) (kept_at _ _ (i + 1) is.to is.ends);
-    order = is.order;
-    within = omega (arith, is.within, length_after old new list end put, put.end_is);
-    is = is.is ∙ sym (between_kept is.from is.to old.numbers.items list is.order is.within)
-        ∙ ap (between is.from is.to) (sym put.numbers);
-  }
+  from = is.from;
+  to = is.to;
+  begins = subst (λ all. slice_get all i ≡ Some is.from) (sym put.starts) (kept_at _ _ i is.from is.begins);
+  ends = subst (λ all. slice_get all (i + 1) ≡ Some is.to) (sym put.starts) (kept_at _ _ (i + 1) is.to is.ends);
+  order = is.order;
+  within = omega (arith, is.within, length_after old new list end put, put.end_is);
+  is = is.is ∙ sym (between_kept is.from is.to old.numbers.items list is.order is.within)
+      ∙ ap (between is.from is.to) (sym put.numbers);
+}
 
 pub stands_last : (old new : Lists) (count : ℕ) (list : List ℕ) (end : ℕ) → AreLists old count → IsPut old new list end →
     IsListAt new count list
