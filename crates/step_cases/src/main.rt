@@ -22,7 +22,7 @@ use random_numbers::Random;
 use tally::Tally;
 use trial::attempt;
 use uz_console::{Console, Response, SaveState};
-use uz_schedule::{Head, Schedule};
+use uz_schedule::{Head, Kind, Schedule};
 
 /// How many images are made.
 const IMAGES: u32 = 400;
@@ -34,6 +34,15 @@ fn draw_cases(rt: &HostRuntime, random: &mut Random) -> Result<Vec<Case>> {
         cases.push(draw::case(random, pc_of(k)))?;
     }
     Ok(cases)
+}
+
+/// A kind, in a line that tells of a case.
+fn kind_name(kind: Kind) -> &'static str {
+    match kind {
+        Kind::Alone => "alone",
+        Kind::Main => "main",
+        Kind::Handler => "handler",
+    }
 }
 
 /// Tries the cases of one image.
@@ -58,8 +67,11 @@ fn try_image(
         let trial = attempt(&image, head, frame, &mut console, case);
         if tally.add(case, trial) {
             println!(rt;
-                "{:04X} {:04X} {:?} {:?}",
-                case.words[0], case.words[1], case.at.kind, trial
+                "{:04X} {:04X} {} {:?}",
+                case.words[0],
+                case.words[1],
+                kind_name(case.at.kind),
+                trial
             )?;
         }
     }
