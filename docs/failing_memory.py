@@ -6,8 +6,9 @@
 UZEBOX is the built program, EXAMPLES the folder `examples/`. For each command, and each request that its run makes, one run
 in which that request fails; of a command with more than 400 the first and the last 100, and 100 between. It looks whether
 the status is that of want of memory, whether what is printed is a part of what the command prints otherwise, with the line
-`no memory` or a part of it after it, and whether each file that it writes is absent or a part of the whole one. Where the
-words of the command line can't be had, the answer is that of no words: the usage line. Prints a line for each command.
+`no memory` or a part of it after it, and whether each file that it writes is absent or a part of the whole one. Where points
+can't be joined for want of memory, `certify` may write another certificate: then `check` has to accept it. Where the words
+of the command line can't be had, the answer is that of no words: the usage line. Prints a line for each command.
 Needs a C compiler (`cc`).
 """
 import os
@@ -85,6 +86,14 @@ def is_part_with_line(out, whole, line):
     return any(whole.startswith(out[:k]) and line.startswith(out[k:]) for k in range(len(out) + 1))
 
 
+def is_accepted(program, folder, words, out):
+    """Whether `certify` wrote a pair that `check` accepts, and printed what `check` prints."""
+    if words[0] != 'certify' or not all(os.path.exists(os.path.join(folder, name)) for name in words[3:]):
+        return False
+    ran = subprocess.run([program, 'check', *words[3:]], cwd=folder, capture_output=True)
+    return ran.returncode == 0 and ran.stdout == out
+
+
 def chosen(requests):
     if requests <= 400:
         return list(range(1, requests + 1))
@@ -117,7 +126,7 @@ def main():
                 statuses[got] = statuses.get(got, 0) + 1
                 parts = all(v is None or (files[n] or b'').startswith(v) for n, v in made.items())
                 fine = is_part_with_line(out, whole, b'no memory\n') and parts and got in (NO_MEMORY, status)
-                fine = fine or (got == USAGE and out == usage)
+                fine = fine or (got == USAGE and out == usage) or (got == status and is_accepted(program, folder, line.split(), out))
                 if not fine:
                     wrong += 1
                     print('WRONG', line, 'request', at, 'status', got, out[-80:])
