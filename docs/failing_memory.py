@@ -86,12 +86,12 @@ def is_part_with_line(out, whole, line):
     return any(whole.startswith(out[:k]) and line.startswith(out[k:]) for k in range(len(out) + 1))
 
 
-def is_accepted(program, folder, words, out):
-    """Whether `certify` wrote a pair that `check` accepts, and printed what `check` prints."""
-    if words[0] != 'certify' or not all(os.path.exists(os.path.join(folder, name)) for name in words[3:]):
+def is_other_pair(program, folder, words, out, whole, made, files):
+    """Whether `certify` printed all, wrote the same image, and with it another certificate, which `check` accepts alike."""
+    if words[0] != 'certify' or out != whole or made[words[3]] != files[words[3]] or made[words[4]] is None:
         return False
     ran = subprocess.run([program, 'check', *words[3:]], cwd=folder, capture_output=True)
-    return ran.returncode == 0 and ran.stdout == out
+    return ran.returncode == 0 and ran.stdout == whole
 
 
 def chosen(requests):
@@ -126,7 +126,8 @@ def main():
                 statuses[got] = statuses.get(got, 0) + 1
                 parts = all(v is None or (files[n] or b'').startswith(v) for n, v in made.items())
                 fine = is_part_with_line(out, whole, b'no memory\n') and parts and got in (NO_MEMORY, status)
-                fine = fine or (got == USAGE and out == usage) or (got == status and is_accepted(program, folder, line.split(), out))
+                fine = fine or (got == USAGE and out == usage)
+                fine = fine or (got == status and is_other_pair(program, folder, line.split(), out, whole, made, files))
                 if not fine:
                     wrong += 1
                     print('WRONG', line, 'request', at, 'status', got, out[-80:])
