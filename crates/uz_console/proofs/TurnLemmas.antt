@@ -1,6 +1,7 @@
 -- A turn of the console, from its parts.
 use Rattle.std.proofs.Common.{◌≡◌, ◌≢◌, ℕ, ◌+◌, ◌<◌, ◌≤◌, Bool, true, false, not, ◌&&◌, ◌||◌, if◌then◌else◌, nat_le, List, refl, sym, ◌∙◌}
-use Rattle.std.proofs.Common.{ap, subst, inl, inr, lit<, lit≤, arith, [], ◌∷◌}
+use Rattle.std.proofs.Common.{ap, subst, inl, inr, lit<, lit≤, arith, [], ◌∷◌, ◌++◌, length}
+use Rattle.std.specs.Prelude.{◌==◌}
 use Rattle.std.specs.Ordering.{nat_cmp}
 use Rattle.std.specs.FinMap.{FinMap}
 use Rattle.std.proofs.lemmas.Bool.Decides.{nat_tests}
@@ -21,13 +22,15 @@ use Rattle.uz_machine.proofs.RowClocks.{stops, clocks_within}
 use Rattle.uz_machine.specs.Effects.{effect_of}
 use Rattle.uz_machine.specs.Core.{Core, step_result, outcome_of, loaded_bytes, sample_clock, load_addresses, is_core_address, core_byte}
 use Rattle.uz_machine.specs.PadLine.{PadHistory}
-use Rattle.uz_machine.specs.Space.{Space, history_wiring, space_loads, byte_at}
+use Rattle.uz_machine.specs.Space.{Space, history_wiring, space_after, space_loads, byte_at}
 use Rattle.uz_machine.specs.Turn.{State, state_byte, is_entry, after_entry, entry_edges, after_instruction, instruction_edges, IsEntryTurn}
 use Rattle.uz_machine.specs.Turn.{IsInstructionTurn}
+use Rattle.uz_machine.specs.Turn.{after_stores, all_edge_kinds, edges_at}
+use Rattle.uz_machine.specs.declared.EdgeKind.TheVariants.{Leave}
 use Rattle.uz_machine.specs.Turn as machine
 use Rattle.uz_machine.proofs.LoadModels.{LoadAlike, ResultAlike, same_effect_result}
 use Rattle.uz_machine.proofs.Wirings.{SpaceAlike, TurnAlike, same_byte, turn_alike, with_space}
-use Rattle.uz_core.specs.Steps.{IsStep}
+use Rattle.uz_core.specs.Steps.{IsInstruction, IsStep}
 use Rattle.uz_core.specs.declared.step.Why.{Why}
 use Rattle.uz_core.specs.declared.step.Why.TheVariants.{Opcode, Spm}
 use Rattle.uz_core.specs.declared.step.Step.{Step}
@@ -35,7 +38,7 @@ use Rattle.uz_core.specs.declared.step.Step.TheVariants as step
 use Rattle.uz_pads.specs.declared.pads.Pads.{Pads}
 use Rattle.uz_pads.specs.Pads.{pads_wiring, StandsFor}
 use Rattle.uz_ports.proofs.PadBytes.{pads_alike}
-use Rattle.uz_ports.specs.Boards.{BoardContent, board_loads}
+use Rattle.uz_ports.specs.Boards.{BoardContent, board_loads, content_of, entry_edge}
 use Rattle.uz_console.specs.declared.console.Console.{Console}
 use Rattle.uz_console.specs.Consoles as console
 use Rattle.uz_console.specs.Consoles.{state_of}
@@ -206,6 +209,84 @@ instructed old new edges made.Edges e h = carried old new edges
     (inr (record { enters = e; row = h.0; reads = h.1.reads; runs = h.2; goes_to = h.3; emits = h.4 }))
 instructed old new edges (made.Stopped why) e h = (h.1, λ s stands. halts old s why stands e h.0)
 
+-- the state of a console that keeps its image and its response
+abbrev pub with_parts : Console → Core → Space Pads → Bool → ℕ → State Pads
+with_parts console core space is_owed clock = record (state_of console) {
+  core = core;
+  space = space;
+  is_owed = is_owed;
+  clock = clock;
+}
+
+-- what an instruction makes of a state, by these edges
+abbrev pub Instructs : Console → State Pads → List Edge → Type 0
+Instructs old new edges =
+    (i : Instr) × IsInstruction old.program old.cpu i × (effect_of i ≢ Stop) ×
+    (new ≡ after_instruction pads_wiring i (state_of old)) × (edges ≡ instruction_edges pads_wiring i (state_of old))
+
+-- a step over the board and then the turn's end
+stepped : (old : Console) (core : Core) (content : BoardContent) (stores : List HeldStore) (clocks : ℕ) (owed returned : Bool)
+    (space : Space Pads) (clock : ℕ) (edges : List Edge)
+    → IsBoardStep old.program old.cpu (content_of old.board) core content stores (step.Took clocks owed returned)
+    → space ≡ after_stores pads_wiring stores (space_after clocks content.space) → clock ≡ content.clock + clocks
+    → edges ≡ edges_at (content.clock + clocks) (all_edge_kinds pads_wiring stores (space_after clocks content.space)
+    ++ (if returned then Leave ∷ [] else []))
+    → Instructs old (with_parts old core space owed clock) edges
+stepped old core content stores clocks owed returned space clock edges h at_space at_clock shows =
+    let i = h.0 in
+    let e = h.3 in
+    let ends : with_parts old core space owed clock
+    ≡ with_parts old core (after_stores pads_wiring stores (space_after clocks content.space)) owed (content.clock + clocks) =
+    λ j. with_parts old core (at_space j) owed (at_clock j) in
+    let same : with_parts old core (after_stores pads_wiring stores (space_after clocks content.space)) owed (content.clock + clocks)
+    ≡ after_instruction pads_wiring i (state_of old) =
+    λ j. with_parts old (e.0 j) (after_stores pads_wiring (e.4 j) (space_after (e.5 j) (e.1 j))) (e.6 j) (e.3 j + e.5 j) in
+    let same_edges : edges_at (content.clock + clocks) (all_edge_kinds pads_wiring stores (space_after clocks content.space)
+    ++ (if returned then Leave ∷ [] else [])) ≡ instruction_edges pads_wiring i (state_of old) =
+    λ j. edges_at (e.3 j + e.5 j) (all_edge_kinds pads_wiring (e.4 j) (space_after (e.5 j) (e.1 j))
+    ++ (if e.7 j then Leave ∷ [] else [])) in
+    (i, h.1, h.2, ends ∙ same, shows ∙ same_edges)
+
+-- nothing is stored, and it is no RETI
+pub stepped_quietly : (old : Console) (core : Core) (content : BoardContent) (stores : List HeldStore) (clocks : ℕ) (owed returned : Bool)
+    (space : Space Pads) (clock : ℕ)
+    → IsBoardStep old.program old.cpu (content_of old.board) core content stores (step.Took clocks owed returned)
+    → stores ≡ [] → returned ≡ false → space ≡ space_after clocks content.space → clock ≡ content.clock + clocks
+    → Instructs old (with_parts old core space owed clock) []
+stepped_quietly old core content stores clocks owed returned space clock h none stays at_space at_clock =
+    stepped old core content stores clocks owed returned space clock [] h
+    (at_space ∙ ap (λ held. after_stores pads_wiring held (space_after clocks content.space)) (sym none)) at_clock
+    (λ j. edges_at (content.clock + clocks) (all_edge_kinds pads_wiring (sym none j) (space_after clocks content.space)
+    ++ (if sym stays j then Leave ∷ [] else [])))
+
+-- the turn's end tells the edges, of which none is an entry's
+pub finished : (old : Console) (core : Core) (content : BoardContent) (stores : List HeldStore) (clocks : ℕ) (owed returned : Bool)
+    (space : Space Pads) (clock : ℕ) (edges : List Edge)
+    → IsBoardStep old.program old.cpu (content_of old.board) core content stores (step.Took clocks owed returned)
+    → space ≡ after_stores pads_wiring stores (space_after clocks content.space) → clock ≡ content.clock + clocks
+    → edges ≡ entry_edge content.clock content.entered ++ edges_at (content.clock + clocks)
+    (all_edge_kinds pads_wiring stores (space_after clocks content.space) ++ (if returned then Leave ∷ [] else []))
+    → Instructs old (with_parts old core space owed clock) edges
+finished old core content stores clocks owed returned space clock edges h at_space at_clock shows =
+    stepped old core content stores clocks owed returned space clock edges h at_space at_clock
+    (shows ∙ ap (λ entered. entry_edge content.clock entered ++ edges_at (content.clock + clocks)
+    (all_edge_kinds pads_wiring stores (space_after clocks content.space) ++ (if returned then Leave ∷ [] else [])))
+    (h.3.2 ∙ old.left))
+
+-- and there are none
+no_edges : (edges : List Edge) → true ≡ (length edges == 0) → edges ≡ []
+no_edges [] e = refl
+no_edges (edge ∷ edges) e = absurd (grind (arith, nat_tests))
+
+pub without_edges : (old : Console) (new : State Pads) (edges : List Edge) → true ≡ (length edges == 0) → Instructs old new edges
+    → Instructs old new []
+without_edges old new edges none h = (h.0, h.1, h.2, h.3, sym (no_edges edges none) ∙ h.4)
+
+-- a step that stops
+pub stopped : (old : Console) (core : Core) (content : BoardContent) → core ≡ old.cpu → content ≡ content_of old.board
+    → with_parts old core content.space old.owed content.clock ≡ state_of old
+stopped old core content e f = λ j. with_parts old (e j) (f j).space old.owed (f j).clock
+
 not_stop : (e : Effect) → e ≢ Stop → stops e ≡ false
 not_stop Stop h = absurd (h refl)
 not_stop e h = refl
@@ -250,6 +331,3 @@ passed_time old new made.Quiet h = h
 passed_time old new (made.Edge edge) h = h
 passed_time old new made.Edges h = h
 passed_time old new (made.Stopped why) h = h
-
--- what a turn shows and the time it takes, whether it is an entry or an instruction
-pub ruleset turns = (entry_shows, entered_time, instructed, instructed_time)

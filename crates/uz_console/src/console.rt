@@ -38,7 +38,6 @@ impl Console {
 
     /// The console at reset, at clock 0: RAM, ports, timer and registers are 0, SP is 0x10FF, and PORTA has had one
     /// value, 0. An interrupt entry takes as many clocks as `irq` says.
-    #[tactic(auto, using(crate::proofs::RunLemmas::begins))]
     pub fn reset(
         alloc: Global,
         image: Image,

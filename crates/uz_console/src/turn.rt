@@ -68,7 +68,6 @@ pub(crate) fn put(edges: &mut ArrayVec<Edge, 4>, edge: Edge)
 }
 
 /// One instruction, whose stores the board holds.
-#[tactic(auto, using(crate::proofs::TurnLemmas::board_step))]
 fn step(cpu: &mut Cpu, program: &Program, board: &mut Board) -> Step
     requires { held_of board.old ≡ [] }
     ensures { IsBoardStep program.now cpu.old (content_of board.old) cpu.new (content_of board.new) (held_of board.new) result }
@@ -146,7 +145,6 @@ impl Console {
     }
 
     /// One turn, whose edges the list has afterwards where the answer says so. The loop over turns alone calls it.
-    #[tactic(auto, using(crate::proofs::TurnLemmas::turns))]
     fn make(&mut self, edges: &mut ArrayVec<Edge, 4>) -> Made
         requires { clock_of self.old < 2 ^ 62 }
         ensures turn { IsMade self.old self.new edges.new.items result }
