@@ -1,9 +1,11 @@
 -- Lines of one kind that follow each other, counted from the front.
 use Rattle.std.proofs.Common.{◌≡◌, ℕ, ◌+◌, Bool, true, false, cond, eqb, List, [], ◌∷◌, ◌++◌, append_assoc, refl, sym, ◌∙◌, ap, arith}
+use Rattle.std.proofs.Common.{◌<◌, drop, get_or, length}
 use Rattle.std.proofs.lemmas.Bool.Decides.{nat_tests}
-use Rattle.uz_cert_writer.specs.Spelling.{run_before, run_words}
+use Rattle.uz_cert_writer.specs.Spelling.{run_before, run_words, runs_of}
 use Rattle.uz_cert_writer.specs.Joined.{ended, line_end, run_lines, run_on}
 use Rattle.uz_cert_writer.proofs.Joining.{line_ended}
+use Rattle.uz_cert_writer.proofs.Steps.{left}
 
 pub first_run : (kind : ℕ) (runs : List (ℕ × ℕ)) → run_on 1 kind runs ≡ run_before kind runs
 first_run kind [] = refl
@@ -60,3 +62,14 @@ run_over old new count kind next runs ne e =
     ∙ ap (λ r. old ++ (line_end (run_words (count, kind)) ++ ended (run_lines r))) (first_run next runs)
     ∙ ap (λ t. old ++ t) (line_ended (run_words (count, kind)) (run_lines (run_before next runs)))
     ∙ ap (λ r. old ++ ended (run_lines r)) (sym (run_ends count kind next runs ne))
+
+-- one more line of a list, whatever the runs behind it
+pub run_taken : (old new all : List ℕ) (count n kind next i : ℕ) (lines : List ℕ) → i < length lines → next ≡ get_or lines i 0
+    → ((runs : List (ℕ × ℕ)) → new ++ ended (run_lines (run_on n next runs))
+    ≡ old ++ ended (run_lines (run_on count kind (run_before next runs))))
+    → old ++ ended (run_lines (run_on count kind (runs_of (drop i lines)))) ≡ all
+    → new ++ ended (run_lines (run_on n next (runs_of (drop (i + 1) lines)))) ≡ all
+run_taken old new all count n kind next i lines h e step before =
+    step (runs_of (drop (i + 1) lines))
+    ∙ ap (λ ks. old ++ ended (run_lines (run_on count kind (runs_of ks)))) (sym (left lines i next 0 h e))
+    ∙ before

@@ -12,8 +12,9 @@ use Rattle.uz_schedule.specs.declared.facts.PairFact.{PairFact}
 use Rattle.uz_schedule.specs.declared.facts.Bit.{Bit}
 use Rattle.uz_schedule.specs.declared.header.Cell.{Cell}
 use Rattle.uz_schedule.specs.declared.lines.Event.{Event}
-use Rattle.uz_cert_lines.specs.Defaults.{is_any_pair, is_range}
+use Rattle.uz_cert_lines.specs.Defaults.{is_any_pair, is_default, is_range}
 use Rattle.uz_cert_writer.specs.Spelling.{line_of, unless, item, fact_word, pair_word, flag_word, pair_items, flag_items, cell_items}
+use Rattle.uz_cert_writer.specs.Spelling.{register_items}
 use Rattle.uz_cert_lines.specs.declared.version.Version.TheVariants.{Second}
 use Rattle.uz_cert_writer.specs.Spelling.{kind_words, event_words, kinds_then}
 use Rattle.uz_cert_writer.specs.Joined.{spaced, ended, line_end}
@@ -34,7 +35,7 @@ pub unless_first : (t : Bool) (word : List ℕ) (words : List (List ℕ)) → sp
 unless_first true word words = refl
 unless_first false word words = ap (λ t. 32 ∷ t) (ap (λ t. t ++ spaced words) (sym (append-nil word)))
 
-left : {A : Type 0} (xs : List A) (k : ℕ) (x d : A) → k < length xs → x ≡ get_or xs k d → drop k xs ≡ x ∷ drop (k + 1) xs
+pub left : {A : Type 0} (xs : List A) (k : ℕ) (x d : A) → k < length xs → x ≡ get_or xs k d → drop k xs ≡ x ∷ drop (k + 1) xs
 left xs k x d h e = drop-cons xs k d h ∙ ap (λ y. y ∷ drop (suc k) xs) (sym e) ∙ ap (λ n. x ∷ drop n xs) (sym (add-one k))
 
 -- pieces put, and what was left with one of them
@@ -45,9 +46,37 @@ pub put_two : (old mid new a b rest left all : List ℕ) → mid ≡ old ++ a �
     → new ++ rest ≡ all
 put_two old mid new a b rest left all e f g h = added_two old mid new a b rest all e f (ap (λ t. old ++ t) (sym g) ∙ h)
 
+-- one more word of a list of them, behind a space
+pub word_added : {A : Type 0} (word : A → List ℕ) (old mid new all : List ℕ) (xs : List A) (k : ℕ) (x : A) → k < length xs
+    → x ≡ get_or xs k x → mid ≡ old ++ (32 ∷ []) → new ≡ mid ++ word x → old ++ spaced (map word (drop k xs)) ≡ all
+    → new ++ spaced (map word (drop (k + 1) xs)) ≡ all
+word_added word old mid new all xs k x h e f g before =
+    put_two old mid new (32 ∷ []) (word x) (spaced (map word (drop (k + 1) xs))) (spaced (map word (drop k xs))) all f g
+    (ap (λ ys. spaced (map word ys)) (left xs k x x h e)) before
+
 -- nothing is left
 pub nothing_left : (text left all : List ℕ) → left ≡ [] → text ++ left ≡ all → text ≡ all
 nothing_left text left all e f = sym (append-nil text) ∙ ap (λ t. text ++ t) (sym e) ∙ f
+
+-- registers
+
+pub register_left : (kind : Kind) (fs : List Fact) (r : ℕ) (x : Fact) → r < length fs → x ≡ get_or fs r x
+    → spaced (register_items kind r (drop r fs))
+    ≡ spaced (unless (is_default kind r x) (item (114 ∷ decimal r) (fact_word x)) []) ++ spaced (register_items kind (r + 1) (drop (r + 1) fs))
+register_left kind fs r x h e =
+    let word = item (114 ∷ decimal r) (fact_word x) in
+    ap (λ ys. spaced (register_items kind r ys)) (left fs r x x h e)
+    ∙ unless_first (is_default kind r x) word (register_items kind (suc r) (drop (r + 1) fs))
+    ∙ ap (λ n. spaced (unless (is_default kind r x) word []) ++ spaced (register_items kind n (drop (r + 1) fs))) (sym (add-one r))
+
+-- one more register
+pub register_added : (old new all : List ℕ) (kind : Kind) (fs : List Fact) (r : ℕ) (x : Fact) → r < length fs → x ≡ get_or fs r x
+    → new ≡ old ++ spaced (unless (is_default kind r x) (item (114 ∷ decimal r) (fact_word x)) [])
+    → old ++ spaced (register_items kind r (drop r fs)) ≡ all
+    → new ++ spaced (register_items kind (r + 1) (drop (r + 1) fs)) ≡ all
+register_added old new all kind fs r x h e f g =
+    put old new _ (spaced (register_items kind (r + 1) (drop (r + 1) fs))) (spaced (register_items kind r (drop r fs))) all f
+    (register_left kind fs r x h e) g
 
 -- pairs and flags
 
@@ -124,6 +153,17 @@ cell_missing text kind i next c cs fs e =
     ap (λ ys. text ++ spaced (cell_items kind (i + 1) cs ys)) (drop_all next fs e)
     ∙ ap (λ t. text ++ spaced t) (no_cells kind (i + 1) cs)
     ∙ ap (λ ys. text ++ spaced (cell_items kind i (c ∷ cs) ys)) (sym (drop_all next fs e))
+
+-- one more cell, whatever the cells behind it
+pub cell_taken : (old new all : List ℕ) (kind : Kind) (k : ℕ) (x : Cell) (cells : List Cell) (facts others : List Fact)
+    → k < length cells → x ≡ get_or cells k x
+    → ((cs : List Cell) → new ++ spaced (cell_items kind (k + 1) cs others) ≡ old ++ spaced (cell_items kind k (x ∷ cs) facts))
+    → old ++ spaced (cell_items kind k (drop k cells) facts) ≡ all
+    → new ++ spaced (cell_items kind (k + 1) (drop (k + 1) cells) others) ≡ all
+cell_taken old new all kind k x cells facts others h e step before =
+    step (drop (k + 1) cells)
+    ∙ ap (λ cs. old ++ spaced (cell_items kind k cs facts)) (sym (left cells k x x h e))
+    ∙ before
 
 -- kinds of line
 

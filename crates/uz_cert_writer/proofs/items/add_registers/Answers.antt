@@ -1,0 +1,7 @@
+use Rattle.uz_cert_writer.proofs.Steps.{register_added}
+use Rattle.uz_cert_writer.proofs.items.add_registers.Goals as goal
+
+pub loop-register-preserved : goal.loop-register-preserved
+loop-register-preserved c = register_added c.loop-register.text.items c.add_register.new.text.items _ c.args.kind c.args.facts.now
+    c.loop-register.register c.index-facts-register.result c.loop-register-test.true c.index-facts-register.is
+    c.in_ok-add_register.ensures c.loop-register.invariant
