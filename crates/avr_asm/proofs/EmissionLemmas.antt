@@ -3,6 +3,7 @@ use Rattle.std.proofs.Common.{◌≡◌, ℕ, zero, suc, ◌+◌, ◌<◌, ◌�
 use Rattle.std.proofs.Common.{◌∙◌, ap, add-one, drop-cons, arith}
 use Rattle.std.specs.Prelude.{Err, is_some, nat_le}
 use Rattle.std.specs.FinMap as finite
+use Rattle.std.proofs.lemmas.List.{drop_all}
 use Rattle.std.proofs.lemmas.Bool.Decides.{nat_tests}
 use Rattle.avr_text.specs.declared.tokens.Token.{Token}
 use Rattle.avr_text.specs.Names.{NameMap}
@@ -30,6 +31,11 @@ data_more wide line symbols old new ls i d h e =
     let here : drop i parts ≡ (get_or ls i d).now ∷ drop (i + 1) parts = rw (add-one, drop-cons parts i [] inside)
     (ap (λ p. p ∷ drop (suc i) parts) (part_there ls i d h)) in
     ap (λ o. data_from wide line symbols o (drop (i + 1) parts)) e ∙ sym (ap (data_from wide line symbols old) here)
+
+pub data_end : (wide : Bool) (line : List ℕ) (symbols : NameMap) (all : OrFault (List ℕ)) (ls : List (Bor (List Token))) (i : ℕ)
+    → length ls ≤ i → data_from wide line symbols all (drop i (map (λ l. l.now) ls)) ≡ all
+data_end wide line symbols all ls i h = ap (data_from wide line symbols all)
+    (drop_all i (map (λ (l : Bor (List Token)). l.now) ls) (omega (arith, parts_len ls)))
 
 pub put_past : (at i : ℕ) (bytes : List ℕ) (flash : Flash) → i < length bytes → 65536 ≤ at → put at (drop i bytes) flash ≡ Err Past
 put_past at i bytes flash h far =

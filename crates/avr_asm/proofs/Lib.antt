@@ -2,6 +2,7 @@ pub mod LayoutLemmas
 pub mod AssemblyLemmas
 pub mod CodeLemmas
 pub mod EmissionLemmas
+pub mod HintLemmas
 pub mod LineLemmas
 pub mod RowTests
 pub mod RowFields

@@ -209,6 +209,39 @@ fn following_line(
     }
 }
 
+/// Puts out lines at their addresses, the first of which has number 1, behind what is put out already.
+fn put_each(
+    alloc: Global,
+    built: &mut Built,
+    lines: &[&[u8]],
+    addresses: &[u32],
+    symbols: &Symbols,
+) -> Result<(), AsmError>
+    requires short { EachShort lines.now }
+    requires few { length lines.now < 2 ^ 32 - 1 }
+    requires same { length addresses.now ≡ length lines.now }
+    requires below { All (λ a. a ≤ 65536) addresses.now }
+    ensures built { GivesLayout (λ _. seen_built built.new) result
+        (output_from 1 symbols.now (seen_built built.old) (mapped (λ line. line.now) lines.now) addresses.now) }
+    ensures memory { IfErr result (λ e. e.why ≡ AsmWhy.Memory → e.line ≡ 0) }
+{
+    let mut following = match next_instruction(alloc, lines, addresses, 0) {
+        Ok(following) => following,
+        Err(why) => return Err(AsmError { line: 0, why }),
+    };
+    for (i, line) in lines.iter().enumerate() {
+        match following_line(alloc, lines, addresses, i, following) {
+            Ok(next) => following = next,
+            Err(why) => return Err(AsmError { line: 0, why }),
+        }
+        let number = i as u32 + 1;
+        if let Err(why) = put_line(alloc, built, line, symbols, number, addresses[i], following) {
+            return Err(AsmError::in_line(number, why));
+        }
+    }
+    Ok(())
+}
+
 /// Puts out all lines at their addresses.
 fn put_lines(
     alloc: Global,
@@ -229,30 +262,13 @@ fn put_lines(
         items: Vec::new(alloc),
         hints: Vec::new(alloc),
     };
-    let mut following = match next_instruction(alloc, lines, addresses, 0) {
-        Ok(following) => following,
-        Err(why) => return Err(AsmError { line: 0, why }),
-    };
-    for (i, line) in lines.iter().enumerate() {
-        match following_line(alloc, lines, addresses, i, following) {
-            Ok(next) => following = next,
-            Err(why) => return Err(AsmError { line: 0, why }),
+    match put_each(alloc, &mut built, lines, addresses, symbols) {
+        Ok(()) => {
+            built.image.is_flash();
+            Ok(built)
         }
-        let number = i as u32 + 1;
-        if let Err(why) = put_line(
-            alloc,
-            &mut built,
-            line,
-            symbols,
-            number,
-            addresses[i],
-            following,
-        ) {
-            return Err(AsmError::in_line(number, why));
-        }
+        Err(error) => Err(error),
     }
-    built.image.is_flash();
-    Ok(built)
 }
 
 /// Assembles a source as the definition in two passes says.

@@ -5,7 +5,8 @@ ghost use Rattle.std.specs.Option.{option_copied};
 ghost use Rattle.std.specs.FinMap as map;
 ghost use Rattle.avr_operands.specs.Faults.{Gives};
 ghost use Rattle.avr_operands.specs.Operands.{AllLie};
-ghost use Rattle.avr_asm.specs.Layout.{with_value, with_first_ports, with_last_ports, with_core, with_data, predefined as predefined_names};
+ghost use Rattle.avr_asm.specs.Layout.{with_value, with_values, with_first_ports, with_last_ports, with_core, with_data};
+ghost use Rattle.avr_asm.specs.Layout.{predefined as predefined_names};
 ghost use Rattle.avr_asm.specs.Layout.{defined, labelled, named, applied as applied_effect};
 ghost use Rattle.avr_asm.specs.Layout.{effect_in as effect_in_line, after_line as place_after_line};
 ghost use Rattle.avr_asm.specs.Layout.{is_instruction_line as is_line_of_instruction, IsLast, IsWithin, EachShort};
@@ -28,6 +29,47 @@ pub struct Place {
     pub symbols: Symbols,
 }
 
+/// The first ports.
+const FIRST_PORTS: [(&[u8], i64); 6] = [
+    (b"PINA", 0x00),
+    (b"DDRA", 0x01),
+    (b"PORTA", 0x02),
+    (b"PINB", 0x03),
+    (b"DDRB", 0x04),
+    (b"PORTB", 0x05),
+];
+
+/// The last ports.
+const LAST_PORTS: [(&[u8], i64); 6] = [
+    (b"PINC", 0x06),
+    (b"DDRC", 0x07),
+    (b"PORTC", 0x08),
+    (b"PIND", 0x09),
+    (b"DDRD", 0x0A),
+    (b"PORTD", 0x0B),
+];
+
+/// Other I/O addresses.
+const CORE: [(&[u8], i64); 5] = [
+    (b"TIFR1", 0x16),
+    (b"GPIOR0", 0x1E),
+    (b"SPL", 0x3D),
+    (b"SPH", 0x3E),
+    (b"SREG", 0x3F),
+];
+
+/// Data addresses.
+const DATA: [(&[u8], i64); 8] = [
+    (b"TIMSK1", 0x6F),
+    (b"TCCR1A", 0x80),
+    (b"TCCR1B", 0x81),
+    (b"TCNT1L", 0x84),
+    (b"TCNT1H", 0x85),
+    (b"OCR1AL", 0x88),
+    (b"OCR1AH", 0x89),
+    (b"OCR2A", 0xB3),
+];
+
 /// Sets a predefined name.
 fn predefine(
     alloc: Global,
@@ -41,53 +83,46 @@ fn predefine(
     Ok(())
 }
 
+/// Sets predefined names, in their order.
+fn predefine_all(
+    alloc: Global,
+    symbols: &mut Symbols,
+    names: &[(&[u8], i64)],
+) -> Result<(), AllocError>
+    ensures { OnOk result (symbols.new ≡ with_values (mapped (λ n. (n.0.now, n.1)) names.now) symbols.old) }
+{
+    for (name, value) in names {
+        predefine(alloc, symbols, name, *value)?;
+    }
+    Ok(())
+}
+
 #[tactic(auto, unfolding(crate::specs::Layout::with_first_ports))]
 fn predefine_first_ports(alloc: Global, symbols: &mut Symbols) -> Result<(), AllocError>
     ensures { OnOk result (symbols.new ≡ with_first_ports symbols.old) }
 {
-    predefine(alloc, symbols, b"PINA", 0x00)?;
-    predefine(alloc, symbols, b"DDRA", 0x01)?;
-    predefine(alloc, symbols, b"PORTA", 0x02)?;
-    predefine(alloc, symbols, b"PINB", 0x03)?;
-    predefine(alloc, symbols, b"DDRB", 0x04)?;
-    predefine(alloc, symbols, b"PORTB", 0x05)
+    predefine_all(alloc, symbols, &FIRST_PORTS)
 }
 
 #[tactic(auto, unfolding(crate::specs::Layout::with_last_ports))]
 fn predefine_last_ports(alloc: Global, symbols: &mut Symbols) -> Result<(), AllocError>
     ensures { OnOk result (symbols.new ≡ with_last_ports symbols.old) }
 {
-    predefine(alloc, symbols, b"PINC", 0x06)?;
-    predefine(alloc, symbols, b"DDRC", 0x07)?;
-    predefine(alloc, symbols, b"PORTC", 0x08)?;
-    predefine(alloc, symbols, b"PIND", 0x09)?;
-    predefine(alloc, symbols, b"DDRD", 0x0A)?;
-    predefine(alloc, symbols, b"PORTD", 0x0B)
+    predefine_all(alloc, symbols, &LAST_PORTS)
 }
 
 #[tactic(auto, unfolding(crate::specs::Layout::with_core))]
 fn predefine_core(alloc: Global, symbols: &mut Symbols) -> Result<(), AllocError>
     ensures { OnOk result (symbols.new ≡ with_core symbols.old) }
 {
-    predefine(alloc, symbols, b"TIFR1", 0x16)?;
-    predefine(alloc, symbols, b"GPIOR0", 0x1E)?;
-    predefine(alloc, symbols, b"SPL", 0x3D)?;
-    predefine(alloc, symbols, b"SPH", 0x3E)?;
-    predefine(alloc, symbols, b"SREG", 0x3F)
+    predefine_all(alloc, symbols, &CORE)
 }
 
 #[tactic(auto, unfolding(crate::specs::Layout::with_data))]
 fn predefine_data(alloc: Global, symbols: &mut Symbols) -> Result<(), AllocError>
     ensures { OnOk result (symbols.new ≡ with_data symbols.old) }
 {
-    predefine(alloc, symbols, b"TIMSK1", 0x6F)?;
-    predefine(alloc, symbols, b"TCCR1A", 0x80)?;
-    predefine(alloc, symbols, b"TCCR1B", 0x81)?;
-    predefine(alloc, symbols, b"TCNT1L", 0x84)?;
-    predefine(alloc, symbols, b"TCNT1H", 0x85)?;
-    predefine(alloc, symbols, b"OCR1AL", 0x88)?;
-    predefine(alloc, symbols, b"OCR1AH", 0x89)?;
-    predefine(alloc, symbols, b"OCR2A", 0xB3)
+    predefine_all(alloc, symbols, &DATA)
 }
 
 /// The predefined names with their values: I/O addresses, and data addresses from TIMSK1 on (ATmega644 data sheet,

@@ -2,7 +2,7 @@ use Rattle.std.proofs.Common.{◌+◌, sym, ◌∙◌, arith}
 use Rattle.avr_asm.specs.Assembly.{seen_built}
 use Rattle.avr_asm.proofs.LayoutLemmas.{told_fault}
 use Rattle.avr_asm.proofs.AssemblyLemmas.{output_more, output_fault, output_end}
-use Rattle.avr_asm.proofs.assembler.put_lines.Goals as goal
+use Rattle.avr_asm.proofs.assembler.put_each.Goals as goal
 
 pub returns-in-Err-put_line-clause-built : goal.returns-in-Err-put_line-clause-built
 returns-in-Err-put_line-clause-built c = told_fault (c.loop-i.i + 1) c.in-Err-put_line.why _ _ _ c.in-Err-put_line.ensures (λ e.

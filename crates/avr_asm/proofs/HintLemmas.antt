@@ -1,0 +1,73 @@
+-- The hints of two and of three operands, by their places.
+use Rattle.std.proofs.Common.{◌≡◌, ℕ, List, [], ◌∷◌, Bor, length, get_or, map, refl, ◌∙◌, ap, arith}
+use Rattle.std.specs.Prelude.{Err}
+use Rattle.avr_text.specs.declared.tokens.Token.{Token}
+use Rattle.avr_text.specs.Names.{NameMap}
+use Rattle.avr_operands.specs.declared.errors.AsmWhy.TheVariants.{Directive}
+use Rattle.avr_operands.specs.Faults.{OrFault}
+use Rattle.avr_operands.specs.Operands.{both}
+use Rattle.avr_asm.specs.declared.output.Hint.{Hint}
+use Rattle.avr_asm.specs.declared.output.Hint.TheVariants as hint
+use Rattle.avr_asm.specs.Hints.{fact_at, fact_hint, half_hint, lines_hint, mapped, place_of, short}
+
+two : (parts : List (Bor (List Token))) (d e : Bor (List Token)) → length parts ≡ 2
+    → (get_or parts 0 d).now ∷ (get_or parts 1 e).now ∷ [] ≡ map (λ p. p.now) parts
+two [] d e h = absurd (omega arith)
+two (p ∷ []) d e h = absurd (omega arith)
+two (p ∷ q ∷ []) d e h = refl
+two (p ∷ q ∷ r ∷ parts) d e h = absurd (omega arith)
+
+three : (parts : List (Bor (List Token))) (d e f : Bor (List Token)) → length parts ≡ 3
+    → (get_or parts 0 d).now ∷ (get_or parts 1 e).now ∷ (get_or parts 2 f).now ∷ [] ≡ map (λ p. p.now) parts
+three [] d e f h = absurd (omega arith)
+three (p ∷ []) d e f h = absurd (omega arith)
+three (p ∷ q ∷ []) d e f h = absurd (omega arith)
+three (p ∷ q ∷ r ∷ []) d e f h = refl
+three (p ∷ q ∷ r ∷ s ∷ parts) d e f h = absurd (omega arith)
+
+-- two numbers of 16 bits
+shorts_are : (line : List ℕ) (symbols : NameMap) (first second : List Token) (low high : OrFault ℕ) (range : OrFault (ℕ × ℕ))
+    → low ≡ short line symbols first → high ≡ short line symbols second → range ≡ both low high
+    → range ≡ both (short line symbols first) (short line symbols second)
+shorts_are line symbols first second low high range low_is high_is range_is =
+    range_is ∙ ap (λ x. both x high) low_is ∙ ap (both (short line symbols first)) high_is
+
+abbrev pub half_from : OrFault (ℕ × ℕ) → OrFault Hint
+half_from range = mapped range (λ p. hint.Half p.0 p.1)
+
+abbrev pub lines_from : OrFault (ℕ × ℕ) → OrFault Hint
+lines_from range = mapped range (λ p. hint.Lines p.0 p.1)
+
+pub half_told : (line : List ℕ) (symbols : NameMap) (parts : List (Bor (List Token))) (d e : Bor (List Token))
+    (low high : OrFault ℕ) (range : OrFault (ℕ × ℕ)) → length parts ≡ 2 → low ≡ short line symbols (get_or parts 0 d).now
+    → high ≡ short line symbols (get_or parts 1 e).now → range ≡ both low high
+    → half_from range ≡ half_hint line symbols (map (λ p. p.now) parts)
+half_told line symbols parts d e low high range len low_is high_is range_is =
+    ap half_from (shorts_are line symbols (get_or parts 0 d).now (get_or parts 1 e).now low high range low_is high_is range_is)
+    ∙ ap (half_hint line symbols) (two parts d e len)
+
+pub lines_told : (line : List ℕ) (symbols : NameMap) (parts : List (Bor (List Token))) (d e : Bor (List Token))
+    (low high : OrFault ℕ) (range : OrFault (ℕ × ℕ)) → length parts ≡ 2 → low ≡ short line symbols (get_or parts 0 d).now
+    → high ≡ short line symbols (get_or parts 1 e).now → range ≡ both low high
+    → lines_from range ≡ lines_hint line symbols (map (λ p. p.now) parts)
+lines_told line symbols parts d e low high range len low_is high_is range_is =
+    ap lines_from (shorts_are line symbols (get_or parts 0 d).now (get_or parts 1 e).now low high range low_is high_is range_is)
+    ∙ ap (lines_hint line symbols) (two parts d e len)
+
+pub fact_told : (line : List ℕ) (symbols : NameMap) (parts : List (Bor (List Token))) (following : ℕ) (d e f : Bor (List Token))
+    (place low high : OrFault ℕ) (range : OrFault (ℕ × ℕ)) → length parts ≡ 3 → low ≡ short line symbols (get_or parts 1 e).now
+    → high ≡ short line symbols (get_or parts 2 f).now → range ≡ both low high → place ≡ place_of line (get_or parts 0 d).now
+    → fact_at following place range ≡ fact_hint line symbols (map (λ p. p.now) parts) following
+fact_told line symbols parts following d e f place low high range len low_is high_is range_is place_is =
+    ap (λ p. fact_at following p range) place_is
+    ∙ ap (fact_at following (place_of line (get_or parts 0 d).now))
+    (shorts_are line symbols (get_or parts 1 e).now (get_or parts 2 f).now low high range low_is high_is range_is)
+    ∙ ap (λ ps. fact_hint line symbols ps following) (three parts d e f len)
+
+pub no_fact : (line : List ℕ) (symbols : NameMap) (parts : List (Bor (List Token))) (following : ℕ) → (length parts ≡ 3 → ⊥)
+    → Err Directive ≡ fact_hint line symbols (map (λ p. p.now) parts) following
+no_fact line symbols [] following h = refl
+no_fact line symbols (p ∷ []) following h = refl
+no_fact line symbols (p ∷ q ∷ []) following h = refl
+no_fact line symbols (p ∷ q ∷ r ∷ []) following h = absurd (h refl)
+no_fact line symbols (p ∷ q ∷ r ∷ s ∷ parts) following h = refl
