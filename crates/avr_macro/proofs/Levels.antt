@@ -1,11 +1,14 @@
 -- Levels of the code, and names of files.
-use Rattle.std.proofs.Common.{◌≡◌, ℕ, Bool, true, false, List, [], ◌∷◌, ◌++◌, map, reverse, refl, ◌∙◌, ap}
+use Rattle.std.proofs.Common.{◌≡◌, ℕ, Bool, true, false, List, [], ◌∷◌, ◌++◌, length, map, reverse, refl, sym, ◌∙◌, ap}
+use Rattle.std.specs.FinMap as finmap
 use Rattle.std.specs.Str.{IsUtf8, is_utf8}
-use Rattle.std.proofs.lemmas.List.{map-append, reverse-append}
+use Rattle.std.proofs.lemmas.List.{length-map, map-append, reverse-append}
 use Rattle.std.proofs.lemmas.Str.{IsUtf8-from_is_utf8, is_utf8-from_IsUtf8}
+use Rattle.avr_asm.specs.Layout.{predefined}
+use Rattle.avr_text.specs.Names.{NameMap}
 use Rattle.avr_macro.specs.declared.frames.Frame.{Frame}
 use Rattle.avr_macro.specs.declared.origin.Origin.{Origin}
-use Rattle.avr_macro.specs.States.{Level}
+use Rattle.avr_macro.specs.States.{Level, MacroMap, State, file_level, first_state}
 use Rattle.avr_macro.specs.Views.{seen_frame, seen_frames}
 
 -- a level more
@@ -40,3 +43,21 @@ pub same_level : (a b c d : List (List ℕ)) (turns : ℕ) (counted well : Bool)
 same_level a b c d turns counted well p q includes blocks e f g =
     ap (λ x. level_of x c turns counted well p includes blocks) e ∙ ap (λ x. level_of b x turns counted well p includes blocks) f
     ∙ ap (λ x. level_of b d turns counted well x includes blocks) g
+
+-- as many lines as are replaced
+pub as_many : (put : List ℕ → List ℕ) (lines value : List (List ℕ)) (end : ℕ) → value ≡ map put lines → end ≡ length lines → end ≡ length value
+as_many put lines value end is e = e ∙ sym (length-map lines put) ∙ sym (ap length is)
+
+-- the state before the first line
+abbrev at_first : List Level → MacroMap → NameMap → List ℕ → List Origin → State
+at_first levels macros constants text origins =
+    record { levels = levels; macros = macros; constants = constants; calls = 0; reached = 0; text = text; origins = origins }
+
+pub begun : (levels : List Level) (macros : MacroMap) (constants : NameMap) (text : List ℕ) (origins : List Origin) (bytes : List ℕ)
+    → levels ≡ file_level 0 0 bytes ∷ [] → macros ≡ finmap.empty → constants ≡ predefined → text ≡ [] → origins ≡ []
+    → at_first levels macros constants text origins ≡ first_state bytes
+begun levels macros constants text origins bytes e f g h i =
+    ap (λ l. at_first l macros constants text origins) e ∙ ap (λ m. at_first (file_level 0 0 bytes ∷ []) m constants text origins) f
+    ∙ ap (λ c. at_first (file_level 0 0 bytes ∷ []) finmap.empty c text origins) g
+    ∙ ap (λ t. at_first (file_level 0 0 bytes ∷ []) finmap.empty predefined t origins) h
+    ∙ ap (λ o. at_first (file_level 0 0 bytes ∷ []) finmap.empty predefined [] o) i

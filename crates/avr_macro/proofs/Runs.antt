@@ -8,6 +8,7 @@ use Rattle.uz_shelf.specs.Files.{FileMap, HoldsFile}
 use Rattle.avr_macro.specs.declared.errors.MacroError.{MacroError}
 use Rattle.avr_macro.specs.declared.errors.MacroWhy.{MacroWhy}
 use Rattle.avr_macro.specs.declared.errors.MacroWhy.TheVariants.{Unread, Memory}
+use Rattle.avr_macro.specs.declared.flat.Flat.{Flat}
 use Rattle.avr_macro.specs.Moves.{Move, goes, loads, refuses, included, move_of}
 use Rattle.avr_macro.specs.States.{Level, State, around, first_state}
 use Rattle.avr_macro.specs.Expansion.{Does, Ends, ends_refused, ends_unread, ends_too_long, ends_loaded, Reaches, reaches_more, step_goes}
@@ -23,6 +24,33 @@ pub more_names : (old new : List (String Global)) (name : String Global) (bytes 
 more_names old new name bytes e f =
     ap (map (λ (n : String Global). string_bytes n)) e ∙ map-append (λ (n : String Global). string_bytes n) old (name ∷ [])
     ∙ ap (λ b. map (λ (n : String Global). string_bytes n) old ++ b ∷ []) f
+
+-- a file that was loaded is included, or refused
+pub file_read : (files : Option FileMap) (names later : List (List ℕ)) (name : List ℕ) (level : Level) (s after : State) (file : ℕ)
+    (bytes read : List ℕ) → later ≡ names ++ name ∷ [] → file ≡ length names → read ≡ bytes → HoldsFile files name bytes
+    → length bytes ≤ 1048576 → included file read level s ≡ goes after
+    → (later ≡ names ++ name ∷ []) × ((bytes : List ℕ) × HoldsFile files name bytes × (length bytes ≤ 1048576)
+    × (included (length names) bytes level s ≡ goes after))
+file_read files names later name level s after file bytes read put count is held short e =
+    (put, (bytes, held, short, sym (ap (λ n. included n read level s) count ∙ ap (λ b. included (length names) b level s) is) ∙ e))
+
+pub file_refused : (files : Option FileMap) (load_fault : Type 0) (names later : List (List ℕ)) (name : List ℕ) (level : Level) (s : State)
+    (reason : MacroWhy) (file : ℕ) (bytes read : List ℕ) → later ≡ names ++ name ∷ [] → file ≡ length names → read ≡ bytes
+    → HoldsFile files name bytes → length bytes ≤ 1048576 → (reason ≡ Memory) ⊎ (included file read level s ≡ refuses reason)
+    → ((reason ≡ Memory) × ((later ≡ names) ⊎ (later ≡ names ++ name ∷ []))) ⊎ ((later ≡ names ++ name ∷ [])
+    × (level.origin ≡ level.origin) × EndsAtFile files load_fault names name level s (record { at = level.origin; why = reason }))
+file_refused files load_fault names later name level s reason file bytes read put count is held short (inl m) = inl (m, inr put)
+file_refused files load_fault names later name level s reason file bytes read put count is held short (inr e) =
+    inr (
+      put,
+      refl,
+      inr (inr (
+        bytes,
+        held,
+        short,
+        sym (ap (λ n. included n read level s) count ∙ ap (λ b. included (length names) b level s) is) ∙ e,
+      )),
+    )
 
 -- a line is expanded
 pub goes_on : (files : Option FileMap) (begun names : List (List ℕ)) (first s t : State) (level : Level) (outer : List Level)
@@ -151,11 +179,12 @@ asked_for asked request before after level move e h = subst (λ a. GivesStep (Ok
 -- ---- a whole expansion
 
 -- all is expanded
-pub all_expanded : (files other : Option FileMap) (name : List ℕ) (begun later : List (List ℕ)) (first s : State) → other ≡ files
-    → begun ≡ name ∷ [] → Begins files name first → Reaches other begun first later s × (s.levels ≡ [])
+pub all_expanded : (files other : Option FileMap) (name : List ℕ) (begun later : List (List ℕ)) (first s : State) (flat : Flat)
+    → other ≡ files → begun ≡ name ∷ [] → Begins files name first → Reaches other begun first later s × (s.levels ≡ [])
+    → flat.text.items ≡ s.text → flat.origins.items ≡ s.origins
     → (bytes : List ℕ) × (t : State) × HoldsFile files name bytes × (length bytes ≤ 1048576) × Reaches files (name ∷ []) (first_state bytes)
-    later t × (t.levels ≡ []) × (s.text ≡ t.text) × (s.origins ≡ t.origins)
-all_expanded files other name begun later first s e b (bytes, held, short, f) (r, done) = (
+    later t × (t.levels ≡ []) × (flat.text.items ≡ t.text) × (flat.origins.items ≡ t.origins)
+all_expanded files other name begun later first s flat e b (bytes, held, short, f) (r, done) text origins = (
   bytes,
   s,
   held,
@@ -163,8 +192,8 @@ all_expanded files other name begun later first s e b (bytes, held, short, f) (r
   subst (λ x. Reaches x (name ∷ []) (first_state bytes) later s) e
       (subst (λ n. Reaches other n (first_state bytes) later s) b (subst (λ t. Reaches other begun t later s) f r)),
   done,
-  refl,
-  refl,
+  text,
+  origins,
 )
 
 -- it was cut short

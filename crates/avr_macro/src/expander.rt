@@ -3,6 +3,7 @@
 ghost use Rattle.std.specs.Prelude.{◌≡◌, ◌<◌, ◌≤◌, ◌+◌, [], ◌∷◌, ◌++◌, true, false, Some, IfOk, IfErr, IfNone, IfSome};
 ghost use Rattle.std.specs.Prelude.{IsSome, OnOk, length, nat_lt, slice_index_or, string_bytes};
 ghost use Rattle.std.specs.Bool.{OnFalse};
+ghost use Rattle.std.specs.FinMap as finmap;
 ghost use Rattle.std.specs.Option.{option_map};
 ghost use Rattle.avr_macro_lines.specs.Arguments.{arguments_of as arguments_of_line};
 ghost use Rattle.avr_macro_lines.specs.Blocks.{if_else as if_else_in};
@@ -160,6 +161,21 @@ fn set(alloc: Global, constants: &mut Symbols, setting: Option<Setting>) -> Resu
     }
 }
 
+/// Defines a macro, whose body are so many of the lines after the next one.
+fn define_body(
+    alloc: Global,
+    macros: &mut Macros,
+    frame: &Frame,
+    name: &[u8],
+    n: usize,
+) -> Result<(), AllocError>
+    requires { frame.now.at + (n + 2) ≤ frame.now.end }
+    ensures { OnOk result (macros.new ≡ finmap.insert macros.old name.now (part (seen_frame frame.now) 0 n)) }
+{
+    let body = frame.body_after(alloc, n)?;
+    macros.define(alloc, name, body)
+}
+
 /// A call, by the line that calls.
 fn called(alloc: Global, line: &[u8], call: u32, body: &Macro) -> Result<Call, MacroWhy>
     ensures { CallsMacro result (arguments_of_line (after_first_word_in line.now)) call (seen_macro body.now) }
@@ -277,8 +293,7 @@ impl Expander {
             return Err(MacroWhy::Twice);
         }
         let inner = frame.block(0, 0, 0, false, frame.closed_by(n))?;
-        let body = frame.body_after(alloc, n)?;
-        self.macros.define(alloc, name, body)?;
+        define_body(alloc, &mut self.macros, &frame, name, n)?;
         self.enter(inner, frame.passed(n + 2))
     }
 

@@ -149,6 +149,17 @@ fn first_file<H: Shelf>(alloc: Global, name: &str, shelf: &mut H) -> Result<Expa
     }
 }
 
+/// The flat text, where nothing is left to expand.
+fn flat_of(expander: Expander) -> Flat
+    ensures text { result.text ≡ expander.text }
+    ensures origins { result.origins ≡ expander.origins }
+{
+    Flat {
+        text: expander.text,
+        origins: expander.origins,
+    }
+}
+
 /// Expands from the first file on.
 fn expand_files<H: Shelf>(
     alloc: Global,
@@ -171,10 +182,7 @@ fn expand_files<H: Shelf>(
         Err(error) => return Err(error),
     };
     match run(alloc, &mut expander, shelf, names) {
-        Ok(()) => Ok(Flat {
-            text: expander.text,
-            origins: expander.origins,
-        }),
+        Ok(()) => Ok(flat_of(expander)),
         Err(error) => Err(error),
     }
 }
