@@ -1,7 +1,7 @@
 -- One step of the search, and where it stops.
 use Rattle.std.proofs.Common.{◌≡◌, ℕ, ◌<◌, ◌+◌, List, Option, Some, Ok, Err, Result, refl, sym, ap, ◌∙◌, subst, length, slice_get, take}
 use Rattle.std.proofs.Common.{drop, ◌++◌, zero, suc, ◌≤◌, None, replicate, [], arith}
-use Rattle.std.specs.Prelude.{⊤}
+use Rattle.std.specs.Prelude.{⊤, IfOk}
 use Rattle.std.proofs.lemmas.List.{length-replicate}
 use Rattle.std.proofs.lemmas.Option.{slice_get_within}
 use Rattle.uz_schedule.specs.declared.states.Instance.{Instance}
@@ -11,13 +11,14 @@ use Rattle.uz_search.specs.declared.marks.Mark.{Mark}
 use Rattle.uz_search.specs.declared.marks.Mark.TheVariants.{Unpassed}
 use Rattle.uz_search.specs.declared.returns.Return.{Return}
 use Rattle.uz_search.specs.declared.asking.Stop.{Stop}
+use Rattle.uz_search.specs.declared.found.Found.{Found}
 use Rattle.uz_search.specs.declared.asking.Stop.TheVariants as stops
 use Rattle.uz_search.specs.declared.program.Program.{Program}
 use Rattle.uz_search.specs.Visiting.{AddsAll, ComeFrom, IsTree}
 use Rattle.uz_search.specs.Following.{Flash, After, followers_of, frame_of, lines_of}
 use Rattle.uz_search.specs.Marking.{Seen}
 use Rattle.uz_search.specs.Stuck.{IsStuck}
-use Rattle.uz_search.specs.Searching.{Treats, IsSearch, SplitsFrom, StopHolds}
+use Rattle.uz_search.specs.Searching.{Treats, IsSearch, IsSearchOf, SplitsFrom, StopHolds}
 use Rattle.uz_search.proofs.MarkingLemmas.{none_marked}
 use Rattle.uz_search.proofs.SearchingLemmas.{search_more, split_from, whole_back}
 
@@ -98,6 +99,16 @@ search_begin image program items nodes parents marks returns is adds em er =
       lines = ap length er ∙ length-replicate (lines_of program) None;
       treated = λ i x below here. absurd (omega arith);
     }
+
+-- an answer that is a search of any program with these starts, marks and returns
+pub begun : {E : Type 0} (program : Program) (answer : Result Found E) (starts : List Instance) (marks : List Mark)
+    (returns : List (Option Return))
+    → IfOk answer (λ s. (image : Flash) (p : Program) → starts ≡ p.starts → marks ≡ replicate (frame_of p) Unpassed
+    → returns ≡ replicate (lines_of p) None → IsSearchOf image p s 0)
+    → starts ≡ program.starts → marks ≡ replicate (frame_of program) Unpassed → returns ≡ replicate (lines_of program) None
+    → IfOk answer (λ s. (image : Flash) → IsSearchOf image program s 0)
+begun program (Ok found) starts marks returns all es em er = λ image. all image program es em er
+begun program (Err e) starts marks returns all es em er = tt
 
 pub search_end : (image : Flash) (program : Program) (nodes : List Instance) (parents : List (Option ℕ)) (marks : List Mark)
     (returns : List (Option Return)) (done : ℕ)

@@ -1,24 +1,25 @@
 //! The search.
 
-ghost use Rattle.std.specs.Prelude.{◌≡◌, ◌<◌, ◌≤◌, ◌+◌, ℕ, None, Some, IfOk, IfErr, OnOk, length, slice_get, replicate};
+ghost use Rattle.std.specs.Prelude.{◌≡◌, ◌<◌, ◌≤◌, ◌+◌, ℕ, true, None, Some, IfOk, IfErr, OnOk};
+ghost use Rattle.std.specs.Prelude.{length, slice_get, replicate};
 ghost use Rattle.uz_schedule.specs.Limits.{most_lines};
 ghost use Rattle.uz_schedule.specs.declared.kinds.Kind.TheVariants.{Main};
 ghost use Rattle.uz_schedule.specs.declared.states.Instance.{Instance};
 ghost use Rattle.uz_search.specs.declared.program.Program.{Program};
 ghost use Rattle.uz_search.specs.Fitting.{ProgramFits};
-ghost use Rattle.uz_search.specs.Following.{Among, Flash, lines_of};
+ghost use Rattle.uz_search.specs.Following.{Among, Flash, followers_of, frame_of, lines_of};
 ghost use Rattle.uz_search.specs.Refusing.{Refusal};
 ghost use Rattle.uz_search.specs.Returning.{SomeReturn};
 ghost use Rattle.uz_search.specs.Searching.{IsSearchOf, IsEnded, StopHolds};
 ghost use Rattle.uz_search.specs.Trails.{ComeEarlier};
-ghost use Rattle.uz_search.specs.Visiting.{IsTree};
+ghost use Rattle.uz_search.specs.Visiting.{AddsAll, ComeFrom, IsTree};
 
 use crate::asking::{Stop, examine};
 use crate::found::{Found, NotFound};
-use crate::marks::unpassed;
+use crate::marks::{Mark, unpassed};
 use crate::passing::line_start;
 use crate::program::{Program, copied_starts, followers, starts_in_main};
-use crate::returns::is_without_return;
+use crate::returns::{Return, is_without_return};
 use crate::trail::{node_at, trail_to};
 use crate::visited::add_all;
 use crate::ways::Ways;
@@ -59,6 +60,36 @@ fn refused(
     }
 }
 
+/// Adds what follows the instance of this number, which has these results.
+fn add_followers(
+    alloc: Global,
+    program: &Program,
+    found: &mut Found,
+    done: u32,
+    next: &Next,
+) -> Result<(), AllocError>
+    requires lines { lines_of program.now ≤ most_lines }
+    requires each { next.now.back ≡ true → (x : Instance) → Among next.now.out.items x → x.line < lines_of program.now }
+    ensures added { OnOk result ((image : Flash) (p : Program) →
+        IsTree image p found.old.nodes.keys found.old.parents.items →
+        ComeFrom image p found.old.nodes.keys (Some done) (followers_of program.now next.now) →
+        AddsAll image p found.old.nodes.keys (followers_of program.now next.now) found.new.nodes.keys
+        found.new.parents.items) }
+    ensures marks { found.new.marks ≡ found.old.marks }
+    ensures returns { found.new.returns ≡ found.old.returns }
+{
+    let follow = followers(alloc, program, next)?;
+    found.ways.begin()?;
+    add_all(
+        &mut found.nodes,
+        &mut found.parents,
+        &mut found.ways,
+        follow,
+        Some(done),
+        !next.back,
+    )
+}
+
 /// Treats the instance of this number: asks it, and adds what follows it. Its results are put in place of others.
 fn step(
     alloc: Global,
@@ -94,16 +125,7 @@ fn step(
             stop,
         )),
         Ok(()) => {
-            let follow = followers(alloc, program, next)?;
-            found.ways.begin()?;
-            add_all(
-                &mut found.nodes,
-                &mut found.parents,
-                &mut found.ways,
-                follow,
-                Some(done),
-                !next.back,
-            )?;
+            add_followers(alloc, program, found, done, next)?;
             Ok(())
         }
     }
@@ -120,26 +142,45 @@ fn blank<T: Drop>(alloc: Global, count: u32) -> Result<Vec<Option<T>>, AllocErro
     Ok(places)
 }
 
+/// A search that has these starts, before any instance is treated, with these marks and returns.
+fn started(
+    alloc: Global,
+    starts: Vec<Instance>,
+    marks: Vec<Mark>,
+    returns: Vec<Option<Return>>,
+) -> Result<Found, AllocError>
+    ensures { IfOk result (λ s. (image : Flash) (p : Program) → starts.items ≡ p.starts →
+        marks.items ≡ replicate (frame_of p) Mark.Unpassed → returns.items ≡ replicate (lines_of p) None →
+        IsSearchOf image p s 0) }
+{
+    let mut found = Found {
+        nodes: IndexSet::new(alloc),
+        parents: Vec::new(alloc),
+        marks,
+        returns,
+        ways: Ways::new(alloc),
+    };
+    add_all(
+        &mut found.nodes,
+        &mut found.parents,
+        &mut found.ways,
+        starts,
+        None,
+        false,
+    )?;
+    Ok(found)
+}
+
 /// The search before any instance is treated: it has the starts.
 fn begin(alloc: Global, program: &Program) -> Result<Found, AllocError>
     requires { lines_of program.now ≤ most_lines }
     ensures { IfOk result (λ s. (image : Flash) → IsSearchOf image program.now s 0) }
 {
-    let mut nodes = IndexSet::new(alloc);
-    let mut parents = Vec::new(alloc);
-    let starts = copied_starts(alloc, program.starts.as_slice())?;
-    let mut ways = Ways::new(alloc);
-    add_all(&mut nodes, &mut parents, &mut ways, starts, None, false)?;
     let lines = program.lines();
     let marks = unpassed(alloc, line_start(lines))?;
     let returns = blank(alloc, u32::from(lines))?;
-    Ok(Found {
-        nodes,
-        parents,
-        marks,
-        returns,
-        ways,
-    })
+    let starts = copied_starts(alloc, program.starts.as_slice())?;
+    started(alloc, starts, marks, returns)
 }
 
 /// Searches until every instance found is treated, or the search is refused.

@@ -1,6 +1,7 @@
-use Rattle.std.proofs.Common.{◌≡◌, ◌<◌, length, slice_get, Some, Err, sym, subst, ap, ◌∙◌}
+use Rattle.std.proofs.Common.{◌≡◌, ◌<◌, ◌+◌, ◌++◌, length, slice_get, take, drop, Some, Err, refl, sym, subst, ap, ◌∙◌}
+use Rattle.uz_search.specs.Following.{followers_of}
 use Rattle.uz_search.specs.Visiting.{IsTree}
-use Rattle.uz_search.specs.Searching.{AreMarked, StopHolds}
+use Rattle.uz_search.specs.Searching.{AreMarked, IsSearch, StopHolds}
 use Rattle.uz_search.proofs.OneResult.{steps}
 use Rattle.uz_search.proofs.Results.{stands_next}
 use Rattle.uz_search.proofs.Standing.{stands_all}
@@ -25,19 +26,25 @@ returns-in-Err-clause-refusal c = λ limit.
     c.refused.ensures image program limit x tree (ap (λ l. slice_get l c.args.done) keys ∙ at)
     (subst (λ k. StopHolds image program k x c.in-Err.stop) (sym keys) holds)
 
-pub returns-in_ok-add_all-in-Ok-clause-ok : goal.returns-in_ok-add_all-in-Ok-clause-ok
-returns-in_ok-add_all-in-Ok-clause-ok c =
+pub returns-in_ok-add_followers-in-Ok-clause-ok : goal.returns-in_ok-add_followers-in-Ok-clause-ok
+returns-in_ok-add_followers-in-Ok-clause-ok c =
     let image = c.args.image.now in
     let program = c.args.program.now in
     let s = c.args.found.now in
+    let new = c.add_followers.new.found in
     let x = c.node_at-at.result.now in
     let at : slice_get s.nodes.keys c.args.done ≡ Some x = ap (λ l. slice_get l c.args.done) (sym c.as_slice-nodes.ensures.keys)
     ∙ c.node_at-at.ensures in
-    search_step image program s.nodes.keys c.add_all.new.nodes.keys s.parents.items c.add_all.new.parents.items
+    subst (λ m. IsSearch image program new.nodes.keys new.parents.items m.items new.returns.items (c.args.done + 1))
+    (sym c.add_followers.ensures.marks)
+    (subst (λ r. IsSearch image program new.nodes.keys new.parents.items
+    (take s.marks.len (c.examine.new.marks ++ drop (length c.examine.new.marks) s.marks.items)) r.items (c.args.done + 1))
+    (sym c.add_followers.ensures.returns)
+    (search_step image program s.nodes.keys new.nodes.keys s.parents.items new.parents.items
     s.marks.items c.as_mut_slice.result.now c.examine.new.marks s.returns.items c.as_mut_slice-2.result.now c.examine.new.returns
-    s.marks.len s.returns.len c.args.done x c.examine.new.next c.in_ok-follow-in-Ok.follow.items
+    s.marks.len s.returns.len c.args.done x c.examine.new.next (followers_of program c.examine.new.next)
     c.requires.so_far at c.as_mut_slice.ensures.value c.as_mut_slice-2.ensures.value c.in-Ok.ensures.ok
-    c.examine.auto.marks c.examine.auto.returns s.marks.ok.0 s.returns.ok.0 c.in_ok-follow-in-Ok.ensures c.in_ok-add_all-in-Ok.ensures
+    c.examine.auto.marks c.examine.auto.returns s.marks.ok.0 s.returns.ok.0 refl c.in_ok-add_followers-in-Ok.ensures.added))
 
 pub examine-requires-clause-stands : goal.examine-requires-clause-stands
 examine-requires-clause-stands c = λ x there.
@@ -64,8 +71,8 @@ refused-requires-clause-other c = λ other is.
     c.as_mut_slice-2.result.now c.args.done other x
     c.requires.so_far c.as_slice-nodes.ensures.keys c.as_mut_slice-2.ensures.value (c.in-Err.ensures.split other (λ i. Err (is i))))
 
-pub followers-requires-clause-each : goal.followers-requires-clause-each
-followers-requires-clause-each c = λ back y there.
+pub add_followers-requires-clause-each : goal.add_followers-requires-clause-each
+add_followers-requires-clause-each c = λ back y there.
     let image = c.args.image.now in
     let program = c.args.program.now in
     let s = c.args.found.now in

@@ -1,0 +1,21 @@
+use Rattle.std.proofs.Common.{◌≡◌, ℕ, None, Option, List, [], subst}
+use Rattle.uz_schedule.specs.declared.states.Instance.{Instance}
+use Rattle.uz_search.specs.declared.program.Program.{Program}
+use Rattle.uz_search.specs.Following.{Flash}
+use Rattle.uz_search.specs.Visiting.{IsTree, ComeFrom, AddsAll}
+use Rattle.uz_search.proofs.StepLemmas.{search_begin}
+use Rattle.uz_search.proofs.searching.started.Goals as goal
+
+pub returns : goal.returns
+returns c = λ image p starts marks returned.
+    let items = c.args.starts.items in
+    let nodes = c.add_all.new.nodes.keys in
+    let parents = c.add_all.new.parents.items in
+    search_begin image p items nodes parents c.args.marks.items c.args.returns.items starts
+    (subst (λ (ps : List (Option ℕ)). (image : Flash) (p : Program) → IsTree image p [] ps → ComeFrom image p [] None items
+    → AddsAll image p [] items nodes parents)
+    c.new-2.ensures.items
+    (subst (λ (ks : List Instance). (image : Flash) (p : Program) → IsTree image p ks c.new-2.result.items
+    → ComeFrom image p ks None items → AddsAll image p ks items nodes parents)
+    c.new.ensures.empty c.in_ok-add_all.ensures))
+    marks returned
