@@ -11,6 +11,7 @@ ghost use Rattle.uz_join.specs.Joined.{entry_unnumbered};
 ghost use Rattle.uz_point_instances.specs.Telling.{SaysInstances};
 ghost use Rattle.uz_paths.specs.Finding.{IsFoundBy};
 ghost use Rattle.uz_paths.specs.JoinedParts.{AreJoinedOf, joined_cert};
+ghost use Rattle.uz_paths.specs.Rests.{rests_of as rests_of_returns};
 
 use crate::certificate::{made_schedule, with_id};
 use crate::numbers::vectors_of;
@@ -18,7 +19,7 @@ use crate::rests::rests_of;
 use crate::vectors::vector_of;
 use std::alloc::{AllocError, Global};
 use uz_hex::Image;
-use uz_join::{entry_of, joined_nodes, passes, rests_of as rests_into};
+use uz_join::{JoinedNodes, entry_of, joined_nodes, passes, rests_of as rests_into};
 use uz_schedule::{Cert, Entry, Instance, Point, Response, Rest, Schedule, Sequence, entry_state};
 use uz_search::{Found, Program, nodes_are_reached};
 
@@ -97,6 +98,64 @@ fn entry_at(entry: &Entry, id: u32) -> Entry
     with_id(entry_of(entry, &[]), id)
 }
 
+/// The points into which the instances that a search has found are joined. None where there are none to join line by
+/// line.
+fn joined_points(
+    alloc: Global,
+    program: &Program,
+    found: &Found,
+    rests: &[Rest],
+) -> Result<Option<JoinedNodes>, AllocError>
+    requires few { length rests.now < 2 ^ 32 }
+    requires lines { length program.now.schedule.lines ≤ most_lines }
+    requires line { (k : ℕ) (rest : Rest) → slice_get rests.now k ≡ Some rest
+        → rest.line < length program.now.schedule.lines }
+    ensures { IfOk result (λ o. IfSome o (λ j. SaysInstances found.now.nodes.keys j.points.items)) }
+{
+    let numbers = numbers_of(
+        alloc,
+        program.head.irq,
+        &program.schedule,
+        rests,
+        found.nodes.as_slice(),
+    )?;
+    let vectors = vectors_of(alloc, program.head.irq, &program.schedule, rests)?;
+    joined_nodes(
+        alloc,
+        vectors,
+        found.nodes.as_slice(),
+        numbers,
+        found.ways.starts(),
+        found.ways.places(),
+    )
+}
+
+/// The parts of the certificate of what a search has found, whose rests are these and whose points are joined so.
+fn parts_with(
+    alloc: Global,
+    image: &Image,
+    program: &Program,
+    entry: &Entry,
+    found: &Found,
+    rests: &[Rest],
+    joined: JoinedNodes,
+) -> Result<JoinedParts, AllocError>
+    requires fits { ProgramFits program.now }
+    requires ended { IsEnded image.now program.now found.now }
+    requires rests { rests.now ≡ rests_of_returns found.now.returns.items }
+    requires said { SaysInstances found.now.nodes.keys joined.points.items }
+    ensures { IfOk result (AreJoinedOf program.now entry.now found.now) }
+{
+    let rests = rests_into(alloc, rests, joined.into.as_slice())?;
+    let schedule = made_schedule(alloc, image, program, found)?;
+    Ok(JoinedParts {
+        schedule,
+        rests,
+        entry: entry_at(entry, entry_number(found, entry, joined.numbers.as_slice())),
+        points: joined.points,
+    })
+}
+
 /// The parts of the certificate of what a search has found, whose points are joined. None where there are none to join line by
 /// line.
 #[tactic(auto, using(crate::proofs::RestLemmas::few_of, crate::proofs::RestLemmas::lines_of_rests))]
@@ -111,34 +170,21 @@ fn joined_parts(
     requires ended { IsEnded image.now program.now found.now }
     ensures { IfOk result (λ o. IfSome o (AreJoinedOf program.now entry.now found.now)) }
 {
-    let schedule = made_schedule(alloc, image, program, found)?;
     let rests = rests_of(alloc, found.returns.as_slice())?;
-    let response = program.head.irq;
-    let numbers = numbers_of(
-        alloc,
-        response,
-        &program.schedule,
-        rests.as_slice(),
-        found.nodes.as_slice(),
-    )?;
-    let vectors = vectors_of(alloc, response, &program.schedule, rests.as_slice())?;
-    let joined = match joined_nodes(
-        alloc,
-        vectors,
-        found.nodes.as_slice(),
-        numbers,
-        found.ways.starts(),
-        found.ways.places(),
-    )? {
+    let joined = match joined_points(alloc, program, found, rests.as_slice())? {
         Some(joined) => joined,
         None => return Ok(None),
     };
-    Ok(Some(JoinedParts {
-        schedule,
-        rests: rests_into(alloc, rests.as_slice(), joined.into.as_slice())?,
-        entry: entry_at(entry, entry_number(found, entry, joined.numbers.as_slice())),
-        points: joined.points,
-    }))
+    let parts = parts_with(
+        alloc,
+        image,
+        program,
+        entry,
+        found,
+        rests.as_slice(),
+        joined,
+    )?;
+    Ok(Some(parts))
 }
 
 /// The certificate of joined points, where the check accepts it, and else the program as it was.
