@@ -1,3 +1,5 @@
+pub mod CertifyCommand
+pub mod CertifyValues
 pub mod CheckCommand
 pub mod MigrateCommand
 pub mod MigrateValues

@@ -11,10 +11,10 @@ use Rattle.uz_machine.specs.Run.{IsClockRun}
 use Rattle.uz_scan.specs.Pictures.{newest_first, records}
 use Rattle.uz_player.specs.declared.counts.Counts.{Counts}
 use Rattle.uz_player.specs.Counting.{CountsEdges, EntersAt}
-use Rattle.uz_capture.specs.declared.recording.Captured.{Captured}
-use Rattle.uz_capture.specs.declared.recording.RunEnd.{RunEnd}
-use Rattle.uz_capture.specs.declared.recording.RunEnd.TheVariants as end
-use Rattle.uz_capture.specs.Captures.{IsCapturePart, IsCaptured, IsPlayedInto}
+use Rattle.uz_player.specs.declared.recording.Captured.{Captured}
+use Rattle.uz_player.specs.declared.recording.RunEnd.{RunEnd}
+use Rattle.uz_player.specs.declared.recording.RunEnd.TheVariants as end
+use Rattle.uz_player.specs.Captures.{IsCapturePart, IsCaptured, IsPlayedInto}
 use Rattle.uz_files.specs.declared.ending.Ending.{Ending}
 use Rattle.uz_files.specs.declared.status.Status.{Status}
 use Rattle.uz_files.specs.declared.status.Status.TheVariants.{Done, Stopped, Unwritten, NoMemory}
@@ -23,7 +23,7 @@ use Rattle.uz_files.specs.Endings.{answer_of}
 use Rattle.uz_files.specs.Lines.{no_memory_line}
 use Rattle.uz_outcome_lines.specs.Runs.{IsFramedPart, IsFramedRun, entered_line, framed, frames_file, numbers_line, numbers_of}
 use Rattle.uz_outcome_lines.specs.RunValues.{counts_text, end_status, end_text, over_status, over_text}
-use Rattle.uz_run_files.specs.StopLines.{stopped_at_line}
+use Rattle.uz_pair_files.specs.StopLines.{stopped_at_line}
 use Rattle.uz_files.proofs.EndingLemmas.{comes_by}
 use Rattle.uz_files.proofs.TextLemmas.{takes_none}
 use Rattle.uz_files.proofs.WriteLemmas.{comes_after_files, lacks_line}

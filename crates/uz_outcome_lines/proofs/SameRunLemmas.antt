@@ -17,7 +17,7 @@ use Rattle.uz_files.specs.declared.status.Status.TheVariants.{Done, NotEntered, 
 use Rattle.uz_files.specs.Answers.{Answer}
 use Rattle.uz_outcome_lines.specs.Runs.{IsFramedRun, entered_line}
 use Rattle.uz_outcome_lines.specs.Runs.{framed, not_entered_line, numbers_of}
-use Rattle.uz_run_files.specs.StopLines.{stopped_at_line}
+use Rattle.uz_pair_files.specs.StopLines.{stopped_at_line}
 
 -- The first state that enters
 

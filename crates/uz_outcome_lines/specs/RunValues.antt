@@ -1,12 +1,12 @@
 -- The status and the lines of a run that is captured.
 use Rattle.std.specs.Prelude.{ℕ, List, ◌++◌, Option, Some, None}
 use Rattle.uz_player.specs.declared.counts.Counts.{Counts}
-use Rattle.uz_capture.specs.declared.recording.RunEnd.{RunEnd}
-use Rattle.uz_capture.specs.declared.recording.RunEnd.TheVariants as end
+use Rattle.uz_player.specs.declared.recording.RunEnd.{RunEnd}
+use Rattle.uz_player.specs.declared.recording.RunEnd.TheVariants as end
 use Rattle.uz_files.specs.declared.status.Status.{Status}
 use Rattle.uz_files.specs.declared.status.Status.TheVariants.{Done, NotEntered, Stopped}
 use Rattle.uz_outcome_lines.specs.Runs.{edge_numbers, entered_line, not_entered_line, numbers_line}
-use Rattle.uz_run_files.specs.StopLines.{stopped_at_line}
+use Rattle.uz_pair_files.specs.StopLines.{stopped_at_line}
 
 abbrev pub edge_counts : Counts → List ℕ
 edge_counts counts = edge_numbers counts.sync counts.pixels counts.sounds

@@ -16,7 +16,7 @@ use Rattle.uz_player.specs.Counting.{IsInLine, count_of, is_pixel, is_sound, is_
 use Rattle.uz_files.specs.declared.status.Status.{Status}
 use Rattle.uz_files.specs.declared.status.Status.TheVariants.{Done, NotEntered, Stopped, Unwritten}
 use Rattle.uz_files.specs.Answers.{Answer, Write}
-use Rattle.uz_run_files.specs.StopLines.{stopped_at_line}
+use Rattle.uz_pair_files.specs.StopLines.{stopped_at_line}
 
 -- Lines
 

@@ -6,10 +6,9 @@ ghost use Rattle.uz_outcome_lines.specs.RunValues.{counts_text, edge_counts, end
 
 use itoa::Buffer;
 use std::alloc::{AllocError, Global};
-use uz_capture::{Captured, RunEnd};
 use uz_files::{Ending, Status};
-use uz_player::Counts;
-use uz_run_files::stopped_at;
+use uz_pair_files::stopped_at;
+use uz_player::{Captured, Counts, RunEnd};
 
 /// Adds the numbers of the run.
 fn push_counts(text: &mut Vec<u8>, counts: Counts) -> Result<(), AllocError>

@@ -1,8 +1,13 @@
-//! What the commands that check a pair share: an image and a certificate from two files, their verdict, and its lines.
+//! What the commands that read a pair of files share: a console at reset from an image and pads, with the line of a run that
+//! is stopped; the verdict on an image and a certificate, with its lines.
 #![tactic(auto)]
 
 mod pair;
+mod reset;
+mod stop_lines;
 mod verdict_lines;
 
 pub use pair::{Checked, check_files};
+pub use reset::reset_console;
+pub use stop_lines::{stopped, stopped_at};
 pub use verdict_lines::{accepted, reason_name, refused};

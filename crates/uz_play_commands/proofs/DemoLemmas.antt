@@ -10,7 +10,7 @@ use Rattle.uz_schedule.specs.declared.kinds.Response.TheVariants.{Four}
 use Rattle.uz_machine.specs.PadLine.{PadHistory}
 use Rattle.uz_machine.specs.Turn.{State}
 use Rattle.uz_console.specs.declared.console.Console.{Console}
-use Rattle.uz_capture.specs.declared.recording.Captured.{Captured}
+use Rattle.uz_player.specs.declared.recording.Captured.{Captured}
 use Rattle.uz_files.specs.declared.ending.Ending.{Ending}
 use Rattle.uz_files.specs.declared.status.Status.{Status}
 use Rattle.uz_files.specs.declared.status.Status.TheVariants.{NoMemory, Refused, Unwritten}

@@ -23,7 +23,7 @@ use Rattle.uz_files.specs.Reading.{Fails, Says, certificate_limit, text_limit}
 use Rattle.uz_play_commands.specs.PlayCommand.{IsPlay, PlayAnswers, PlayLacks, PlayParts, SpellsPlay}
 use Rattle.uz_outcome_lines.specs.Runs.{IsFramedPart, IsFramedRun}
 use Rattle.uz_play_commands.specs.PlayValues.{IsChecked, IsReady, IsRefusedPlay, IsStart, PlayPreface}
-use Rattle.uz_run_files.specs.RunFiles.{start_of}
+use Rattle.uz_pair_files.specs.RunFiles.{start_of}
 use Rattle.uz_files.proofs.FaultLemmas.{rose_later}
 use Rattle.uz_files.proofs.ReadingLemmas.{ends_by, fails_by}
 use Rattle.uz_files.proofs.ReadsLemmas.{fails_status}

@@ -13,7 +13,7 @@ use Rattle.uz_files.specs.Answers.{Answer, one_line}
 use Rattle.uz_files.specs.Reading.{certificate_limit, text_limit}
 use Rattle.uz_pair_files.specs.VerdictLines.{refused_line}
 use Rattle.uz_play_commands.specs.PlayCommand.{IsPlay, PlayAnswers, PlayAnswersFor, PlayAnswersWith, PlaySucceeds}
-use Rattle.uz_run_files.specs.RunFiles.{start_of}
+use Rattle.uz_pair_files.specs.RunFiles.{start_of}
 use Rattle.uz_files.proofs.ReadsLemmas.{fails_says, reads_or_fault, reads_same, says_same}
 use Rattle.uz_hex.specs.HexText.{IsHexOf}
 use Rattle.uz_files.specs.Formats.{SpellsCertificate}

@@ -15,7 +15,7 @@ use Rattle.uz_files.specs.Answers.{MayCome, Outside}
 use Rattle.uz_play_commands.specs.PlayCommand.{FilesHalted, FilesPlayed}
 use Rattle.uz_outcome_lines.specs.Runs.{IsFramedPart, IsFramedRun}
 use Rattle.uz_play_commands.specs.PlayValues.{IsReady}
-use Rattle.uz_run_files.specs.RunFiles.{start_of}
+use Rattle.uz_pair_files.specs.RunFiles.{start_of}
 use Rattle.uz_outcome_lines.proofs.RunWorthLemmas.{RunsKeep, NeverStops, done_run, stopped_run}
 
 -- sync is low at reset

@@ -23,7 +23,7 @@ use Rattle.uz_files.specs.declared.status.Status.TheVariants.{Refused, Unwritten
 use Rattle.uz_files.specs.Answers.{Answer, ended, one_line}
 use Rattle.uz_outcome_lines.specs.SearchLines.{Allowed, not_found_line}
 use Rattle.uz_pair_files.specs.VerdictLines.{accepted_line}
-use Rattle.uz_run_files.specs.RunFiles.{start_of}
+use Rattle.uz_pair_files.specs.RunFiles.{start_of}
 use Rattle.uz_outcome_lines.specs.Runs.{Enters, IsFramedRun}
 
 -- the demo's source has this assembly

@@ -16,8 +16,8 @@ use Rattle.uz_pair_files.specs.VerdictLines.{accepted_line}
 use Rattle.uz_play_commands.specs.declared.demo_start.Start.{Start}
 use Rattle.uz_play_commands.specs.declared.demo_start.Start.TheVariants.{Ready, Refusal}
 use Rattle.uz_play_commands.specs.DemoCommand.{Assembles, demo_clocks, demo_start}
-use Rattle.uz_capture.specs.Captures.{IsPlayedInto}
-use Rattle.uz_capture.specs.declared.recording.RunEnd.{RunEnd}
+use Rattle.uz_player.specs.Captures.{IsPlayedInto}
+use Rattle.uz_player.specs.declared.recording.RunEnd.{RunEnd}
 use Rattle.uz_files.specs.Answers.{Answer, ended}
 use Rattle.uz_files.specs.declared.status.Status.TheVariants.{Unwritten}
 use Rattle.uz_outcome_lines.specs.Runs.{IsFramedRun}

@@ -20,7 +20,7 @@ use Rattle.uz_files.specs.declared.status.Status.TheVariants.{Refused}
 use Rattle.uz_files.specs.Answers.{Answer, one_line}
 use Rattle.uz_files.specs.Reading.{Reads, Says, certificate_limit, text_limit}
 use Rattle.uz_pair_files.specs.VerdictLines.{refused_line}
-use Rattle.uz_run_files.specs.RunFiles.{start_of}
+use Rattle.uz_pair_files.specs.RunFiles.{start_of}
 use Rattle.uz_hex.specs.HexText.{IsHexOf}
 use Rattle.uz_files.specs.Formats.{SpellsCertificate}
 use Rattle.uz_files.specs.Formats.{RefusesCertificate, RefusesHex, RefusesPads, SpellsPads}

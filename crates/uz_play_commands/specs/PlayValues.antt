@@ -10,7 +10,7 @@ use Rattle.uz_console.specs.declared.console.Console.{Console}
 use Rattle.uz_machine.specs.StateRange.{IsState}
 use Rattle.uz_soundness.specs.Acceptance.{Accepts}
 use Rattle.uz_soundness.specs.Certified.{Certified}
-use Rattle.uz_capture.specs.declared.recording.RunEnd.TheVariants as end
+use Rattle.uz_player.specs.declared.recording.RunEnd.TheVariants as end
 use Rattle.uz_play_commands.specs.declared.play_command.Start.{Start}
 use Rattle.uz_play_commands.specs.declared.play_command.Start.TheVariants.{Ready, Refused as RefusedPair}
 use Rattle.uz_files.specs.declared.status.Status.TheVariants.{Refused}
@@ -18,7 +18,7 @@ use Rattle.uz_files.specs.Answers.{Answer}
 use Rattle.uz_files.specs.Endings.{answer_of}
 use Rattle.uz_files.specs.Reading.{Fails, Says, certificate_limit, text_limit}
 use Rattle.uz_play_commands.specs.PlayCommand.{IsPlay, SpellsPlay}
-use Rattle.uz_run_files.specs.RunFiles.{start_of}
+use Rattle.uz_pair_files.specs.RunFiles.{start_of}
 use Rattle.uz_hex.specs.HexText.{IsHexOf}
 use Rattle.uz_files.specs.Formats.{SpellsCertificate}
 use Rattle.uz_files.specs.Formats.{RefusesCertificate, RefusesHex, RefusesPads}

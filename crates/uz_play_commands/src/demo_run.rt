@@ -16,12 +16,11 @@ ghost use Rattle.uz_shelf.specs.Text.{TakesAll};
 
 use crate::demo_start::{Start, start_demo};
 use std::alloc::{AllocError, Global};
-use uz_capture::{Captured, RunEnd};
 use uz_console::Console;
 use uz_files::{Ending, Status, end_with, put_no_memory};
 use uz_outcome_lines::ending_of;
 use uz_played::played_runs_keep;
-use uz_player::{Played, Player};
+use uz_player::{Captured, Played, Player, RunEnd};
 use uz_schedule::Cert;
 use uz_shelf::{Sink, WriteError};
 use uz_soundness::soundness;

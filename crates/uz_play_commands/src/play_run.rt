@@ -17,11 +17,11 @@ ghost use Rattle.uz_outcome_lines.specs.RunValues.{end_status, end_text};
 use crate::clocks::Clocks;
 use crate::play_command::{Start, start_play};
 use std::alloc::{AllocError, Global};
-use uz_capture::{Captured, capture};
 use uz_console::Console;
 use uz_files::{Status, end_with, give_up, put_no_memory};
 use uz_outcome_lines::ending_of;
 use uz_played::played_runs_keep;
+use uz_player::{Captured, capture};
 use uz_schedule::Cert;
 use uz_shelf::{Shelf, Sink, WriteError};
 

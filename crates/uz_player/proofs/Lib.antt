@@ -1,2 +1,3 @@
+pub mod CaptureLaws
 pub mod PlayerLaws
 pub mod RecorderLaws

@@ -1,3 +1,4 @@
+pub mod Captures
 pub mod Counting
 pub mod Endings
 pub mod Playing

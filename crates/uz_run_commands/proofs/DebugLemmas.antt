@@ -24,7 +24,7 @@ use Rattle.uz_files.specs.Endings.{EndsBy}
 use Rattle.uz_files.specs.Reading.{Fails, IsReader, Says, text_limit}
 use Rattle.uz_debug.specs.WhyNames.{script_why_name}
 use Rattle.uz_run_commands.specs.ScriptFile.{HasScriptFault, RefusesScript, SpellsScript}
-use Rattle.uz_run_files.specs.RunFiles.{RunPreface, start_of}
+use Rattle.uz_pair_files.specs.RunFiles.{RunPreface, start_of}
 use Rattle.uz_run_commands.specs.DebugCommand.{DebugAnswers, DebugAnswersFor, DebugAnswersWith, DebugLacks, DebugSucceeds, IsDebugged}
 use Rattle.uz_run_commands.specs.DebugCommand.{IsDebuggedOf, StartsDebug}
 use Rattle.uz_files.proofs.FaultLemmas.{rose_later}

@@ -18,9 +18,9 @@ use Rattle.uz_files.specs.Endings.{ComesOfFailure, EndsBy}
 use Rattle.uz_files.specs.Lines.{no_memory_line}
 use Rattle.uz_run_commands.specs.TraceCommand.{IsTrace, TraceAnswers, TraceParts, edge_lines, end_line}
 use Rattle.uz_run_commands.specs.TraceValues.{IsPrinted, IsPrintedPart, end_status, last_line}
-use Rattle.uz_run_files.specs.RunFiles.{RunLacks, RunPreface, RunSucceeds, StartsRun, start_of}
-use Rattle.uz_run_files.specs.StopLines.{stopped_line}
-use Rattle.uz_run_files.proofs.RunFileLemmas.{preface_answers, run_status}
+use Rattle.uz_pair_files.specs.RunFiles.{RunLacks, RunPreface, RunSucceeds, StartsRun, start_of}
+use Rattle.uz_pair_files.specs.StopLines.{stopped_line}
+use Rattle.uz_pair_files.proofs.RunFileLemmas.{preface_answers, run_status}
 use Rattle.uz_files.proofs.ReadingLemmas.{ends_by}
 use Rattle.uz_files.proofs.PrintedLemmas.{cut_part}
 use Rattle.uz_files.proofs.TextLemmas.{takes_none}

@@ -10,8 +10,8 @@ use Rattle.uz_console.specs.Turns.{Halts}
 use Rattle.uz_files.specs.declared.status.Status.TheVariants.{Done, Stopped}
 use Rattle.uz_files.specs.Answers.{Answer, ended}
 use Rattle.uz_files.specs.Formats.{Readings}
-use Rattle.uz_run_files.specs.StopLines.{stopped_line}
-use Rattle.uz_run_files.proofs.RunFileLemmas.{run_or_fault, run_same, same_why}
+use Rattle.uz_pair_files.specs.StopLines.{stopped_line}
+use Rattle.uz_pair_files.proofs.RunFileLemmas.{run_or_fault, run_same, same_why}
 use Rattle.uz_run_commands.specs.TraceCommand.{IsTrace, TraceAnswers, edge_lines, end_line}
 
 one_trace : (clocks : ℕ) (a b : Answer) (start : State PadHistory) → IsTrace clocks start a → IsTrace clocks start b → a ≡ b

@@ -29,9 +29,9 @@ use Rattle.uz_files.proofs.OutcomeLemmas.{came_from}
 use Rattle.uz_files.proofs.ReadingLemmas.{ends_by}
 use Rattle.uz_files.proofs.ReadsLemmas.{fails_status}
 use Rattle.uz_files.proofs.WriteLemmas.{holds_written}
-use Rattle.uz_run_files.specs.RunFiles.{RunLacks, RunPreface, RunSucceeds, StartsRun, start_of}
-use Rattle.uz_run_files.specs.StopLines.{stopped_line}
-use Rattle.uz_run_files.proofs.RunFileLemmas.{preface_answers, run_answers, run_or_fault, run_same, run_status, same_why}
+use Rattle.uz_pair_files.specs.RunFiles.{RunLacks, RunPreface, RunSucceeds, StartsRun, start_of}
+use Rattle.uz_pair_files.specs.StopLines.{stopped_line}
+use Rattle.uz_pair_files.proofs.RunFileLemmas.{preface_answers, run_answers, run_or_fault, run_same, run_status, same_why}
 use Rattle.uz_run_commands.specs.declared.listening.Heard.{Heard}
 use Rattle.uz_run_commands.specs.declared.listening.Heard.TheVariants.{Over, Stopped as StoppedAt}
 use Rattle.uz_run_commands.specs.declared.wave_command.Task.{Task}

@@ -16,7 +16,7 @@ use Rattle.uz_files.specs.declared.status.Status.TheVariants.{Done}
 use Rattle.uz_files.specs.Answers.{Answer, one_line}
 use Rattle.uz_files.specs.Reading.{Reads, Says, text_limit}
 use Rattle.uz_run_commands.specs.ScriptFile.{RefusesScript, SpellsScript}
-use Rattle.uz_run_files.specs.RunFiles.{start_of}
+use Rattle.uz_pair_files.specs.RunFiles.{start_of}
 use Rattle.uz_hex.specs.HexText.{IsHexOf}
 use Rattle.uz_files.specs.Formats.{RefusesHex, RefusesPads, SpellsPads}
 

@@ -18,8 +18,8 @@ use Rattle.uz_files.specs.Answers.{Answer, ended}
 use Rattle.uz_files.specs.Reading.{Says, text_limit}
 use Rattle.uz_hex.specs.HexText.{IsHexOf}
 use Rattle.uz_files.specs.Formats.{SpellsPads}
-use Rattle.uz_run_files.specs.RunFiles.{RunAnswers, start_of}
-use Rattle.uz_run_files.specs.StopLines.{stopped_line}
+use Rattle.uz_pair_files.specs.RunFiles.{RunAnswers, start_of}
+use Rattle.uz_pair_files.specs.StopLines.{stopped_line}
 
 abbrev pub kind_text : EdgeKind → List ℕ
 kind_text (Sync level) = codes "sync " ++ decimal level

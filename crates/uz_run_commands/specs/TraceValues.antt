@@ -14,7 +14,7 @@ use Rattle.uz_files.specs.declared.status.Status.{Status}
 use Rattle.uz_files.specs.declared.status.Status.TheVariants as status
 use Rattle.uz_files.specs.declared.status.Status.TheVariants.{Done}
 use Rattle.uz_run_commands.specs.TraceCommand.{edge_lines, end_line}
-use Rattle.uz_run_files.specs.StopLines.{stopped_line}
+use Rattle.uz_pair_files.specs.StopLines.{stopped_line}
 
 -- the lines of the whole run from this state are printed
 abbrev pub IsPrinted : ℕ → State PadHistory → RunEnd → Option (List ℕ) → Option (List ℕ) → Type 0

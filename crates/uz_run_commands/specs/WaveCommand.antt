@@ -19,8 +19,8 @@ use Rattle.uz_files.specs.Answers.{Answer, Write, one_line}
 use Rattle.uz_files.specs.Writing.{written_then}
 use Rattle.uz_files.specs.Reading.{Says, text_limit}
 use Rattle.uz_files.specs.Formats.{SpellsPads}
-use Rattle.uz_run_files.specs.RunFiles.{RunAnswers, start_of}
-use Rattle.uz_run_files.specs.StopLines.{stopped_line}
+use Rattle.uz_pair_files.specs.RunFiles.{RunAnswers, start_of}
+use Rattle.uz_pair_files.specs.StopLines.{stopped_line}
 
 -- how many samples there are
 abbrev pub count_line : List ℕ → List ℕ

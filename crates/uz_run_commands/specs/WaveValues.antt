@@ -18,7 +18,7 @@ use Rattle.uz_scan.specs.Pictures.{newest_first}
 use Rattle.uz_files.specs.Endings.{answer_of}
 use Rattle.uz_files.specs.Reading.{Says, text_limit}
 use Rattle.uz_files.specs.Formats.{SpellsPads}
-use Rattle.uz_run_files.specs.RunFiles.{start_of}
+use Rattle.uz_pair_files.specs.RunFiles.{start_of}
 use Rattle.uz_run_commands.specs.declared.listening.Heard.{Heard}
 use Rattle.uz_run_commands.specs.declared.listening.Heard.TheVariants.{Over, Stopped}
 use Rattle.uz_run_commands.specs.declared.wave_command.Task.{Task}

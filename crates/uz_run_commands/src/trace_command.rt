@@ -16,7 +16,7 @@ use uz_console::{Console, Paged};
 use uz_core::Why;
 use uz_files::{Ending, Status};
 use uz_machine::Edge;
-use uz_run_files::stopped;
+use uz_pair_files::stopped;
 use uz_shelf::{Sink, WriteError};
 
 /// How a run of so many clocks ended.

@@ -12,7 +12,7 @@ ghost use Rattle.uz_files.specs.Endings.{EndsBy};
 ghost use Rattle.uz_files.specs.Writing.{written_then};
 ghost use Rattle.uz_report.specs.Waves.{Holds};
 ghost use Rattle.uz_scan.specs.Pictures.{newest_first};
-ghost use Rattle.uz_run_files.specs.RunFiles.{RunPreface};
+ghost use Rattle.uz_pair_files.specs.RunFiles.{RunPreface};
 ghost use Rattle.uz_run_commands.specs.WaveCommand.{FilesHeard, WaveAnswers, wave_file};
 ghost use Rattle.uz_run_commands.specs.WaveValues.{IsHeard, IsTask, IsTaskOf};
 
@@ -21,8 +21,8 @@ use crate::wave_file::{samples, write_wave};
 use std::alloc::{AllocError, Global};
 use uz_console::Console;
 use uz_files::{Ending, Failure, Status, end_with, give_up, put_no_memory};
+use uz_pair_files::{reset_console, stopped};
 use uz_report::Wave;
-use uz_run_files::{reset_console, stopped};
 use uz_schedule::Response;
 use uz_shelf::{Shelf, Sink, WriteError};
 

@@ -23,7 +23,7 @@ use Rattle.uz_play_commands.proofs.PlaySameLemmas.{play_done, play_or_fault, pla
 use Rattle.uz_run_commands.proofs.DebugLemmas.{debug_status, debug_or_fault, debug_same, debug_done}
 use Rattle.uz_source_commands.proofs.AsmLemmas.{asm_done_answer, asm_or_fault, asm_same, asm_status}
 use Rattle.uz_source_commands.proofs.DisLemmas.{dis_status, dis_or_fault, dis_same, dis_done}
-use Rattle.uz_certify_command.proofs.CertifyLemmas.{certify_always, certify_decided, certify_or_fault, certify_status}
+use Rattle.uz_certificate_commands.proofs.CertifyLemmas.{certify_always, certify_decided, certify_or_fault, certify_status}
 use Rattle.uz_play_commands.proofs.DemoSameLemmas.{demo_allowed, demo_done, demo_same, demo_status}
 use Rattle.uz_certificate_commands.proofs.MigrateLemmas.{migrate_done_answer, migrate_or_fault, migrate_same, migrate_status}
 use Rattle.uz_pair_files.proofs.PairLemmas.{pair_done, pair_or_fault, pair_same, pair_status}

@@ -1,6 +1,6 @@
 use Rattle.std.proofs.Common.{[], refl, ◌++◌}
 use Rattle.std.specs.Prelude.{None}
-use Rattle.uz_capture.proofs.CaptureLaws.{captured_over, captured_stopped}
+use Rattle.uz_player.proofs.CaptureLaws.{captured_over, captured_stopped}
 use Rattle.uz_play_commands.proofs.demo_run.next_end.Goals as goal
 
 pub returns-in-Row-clause-goes : goal.returns-in-Row-clause-goes

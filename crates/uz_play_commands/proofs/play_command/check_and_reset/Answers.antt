@@ -5,7 +5,7 @@ use Rattle.uz_soundness.specs.Certified.{Certified}
 use Rattle.uz_files.specs.Answers.{one_line}
 use Rattle.uz_pair_files.specs.VerdictLines.{refused_line}
 use Rattle.uz_files.specs.declared.status.Status.TheVariants.{Refused}
-use Rattle.uz_run_files.specs.RunFiles.{start_of}
+use Rattle.uz_pair_files.specs.RunFiles.{start_of}
 use Rattle.uz_play_commands.proofs.play_command.check_and_reset.Goals as goal
 
 pub returns-in_ok-console-in-Ok : goal.returns-in_ok-console-in-Ok

@@ -1,7 +1,7 @@
 use Rattle.std.proofs.Common.{◌⊎◌, inl, inr, subst}
 use Rattle.uz_shelf.specs.Faults.{Rose}
 use Rattle.uz_play_commands.specs.PlayValues.{IsStart}
-use Rattle.uz_run_files.specs.RunFiles.{start_of}
+use Rattle.uz_pair_files.specs.RunFiles.{start_of}
 use Rattle.uz_files.proofs.FaultLemmas.{rose_same}
 use Rattle.uz_play_commands.proofs.PlayLemmas.{play_failed, play_refused, play_runs}
 use Rattle.uz_play_commands.proofs.PlayWorthLemmas.{is_halted, is_played}

@@ -1,6 +1,6 @@
 use Rattle.uz_files.specs.Formats.{SpellsPads}
 use Rattle.uz_files.proofs.ReadingLemmas.{says_seen}
-use Rattle.uz_run_files.proofs.RunFileLemmas.{preface_without_pads}
+use Rattle.uz_pair_files.proofs.RunFileLemmas.{preface_without_pads}
 use Rattle.uz_run_commands.proofs.DebugLemmas.{starts_debug}
 use Rattle.uz_run_commands.proofs.debug_command.reset_debugger.Goals as goal
 

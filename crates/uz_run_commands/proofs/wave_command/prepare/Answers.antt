@@ -1,5 +1,5 @@
 use Rattle.uz_shelf.specs.Faults.{Rose}
-use Rattle.uz_run_files.specs.RunFiles.{RunPreface}
+use Rattle.uz_pair_files.specs.RunFiles.{RunPreface}
 use Rattle.uz_run_commands.proofs.WaveLemmas.{only_room, task_heard}
 use Rattle.uz_run_commands.proofs.wave_command.prepare.Goals as goal
 

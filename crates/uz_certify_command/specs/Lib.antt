@@ -1,2 +1,0 @@
-pub mod CertifyCommand
-pub mod CertifyValues

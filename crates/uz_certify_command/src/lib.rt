@@ -1,6 +1,0 @@
-//! The command `certify`.
-#![tactic(auto)]
-
-mod certify_command;
-
-pub use certify_command::run_certify;

@@ -1,2 +1,0 @@
-pub mod RunFiles
-pub mod StopLines
