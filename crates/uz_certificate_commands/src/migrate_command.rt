@@ -10,11 +10,10 @@ ghost use Rattle.uz_files.specs.Endings.{EndsBy};
 ghost use Rattle.uz_files.specs.Reading.{Fails, certificate_limit};
 ghost use Rattle.uz_files.specs.Formats.{RefusesOldCertificate};
 
-use itoa::Buffer;
 use std::alloc::{AllocError, Global};
 use uz_cert_text_laws::text_is_unique;
 use uz_cert_writer::write_cert;
-use uz_files::{Failure, OldCertificateText, Status, Work, finish_work, read_file};
+use uz_files::{Failure, OldCertificateText, Status, Work, finish_work, number_line, read_file};
 use uz_schedule::Cert;
 use uz_shelf::{Shelf, Sink};
 
@@ -22,11 +21,7 @@ use uz_shelf::{Shelf, Sink};
 pub(crate) fn migrated(alloc: Global, cert: &Cert) -> Result<Vec<u8>, AllocError>
     ensures { IfOk result (λ line. line.items ≡ migrated_line cert.now) }
 {
-    let mut line = Vec::new(alloc);
-    line.extend_from_slice(b"migrated points ")?;
-    line.extend_from_slice(Buffer::new().format(cert.points.len()).as_bytes())?;
-    line.extend_from_slice(b"\n")?;
-    Ok(line)
+    number_line(alloc, b"migrated points ", cert.points.len() as u64)
 }
 
 /// What is written and printed of a certificate.

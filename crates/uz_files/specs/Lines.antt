@@ -7,6 +7,10 @@ usage_line = codes "usage: uzebox asm, dis, trace, certify, check, play, demo, m
 abbrev pub no_memory_line : List ℕ
 no_memory_line = codes "no memory\n"
 
+-- a name, which ends in a space, and a number
+abbrev pub number_line : List ℕ → ℕ → List ℕ
+number_line name number = name ++ decimal number ++ codes "\n"
+
 -- a file that could not be read
 abbrev pub unread_line : List ℕ → List ℕ
 unread_line name = codes "unread " ++ name ++ codes "\n"

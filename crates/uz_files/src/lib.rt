@@ -5,6 +5,7 @@ mod ending;
 mod format;
 mod formats;
 mod laws;
+mod lines;
 mod loading;
 mod status;
 mod text_fault;
@@ -15,6 +16,7 @@ pub use ending::{Ending, Failure, end_fault, end_with, finish, give_up, put_no_m
 pub use format::{Format, read_file};
 pub use formats::{CertificateText, HexText, OldCertificateText, PadWords, Source};
 pub use laws::readings_are_unique;
+pub use lines::number_line;
 pub use loading::{TEXT_LIMIT, bad_input, load, unread};
 pub use status::Status;
 pub use text_fault::TextFault;

@@ -12,6 +12,7 @@ use Rattle.uz_transfer.specs.declared.fail.Fail.{Fail}
 use Rattle.uz_search.specs.declared.found.NotFound.{NotFound}
 use Rattle.uz_search.specs.declared.found.NotFound.TheVariants.{Stuck, Split, Full, Hint, NoRest, Memory}
 use Rattle.uz_paths.specs.Finding.{Cause, IsAsked}
+use Rattle.uz_files.specs.Lines.{number_line}
 use Rattle.uz_pair_files.specs.VerdictLines.{fail_name}
 use Rattle.uz_text.specs.Hexadecimals.{hex_word}
 
@@ -38,9 +39,6 @@ abbrev pub split_line : List Instance → List Instance → List ℕ
 split_line first second =
     codes "refused split line " ++ decimal (last_line first) ++ codes " clock " ++ decimal (last_clock first) ++ codes " and clock "
     ++ decimal (last_clock second) ++ codes "\n"
-
-abbrev pub number_line : List ℕ → ℕ → List ℕ
-number_line begin number = begin ++ decimal number ++ codes "\n"
 
 -- why no certificate is found
 abbrev pub not_found_line : NotFound → List ℕ

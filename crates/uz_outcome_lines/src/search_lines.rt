@@ -2,12 +2,13 @@
 
 ghost use Rattle.std.specs.Prelude.{◌≡◌, IfOk};
 ghost use Rattle.uz_outcome_lines.specs.SearchLines.{last_clock as clock_of_last, last_line as line_of_last};
-ghost use Rattle.uz_outcome_lines.specs.SearchLines.{last_pc as pc_of_last, not_found_line, number_line};
+ghost use Rattle.uz_outcome_lines.specs.SearchLines.{last_pc as pc_of_last, not_found_line};
 ghost use Rattle.uz_outcome_lines.specs.SearchLines.{split_line, stuck_line};
 
 use itoa::Buffer;
 use std::alloc::{AllocError, Global};
 use uz_check::Fail;
+use uz_files::number_line;
 use uz_pair_files::reason_name;
 use uz_paths::NotFound;
 use uz_schedule::Instance;
@@ -75,17 +76,6 @@ fn split(alloc: Global, first: &[Instance], second: &[Instance]) -> Result<Vec<u
     Ok(line)
 }
 
-/// A line that ends in a number.
-fn numbered(alloc: Global, begin: &[u8], number: u32) -> Result<Vec<u8>, AllocError>
-    ensures { IfOk result (λ line. line.items ≡ number_line begin.now number) }
-{
-    let mut line = Vec::new(alloc);
-    line.extend_from_slice(begin)?;
-    line.extend_from_slice(Buffer::new().format(number).as_bytes())?;
-    line.extend_from_slice(b"\n")?;
-    Ok(line)
-}
-
 /// The line that says why no certificate is found.
 pub fn not_found(alloc: Global, why: &NotFound) -> Result<Vec<u8>, AllocError>
     ensures { IfOk result (λ line. line.items ≡ not_found_line why.now) }
@@ -93,8 +83,8 @@ pub fn not_found(alloc: Global, why: &NotFound) -> Result<Vec<u8>, AllocError>
     match why {
         NotFound::Stuck { trail, why } => stuck(alloc, trail.as_slice(), *why),
         NotFound::Split { first, second } => split(alloc, first.as_slice(), second.as_slice()),
-        NotFound::Full { count } => numbered(alloc, b"refused full ", *count),
-        NotFound::Hint { index } => numbered(alloc, b"refused hint ", *index),
+        NotFound::Full { count } => number_line(alloc, b"refused full ", u64::from(*count)),
+        NotFound::Hint { index } => number_line(alloc, b"refused hint ", u64::from(*index)),
         NotFound::NoRest { .. } => Vec::from_slice(alloc, b"refused no rest\n"),
         NotFound::Memory => Ok(Vec::new(alloc)),
     }

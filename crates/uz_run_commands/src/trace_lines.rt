@@ -3,8 +3,9 @@
 ghost use Rattle.std.specs.Prelude.{◌≡◌, ◌+◌, ◌*◌, ◌≤◌, ◌++◌, IfOk, codes, decimal, drop, length};
 ghost use Rattle.uz_run_commands.specs.TraceCommand.{edge_line, edge_lines, end_line, kind_text};
 
-use itoa::{Buffer, write_digits};
+use itoa::write_digits;
 use std::alloc::{AllocError, Global};
+use uz_files::number_line;
 use uz_machine::{Edge, EdgeKind};
 
 /// The lines of a page's 64 edges have so many bytes at most: a line has a clock of 20 digits, a name of 7 letters and spaces, a number
@@ -96,17 +97,6 @@ pub(crate) fn write_lines(edges: &[Edge], text: &mut [u8]) -> usize
         start = write_line(edges[left], text, start);
     }
     start
-}
-
-/// The line of a name and a number.
-pub(crate) fn number_line(alloc: Global, name: &[u8], value: u64) -> Result<Vec<u8>, AllocError>
-    ensures { IfOk result (λ line. line.items ≡ name.now ++ decimal value ++ codes "\n") }
-{
-    let mut line = Vec::new(alloc);
-    line.extend_from_slice(name)?;
-    line.extend_from_slice(Buffer::new().format(value).as_bytes())?;
-    line.extend_from_slice(b"\n")?;
-    Ok(line)
 }
 
 /// The line of a run that is over.

@@ -8,9 +8,8 @@ ghost use Rattle.uz_files.specs.Writing.{WritesSome};
 ghost use Rattle.uz_report.specs.Waves.{Holds, samples as samples_heard, wave_bytes};
 ghost use Rattle.uz_run_commands.specs.WaveCommand.{count_line};
 
-use crate::trace_lines::number_line;
 use std::alloc::{AllocError, Global};
-use uz_files::write_file;
+use uz_files::{number_line, write_file};
 use uz_report::Wave;
 use uz_shelf::{Shelf, WriteError};
 

@@ -9,9 +9,8 @@ ghost use Rattle.uz_files.specs.Endings.{EndsBy};
 ghost use Rattle.uz_files.specs.Reading.{Fails, text_limit};
 ghost use Rattle.uz_files.specs.Formats.{RefusesSource};
 
-use itoa::Buffer;
 use std::alloc::{AllocError, Global};
-use uz_files::{Failure, Source, Status, Work, finish_work, read_file};
+use uz_files::{Failure, Source, Status, Work, finish_work, number_line, read_file};
 use uz_hex::{Image, write_hex};
 use uz_shelf::{Shelf, Sink};
 
@@ -19,11 +18,7 @@ use uz_shelf::{Shelf, Sink};
 pub(crate) fn assembled(alloc: Global, image: &Image) -> Result<Vec<u8>, AllocError>
     ensures { IfOk result (λ line. line.items ≡ assembled_line image.now) }
 {
-    let mut line = Vec::new(alloc);
-    line.extend_from_slice(b"assembled bytes ")?;
-    line.extend_from_slice(Buffer::new().format(image.count()).as_bytes())?;
-    line.extend_from_slice(b"\n")?;
-    Ok(line)
+    number_line(alloc, b"assembled bytes ", u64::from(image.count()))
 }
 
 /// Reads and assembles the source.

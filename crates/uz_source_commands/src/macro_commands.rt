@@ -19,9 +19,8 @@ use crate::asm_command::assembled;
 use crate::macro_source::{Expanded, bad_line_at, expand_file};
 use avr_asm::{AsmError, AsmWhy, Built, assemble};
 use avr_macro::Origin;
-use itoa::Buffer;
 use std::alloc::{AllocError, Global};
-use uz_files::{Failure, Status, Work, finish_work};
+use uz_files::{Failure, Status, Work, finish_work, number_line};
 use uz_hex::{Image, write_hex};
 use uz_shelf::{Shelf, Sink};
 
@@ -29,11 +28,7 @@ use uz_shelf::{Shelf, Sink};
 fn expanded(alloc: Global, origins: &[Origin]) -> Result<Vec<u8>, AllocError>
     ensures { IfOk result (λ line. line.items ≡ expanded_line origins.now) }
 {
-    let mut line = Vec::new(alloc);
-    line.extend_from_slice(b"expanded lines ")?;
-    line.extend_from_slice(Buffer::new().format(origins.len()).as_bytes())?;
-    line.extend_from_slice(b"\n")?;
-    Ok(line)
+    number_line(alloc, b"expanded lines ", origins.len() as u64)
 }
 
 /// The HEX text of an image, and the line that tells its bytes.
