@@ -4,29 +4,25 @@ ghost use Rattle.std.specs.Prelude.{◌≡◌, ◌++◌, IfOk, OnOk};
 ghost use Rattle.uz_report.specs.MainsTime.{MainsTimeTells};
 ghost use Rattle.uz_certificate_commands.specs.ReportCommand.{range_text, report_text, slack_line, slack_lines};
 
-use itoa::Buffer;
 use std::alloc::{AllocError, Global};
 use uz_check::Accepted;
+use uz_files::put_number;
 use uz_report::{Slack, frame_slack, slacks};
 
 /// Adds the least and the most, and the line's end.
 fn push_range(text: &mut Vec<u8>, least: u32, most: u32) -> Result<(), AllocError>
     ensures { OnOk result (text.new.items ≡ text.old.items ++ range_text least most) }
 {
-    text.extend_from_slice(b" least ")?;
-    text.extend_from_slice(Buffer::new().format(least).as_bytes())?;
-    text.extend_from_slice(b" most ")?;
-    text.extend_from_slice(Buffer::new().format(most).as_bytes())?;
-    text.extend_from_slice(b"\n")?;
-    Ok(())
+    put_number(text, b" least ", u64::from(least))?;
+    put_number(text, b" most ", u64::from(most))?;
+    text.extend_from_slice(b"\n")
 }
 
 /// Adds the line of a rest.
 fn push_slack(text: &mut Vec<u8>, slack: Slack) -> Result<(), AllocError>
     ensures { OnOk result (text.new.items ≡ text.old.items ++ slack_line slack) }
 {
-    text.extend_from_slice(b"line ")?;
-    text.extend_from_slice(Buffer::new().format(slack.line).as_bytes())?;
+    put_number(text, b"line ", u64::from(slack.line))?;
     push_range(text, u32::from(slack.least), slack.most())
 }
 

@@ -4,9 +4,8 @@ ghost use Rattle.std.specs.Prelude.{◌≡◌, ◌++◌, IfOk, OnOk};
 ghost use Rattle.uz_outcome_lines.specs.Runs.{entered_line, not_entered_line};
 ghost use Rattle.uz_outcome_lines.specs.RunValues.{counts_text, edge_counts, end_status, end_text, over_status, over_text};
 
-use itoa::Buffer;
 use std::alloc::{AllocError, Global};
-use uz_files::{Ending, Status};
+use uz_files::{Ending, Status, put_number};
 use uz_pair_files::stopped_at;
 use uz_player::{Captured, Counts, RunEnd};
 
@@ -14,24 +13,18 @@ use uz_player::{Captured, Counts, RunEnd};
 fn push_counts(text: &mut Vec<u8>, counts: Counts) -> Result<(), AllocError>
     ensures { OnOk result (text.new.items ≡ text.old.items ++ counts_text counts) }
 {
-    text.extend_from_slice(b"frames ")?;
-    text.extend_from_slice(Buffer::new().format(counts.frames).as_bytes())?;
-    text.extend_from_slice(b" rows ")?;
-    text.extend_from_slice(Buffer::new().format(counts.rows).as_bytes())?;
+    put_number(text, b"frames ", u64::from(counts.frames))?;
+    put_number(text, b" rows ", u64::from(counts.rows))?;
     push_edge_counts(text, counts)
 }
 
 fn push_edge_counts(text: &mut Vec<u8>, counts: Counts) -> Result<(), AllocError>
     ensures { OnOk result (text.new.items ≡ text.old.items ++ edge_counts counts) }
 {
-    text.extend_from_slice(b" sync ")?;
-    text.extend_from_slice(Buffer::new().format(counts.sync).as_bytes())?;
-    text.extend_from_slice(b" pixels ")?;
-    text.extend_from_slice(Buffer::new().format(counts.pixels).as_bytes())?;
-    text.extend_from_slice(b" sounds ")?;
-    text.extend_from_slice(Buffer::new().format(counts.sounds).as_bytes())?;
-    text.extend_from_slice(b"\n")?;
-    Ok(())
+    put_number(text, b" sync ", u64::from(counts.sync))?;
+    put_number(text, b" pixels ", u64::from(counts.pixels))?;
+    put_number(text, b" sounds ", u64::from(counts.sounds))?;
+    text.extend_from_slice(b"\n")
 }
 
 /// The first state that meets the entry condition: its clock and line.
@@ -39,10 +32,8 @@ fn entered(alloc: Global, clock: u64, line: u16) -> Result<Vec<u8>, AllocError>
     ensures { IfOk result (λ text. text.items ≡ entered_line clock line) }
 {
     let mut text = Vec::new(alloc);
-    text.extend_from_slice(b"entered clock ")?;
-    text.extend_from_slice(Buffer::new().format(clock).as_bytes())?;
-    text.extend_from_slice(b" line ")?;
-    text.extend_from_slice(Buffer::new().format(line).as_bytes())?;
+    put_number(&mut text, b"entered clock ", clock)?;
+    put_number(&mut text, b" line ", u64::from(line))?;
     text.extend_from_slice(b"\n")?;
     Ok(text)
 }

@@ -5,10 +5,9 @@ ghost use Rattle.uz_outcome_lines.specs.SearchLines.{last_clock as clock_of_last
 ghost use Rattle.uz_outcome_lines.specs.SearchLines.{last_pc as pc_of_last, not_found_line};
 ghost use Rattle.uz_outcome_lines.specs.SearchLines.{split_line, stuck_line};
 
-use itoa::Buffer;
 use std::alloc::{AllocError, Global};
 use uz_check::Fail;
-use uz_files::number_line;
+use uz_files::{number_line, put_number};
 use uz_pair_files::reason_name;
 use uz_paths::NotFound;
 use uz_schedule::Instance;
@@ -51,10 +50,8 @@ fn stuck(alloc: Global, trail: &[Instance], why: Fail) -> Result<Vec<u8>, AllocE
     let mut line = Vec::new(alloc);
     line.extend_from_slice(b"refused stuck pc 0x")?;
     line.extend_from_slice(&word_digits(last_pc(trail)))?;
-    line.extend_from_slice(b" line ")?;
-    line.extend_from_slice(Buffer::new().format(last_line(trail)).as_bytes())?;
-    line.extend_from_slice(b" clock ")?;
-    line.extend_from_slice(Buffer::new().format(last_clock(trail)).as_bytes())?;
+    put_number(&mut line, b" line ", u64::from(last_line(trail)))?;
+    put_number(&mut line, b" clock ", u64::from(last_clock(trail)))?;
     line.extend_from_slice(b" ")?;
     line.extend_from_slice(reason_name(why))?;
     line.extend_from_slice(b"\n")?;
@@ -66,12 +63,13 @@ fn split(alloc: Global, first: &[Instance], second: &[Instance]) -> Result<Vec<u
     ensures { IfOk result (λ line. line.items ≡ split_line first.now second.now) }
 {
     let mut line = Vec::new(alloc);
-    line.extend_from_slice(b"refused split line ")?;
-    line.extend_from_slice(Buffer::new().format(last_line(first)).as_bytes())?;
-    line.extend_from_slice(b" clock ")?;
-    line.extend_from_slice(Buffer::new().format(last_clock(first)).as_bytes())?;
-    line.extend_from_slice(b" and clock ")?;
-    line.extend_from_slice(Buffer::new().format(last_clock(second)).as_bytes())?;
+    put_number(
+        &mut line,
+        b"refused split line ",
+        u64::from(last_line(first)),
+    )?;
+    put_number(&mut line, b" clock ", u64::from(last_clock(first)))?;
+    put_number(&mut line, b" and clock ", u64::from(last_clock(second)))?;
     line.extend_from_slice(b"\n")?;
     Ok(line)
 }

@@ -3,13 +3,15 @@
 ghost use Rattle.std.specs.Prelude.{◌≡◌, ◌≤◌, IfErr, IfOk};
 ghost use Rattle.uz_schedule.specs.WellFormed.{WellFormed};
 ghost use Rattle.uz_shelf.specs.Faults.{Rose};
-ghost use Rattle.uz_files.specs.Endings.{EndsBy};
+ghost use Rattle.uz_files.specs.Answers.{one_line};
+ghost use Rattle.uz_files.specs.Endings.{EndsBy, answer_of};
 ghost use Rattle.uz_pair_files.specs.CheckedValues.{AreChecked, IsChecked};
 ghost use Rattle.uz_pair_files.specs.PairFiles.{PairPreface};
+ghost use Rattle.uz_pair_files.specs.VerdictLines.{refused_line};
 
 use crate::verdict_lines::refused;
 use std::alloc::{AllocError, Global};
-use uz_check::{Accepted, check, verdict_is_unique};
+use uz_check::{Accepted, Refused, check, verdict_is_unique};
 use uz_files::{CertificateText, Ending, Failure, HexText, Status, read_file};
 use uz_hex::Image;
 use uz_schedule::Cert;
@@ -24,6 +26,18 @@ pub enum Checked {
     Refused(Ending),
 }
 
+/// What ends the command of a pair that is refused.
+fn refusal(alloc: Global, pair: Refused) -> Result<Ending, AllocError>
+    ensures { IfOk result (λ ending. answer_of ending ≡ one_line Status.Refused (refused_line pair.cert pair.why)) }
+{
+    let line = refused(alloc, &pair.cert, pair.why);
+    drop(pair);
+    Ok(Ending {
+        status: Status::Refused,
+        line: line?,
+    })
+}
+
 /// Checks a pair.
 fn check_pair(alloc: Global, image: Image, cert: Cert) -> Result<Checked, AllocError>
     requires { WellFormed cert }
@@ -32,10 +46,7 @@ fn check_pair(alloc: Global, image: Image, cert: Cert) -> Result<Checked, AllocE
     verdict_is_unique();
     match check(image, cert) {
         Ok(pair) => Ok(Checked::Accepted(pair)),
-        Err(pair) => Ok(Checked::Refused(Ending {
-            status: Status::Refused,
-            line: refused(alloc, &pair.cert, pair.why)?,
-        })),
+        Err(pair) => Ok(Checked::Refused(refusal(alloc, pair)?)),
     }
 }
 

@@ -4,10 +4,10 @@ ghost use Rattle.std.specs.Prelude.{◌≡◌, IfOk};
 ghost use Rattle.uz_schedule.specs.Limits.{ScheduleFits};
 ghost use Rattle.uz_pair_files.specs.VerdictLines.{accepted_line, fail_name, point_pc, refused_line};
 
-use itoa::Buffer;
 use std::alloc::{AllocError, Global};
 use uz_cert::Cert;
 use uz_check::{Fail, RefusedWhy};
+use uz_files::put_number;
 use uz_text::word_digits;
 
 /// The name of a reason, as it is printed.
@@ -36,10 +36,12 @@ pub fn accepted(alloc: Global, cert: &Cert) -> Result<Vec<u8>, AllocError>
     ensures { IfOk result (λ line. line.items ≡ accepted_line cert.now) }
 {
     let mut line = Vec::new(alloc);
-    line.extend_from_slice(b"accepted lines ")?;
-    line.extend_from_slice(Buffer::new().format(cert.schedule.lines.len()).as_bytes())?;
-    line.extend_from_slice(b" clocks ")?;
-    line.extend_from_slice(Buffer::new().format(cert.schedule.frame()).as_bytes())?;
+    put_number(
+        &mut line,
+        b"accepted lines ",
+        cert.schedule.lines.len() as u64,
+    )?;
+    put_number(&mut line, b" clocks ", u64::from(cert.schedule.frame()))?;
     line.extend_from_slice(b"\n")?;
     Ok(line)
 }
@@ -66,14 +68,11 @@ fn refused_point(
     ensures { IfOk result (λ line. line.items ≡ refused_line cert.now (RefusedWhy.Point id l c why)) }
 {
     let mut line = Vec::new(alloc);
-    line.extend_from_slice(b"refused point ")?;
-    line.extend_from_slice(Buffer::new().format(id).as_bytes())?;
+    put_number(&mut line, b"refused point ", u64::from(id))?;
     line.extend_from_slice(b" pc 0x")?;
     line.extend_from_slice(&word_digits(pc_of(cert, id)))?;
-    line.extend_from_slice(b" line ")?;
-    line.extend_from_slice(Buffer::new().format(l).as_bytes())?;
-    line.extend_from_slice(b" count ")?;
-    line.extend_from_slice(Buffer::new().format(c).as_bytes())?;
+    put_number(&mut line, b" line ", u64::from(l))?;
+    put_number(&mut line, b" count ", u64::from(c))?;
     line.extend_from_slice(b" ")?;
     line.extend_from_slice(reason_name(why))?;
     line.extend_from_slice(b"\n")?;
@@ -87,15 +86,12 @@ pub fn refused(alloc: Global, cert: &Cert, why: RefusedWhy) -> Result<Vec<u8>, A
     let mut text = Vec::new(alloc);
     match why {
         RefusedWhy::Schedule { line, clock } => {
-            text.extend_from_slice(b"refused schedule line ")?;
-            text.extend_from_slice(Buffer::new().format(line).as_bytes())?;
-            text.extend_from_slice(b" clock ")?;
-            text.extend_from_slice(Buffer::new().format(clock).as_bytes())?;
+            put_number(&mut text, b"refused schedule line ", u64::from(line))?;
+            put_number(&mut text, b" clock ", u64::from(clock))?;
             text.extend_from_slice(b"\n")?;
         }
         RefusedWhy::Rest { line } => {
-            text.extend_from_slice(b"refused rest line ")?;
-            text.extend_from_slice(Buffer::new().format(line).as_bytes())?;
+            put_number(&mut text, b"refused rest line ", u64::from(line))?;
             text.extend_from_slice(b"\n")?;
         }
         RefusedWhy::Entry => text.extend_from_slice(b"refused entry\n")?,

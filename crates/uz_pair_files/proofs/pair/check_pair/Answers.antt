@@ -14,7 +14,9 @@ returns-in-Ok c = (
       (subst (λ cert. Certified c.in-Ok.pair.image cert) c.in-Ok.ensures.same.1 c.in-Ok.ensures.certified),
 )
 
-pub returns-in_ok-refused-in-Err : goal.returns-in_ok-refused-in-Err
-returns-in_ok-refused-in-Err c =
-    let line = c.in_ok-refused-in-Err.ensures ∙ ap (λ cert. refused_line cert c.in-Err.pair.why) c.in-Err.ensures.refused.2 in
-    (c.in-Err.pair.why, c.in-Err.ensures.refused.0, ap (one_line Refused) line)
+pub returns-in_ok-refusal-in-Err : goal.returns-in_ok-refusal-in-Err
+returns-in_ok-refusal-in-Err c = (
+  c.in-Err.pair.why,
+  c.in-Err.ensures.refused.0,
+  c.in_ok-refusal-in-Err.ensures ∙ ap (λ cert. one_line Refused (refused_line cert c.in-Err.pair.why)) c.in-Err.ensures.refused.2,
+)
