@@ -1,8 +1,8 @@
 -- A text with a fault is refused with that fault, and what a cut gives is what the text spells.
-use Rattle.std.proofs.Common.{◌≡◌, ℕ, suc, ◌<◌, ◌≤◌, true, false, cond, List, [], ◌∷◌, ◌++◌, length, drop, refl, sym, ◌∙◌, ap, subst}
+use Rattle.std.proofs.Common.{◌≡◌, ℕ, ◌<◌, true, cond, List, [], ◌∷◌, ◌++◌, length, drop, refl, sym, ◌∙◌, ap, subst}
 use Rattle.std.proofs.Common.{append-nil, Vec, Global, arith}
 use Rattle.std.proofs.lemmas.List.{length-drop}
-use Rattle.std.specs.Prelude.{◌↔◌, Result, Ok, Err, slice_index}
+use Rattle.std.specs.Prelude.{◌↔◌, Result, Ok, Err}
 use Rattle.avr_text.specs.declared.pieces.Piece.{Piece}
 use Rattle.avr_text.specs.declared.pieces.Piece.TheVariants as piece
 use Rattle.avr_text.specs.declared.tokens.TokenKind.TheVariants.{Name}
@@ -13,7 +13,7 @@ use Rattle.avr_text.specs.declared.tokens.LexWhy.TheVariants as lex_why
 use Rattle.avr_text.specs.Characters.{is_word}
 use Rattle.avr_text.specs.Numbers.{number_of}
 use Rattle.avr_text.specs.Pieces.{number_piece, piece_at}
-use Rattle.avr_text.specs.Tokens.{cut_from, tokens_of, GivesTokens}
+use Rattle.avr_text.specs.Tokens.{tokens_of, GivesTokens}
 use Rattle.avr_text.specs.Spans.{Stops, IsGap, gap_none, IsWord, IsSpelled, NothingBegins, FaultAt, line_of, HasFault}
 use Rattle.avr_text.proofs.Cuts.{with_front, cut_fault}
 use Rattle.avr_text.proofs.PiecesFound.{PieceSays, piece_says}

@@ -7,10 +7,10 @@ use Rattle.uz_shelf.specs.Text.{TakesPrefix}
 use Rattle.uz_files.specs.declared.ending.Failure.{Failure}
 use Rattle.uz_files.specs.declared.ending.Failure.TheVariants.{Unread as UnreadFile, BadInput as BadFile, Memory as NoRoom}
 use Rattle.uz_files.specs.declared.status.Status.{Status}
-use Rattle.uz_files.specs.declared.status.Status.TheVariants.{Done, Unread, BadInput, Unwritten, NoMemory}
+use Rattle.uz_files.specs.declared.status.Status.TheVariants.{Done, Unwritten, NoMemory}
 use Rattle.uz_files.specs.declared.work.Work.{Work}
 use Rattle.uz_files.specs.Answers.{Answer, ComesOf, MayCome, NoPart, Outside, Write, WritesFile, one_line, outside}
-use Rattle.uz_files.specs.Endings.{ComesOfFailure, ComesOfWork, Gives}
+use Rattle.uz_files.specs.Endings.{ComesOfFailure, Gives}
 use Rattle.uz_files.specs.Lines.{no_memory_line}
 use Rattle.uz_files.specs.Writing.{IsAnswerOf, Prepares, WritesSome, WritesWork, answer_of_work}
 use Rattle.uz_files.proofs.EndingLemmas.{comes_by, outcome_of}

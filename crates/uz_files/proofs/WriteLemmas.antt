@@ -10,7 +10,7 @@ use Rattle.std.specs.Cmp.{tied_itself}
 use Rattle.std.specs.Cmp.Lexicographic.{nat_list_cmp_total, slice_cmp, texts_ties}
 use Rattle.std.proofs.lemmas.Slice.Eq.{bytes_eq-Decides}
 use Rattle.std.specs.FinMap.{get, insert, get-insert}
-use Rattle.uz_shelf.specs.Files.{FileMap, HoldsFile, AppendsAll, AppendsPrefix, Creates, CreatesOrKeeps, LacksFile, bytes_so_far}
+use Rattle.uz_shelf.specs.Files.{FileMap, HoldsFile, AppendsAll, AppendsPrefix, Creates, CreatesOrKeeps, bytes_so_far}
 use Rattle.uz_shelf.specs.Text.{TakesPrefix}
 use Rattle.uz_shelf.proofs.HeldLemmas.{insert_again}
 use Rattle.uz_files.specs.declared.status.Status.{Status}

@@ -31,7 +31,6 @@ impl Format for Source {
 
     ghost formed = { λ built. length built.hints.items < 2 ^ 32 };
 
-    #[tactic(auto, using(crate::proofs::HintCount::few_hints))]
     fn read(alloc: Global, text: &[u8]) -> Result<Built, TextFault> {
         match assemble(alloc, text) {
             Ok(built) => Ok(built),

@@ -1,7 +1,7 @@
 -- Which texts are Intel HEX, of which image, and what the first fault of another is. A relation over all lines.
 -- Intel, Hexadecimal Object File Format Specification, revision A (1988). Line ends, blanks and blank lines, an image of
 -- 65,536 bytes, no wrapping of segmented addresses, and that a byte may be given twice are this project's profile.
-use Rattle.std.specs.Prelude.{◌≡◌, ◌≢◌, ◌↔◌, ℕ, ◌+◌, ◌-◌, ◌*◌, ◌%◌, ◌<◌, ◌≤◌, ◌==◌, ◌||◌, ◌⊎◌, Bool, false, List, [], ◌∷◌, ◌++◌, length}
+use Rattle.std.specs.Prelude.{◌≡◌, ◌≢◌, ◌↔◌, ℕ, ◌+◌, ◌-◌, ◌*◌, ◌%◌, ◌<◌, ◌≤◌, ◌==◌, ◌⊎◌, false, List, [], ◌∷◌, ◌++◌, length}
 use Rattle.std.specs.Prelude.{take, sum, slice_index, Any, Some, Ok}
 use Prim.Native.Char.{code}
 use Rattle.std.specs.List.{slice_split, suffix_len}

@@ -1,20 +1,19 @@
 -- Lines that hints say to have half a scanline's clocks: no two hints share one, and the fall is a clock of each line.
-use Rattle.std.proofs.Common.{◌≡◌, sym, subst, refl, arith, ℕ, suc, ◌<◌, ◌≤◌, Bool, true, false, List, [], ◌∷◌, length}
+use Rattle.std.proofs.Common.{◌≡◌, sym, subst, refl, arith, ℕ, suc, ◌<◌, ◌≤◌, Bool, true, false, List, [], ◌∷◌}
 use Rattle.std.proofs.Common.{true≢false}
-use Rattle.std.specs.Prelude.{Option, Some, None, nat_le, ◌&&◌, ◌||◌, slice_get, if◌then◌else◌}
+use Rattle.std.specs.Prelude.{Option, Some, nat_le, ◌&&◌, ◌||◌, slice_get, if◌then◌else◌}
 use Rattle.std.specs.Ordering.{nat_cmp}
 use Rattle.std.specs.FinMap.{FinMap}
 use Rattle.std.proofs.lemmas.Bool.Decides.{nat_tests}
 use Rattle.std.proofs.lemmas.Option.{slice_get_within}
 use Rattle.avr_asm.specs.declared.output.Hint.{Hint}
 use Rattle.avr_asm.specs.declared.output.Hint.TheVariants.{Half}
-use Rattle.uz_schedule.specs.Limits.{clock_limit}
 use Rattle.uz_schedule.specs.Schedule.{scanline, half_line}
 use Rattle.uz_schedule.specs.declared.kinds.Response.{Response}
 use Rattle.uz_hints.specs.declared.words.FrameSize.{FrameSize}
 use Rattle.uz_hints.specs.declared.reading.Reading.{Reading}
 use Rattle.uz_hints.specs.Words.{halves, halves_some, is_half, has_half, length_by, first_lines}
-use Rattle.uz_hints.specs.Faults.{FineBefore, HalfFine, HalvesFit}
+use Rattle.uz_hints.specs.Faults.{HalfFine, HalvesFit}
 use Rattle.uz_hints.specs.Reading.{IsReading, ReadingFits, LengthsFit}
 
 neither : (a b : Bool) → (a || b) ≡ false → (a ≡ false) × (b ≡ false)

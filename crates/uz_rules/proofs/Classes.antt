@@ -1,15 +1,15 @@
 -- What an instruction makes of core, memory and what is seen, by class of effect.
 use Rattle.std.proofs.Common.{◌≡◌, ℕ, suc, ◌+◌, ◌<◌, ◌≤◌, Bool, true, false, not, if◌then◌else◌, nat_eq, nat_lt, Option, Some, None, List}
-use Rattle.std.proofs.Common.{[], ◌∷◌, length, refl, ◌∙◌, ap, subst, arith}
-use Rattle.std.specs.Prelude.{slice_index_or, ◌&&◌, ◌||◌}
+use Rattle.std.proofs.Common.{[], length, refl, ◌∙◌, subst, arith}
+use Rattle.std.specs.Prelude.{◌&&◌, ◌||◌}
 use Rattle.std.proofs.lemmas.Bool.Decides.{nat_tests}
 use Rattle.std.proofs.lemmas.List.{length-set}
 use Rattle.uz_machine.specs.declared.AddressMode.{AddressMode}
 use Rattle.uz_machine.specs.declared.AddressMode.TheVariants.{Direct, Displacement, PostIncrement, PreDecrement}
 use Rattle.uz_machine.specs.declared.Effect.TheVariants.{Store}
 use Rattle.uz_machine.specs.declared.HeldStore.{HeldStore}
-use Rattle.uz_machine.specs.Arithmetic.{AluResult, bit_is_set, with_bit, chained_result, with_z_cleared, difference_of}
-use Rattle.uz_machine.specs.Core.{Core, with_pointer_after, binary_result, unary_result, add_to_pair_result}
+use Rattle.uz_machine.specs.Arithmetic.{bit_is_set, with_bit}
+use Rattle.uz_machine.specs.Core.{Core, with_pointer_after}
 use Rattle.uz_machine.specs.CoreRange.{IsCore}
 use Rattle.uz_machine.specs.Timer.{is_timer_address}
 use Rattle.uz_machine.specs.Space.{PadWiring, Space, is_pin, after_byte}

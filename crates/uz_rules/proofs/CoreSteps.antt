@@ -8,7 +8,7 @@ use Rattle.std.proofs.lemmas.Nat.Bits.{bit_at-suc, bit_at_lowest, bit_at-lt, bit
 use Rattle.std.proofs.lemmas.Nat.Bits.{bit_at_above}
 use Rattle.uz_machine.specs.declared.AddressMode.{AddressMode}
 use Rattle.uz_machine.specs.declared.AddressMode.TheVariants.{Direct, Displacement, PostIncrement, PreDecrement}
-use Rattle.uz_machine.specs.Arithmetic.{AluResult, bit_value, bit_is_set, merged_sreg}
+use Rattle.uz_machine.specs.Arithmetic.{AluResult, bit_value, bit_is_set}
 use Rattle.uz_machine.specs.Core.{Core, register, pair, with_register, with_pair, with_flags, effective_address, with_pointer_after}
 use Rattle.uz_machine.specs.CoreRange.{IsCore}
 use Rattle.uz_machine.specs.OperandRanges.{AddressModeFits}
