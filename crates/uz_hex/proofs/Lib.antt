@@ -1,3 +1,4 @@
+pub mod CellSteps
 pub mod CellsLemmas
 pub mod CutLaws
 pub mod DigitLaws
