@@ -1,4 +1,5 @@
 use Rattle.std.proofs.Common.{◌-◌, suc, arith}
+use Rattle.std.proofs.lemmas.Option.{slice_get_within}
 use Rattle.uz_check.proofs.Looked.{lines_more, one_more_line, line_of_box}
 use Rattle.uz_check.proofs.points.lines_refusal.Goals as goal
 
@@ -30,3 +31,21 @@ lines-preserved c =
       untold = next.untold;
       visit = c.line_refusal.ensures.visit;
     }
+
+pub line_refusal-requires-clause-point : goal.line_refusal-requires-clause-point
+line_refusal-requires-clause-point c = slice_get_within c.args.cert.now.points c.args.id c.args.point.now c.requires.point
+
+pub line_refusal-requires-clause-counts : goal.line_refusal-requires-clause-counts
+line_refusal-requires-clause-counts c = c.requires.box_fits.count
+
+pub line_refusal-requires-clause-order : goal.line_refusal-requires-clause-order
+line_refusal-requires-clause-order c = c.requires.box_fits.count_order
+
+pub next_untold-l-requires-clause-box_fits : goal.next_untold-l-requires-clause-box_fits
+next_untold-l-requires-clause-box_fits c = c.requires.box_fits.line
+
+pub next_untold-l-requires-clause-line : goal.next_untold-l-requires-clause-line
+next_untold-l-requires-clause-line c = omega (arith, c.lines-test.true)
+
+pub next_untold-l-requires-clause-reach : goal.next_untold-l-requires-clause-reach
+next_untold-l-requires-clause-reach c = c.reach_of-reach.ensures
