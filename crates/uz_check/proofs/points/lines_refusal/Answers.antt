@@ -44,8 +44,5 @@ line_refusal-requires-clause-order c = c.requires.box_fits.count_order
 pub next_untold-l-requires-clause-box_fits : goal.next_untold-l-requires-clause-box_fits
 next_untold-l-requires-clause-box_fits c = c.requires.box_fits.line
 
-pub next_untold-l-requires-clause-line : goal.next_untold-l-requires-clause-line
-next_untold-l-requires-clause-line c = omega (arith, c.lines-test.true)
-
 pub next_untold-l-requires-clause-reach : goal.next_untold-l-requires-clause-reach
 next_untold-l-requires-clause-reach c = c.reach_of-reach.ensures
