@@ -63,13 +63,15 @@ fn search_built(alloc: Global, built: &Built, irq: Response) -> Result<Found, Fa
 {
     match find(alloc, &built.image, built.hints.as_slice(), irq) {
         Ok(cert) => {
-            let pair = pair_of(alloc, &built.image, &cert)?;
-            Ok(pair)
+            let pair = pair_of(alloc, &built.image, &cert);
+            drop(cert);
+            Ok(pair?)
         }
         Err(NotFound::Memory) => Err(Failure::Memory),
         Err(why) => {
-            let line = not_found(alloc, &why)?;
-            Ok(Found::Refusal { line })
+            let line = not_found(alloc, &why);
+            drop(why);
+            Ok(Found::Refusal { line: line? })
         }
     }
 }

@@ -25,10 +25,14 @@ fn ending_of(alloc: Global, checked: Checked) -> Result<Ending, AllocError>
         → Certified image cert) }
 {
     match checked {
-        Checked::Accepted(pair) => Ok(Ending {
-            status: Status::Done,
-            line: accepted(alloc, pair.cert())?,
-        }),
+        Checked::Accepted(pair) => {
+            let line = accepted(alloc, pair.cert());
+            drop(pair);
+            Ok(Ending {
+                status: Status::Done,
+                line: line?,
+            })
+        }
         Checked::Refused(ending) => Ok(ending),
     }
 }

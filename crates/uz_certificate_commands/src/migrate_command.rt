@@ -49,7 +49,9 @@ fn prepare<H: Shelf>(alloc: Global, shelf: &mut H, older: &str) -> Result<Work, 
         Ok(certificate) => certificate,
         Err(failure) => return Err(failure),
     };
-    Ok(work_of(alloc, &certificate)?)
+    let work = work_of(alloc, &certificate);
+    drop(certificate);
+    Ok(work?)
 }
 
 /// `migrate OLD NEW`: NEW is written only where all of OLD is read.

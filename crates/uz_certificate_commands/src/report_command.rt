@@ -25,10 +25,14 @@ fn ending_of(alloc: Global, checked: Checked) -> Result<Ending, AllocError>
         → MainsTimeTells image cert) }
 {
     match checked {
-        Checked::Accepted(pair) => Ok(Ending {
-            status: Status::Done,
-            line: report(alloc, &pair)?,
-        }),
+        Checked::Accepted(pair) => {
+            let line = report(alloc, &pair);
+            drop(pair);
+            Ok(Ending {
+                status: Status::Done,
+                line: line?,
+            })
+        }
         Checked::Refused(ending) => Ok(ending),
     }
 }

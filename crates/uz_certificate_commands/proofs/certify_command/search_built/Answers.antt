@@ -7,5 +7,5 @@ pub returns-in_ok-pair-in-Ok-clause-found : goal.returns-in_ok-pair-in-Ok-clause
 returns-in_ok-pair-in-Ok-clause-found c =
     let asked = subst (λ hints. IsAsked c.args.built.now.image c.args.irq hints c.in-Ok.cert) c.as_slice.ensures.value
     c.in-Ok.ensures.asked in
-    found_pair c.args.built.now.image c.args.irq c.args.built.now.hints.items c.in-Ok.cert c.in_ok-pair-in-Ok.pair
+    found_pair c.args.built.now.image c.args.irq c.args.built.now.hints.items c.in-Ok.cert c.in_ok-pair-in-Ok.field-0
     (c.in-Ok.ensures.accepted.0, c.in-Ok.ensures.accepted.1, asked) c.in_ok-pair-in-Ok.ensures
