@@ -72,10 +72,9 @@ fn run_out(console: Console, cert: Cert) -> Captured
     let clocks = three_frames(&cert);
     let mut player = Player::new(console, cert, clocks);
     let end = play_out(&mut player);
-    Captured {
-        end,
-        counts: player.counts(),
-    }
+    let counts = player.counts();
+    drop(player);
+    Captured { end, counts }
 }
 
 /// Prints the lines of a run, below what is printed already.
@@ -113,8 +112,16 @@ fn play_demo<K: Sink>(
             let captured = run_out(console, cert);
             end_demo(alloc, out, captured)
         }
-        Err(WriteError::Failed) => Status::Unwritten,
-        Err(WriteError::Memory) => put_no_memory(alloc, out),
+        Err(WriteError::Failed) => {
+            drop(console);
+            drop(cert);
+            Status::Unwritten
+        }
+        Err(WriteError::Memory) => {
+            drop(console);
+            drop(cert);
+            put_no_memory(alloc, out)
+        }
     }
 }
 

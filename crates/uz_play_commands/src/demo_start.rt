@@ -52,13 +52,25 @@ fn prepared(alloc: Global, image: Image, cert: Cert) -> Result<Start, AllocError
 {
     image.is_flash();
     reset_is_in_range();
-    let line = accepted(alloc, &cert)?;
-    let console = Console::reset(alloc, image, Vec::new(alloc), Response::Four)?;
-    Ok(Start::Ready {
-        console,
-        cert,
-        line,
-    })
+    let line = match accepted(alloc, &cert) {
+        Ok(line) => line,
+        Err(error) => {
+            drop(image);
+            drop(cert);
+            return Err(error);
+        }
+    };
+    match Console::reset(alloc, image, Vec::new(alloc), Response::Four) {
+        Ok(console) => Ok(Start::Ready {
+            console,
+            cert,
+            line,
+        }),
+        Err(error) => {
+            drop(cert);
+            Err(error)
+        }
+    }
 }
 
 /// Searches for a certificate of an assembled source.
@@ -67,14 +79,16 @@ fn searched(alloc: Global, built: Built) -> Result<Start, AllocError>
     ensures { IfOk result (IsSearched built.image built.hints.items) }
 {
     match find(alloc, &built.image, built.hints.as_slice(), Response::Four) {
-        Ok(cert) => {
-            let start = prepared(alloc, built.image, cert)?;
-            Ok(start)
+        Ok(cert) => prepared(alloc, built.image, cert),
+        Err(NotFound::Memory) => {
+            drop(built);
+            Err(AllocError)
         }
-        Err(NotFound::Memory) => Err(AllocError),
         Err(why) => {
-            let line = not_found(alloc, &why)?;
-            Ok(Start::Refusal { line })
+            let line = not_found(alloc, &why);
+            drop(why);
+            drop(built);
+            Ok(Start::Refusal { line: line? })
         }
     }
 }
@@ -84,6 +98,5 @@ pub(crate) fn start_demo(alloc: Global, number: u16) -> Result<Start, AllocError
     ensures { IfOk result (IsStart number) }
 {
     let built = assembled(alloc, number)?;
-    let start = searched(alloc, built)?;
-    Ok(start)
+    searched(alloc, built)
 }

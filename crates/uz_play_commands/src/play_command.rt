@@ -41,13 +41,23 @@ fn check_and_reset(
         Ok(pair) => {
             let (image, cert) = pair.into_parts();
             let irq = cert.head.irq;
-            let console = Console::reset(alloc, image, pads, irq)?;
-            Ok(Start::Ready { console, cert })
+            match Console::reset(alloc, image, pads, irq) {
+                Ok(console) => Ok(Start::Ready { console, cert }),
+                Err(error) => {
+                    drop(cert);
+                    Err(error)
+                }
+            }
         }
-        Err(pair) => Ok(Start::Refused(Ending {
-            status: Status::Refused,
-            line: refused(alloc, &pair.cert, pair.why)?,
-        })),
+        Err(pair) => {
+            let line = refused(alloc, &pair.cert, pair.why);
+            drop(pair);
+            drop(pads);
+            Ok(Start::Refused(Ending {
+                status: Status::Refused,
+                line: line?,
+            }))
+        }
     }
 }
 
@@ -69,11 +79,18 @@ pub(crate) fn start_play<H: Shelf>(
     let image = read_file::<HexText, H>(alloc, shelf, hex)?;
     let certificate = match read_file::<CertificateText, H>(alloc, shelf, cert) {
         Ok(certificate) => certificate,
-        Err(failure) => return Err(failure),
+        Err(failure) => {
+            drop(image);
+            return Err(failure);
+        }
     };
     let list = match read_file::<PadWords, H>(alloc, shelf, pads) {
         Ok(list) => list,
-        Err(failure) => return Err(failure),
+        Err(failure) => {
+            drop(image);
+            drop(certificate);
+            return Err(failure);
+        }
     };
     Ok(check_and_reset(alloc, image, certificate, list)?)
 }

@@ -15,7 +15,7 @@ returns-in-Err-Failed-clause-outcome g c = λ start files stands.
     put_failed c.args.line.now c.args.cert start _ _ files _ (g.K.Sink.text c.put.new.self) _
     (c.in-Err-Failed.ensures.failed (ap Err c.in-Err-Failed.field-0-is)) refl c.in-Err-Failed.ensures.err
 
-pub returns-clause-outcome : goal.returns-clause-outcome
-returns-clause-outcome g c = λ start files stands.
+pub returns-in-Err-Memory-clause-outcome : goal.returns-in-Err-Memory-clause-outcome
+returns-in-Err-Memory-clause-outcome g c = λ start files stands.
     put_lacks c.args.line.now c.args.cert start _ c.put_no_memory.result files _ _ _ c.put_no_memory.ensures.status
     c.in-Err-Memory.ensures.err c.put_no_memory.ensures.text

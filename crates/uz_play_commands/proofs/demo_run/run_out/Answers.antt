@@ -9,7 +9,7 @@ returns c = λ start stands.
     let player = c.new-player.ensures in
     let end = c.play_out-end.result in
     let done = c.play_out-end.ensures start (player.plays start stands) in
-    subst (λ counts. IsPlayedOut c.args.cert (demo_clocks c.args.cert) start end counts) (sym c.counts.ensures)
+    subst (λ counts. IsPlayedOut c.args.cert (demo_clocks c.args.cert) start end counts) (sym c.counts-counts.ensures)
     (subst (λ cert. IsPlayedOut cert (demo_clocks c.args.cert) start end (counts_of c.play_out-end.new.player)) player.cert
     (subst (λ limit. IsPlayedOut (cert_of c.new-player.result) limit start end (counts_of c.play_out-end.new.player))
     (player.limit ∙ c.three_frames-clocks.ensures.clocks) done))
