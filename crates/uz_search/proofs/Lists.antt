@@ -1,6 +1,7 @@
 -- Lists that are mapped, joined and chosen from, element by element.
 use Rattle.std.proofs.Common.{◌≡◌, ◌≢◌, ℕ, zero, suc, ◌⊎◌, List, [], ◌∷◌, ◌++◌, map, Some, Bool, true, false, refl, sym, ap, ◌∙◌, subst}
-use Rattle.std.proofs.Common.{inl, inr, ⊎_elim, slice_get, drop, append_assoc, if◌then◌else◌}
+use Rattle.std.proofs.Common.{◌<◌, ◌+◌, inl, inr, ⊎_elim, slice_get, get_or, length, take, drop, append_assoc, if◌then◌else◌}
+use Rattle.std.proofs.lemmas.List.{drop_more, map_more}
 use Rattle.std.specs.List.{flat_map}
 use Rattle.uz_schedule.specs.declared.kinds.Kind.{Kind}
 use Rattle.uz_schedule.specs.declared.kinds.Kind.TheVariants.{Main, Handler, Alone}
@@ -32,6 +33,15 @@ module _ {A B : Type 0} where
   of_map f (z ∷ zs) zero y h = (z, refl, some_is (f z) y h)
   of_map f (z ∷ zs) (suc i) y h = of_map f zs i y h
 
+  -- one more of a list is mapped
+  pub map_next : (f : A → B) (xs : List A) (done new : List B) (i : ℕ) (x : A) (y : B) → i < length xs → x ≡ get_or xs i x → y ≡ f x
+      → new ≡ done ++ y ∷ [] → done ≡ map f (take i xs) → new ≡ map f (take (i + 1) xs)
+  map_next f xs done new i x y within is mapped grown so_far =
+      grown
+      ∙ (ap (λ v. v ++ y ∷ []) so_far
+      ∙ (ap (λ v. map f (take i xs) ++ v ∷ []) (mapped ∙ ap f is)
+      ∙ sym (map_more f xs i x within)))
+
 module _ {A : Type 0} where
   pub append_cases : (xs ys : List A) (i : ℕ) (y : A) → slice_get (xs ++ ys) i ≡ Some y → Among xs y ⊎ Among ys y
   append_cases [] ys i y h = inr (i, h)
@@ -56,9 +66,11 @@ module _ {A : Type 0} where
       (append_cases (f z) (flat_map f zs) h.0 y h.1)
 
   -- one more of a list is done
-  pub flat_next : (f : A → List A) (xs done whole : List A) (i : ℕ) (x : A) → slice_get xs i ≡ Some x → done
-      ++ flat_map f (drop i xs) ≡ whole → (done ++ f x) ++ flat_map f (drop (suc i) xs) ≡ whole
-  flat_next f [] done whole i x h e = cc
-  flat_next f (z ∷ zs) done whole zero x h e = ap (λ v. (done ++ f v) ++ flat_map f zs) (sym (some_is z x h)) ∙ append_assoc done (f z)
-      (flat_map f zs) ∙ e
-  flat_next f (z ∷ zs) done whole (suc i) x h e = flat_next f zs done whole i x h e
+  pub flat_next : (f : A → List A) (xs done new whole : List A) (i : ℕ) (x : A) → i < length xs → x ≡ get_or xs i x → new ≡ done ++ f x
+      → done ++ flat_map f (drop i xs) ≡ whole → new ++ flat_map f (drop (i + 1) xs) ≡ whole
+  flat_next f xs done new whole i x within is grown so_far =
+      ap (λ v. v ++ flat_map f (drop (i + 1) xs)) grown
+      ∙ (append_assoc done (f x) (flat_map f (drop (i + 1) xs))
+      ∙ (ap (λ v. done ++ (f v ++ flat_map f (drop (i + 1) xs))) is
+      ∙ (ap (λ v. done ++ flat_map f v) (sym (drop_more xs i x within))
+      ∙ so_far)))

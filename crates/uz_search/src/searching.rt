@@ -160,15 +160,20 @@ fn started(
         returns,
         ways: Ways::new(alloc),
     };
-    add_all(
+    match add_all(
         &mut found.nodes,
         &mut found.parents,
         &mut found.ways,
         starts,
         None,
         false,
-    )?;
-    Ok(found)
+    ) {
+        Ok(()) => Ok(found),
+        Err(error) => {
+            drop(found);
+            Err(error)
+        }
+    }
 }
 
 /// The search before any instance is treated: it has the starts.
@@ -196,13 +201,18 @@ fn explore(alloc: Global, image: &Image, program: &Program, limit: u32) -> Resul
     let mut done = 0;
     'work: while (done as usize) < found.nodes.len() {
         if found.nodes.len() >= limit as usize {
+            drop(found);
+            drop(next);
             return Err(NotFound::Full { count: limit });
         }
         if let Err(refusal) = step(alloc, image, program, &mut found, done, &mut next) {
+            drop(found);
+            drop(next);
             return Err(refusal);
         }
         done += 1;
     }
+    drop(next);
     Ok(found)
 }
 
@@ -230,6 +240,7 @@ pub fn search(
     };
     if starts_in_main(program.starts.as_slice()) && is_without_return(found.returns.as_slice()) {
         let count = found.nodes.len();
+        drop(found);
         return Err(NotFound::NoRest {
             count: count as u32,
         });

@@ -6,8 +6,8 @@ use Rattle.uz_search.specs.Visiting.{IsTree, ComeFrom, AddsAll}
 use Rattle.uz_search.proofs.StepLemmas.{search_begin}
 use Rattle.uz_search.proofs.searching.started.Goals as goal
 
-pub returns : goal.returns
-returns c = λ image p starts marks returned.
+pub returns-in-Ok : goal.returns-in-Ok
+returns-in-Ok c = λ image p starts marks returned.
     let items = c.args.starts.items in
     let nodes = c.add_all.new.nodes.keys in
     let parents = c.add_all.new.parents.items in
@@ -17,5 +17,5 @@ returns c = λ image p starts marks returned.
     c.new-2.ensures.items
     (subst (λ (ks : List Instance). (image : Flash) (p : Program) → IsTree image p ks c.new-2.result.items
     → ComeFrom image p ks None items → AddsAll image p ks items nodes parents)
-    c.new.ensures.empty c.in_ok-add_all.ensures))
+    c.new.ensures.empty c.in-Ok.ensures))
     marks returned
