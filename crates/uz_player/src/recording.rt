@@ -101,14 +101,18 @@ pub fn capture<H: Shelf>(
 {
     match shelf.create(alloc, name) {
         Ok(()) => {}
-        Err(error) => return Err(error),
+        Err(error) => {
+            drop(console);
+            drop(cert);
+            return Err(error);
+        }
     }
     let mut player = Player::new(console, cert, clocks);
-    match append_records(alloc, &mut player, shelf) {
-        Ok(end) => Ok(Captured {
-            end,
-            counts: player.counts(),
-        }),
+    let ended = append_records(alloc, &mut player, shelf);
+    let counts = player.counts();
+    drop(player);
+    match ended {
+        Ok(end) => Ok(Captured { end, counts }),
         Err(error) => Err(error),
     }
 }
