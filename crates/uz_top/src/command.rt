@@ -1,6 +1,6 @@
 //! Which words are which command.
 
-ghost use Rattle.std.specs.Prelude.{◌≡◌, map, option_map, string_bytes};
+ghost use Rattle.std.specs.Prelude.{◌≡◌, ◌∷◌, map, option_map, string_bytes};
 ghost use Rattle.uz_top.specs.CommandValues.{value_of};
 ghost use Rattle.uz_text.specs.Numbers.{number_below, number_within as number_from_low};
 ghost use Rattle.uz_top.specs.Words.{asm_words, build_words, certify_with as certify_with_response, certify_words};
@@ -84,10 +84,17 @@ pub(crate) enum Command<'a> {
 pub(crate) fn parse(words: &[String]) -> Option<Command<'_>>
     ensures { option_map value_of result ≡ command_of (map string_bytes words.now) }
 {
-    let [verb, rest @ ..] = words else {
-        return None;
-    };
-    match verb.as_str() {
+    match words {
+        [verb, rest @ ..] => parse_after(verb.as_str(), rest),
+        [] => None,
+    }
+}
+
+/// The command of a verb and the words after it.
+fn parse_after<'a>(verb: &str, rest: &'a [String]) -> Option<Command<'a>>
+    ensures { option_map value_of result ≡ command_of (verb.now ∷ map string_bytes rest.now) }
+{
+    match verb {
         "check" => check(rest),
         "dis" => dis(rest),
         "asm" => asm(rest),

@@ -49,7 +49,7 @@ fn run<H: Shelf, K: Sink>(
     ensures halted { result ≡ Status.Stopped → StopTells (H.files shelf.old) (value_of command.now) }
     ensures untouched { CreatesNone (value_of command.now) → H.files shelf.new ≡ H.files shelf.old }
 {
-    match command {
+    match *command {
         Command::Check { hex, cert } => run_check(alloc, hex, cert, shelf, out),
         Command::Dis { hex } => run_dis(alloc, hex, shelf, out),
         Command::Asm { source, hex } => run_asm(alloc, source, hex, shelf, out),
@@ -58,7 +58,7 @@ fn run<H: Shelf, K: Sink>(
             pads,
             irq,
             clocks,
-        } => run_trace(alloc, hex, pads, *irq, *clocks, shelf, out),
+        } => run_trace(alloc, hex, pads, irq, clocks, shelf, out),
         Command::Expand { source, flat } => run_expand(alloc, source, flat, shelf, out),
         Command::Build { source, hex } => run_build(alloc, source, hex, shelf, out),
         Command::Play {
@@ -67,20 +67,20 @@ fn run<H: Shelf, K: Sink>(
             pads,
             clocks,
             frames,
-        } => run_play(alloc, hex, cert, pads, *clocks, frames, shelf, out),
+        } => run_play(alloc, hex, cert, pads, clocks, frames, shelf, out),
         Command::Debug {
             hex,
             pads,
             irq,
             script,
-        } => run_debug(alloc, hex, pads, *irq, script, shelf, out),
+        } => run_debug(alloc, hex, pads, irq, script, shelf, out),
         Command::Certify {
             source,
             irq,
             hex,
             cert,
-        } => run_certify(alloc, source, *irq, hex, cert, shelf, out),
-        Command::Demo { number } => run_demo(alloc, *number, out),
+        } => run_certify(alloc, source, irq, hex, cert, shelf, out),
+        Command::Demo { number } => run_demo(alloc, number, out),
         Command::Migrate { older, newer } => run_migrate(alloc, older, newer, shelf, out),
         Command::Report { hex, cert } => run_report(alloc, hex, cert, shelf, out),
         Command::Wave {
@@ -89,7 +89,7 @@ fn run<H: Shelf, K: Sink>(
             irq,
             clocks,
             wav,
-        } => run_wave(alloc, hex, pads, *irq, *clocks, wav, shelf, out),
+        } => run_wave(alloc, hex, pads, irq, clocks, wav, shelf, out),
     }
 }
 
