@@ -1,7 +1,9 @@
 -- Lists that are mapped, joined and chosen from, element by element.
 use Rattle.std.proofs.Common.{◌≡◌, ◌≢◌, ℕ, zero, suc, ◌⊎◌, List, [], ◌∷◌, ◌++◌, map, Some, Bool, true, false, refl, sym, ap, ◌∙◌, subst}
-use Rattle.std.proofs.Common.{◌<◌, ◌+◌, inl, inr, ⊎_elim, slice_get, get_or, length, take, drop, append_assoc, if◌then◌else◌}
+use Rattle.std.proofs.Common.{arith, ◌<◌, ◌+◌, inl, inr, ⊎_elim, slice_get, get_or, length, take, drop, append_assoc, if◌then◌else◌}
+use Rattle.std.proofs.lemmas.Bool.{cases_eq}
 use Rattle.std.proofs.lemmas.List.{drop_more, map_more}
+use Rattle.std.proofs.lemmas.Option.{slice_get_read}
 use Rattle.std.specs.List.{flat_map}
 use Rattle.uz_schedule.specs.declared.kinds.Kind.{Kind}
 use Rattle.uz_schedule.specs.declared.kinds.Kind.TheVariants.{Main, Handler, Alone}
@@ -74,3 +76,14 @@ module _ {A : Type 0} where
       ∙ (ap (λ v. done ++ (f v ++ flat_map f (drop (i + 1) xs))) is
       ∙ (ap (λ v. done ++ flat_map f v) (sym (drop_more xs i x within))
       ∙ so_far)))
+
+  -- what holds of each element so far, and of one more
+  pub each_next : (P : A → Type 0) (xs : List A) (i : ℕ) (x : A) → i < length xs → x ≡ get_or xs i x
+      → ((k : ℕ) (y : A) → k < i → slice_get xs k ≡ Some y → P y) → P x → (k : ℕ) (y : A) → k < i + 1 → slice_get xs k ≡ Some y → P y
+  each_next P xs i x within is so_far now k y less at = ⊎_elim
+      (λ (same : k ≡ i).
+      let here : slice_get xs k ≡ Some x = subst (λ n. slice_get xs n ≡ Some x) (sym same)
+      (slice_get_read xs (length xs) i x refl within is) in
+      subst P (some_is x y (sym here ∙ at)) now)
+      (λ (other : k ≢ i). so_far k y (omega arith) at)
+      (cases_eq k i)

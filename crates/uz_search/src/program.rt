@@ -10,12 +10,13 @@ ghost use Rattle.uz_search.specs.Widenings.{widened};
 ghost use Rattle.uz_search.specs.Following.{Among, After, entry_at, entries, followers_of, lines_of};
 ghost use Rattle.uz_search.specs.Fitting.{ProgramFits, Stands};
 
+use crate::stuck::is_main;
 use crate::widening::widen;
 use std::alloc::{AllocError, Global};
 use std::collections::BTreeMap;
 use uz_hex::Image;
 use uz_rules::{Fail, Next, put_after};
-use uz_schedule::{Head, Instance, Kind, Schedule, Sequence, handler_entry};
+use uz_schedule::{Head, Instance, Schedule, Sequence, handler_entry};
 use uz_transfer::copied;
 use uz_widening::Facts;
 
@@ -163,7 +164,7 @@ pub(crate) fn starts_in_main(starts: &[Instance]) -> bool
     ensures none { IsFalse result → (s : Instance) → Among starts.now s → s.kind ≡ Main → ⊥ }
 {
     'each: for start in starts {
-        if matches!(start.kind, Kind::Main) {
+        if is_main(start) {
             return true;
         }
     }
