@@ -6,6 +6,7 @@ pub mod Lists
 pub mod MarkingLemmas
 pub mod OneResult
 pub mod Results
+pub mod ReturningLemmas
 pub mod SearchingLemmas
 pub mod ShowingLemmas
 pub mod SpanLists
