@@ -1,5 +1,5 @@
 -- What `certify` answers: two files that are written one after the other, and a line.
-use Rattle.std.proofs.Common.{◌≡◌, ◌≢◌, ◌⊎◌, sym, inl, inr, ℕ, List, [], ◌∷◌, take, refl, ap, subst, ◌∙◌}
+use Rattle.std.proofs.Common.{◌≡◌, ◌≢◌, ◌⊎◌, sym, inl, inr, ℕ, List, [], ◌∷◌, ap, subst, ◌∙◌}
 use Rattle.std.specs.Prelude.{Option, Some, IfOk, Result, Ok, Err}
 use Rattle.uz_shelf.specs.Files.{FileMap, HoldsFile, LacksFile}
 use Rattle.uz_files.specs.Formats.{SpellsCertificate}

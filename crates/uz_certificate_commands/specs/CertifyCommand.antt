@@ -2,7 +2,7 @@
 -- the certificate are written, and a line tells the lines and clocks of the frame. What the search answers is taken as it comes: no
 -- definition
 -- computes it, but it comes only as its promise allows.
-use Rattle.std.specs.Prelude.{◌≡◌, ◌≢◌, ℕ, ◌-◌, List, [], ◌∷◌, Option}
+use Rattle.std.specs.Prelude.{◌≡◌, ◌≢◌, ℕ, List, [], ◌∷◌, Option}
 use Rattle.std.specs.Prelude.{Result, Ok, Err}
 use Rattle.uz_shelf.specs.Files.{FileMap, HoldsFile}
 use Rattle.uz_hex.specs.HexText.{IsHexOf}

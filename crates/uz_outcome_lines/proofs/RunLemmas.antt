@@ -1,5 +1,5 @@
 -- What comes of a run whose records are written to a file.
-use Rattle.std.proofs.Common.{◌≡◌, inl, inr, ℕ, List, [], ◌∷◌, ◌++◌, take, refl, sym, ap, subst, ◌∙◌}
+use Rattle.std.proofs.Common.{◌≡◌, inl, inr, ℕ, List, [], ◌∷◌, ◌++◌, refl, sym, ap, subst, ◌∙◌}
 use Rattle.std.specs.Prelude.{Option, Some, None}
 use Rattle.uz_shelf.specs.Files.{FileMap, WritesFile}
 use Rattle.uz_shelf.specs.Text.{TakesAll, TakesPrefix}

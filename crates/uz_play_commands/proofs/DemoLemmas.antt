@@ -14,14 +14,13 @@ use Rattle.uz_player.specs.declared.recording.Captured.{Captured}
 use Rattle.uz_files.specs.declared.ending.Ending.{Ending}
 use Rattle.uz_files.specs.declared.status.Status.{Status}
 use Rattle.uz_files.specs.declared.status.Status.TheVariants.{NoMemory, Refused, Unwritten}
-use Rattle.uz_files.specs.Answers.{Answer, ComesOf, MayCome, Outside, ended, one_line, outside}
+use Rattle.uz_files.specs.Answers.{ComesOf, MayCome, Outside, ended, one_line, outside}
 use Rattle.uz_files.specs.Endings.{answer_of}
 use Rattle.uz_files.specs.Lines.{no_memory_line}
 use Rattle.uz_files.proofs.EndingLemmas.{comes_by}
 use Rattle.uz_files.proofs.TextLemmas.{takes_none}
 use Rattle.uz_files.proofs.PrintedLemmas.{cut_part}
-use Rattle.uz_outcome_lines.specs.SearchLines.{Allowed, not_found_line}
-use Rattle.uz_pair_files.specs.VerdictLines.{accepted_line}
+use Rattle.uz_outcome_lines.specs.SearchLines.{Allowed}
 use Rattle.uz_outcome_lines.specs.Runs.{framed}
 use Rattle.uz_outcome_lines.specs.RunValues.{end_status, end_text}
 use Rattle.uz_outcome_lines.proofs.RunLemmas.{captured_answers}

@@ -1,5 +1,5 @@
 -- A number and an answer of the search give one demo.
-use Rattle.std.proofs.Common.{◌≡◌, ◌⊎◌, inl, inr, ℕ, List, [], sym, ap, ◌∙◌, subst}
+use Rattle.std.proofs.Common.{◌≡◌, ◌⊎◌, inl, inr, ℕ, [], sym, ap, ◌∙◌, subst}
 use Rattle.std.specs.Prelude.{Result, Ok, Err}
 use Rattle.avr_asm.specs.Assembly.{Output}
 use Rattle.uz_hex.specs.Reading.{Flash}

@@ -3,7 +3,6 @@ use Rattle.std.proofs.Common.{◌≡◌, inl, inr, ℕ, ◌%◌, List, [], sym, 
 use Rattle.std.proofs.lemmas.List.{get_or-replicate}
 use Rattle.uz_hex.specs.Reading.{Flash}
 use Rattle.uz_schedule.specs.declared.certificate.Cert.{Cert}
-use Rattle.uz_schedule.specs.declared.kinds.Response.TheVariants.{Four}
 use Rattle.uz_schedule.specs.WellFormed.{WellFormed}
 use Rattle.uz_machine.specs.PadLine.{PadHistory}
 use Rattle.uz_machine.specs.Turn.{State, sync_level}

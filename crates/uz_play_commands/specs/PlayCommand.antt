@@ -11,7 +11,6 @@ use Rattle.uz_machine.specs.PadLine.{PadHistory}
 use Rattle.uz_machine.specs.Turn.{State}
 use Rattle.uz_machine.specs.Run.{IsClockRun}
 use Rattle.uz_console.specs.Approaches.{EntersFirst}
-use Rattle.uz_scan.specs.Pictures.{records}
 use Rattle.uz_played.specs.Keeping.{KeepsSchedule}
 use Rattle.uz_soundness.specs.Acceptance.{Accepts}
 use Rattle.uz_check.specs.Refusal.{FirstRefusal}

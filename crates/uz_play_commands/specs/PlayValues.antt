@@ -10,7 +10,6 @@ use Rattle.uz_console.specs.declared.console.Console.{Console}
 use Rattle.uz_machine.specs.StateRange.{IsState}
 use Rattle.uz_soundness.specs.Acceptance.{Accepts}
 use Rattle.uz_soundness.specs.Certified.{Certified}
-use Rattle.uz_player.specs.declared.recording.RunEnd.TheVariants as end
 use Rattle.uz_play_commands.specs.declared.play_command.Start.{Start}
 use Rattle.uz_play_commands.specs.declared.play_command.Start.TheVariants.{Ready, Refused as RefusedPair}
 use Rattle.uz_files.specs.declared.status.Status.TheVariants.{Refused}

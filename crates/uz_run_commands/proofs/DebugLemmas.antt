@@ -1,5 +1,5 @@
 -- What `debug` answers.
-use Rattle.std.proofs.Common.{◌≡◌, ◌⊎◌, ◌≤◌, inl, inr, ℕ, List, [], length, refl, sym, ap, ◌∙◌, subst}
+use Rattle.std.proofs.Common.{◌≡◌, ◌⊎◌, ◌≤◌, inl, inr, ℕ, List, [], refl, sym, ap, ◌∙◌, subst}
 use Rattle.std.specs.Prelude.{Option, Some}
 use Rattle.uz_shelf.specs.Faults.{Rose}
 use Rattle.uz_shelf.specs.Files.{FileMap}
@@ -11,7 +11,7 @@ use Rattle.uz_machine.specs.PadLine.{PadHistory}
 use Rattle.uz_machine.specs.Turn.{State}
 use Rattle.uz_debug.specs.Debuggers.{Debugs, session_of}
 use Rattle.uz_debug.specs.SessionText.{Prints}
-use Rattle.uz_debug.specs.Sessions.{Session, session_at_reset}
+use Rattle.uz_debug.specs.Sessions.{session_at_reset}
 use Rattle.uz_debug.specs.declared.command.Command.{Command}
 use Rattle.uz_debug.specs.declared.command.Reply.{Reply}
 use Rattle.uz_debug.specs.declared.debugger.Debugger.{Debugger}

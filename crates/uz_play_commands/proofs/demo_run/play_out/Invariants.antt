@@ -1,4 +1,4 @@
-use Rattle.std.proofs.Common.{◌≡◌, [], List, ℕ}
+use Rattle.std.proofs.Common.{◌≡◌, []}
 use Rattle.uz_machine.specs.PadLine.{PadHistory}
 use Rattle.uz_machine.specs.Turn.{State}
 use Rattle.uz_player.specs.Playing.{Plays, ahead_of, cert_of, limit_of}

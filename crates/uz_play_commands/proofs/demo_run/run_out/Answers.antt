@@ -1,5 +1,5 @@
 use Rattle.std.proofs.Common.{◌∙◌, sym, subst}
-use Rattle.uz_player.specs.Playing.{cert_of, counts_of, limit_of}
+use Rattle.uz_player.specs.Playing.{cert_of, counts_of}
 use Rattle.uz_play_commands.specs.DemoCommand.{demo_clocks}
 use Rattle.uz_play_commands.specs.DemoValues.{IsPlayedOut}
 use Rattle.uz_play_commands.proofs.demo_run.run_out.Goals as goal

@@ -1,4 +1,4 @@
-use Rattle.std.proofs.Common.{◌≡◌, ◌+◌, ◌*◌, ◌≤◌, drop, length}
+use Rattle.std.proofs.Common.{◌≡◌, ◌*◌, ◌≤◌, drop, length}
 use Rattle.uz_run_commands.specs.TraceCommand.{edge_lines}
 use Rattle.uz_run_commands.proofs.trace_lines.write_lines.Given as goal
 

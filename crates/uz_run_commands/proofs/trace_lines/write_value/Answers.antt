@@ -1,4 +1,4 @@
-use Rattle.std.proofs.Common.{◌≤◌, ◌+◌, length, decimal, arith}
+use Rattle.std.proofs.Common.{arith}
 use Rattle.uz_run_commands.proofs.LineLemmas.{word_digits_most}
 use Rattle.uz_run_commands.proofs.trace_lines.write_value.Goals as goal
 

@@ -1,4 +1,4 @@
-use Rattle.std.proofs.Common.{◌≡◌, ℕ, None, Option, List, [], subst}
+use Rattle.std.proofs.Common.{ℕ, None, Option, List, [], subst}
 use Rattle.uz_schedule.specs.declared.states.Instance.{Instance}
 use Rattle.uz_search.specs.declared.program.Program.{Program}
 use Rattle.uz_search.specs.Following.{Flash}

@@ -1,4 +1,3 @@
-use Rattle.std.proofs.Common.{sym, refl}
 use Rattle.uz_files.proofs.HintCount.{few_hints}
 use Rattle.uz_files.proofs.formats.SourceFormat.read.Goals as goal
 
