@@ -9,3 +9,4 @@ pub mod Quiet
 pub mod Filled
 pub mod BlockEnds
 pub mod Reading
+pub mod TextLines
