@@ -1,5 +1,6 @@
 -- Levels of the code, and names of files.
-use Rattle.std.proofs.Common.{◌≡◌, ℕ, Bool, true, false, List, [], ◌∷◌, ◌++◌, length, map, reverse, refl, sym, ◌∙◌, ap}
+use Rattle.std.proofs.Common.{◌≡◌, ℕ, ◌≢◌, Bool, true, false, cond, List, [], ◌∷◌, ◌++◌, length, map, reverse, refl, sym, ◌∙◌, ap}
+use Rattle.std.specs.Prelude.{Some, None}
 use Rattle.std.specs.FinMap as finmap
 use Rattle.std.specs.Str.{IsUtf8, is_utf8}
 use Rattle.std.proofs.lemmas.List.{length-map, map-append, reverse-append}
@@ -8,6 +9,7 @@ use Rattle.avr_asm.specs.Layout.{predefined}
 use Rattle.avr_text.specs.Names.{NameMap}
 use Rattle.avr_macro.specs.declared.frames.Frame.{Frame}
 use Rattle.avr_macro.specs.declared.origin.Origin.{Origin}
+use Rattle.avr_macro.specs.Moves.{file_name}
 use Rattle.avr_macro.specs.States.{Level, MacroMap, State, file_level, first_state}
 use Rattle.avr_macro.specs.Views.{seen_frame, seen_frames}
 
@@ -17,12 +19,23 @@ last_frame fs more frame e = ap seen_frames e ∙ ap reverse (map-append seen_fr
     (seen_frame frame ∷ [])
 
 -- the test of UTF-8
-pub is_valid : (bytes : List ℕ) → IsUtf8 bytes → is_utf8 bytes ≡ true
+is_valid : (bytes : List ℕ) → IsUtf8 bytes → is_utf8 bytes ≡ true
 is_valid bytes h = is_utf8-from_IsUtf8 bytes h
 
-pub is_invalid : (bytes : List ℕ) → ¬ (IsUtf8 bytes) → is_utf8 bytes ≡ false
+is_invalid : (bytes : List ℕ) → ¬ (IsUtf8 bytes) → is_utf8 bytes ≡ false
 is_invalid bytes h = elim (is_utf8 bytes) as (λ b. is_utf8 bytes ≡ b → is_utf8 bytes ≡ false)
     [ true ↦ λ e. absurd (h (IsUtf8-from_is_utf8 bytes e)) | false ↦ λ e. e ] refl
+
+-- the name of a file
+pub name_told : (bytes called name : List ℕ) → length bytes ≢ 0 → called ≡ bytes → IsUtf8 bytes → name ≡ called
+    → Some name ≡ file_name bytes
+name_told [] called name some is valid same = absurd (some refl)
+name_told (b ∷ bs) called name some is valid same =
+    ap Some (same ∙ is) ∙ sym (ap (λ t. cond t (Some (b ∷ bs)) None) (is_valid (b ∷ bs) valid))
+
+pub none_named : (bytes : List ℕ) → length bytes ≢ 0 → ¬ (IsUtf8 bytes) → None ≡ file_name bytes
+none_named [] some invalid = absurd (some refl)
+none_named (b ∷ bs) some invalid = sym (ap (λ t. cond t (Some (b ∷ bs)) None) (is_invalid (b ∷ bs) invalid))
 
 -- levels with equal parts
 abbrev pub level_of : List (List ℕ) → List (List ℕ) → ℕ → Bool → Bool → Origin → ℕ → ℕ → Level

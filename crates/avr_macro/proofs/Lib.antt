@@ -5,3 +5,4 @@ pub mod Paths
 pub mod Runs
 pub mod Reasons
 pub mod Whole
+pub mod Files

@@ -1,10 +1,12 @@
 -- How a run goes on, and how it is cut short.
 use Rattle.std.proofs.Common.{◌≡◌, ℕ, ◌≤◌, List, [], ◌∷◌, ◌++◌, Global, length, map, refl, sym, ◌∙◌, ap, subst, inl, inr, arith}
-use Rattle.std.specs.Prelude.{◌⊎◌, Option, Some, None, Result, Ok, Err, string_bytes}
+use Rattle.std.specs.Prelude.{◌⊎◌, Option, Some, None, Result, Ok, Err, IsErrOf, Vec, string_bytes}
 use Rattle.std.specs.declared.string.String.{String}
 use Rattle.std.proofs.lemmas.List.{map-append}
 use Rattle.uz_shelf.specs.Faults.{Rose}
-use Rattle.uz_shelf.specs.Files.{FileMap, HoldsFile}
+use Rattle.uz_shelf.specs.Files.{FileMap, HoldsFile, HoldsLonger, LacksFile}
+use Rattle.uz_shelf.specs.declared.errors.LoadError.{LoadError}
+use Rattle.uz_shelf.specs.declared.errors.LoadError.TheVariants as load
 use Rattle.avr_macro.specs.declared.errors.MacroError.{MacroError}
 use Rattle.avr_macro.specs.declared.errors.MacroWhy.{MacroWhy}
 use Rattle.avr_macro.specs.declared.errors.MacroWhy.TheVariants.{Unread, Memory}
@@ -13,7 +15,7 @@ use Rattle.avr_macro.specs.Moves.{Move, goes, loads, refuses, included, move_of}
 use Rattle.avr_macro.specs.States.{Level, State, around, first_state}
 use Rattle.avr_macro.specs.Expansion.{Does, Ends, ends_refused, ends_unread, ends_too_long, ends_loaded, Reaches, reaches_more, step_goes}
 use Rattle.avr_macro.specs.Expansion.{step_loads, refused_end}
-use Rattle.avr_macro.specs.Answers.{Begins, CutBy, EndsAtFile, Includes, IsCut, IsCutOff, refused_seen}
+use Rattle.avr_macro.specs.Answers.{Begins, CutBy, EndsAtFile, FailsFirst, Includes, IsCut, IsCutOff, refused_seen, unloaded}
 use Rattle.avr_macro.specs.declared.expander.Request.{Request}
 use Rattle.avr_macro.specs.Steps.{AsksFor, GivesStep}
 
@@ -51,6 +53,32 @@ file_refused files load_fault names later name level s reason file bytes read pu
         sym (ap (λ n. included n read level s) count ∙ ap (λ b. included (length names) b level s) is) ∙ e,
       )),
     )
+
+-- a file that wasn't loaded
+pub file_unloaded : (files : Option FileMap) (load_fault : Type 0) (names later : List (List ℕ)) (name called : List ℕ) (level : Level)
+    (s : State) (error : LoadError) (reason : MacroWhy) → reason ≡ unloaded error → later ≡ names ++ name ∷ [] → called ≡ name
+    → (IsErrOf {T = Vec ℕ Global} (Err error) load.Failed → load_fault ⊎ LacksFile files called)
+    → (IsErrOf {T = Vec ℕ Global} (Err error) load.TooLong → HoldsLonger files called 1048576)
+    → ((reason ≡ Memory) × ((later ≡ names) ⊎ (later ≡ names ++ name ∷ []))) ⊎ ((later ≡ names ++ name ∷ [])
+    × (level.origin ≡ level.origin) × EndsAtFile files load_fault names name level s (record { at = level.origin; why = reason }))
+file_unloaded files load_fault names later name called level s load.Failed reason is put same failed too_long =
+    inr (put, refl, inl (is, subst (λ (n : List ℕ). load_fault ⊎ LacksFile files n) same (failed refl)))
+file_unloaded files load_fault names later name called level s load.TooLong reason is put same failed too_long =
+    inr (put, refl, inr (inl (is, subst (λ (n : List ℕ). HoldsLonger files n 1048576) same (too_long refl))))
+file_unloaded files load_fault names later name called level s load.Memory reason is put same failed too_long = inl (is, inr put)
+
+pub first_unloaded : (files : Option FileMap) (load_fault : Type 0) (name : List ℕ) (error : LoadError) (reason : MacroWhy)
+    → reason ≡ unloaded error
+    → (IsErrOf {T = Vec ℕ Global} (Err error) load.Failed → load_fault ⊎ LacksFile files name)
+    → (IsErrOf {T = Vec ℕ Global} (Err error) load.TooLong → HoldsLonger files name 1048576)
+    → FailsFirst files load_fault name (record { at = record { file = 0; line = 0 }; why = reason })
+first_unloaded files load_fault name load.Failed reason is failed too_long = inr (refl, inl (is, failed refl))
+first_unloaded files load_fault name load.TooLong reason is failed too_long = inr (refl, inr (is, too_long refl))
+first_unloaded files load_fault name load.Memory reason is failed too_long = inl is
+
+-- the bytes of a file that was loaded are few
+pub few_bytes : (read bytes : List ℕ) (len : ℕ) → read ≡ bytes → len ≡ length bytes → len ≤ 1048576 → length read ≤ 1048576
+few_bytes read bytes len is same few = omega (arith, ap length is, same, few)
 
 -- a line is expanded
 pub goes_on : (files : Option FileMap) (begun names : List (List ℕ)) (first s t : State) (level : Level) (outer : List Level)

@@ -185,7 +185,6 @@ fn called(alloc: Global, line: &[u8], call: u32, body: &Macro) -> Result<Call, M
 }
 
 /// The name of a file: some UTF-8.
-#[tactic(auto, using(crate::proofs::Levels::is_valid, crate::proofs::Levels::is_invalid))]
 fn file_name(alloc: Global, bytes: &[u8]) -> Result<Option<String>, AllocError>
     ensures { IfOk result (λ name. option_map string_bytes name ≡ file_name_of bytes.now) }
 {

@@ -71,7 +71,6 @@ impl Frame {
     ghost use Rattle.avr_macro.specs.Views.{IsAt, seen_called, seen_frame};
 
     /// A file, from its first line on.
-    #[tactic(auto, using(avr_macro_lines::proofs::Slices::whole_body))]
     pub fn of_file(
         alloc: Global,
         file: u32,

@@ -1,4 +1,4 @@
-use Rattle.std.proofs.Common.{Global, List, ℕ, ◌∷◌, [], ◌++◌, ◌∙◌, ap, subst, arith}
+use Rattle.std.proofs.Common.{Global, List, ℕ, ◌∷◌, [], ◌++◌, ◌∙◌, refl, ap, subst, inl, inr, arith}
 use Rattle.std.specs.Prelude.{string_bytes}
 use Rattle.std.specs.declared.string.String.{String}
 use Rattle.std.proofs.lemmas.List.{length-map}
@@ -7,7 +7,7 @@ use Rattle.uz_shelf.specs.Files.{HoldsFile}
 use Rattle.avr_macro.specs.Answers.{names_of}
 use Rattle.avr_macro.specs.Steps.{seen_expander}
 use Rattle.avr_macro.specs.Views.{seen_frame}
-use Rattle.avr_macro.proofs.Runs.{file_read, file_refused}
+use Rattle.avr_macro.proofs.Runs.{few_bytes, file_read, file_refused, file_unloaded}
 use Rattle.avr_macro.proofs.expansion.include.Goals as goal
 
 pub returns-in-Ok-include-clause-came : goal.returns-in-Ok-include-clause-came
@@ -48,3 +48,25 @@ returns-in-Ok-load-clause-came g c =
     ))
     c.as_slice.ensures.value held
     (omega (arith, c.in-Ok-load.ensures.limit, c.in-Ok-load.bytes.ok.0)) c.in-Err-include.ensures.gives
+
+pub returns-in_default-clause-came : goal.returns-in_default-clause-came
+returns-in_default-clause-came g c = inl (c.out_of_memory.ensures, inl refl)
+
+pub returns-in_default-put_name-clause-came : goal.returns-in_default-put_name-clause-came
+returns-in_default-put_name-clause-came g c =
+    inl (c.out_of_memory-in_default-put_name.ensures, inl c.in_default-put_name.ensures.err)
+
+pub returns-clause-came : goal.returns-clause-came
+returns-clause-came g c =
+    let names = names_of c.args.names.now in
+    file_unloaded (g.H.Shelf.files c.args.shelf.now)
+    (Rose (g.H.Shelf.load_faults c.args.shelf.now) (g.H.Shelf.load_faults c.load.new.self)) names
+    (names_of c.put_name.new.names) (string_bytes c.args.request.name) c.as_str-2.result.now (seen_frame c.args.request.frame)
+    (seen_expander c.args.expander.now) c.in-Err.error c.why_unloaded.result c.why_unloaded.ensures
+    (c.in-Ok-put_name.ensures.ok ∙ ap (λ (name : List ℕ). names ++ name ∷ []) c.as_str.ensures.value)
+    c.as_str-2.ensures.value c.in-Err.ensures.failed c.in-Err.ensures.too_long
+
+pub include-requires-clause-short : goal.include-requires-clause-short
+include-requires-clause-short g c =
+    few_bytes c.as_slice.result.now c.in-Ok-load.bytes.items _ c.as_slice.ensures.value c.in-Ok-load.bytes.ok.0
+    c.in-Ok-load.ensures.limit
