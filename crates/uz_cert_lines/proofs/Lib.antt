@@ -3,3 +3,4 @@ pub mod Lengths
 pub mod LineLaws
 pub mod Spans
 pub mod Steps
+pub mod Fields
