@@ -8,7 +8,9 @@ use Rattle.avr_operands.specs.Faults.{OrFault}
 use Rattle.avr_operands.specs.Operands.{both}
 use Rattle.avr_asm.specs.declared.output.Hint.{Hint}
 use Rattle.avr_asm.specs.declared.output.Hint.TheVariants as hint
-use Rattle.avr_asm.specs.Hints.{fact_at, fact_hint, half_hint, lines_hint, mapped, place_of, short}
+use Rattle.avr_asm.specs.Hints.{byte, bytes_at, fact_at, fact_hint, half_hint, handler_cell_hint, lines_hint, mapped, part_at, place_of}
+use Rattle.avr_asm.specs.Hints.{ranged, short, shorts_at, stack_hint}
+use Rattle.uz_schedule.specs.declared.kinds.Kind.TheVariants.{Handler}
 
 two : (parts : List (Bor (List Token))) (d e : Bor (List Token)) → length parts ≡ 2
     → (get_or parts 0 d).now ∷ (get_or parts 1 e).now ∷ [] ≡ map (λ p. p.now) parts
@@ -71,3 +73,24 @@ no_fact line symbols (p ∷ []) following h = refl
 no_fact line symbols (p ∷ q ∷ []) following h = refl
 no_fact line symbols (p ∷ q ∷ r ∷ []) following h = absurd (h refl)
 no_fact line symbols (p ∷ q ∷ r ∷ s ∷ parts) following h = refl
+
+-- the stack's ranges
+abbrev pub stack_from : OrFault ((ℕ × ℕ) × (ℕ × ℕ)) → OrFault Hint
+stack_from ranges = mapped ranges (λ p. hint.Stack p.0.0 p.0.1 p.1.0 p.1.1)
+
+pub stack_told : (line : List ℕ) (symbols : NameMap) (parts : List (List Token)) (cells depths : OrFault (ℕ × ℕ))
+    (ranges : OrFault ((ℕ × ℕ) × (ℕ × ℕ))) → cells ≡ shorts_at line symbols parts 0 → depths ≡ bytes_at line symbols parts 2
+    → ranges ≡ both cells depths → stack_from ranges ≡ stack_hint line symbols parts
+stack_told line symbols parts cells depths ranges cells_are depths_are ranges_are =
+    ap stack_from (ranges_are ∙ ap (λ x. both x depths) cells_are ∙ ap (both (shorts_at line symbols parts 0)) depths_are)
+
+-- a cell of the handler
+abbrev pub cell_from : OrFault ((ℕ × (ℕ × ℕ)) × ℕ) → OrFault Hint
+cell_from cell = mapped cell (λ p. hint.Cell p.0.0 Handler p.0.1.0 p.0.1.1 p.1)
+
+pub cell_told : (line : List ℕ) (symbols : NameMap) (parts : List (List Token)) (last : List Token) (range : OrFault (ℕ × (ℕ × ℕ)))
+    (first : OrFault ℕ) (cell : OrFault ((ℕ × (ℕ × ℕ)) × ℕ)) → range ≡ ranged line symbols parts → first ≡ byte line symbols last
+    → last ≡ part_at parts 4 → cell ≡ both range first → cell_from cell ≡ handler_cell_hint line symbols parts
+cell_told line symbols parts last range first cell range_is first_is last_is cell_is =
+    ap cell_from (cell_is ∙ ap (λ x. both x first) range_is
+    ∙ ap (both (ranged line symbols parts)) (first_is ∙ ap (byte line symbols) last_is))
