@@ -272,7 +272,6 @@ fn put_lines(
 }
 
 /// Assembles a source as the definition in two passes says.
-#[tactic(auto, using(crate::proofs::LineLemmas::each_short, crate::proofs::LineLemmas::few_lines))]
 fn assemble_lines(alloc: Global, text: &[u8]) -> Result<Built, AsmError>
     requires { length text.now < 2 ^ 32 - 1 }
     ensures built { GivesLayout seen_built result (assembly text.now) }
