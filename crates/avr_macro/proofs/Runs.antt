@@ -80,6 +80,10 @@ first_unloaded files load_fault name load.Memory reason is failed too_long = inl
 pub few_bytes : (read bytes : List ℕ) (len : ℕ) → read ≡ bytes → len ≡ length bytes → len ≤ 1048576 → length read ≤ 1048576
 few_bytes read bytes len is same few = omega (arith, ap length is, same, few)
 
+-- counts that only rise
+pub no_fewer : (a b c : ℕ) → a ≤ b → b ≤ c → a ≤ c
+no_fewer a b c first second = omega (arith, first, second)
+
 -- a line is expanded
 pub goes_on : (files : Option FileMap) (begun names : List (List ℕ)) (first s t : State) (level : Level) (outer : List Level)
     → Reaches files begun first names s → s.levels ≡ level ∷ outer → move_of level (around outer s) ≡ goes t → Reaches files begun first
