@@ -4,6 +4,8 @@ use Rattle.std.proofs.lemmas.Int.{to_z-of_z}
 use mir.Val.{SFits}
 use Rattle.avr_table.specs.declared.Instr.{Instr}
 use Rattle.avr_operands.specs.declared.mnemonics.Mnemonic.{Mnemonic}
+use Rattle.avr_operands.specs.declared.pointers.Pointer.{Pointer}
+use Rattle.avr_operands.specs.declared.pointers.Step.{Step}
 use Rattle.avr_operands.specs.Instructions.{row_of}
 
 pub none_told : (row : Instr) (name : Mnemonic) {named : Mnemonic} {x y : ℤ} → SFits w64 x → SFits w64 y → named ≡ name
@@ -33,3 +35,10 @@ pub twice_told : {F : Type 0} (row : F → F → Instr) (make : ℤ → F) (name
 twice_told row make name {named} {x} {y} {f} {g} x_fits y_fits is f_is g_is e =
     ap (λ h. row h g) (handed make f x x_fits f_is) ∙ ap (row (make x)) (handed make g x x_fits g_is)
     ∙ none_told (row (make x) (make x)) name x_fits y_fits is e
+
+-- a row of LD or ST by its pointer
+pub pointer_told : {F : Type 0} (row : F → Instr) (make : ℤ → F) (told : ℤ → Pointer → Step → Instr) (at : Pointer) (by : Step)
+    {pointer : Pointer} {step : Step} {d : ℤ} {f : F} → SFits w64 d → pointer ≡ at → step ≡ by → f ≡ make (to_z w64 (of_z w64 d))
+    → told d at by ≡ row (make d) → row f ≡ told d pointer step
+pointer_told row make told at by {pointer} {step} {d} {f} d_fits at_is by_is f_is e =
+    ap row (handed make f d d_fits f_is) ∙ sym e ∙ sym (ap (told d at) by_is) ∙ sym (ap (λ p. told d p step) at_is)
