@@ -11,7 +11,6 @@ use Rattle.avr_operands.specs.declared.errors.AsmWhy.TheVariants.{Memory}
 use Rattle.avr_asm.specs.declared.layout.Place.{Place}
 use Rattle.avr_operands.specs.Faults.{OrFault}
 use Rattle.avr_asm.specs.Layout.{Layout, with_address, at_line, layout_from, after_line, is_instruction_line, IsLast}
-use Rattle.std.proofs.Common.{◌*◌, ◌%◌, ◌^◌, Fits, w32, w64}
 
 -- addresses in front of those of a layout
 abbrev pub with_addresses : List ℕ → Result Layout AsmError → Result Layout AsmError
@@ -185,20 +184,3 @@ pub told_fault : {X Y : Type 0} (k : ℕ) (why : AsmWhy) (told : AsmError) (says
 told_fault k why told says whole (inl m) f w l = inl (w ∙ m)
 told_fault k why told says whole (inr e) f w (inl m) = inl (w ∙ m)
 told_fault k why told says whole (inr e) f w (inr l) = inr (f e ∙ (λ i. Err (record { line = sym l i; why = sym w i })))
-
--- the numbers of lines
-pub number_fits : (i n : ℕ) → i < n → n < 2 ^ 32 - 1 → Fits w32 i
-number_fits i n within few = record { fits = omega (arith, within, few) }
-
-pub next_number_fits : (i n : ℕ) → i < n → n < 2 ^ 32 - 1 → Fits w32 (i + 1)
-next_number_fits i n within few = record { fits = omega (arith, within, few) }
-
-pub next_place_fits : (i n : ℕ) → i < n → n < 2 ^ 32 - 1 → Fits w64 (i + 1)
-next_place_fits i n within few = record { fits = omega (arith, within, few) }
-
--- how many bytes data takes
-pub padded_fits : (n : ℕ) → n < 2 ^ 62 → Fits w64 (n + n % 2)
-padded_fits n few = record { fits = omega (arith, few) }
-
-pub doubled_fits : (n : ℕ) → n < 2 ^ 62 → Fits w64 (2 * n)
-doubled_fits n few = record { fits = omega (arith, few) }

@@ -3,7 +3,7 @@ use Rattle.std.proofs.Common.{◌≡◌, ℕ, ◌+◌, ◌-◌, ◌<◌, ◌≤�
 use Rattle.std.specs.List.{slice_range}
 use Rattle.avr_macro_lines.specs.Lines.{lines_of}
 use Rattle.avr_macro_lines.proofs.Slices.{whole_body}
-use Rattle.avr_macro.specs.States.{Level, file_level}
+use Rattle.avr_macro.specs.States.{file_level}
 
 pub file_begins : (body lines : List (List ℕ)) (bytes : List ℕ) (file includes n : ℕ) → n ≡ length lines → body ≡ lines
     → lines ≡ lines_of bytes

@@ -1,14 +1,11 @@
 -- Numbers that fit the fields of what a line says, by the limits that they are read with.
-use Rattle.std.proofs.Common.{◌≡◌, ℕ, ◌+◌, ◌<◌, ◌≤◌, Fits, w8, w16, w32, arith}
+use Rattle.std.proofs.Common.{ℕ, ◌+◌, ◌<◌, ◌≤◌, Fits, w8, w16, w32, arith}
 
 -- a word address
 pub address_fits : (n : ℕ) → n < 32768 → Fits w16 n
 address_fits n below = record { fits = omega (arith, below) }
 
--- a data address, and the ends of the stack
-pub data_fits : (n limit : ℕ) → n < limit → limit ≡ 4352 → Fits w16 n
-data_fits n limit below is = record { fits = omega (arith, below, is) }
-
+-- the ends of the stack
 pub low_fits : (n : ℕ) → n < 4351 → Fits w16 n
 low_fits n below = record { fits = omega (arith, below) }
 

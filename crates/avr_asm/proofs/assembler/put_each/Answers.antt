@@ -1,6 +1,6 @@
 use Rattle.std.proofs.Common.{◌+◌, sym, ◌∙◌, arith}
 use Rattle.avr_asm.specs.Assembly.{seen_built}
-use Rattle.avr_asm.proofs.LayoutLemmas.{next_number_fits, number_fits, told_fault}
+use Rattle.avr_asm.proofs.LayoutLemmas.{told_fault}
 use Rattle.avr_asm.proofs.AssemblyLemmas.{output_more, output_fault, output_end}
 use Rattle.avr_asm.proofs.assembler.put_each.Goals as goal
 
@@ -24,9 +24,3 @@ loop-i-preserved c = record {
 pub returns-clause-built : goal.returns-clause-built
 returns-clause-built c = sym c.loop-i.invariant.left ∙ output_end (c.loop-i.i + 1) c.args.symbols.now (seen_built c.loop-i.built)
     c.args.lines.now c.args.addresses.now c.loop-i.i (omega arith)
-
-pub overflow_cast-number : goal.overflow_cast-number
-overflow_cast-number c = number_fits c.loop-i.i _ c.loop-i-test.true c.requires.few
-
-pub overflow_add-number : goal.overflow_add-number
-overflow_add-number c = next_number_fits c.loop-i.i _ c.loop-i-test.true c.requires.few

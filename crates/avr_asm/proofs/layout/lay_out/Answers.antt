@@ -1,7 +1,7 @@
 use Rattle.std.proofs.Common.{◌≤◌, ◌+◌, ◌∷◌, [], All, length, nat_lt, refl, sym, ◌∙◌, ap, subst, arith}
 use Rattle.std.proofs.lemmas.List.{length-append}
 use Rattle.std.proofs.lemmas.List.Elements.{All-nil, All-cons, All-append}
-use Rattle.avr_asm.proofs.LayoutLemmas.{told_fault, more_lent, faulty_lent, last_lent, next_number_fits, next_place_fits, number_fits}
+use Rattle.avr_asm.proofs.LayoutLemmas.{told_fault, more_lent, faulty_lent, last_lent}
 use Rattle.avr_asm.proofs.layout.lay_out.Goals as goal
 
 pub returns-in-Err-lay_line-clause-layout : goal.returns-in-Err-lay_line-clause-layout
@@ -33,12 +33,3 @@ loop-i-preserved c = record {
 pub returns-clause-layout : goal.returns-clause-layout
 returns-clause-layout c = sym c.loop-i.invariant.left ∙ last_lent (c.loop-i.i + 1) c.loop-i.i c.loop-i.place c.args.lines.now
     c.loop-i.addresses.items (omega arith)
-
-pub overflow_add-i : goal.overflow_add-i
-overflow_add-i c = next_place_fits c.loop-i.i _ c.loop-i-test.true c.requires.few
-
-pub overflow_cast-i : goal.overflow_cast-i
-overflow_cast-i c = number_fits c.loop-i.i _ c.loop-i-test.true c.requires.few
-
-pub overflow_add-i-in-Err-lay_line : goal.overflow_add-i-in-Err-lay_line
-overflow_add-i-in-Err-lay_line c = next_number_fits c.loop-i.i _ c.loop-i-test.true c.requires.few

@@ -1,4 +1,4 @@
-use Rattle.std.proofs.Common.{ℕ, Vec, Global, refl, ◌∙◌, ap, inl, inr}
+use Rattle.std.proofs.Common.{ℕ, Vec, Global, ◌∙◌, ap, inl, inr}
 use Rattle.uz_shelf.specs.Faults.{Rose}
 use Rattle.avr_macro.specs.Answers.{names_of}
 use Rattle.avr_macro.specs.declared.origin.Origin.{Origin}

@@ -9,7 +9,7 @@ use Rattle.avr_macro.specs.Steps.{seen_expander}
 use Rattle.avr_macro.specs.Views.{seen_frame, seen_frames}
 use Rattle.avr_macro.proofs.Levels.{last_frame}
 use Rattle.avr_macro.proofs.Runs.{goes_on, loads_on, cut_at_line, cut_at_file, asked_for, asked_none, includes_same, rose_before}
-use Rattle.avr_macro.proofs.Runs.{cut_before, no_fewer}
+use Rattle.avr_macro.proofs.Runs.{cut_before}
 use Rattle.avr_macro.proofs.expansion.run.Goals as goal
 
 pub lines-init : goal.lines-init
@@ -94,12 +94,3 @@ returns-in-Err-include-clause-runs g c =
     (seen_frames c.pop.new.self.items) (string_bytes c.in-Some-asked.request.name) c.in-Err-include.error
     c.lines.invariant.reached (last_frame c.pop.new.self.items c.lines.expander.frames.items c.in-Some.frame c.in-Some.ensures.items)
     gives.name came)
-
-pub returns-in-Err-clause-load_faults : goal.returns-in-Err-clause-load_faults
-returns-in-Err-clause-load_faults g c = c.lines.invariant.load_faults
-
-pub returns-in-Err-include-clause-load_faults : goal.returns-in-Err-include-clause-load_faults
-returns-in-Err-include-clause-load_faults g c = no_fewer _ _ _ c.lines.invariant.load_faults c.include.ensures.load_faults
-
-pub returns-clause-load_faults : goal.returns-clause-load_faults
-returns-clause-load_faults g c = c.lines.invariant.load_faults
