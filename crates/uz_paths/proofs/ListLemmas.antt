@@ -1,6 +1,6 @@
 -- One more list behind others.
 use Rattle.std.proofs.Common.{◌≡◌, ℕ, ◌+◌, ◌-◌, ◌≤◌, List, [], ◌∷◌, ◌++◌, Some, length, take, drop, refl, sym, ◌∙◌, ap, subst, arith}
-use Rattle.std.proofs.Common.{length-append, length-drop}
+use Rattle.std.proofs.Common.{get_or, length-append, length-drop}
 use Rattle.std.specs.Prelude.{slice_get}
 use Rattle.std.specs.List.{between}
 use Rattle.std.proofs.Math.ListN.{get_or-append}
@@ -8,7 +8,7 @@ use Rattle.std.proofs.Math.Seq.{drop-append_seam, get_or-append_seam, take-lengt
 use Rattle.std.proofs.lemmas.List.{drop-append-le, take-append-le}
 use Rattle.std.proofs.lemmas.Option.{get_or_from_slice_get, slice_get_read, slice_get_within}
 use Rattle.uz_paths.specs.declared.lists.Lists.{Lists}
-use Rattle.uz_paths.specs.Lists.{AreLists, IsListAt}
+use Rattle.uz_paths.specs.Lists.{AreLists, HasListAt, IsListAt}
 
 kept_at : (xs ys : List ℕ) (i x : ℕ) → slice_get xs i ≡ Some x → slice_get (xs ++ ys) i ≡ Some x
 kept_at xs ys i x h =
@@ -76,3 +76,32 @@ stands_last old new count list end are put =
           ∙ ap (take (end - length old.numbers.items)) (drop-append_seam old.numbers.items list)
           ∙ subst (λ n. take n list ≡ list) as_many (take-length list));
     }
+
+reads_begin : (lists : Lists) (i : ℕ) (list : List ℕ) (from : ℕ) → from ≡ get_or lists.starts.items i from → (is : IsListAt lists i list) →
+    from ≡ is.from
+reads_begin lists i list from read is = read ∙ get_or_from_slice_get lists.starts.items i is.from from is.begins
+
+reads_end : (lists : Lists) (i : ℕ) (list : List ℕ) (to : ℕ) → to ≡ get_or lists.starts.items (i + 1) to → (is : IsListAt lists i list) →
+    to ≡ is.to
+reads_end lists i list to read is = read ∙ get_or_from_slice_get lists.starts.items (i + 1) is.to to is.ends
+
+-- numbers that are read where a list begins and ends
+pub in_order : (lists : Lists) (i from to : ℕ) → from ≡ get_or lists.starts.items i from →
+    to ≡ get_or lists.starts.items (i + 1) to → HasListAt lists i → from ≤ to
+in_order lists i from to begins ends has =
+    let order = has.there.order in
+    omega (arith, reads_begin lists i has.list from begins has.there, reads_end lists i has.list to ends has.there, order)
+
+pub is_read : (lists : Lists) (i from to : ℕ) (list numbers : List ℕ) → numbers ≡ lists.numbers.items →
+    from ≡ get_or lists.starts.items i from → to ≡ get_or lists.starts.items (i + 1) to → IsListAt lists i list →
+    between from to numbers ≡ list
+is_read lists i from to list numbers all begins ends is =
+    let first = reads_begin lists i list from begins is in
+    let last = reads_end lists i list to ends is in
+    (λ j. between (first j) (last j) (all j)) ∙ sym is.is
+
+pub few_read : (lists : Lists) (i from to : ℕ) (numbers : List ℕ) → numbers ≡ lists.numbers.items →
+    from ≡ get_or lists.starts.items i from → to ≡ get_or lists.starts.items (i + 1) to → HasListAt lists i →
+    length (between from to numbers) ≤ 16
+few_read lists i from to numbers all begins ends has =
+    subst (λ list. length list ≤ 16) (sym (is_read lists i from to has.list numbers all begins ends has.there)) has.few

@@ -133,37 +133,68 @@ pub(crate) fn parts_of(
     requires start { Among program.now.starts (entry_instance_at entry 1) }
     ensures { IfOk result (ArePartsOf image.now program.now entry found) }
 {
-    let schedule = made_schedule(alloc, image, program, &found)?;
-    let rests = rests_of(alloc, found.returns.as_slice())?;
+    let schedule = match made_schedule(alloc, image, program, &found) {
+        Ok(schedule) => schedule,
+        Err(AllocError) => {
+            drop(found);
+            drop(entry);
+            return Err(AllocError);
+        }
+    };
+    let rests = match rests_of(alloc, found.returns.as_slice()) {
+        Ok(rests) => rests,
+        Err(AllocError) => {
+            drop(schedule);
+            drop(found);
+            drop(entry);
+            return Err(AllocError);
+        }
+    };
     nodes_are_searched(image, program, &found);
     rests_are_entered(image, program, &entry, &schedule, &found);
-    let plan = plan_of(
+    let plan = match plan_of(
         alloc,
         image,
         program,
         &schedule,
         rests.as_slice(),
         &found.nodes,
-    )?;
+    ) {
+        Ok(plan) => plan,
+        Err(AllocError) => {
+            drop(rests);
+            drop(schedule);
+            drop(found);
+            drop(entry);
+            return Err(AllocError);
+        }
+    };
     let id = number_of(
         &found.nodes,
         plan.numbers.as_slice(),
         &entry_state(&entry, 1),
     );
-    let points = points_of(
+    match points_of(
         image,
         program,
         &schedule,
         rests.as_slice(),
         nodes_of(found),
         plan,
-    )?;
-    Ok(Parts {
-        schedule,
-        rests,
-        entry: with_id(entry, id),
-        points,
-    })
+    ) {
+        Ok(points) => Ok(Parts {
+            schedule,
+            rests,
+            entry: with_id(entry, id),
+            points,
+        }),
+        Err(AllocError) => {
+            drop(rests);
+            drop(schedule);
+            drop(entry);
+            Err(AllocError)
+        }
+    }
 }
 
 /// The certificate of these parts.

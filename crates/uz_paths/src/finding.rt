@@ -60,8 +60,13 @@ fn certificate(
     place_holds();
     known_in_itself();
     ended_accepts();
-    let parts = parts_of(alloc, image, &program, entry, found)?;
-    Ok(certificate_of(program, parts))
+    match parts_of(alloc, image, &program, entry, found) {
+        Ok(parts) => Ok(certificate_of(program, parts)),
+        Err(AllocError) => {
+            drop(program);
+            Err(AllocError)
+        }
+    }
 }
 
 /// Whether points are joined.
@@ -91,13 +96,21 @@ fn find_by(
 {
     let found = match search(alloc, image, &program, INSTANCE_LIMIT) {
         Ok(found) => found,
-        Err(refusal) => return Err(refusal),
+        Err(refusal) => {
+            drop(program);
+            drop(entry);
+            return Err(refusal);
+        }
     };
     if joining == Joining::LeftOut {
         return Ok(Some(certificate(alloc, image, program, entry, found)?));
     }
     match joined_certificate(alloc, image, program, &entry, &found) {
-        Ok(cert) => Ok(Some(cert)),
+        Ok(cert) => {
+            drop(found);
+            drop(entry);
+            Ok(Some(cert))
+        }
         Err(program) => {
             let cert = certificate(alloc, image, program, entry, found)?;
             Ok(joined(alloc, image, cert))

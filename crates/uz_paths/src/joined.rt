@@ -20,7 +20,9 @@ use crate::vectors::vector_of;
 use std::alloc::{AllocError, Global};
 use uz_hex::Image;
 use uz_join::{JoinedNodes, entry_of, joined_nodes, passes, rests_of as rests_into};
-use uz_schedule::{Cert, Entry, Instance, Point, Response, Rest, Schedule, Sequence, entry_state};
+use uz_schedule::{
+    Cert, Entry, Head, Instance, Point, Response, Rest, Schedule, Sequence, entry_state,
+};
 use uz_search::{Found, Program, nodes_are_reached};
 
 /// What a search makes of a certificate whose points are joined.
@@ -130,6 +132,14 @@ fn joined_points(
     )
 }
 
+/// The joined points. All else is let go.
+fn points_in(joined: JoinedNodes) -> Vec<Point>
+    ensures { result ≡ joined.points }
+{
+    let JoinedNodes { points, .. } = joined;
+    points
+}
+
 /// The parts of the certificate of what a search has found, whose rests are these and whose points are joined so.
 fn parts_with(
     alloc: Global,
@@ -146,13 +156,27 @@ fn parts_with(
     requires said { SaysInstances found.now.nodes.keys joined.points.items }
     ensures { IfOk result (AreJoinedOf program.now entry.now found.now) }
 {
-    let rests = rests_into(alloc, rests, joined.into.as_slice())?;
-    let schedule = made_schedule(alloc, image, program, found)?;
+    let rests = match rests_into(alloc, rests, joined.into.as_slice()) {
+        Ok(rests) => rests,
+        Err(AllocError) => {
+            drop(joined);
+            return Err(AllocError);
+        }
+    };
+    let schedule = match made_schedule(alloc, image, program, found) {
+        Ok(schedule) => schedule,
+        Err(AllocError) => {
+            drop(rests);
+            drop(joined);
+            return Err(AllocError);
+        }
+    };
+    let number = entry_number(found, entry, joined.numbers.as_slice());
     Ok(JoinedParts {
         schedule,
         rests,
-        entry: entry_at(entry, entry_number(found, entry, joined.numbers.as_slice())),
-        points: joined.points,
+        entry: entry_at(entry, number),
+        points: points_in(joined),
     })
 }
 
@@ -187,6 +211,14 @@ fn joined_parts(
     Ok(Some(parts))
 }
 
+/// The header of a certificate. All else is let go.
+fn head_of(cert: Cert) -> Head
+    ensures { result ≡ cert.head }
+{
+    let Cert { head, .. } = cert;
+    head
+}
+
 /// The certificate of joined points, where the check accepts it, and else the program as it was.
 fn choose(image: &Image, program: Program, parts: JoinedParts) -> Result<Cert, Program>
     ensures cert { IfOk result (λ cert. cert ≡ joined_cert program parts) }
@@ -214,10 +246,13 @@ fn choose(image: &Image, program: Program, parts: JoinedParts) -> Result<Cert, P
         points: Sequence::from_vec(points),
     };
     if passes(image, &cert) {
+        drop(frame);
+        drop(facts);
+        drop(starts);
         Ok(cert)
     } else {
         Err(Program {
-            head: cert.head,
+            head: head_of(cert),
             schedule: frame,
             facts,
             starts,

@@ -112,8 +112,14 @@ pub(crate) fn points_of(
         mut points,
     } = plan;
     let mut left = nodes;
-    points.reserve_exact(numbers.len())?;
-    put_points(
+    if let Err(AllocError) = points.reserve_exact(numbers.len()) {
+        drop(left);
+        drop(numbers);
+        drop(links);
+        drop(points);
+        return Err(AllocError);
+    }
+    let put = put_points(
         image,
         program,
         schedule,
@@ -123,6 +129,15 @@ pub(crate) fn points_of(
         &links,
         &mut left,
         &mut points,
-    )?;
-    Ok(points)
+    );
+    drop(left);
+    drop(numbers);
+    drop(links);
+    match put {
+        Ok(()) => Ok(points),
+        Err(AllocError) => {
+            drop(points);
+            Err(AllocError)
+        }
+    }
 }

@@ -64,8 +64,16 @@ fn put_fact(
         None => Facts::new(alloc)?,
     };
     let more = here.with_first(fact)?;
-    facts.insert(at, more)?;
-    Ok(())
+    match facts.insert(at, more) {
+        Ok(before) => {
+            drop(before);
+            Ok(())
+        }
+        Err(refused) => {
+            drop(refused);
+            Err(AllocError)
+        }
+    }
 }
 
 /// Puts the fact that a hint is, where it is one, before those of its program counter.
@@ -179,10 +187,13 @@ fn both_kinds(alloc: Global) -> Result<(Vec<LineEvents>, Vec<u16>), AllocError>
     let mut kinds = Vec::new(alloc);
     kinds.push(LineEvents::new(alloc))?;
     kinds.push(LineEvents::new(alloc))?;
-    let mut lengths = Vec::new(alloc);
-    lengths.push(SCANLINE)?;
-    lengths.push(HALF_LINE)?;
-    Ok((kinds, lengths))
+    match Vec::from_array(alloc, [SCANLINE, HALF_LINE]) {
+        Ok(lengths) => Ok((kinds, lengths)),
+        Err(_) => {
+            drop(kinds);
+            Err(AllocError)
+        }
+    }
 }
 
 /// Makes the lines from one to another, both among them, of the shorter kind.
@@ -257,11 +268,34 @@ pub(crate) fn program_of(
         registers,
         firsts,
     } = reading;
-    let facts = facts_of(alloc, hints)?;
+    let facts = match facts_of(alloc, hints) {
+        Ok(facts) => facts,
+        Err(AllocError) => {
+            drop(head);
+            return Err(AllocError);
+        }
+    };
     let entry = start_entry(&head, start, &registers);
-    let schedule = frame_of(alloc, hints, size.lines, size.fall)?;
+    let schedule = match frame_of(alloc, hints, size.lines, size.fall) {
+        Ok(schedule) => schedule,
+        Err(AllocError) => {
+            drop(entry);
+            drop(facts);
+            drop(head);
+            return Err(AllocError);
+        }
+    };
     let top = last_clock(&schedule, size.lines - 1);
-    let starts = starts_of(alloc, &entry, head.irq, top, &firsts)?;
+    let starts = match starts_of(alloc, &entry, head.irq, top, &firsts) {
+        Ok(starts) => starts,
+        Err(AllocError) => {
+            drop(schedule);
+            drop(entry);
+            drop(facts);
+            drop(head);
+            return Err(AllocError);
+        }
+    };
     Ok((
         Program {
             head,

@@ -9,8 +9,8 @@ use Rattle.uz_paths.proofs.certificate.parts_of.Goals as goal
 
 pub plan_of-requires-clause-entered : goal.plan_of-requires-clause-entered
 plan_of-requires-clause-entered c =
-    subst (λ (rs : List Rest). AreEntered c.args.program.now c.in_ok-schedule.schedule rs c.args.found.nodes.keys)
-    (sym (c.as_slice-2.ensures.value ∙ (c.in_ok-rests.ensures ∙ ap rests_of c.as_slice.ensures.value)))
+    subst (λ (rs : List Rest). AreEntered c.args.program.now c.in-Ok.schedule rs c.args.found.nodes.keys)
+    (sym (c.as_slice-2.ensures.value ∙ (c.in-Ok-rests_of.ensures ∙ ap rests_of c.as_slice.ensures.value)))
     c.rests_are_entered.ensures
 
 pub number_of-id-requires-clause-node : goal.number_of-id-requires-clause-node

@@ -8,8 +8,8 @@ use Rattle.uz_paths.proofs.finding.certificate.Goals as goal
 pub parts_of-requires-clause-start : goal.parts_of-requires-clause-start
 parts_of-requires-clause-start c = c.requires.start.start
 
-pub returns-clause-fits : goal.returns-clause-fits
-returns-clause-fits c =
+pub returns-in-Ok-clause-fits : goal.returns-in-Ok-clause-fits
+returns-in-Ok-clause-fits c =
     let laws : Laws = record {
       by_line = c.event_by_line.ensures;
       falls = c.ended_falls_once.ensures;
@@ -26,11 +26,11 @@ returns-clause-fits c =
       stand = c.nodes_are_reached.ensures.stand;
     } in
     subst WellFormed (sym c.certificate_of.ensures)
-    (well_formed c.args.image.now c.args.program c.args.entry c.args.found c.in_ok-parts.parts laws c.requires.fits c.requires.ended
-    c.requires.few c.requires.start c.requires.returns c.in_ok-parts.ensures)
+    (well_formed c.args.image.now c.args.program c.args.entry c.args.found c.in-Ok.parts laws c.requires.fits c.requires.ended
+    c.requires.few c.requires.start c.requires.returns c.in-Ok.ensures)
 
-pub returns-clause-accepted : goal.returns-clause-accepted
-returns-clause-accepted c =
+pub returns-in-Ok-clause-accepted : goal.returns-in-Ok-clause-accepted
+returns-in-Ok-clause-accepted c =
     let laws : Laws = record {
       by_line = c.event_by_line.ensures;
       falls = c.ended_falls_once.ensures;
@@ -47,11 +47,11 @@ returns-clause-accepted c =
       stand = c.nodes_are_reached.ensures.stand;
     } in
     subst (Accepts c.args.image.now) (sym c.certificate_of.ensures)
-    (accepted c.args.image.now c.args.program c.args.entry c.args.found c.in_ok-parts.parts laws c.requires.fits c.requires.ended
-    c.requires.few c.requires.start c.requires.returns c.in_ok-parts.ensures)
+    (accepted c.args.image.now c.args.program c.args.entry c.args.found c.in-Ok.parts laws c.requires.fits c.requires.ended
+    c.requires.few c.requires.start c.requires.returns c.in-Ok.ensures)
 
-pub returns-clause-found : goal.returns-clause-found
-returns-clause-found c =
-    found_by c.args.image.now c.args.program c.args.entry c.args.found c.in_ok-parts.parts c.certificate_of.result
-    c.certificate_of.ensures c.in_ok-parts.ensures c.requires.ended
+pub returns-in-Ok-clause-found : goal.returns-in-Ok-clause-found
+returns-in-Ok-clause-found c =
+    found_by c.args.image.now c.args.program c.args.entry c.args.found c.in-Ok.parts c.certificate_of.result
+    c.certificate_of.ensures c.in-Ok.ensures c.requires.ended
     (λ x among. c.nodes_are_reached.ensures.on_trail c.args.image.now c.args.program c.args.found x c.requires.ended among)
