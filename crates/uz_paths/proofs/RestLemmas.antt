@@ -1,6 +1,6 @@
 -- The rests of noted returns.
 use Rattle.std.proofs.Common.{◌≡◌, ◌∙◌, sym, ap, refl, arith, ℕ, zero, suc, ◌+◌, ◌<◌, ◌≤◌, Bool, true, false, List, [], ◌∷◌, map, length}
-use Rattle.std.proofs.Common.{subst, if◌then◌else◌}
+use Rattle.std.proofs.Common.{◌^◌, subst, if◌then◌else◌}
 use Rattle.std.specs.Prelude.{Option, Some, None, ◌&&◌, nat_eq, nat_le, slice_get, Contains}
 use Rattle.std.proofs.lemmas.Bool.Decides.{nat_tests}
 use Rattle.std.specs.Ordering.{nat_cmp}
@@ -210,3 +210,15 @@ few_of returns rests n e f = let h = few_rests 0 0 returns in let g = ap length 
 pub lines_of_rests : (returns : List (Option Return)) (rests : List Rest) (n : ℕ) → rests ≡ rests_of returns → length returns ≡ n
     → (k : ℕ) (rest : Rest) → slice_get rests k ≡ Some rest → rest.line < n
 lines_of_rests returns rests n e f k rest at = let h = lines_within returns k rest (ap (λ rs. slice_get rs k) (sym e) ∙ at) in omega arith
+
+-- lines of a frame that has at most so many
+pub few_in_frame : (returns : List (Option Return)) (rests : List Rest) (n : ℕ) → rests ≡ rests_of returns → length returns ≡ n → n ≤ 525
+    → length rests ≤ 525
+few_in_frame returns rests n e f few = let least = few_of returns rests n e f in omega (arith, least, few)
+
+pub few_by_number : (returns : List (Option Return)) (rests : List Rest) (n : ℕ) → rests ≡ rests_of returns → length returns ≡ n → n ≤ 525
+    → length rests < 2 ^ 32
+few_by_number returns rests n e f few = let least = few_in_frame returns rests n e f few in omega (arith, least)
+
+pub few_returns : (returns slice : List (Option Return)) (n : ℕ) → slice ≡ returns → length returns ≡ n → n ≤ 525 → length slice < 2 ^ 16
+few_returns returns slice n e f few = let same = ap length e in omega (arith, same, f, few)

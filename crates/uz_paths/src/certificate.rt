@@ -119,7 +119,6 @@ fn nodes_of(found: Found) -> IndexSet<Instance>
 
 /// The parts of the certificate of what a search has found, whose runs enter where the search starts. Each instance is let go when its
 /// point is made, so that the instances and the points aren't all there at once.
-#[tactic(auto, using(crate::proofs::RestLemmas::few_of, crate::proofs::RestLemmas::lines_of_rests))]
 pub(crate) fn parts_of(
     alloc: Global,
     image: &Image,

@@ -182,7 +182,6 @@ fn parts_with(
 
 /// The parts of the certificate of what a search has found, whose points are joined. None where there are none to join line by
 /// line.
-#[tactic(auto, using(crate::proofs::RestLemmas::few_of, crate::proofs::RestLemmas::lines_of_rests))]
 fn joined_parts(
     alloc: Global,
     image: &Image,

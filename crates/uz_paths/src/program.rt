@@ -69,10 +69,7 @@ fn put_fact(
             drop(before);
             Ok(())
         }
-        Err(refused) => {
-            drop(refused);
-            Err(AllocError)
-        }
+        Err(refused) => Err(refused.into()),
     }
 }
 
@@ -228,7 +225,6 @@ fn kinds_by(alloc: Global, hints: &[Hint], lines: u16) -> Result<Vec<u16>, Alloc
 }
 
 /// A frame of so many lines, each as long as the hints say, whose events aren't known yet.
-#[tactic(auto, using(crate::proofs::ProgramLemmas::long_by))]
 fn frame_of(alloc: Global, hints: &[Hint], lines: u16, fall: u16) -> Result<Schedule, AllocError>
     requires { (line : ℕ) → is_half_by line hints.now ≡ true → line < lines }
     ensures lines { IfOk result (λ s. length s.lines ≡ lines) }

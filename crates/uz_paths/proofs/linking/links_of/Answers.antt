@@ -1,6 +1,7 @@
-use Rattle.std.proofs.Common.{◌≡◌, ◌∙◌, ap, length, refl, subst, sym}
+use Rattle.std.proofs.Common.{◌≡◌, ◌∙◌, ◌<◌, ◌^◌, List, ap, arith, length, refl, subst, sym, ℕ}
 use Rattle.std.specs.Prelude.{Some, slice_get}
 use Rattle.std.proofs.lemmas.Option.{slice_get_read}
+use Rattle.uz_schedule.specs.declared.states.Instance.{Instance}
 use Rattle.uz_paths.specs.Lists.{IsListAt}
 use Rattle.uz_paths.proofs.MakeLemmas.{links_more}
 use Rattle.uz_paths.proofs.NumberLemmas.{among_at}
@@ -23,3 +24,13 @@ loop-i-preserved c =
           c.put_list.new.lists at c.number_at-number.ensures c.link_of-names.ensures.fits c.link_of-names.ensures.named
           (subst (IsListAt c.put_list.new.lists c.loop-i.i) c.as_slice.ensures.value c.in_ok-put_list.ensures.last) c.in_ok-put_list.ensures.kept c.loop-i.invariant.linked;
     }
+
+few_lists : (xs nodes : List Instance) (i : ℕ) → xs ≡ nodes → i < length xs → length nodes < 524288 → i < 2 ^ 27
+few_lists xs nodes i same within few = let long = ap length same in omega (arith, long, within, few)
+
+pub put_list-requires-clause-lists : goal.put_list-requires-clause-lists
+put_list-requires-clause-lists c = c.loop-i.invariant.lists
+
+pub put_list-requires-clause-few : goal.put_list-requires-clause-few
+put_list-requires-clause-few c =
+    few_lists _ c.args.nodes.now.keys c.loop-i.i c.as_slice-at-items.ensures.keys c.loop-i-test.true c.requires.few
