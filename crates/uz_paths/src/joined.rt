@@ -244,7 +244,8 @@ fn choose(image: &Image, program: Program, parts: JoinedParts) -> Result<Cert, P
         entry,
         points: Sequence::from_vec(points),
     };
-    if passes(image, &cert) {
+    let accepted = passes(image, &cert);
+    if accepted {
         drop(frame);
         drop(facts);
         drop(starts);
