@@ -1,7 +1,7 @@
 -- One more fact, and that the program of hints that aren't at fault is fit to be searched.
 use Rattle.std.proofs.Common.{◌≡◌, ◌≢◌, ◌∙◌, sym, ap, refl, arith, ℕ, zero, suc, ◌+◌, ◌-◌, ◌<◌, ◌≤◌, true, List, [], ◌∷◌, ◌++◌}
 use Rattle.std.proofs.Common.{length, drop, get_or, subst, ⊎_elim, Bool, false, if◌then◌else◌}
-use Rattle.std.specs.Prelude.{Some, None, slice_get}
+use Rattle.std.specs.Prelude.{Option, Some, None, ◌||◌, slice_get}
 use Rattle.std.specs.Ordering.{nat_cmp}
 use Rattle.std.specs.FinMap.{FinMap}
 use Rattle.std.proofs.Math.Seq.{drop-cons}
@@ -28,8 +28,8 @@ use Rattle.uz_hints.specs.declared.words.Beginning.{Beginning}
 use Rattle.uz_hints.specs.declared.reading.Reading.{Reading}
 use Rattle.uz_hints.specs.Faults.{FactPart, FactsFine}
 use Rattle.uz_hints.specs.Reading.{IsReading, ReadingFits, LengthsFit}
-use Rattle.uz_hints.specs.Words.{is_half, length_by}
-use Rattle.uz_paths.specs.ProgramOf.{entry_with, first_state, first_states, starts_of, AreKindsBy}
+use Rattle.uz_hints.specs.Words.{halves, is_half, length_by}
+use Rattle.uz_paths.specs.ProgramOf.{entry_with, first_state, first_states, starts_of, AreKindsBy, AreShortened}
 
 some_is : {A : Type 0} (a b : A) → Some a ≡ Some b → a ≡ b
 some_is a b e = cc
@@ -46,6 +46,28 @@ pub facts_before : {A : Type 0} (f : Hint → List A) (all : List Hint → List 
 facts_before f all step hints n i d old new next within is was =
     is ∙ (ap (λ xs. f (get_or hints i d) ++ xs) (was ∙ ap (λ k. all (drop k hints)) next)
     ∙ sym (ap all (drop-cons hints i d within) ∙ step (get_or hints i d) (drop (suc i) hints)))
+
+-- One more hint of halves
+
+by_cases : (named more : Bool) (old new k : Option ℕ) → (named ≡ true → new ≡ Some 1) → (named ≡ false → new ≡ old)
+    → (if named || more then Some 1 else old) ≡ k → (if more then Some 1 else new) ≡ k
+by_cases true true old new k of_it others e = e
+by_cases true false old new k of_it others e = of_it refl ∙ e
+by_cases false true old new k of_it others e = e
+by_cases false false old new k of_it others e = others refl ∙ e
+
+pub one_more : (hints : List Hint) (i n line : ℕ) (d : Hint) (before old new : List ℕ) (k : Option ℕ) → i < length hints → old ≡ before
+    → length before ≡ n → AreShortened (get_or hints i d) old new → line < n
+    → (if is_half line (drop i hints) then Some 1 else slice_get before line) ≡ k
+    → (if is_half line (drop (i + 1) hints) then Some 1 else slice_get new line) ≡ k
+one_more hints i n line d before old new k within same long short low e =
+    let next : suc i ≡ i + 1 = omega arith in
+    let at : drop i hints ≡ get_or hints i d ∷ drop (i + 1) hints =
+    drop-cons hints i d within ∙ ap (λ j. get_or hints i d ∷ drop j hints) next in
+    by_cases (halves line (get_or hints i d)) (is_half line (drop (i + 1) hints)) (slice_get before line) (slice_get new line) k
+    (short.named line (subst (λ m. line < m) (sym (ap length same ∙ long)) low))
+    (λ other. short.others line other ∙ ap (λ ns. slice_get ns line) same)
+    (subst (λ hs. (if is_half line hs then Some 1 else slice_get before line) ≡ k) at e)
 
 -- The frame
 
