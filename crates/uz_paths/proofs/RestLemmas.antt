@@ -1,7 +1,8 @@
 -- The rests of noted returns.
 use Rattle.std.proofs.Common.{◌≡◌, ◌∙◌, sym, ap, refl, arith, ℕ, zero, suc, ◌+◌, ◌<◌, ◌≤◌, Bool, true, false, List, [], ◌∷◌, map, length}
-use Rattle.std.proofs.Common.{◌^◌, subst, if◌then◌else◌}
+use Rattle.std.proofs.Common.{◌^◌, ◌++◌, append_assoc, drop, get_or, length-append, subst, if◌then◌else◌}
 use Rattle.std.specs.Prelude.{Option, Some, None, ◌&&◌, nat_eq, nat_le, slice_get, Contains}
+use Rattle.std.proofs.Math.Seq.{drop-cons}
 use Rattle.std.proofs.lemmas.Bool.Decides.{nat_tests}
 use Rattle.std.specs.Ordering.{nat_cmp}
 use Rattle.std.specs.FinMap.{FinMap}
@@ -222,3 +223,41 @@ few_by_number returns rests n e f few = let least = few_in_frame returns rests n
 
 pub few_returns : (returns slice : List (Option Return)) (n : ℕ) → slice ≡ returns → length returns ≡ n → n ≤ 525 → length slice < 2 ^ 16
 few_returns returns slice n e f few = let same = ap length e in omega (arith, same, f, few)
+
+-- One more line
+
+next_from : (returns : List (Option Return)) (line : ℕ) (noted d : Option Return) → line < length returns → noted ≡ get_or returns line noted
+    → noted ≡ d → drop line returns ≡ d ∷ drop (suc line) returns
+next_from returns line noted d within at is =
+    drop-cons returns line noted within ∙ ap (λ r. r ∷ drop (suc line) returns) (sym at ∙ is)
+
+pub rest_put : (returns : List (Option Return)) (line vector : ℕ) (rests new all : List Rest) (noted : Option Return) (r : Return) (rest : Rest)
+    → line < length returns → noted ≡ get_or returns line noted → noted ≡ Some r → new ≡ rests ++ rest ∷ [] → vector ≡ length rests
+    → rest ≡ record { line = line; clock = r.clock; vector = vector; cells = record { items = r.cells.items } }
+    → rests ++ rests_from line (length rests) (drop line returns) ≡ all
+    → new ++ rests_from (line + 1) (length new) (drop (line + 1) returns) ≡ all
+rest_put returns line vector rests new all noted r rest within at some put counts is left =
+    let next : line + 1 ≡ suc line = omega arith in
+    let one : length rests + 1 ≡ suc (length rests) = omega arith in
+    let more : length new ≡ suc (length rests) = ap length put ∙ (length-append rests (rest ∷ []) ∙ one) in
+    let tail = rests_from (suc line) (suc (length rests)) (drop (suc line) returns) in
+    (λ i. put i ++ rests_from (next i) (more i) (drop (next i) returns))
+    ∙ (append_assoc rests (rest ∷ []) tail
+    ∙ (ap (λ x. rests ++ x ∷ tail) (is ∙ (λ i. record { line = line; clock = r.clock; vector = counts i; cells = record { items = r.cells.items } }))
+    ∙ (ap (λ rs. rests ++ rests_from line (length rests) rs) (sym (next_from returns line noted (Some r) within at some)) ∙ left)))
+
+pub none_put : (returns : List (Option Return)) (line : ℕ) (rests all : List Rest) (noted : Option Return)
+    → line < length returns → noted ≡ get_or returns line noted → noted ≡ None
+    → rests ++ rests_from line (length rests) (drop line returns) ≡ all
+    → rests ++ rests_from (line + 1) (length rests) (drop (line + 1) returns) ≡ all
+none_put returns line rests all noted within at none left =
+    let next : line + 1 ≡ suc line = omega arith in
+    (λ i. rests ++ rests_from (next i) (length rests) (drop (next i) returns))
+    ∙ (ap (λ rs. rests ++ rests_from line (length rests) rs) (sym (next_from returns line noted None within at none)) ∙ left)
+
+pub few_more : (rests new : List Rest) (line : ℕ) (rest : Rest) → new ≡ rests ++ rest ∷ [] → length rests ≤ line → length new ≤ line + 1
+few_more rests new line rest put few =
+    let more : length new ≡ length rests + 1 = ap length put ∙ length-append rests (rest ∷ []) in omega (arith, more, few)
+
+pub few_kept : (rests new : List Rest) (line : ℕ) → new ≡ rests → length rests ≤ line → length new ≤ line + 1
+few_kept rests new line same few = let long = ap length same in omega (arith, long, few)
