@@ -1,8 +1,8 @@
 -- The first fault of a source is what the passes tell, and a source is assembled or has one.
-use Rattle.std.proofs.Common.{◌≡◌, ℕ, ◌+◌, ◌⊎◌, List, [], ◌∷◌, ◌++◌, length, map, inl, inr, refl, sym, ◌∙◌, ap, subst, append-nil, arith}
+use Rattle.std.proofs.Common.{◌≡◌, ℕ, ◌+◌, ◌⊎◌, List, [], ◌∷◌, ◌++◌, length, map, inl, inr, refl, sym, ◌∙◌, ap, subst, arith}
 use Rattle.std.specs.Prelude.{◌↔◌, Result, Ok, Err, IfErr}
 use Rattle.std.specs.FinMap.{empty, from_entries}
-use Rattle.std.specs.Ordering.{nat_cmp, eq_by_cmp}
+use Rattle.std.specs.Ordering.{nat_cmp}
 use Rattle.std.specs.List.{IsDistinct}
 use Rattle.avr_operands.specs.declared.errors.AsmWhy.{AsmWhy}
 use Rattle.avr_operands.specs.declared.errors.AsmWhy.TheVariants as why
@@ -19,7 +19,6 @@ use Rattle.avr_asm.proofs.ExactAssembly.{exact_assembly}
 use Rattle.avr_asm.proofs.FirstPassRuns.{LaidOut, LayoutSays, lines_say, first_pass_fault, fault_laid, all_laid_out}
 use Rattle.avr_asm.proofs.KeptEffects.{ValuesStay}
 use Rattle.avr_asm.proofs.LineEnds.{WordsByName}
-use Rattle.avr_asm.proofs.OutcomeLemmas.{ok_same}
 use Rattle.avr_asm.proofs.SecondPassFaults.{FaultFrom, OutputSays, outputs_say, fault_put}
 use Rattle.avr_asm.proofs.Statements.{is_assembly}
 

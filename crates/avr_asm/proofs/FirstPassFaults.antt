@@ -1,5 +1,5 @@
 -- What the first pass over a line says: it is laid out and has no fault, or has one of least number.
-use Rattle.std.proofs.Common.{◌≡◌, ℕ, ◌+◌, ◌*◌, ◌%◌, ◌<◌, ◌≤◌, ◌⊎◌, Bool, true, false, ◌&&◌, not, cond, List, [], ◌∷◌, ◌++◌, nat_lt, refl}
+use Rattle.std.proofs.Common.{◌≡◌, ℕ, ◌+◌, ◌%◌, ◌<◌, ◌≤◌, ◌⊎◌, Bool, true, false, ◌&&◌, not, cond, List, [], ◌∷◌, nat_lt, refl}
 use Rattle.std.proofs.Common.{sym, ◌∙◌, ap, subst, inl, inr, arith}
 use Rattle.std.specs.Prelude.{Option, None, Some, Result, Ok, Err, is_some, ◌==◌, ℤ, pos}
 use Rattle.std.specs.Ordering.{nat_cmp, eq_by_cmp}
@@ -24,7 +24,7 @@ use Rattle.avr_asm.specs.declared.first_pass.Effect.TheVariants.{Nothing, Move, 
 use Rattle.avr_asm.specs.declared.layout.Place.{Place}
 use Rattle.avr_asm.specs.declared.lines.Action.{Action}
 use Rattle.avr_asm.specs.declared.lines.Action.TheVariants as action
-use Rattle.avr_asm.specs.FirstFault.{IsLeast, OrgFault, EquFault, ValueFault, LacksValue, IsTaken, DefinesTaken, TakesTooMuch, IsMisplaced}
+use Rattle.avr_asm.specs.FirstFault.{IsLeast, OrgFault, EquFault, ValueFault, LacksValue, IsTaken, DefinesTaken}
 use Rattle.avr_asm.specs.FirstFault.{InFirstPass}
 use Rattle.avr_asm.specs.Layout.{is_reserved, defined, moved, set, org_effect, equ_effect, effect_of, effect_in, address_after}
 use Rattle.avr_asm.specs.Layout.{with_symbols}

@@ -1,12 +1,11 @@
 -- What the first pass over all lines says: they are laid out, or one has the first fault.
 use Rattle.std.proofs.Common.{◌≡◌, ℕ, suc, ◌+◌, ◌≤◌, Bool, List, [], ◌∷◌, ◌++◌, length, map, nat_lt, inl, inr, refl, sym, ◌∙◌, ap, subst}
 use Rattle.std.proofs.Common.{append_assoc, append-nil, arith}
-use Rattle.std.specs.Prelude.{Result, Ok, Err, Option, Some, ℤ, ◌%◌, ◌==◌, ◌&&◌, true, false, not, cond}
+use Rattle.std.specs.Prelude.{Result, Ok, Err, ◌%◌, ◌==◌, ◌&&◌, true, false, not, cond}
 use Rattle.std.specs.List.{list_any}
 use Rattle.std.specs.Ordering.{nat_cmp}
 use Rattle.std.specs.Cmp.Lexicographic.{slice_cmp}
 use Rattle.std.specs.FinMap.{from_entries}
-use Rattle.std.proofs.lemmas.Bool.Decides.{nat_tests}
 use Rattle.avr_text.specs.declared.tokens.Token.{Token}
 use Rattle.avr_operands.specs.declared.errors.AsmWhy.{AsmWhy}
 use Rattle.avr_operands.specs.declared.errors.AsmWhy.TheVariants as why

@@ -3,7 +3,6 @@ use Rattle.std.proofs.Common.{◌≡◌, ℕ, zero, suc, ◌+◌, ◌<◌, ◌�
 use Rattle.std.proofs.Common.{refl, sym, ◌∙◌, ap, subst, append_assoc, append-nil, arith}
 use Rattle.std.specs.Prelude.{Option, None, Some, Result, Ok, Err, is_some}
 use Rattle.std.specs.List.{list_any}
-use Rattle.std.specs.Ordering.{nat_cmp}
 use Rattle.std.specs.FinMap.{get, insert, gets, from_entries}
 use Rattle.std.proofs.lemmas.Bool.Decides.{nat_tests}
 use Rattle.avr_text.specs.declared.tokens.Token.{Token}
@@ -14,7 +13,7 @@ use Rattle.avr_operands.specs.Faults.{OrFault, ◌>>=◌, number_of}
 use Rattle.avr_asm.specs.declared.errors.AsmError.{AsmError}
 use Rattle.avr_asm.specs.Assembly.{Output, following, with_line, at_line, output_from}
 use Rattle.avr_asm.specs.Emission.{Flash, put}
-use Rattle.avr_asm.specs.FirstFault.{IsLeast, Laid, end_after, place_after, IsLaid, AreLaid, Filled, bytes_by, puts_out, OverlapsEarlier}
+use Rattle.avr_asm.specs.FirstFault.{IsLeast, Laid, end_after, place_after, IsLaid, AreLaid, Filled, bytes_by, puts_out}
 use Rattle.avr_asm.specs.FirstFault.{InSecondPass, IsFilled, AreFilled}
 use Rattle.avr_asm.specs.Hints.{mapped}
 use Rattle.avr_asm.specs.Layout.{arguments_in, effect_in, is_instruction_line}

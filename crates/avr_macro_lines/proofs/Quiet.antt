@@ -1,12 +1,11 @@
 -- Lines at whose front an argument may stand are of the same directive in each call no argument of which begins with `.`.
-use Rattle.std.proofs.Common.{◌≡◌, ℕ, zero, suc, ◌+◌, ◌-◌, ◌/◌, ◌%◌, ◌<◌, Bool, true, false, cond, eqb, ltb, List, [], ◌∷◌, ◌++◌, map, get_or}
+use Rattle.std.proofs.Common.{◌≡◌, ℕ, zero, suc, ◌+◌, ◌-◌, ◌/◌, ◌%◌, ◌<◌, Bool, true, false, cond, eqb, ltb, List, [], ◌∷◌, ◌++◌, get_or}
 use Rattle.std.proofs.Common.{decimal, refl, sym, ◌∙◌, ap, arith}
-use Rattle.std.specs.Prelude.{◌==◌, ◌&&◌, ◌||◌, not}
+use Rattle.std.specs.Prelude.{◌==◌, ◌||◌, not}
 use Rattle.std.specs.Fmt.{digit_glyph, digits, digits_onto}
 use Rattle.std.proofs.lemmas.Bool.Decides.{nat_tests}
 use Rattle.uz_text.specs.Lines.{is_blank}
 use Rattle.avr_text.specs.Characters.{is_digit}
-use Rattle.avr_macro_lines.specs.declared.directives.Word.{Word}
 use Rattle.avr_macro_lines.specs.declared.directives.Word.TheVariants.{Other}
 use Rattle.avr_macro_lines.specs.Arguments.{replaced, replaced_from}
 use Rattle.avr_macro_lines.specs.AtSigns.{KeepsDirectives, any_dot, are_quiet, begins_dot, is_quiet, is_quiet_front, is_steady, is_steady_front, lacks_at, opens_dot}

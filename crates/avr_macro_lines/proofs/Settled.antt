@@ -1,6 +1,6 @@
 -- Lines that no call changes: each `@` stands before another byte than a digit and a `@`, or at the end.
 use Rattle.std.proofs.Common.{◌≡◌, ℕ, zero, suc, ◌+◌, ◌-◌, ◌/◌, ◌%◌, ◌<◌, Bool, true, false, cond, leb, ltb, List, [], ◌∷◌, ◌++◌, map, get_or}
-use Rattle.std.proofs.Common.{take, drop, decimal, refl, sym, ◌∙◌, ap, arith}
+use Rattle.std.proofs.Common.{take, drop, decimal, refl, ◌∙◌, ap, arith}
 use Rattle.std.specs.Prelude.{◌==◌, ◌&&◌, ◌||◌, not}
 use Rattle.std.specs.Fmt.{digit_glyph, digits, digits_onto}
 use Rattle.std.specs.List.{slice_range}

@@ -1,10 +1,9 @@
 -- Lines that are of the same directive in each call.
-use Rattle.std.proofs.Common.{◌≡◌, ℕ, ◌+◌, Bool, true, false, cond, List, [], ◌∷◌, ◌++◌, map, refl, sym, ◌∙◌, ap, arith}
+use Rattle.std.proofs.Common.{◌≡◌, ℕ, Bool, true, false, cond, List, [], ◌∷◌, ◌++◌, refl, sym, ◌∙◌, ap, arith}
 use Rattle.std.specs.Prelude.{◌==◌, not}
 use Rattle.std.proofs.lemmas.Bool.Decides.{nat_tests}
 use Rattle.uz_text.specs.Lines.{is_blank}
 use Rattle.avr_text.specs.Characters.{is_word}
-use Rattle.avr_macro_lines.specs.declared.directives.Word.{Word}
 use Rattle.avr_macro_lines.specs.declared.directives.Word.TheVariants.{Other}
 use Rattle.avr_macro_lines.specs.Arguments.{replaced, replaced_from}
 use Rattle.avr_macro_lines.specs.AtSigns.{KeepsDirectives, are_steady, is_steady, is_steady_front, lacks_at}

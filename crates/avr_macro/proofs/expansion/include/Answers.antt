@@ -7,7 +7,7 @@ use Rattle.uz_shelf.specs.Files.{HoldsFile}
 use Rattle.avr_macro.specs.Answers.{names_of}
 use Rattle.avr_macro.specs.Steps.{seen_expander}
 use Rattle.avr_macro.specs.Views.{seen_frame}
-use Rattle.avr_macro.proofs.Runs.{few_bytes, file_read, file_refused, file_unloaded}
+use Rattle.avr_macro.proofs.Runs.{file_read, file_refused, file_unloaded}
 use Rattle.avr_macro.proofs.expansion.include.Goals as goal
 
 pub returns-in-Ok-include-clause-came : goal.returns-in-Ok-include-clause-came
@@ -65,8 +65,3 @@ returns-clause-came g c =
     (seen_expander c.args.expander.now) c.in-Err.error c.why_unloaded.result c.why_unloaded.ensures
     (c.in-Ok-put_name.ensures.ok ∙ ap (λ (name : List ℕ). names ++ name ∷ []) c.as_str.ensures.value)
     c.as_str-2.ensures.value c.in-Err.ensures.failed c.in-Err.ensures.too_long
-
-pub include-requires-clause-short : goal.include-requires-clause-short
-include-requires-clause-short g c =
-    few_bytes c.as_slice.result.now c.in-Ok-load.bytes.items _ c.as_slice.ensures.value c.in-Ok-load.bytes.ok.0
-    c.in-Ok-load.ensures.limit

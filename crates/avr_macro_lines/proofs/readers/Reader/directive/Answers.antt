@@ -1,4 +1,4 @@
-use Rattle.std.proofs.Common.{◌≡◌, sym, ◌∙◌, ap}
+use Rattle.std.proofs.Common.{◌∙◌, ap}
 use Rattle.avr_macro_lines.specs.Directives.{named_word}
 use Rattle.avr_macro_lines.proofs.Reading.{directive_read}
 use Rattle.avr_macro_lines.proofs.readers.Reader.directive.Goals as goal

@@ -1,4 +1,4 @@
-use Rattle.std.proofs.Common.{◌≡◌, length, sym, ◌∙◌, ap}
+use Rattle.std.proofs.Common.{length, sym, ◌∙◌, ap}
 use Rattle.avr_macro_lines.proofs.Reading.{letters_more, letters_told, nothing_left}
 use Rattle.avr_macro_lines.proofs.readers.Reader.name.Goals as goal
 
