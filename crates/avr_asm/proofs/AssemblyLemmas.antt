@@ -53,11 +53,6 @@ follow_more ls xs i d b h same is here =
     ∙ ap (λ t. cond t (get_or xs i 0 / 2) (following (drop (i + 1) (map (λ (l : Bor (List ℕ)). l.now) ls)) (drop (i + 1) xs)))
     (sym is ∙ here)
 
-pub follow_none : (ls : List (Bor (List ℕ))) (xs : List ℕ) (i : ℕ) → length ls ≤ i → following (drop i (map (λ l. l.now) ls))
-    (drop i xs) ≡ 0
-follow_none ls xs i h = ap (λ lines. following lines (drop i xs)) (drop_all i (map (λ (l : Bor (List ℕ)). l.now) ls)
-    (omega (arith, lines_len ls)))
-
 output_here : (k : ℕ) (symbols : NameMap) (out : Output) (ls : List (Bor (List ℕ))) (xs : List ℕ) (i : ℕ) (d : Bor (List ℕ)) → i < length ls
     → i < length xs
     → output_from k symbols out (drop i (map (λ l. l.now) ls)) (drop i xs)

@@ -17,10 +17,6 @@ abbrev pub with_addresses : List ℕ → Result Layout AsmError → Result Layou
 with_addresses front (Ok layout) = Ok (record { addresses = front ++ layout.addresses; symbols = layout.symbols })
 with_addresses front (Err fault) = Err fault
 
-pub with_none : (r : Result Layout AsmError) → with_addresses [] r ≡ r
-with_none (Ok layout) = refl
-with_none (Err fault) = refl
-
 with_more : (front : List ℕ) (a : ℕ) (r : Result Layout AsmError) → with_addresses (front ++ a ∷ []) r ≡ with_addresses front
     (with_address a r)
 with_more front a (Ok layout) = ap (λ addresses. Ok (record { addresses = addresses; symbols = layout.symbols }))

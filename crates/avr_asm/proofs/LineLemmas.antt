@@ -1,6 +1,6 @@
 -- Lines of a text, tokens before the line's end, and parts between commas.
 use Rattle.std.proofs.Common.{◌≡◌, ℕ, suc, ◌+◌, ◌-◌, ◌^◌, ◌<◌, ◌≤◌, Bool, true, false, cond, List, [], ◌∷◌, ◌++◌, All, Bor, length, get_or}
-use Rattle.std.proofs.Common.{take, drop, map, refl, sym, ◌∙◌, ap, subst, append_assoc, add-one, drop-cons, drop-drop, arith}
+use Rattle.std.proofs.Common.{take, drop, map, refl, sym, ◌∙◌, ap, subst, append_assoc, drop-cons, drop-drop, arith}
 use Rattle.std.specs.List.{prefix_len, slice_split, onto_first as onto_first_part, AllByRecursion}
 use Rattle.std.proofs.lemmas.List.{drop_all, length-drop, map-append, append-nil}
 use Rattle.std.proofs.lemmas.List.Elements.{recursion_from_All, All-from_recursion}
@@ -10,23 +10,12 @@ use Rattle.avr_asm.specs.Lines.{goes_on, lines_of, onto_first, first_len, is_com
 use Rattle.avr_asm.specs.Layout.{EachShort}
 use Rattle.avr_operands.specs.Operands.{AllLie, EachLies}
 
--- one that passes more, and the first that doesn't
-pub passes_more : (p : Token → Bool) (xs : List Token) (n : ℕ) (d : Token) → n < length xs → p (get_or xs n d) ≡ true
-    → prefix_len p (drop n xs) ≡ 1 + prefix_len p (drop (n + 1) xs)
-passes_more p xs n d h e = rw (add-one, drop-cons xs n d h) (rw e refl)
-
+-- the first that doesn't pass
 pub passes_no_more : (p : Token → Bool) (xs : List Token) (n : ℕ) (d : Token) → n < length xs → p (get_or xs n d) ≡ false
     → prefix_len p (drop n xs) ≡ 0
 passes_no_more p xs n d h e = rw (drop-cons xs n d h) (rw e refl)
 
 -- the first line
-pub first_more : (xs : List ℕ) (n : ℕ) → n < length xs → goes_on (get_or xs n 0) ≡ true → first_len (drop n xs) ≡ 1 + first_len
-    (drop (n + 1) xs)
-first_more xs n h e = rw (add-one, drop-cons xs n 0 h) (ap (λ b. cond b (1 + first_len (drop (suc n) xs)) 1) e)
-
-pub first_ends : (xs : List ℕ) (n : ℕ) → n < length xs → goes_on (get_or xs n 0) ≡ false → first_len (drop n xs) ≡ 1
-first_ends xs n h e = rw (drop-cons xs n 0 h) (ap (λ b. cond b (1 + first_len (drop (suc n) xs)) 1) e)
-
 pub first_none : (xs : List ℕ) (n : ℕ) → length xs ≤ n → first_len (drop n xs) ≡ 0
 first_none xs n h = ap first_len (drop_all n xs h)
 

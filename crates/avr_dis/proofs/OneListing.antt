@@ -1,11 +1,10 @@
 -- An image has at most one listing.
-use Rattle.std.proofs.Common.{◌≡◌, ℕ, zero, suc, ◌+◌, ◌*◌, ◌++◌, Bool, true, false, ◌&&◌, List, inl, inr, sym, ap, subst, ◌∙◌, nat_eq, not}
+use Rattle.std.proofs.Common.{◌≡◌, ℕ, zero, suc, ◌++◌, Bool, true, false, ◌&&◌, List, inl, inr, sym, ap, subst, ◌∙◌, nat_eq, not}
 use Rattle.std.specs.Ordering.{nat_cmp}
 use Rattle.std.specs.FinMap.{FinMap}
 use Rattle.avr_table.specs.declared.Instr.{Instr}
 use Rattle.avr_table.specs.Rows.{Reads, words_of}
-use Rattle.avr_decode.proofs.Unique.{unique}
-use Rattle.avr_dis.specs.Listing.{Adds, AddsLine, IsListing, LineAt, Listed, present, row_line}
+use Rattle.avr_dis.specs.Listing.{Adds, AddsLine, LineAt, Listed, present, row_line}
 
 -- of any two words at most one instruction is read
 abbrev pub AtMostOne : Type 0
@@ -39,8 +38,3 @@ same_listing one image (suc at) text text' two two' a b =
     let before : (a.0 ≡ b.0) × (a.1 ≡ b.1) = same_listing one image at a.0 b.0 a.1 b.1 a.3 b.3 in
     let added : (a.2 ≡ b.2) × (two ≡ two') = same_adds one image at a.1 b.1 a.2 b.2 two two' before.1 a.4 b.4 in
     (a.5 ∙ ap (λ x. x ++ a.2) before.0 ∙ ap (λ x. b.0 ++ x) added.0 ∙ sym b.5, added.1)
-
--- An image has at most one listing: the law of `listing_is_unique`, as a lemma.
-pub listing_is_one : (image : FinMap nat_cmp ℕ) (text other : List ℕ) → IsListing image text → IsListing image other → text ≡ other
-listing_is_one image text other a b = (same_listing (λ first second. unique (first * 65536 + second)) image 32768 text other a.0 b.0 a.1
-    b.1).0

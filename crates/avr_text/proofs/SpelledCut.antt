@@ -98,14 +98,6 @@ spelled_line ShiftRight word after line h = same_line line (ends word)
     (ap ends h ∙ quiet_byte 62 (62 ∷ []) refl (quiet_byte 62 [] refl refl))
 spelled_line LineEnd word after line h = let one : ends word ≡ 1 = ap ends h in omega arith
 
-spelled_some : (kind : TokenKind) (word after : List ℕ) → IsSpelling kind word after → 0 < length word
-spelled_some Name word after h = h.0.some
-spelled_some (Number n) word after h = h.0.some
-spelled_some (Mark b) word after h = let n : length word ≡ 1 = ap length h.1 in omega arith
-spelled_some ShiftLeft word after h = let n : length word ≡ 2 = ap length h in omega arith
-spelled_some ShiftRight word after h = let n : length word ≡ 2 = ap length h in omega arith
-spelled_some LineEnd word after h = let n : length word ≡ 1 = ap length h in omega arith
-
 gap_quiet : (gap after : List ℕ) → IsGap gap after → ends gap ≡ 0
 gap_quiet _ after gap_none = refl
 gap_quiet _ after (gap_blank {b = b} {gap = gap} h g) = quiet_byte b gap (blank_is_quiet b h) (gap_quiet gap after g)

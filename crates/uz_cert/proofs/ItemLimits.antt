@@ -420,9 +420,6 @@ still_told kind flags (suc (suc b)) x long d h =
     ∙ (ap (λ y. is_default_flag kind (get_or flags 0 bit.Free) && is_default_flag kind y)
     (get_or-set_other flags (suc (suc b)) 1 x bit.Free (λ e. omega (arith, e))) ∙ h)
 
-abbrev StillToCome : Facts → List (List ℕ) → Type 0
-StillToCome f later = (any_names later ≡ true) × (35 ≤ f.least)
-
 -- a word that isn't of C or Z leaves it to the later ones
 later_names : (b : ℕ) (bs : List ℕ) (later : List (List ℕ)) → (b ≡ 99 → ⊥) → (b ≡ 122 → ⊥) → any_names ((b ∷ bs) ∷ later) ≡ true
     → any_names later ≡ true

@@ -1,6 +1,6 @@
 -- One piece more is read.
 use Rattle.std.proofs.Common.{◌≡◌, ℕ, ◌+◌, Bool, true, List, [], ◌∷◌, refl, sym, ◌∙◌, ap}
-use Rattle.std.specs.Prelude.{Some, None, Result, Ok, Err}
+use Rattle.std.specs.Prelude.{Some, Result, Ok, Err}
 use Rattle.uz_schedule.specs.declared.certificate.Cert.{Cert}
 use Rattle.uz_cert_words.specs.declared.why.CertWhy.{CertWhy}
 use Rattle.uz_cert_words.specs.declared.why.CertWhy.TheVariants as why
@@ -26,10 +26,6 @@ pub step_fault : (d : Draft) (due : Due) (line : List ℕ) (pieces rest : List (
 step_fault d due line pieces rest ended w p is more says =
     ap (read_from d) p ∙ (read_due d due line rest is
     ∙ ap (λ r. or_fault (d.read + 1) r (λ m. read_from m rest)) (ap (line_says d due line) (sym more) ∙ says))
-
-pub step_end : (d : Draft) (line : List ℕ) (pieces rest : List (List ℕ)) → pieces ≡ line ∷ rest → due_of d ≡ None
-    → read_from d pieces ≡ cert_before d line rest
-step_end d line pieces rest p is = ap (read_from d) p ∙ ap (λ o. read_by o d line rest (λ more. read_from more rest)) is
 
 abbrev late : Draft → Result Cert Fault
 late d = Err (d.read + 1, why.NoEnd)

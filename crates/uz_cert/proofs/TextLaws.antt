@@ -99,11 +99,6 @@ fault_err : (n k : ℕ) (r : Result Draft CertWhy) (more : Draft → Result Cert
 fault_err n k (Ok m) more w e = inr (m, refl, e)
 fault_err n k (Err v) more w e = let same = same_fault n k v w e in inl (ap refusal same.1, sym same.0)
 
--- a piece that another follows is ended
-more_true : (rest : List (List ℕ)) → is_more rest ≡ true → (piece : List ℕ) × (others : List (List ℕ)) × (rest ≡ piece ∷ others)
-more_true [] e = absurd cc
-more_true (piece ∷ others) e = (piece, others, refl)
-
 pub read_next : (d : Draft) (s : Said) → (draft_after d s).read ≡ d.read + 1
 unfolding draft_after
 read_next d s = refl

@@ -298,11 +298,6 @@ none_small Main limit h = lit≤ tt
 none_small Handler limit h = h
 none_small Alone limit h = h
 
-pub none_some : (kind : Kind) (limit : ℕ) → 1 ≤ limit → 1 ≤ none_in_main kind limit
-none_some Main limit h = lit≤ tt
-none_some Handler limit h = h
-none_some Alone limit h = h
-
 -- so many lines and counts stay within what is left
 
 pub box_under : (left l0 l1 c0 c1 : ℕ) → c0 ≤ c1 → (l1 - l0 + 1) * (c1 - c0 + 1) ≤ left → c1 < c0 + left / (l1 - l0 + 1)

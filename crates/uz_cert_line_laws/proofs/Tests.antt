@@ -70,9 +70,6 @@ is_not_lt a b h = grind (arith, nat_tests)
 pub not_le : (a b : ℕ) → leb a b ≡ false → b < a
 not_le a b e = grind (arith, nat_tests)
 
-pub is_not_le : (a b : ℕ) → b < a → leb a b ≡ false
-is_not_le a b h = grind (arith, nat_tests)
-
 -- answers
 
 abbrev pub fine : {A : Type 0} → A → Result A CertWhy

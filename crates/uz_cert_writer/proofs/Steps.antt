@@ -178,19 +178,6 @@ kind_added old mid new events clocks kinds lengths e f =
     (old ++ ended (kinds_then Second (events ∷ kinds) (clocks ∷ lengths) [])) e f
     (ap (λ t. old ++ t) (ap (λ t. line_end words ++ t) (sym (ended_append lines others)) ∙ line_ended words (lines ++ others)))
 
--- kinds that are left
-pub kinds_left : (kinds : List (List Event)) (lengths : List ℕ) (k : ℕ) (events : List Event) (clocks : ℕ) → k < length kinds
-    → k < length lengths → events ≡ get_or kinds k events → clocks ≡ get_or lengths k clocks
-    → kinds_then Second (drop k kinds) (drop k lengths) []
-    ≡ kinds_then Second (events ∷ drop (k + 1) kinds) (clocks ∷ drop (k + 1) lengths) []
-kinds_left kinds lengths k events clocks h i e f =
-    ap (λ ks. kinds_then Second ks (drop k lengths) []) (left kinds k events events h e)
-    ∙ ap (λ ns. kinds_then Second (events ∷ drop (k + 1) kinds) ns []) (left lengths k clocks clocks i f)
-
-pub kinds_over : (kinds : List (List Event)) (lengths : List ℕ) (k : ℕ) → length kinds ≤ k
-    → ended (kinds_then Second (drop k kinds) (drop k lengths) []) ≡ []
-kinds_over kinds lengths k h = ap (λ ks. ended (kinds_then Second ks (drop k lengths) [])) (drop_all k kinds h)
-
 -- one length for each kind
 pub lengths_count : (kinds : List (List Event)) (lengths : List ℕ) → lengths_fit kinds lengths ≡ true → length kinds ≤ length lengths
 lengths_count [] lengths h = omega arith

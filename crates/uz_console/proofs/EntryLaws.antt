@@ -19,7 +19,7 @@ use Rattle.uz_console.specs.Consoles.{StateStandsFor}
 use Rattle.uz_schedule.specs.Schedule.{At, length_of, frame_of, level_at, sync_at, last_level}
 use Rattle.uz_machine.specs.Turn.{State}
 use Rattle.uz_schedule.specs.Tracked.{tracked}
-use Rattle.uz_console.specs.Entry.{CellsHold, TimerWaits, BeginsMain, BeginsAlone, Begins, EntryCondition}
+use Rattle.uz_console.specs.Entry.{CellsHold, TimerWaits, BeginsMain, Begins, EntryCondition}
 use Rattle.uz_console.specs.Entering.{IsFirstEntry, RegistersMatch, FlagsMatch, StackMatches, IsLeast, lesser, lesser_of, LevelMatches}
 use Rattle.uz_console.specs.Entering.{MatchesEntry, WaitsAt, EntersAt, EntersAtOne, EntersAlone, position_of}
 
@@ -44,15 +44,6 @@ pub rest_missed : {P : Type 0} (cert : Cert) (s : State P) (rest : Rest) (q : �
     s.space.timer.count → q < frame_of cert.schedule → (LevelMatches cert s q → ⊥) → IsLeast (frame_of cert.schedule) (EntersAt cert s rest)
     None
 rest_missed cert s rest q e h n p enters = n (sym (level_there cert.schedule p q (enters.place ∙ sym e) h) ∙ enters.level)
-
-pub alone_found : {P : Type 0} (cert : Cert) (s : State P) (q : ℕ) → BeginsAlone cert s q → q < frame_of cert.schedule → LevelMatches cert s
-    q → IsLeast (frame_of cert.schedule) (EntersAlone cert s) (Some q)
-alone_found cert s q b h l = (
-  h,
-  record { level = l; begins = b },
-  λ p enters. (let same : p % frame_of cert.schedule ≡ q % frame_of
-      cert.schedule = enters.begins.place ∙ sym b.place in let e : q % frame_of cert.schedule ≡ q = mod-eq_of_lt h in omega arith),
-)
 
 pub alone_missed : {P : Type 0} (cert : Cert) (s : State P) (q : ℕ) → q ≡ position_of cert.schedule cert.entry.line cert.entry.clock
     → q < frame_of cert.schedule → (LevelMatches cert s q → ⊥) → IsLeast (frame_of cert.schedule) (EntersAlone cert s) None
@@ -123,21 +114,6 @@ one_more_rest cert s frame rests rest (Some x) (Some y) a b = (
     least p e (inr new) = (let h = b.2 p (subst (λ r. EntersAt cert s r p) (sym new) e.2) in let l = lesser_right x y in omega arith)
 
 -- the whole condition
-entry_parts : {P : Type 0} (cert : Cert) (s : State P) (p : ℕ) → EntryCondition cert s p → MatchesEntry cert s
-entry_parts cert s p e = record {
-  pc = e.pc;
-  response = e.response;
-  sp = e.sp;
-  registers = e.registers;
-  flags = e.flags;
-  stack = e.stack;
-  cells = e.cells;
-}
-
-pub no_match : {P : Type 0} (cert : Cert) (s : State P) → (MatchesEntry cert s → ⊥) → IsLeast (frame_of cert.schedule)
-    (EntryCondition cert s) None
-no_match cert s n p e = n (entry_parts cert s p e)
-
 whole : {P : Type 0} (cert : Cert) (s : State P) (p : ℕ) → MatchesEntry cert s → LevelMatches cert s p → Begins cert.entry.kind cert s p
     → EntryCondition cert s p
 whole cert s p m l b = record {
@@ -194,17 +170,6 @@ main_least cert s o k m h =
     same_least _ _ _ o
     (λ p e. whole cert s p m e.2.level (subst (λ x. Begins x cert s p) (sym k) (main_begins cert s p e)))
     (λ p e. main_enters cert s p (subst (λ x. Begins x cert s p) k e.begins) e.level) h
-
-pub handler_least : {P : Type 0} (cert : Cert) (s : State P) → cert.entry.kind ≡ Handler → IsLeast (frame_of cert.schedule)
-    (EntryCondition cert s) None
-handler_least cert s k p e = subst (λ x. Begins x cert s p) k e.begins
-
-pub alone_least : {P : Type 0} (cert : Cert) (s : State P) (o : Option ℕ) → cert.entry.kind ≡ Alone → MatchesEntry cert s
-    → IsLeast (frame_of cert.schedule) (EntersAlone cert s) o → IsLeast (frame_of cert.schedule) (EntryCondition cert s) o
-alone_least cert s o k m h =
-    same_least _ _ _ o
-    (λ p e. whole cert s p m e.level (subst (λ x. Begins x cert s p) (sym k) e.begins))
-    (λ p e. record { level = e.level; begins = subst (λ x. Begins x cert s p) k e.begins }) h
 
 -- What a console's state meets, the states that it stands for meet
 

@@ -1,6 +1,5 @@
 -- An instruction decoded has what its row has.
 use Rattle.std.proofs.Common.{◌≡◌, ℕ, ◌%◌, ◌+◌, sym, subst}
-use Rattle.std.specs.Prelude.{◌≢◌}
 use Rattle.std.specs.Ordering.{nat_cmp}
 use Rattle.std.specs.FinMap.{FinMap}
 use Rattle.uz_hex.specs.Cells.{word_of}
@@ -8,15 +7,12 @@ use Rattle.avr_table.specs.declared.Instr.{Instr}
 use Rattle.avr_table.specs.declared.Outcome.{Outcome}
 use Rattle.avr_table.specs.declared.Outcome.TheVariants.{Next, Taken, SkipOne, SkipTwo}
 use Rattle.avr_table.specs.Rows.{Reads, clocks_of}
-use Rattle.uz_machine.specs.declared.Effect.TheVariants.{Stop}
-use Rattle.uz_machine.specs.Effects.{effect_of}
 use Rattle.uz_machine.specs.OperandRanges.{EffectFits}
 use Rattle.uz_machine.proofs.EffectRanges.{effect_fits}
 use Rattle.uz_core.specs.declared.decoded.Clocks.{Clocks}
 use Rattle.uz_core.specs.declared.decoded.Decoded.{Decoded}
-use Rattle.uz_core.specs.declared.decoded.Reading.TheVariants.{NoRow}
 use Rattle.uz_core.specs.RowClocks.{clocks_in}
-use Rattle.uz_core.specs.Programs.{IsDecoded, IsInstructionAt, IsReading}
+use Rattle.uz_core.specs.Programs.{IsDecoded, IsInstructionAt}
 
 pub same_clocks : (i : Instr) (clocks : Clocks) → clocks.next ≡ clocks_of i Next → clocks.taken ≡ clocks_of i Taken
     → clocks.skip_one ≡ clocks_of i SkipOne → clocks.skip_two ≡ clocks_of i SkipTwo →
@@ -33,10 +29,6 @@ same_clocks i clocks next taken one two = λ k outcome. each outcome k
 pub decoded_fits : (i : Instr) (d : Decoded) → IsDecoded i d → EffectFits d.effect
 decoded_fits i d h = subst EffectFits (sym h.effect) (effect_fits i)
 
--- it isn't SPM
-pub decoded_runs : (i : Instr) (d : Decoded) → IsDecoded i d → effect_of i ≢ Stop → d.effect ≢ Stop
-decoded_runs i d h goes_on = subst (λ e. e ≢ Stop) (sym h.effect) goes_on
-
 abbrev Only : ℕ → ℕ → Type 0
 Only first second = (i j : Instr) → Reads first second i → Reads first second j → i ≡ j
 
@@ -51,8 +43,3 @@ instruction_at image at first second i f s reads only = record {
   where
     to : (Q : ℕ → ℕ → Type 0) → Q first second → Q (word_of image at) (word_of image ((at + 1) % 32768))
     to Q q = subst (λ a. Q a (word_of image ((at + 1) % 32768))) f (subst (λ b. Q first b) s q)
-
-pub no_row_at : (image : FinMap nat_cmp ℕ) (at first second : ℕ) → first ≡ word_of image at → second ≡ word_of image ((at + 1) % 32768) →
-    ((i : Instr) → Reads first second i → ⊥) → IsReading image at NoRow
-no_row_at image at first second f s none =
-    λ i h. none i (subst (λ b. Reads first b i) (sym s) (subst (λ a. Reads a (word_of image ((at + 1) % 32768)) i) (sym f) h))

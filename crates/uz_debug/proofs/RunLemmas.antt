@@ -109,13 +109,6 @@ none_heeded start n (s, after, there) = true≢false (sym there ∙ set.contains
 
 -- The run so far
 
-pub passed_none : (start : State PadHistory) (stops : set.FinSet nat_cmp) (from : ℕ) → Passed start stops from from
-passed_none start stops from = record {
-  onward = omega arith;
-  going = λ k h l. absurd (omega arith);
-  unbroken = λ k h l. absurd (omega arith);
-}
-
 pub passed_one : (start : State PadHistory) (stops : set.FinSet nat_cmp) (from at : ℕ) → Passed start stops from at → (IsStuck start at → ⊥)
     → (IsBreak start stops (at + 1) → ⊥) → Passed start stops from (at + 1)
 passed_one start stops from at h going unbroken = record {

@@ -3,7 +3,7 @@ use Rattle.std.specs.Prelude.{◌≡◌, ◌≢◌, ℕ, Bool, true, false, if�
 use Rattle.std.specs.Prelude.{filter, codes, bytes_eq, Option, Some, None, option_map}
 use Rattle.std.specs.List.{slice_split}
 use Rattle.uz_text.specs.Numbers.{number_within}
-use Rattle.uz_pads.specs.ItemTexts.{IsFirstFaulty, IsText, items_in}
+use Rattle.uz_pads.specs.ItemTexts.{IsFirstFaulty, IsText}
 use Rattle.uz_debug.specs.declared.command.Command.{Command}
 use Rattle.uz_debug.specs.declared.command.Command.TheVariants.{Step, Run, Back, Break, Clear, Save, Load, Show, Mem}
 use Rattle.uz_debug.specs.declared.script_lines.Line.{Line}
@@ -85,10 +85,6 @@ commands_of other = []
 
 abbrev pub commands_on : List ℕ → List Command
 commands_on text = commands_of (kind_of text)
-
--- the commands of some lines, in order
-abbrev pub commands_in : List (List ℕ) → List Command
-commands_in = items_in commands_on
 
 abbrev pub is_well_formed : Line → Bool
 is_well_formed (line.Faulty why) = false

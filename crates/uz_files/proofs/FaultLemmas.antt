@@ -7,11 +7,6 @@ pub rose_later : (old mid new : ℕ) → old ≤ mid → Rose mid new → Rose o
 rose_later old mid new up (inl rose) = inl (omega arith)
 rose_later old mid new up (inr stuck) = inr stuck
 
--- an earlier call
-pub rose_earlier : (old mid new : ℕ) → mid ≤ new → Rose old mid → Rose old new
-rose_earlier old mid new up (inl rose) = inl (omega arith)
-rose_earlier old mid new up (inr stuck) = inr (omega arith)
-
 -- a call before that left the count
 pub rose_same : (old mid new : ℕ) → mid ≡ old → Rose mid new → Rose old new
 rose_same old mid new same rose = subst (λ n. Rose n new) same rose

@@ -1,6 +1,6 @@
 -- Lines that are in the box of every named successor.
 use Rattle.std.proofs.Common.{◌≡◌, inl, inr, ℕ, zero, suc, ◌+◌, ◌-◌, ◌<◌, ◌≤◌, Bool, true, false, not, nat_lt, List, [], ◌∷◌, length, refl}
-use Rattle.std.proofs.Common.{sym, ◌∙◌, ap, arith}
+use Rattle.std.proofs.Common.{sym, ◌∙◌, arith}
 use Rattle.std.specs.Prelude.{◌&&◌, Option, Some, None, slice_get}
 use Rattle.std.specs.List.{list_all}
 use Rattle.std.proofs.lemmas.Bool.Decides.{eqb_tells, nat_tests}
@@ -76,15 +76,3 @@ told_by_run cert p reach e line l is run plain after first low high last =
 
 same_some : {A : Type 0} (o : Option A) (a b : A) → o ≡ Some a → o ≡ Some b → a ≡ b
 same_some o a b e f = cc
-
-pub hold_more : (cert : Cert) (ids : List ℕ) (first last n id first_now last_now : ℕ) → slice_get ids n ≡ Some id → HoldTo cert ids first
-    last n → first ≤ first_now → last_now ≤ last
-    → ((q : Point) → slice_get cert.points id ≡ Some q → (q.l0 ≤ first_now) × (last_now ≤ q.l1)) → HoldTo cert ids first_now last_now
-    (n + 1)
-hold_more cert ids first last n id first_now last_now is hold later sooner there k i q b e f =
-    elim (eqb_tells k n) [
-      | inl t ↦
-          let same : i ≡ id = same_some (slice_get ids n) i id (ap (slice_get ids) (sym t.1) ∙ e) is in
-          there q (ap (slice_get cert.points) (sym same) ∙ f)
-      | inr t ↦ let box = hold k i q (omega (arith, b, t.1)) e f in (omega (arith, box.0, later), omega (arith, box.1, sooner))
-    ]

@@ -28,15 +28,6 @@ run_ends cert n l h is = record {
   ended = λ g. sym is;
 }
 
--- past the frame's last line there is nothing
-pub run_of_none : (cert : Cert) (n : ℕ) → IsRun cert n n n
-run_of_none cert n = record {
-  onward = omega arith;
-  within = omega arith;
-  alike = λ k low high. absurd (omega (arith, low, high));
-  ended = λ g. absurd (omega (arith, g));
-}
-
 set_here : {A : Type 0} (xs : List A) (n : ℕ) (x : A) → n < length xs → slice_get (slice_set xs n x) n ≡ Some x
 set_here [] n x h = absurd (omega (arith, h))
 set_here (y ∷ xs) zero x h = refl

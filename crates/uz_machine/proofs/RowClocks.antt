@@ -4,7 +4,7 @@ use Rattle.avr_table.specs.declared.Instr.{Instr}
 use Rattle.avr_table.specs.declared.Instr.TheVariants.{Nop}
 use Rattle.avr_table.specs.declared.Outcome.{Outcome}
 use Rattle.avr_table.specs.declared.Outcome.TheVariants.{Next, Taken, SkipOne, SkipTwo}
-use Rattle.avr_table.specs.Rows.{clocks_of, words_of}
+use Rattle.avr_table.specs.Rows.{clocks_of}
 use Rattle.uz_machine.specs.declared.Effect.{Effect}
 use Rattle.uz_machine.specs.declared.Effect.TheVariants.{Stop}
 use Rattle.uz_machine.specs.Effects.{effect_of}
@@ -38,7 +38,3 @@ clocks_within i Next = at_next i
 clocks_within i Taken = at_taken i
 clocks_within i SkipOne = at_one i
 clocks_within i SkipTwo = at_two i
-
-pub words_within : (i : Instr) → (nat_le 1 (words_of i) && nat_le (words_of i) 2) ≡ true
-words_within Nop = refl
-words_within i = refl

@@ -82,13 +82,7 @@ OCR1AH = 0x89
 abbrev pub OCR2A : ℕ
 OCR2A = 0xB3
 
--- the last I/O register, and the RAM's first and last byte
-abbrev pub IO_END : ℕ
-IO_END = 0xFF
-
-abbrev pub RAM_START : ℕ
-RAM_START = 0x100
-
+-- the RAM's last byte
 abbrev pub RAM_END : ℕ
 RAM_END = 0x10FF
 

@@ -1,7 +1,7 @@
 -- One more clock of a line, and one more line of a schedule.
 use Rattle.std.proofs.Common.{◌≡◌, ◌∙◌, sym, ap, refl, arith, inl, inr, ⊎_elim, ℕ, suc, ◌+◌, ◌<◌, ◌≤◌, List, [], ◌∷◌, ◌++◌}
 use Rattle.std.proofs.Common.{append_assoc, append-nil, length, length-append, subst, get_or}
-use Rattle.std.specs.Prelude.{Option, Some, None, slice_get, ◌⊎◌}
+use Rattle.std.specs.Prelude.{Some, None, slice_get, ◌⊎◌}
 use borrow.Author.Count.{below_more}
 use Rattle.std.proofs.lemmas.Bool.{cases_lt}
 use Rattle.std.proofs.lemmas.Option.{get_or_from_slice_get, slice_get_cases, slice_get_within}
@@ -43,9 +43,6 @@ ends marks start k n events all e h =
     sym (ap (λ es. events ++ es) (ap (events_from marks start k) e ∙ none_from marks start k) ∙ append-nil events) ∙ h
 
 -- One more kind
-
-same_of : {A : Type 0} (o : Option A) (a b : A) → o ≡ Some a → o ≡ Some b → a ≡ b
-same_of o a b e f = cc
 
 -- a kind that is there already
 pub adds_old : (kinds : List (List Event)) (lengths : List ℕ) (events : List Event) (clocks n : ℕ) → length lengths ≡ length kinds

@@ -34,12 +34,6 @@ use Rattle.uz_files.specs.Formats.{RefusesCertificate, RefusesHex, RefusesPads, 
 
 -- Files that end the command
 
-pub preface_of_image : (files : Option FileMap) (load_fault : Type 0) (hex cert pads : List ℕ) (failure : Failure)
-    → EndsBy (Fails files load_fault hex text_limit RefusesHex) failure → EndsBy (PlayPreface files load_fault hex cert pads)
-    failure
-preface_of_image files load_fault hex cert pads failure = ends_by (Fails files load_fault hex text_limit RefusesHex)
-    (PlayPreface files load_fault hex cert pads) failure (λ answer h. inl h)
-
 pub preface_of_certificate : (files after : Option FileMap) (old mid new : ℕ) (hex cert pads : List ℕ) (image : Flash) (failure : Failure)
     → after ≡ files → old ≤ mid → Says files hex text_limit IsHexOf image
     → EndsBy (Fails after (Rose mid new) cert certificate_limit RefusesCertificate) failure

@@ -475,12 +475,6 @@ pub turn_has_few : (limit : ℕ) (old new : Console) (edges : List Edge) → len
     → clock_of old < limit → HasFewEdges limit old new edges
 turn_has_few limit old new edges few on within = (omega arith, omega arith)
 
-pub console_is_nearer : (old new : Player) → left_of new ≡ left_of old → new.limit ≡ old.limit → clock_of old.console ≤ clock_of new.console
-    → ahead_of new ≤ ahead_of old
-console_is_nearer old new left limit on =
-    let size : length (left_of new) ≡ length (left_of old) = ap (λ (es : List Edge). length es) left in
-    omega arith
-
 pub ends_near : (old new : Player) (at : Ending) → IsNearer old new (played_of at)
 ends_near old new ending.Over = tt
 ends_near old new (ending.Stopped pc word) = tt

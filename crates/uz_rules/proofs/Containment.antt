@@ -1,5 +1,5 @@
 -- Containment: the state after an instruction meets the instance at one of the abstract step's exits.
-use Rattle.std.proofs.Common.{◌≡◌, ◌≢◌, ◌⊎◌, inl, inr, ℕ, ◌+◌, ◌-◌, ◌%◌, ◌≤◌, Bool, true, false, not, if◌then◌else◌, nat_eq}
+use Rattle.std.proofs.Common.{◌≡◌, ◌≢◌, inl, inr, ℕ, ◌+◌, ◌-◌, ◌%◌, ◌≤◌, Bool, true, false, not, if◌then◌else◌, nat_eq}
 use Rattle.std.proofs.Common.{nat_le, Option, Some, None, List, [], ◌∷◌, ◌++◌, map, length, refl, sym, ◌∙◌, ap, subst, arith}
 use Rattle.std.specs.Prelude.{slice_index, ◌&&◌, ◌||◌, ◌==◌, Ok}
 use Rattle.std.specs.Ordering.{nat_cmp}
@@ -459,10 +459,6 @@ alone_contained head lines image inst o d step s kind h =
 or_false : (a b : Bool) → (a || b) ≡ false → (a ≡ false) × (b ≡ false)
 or_false true b e = absurd cc
 or_false false b e = (refl, e)
-
-and_either : (a b : Bool) → (a && b) ≡ false → (a ≡ false) ⊎ (b ≡ false)
-and_either true b e = inr e
-and_either false b e = inl refl
 
 -- what shows nothing shows nothing at any level
 silent_byte : (level at : ℕ) (v : Val) → (nat_eq at 0x23 || (nat_eq at 0x25 || (nat_eq at 0x26 || (nat_eq at 0x28 || nat_eq at 0xB3))))

@@ -128,10 +128,6 @@ cells_stored head kind spans at v e old new fits wrote within byte h (Some i) is
 
 -- Slots
 
--- the slots' addresses lie in the stack
-slot_high : (head : Head) (kind : Kind) (d sp n i : ℕ) → i < n → sp + n + d ≡ head.hi → (sp < sp + n - i) × (sp + n - i ≤ head.hi)
-slot_high head kind d sp n i w e = (omega arith, omega arith)
-
 -- a store off the stack
 pub stored_meets : (head : Head) (inst : Instance) (o : Core) (d sp at v : ℕ) (e : Ends) (old new : List ℕ) → HeadFits head
     → MemoryMeets head inst o d sp old → head.lo ≤ suc sp → Wrote at v old new → v < 256

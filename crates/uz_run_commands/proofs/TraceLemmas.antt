@@ -19,16 +19,11 @@ use Rattle.uz_run_commands.specs.TraceCommand.{edge_line, edge_lines}
 use Rattle.uz_run_commands.specs.TraceValues.{IsPrinted, IsPrintedPart, IsPrintedSoFar}
 use Rattle.uz_files.proofs.PrintedLemmas.{takes_then_prefix}
 use Rattle.uz_files.proofs.TextLemmas.{takes_both}
-use Rattle.uz_files.proofs.TextLemmas.{takes_none}
 
 edge_lines-append : (a b : List Edge) → edge_lines (a ++ b) ≡ edge_lines a ++ edge_lines b
 edge_lines-append [] b = refl
 edge_lines-append (x ∷ xs) b = ap (λ t. edge_line x ++ t) (edge_lines-append xs b)
     ∙ sym (append_assoc (edge_line x) (edge_lines xs) (edge_lines b))
-
-pub starts_printed : (limit : ℕ) (start : State PadHistory) (console : Console) (text : Option (List ℕ)) → RunsTo limit start [] console
-    → IsPrintedSoFar limit start console text text
-starts_printed limit start console text run = ([], run, takes_none text)
 
 -- the lines of a page after those of the edges before it
 lines_after : (edges page : List Edge) (old was new : Option (List ℕ)) → TakesAll old (edge_lines edges) was

@@ -1,5 +1,5 @@
 -- The picture of a list of edges, edge by edge.
-use Rattle.std.proofs.Common.{◌≡◌, ℕ, ◌+◌, ◌<◌, ◌≤◌, List, [], ◌∷◌, ◌++◌, length, take, drop, get_or, refl, sym, ap, subst, ◌∙◌}
+use Rattle.std.proofs.Common.{◌≡◌, ℕ, ◌+◌, ◌<◌, List, [], ◌∷◌, ◌++◌, length, take, drop, get_or, refl, sym, ap, subst, ◌∙◌}
 use Rattle.std.proofs.Common.{append_assoc}
 use Rattle.std.proofs.lemmas.List.{append-nil, reverse-append, take_more, drop_more, take-append-drop, take_at}
 use Rattle.uz_machine.specs.declared.Edge.{Edge}
@@ -13,11 +13,6 @@ one_more edges i d h = ap newest_first (take_more edges i d h) ∙ reverse-appen
 pub never_falls_more : (from : ℕ) (edges : List Edge) (i : ℕ) (d : Edge) → i < length edges → NeverFalls from (drop i edges)
     → NeverFalls (get_or edges i d).clock (drop (i + 1) edges)
 never_falls_more from edges i d h n = (subst (λ x. NeverFalls from x) (drop_more edges i d h) n).1
-
--- the clock of the next edge isn't below the number
-pub next_not_below : (from : ℕ) (edges : List Edge) (i : ℕ) (d : Edge) → i < length edges → NeverFalls from (drop i edges)
-    → from ≤ (get_or edges i d).clock
-next_not_below from edges i d h n = (subst (λ x. NeverFalls from x) (drop_more edges i d h) n).0
 
 -- the records of an earlier list begin those of a later one
 record Begins (edges more : List Edge) : Type 0 where

@@ -1,5 +1,5 @@
 -- Addresses of RAM, 0x100 to 0x10FF: what is read, stored and seen there.
-use Rattle.std.proofs.Common.{◌≡◌, ◌≢◌, ℕ, ◌-◌, ◌/◌, ◌%◌, ◌<◌, ◌≤◌, true, false, eqb, leb, ltb, [], length, refl, sym, ◌∙◌, ap, arith}
+use Rattle.std.proofs.Common.{◌≡◌, ◌≢◌, ℕ, ◌-◌, ◌/◌, ◌%◌, ◌<◌, ◌≤◌, true, false, eqb, ltb, [], length, refl, sym, ◌∙◌, ap, arith}
 use Rattle.std.specs.Prelude.{slice_index, slice_set}
 use Rattle.std.proofs.lemmas.Bool.Decides.{nat_tests}
 use Rattle.std.proofs.lemmas.List.{length-set, get_or-set_same, get_or-set_other}
@@ -19,9 +19,6 @@ same a b h = grind (arith, nat_tests)
 
 not_below : (a n : ℕ) → n ≤ a → ltb a n ≡ false
 not_below a n h = grind (arith, nat_tests)
-
-not_up_to : (a n : ℕ) → n < a → leb a n ≡ false
-not_up_to a n h = grind (arith, nat_tests)
 
 pub off_core : (a : ℕ) → 256 ≤ a → is_core_address a ≡ false
 off_core a h = grind (arith, nat_tests)

@@ -3,7 +3,6 @@ use Rattle.std.proofs.Common.{◌≡◌, ℕ, ◌+◌, ◌*◌, ◌%◌, ◌≤�
 use Rattle.std.specs.Prelude.{slice_index}
 use Rattle.avr_table.specs.declared.Instr.{Instr}
 use Rattle.avr_table.specs.declared.Instr.TheVariants.{Reti}
-use Rattle.uz_machine.specs.declared.EdgeKind.TheVariants.{Leave}
 use Rattle.uz_machine.specs.declared.Effect.TheVariants.{Return}
 use Rattle.uz_machine.specs.Arithmetic.{with_bit}
 use Rattle.uz_machine.specs.Effects.{effect_of}
@@ -11,7 +10,7 @@ use Rattle.uz_machine.specs.Core.{Core, returns_from_interrupt, loaded_bytes, co
 use Rattle.uz_machine.specs.Timer.{timer_after}
 use Rattle.uz_machine.specs.PadLine.{PadHistory}
 use Rattle.uz_machine.specs.Space.{Space, history_wiring, space_after, space_loads}
-use Rattle.uz_machine.specs.Turn.{State, after_instruction, instruction_edges}
+use Rattle.uz_machine.specs.Turn.{State, after_instruction}
 use Rattle.uz_soundness.proofs.Ram.{off_core, ram_read, ram_timer}
 
 -- RETI alone returns from an interrupt
@@ -94,6 +93,3 @@ return_is s low high =
       is_owed = true;
       clock = s.clock + 4;
     }
-
-pub return_seen : (s : State PadHistory) → instruction_edges history_wiring Reti s ≡ record { clock = s.clock + 4; kind = Leave } ∷ []
-return_seen s = refl

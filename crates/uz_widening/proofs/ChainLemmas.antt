@@ -48,9 +48,6 @@ fold_past facts fact e h = ap (λ b. folded facts (if b then fact else e)) h
 pub fold_within : (facts : List Ends) (fact e : Ends) → is_within e fact ≡ true → folded (fact ∷ facts) e ≡ folded facts fact
 fold_within facts fact e h = ap (λ b. folded facts (if b then fact else e)) h
 
-within_self : (e : Ends) → is_within e e ≡ true
-within_self e = grind (arith, nat_tests)
-
 -- the fact at a place, and those after it
 pub ranges_at : (nodes : List Node) (n k : ℕ) (node : Node) → n ≡ suc k → slice_get nodes k ≡ Some node
     → ranges_below n nodes ≡ node.range ∷ ranges_below k nodes

@@ -248,15 +248,6 @@ none_more [] (suc q) h = refl
 none_more (c ∷ chains) zero h = h 0
 none_more (c ∷ chains) (suc q) h = none_more chains q (λ k. h (suc k))
 
-pub no_facts : (facts : List Widening) (chains : List (List Ends)) → facts ≡ [] → length chains ≡ 35
-    → ((q : ℕ) → slice_index_or chains q [] ≡ []) → AreChains (reverse facts) chains
-no_facts facts chains none size each =
-    subst (λ (l : List Widening). AreChains (reverse l) chains) (sym none) (record {
-      count = size;
-      each = λ place few. each place;
-      bytes = λ place few. tt;
-    })
-
 with_told_bytes : (t : Option (ℕ × Ends)) (place : ℕ) (ranges : List Ends) → place < 32 → IsTold t → AreBytes ranges
     → AreBytes (with_told place t ranges)
 with_told_bytes None place ranges few is all = all
