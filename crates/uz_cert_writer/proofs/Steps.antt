@@ -1,7 +1,6 @@
 -- One more word or line at the end of a text.
-use Rattle.std.proofs.Common.{◌≡◌, ℕ, zero, suc, ◌+◌, ◌<◌, ◌≤◌, Bool, true, false, ◌&&◌, cond, List, [], ◌∷◌, ◌++◌, map, drop, get_or, length}
+use Rattle.std.proofs.Common.{◌≡◌, ℕ, suc, ◌+◌, ◌<◌, ◌≤◌, Bool, true, false, ◌&&◌, cond, List, [], ◌∷◌, ◌++◌, map, drop, get_or, length}
 use Rattle.std.proofs.Common.{decimal, refl, sym, ◌∙◌, ap, arith, append_assoc, append-nil, add-one, drop-cons}
-use Rattle.std.specs.Prelude.{Some, slice_get}
 use Rattle.std.proofs.lemmas.List.{drop_all}
 use Rattle.uz_schedule.specs.Limits.{is_length, clocks_below, lengths_fit}
 use Rattle.uz_schedule.specs.Tracked.{tracks}
@@ -54,9 +53,30 @@ word_added word old mid new all xs k x h e f g before =
     put_two old mid new (32 ∷ []) (word x) (spaced (map word (drop (k + 1) xs))) (spaced (map word (drop k xs))) all f g
     (ap (λ ys. spaced (map word ys)) (left xs k x x h e)) before
 
+-- one more word of a list of them, with its space
+pub word_put : {A : Type 0} (word : A → List ℕ) (old new all : List ℕ) (xs : List A) (k : ℕ) (x d : A) → k < length xs → x ≡ get_or xs k d
+    → new ≡ old ++ (32 ∷ word x) → old ++ spaced (map word (drop k xs)) ≡ all → new ++ spaced (map word (drop (k + 1) xs)) ≡ all
+word_put word old new all xs k x d h e f before =
+    put old new (32 ∷ word x) (spaced (map word (drop (k + 1) xs))) (spaced (map word (drop k xs))) all f
+    (ap (λ ys. spaced (map word ys)) (left xs k x d h e)) before
+
+-- one more word that begins as they all do, with a space before it
+pub word_begun : {A : Type 0} (begin : List ℕ) (word : A → List ℕ) (old mid new all : List ℕ) (xs : List A) (k : ℕ) (x d : A)
+    → k < length xs → x ≡ get_or xs k d → mid ≡ old ++ (32 ∷ begin) → new ≡ mid ++ word x
+    → old ++ spaced (map (λ y. begin ++ word y) (drop k xs)) ≡ all → new ++ spaced (map (λ y. begin ++ word y) (drop (k + 1) xs)) ≡ all
+word_begun begin word old mid new all xs k x d h e f g before =
+    let rest = spaced (map (λ y. begin ++ word y) (drop (k + 1) xs)) in
+    put_two old mid new (32 ∷ begin) (word x) rest (spaced (map (λ y. begin ++ word y) (drop k xs))) all f g
+    (ap (λ ys. spaced (map (λ y. begin ++ word y) ys)) (left xs k x d h e) ∙ ap (λ t. 32 ∷ t) (append_assoc begin (word x) rest)) before
+
 -- nothing is left
 pub nothing_left : (text left all : List ℕ) → left ≡ [] → text ++ left ≡ all → text ≡ all
 nothing_left text left all e f = sym (append-nil text) ∙ ap (λ t. text ++ t) (sym e) ∙ f
+
+-- no word is left
+pub words_over : {A : Type 0} (word : A → List ℕ) (text all : List ℕ) (xs : List A) (k : ℕ) → length xs ≤ k
+    → text ++ spaced (map word (drop k xs)) ≡ all → text ≡ all
+words_over word text all xs k h before = nothing_left text _ all (ap (λ ys. spaced (map word ys)) (drop_all k xs h)) before
 
 -- registers
 
@@ -77,6 +97,11 @@ pub register_added : (old new all : List ℕ) (kind : Kind) (fs : List Fact) (r 
 register_added old new all kind fs r x h e f g =
     put old new _ (spaced (register_items kind (r + 1) (drop (r + 1) fs))) (spaced (register_items kind r (drop r fs))) all f
     (register_left kind fs r x h e) g
+
+-- no register is left
+pub registers_over : (text all : List ℕ) (kind : Kind) (fs : List Fact) (r : ℕ) → length fs ≤ r
+    → text ++ spaced (register_items kind r (drop r fs)) ≡ all → text ≡ all
+registers_over text all kind fs r h before = nothing_left text _ all (ap (λ ys. spaced (register_items kind r ys)) (drop_all r fs h)) before
 
 -- pairs and flags
 
@@ -112,17 +137,12 @@ no_cells : (kind : Kind) (i : ℕ) (cs : List Cell) → cell_items kind i cs [] 
 no_cells kind i [] = refl
 no_cells kind i (c ∷ cs) = refl
 
-next_fact : (fs : List Fact) (k : ℕ) (x : Fact) → slice_get fs k ≡ Some x → drop k fs ≡ x ∷ drop (k + 1) fs
-next_fact [] k x e = absurd cc
-next_fact (f ∷ fs) zero x e = let same : f ≡ x = cc in ap (λ y. y ∷ fs) same
-next_fact (f ∷ fs) (suc k) x e = next_fact fs k x e ∙ ap (λ n. x ∷ drop n (f ∷ fs)) (sym (add-one (k + 1)) ∙ ap (λ n. n + 1) (add-one k))
-
 -- a cell that the kind tracks, with its fact
 pub cell_added : (old new : List ℕ) (kind : Kind) (i next : ℕ) (c : Cell) (cs : List Cell) (fs : List Fact) (x : Fact)
-    → tracks kind c.owner ≡ true → slice_get fs next ≡ Some x
+    → tracks kind c.owner ≡ true → next < length fs → x ≡ get_or fs next x
     → new ≡ old ++ spaced (unless (is_range c.range x) (item (109 ∷ decimal i) (fact_word x)) [])
     → new ++ spaced (cell_items kind (i + 1) cs (drop (next + 1) fs)) ≡ old ++ spaced (cell_items kind i (c ∷ cs) (drop next fs))
-cell_added old new kind i next c cs fs x t e f =
+cell_added old new kind i next c cs fs x t h e f =
     let word = item (109 ∷ decimal i) (fact_word x) in
     let later = cell_items kind (suc i) cs (drop (next + 1) fs) in
     ap (λ n. new ++ spaced (cell_items kind n cs (drop (next + 1) fs))) (add-one i)
@@ -130,7 +150,7 @@ cell_added old new kind i next c cs fs x t e f =
     (old ++ spaced (unless (is_range c.range x) word later)) f (unless_first (is_range c.range x) word later) refl
     ∙ ap (λ b. old ++ spaced (cond b (unless (is_range c.range x) word later) (cell_items kind (suc i) cs (x ∷ drop (next + 1) fs))))
     (sym t)
-    ∙ ap (λ ys. old ++ spaced (cell_items kind i (c ∷ cs) ys)) (sym (next_fact fs next x e))
+    ∙ ap (λ ys. old ++ spaced (cell_items kind i (c ∷ cs) ys)) (sym (left fs next x x h e))
 
 passed : (kind : Kind) (i : ℕ) (c : Cell) (cs : List Cell) (fs : List Fact) → tracks kind c.owner ≡ false
     → cell_items kind i (c ∷ cs) fs ≡ cell_items kind (suc i) cs fs
@@ -164,6 +184,12 @@ cell_taken old new all kind k x cells facts others h e step before =
     step (drop (k + 1) cells)
     ∙ ap (λ cs. old ++ spaced (cell_items kind k cs facts)) (sym (left cells k x x h e))
     ∙ before
+
+-- no cell is left
+pub cells_over : (text all : List ℕ) (kind : Kind) (k : ℕ) (cells : List Cell) (facts : List Fact) → length cells ≤ k
+    → text ++ spaced (cell_items kind k (drop k cells) facts) ≡ all → text ≡ all
+cells_over text all kind k cells facts h before =
+    nothing_left text _ all (ap (λ cs. spaced (cell_items kind k cs facts)) (drop_all k cells h)) before
 
 -- kinds of line
 
@@ -204,8 +230,22 @@ added_four old t1 t2 t3 new a b d e f g h i =
     ∙ append_assoc ((old ++ a) ++ b) d e ∙ append_assoc (old ++ a) b (d ++ e) ∙ append_assoc old a (b ++ (d ++ e))
 
 -- lines that are left
-pub lines_left : {A : Type 0} (words : A → List (List ℕ)) (xs : List A) (k : ℕ) (x : A) → k < length xs → x ≡ get_or xs k x
+pub lines_left : {A : Type 0} (words : A → List (List ℕ)) (xs : List A) (k : ℕ) (x d : A) → k < length xs → x ≡ get_or xs k d
     → ended (map (λ y. line_of (words y)) (drop k xs)) ≡ line_end (words x) ++ ended (map (λ y. line_of (words y)) (drop (k + 1) xs))
-lines_left words xs k x h e =
-    ap (λ ys. ended (map (λ y. line_of (words y)) ys)) (left xs k x x h e)
+lines_left words xs k x d h e =
+    ap (λ ys. ended (map (λ y. line_of (words y)) ys)) (left xs k x d h e)
     ∙ sym (line_ended (words x) (map (λ y. line_of (words y)) (drop (k + 1) xs)))
+
+-- one more line of them
+pub line_added : {A : Type 0} (words : A → List (List ℕ)) (old new all : List ℕ) (xs : List A) (k : ℕ) (x d : A) → k < length xs
+    → x ≡ get_or xs k d → new ≡ old ++ line_end (words x) → old ++ ended (map (λ y. line_of (words y)) (drop k xs)) ≡ all
+    → new ++ ended (map (λ y. line_of (words y)) (drop (k + 1) xs)) ≡ all
+line_added words old new all xs k x d h e f before =
+    put old new (line_end (words x)) (ended (map (λ y. line_of (words y)) (drop (k + 1) xs)))
+    (ended (map (λ y. line_of (words y)) (drop k xs))) all f (lines_left words xs k x d h e) before
+
+-- no line is left
+pub lines_over : {A : Type 0} (words : A → List (List ℕ)) (text all : List ℕ) (xs : List A) (k : ℕ) → length xs ≤ k
+    → text ++ ended (map (λ y. line_of (words y)) (drop k xs)) ≡ all → text ≡ all
+lines_over words text all xs k h before =
+    nothing_left text _ all (ap (λ ys. ended (map (λ y. line_of (words y)) ys)) (drop_all k xs h)) before

@@ -156,7 +156,6 @@ fn add_cell(text: &mut Vec<u8>, number: u8, range: &Span, fact: &Fact) -> Result
 }
 
 /// Adds the item of a cell where the kind tracks it, and tells which fact comes next.
-#[tactic(auto, using(crate::proofs::Steps::cell_added, crate::proofs::Steps::cell_passed, crate::proofs::Steps::cell_missing))]
 fn add_tracked(
     text: &mut Vec<u8>,
     kind: Kind,
