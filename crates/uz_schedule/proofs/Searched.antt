@@ -1,7 +1,7 @@
 -- What a search by halving finds: the event at a clock, and the last level before one.
-use Rattle.std.proofs.Common.{◌≡◌, ℕ, zero, suc, ◌+◌, ◌-◌, ◌<◌, ◌≤◌, Bool, true, false, ◌&&◌, cond, eqb, leb, ltb, List, [], ◌∷◌, length}
-use Rattle.std.proofs.Common.{map, All, lit≤, refl, sym, subst, ◌∙◌, ap, arith}
-use Rattle.std.proofs.lemmas.List.Elements.{filter_passes}
+use Rattle.std.proofs.Common.{◌≡◌, ℕ, zero, suc, ◌+◌, ◌-◌, ◌<◌, ◌≤◌, Bool, true, false, ◌&&◌, cond, eqb, leb, ltb, List, [], ◌∷◌, ◌++◌, length}
+use Rattle.std.proofs.Common.{map, All, lit≤, refl, sym, subst, ◌∙◌, ap, append-nil, arith}
+use Rattle.std.proofs.lemmas.List.Elements.{filter_passes, filter-append}
 use Rattle.std.specs.Prelude.{Option, Some, None, filter, slice_get, slice_index_or}
 use Rattle.std.specs.List.{AllWithin}
 use Rattle.std.specs.List.Sorted.{IsNonDecreasingBy, IsPartitionPoint}
@@ -199,3 +199,17 @@ pub level_by_place : (events syncs : List Event) (n i j : ℕ) (d : Event) → s
 level_by_place events syncs n i j d is some bound e point =
     let passes : All (λ e. is_sync e ≡ true) syncs = subst (λ xs. All (λ e. is_sync e ≡ true) xs) (sym is) (filter_passes is_sync events) in
     syncs_alone events n ∙ (ap (λ xs. last_set xs n) (sym is) ∙ found_before syncs n i j d (λ j h. passes j d h) some bound e point)
+
+-- One more event, of sync and of another kind
+
+pub sync_put : (events syncs new synced : List Event) (e : Event) → syncs ≡ filter is_sync events → is_sync e ≡ true
+    → new ≡ events ++ e ∷ [] → synced ≡ syncs ++ e ∷ [] → synced ≡ filter is_sync new
+sync_put events syncs new synced e is sync put put_too =
+    put_too ∙ ap (λ l. l ++ e ∷ []) is ∙ ap (λ b. filter is_sync events ++ cond b (e ∷ []) []) (sym sync)
+    ∙ sym (filter-append is_sync events (e ∷ [])) ∙ ap (filter is_sync) (sym put)
+
+pub other_put : (events syncs new : List Event) (e : Event) → syncs ≡ filter is_sync events → is_sync e ≡ false
+    → new ≡ events ++ e ∷ [] → syncs ≡ filter is_sync new
+other_put events syncs new e is other put =
+    is ∙ sym (append-nil (filter is_sync events)) ∙ ap (λ b. filter is_sync events ++ cond b (e ∷ []) []) (sym other)
+    ∙ sym (filter-append is_sync events (e ∷ [])) ∙ ap (filter is_sync) (sym put)
