@@ -76,7 +76,6 @@ fn store_in(at: &mut Instance, head: &Head, a: &Wide, v: &Val)
 }
 
 /// A value is stored at these addresses, and then the pointer takes its new value.
-#[tactic(auto, using(crate::proofs::StoredPointer::stored_pointer))]
 fn store_and_step(at: &mut Instance, head: &Head, to: AddressMode, a: &Wide, v: &Val)
     requires fits { AddressModeFits to }
     ensures { at.new ≡ with_pointer_range to at.old (stored_in head.now a.now v.now at.old) }
