@@ -1,6 +1,6 @@
 -- The hints of two and of three operands, by their places.
-use Rattle.std.proofs.Common.{◌≡◌, ℕ, List, [], ◌∷◌, Bor, length, get_or, map, refl, ◌∙◌, ap, arith}
-use Rattle.std.specs.Prelude.{Err}
+use Rattle.std.proofs.Common.{◌≡◌, ℕ, Bool, List, [], ◌∷◌, Bor, length, get_or, map, refl, ◌∙◌, ap, arith}
+use Rattle.std.specs.Prelude.{Err, codes, if◌then◌else◌}
 use Rattle.avr_text.specs.declared.tokens.Token.{Token}
 use Rattle.avr_text.specs.Names.{NameMap}
 use Rattle.avr_operands.specs.declared.errors.AsmWhy.TheVariants.{Directive}
@@ -9,8 +9,10 @@ use Rattle.avr_operands.specs.Operands.{both}
 use Rattle.avr_asm.specs.declared.output.Hint.{Hint}
 use Rattle.avr_asm.specs.declared.output.Hint.TheVariants as hint
 use Rattle.avr_asm.specs.Hints.{byte, bytes_at, fact_at, fact_hint, half_hint, handler_cell_hint, lines_hint, mapped, part_at, place_of}
-use Rattle.avr_asm.specs.Hints.{ranged, short, shorts_at, stack_hint}
-use Rattle.uz_schedule.specs.declared.kinds.Kind.TheVariants.{Handler}
+use Rattle.avr_asm.specs.Hints.{ranged, short, shorts_at, stack_hint, start_hint, word_address}
+use Rattle.avr_asm.specs.Layout.{is_word}
+use Rattle.uz_schedule.specs.declared.kinds.Kind.{Kind}
+use Rattle.uz_schedule.specs.declared.kinds.Kind.TheVariants.{Main, Handler, Alone}
 
 two : (parts : List (Bor (List Token))) (d e : Bor (List Token)) → length parts ≡ 2
     → (get_or parts 0 d).now ∷ (get_or parts 1 e).now ∷ [] ≡ map (λ p. p.now) parts
@@ -94,3 +96,23 @@ pub cell_told : (line : List ℕ) (symbols : NameMap) (parts : List (List Token)
 cell_told line symbols parts last range first cell range_is first_is last_is cell_is =
     ap cell_from (cell_is ∙ ap (λ x. both x first) range_is
     ∙ ap (both (ranged line symbols parts)) (first_is ∙ ap (byte line symbols) last_is))
+
+-- a start
+abbrev pub start_from : Kind → OrFault ℕ → OrFault Hint
+start_from kind at = mapped at (λ a. hint.Start kind a)
+
+pub start_told : (line : List ℕ) (symbols : NameMap) (parts : List (Bor (List Token))) (d e : Bor (List Token)) (kind : Kind) (test : Bool)
+    (at : OrFault ℕ) → length parts ≡ 2 → test ≡ is_word (codes "main") line (get_or parts 0 d).now
+    → kind ≡ (if test then Main else Alone) → at ≡ word_address line symbols (get_or parts 1 e).now
+    → start_from kind at ≡ start_hint line symbols (map (λ p. p.now) parts)
+start_told line symbols parts d e kind test at len test_is kind_is at_is =
+    ap (λ k. start_from k at) (kind_is ∙ ap (λ b. if b then Main else Alone) test_is)
+    ∙ ap (start_from (if is_word (codes "main") line (get_or parts 0 d).now then Main else Alone)) at_is
+    ∙ ap (start_hint line symbols) (two parts d e len)
+
+pub no_start : (line : List ℕ) (symbols : NameMap) (parts : List (Bor (List Token))) → (length parts ≡ 2 → ⊥)
+    → Err Directive ≡ start_hint line symbols (map (λ p. p.now) parts)
+no_start line symbols [] h = refl
+no_start line symbols (p ∷ []) h = refl
+no_start line symbols (p ∷ q ∷ []) h = absurd (h refl)
+no_start line symbols (p ∷ q ∷ r ∷ parts) h = refl

@@ -1,16 +1,22 @@
 -- One more line is laid out.
 use Rattle.std.proofs.Common.{◌≡◌, ℕ, zero, suc, ◌+◌, ◌-◌, ◌<◌, ◌≤◌, Bool, true, false, ◌||◌, List, [], ◌∷◌, ◌++◌, Bor, length, get_or}
 use Rattle.std.proofs.Common.{drop, map, nat_lt, ◌⊎◌, inl, inr, refl, sym, ◌∙◌, ap, append_assoc, add-one, drop-cons, drop-drop, arith}
-use Rattle.std.specs.Prelude.{Result, Ok, Err}
+use Rattle.std.specs.Prelude.{Option, Result, Ok, Err}
 use Rattle.std.specs.List.{list_any}
 use Rattle.std.proofs.lemmas.List.{drop_all, append-nil}
 use Rattle.std.proofs.lemmas.Bool.Decides.{nat_tests}
+use Rattle.avr_text.specs.declared.tokens.Token.{Token}
+use Rattle.avr_text.specs.Tokens.{text_of}
 use Rattle.avr_asm.specs.declared.errors.AsmError.{AsmError}
 use Rattle.avr_operands.specs.declared.errors.AsmWhy.{AsmWhy}
 use Rattle.avr_operands.specs.declared.errors.AsmWhy.TheVariants.{Memory}
 use Rattle.avr_asm.specs.declared.layout.Place.{Place}
-use Rattle.avr_operands.specs.Faults.{OrFault}
+use Rattle.avr_asm.specs.declared.first_pass.Effect.{Effect}
+use Rattle.avr_asm.specs.declared.lines.Action.{Action}
+use Rattle.avr_operands.specs.Faults.{OrFault, ◌>>=◌}
+use Rattle.avr_asm.specs.Lines.{content_of, label_of, body_of, action_of, arguments_of, first_text}
 use Rattle.avr_asm.specs.Layout.{Layout, with_address, at_line, layout_from, after_line, is_instruction_line, IsLast}
+use Rattle.avr_asm.specs.Layout.{applied, arguments_in, effect_in}
 
 -- addresses in front of those of a layout
 abbrev pub with_addresses : List ℕ → Result Layout AsmError → Result Layout AsmError
@@ -180,3 +186,31 @@ pub told_fault : {X Y : Type 0} (k : ℕ) (why : AsmWhy) (told : AsmError) (says
 told_fault k why told says whole (inl m) f w l = inl (w ∙ m)
 told_fault k why told says whole (inr e) f w (inl m) = inl (w ∙ m)
 told_fault k why told says whole (inr e) f w (inr l) = inr (f e ∙ (λ i. Err (record { line = sym l i; why = sym w i })))
+
+-- the arguments of a line, and the text of the first
+pub arguments_told : (line : List ℕ) (tokens body arguments : List Token) (action : Action) → body ≡ body_of tokens
+    → action ≡ action_of line body → arguments ≡ arguments_of action body → arguments ≡ arguments_in line tokens
+arguments_told line tokens body arguments action body_is action_is is =
+    is ∙ ap (λ a. arguments_of a body) action_is ∙ ap (λ b. arguments_of (action_of line b) b) body_is
+
+pub first_there : (line : List ℕ) (arguments there : List Token) (d : Token) → 1 ≤ length arguments → arguments ≡ there
+    → text_of line (get_or arguments 0 d) ≡ first_text line there
+first_there line [] there d h is = absurd (omega arith)
+first_there line (t ∷ ts) there d h is = ap (first_text line) is
+
+pub first_missing : (line : List ℕ) (arguments there : List Token) → length arguments ≡ 0 → arguments ≡ there → [] ≡ first_text line there
+first_missing line [] there h is = ap (first_text line) is
+first_missing line (t ∷ ts) there h is = absurd (omega arith)
+
+-- a line's tokens and what they do give its place
+pub after_told : (follows : Bool) (line : List ℕ) (place : Place) (tokens lent : List Token) (effect : Effect) (label : Option (List ℕ))
+    (name : List ℕ) → content_of line ≡ Ok tokens → lent ≡ tokens → effect_in line place.symbols follows lent ≡ Ok effect
+    → label ≡ label_of line lent → name ≡ first_text line (arguments_in line lent)
+    → applied label name effect place ≡ after_line follows line place
+unfolding after_line
+after_told follows line place tokens lent effect label name content is does label_is name_is =
+    let rest = λ (ts : List Token) (e : Effect). applied (label_of line ts) (first_text line (arguments_in line ts)) e place in
+    ap (λ l. applied l name effect place) label_is ∙ ap (λ n. applied (label_of line lent) n effect place) name_is
+    ∙ sym (ap (λ o. o >>= rest lent) does)
+    ∙ ap (λ ts. effect_in line place.symbols follows ts >>= rest ts) is
+    ∙ sym (ap (λ o. o >>= (λ ts. effect_in line place.symbols follows ts >>= rest ts)) content)
