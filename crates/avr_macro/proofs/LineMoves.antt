@@ -1,14 +1,19 @@
 -- What a line does, by what was read of it.
-use Rattle.std.proofs.Common.{◌≡◌, ℕ, ◌+◌, ◌<◌, ◌≤◌, true, false, List, [], length, get_or, map, sym, ◌∙◌, ap, inl, inr}
-use Rattle.std.specs.Prelude.{◌⊎◌, not, nat_le, Some}
+use Rattle.std.proofs.Common.{◌≡◌, ℕ, ◌+◌, ◌<◌, ◌≤◌, Bool, true, false, ◌||◌, List, [], ◌∷◌, ◌++◌, length, get_or}
+use Rattle.std.proofs.Common.{map, sym, ◌∙◌, ap, inl, inr}
+use Rattle.std.specs.Prelude.{◌⊎◌, not, nat_le, nat_lt, Option, Some}
+use Rattle.avr_text.specs.Names.{NameMap}
 use Rattle.avr_macro.specs.declared.errors.MacroWhy.{MacroWhy}
 use Rattle.avr_macro.specs.declared.errors.MacroWhy.TheVariants as why
 use Rattle.avr_macro.specs.declared.frames.Frame.{Frame}
+use Rattle.avr_macro.specs.declared.origin.Origin.{Origin}
 use Rattle.avr_macro_lines.specs.Arguments.{arguments_of, replaced}
 use Rattle.avr_macro_lines.specs.Directives.{after_first_word, first_word}
 use Rattle.avr_macro.specs.Moves.{Move, refuses, body_of, call, enter, included, lacks_one, line_move, move_at, move_of, other_by, other_move, unless}
-use Rattle.avr_macro.specs.States.{Level, MacroMap, State, file_level, include_limit, inside, passed}
+use Rattle.avr_macro.specs.Moves.{goes, is_full, plain_move, put_line, with_setting}
+use Rattle.avr_macro.specs.States.{Level, MacroMap, State, file_level, include_limit, inside, passed, text_limit}
 use Rattle.avr_macro_lines.specs.Blocks.{is_zero}
+use Rattle.avr_macro_lines.specs.Values.{Setting}
 use Rattle.avr_macro.specs.Views.{seen_frame}
 use Rattle.avr_macro_lines.proofs.Slices.{next_line}
 
@@ -79,3 +84,35 @@ file_entered file bytes level inner after s shallow outside is_inner is_after =
     ap (λ l. enter l after s) is_inner ∙ ap (λ l. enter (file_level file (level.includes + 1) bytes) l s) is_after
     ∙ sym (ap (λ b. unless b why.Depth (unless (not (is_zero level.blocks)) why.Form entered)) shallow
     ∙ ap (λ b. unless (not b) why.Form entered) outside)
+
+-- a line that gives itself
+pub line_put : (line : List ℕ) (setting : Option Setting) (level after : Level) (s : State) (full long : Bool) (levels : List Level)
+    (constants : NameMap) (text : List ℕ) (origins : List Origin) → full ≡ is_full s
+    → long ≡ nat_lt text_limit (length s.text + (length line + 1)) → full ≡ false → long ≡ false → after ≡ passed 1 level
+    → levels ≡ after ∷ s.levels → constants ≡ with_setting setting s.constants → text ≡ s.text ++ (line ++ 10 ∷ [])
+    → origins ≡ s.origins ++ level.origin ∷ []
+    → plain_move line setting level s ≡ goes (record {
+      levels = levels;
+      macros = s.macros;
+      constants = constants;
+      calls = s.calls;
+      reached = s.reached + 1;
+      text = text;
+      origins = origins;
+    })
+line_put line setting level after s full long levels constants text origins full_is long_is room short after_is levels_are constants_are
+    text_is origins_are =
+    let put = goes (put_line line setting level s) in
+    let length_test = nat_lt text_limit (length s.text + (length line + 1)) in
+    let above = levels_are ∙ ap (λ l. l ∷ s.levels) after_is in
+    ap (λ b. unless (b || length_test) why.Full put) (sym full_is ∙ room)
+    ∙ ap (λ b. unless b why.Full put) (sym long_is ∙ short)
+    ∙ (λ i. goes (record {
+      levels = sym above i;
+      macros = s.macros;
+      constants = sym constants_are i;
+      calls = s.calls;
+      reached = s.reached + 1;
+      text = sym text_is i;
+      origins = sym origins_are i;
+    }))
