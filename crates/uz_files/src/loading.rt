@@ -8,7 +8,7 @@ ghost use Rattle.uz_files.specs.Lines.{bad_line, unread_line};
 ghost use Rattle.uz_files.specs.Reading.{IsUnloaded};
 
 use crate::ending::Failure;
-use itoa::Buffer;
+use crate::lines::{put_number, put_value};
 use std::alloc::{AllocError, Global};
 use uz_shelf::{LoadError, Shelf};
 
@@ -23,8 +23,7 @@ pub fn unread(alloc: Global, name: &str) -> Result<Vec<u8>, AllocError>
     ensures { IfOk result (λ line. line.items ≡ unread_line name.now) }
 {
     let mut line = Vec::new(alloc);
-    line.extend_from_slice(b"unread ")?;
-    line.extend_from_slice(name.as_bytes())?;
+    put_value(&mut line, b"unread ", name.as_bytes())?;
     line.extend_from_slice(b"\n")?;
     Ok(line)
 }
@@ -34,12 +33,9 @@ pub fn bad_input(alloc: Global, name: &str, number: u32, why: &str) -> Result<Ve
     ensures { IfOk result (λ line. line.items ≡ bad_line name.now number why.now) }
 {
     let mut line = Vec::new(alloc);
-    line.extend_from_slice(b"bad ")?;
-    line.extend_from_slice(name.as_bytes())?;
-    line.extend_from_slice(b" line ")?;
-    line.extend_from_slice(Buffer::new().format(number).as_bytes())?;
-    line.extend_from_slice(b" ")?;
-    line.extend_from_slice(why.as_bytes())?;
+    put_value(&mut line, b"bad ", name.as_bytes())?;
+    put_number(&mut line, b" line ", u64::from(number))?;
+    put_value(&mut line, b" ", why.as_bytes())?;
     line.extend_from_slice(b"\n")?;
     Ok(line)
 }
