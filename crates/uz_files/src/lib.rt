@@ -16,7 +16,7 @@ pub use ending::{Ending, Failure, end_fault, end_with, finish, give_up, put_no_m
 pub use format::{Format, read_file};
 pub use formats::{CertificateText, HexText, OldCertificateText, PadWords, Source};
 pub use laws::readings_are_unique;
-pub use lines::{number_line, put_number};
+pub use lines::{number_line, put_number, put_value};
 pub use loading::{TEXT_LIMIT, bad_input, load, unread};
 pub use status::Status;
 pub use text_fault::TextFault;

@@ -7,7 +7,7 @@ use itoa::Buffer;
 use std::alloc::{AllocError, Global};
 
 /// Puts a name, with the spaces that belong to it, and a value behind a text.
-pub(crate) fn put_value(text: &mut Vec<u8>, name: &[u8], value: &[u8]) -> Result<(), AllocError>
+pub fn put_value(text: &mut Vec<u8>, name: &[u8], value: &[u8]) -> Result<(), AllocError>
     ensures { OnOk result (text.new.items ≡ text.old.items ++ name.now ++ value.now) }
 {
     text.extend_from_slice(name)?;

@@ -7,7 +7,7 @@ ghost use Rattle.uz_outcome_lines.specs.SearchLines.{split_line, stuck_line};
 
 use std::alloc::{AllocError, Global};
 use uz_check::Fail;
-use uz_files::{number_line, put_number};
+use uz_files::{number_line, put_number, put_value};
 use uz_pair_files::reason_name;
 use uz_paths::NotFound;
 use uz_schedule::Instance;
@@ -48,12 +48,14 @@ fn stuck(alloc: Global, trail: &[Instance], why: Fail) -> Result<Vec<u8>, AllocE
     ensures { IfOk result (λ line. line.items ≡ stuck_line trail.now why) }
 {
     let mut line = Vec::new(alloc);
-    line.extend_from_slice(b"refused stuck pc 0x")?;
-    line.extend_from_slice(&word_digits(last_pc(trail)))?;
+    put_value(
+        &mut line,
+        b"refused stuck pc 0x",
+        &word_digits(last_pc(trail)),
+    )?;
     put_number(&mut line, b" line ", u64::from(last_line(trail)))?;
     put_number(&mut line, b" clock ", u64::from(last_clock(trail)))?;
-    line.extend_from_slice(b" ")?;
-    line.extend_from_slice(reason_name(why))?;
+    put_value(&mut line, b" ", reason_name(why))?;
     line.extend_from_slice(b"\n")?;
     Ok(line)
 }

@@ -5,6 +5,7 @@ ghost use Rattle.uz_pair_files.specs.StopLines.{stopped_at_line, stopped_line, s
 
 use std::alloc::{AllocError, Global};
 use uz_core::Why;
+use uz_files::put_value;
 use uz_text::word_digits;
 
 fn word_of(why: Why) -> u16
@@ -21,10 +22,8 @@ pub fn stopped_at(alloc: Global, pc: u16, word: u16) -> Result<Vec<u8>, AllocErr
     ensures { IfOk result (λ line. line.items ≡ stopped_at_line pc word) }
 {
     let mut line = Vec::new(alloc);
-    line.extend_from_slice(b"stopped pc 0x")?;
-    line.extend_from_slice(&word_digits(pc))?;
-    line.extend_from_slice(b" word 0x")?;
-    line.extend_from_slice(&word_digits(word))?;
+    put_value(&mut line, b"stopped pc 0x", &word_digits(pc))?;
+    put_value(&mut line, b" word 0x", &word_digits(word))?;
     line.extend_from_slice(b"\n")?;
     Ok(line)
 }

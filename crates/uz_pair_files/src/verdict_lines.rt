@@ -7,7 +7,7 @@ ghost use Rattle.uz_pair_files.specs.VerdictLines.{accepted_line, fail_name, poi
 use std::alloc::{AllocError, Global};
 use uz_cert::Cert;
 use uz_check::{Fail, RefusedWhy};
-use uz_files::put_number;
+use uz_files::{put_number, put_value};
 use uz_text::word_digits;
 
 /// The name of a reason, as it is printed.
@@ -69,12 +69,10 @@ fn refused_point(
 {
     let mut line = Vec::new(alloc);
     put_number(&mut line, b"refused point ", u64::from(id))?;
-    line.extend_from_slice(b" pc 0x")?;
-    line.extend_from_slice(&word_digits(pc_of(cert, id)))?;
+    put_value(&mut line, b" pc 0x", &word_digits(pc_of(cert, id)))?;
     put_number(&mut line, b" line ", u64::from(l))?;
     put_number(&mut line, b" count ", u64::from(c))?;
-    line.extend_from_slice(b" ")?;
-    line.extend_from_slice(reason_name(why))?;
+    put_value(&mut line, b" ", reason_name(why))?;
     line.extend_from_slice(b"\n")?;
     Ok(line)
 }
