@@ -1,12 +1,13 @@
 //! Which words are which command.
 
-ghost use Rattle.std.specs.Prelude.{◌≡◌, ◌∷◌, map, option_map, string_bytes};
+ghost use Rattle.std.specs.Prelude.{◌≡◌, ◌∷◌, ◌||◌, bytes_eq, map, not, option_map, string_bytes};
 ghost use Rattle.uz_top.specs.CommandValues.{value_of};
 ghost use Rattle.uz_text.specs.Numbers.{number_below, number_within as number_from_low};
 ghost use Rattle.uz_top.specs.Words.{asm_words, build_words, certify_with as certify_with_response, certify_words};
 ghost use Rattle.uz_top.specs.Words.{check_words, command_of, debug_with as debug_with_response, debug_words};
 ghost use Rattle.uz_top.specs.Words.{demo_with as demo_with_number, demo_words, dis_words, expand_words, migrate_words};
-ghost use Rattle.uz_top.specs.Words.{play_with as play_with_clocks, play_words, report_words, response_of, trace_words};
+ghost use Rattle.uz_top.specs.Words.{play_with as play_with_clocks, play_words, report_words, response_of};
+ghost use Rattle.uz_top.specs.Words.{trace_with as trace_with_numbers, trace_words};
 ghost use Rattle.uz_top.specs.Words.{wave_with as wave_with_numbers, wave_words};
 
 use uz_cert::Response;
@@ -112,12 +113,33 @@ fn parse_after<'a>(verb: &str, rest: &'a [String]) -> Option<Command<'a>>
     }
 }
 
+/// Whether two names differ.
+fn differ(first: &str, second: &str) -> bool
+    ensures { result ≡ not (bytes_eq first.now second.now) }
+{
+    first != second
+}
+
+/// Whether a name is one of three others.
+fn is_among(name: &str, first: &str, second: &str, third: &str) -> bool
+    ensures { result ≡ (bytes_eq name.now first.now || (bytes_eq name.now second.now || bytes_eq name.now third.now)) }
+{
+    name == first || name == second || name == third
+}
+
+/// Whether two of three names are the same.
+fn are_some_same(first: &str, second: &str, third: &str) -> bool
+    ensures { result ≡ (bytes_eq first.now second.now || (bytes_eq first.now third.now || bytes_eq second.now third.now)) }
+{
+    first == second || first == third || second == third
+}
+
 /// `check HEX CERT`, of two files.
 fn check(words: &[String]) -> Option<Command<'_>>
     ensures { option_map value_of result ≡ check_words (map string_bytes words.now) }
 {
     match words {
-        [hex, cert] if hex.as_str() != cert.as_str() => Some(Command::Check {
+        [hex, cert] if differ(hex.as_str(), cert.as_str()) => Some(Command::Check {
             hex: hex.as_str(),
             cert: cert.as_str(),
         }),
@@ -146,24 +168,32 @@ fn response(word: &str) -> Option<Response>
     }
 }
 
+/// The command once its files are known to differ.
+fn trace_with<'a>(hex: &'a str, pads: &'a str, irq: &str, clocks: &str) -> Option<Command<'a>>
+    ensures { option_map value_of result ≡ trace_with_numbers hex.now pads.now (response_of irq.now)
+        (number_from_low 1 1000000001 clocks.now) }
+{
+    match (
+        response(irq),
+        number_within(clocks.as_bytes(), 1, 1_000_000_001),
+    ) {
+        (Some(irq), Some(clocks)) => Some(Command::Trace {
+            hex,
+            pads,
+            irq,
+            clocks,
+        }),
+        _ => None,
+    }
+}
+
 /// `trace HEX PADS IRQ CLOCKS`, of two files, for 1 to 1,000,000,000 clocks.
 fn trace(words: &[String]) -> Option<Command<'_>>
     ensures { option_map value_of result ≡ trace_words (map string_bytes words.now) }
 {
     match words {
-        [hex, pads, irq, clocks] if hex.as_str() != pads.as_str() => {
-            match (
-                response(irq.as_str()),
-                number_within(clocks.as_bytes(), 1, 1_000_000_001),
-            ) {
-                (Some(irq), Some(clocks)) => Some(Command::Trace {
-                    hex: hex.as_str(),
-                    pads: pads.as_str(),
-                    irq,
-                    clocks,
-                }),
-                _ => None,
-            }
+        [hex, pads, irq, clocks] if differ(hex.as_str(), pads.as_str()) => {
+            trace_with(hex.as_str(), pads.as_str(), irq.as_str(), clocks.as_str())
         }
         _ => None,
     }
@@ -197,15 +227,9 @@ fn play(words: &[String]) -> Option<Command<'_>>
 {
     match words {
         [hex, cert, pads, clocks, frames] => {
-            if hex.as_str() == cert.as_str()
-                || hex.as_str() == pads.as_str()
-                || hex.as_str() == frames.as_str()
-            {
+            if is_among(hex.as_str(), cert.as_str(), pads.as_str(), frames.as_str()) {
                 None
-            } else if cert.as_str() == pads.as_str()
-                || cert.as_str() == frames.as_str()
-                || pads.as_str() == frames.as_str()
-            {
+            } else if are_some_same(cert.as_str(), pads.as_str(), frames.as_str()) {
                 None
             } else {
                 play_with(
@@ -242,10 +266,7 @@ fn debug(words: &[String]) -> Option<Command<'_>>
 {
     match words {
         [hex, pads, irq, script] => {
-            if hex.as_str() == pads.as_str()
-                || hex.as_str() == script.as_str()
-                || pads.as_str() == script.as_str()
-            {
+            if are_some_same(hex.as_str(), pads.as_str(), script.as_str()) {
                 None
             } else {
                 debug_with(hex.as_str(), pads.as_str(), irq.as_str(), script.as_str())
@@ -276,10 +297,7 @@ fn certify(words: &[String]) -> Option<Command<'_>>
 {
     match words {
         [source, irq, hex, cert] => {
-            if source.as_str() == hex.as_str()
-                || source.as_str() == cert.as_str()
-                || hex.as_str() == cert.as_str()
-            {
+            if are_some_same(source.as_str(), hex.as_str(), cert.as_str()) {
                 None
             } else {
                 certify_with(source.as_str(), irq.as_str(), hex.as_str(), cert.as_str())
@@ -294,7 +312,7 @@ fn asm(words: &[String]) -> Option<Command<'_>>
     ensures { option_map value_of result ≡ asm_words (map string_bytes words.now) }
 {
     match words {
-        [source, hex] if source.as_str() != hex.as_str() => Some(Command::Asm {
+        [source, hex] if differ(source.as_str(), hex.as_str()) => Some(Command::Asm {
             source: source.as_str(),
             hex: hex.as_str(),
         }),
@@ -307,7 +325,7 @@ fn expand(words: &[String]) -> Option<Command<'_>>
     ensures { option_map value_of result ≡ expand_words (map string_bytes words.now) }
 {
     match words {
-        [source, flat] if source.as_str() != flat.as_str() => Some(Command::Expand {
+        [source, flat] if differ(source.as_str(), flat.as_str()) => Some(Command::Expand {
             source: source.as_str(),
             flat: flat.as_str(),
         }),
@@ -320,7 +338,7 @@ fn build(words: &[String]) -> Option<Command<'_>>
     ensures { option_map value_of result ≡ build_words (map string_bytes words.now) }
 {
     match words {
-        [source, hex] if source.as_str() != hex.as_str() => Some(Command::Build {
+        [source, hex] if differ(source.as_str(), hex.as_str()) => Some(Command::Build {
             source: source.as_str(),
             hex: hex.as_str(),
         }),
@@ -355,7 +373,7 @@ fn migrate(words: &[String]) -> Option<Command<'_>>
     ensures { option_map value_of result ≡ migrate_words (map string_bytes words.now) }
 {
     match words {
-        [older, newer] if older.as_str() != newer.as_str() => Some(Command::Migrate {
+        [older, newer] if differ(older.as_str(), newer.as_str()) => Some(Command::Migrate {
             older: older.as_str(),
             newer: newer.as_str(),
         }),
@@ -368,7 +386,7 @@ fn report(words: &[String]) -> Option<Command<'_>>
     ensures { option_map value_of result ≡ report_words (map string_bytes words.now) }
 {
     match words {
-        [hex, cert] if hex.as_str() != cert.as_str() => Some(Command::Report {
+        [hex, cert] if differ(hex.as_str(), cert.as_str()) => Some(Command::Report {
             hex: hex.as_str(),
             cert: cert.as_str(),
         }),
@@ -408,10 +426,7 @@ fn wave(words: &[String]) -> Option<Command<'_>>
 {
     match words {
         [hex, pads, irq, clocks, wav] => {
-            if hex.as_str() == pads.as_str()
-                || hex.as_str() == wav.as_str()
-                || pads.as_str() == wav.as_str()
-            {
+            if are_some_same(hex.as_str(), pads.as_str(), wav.as_str()) {
                 None
             } else {
                 wave_with(
