@@ -1,3 +1,4 @@
+use Rattle.std.proofs.Common.{◌∙◌}
 use Rattle.uz_run_commands.proofs.DebugLemmas.{debug_without_pads}
 use Rattle.uz_run_commands.proofs.debug_command.debug_files.Goals as goal
 
@@ -9,3 +10,6 @@ returns-in-Ok-clause-gives g c =
 pub returns-in-Err-clause-gives : goal.returns-in-Err-clause-gives
 returns-in-Err-clause-gives g c =
     debug_without_pads _ _ c.args.hex.now c.args.pads.now c.args.irq c.args.script.now c.in-Err.failure c.in-Err.ensures.fails
+
+pub returns-in-Ok-clause-files : goal.returns-in-Ok-clause-files
+returns-in-Ok-clause-files g c = c.debug_script.ensures.files ∙ c.reset_debugger.ensures.files

@@ -1,3 +1,4 @@
+use Rattle.std.proofs.Common.{◌∙◌}
 use Rattle.uz_files.specs.Formats.{SpellsPads}
 use Rattle.uz_files.proofs.ReadingLemmas.{says_seen}
 use Rattle.uz_pair_files.proofs.RunFileLemmas.{preface_without_pads}
@@ -15,4 +16,11 @@ returns-in-Err-clause-fails g c =
 pub returns-clause-starts : goal.returns-clause-starts
 returns-clause-starts g c =
     starts_debug _ _ c.args.hex.now c.args.pads.now c.args.irq c.in_ok-image.image c.in-Ok.list.items _
-    c.read_file.ensures.files c.in_ok-image.ensures.said (says_seen _ _ _ SpellsPads (λ pads. pads.items) c.in-Ok.list c.in-Ok.ensures.said) c.in_ok-new.ensures
+    c.read_file.ensures.files c.in_ok-image.ensures.said
+    (says_seen _ _ _ SpellsPads (λ pads. pads.items) c.in-Ok.list c.in-Ok.ensures.said) c.in_ok-new.ensures
+
+pub returns-in-Err-clause-files : goal.returns-in-Err-clause-files
+returns-in-Err-clause-files g c = c.read_file-2.ensures.files ∙ c.read_file.ensures.files
+
+pub returns-clause-files : goal.returns-clause-files
+returns-clause-files g c = c.read_file-2.ensures.files ∙ c.read_file.ensures.files

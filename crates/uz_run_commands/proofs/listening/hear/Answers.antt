@@ -1,4 +1,5 @@
 use Rattle.std.proofs.Common.{sym, subst, ◌+◌, ◌<◌, ◌++◌, length, take, drop, arith}
+use Rattle.std.proofs.lemmas.List.{take_all}
 use Rattle.uz_machine.specs.declared.Edge.{Edge}
 use Rattle.uz_machine.specs.declared.EdgeKind.TheVariants.{Sync}
 use Rattle.uz_console.specs.Runs.{AreTimed}
@@ -26,3 +27,8 @@ loop-edge-preserved c =
       timed = λ to all. subst (λ x. AreTimed x to (drop (i + 1) edges)) (sym c.in_ok-edge.ensures.clock)
           (timed_more _ to edges i no_edge within (c.loop-edge.invariant.timed to all));
     }
+
+pub returns-clause-ok : goal.returns-clause-ok
+returns-clause-ok c = λ before holds.
+    subst (λ edges. Holds c.loop-edge.wave (newest_first (before ++ edges)))
+    (take_all c.loop-edge.edge-index c.args.edges.now c.loop-edge-test.false) (c.loop-edge.invariant.heard before holds)
