@@ -2,17 +2,18 @@
 use Rattle.std.proofs.Common.{◌≡◌, ◌≢◌, ℕ, suc, ◌+◌, ◌<◌, ◌≤◌, Bool, true, false, if◌then◌else◌, List, [], ◌∷◌, ◌++◌, length, get_or, rules}
 use Rattle.std.proofs.Common.{take, map, Bor, refl, sym, ◌∙◌, ap, subst, append-nil, arith}
 use Rattle.std.specs.Prelude.{filter, ◌==◌, not}
-use Rattle.std.proofs.lemmas.List.{map-append}
+use Rattle.std.specs.List.{slice_split}
+use Rattle.std.proofs.lemmas.List.{map-append, take_all}
 use Rattle.std.proofs.lemmas.List.Elements.{filter-append}
 use Rattle.std.proofs.Math.Seq.{take-suc}
-use Rattle.uz_text.specs.Lines.{line_at, lines_of_pieces}
+use Rattle.uz_text.specs.Lines.{is_blank, line_at, lines_of_pieces}
 use Rattle.uz_pads.proofs.ItemLemmas.{blank_read, faulty_at, item_read, nothing_read, whole_read}
 use Rattle.uz_debug.specs.declared.command.Command.{Command}
 use Rattle.uz_debug.specs.declared.script_lines.Line.TheVariants as line
 use Rattle.uz_debug.specs.declared.errors.ScriptWhy.{ScriptWhy}
 use Rattle.uz_debug.specs.declared.errors.ScriptWhy.TheVariants.{Word, Count}
 use Rattle.uz_debug.specs.Scripts.{HasFault, IsFault, IsFirstFault, IsScript, commands_of, commands_on, has_bytes, is_good_line}
-use Rattle.uz_debug.specs.Scripts.{is_well_formed, kind_in, kind_of, one_number_in, one_word_in, two_numbers_in}
+use Rattle.uz_debug.specs.Scripts.{is_well_formed, kind_in, kind_of, one_number_in, one_word_in, two_numbers_in, words_of}
 
 pub read_none : (pieces : List (Bor (List ℕ))) → IsScript (take 0 (lines_of_pieces (map (λ piece. piece.now) pieces))) []
 read_none pieces = nothing_read commands_on is_good_line pieces
@@ -106,6 +107,13 @@ word_more pieces words at d h b e same =
         (λ word. word.now) xs ++ (if b then x.now ∷ [] else [])
     with_word true xs x = map-append (λ word. word.now) xs (x ∷ [])
     with_word false xs x = sym (append-nil (map (λ word. word.now) xs))
+
+-- once all pieces are read
+pub all_words : (pieces : List (Bor (List ℕ))) (at : ℕ) (line : List ℕ) → length pieces ≤ at
+    → map (λ piece. piece.now) pieces ≡ slice_split is_blank line →
+    filter has_bytes (map (λ piece. piece.now) (take at pieces)) ≡ words_of line
+all_words pieces at line h split =
+    ap (λ (xs : List (Bor (List ℕ))). filter has_bytes (map (λ piece. piece.now) xs)) (take_all at pieces h) ∙ ap (filter has_bytes) split
 
 -- what of a script is read with one more line, and what is wrong with it
 pub ruleset readings = (read_none, read_blank, read_command, read_all, faulty, count_fault)

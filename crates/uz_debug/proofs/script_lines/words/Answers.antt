@@ -1,6 +1,6 @@
 use Rattle.std.proofs.Common.{true, false, sym, ◌∙◌, ap, map, Vec, Global, Bor, List, ℕ}
 use Rattle.std.specs.Prelude.{not}
-use Rattle.uz_debug.proofs.ScriptLemmas.{word_more, piece_bytes}
+use Rattle.uz_debug.proofs.ScriptLemmas.{all_words, word_more, piece_bytes}
 use Rattle.uz_debug.proofs.script_lines.words.Goals as goal
 use Rattle.uz_debug.proofs.script_lines.words.Goals.{then-not-is_empty+in_ok-push, else-not-is_empty}
 
@@ -18,3 +18,10 @@ loop-piece-preserved c =
           ap of w.words-is ∙ word_more c.as_slice-piece-items.result.now c.loop-piece.words.items c.loop-piece.piece-index _
           c.loop-piece-test.true false (sym (ap not w.if-not-is_empty.false) ∙ bytes) c.loop-piece.invariant
     ]
+
+pub returns : goal.returns
+returns c = c.loop-piece.invariant ∙ all_words c.as_slice-piece-items.result.now c.loop-piece.piece-index c.args.line.now
+    c.loop-piece-test.false (ap texts c.as_slice-piece-items.ensures.value ∙ c.in_ok-pieces.ensures)
+  where
+    texts : List (Bor (List ℕ)) → List (List ℕ)
+    texts = map (λ word. word.now)
