@@ -1,7 +1,8 @@
 -- What a line does, by what was read of it.
 use Rattle.std.proofs.Common.{◌≡◌, ℕ, ◌+◌, ◌<◌, ◌≤◌, Bool, true, false, ◌||◌, List, [], ◌∷◌, ◌++◌, length, get_or}
 use Rattle.std.proofs.Common.{map, sym, ◌∙◌, ap, inl, inr}
-use Rattle.std.specs.Prelude.{◌⊎◌, not, nat_le, nat_lt, Option, Some}
+use Rattle.std.specs.Prelude.{◌⊎◌, not, nat_le, nat_lt, ℤ, pos, negsuc, int_le, unsigned_abs, Option, Some}
+use Rattle.std.proofs.lemmas.Bool.{false≢true, leb-true, le-ltb}
 use Rattle.avr_text.specs.Names.{NameMap}
 use Rattle.avr_macro.specs.declared.errors.MacroWhy.{MacroWhy}
 use Rattle.avr_macro.specs.declared.errors.MacroWhy.TheVariants as why
@@ -10,7 +11,7 @@ use Rattle.avr_macro.specs.declared.origin.Origin.{Origin}
 use Rattle.avr_macro_lines.specs.Arguments.{arguments_of, replaced}
 use Rattle.avr_macro_lines.specs.Directives.{after_first_word, first_word}
 use Rattle.avr_macro.specs.Moves.{Move, refuses, body_of, call, enter, included, lacks_one, line_move, move_at, move_of, other_by, other_move, unless}
-use Rattle.avr_macro.specs.Moves.{goes, is_full, plain_move, put_line, with_setting}
+use Rattle.avr_macro.specs.Moves.{goes, is_full, plain_move, put_line, repeat_times, repeated, with_setting}
 use Rattle.avr_macro.specs.States.{Level, MacroMap, State, file_level, include_limit, inside, passed, text_limit}
 use Rattle.avr_macro_lines.specs.Blocks.{is_zero}
 use Rattle.avr_macro_lines.specs.Values.{Setting}
@@ -116,3 +117,14 @@ line_put line setting level after s full long levels constants text origins full
       text = sym text_is i;
       origins = sym origins_are i;
     }))
+
+-- a block is repeated a number of times that is allowed, and its level and the one after it are at hand
+pub repeat_entered : (chosen : Option ℤ) (times z : ℤ) (n : ℕ) (level inner after : Level) (s : State) → chosen ≡ Some times → z ≡ times
+    → int_le (pos 0) z ≡ true → int_le z (pos 65535) ≡ true → inner ≡ repeated (unsigned_abs z) n level → after ≡ passed (n + 2) level
+    → enter inner after s ≡ repeat_times chosen n level s
+repeat_entered chosen times (pos k) n level inner after s is same some few inner_is after_is =
+    let allowed : nat_lt 65535 k ≡ false = le-ltb 65535 k (leb-true k 65535 few) in
+    ap (λ l. enter l after s) inner_is ∙ ap (λ l. enter (repeated k n level) l s) after_is
+    ∙ sym (ap (λ t. repeat_times t n level s) (is ∙ ap Some (sym same))
+    ∙ ap (λ b. unless b why.Value (enter (repeated k n level) (passed (n + 2) level) s)) allowed)
+repeat_entered chosen times (negsuc k) n level inner after s is same some few inner_is after_is = absurd (false≢true some)
