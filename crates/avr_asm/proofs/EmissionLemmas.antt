@@ -1,7 +1,8 @@
 -- One more operand of data, and bytes that can't be put.
 use Rattle.std.proofs.Common.{◌≡◌, ℕ, zero, suc, ◌+◌, ◌<◌, ◌≤◌, Bool, true, false, List, [], ◌∷◌, Bor, length, get_or, drop, map, refl, sym}
-use Rattle.std.proofs.Common.{◌∙◌, ap, add-one, drop-cons, arith}
-use Rattle.std.specs.Prelude.{Err, is_some, nat_le}
+use Rattle.std.proofs.Common.{◌++◌, ◌∙◌, ap, add-one, append_assoc, drop-cons, arith}
+use Rattle.std.specs.Prelude.{Err, ℤ, is_some, nat_le}
+use Rattle.std.specs.Int.{int_shr}
 use Rattle.std.specs.FinMap as finite
 use Rattle.std.proofs.lemmas.List.{drop_all}
 use Rattle.std.proofs.lemmas.Bool.Decides.{nat_tests}
@@ -9,7 +10,7 @@ use Rattle.avr_text.specs.declared.tokens.Token.{Token}
 use Rattle.avr_text.specs.Names.{NameMap}
 use Rattle.avr_operands.specs.declared.errors.AsmWhy.TheVariants.{Past, Overlap}
 use Rattle.avr_operands.specs.Faults.{OrFault}
-use Rattle.avr_asm.specs.Emission.{data_value, with_number, data_from, put, Flash}
+use Rattle.avr_asm.specs.Emission.{bytes_of_number, data_value, low_byte, with_number, data_from, put, Flash}
 
 part_there : (ls : List (Bor (List Token))) (i : ℕ) (d : Bor (List Token)) → i < length ls → get_or (map (λ l. l.now) ls) i
     [] ≡ (get_or ls i d).now
@@ -47,3 +48,18 @@ pub put_taken : (at i : ℕ) (bytes : List ℕ) (flash : Flash) → i < length b
 put_taken at i bytes flash h near taken =
     let test : nat_le 65536 at ≡ false = grind (arith, nat_tests) in
     rw (drop-cons bytes i 0 h) (rw (test, taken) refl)
+
+pub put_more : (at i : ℕ) (bytes : List ℕ) (flash next : Flash) → i < length bytes → at < 65536 → is_some (finite.get flash at) ≡ false
+    → next ≡ finite.insert flash at (get_or bytes i 0) → put (at + 1) (drop (i + 1) bytes) next ≡ put at (drop i bytes) flash
+put_more at i bytes flash next h near free is =
+    let test : nat_le 65536 at ≡ false = grind (arith, nat_tests) in
+    let after : i + 1 ≡ suc i = omega arith in
+    ap (put (at + 1) (drop (i + 1) bytes)) is ∙ ap (λ k. put (at + 1) (drop k bytes) (finite.insert flash at (get_or bytes i 0))) after
+    ∙ rw (drop-cons bytes i 0 h) (rw (test, free) refl)
+
+-- a number of two bytes
+pub wide_pushed : (wide : Bool) (value : ℤ) (old first both : List ℕ) (low high : ℕ) → wide ≡ true → first ≡ old ++ low ∷ []
+    → both ≡ first ++ high ∷ [] → low ≡ low_byte value → high ≡ low_byte (int_shr value 8) → both ≡ old ++ bytes_of_number wide value
+wide_pushed wide value old first both low high is first_is both_are low_is high_is =
+    both_are ∙ ap (λ xs. xs ++ high ∷ []) first_is ∙ append_assoc old (low ∷ []) (high ∷ []) ∙ ap (λ b. old ++ b ∷ high ∷ []) low_is
+    ∙ ap (λ b. old ++ low_byte value ∷ b ∷ []) high_is ∙ ap (λ w. old ++ bytes_of_number w value) (sym is)

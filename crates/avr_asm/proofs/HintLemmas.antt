@@ -86,6 +86,15 @@ pub stack_told : (line : List ℕ) (symbols : NameMap) (parts : List (List Token
 stack_told line symbols parts cells depths ranges cells_are depths_are ranges_are =
     ap stack_from (ranges_are ∙ ap (λ x. both x depths) cells_are ∙ ap (both (shorts_at line symbols parts 0)) depths_are)
 
+-- the address and the range of a cell
+pub range_told : (line : List ℕ) (symbols : NameMap) (parts : List (List Token)) (first : List Token) (at : OrFault ℕ)
+    (bounds : OrFault (ℕ × ℕ)) (range : OrFault (ℕ × (ℕ × ℕ))) → at ≡ short line symbols first → first ≡ part_at parts 0
+    → bounds ≡ bytes_at line symbols parts 2 → range ≡ both at bounds → range ≡ ranged line symbols parts
+unfolding ranged
+range_told line symbols parts first at bounds range at_is first_is bounds_are range_is =
+    range_is ∙ ap (λ x. both x bounds) (at_is ∙ ap (short line symbols) first_is)
+    ∙ ap (both (short line symbols (part_at parts 0))) bounds_are
+
 -- a cell of the handler
 abbrev pub cell_from : OrFault ((ℕ × (ℕ × ℕ)) × ℕ) → OrFault Hint
 cell_from cell = mapped cell (λ p. hint.Cell p.0.0 Handler p.0.1.0 p.0.1.1 p.1)

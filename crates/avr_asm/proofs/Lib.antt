@@ -4,6 +4,7 @@ pub mod CodeLemmas
 pub mod EmissionLemmas
 pub mod HintLemmas
 pub mod LineLemmas
+pub mod ShapeLemmas
 pub mod RowTests
 pub mod RowFields
 pub mod WrittenReads

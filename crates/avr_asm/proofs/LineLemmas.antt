@@ -1,12 +1,20 @@
 -- Lines of a text, tokens before the line's end, and parts between commas.
 use Rattle.std.proofs.Common.{◌≡◌, ℕ, suc, ◌+◌, ◌-◌, ◌^◌, ◌<◌, ◌≤◌, Bool, true, false, cond, List, [], ◌∷◌, ◌++◌, All, Bor, length, get_or}
 use Rattle.std.proofs.Common.{take, drop, map, refl, sym, ◌∙◌, ap, subst, append_assoc, drop-cons, drop-drop, arith}
+use Rattle.std.specs.Prelude.{Option, if◌then◌else◌}
 use Rattle.std.specs.List.{prefix_len, slice_split, onto_first as onto_first_part, AllByRecursion}
+use Rattle.std.proofs.Math.Seq.{take-length}
 use Rattle.std.proofs.lemmas.List.{drop_all, length-drop, map-append, append-nil}
 use Rattle.std.proofs.lemmas.List.Elements.{recursion_from_All, All-from_recursion}
 use Rattle.avr_text.specs.declared.tokens.Token.{Token}
-use Rattle.avr_text.specs.Tokens.{Lies}
+use Rattle.avr_text.specs.Tokens.{Lies, text_of}
+use Rattle.avr_asm.specs.declared.directives.Directive.{Directive}
+use Rattle.avr_operands.specs.declared.mnemonics.Mnemonic.{Mnemonic}
+use Rattle.avr_asm.specs.declared.lines.Action.{Action}
+use Rattle.avr_asm.specs.declared.lines.Action.TheVariants as action
+use Rattle.avr_asm.specs.Directives.{directive_of}
 use Rattle.avr_asm.specs.Lines.{goes_on, lines_of, onto_first, first_len, is_comma, parts_of}
+use Rattle.avr_asm.specs.Lines.{is_name, directive_or_none, dot_action, arguments_of}
 use Rattle.avr_asm.specs.Layout.{EachShort}
 use Rattle.avr_operands.specs.Operands.{AllLie, EachLies}
 
@@ -146,3 +154,24 @@ each_short text items h e = All-from_recursion (λ l. length l.now < 2 ^ 32 - 1)
 pub few_lines : (text : List ℕ) (items : List (Bor (List ℕ))) → length text < 2 ^ 32 - 1 → map (λ l. l.now) items ≡ lines_of text
     → length items < 2 ^ 32 - 1
 few_lines text items h e = omega (arith, lent_len items, ap length e, count_lines text)
+
+-- what stands behind a dot
+pub dot_told : (line : List ℕ) (tokens : List Token) (d e : Token) (word : List ℕ) (found : Option Directive) → 1 ≤ length tokens
+    → is_name (get_or tokens 0 d).kind ≡ true → word ≡ text_of line (get_or tokens 0 e) → found ≡ directive_of word
+    → directive_or_none found ≡ dot_action line tokens
+dot_told line [] d e word found some name word_is found_is = absurd (omega arith)
+dot_told line (t ∷ ts) d e word found some name word_is found_is =
+    ap directive_or_none (found_is ∙ ap directive_of word_is)
+    ∙ ap (λ b. if b then directive_or_none (directive_of (text_of line t)) else action.NoDirective) (sym name)
+
+-- the arguments are the rest of the body
+pub no_arguments : (a : Action) (body : List Token) → ((m : Mnemonic) → a ≡ action.Instruction m → ⊥)
+    → ((d : Directive) → a ≡ action.Directive d → ⊥) → arguments_of a body ≡ []
+no_arguments action.Empty body h k = refl
+no_arguments action.Unknown body h k = refl
+no_arguments action.NoDirective body h k = refl
+no_arguments (action.Instruction m) body h k = absurd (h m refl)
+no_arguments (action.Directive d) body h k = absurd (k d refl)
+
+pub rest_whole : (tokens : List Token) (n : ℕ) → take (length tokens - n) (drop n tokens) ≡ drop n tokens
+rest_whole tokens n = ap (λ k. take k (drop n tokens)) (sym (length-drop n tokens)) ∙ take-length (drop n tokens)

@@ -193,7 +193,6 @@ fn stack_of(line: &[u8], symbols: &Symbols, parts: &[&[Token]]) -> Result<Hint, 
 }
 
 /// The address of a cell, and its range.
-#[tactic(auto, unfolding(crate::specs::Hints::ranged))]
 fn ranged(line: &[u8], symbols: &Symbols, parts: &[&[Token]]) -> Result<(u16, (u8, u8)), AsmWhy>
     requires { EachLies (length line.now) parts.now }
     ensures { result ≡ ranged_cell line.now symbols.now (map (λ p. p.now) parts.now) }

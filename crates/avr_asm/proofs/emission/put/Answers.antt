@@ -1,6 +1,6 @@
 use Rattle.std.proofs.Common.{sym, ◌∙◌, ap, arith}
 use Rattle.std.specs.Prelude.{is_some}
-use Rattle.avr_asm.proofs.EmissionLemmas.{put_past, put_taken}
+use Rattle.avr_asm.proofs.EmissionLemmas.{put_more, put_past, put_taken}
 use Rattle.avr_asm.proofs.emission.put.Goals as goal
 
 pub returns-then-at-ge65536 : goal.returns-then-at-ge65536
@@ -12,3 +12,12 @@ returns-then-is_some c =
     sym c.loop-byte.invariant.left
     ∙ put_taken c.loop-byte.at c.loop-byte.byte-index c.args.bytes.now c.loop-byte.image c.loop-byte-test.true (omega arith)
     (ap is_some (sym c.byte.ensures) ∙ sym c.is_some.ensures ∙ c.if-is_some.true)
+
+pub loop-byte-preserved : goal.loop-byte-preserved
+loop-byte-preserved c = record {
+  within = omega arith;
+  left =
+      put_more c.loop-byte.at c.loop-byte.byte-index c.args.bytes.now c.loop-byte.image _ c.loop-byte-test.true (omega arith)
+      (ap is_some (sym c.byte.ensures) ∙ sym c.is_some.ensures ∙ c.if-is_some.false) c.set.ensures
+      ∙ c.loop-byte.invariant.left;
+}

@@ -10,6 +10,18 @@ returns-in-Err-lay_line-clause-layout c = told_fault (c.loop-i.i + 1) c.in-Err-l
     ∙ faulty_lent c.loop-i.i c.loop-i.place c.args.lines.now _ (nat_lt (c.loop-i.i + 1) c.in-Ok.last) c.in-Ok.last c.loop-i.addresses.items
     c.in-Err-lay_line.why c.loop-i-test.true c.in-Ok.ensures refl e) c.in_line.ensures.why c.in_line.ensures.line
 
+pub returns-in-Err-lay_line-clause-memory : goal.returns-in-Err-lay_line-clause-memory
+returns-in-Err-lay_line-clause-memory c = c.in_line.ensures.memory
+
+pub last_instruction-requires : goal.last_instruction-requires
+last_instruction-requires c = c.requires.short
+
+pub lay_line-requires-clause-short : goal.lay_line-requires-clause-short
+lay_line-requires-clause-short c = c.requires.short c.loop-i.i _ c.loop-i-test.true
+
+pub lay_line-requires-clause-address : goal.lay_line-requires-clause-address
+lay_line-requires-clause-address c = c.loop-i.invariant.flash
+
 pub loop-i-preserved : goal.loop-i-preserved
 loop-i-preserved c = record {
   flash = c.in-Ok-lay_line.ensures.flash;
@@ -33,3 +45,6 @@ loop-i-preserved c = record {
 pub returns-clause-layout : goal.returns-clause-layout
 returns-clause-layout c = sym c.loop-i.invariant.left ∙ last_lent (c.loop-i.i + 1) c.loop-i.i c.loop-i.place c.args.lines.now
     c.loop-i.addresses.items (omega arith)
+
+pub returns-clause-flash : goal.returns-clause-flash
+returns-clause-flash c = c.loop-i.invariant.below

@@ -1,8 +1,9 @@
 use Rattle.std.proofs.Common.{◌≡◌, ℕ, suc, ◌-◌, ◌≤◌, Bool, true, false, List, [], ◌∷◌, length, get_or, drop, take, refl, sym, ◌∙◌, ap, subst, arith}
 use Rattle.std.specs.Prelude.{Option, if◌then◌else◌}
 use Rattle.std.proofs.Math.Seq.{take-length}
+use Rattle.std.proofs.lemmas.List.Elements.{All-drop, All-take}
 use Rattle.avr_text.specs.declared.tokens.Token.{Token}
-use Rattle.avr_text.specs.Tokens.{text_of}
+use Rattle.avr_text.specs.Tokens.{Lies, text_of}
 use Rattle.avr_operands.specs.declared.mnemonics.Mnemonic.{Mnemonic}
 use Rattle.avr_operands.specs.Mnemonics.{mnemonic_of}
 use Rattle.avr_asm.specs.declared.lines.Action.TheVariants.{Unknown}
@@ -36,6 +37,13 @@ neither : (line : List ℕ) (body : List Token) (d e : Token) → 1 ≤ length b
 neither line [] d e some name dot = absurd (omega arith)
 neither line (t ∷ ts) d e some name dot =
     other (is_dot t.kind) (dot_action line ts) Unknown dot ∙ other (is_name t.kind) _ _ name
+
+pub text_of-requires : goal.text_of-requires
+text_of-requires c = c.requires 0 _ (omega arith)
+
+pub dot_action-requires : goal.dot_action-requires
+dot_action-requires c =
+    let within = Lies (length c.args.line.now) in All-take within _ _ (All-drop within 1 c.args.body.now c.requires)
 
 pub returns-in-Some : goal.returns-in-Some
 returns-in-Some c =

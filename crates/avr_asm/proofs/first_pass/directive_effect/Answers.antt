@@ -1,0 +1,57 @@
+use Rattle.std.proofs.Common.{◌≡◌, ℕ, ◌+◌, ◌*◌, ◌%◌, nat_lt, false, List, Bor, length, map, sym, ◌∙◌, ap}
+use Rattle.std.specs.Prelude.{◌==◌, Ok}
+use Rattle.std.proofs.lemmas.List.{length-map}
+use Rattle.avr_text.specs.declared.tokens.Token.{Token}
+use Rattle.avr_asm.specs.declared.first_pass.Effect.{Effect}
+use Rattle.avr_asm.specs.declared.first_pass.Effect.TheVariants.{Nothing, Take}
+use Rattle.avr_asm.specs.Layout.{if_shaped, directive_effect}
+use Rattle.avr_asm.proofs.first_pass.directive_effect.Goals as goal
+
+-- what depends on the number of operands alone
+counted : (parts : List (Bor (List Token))) (effect : Effect) (shape : ℕ → Effect) → effect ≡ shape (length parts)
+    → effect ≡ shape (length (map (λ p. p.now) parts))
+counted parts effect shape is = is ∙ ap shape (sym (length-map parts (λ p. p.now)))
+
+pub is_start-requires : goal.is_start-requires
+is_start-requires c = c.requires.parts
+
+pub is_cell-requires : goal.is_cell-requires
+is_cell-requires c = c.requires.parts
+
+pub org_effect-requires : goal.org_effect-requires
+org_effect-requires c = c.requires.parts
+
+pub equ_effect-requires : goal.equ_effect-requires
+equ_effect-requires c = c.requires.arguments
+
+pub returns-in-Db-clause-effect : goal.returns-in-Db-clause-effect
+returns-in-Db-clause-effect c =
+    ap Ok (counted c.args.parts.now _ (λ n. if_shaped (nat_lt 0 n) (Take (n + n % 2) false))
+    (c.if_shaped.ensures.effect ∙ ap (if_shaped _) c.data_effect.ensures.effect))
+    ∙ ap (λ d. directive_effect d c.args.line.now c.args.symbols.now c.args.arguments.now (map (λ p. p.now) c.args.parts.now)
+    c.args.follows) (sym c.in-Db.is)
+
+pub returns-in-Dw-clause-effect : goal.returns-in-Dw-clause-effect
+returns-in-Dw-clause-effect c =
+    ap Ok (counted c.args.parts.now _ (λ n. if_shaped (nat_lt 0 n) (Take (2 * n) false))
+    (c.if_shaped-in-Dw.ensures.effect ∙ ap (if_shaped _) c.data_effect-in-Dw.ensures.effect))
+    ∙ ap (λ d. directive_effect d c.args.line.now c.args.symbols.now c.args.arguments.now (map (λ p. p.now) c.args.parts.now)
+    c.args.follows) (sym c.in-Dw.is)
+
+pub returns-in-Lines-clause-effect : goal.returns-in-Lines-clause-effect
+returns-in-Lines-clause-effect c =
+    ap Ok (counted c.args.parts.now _ (λ n. if_shaped (n == 2) Nothing) c.if_shaped-in-Lines.ensures.effect)
+    ∙ ap (λ d. directive_effect d c.args.line.now c.args.symbols.now c.args.arguments.now (map (λ p. p.now) c.args.parts.now)
+    c.args.follows) (sym c.in-Lines.is)
+
+pub returns-in-Half-clause-effect : goal.returns-in-Half-clause-effect
+returns-in-Half-clause-effect c =
+    ap Ok (counted c.args.parts.now _ (λ n. if_shaped (n == 2) Nothing) c.if_shaped-in-Half.ensures.effect)
+    ∙ ap (λ d. directive_effect d c.args.line.now c.args.symbols.now c.args.arguments.now (map (λ p. p.now) c.args.parts.now)
+    c.args.follows) (sym c.in-Half.is)
+
+pub returns-in-Stack-clause-effect : goal.returns-in-Stack-clause-effect
+returns-in-Stack-clause-effect c =
+    ap Ok (counted c.args.parts.now _ (λ n. if_shaped (n == 4) Nothing) c.if_shaped-in-Stack.ensures.effect)
+    ∙ ap (λ d. directive_effect d c.args.line.now c.args.symbols.now c.args.arguments.now (map (λ p. p.now) c.args.parts.now)
+    c.args.follows) (sym c.in-Stack.is)
