@@ -457,19 +457,8 @@ fn spans_of_regs(facts: &[Fact; 32]) -> [Span; 32]
     spans
 }
 
-fn spans_of_slots(facts: &[Fact]) -> ArrayVec<Span, 32>
-    requires { length facts.now ≤ 32 }
-    ensures { result.items ≡ map ends_of_fact facts.now }
-{
-    let mut spans = ArrayVec::new();
-    for fact in facts {
-        spans.push(span_of_fact(fact));
-    }
-    spans
-}
-
-fn spans_of_cells(facts: &[Fact]) -> ArrayVec<Span, 16>
-    requires { length facts.now ≤ 16 }
+fn spans_of<const CAP: usize>(facts: &[Fact]) -> ArrayVec<Span, CAP>
+    requires { length facts.now ≤ CAP }
     ensures { result.items ≡ map ends_of_fact facts.now }
 {
     let mut spans = ArrayVec::new();
@@ -491,8 +480,8 @@ fn entry_of(kind: Kind, id: u32, pc: u16, line: u16, clock: u16, facts: &Facts) 
         clock,
         regs: spans_of_regs(&facts.regs),
         flags: facts.flags,
-        stack: spans_of_slots(facts.stack.as_slice()),
-        cells: spans_of_cells(facts.cells.as_slice()),
+        stack: spans_of(facts.stack.as_slice()),
+        cells: spans_of(facts.cells.as_slice()),
     }
 }
 
