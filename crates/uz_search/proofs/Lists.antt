@@ -15,6 +15,12 @@ kind_cases Main = inl refl
 kind_cases Handler = inr (λ h. cc)
 kind_cases Alone = inr (λ h. cc)
 
+pub not_in_main : (k : Kind) → (k ≡ Handler) ⊎ (k ≡ Alone) → k ≢ Main
+not_in_main Main (inl h) main = cc
+not_in_main Main (inr h) main = cc
+not_in_main Handler h main = cc
+not_in_main Alone h main = cc
+
 pub bool_cases : (b : Bool) → (b ≡ true) ⊎ (b ≡ false)
 bool_cases true = inl refl
 bool_cases false = inr refl
