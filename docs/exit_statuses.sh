@@ -6,6 +6,7 @@
 #
 # PROGRAM is the built program, and the script uzebox beside this folder where none is named. Of the second form of a row
 # standard output is /dev/full, which takes nothing: where a command did its work that is status 5, and a fault keeps its own.
+# Of the third one it is closed, which is status 5 too, and the file that is written is what it is where it's open.
 # Prints a line for each run that ends otherwise than it should, and at last how many did. Ends with 0 where none did.
 docs=$(dirname -- "$(readlink -f -- "$0")")
 program=$(readlink -f -- "${1:-$docs/../uzebox}")
@@ -47,6 +48,20 @@ can_not_print() {
     runs_to "$want" /dev/full "$@"
 }
 
+# the words of a command, of which the last one names the file that is written
+writes_unprinted() {
+    for file; do :; done
+    prints 0 "$@"
+    mv "$file" whole
+    "$program" "$@" >&- 2>errors
+    came=$?
+    runs=$((runs + 1))
+    if [ "$came" != 5 ] || ! cmp -s whole "$file"; then
+        wrong=$((wrong + 1))
+        echo "status $came and not 5, or not the same file, output closed: $*"
+    fi
+}
+
 # no command
 prints 1
 prints 1 demo 07
@@ -61,6 +76,7 @@ for command in asm build expand; do
     can_not_print 2 $command none out
     can_not_print 5 $command loop-ring.asm out
     prints 5 $command loop-ring.asm no/such/folder
+    writes_unprinted $command loop-ring.asm out
 done
 prints 3 asm bad out
 prints 3 build bad out
@@ -109,6 +125,7 @@ prints 4 certify unstarted.asm 4 out.hex out.cert
 can_not_print 4 certify unstarted.asm 4 out.hex out.cert
 prints 5 certify pulse.asm 4 out.hex no/such/folder
 can_not_print 5 certify pulse.asm 4 out.hex out.cert
+writes_unprinted certify pulse.asm 4 out.hex out.cert
 
 # check
 prints 0 check ring.hex ring.cert
@@ -137,6 +154,7 @@ prints 3 wave bad no-pads.txt 4 4000 out.wav
 can_not_print 3 wave bad no-pads.txt 4 4000 out.wav
 prints 5 wave ring.hex no-pads.txt 4 4000 no/such/folder
 can_not_print 5 wave ring.hex no-pads.txt 4 4000 out.wav
+writes_unprinted wave ring.hex no-pads.txt 4 4000 out.wav
 rm -f out.wav
 prints 6 wave late.hex no-pads.txt 4 4000 out.wav
 can_not_print 6 wave late.hex no-pads.txt 4 4000 out.wav
@@ -150,6 +168,7 @@ prints 3 play bad ring.cert no-pads.txt 4000 frames
 prints 4 play ring-short.hex ring-short.cert no-pads.txt 4000 frames
 prints 5 play ring.hex ring.cert no-pads.txt 4000 no/such/folder
 can_not_print 5 play ring.hex ring.cert no-pads.txt 4000 frames
+writes_unprinted play ring.hex ring.cert no-pads.txt 4000 frames
 prints 6 play stops.hex stops.cert no-pads.txt 4000 frames
 can_not_print 6 play stops.hex stops.cert no-pads.txt 4000 frames
 prints 7 play ring.hex ring.cert no-pads.txt 1 frames
@@ -167,6 +186,7 @@ prints 2 migrate none out
 prints 3 migrate ring.cert out
 prints 5 migrate loop-ring-1.cert no/such/folder
 can_not_print 5 migrate loop-ring-1.cert out
+writes_unprinted migrate loop-ring-1.cert out
 
 echo "$runs runs, $wrong of them otherwise than they should"
 [ "$wrong" = 0 ]

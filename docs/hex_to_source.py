@@ -9,7 +9,8 @@ are.
 import re
 import sys
 
-WORD = re.compile(r"([0-7][0-9A-F]{3}): [0-9A-F]{4} ([0-9A-F]{4}|    ) (.+)")
+WORD = re.compile(r"([0-7][0-9A-F]{3}): ([0-9A-F]{4}) ([0-9A-F]{4}|    ) (.+)")
+LAST = 0x7FFF
 PLACED = re.compile(r"\s*([0-7][0-9A-Fa-f]{3}):(.*)")
 
 
@@ -44,12 +45,14 @@ def source_of(listing, hints):
         found = WORD.fullmatch(line)
         if not found:
             stop(f"{listing} line {number}: no line of a listing")
-        at = int(found[1], 16)
+        at, first, second, text = int(found[1], 16), found[2], found[3].strip(), found[4]
+        if at == LAST and second:  # the assembler doesn't go on at word 0
+            text = f".dw 0x{first}"
         if at != here:
             source.append(f".org {2 * at:#06x}")
-        source += [text for _, text in placed.pop(at, [])]
-        source.append(f"  {found[3]}")
-        here = at + 1 + found[2].strip().isalnum()
+        source += [hint for _, hint in placed.pop(at, [])]
+        source.append(f"  {text}")
+        here = at + 1 + bool(second)
     for at, rest in sorted(placed.items()):
         stop(f"{hints} line {rest[0][0]}: no line of the listing begins at word {at:04X}")
     return source

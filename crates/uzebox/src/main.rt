@@ -2,8 +2,10 @@
 #![tactic(auto)]
 
 use std::alloc::AllocError;
+use std::fs::File;
+use std::os::fd::AsRawFd;
 use std::process::ExitCode;
-use std::{env, io};
+use std::{env, fs, io};
 use uz_shelf::{DiskShelf, OutSink};
 use uz_top::{Status, uzebox};
 
@@ -29,6 +31,18 @@ fn run(rt: HostRuntime) -> Status {
     uzebox(rt.alloc(), words.as_slice(), &mut shelf, &mut out)
 }
 
+/// A file that takes no bytes, where it has the number of standard input, output or error output: the lowest of those
+/// that the caller closed. While it is open, no file that is created gets that number, and with it what is printed.
+fn stand_in(rt: HostRuntime) -> Option<File> {
+    let file = fs::open(&rt, "/dev/null").ok()?;
+    if file.as_raw_fd() <= 2 {
+        Some(file)
+    } else {
+        None
+    }
+}
+
 fn main(rt: HostRuntime) -> ExitCode {
+    let _stand_ins = [stand_in(rt), stand_in(rt), stand_in(rt)];
     ExitCode::from(run(rt) as u8)
 }
