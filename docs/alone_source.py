@@ -4,6 +4,8 @@
 """
 import sys
 
+if sys.argv[1:] not in (["1"], ["2"]):
+    sys.exit(__doc__)
 lines = int(sys.argv[1])
 print(f".lines {lines}, 1\n.stack 4350, 4351, 0, 0\n.start alone, first")
 print("  ldi r16,0\n  ldi r17,1\n  ldi r25,0xB8")

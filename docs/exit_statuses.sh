@@ -12,6 +12,7 @@ docs=$(dirname -- "$(readlink -f -- "$0")")
 program=$(readlink -f -- "${1:-$docs/../uzebox}")
 folder=$(mktemp -d) || exit 70
 trap 'rm -rf "$folder"' EXIT
+trap 'exit 130' HUP INT TERM
 cd "$folder" || exit 70
 cp "$docs"/../examples/*.asm "$docs"/../examples/*.cert "$docs"/../examples/*.hex "$docs"/../examples/no-pads.txt .
 printf 'foo\n' >bad

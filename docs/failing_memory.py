@@ -102,6 +102,8 @@ def chosen(requests):
 
 
 def main():
+    if len(sys.argv) != 3:
+        sys.exit(__doc__)
     program, examples = os.path.abspath(sys.argv[1]), sys.argv[2]
     with tempfile.TemporaryDirectory() as folder:
         shutil.copytree(examples, os.path.join(folder, 'examples'))
@@ -135,6 +137,7 @@ def main():
             said = ', '.join('status %d: %d' % s for s in sorted(statuses.items()))
             print('%s: status %d; %d of %d requests failed in turn: %s' % (line, status, done, requests, said))
         print('%d wrong' % wrong)
+    sys.exit(wrong > 0)
 
 
 if __name__ == '__main__':

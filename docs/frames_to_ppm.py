@@ -2,7 +2,8 @@
 
 usage: python3 frames_to_ppm.py FRAMES NAME
 
-The pictures are NAME1.ppm, NAME2.ppm and so on. FORMATS.md has the records of FRAMES.
+The pictures are NAME1.ppm, NAME2.ppm and so on. Of a file that was cut short, the frames before the cut are written.
+FORMATS.md has the records of FRAMES.
 """
 import sys
 
@@ -18,14 +19,14 @@ def word(data, at):
 
 
 def frames_of(data):
-    """Each frame's number and its rows of samples, or None where the bytes are no records."""
+    """The rows of samples of each frame that is over, and None where bytes follow that are no record."""
     rows, at = [], 0
     while at < len(data):
         if data[at] == LINE and at + 6 + WIDTH <= len(data) and word(data, at + 3) == WIDTH:
             rows.append(data[at + 5 : at + 5 + WIDTH])
             at += 6 + WIDTH
         elif data[at] == FRAME and at + 5 <= len(data) and word(data, at + 3) == len(rows) % 65536:
-            yield word(data, at + 1), rows
+            yield rows
             rows, at = [], at + 5
         else:
             yield None
@@ -43,10 +44,10 @@ def main(words):
         with open(words[0], "rb") as file:
             data = file.read()
         number = 0
-        for frame in frames_of(data):
-            if not frame:
-                stop(f"{words[0]} isn't a file that play wrote")
-            number, rows = frame
+        for rows in frames_of(data):
+            if rows is None:
+                stop(f"{words[0]} isn't a file that play wrote, or is cut short after its frame {number}")
+            number += 1
             with open(f"{words[1]}{number}.ppm", "wb") as out:
                 out.write(b"P6 %d %d 255\n" % (WIDTH, len(rows)))
                 for row in rows:

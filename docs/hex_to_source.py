@@ -21,7 +21,8 @@ def stop(why):
 def lines_of(name):
     try:
         with open(name, encoding="latin-1", newline="") as file:
-            return file.read().replace("\r\n", "\n").splitlines()
+            lines = file.read().replace("\r\n", "\n").split("\n")
+            return lines if lines[-1] else lines[:-1]
     except OSError as error:
         stop(f"{name}: {error.strerror}")
 
@@ -61,4 +62,5 @@ def source_of(listing, hints):
 if __name__ == "__main__":
     if len(sys.argv) != 3:
         stop("the words are LISTING HINTS")
+    sys.stdout.reconfigure(encoding="latin-1")  # each byte of a comment as it is
     print("\n".join(source_of(*sys.argv[1:])))

@@ -294,6 +294,8 @@ def drawn_files(draw):
 
 
 def main():
+    if len(sys.argv) not in (3, 4) or not all(word.isdigit() for word in sys.argv[2:]):
+        sys.exit(__doc__)
     program, count = os.path.abspath(sys.argv[1]), int(sys.argv[2])
     draw = random.Random(int(sys.argv[3]) if len(sys.argv) > 3 else 1)
     answers, different = Counter(), 0
@@ -322,6 +324,7 @@ def main():
     print('%d sources, %d differ' % (count, different))
     for name, number in answers.most_common():
         print(number, name)
+    sys.exit(different > 0)
 
 
 if __name__ == '__main__':

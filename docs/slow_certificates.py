@@ -91,6 +91,8 @@ def write_small(folder, name):
 
 
 def main():
+    if len(sys.argv) != 2:
+        sys.exit(__doc__)
     folder = sys.argv[1]
     write_rings(folder, 'points', 288)
     write_small(folder, 'small')
