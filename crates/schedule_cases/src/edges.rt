@@ -2,8 +2,8 @@
 
 use anyhow::Result;
 use table_rows::Row;
-use uz_events::event_of;
 use uz_machine::EdgeKind;
+use uz_rules::event_of;
 
 /// The event of an edge of this kind, if it is one.
 pub(crate) fn tell_event(rt: HostRuntime, row: &mut Row) -> Result<()> {

@@ -31,10 +31,10 @@ use Rattle.uz_files.specs.Lines.{no_memory_line}
 use Rattle.uz_files.specs.Endings.{ComesOfFailure, EndsBy, answer_of}
 use Rattle.uz_files.specs.Reading.{Fails, Says, text_limit}
 use Rattle.uz_certificate_commands.specs.CertifyCommand.{AllowedOf, CertifyAnswers, CertifyAnswersBy, CertifySucceeds, FilesCertify}
-use Rattle.uz_outcome_lines.specs.SearchLines.{Allowed}
+use Rattle.uz_outcomes.specs.SearchLines.{Allowed}
 use Rattle.uz_certificate_commands.specs.CertifyCommand.{IsCertified, IsCertifiedBy, certify_answer}
 use Rattle.uz_certificate_commands.specs.CertifyValues.{IsFound, IsFoundIn, IsPair, IsPairOf, IsRefusal, both_files}
-use Rattle.uz_pair_files.specs.VerdictLines.{accepted_line}
+use Rattle.uz_outcomes.specs.VerdictLines.{accepted_line}
 use Rattle.uz_files.proofs.EndingLemmas.{comes_by, run_outcome}
 use Rattle.uz_files.proofs.ReadingLemmas.{ends_by}
 use Rattle.uz_files.proofs.ReadsLemmas.{fails_says, fails_status, reads_or_fault, reads_same, says_same}

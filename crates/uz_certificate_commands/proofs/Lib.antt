@@ -1,3 +1,9 @@
 pub mod CertifyLemmas
 pub mod MigrateLemmas
 pub mod ReportLemmas
+pub mod DemoLemmas
+pub mod DemoSameLemmas
+pub mod DemoWorthLemmas
+pub mod PlayLemmas
+pub mod PlaySameLemmas
+pub mod PlayWorthLemmas

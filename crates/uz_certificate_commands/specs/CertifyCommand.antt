@@ -21,11 +21,11 @@ use Rattle.uz_paths.specs.Finding.{Cause, IsAsked}
 use Rattle.uz_files.specs.declared.status.Status.TheVariants.{Done, Refused}
 use Rattle.uz_files.specs.Answers.{Answer, Write, one_line}
 use Rattle.uz_files.specs.Writing.{hex_file}
-use Rattle.uz_pair_files.specs.VerdictLines.{accepted_line}
+use Rattle.uz_outcomes.specs.VerdictLines.{accepted_line}
 use Rattle.uz_files.specs.Reading.{Reads, Says, text_limit}
 use Rattle.avr_asm.specs.Relation.{IsAssembly}
 use Rattle.uz_files.specs.Formats.{RefusesSource}
-use Rattle.uz_outcome_lines.specs.SearchLines.{not_found_line, Allowed}
+use Rattle.uz_outcomes.specs.SearchLines.{not_found_line, Allowed}
 
 -- Answers
 

@@ -4,8 +4,8 @@ use Rattle.std.specs.Prelude.{ℕ, List, Option}
 use Rattle.uz_shelf.specs.Files.{FileMap}
 use Rattle.uz_soundness.specs.Certified.{Certified}
 use Rattle.uz_files.specs.Answers.{Answer}
-use Rattle.uz_pair_files.specs.PairFiles.{PairAnswers, SpellPair}
-use Rattle.uz_pair_files.specs.VerdictLines.{accepted_line}
+use Rattle.uz_outcomes.specs.PairFiles.{PairAnswers, SpellPair}
+use Rattle.uz_outcomes.specs.VerdictLines.{accepted_line}
 
 abbrev pub CheckAnswers : Option FileMap → Type 0 → List ℕ → List ℕ → Answer → Type 0
 CheckAnswers = PairAnswers accepted_line

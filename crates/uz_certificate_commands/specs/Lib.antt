@@ -4,3 +4,7 @@ pub mod CheckCommand
 pub mod MigrateCommand
 pub mod MigrateValues
 pub mod ReportCommand
+pub mod DemoCommand
+pub mod DemoValues
+pub mod PlayCommand
+pub mod PlayValues

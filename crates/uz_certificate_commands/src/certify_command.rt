@@ -13,13 +13,12 @@ ghost use Rattle.uz_files.specs.Formats.{RefusesSource};
 use avr_asm::Built;
 use std::alloc::{AllocError, Global};
 use uz_cert::{Cert, write_cert};
-use uz_cert_text_laws::text_is_unique;
+use uz_cert_laws::text_is_unique;
 use uz_files::{
     Ending, Failure, Source, Status, end_with, give_up, put_no_memory, read_file, write_file,
 };
 use uz_hex::{Image, write_hex};
-use uz_outcome_lines::not_found;
-use uz_pair_files::accepted;
+use uz_outcomes::{accepted, not_found};
 use uz_paths::{NotFound, find};
 use uz_schedule::Response;
 use uz_shelf::{Shelf, Sink, WriteError};

@@ -7,14 +7,14 @@ ghost use Rattle.uz_soundness.specs.Certified.{Certified};
 ghost use Rattle.uz_shelf.specs.Faults.{Rose};
 ghost use Rattle.uz_files.specs.Answers.{NoPart, MayCome, outside};
 ghost use Rattle.uz_files.specs.Endings.{Gives, answer_of};
-ghost use Rattle.uz_pair_files.specs.CheckedValues.{IsChecked};
-ghost use Rattle.uz_pair_files.specs.PairFiles.{IsVerdict};
-ghost use Rattle.uz_pair_files.specs.VerdictLines.{accepted_line};
+ghost use Rattle.uz_outcomes.specs.CheckedValues.{IsChecked};
+ghost use Rattle.uz_outcomes.specs.PairFiles.{IsVerdict};
+ghost use Rattle.uz_outcomes.specs.VerdictLines.{accepted_line};
 ghost use Rattle.uz_certificate_commands.specs.CheckCommand.{CheckAnswers, FilesCertified};
 
 use std::alloc::{AllocError, Global};
 use uz_files::{Ending, Failure, Status, finish};
-use uz_pair_files::{Checked, accepted, check_files};
+use uz_outcomes::{Checked, accepted, check_files};
 use uz_shelf::{Shelf, Sink};
 
 /// What is printed of a pair that was checked.

@@ -1,13 +1,22 @@
-//! The commands that make a certificate, or read one and print or write: `certify`, `check`, `report` and `migrate`.
+//! The commands that make a certificate, or read one and print or write, `certify`, `check`, `report` and `migrate`, and those
+//! that play a certified console, `play` and `demo`.
 #![tactic(auto)]
 
 mod certify_command;
 mod check_command;
+mod clocks;
+mod demo_run;
+mod demo_start;
 mod migrate_command;
+mod play_command;
+mod play_run;
 mod report_command;
 mod report_lines;
 
 pub use certify_command::run_certify;
 pub use check_command::run_check;
+pub use clocks::{Clocks, number_of_clocks};
+pub use demo_run::run_demo;
 pub use migrate_command::run_migrate;
+pub use play_run::run_play;
 pub use report_command::run_report;

@@ -11,7 +11,7 @@ ghost use Rattle.uz_files.specs.Reading.{Fails, certificate_limit};
 ghost use Rattle.uz_files.specs.Formats.{RefusesOldCertificate};
 
 use std::alloc::{AllocError, Global};
-use uz_cert_text_laws::text_is_unique;
+use uz_cert_laws::text_is_unique;
 use uz_cert_writer::write_cert;
 use uz_files::{Failure, OldCertificateText, Status, Work, finish_work, number_line, read_file};
 use uz_schedule::Cert;

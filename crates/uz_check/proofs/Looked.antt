@@ -11,8 +11,8 @@ use Rattle.uz_schedule.specs.declared.lines.Schedule.{Schedule}
 use Rattle.uz_schedule.specs.declared.states.Point.{Point}
 use Rattle.uz_schedule.specs.declared.certificate.Cert.{Cert}
 use Rattle.uz_rules.specs.Local.{IsLocal}
-use Rattle.uz_line_families.specs.Folding.{is_on_line, folds, FoldingLaw}
-use Rattle.uz_line_families.specs.Untold.{is_told, untold_lines, untold_of}
+use Rattle.uz_check.specs.Folding.{is_on_line, folds, FoldingLaw}
+use Rattle.uz_check.specs.Untold.{is_told, untold_lines, untold_of}
 use Rattle.uz_check.specs.Refusal.{Why, InstanceRefusal, LineRefusal, PointRefusal}
 use Rattle.uz_check.proofs.SteadyTold.{and_true}
 

@@ -6,7 +6,7 @@ use Rattle.std.proofs.lemmas.List.Elements.{All-get_or}
 use Rattle.uz_schedule.specs.WellFormed.{WellFormed, BoxFits, PointFits}
 use Rattle.uz_schedule.specs.declared.states.Point.{Point}
 use Rattle.uz_schedule.specs.declared.certificate.Cert.{Cert}
-use Rattle.uz_line_families.specs.Untold.{untold_of, untold_in}
+use Rattle.uz_check.specs.Untold.{untold_of, untold_in}
 
 some_is : {A : Type 0} (x y : A) → Some x ≡ Some y → x ≡ y
 some_is x y h = cc

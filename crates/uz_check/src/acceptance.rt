@@ -4,7 +4,7 @@ ghost use Rattle.std.specs.Prelude.{◌≡◌, ◌≤◌, ◌<◌, ◌+◌, ◌�
 ghost use Rattle.uz_schedule.specs.WellFormed.{WellFormed};
 ghost use Rattle.uz_soundness.specs.Acceptance.{Accepts};
 ghost use Rattle.uz_soundness.specs.Certified.{Certified};
-ghost use Rattle.uz_line_families.specs.Untold.{untold};
+ghost use Rattle.uz_check.specs.Untold.{untold};
 ghost use Rattle.uz_check.specs.Refusal.{FirstRefusal, IsThere};
 
 use crate::entering::entry_refusal;

@@ -3,11 +3,17 @@
 #![tactic(auto)]
 
 mod acceptance;
+mod boxes;
 mod entering;
+mod facts;
+mod family_laws;
 mod laws;
+mod lines;
 mod points;
+mod reach;
 mod refusal;
 mod rests;
+mod told;
 mod unsteady;
 
 pub use acceptance::{Accepted, Refused, check, check_counted, verdict};

@@ -2,13 +2,16 @@
 
 ghost use Rattle.std.specs.Prelude.{◌≡◌, ◌<◌, ◌≤◌, ◌+◌, ◌-◌, suc, length, slice_get, Some};
 ghost use Rattle.uz_schedule.specs.WellFormed.{WellFormed, BoxFits};
-ghost use Rattle.uz_line_families.specs.Untold.{RunsFrom, untold_of, untold};
+ghost use Rattle.uz_check.specs.Untold.{RunsFrom, untold_of, untold};
 ghost use Rattle.uz_rules.specs.Visit.{IsVisit};
 ghost use Rattle.uz_check.specs.Refusal.{InstanceRefusal, LineRefusal, PointRefusal, PointsRefusal};
 
+use crate::family_laws::lines_fold;
+use crate::lines::alike_runs;
+use crate::reach::reach_of;
 use crate::refusal::RefusedWhy;
+use crate::told::next_untold;
 use uz_hex::Image;
-use uz_line_families::{alike_runs, lines_fold, next_untold, reach_of};
 use uz_rules::Visit;
 use uz_schedule::{Cert, Point};
 

@@ -6,7 +6,7 @@ use crate::source::Source;
 use crate::successors::with_numbers;
 use arrayvec::ArrayVec;
 use std::alloc::{AllocError, Global};
-use uz_point_shapes::{Axis, fact_along};
+use uz_points::{Axis, fact_along};
 use uz_schedule::{Fact, Point};
 
 /// What is known of each register all along a box.

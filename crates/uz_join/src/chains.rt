@@ -2,7 +2,7 @@
 
 use crate::source::Source;
 use std::alloc::{AllocError, Global};
-use uz_point_instances::{NONE, nones, number_at, number_of};
+use uz_points::{NONE, nones, number_at, number_of};
 
 /// A point's place among the first points of chains, as a number: its line in the upper half, and its own number in the lower one.
 fn rank(line: u16, id: u32) -> u64 {

@@ -4,7 +4,7 @@ ghost use Rattle.std.specs.Prelude.{◌≡◌, true, IfSome};
 ghost use Rattle.uz_schedule.specs.WellFormed.{WellFormed};
 ghost use Rattle.uz_soundness.specs.Acceptance.{Accepts};
 ghost use Rattle.uz_join.specs.Joined.{SameButPoints};
-ghost use Rattle.uz_point_instances.specs.Same.{SameInstances};
+ghost use Rattle.uz_points.specs.Same.{SameInstances};
 
 use crate::copies::{entry_of, rests_of};
 use crate::joining::joined_both;

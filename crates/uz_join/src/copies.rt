@@ -5,7 +5,7 @@ ghost use Rattle.uz_join.specs.Joined.{rest_unnumbered, entry_unnumbered};
 
 use arrayvec::ArrayVec;
 use std::alloc::{AllocError, Global};
-use uz_point_instances::number_at;
+use uz_points::number_at;
 use uz_schedule::{Entry, Fact, Point, Rest, Sequence, Span};
 
 /// A copy of a value, at once.

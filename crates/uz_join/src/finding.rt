@@ -3,9 +3,9 @@
 use crate::chains::Chains;
 use crate::source::{Source, is_node_joinable};
 use std::alloc::{AllocError, Global};
-use uz_point_instances::{NONE, number_of};
-use uz_point_shapes::{
-    Axis, Growth, Shaped, distance, goes_on, is_joinable, key, node_key, same_shape,
+use uz_points::{
+    Axis, Growth, NONE, Shaped, distance, goes_on, is_joinable, key, node_key, number_of,
+    same_shape,
 };
 
 /// The most chains that are tried for a point, so that the time stays linear in the points.

@@ -1,7 +1,7 @@
 //! The points into which the instances of a search are joined: none is made of each instance before.
 
 ghost use Rattle.std.specs.Prelude.{◌≡◌, IfOk, IfSome};
-ghost use Rattle.uz_point_instances.specs.Telling.{SaysInstances};
+ghost use Rattle.uz_points.specs.Telling.{SaysInstances};
 
 use crate::boxes::chain_points;
 use crate::finding::chains_of;
@@ -9,8 +9,7 @@ use crate::joining::{joined_along, joined_numbers};
 use crate::source::Source;
 use crate::successors::{Numbering, cut_to_successors, with_number};
 use std::alloc::{AllocError, Global};
-use uz_point_instances::say_instances;
-use uz_point_shapes::Axis;
+use uz_points::{Axis, say_instances};
 use uz_schedule::{Instance, Point};
 
 /// So many points are made beside the instances however few those are.

@@ -2,7 +2,7 @@
 
 ghost use Rattle.std.specs.Prelude.{◌≡◌, ◌+◌, ◌++◌, ◌∷◌, true, ℕ, List, [], IfOk, IfSome, IsSome, OnOk, option_to_list};
 ghost use Rattle.uz_schedule.specs.declared.states.Point.{Point as PointType};
-ghost use Rattle.uz_point_instances.specs.Same.{IsWhollyTold, SameInstances};
+ghost use Rattle.uz_points.specs.Same.{IsWhollyTold, SameInstances};
 ghost use Rattle.uz_join.specs.Replacing.{AreSoFar, IsPut};
 
 use crate::boxes::box_of;
@@ -11,8 +11,7 @@ use crate::source::Source;
 use crate::successors::with_numbers;
 use arrayvec::ArrayVec;
 use std::alloc::{AllocError, Global};
-use uz_point_instances::{Guide, NONE, is_wholly_told, number_at, number_of};
-use uz_point_shapes::Axis;
+use uz_points::{Axis, Guide, NONE, is_wholly_told, number_at, number_of};
 use uz_schedule::Point;
 
 /// How often memory is given back while points are let go.

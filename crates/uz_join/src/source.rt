@@ -2,7 +2,7 @@
 
 use crate::copies::copied_point;
 use arrayvec::ArrayVec;
-use uz_point_instances::{number_at, number_of, point_of};
+use uz_points::{number_at, number_of, point_of};
 use uz_schedule::{Instance, Kind, Point};
 
 /// Points that are made, and behind them those of instances. An instance may be one of those that a made point stands for: then it has no

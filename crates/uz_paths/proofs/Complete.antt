@@ -31,7 +31,7 @@ use Rattle.uz_search.specs.Fitting.{ProgramFits, Stands}
 use Rattle.uz_search.specs.Following.{Among, Flash, order_of_program, lines_of}
 use Rattle.uz_search.specs.Returning.{ReturnAt}
 use Rattle.uz_search.specs.Searching.{IsEnded}
-use Rattle.uz_search.specs.Widenings.{widened}
+use Rattle.uz_search.specs.Widened.{widened}
 use Rattle.uz_search.proofs.TimerLaws.{last_clock}
 use Rattle.uz_search.proofs.VisitingLemmas.{some_is}
 use Rattle.uz_search_laws.specs.Complete.{EndedFallsOnce, EndedLevels, EndedLevelsFit, EndedRestsAreQuiet, EndedRestsEnter, HasSuccessors}
@@ -42,7 +42,7 @@ use Rattle.uz_paths.specs.declared.certificate.Parts.{Parts}
 use Rattle.uz_paths.specs.Certificate.{ArePartsOf, IsEntry, ReturnsFromMain, cert_of}
 use Rattle.uz_paths.specs.Linked.{AreEntered, NamesFit, NamesResults, first_after}
 use Rattle.uz_paths.specs.Numbers.{Numbered}
-use Rattle.uz_point_instances.specs.Points.{IsOrdered, point_of, vector_after}
+use Rattle.uz_points.specs.Points.{IsOrdered, point_of, vector_after}
 use Rattle.uz_paths.specs.Rests.{rests_of}
 use Rattle.uz_paths.proofs.Counting.{at_least, sum_few}
 use Rattle.uz_paths.proofs.MadeSchedule.{EventByLine, is_fit, is_made}

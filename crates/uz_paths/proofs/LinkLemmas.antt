@@ -19,11 +19,11 @@ use Rattle.uz_schedule.specs.declared.states.Rest.{Rest}
 use Rattle.uz_search.specs.declared.program.Program.{Program}
 use Rattle.uz_schedule.specs.Schedule.{response_clocks}
 use Rattle.uz_search.specs.Following.{Among, Flash, order_of_program}
-use Rattle.uz_search.specs.Widenings.{widened}
+use Rattle.uz_search.specs.Widened.{widened}
 use Rattle.uz_paths.specs.Linked.{IsVectorAt, IsPointAt, HasName, NamesFit, NamesMore, NamesResults, NamesEntries, NamesVectors, NamesOwn}
 use Rattle.uz_paths.specs.Linked.{ArePoints, HaveNumbers, Renamed}
 use Rattle.uz_paths.specs.Plan.{AreMade}
-use Rattle.uz_point_instances.specs.Points.{AreOrdered, point_of, vector_after}
+use Rattle.uz_points.specs.Points.{AreOrdered, point_of, vector_after}
 use Rattle.uz_paths.specs.Successors.{count_below, is_number, with_number}
 use Rattle.uz_paths.specs.Numbers.{AreNumbers}
 use Rattle.uz_paths.proofs.NumberLemmas.{at_more, keeps, last_there, numbers_below}

@@ -12,9 +12,9 @@ use Rattle.uz_rules.specs.declared.next.Next.{Next}
 use Rattle.uz_search.specs.declared.program.Program.{Program}
 use Rattle.uz_search.specs.Fitting.{ProgramFits, Stands}
 use Rattle.uz_search.specs.Following.{Among, After, Flash, lines_of, order_of_program}
-use Rattle.uz_search.specs.Widenings.{widened}
+use Rattle.uz_search.specs.Widened.{widened}
 use Rattle.uz_paths.specs.Numbers.{AreNumbers}
-use Rattle.uz_point_instances.specs.Points.{AreOrdered, IsOrdered, point_of, vector_after}
+use Rattle.uz_points.specs.Points.{AreOrdered, IsOrdered, point_of, vector_after}
 
 -- the point of number k is the vector of this rest, the ranges of whose cells are in order
 pub record IsVectorAt (response : ℕ) (lines : Lines) (points : List Point) (k : ℕ) (rest : Rest) : Type 0 where

@@ -15,10 +15,10 @@ use Rattle.uz_schedule.specs.declared.header.Head.{Head}
 use Rattle.uz_schedule.specs.declared.states.Entry.{Entry}
 use Rattle.uz_schedule.specs.declared.states.Instance.{Instance}
 use Rattle.uz_search.specs.declared.program.Program.{Program}
-use Rattle.uz_widening.specs.declared.widening.Widening.{Widening}
-use Rattle.uz_widening.specs.declared.widening.Widening.TheVariants.{Register, Pair}
+use Rattle.uz_search.specs.declared.widening.Widening.{Widening}
+use Rattle.uz_search.specs.declared.widening.Widening.TheVariants.{Register, Pair}
 use Rattle.uz_search.specs.Following.{lines_of}
-use Rattle.uz_search.specs.Widenings.{facts_at}
+use Rattle.uz_search.specs.Widened.{facts_at}
 use Rattle.uz_hints.specs.declared.words.Beginning.{Beginning}
 use Rattle.uz_hints.specs.Words.{first_start, first_lines, halves, is_half, length_by}
 use Rattle.uz_hints.specs.Cells.{cells_of, first_values}

@@ -8,7 +8,7 @@ ghost use Rattle.uz_soundness.specs.Acceptance.{Accepts};
 ghost use Rattle.uz_search.specs.Fitting.{ProgramFits};
 ghost use Rattle.uz_search.specs.Searching.{IsEnded};
 ghost use Rattle.uz_join.specs.Joined.{entry_unnumbered};
-ghost use Rattle.uz_point_instances.specs.Telling.{SaysInstances};
+ghost use Rattle.uz_points.specs.Telling.{SaysInstances};
 ghost use Rattle.uz_paths.specs.Finding.{IsFoundBy};
 ghost use Rattle.uz_paths.specs.JoinedParts.{AreJoinedOf, joined_cert};
 ghost use Rattle.uz_paths.specs.Rests.{rests_of as rests_of_returns};

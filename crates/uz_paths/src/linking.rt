@@ -4,7 +4,7 @@ ghost use Rattle.std.specs.Prelude.{◌≡◌, ◌<◌, ◌≤◌, ◌+◌, [], 
 ghost use Rattle.uz_schedule.specs.Schedule.{response_clocks};
 ghost use Rattle.uz_schedule.specs.declared.states.Instance.{Instance};
 ghost use Rattle.uz_search.specs.Following.{Among, order_of_program};
-ghost use Rattle.uz_search.specs.Widenings.{widened};
+ghost use Rattle.uz_search.specs.Widened.{widened};
 ghost use Rattle.uz_paths.specs.Linked.{AreEntered, AreSearched, HasFew, HasName, HaveNumbers, IsEntered, NamesEntries, NamesFit};
 ghost use Rattle.uz_paths.specs.Linked.{NamesMore, NamesResults, NamesVectors, Renamed};
 ghost use Rattle.uz_paths.specs.Plan.{AreLinks, AreMade, IsPlan};

@@ -8,7 +8,7 @@ ghost use Rattle.uz_schedule.specs.Instances.{entry_instance_at};
 ghost use Rattle.uz_schedule.specs.Schedule.{half_line, length_of, scanline};
 ghost use Rattle.uz_schedule.specs.Tracked.{tracks as tracks_of};
 ghost use Rattle.uz_schedule.specs.declared.kinds.Response.{Response as ResponseKind};
-ghost use Rattle.uz_search.specs.Widenings.{facts_in};
+ghost use Rattle.uz_search.specs.Widened.{facts_in};
 ghost use Rattle.uz_search.specs.Fitting.{ProgramFits};
 ghost use Rattle.uz_hints.specs.Faults.{FactPart, FactsFine};
 ghost use Rattle.uz_hints.specs.Words.{is_half as is_half_by, length_by};
@@ -27,8 +27,7 @@ use uz_schedule::{
     Bit, Cell, Entry, HALF_LINE, Head, Instance, Kind, LineEvents, Response, SCANLINE, Schedule,
     Sequence, Span, Wide, entry_state, handler_entry, tracks,
 };
-use uz_search::{Program, last_clock};
-use uz_widening::{Facts, Widening};
+use uz_search::{Facts, Program, Widening, last_clock};
 
 /// What a fact says of its place.
 fn widening_of(place: u8, lo: u16, hi: u16) -> Widening

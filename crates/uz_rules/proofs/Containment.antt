@@ -53,7 +53,7 @@ use Rattle.uz_transfer.specs.Transfer.{transfer, bit_of_bool}
 use Rattle.uz_transfer.specs.Emission.{byte_event, bit_event, level_event, emission, emission_at, level_after}
 use Rattle.uz_transfer.specs.Values.{span_of, value_at, with_flag_list}
 use Rattle.uz_transfer.specs.Refusals.{fail_of}
-use Rattle.uz_events.specs.Events.{event_of, shown_at, shown, listed}
+use Rattle.uz_rules.specs.Events.{event_of, shown_at, shown, listed}
 use Rattle.uz_rules.proofs.StoreShows.{kinds_listed}
 use Rattle.uz_schedule.specs.Lines.{Lines}
 use Rattle.uz_transfer.specs.Step.{clears_flag, following_of, sampled_of, draft_of, all_exits, step_unless, step_of_row, successor}

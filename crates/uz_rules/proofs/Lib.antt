@@ -25,3 +25,4 @@ pub mod AtCounts
 pub mod CountKeys
 pub mod PeriodLaws
 pub mod VisitLaws
+pub mod MovingLaws

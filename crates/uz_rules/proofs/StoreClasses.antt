@@ -40,7 +40,7 @@ use Rattle.uz_transfer.specs.Memory.{flags_from, with_cell, with_stored, stored_
 use Rattle.uz_transfer.specs.Transfer.{pc_values}
 use Rattle.uz_transfer.specs.Emission.{byte_event, bit_event, level_after}
 use Rattle.uz_transfer.specs.Refusals.{is_setup_register, stored_bit, flag_is, cell_admits, may_store, mask_fails}
-use Rattle.uz_events.specs.Events.{event_of}
+use Rattle.uz_rules.specs.Events.{event_of}
 use Rattle.uz_rules.specs.OneStep.{IsNoEntry}
 use Rattle.uz_rules.proofs.CoreKeeps.{in_span}
 use Rattle.uz_rules.proofs.MemoryKeeps.{tracked_has_range, missed, stored_meets, kept_meets, push_meets}

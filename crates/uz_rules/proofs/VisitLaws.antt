@@ -10,7 +10,7 @@ use Rattle.uz_schedule.specs.declared.certificate.Cert.{Cert}
 use Rattle.uz_schedule.specs.Schedule.{start_of, level_at}
 use Rattle.uz_schedule.specs.Instances.{is_in_box, clock_at, instance_of, instance_at_clock, instance_in, instance_at}
 use Rattle.uz_schedule.specs.WellFormed.{WellFormed}
-use Rattle.uz_moves.specs.Moving.{place_at_clock, place_in, IsGrowing, IsOfPoint}
+use Rattle.uz_rules.specs.Moving.{place_at_clock, place_in, IsGrowing, IsOfPoint}
 use Rattle.uz_rules.specs.Limits.{InstanceLimits}
 use Rattle.uz_rules.proofs.LimitsHold.{instance_limits}
 use Rattle.uz_rules.specs.declared.visit.Visit.{Visit}

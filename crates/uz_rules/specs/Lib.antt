@@ -12,3 +12,5 @@ pub mod Visit
 pub mod Local
 pub mod Limits
 pub mod After
+pub mod Events
+pub mod Moving

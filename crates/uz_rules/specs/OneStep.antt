@@ -26,7 +26,7 @@ use Rattle.uz_transfer.specs.Kinds.{is_main, is_handler}
 use Rattle.uz_schedule.specs.Lines.{Lines}
 use Rattle.uz_transfer.specs.Step.{successor, IsStep}
 use Rattle.uz_rules.specs.MemoryMeets.{Untouched, HeadFits}
-use Rattle.uz_events.specs.Events.{shown_at, shown, listed}
+use Rattle.uz_rules.specs.Events.{shown_at, shown, listed}
 use Rattle.uz_machine.specs.declared.EdgeKind.{EdgeKind}
 use Rattle.uz_machine.specs.declared.EdgeKind.TheVariants.{Sync, Pixel, Sound, Enter, Leave}
 use Rattle.uz_rules.specs.Meets.{Meets, InstanceFits}

@@ -5,7 +5,7 @@ use Rattle.std.specs.FinMap.{FinMap}
 use Rattle.uz_schedule.specs.declared.states.Point.{Point}
 use Rattle.uz_schedule.specs.declared.certificate.Cert.{Cert}
 use Rattle.uz_schedule.specs.Instances.{instance_at}
-use Rattle.uz_moves.specs.Moving.{IsGrowing, IsOfPoint}
+use Rattle.uz_rules.specs.Moving.{IsGrowing, IsOfPoint}
 use Rattle.uz_transfer.specs.Step.{IsReadAt}
 use Rattle.uz_rules.specs.declared.visit.Visit.{Visit}
 

@@ -3,18 +3,24 @@
 
 mod count_keys;
 mod edge_rule;
+mod events;
 mod fact_inclusion;
 mod facts;
+mod growing;
 mod inclusion;
 mod laws;
 mod local_rule;
+mod moving;
 mod next;
 mod pair_inclusion;
 mod periods;
+mod place;
 mod results;
 mod successors;
 mod visit;
 
+pub use events::event_of;
+pub use growing::Growing;
 pub use inclusion::{inside, restored};
 pub use laws::{
     alone_contained, handler_contained, inside_keeps, known_in_itself, lies_in_point_tells,

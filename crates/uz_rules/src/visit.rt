@@ -7,11 +7,13 @@ ghost use Rattle.uz_schedule.specs.WellFormed.{WellFormed};
 ghost use Rattle.uz_rules.specs.Local.{local_fail, IsLocal, reason, counted};
 ghost use Rattle.uz_rules.specs.Visit.{Keeps, IsVisit, IsAt};
 
+use crate::growing::{Growing, growing_of};
 use crate::local_rule::{answer, count, instance_fail, is_stop, point_of, read_at};
+use crate::moving::move_to;
+use crate::place::place_of;
 use avr_table::Instr;
 use uz_core::effect;
 use uz_hex::Image;
-use uz_moves::{Growing, growing_of, move_to, place_of};
 use uz_schedule::{Cert, Instance, Point};
 use uz_transfer::{Fail, Step};
 

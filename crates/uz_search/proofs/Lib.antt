@@ -18,3 +18,5 @@ pub mod TrailLaws
 pub mod TrailLemmas
 pub mod VisitingLemmas
 pub mod WidenedLaws
+pub mod ChainLemmas
+pub mod PlaceLemmas

@@ -14,7 +14,7 @@ use Rattle.uz_search.specs.declared.program.Program.{Program}
 use Rattle.uz_search.specs.Fitting.{Stands, ProgramFits}
 use Rattle.uz_search.specs.Following.{Among, Flash, Follows, entries, entry_at, lines_of}
 use Rattle.uz_search.specs.Visiting.{IsTree}
-use Rattle.uz_search.specs.Widenings.{widened}
+use Rattle.uz_search.specs.Widened.{widened}
 use Rattle.uz_search.proofs.FramePlaces.{length_some, next_is, next_below}
 use Rattle.uz_search.proofs.Lists.{of_map, of_flat, bool_cases}
 use Rattle.uz_search.proofs.OneResult.{Steps, steps}

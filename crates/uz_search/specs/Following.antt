@@ -14,7 +14,7 @@ use Rattle.uz_transfer.specs.declared.fail.Fail.{Fail}
 use Rattle.uz_rules.specs.declared.next.Next.{Next}
 use Rattle.uz_rules.specs.After.{IsAfter}
 use Rattle.uz_search.specs.declared.program.Program.{Program}
-use Rattle.uz_search.specs.Widenings.{widened}
+use Rattle.uz_search.specs.Widened.{widened}
 
 -- it stands in the list
 abbrev pub Among : {A : Type 0} → List A → A → Type 0

@@ -8,4 +8,7 @@ pub mod Stuck
 pub mod Tests
 pub mod Trails
 pub mod Visiting
+pub mod Widened
+pub mod Chains
+pub mod Places
 pub mod Widenings

@@ -1,11 +1,15 @@
-//! The search for the instances that a program reaches: a worklist over abstract results, with trails for what is refused.
+//! The search for the instances that a program reaches: a worklist over abstract results, with trails for what is refused. And
+//! what the facts of one program counter make of an instance that comes by, however many they are.
 #![tactic(auto)]
 
 mod asking;
+mod chain;
+mod facts;
 mod found;
 mod laws;
 mod marks;
 mod passing;
+mod place;
 mod program;
 mod returns;
 mod searching;
@@ -14,8 +18,10 @@ mod stuck;
 mod trail;
 mod visited;
 mod ways;
+mod widened;
 mod widening;
 
+pub use facts::Facts;
 pub use found::{Found, NotFound};
 pub use laws::nodes_are_reached;
 pub use marks::Mark;
@@ -23,3 +29,4 @@ pub use program::{Program, last_clock, widened_copy};
 pub use returns::Return;
 pub use searching::search;
 pub use ways::Ways;
+pub use widening::Widening;

@@ -6,19 +6,19 @@ ghost use Rattle.uz_schedule.specs.Limits.{most_lines};
 ghost use Rattle.uz_schedule.specs.Schedule.{length_of};
 ghost use Rattle.uz_schedule.specs.declared.kinds.Kind.TheVariants.{Main};
 ghost use Rattle.uz_schedule.specs.declared.states.Instance.{Instance};
-ghost use Rattle.uz_search.specs.Widenings.{widened};
+ghost use Rattle.uz_search.specs.Widened.{widened};
 ghost use Rattle.uz_search.specs.Following.{Among, After, entry_at, entries, followers_of, lines_of};
 ghost use Rattle.uz_search.specs.Fitting.{ProgramFits, Stands};
 
+use crate::facts::Facts;
 use crate::stuck::is_main;
-use crate::widening::widen;
+use crate::widened::widen;
 use std::alloc::{AllocError, Global};
 use std::collections::BTreeMap;
 use uz_hex::Image;
 use uz_rules::{Fail, Next, put_after};
 use uz_schedule::{Head, Instance, Schedule, Sequence, handler_entry};
 use uz_transfer::copied;
-use uz_widening::Facts;
 
 /// What a search is told of a program, beside its image.
 #[derive(Drop)]

@@ -1,16 +1,13 @@
-//! Widening: what hints say of registers and pointers where the search comes by.
+//! A fact of a register or a pointer.
 
-ghost use Rattle.std.specs.Prelude.{◌≡◌};
-ghost use Rattle.uz_search.specs.Widenings.{widened as widened_at};
+use uz_schedule::{Span, Wide};
 
-use crate::program::Program;
-use uz_schedule::Instance;
-
-/// Widens an instance by the facts of its program counter.
-pub(crate) fn widen(program: &Program, at: &mut Instance)
-    ensures { at.new ≡ widened_at program.now at.old }
-{
-    if let Some(facts) = program.facts.get(&at.pc) {
-        facts.widen(at);
-    }
+/// A fact of a register or a pointer at a program counter. A place whose range lies in the fact's range has that range from
+/// there on.
+#[derive(Clone, Copy)]
+pub enum Widening {
+    /// Of a register, 0 to 31.
+    Register { register: u8, range: Span },
+    /// Of X, Y or Z, 0 to 2.
+    Pair { pair: u8, range: Wide },
 }

@@ -19,7 +19,7 @@ use Rattle.uz_search.specs.Following.{most_clocks, clocks_between, shown_at}
 use Rattle.uz_search.specs.Marking.{Seen}
 use Rattle.uz_search.specs.Returning.{ReturnAt}
 use Rattle.uz_search.specs.Searching.{IsSearch, Treated}
-use Rattle.uz_search.specs.Widenings.{widened}
+use Rattle.uz_search.specs.Widened.{widened}
 use Rattle.uz_search.proofs.FramePlaces.{IsNext, Reaches, at, length_few, length_some, one_line, one_clock, one_next, reach_line, reach_on}
 use Rattle.uz_search.proofs.Lists.{kind_cases, bool_cases, in_map, of_map, in_first, of_flat}
 use Rattle.uz_search.proofs.MarkingLemmas.{seen_once}

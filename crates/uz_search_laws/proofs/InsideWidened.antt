@@ -15,10 +15,10 @@ use Rattle.uz_transfer.specs.Values.{flag_at, pair_at, span_at, value_at}
 use Rattle.uz_rules.specs.Inside.{all_below, cells_inside, flag_inside, flags_inside, inside, pairs_inside, registers_inside}
 use Rattle.uz_rules.specs.Inside.{place_of_itself, same_place, slots_inside, value_inside, PlaceHolds}
 use Rattle.uz_search.specs.declared.program.Program.{Program}
-use Rattle.uz_widening.specs.declared.widening.Widening.{Widening}
-use Rattle.uz_widening.specs.declared.widening.Widening.TheVariants.{Register, Pair}
-use Rattle.uz_widening.specs.Widenings.{is_whole, widened_all, widened_by, widened_pair, widened_value}
-use Rattle.uz_search.specs.Widenings.{facts_at, widened}
+use Rattle.uz_search.specs.declared.widening.Widening.{Widening}
+use Rattle.uz_search.specs.declared.widening.Widening.TheVariants.{Register, Pair}
+use Rattle.uz_search.specs.Widenings.{is_whole, widened_all, widened_by, widened_pair, widened_value}
+use Rattle.uz_search.specs.Widened.{facts_at, widened}
 use Rattle.uz_search.proofs.Lists.{choose}
 use Rattle.uz_search.proofs.WidenedLaws.{SamePlace, widened_place, widened_rest}
 

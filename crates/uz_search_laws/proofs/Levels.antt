@@ -20,7 +20,7 @@ use Rattle.uz_search.specs.Following.{Among, Flash, Follows, entries, lines_of, 
 use Rattle.uz_search.specs.Marking.{Seen}
 use Rattle.uz_search.specs.Returning.{Noted}
 use Rattle.uz_search.specs.Searching.{IsSearch, Treated}
-use Rattle.uz_search.specs.Widenings.{widened}
+use Rattle.uz_search.specs.Widened.{widened}
 use Rattle.uz_search.proofs.FramePlaces.{IsNext, Reaches, at, length_some}
 use Rattle.uz_search.proofs.Lists.{kind_cases, bool_cases, of_map, of_flat}
 use Rattle.uz_search.proofs.MarkingLemmas.{seen_once}

@@ -37,11 +37,11 @@ use Rattle.uz_transfer.specs.Step.{exits_of, following_of, sampled_of}
 use Rattle.uz_transfer.specs.Values.{byte_hull, pair_range, span_of, value_at}
 use Rattle.uz_rules.specs.declared.next.Next.{Next}
 use Rattle.uz_search.specs.declared.program.Program.{Program}
-use Rattle.uz_widening.specs.declared.widening.Widening.{Widening}
-use Rattle.uz_widening.specs.declared.widening.Widening.TheVariants.{Register, Pair}
+use Rattle.uz_search.specs.declared.widening.Widening.{Widening}
+use Rattle.uz_search.specs.declared.widening.Widening.TheVariants.{Register, Pair}
 use Rattle.uz_search.specs.Following.{Among, Flash, Follows, entries, order_of_program}
-use Rattle.uz_widening.specs.Widenings.{is_whole, widened_all, widened_by, widened_pair, widened_value}
-use Rattle.uz_search.specs.Widenings.{facts_at, widened}
+use Rattle.uz_search.specs.Widenings.{is_whole, widened_all, widened_by, widened_pair, widened_value}
+use Rattle.uz_search.specs.Widened.{facts_at, widened}
 use Rattle.uz_search.proofs.Lists.{append_cases, bool_cases, choose, of_flat, of_map}
 use Rattle.uz_search.proofs.OneResult.{Steps, steps}
 use Rattle.uz_search.proofs.Results.{result, same_kind, back_is_handler}

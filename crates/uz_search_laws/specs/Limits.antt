@@ -14,7 +14,7 @@ use Rattle.uz_search.specs.declared.program.Program.{Program}
 use Rattle.uz_search.specs.Fitting.{ProgramFits}
 use Rattle.uz_search.specs.Following.{Among, Flash}
 use Rattle.uz_search.specs.Searching.{IsEnded}
-use Rattle.uz_search.specs.Widenings.{widened}
+use Rattle.uz_search.specs.Widened.{widened}
 use Rattle.uz_rules.specs.Inside.{inside}
 
 -- it holds of each element

@@ -30,7 +30,7 @@ use Rattle.uz_rules.specs.MemoryMeets.{CellsHold, depth_below}
 use Rattle.uz_transfer.specs.Kinds.{cell_place}
 use Rattle.uz_transfer.specs.Kinds.{is_main, is_handler}
 use Rattle.uz_transfer.specs.Memory.{depth_of}
-use Rattle.uz_events.specs.Events.{shown_at, listed}
+use Rattle.uz_rules.specs.Events.{shown_at, listed}
 use Rattle.uz_transfer.specs.Step.{successor, ends_line}
 use Rattle.uz_schedule.specs.Lines.{line_after, clock_after}
 use Rattle.uz_rules.specs.Meets.{TimerMeets, TimerCounts, LevelMeets}

@@ -14,7 +14,7 @@ use Rattle.uz_machine.specs.PadLine.{PadHistory}
 use Rattle.uz_machine.specs.Space.{history_wiring}
 use Rattle.uz_machine.specs.Turn.{State, Turn}
 use Rattle.uz_machine.specs.Run.{Run, TurnBefore, edges_until}
-use Rattle.uz_events.specs.Events.{Shown, event_of, shown_at, shown}
+use Rattle.uz_rules.specs.Events.{Shown, event_of, shown_at, shown}
 use Rattle.uz_soundness.specs.Claim.{until, InTime, Follows}
 use Rattle.uz_soundness.specs.Certified.{Certified, clock_of}
 use Rattle.uz_soundness.specs.Played.{PlaysTo, Plays}

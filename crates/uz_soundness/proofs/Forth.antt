@@ -25,7 +25,7 @@ use Rattle.uz_rules.specs.MemoryMeets.{Untouched, depth_below}
 use Rattle.uz_transfer.specs.Kinds.{cell_place}
 use Rattle.uz_transfer.specs.Kinds.{is_main, is_handler}
 use Rattle.uz_transfer.specs.Memory.{depth_of}
-use Rattle.uz_events.specs.Events.{shown, shown_at, listed}
+use Rattle.uz_rules.specs.Events.{shown, shown_at, listed}
 use Rattle.uz_transfer.specs.Emission.{level_after}
 use Rattle.uz_transfer.specs.Step.{successor}
 use Rattle.uz_schedule.specs.Lines.{line_after, clock_after}

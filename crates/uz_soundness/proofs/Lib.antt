@@ -27,3 +27,10 @@ mod Premises
 mod LocalTells
 mod LimitsTell
 mod Accepted
+mod Changes
+mod RunParts
+mod EventLists
+mod Falls
+mod LinesKept
+mod Order
+mod Keeps

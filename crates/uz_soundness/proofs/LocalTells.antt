@@ -22,7 +22,7 @@ use Rattle.uz_schedule.specs.declared.states.Rest.{Rest}
 use Rattle.uz_schedule.specs.declared.states.Point.{Point}
 use Rattle.uz_schedule.specs.declared.states.Instance.{Instance}
 use Rattle.uz_schedule.specs.declared.certificate.Cert.{Cert}
-use Rattle.uz_events.specs.Events.{shown_at, listed}
+use Rattle.uz_rules.specs.Events.{shown_at, listed}
 use Rattle.uz_transfer.specs.declared.fail.Fail.{Fail}
 use Rattle.uz_transfer.specs.declared.fail.Fail.TheVariants as fail
 use Rattle.uz_transfer.specs.declared.step.Exit.{Exit}

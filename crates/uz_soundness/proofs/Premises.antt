@@ -16,7 +16,7 @@ use Rattle.uz_transfer.specs.declared.step.Exit.{Exit}
 use Rattle.uz_transfer.specs.declared.step.Step.{Step}
 use Rattle.uz_rules.specs.Inside.{inside, cells_inside, restored, StateInside}
 use Rattle.uz_rules.specs.Successors.{LiesInPoint}
-use Rattle.uz_events.specs.Events.{shown_at, listed}
+use Rattle.uz_rules.specs.Events.{shown_at, listed}
 use Rattle.uz_transfer.specs.Step.{IsStep, successor}
 use Rattle.uz_rules.specs.OneStep.{AloneContained, HandlerContained, MainContained}
 use Rattle.uz_transfer.specs.Emission.{main_emits}

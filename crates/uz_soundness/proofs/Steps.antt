@@ -10,7 +10,7 @@ use Rattle.std.specs.Prelude.{Option, Some, None}
 use Rattle.uz_schedule.specs.declared.lines.EventKind.{EventKind}
 use Rattle.uz_machine.specs.declared.Edge.{Edge}
 use Rattle.uz_machine.specs.Run.{Run}
-use Rattle.uz_events.specs.Events.{event_of, shown_at, shown, listed}
+use Rattle.uz_rules.specs.Events.{event_of, shown_at, shown, listed}
 use Rattle.uz_soundness.specs.Claim.{scheduled, until, InTime, Follows}
 
 -- one turn keeps to the schedule, and to what holds at each position

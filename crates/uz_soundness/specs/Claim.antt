@@ -6,7 +6,7 @@ use Rattle.uz_machine.specs.declared.EdgeKind.{EdgeKind}
 use Rattle.uz_machine.specs.declared.EdgeKind.TheVariants.{Sync as SyncEdge, Pixel as PixelEdge, Sound as SoundEdge, Enter as EnterEdge}
 use Rattle.uz_machine.specs.declared.EdgeKind.TheVariants.{Leave as LeaveEdge}
 use Rattle.uz_machine.specs.Run.{Run}
-use Rattle.uz_events.specs.Events.{Shown, shown_at, shown, listed}
+use Rattle.uz_rules.specs.Events.{Shown, shown_at, shown, listed}
 
 -- the events that stand at the count positions after p, where position p is this clock of the run
 abbrev pub scheduled : (ℕ → Option EventKind) → ℕ → ℕ → ℕ → List Shown

@@ -6,3 +6,4 @@ pub mod Ways
 pub mod Played
 pub mod FrameRules
 pub mod Acceptance
+pub mod Keeping

@@ -9,7 +9,7 @@ use Rattle.uz_machine.specs.PadLine.{PadHistory}
 use Rattle.uz_machine.specs.Turn.{State}
 use Rattle.uz_machine.specs.StateRange.{IsState}
 use Rattle.uz_machine.specs.Run.{IsClockRun, IsStoppedRun}
-use Rattle.uz_events.specs.Events.{shown}
+use Rattle.uz_rules.specs.Events.{shown}
 use Rattle.uz_soundness.specs.Claim.{scheduled, InTime}
 use Rattle.uz_console.specs.Entry.{EntryCondition}
 

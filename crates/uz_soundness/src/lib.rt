@@ -6,5 +6,7 @@
 #![tactic(auto)]
 
 mod laws;
+mod played_laws;
 
 pub use laws::{some_state_enters, soundness};
+pub use played_laws::played_runs_keep;

@@ -13,23 +13,23 @@ use Rattle.uz_top.specs.Words.{Command, Asm, Build, Certify, Check, Debug, Demo,
 use Rattle.uz_top.specs.Commands.{AllowedFor, Answers, AnswersBy, IsDecided, LacksRead, PartAnswers, Succeeds}
 use Rattle.uz_files.proofs.EndingLemmas.{comes_by}
 use Rattle.uz_files.proofs.OutcomeLemmas.{came_from, from_answer, unwritten_by}
-use Rattle.uz_run_commands.proofs.TraceAnswerLemmas.{trace_status, trace_done}
-use Rattle.uz_run_commands.proofs.TraceSameLemmas.{trace_or_fault, trace_same}
-use Rattle.uz_source_commands.proofs.MacroLemmas.{OneEnd, build_done, build_same, build_status, expand_done, expand_same, expand_status}
-use Rattle.uz_source_commands.proofs.MacroLemmas.{flat_or_fault}
-use Rattle.uz_source_commands.specs.MacroCommands.{IsBuilt, IsExpanded}
-use Rattle.uz_play_commands.proofs.PlayLemmas.{play_status}
-use Rattle.uz_play_commands.proofs.PlaySameLemmas.{play_done, play_or_fault, play_same}
-use Rattle.uz_run_commands.proofs.DebugLemmas.{debug_status, debug_or_fault, debug_same, debug_done}
-use Rattle.uz_source_commands.proofs.AsmLemmas.{asm_done_answer, asm_or_fault, asm_same, asm_status}
-use Rattle.uz_source_commands.proofs.DisLemmas.{dis_status, dis_or_fault, dis_same, dis_done}
+use Rattle.uz_program_commands.proofs.TraceAnswerLemmas.{trace_status, trace_done}
+use Rattle.uz_program_commands.proofs.TraceSameLemmas.{trace_or_fault, trace_same}
+use Rattle.uz_program_commands.proofs.MacroLemmas.{OneEnd, build_done, build_same, build_status, expand_done, expand_same, expand_status}
+use Rattle.uz_program_commands.proofs.MacroLemmas.{flat_or_fault}
+use Rattle.uz_program_commands.specs.MacroCommands.{IsBuilt, IsExpanded}
+use Rattle.uz_certificate_commands.proofs.PlayLemmas.{play_status}
+use Rattle.uz_certificate_commands.proofs.PlaySameLemmas.{play_done, play_or_fault, play_same}
+use Rattle.uz_program_commands.proofs.DebugLemmas.{debug_status, debug_or_fault, debug_same, debug_done}
+use Rattle.uz_program_commands.proofs.AsmLemmas.{asm_done_answer, asm_or_fault, asm_same, asm_status}
+use Rattle.uz_program_commands.proofs.DisLemmas.{dis_status, dis_or_fault, dis_same, dis_done}
 use Rattle.uz_certificate_commands.proofs.CertifyLemmas.{certify_always, certify_decided, certify_or_fault, certify_status}
-use Rattle.uz_play_commands.proofs.DemoSameLemmas.{demo_allowed, demo_done, demo_same, demo_status}
+use Rattle.uz_certificate_commands.proofs.DemoSameLemmas.{demo_allowed, demo_done, demo_same, demo_status}
 use Rattle.uz_certificate_commands.proofs.MigrateLemmas.{migrate_done_answer, migrate_or_fault, migrate_same, migrate_status}
-use Rattle.uz_pair_files.proofs.PairLemmas.{pair_done, pair_or_fault, pair_same, pair_status}
-use Rattle.uz_pair_files.specs.VerdictLines.{accepted_line}
+use Rattle.uz_outcomes.proofs.PairLemmas.{pair_done, pair_or_fault, pair_same, pair_status}
+use Rattle.uz_outcomes.specs.VerdictLines.{accepted_line}
 use Rattle.uz_certificate_commands.specs.ReportCommand.{report_text}
-use Rattle.uz_run_commands.proofs.WaveLemmas.{wave_done, wave_or_fault, wave_same, wave_status}
+use Rattle.uz_program_commands.proofs.WaveLemmas.{wave_done, wave_or_fault, wave_same, wave_status}
 
 -- a status that a command's own work gives
 abbrev IsOwn : Status → Type 0

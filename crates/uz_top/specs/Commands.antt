@@ -6,21 +6,21 @@ use Rattle.uz_search.specs.declared.found.NotFound.{NotFound}
 use Rattle.uz_files.specs.declared.status.Status.{Status}
 use Rattle.uz_files.specs.Answers.{Answer, Ends, NoPart, Outside}
 use Rattle.uz_top.specs.Words.{Command, Asm, Build, Certify, Check, Debug, Demo, Dis, Expand, Migrate, Play, Report, Trace, Wave}
-use Rattle.uz_run_commands.specs.TraceCommand.{TraceAnswers, TraceParts}
-use Rattle.uz_pair_files.specs.RunFiles.{RunLacks, RunSucceeds}
-use Rattle.uz_source_commands.specs.MacroCommands.{BuildAnswers, BuildSucceeds, ExpandAnswers, ExpandSucceeds, FilesBuilt}
-use Rattle.uz_source_commands.specs.MacroSource.{MacroLacks}
-use Rattle.uz_play_commands.specs.PlayCommand.{FilesHalted, FilesPlayed, PlayAnswers, PlayLacks, PlayParts, PlaySucceeds}
-use Rattle.uz_run_commands.specs.DebugCommand.{DebugAnswers, DebugLacks, DebugSucceeds}
-use Rattle.uz_source_commands.specs.AsmCommand.{AsmAnswers, AsmSucceeds, FilesAssembled}
-use Rattle.uz_source_commands.specs.DisCommand.{DisAnswers, DisSucceeds}
+use Rattle.uz_program_commands.specs.TraceCommand.{TraceAnswers, TraceParts}
+use Rattle.uz_outcomes.specs.RunFiles.{RunLacks, RunSucceeds}
+use Rattle.uz_program_commands.specs.MacroCommands.{BuildAnswers, BuildSucceeds, ExpandAnswers, ExpandSucceeds, FilesBuilt}
+use Rattle.uz_program_commands.specs.MacroSource.{MacroLacks}
+use Rattle.uz_certificate_commands.specs.PlayCommand.{FilesHalted, FilesPlayed, PlayAnswers, PlayLacks, PlayParts, PlaySucceeds}
+use Rattle.uz_program_commands.specs.DebugCommand.{DebugAnswers, DebugLacks, DebugSucceeds}
+use Rattle.uz_program_commands.specs.AsmCommand.{AsmAnswers, AsmSucceeds, FilesAssembled}
+use Rattle.uz_program_commands.specs.DisCommand.{DisAnswers, DisSucceeds}
 use Rattle.uz_certificate_commands.specs.CertifyCommand.{AllowedOf, CertifyAnswers, CertifyAnswersBy, CertifySucceeds, FilesCertify}
-use Rattle.uz_play_commands.specs.DemoCommand.{AllowedOfDemo, DemoAnswers, DemoAnswersBy, DemoHalted, DemoParts, DemoPlayed, DemoSucceeds}
+use Rattle.uz_certificate_commands.specs.DemoCommand.{AllowedOfDemo, DemoAnswers, DemoAnswersBy, DemoHalted, DemoParts, DemoPlayed, DemoSucceeds}
 use Rattle.uz_certificate_commands.specs.MigrateCommand.{FilesMigrated, MigrateAnswers, MigrateSucceeds}
 use Rattle.uz_certificate_commands.specs.CheckCommand.{CheckAnswers, FilesCertified}
 use Rattle.uz_certificate_commands.specs.ReportCommand.{FilesReported, ReportAnswers}
-use Rattle.uz_run_commands.specs.WaveCommand.{FilesHeard, WaveAnswers}
-use Rattle.uz_pair_files.specs.PairFiles.{PairLacks, SpellPair}
+use Rattle.uz_program_commands.specs.WaveCommand.{FilesHeard, WaveAnswers}
+use Rattle.uz_outcomes.specs.PairFiles.{PairLacks, SpellPair}
 use Rattle.uz_soundness.specs.Acceptance.{Accepts}
 
 -- the answer of a command, from what its files say

@@ -11,7 +11,7 @@ ghost use Rattle.uz_top.specs.Words.{trace_with as trace_with_numbers, trace_wor
 ghost use Rattle.uz_top.specs.Words.{wave_with as wave_with_numbers, wave_words};
 
 use uz_cert::Response;
-use uz_play_commands::{Clocks, number_of_clocks};
+use uz_certificate_commands::{Clocks, number_of_clocks};
 use uz_text::{number, number_within};
 
 /// A command, with the names of its files.

@@ -12,12 +12,14 @@ ghost use Rattle.uz_top.specs.Words.{AreNoCommand, IfCommand, WritesApart};
 use crate::command::{Command, parse};
 use avr_macro::expansion_is_unique;
 use std::alloc::Global;
-use uz_certificate_commands::{run_certify, run_check, run_migrate, run_report};
+use uz_certificate_commands::{
+    run_certify, run_check, run_demo, run_migrate, run_play, run_report,
+};
 use uz_files::{Status, end_fault, readings_are_unique};
-use uz_play_commands::{run_demo, run_play};
-use uz_run_commands::{run_debug, run_trace, run_wave};
+use uz_program_commands::{
+    run_asm, run_build, run_debug, run_dis, run_expand, run_trace, run_wave,
+};
 use uz_shelf::{Shelf, Sink};
-use uz_source_commands::{run_asm, run_build, run_dis, run_expand};
 
 /// Prints the usage line.
 fn end_usage<K: Sink>(alloc: Global, out: &mut K) -> Status

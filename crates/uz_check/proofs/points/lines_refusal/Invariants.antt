@@ -1,6 +1,6 @@
 use Rattle.std.proofs.Common.{◌≡◌, ℕ, suc, false, ◌≤◌, ◌<◌, ◌+◌, ◌-◌, ◌*◌}
 use Rattle.std.specs.Prelude.{None}
-use Rattle.uz_line_families.specs.Untold.{is_told, untold_lines}
+use Rattle.uz_check.specs.Untold.{is_told, untold_lines}
 use Rattle.uz_rules.specs.Visit.{IsVisit}
 use Rattle.uz_check.specs.Refusal.{LineRefusal}
 use Rattle.uz_check.proofs.points.lines_refusal.Given as goal

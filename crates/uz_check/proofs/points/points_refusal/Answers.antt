@@ -1,7 +1,7 @@
 use Rattle.std.proofs.Common.{◌≡◌, inl, inr, ◌+◌, suc, sym, ap, subst, take, arith}
 use Rattle.std.specs.Prelude.{Some, None, slice_get}
 use Rattle.std.proofs.lemmas.Bool.Decides.{eqb_tells}
-use Rattle.uz_line_families.specs.Untold.{untold_in}
+use Rattle.uz_check.specs.Untold.{untold_in}
 use Rattle.uz_schedule.specs.declared.states.Point.{Point}
 use Rattle.uz_check.specs.Refusal.{PointRefusal}
 use Rattle.uz_check.proofs.Totals.{one_more_point, some_points}

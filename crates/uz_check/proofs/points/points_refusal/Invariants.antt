@@ -1,6 +1,6 @@
 use Rattle.std.proofs.Common.{◌≡◌, ℕ, ◌<◌, ◌≤◌, ◌+◌, take}
 use Rattle.std.specs.Prelude.{None, Some, slice_get}
-use Rattle.uz_line_families.specs.Untold.{untold_in}
+use Rattle.uz_check.specs.Untold.{untold_in}
 use Rattle.uz_schedule.specs.declared.states.Point.{Point}
 use Rattle.uz_check.specs.Refusal.{PointRefusal}
 use Rattle.uz_check.proofs.points.points_refusal.Given as goal

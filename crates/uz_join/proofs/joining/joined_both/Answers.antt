@@ -1,7 +1,7 @@
 use Rattle.std.proofs.Common.{subst}
 use Rattle.std.specs.Prelude.{IfSome}
-use Rattle.uz_point_instances.specs.Same.{SameInstances}
-use Rattle.uz_point_instances.proofs.SameFacts.{same_through}
+use Rattle.uz_points.specs.Same.{SameInstances}
+use Rattle.uz_points.proofs.SameFacts.{same_through}
 use Rattle.uz_join.proofs.joining.joined_both.Goals as goal
 
 pub returns-clause-same : goal.returns-clause-same

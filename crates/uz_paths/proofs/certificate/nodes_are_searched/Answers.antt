@@ -1,7 +1,7 @@
 use Rattle.std.proofs.Common.{map, sym, subst, if◌then◌else◌}
 use Rattle.std.specs.List.{flat_map}
 use Rattle.uz_search.specs.Following.{Among, entries}
-use Rattle.uz_search.specs.Widenings.{widened}
+use Rattle.uz_search.specs.Widened.{widened}
 use Rattle.uz_search.proofs.Lists.{in_map}
 use Rattle.uz_paths.proofs.certificate.nodes_are_searched.Goals as goal
 

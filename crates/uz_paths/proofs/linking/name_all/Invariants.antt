@@ -1,6 +1,6 @@
 use Rattle.std.proofs.Common.{◌≡◌, ◌<◌, ℕ, Some, slice_get}
 use Rattle.uz_schedule.specs.declared.states.Instance.{Instance}
-use Rattle.uz_search.specs.Widenings.{widened}
+use Rattle.uz_search.specs.Widened.{widened}
 use Rattle.uz_paths.specs.Linked.{HasName, NamesMore}
 use Rattle.uz_paths.proofs.linking.name_all.Given as goal
 

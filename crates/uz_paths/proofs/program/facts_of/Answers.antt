@@ -3,7 +3,7 @@ use Rattle.std.specs.BTreeMap.{get}
 use Rattle.std.specs.Ordering.{nat_cmp}
 use Rattle.avr_asm.specs.declared.output.Hint.TheVariants.{Start}
 use Rattle.uz_schedule.specs.declared.kinds.Kind.TheVariants.{Main}
-use Rattle.uz_search.specs.Widenings.{facts_in}
+use Rattle.uz_search.specs.Widened.{facts_in}
 use Rattle.uz_paths.specs.ProgramOf.{hint_facts, facts_for}
 use Rattle.uz_paths.proofs.ProgramLemmas.{fact_at, facts_before}
 use Rattle.uz_paths.proofs.program.facts_of.Goals as goal

@@ -1,7 +1,7 @@
 use Rattle.std.proofs.Common.{◌≡◌, ◌≤◌, ℕ, drop, length}
 use Rattle.std.specs.BTreeMap.{get}
 use Rattle.std.specs.Ordering.{nat_cmp}
-use Rattle.uz_search.specs.Widenings.{facts_in}
+use Rattle.uz_search.specs.Widened.{facts_in}
 use Rattle.uz_paths.specs.ProgramOf.{facts_for}
 use Rattle.uz_paths.proofs.program.facts_of.Given as goal
 

@@ -1,4 +1,4 @@
-use Rattle.uz_search.specs.Widenings.{widened}
+use Rattle.uz_search.specs.Widened.{widened}
 use Rattle.uz_search.proofs.Lists.{map_next}
 use Rattle.uz_search.proofs.program.widened_all.Goals as goal
 

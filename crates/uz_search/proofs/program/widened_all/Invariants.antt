@@ -1,5 +1,5 @@
 use Rattle.std.proofs.Common.{◌≡◌, map, take}
-use Rattle.uz_search.specs.Widenings.{widened}
+use Rattle.uz_search.specs.Widened.{widened}
 use Rattle.uz_search.proofs.program.widened_all.Given as goal
 
 abbrev pub invariant-each : goal.invariant-each

@@ -1,6 +1,6 @@
 use Rattle.std.proofs.Common.{◌∙◌, ◌++◌, ◌∷◌, [], ap, sym, subst, List}
 use Rattle.uz_schedule.specs.declared.states.Point.{Point}
-use Rattle.uz_point_instances.specs.Same.{IsWhollyTold}
+use Rattle.uz_points.specs.Same.{IsWhollyTold}
 use Rattle.uz_join.specs.Replacing.{IsPut}
 use Rattle.uz_join.proofs.PutLemmas.{point_kept, point_let_go}
 use Rattle.uz_join.proofs.replacing.Replacing.pass.Goals as goal

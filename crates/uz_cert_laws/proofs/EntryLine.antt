@@ -1,0 +1,419 @@
+-- The line of an entry.
+use Rattle.std.proofs.Common.{◌≡◌, ℕ, zero, suc, ◌-◌, ◌<◌, ◌≤◌, Bool, true, false, cond, ◌&&◌, eqb, List, [], ◌∷◌, ◌++◌, map, length, decimal}
+use Rattle.std.proofs.Common.{codes, lit<, lit≤, refl, sym, ◌∙◌, ap, subst, append-nil, arith}
+use Rattle.std.specs.Prelude.{All, Some, Result, Ok, slice_get}
+use Rattle.std.proofs.lemmas.List.{length-map}
+use Rattle.std.proofs.lemmas.List.Elements.{All-nil, All-cons, All-head, All-tail}
+use Rattle.uz_schedule.specs.Ends.{Ends, whole_byte}
+use Rattle.uz_schedule.specs.Schedule.{scanline}
+use Rattle.uz_schedule.specs.Tracked.{tracked, depth_of}
+use Rattle.uz_schedule.specs.Limits.{clock_limit}
+use Rattle.uz_schedule.specs.WellFormed.{RangeFits, CellFits, SpansFit, BitFits, EntryKindFits, EntryFactsFit, EntryFits}
+use Rattle.uz_schedule.specs.declared.kinds.Kind.{Kind}
+use Rattle.uz_schedule.specs.declared.kinds.Kind.TheVariants.{Main, Handler, Alone}
+use Rattle.uz_schedule.specs.declared.header.Cell.{Cell}
+use Rattle.uz_schedule.specs.declared.header.Head.{Head}
+use Rattle.uz_schedule.specs.declared.facts.Fact.{Fact}
+use Rattle.uz_schedule.specs.declared.facts.PairFact.{PairFact}
+use Rattle.uz_schedule.specs.declared.facts.PairFact.TheVariants.{Any as AnyPair}
+use Rattle.uz_schedule.specs.declared.states.Entry.{Entry}
+use Rattle.uz_cert_words.specs.Why.{◌>>=◌}
+use Rattle.uz_cert_words.specs.Grammar.{Words, choice_of}
+use Rattle.uz_cert_lines.specs.Defaults.{is_any_pair, range_fact}
+use Rattle.uz_cert_lines.specs.Items.{is_handler, bytes_forms, read_items}
+use Rattle.uz_cert_lines.specs.Forms.{LineForm, number, items, reads}
+use Rattle.uz_cert_lines.specs.Lines.{within, one_of, none_in_main, shape_of, span_of_fact, entry_of, entry_kind, entry_form}
+use Rattle.uz_cert_words.specs.declared.values.FactForms.{FactForms}
+use Rattle.uz_cert_lines.specs.declared.items.Facts.{Facts}
+use Rattle.uz_cert_lines.specs.declared.lines.Said.{Said}
+use Rattle.uz_cert_lines.specs.declared.lines.Said.TheVariants as said
+use Rattle.uz_cert_words.specs.declared.why.CertWhy.{CertWhy}
+use Rattle.uz_cert_writer.specs.Spelling.{kind_word, range_facts, register_items, pair_items, flag_items, slot_items, cell_items}
+use Rattle.uz_cert_writer.specs.Spelling.{top_items, temp_items, successor_items, entry_items, entry_words}
+use Rattle.uz_cert_laws.specs.Said.{line, PlacesAre}
+use Rattle.uz_cert_laws.proofs.Tests.{fine, fine_is, true_not, bind_ok}
+use Rattle.uz_cert_laws.proofs.Numbers.{number_so, number_only}
+use Rattle.uz_cert_laws.proofs.Facts.{FactIn, BitIn}
+use Rattle.uz_cert_laws.proofs.Options.{each_length, each_other}
+use Rattle.uz_cert_laws.proofs.Spelled.{registers, numbered_cells}
+use Rattle.uz_cert_laws.proofs.Taken.{cell_form}
+use Rattle.uz_cert_laws.proofs.OneMore.{letters_of_pairs, letters_of_flags, timer_and_next, spelled, Regular}
+use Rattle.uz_cert_laws.proofs.OnlyItems.{ShapeFits, items_only}
+use Rattle.uz_cert_laws.proofs.AgainItems.{Sayable, items_of, items_again, facts_with}
+use Rattle.uz_cert_laws.proofs.Fitting.{each_of_all, all_of_each, all_other, all_map, map_back, bit_in, bit_out, range_in, SaysRange}
+use Rattle.uz_cert_laws.proofs.Fitting.{says_range, span_back, entry_cell, entry_form_is, spans_in, spans_out, under_none, none_under}
+use Rattle.uz_cert_laws.proofs.Fitting.{none_small}
+use Rattle.uz_cert_laws.proofs.Steps.{words_in, line_same, form_rest, advance, fixed_word, retreat, fixed_is, choice_is, with_front}
+use Rattle.uz_cert_laws.proofs.Steps.{is_within as within_so}
+use Rattle.uz_cert_laws.proofs.RestLine.{bytes_of, one_so}
+
+-- an entry after the word for its kind
+
+abbrev entry_after : Head → ℕ → ℕ → Kind → LineForm
+entry_after h lines points kind =
+    number (one_of points) (λ id. number (within 0 32768) (λ pc.
+    number (within 0 (none_in_main kind lines)) (λ line. number (within 0 (none_in_main kind clock_limit)) (λ clock.
+    items (shape_of h kind true points) h.cells.items (λ f. said.Entry (entry_of kind id pc line clock f))))))
+
+pub ranges_of : (h : Head) (cells : List Cell) → All (CellFits h) cells → All (λ c. RangeFits 255 c.range) cells
+ranges_of h [] a = All-nil (λ c. RangeFits 255 c.range)
+ranges_of h (c ∷ cs) a =
+    All-cons (λ c. RangeFits 255 c.range) c cs (All-head (CellFits h) c cs a).range (ranges_of h cs (All-tail (CellFits h) c cs a))
+
+pub shape_fits : (h : Head) (lines points : ℕ) (kind : Kind) (plain : Bool) → PlacesAre h lines points → (kind ≡ Handler → plain ≡ false)
+    → ShapeFits (shape_of h kind plain points) h.cells.items
+shape_fits h lines points kind plain a w =
+    record {
+      places = record { few = a.few; bytes = bytes_of h h.cells.items a.each; points = omega (arith, a.points_few) };
+      whole = w;
+      ranges = ranges_of h h.cells.items a.each;
+    }
+
+no_handler : (kind : Kind) (e : Entry) → EntryKindFits kind e → kind ≡ Handler → true ≡ false
+no_handler Main e h f = absurd cc
+no_handler Handler e h f = absurd h
+no_handler Alone e h f = absurd cc
+
+at_begin : (kind : Kind) (e : Entry) → EntryKindFits kind e → kind ≡ Main → (e.line ≡ 0) × (e.clock ≡ 0)
+at_begin Main e h f = h
+at_begin Handler e h f = absurd h
+at_begin Alone e h f = absurd cc
+
+entry_sayable : (h : Head) (lines points : ℕ) (e : Entry) → EntryFactsFit h e
+    → Sayable (shape_of h e.kind true points) h.cells.items (range_facts e.regs) (AnyPair ∷ AnyPair ∷ AnyPair ∷ []) e.flags
+    (range_facts e.stack.items)
+    (range_facts e.cells.items) (scanline - 1) whole_byte []
+entry_sayable h lines points e f =
+    let shape = shape_of h e.kind true points in
+    record {
+      regs_fit = each_of_all (FactIn (bytes_forms shape)) registers (range_facts e.regs) (length-map e.regs range_fact ∙ f.registers)
+          (facts e.regs f.ranges);
+      pairs_fit = ((refl, lit< tt), ((refl, lit< tt), ((refl, lit< tt), tt)));
+      flags_fit = each_of_all (BitIn (is_handler e.kind)) letters_of_flags e.flags f.flag_count
+          (all_other (BitFits e.kind) (BitIn (is_handler e.kind)) e.flags (bit_in e.kind) f.flags);
+      slots_fit = omega (arith, f.slots, length-map e.stack.items range_fact);
+      stack_fit = facts e.stack.items f.stack;
+      cells_fit = each_other (λ p x. FactIn (entry_cell p.1) x) (λ p x. FactIn (cell_form shape p.1) x)
+          (numbered_cells e.kind 0 h.cells.items) (range_facts e.cells.items)
+          (λ p x i. subst (λ (g : FactForms). FactIn g x) (sym (entry_form_is shape p.1 refl)) i)
+          (spans_in e.kind 0 h.cells.items e.cells.items f.cells.ranges f.cells.within);
+      top_fit = refl;
+      temp_fit = record { order = lit≤ tt; high = lit≤ tt };
+      timed_fit = λ _. (refl, refl);
+      next_fit = (refl, All-nil (λ id. id < points), lit≤ tt, λ _. refl);
+      plain_fit = λ _. any_three;
+      meant = λ one. absurd (true_not false one refl);
+    }
+  where
+    facts : (es : List Ends) → All (RangeFits 255) es → All (FactIn (bytes_forms (shape_of h e.kind true points))) (map range_fact es)
+    facts es a =
+        all_map (RangeFits 255) (FactIn (bytes_forms (shape_of h e.kind true points))) range_fact es
+        (λ x r. range_in (bytes_forms (shape_of h e.kind true points)) x refl r (omega arith) (omega (arith, r.high))) a
+
+    any_three : All (λ x. is_any_pair x ≡ true) (AnyPair ∷ AnyPair ∷ AnyPair ∷ [])
+    any_three =
+        All-cons (λ x. is_any_pair x ≡ true) AnyPair (AnyPair ∷ AnyPair ∷ []) refl
+        (All-cons (λ x. is_any_pair x ≡ true) AnyPair (AnyPair ∷ []) refl
+        (All-cons (λ x. is_any_pair x ≡ true) AnyPair [] refl (All-nil (λ x. is_any_pair x ≡ true))))
+
+entry_items_are : (cells : List Cell) (e : Entry)
+    → entry_items cells e ≡ items_of e.kind cells (range_facts e.regs) (AnyPair ∷ AnyPair ∷ AnyPair ∷ []) e.flags
+    (range_facts e.stack.items) (range_facts e.cells.items) (scanline - 1) whole_byte []
+entry_items_are cells e =
+    ap (λ ws. register_items e.kind 0 (range_facts e.regs) ++ (flag_items e.kind letters_of_flags e.flags
+    ++ (slot_items (range_facts e.stack.items) ++ ws)))
+    (sym (append-nil (cell_items e.kind 0 cells (range_facts e.cells.items))))
+
+entry_back : (h : Head) (e : Entry) (least after : ℕ) → EntryFactsFit h e
+    → entry_of e.kind e.id e.pc e.line e.clock (facts_with least after (range_facts e.regs) (AnyPair ∷ AnyPair ∷ AnyPair ∷ []) e.flags
+    (range_facts e.stack.items) (range_facts e.cells.items) (scanline - 1) whole_byte []) ≡ e
+unfolding entry_of
+entry_back h e least after f =
+    with_lists (map span_of_fact (range_facts e.regs)) (map span_of_fact (range_facts e.stack.items))
+    (map span_of_fact (range_facts e.cells.items))
+    (back e.regs f.ranges) (back e.stack.items f.stack) (back e.cells.items f.cells.ranges)
+  where
+    make : List Ends → List Ends → List Ends → Entry
+    make regs stack cells = record {
+      kind = e.kind;
+      id = e.id;
+      pc = e.pc;
+      line = e.line;
+      clock = e.clock;
+      regs = regs;
+      flags = e.flags;
+      stack = record { items = stack };
+      cells = record { items = cells };
+    }
+
+    back : (es : List Ends) → All (RangeFits 255) es → map span_of_fact (map range_fact es) ≡ es
+    back es a = map_back (RangeFits 255) range_fact span_of_fact es (λ x r. span_back x) a
+
+    with_lists : (rs ss cs : List Ends) → rs ≡ e.regs → ss ≡ e.stack.items → cs ≡ e.cells.items
+        → record {
+          kind = e.kind;
+          id = e.id;
+          pc = e.pc;
+          line = e.line;
+          clock = e.clock;
+          regs = rs;
+          flags = e.flags;
+          stack = record { items = ss };
+          cells = record { items = cs };
+        } ≡ e
+    with_lists rs ss cs p q r =
+        ap (λ (x : List Ends). make x ss cs) p ∙ ap (λ (x : List Ends). make e.regs x cs) q
+        ∙ ap (λ (x : List Ends). make e.regs e.stack.items x) r
+
+entry_after_again : (h : Head) (lines points : ℕ) (e : Entry) → PlacesAre h lines points → EntryFits h lines points e
+    → reads (entry_after h lines points e.kind)
+    (line (decimal e.id ∷ decimal e.pc ∷ decimal e.line ∷ decimal e.clock ∷ entry_items h.cells.items e)) ≡ Ok (said.Entry e)
+entry_after_again h lines points e a f =
+    let lines_few : lines ≤ 525 = a.lines_few in
+    let many : points ≤ 524288 = a.points_few in
+    let kind = e.kind in
+    let cells = h.cells.items in
+    let shape = shape_of h kind true points in
+    let says = Ok (said.Entry e) in
+    let w4 = entry_items cells e in
+    let w3 = decimal e.clock ∷ w4 in
+    let w2 = decimal e.line ∷ w3 in
+    let w1 = decimal e.pc ∷ w2 in
+    let f0 = entry_after h lines points kind in
+    let f1 = form_rest f0 e.id in
+    let f2 = form_rest f1 e.pc in
+    let f3 = form_rest f2 e.line in
+    let lines_small = none_small kind lines (omega arith) in
+    let clocks_small = none_small kind clock_limit (lit≤ tt) in
+    let r = items_again shape cells (range_facts e.regs) (AnyPair ∷ AnyPair ∷ AnyPair ∷ []) e.flags (range_facts e.stack.items)
+    (range_facts e.cells.items) (scanline - 1) whole_byte []
+    (shape_fits h lines points kind true a (no_handler kind e f.kind)) (entry_sayable h lines points e f.facts) in
+    let say : Facts → Said = λ x. said.Entry (entry_of kind e.id e.pc e.line e.clock x) in
+    advance f0 (decimal e.id) w1 e.id says (number_so (one_of points) e.id (omega arith) (one_so points e.id (omega arith) f.id))
+    (advance f1 (decimal e.pc) w2 e.pc says
+    (number_so (within 0 32768) e.pc (lit≤ tt) (within_so 0 32768 e.pc (lit≤ tt) (omega arith) f.pc))
+    (advance f2 (decimal e.line) w3 e.line says (number_so (within 0 (none_in_main kind lines)) e.line (omega (arith, lines_small))
+    (within_so 0 (none_in_main kind lines) e.line lines_small (omega arith)
+    (under_none kind lines e.line (λ m. (at_begin kind e f.kind m).0) f.line)))
+    (advance f3 (decimal e.clock) w4 e.clock says
+    (number_so (within 0 (none_in_main kind clock_limit)) e.clock (omega (arith, clocks_small))
+    (within_so 0 (none_in_main kind clock_limit) e.clock clocks_small (omega arith)
+    (under_none kind clock_limit e.clock (λ m. (at_begin kind e f.kind m).1) f.clock)))
+    (ap (λ (ws : List (List ℕ)). read_items shape cells (line ws) >>= (λ x. fine (say x))) (entry_items_are cells e)
+    ∙ ap (λ (m : Result Facts CertWhy). m >>= (λ x. fine (say x))) r.read
+    ∙ ap (λ (x : Entry). fine (said.Entry x)) (entry_back h e r.least r.after f.facts)))))
+
+kind_place : Kind → ℕ
+kind_place Main = 0
+kind_place Handler = 1
+kind_place Alone = 1
+
+abbrev entry_kinds : List (List ℕ)
+entry_kinds = codes "main" ∷ codes "alone" ∷ []
+
+kind_again : (kind : Kind) (e : Entry) → EntryKindFits kind e → choice_of entry_kinds (kind_word kind) ≡ Ok (kind_place kind)
+unfolding choice_of kind_place
+kind_again Main e h = refl
+kind_again Handler e h = absurd h
+kind_again Alone e h = refl
+
+kind_back : (kind : Kind) (e : Entry) → EntryKindFits kind e → entry_kind (kind_place kind) ≡ kind
+unfolding kind_place
+kind_back Main e h = refl
+kind_back Handler e h = absurd h
+kind_back Alone e h = refl
+
+pub entry_again : (h : Head) (lines points : ℕ) (e : Entry) → PlacesAre h lines points → EntryFits h lines points e
+    → reads (entry_form h lines points) (line (entry_words h.cells.items e)) ≡ Ok (said.Entry e)
+entry_again h lines points e a f =
+    let says = Ok (said.Entry e) in
+    let ws = decimal e.id ∷ decimal e.pc ∷ decimal e.line ∷ decimal e.clock ∷ entry_items h.cells.items e in
+    let f1 = form_rest (entry_form h lines points) 0 in
+    advance (entry_form h lines points) (codes "entry") (kind_word e.kind ∷ ws) 0 says (fixed_word (codes "entry"))
+    (advance f1 (kind_word e.kind) ws (kind_place e.kind) says (kind_again e.kind e f.kind)
+    (ap (λ (k : Kind). reads (entry_after h lines points k) (line ws)) (kind_back e.kind e f.kind) ∙ entry_after_again h lines points e a
+    f))
+
+-- only
+
+kind_word_back : (n : ℕ) (w : List ℕ) → slice_get entry_kinds n ≡ Some w → w ≡ kind_word (entry_kind n)
+kind_word_back zero w e = let same : codes "main" ≡ w = cc in sym same
+kind_word_back (suc zero) w e = let same : codes "alone" ≡ w = cc in sym same
+kind_word_back (suc (suc n)) w e = absurd cc
+
+not_handler : (n : ℕ) → entry_kind n ≡ Handler → true ≡ false
+not_handler zero e = absurd cc
+not_handler (suc n) e = by_test (eqb (suc n) 0) e
+  where
+    by_test : (t : Bool) → cond t Main Alone ≡ Handler → true ≡ false
+    by_test true e = absurd cc
+    by_test false e = absurd cc
+
+kind_fits : (kind : Kind) (e : Entry) → (kind ≡ Handler → true ≡ false) → (kind ≡ Main → e.line ≡ 0) → (kind ≡ Main → e.clock ≡ 0)
+    → EntryKindFits kind e
+kind_fits Main e n l c = (l refl, c refl)
+kind_fits Handler e n l c = true_not true refl (n refl)
+kind_fits Alone e n l c = tt
+
+record FactsSaid (h : Head) (kind : Kind) (points : ℕ) (f : Facts) : Type 0 where
+  pub regs_back : map range_fact (map span_of_fact f.regs) ≡ f.regs
+  pub regs_fit : All (RangeFits 255) (map span_of_fact f.regs)
+  pub regs_count : length (map span_of_fact f.regs) ≡ 32
+  pub flag_count : length f.flags ≡ 7
+  pub flags_fit : All (BitFits kind) f.flags
+  pub stack_back : map range_fact (map span_of_fact f.stack.items) ≡ f.stack.items
+  pub stack_fit : All (RangeFits 255) (map span_of_fact f.stack.items)
+  pub slots : length (map span_of_fact f.stack.items) ≤ depth_of h kind
+  pub cells_back : map range_fact (map span_of_fact f.cells.items) ≡ f.cells.items
+  pub cells_fit : SpansFit (tracked h kind) (map span_of_fact f.cells.items)
+  pub pairs : f.pairs ≡ AnyPair ∷ AnyPair ∷ AnyPair ∷ []
+  pub next : f.next.items ≡ []
+  pub top : f.top ≡ scanline - 1
+  pub temp : f.temp ≡ whole_byte
+
+facts_said : (h : Head) (kind : Kind) (points : ℕ) (f : Facts) → Regular (shape_of h kind true points) h.cells.items f → FactsSaid h kind
+    points f
+facts_said h kind points f r =
+    let shape = shape_of h kind true points in
+    let regs = all_of_each (FactIn (bytes_forms shape)) registers f.regs r.regs in
+    let cells = spans_out kind 0 h.cells.items f.cells.items
+    (each_other (λ p x. FactIn (cell_form shape p.1) x) (λ p x. FactIn (entry_cell p.1) x) (numbered_cells kind 0 h.cells.items)
+    f.cells.items
+    (λ p x i. subst (λ (g : FactForms). FactIn g x) (entry_form_is shape p.1 refl) i) r.tracked_cells) in
+    record {
+      regs_back = back f.regs regs;
+      regs_fit = fit f.regs regs;
+      regs_count = length-map f.regs span_of_fact ∙ each_length (λ k x. FactIn (bytes_forms shape) x) registers f.regs r.regs;
+      flag_count = each_length (λ k x. BitIn (is_handler kind) x) letters_of_flags f.flags r.flags;
+      flags_fit = all_other (BitIn (is_handler kind)) (BitFits kind) f.flags (bit_out kind)
+          (all_of_each (BitIn (is_handler kind)) letters_of_flags f.flags r.flags);
+      stack_back = back f.stack.items r.stack;
+      stack_fit = fit f.stack.items r.stack;
+      slots = omega (arith, r.slots, length-map f.stack.items span_of_fact);
+      cells_back = cells.2;
+      cells_fit = record { ranges = cells.0; within = cells.1 };
+      pairs = r.plain_pairs refl;
+      next = r.plain_next refl;
+      top = (r.untimed refl).0;
+      temp = (r.untimed refl).1;
+    }
+  where
+    no_old : (b : Bool) → (b && false) ≡ false
+    no_old true = refl
+    no_old false = refl
+
+    says : (x : Fact) → FactIn (bytes_forms (shape_of h kind true points)) x → SaysRange (bytes_forms (shape_of h kind true points)) x
+    says x i = says_range (bytes_forms (shape_of h kind true points)) x refl refl (no_old (is_handler kind)) i
+
+    back : (xs : List Fact) → All (FactIn (bytes_forms (shape_of h kind true points))) xs → map range_fact (map span_of_fact xs) ≡ xs
+    back xs a = map_back (FactIn (bytes_forms (shape_of h kind true points))) span_of_fact range_fact xs (λ x i. (says x i).back) a
+
+    fit : (xs : List Fact) → All (FactIn (bytes_forms (shape_of h kind true points))) xs → All (RangeFits 255) (map span_of_fact xs)
+    fit xs a = all_map (FactIn (bytes_forms (shape_of h kind true points))) (RangeFits 255) span_of_fact xs (λ x i. (says x i).fits) a
+
+spelled_entry : (h : Head) (kind : Kind) (points id pc line clock : ℕ) (f : Facts) → FactsSaid h kind points f
+    → spelled kind h.cells.items f ≡ entry_items h.cells.items (entry_of kind id pc line clock f)
+unfolding entry_of
+spelled_entry h kind points id pc line clock f s =
+    let cells = h.cells.items in
+    ap (λ (ps : List PairFact). register_items kind 0 f.regs ++ (pair_items letters_of_pairs ps ++ (flag_items kind letters_of_flags f.flags
+    ++ (slot_items f.stack.items ++ (cell_items kind 0 cells f.cells.items ++ timer_and_next f))))) s.pairs
+    ∙ ap (λ (ws : List (List ℕ)). register_items kind 0 f.regs ++ (flag_items kind letters_of_flags f.flags
+    ++ (slot_items f.stack.items ++ (cell_items kind 0 cells f.cells.items ++ ws))))
+    (ap (λ n. top_items n ++ (temp_items f.temp ++ successor_items f.next.items)) s.top
+    ∙ ap (λ (e : Ends). temp_items e ++ successor_items f.next.items) s.temp ∙ ap successor_items s.next)
+    ∙ ap (λ (ws : List (List ℕ)). register_items kind 0 f.regs
+    ++ (flag_items kind letters_of_flags f.flags ++ (slot_items f.stack.items ++ ws)))
+    (append-nil (cell_items kind 0 cells f.cells.items))
+    ∙ ap (λ (rs : List Fact). register_items kind 0 rs
+    ++ (flag_items kind letters_of_flags f.flags ++ (slot_items f.stack.items ++ cell_items kind 0 cells f.cells.items)))
+    (sym s.regs_back)
+    ∙ ap (λ (ss : List Fact). register_items kind 0 (range_facts (map span_of_fact f.regs))
+    ++ (flag_items kind letters_of_flags f.flags ++ (slot_items ss ++ cell_items kind 0 cells f.cells.items)))
+    (sym s.stack_back)
+    ∙ ap (λ (cs : List Fact). register_items kind 0 (range_facts (map span_of_fact f.regs)) ++ (flag_items kind letters_of_flags f.flags
+    ++ (slot_items (range_facts (map span_of_fact f.stack.items)) ++ cell_items kind 0 cells cs))) (sym s.cells_back)
+
+entry_facts_fit : (h : Head) (kind : Kind) (points id pc line clock : ℕ) (f : Facts) → FactsSaid h kind points f → EntryFactsFit h
+    (entry_of kind id pc line clock f)
+unfolding entry_of
+entry_facts_fit h kind points id pc line clock f s =
+    record {
+      registers = s.regs_count;
+      ranges = s.regs_fit;
+      flag_count = s.flag_count;
+      flags = s.flags_fit;
+      slots = s.slots;
+      stack = s.stack_fit;
+      cells = s.cells_fit;
+    }
+
+entry_fits : (h : Head) (lines points : ℕ) (kind : Kind) (id pc line clock : ℕ) (f : Facts) → FactsSaid h kind points f
+    → (kind ≡ Handler → true ≡ false)
+    → id < points → pc < 32768 → (line < lines) × (kind ≡ Main → line ≡ 0) → (clock < clock_limit) × (kind ≡ Main → clock ≡ 0)
+    → EntryFits h lines points (entry_of kind id pc line clock f)
+unfolding entry_of
+entry_fits h lines points kind id pc line clock f s n i p l c =
+    record {
+      kind = kind_fits kind (entry_of kind id pc line clock f) n l.1 c.1;
+      id = i;
+      pc = p;
+      line = l.0;
+      clock = c.0;
+      facts = entry_facts_fit h kind points id pc line clock f s;
+    }
+
+entry_words_are : (h : Head) (kind : Kind) (id pc line clock : ℕ) (f : Facts)
+    → codes "entry" ∷ kind_word kind ∷ decimal id ∷ decimal pc ∷ decimal line ∷ decimal clock ∷ entry_items h.cells.items
+    (entry_of kind id pc line clock f)
+    ≡ entry_words h.cells.items (entry_of kind id pc line clock f)
+unfolding entry_of
+entry_words_are h kind id pc line clock f = refl
+
+pub entry_only : (h : Head) (lines points : ℕ) (words : Words) (says : Said) → PlacesAre h lines points → 1 ≤ lines
+    → reads (entry_form h lines points) words ≡ Ok says
+    → (e : Entry) × (says ≡ said.Entry e) × (words ≡ line (entry_words h.cells.items e)) × EntryFits h lines points e
+entry_only h lines points words says a some e =
+    let lines_few : lines ≤ 525 = a.lines_few in
+    let many : points ≤ 524288 = a.points_few in
+    let cells = h.cells.items in
+    let f0 = entry_form h lines points in
+    let b = retreat f0 words.list words.ended says tt e in
+    let f1 = form_rest f0 b.number in
+    let k = retreat f1 b.left words.ended says tt b.rest in
+    let kind = entry_kind k.number in
+    let f2 = form_rest f1 k.number in
+    let i = retreat f2 k.left words.ended says tt k.rest in
+    let f3 = form_rest f2 i.number in
+    let p = retreat f3 i.left words.ended says tt i.rest in
+    let f4 = form_rest f3 p.number in
+    let l = retreat f4 p.left words.ended says tt p.rest in
+    let f5 = form_rest f4 l.number in
+    let c = retreat f5 l.left words.ended says tt l.rest in
+    let lines_small = none_small kind lines (omega arith) in
+    let clocks_small = none_small kind clock_limit (lit≤ tt) in
+    let idn = number_only (one_of points) i.word i.number (omega arith) i.is in
+    let pn = number_only (within 0 32768) p.word p.number (lit≤ tt) p.is in
+    let ln = number_only (within 0 (none_in_main kind lines)) l.word l.number (omega (arith, lines_small)) l.is in
+    let cn = number_only (within 0 (none_in_main kind clock_limit)) c.word c.number (omega (arith, clocks_small)) c.is in
+    let shape = shape_of h kind true points in
+    let say : Facts → Said = λ x. said.Entry (entry_of kind i.number p.number l.number c.number x) in
+    let m = bind_ok (read_items shape cells (words_in c.left words.ended)) (λ x. fine (say x)) says c.rest in
+    let g = items_only shape cells (words_in c.left words.ended) m.0 (shape_fits h lines points kind true a (not_handler k.number)) m.1 in
+    let s = facts_said h kind points m.0 g.regular in
+    let made = entry_of kind i.number p.number l.number c.number m.0 in (
+      made,
+      sym (fine_is (said.Entry made) says m.2),
+      line_same words.list (entry_words cells made) words.ended
+          (with_front words.list b.left _ b.word (codes "entry") b.parts (fixed_is (codes "entry") b.word b.number b.is)
+          (with_front b.left k.left _ k.word (kind_word kind) k.parts
+          (kind_word_back k.number k.word (choice_is entry_kinds k.word k.number k.is))
+          (with_front k.left i.left _ i.word (decimal i.number) i.parts idn.0
+          (with_front i.left p.left _ p.word (decimal p.number) p.parts pn.0
+          (with_front p.left l.left _ l.word (decimal l.number) l.parts ln.0
+          (with_front l.left c.left (entry_items cells made) c.word (decimal c.number) c.parts cn.0
+          (g.words ∙ spelled_entry h kind points i.number p.number l.number c.number m.0 s))))))
+          ∙ entry_words_are h kind i.number p.number l.number c.number m.0) g.end,
+      entry_fits h lines points kind i.number p.number l.number c.number m.0 s (not_handler k.number) idn.1.below pn.1.below
+          (none_under kind lines l.number some ln.1.below) (none_under kind clock_limit c.number (lit≤ tt) cn.1.below),
+    )

@@ -1,0 +1,381 @@
+-- All items of a line: where they are read, they are what is spelled of the facts that they say.
+use Rattle.std.proofs.Common.{◌≡◌, ◌⊎◌, inl, inr, ℕ, zero, suc, ◌+◌, ◌<◌, ◌≤◌, Bool, true, false, cond, not, ◌&&◌, ◌||◌, eqb, ltb, List, []}
+use Rattle.std.proofs.Common.{◌∷◌, ◌++◌, map, length, take, drop, get_or, decimal, codes, bytes_eq, lit<, lit≤, refl, sym, ◌∙◌, ap, subst}
+use Rattle.std.proofs.Common.{append_assoc, append-nil, arith}
+use Rattle.std.specs.Prelude.{Ok, All, slice_set}
+use Rattle.std.proofs.lemmas.List.Elements.{All-nil, All-head, All-tail}
+use Rattle.std.proofs.lemmas.List.{length-map}
+use Rattle.std.proofs.lemmas.Fmt.{decimal_digit}
+use Rattle.uz_schedule.specs.Ends.{Ends}
+use Rattle.uz_schedule.specs.Tracked.{tracks}
+use Rattle.uz_schedule.specs.WellFormed.{RangeFits, is_zero_or_one, is_default_flag, is_carry_and_zero_default}
+use Rattle.uz_schedule.specs.declared.kinds.Kind.{Kind}
+use Rattle.uz_schedule.specs.declared.kinds.Kind.TheVariants.{Main, Handler, Alone}
+use Rattle.uz_schedule.specs.declared.header.Cell.{Cell}
+use Rattle.uz_schedule.specs.declared.facts.Fact.{Fact}
+use Rattle.uz_schedule.specs.declared.facts.Fact.TheVariants.{Any, Between}
+use Rattle.uz_schedule.specs.declared.facts.PairFact.{PairFact}
+use Rattle.uz_schedule.specs.declared.facts.PairFact.TheVariants.{Any as AnyPair, Between as BetweenPair, Line as LinePair}
+use Rattle.uz_schedule.specs.declared.facts.PairFact.TheVariants.{Loop as LoopPair}
+use Rattle.uz_schedule.specs.declared.facts.Bit.{Bit}
+use Rattle.uz_cert_words.specs.Grammar.{Words}
+use Rattle.uz_cert_lines.specs.Defaults.{is_default}
+use Rattle.uz_cert_words.specs.FlagNames.{names_c_or_z, any_names}
+use Rattle.uz_cert_lines.specs.Items.{first_facts, default_regs, default_flag, is_handler, bytes_forms, pair_forms}
+use Rattle.uz_cert_lines.specs.Items.{is_flag_z, tracked_count, take_item, items_from, read_items}
+use Rattle.uz_cert_words.specs.declared.values.FactForms.{FactForms}
+use Rattle.uz_cert_lines.specs.declared.items.Shape.{Shape}
+use Rattle.uz_cert_lines.specs.declared.items.Facts.{Facts}
+use Rattle.uz_cert_words.specs.declared.why.CertWhy.TheVariants as why
+use Rattle.uz_cert_writer.specs.Spelling.{range_word, fact_word, pair_word, flag_word, register_items}
+use Rattle.uz_cert_laws.proofs.Tests.{and_true, or_false, fine_is, fault_not, true_not, bind_ok, number_is, lt_is}
+use Rattle.uz_cert_laws.proofs.Facts.{FactIn, PairIn, BitIn, part_from}
+use Rattle.uz_cert_laws.proofs.Options.{Each, IsUsual, each_length, each_map, no_options}
+use Rattle.uz_cert_laws.proofs.Spelled.{count_from, registers, numbered_cells, register_word, usual_fact, usual_bit, usual_cell}
+use Rattle.uz_cert_laws.proofs.Spelled.{registers_are, registers_usual, cells_usual, register_default}
+use Rattle.uz_cert_laws.proofs.Taken.{with_pair, with_flag, TakesPair, TakesFlag, Taken, register, pair, flag, slot, cell, timer_top, timer_temp}
+use Rattle.uz_cert_laws.proofs.Taken.{successor, PlacesFit, cell_form, flag_letter, item_taken}
+use Rattle.uz_cert_laws.proofs.OneMore.{letters_of_pairs, letters_of_flags, spelled, Regular, from_pairs, one_more}
+
+-- the facts where nothing is said
+
+pub record ShapeFits (shape : Shape) (cells : List Cell) : Type 0 where
+  pub places : PlacesFit shape cells
+  pub whole : shape.kind ≡ Handler → shape.plain ≡ false
+  pub ranges : All (λ c. RangeFits 255 c.range) cells
+
+own_each : (f : FactForms) (r n : ℕ) → f.old ≡ true → r + n ≤ 32 → Each (λ r x. FactIn f x) (count_from r n)
+    (map (usual_fact Handler) (count_from r n))
+own_each f r zero o h = tt
+own_each f r (suc n) o h = ((o, omega arith), own_each f (suc r) n o (omega arith))
+
+first_regs : (shape : Shape) (kind : Kind) → shape.kind ≡ kind → (kind ≡ Handler → shape.plain ≡ false)
+    → Each (λ r x. FactIn (bytes_forms shape) x) registers (map (usual_fact kind) registers)
+first_regs shape Main e w = each_map (λ r x. FactIn (bytes_forms shape) x) (usual_fact Main) registers (λ r. (refl, lit< tt))
+first_regs shape Handler e w =
+    own_each (bytes_forms shape) 0 32 (ap (λ (k : Kind). is_handler k && not shape.plain) e ∙ ap not (w refl)) (lit≤ tt)
+first_regs shape Alone e w = each_map (λ r x. FactIn (bytes_forms shape) x) (usual_fact Alone) registers (λ r. (refl, lit< tt))
+
+first_bit : (kind : Kind) → BitIn (is_handler kind) (default_flag kind)
+first_bit Main = tt
+first_bit Handler = refl
+first_bit Alone = tt
+
+form_in : (plain : Bool) (range : Ends) → RangeFits 255 range → (whole : Bool) → (eqb range.lo 0 && eqb range.hi 255) ≡ whole
+    → FactIn (cond {A = FactForms} plain (record { low = range.lo; limit = range.hi + 1; top = 255; sloped = false; old = false })
+    (record { low = 0; limit = 256; top = 255; sloped = true; old = false })) (cond whole Any (Between range))
+form_in true range h true e =
+    let two = and_true (eqb range.lo 0) (eqb range.hi 255) e in
+    (number_is range.lo 0 two.0, omega (arith, number_is range.hi 255 two.1))
+form_in true range h false e = (part_from range h e, omega arith, omega arith)
+form_in false range h true e = (refl, lit< tt)
+form_in false range h false e = (part_from range h e, omega arith, omega (arith, h.high))
+
+first_cells : (shape : Shape) (kind : Kind) (i : ℕ) (cs : List Cell) → All (λ c. RangeFits 255 c.range) cs
+    → Each (λ p x. FactIn (cell_form shape p.1) x) (numbered_cells kind i cs) (map usual_cell (numbered_cells kind i cs))
+first_cells shape kind i [] h = tt
+first_cells shape kind i (c ∷ cs) h = by_own (tracks kind c.owner)
+    (first_cells shape kind (suc i) cs (All-tail (λ c. RangeFits 255 c.range) c cs h))
+  where
+    by_own : (t : Bool) → Each (λ p x. FactIn (cell_form shape p.1) x) (numbered_cells kind (suc i) cs)
+        (map usual_cell (numbered_cells kind (suc i) cs))
+        → Each (λ p x. FactIn (cell_form shape p.1) x) (cond t ((i, c) ∷ numbered_cells kind (suc i) cs) (numbered_cells kind (suc i) cs))
+        (map usual_cell (cond t ((i, c) ∷ numbered_cells kind (suc i) cs) (numbered_cells kind (suc i) cs)))
+    by_own true later = (
+      form_in shape.plain c.range (All-head (λ c. RangeFits 255 c.range) c cs h) (eqb c.range.lo 0 && eqb c.range.hi 255)
+          refl,
+      later,
+    )
+    by_own false later = later
+
+pub first_regular : (shape : Shape) (cells : List Cell) → ShapeFits shape cells → Regular shape cells (first_facts shape.kind cells)
+unfolding first_facts
+first_regular shape cells h =
+    let rs = registers_usual shape.kind in
+    let cs = cells_usual shape.kind 0 cells in
+    record {
+      few = lit≤ tt;
+      regs = subst (λ (x : List Fact). Each (λ r x. FactIn (bytes_forms shape) x) registers x) (sym rs)
+          (first_regs shape shape.kind refl h.whole);
+      regs_left = rs;
+      pairs = ((refl, lit< tt), ((refl, lit< tt), ((refl, lit< tt), tt)));
+      pairs_left = refl;
+      flags = each_map (λ l x. BitIn (is_handler shape.kind) x) (usual_bit shape.kind) letters_of_flags (λ l. first_bit shape.kind);
+      flags_left = refl;
+      slots = omega arith;
+      stack = All-nil (FactIn (bytes_forms shape));
+      stack_left = λ l. refl;
+      tracked_cells = subst (λ (x : List Fact). Each (λ p x. FactIn (cell_form shape p.1) x) (numbered_cells shape.kind 0 cells) x) (sym cs)
+          (first_cells shape shape.kind 0 cells h.ranges);
+      cells_left = ap (λ (x : List Fact). drop (tracked_count shape.kind (take 0 cells)) x) cs;
+      top = refl;
+      top_left = λ l. refl;
+      temp = record { order = lit≤ tt; high = lit≤ tt };
+      temp_left = λ l. refl;
+      next_few = lit≤ tt;
+      next_there = All-nil (λ id. id < shape.points);
+      next_rise = refl;
+      next_after = refl;
+      next_left = λ l. refl;
+      plain_pairs = λ p. refl;
+      plain_next = λ p. refl;
+      untimed = λ u. (refl, refl);
+    }
+
+none_append : (xs ys : List (List ℕ)) → xs ≡ [] → ys ≡ [] → xs ++ ys ≡ []
+none_append xs ys e f = ap (λ t. t ++ ys) e ∙ f
+
+first_regs_nothing : (kind : Kind) → register_items kind 0 (default_regs kind) ≡ []
+first_regs_nothing kind =
+    ap (register_items kind 0) (registers_usual kind)
+    ∙ registers_are kind 0 32 (map (usual_fact kind) registers) (length-map registers (usual_fact kind))
+    ∙ no_options (is_default kind) register_word registers (map (usual_fact kind) registers)
+    (each_map (IsUsual (is_default kind)) (usual_fact kind) registers (register_default kind))
+
+pub first_nothing : (shape : Shape) (cells : List Cell) → ShapeFits shape cells → spelled shape.kind cells (first_facts shape.kind cells)
+    ≡ []
+unfolding first_facts
+first_nothing shape cells h =
+    none_append (register_items shape.kind 0 (default_regs shape.kind)) _ (first_regs_nothing shape.kind)
+    (from_pairs shape cells (first_facts shape.kind cells) (first_regular shape cells h) (lit≤ tt))
+
+-- Z as a pair
+
+-- one of the flags C and Z is said
+abbrev pub IsMeant : Kind → List Bit → Type 0
+IsMeant kind flags = is_carry_and_zero_default kind flags ≡ false
+
+-- a pair Z of exactly 0 or 1 goes with a flag C or Z, or with a word for one that comes
+abbrev pub ZFollows : Kind → Facts → List (List ℕ) → Type 0
+ZFollows kind f list = is_zero_or_one (get_or f.pairs 2 AnyPair) ≡ true → IsMeant kind f.flags ⊎ ((any_names list ≡ true) × (35 ≤ f.least))
+
+zero_or_one_word : (f : PairFact) → is_zero_or_one f ≡ true → (pair_word f ≡ codes "0") ⊎ (pair_word f ≡ codes "1")
+zero_or_one_word AnyPair e = absurd cc
+zero_or_one_word (LinePair a b) e = absurd cc
+zero_or_one_word (LoopPair a b) e = absurd cc
+zero_or_one_word (BetweenPair x) e =
+    let two = and_true (eqb x.lo x.hi) (ltb x.hi 2) e in
+    by_value x.lo x.hi (number_is x.lo x.hi two.0) (lt_is x.hi 2 two.1)
+  where
+    by_value : (lo hi : ℕ) → lo ≡ hi → hi < 2
+        → (cond (eqb lo 0 && eqb hi 65535) (codes "*") (cond (eqb lo hi) (decimal lo) (decimal lo ++ codes ".." ++ decimal hi)) ≡ codes "0")
+        ⊎ (cond (eqb lo 0 && eqb hi 65535) (codes "*") (cond (eqb lo hi) (decimal lo) (decimal lo ++ codes ".." ++ decimal hi)) ≡ codes "1")
+    by_value zero zero s l = inl (decimal_digit 0 (lit< tt))
+    by_value zero (suc hi) s l = absurd (omega arith)
+    by_value (suc lo) zero s l = absurd (omega arith)
+    by_value (suc zero) (suc zero) s l = inr (decimal_digit 1 (lit< tt))
+    by_value (suc zero) (suc (suc hi)) s l = absurd (omega arith)
+    by_value (suc (suc lo)) (suc hi) s l = absurd (omega arith)
+
+-- where Z is read as a pair that is exactly 0 or 1, a word for C or Z comes
+z_pair_names : (shape : Shape) (f : Facts) (x : PairFact) (later : List (List ℕ)) → is_zero_or_one x ≡ true
+    → is_flag_z shape f (pair_word x) later ≡ false → any_names later ≡ true
+z_pair_names shape f x later z e =
+    let first = or_false (shape.plain || ltb 35 f.least) ((bytes_eq (pair_word x) (codes "?") || bytes_eq (pair_word x) (codes "o"))
+    || ((bytes_eq (pair_word x) (codes "0") || bytes_eq (pair_word x) (codes "1")) && not (any_names later))) e in
+    let second = or_false (bytes_eq (pair_word x) (codes "?") || bytes_eq (pair_word x) (codes "o"))
+    ((bytes_eq (pair_word x) (codes "0") || bytes_eq (pair_word x) (codes "1")) && not (any_names later)) first.1 in
+    not_not (any_names later) (sym (ap (λ b. b && not (any_names later)) (says (zero_or_one_word x z))) ∙ second.1)
+  where
+    not_not : (b : Bool) → not b ≡ false → b ≡ true
+    not_not true e = refl
+    not_not false e = absurd cc
+
+    says : (pair_word x ≡ codes "0") ⊎ (pair_word x ≡ codes "1") → (bytes_eq (pair_word x) (codes "0") || bytes_eq (pair_word x)
+        (codes "1")) ≡ true
+    says d = elim d [
+      | inl e ↦ ap (λ w. bytes_eq w (codes "0") || bytes_eq w (codes "1")) e
+      | inr e ↦ ap (λ w. bytes_eq w (codes "0") || bytes_eq w (codes "1")) e
+    ]
+
+-- flags that are set
+
+one_meant : (a b : Bool) → (a ≡ false) ⊎ (b ≡ false) → (a && b) ≡ false
+one_meant true b d = elim d [ inl e ↦ absurd (true_not true refl e) | inr e ↦ e ]
+one_meant false b d = refl
+
+flag_meant : (kind : Kind) (flags : List Bit) (b : ℕ) (x : Bit) → 2 ≤ length flags → is_default_flag kind x ≡ false
+    → ((b < 2) ⊎ IsMeant kind flags) → IsMeant kind (slice_set flags b x)
+flag_meant kind [] b x l n d = absurd (omega arith)
+flag_meant kind (c ∷ []) b x l n d = absurd (omega arith)
+flag_meant kind (c ∷ z ∷ rest) zero x l n d = one_meant (is_default_flag kind x) (is_default_flag kind z) (inl n)
+flag_meant kind (c ∷ z ∷ rest) (suc zero) x l n d = one_meant (is_default_flag kind c) (is_default_flag kind x) (inr n)
+flag_meant kind (c ∷ z ∷ rest) (suc (suc b)) x l n d = elim d [ inl h ↦ absurd (past b h) | inr h ↦ h ]
+  where
+    past : (b : ℕ) → suc (suc b) < 2 → ⊥
+    past b h = omega arith
+
+pair_other : (pairs : List PairFact) (k : ℕ) (x : PairFact) → k < 2 → get_or (slice_set pairs k x) 2 AnyPair ≡ get_or pairs 2 AnyPair
+pair_other [] k x h = refl
+pair_other (a ∷ rest) zero x h = refl
+pair_other (a ∷ []) (suc zero) x h = refl
+pair_other (a ∷ b ∷ bs) (suc zero) x h = refl
+pair_other (a ∷ rest) (suc (suc k)) x h = absurd (past k h)
+  where
+    past : (k : ℕ) → suc (suc k) < 2 → ⊥
+    past k h = omega arith
+
+pair_third : (pairs : List PairFact) (x : PairFact) → 3 ≤ length pairs → get_or (slice_set pairs 2 x) 2 AnyPair ≡ x
+pair_third [] x h = absurd (omega arith)
+pair_third (a ∷ []) x h = absurd (omega arith)
+pair_third (a ∷ b ∷ []) x h = absurd (omega arith)
+pair_third (a ∷ b ∷ c ∷ rest) x h = refl
+
+-- words that aren't of C or Z
+
+pub names_letter : (c : ℕ) (value : List ℕ) → (eqb c 99 || eqb c 122) ≡ false → names_c_or_z (c ∷ value) ≡ false
+names_letter c [] e = refl
+names_letter c (d ∷ cs) e = ap (λ b. b && eqb d 61) e
+
+names_later : (w : List ℕ) (ws : List (List ℕ)) → names_c_or_z w ≡ false → any_names (w ∷ ws) ≡ true → any_names ws ≡ true
+names_later w ws e h = sym (ap (λ b. b || any_names ws) e) ∙ h
+
+module _ (shape : Shape) (cells : List Cell) (f : Facts) (h : Regular shape cells f) where
+  flag_other_name : (b : ℕ) (x : Bit) (w : List ℕ) → w ≡ flag_letter b ∷ 61 ∷ flag_word x → 2 ≤ b → b < 7 → names_c_or_z w ≡ false
+  flag_other_name zero x w e l s = absurd (omega arith)
+  flag_other_name (suc zero) x w e l s = absurd (omega arith)
+  flag_other_name (suc (suc zero)) x w e l s = ap names_c_or_z e
+  flag_other_name (suc (suc (suc zero))) x w e l s = ap names_c_or_z e
+  flag_other_name (suc (suc (suc (suc zero)))) x w e l s = ap names_c_or_z e
+  flag_other_name (suc (suc (suc (suc (suc zero))))) x w e l s = ap names_c_or_z e
+  flag_other_name (suc (suc (suc (suc (suc (suc zero)))))) x w e l s = ap names_c_or_z e
+  flag_other_name (suc (suc (suc (suc (suc (suc (suc b))))))) x w e l s = absurd (past b s)
+    where
+      past : (b : ℕ) → suc (suc (suc (suc (suc (suc (suc b)))))) < 7 → ⊥
+      past b h = omega arith
+
+  -- an item that comes before the flags: Z isn't said yet, or its flags are
+  early : (w : List ℕ) (ws : List (List ℕ)) (pairs : List PairFact) (least : ℕ) → f.least < 35 → get_or pairs 2 AnyPair ≡ get_or f.pairs 2
+      AnyPair
+      → ZFollows shape.kind f (w ∷ ws) → is_zero_or_one (get_or pairs 2 AnyPair) ≡ true → IsMeant shape.kind f.flags
+      ⊎ ((any_names ws ≡ true) × (35 ≤ least))
+  early w ws pairs least l same z one =
+      elim (z (sym (ap is_zero_or_one same) ∙ one)) [ inl m ↦ inl m | inr m ↦ absurd (omega (arith, m.1)) ]
+
+  -- one that comes after them and isn't of C or Z
+  late : (w : List ℕ) (ws : List (List ℕ)) (least : ℕ) → f.least ≤ least → names_c_or_z w ≡ false
+      → ZFollows shape.kind f (w ∷ ws) → is_zero_or_one (get_or f.pairs 2 AnyPair) ≡ true → IsMeant shape.kind f.flags
+      ⊎ ((any_names ws ≡ true) × (35 ≤ least))
+  late w ws least l other z one =
+      elim (z one) [ inl m ↦ inl m | inr m ↦ inr (names_later w ws other m.0, omega (arith, m.1)) ]
+
+  z_pair : (k : ℕ) (x : PairFact) (w : List ℕ) (ws : List (List ℕ)) → TakesPair shape f w ws k x → ZFollows shape.kind f (w ∷ ws)
+      → ZFollows shape.kind (with_pair f k x) ws
+  z_pair k x w ws t z one = by_place (decide k t.there)
+    where
+      three : 3 ≤ length f.pairs
+      three = omega (arith, each_length (λ l x. PairIn pair_forms x) letters_of_pairs f.pairs h.pairs)
+
+      decide : (k : ℕ) → k < 3 → (k < 2) ⊎ (k ≡ 2)
+      decide zero l = inl (lit< tt)
+      decide (suc zero) l = inl (lit< tt)
+      decide (suc (suc zero)) l = inr refl
+      decide (suc (suc (suc k))) l = absurd (omega arith)
+
+      by_place : (k < 2) ⊎ (k ≡ 2) → IsMeant shape.kind f.flags ⊎ ((any_names ws ≡ true) × (35 ≤ 33 + k))
+      by_place d = elim d [
+        | inl l ↦ early w ws (slice_set f.pairs k x) (33 + k) (omega (arith, t.order)) (pair_other f.pairs k x l) z one
+        | inr e ↦ inr (
+          z_pair_names shape f x ws
+              (sym (ap is_zero_or_one (ap (λ n. get_or (slice_set f.pairs n x) 2 AnyPair) e ∙ pair_third f.pairs x three)) ∙ one)
+              (t.meant e),
+          omega (arith, e),
+        )
+      ]
+
+  z_flag : (b : ℕ) (x : Bit) (w : List ℕ) (ws : List (List ℕ)) → TakesFlag shape f w ws b x → ZFollows shape.kind f (w ∷ ws)
+      → ZFollows shape.kind (with_flag f b x) ws
+  z_flag b x w ws t z one = by_place (decide b)
+    where
+      two : 2 ≤ length f.flags
+      two = omega (arith, each_length (λ l x. BitIn (is_handler shape.kind) x) letters_of_flags f.flags h.flags)
+
+      decide : (b : ℕ) → (b < 2) ⊎ (2 ≤ b)
+      decide zero = inl (lit< tt)
+      decide (suc zero) = inl (lit< tt)
+      decide (suc (suc b)) = inr (omega arith)
+
+      by_place : (b < 2) ⊎ (2 ≤ b) → IsMeant shape.kind (slice_set f.flags b x) ⊎ ((any_names ws ≡ true) × (35 ≤ 36 + b))
+      by_place d = elim d [
+        | inl l ↦ inl (flag_meant shape.kind f.flags b x two t.other (inl l))
+        | inr l ↦ elim (z one) [
+          | inl m ↦ inl (flag_meant shape.kind f.flags b x two t.other (inr m))
+          | inr m ↦ inr (names_later w ws (flag_other_name b x w t.word l t.there) m.0, omega arith)
+        ]
+      ]
+
+  z_follows : (w : List ℕ) (ws : List (List ℕ)) (more : Facts) → Taken shape cells f w ws more → ZFollows shape.kind f (w ∷ ws)
+      → ZFollows shape.kind more ws
+  z_follows w ws more (register r x t e) z =
+      let order : f.least ≤ r = t.order in
+      let there : r < 32 = t.there in
+      subst (λ (a : Facts). ZFollows shape.kind a ws) (sym e) (early w ws f.pairs (r + 1) (omega arith) refl z)
+  z_follows w ws more (pair k x t e) z = subst (λ (a : Facts). ZFollows shape.kind a ws) (sym e) (z_pair k x w ws t z)
+  z_follows w ws more (flag b x t e) z = subst (λ (a : Facts). ZFollows shape.kind a ws) (sym e) (z_flag b x w ws t z)
+  z_follows w ws more (slot x t e) z =
+      subst (λ (a : Facts). ZFollows shape.kind a ws) (sym e)
+      (late w ws 42 t.order (ap names_c_or_z t.word ∙ names_letter 115 (58 ∷ fact_word x) refl) z)
+  z_follows w ws more (cell i c x t e) z =
+      subst (λ (a : Facts). ZFollows shape.kind a ws) (sym e)
+      (late w ws (44 + i) (omega (arith, t.order)) (ap names_c_or_z t.word ∙ names_letter 109 (decimal i ++ 61 ∷ fact_word x) refl) z)
+  z_follows w ws more (timer_top top t e) z =
+      subst (λ (a : Facts). ZFollows shape.kind a ws) (sym e)
+      (late w ws 60 (omega (arith, t.order)) (ap names_c_or_z t.word ∙ names_letter 116 (111 ∷ 112 ∷ 61 ∷ decimal top) refl) z)
+  z_follows w ws more (timer_temp temp t e) z =
+      subst (λ (a : Facts). ZFollows shape.kind a ws) (sym e)
+      (late w ws 61 (omega (arith, t.order)) (ap names_c_or_z t.word ∙ names_letter 116 (101 ∷ 109 ∷ 112 ∷ 61 ∷ range_word temp) refl) z)
+  z_follows w ws more (successor id t e) z =
+      subst (λ (a : Facts). ZFollows shape.kind a ws) (sym e)
+      (late w ws 61 h.few (ap names_c_or_z t.word ∙ names_letter 62 (decimal id) refl) z)
+
+-- all items
+
+pub record ItemsSpelled (shape : Shape) (cells : List Cell) (ended : Bool) (list : List (List ℕ)) (said : Facts) : Type 0 where
+  pub end : ended ≡ true
+  pub words : list ≡ spelled shape.kind cells said
+  pub regular : Regular shape cells said
+  pub meant : is_zero_or_one (get_or said.pairs 2 AnyPair) ≡ true → IsMeant shape.kind said.flags
+
+record Rest (shape : Shape) (cells : List Cell) (ended : Bool) (f : Facts) (list : List (List ℕ)) (said : Facts) : Type 0 where
+  end : ended ≡ true
+  words : spelled shape.kind cells said ≡ spelled shape.kind cells f ++ list
+  regular : Regular shape cells said
+  meant : is_zero_or_one (get_or said.pairs 2 AnyPair) ≡ true → IsMeant shape.kind said.flags
+
+all_read : (shape : Shape) (cells : List Cell) (ended : Bool) (f : Facts) (list : List (List ℕ)) (said : Facts) → PlacesFit shape cells
+    → Regular shape cells f → ZFollows shape.kind f list → items_from shape cells ended f list ≡ Ok said → Rest shape cells ended f list
+    said
+all_read shape cells true f [] said p h z e =
+    subst (λ (a : Facts). Rest shape cells true f [] a) (fine_is f said e)
+    (record {
+      end = refl;
+      words = sym (append-nil (spelled shape.kind cells f));
+      regular = h;
+      meant = λ one. elim (z one) [ inl m ↦ m | inr m ↦ absurd (true_not false m.0 refl) ];
+    })
+all_read shape cells false f [] said p h z e = absurd (fault_not why.NoEnd said e)
+all_read shape cells ended f (w ∷ ws) said p h z e =
+    let m = bind_ok (take_item shape cells f w ws) (λ more. items_from shape cells ended more ws) said e in
+    let taken = item_taken shape cells f w ws m.0 p m.1 in
+    let one = one_more shape cells f h w ws m.0 p.few taken in
+    let rest = all_read shape cells ended m.0 ws said p one.0 (z_follows shape cells f h w ws m.0 taken z) m.2 in
+    record {
+      end = rest.end;
+      words = rest.words ∙ ap (λ ws'. ws' ++ ws) one.1 ∙ append_assoc (spelled shape.kind cells f) (w ∷ []) ws;
+      regular = rest.regular;
+      meant = rest.meant;
+    }
+
+pub items_only : (shape : Shape) (cells : List Cell) (words : Words) (said : Facts) → ShapeFits shape cells
+    → read_items shape cells words ≡ Ok said → ItemsSpelled shape cells words.ended words.list said
+unfolding read_items first_facts
+items_only shape cells words said h e =
+    let start = first_facts shape.kind cells in
+    let rest = all_read shape cells words.ended start words.list said h.places (first_regular shape cells h)
+    (λ one. absurd (true_not false one refl)) e in
+    record {
+      end = rest.end;
+      words = sym (rest.words ∙ ap (λ ws. ws ++ words.list) (first_nothing shape cells h));
+      regular = rest.regular;
+      meant = rest.meant;
+    }

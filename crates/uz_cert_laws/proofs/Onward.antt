@@ -1,0 +1,630 @@
+-- A certificate's text is read as it: section by section, from the last line to the first.
+use Rattle.std.proofs.Common.{◌≡◌, ◌≢◌, ℕ, suc, ◌+◌, ◌-◌, ◌<◌, ◌≤◌, Bool, true, false, ◌&&◌, eqb}
+use Rattle.std.proofs.Common.{List, [], ◌∷◌, ◌++◌, length, map, replicate}
+use Rattle.std.proofs.Common.{All, codes, decimal, leb, ltb, zero-add, refl, sym, ◌∙◌, ap}
+use Rattle.std.proofs.Common.{subst, append_assoc, append-nil, arith, length-append}
+use Rattle.std.specs.Prelude.{Some, None, Result, Ok, ⊤, sum_by}
+use Rattle.std.proofs.lemmas.Bool.{leb-true}
+use Rattle.std.proofs.lemmas.Bool.Decides.{nat_tests}
+use Rattle.std.proofs.lemmas.List.{length-replicate}
+use Rattle.std.proofs.lemmas.List.Elements.{All-head, All-tail, All-weaker}
+use Rattle.std.proofs.lemmas.List.Sums.{sum_by-cons}
+use Rattle.uz_schedule.specs.Schedule.{response_clocks, scanline}
+use Rattle.uz_schedule.specs.Limits.{clock_limit, rises_from, is_length, clocks_below, lengths_fit, EventFits, EventsFit}
+use Rattle.uz_schedule.specs.WellFormed.{CellFits, RestFits, EntryFits, PointFits, instances_of}
+use Rattle.uz_schedule.specs.declared.header.Cell.{Cell}
+use Rattle.uz_schedule.specs.declared.header.Head.{Head}
+use Rattle.uz_schedule.specs.declared.lines.Event.{Event}
+use Rattle.uz_schedule.specs.declared.states.Rest.{Rest}
+use Rattle.uz_schedule.specs.declared.states.Entry.{Entry}
+use Rattle.uz_schedule.specs.declared.states.Point.{Point}
+use Rattle.uz_schedule.specs.declared.certificate.Cert.{Cert}
+use Rattle.uz_cert_writer.specs.Spelling.{line_of, cell_words, kind_words, event_words, run_words, rest_words}
+use Rattle.uz_cert_writer.specs.Spelling.{entry_words, point_words, kinds_then}
+use Rattle.uz_cert_writer.specs.Spelling.{last_lines}
+use Rattle.uz_cert_words.specs.Why.{◌>>=◌}
+use Rattle.uz_cert_lines.specs.Forms.{reads}
+use Rattle.uz_cert_lines.specs.Lines.{IsLengthIn, IsPointIn}
+use Rattle.uz_cert_lines.specs.declared.lines.KindLine.{KindLine}
+use Rattle.uz_cert_lines.specs.declared.lines.Said.{Said}
+use Rattle.uz_cert_lines.specs.declared.version.Version.{Version}
+use Rattle.uz_cert_lines.specs.declared.lines.Said.TheVariants as said
+use Rattle.uz_cert.specs.Drafts.{due_of, form_of, draft_after}
+use Rattle.uz_cert.specs.Kept.{Kept, SaidFits}
+use Rattle.uz_cert.specs.Reading.{Fault, is_more, words_in, line_says, or_fault, cert_from, cert_with, cert_before, read_by, read_from}
+use Rattle.uz_cert.specs.declared.due.Due.{Due}
+use Rattle.uz_cert.specs.declared.due.Due.TheVariants as due
+use Rattle.uz_cert.specs.declared.draft.Draft.{Draft}
+use Rattle.uz_cert.proofs.KeptLaws.{kept_after}
+use Rattle.uz_cert_laws.proofs.Due.{PastCells, PastKinds, PastFall, PastRuns, PastRests, PastEntry, PastPoints}
+use Rattle.uz_cert_laws.proofs.Due.{due_cell, due_event, due_kind, due_fall, due_run, due_rest, due_entry, due_point, due_end, due_none}
+
+-- the line that says this
+abbrev pub spelled : Version → Head → Said → List ℕ
+spelled v h (said.Size s) = line_of (codes "size" ∷ decimal s.kinds ∷ decimal s.lines ∷ decimal s.rests ∷ decimal s.points ∷ decimal
+    s.cells ∷ [])
+spelled v h (said.Irq r) = line_of (codes "irq" ∷ decimal (response_clocks r) ∷ [])
+spelled v h (said.Stack s) = line_of (codes "stack" ∷ decimal s.lo ∷ decimal s.hi ∷ decimal s.main ∷ decimal s.handler ∷ [])
+spelled v h (said.Cell c) = line_of (cell_words c)
+spelled v h (said.Kind k) = line_of (kind_words v k.events k.clocks)
+spelled v h (said.Event e) = line_of (event_words e)
+spelled v h (said.Fall k) = line_of (codes "fall" ∷ decimal k ∷ [])
+spelled v h (said.Run r) = line_of (run_words (r.count, r.kind))
+spelled v h (said.Rest r) = line_of (rest_words r)
+spelled v h (said.Entry e) = line_of (entry_words h.cells.items e)
+spelled v h (said.Point p) = line_of (point_words h.cells.items p)
+spelled v h said.End = codes "end"
+
+abbrev pub due_as : Said → Due
+due_as (said.Size s) = due.Size
+due_as (said.Irq r) = due.Irq
+due_as (said.Stack s) = due.Stack
+due_as (said.Cell c) = due.Cell
+due_as (said.Kind n) = due.Kind
+due_as (said.Event e) = due.Event
+due_as (said.Fall k) = due.Fall
+due_as (said.Run r) = due.Run
+due_as (said.Rest r) = due.Rest
+due_as (said.Entry e) = due.Entry
+due_as (said.Point p) = due.Point
+due_as said.End = due.End
+
+-- what else a line keeps: a run has a line, and isn't of the kind of the run before; the fall isn't at clock 0
+abbrev pub Keeps : Draft → Said → Type 0
+Keeps d (said.Size s) = ⊤
+Keeps d (said.Irq r) = ⊤
+Keeps d (said.Stack s) = ⊤
+Keeps d (said.Cell c) = ⊤
+Keeps d (said.Kind n) = ⊤
+Keeps d (said.Event e) = ⊤
+Keeps d (said.Fall k) = 1 ≤ k
+Keeps d (said.Run r) = (1 ≤ r.count) × (r.kind ≢ d.run_kind)
+Keeps d (said.Rest r) = ⊤
+Keeps d (said.Entry e) = ⊤
+Keeps d (said.Point p) = ⊤
+Keeps d said.End = ⊤
+
+-- what is known of one line
+pub record LineSpelling : Type 0 where
+  pub again : (d : Draft) (s : Said) → Kept d → due_of d ≡ Some (due_as s) → SaidFits d s → Keeps d s
+      → reads (form_of d (due_as s)) (words_in (spelled d.version d.head s) true) ≡ Ok s
+  pub only : (d : Draft) (due : Due) (line : List ℕ) (s : Said) → Kept d → due_of d ≡ Some due → reads (form_of d due) (words_in line true)
+      ≡ Ok s
+      → (line ≡ spelled d.version d.head s) × (due ≡ due_as s) × Keeps d s
+
+abbrev pub told : Cert → Result Cert Fault
+told c = Ok c
+
+and_true : (a b : Bool) → (a && b) ≡ true → (a ≡ true) × (b ≡ true)
+and_true true b e = (refl, e)
+and_true false b e = absurd cc
+
+-- one line more
+
+says : (d : Draft) (due : Due) (line : List ℕ) (s : Said) → reads (form_of d due) (words_in line true) ≡ Ok s → line_says d due line
+    true ≡ Ok (draft_after d s)
+unfolding line_says
+says d due line s e = ap (λ m. m >>= (λ x. Ok (draft_after d x))) e
+
+pub step : (l : LineSpelling) (d : Draft) (s : Said) (rest : List (List ℕ)) → Kept d → due_of d ≡ Some (due_as s) → SaidFits d s → Keeps d s
+    → is_more rest ≡ true → read_from d (spelled d.version d.head s ∷ rest) ≡ read_from (draft_after d s) rest
+step l d s rest k is fits keeps more =
+    ap (λ o. read_by o d (spelled d.version d.head s) rest (λ x. read_from x rest)) is
+    ∙ ap (λ r. or_fault (d.read + 1) r (λ x. read_from x rest))
+    (ap (line_says d (due_as s) (spelled d.version d.head s)) more
+    ∙ says d (due_as s) (spelled d.version d.head s) s (l.again d s k is fits keeps))
+
+more_after : (lines : List (List ℕ)) (piece : List ℕ) (rest : List (List ℕ)) → is_more (lines ++ piece ∷ rest) ≡ true
+more_after [] piece rest = refl
+more_after (line ∷ lines) piece rest = refl
+
+-- the end
+
+whole_again : (d : Draft) (e : Entry) → due_of d ≡ None → d.entry ≡ Some e → read_from d ([] ∷ []) ≡ told (cert_from d e)
+unfolding cert_before
+whole_again d e due is = ap (λ o. read_by o d [] [] (λ more. read_from more [])) due ∙ ap (cert_with d) is
+
+after_end : (d : Draft) (e : Entry) → 4 ≤ d.read → PastPoints d e → (due_of (draft_after d said.End) ≡ None)
+    × ((draft_after d said.End).entry ≡ Some e)
+unfolding draft_after
+after_end d e b p = (due_none (record d { read = d.read + 1; ended = true }) e (omega (arith, b)) p refl, p.0.1)
+
+same_end : (d : Draft) (e : Entry) → told (cert_from (draft_after d said.End) e) ≡ told (cert_from d e)
+unfolding draft_after
+same_end d e = refl
+
+pub end_again : (l : LineSpelling) (d : Draft) (e : Entry) → Kept d → 4 ≤ d.read → PastPoints d e → d.ended ≡ false
+    → read_from d last_lines ≡ told (cert_from d e)
+end_again l d e k b p open_end =
+    let a = after_end d e b p in
+    step l d said.End ([] ∷ []) k (due_end d e b p open_end) b tt refl
+    ∙ (whole_again (draft_after d said.End) e a.0 a.1 ∙ same_end d e)
+
+-- points
+
+abbrev pub point_lines : List Cell → List Point → List (List ℕ)
+point_lines cells ps = map (λ p. line_of (point_words cells p)) ps ++ last_lines
+
+points_more : (cells : List Cell) (ps : List Point) → is_more (point_lines cells ps) ≡ true
+points_more cells [] = refl
+points_more cells (p ∷ ps) = refl
+
+abbrev with_point : Draft → Point → Draft
+with_point d p = record d { read = d.read + 1; points = d.points ++ p ∷ []; left = d.left - instances_of p }
+
+point_next : (d : Draft) (p : Point) → draft_after d (said.Point p) ≡ with_point d p
+unfolding draft_after
+point_next d p = refl
+
+pub points_again : (l : LineSpelling) (d : Draft) (e : Entry) (ps : List Point) → Kept d → 4 ≤ d.read → PastEntry d e → d.ended ≡ false
+    → length d.points + length ps ≡ d.sizes.points → All (PointFits d.head d.sizes.lines d.sizes.points) ps → All (IsPointIn d.version) ps
+    → sum_by instances_of ps ≤ d.left
+    → read_from d (point_lines d.head.cells.items ps) ≡ told (cert_from (record d { points = d.points ++ ps }) e)
+points_again l d e [] k b p o count fits own sum =
+    end_again l d e k b (p, omega (arith, count)) o ∙ ap (λ ps. told (cert_from (record d { points = ps }) e)) (sym (append-nil d.points))
+points_again l d e (x ∷ xs) k b p o count fits own sum =
+    let cells : d.sizes.cells ≡ length d.head.cells.items = p.0.0.0.0.0 in
+    let room : length d.points < d.sizes.points = omega (arith, count) in
+    let split = sum_by-cons instances_of x xs in
+    let fit : SaidFits d (said.Point x) = record {
+      after = record { body = b; cells = omega (arith, cells) };
+      room = room;
+      fits = All-head (PointFits d.head d.sizes.lines d.sizes.points) x xs fits;
+      own = All-head (IsPointIn d.version) x xs own;
+      instances = omega (arith, sum, split);
+    } in
+    let next = with_point d x in
+    let kept : Kept next = subst Kept (point_next d x) (kept_after d (said.Point x) k fit) in
+    step l d (said.Point x) (point_lines d.head.cells.items xs) k (due_point d e b p room) fit tt (points_more d.head.cells.items xs)
+    ∙ (ap (λ y. read_from y (point_lines d.head.cells.items xs)) (point_next d x)
+    ∙ (points_again l next e xs kept (omega (arith, b)) p o (simp length-append (omega (arith, count)))
+    (All-tail (PointFits d.head d.sizes.lines d.sizes.points) x xs fits) (All-tail (IsPointIn d.version) x xs own) (less_sum (instances_of x) (sum_by instances_of xs)
+    (sum_by instances_of (x ∷ xs)) d.left split sum)
+    ∙ ap (λ ps. told (cert_from (record d { points = ps }) e)) (append_assoc d.points (x ∷ []) xs)))
+  where
+    less_sum : (n rest all left : ℕ) → all ≡ n + rest → all ≤ left → rest ≤ left - n
+    less_sum n rest all left h g = omega (arith, h, g)
+
+-- the entry
+
+abbrev with_entry : Draft → Entry → Draft
+with_entry d e = record d { read = d.read + 1; entry = Some e }
+
+entry_next : (d : Draft) (e : Entry) → draft_after d (said.Entry e) ≡ with_entry d e
+unfolding draft_after
+entry_next d e = refl
+
+abbrev pub entry_lines : List Cell → Entry → List Point → List (List ℕ)
+entry_lines cells e ps = line_of (entry_words cells e) ∷ point_lines cells ps
+
+pub entry_again : (l : LineSpelling) (d : Draft) (e : Entry) (ps : List Point) → Kept d → 4 ≤ d.read → PastRests d → d.entry ≡ None
+    → d.points ≡ [] → d.ended ≡ false
+    → length ps ≡ d.sizes.points → EntryFits d.head d.sizes.lines d.sizes.points e
+    → All (PointFits d.head d.sizes.lines d.sizes.points) ps → All (IsPointIn d.version) ps → sum_by instances_of ps ≤ d.left
+    → read_from d (entry_lines d.head.cells.items e ps) ≡ told (cert_from (record d { points = ps }) e)
+entry_again l d e ps k b p none no_points o count entry fits own sum =
+    let cells : d.sizes.cells ≡ length d.head.cells.items = p.0.0.0.0 in
+    let fit : SaidFits d (said.Entry e) = record { after = record { body = b; cells = omega (arith, cells) }; fits = entry } in
+    let next = with_entry d e in
+    let kept : Kept next = subst Kept (entry_next d e) (kept_after d (said.Entry e) k fit) in
+    step l d (said.Entry e) (point_lines d.head.cells.items ps) k (due_entry d b p none) fit tt (points_more d.head.cells.items ps)
+    ∙ (ap (λ y. read_from y (point_lines d.head.cells.items ps)) (entry_next d e)
+    ∙ (points_again l next e ps kept (omega (arith, b)) (p, refl) o (ap (λ xs. length xs + length ps) no_points
+    ∙ (zero-add (length ps) ∙ count)) fits own sum
+    ∙ ap (λ xs. told (cert_from (record d { points = xs ++ ps }) e)) no_points))
+
+-- rests
+
+abbrev with_rest : Draft → Rest → Draft
+with_rest d r = record d { read = d.read + 1; rests = d.rests ++ r ∷ []; rest_least = r.line + 1 }
+
+rest_next : (d : Draft) (r : Rest) → draft_after d (said.Rest r) ≡ with_rest d r
+unfolding draft_after
+rest_next d r = refl
+
+abbrev pub rest_lines : List Cell → List Rest → Entry → List Point → List (List ℕ)
+rest_lines cells rs e ps = map (λ r. line_of (rest_words r)) rs ++ entry_lines cells e ps
+
+-- what is still to come after the runs, as a certificate has it
+abbrev pub StatesFit : Draft → List Rest → Entry → List Point → Type 0
+StatesFit d rs e ps =
+    (d.entry ≡ None) × (d.points ≡ []) × (d.ended ≡ false) × (length d.rests + length rs ≡ d.sizes.rests)
+    × All (RestFits d.head d.sizes.lines d.sizes.points) rs × (rises_from d.rest_least (map (λ r. r.line) rs) ≡ true)
+    × (length ps ≡ d.sizes.points) × EntryFits d.head d.sizes.lines d.sizes.points e
+    × All (PointFits d.head d.sizes.lines d.sizes.points) ps × All (IsPointIn d.version) ps × (sum_by instances_of ps ≤ d.left)
+
+pub rests_again : (l : LineSpelling) (d : Draft) (rs : List Rest) (e : Entry) (ps : List Point) → Kept d → 4 ≤ d.read → PastRuns d
+    → StatesFit d rs e ps
+    → read_from d (rest_lines d.head.cells.items rs e ps) ≡ told (cert_from (record d { rests = d.rests ++ rs; points = ps }) e)
+rests_again l d [] e ps k b p s =
+    let count = s.3 in
+    entry_again l d e ps k b (p, omega (arith, count)) s.0 s.1 s.2 s.6 s.7 s.8 s.9 s.10
+    ∙ ap (λ rs. told (cert_from (record d { rests = rs; points = ps }) e)) (sym (append-nil d.rests))
+rests_again l d (r ∷ rs) e ps k b p s =
+    let count = s.3 in
+    let cells : d.sizes.cells ≡ length d.head.cells.items = p.0.0.0 in
+    let room : length d.rests < d.sizes.rests = omega (arith, count) in
+    let order = and_true (leb d.rest_least r.line) (rises_from (r.line + 1) (map (λ x. x.line) rs)) s.5 in
+    let fit : SaidFits d (said.Rest r) = record {
+      after = record { body = b; cells = omega (arith, cells) };
+      room = room;
+      fits = All-head (RestFits d.head d.sizes.lines d.sizes.points) r rs s.4;
+      order = leb-true d.rest_least r.line order.0;
+    } in
+    let next = with_rest d r in
+    let kept : Kept next = subst Kept (rest_next d r) (kept_after d (said.Rest r) k fit) in
+    step l d (said.Rest r) (rest_lines d.head.cells.items rs e ps) k (due_rest d b p room) fit tt
+    (more_after (map (λ x. line_of (rest_words x)) rs) (line_of (entry_words d.head.cells.items e)) (point_lines d.head.cells.items ps))
+    ∙ (ap (λ y. read_from y (rest_lines d.head.cells.items rs e ps)) (rest_next d r)
+    ∙ (rests_again l next rs e ps kept (omega (arith, b)) p (
+      s.0,
+      s.1,
+      s.2,
+      simp length-append (omega (arith, count)),
+      All-tail (RestFits d.head d.sizes.lines d.sizes.points) r rs s.4,
+      order.1,
+      s.6,
+      s.7,
+      s.8,
+      s.9,
+      s.10,
+    )
+    ∙ ap (λ xs. told (cert_from (record d { rests = xs; points = ps }) e)) (append_assoc d.rests (r ∷ []) rs)))
+
+-- runs
+
+-- the lines of runs, each of a kind
+abbrev pub expand : List (ℕ × ℕ) → List ℕ
+expand [] = []
+expand (r ∷ rs) = replicate r.0 r.1 ++ expand rs
+
+-- each run has a line, and none is of the kind of the run before
+abbrev pub Apart : ℕ → List (ℕ × ℕ) → Type 0
+Apart kind [] = ⊤
+Apart kind (r ∷ rs) = (1 ≤ r.0) × (r.1 ≢ kind) × Apart r.1 rs
+
+abbrev with_run : Draft → ℕ × ℕ → Draft
+with_run d r = record d { read = d.read + 1; lines = d.lines ++ replicate r.0 r.1; run_kind = r.1 }
+
+run_next : (d : Draft) (r : ℕ × ℕ) → draft_after d (said.Run (record { count = r.0; kind = r.1 })) ≡ with_run d r
+unfolding draft_after
+run_next d r = refl
+
+abbrev pub run_lines : List (ℕ × ℕ) → List Cell → List Rest → Entry → List Point → List (List ℕ)
+run_lines runs cells rs e ps = map (λ r. line_of (run_words r)) runs ++ rest_lines cells rs e ps
+
+some_rest : (cells : List Cell) (rs : List Rest) (e : Entry) (ps : List Point) → is_more (rest_lines cells rs e ps) ≡ true
+some_rest cells rs e ps = more_after (map (λ x. line_of (rest_words x)) rs) (line_of (entry_words cells e)) (point_lines cells ps)
+
+pub more_lines : (front back : List (List ℕ)) → is_more back ≡ true → is_more (front ++ back) ≡ true
+more_lines [] back h = h
+more_lines (line ∷ front) back h = refl
+
+pub runs_again : (l : LineSpelling) (d : Draft) (runs : List (ℕ × ℕ)) (rs : List Rest) (e : Entry) (ps : List Point) → Kept d → 4 ≤ d.read
+    → PastFall d
+    → Apart d.run_kind runs → All (λ r. r.1 < d.sizes.kinds) runs → length d.lines + length (expand runs) ≡ d.sizes.lines → StatesFit d rs e
+    ps
+    → read_from d (run_lines runs d.head.cells.items rs e ps) ≡ told
+    (cert_from (record d { lines = d.lines ++ expand runs; rests = d.rests ++ rs; points = ps }) e)
+runs_again l d [] rs e ps k b p apart kinds count s =
+    rests_again l d rs e ps k b (p, omega (arith, count)) s
+    ∙ ap (λ ls. told (cert_from (record d { lines = ls; rests = d.rests ++ rs; points = ps }) e)) (sym (append-nil d.lines))
+runs_again l d (r ∷ runs) rs e ps k b p apart kinds count s =
+    let size = length-append (replicate r.0 r.1) (expand runs) in
+    let same = length-replicate r.0 r.1 in
+    let some = apart.0 in
+    let room : length d.lines < d.sizes.lines = omega (arith, count, size, same, some) in
+    let fit : SaidFits d (said.Run (record { count = r.0; kind = r.1 })) = record {
+      body = b;
+      few = omega (arith, count, size, same);
+      there = All-head (λ x. x.1 < d.sizes.kinds) r runs kinds;
+    } in
+    let next = with_run d r in
+    let kept : Kept next = subst Kept (run_next d r) (kept_after d (said.Run (record { count = r.0; kind = r.1 })) k fit) in
+    step l d (said.Run (record { count = r.0; kind = r.1 })) (run_lines runs d.head.cells.items rs e ps) k (due_run d b p room) fit
+    (apart.0, apart.1)
+    (more_lines (map (λ x. line_of (run_words x)) runs) (rest_lines d.head.cells.items rs e ps) (some_rest d.head.cells.items rs e ps))
+    ∙ (ap (λ y. read_from y (run_lines runs d.head.cells.items rs e ps)) (run_next d r)
+    ∙ (runs_again l next runs rs e ps kept (omega (arith, b)) p apart.2 (All-tail (λ x. x.1 < d.sizes.kinds) r runs kinds)
+    (simp (length-append, length-replicate) (omega (arith, count, size, same))) s
+    ∙ ap (λ ls. told (cert_from (record d { lines = ls; rests = d.rests ++ rs; points = ps }) e))
+    (append_assoc d.lines (replicate r.0 r.1) (expand runs))))
+
+-- the fall
+
+abbrev with_fall : Draft → ℕ → Draft
+with_fall d clock = record d { read = d.read + 1; fall = clock }
+
+fall_next : (d : Draft) (clock : ℕ) → draft_after d (said.Fall clock) ≡ with_fall d clock
+unfolding draft_after
+fall_next d clock = refl
+
+abbrev pub fall_lines : ℕ → List (ℕ × ℕ) → List Cell → List Rest → Entry → List Point → List (List ℕ)
+fall_lines clock runs cells rs e ps = line_of (codes "fall" ∷ decimal clock ∷ []) ∷ run_lines runs cells rs e ps
+
+pub fall_again : (l : LineSpelling) (d : Draft) (clock : ℕ) (runs : List (ℕ × ℕ)) (rs : List Rest) (e : Entry) (ps : List Point) → Kept d
+    → 4 ≤ d.read
+    → PastKinds d → d.fall ≡ 0 → 1 ≤ clock → clock < clock_limit → d.lines ≡ []
+    → Apart d.run_kind runs → All (λ r. r.1 < d.sizes.kinds) runs → length (expand runs) ≡ d.sizes.lines → StatesFit d rs e ps
+    → read_from d (fall_lines clock runs d.head.cells.items rs e ps)
+    ≡ told (cert_from (record d { fall = clock; lines = expand runs; rests = d.rests ++ rs; points = ps }) e)
+fall_again l d clock runs rs e ps k b p none some low no_lines apart kinds count s =
+    let fit : SaidFits d (said.Fall clock) = (b, low) in
+    let next = with_fall d clock in
+    let kept : Kept next = subst Kept (fall_next d clock) (kept_after d (said.Fall clock) k fit) in
+    step l d (said.Fall clock) (run_lines runs d.head.cells.items rs e ps) k (due_fall d b p none) fit some
+    (more_lines (map (λ x. line_of (run_words x)) runs) (rest_lines d.head.cells.items rs e ps) (some_rest d.head.cells.items rs e ps))
+    ∙ (ap (λ y. read_from y (run_lines runs d.head.cells.items rs e ps)) (fall_next d clock)
+    ∙ (runs_again l next runs rs e ps kept (omega (arith, b)) (p, some) apart kinds
+    (ap (λ ls. length ls + length (expand runs)) no_lines ∙ (zero-add (length (expand runs)) ∙ count)) s
+    ∙ ap (λ ls. told (cert_from (record d { fall = clock; lines = ls ++ expand runs; rests = d.rests ++ rs; points = ps }) e)) no_lines))
+
+-- the kinds of line, each with its events
+
+abbrev with_kind : Draft → KindLine → Draft
+with_kind d k = record d { read = d.read + 1; owed = k.events; clocks = k.clocks }
+
+kind_next : (d : Draft) (n : KindLine) → draft_after d (said.Kind n) ≡ with_kind d n
+unfolding draft_after
+kind_next d n = refl
+
+-- one more event, of which more are owed
+abbrev with_event : Draft → Event → Draft
+with_event d e = record d { read = d.read + 1; owed = d.owed - 1; events = d.events ++ e ∷ []; event_least = e.clock + 1 }
+
+-- the last event of a kind
+abbrev with_last : Draft → Event → Draft
+with_last d e = record d {
+  read = d.read + 1;
+  owed = d.owed - 1;
+  kinds = d.kinds ++ (d.events ++ e ∷ []) ∷ [];
+  lengths = d.lengths ++ d.clocks ∷ [];
+  clocks = scanline;
+  events = [];
+  event_least = 0;
+}
+
+-- these kinds, and none begun
+abbrev pub with_kinds : Draft → ℕ → List (List Event) → List ℕ → Draft
+with_kinds d read kinds lengths = record d {
+  read = read;
+  kinds = kinds;
+  lengths = lengths;
+  owed = 0;
+  clocks = scanline;
+  events = [];
+  event_least = 0;
+}
+
+event_next : (d : Draft) (e : Event) → eqb (d.owed - 1) 0 ≡ false → draft_after d (said.Event e) ≡ with_event d e
+unfolding draft_after
+event_next d e h = rw h refl
+
+last_next : (d : Draft) (e : Event) → eqb (d.owed - 1) 0 ≡ true → draft_after d (said.Event e) ≡ with_last d e
+unfolding draft_after
+last_next d e h = rw h refl
+
+-- where these kinds were read
+pub record KindsRead (d : Draft) (kinds : List (List Event)) (lengths : List ℕ) (lines others : List (List ℕ)) : Type 0 where
+  pub read : ℕ
+  pub body : 4 ≤ read
+  pub kept : Kept (with_kinds d read (d.kinds ++ kinds) (d.lengths ++ lengths))
+  pub same : read_from d lines ≡ read_from (with_kinds d read (d.kinds ++ kinds) (d.lengths ++ lengths)) others
+
+-- where the rest of a kind was read
+record EventsRead (d : Draft) (es : List Event) (lines others : List (List ℕ)) : Type 0 where
+  read : ℕ
+  body : 4 ≤ read
+  kept : Kept (with_kinds d read (d.kinds ++ (d.events ++ es) ∷ []) (d.lengths ++ d.clocks ∷ []))
+  same : read_from d lines ≡ read_from (with_kinds d read (d.kinds ++ (d.events ++ es) ∷ []) (d.lengths ++ d.clocks ∷ [])) others
+
+abbrev event_lines : List Event → List (List ℕ)
+event_lines es = map (λ e. line_of (event_words e)) es
+
+zero_test : (n : ℕ) → n ≡ 0 → eqb n 0 ≡ true
+zero_test n h = grind (arith, nat_tests)
+
+some_test : (n : ℕ) → 1 ≤ n → eqb n 0 ≡ false
+some_test n h = grind (arith, nat_tests)
+
+events_again : (l : LineSpelling) (d : Draft) (e : Event) (es : List Event) (others : List (List ℕ)) → Kept d → 4 ≤ d.read → PastCells d
+    → d.owed ≡ length es + 1 → All EventFits (e ∷ es) → rises_from d.event_least (map (λ x. x.clock) (e ∷ es)) ≡ true
+    → clocks_below (e ∷ es) d.clocks ≡ true → is_more others ≡ true
+    → EventsRead d (e ∷ es) (event_lines (e ∷ es) ++ others) others
+events_again l d e [] others k b p owed fits rise low more =
+    let order = and_true (leb d.event_least e.clock) true rise in
+    let below = and_true (ltb e.clock d.clocks) true low in
+    let fit : SaidFits d (said.Event e) = record {
+      body = b;
+      owed = omega (arith, owed);
+      fits = All-head EventFits e [] fits;
+      below = leb-true (suc e.clock) d.clocks below.0;
+      order = leb-true d.event_least e.clock order.0;
+    } in
+    let none : d.owed - 1 ≡ 0 = omega (arith, owed) in
+    let next = last_next d e (zero_test (d.owed - 1) none) in
+    let last : draft_after d (said.Event e) ≡ record (with_last d e) { owed = 0 } = next ∙ ap (λ n. record (with_last d e) { owed = n })
+    none in
+    record {
+      read = d.read + 1;
+      body = omega (arith, b);
+      kept = subst Kept last (kept_after d (said.Event e) k fit);
+      same = step l d (said.Event e) others k (due_event d b p (omega (arith, owed))) fit tt more ∙ ap (λ y. read_from y others) last;
+    }
+events_again l d e (x ∷ es) others k b p owed fits rise low more =
+    let order = and_true (leb d.event_least e.clock) (rises_from (e.clock + 1) (map (λ y. y.clock) (x ∷ es))) rise in
+    let below = and_true (ltb e.clock d.clocks) (clocks_below (x ∷ es) d.clocks) low in
+    let fit : SaidFits d (said.Event e) = record {
+      body = b;
+      owed = omega (arith, owed);
+      fits = All-head EventFits e (x ∷ es) fits;
+      below = leb-true (suc e.clock) d.clocks below.0;
+      order = leb-true d.event_least e.clock order.0;
+    } in
+    let next = event_next d e (some_test (d.owed - 1) (omega (arith, owed))) in
+    let kept : Kept (with_event d e) = subst Kept next (kept_after d (said.Event e) k fit) in
+    let later = events_again l (with_event d e) x es others kept (omega (arith, b)) p (omega (arith, owed))
+    (All-tail EventFits e (x ∷ es) fits) order.1 below.1 more in
+    let seam = append_assoc d.events (e ∷ []) (x ∷ es) in
+    record {
+      read = later.read;
+      body = later.body;
+      kept = subst (λ ys. Kept (with_kinds d later.read (d.kinds ++ ys ∷ []) (d.lengths ++ d.clocks ∷ []))) seam later.kept;
+      same =
+          step l d (said.Event e) (event_lines (x ∷ es) ++ others) k (due_event d b p (omega (arith, owed))) fit tt refl
+          ∙ (ap (λ y. read_from y (event_lines (x ∷ es) ++ others)) next
+          ∙ (later.same ∙ ap (λ ys. read_from (with_kinds d later.read (d.kinds ++ ys ∷ []) (d.lengths ++ d.clocks ∷ [])) others) seam));
+    }
+
+pub kinds_more : (version : Version) (kinds : List (List Event)) (lengths : List ℕ) (others : List (List ℕ)) → is_more others ≡ true
+    → is_more (kinds_then version kinds lengths others) ≡ true
+kinds_more version [] lengths others h = h
+kinds_more version (es ∷ kinds) [] others h = h
+kinds_more version (es ∷ kinds) (n ∷ lengths) others h = refl
+
+-- rising clocks below a length are no more than it
+events_few : (es : List Event) (least n : ℕ) → least ≤ n → rises_from least (map (λ e. e.clock) es) ≡ true → clocks_below es n ≡ true
+    → length es + least ≤ n
+events_few [] least n h r b = omega arith
+events_few (e ∷ es) least n h r b =
+    let order = and_true (leb least e.clock) (rises_from (e.clock + 1) (map (λ x. x.clock) es)) r in
+    let low = and_true (ltb e.clock n) (clocks_below es n) b in
+    let from = leb-true least e.clock order.0 in
+    let to : e.clock < n = leb-true (suc e.clock) n low.0 in
+    let later = events_few es (e.clock + 1) n (omega (arith, to)) order.1 low.1 in
+    omega (arith, from, later)
+
+-- no kind of line is begun
+abbrev pub BetweenKinds : Draft → Type 0
+BetweenKinds d = (d.owed ≡ 0) × (d.clocks ≡ scanline) × (d.events ≡ []) × (d.event_least ≡ 0)
+
+-- a draft between kinds, with no kind more
+pub no_kind_more : (d : Draft) → BetweenKinds d → d ≡ with_kinds d d.read (d.kinds ++ []) (d.lengths ++ [])
+no_kind_more d between =
+    let kinds = d.kinds ++ [] in
+    let lengths = d.lengths ++ [] in
+    ap (λ ks. record d { kinds = ks }) (sym (append-nil d.kinds))
+    ∙ (ap (λ ns. record d { kinds = kinds; lengths = ns }) (sym (append-nil d.lengths))
+    ∙ (ap (λ n. record d { kinds = kinds; lengths = lengths; owed = n }) between.0
+    ∙ (ap (λ n. record d { kinds = kinds; lengths = lengths; owed = 0; clocks = n }) between.1
+    ∙ (ap (λ es. record d { kinds = kinds; lengths = lengths; owed = 0; clocks = scanline; events = es }) between.2
+    ∙ ap (λ n. record d { kinds = kinds; lengths = lengths; owed = 0; clocks = scanline; events = []; event_least = n }) between.3))))
+
+pub kinds_again : (l : LineSpelling) (d : Draft) (kinds : List (List Event)) (lengths : List ℕ) (others : List (List ℕ)) → Kept d
+    → 4 ≤ d.read
+    → PastCells d → BetweenKinds d → length d.kinds + length kinds ≡ d.sizes.kinds → All EventsFit kinds → lengths_fit kinds lengths ≡ true
+    → All (IsLengthIn d.version) lengths → is_more others ≡ true
+    → KindsRead d kinds lengths (kinds_then d.version kinds lengths others) others
+kinds_again l d [] [] others k b p between count fits each own more =
+    let same = no_kind_more d between in
+    record { read = d.read; body = b; kept = subst Kept same k; same = ap (λ y. read_from y others) same }
+kinds_again l d [] (n ∷ lengths) others k b p between count fits each own more = absurd cc
+kinds_again l d (es ∷ kinds) [] others k b p between count fits each own more = absurd cc
+kinds_again l d ([] ∷ kinds) (n ∷ lengths) others k b p between count fits each own more =
+    let some = (All-head EventsFit [] kinds fits).some in
+    absurd (omega (arith, some))
+kinds_again l d ((e ∷ es) ∷ kinds) (n ∷ lengths) others k b p between count fits each own more =
+    let rest = and_true (is_length n && clocks_below (e ∷ es) n) (lengths_fit kinds lengths) each in
+    let this = and_true (is_length n) (clocks_below (e ∷ es) n) rest.0 in
+    let first = All-head EventsFit (e ∷ es) kinds fits in
+    let few = events_few (e ∷ es) 0 n (omega arith) first.rise this.1 in
+    let room : length d.kinds < d.sizes.kinds = omega (arith, count) in
+    let says : KindLine = record { events = length (e ∷ es); clocks = n } in
+    let fit : SaidFits d (said.Kind says) = record {
+      body = b;
+      none_owed = between.0;
+      room = room;
+      fits = record { some = first.some; few = omega (arith, few); clocks = All-head (IsLengthIn d.version) n lengths own };
+    } in
+    let later_lines = kinds_then d.version kinds lengths others in
+    let kept : Kept (with_kind d says) = subst Kept (kind_next d says) (kept_after d (said.Kind says) k fit) in
+    let rise : rises_from d.event_least (map (λ x. x.clock) (e ∷ es)) ≡ true =
+    subst (λ m. rises_from m (map (λ x. x.clock) (e ∷ es)) ≡ true) (sym between.3) first.rise in
+    let body : 4 ≤ d.read + 1 = omega (arith, b) in
+    let a = events_again l (with_kind d says) e es later_lines kept body p (omega arith) first.each rise this.1
+    (kinds_more d.version kinds lengths others more) in
+    let seam : d.events ++ e ∷ es ≡ e ∷ es = ap (λ ys. ys ++ e ∷ es) between.2 in
+    let with : List Event → Draft = λ ys. with_kinds d a.read (d.kinds ++ ys ∷ []) (d.lengths ++ n ∷ []) in
+    let mid : Draft = with (e ∷ es) in
+    let kept_mid : Kept mid = subst (λ ys. Kept (with ys)) seam a.kept in
+    let later = kinds_again l mid kinds lengths others kept_mid a.body p (refl, refl, refl, refl)
+    (simp length-append (omega (arith, count)))
+    (All-tail EventsFit (e ∷ es) kinds fits) rest.1 (All-tail (IsLengthIn d.version) n lengths own) more in
+    let joined = append_assoc d.kinds ((e ∷ es) ∷ []) kinds in
+    let measured = append_assoc d.lengths (n ∷ []) lengths in
+    record {
+      read = later.read;
+      body = later.body;
+      kept = subst (λ ns. Kept (with_kinds d later.read (d.kinds ++ (e ∷ es) ∷ kinds) ns)) measured
+          (subst (λ ks. Kept (with_kinds d later.read ks ((d.lengths ++ n ∷ []) ++ lengths))) joined later.kept);
+      same =
+          step l d (said.Kind says) (event_lines (e ∷ es) ++ later_lines) k (due_kind d b p between.0 room) fit tt refl
+          ∙ (ap (λ y. read_from y (event_lines (e ∷ es) ++ later_lines)) (kind_next d says)
+          ∙ (a.same ∙ (ap (λ ys. read_from (with ys) later_lines) seam
+          ∙ (later.same ∙ (ap (λ ks. read_from (with_kinds d later.read ks ((d.lengths ++ n ∷ []) ++ lengths)) others) joined
+          ∙ ap (λ ns. read_from (with_kinds d later.read (d.kinds ++ (e ∷ es) ∷ kinds) ns) others) measured)))));
+    }
+
+-- the cells
+
+abbrev with_cell : Draft → Cell → Draft
+with_cell d c = record d {
+  read = d.read + 1;
+  head = record d.head { cells = record { items = d.head.cells.items ++ c ∷ [] } };
+  cell_least = c.at + 1;
+}
+
+cell_next : (d : Draft) (c : Cell) → draft_after d (said.Cell c) ≡ with_cell d c
+unfolding draft_after
+cell_next d c = refl
+
+abbrev pub with_cells : Draft → ℕ → ℕ → List Cell → Draft
+with_cells d read least cs = record d { read = read; head = record d.head { cells = record { items = cs } }; cell_least = least }
+
+-- where these cells were read
+pub record CellsRead (d : Draft) (cells : List Cell) (lines others : List (List ℕ)) : Type 0 where
+  pub read : ℕ
+  pub least : ℕ
+  pub body : 4 ≤ read
+  pub kept : Kept (with_cells d read least (d.head.cells.items ++ cells))
+  pub same : read_from d lines ≡ read_from (with_cells d read least (d.head.cells.items ++ cells)) others
+
+abbrev pub cell_lines : List Cell → List (List ℕ)
+cell_lines cs = map (λ m. line_of (cell_words m)) cs
+
+refit : (h : Head) (c x : Cell) → CellFits h x → CellFits (record h { cells = record { items = h.cells.items ++ c ∷ [] } }) x
+refit h c x f = record { low = f.low; high = f.high; off_stack = f.off_stack; range = f.range }
+
+pub cells_again : (l : LineSpelling) (d : Draft) (cells : List Cell) (others : List (List ℕ)) → Kept d → 4 ≤ d.read
+    → length d.head.cells.items + length cells ≡ d.sizes.cells → All (CellFits d.head) cells → rises_from d.cell_least
+    (map (λ m. m.at) cells) ≡ true
+    → is_more others ≡ true → CellsRead d cells (cell_lines cells ++ others) others
+cells_again l d [] others k b count fits rise more =
+    let same : d ≡ with_cells d d.read d.cell_least (d.head.cells.items ++ []) = ap (λ cs. with_cells d d.read d.cell_least cs)
+    (sym (append-nil d.head.cells.items)) in
+    record { read = d.read; least = d.cell_least; body = b; kept = subst Kept same k; same = ap (λ y. read_from y others) same }
+cells_again l d (c ∷ cells) others k b count fits rise more =
+    let order = and_true (leb d.cell_least c.at) (rises_from (c.at + 1) (map (λ m. m.at) cells)) rise in
+    let room : length d.head.cells.items < d.sizes.cells = omega (arith, count) in
+    let fit : SaidFits d (said.Cell c) = record {
+      body = b;
+      room = room;
+      fits = All-head (CellFits d.head) c cells fits;
+      order = leb-true d.cell_least c.at order.0;
+    } in
+    let kept : Kept (with_cell d c) = subst Kept (cell_next d c) (kept_after d (said.Cell c) k fit) in
+    let refitted = All-weaker (CellFits d.head) (CellFits (with_cell d c).head) (λ x f. refit d.head c x f) cells
+    (All-tail (CellFits d.head) c cells fits) in
+    let later = cells_again l (with_cell d c) cells others kept (omega (arith, b)) (simp length-append (omega (arith, count))) refitted
+    order.1 more in
+    let joined = append_assoc d.head.cells.items (c ∷ []) cells in
+    record {
+      read = later.read;
+      least = later.least;
+      body = later.body;
+      kept = subst (λ cs. Kept (with_cells d later.read later.least cs)) joined later.kept;
+      same =
+          step l d (said.Cell c) (cell_lines cells ++ others) k (due_cell d b room) fit tt (more_lines (cell_lines cells) others more)
+          ∙ (ap (λ y. read_from y (cell_lines cells ++ others)) (cell_next d c)
+          ∙ (later.same ∙ ap (λ cs. read_from (with_cells d later.read later.least cs) others) joined));
+    }

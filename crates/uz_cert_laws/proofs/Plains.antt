@@ -1,0 +1,413 @@
+-- The words of spelled lines: each byte is above the space, so that a line is cut into its words again, and has no line end.
+use Rattle.std.proofs.Common.{◌≡◌, ◌≢◌, ℕ, suc, ◌+◌, ◌-◌, ◌<◌, ◌≤◌, ◌^◌, Bool, true, false, ◌&&◌, ◌||◌, cond, eqb, ltb, List, [], ◌∷◌, ◌++◌, length}
+use Rattle.std.proofs.Common.{map, All, codes, decimal, lit≤, refl, sym, ◌∙◌, ap, arith}
+use Rattle.std.specs.Prelude.{⊤, ℤ, pos, negsuc}
+use Rattle.std.specs.List.{slice_split, onto_first, join_with_byte}
+use Rattle.std.proofs.lemmas.Bool.{eqb-true}
+use Rattle.std.proofs.lemmas.List.{length-map}
+use Rattle.std.proofs.lemmas.List.Elements.{All-head, All-tail, All-weaker, All-map}
+use Rattle.std.proofs.lemmas.List.Splits.{join_with_byte-slice_split}
+use Rattle.uz_text.proofs.Plain.{plain, EachPlain, Lacks, each_lacks, split_join, join_lacks, plain_append, plain_decimal}
+use Rattle.uz_text.proofs.Plain.{each_plain_append}
+use Rattle.uz_schedule.specs.Ends.{Ends}
+use Rattle.uz_schedule.specs.Tracked.{tracks}
+use Rattle.uz_schedule.specs.Limits.{clock_limit, is_top, EventFits, KindFits}
+use Rattle.uz_schedule.specs.Schedule.{scanline, half_line}
+use Rattle.uz_schedule.specs.WellFormed.{RangeFits, FactFits, CellFactFits, PairFits, CellFits, RestFits, EntryFits, PointFits, magnitude}
+use Rattle.uz_schedule.specs.WellFormed.{is_default_flag}
+use Rattle.uz_schedule.specs.declared.kinds.Kind.{Kind}
+use Rattle.uz_schedule.specs.declared.kinds.Kind.TheVariants as kinds
+use Rattle.uz_schedule.specs.declared.kinds.Owner.{Owner}
+use Rattle.uz_schedule.specs.declared.kinds.Owner.TheVariants.{Main as MainCell, Handler as HandlerCell}
+use Rattle.uz_schedule.specs.declared.facts.Fact.{Fact}
+use Rattle.uz_schedule.specs.declared.facts.Fact.TheVariants as fact
+use Rattle.uz_schedule.specs.declared.facts.PairFact.{PairFact}
+use Rattle.uz_schedule.specs.declared.facts.PairFact.TheVariants as pair
+use Rattle.uz_schedule.specs.declared.facts.Bit.{Bit}
+use Rattle.uz_schedule.specs.declared.facts.Bit.TheVariants as bit
+use Rattle.uz_schedule.specs.declared.header.Cell.{Cell}
+use Rattle.uz_schedule.specs.declared.header.Head.{Head}
+use Rattle.uz_schedule.specs.declared.lines.Event.{Event}
+use Rattle.uz_schedule.specs.declared.lines.EventKind.{EventKind}
+use Rattle.uz_schedule.specs.declared.lines.EventKind.TheVariants as event
+use Rattle.uz_schedule.specs.declared.states.Rest.{Rest}
+use Rattle.uz_schedule.specs.declared.states.Entry.{Entry}
+use Rattle.uz_schedule.specs.declared.states.Point.{Point}
+use Rattle.uz_cert_lines.specs.Defaults.{is_default, is_any_pair, is_range, is_default_top, is_default_temp, range_fact}
+use Rattle.uz_cert_words.specs.Grammar.{with_byte, cut_words, words_of}
+use Rattle.uz_cert_writer.specs.Spelling.{line_of, range_word, ends_word, slope_word, fact_word, pair_word, flag_word, item, unless}
+use Rattle.uz_cert_writer.specs.Spelling.{register_items, pair_items, flag_items, slot_items, cell_items, top_items, temp_items, successor_items}
+use Rattle.uz_cert_writer.specs.Spelling.{owner_word, cell_words, event_kind_words, event_words, rest_words, kind_word, range_facts}
+use Rattle.uz_cert_writer.specs.Spelling.{entry_words, signed_word, truth_word, point_words}
+use Rattle.uz_cert_laws.proofs.PointLine.{point_top, point_temp}
+
+-- lines are cut into their words again
+
+onto_word : (b : ℕ) (ws : List (List ℕ)) → with_byte b ws ≡ onto_first b ws
+onto_word b [] = refl
+onto_word b (w ∷ ws) = refl
+
+cut_split : (bs : List ℕ) → cut_words bs ≡ slice_split (λ b. eqb b 32) bs
+cut_split [] = refl
+cut_split (b ∷ bs) = by (eqb b 32) (cut_split bs)
+  where
+    by : (t : Bool) → cut_words bs ≡ slice_split (λ x. eqb x 32) bs
+        → cond t ([] ∷ cut_words bs) (with_byte b (cut_words bs)) ≡ cond t ([] ∷ slice_split (λ x. eqb x 32) bs)
+        (onto_first b (slice_split (λ x. eqb x 32) bs))
+    by true e = ap (λ ws. [] ∷ ws) e
+    by false e = onto_word b (cut_words bs) ∙ ap (onto_first b) e
+
+-- a text that isn't empty
+words_some : (text : List ℕ) → text ≢ [] → words_of text ≡ cut_words text
+words_some [] h = absurd (h refl)
+words_some (b ∷ bs) h = refl
+
+joined_some : (b : ℕ) (w : List ℕ) (ws : List (List ℕ)) → line_of ((b ∷ w) ∷ ws) ≢ []
+joined_some b w [] e = cc e
+joined_some b w (v ∷ vs) e = cc e
+
+pub words_again : (b : ℕ) (w : List ℕ) (ws : List (List ℕ)) → EachPlain ((b ∷ w) ∷ ws) → words_of (line_of ((b ∷ w) ∷ ws)) ≡ (b ∷ w) ∷ ws
+words_again b w ws h =
+    let l = each_lacks 32 ((b ∷ w) ∷ ws) (lit≤ tt) h in
+    words_some (line_of ((b ∷ w) ∷ ws)) (joined_some b w ws) ∙ (cut_split (line_of ((b ∷ w) ∷ ws)) ∙ split_join 32 (b ∷ w) ws l.0 l.1)
+
+pub words_only : (text : List ℕ) (w : List ℕ) (ws : List (List ℕ)) → words_of text ≡ w ∷ ws → text ≡ line_of (w ∷ ws)
+words_only [] w ws e = absurd (cc e)
+words_only (b ∷ bs) w ws e = sym (join_with_byte-slice_split 32 (b ∷ bs)) ∙ ap (join_with_byte 32) (sym (cut_split (b ∷ bs)) ∙ e)
+
+-- a line of such words has no line end
+pub line_lacks : (ws : List (List ℕ)) → EachPlain ws → Lacks 10 (line_of ws)
+line_lacks ws h = join_lacks 10 32 ws (λ e. omega (arith, e)) (each_lacks 10 ws (lit≤ tt) h)
+
+-- numbers
+
+pub plain_number : (n : ℕ) → n < 1048576 → plain (decimal n) ≡ true
+plain_number n h = plain_decimal n (below n h (lit≤ tt))
+  where
+    below : (n : ℕ) → n < 1048576 → 1048576 ≤ 2 ^ 64 → n < 2 ^ 64
+    below n h g = omega (arith, h, g)
+
+plain_more : (b : ℕ) (w : List ℕ) → ltb 32 b ≡ true → plain w ≡ true → plain (b ∷ w) ≡ true
+plain_more b w h k = and_is (ltb 32 b) (plain w) h k
+  where
+    and_is : (s t : Bool) → s ≡ true → t ≡ true → (s && t) ≡ true
+    and_is true t x y = y
+    and_is false t x y = absurd cc
+
+either : (t : Bool) (x y : List ℕ) → plain x ≡ true → plain y ≡ true → plain (cond t x y) ≡ true
+either true x y h k = h
+either false x y h k = k
+
+-- facts
+
+abbrev Small : Ends → Type 0
+Small e = (e.lo < 1048576) × (e.hi < 1048576)
+
+small_range : (top : ℕ) (e : Ends) → top < 1048576 → RangeFits top e → Small e
+small_range top e h f = (omega (arith, h, f.order, f.high), omega (arith, h, f.high))
+
+plain_range : (e : Ends) → Small e → plain (range_word e) ≡ true
+plain_range e s =
+    either (eqb e.lo e.hi) _ _ (plain_number e.lo s.0)
+    (plain_append (decimal e.lo ++ codes "..") (decimal e.hi) (plain_append (decimal e.lo) (codes "..") (plain_number e.lo s.0) refl)
+    (plain_number e.hi s.1))
+
+plain_ends : (top : ℕ) (e : Ends) → Small e → plain (ends_word top e) ≡ true
+plain_ends top e s = either (eqb e.lo 0 && eqb e.hi top) (codes "*") (range_word e) refl (plain_range e s)
+
+plain_slope : (of : List ℕ) (a b : ℕ) → plain of ≡ true → a < 1048576 → b < 1048576 → plain (slope_word of a b) ≡ true
+plain_slope of a b o h k =
+    plain_append (of ++ codes "*" ++ decimal a ++ codes "+") (decimal b)
+    (plain_append (of ++ codes "*" ++ decimal a) (codes "+")
+    (plain_append (of ++ codes "*") (decimal a) (plain_append of (codes "*") o refl) (plain_number a h)) refl)
+    (plain_number b k)
+
+abbrev SmallFact : Fact → Type 0
+SmallFact fact.Any = ⊤
+SmallFact (fact.Between e) = Small e
+SmallFact (fact.Line a b) = (a < 1048576) × (b < 1048576)
+SmallFact (fact.Loop a b) = (a < 1048576) × (b < 1048576)
+SmallFact (fact.Old r) = r < 1048576
+SmallFact fact.OldFlags = ⊤
+
+small_fact : (kind : Kind) (f : Fact) → FactFits kind f → SmallFact f
+small_fact kind fact.Any h = tt
+small_fact kind (fact.Between e) h = small_range 255 e (omega arith) h.range
+small_fact kind (fact.Line a b) h = (omega (arith, h.factor), omega (arith, h.offset))
+small_fact kind (fact.Loop a b) h = (omega (arith, h.factor), omega (arith, h.offset))
+small_fact kind (fact.Old r) h = let low = h.1 in omega (arith, low)
+small_fact kind fact.OldFlags h = tt
+
+small_cell : (f : Fact) → CellFactFits f → SmallFact f
+small_cell fact.Any h = tt
+small_cell (fact.Between e) h = small_range 255 e (omega arith) h.range
+small_cell (fact.Line a b) h = (omega (arith, h.factor), omega (arith, h.offset))
+small_cell (fact.Loop a b) h = (omega (arith, h.factor), omega (arith, h.offset))
+small_cell (fact.Old r) h = absurd h
+small_cell fact.OldFlags h = tt
+
+small_ends : (e : Ends) → RangeFits 255 e → SmallFact (range_fact e)
+small_ends e h = by (eqb e.lo 0 && eqb e.hi 255)
+  where
+    by : (t : Bool) → SmallFact (cond t fact.Any (fact.Between e))
+    by true = tt
+    by false = small_range 255 e (omega arith) h
+
+plain_fact : (f : Fact) → SmallFact f → plain (fact_word f) ≡ true
+plain_fact fact.Any h = refl
+plain_fact (fact.Between e) h = plain_ends 255 e h
+plain_fact (fact.Line a b) h = plain_slope (codes "l") a b refl h.0 h.1
+plain_fact (fact.Loop a b) h = plain_slope (codes "c") a b refl h.0 h.1
+plain_fact (fact.Old r) h = plain_more 111 (decimal r) refl (plain_number r h)
+plain_fact fact.OldFlags h = refl
+
+plain_pair : (f : PairFact) → PairFits f → plain (pair_word f) ≡ true
+plain_pair pair.Any h = refl
+plain_pair (pair.Between e) h = plain_ends 65535 e (small_range 65535 e (omega arith) h.range)
+plain_pair (pair.Line a b) h = plain_slope (codes "l") a b refl (omega (arith, h.factor)) (omega (arith, h.offset))
+plain_pair (pair.Loop a b) h = plain_slope (codes "c") a b refl (omega (arith, h.factor)) (omega (arith, h.offset))
+
+plain_flag : (b : Bit) → plain (flag_word b) ≡ true
+plain_flag bit.Zero = refl
+plain_flag bit.One = refl
+plain_flag bit.Free = refl
+plain_flag bit.Old = refl
+
+-- items
+
+plain_item : (key value : List ℕ) → plain key ≡ true → plain value ≡ true → plain (item key value) ≡ true
+plain_item key value h k = plain_append key (61 ∷ value) h (plain_more 61 value refl k)
+
+plain_unless : (t : Bool) (word : List ℕ) (words : List (List ℕ)) → plain word ≡ true → EachPlain words → EachPlain (unless t word words)
+plain_unless true word words h k = k
+plain_unless false word words h k = (h, k)
+
+plain_registers : (kind : Kind) (r : ℕ) (fs : List Fact) → r + length fs < 1048576 → All SmallFact fs → EachPlain (register_items kind r fs)
+plain_registers kind r [] h all = tt
+plain_registers kind r (f ∷ fs) h all =
+    plain_unless (is_default kind r f) (item (114 ∷ decimal r) (fact_word f)) (register_items kind (suc r) fs)
+    (plain_item (114 ∷ decimal r) (fact_word f) (plain_more 114 (decimal r) refl (plain_number r (omega (arith, h))))
+    (plain_fact f (All-head SmallFact f fs all)))
+    (plain_registers kind (suc r) fs (omega (arith, h)) (All-tail SmallFact f fs all))
+
+plain_pairs : (letters : List ℕ) (fs : List PairFact) → plain letters ≡ true → All PairFits fs → EachPlain (pair_items letters fs)
+plain_pairs [] fs h all = tt
+plain_pairs (c ∷ cs) [] h all = tt
+plain_pairs (c ∷ cs) (f ∷ fs) h all =
+    let both = and_both (ltb 32 c) (plain cs) h in
+    plain_unless (is_any_pair f) (item (c ∷ []) (pair_word f)) (pair_items cs fs)
+    (plain_item (c ∷ []) (pair_word f) (plain_more c [] both.0 refl) (plain_pair f (All-head PairFits f fs all)))
+    (plain_pairs cs fs both.1 (All-tail PairFits f fs all))
+  where
+    and_both : (s t : Bool) → (s && t) ≡ true → (s ≡ true) × (t ≡ true)
+    and_both true t e = (refl, e)
+    and_both false t e = absurd cc
+
+plain_flags : (kind : Kind) (letters : List ℕ) (bs : List Bit) → plain letters ≡ true → EachPlain (flag_items kind letters bs)
+plain_flags kind [] bs h = tt
+plain_flags kind (c ∷ cs) [] h = tt
+plain_flags kind (c ∷ cs) (b ∷ bs) h =
+    let both = and_both (ltb 32 c) (plain cs) h in
+    plain_unless (is_default_flag kind b) (item (c ∷ []) (flag_word b)) (flag_items kind cs bs)
+    (plain_item (c ∷ []) (flag_word b) (plain_more c [] both.0 refl) (plain_flag b)) (plain_flags kind cs bs both.1)
+  where
+    and_both : (s t : Bool) → (s && t) ≡ true → (s ≡ true) × (t ≡ true)
+    and_both true t e = (refl, e)
+    and_both false t e = absurd cc
+
+plain_slots : (fs : List Fact) → All SmallFact fs → EachPlain (slot_items fs)
+plain_slots [] all = tt
+plain_slots (f ∷ fs) all = (
+  plain_append (codes "s:") (fact_word f) refl (plain_fact f (All-head SmallFact f fs all)),
+  plain_slots fs (All-tail SmallFact f fs all),
+)
+
+plain_cells : (kind : Kind) (i : ℕ) (cs : List Cell) (fs : List Fact) → i + length cs < 1048576 → All SmallFact fs
+    → EachPlain (cell_items kind i cs fs)
+plain_cells kind i [] fs h all = tt
+plain_cells kind i (c ∷ cs) [] h all = tt
+plain_cells kind i (c ∷ cs) (f ∷ fs) h all =
+    by (tracks kind c.owner) (plain_cells kind (suc i) cs fs (omega (arith, h)) (All-tail SmallFact f fs all))
+    (plain_cells kind (suc i) cs (f ∷ fs) (omega (arith, h)) all)
+  where
+    by : (t : Bool) → EachPlain (cell_items kind (suc i) cs fs) → EachPlain (cell_items kind (suc i) cs (f ∷ fs))
+        → EachPlain (cond t (unless (is_range c.range f) (item (109 ∷ decimal i) (fact_word f)) (cell_items kind (suc i) cs fs))
+        (cell_items kind (suc i) cs (f ∷ fs)))
+    by true a b =
+        plain_unless (is_range c.range f) (item (109 ∷ decimal i) (fact_word f)) (cell_items kind (suc i) cs fs)
+        (plain_item (109 ∷ decimal i) (fact_word f) (plain_more 109 (decimal i) refl (plain_number i (omega (arith, h))))
+        (plain_fact f (All-head SmallFact f fs all))) a
+    by false a b = b
+
+plain_top : (top : ℕ) → is_top top ≡ true → EachPlain (top_items top)
+plain_top top h =
+    plain_unless (is_default_top top) (item (codes "top") (decimal top)) []
+    (plain_item (codes "top") (decimal top) refl (plain_number top (by_half (eqb top (half_line - 1)) refl h))) tt
+  where
+    by_half : (t : Bool) → eqb top (half_line - 1) ≡ t → (t || eqb top (scanline - 1)) ≡ true → top < 1048576
+    by_half true e h = omega (arith, eqb-true top (half_line - 1) e)
+    by_half false e h = omega (arith, eqb-true top (scanline - 1) h)
+
+plain_temp : (temp : Ends) → RangeFits 255 temp → EachPlain (temp_items temp)
+plain_temp temp h =
+    plain_unless (is_default_temp temp) (item (codes "temp") (range_word temp)) []
+    (plain_item (codes "temp") (range_word temp) refl (plain_range temp (small_range 255 temp (omega arith) h))) tt
+
+plain_successors : (most : ℕ) (ids : List ℕ) → most ≤ 1048576 → All (λ id. id < most) ids → EachPlain (successor_items ids)
+plain_successors most [] h all = tt
+plain_successors most (id ∷ ids) h all =
+    let low = All-head (λ n. n < most) id ids all in (
+      plain_more 62 (decimal id) refl (plain_number id (omega (arith, h, low))),
+      plain_successors most ids h
+          (All-tail (λ n. n < most) id ids all),
+    )
+
+small_facts : (kind : Kind) (fs : List Fact) → All (FactFits kind) fs → All SmallFact fs
+small_facts kind fs all = All-weaker (FactFits kind) SmallFact (λ f h. small_fact kind f h) fs all
+
+small_spans : (es : List Ends) → All (RangeFits 255) es → All SmallFact (range_facts es)
+small_spans es all = All-map SmallFact range_fact es (All-weaker (RangeFits 255) (λ e. SmallFact (range_fact e)) (λ e h. small_ends e h) es
+    all)
+
+-- lines
+
+plain_kind : (kind : Kind) → plain (kind_word kind) ≡ true
+plain_kind kinds.Main = refl
+plain_kind kinds.Handler = refl
+plain_kind kinds.Alone = refl
+
+plain_owner : (owner : Owner) → plain (owner_word owner) ≡ true
+plain_owner MainCell = refl
+plain_owner HandlerCell = refl
+
+plain_truth : (t : Bool) → plain (truth_word t) ≡ true
+plain_truth true = refl
+plain_truth false = refl
+
+plain_signed : (z : ℤ) → magnitude z < clock_limit → plain (signed_word z) ≡ true
+plain_signed (pos n) h = plain_number n (omega (arith, h))
+plain_signed (negsuc n) h = plain_more 45 (decimal (n + 1)) refl (plain_number (n + 1) (omega (arith, h)))
+
+pub plain_cell_line : (h : Head) (c : Cell) → CellFits h c → EachPlain (cell_words c)
+plain_cell_line h c f =
+    let s = small_range 255 c.range (omega arith) f.range in (
+      refl,
+      (
+        plain_number c.at (omega (arith, f.high)),
+        (plain_owner c.owner, (plain_number c.range.lo s.0, (plain_number c.range.hi s.1, tt))),
+      ),
+    )
+
+plain_event_kind : (k : EventKind) → KindFits k → EachPlain (event_kind_words k)
+plain_event_kind (event.Sync level) h = (refl, (plain_number level (omega (arith, h)), tt))
+plain_event_kind event.Pixel h = (refl, tt)
+plain_event_kind event.Sound h = (refl, tt)
+plain_event_kind event.Leave h = (refl, tt)
+
+pub plain_event_line : (e : Event) → EventFits e → EachPlain (event_words e)
+plain_event_line e f = let low = f.clock in (plain_number e.clock (omega (arith, low)), plain_event_kind e.kind f.kind)
+
+plain_spans : (es : List Ends) → All (RangeFits 255) es → EachPlain (map (ends_word 255) es)
+plain_spans [] all = tt
+plain_spans (e ∷ es) all = (
+  plain_ends 255 e (small_range 255 e (omega arith) (All-head (RangeFits 255) e es all)),
+  plain_spans es (All-tail (RangeFits 255) e es all),
+)
+
+pub plain_rest_line : (h : Head) (lines points : ℕ) (r : Rest) → lines ≤ 525 → points ≤ 524288 → RestFits h lines points r
+    → EachPlain (rest_words r)
+plain_rest_line h lines points r a b f =
+    let clock = f.clock in (
+      refl,
+      (
+        plain_number r.line (omega (arith, a, f.line)),
+        (
+          plain_number r.clock (omega (arith, clock)),
+          (
+            plain_number r.vector (omega (arith, b, f.vector)),
+            plain_spans r.cells.items f.cells.ranges,
+          ),
+        ),
+      ),
+    )
+
+pub plain_entry_line : (h : Head) (lines points : ℕ) (e : Entry) → lines ≤ 525 → points ≤ 524288 → length h.cells.items ≤ 16
+    → EntryFits h lines points e
+    → EachPlain (entry_words h.cells.items e)
+plain_entry_line h lines points e a b cells f =
+    let clock = f.clock in
+    let count = length-map e.regs range_fact in
+    let regs = f.facts.registers in (
+      refl,
+      (
+        plain_kind e.kind,
+        (
+          plain_number e.id (omega (arith, b, f.id)),
+          (
+            plain_number e.pc (omega (arith, f.pc)),
+            (
+              plain_number e.line (omega (arith, a, f.line)),
+              (
+                plain_number e.clock (omega (arith, clock)),
+                each_plain_append (register_items e.kind 0 (range_facts e.regs)) _ (plain_registers e.kind 0 (range_facts e.regs)
+                    (omega (arith, count, regs)) (small_spans e.regs f.facts.ranges))
+                    (each_plain_append (flag_items e.kind (codes "cznvsht") e.flags) _ (plain_flags e.kind (codes "cznvsht") e.flags refl)
+                    (each_plain_append (slot_items (range_facts e.stack.items)) _
+                    (plain_slots (range_facts e.stack.items) (small_spans e.stack.items f.facts.stack))
+                    (plain_cells e.kind 0 h.cells.items (range_facts e.cells.items) (omega (arith, cells))
+                    (small_spans e.cells.items f.facts.cells.ranges)))),
+              ),
+            ),
+          ),
+        ),
+      ),
+    )
+
+pub plain_point_line : (h : Head) (lines points : ℕ) (p : Point) → lines ≤ 525 → points ≤ 524288 → length h.cells.items ≤ 16
+    → PointFits h lines points p
+    → EachPlain (point_words h.cells.items p)
+plain_point_line h lines points p a b cells f =
+    let clock = f.box.clock in
+    let regs = f.core.register_count in (
+      refl,
+      (
+        plain_kind p.kind,
+        (
+          plain_number p.pc (omega (arith, f.pc)),
+          (
+            plain_number p.l0 (omega (arith, a, f.box.line_order, f.box.line)),
+            (
+              plain_number p.l1 (omega (arith, a, f.box.line)),
+              (
+                plain_number p.c0 (omega (arith, f.box.count_order, f.box.count)),
+                (
+                  plain_number p.c1 (omega (arith, f.box.count)),
+                  (
+                    plain_number p.clock (omega (arith, clock)),
+                    (
+                      plain_signed p.slope f.box.slope,
+                      (
+                        plain_truth p.pending,
+                        each_plain_append (register_items p.kind 0 p.regs) _ (plain_registers p.kind 0 p.regs (omega (arith, regs))
+                            (small_facts p.kind p.regs f.core.registers))
+                            (each_plain_append (pair_items (codes "xyz") p.pairs) _ (plain_pairs (codes "xyz") p.pairs refl f.core.pairs)
+                            (each_plain_append (flag_items p.kind (codes "cznvsht") p.flags) _
+                            (plain_flags p.kind (codes "cznvsht") p.flags refl)
+                            (each_plain_append (slot_items p.stack.items) _
+                            (plain_slots p.stack.items (small_facts p.kind p.stack.items f.memory.stack))
+                            (each_plain_append (cell_items p.kind 0 h.cells.items p.cells.items) _
+                            (plain_cells p.kind 0 h.cells.items p.cells.items (omega (arith, cells))
+                            (All-weaker CellFactFits SmallFact (λ x g. small_cell x g) p.cells.items f.memory.cells))
+                            (each_plain_append (top_items p.top) _ (plain_top p.top (point_top p.kind p f.kind))
+                            (each_plain_append (temp_items p.temp) _ (plain_temp p.temp (point_temp p.kind p f.kind))
+                            (plain_successors points p.next.items (omega (arith, b)) f.next.there))))))),
+                      ),
+                    ),
+                  ),
+                ),
+              ),
+            ),
+          ),
+        ),
+      ),
+    )

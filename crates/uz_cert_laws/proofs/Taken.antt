@@ -1,0 +1,604 @@
+-- What it takes that an item is taken: its word is spelled as one of the eight forms, and it sets one thing.
+use Rattle.std.proofs.Common.{◌≡◌, ℕ, zero, suc, ◌+◌, ◌<◌, ◌≤◌, ◌≢◌, ◌^◌, Bool, true, false, cond, not, ◌&&◌, ◌||◌, eqb, leb, ltb, List, []}
+use Rattle.std.proofs.Common.{◌∷◌, ◌++◌, length, decimal, codes, bytes_eq, lit<, lit≤, refl, sym, ◌∙◌, ap, subst, arith}
+use Rattle.std.specs.Prelude.{Option, Some, None, Result, Ok, Err, All, slice_get, slice_set, slice_index}
+use Rattle.std.proofs.lemmas.List.Elements.{All-head, All-tail}
+use Rattle.uz_text.specs.Cutting.{cut_at}
+use Rattle.uz_text.specs.Numbers.{is_numeral, number_below}
+use Rattle.uz_text.proofs.Cuts.{cut_read}
+use Rattle.uz_text.proofs.NumberWords.{number_read}
+use Rattle.uz_schedule.specs.Ends.{Ends}
+use Rattle.uz_schedule.specs.Limits.{is_top}
+use Rattle.uz_schedule.specs.Schedule.{scanline}
+use Rattle.uz_schedule.specs.Tracked.{tracks}
+use Rattle.uz_schedule.specs.WellFormed.{PartFits, is_default_flag}
+use Rattle.uz_schedule.specs.declared.header.Cell.{Cell}
+use Rattle.uz_schedule.specs.declared.facts.Fact.{Fact}
+use Rattle.uz_schedule.specs.declared.facts.PairFact.{PairFact}
+use Rattle.uz_schedule.specs.declared.facts.Bit.{Bit}
+use Rattle.uz_cert_words.specs.Why.{◌>>=◌}
+use Rattle.uz_cert_words.specs.Values.{digits, one_number, range, raw_of, fact_of, pair_of, ends_of, bit_of}
+use Rattle.uz_cert_lines.specs.Defaults.{is_default, is_any_pair, is_range, is_default_top}
+use Rattle.uz_cert_lines.specs.Items.{in_order, is_handler, bytes_forms, register_set, register_key, take_register, pair_forms, pair_set}
+use Rattle.uz_cert_lines.specs.Items.{take_pair}
+use Rattle.uz_cert_lines.specs.Items.{flag_set, take_flag, slot_set, slot_room, take_slot, tracked_before, with_number, cell_at, cell_forms}
+use Rattle.uz_cert_lines.specs.Items.{numbered}
+use Rattle.uz_cert_lines.specs.Items.{cell_set, cell_value, take_cell, successor_set, take_successor, is_flag_z, take_letter, take_keyed}
+use Rattle.uz_cert_lines.specs.Items.{top_set, top_value, take_top, temp_forms, temp_set, take_temp, take_timer, take_cut}
+use Rattle.uz_cert_lines.specs.Items.{take_named, take_second, take_item}
+use Rattle.uz_cert_words.specs.declared.values.FactForms.{FactForms}
+use Rattle.uz_cert_words.specs.declared.values.Raw.{Raw}
+use Rattle.uz_cert_lines.specs.declared.items.Shape.{Shape}
+use Rattle.uz_cert_lines.specs.declared.items.Facts.{Facts}
+use Rattle.uz_cert_words.specs.declared.why.CertWhy.{CertWhy}
+use Rattle.uz_cert_words.specs.declared.why.CertWhy.TheVariants as why
+use Rattle.uz_cert_writer.specs.Spelling.{range_word, item, fact_word, pair_word, flag_word}
+use Rattle.uz_cert_laws.proofs.Tests.{and_true, both_true, or_false, not_true, fine_is, fault_not, passed, failed, so, bind_ok, then, le_is}
+use Rattle.uz_cert_laws.proofs.Tests.{is_le, lt_is, number_is, word_is}
+use Rattle.uz_cert_laws.proofs.Numbers.{one_only}
+use Rattle.uz_cert_laws.proofs.Facts.{FactIn, fact_only, PairIn, pair_only, BitIn, bit_only, temp_only}
+
+-- what items set
+
+abbrev pub with_register : Facts → ℕ → Fact → Facts
+with_register facts r f = record facts { regs = slice_set facts.regs r f; least = r + 1 }
+
+abbrev pub with_pair : Facts → ℕ → PairFact → Facts
+with_pair facts k f = record facts { pairs = slice_set facts.pairs k f; least = 33 + k }
+
+abbrev pub with_flag : Facts → ℕ → Bit → Facts
+with_flag facts b bit = record facts { flags = slice_set facts.flags b bit; least = 36 + b }
+
+abbrev pub with_slot : Facts → Fact → Facts
+with_slot facts f = record facts { stack = record { items = facts.stack.items ++ f ∷ [] }; least = 42 }
+
+abbrev pub with_cell : Shape → List Cell → Facts → ℕ → Fact → Facts
+with_cell shape cells facts i f =
+    record facts { cells = record { items = slice_set facts.cells.items (tracked_before shape.kind i cells) f }; least = 44 + i }
+
+abbrev pub with_top : Facts → ℕ → Facts
+with_top facts top = record facts { top = top; least = 60 }
+
+abbrev pub with_temp : Facts → Ends → Facts
+with_temp facts temp = record facts { temp = temp; least = 61 }
+
+abbrev pub with_successor : Facts → ℕ → Facts
+with_successor facts id = record facts { next = record { items = facts.next.items ++ id ∷ [] }; after = id + 1; least = 61 }
+
+-- the letters of pairs and flags
+
+abbrev pub pair_letter : ℕ → ℕ
+pair_letter k = slice_index (codes "xyz") k
+
+abbrev pub flag_letter : ℕ → ℕ
+flag_letter b = slice_index (codes "cznvsht") b
+
+-- one of the eight
+
+pub record TakesRegister (shape : Shape) (facts : Facts) (w : List ℕ) (r : ℕ) (f : Fact) : Type 0 where
+  pub word : w ≡ item (114 ∷ decimal r) (fact_word f)
+  pub there : r < 32
+  pub fits : FactIn (bytes_forms shape) f
+  pub order : facts.least ≤ r
+  pub other : is_default shape.kind r f ≡ false
+
+pub record TakesPair (shape : Shape) (facts : Facts) (w : List ℕ) (later : List (List ℕ)) (k : ℕ) (f : PairFact) : Type 0 where
+  pub word : w ≡ item (pair_letter k ∷ []) (pair_word f)
+  pub there : k < 3
+  pub whole : shape.plain ≡ false
+  pub fits : PairIn pair_forms f
+  pub order : facts.least ≤ 32 + k
+  pub other : is_any_pair f ≡ false
+  pub meant : k ≡ 2 → is_flag_z shape facts (pair_word f) later ≡ false
+
+pub record TakesFlag (shape : Shape) (facts : Facts) (w : List ℕ) (later : List (List ℕ)) (b : ℕ) (bit : Bit) : Type 0 where
+  pub word : w ≡ item (flag_letter b ∷ []) (flag_word bit)
+  pub there : b < 7
+  pub fits : BitIn (is_handler shape.kind) bit
+  pub order : facts.least ≤ 35 + b
+  pub other : is_default_flag shape.kind bit ≡ false
+  pub meant : b ≡ 1 → is_flag_z shape facts (flag_word bit) later ≡ true
+
+pub record TakesSlot (shape : Shape) (facts : Facts) (w : List ℕ) (f : Fact) : Type 0 where
+  pub word : w ≡ codes "s:" ++ fact_word f
+  pub fits : FactIn (bytes_forms shape) f
+  pub room : length facts.stack.items < shape.depth
+  pub order : facts.least ≤ 42
+
+abbrev pub cell_form : Shape → Cell → FactForms
+cell_form shape c = cell_forms shape (Some (0, c))
+
+pub record TakesCell (shape : Shape) (cells : List Cell) (facts : Facts) (w : List ℕ) (i : ℕ) (c : Cell) (f : Fact) : Type 0 where
+  pub word : w ≡ item (109 ∷ decimal i) (fact_word f)
+  pub below : i < length cells
+  pub there : slice_get cells i ≡ Some c
+  pub own : tracks shape.kind c.owner ≡ true
+  pub fits : FactIn (cell_form shape c) f
+  pub order : facts.least ≤ 43 + i
+  pub other : is_range c.range f ≡ false
+
+pub record TakesTop (shape : Shape) (facts : Facts) (w : List ℕ) (top : ℕ) : Type 0 where
+  pub word : w ≡ item (codes "top") (decimal top)
+  pub timed : shape.timed ≡ true
+  pub fits : is_top top ≡ true
+  pub order : facts.least ≤ 59
+  pub other : is_default_top top ≡ false
+
+pub record TakesTemp (shape : Shape) (facts : Facts) (w : List ℕ) (temp : Ends) : Type 0 where
+  pub word : w ≡ item (codes "temp") (range_word temp)
+  pub timed : shape.timed ≡ true
+  pub fits : PartFits 255 temp
+  pub order : facts.least ≤ 60
+
+pub record TakesSuccessor (shape : Shape) (facts : Facts) (w : List ℕ) (id : ℕ) : Type 0 where
+  pub word : w ≡ 62 ∷ decimal id
+  pub whole : shape.plain ≡ false
+  pub there : id < shape.points
+  pub room : length facts.next.items < 16
+  pub order : facts.after ≤ id
+
+pub data Taken (shape : Shape) (cells : List Cell) (facts : Facts) (w : List ℕ) (later : List (List ℕ)) (more : Facts) : Type 0 where
+  register : (r : ℕ) (f : Fact) → TakesRegister shape facts w r f → more ≡ with_register facts r f → Taken shape cells facts w later more
+  pair : (k : ℕ) (f : PairFact) → TakesPair shape facts w later k f → more ≡ with_pair facts k f → Taken shape cells facts w later more
+  flag : (b : ℕ) (bit : Bit) → TakesFlag shape facts w later b bit → more ≡ with_flag facts b bit → Taken shape cells facts w later more
+  slot : (f : Fact) → TakesSlot shape facts w f → more ≡ with_slot facts f → Taken shape cells facts w later more
+  cell : (i : ℕ) (c : Cell) (f : Fact) → TakesCell shape cells facts w i c f → more ≡ with_cell shape cells facts i f → Taken shape cells
+      facts w later more
+  timer_top : (top : ℕ) → TakesTop shape facts w top → more ≡ with_top facts top → Taken shape cells facts w later more
+  timer_temp : (temp : Ends) → TakesTemp shape facts w temp → more ≡ with_temp facts temp → Taken shape cells facts w later more
+  successor : (id : ℕ) → TakesSuccessor shape facts w id → more ≡ with_successor facts id → Taken shape cells facts w later more
+
+-- what is taken is one of these
+
+order_is : (facts more : Facts) (place : ℕ) (t : Bool) (set : Facts) → in_order facts place t >>= (λ p. Ok set) ≡ Ok more
+    → (facts.least ≤ place) × (t ≡ false) × (more ≡ set)
+order_is facts more place t set e =
+    let m = bind_ok (in_order facts place t) (λ p. Ok set) more e in
+    let p = passed (leb facts.least place && not t) (Ok place) why.Order m.0 m.1 in
+    let two = and_true (leb facts.least place) (not t) p.0 in
+    (le_is facts.least place two.0, not_true t two.1, sym (fine_is set more m.2))
+
+pub order_so : (facts : Facts) (place : ℕ) (t : Bool) (set : Facts) → facts.least ≤ place → t ≡ false → in_order facts place t >>=
+    (λ p. Ok set) ≡ Ok set
+order_so facts place t set l e =
+    then (in_order facts place t) (λ p. Ok set) place (Ok set)
+    (so (leb facts.least place && not t) (Ok place) (Err why.Order) (both_true (leb facts.least place) (not t) (is_le facts.least place l)
+    (ap not e))) refl
+
+bytes_limit : (shape : Shape) → (bytes_forms shape).limit ≤ 256
+bytes_limit shape = lit≤ tt
+
+register_taken : (shape : Shape) (cells : List Cell) (facts : Facts) (w key value : List ℕ) (later : List (List ℕ)) (more : Facts)
+    → w ≡ (114 ∷ key) ++ 61 ∷ value → take_register shape facts key value ≡ Ok more → Taken shape cells facts w later more
+unfolding take_register
+register_taken shape cells facts w key value later more e h = by_key (number_below 32 key) refl h
+  where
+    by_key : (o : Option ℕ) → number_below 32 key ≡ o → register_key shape facts value o ≡ Ok more → Taken shape cells facts w later more
+    by_key None k h = absurd (fault_not why.Word more h)
+    by_key (Some r) k h =
+        let number = number_read 32 r key (lit≤ tt) k in
+        let m = bind_ok (raw_of (bytes_forms shape) value) (λ raw. fact_of raw >>= (λ fact. register_set shape facts r fact)) more h in
+        let n = bind_ok (fact_of m.0) (λ fact. register_set shape facts r fact) more m.2 in
+        let fact = fact_only (bytes_forms shape) value m.0 n.0 (bytes_limit shape) m.1 n.1 in
+        let set = order_is facts more r (is_default shape.kind r n.0) (with_register facts r n.0) n.2 in
+        register r n.0
+        (record {
+          word = e ∙ ap (λ t. (114 ∷ t) ++ 61 ∷ value) number.0 ∙ ap (λ t. (114 ∷ decimal r) ++ 61 ∷ t) fact.0;
+          there = number.1;
+          fits = fact.1;
+          order = set.0;
+          other = set.1;
+        }) set.2
+
+pair_taken : (shape : Shape) (cells : List Cell) (facts : Facts) (w value : List ℕ) (later : List (List ℕ)) (k : ℕ) (more : Facts)
+    → w ≡ pair_letter k ∷ 61 ∷ value → k < 3 → (k ≡ 2 → is_flag_z shape facts value later ≡ false) → take_pair shape facts k value ≡ Ok more
+    → Taken shape cells facts w later more
+unfolding take_pair
+pair_taken shape cells facts w value later k more e there z h =
+    let p = failed shape.plain (raw_of pair_forms value >>= (λ raw. pair_of raw >>= (λ fact. pair_set facts k fact))) why.Word more h in
+    let m = bind_ok (raw_of pair_forms value) (λ raw. pair_of raw >>= (λ fact. pair_set facts k fact)) more p.1 in
+    let n = bind_ok (pair_of m.0) (λ fact. pair_set facts k fact) more m.2 in
+    let fact = pair_only pair_forms value m.0 n.0 (lit≤ tt) m.1 n.1 in
+    let set = order_is facts more (32 + k) (is_any_pair n.0) (with_pair facts k n.0) n.2 in
+    pair k n.0
+    (record {
+      word = e ∙ ap (λ t. pair_letter k ∷ 61 ∷ t) fact.0;
+      there = there;
+      whole = p.0;
+      fits = fact.1;
+      order = set.0;
+      other = set.1;
+      meant = λ is. ap (λ t. is_flag_z shape facts t later) (sym fact.0) ∙ z is;
+    }) set.2
+
+flag_taken : (shape : Shape) (cells : List Cell) (facts : Facts) (w value : List ℕ) (later : List (List ℕ)) (b : ℕ) (more : Facts)
+    → w ≡ flag_letter b ∷ 61 ∷ value → b < 7 → (b ≡ 1 → is_flag_z shape facts value later ≡ true) → take_flag shape facts b value ≡ Ok more
+    → Taken shape cells facts w later more
+unfolding take_flag
+flag_taken shape cells facts w value later b more e there z h =
+    let m = bind_ok (bit_of (is_handler shape.kind) value) (λ bit. flag_set shape facts b bit) more h in
+    let bit = bit_only (is_handler shape.kind) value m.0 m.1 in
+    let set = order_is facts more (35 + b) (is_default_flag shape.kind m.0) (with_flag facts b m.0) m.2 in
+    flag b m.0
+    (record {
+      word = e ∙ ap (λ t. flag_letter b ∷ 61 ∷ t) bit.0;
+      there = there;
+      fits = bit.1;
+      order = set.0;
+      other = set.1;
+      meant = λ is. ap (λ t. is_flag_z shape facts t later) (sym bit.0) ∙ z is;
+    }) set.2
+
+slot_taken : (shape : Shape) (cells : List Cell) (facts : Facts) (w value : List ℕ) (later : List (List ℕ)) (more : Facts)
+    → w ≡ 115 ∷ 58 ∷ value → take_slot shape facts value ≡ Ok more → Taken shape cells facts w later more
+unfolding take_slot
+slot_taken shape cells facts w value later more e h =
+    let m = bind_ok (raw_of (bytes_forms shape) value)
+    (λ raw. slot_room shape facts >>= (λ room. fact_of raw >>= (λ fact. slot_set facts fact))) more h in
+    let r = bind_ok (slot_room shape facts) (λ room. fact_of m.0 >>= (λ fact. slot_set facts fact)) more m.2 in
+    let n = bind_ok (fact_of m.0) (λ fact. slot_set facts fact) more r.2 in
+    let room = passed (ltb (length facts.stack.items) shape.depth) (Ok 0) why.Limit r.0 r.1 in
+    let fact = fact_only (bytes_forms shape) value m.0 n.0 (bytes_limit shape) m.1 n.1 in
+    let set = order_is facts more 42 false (with_slot facts n.0) n.2 in
+    slot n.0
+    (record {
+      word = e ∙ ap (λ t. 115 ∷ 58 ∷ t) fact.0;
+      fits = fact.1;
+      room = lt_is (length facts.stack.items) shape.depth room.0;
+      order = set.0;
+    }) set.2
+
+numbered_is : (t : Bool) (m : Result Raw CertWhy) (r : Raw) → numbered t m ≡ Ok r → (t ≡ true) × (m ≡ Ok r)
+numbered_is true m r e = (refl, e)
+numbered_is false (Ok x) r e = absurd (fault_not why.Number r e)
+numbered_is false (Err why.Head) r e = absurd (fault_not why.Number r e)
+numbered_is false (Err why.Word) r e = absurd (fault_not why.Word r e)
+numbered_is false (Err why.Number) r e = absurd (fault_not why.Number r e)
+numbered_is false (Err why.Order) r e = absurd (fault_not why.Number r e)
+numbered_is false (Err why.Limit) r e = absurd (fault_not why.Number r e)
+numbered_is false (Err why.Unknown) r e = absurd (fault_not why.Number r e)
+numbered_is false (Err why.NoEnd) r e = absurd (fault_not why.Number r e)
+numbered_is false (Err why.Memory) r e = absurd (fault_not why.Number r e)
+
+abbrev pub CellsAreBytes : List Cell → Type 0
+CellsAreBytes cells = All (λ c. c.range.hi ≤ 255) cells
+
+pub cell_range : (cells : List Cell) (i : ℕ) (c : Cell) → CellsAreBytes cells → slice_get cells i ≡ Some c → c.range.hi ≤ 255
+cell_range [] i c h e = absurd cc
+cell_range (x ∷ xs) zero c h e =
+    let same : x ≡ c = cc in
+    subst (λ (y : Cell). y.range.hi ≤ 255) same (All-head (λ y. y.range.hi ≤ 255) x xs h)
+cell_range (x ∷ xs) (suc i) c h e = cell_range xs i c (All-tail (λ y. y.range.hi ≤ 255) x xs h) e
+
+pub cell_limit : (shape : Shape) (c : Cell) → c.range.hi ≤ 255 → (cell_form shape c).limit ≤ 256
+cell_limit shape c h = by_plain shape.plain
+  where
+    by_plain : (t : Bool)
+        → (cond {A = FactForms} t (record { low = c.range.lo; limit = c.range.hi + 1; top = 255; sloped = false; old = false })
+        (record { low = 0; limit = 256; top = 255; sloped = true; old = false })).limit ≤ 256
+    by_plain true = omega arith
+    by_plain false = lit≤ tt
+
+cell_there : (cells : List Cell) (o : Option ℕ) (p : ℕ × Cell) → cell_at cells o ≡ Some p → (o ≡ Some p.0)
+    × (slice_get cells p.0 ≡ Some p.1)
+cell_there cells None p e = absurd cc
+cell_there cells (Some i) p e = by_cell (slice_get cells i) refl e
+  where
+    pair_same : (a b : ℕ × Cell) → Some a ≡ Some b → a ≡ b
+    pair_same a b e = cc
+
+    by_cell : (o : Option Cell) → slice_get cells i ≡ o → with_number i o ≡ Some p → (Some i ≡ Some p.0) × (slice_get cells p.0 ≡ Some p.1)
+    by_cell None g e = absurd cc
+    by_cell (Some c) g e =
+        let same : ◌≡◌ {A = ℕ × Cell} (i, c) p = pair_same (i, c) p e in
+        subst (λ (q : ℕ × Cell). (Some i ≡ Some q.0) × (slice_get cells q.0 ≡ Some q.1)) same (refl, g)
+
+cell_taken : (shape : Shape) (cells : List Cell) (facts : Facts) (w key value : List ℕ) (later : List (List ℕ)) (more : Facts)
+    → length cells ≤ 16 → CellsAreBytes cells
+    → w ≡ (109 ∷ key) ++ 61 ∷ value → take_cell shape cells facts key value ≡ Ok more → Taken shape cells facts w later more
+unfolding take_cell
+cell_taken shape cells facts w key value later more few bytes e h =
+    by_cell (cell_at cells (number_below (length cells) key)) refl m.1 m.2
+  where
+    p : (digits key ≡ true) × (numbered (is_numeral key) (raw_of (cell_forms shape (cell_at cells (number_below (length cells) key))) value)
+        >>= (λ raw. cell_value shape cells facts (cell_at cells (number_below (length cells) key)) raw) ≡ Ok more)
+    p = passed (digits key) (numbered (is_numeral key) (raw_of (cell_forms shape (cell_at cells (number_below (length cells) key))) value)
+        >>= (λ raw. cell_value shape cells facts (cell_at cells (number_below (length cells) key)) raw)) why.Word more h
+
+    m : (r : Raw) × (numbered (is_numeral key) (raw_of (cell_forms shape (cell_at cells (number_below (length cells) key))) value) ≡ Ok r)
+        × (cell_value shape cells facts (cell_at cells (number_below (length cells) key)) r ≡ Ok more)
+    m = bind_ok (numbered (is_numeral key) (raw_of (cell_forms shape (cell_at cells (number_below (length cells) key))) value))
+        (λ raw. cell_value shape cells facts (cell_at cells (number_below (length cells) key)) raw) more p.1
+
+    by_cell : (o : Option (ℕ × Cell)) → cell_at cells (number_below (length cells) key) ≡ o
+        → numbered (is_numeral key) (raw_of (cell_forms shape o) value) ≡ Ok m.0 → cell_value shape cells facts o m.0 ≡ Ok more
+        → Taken shape cells facts w later more
+    by_cell None at v h = absurd (fault_not why.Unknown more h)
+    by_cell (Some q) at v h =
+        let raw = numbered_is (is_numeral key) (raw_of (cell_forms shape (Some q)) value) m.0 v in
+        let own = passed (tracks shape.kind q.1.owner) (fact_of m.0 >>= (λ fact. cell_set shape cells facts q.0 q.1.range fact)) why.Unknown
+        more h in
+        let n = bind_ok (fact_of m.0) (λ fact. cell_set shape cells facts q.0 q.1.range fact) more own.1 in
+        let there = cell_there cells (number_below (length cells) key) q at in
+        let number = number_read (length cells) q.0 key (omega arith) there.0 in
+        let fact = fact_only (cell_form shape q.1) value m.0 n.0 (cell_limit shape q.1 (cell_range cells q.0 q.1 bytes there.1)) raw.1
+        n.1 in
+        let set = order_is facts more (43 + q.0) (is_range q.1.range n.0) (with_cell shape cells facts q.0 n.0) n.2 in
+        cell q.0 q.1 n.0
+        (record {
+          word = e ∙ ap (λ t. (109 ∷ t) ++ 61 ∷ value) number.0 ∙ ap (λ t. (109 ∷ decimal q.0) ++ 61 ∷ t) fact.0;
+          below = number.1;
+          there = there.1;
+          own = own.0;
+          fits = fact.1;
+          order = set.0;
+          other = set.1;
+        }) set.2
+
+top_taken : (shape : Shape) (cells : List Cell) (facts : Facts) (w value : List ℕ) (later : List (List ℕ)) (more : Facts)
+    → w ≡ codes "top" ++ 61 ∷ value → take_top shape facts value ≡ Ok more → Taken shape cells facts w later more
+unfolding take_top
+top_taken shape cells facts w value later more e h =
+    let p = passed shape.timed (one_number 0 scanline value >>= (λ top. top_value facts top)) why.Word more h in
+    let m = bind_ok (one_number 0 scanline value) (λ top. top_value facts top) more p.1 in
+    let number = one_only 0 scanline m.0 value (lit≤ tt) m.1 in
+    let last = passed (is_top m.0) (top_set facts m.0) why.Limit more m.2 in
+    let set = order_is facts more 59 (is_default_top m.0) (with_top facts m.0) last.1 in
+    timer_top m.0
+    (record {
+      word = e ∙ ap (λ t. codes "top" ++ 61 ∷ t) number.0;
+      timed = p.0;
+      fits = last.0;
+      order = set.0;
+      other = set.1;
+    }) set.2
+
+temp_taken : (shape : Shape) (cells : List Cell) (facts : Facts) (w value : List ℕ) (later : List (List ℕ)) (more : Facts)
+    → w ≡ codes "temp" ++ 61 ∷ value → take_temp shape facts value ≡ Ok more → Taken shape cells facts w later more
+unfolding take_temp
+temp_taken shape cells facts w value later more e h =
+    let p = passed shape.timed (range temp_forms value >>= (λ raw. ends_of raw >>= (λ temp. temp_set facts temp))) why.Word more h in
+    let m = bind_ok (range temp_forms value) (λ raw. ends_of raw >>= (λ temp. temp_set facts temp)) more p.1 in
+    let n = bind_ok (ends_of m.0) (λ temp. temp_set facts temp) more m.2 in
+    let is = temp_only value m.0 n.0 m.1 n.1 in
+    let set = order_is facts more 60 false (with_temp facts n.0) n.2 in
+    timer_temp n.0
+    (record { word = e ∙ ap (λ t. codes "temp" ++ 61 ∷ t) is.0; timed = p.0; fits = is.1; order = set.0 }) set.2
+
+successor_taken : (shape : Shape) (cells : List Cell) (facts : Facts) (w id : List ℕ) (later : List (List ℕ)) (more : Facts)
+    → shape.points ≤ 2 ^ 32 → w ≡ 62 ∷ id → take_successor shape facts id ≡ Ok more → Taken shape cells facts w later more
+unfolding take_successor
+successor_taken shape cells facts w id later more points e h =
+    by_number (number_below shape.points id) refl r.1
+  where
+    p : ((shape.plain || not (digits id)) ≡ false)
+        × (cond (not (is_numeral id)) (Err why.Number)
+        (cond (ltb (length facts.next.items) 16) (successor_set facts (number_below shape.points id)) (Err why.Limit)) ≡ Ok more)
+    p = failed (shape.plain || not (digits id)) (cond (not (is_numeral id)) (Err why.Number) (cond (ltb (length facts.next.items) 16)
+        (successor_set facts (number_below shape.points id)) (Err why.Limit))) why.Word more h
+
+    q : (not (is_numeral id) ≡ false) × (cond (ltb (length facts.next.items) 16) (successor_set facts (number_below shape.points id))
+        (Err why.Limit) ≡ Ok more)
+    q = failed (not (is_numeral id)) (cond (ltb (length facts.next.items) 16) (successor_set facts (number_below shape.points id))
+        (Err why.Limit)) why.Number more p.1
+
+    r : (ltb (length facts.next.items) 16 ≡ true) × (successor_set facts (number_below shape.points id) ≡ Ok more)
+    r = passed (ltb (length facts.next.items) 16) (successor_set facts (number_below shape.points id)) why.Limit more q.1
+
+    by_number : (o : Option ℕ) → number_below shape.points id ≡ o → successor_set facts o ≡ Ok more → Taken shape cells facts w later more
+    by_number None n h = absurd (fault_not why.Unknown more h)
+    by_number (Some n) is h =
+        let number = number_read shape.points n id points is in
+        let order = passed (leb facts.after n) (Ok (with_successor facts n)) why.Order more h in
+        successor n
+        (record {
+          word = e ∙ ap (λ t. 62 ∷ t) number.0;
+          whole = (or_false shape.plain (not (digits id)) p.0).0;
+          there = number.1;
+          room = lt_is (length facts.next.items) 16 r.0;
+          order = le_is facts.after n order.0;
+        }) (sym (fine_is (with_successor facts n) more order.1))
+
+-- items that are named by a letter
+
+letter_word : (letter c : ℕ) (w value : List ℕ) → letter ≡ c → w ≡ letter ∷ 61 ∷ value → w ≡ c ∷ 61 ∷ value
+letter_word letter c w value e h = h ∙ ap (λ l. l ∷ 61 ∷ value) e
+
+letter_taken : (shape : Shape) (cells : List Cell) (facts : Facts) (w value : List ℕ) (letter : ℕ) (later : List (List ℕ)) (more : Facts)
+    → w ≡ letter ∷ 61 ∷ value → take_letter shape facts letter value later ≡ Ok more → Taken shape cells facts w later more
+unfolding take_letter
+letter_taken shape cells facts w value letter later more e h = is_x (eqb letter 120) refl h
+  where
+    no_z : (k : ℕ) → k ≢ 2 → k ≡ 2 → is_flag_z shape facts value later ≡ false
+    no_z k n e = absurd (n e)
+
+    no_flag_z : (b : ℕ) → b ≢ 1 → b ≡ 1 → is_flag_z shape facts value later ≡ true
+    no_flag_z b n e = absurd (n e)
+
+    is_t : (t : Bool) → eqb letter 116 ≡ t → cond t (take_flag shape facts 6 value) (Err why.Word) ≡ Ok more → Taken shape cells facts w
+        later more
+    is_t true t h = flag_taken shape cells facts w value later 6 more (letter_word letter 116 w value (number_is letter 116 t) e) (lit< tt)
+        (no_flag_z 6 (λ e. omega arith)) h
+    is_t false t h = absurd (fault_not why.Word more h)
+
+    is_h : (t : Bool) → eqb letter 104 ≡ t → cond t (take_flag shape facts 5 value) (cond (eqb letter 116) (take_flag shape facts 6 value)
+        (Err why.Word)) ≡ Ok more
+        → Taken shape cells facts w later more
+    is_h true t h = flag_taken shape cells facts w value later 5 more (letter_word letter 104 w value (number_is letter 104 t) e) (lit< tt)
+        (no_flag_z 5 (λ e. omega arith)) h
+    is_h false t h = is_t (eqb letter 116) refl h
+
+    is_s : (t : Bool) → eqb letter 115 ≡ t
+        → cond t (take_flag shape facts 4 value) (cond (eqb letter 104) (take_flag shape facts 5 value)
+        (cond (eqb letter 116) (take_flag shape facts 6 value) (Err why.Word))) ≡ Ok more
+        → Taken shape cells facts w later more
+    is_s true t h = flag_taken shape cells facts w value later 4 more (letter_word letter 115 w value (number_is letter 115 t) e) (lit< tt)
+        (no_flag_z 4 (λ e. omega arith)) h
+    is_s false t h = is_h (eqb letter 104) refl h
+
+    is_v : (t : Bool) → eqb letter 118 ≡ t
+        → cond t (take_flag shape facts 3 value) (cond (eqb letter 115) (take_flag shape facts 4 value)
+        (cond (eqb letter 104) (take_flag shape facts 5 value)
+        (cond (eqb letter 116) (take_flag shape facts 6 value) (Err why.Word)))) ≡ Ok more
+        → Taken shape cells facts w later more
+    is_v true t h = flag_taken shape cells facts w value later 3 more (letter_word letter 118 w value (number_is letter 118 t) e) (lit< tt)
+        (no_flag_z 3 (λ e. omega arith)) h
+    is_v false t h = is_s (eqb letter 115) refl h
+
+    is_n : (t : Bool) → eqb letter 110 ≡ t
+        → cond t (take_flag shape facts 2 value) (cond (eqb letter 118) (take_flag shape facts 3 value)
+        (cond (eqb letter 115) (take_flag shape facts 4 value)
+        (cond (eqb letter 104) (take_flag shape facts 5 value) (cond (eqb letter 116) (take_flag shape facts 6 value) (Err why.Word)))))
+        ≡ Ok more
+        → Taken shape cells facts w later more
+    is_n true t h = flag_taken shape cells facts w value later 2 more (letter_word letter 110 w value (number_is letter 110 t) e) (lit< tt)
+        (no_flag_z 2 (λ e. omega arith)) h
+    is_n false t h = is_v (eqb letter 118) refl h
+
+    is_c : (t : Bool) → eqb letter 99 ≡ t
+        → cond t (take_flag shape facts 0 value) (cond (eqb letter 110) (take_flag shape facts 2 value)
+        (cond (eqb letter 118) (take_flag shape facts 3 value)
+        (cond (eqb letter 115) (take_flag shape facts 4 value) (cond (eqb letter 104) (take_flag shape facts 5 value)
+        (cond (eqb letter 116) (take_flag shape facts 6 value) (Err why.Word)))))) ≡ Ok more
+        → Taken shape cells facts w later more
+    is_c true t h = flag_taken shape cells facts w value later 0 more (letter_word letter 99 w value (number_is letter 99 t) e) (lit< tt)
+        (no_flag_z 0 (λ e. omega arith)) h
+    is_c false t h = is_n (eqb letter 110) refl h
+
+    which_z : letter ≡ 122 → (t : Bool) → is_flag_z shape facts value later ≡ t
+        → cond t (take_flag shape facts 1 value) (take_pair shape facts 2 value) ≡ Ok more → Taken shape cells facts w later more
+    which_z l true t h = flag_taken shape cells facts w value later 1 more (letter_word letter 122 w value l e) (lit< tt) (λ _. t) h
+    which_z l false t h = pair_taken shape cells facts w value later 2 more (letter_word letter 122 w value l e) (lit< tt) (λ _. t) h
+
+    is_z : (t : Bool) → eqb letter 122 ≡ t
+        → cond t (cond (is_flag_z shape facts value later) (take_flag shape facts 1 value) (take_pair shape facts 2 value))
+        (cond (eqb letter 99) (take_flag shape facts 0 value) (cond (eqb letter 110) (take_flag shape facts 2 value)
+        (cond (eqb letter 118) (take_flag shape facts 3 value)
+        (cond (eqb letter 115) (take_flag shape facts 4 value) (cond (eqb letter 104) (take_flag shape facts 5 value)
+        (cond (eqb letter 116) (take_flag shape facts 6 value) (Err why.Word))))))) ≡ Ok more
+        → Taken shape cells facts w later more
+    is_z true t h = which_z (number_is letter 122 t) (is_flag_z shape facts value later) refl h
+    is_z false t h = is_c (eqb letter 99) refl h
+
+    is_y : (t : Bool) → eqb letter 121 ≡ t
+        → cond t (take_pair shape facts 1 value)
+        (cond (eqb letter 122) (cond (is_flag_z shape facts value later) (take_flag shape facts 1 value) (take_pair shape facts 2 value))
+        (cond (eqb letter 99) (take_flag shape facts 0 value) (cond (eqb letter 110) (take_flag shape facts 2 value)
+        (cond (eqb letter 118) (take_flag shape facts 3 value)
+        (cond (eqb letter 115) (take_flag shape facts 4 value) (cond (eqb letter 104) (take_flag shape facts 5 value)
+        (cond (eqb letter 116) (take_flag shape facts 6 value) (Err why.Word)))))))) ≡ Ok more
+        → Taken shape cells facts w later more
+    is_y true t h = pair_taken shape cells facts w value later 1 more (letter_word letter 121 w value (number_is letter 121 t) e) (lit< tt)
+        (no_z 1 (λ e. omega arith)) h
+    is_y false t h = is_z (eqb letter 122) refl h
+
+    is_x : (t : Bool) → eqb letter 120 ≡ t
+        → cond t (take_pair shape facts 0 value) (cond (eqb letter 121) (take_pair shape facts 1 value)
+        (cond (eqb letter 122) (cond (is_flag_z shape facts value later) (take_flag shape facts 1 value) (take_pair shape facts 2 value))
+        (cond (eqb letter 99) (take_flag shape facts 0 value) (cond (eqb letter 110) (take_flag shape facts 2 value)
+        (cond (eqb letter 118) (take_flag shape facts 3 value)
+        (cond (eqb letter 115) (take_flag shape facts 4 value) (cond (eqb letter 104) (take_flag shape facts 5 value)
+        (cond (eqb letter 116) (take_flag shape facts 6 value) (Err why.Word))))))))) ≡ Ok more
+        → Taken shape cells facts w later more
+    is_x true t h = pair_taken shape cells facts w value later 0 more (letter_word letter 120 w value (number_is letter 120 t) e) (lit< tt)
+        (no_z 0 (λ e. omega arith)) h
+    is_x false t h = is_y (eqb letter 121) refl h
+
+-- items that have a name
+
+-- what is asked of the places that a line's items may speak of
+pub record PlacesFit (shape : Shape) (cells : List Cell) : Type 0 where
+  pub few : length cells ≤ 16
+  pub bytes : CellsAreBytes cells
+  pub points : shape.points ≤ 2 ^ 32
+
+keyed_taken : (shape : Shape) (cells : List Cell) (facts : Facts) (w key value : List ℕ) (later : List (List ℕ)) (more : Facts)
+    → PlacesFit shape cells → w ≡ key ++ 61 ∷ value → take_keyed shape cells facts key value later ≡ Ok more → Taken shape cells facts w
+    later more
+keyed_taken shape cells facts w [] value later more fits e h = absurd (fault_not why.Word more h)
+keyed_taken shape cells facts w (c ∷ cs) value later more fits e h = is_r (eqb c 114) refl h
+  where
+    at : (b : ℕ) → eqb c b ≡ true → w ≡ (b ∷ cs) ++ 61 ∷ value
+    at b t = e ∙ ap (λ x. (x ∷ cs) ++ 61 ∷ value) (number_is c b t)
+
+    no_key : (ks : List ℕ) → eqb (length ks) 0 ≡ true → ks ≡ []
+    no_key [] t = refl
+    no_key (k ∷ ks) t = absurd (some (length ks) (number_is (suc (length ks)) 0 t))
+      where
+        some : (n : ℕ) → suc n ≡ 0 → ⊥
+        some n e = omega arith
+
+    named : (key : List ℕ) → bytes_eq (c ∷ cs) key ≡ true → w ≡ key ++ 61 ∷ value
+    named key t = e ∙ ap (λ ks. ks ++ 61 ∷ value) (word_is (c ∷ cs) key t)
+
+    is_temp : (t : Bool) → bytes_eq (c ∷ cs) (codes "temp") ≡ t → cond t (take_temp shape facts value) (Err why.Word) ≡ Ok more
+        → Taken shape cells facts w later more
+    is_temp true t h = temp_taken shape cells facts w value later more (named (codes "temp") t) h
+    is_temp false t h = absurd (fault_not why.Word more h)
+
+    is_timer : (t : Bool) → bytes_eq (c ∷ cs) (codes "top") ≡ t
+        → cond t (take_top shape facts value) (cond (bytes_eq (c ∷ cs) (codes "temp")) (take_temp shape facts value) (Err why.Word)) ≡ Ok more
+        → Taken shape cells facts w later more
+    is_timer true t h = top_taken shape cells facts w value later more (named (codes "top") t) h
+    is_timer false t h = is_temp (bytes_eq (c ∷ cs) (codes "temp")) refl h
+
+    is_letter : (t : Bool) → eqb (length cs) 0 ≡ t
+        → cond t (take_letter shape facts c value later) (take_timer shape facts (c ∷ cs) value) ≡ Ok more
+        → Taken shape cells facts w later more
+    is_letter true t h = letter_taken shape cells facts w value c later more (e ∙ ap (λ ks. (c ∷ ks) ++ 61 ∷ value) (no_key cs t)) h
+    is_letter false t h = is_timer (bytes_eq (c ∷ cs) (codes "top")) refl h
+
+    is_m : (t : Bool) → eqb c 109 ≡ t
+        → cond t (take_cell shape cells facts cs value) (cond (eqb (length cs) 0) (take_letter shape facts c value later)
+        (take_timer shape facts (c ∷ cs) value)) ≡ Ok more
+        → Taken shape cells facts w later more
+    is_m true t h = cell_taken shape cells facts w cs value later more fits.few fits.bytes (at 109 t) h
+    is_m false t h = is_letter (eqb (length cs) 0) refl h
+
+    is_r : (t : Bool) → eqb c 114 ≡ t
+        → cond t (take_register shape facts cs value) (cond (eqb c 109) (take_cell shape cells facts cs value)
+        (cond (eqb (length cs) 0) (take_letter shape facts c value later) (take_timer shape facts (c ∷ cs) value))) ≡ Ok more
+        → Taken shape cells facts w later more
+    is_r true t h = register_taken shape cells facts w cs value later more (at 114 t) h
+    is_r false t h = is_m (eqb c 109) refl h
+
+named_taken : (shape : Shape) (cells : List Cell) (facts : Facts) (w : List ℕ) (later : List (List ℕ)) (more : Facts)
+    → PlacesFit shape cells → take_named shape cells facts w later ≡ Ok more → Taken shape cells facts w later more
+unfolding take_named
+named_taken shape cells facts w later more fits h = by_cut (cut_at 61 w) refl h
+  where
+    by_cut : (o : Option (List ℕ × List ℕ)) → cut_at 61 w ≡ o → take_cut shape cells facts o later ≡ Ok more → Taken shape cells facts w
+        later more
+    by_cut None c h = absurd (fault_not why.Word more h)
+    by_cut (Some p) c h = keyed_taken shape cells facts w p.0 p.1 later more fits (cut_read 61 w p c) h
+
+pub item_taken : (shape : Shape) (cells : List Cell) (facts : Facts) (w : List ℕ) (later : List (List ℕ)) (more : Facts)
+    → PlacesFit shape cells → take_item shape cells facts w later ≡ Ok more → Taken shape cells facts w later more
+unfolding take_item
+item_taken shape cells facts [] later more fits h = absurd (fault_not why.Word more h)
+item_taken shape cells facts (c ∷ cs) later more fits h = is_successor (eqb c 62) refl h
+  where
+    second : eqb c 115 ≡ true → (ds : List ℕ) → cs ≡ ds → take_second shape cells facts (c ∷ cs) ds later ≡ Ok more → Taken shape cells
+        facts (c ∷ cs) later more
+    second s [] e h = named_taken shape cells facts (c ∷ cs) later more fits h
+    second s (d ∷ ds) e h = by_colon (eqb d 58) refl h
+      where
+        by_colon : (t : Bool) → eqb d 58 ≡ t → cond t (take_slot shape facts ds) (take_named shape cells facts (c ∷ cs) later) ≡ Ok more
+            → Taken shape cells facts (c ∷ cs) later more
+        by_colon true t h =
+            slot_taken shape cells facts (c ∷ cs) ds later more
+            (ap (λ x. c ∷ x) e ∙ ap (λ x. x ∷ d ∷ ds) (number_is c 115 s) ∙ ap (λ x. 115 ∷ x ∷ ds) (number_is d 58 t)) h
+        by_colon false t h = named_taken shape cells facts (c ∷ cs) later more fits h
+
+    is_slot : (t : Bool) → eqb c 115 ≡ t
+        → cond t (take_second shape cells facts (c ∷ cs) cs later) (take_named shape cells facts (c ∷ cs) later) ≡ Ok more
+        → Taken shape cells facts (c ∷ cs) later more
+    is_slot true t h = second t cs refl h
+    is_slot false t h = named_taken shape cells facts (c ∷ cs) later more fits h
+
+    is_successor : (t : Bool) → eqb c 62 ≡ t
+        → cond t (take_successor shape facts cs) (cond (eqb c 115) (take_second shape cells facts (c ∷ cs) cs later)
+        (take_named shape cells facts (c ∷ cs) later)) ≡ Ok more
+        → Taken shape cells facts (c ∷ cs) later more
+    is_successor true t h = successor_taken shape cells facts (c ∷ cs) cs later more fits.points (ap (λ x. x ∷ cs) (number_is c 62 t)) h
+    is_successor false t h = is_slot (eqb c 115) refl h

@@ -1,0 +1,278 @@
+-- An item that is spelled as one of the eight forms is taken.
+use Rattle.std.proofs.Common.{◌≡◌, ℕ, zero, suc, ◌+◌, ◌<◌, ◌≤◌, ◌≢◌, ◌^◌, Bool, true, false, cond, not, ◌-◌, ◌||◌, eqb, leb, ltb, List, ◌∷◌, ◌++◌, length}
+use Rattle.std.proofs.Common.{decimal, codes, lit<, lit≤, refl, ◌∙◌, ap, arith}
+use Rattle.std.specs.Prelude.{Some, Result, Ok, Err}
+use Rattle.uz_text.specs.Numbers.{is_numeral, number_below}
+use Rattle.uz_text.proofs.Cuts.{cut_again}
+use Rattle.uz_text.proofs.NumberWords.{number_again}
+use Rattle.uz_text.proofs.Plain.{Lacks, lacks_cons, decimal_lacks_above}
+use Rattle.uz_schedule.specs.Ends.{Ends}
+use Rattle.uz_schedule.specs.Limits.{is_top}
+use Rattle.uz_schedule.specs.Schedule.{scanline, half_line}
+use Rattle.uz_schedule.specs.Tracked.{tracks}
+use Rattle.uz_schedule.specs.WellFormed.{is_default_flag}
+use Rattle.uz_schedule.specs.declared.header.Cell.{Cell}
+use Rattle.uz_schedule.specs.declared.facts.Fact.{Fact}
+use Rattle.uz_schedule.specs.declared.facts.PairFact.{PairFact}
+use Rattle.uz_schedule.specs.declared.facts.Bit.{Bit}
+use Rattle.uz_cert_words.specs.Why.{◌>>=◌}
+use Rattle.uz_cert_words.specs.Values.{digits, one_number, range, raw_of, fact_of, pair_of, ends_of, bit_of}
+use Rattle.uz_cert_lines.specs.Defaults.{is_default, is_any_pair, is_range, is_default_top}
+use Rattle.uz_cert_lines.specs.Items.{is_handler, bytes_forms, register_set, register_key, take_register, pair_forms, pair_set, take_pair}
+use Rattle.uz_cert_lines.specs.Items.{flag_set, take_flag, slot_set, slot_room, take_slot, with_number, cell_at, cell_forms, numbered}
+use Rattle.uz_cert_lines.specs.Items.{cell_set, cell_value, take_cell, successor_set, take_successor, is_flag_z, take_letter, take_cut}
+use Rattle.uz_cert_lines.specs.Items.{top_set, top_value, take_top, temp_forms, temp_set, take_temp, take_named, take_item}
+use Rattle.uz_cert_lines.specs.declared.items.Shape.{Shape}
+use Rattle.uz_cert_lines.specs.declared.items.Facts.{Facts}
+use Rattle.uz_cert_words.specs.declared.why.CertWhy.{CertWhy}
+use Rattle.uz_cert_words.specs.declared.why.CertWhy.TheVariants as why
+use Rattle.uz_cert_writer.specs.Spelling.{range_word, item, fact_word, pair_word, flag_word}
+use Rattle.uz_cert_laws.proofs.Tests.{so, else_so, then, is_le, is_lt, number_is}
+use Rattle.uz_cert_laws.proofs.Numbers.{digits_so, numeral_so, one_so}
+use Rattle.uz_cert_laws.proofs.Facts.{fact_raw, fact_so, PairIn, pair_raw, pair_so, BitIn, bit_so, temp_raw, temp_so}
+use Rattle.uz_cert_laws.proofs.Taken.{with_register, with_pair, with_flag, with_slot, with_cell, with_top, with_temp, with_successor}
+use Rattle.uz_cert_laws.proofs.Taken.{TakesRegister, TakesPair, TakesTop, TakesTemp}
+use Rattle.uz_cert_laws.proofs.Taken.{TakesFlag, TakesSlot, TakesCell, TakesSuccessor, PlacesFit, cell_form, cell_limit, cell_range}
+use Rattle.uz_cert_laws.proofs.Taken.{order_so}
+
+key_lacks : (letter n : ℕ) → letter ≢ 61 → n < 2 ^ 64 → Lacks 61 (letter ∷ decimal n)
+key_lacks letter n h k = lacks_cons 61 letter (decimal n) h (decimal_lacks_above 61 n (lit< tt) k)
+
+pub register_takes : (shape : Shape) (cells : List Cell) (facts : Facts) (later : List (List ℕ)) (r : ℕ) (f : Fact)
+    → TakesRegister shape facts (item (114 ∷ decimal r) (fact_word f)) r f
+    → take_item shape cells facts (item (114 ∷ decimal r) (fact_word f)) later ≡ Ok (with_register facts r f)
+unfolding take_item take_named take_register
+register_takes shape cells facts later r f t =
+    let there : r < 32 = t.there in
+    let fact = fact_so (bytes_forms shape) f (lit≤ tt) t.fits in
+    ap (λ o. take_cut shape cells facts o later)
+    (cut_again 61 (114 ∷ decimal r) (fact_word f) (key_lacks 114 r (λ e. omega (arith, e)) (omega arith)))
+    ∙ ap (register_key shape facts (fact_word f)) (number_again 32 r (lit≤ tt) there)
+    ∙ then (raw_of (bytes_forms shape) (fact_word f)) (λ raw. fact_of raw >>= (λ fact. register_set shape facts r fact)) (fact_raw f)
+    (Ok (with_register facts r f)) fact.0
+    (then (fact_of (fact_raw f)) (λ fact. register_set shape facts r fact) f (Ok (with_register facts r f)) fact.1
+    (order_so facts r (is_default shape.kind r f) (with_register facts r f) t.order t.other))
+
+pair_set_so : (shape : Shape) (facts : Facts) (k : ℕ) (f : PairFact) → shape.plain ≡ false → PairIn pair_forms f → facts.least ≤ 32 + k
+    → is_any_pair f ≡ false
+    → take_pair shape facts k (pair_word f) ≡ Ok (with_pair facts k f)
+unfolding take_pair
+pair_set_so shape facts k f p i l o =
+    let fact = pair_so pair_forms f (lit≤ tt) i in
+    else_so shape.plain (Err why.Word) (raw_of pair_forms (pair_word f) >>= (λ raw. pair_of raw >>= (λ fact. pair_set facts k fact))) p
+    ∙ then (raw_of pair_forms (pair_word f)) (λ raw. pair_of raw >>= (λ fact. pair_set facts k fact)) (pair_raw f)
+    (Ok (with_pair facts k f)) fact.0
+    (then (pair_of (pair_raw f)) (λ fact. pair_set facts k fact) f (Ok (with_pair facts k f)) fact.1
+    (order_so facts (32 + k) (is_any_pair f) (with_pair facts k f) l o))
+
+flag_set_so : (shape : Shape) (facts : Facts) (b : ℕ) (bit : Bit) → BitIn (is_handler shape.kind) bit → facts.least ≤ 35 + b
+    → is_default_flag shape.kind bit ≡ false
+    → take_flag shape facts b (flag_word bit) ≡ Ok (with_flag facts b bit)
+unfolding take_flag
+flag_set_so shape facts b bit i l o =
+    then (bit_of (is_handler shape.kind) (flag_word bit)) (λ bit. flag_set shape facts b bit) bit (Ok (with_flag facts b bit))
+    (bit_so (is_handler shape.kind) bit i)
+    (order_so facts (35 + b) (is_default_flag shape.kind bit) (with_flag facts b bit) l o)
+
+-- by the letter
+
+abbrev Takes : Shape → List Cell → Facts → ℕ → List ℕ → List (List ℕ) → Result Facts CertWhy
+Takes shape cells facts letter value later = take_item shape cells facts (letter ∷ 61 ∷ value) later
+
+x_is : (shape : Shape) (cells : List Cell) (facts : Facts) (value : List ℕ) (later : List (List ℕ)) → Takes shape cells facts 120 value
+    later ≡ take_pair shape facts 0 value
+unfolding take_item take_named take_letter
+x_is shape cells facts value later = refl
+
+y_is : (shape : Shape) (cells : List Cell) (facts : Facts) (value : List ℕ) (later : List (List ℕ)) → Takes shape cells facts 121 value
+    later ≡ take_pair shape facts 1 value
+unfolding take_item take_named take_letter
+y_is shape cells facts value later = refl
+
+z_is : (shape : Shape) (cells : List Cell) (facts : Facts) (value : List ℕ) (later : List (List ℕ))
+    → Takes shape cells facts 122 value later ≡ cond (is_flag_z shape facts value later) (take_flag shape facts 1 value)
+    (take_pair shape facts 2 value)
+unfolding take_item take_named take_letter
+z_is shape cells facts value later = refl
+
+c_is : (shape : Shape) (cells : List Cell) (facts : Facts) (value : List ℕ) (later : List (List ℕ)) → Takes shape cells facts 99 value
+    later ≡ take_flag shape facts 0 value
+unfolding take_item take_named take_letter
+c_is shape cells facts value later = refl
+
+n_is : (shape : Shape) (cells : List Cell) (facts : Facts) (value : List ℕ) (later : List (List ℕ)) → Takes shape cells facts 110 value
+    later ≡ take_flag shape facts 2 value
+unfolding take_item take_named take_letter
+n_is shape cells facts value later = refl
+
+v_is : (shape : Shape) (cells : List Cell) (facts : Facts) (value : List ℕ) (later : List (List ℕ)) → Takes shape cells facts 118 value
+    later ≡ take_flag shape facts 3 value
+unfolding take_item take_named take_letter
+v_is shape cells facts value later = refl
+
+s_is : (shape : Shape) (cells : List Cell) (facts : Facts) (value : List ℕ) (later : List (List ℕ)) → Takes shape cells facts 115 value
+    later ≡ take_flag shape facts 4 value
+unfolding take_item take_named take_letter
+s_is shape cells facts value later = refl
+
+h_is : (shape : Shape) (cells : List Cell) (facts : Facts) (value : List ℕ) (later : List (List ℕ)) → Takes shape cells facts 104 value
+    later ≡ take_flag shape facts 5 value
+unfolding take_item take_named take_letter
+h_is shape cells facts value later = refl
+
+t_is : (shape : Shape) (cells : List Cell) (facts : Facts) (value : List ℕ) (later : List (List ℕ)) → Takes shape cells facts 116 value
+    later ≡ take_flag shape facts 6 value
+unfolding take_item take_named take_letter
+t_is shape cells facts value later = refl
+
+past_two : (k : ℕ) → suc (suc (suc k)) < 3 → ⊥
+past_two k h = omega arith
+
+pub pair_takes : (shape : Shape) (cells : List Cell) (facts : Facts) (later : List (List ℕ)) (w : List ℕ) (k : ℕ) (f : PairFact)
+    → TakesPair shape facts w later k f → take_item shape cells facts w later ≡ Ok (with_pair facts k f)
+pair_takes shape cells facts later w zero f t =
+    ap (λ v. take_item shape cells facts v later) t.word ∙ x_is shape cells facts (pair_word f) later ∙ pair_set_so shape facts 0 f t.whole
+    t.fits t.order t.other
+pair_takes shape cells facts later w (suc zero) f t =
+    ap (λ v. take_item shape cells facts v later) t.word ∙ y_is shape cells facts (pair_word f) later ∙ pair_set_so shape facts 1 f t.whole
+    t.fits t.order t.other
+pair_takes shape cells facts later w (suc (suc zero)) f t =
+    ap (λ v. take_item shape cells facts v later) t.word ∙ z_is shape cells facts (pair_word f) later
+    ∙ else_so (is_flag_z shape facts (pair_word f) later) (take_flag shape facts 1 (pair_word f)) (take_pair shape facts 2 (pair_word f))
+    (t.meant refl)
+    ∙ pair_set_so shape facts 2 f t.whole t.fits t.order t.other
+pair_takes shape cells facts later w (suc (suc (suc k))) f t = absurd (past_two k t.there)
+
+past_six : (b : ℕ) → suc (suc (suc (suc (suc (suc (suc b)))))) < 7 → ⊥
+past_six b h = omega arith
+
+pub flag_takes : (shape : Shape) (cells : List Cell) (facts : Facts) (later : List (List ℕ)) (w : List ℕ) (b : ℕ) (bit : Bit)
+    → TakesFlag shape facts w later b bit → take_item shape cells facts w later ≡ Ok (with_flag facts b bit)
+flag_takes shape cells facts later w zero bit t =
+    ap (λ v. take_item shape cells facts v later) t.word ∙ c_is shape cells facts (flag_word bit) later ∙ flag_set_so shape facts 0 bit
+    t.fits t.order t.other
+flag_takes shape cells facts later w (suc zero) bit t =
+    ap (λ v. take_item shape cells facts v later) t.word ∙ z_is shape cells facts (flag_word bit) later
+    ∙ so (is_flag_z shape facts (flag_word bit) later) (take_flag shape facts 1 (flag_word bit)) (take_pair shape facts 2 (flag_word bit))
+    (t.meant refl)
+    ∙ flag_set_so shape facts 1 bit t.fits t.order t.other
+flag_takes shape cells facts later w (suc (suc zero)) bit t =
+    ap (λ v. take_item shape cells facts v later) t.word ∙ n_is shape cells facts (flag_word bit) later ∙ flag_set_so shape facts 2 bit
+    t.fits t.order t.other
+flag_takes shape cells facts later w (suc (suc (suc zero))) bit t =
+    ap (λ v. take_item shape cells facts v later) t.word ∙ v_is shape cells facts (flag_word bit) later ∙ flag_set_so shape facts 3 bit
+    t.fits t.order t.other
+flag_takes shape cells facts later w (suc (suc (suc (suc zero)))) bit t =
+    ap (λ v. take_item shape cells facts v later) t.word ∙ s_is shape cells facts (flag_word bit) later ∙ flag_set_so shape facts 4 bit
+    t.fits t.order t.other
+flag_takes shape cells facts later w (suc (suc (suc (suc (suc zero))))) bit t =
+    ap (λ v. take_item shape cells facts v later) t.word ∙ h_is shape cells facts (flag_word bit) later ∙ flag_set_so shape facts 5 bit
+    t.fits t.order t.other
+flag_takes shape cells facts later w (suc (suc (suc (suc (suc (suc zero)))))) bit t =
+    ap (λ v. take_item shape cells facts v later) t.word ∙ t_is shape cells facts (flag_word bit) later ∙ flag_set_so shape facts 6 bit
+    t.fits t.order t.other
+flag_takes shape cells facts later w (suc (suc (suc (suc (suc (suc (suc b))))))) bit t = absurd (past_six b t.there)
+
+pub slot_takes : (shape : Shape) (cells : List Cell) (facts : Facts) (later : List (List ℕ)) (f : Fact)
+    → TakesSlot shape facts (codes "s:" ++ fact_word f) f → take_item shape cells facts (codes "s:" ++ fact_word f) later ≡ Ok
+    (with_slot facts f)
+unfolding take_item take_slot
+slot_takes shape cells facts later f t =
+    let fact = fact_so (bytes_forms shape) f (lit≤ tt) t.fits in
+    then (raw_of (bytes_forms shape) (fact_word f))
+    (λ raw. slot_room shape facts >>= (λ room. fact_of raw >>= (λ fact. slot_set facts fact))) (fact_raw f)
+    (Ok (with_slot facts f)) fact.0
+    (then (slot_room shape facts) (λ room. fact_of (fact_raw f) >>= (λ fact. slot_set facts fact)) 0 (Ok (with_slot facts f))
+    (so (ltb (length facts.stack.items) shape.depth) (Ok 0) (Err why.Limit) (is_lt (length facts.stack.items) shape.depth t.room))
+    (then (fact_of (fact_raw f)) (λ fact. slot_set facts fact) f (Ok (with_slot facts f)) fact.1
+    (order_so facts 42 false (with_slot facts f) t.order refl)))
+
+pub cell_takes : (shape : Shape) (cells : List Cell) (facts : Facts) (later : List (List ℕ)) (i : ℕ) (c : Cell) (f : Fact) → PlacesFit shape
+    cells
+    → TakesCell shape cells facts (item (109 ∷ decimal i) (fact_word f)) i c f
+    → take_item shape cells facts (item (109 ∷ decimal i) (fact_word f)) later ≡ Ok (with_cell shape cells facts i f)
+unfolding take_item take_named take_cell
+cell_takes shape cells facts later i c f fits t =
+    let few : length cells ≤ 16 = fits.few in
+    let below : i < length cells = t.below in
+    let fact = fact_so (cell_form shape c) f (cell_limit shape c (cell_range cells i c fits.bytes t.there)) t.fits in
+    let at : cell_at cells (number_below (length cells) (decimal i)) ≡ Some (i, c) =
+    ap (cell_at cells) (number_again (length cells) i (omega arith) below) ∙ ap (with_number i) t.there in
+    ap (λ o. take_cut shape cells facts o later)
+    (cut_again 61 (109 ∷ decimal i) (fact_word f) (key_lacks 109 i (λ e. omega (arith, e)) (omega arith)))
+    ∙ so (digits (decimal i))
+    (numbered (is_numeral (decimal i)) (raw_of (cell_forms shape (cell_at cells (number_below (length cells) (decimal i)))) (fact_word f))
+    >>= (λ raw. cell_value shape cells facts (cell_at cells (number_below (length cells) (decimal i))) raw))
+    (Err why.Word) (digits_so i (omega arith))
+    ∙ ap (λ o. numbered (is_numeral (decimal i)) (raw_of (cell_forms shape o) (fact_word f)) >>=
+    (λ raw. cell_value shape cells facts o raw)) at
+    ∙ ap (λ b. numbered b (raw_of (cell_form shape c) (fact_word f)) >>= (λ raw. cell_value shape cells facts (Some (i, c)) raw))
+    (numeral_so i (omega arith))
+    ∙ then (raw_of (cell_form shape c) (fact_word f)) (λ raw. cell_value shape cells facts (Some (i, c)) raw) (fact_raw f)
+    (Ok (with_cell shape cells facts i f)) fact.0
+    (so (tracks shape.kind c.owner) (fact_of (fact_raw f) >>= (λ fact. cell_set shape cells facts i c.range fact)) (Err why.Unknown) t.own
+    ∙ then (fact_of (fact_raw f)) (λ fact. cell_set shape cells facts i c.range fact) f (Ok (with_cell shape cells facts i f)) fact.1
+    (order_so facts (43 + i) (is_range c.range f) (with_cell shape cells facts i f) t.order t.other))
+
+-- OCR1A and TEMP
+
+top_below : (top : ℕ) → is_top top ≡ true → top < scanline
+top_below top h = by_half (eqb top (half_line - 1)) refl h
+  where
+    by_half : (t : Bool) → eqb top (half_line - 1) ≡ t → (t || eqb top (scanline - 1)) ≡ true → top < scanline
+    by_half true e h = omega (arith, number_is top (half_line - 1) e)
+    by_half false e h = omega (arith, number_is top (scanline - 1) h)
+
+top_is : (shape : Shape) (cells : List Cell) (facts : Facts) (value : List ℕ) (later : List (List ℕ))
+    → take_item shape cells facts (item (codes "top") value) later ≡ take_top shape facts value
+unfolding take_item take_named
+top_is shape cells facts value later = refl
+
+pub top_takes : (shape : Shape) (cells : List Cell) (facts : Facts) (later : List (List ℕ)) (top : ℕ)
+    → TakesTop shape facts (item (codes "top") (decimal top)) top
+    → take_item shape cells facts (item (codes "top") (decimal top)) later ≡ Ok (with_top facts top)
+unfolding take_top
+top_takes shape cells facts later top t =
+    top_is shape cells facts (decimal top) later
+    ∙ so shape.timed (one_number 0 scanline (decimal top) >>= (λ n. top_value facts n)) (Err why.Word) t.timed
+    ∙ then (one_number 0 scanline (decimal top)) (λ n. top_value facts n) top (Ok (with_top facts top))
+    (one_so 0 scanline top (lit≤ tt) (omega arith) (top_below top t.fits))
+    (so (is_top top) (top_set facts top) (Err why.Limit) t.fits
+    ∙ order_so facts 59 (is_default_top top) (with_top facts top) t.order t.other)
+
+temp_is : (shape : Shape) (cells : List Cell) (facts : Facts) (value : List ℕ) (later : List (List ℕ))
+    → take_item shape cells facts (item (codes "temp") value) later ≡ take_temp shape facts value
+unfolding take_item take_named
+temp_is shape cells facts value later = refl
+
+pub temp_takes : (shape : Shape) (cells : List Cell) (facts : Facts) (later : List (List ℕ)) (temp : Ends)
+    → TakesTemp shape facts (item (codes "temp") (range_word temp)) temp
+    → take_item shape cells facts (item (codes "temp") (range_word temp)) later ≡ Ok (with_temp facts temp)
+unfolding take_temp
+temp_takes shape cells facts later temp t =
+    let is = temp_so temp t.fits in
+    temp_is shape cells facts (range_word temp) later
+    ∙ so shape.timed (range temp_forms (range_word temp) >>= (λ raw. ends_of raw >>= (λ e. temp_set facts e))) (Err why.Word) t.timed
+    ∙ then (range temp_forms (range_word temp)) (λ raw. ends_of raw >>= (λ e. temp_set facts e)) (temp_raw temp)
+    (Ok (with_temp facts temp)) is.0
+    (then (ends_of (temp_raw temp)) (λ e. temp_set facts e) temp (Ok (with_temp facts temp)) is.1
+    (order_so facts 60 false (with_temp facts temp) t.order refl))
+
+pub successor_takes : (shape : Shape) (cells : List Cell) (facts : Facts) (later : List (List ℕ)) (id : ℕ) → PlacesFit shape cells
+    → TakesSuccessor shape facts (62 ∷ decimal id) id
+    → take_item shape cells facts (62 ∷ decimal id) later ≡ Ok (with_successor facts id)
+unfolding take_item take_successor
+successor_takes shape cells facts later id fits t =
+    let points : shape.points ≤ 2 ^ 32 = fits.points in
+    let there : id < shape.points = t.there in
+    else_so (shape.plain || not (digits (decimal id))) (Err why.Word)
+    (cond (not (is_numeral (decimal id))) (Err why.Number)
+    (cond (ltb (length facts.next.items) 16) (successor_set facts (number_below shape.points (decimal id))) (Err why.Limit)))
+    (ap (λ b. b || not (digits (decimal id))) t.whole ∙ ap not (digits_so id (omega arith)))
+    ∙ else_so (not (is_numeral (decimal id))) (Err why.Number)
+    (cond (ltb (length facts.next.items) 16) (successor_set facts (number_below shape.points (decimal id))) (Err why.Limit))
+    (ap not (numeral_so id (omega arith)))
+    ∙ so (ltb (length facts.next.items) 16) (successor_set facts (number_below shape.points (decimal id))) (Err why.Limit)
+    (is_lt (length facts.next.items) 16 t.room)
+    ∙ ap (successor_set facts) (number_again shape.points id points there)
+    ∙ so (leb facts.after id) (Ok (with_successor facts id)) (Err why.Order) (is_le facts.after id t.order)

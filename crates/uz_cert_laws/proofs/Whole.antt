@@ -1,0 +1,189 @@
+-- Whole texts: a certificate's text is read as it, and a text that is read is its certificate's.
+use Rattle.std.proofs.Common.{◌≡◌, ◌≢◌, ℕ, Bool, true, false, cond, List, [], ◌∷◌, ◌++◌, length}
+use Rattle.std.proofs.Common.{bytes_eq, zero-add, refl, sym, ◌∙◌, ap, subst}
+use Rattle.std.proofs.Common.{arith}
+use Rattle.std.specs.Prelude.{Ok, Err}
+use Rattle.std.specs.List.{join_with_byte}
+use Rattle.std.proofs.lemmas.Slice.Eq.{bytes_eq-Decides}
+use Rattle.std.proofs.lemmas.List.Elements.{All-weaker}
+use Rattle.std.proofs.lemmas.List.Splits.{join_with_byte-slice_split}
+use Rattle.uz_text.proofs.Plain.{Lacks, lacks_nil, lacks_cons, split_join}
+use Rattle.uz_schedule.specs.WellFormed.{StackFits, CellFits, WellFormed}
+use Rattle.uz_schedule.specs.declared.header.Cell.{Cell}
+use Rattle.uz_schedule.specs.declared.header.Head.{Head}
+use Rattle.uz_schedule.specs.declared.certificate.Cert.{Cert}
+use Rattle.uz_cert_writer.specs.Spelling.{kinds_then, runs_of, lines_of_certificate, spelling}
+use Rattle.uz_cert_lines.specs.declared.lines.Sizes.{Sizes}
+use Rattle.uz_cert_lines.specs.declared.lines.StackLine.{StackLine}
+use Rattle.uz_cert_lines.specs.declared.lines.Said.TheVariants as said
+use Rattle.uz_cert_words.specs.declared.why.CertWhy.TheVariants as why
+use Rattle.uz_cert.specs.Drafts.{first_draft}
+use Rattle.uz_cert_lines.specs.Lines.{head_line, SizesFit}
+use Rattle.uz_cert_lines.specs.declared.version.Version.{Version}
+use Rattle.uz_cert_lines.specs.declared.version.Version.TheVariants.{First, Second}
+use Rattle.uz_cert.proofs.TextLaws.{head_read}
+use Rattle.uz_cert.specs.Kept.{Kept}
+use Rattle.uz_cert.specs.Reading.{pieces_of, is_more, or_fault, cert_from, read_from, read_pieces, cert_of_text}
+use Rattle.uz_cert.specs.Texts.{IsOfVersion}
+use Rattle.uz_cert.specs.declared.draft.Draft.{Draft}
+use Rattle.uz_cert.proofs.KeptLaws.{first_kept, kept_after}
+use Rattle.uz_cert_laws.proofs.Due.{due_size, due_irq, due_stack}
+use Rattle.uz_cert_laws.proofs.Onward.{LineSpelling, spelled, told, step, more_lines, cell_lines, cells_again, kinds_again, fall_lines}
+use Rattle.uz_cert_laws.proofs.Onward.{fall_again, with_kinds, kinds_more}
+use Rattle.uz_cert_laws.proofs.Runs.{expand_runs, all_runs, runs_apart}
+use Rattle.uz_cert_laws.proofs.Backward.{PlainLines, draft_sizes, draft_irq, draft_stack, size_next, irq_next, stack_next, pieces_plain}
+use Rattle.uz_cert_laws.proofs.Backward.{lines_back}
+
+-- a certificate's text is read as it
+
+abbrev sizes_of : Cert → Sizes
+sizes_of c = record {
+  kinds = length c.schedule.kinds;
+  lines = length c.schedule.lines;
+  rests = length c.rests;
+  points = length c.points;
+  cells = length c.head.cells.items;
+}
+
+abbrev stack_of : Head → StackLine
+stack_of h = record { lo = h.lo; hi = h.hi; main = h.main; handler = h.handler }
+
+sizes_fit : (c : Cert) → WellFormed c → SizesFit (sizes_of c)
+sizes_fit c w = record {
+  kinds_some = w.schedule.kinds.some;
+  kinds_few = w.schedule.kinds.few;
+  lines_some = w.schedule.lines.some;
+  lines_few = w.schedule.lines.few;
+  rests_few = w.rests.few;
+  points_some = w.points.some;
+  points_few = w.points.few;
+  cells_few = w.head.few;
+}
+
+-- the lines from the fall on, and those from the cells on
+abbrev late_lines : Cert → List (List ℕ)
+late_lines c = fall_lines c.schedule.fall (runs_of c.schedule.lines) c.head.cells.items c.rests c.entry c.points
+
+abbrev middle_lines : Version → Cert → List (List ℕ)
+middle_lines v c = cell_lines c.head.cells.items ++ kinds_then v c.schedule.kinds c.schedule.lengths (late_lines c)
+
+kinds_some : (v : Version) (c : Cert) → is_more (kinds_then v c.schedule.kinds c.schedule.lengths (late_lines c)) ≡ true
+kinds_some v c = kinds_more v c.schedule.kinds c.schedule.lengths (late_lines c) refl
+
+middle_some : (v : Version) (c : Cert) → is_more (middle_lines v c) ≡ true
+middle_some v c = more_lines (cell_lines c.head.cells.items) (kinds_then v c.schedule.kinds c.schedule.lengths (late_lines c))
+    (kinds_some v c)
+
+refit : (h : Head) (x : Cell) → CellFits h x
+    → CellFits (record { irq = h.irq; lo = h.lo; hi = h.hi; main = h.main; handler = h.handler; cells = record { items = [] } }) x
+refit h x f = record { low = f.low; high = f.high; off_stack = f.off_stack; range = f.range }
+
+middle_again : (l : LineSpelling) (v : Version) (c : Cert) → WellFormed c → IsOfVersion v c
+    → Kept (draft_stack v (sizes_of c) c.head.irq (stack_of c.head))
+    → read_from (draft_stack v (sizes_of c) c.head.irq (stack_of c.head)) (middle_lines v c) ≡ told c
+middle_again l v c w own kept =
+    let d = draft_stack v (sizes_of c) c.head.irq (stack_of c.head) in
+    let fits = All-weaker (CellFits c.head) (CellFits d.head) (λ x f. refit c.head x f) c.head.cells.items w.head.cells in
+    let m = cells_again l d c.head.cells.items (kinds_then v c.schedule.kinds c.schedule.lengths (late_lines c)) kept (omega arith)
+    (zero-add (length c.head.cells.items)) fits w.head.rise (kinds_some v c) in
+    let d_cells : Draft = record d {
+      read = m.read;
+      head = record d.head { cells = record { items = c.head.cells.items } };
+      cell_least = m.least;
+    } in
+    let k = kinds_again l d_cells c.schedule.kinds c.schedule.lengths (late_lines c) m.kept m.body refl (refl, refl, refl, refl)
+    (zero-add (length c.schedule.kinds)) w.schedule.kinds.each w.schedule.lengths own.lengths refl in
+    let d_kinds : Draft = with_kinds d_cells k.read c.schedule.kinds c.schedule.lengths in
+    let lines = expand_runs c.schedule.lines in
+    let most = w.schedule.kinds.few in
+    let f = fall_again l d_kinds c.schedule.fall (runs_of c.schedule.lines) c.rests c.entry c.points k.kept k.body (refl, refl, refl) refl
+    w.schedule.fall_some w.schedule.fall_in_line refl
+    (runs_apart (length c.schedule.kinds) 4294967295 c.schedule.lines (omega (arith, most)) w.schedule.lines.there)
+    (all_runs (length c.schedule.kinds) c.schedule.lines w.schedule.lines.there) (ap (λ ls. length ls) lines)
+    (refl, refl, refl, zero-add (length c.rests), w.rests.each, w.rests.rise, refl, w.entry, w.points.each, own.points, w.points.instances) in
+    m.same ∙ (k.same ∙ (f ∙ ap (λ ls. told
+    (cert_from (record d_kinds { fall = c.schedule.fall; lines = ls; rests = c.rests; points = c.points }) c.entry)) lines))
+
+abbrev other_lines : Version → Cert → List (List ℕ)
+other_lines v c =
+    spelled v (first_draft v).head (said.Size (sizes_of c)) ∷ spelled v (first_draft v).head (said.Irq c.head.irq)
+    ∷ spelled v (first_draft v).head
+    (said.Stack (stack_of c.head)) ∷ middle_lines v c
+
+lines_again : (l : LineSpelling) (v : Version) (c : Cert) → WellFormed c → IsOfVersion v c
+    → read_from (first_draft v) (other_lines v c) ≡ told c
+lines_again l v c w own =
+    let sizes = sizes_fit c w in
+    let sized = size_next (first_draft v) (sizes_of c) in
+    let kept_a = subst Kept sized (kept_after (first_draft v) (said.Size (sizes_of c)) (first_kept v) (omega arith, sizes)) in
+    let answered = irq_next (draft_sizes v (sizes_of c)) c.head.irq in
+    let kept_b = subst Kept answered (kept_after (draft_sizes v (sizes_of c)) (said.Irq c.head.irq) kept_a (omega arith)) in
+    let s = w.head.stack in
+    let stack : StackFits (record (draft_irq v (sizes_of c) c.head.irq).head {
+      lo = c.head.lo;
+      hi = c.head.hi;
+      main = c.head.main;
+      handler = c.head.handler;
+    }) =
+    record { low = s.low; order = s.order; high = s.high; main = s.main; handler = s.handler; room = s.room } in
+    let stacked = stack_next (draft_irq v (sizes_of c) c.head.irq) (stack_of c.head) in
+    let kept_c = subst Kept stacked (kept_after (draft_irq v (sizes_of c) c.head.irq) (said.Stack (stack_of c.head)) kept_b
+    (omega arith, stack)) in
+    step l (first_draft v) (said.Size (sizes_of c)) (spelled v (first_draft v).head (said.Irq c.head.irq) ∷ spelled v (first_draft v).head
+    (said.Stack (stack_of c.head)) ∷ middle_lines v c)
+    (first_kept v) (due_size (first_draft v) refl) (omega arith, sizes) tt refl
+    ∙ (ap (λ m. read_from m (spelled v (first_draft v).head (said.Irq c.head.irq)
+    ∷ spelled v (first_draft v).head (said.Stack (stack_of c.head))
+    ∷ middle_lines v c)) sized
+    ∙ (step l (draft_sizes v (sizes_of c)) (said.Irq c.head.irq) (spelled v (first_draft v).head (said.Stack (stack_of c.head))
+    ∷ middle_lines v c)
+    kept_a (due_irq (draft_sizes v (sizes_of c)) refl) (omega arith) tt refl
+    ∙ (ap (λ m. read_from m (spelled v (first_draft v).head (said.Stack (stack_of c.head)) ∷ middle_lines v c)) answered
+    ∙ (step l (draft_irq v (sizes_of c) c.head.irq) (said.Stack (stack_of c.head)) (middle_lines v c) kept_b
+    (due_stack (draft_irq v (sizes_of c) c.head.irq) refl)
+    (omega arith, stack) tt (middle_some v c)
+    ∙ (ap (λ m. read_from m (middle_lines v c)) stacked ∙ middle_again l v c w own kept_c)))))
+
+-- whole texts
+
+head_begins : (b : ℕ) → b ≢ 10 → Lacks 10 (122 ∷ 99 ∷ 101 ∷ 114 ∷ 116 ∷ 32 ∷ b ∷ [])
+head_begins b h =
+    lacks_cons 10 122 (99 ∷ 101 ∷ 114 ∷ 116 ∷ 32 ∷ b ∷ []) (λ e. omega (arith, e)) (lacks_cons 10 99 (101 ∷ 114 ∷ 116 ∷ 32 ∷ b ∷ [])
+    (λ e. omega (arith, e)) (lacks_cons 10 101 (114 ∷ 116 ∷ 32 ∷ b ∷ []) (λ e. omega (arith, e))
+    (lacks_cons 10 114 (116 ∷ 32 ∷ b ∷ []) (λ e. omega (arith, e)) (lacks_cons 10 116 (32 ∷ b ∷ []) (λ e. omega (arith, e))
+    (lacks_cons 10 32 (b ∷ []) (λ e. omega (arith, e)) (lacks_cons 10 b [] h (lacks_nil 10)))))))
+
+head_lacks : (v : Version) → Lacks 10 (head_line v)
+head_lacks First =
+    lacks_cons 10 117 (122 ∷ 99 ∷ 101 ∷ 114 ∷ 116 ∷ 32 ∷ 49 ∷ []) (λ e. omega (arith, e)) (head_begins 49 (λ e. omega (arith, e)))
+head_lacks Second =
+    lacks_cons 10 117 (122 ∷ 99 ∷ 101 ∷ 114 ∷ 116 ∷ 32 ∷ 50 ∷ []) (λ e. omega (arith, e)) (head_begins 50 (λ e. omega (arith, e)))
+
+pub spelling_read : (plain : PlainLines) (l : LineSpelling) (v : Version) (c : Cert) → WellFormed c → IsOfVersion v c
+    → cert_of_text v (spelling v c) ≡ told c
+spelling_read plain l v c w own =
+    let read = lines_again l v c w own in
+    ap (read_pieces v) (split_join 10 (head_line v) (other_lines v c) (head_lacks v)
+    (pieces_plain plain l (first_draft v) (other_lines v c) c (first_kept v) read))
+    ∙ (head_read v (other_lines v c) refl ∙ read)
+
+head_of : (v : Version) (line : List ℕ) (rest : List (List ℕ)) (c : Cert) → read_pieces v (line ∷ rest) ≡ told c
+    → (line ≡ head_line v) × (read_from (first_draft v) rest ≡ told c)
+head_of v line rest c e = by (bytes_eq line (head_line v)) refl (is_more rest) e
+  where
+    by : (t : Bool) → bytes_eq line (head_line v) ≡ t → (m : Bool)
+        → or_fault 1 (cond t (cond m (Ok (first_draft v)) (Err why.NoEnd)) (Err why.Head)) (λ d. read_from d rest) ≡ told c
+        → (line ≡ head_line v) × (read_from (first_draft v) rest ≡ told c)
+    by true is true h = ((bytes_eq-Decides line (head_line v)).0 is, h)
+    by true is false h = absurd cc
+    by false is m h = absurd cc
+
+pieces_spelled : (l : LineSpelling) (v : Version) (pieces : List (List ℕ)) (c : Cert) → read_pieces v pieces ≡ told c
+    → pieces ≡ lines_of_certificate v c
+pieces_spelled l v [] c e = absurd cc
+pieces_spelled l v (line ∷ rest) c e =
+    let h = head_of v line rest c e in
+    ap (λ x. x ∷ rest) h.0 ∙ lines_back l v rest c h.1
+
+pub text_spelled : (l : LineSpelling) (v : Version) (text : List ℕ) (c : Cert) → cert_of_text v text ≡ told c → text ≡ spelling v c
+text_spelled l v text c e = sym (join_with_byte-slice_split 10 text) ∙ ap (join_with_byte 10) (pieces_spelled l v (pieces_of text) c e)

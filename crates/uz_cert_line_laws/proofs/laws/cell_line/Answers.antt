@@ -1,8 +1,0 @@
-use Rattle.uz_cert_line_laws.proofs.HeadLines.{cell_again, cell_only}
-use Rattle.uz_cert_line_laws.proofs.laws.cell_line.Goals as goal
-
-pub returns-clause-again : goal.returns-clause-again
-returns-clause-again c h least cell f l = cell_again h least cell f l
-
-pub returns-clause-only : goal.returns-clause-only
-returns-clause-only c h least w s e = cell_only h least w s e

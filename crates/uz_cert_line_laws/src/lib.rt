@@ -1,9 +1,0 @@
-//! Laws about the lines of a certificate's text: what is spelled is read again, and only what is spelled is read.
-#![tactic(auto)]
-
-mod laws;
-
-pub use laws::{
-    cell_line, end_line, entry_line, event_line, fall_line, irq_line, kind_line, point_line,
-    rest_line, run_line, size_line, stack_line, words_line,
-};

@@ -1,0 +1,10 @@
+use Rattle.uz_outcomes.proofs.RunLemmas.{comes_of_ending, lacks_text}
+use Rattle.uz_certificate_commands.proofs.play_run.end_play.Goals as goal
+
+pub returns-in-Ok-clause-comes : goal.returns-in-Ok-clause-comes
+returns-in-Ok-clause-comes g c = λ frames edges old new written.
+    comes_of_ending c.in-Ok.ending frames edges _ _ _ _ old new _ _ c.in-Ok.ensures written (c.end_with.ensures.comes new)
+
+pub returns-in-Err-clause-comes : goal.returns-in-Err-clause-comes
+returns-in-Err-clause-comes g c = λ frames edges old new written.
+    lacks_text frames edges _ _ old new written _ _ _ _ c.put_no_memory.ensures.status c.put_no_memory.ensures.text

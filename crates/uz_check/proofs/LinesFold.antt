@@ -1,0 +1,352 @@
+-- The local rule answers alike at two lines of one kind.
+use Rattle.std.proofs.Common.{◌≡◌, ℕ, zero, suc, ◌+◌, ◌-◌, ◌<◌, ◌≤◌, Bool, true, false, not, if◌then◌else◌, nat_eq, nat_le, nat_lt, Option}
+use Rattle.std.proofs.Common.{Some, None, List, [], ◌∷◌, length, refl, sym, ◌∙◌, ap, subst, arith}
+use Rattle.std.specs.Prelude.{◌&&◌, ◌||◌, is_none, Result, Ok, Err, slice_get}
+use Rattle.std.specs.List.{list_all}
+use Rattle.std.specs.Ordering.{nat_cmp}
+use Rattle.std.specs.FinMap.{FinMap}
+use Rattle.std.proofs.lemmas.Bool.Decides.{nat_tests}
+use Rattle.avr_table.specs.declared.Instr.{Instr}
+use Rattle.uz_machine.specs.Effects.{effect_of}
+use Rattle.uz_schedule.specs.Limits.{ScheduleFits}
+use Rattle.uz_schedule.specs.Lines.{order_of}
+use Rattle.uz_schedule.specs.Schedule.{length_of, start_of, next_line, event_at, level_at}
+use Rattle.uz_schedule.specs.Instances.{instance_in, instance_at}
+use Rattle.uz_schedule.specs.declared.lines.EventKind.{EventKind}
+use Rattle.uz_schedule.specs.declared.lines.Schedule.{Schedule}
+use Rattle.uz_schedule.specs.declared.states.Point.{Point}
+use Rattle.uz_schedule.specs.declared.states.Instance.{Instance}
+use Rattle.uz_schedule.specs.declared.certificate.Cert.{Cert}
+use Rattle.uz_transfer.specs.declared.fail.Fail.{Fail}
+use Rattle.uz_transfer.specs.declared.fail.Fail.TheVariants.{Opcode, Edge, Successor}
+use Rattle.uz_transfer.specs.declared.step.Exit.{Exit}
+use Rattle.uz_transfer.specs.declared.step.Step.{Step}
+use Rattle.uz_transfer.specs.Kinds.{is_main}
+use Rattle.uz_transfer.specs.Refusals.{refuse_if}
+use Rattle.uz_transfer.specs.Step.{step_of_row, successor}
+use Rattle.uz_rules.specs.EdgeRule.{is_event, is_quiet, edges_fit}
+use Rattle.uz_rules.specs.Inside.{same_bool}
+use Rattle.uz_rules.specs.Local.{is_stop, row_emits_in_main, rest_in, return_fail, first_exit, end_of, has_successors, result_fail}
+use Rattle.uz_rules.specs.Local.{compares_edges, step_fail, instance_fail, local_fail}
+use Rattle.uz_rules.specs.Successors.{lies_in_point, lies_in_any}
+use Rattle.uz_check.specs.Folding.{has_no_line, has_no_line_there, is_plain, kind_of, line_before, kinds_alike, same_rest, rests_alike}
+use Rattle.uz_check.specs.Folding.{lines_alike, is_on_line, is_even, boxes_even, folds, FoldingLaw}
+use Rattle.uz_check.proofs.LineEvents.{ScheduleLaws, same_length, long_lines, next_inside, next_before, before_inside, same_two, same_level}
+use Rattle.uz_check.proofs.StepMoves.{at_line, main_emits_moves, LengthsAlike, each_same, step_at, result_at, row_moves, landed}
+use Rattle.uz_check.proofs.StepMoves.{placed_moves, are_few, FewOf, few_row}
+use Rattle.uz_check.proofs.InstanceMoves.{and_left, and_right, same_is, equal_is, moved, LevelsAlike, instance_moves, IsAt, instance_is_at}
+use Rattle.uz_check.proofs.InstanceMoves.{by_number, lies_moves, return_moves}
+
+-- What the conditions give of a line and the two that follow it
+
+pub record Alike (cert : Cert) (l m n : ℕ) : Type 0 where
+  pub events : (j : ℕ) → j < length_of cert.schedule l + length_of cert.schedule m → event_at cert.schedule (start_of cert.schedule l + j)
+      ≡ event_at cert.schedule (start_of cert.schedule m + j)
+  pub first : LevelsAlike cert.schedule l m
+  pub second : LevelsAlike cert.schedule m n
+  pub long : 4 < length_of cert.schedule m
+  pub rest : same_rest (rest_in cert.rests l) (rest_in cert.rests m) ≡ true
+  pub rest_next : same_rest (rest_in cert.rests l) (rest_in cert.rests n) ≡ true
+
+abbrev AlikeAt : Cert → ℕ → Type 0
+AlikeAt cert l = Alike cert l (next_line cert.schedule l) (next_line cert.schedule (next_line cert.schedule l))
+
+alike_of : ScheduleLaws → (cert : Cert) (l : ℕ) → ScheduleFits cert.schedule → l < length cert.schedule.lines → lines_alike cert l ≡ true
+    → AlikeAt cert l
+alike_of laws cert l fits h alike =
+    let s = cert.schedule in
+    let e = line_before s l in
+    let m = next_line s l in
+    let n = next_line s m in
+    let kinds = and_left (kinds_alike s l) (rests_alike s cert.rests l) alike in
+    let rests = and_right (kinds_alike s l) (rests_alike s cert.rests l) alike in
+    let a = nat_eq (kind_of s e) (kind_of s l) in
+    let b = nat_eq (kind_of s m) (kind_of s l) in
+    let d = nat_eq (kind_of s n) (kind_of s l) in
+    let on : next_line s e ≡ l = next_before s l h in
+    let at_e : kind_of s e ≡ kind_of s l = equal_is (kind_of s e) (kind_of s l) (and_left a (b && d) kinds) in
+    let at_m : kind_of s m ≡ kind_of s l = equal_is (kind_of s m) (kind_of s l) (and_left b d (and_right a (b && d) kinds)) in
+    let at_n : kind_of s n ≡ kind_of s l = equal_is (kind_of s n) (kind_of s l) (and_right b d (and_right a (b && d) kinds)) in
+    let e_l : kind_of s e ≡ kind_of s (next_line s e) = at_e ∙ sym (ap (kind_of s) on) in
+    let l_m : kind_of s (next_line s e) ≡ kind_of s (next_line s (next_line s e)) = ap (kind_of s) on
+    ∙ (sym at_m ∙ sym (ap (λ q. kind_of s (next_line s q)) on)) in
+    record {
+      events = λ j g. same_two laws s l j h (sym at_m) (at_m ∙ sym at_n) g;
+      first = record {
+        lengths = same_length s m l (next_inside s l h) h at_m;
+        levels = λ k g. subst (λ q. level_at s (start_of s q + k) ≡ level_at s (start_of s (next_line s q) + k)) on
+            (same_level laws s fits e k (before_inside s l h) e_l l_m (subst (λ q. k < length_of s q) (sym on) g));
+      };
+      second = record {
+        lengths = same_length s n m (next_inside s m (next_inside s l h)) (next_inside s l h) (at_n ∙ sym at_m);
+        levels = λ k g. same_level laws s fits l k h (sym at_m) (at_m ∙ sym at_n) g;
+      };
+      long = long_lines s fits m;
+      rest = and_left (same_rest (rest_in cert.rests l) (rest_in cert.rests m)) (same_rest (rest_in cert.rests l) (rest_in cert.rests n))
+          rests;
+      rest_next = and_right (same_rest (rest_in cert.rests l) (rest_in cert.rests m))
+          (same_rest (rest_in cert.rests l) (rest_in cert.rests n)) rests;
+    }
+
+-- Edge
+
+quiet_same : (at bt : ℕ → Option EventKind) (p q n : ℕ) → ((k : ℕ) → k ≤ n → at (p + k) ≡ bt (q + k)) → is_quiet at p n ≡ is_quiet bt q n
+unfolding is_quiet
+quiet_same at bt p q zero h = refl
+quiet_same at bt p q (suc n) h =
+    ap (λ b. b && is_none (at (p + suc n))) (quiet_same at bt p q n (λ k g. h k (omega (arith, g))))
+    ∙ ap (λ e. is_quiet bt q n && is_none e) (h (suc n) (omega arith))
+
+edges_same : (s : Schedule) (p q : ℕ) (emitted : Option EventKind) (xs : List Exit)
+    → ((k : ℕ) → k ≤ 4 → event_at s (p + k) ≡ event_at s (q + k)) → are_few xs ≡ true
+    → edges_fit s p emitted xs ≡ edges_fit s q emitted xs
+edges_same s p q emitted [] h few = refl
+edges_same s p q emitted (x ∷ xs) h few =
+    let low = and_left (nat_le x.clocks 4) (are_few xs) few in
+    let bound : x.clocks ≤ 4 = grind (arith, nat_tests, low) in
+    ap (λ b. (b && is_event (event_at s (p + x.clocks)) emitted) && edges_fit s p emitted xs)
+    (quiet_same (event_at s) (event_at s) p q (x.clocks - 1) (λ k g. h k (omega (arith, g, bound))))
+    ∙ (ap (λ e. (is_quiet (event_at s) q (x.clocks - 1) && is_event e emitted) && edges_fit s p emitted xs) (h x.clocks bound)
+    ∙ ap (λ b. (is_quiet (event_at s) q (x.clocks - 1) && is_event (event_at s (q + x.clocks)) emitted) && b)
+    (edges_same s p q emitted xs h (and_right (nat_le x.clocks 4) (are_few xs) few)))
+
+compares_same : (cert : Cert) (l : ℕ) (i : Instance) (step : Step) → AlikeAt cert l → i.clock < length_of cert.schedule l
+    → are_few step.exits.items ≡ true
+    → compares_edges cert (at_line l i) step ≡ compares_edges cert (at_line (next_line cert.schedule l) i)
+    (step_at (next_line cert.schedule l) step)
+compares_same cert l i step same low few =
+    let s = cert.schedule in
+    let m = next_line s l in
+    let room = same.long in
+    ap (λ b. is_main i.kind || b)
+    (edges_same s (start_of s l + i.clock) (start_of s m + i.clock) step.emit step.exits.items
+    (λ k g. ap (event_at s) (omega arith) ∙ (same.events (i.clock + k) (omega (arith, low, g, room)) ∙ ap (event_at s) (omega arith))) few)
+
+-- Results: those on line l go to line m, and those on line m to line n
+
+by_way : (Same : ℕ → ℕ → Type 0) (l m n : ℕ) (t u : Bool) → Same l m → Same m n → Same (if t then l else (if u then l else m))
+    (if t then m else (if u then m else n))
+by_way Same l m n true u first second = first
+by_way Same l m n false true first second = first
+by_way Same l m n false false first second = second
+
+-- what is asked alike of an instance at line l and at line m, and at m and at n, is asked alike of the results at l and at m
+of_result : {A : Type 0} (s : Schedule) (l : ℕ) (i : Instance) (step : Step) (asked : Instance → A)
+    → length_of s (next_line s l) ≡ length_of s l → ((r : Instance) → asked (at_line l r) ≡ asked (at_line (next_line s l) r))
+    → ((r : Instance) → asked (at_line (next_line s l) r) ≡ asked (at_line (next_line s (next_line s l)) r))
+    → (x : Exit) → asked (successor (order_of s) (at_line l i) step x) ≡ asked (successor (order_of s) (at_line (next_line s l) i)
+    (step_at (next_line s l) step) x)
+of_result s l i step asked long first second x =
+    let lines = order_of s in
+    let m = next_line s l in
+    let n = next_line s m in
+    let r = successor lines (at_line l i) step x in
+    let k = i.clock + x.clocks in
+    let to = landed (is_main i.kind) k (length_of s l) m n in
+    let goes : successor lines (at_line m i) (step_at m step) x ≡ at_line to r = placed_moves lines m (at_line l i) step.draft step.emit
+    step.clears x long in
+    let same : asked r ≡ asked (at_line to r) =
+    by_way (λ a b. asked (at_line a r) ≡ asked (at_line b r)) l m n (is_main i.kind) (nat_lt k (length_of s l)) (first r) (second r) in
+    same ∙ sym (ap asked goes)
+
+-- Successors
+
+abbrev successor_alike : Schedule → ℕ → Option Point → Bool
+successor_alike s l q = has_no_line_there q && is_even s l q
+
+both_of_all : {A : Type 0} (f g : A → Bool) (xs : List A) → list_all f xs ≡ true → list_all g xs ≡ true → list_all (λ x. f x && g x)
+    xs ≡ true
+both_of_all f g [] h k = refl
+both_of_all f g (x ∷ xs) h k =
+    let first = and_left (f x) (list_all f xs) h in
+    let second = and_left (g x) (list_all g xs) k in
+    rw (first, second) (both_of_all f g xs (and_right (f x) (list_all f xs) h) (and_right (g x) (list_all g xs) k))
+
+-- a point that isn't there holds nothing
+nowhere : (cert : Cert) (id : ℕ) (r : Instance) → slice_get cert.points id ≡ None → lies_in_point cert id r ≡ false
+nowhere cert id r e = rw e refl
+
+pub record LiesAlike (cert : Cert) (id l m n : ℕ) (r : Instance) : Type 0 where
+  pub first : lies_in_point cert id (at_line l r) ≡ lies_in_point cert id (at_line m r)
+  pub second : lies_in_point cert id (at_line m r) ≡ lies_in_point cert id (at_line n r)
+
+lies_alike : (cert : Cert) (id l : ℕ) (r : Instance) → AlikeAt cert l → (q : Option Point) → slice_get cert.points id ≡ q → successor_alike
+    cert.schedule l q ≡ true
+    → LiesAlike cert id l (next_line cert.schedule l) (next_line cert.schedule (next_line cert.schedule l)) r
+lies_alike cert id l r same None e h =
+    let m = next_line cert.schedule l in
+    let n = next_line cert.schedule m in
+    record {
+      first = nowhere cert id (at_line l r) e ∙ sym (nowhere cert id (at_line m r) e);
+      second = nowhere cert id (at_line m r) e ∙ sym (nowhere cert id (at_line n r) e);
+    }
+lies_alike cert id l r same (Some q) e h =
+    let s = cert.schedule in
+    let m = next_line s l in
+    let n = next_line s m in
+    let a = same_bool (is_on_line q l) (is_on_line q m) in
+    let b = same_bool (is_on_line q l) (is_on_line q n) in
+    let own = and_left (has_no_line q) (a && b) h in
+    let even = and_right (has_no_line q) (a && b) h in
+    let on_m = same_is (is_on_line q l) (is_on_line q m) (and_left a b even) in
+    let on_n = same_is (is_on_line q l) (is_on_line q n) (and_right a b even) in
+    record {
+      first = lies_moves cert id q l m r e own on_m same.first;
+      second = lies_moves cert id q m n r e own (sym on_m ∙ on_n) same.second;
+    }
+
+abbrev AllAlike : Cert → ℕ → List ℕ → Type 0
+AllAlike cert l ids = list_all (λ id. successor_alike cert.schedule l (slice_get cert.points id)) ids ≡ true
+
+any_first : (cert : Cert) (l : ℕ) (r : Instance) (ids : List ℕ) → AlikeAt cert l → AllAlike cert l ids → lies_in_any cert ids
+    (at_line l r) ≡ lies_in_any cert ids (at_line (next_line cert.schedule l) r)
+any_first cert l r [] same h = refl
+any_first cert l r (id ∷ ids) same h =
+    let m = next_line cert.schedule l in
+    let q = slice_get cert.points id in
+    let later = list_all (λ id. successor_alike cert.schedule l (slice_get cert.points id)) ids in
+    ap (λ t. t || lies_in_any cert ids (at_line l r))
+    (lies_alike cert id l r same q refl (and_left (successor_alike cert.schedule l q) later h)).first
+    ∙ ap (λ t. lies_in_point cert id (at_line m r) || t)
+    (any_first cert l r ids same (and_right (successor_alike cert.schedule l q) later h))
+
+any_second : (cert : Cert) (l : ℕ) (r : Instance) (ids : List ℕ) → AlikeAt cert l → AllAlike cert l ids
+    → lies_in_any cert ids (at_line (next_line cert.schedule l) r) ≡ lies_in_any cert ids
+    (at_line (next_line cert.schedule (next_line cert.schedule l)) r)
+any_second cert l r [] same h = refl
+any_second cert l r (id ∷ ids) same h =
+    let m = next_line cert.schedule l in
+    let n = next_line cert.schedule m in
+    let q = slice_get cert.points id in
+    let later = list_all (λ id. successor_alike cert.schedule l (slice_get cert.points id)) ids in
+    ap (λ t. t || lies_in_any cert ids (at_line m r))
+    (lies_alike cert id l r same q refl (and_left (successor_alike cert.schedule l q) later h)).second
+    ∙ ap (λ t. lies_in_point cert id (at_line n r) || t)
+    (any_second cert l r ids same (and_right (successor_alike cert.schedule l q) later h))
+
+successors_same : (cert : Cert) (next : List ℕ) (l : ℕ) (i : Instance) (step : Step) → AlikeAt cert l → AllAlike cert l next
+    → has_successors cert next (at_line l i) step ≡ has_successors cert next (at_line (next_line cert.schedule l) i)
+    (step_at (next_line cert.schedule l) step)
+successors_same cert next l i step same named =
+    let s = cert.schedule in
+    let m = next_line s l in
+    each_same (λ x. lies_in_any cert next (successor (order_of s) (at_line l i) step x))
+    (λ x. lies_in_any cert next (successor (order_of s) (at_line m i) (step_at m step) x)) step.exits.items
+    (of_result s l i step (lies_in_any cert next) same.first.lengths (λ r. any_first cert l r next same named)
+    (λ r. any_second cert l r next same named))
+
+-- Returns
+
+returns_same : (cert : Cert) (l : ℕ) (i : Instance) (step : Step) → AlikeAt cert l
+    → return_fail (rest_in cert.rests (end_of cert (at_line l i) step).line) (end_of cert (at_line l i) step)
+    ≡ return_fail (rest_in cert.rests (end_of cert (at_line (next_line cert.schedule l) i) (step_at (next_line cert.schedule l) step)).line)
+    (end_of cert (at_line (next_line cert.schedule l) i) (step_at (next_line cert.schedule l) step))
+returns_same cert l i step same =
+    let s = cert.schedule in
+    let m = next_line s l in
+    let n = next_line s m in
+    let at = rest_in cert.rests in
+    of_result s l i step (λ r. return_fail (at r.line) r) same.first.lengths
+    (λ r. return_moves (at l) (at m) (at_line l r) m same.rest)
+    (λ r. sym (return_moves (at l) (at m) r m same.rest) ∙ return_moves (at l) (at n) r n same.rest_next)
+    (first_exit step.exits.items)
+
+-- The rule
+
+results_same : (cert : Cert) (next : List ℕ) (l : ℕ) (i : Instance) (step : Step) → AlikeAt cert l → AllAlike cert l next
+    → result_fail cert next (at_line l i) step ≡ result_fail cert next (at_line (next_line cert.schedule l) i)
+    (step_at (next_line cert.schedule l) step)
+results_same cert next l i step same named =
+    let m = next_line cert.schedule l in
+    let a = at_line l i in
+    let b = at_line m i in
+    let t = step_at m step in
+    ap (λ f. if step.back then f else refuse_if (not (has_successors cert next a step)) Successor None) (returns_same cert l i step same)
+    ∙ ap (λ h. if step.back then return_fail (rest_in cert.rests (end_of cert b t).line) (end_of cert b t) else refuse_if (not h) Successor
+    None) (successors_same cert next l i step same named)
+
+steps_same : (cert : Cert) (next : List ℕ) (l : ℕ) (i : Instance) (emits : Bool) → AlikeAt cert l → i.clock < length_of cert.schedule l
+    → AllAlike cert l next → (r : Result Step Fail) → FewOf r
+    → step_fail cert next (at_line l i) emits r ≡ step_fail cert next (at_line (next_line cert.schedule l) i) emits
+    (result_at (next_line cert.schedule l) r)
+steps_same cert next l i emits same low named (Err why) few = refl
+steps_same cert next l i emits same low named (Ok step) few =
+    let m = next_line cert.schedule l in
+    ap (λ b. refuse_if emits Edge (refuse_if (not b) Edge (result_fail cert next (at_line l i) step)))
+    (compares_same cert l i step same low few)
+    ∙ ap (λ f. refuse_if emits Edge (refuse_if (not (compares_edges cert (at_line m i) (step_at m step))) Edge f))
+    (results_same cert next l i step same named)
+
+instances_same : (image : FinMap nat_cmp ℕ) (cert : Cert) (next : List ℕ) (row : Instr) (l : ℕ) → AlikeAt cert l → AllAlike cert l next
+    → is_stop (effect_of row) ≡ false
+    → (o : Option Instance) → IsAt cert.schedule l o → instance_fail image cert next (Some row) (moved l o) ≡ instance_fail image cert next
+    (Some row) (moved (next_line cert.schedule l) o)
+instances_same image cert next row l same named runs None is = refl
+instances_same image cert next row l same named runs (Some i) is =
+    let s = cert.schedule in
+    let m = next_line s l in
+    let a = at_line l i in
+    let b = at_line m i in
+    let step = step_of_row cert.head (order_of s) image (Some row) a in
+    let lengths : LengthsAlike (order_of s) l m = record { own = same.first.lengths; next = same.second.lengths } in
+    steps_same cert next l i (row_emits_in_main (Some row) a) same is.1 named step (few_row cert.head (order_of s) image row a runs)
+    ∙ (ap (λ t. step_fail cert next b (is_main i.kind && t) (result_at m step)) (main_emits_moves (effect_of row) l i
+    ∙ sym (main_emits_moves (effect_of row) m i))
+    ∙ ap (step_fail cert next b (row_emits_in_main (Some row) b)) (sym (row_moves cert.head (order_of s) image (Some row) m a lengths)))
+
+own_line : (s : Schedule) (l : ℕ) (o : Option Instance) → IsAt s l o → o ≡ moved l o
+own_line s l None is = refl
+own_line s l (Some i) is = ap (λ n. Some (at_line n i)) is.0
+
+rows_same : (image : FinMap nat_cmp ℕ) (cert : Cert) (next : List ℕ) (row : Option Instr) (l : ℕ) → AlikeAt cert l → AllAlike cert l next
+    → (o : Option Instance) → IsAt cert.schedule l o → local_fail image cert next row o ≡ local_fail image cert next row
+    (moved (next_line cert.schedule l) o)
+rows_same image cert next None l same named o is = refl
+rows_same image cert next (Some row) l same named o is =
+    by_case (is_stop (effect_of row)) _ _ (λ runs.
+    ap (instance_fail image cert next (Some row)) (own_line cert.schedule l o is) ∙ instances_same image cert next row l same named runs o
+    is)
+  where
+    by_case : (b : Bool) (x y : Option Fail) → (b ≡ false → x ≡ y) → refuse_if b Opcode x ≡ refuse_if b Opcode y
+    by_case true x y h = refl
+    by_case false x y h = h refl
+
+-- at the two lines a point's instances have one answer, whatever is read at its pc
+pub points_same : ScheduleLaws → (image : FinMap nat_cmp ℕ) (cert : Cert) (id l c : ℕ) (p : Point) (row : Option Instr)
+    → slice_get cert.points id ≡ Some p → ScheduleFits cert.schedule → l < length cert.schedule.lines
+    → is_on_line p l ≡ true → is_on_line p (next_line cert.schedule l) ≡ true → folds cert p l ≡ true
+    → local_fail image cert p.next.items row (instance_at cert id l c) ≡ local_fail image cert p.next.items row
+    (instance_at cert id (next_line cert.schedule l) c)
+points_same laws image cert id l c p row found fits inside here there h =
+    let s = cert.schedule in
+    let m = next_line s l in
+    let next = p.next.items in
+    let plain = is_plain cert p in
+    let even = boxes_even cert p l in
+    let named = list_all (λ id. has_no_line_there (slice_get cert.points id)) next in
+    let about = and_right (lines_alike cert l) (plain && even) h in
+    let is_plain_p = and_left plain even about in
+    let own = and_left (has_no_line p) named is_plain_p in
+    let all : AllAlike cert l next =
+    both_of_all (λ id. has_no_line_there (slice_get cert.points id)) (λ id. is_even s l (slice_get cert.points id)) next
+    (and_right (has_no_line p) named is_plain_p) (and_right plain even about) in
+    let same = alike_of laws cert l fits inside (and_left (lines_alike cert l) (plain && even) h) in
+    ap (local_fail image cert next row) (by_number cert id l c p found)
+    ∙ (rows_same image cert next row l same all (instance_in s p l c) (instance_is_at s p l c)
+    ∙ (ap (local_fail image cert next row) (sym (instance_moves s p l m c own (here ∙ sym there) same.first))
+    ∙ ap (local_fail image cert next row) (sym (by_number cert id m c p found))))
+
+same_some : {A : Type 0} (o : Option A) (a b : A) → o ≡ Some a → o ≡ Some b → a ≡ b
+same_some o a b e f = cc
+
+pub folding_law : ScheduleLaws → FoldingLaw
+folding_law laws image cert id l c p why fits found inside here there h =
+    let m = next_line cert.schedule l in
+    let same : (q : Point) (row : Option Instr) → slice_get cert.points id ≡ Some q → local_fail image cert q.next.items row
+    (instance_at cert id l c) ≡ local_fail image cert q.next.items row (instance_at cert id m c) =
+    λ q row e. subst (λ x. local_fail image cert x.next.items row (instance_at cert id l c) ≡ local_fail image cert x.next.items row
+    (instance_at cert id m c)) (same_some (slice_get cert.points id) p q found e)
+    (points_same laws image cert id l c p row found fits inside here there h) in (
+      λ a. record { point = a.point; is_point = a.is_point; row = a.row; reads = a.reads; is = a.is ∙ same a.point a.row a.is_point },
+      λ a. record { point = a.point; is_point = a.is_point; row = a.row; reads = a.reads; is = a.is ∙ sym (same a.point a.row a.is_point) },
+    )

@@ -1,0 +1,6 @@
+use Rattle.std.proofs.Common.{◌≡◌, drop}
+use Rattle.uz_check.specs.Folding.{same_spans}
+use Rattle.uz_check.proofs.lines.same_spans.Given as goal
+
+abbrev pub invariant-each : goal.invariant-each
+invariant-each l = same_spans (drop l.i l.a) (drop l.i l.b) ≡ same_spans l.a l.b

@@ -1,0 +1,7 @@
+use Rattle.std.proofs.Common.{◌≤◌}
+use Rattle.uz_check.specs.Untold.{HoldTo}
+use Rattle.uz_check.proofs.reach.lines_of_all.Given as goal
+
+-- the boxes so far hold the lines
+abbrev pub invariant-each : goal.invariant-each
+invariant-each l = record { last : l.last ≤ l.end; hold : HoldTo l.cert l.ids l.first l.last l.id-index }

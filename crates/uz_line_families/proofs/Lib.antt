@@ -1,7 +1,0 @@
-pub mod LineEvents
-pub mod StepMoves
-pub mod InstanceMoves
-pub mod LinesFold
-pub mod Spans
-pub mod Runs
-pub mod Covered

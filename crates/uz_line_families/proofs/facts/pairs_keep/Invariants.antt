@@ -1,7 +1,0 @@
-use Rattle.std.proofs.Common.{◌≡◌, drop}
-use Rattle.std.specs.List.{list_all}
-use Rattle.uz_line_families.specs.Folding.{pair_keeps_by_lines}
-use Rattle.uz_line_families.proofs.facts.pairs_keep.Given as goal
-
-abbrev pub invariant-each : goal.invariant-each
-invariant-each l = list_all pair_keeps_by_lines (drop l.fact-index l.facts) ≡ list_all pair_keeps_by_lines l.facts

@@ -1,6 +1,0 @@
-use Rattle.std.proofs.Common.{◌≡◌, drop}
-use Rattle.uz_line_families.specs.Folding.{same_spans}
-use Rattle.uz_line_families.proofs.lines.same_spans.Given as goal
-
-abbrev pub invariant-each : goal.invariant-each
-invariant-each l = same_spans (drop l.i l.a) (drop l.i l.b) ≡ same_spans l.a l.b

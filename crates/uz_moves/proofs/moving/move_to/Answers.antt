@@ -1,9 +1,0 @@
-use Rattle.std.proofs.Common.{◌∙◌}
-use Rattle.uz_moves.proofs.MovingLaws.{moved_is}
-use Rattle.uz_moves.proofs.moving.move_to.Goals as goal
-
-pub returns : goal.returns
-returns c =
-    c.put_growing.ensures
-    ∙ moved_is c.args.point.now c.args.growing.now c.args.line c.args.count c.args.clock c.args.level c.args.at.now c.requires.growing
-    c.requires.kept

@@ -1,7 +1,0 @@
-use Rattle.std.proofs.Common.{◌≡◌, drop}
-use Rattle.uz_moves.specs.Moving.{with_registers}
-use Rattle.uz_moves.proofs.moving.put_registers.Given as goal
-
--- what is left puts the rest
-abbrev pub invariant-loop-place : goal.invariant-loop-place
-invariant-loop-place l = with_registers l.point l.line l.count (drop l.place-index l.places) l.at ≡ with_registers l.point l.line l.count l.places l.initial.at

@@ -1,3 +1,0 @@
-pub mod RunValues
-pub mod Runs
-pub mod SearchLines

@@ -1,0 +1,5 @@
+pub mod PairLemmas
+pub mod RunFileLemmas
+pub mod RunLemmas
+pub mod RunWorthLemmas
+pub mod SameRunLemmas

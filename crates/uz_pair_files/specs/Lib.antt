@@ -1,5 +1,0 @@
-pub mod CheckedValues
-pub mod PairFiles
-pub mod RunFiles
-pub mod StopLines
-pub mod VerdictLines

@@ -1,4 +1,0 @@
-pub mod DemoCommand
-pub mod DemoValues
-pub mod PlayCommand
-pub mod PlayValues

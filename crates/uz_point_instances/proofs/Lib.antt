@@ -1,5 +1,0 @@
-pub mod EachLemmas
-pub mod OldFacts
-pub mod SameFacts
-pub mod TellingLemmas
-pub mod TakenLemmas

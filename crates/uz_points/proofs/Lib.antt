@@ -1,0 +1,6 @@
+pub mod EachLemmas
+pub mod OldFacts
+pub mod SameFacts
+pub mod TellingLemmas
+pub mod TakenLemmas
+pub mod GrowthLemmas

@@ -1,0 +1,4 @@
+pub mod Points
+pub mod Same
+pub mod Telling
+pub mod Along

@@ -1,0 +1,286 @@
+//! What points of one chain have in common: all but their lines or clocks, their successors and the bytes that their facts tell.
+
+use crate::axis::Axis;
+use crate::facts::{
+    Told, are_steady, code, differences, follow_by, is_pair_steady, put_growths, same_but_bytes,
+    span_code, val_code,
+};
+use crate::points::pair_facts;
+use uz_schedule::{Bit, Fact, Instance, Kind, Point, Span, Val};
+
+/// Whether no fact of a point changes along an axis.
+fn is_steady(point: &Point, axis: Axis) -> bool {
+    are_steady(&point.regs, axis)
+        && point.pairs.iter().all(|pair| is_pair_steady(pair, axis))
+        && are_steady(point.stack.as_slice(), axis)
+        && are_steady(point.cells.as_slice(), axis)
+}
+
+/// Whether a point stands at one line, or at one clock and the count 0.
+fn is_at_one(point: &Point, axis: Axis) -> bool {
+    match axis {
+        Axis::Lines => point.l0 == point.l1,
+        Axis::Counts => point.c0 == 0 && point.c1 == 0 && point.slope == 0,
+    }
+}
+
+/// Whether a point may be joined with others: it stands at one place of the axis, and isn't of main.
+pub fn is_joinable(point: &Point, axis: Axis) -> bool {
+    is_at_one(point, axis)
+        && is_steady(point, axis)
+        && match point.kind {
+            Kind::Main => false,
+            Kind::Handler | Kind::Alone => true,
+        }
+}
+
+/// By how much each byte grows from one point of a chain to the next, modulo 256.
+#[derive(Clone, Copy, Drop)]
+pub struct Growth {
+    regs: [u8; 32],
+    stack: [u8; 32],
+    cells: [u8; 16],
+}
+
+impl Growth {
+    /// None.
+    pub fn none() -> Growth {
+        Growth {
+            regs: [0; 32],
+            stack: [0; 32],
+            cells: [0; 16],
+        }
+    }
+
+    /// From one to another.
+    pub fn between<P: Shaped>(from: &P, to: &P) -> Growth {
+        let mut growth = Growth::none();
+        put_growths(&mut growth.regs, from.regs(), to.regs());
+        put_growths(&mut growth.stack, from.stack(), to.stack());
+        put_growths(&mut growth.cells, from.cells(), to.cells());
+        growth
+    }
+}
+
+/// What chains are made of: points, and instances in place of their points.
+pub trait Shaped {
+    /// What is known of a register or of a byte of the stack.
+    type Byte: Told;
+    /// What is known of a cell.
+    type Cell: Told;
+
+    /// The line or clock by which chains are put in order.
+    fn place(&self, axis: Axis) -> u16;
+
+    /// Whether another has the same shape but for what is said of registers, stack and cells.
+    fn same_frame(&self, axis: Axis, other: &Self) -> bool;
+
+    /// What is known of each register.
+    fn regs(&self) -> &[Self::Byte];
+
+    /// What is known of each byte of the stack.
+    fn stack(&self) -> &[Self::Byte];
+
+    /// What is known of each cell.
+    fn cells(&self) -> &[Self::Cell];
+}
+
+/// Whether two points say the same of the timer.
+fn same_timer(a: &Point, b: &Point) -> bool {
+    a.pending == b.pending && a.top == b.top && a.temp == b.temp
+}
+
+/// Whether two points stand at the same place of the program, and of the line or of the frame.
+fn same_place(axis: Axis, a: &Point, b: &Point) -> bool {
+    a.kind == b.kind
+        && a.pc == b.pc
+        && match axis {
+            Axis::Lines => {
+                a.clock == b.clock && a.slope == b.slope && a.c0 == b.c0 && a.c1 == b.c1
+            }
+            Axis::Counts => a.l0 == b.l0 && a.l1 == b.l1,
+        }
+}
+
+impl Shaped for Point {
+    type Byte = Fact;
+
+    type Cell = Fact;
+
+    fn place(&self, axis: Axis) -> u16 {
+        match axis {
+            Axis::Lines => self.l0,
+            Axis::Counts => self.clock,
+        }
+    }
+
+    fn same_frame(&self, axis: Axis, other: &Point) -> bool {
+        same_place(axis, self, other)
+            && same_timer(self, other)
+            && self.flags == other.flags
+            && self.pairs == other.pairs
+    }
+
+    fn regs(&self) -> &[Fact] {
+        &self.regs
+    }
+
+    fn stack(&self) -> &[Fact] {
+        self.stack.as_slice()
+    }
+
+    fn cells(&self) -> &[Fact] {
+        self.cells.as_slice()
+    }
+}
+
+/// Whether two instances stand at the same place of the program, and of the line or of the frame.
+fn same_instance_place(axis: Axis, a: &Instance, b: &Instance) -> bool {
+    a.kind == b.kind
+        && a.pc == b.pc
+        && match axis {
+            Axis::Lines => a.clock == b.clock,
+            Axis::Counts => a.line == b.line,
+        }
+}
+
+/// Whether two instances have the same timer.
+fn same_instance_timer(a: &Instance, b: &Instance) -> bool {
+    a.pending == b.pending && a.top == b.top && a.temp == b.temp
+}
+
+impl Shaped for Instance {
+    type Byte = Val;
+
+    type Cell = Span;
+
+    fn place(&self, axis: Axis) -> u16 {
+        match axis {
+            Axis::Lines => self.line,
+            Axis::Counts => self.clock,
+        }
+    }
+
+    fn same_frame(&self, axis: Axis, other: &Instance) -> bool {
+        same_instance_place(axis, self, other)
+            && same_instance_timer(self, other)
+            && self.flags == other.flags
+            && pair_facts(self) == pair_facts(other)
+    }
+
+    fn regs(&self) -> &[Val] {
+        &self.regs
+    }
+
+    fn stack(&self) -> &[Val] {
+        self.stack.as_slice()
+    }
+
+    fn cells(&self) -> &[Span] {
+        self.cells.as_slice()
+    }
+}
+
+/// Whether two have one shape.
+pub fn same_shape<P: Shaped>(axis: Axis, a: &P, b: &P) -> bool {
+    a.same_frame(axis, b)
+        && same_but_bytes(a.regs(), b.regs())
+        && same_but_bytes(a.stack(), b.stack())
+        && same_but_bytes(a.cells(), b.cells())
+}
+
+/// Whether one has the shape of the last of a chain, and each byte grows by so much from that one to it.
+pub fn goes_on<P: Shaped>(axis: Axis, growth: &Growth, last: &P, new: &P) -> bool {
+    last.same_frame(axis, new)
+        && follow_by(&growth.regs, last.regs(), new.regs())
+        && follow_by(&growth.stack, last.stack(), new.stack())
+        && follow_by(&growth.cells, last.cells(), new.cells())
+}
+
+/// How many bytes differ.
+pub fn distance<P: Shaped>(a: &P, b: &P) -> u32 {
+    differences(a.regs(), b.regs())
+        .saturating_add(differences(a.stack(), b.stack()))
+        .saturating_add(differences(a.cells(), b.cells()))
+}
+
+/// The key of no number, and the factor for each: those of the hash FNV-1a of 64 bits.
+const SEED: u64 = 0xcbf2_9ce4_8422_2325;
+
+const FACTOR: u64 = 0x0000_0100_0000_01b3;
+
+/// One more number in a key.
+fn mixed(key: u64, number: u64) -> u64 {
+    (key ^ number).wrapping_mul(FACTOR)
+}
+
+fn mixed_facts(key: u64, facts: &[Fact]) -> u64 {
+    let mut key = mixed(key, facts.len() as u64);
+    for fact in facts {
+        key = mixed(key, code(fact));
+    }
+    key
+}
+
+fn flag_code(flag: Bit) -> u64 {
+    match flag {
+        Bit::Zero => 0,
+        Bit::One => 1,
+        Bit::Free => 2,
+        Bit::Old => 3,
+    }
+}
+
+fn mixed_vals(key: u64, vals: &[Val]) -> u64 {
+    let mut key = mixed(key, vals.len() as u64);
+    for val in vals {
+        key = mixed(key, val_code(val));
+    }
+    key
+}
+
+fn mixed_spans(key: u64, spans: &[Span]) -> u64 {
+    let mut key = mixed(key, spans.len() as u64);
+    for span in spans {
+        key = mixed(key, span_code(*span));
+    }
+    key
+}
+
+/// The key of a point's place.
+fn place_key(axis: Axis, point: &Point) -> u64 {
+    let pc = mixed(SEED, u64::from(point.pc));
+    match axis {
+        Axis::Lines => mixed(mixed(pc, u64::from(point.clock)), u64::from(point.c1)),
+        Axis::Counts => mixed(mixed(pc, u64::from(point.l0)), u64::from(point.l1)),
+    }
+}
+
+/// The upper half of a key.
+fn upper_half(key: u64) -> u32 {
+    (key >> 32) as u32
+}
+
+/// A number that points of one shape have alike. Few others have it.
+pub fn key(axis: Axis, point: &Point) -> u32 {
+    let mut key = mixed(place_key(axis, point), u64::from(point.top));
+    for flag in &point.flags {
+        key = mixed(key, flag_code(*flag));
+    }
+    let regs = mixed_facts(key, &point.regs);
+    upper_half(mixed_facts(
+        mixed_facts(regs, point.stack.as_slice()),
+        point.cells.as_slice(),
+    ))
+}
+
+/// A number that instances have alike which differ in their lines and in single bytes. Few others have it.
+pub fn node_key(at: &Instance) -> u32 {
+    let place = mixed(mixed(SEED, u64::from(at.pc)), u64::from(at.clock));
+    let mut key = mixed(place, u64::from(at.top));
+    for flag in &at.flags {
+        key = mixed(key, flag_code(*flag));
+    }
+    let vals = mixed_vals(mixed_vals(key, &at.regs), at.stack.as_slice());
+    upper_half(mixed_spans(vals, at.cells.as_slice()))
+}

@@ -1,0 +1,12 @@
+pub mod AsmLemmas
+pub mod DisLemmas
+pub mod MacroLemmas
+pub mod MacroNames
+pub mod DebugLemmas
+pub mod HearingLemmas
+pub mod LineLemmas
+pub mod TraceAnswerLemmas
+pub mod TraceLemmas
+pub mod TraceSameLemmas
+pub mod WaveFileLemmas
+pub mod WaveLemmas

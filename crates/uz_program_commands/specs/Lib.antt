@@ -1,0 +1,12 @@
+pub mod AsmCommand
+pub mod AsmValues
+pub mod DisCommand
+pub mod MacroCommands
+pub mod MacroSource
+pub mod MacroValues
+pub mod DebugCommand
+pub mod ScriptFile
+pub mod TraceCommand
+pub mod TraceValues
+pub mod WaveCommand
+pub mod WaveValues

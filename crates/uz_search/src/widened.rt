@@ -1,0 +1,16 @@
+//! Widening: what hints say of registers and pointers where the search comes by.
+
+ghost use Rattle.std.specs.Prelude.{◌≡◌};
+ghost use Rattle.uz_search.specs.Widened.{widened as widened_at};
+
+use crate::program::Program;
+use uz_schedule::Instance;
+
+/// Widens an instance by the facts of its program counter.
+pub(crate) fn widen(program: &Program, at: &mut Instance)
+    ensures { at.new ≡ widened_at program.now at.old }
+{
+    if let Some(facts) = program.facts.get(&at.pc) {
+        facts.widen(at);
+    }
+}

@@ -1,4 +1,0 @@
-pub mod AsmLemmas
-pub mod DisLemmas
-pub mod MacroLemmas
-pub mod MacroNames
