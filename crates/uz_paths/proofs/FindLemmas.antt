@@ -87,6 +87,10 @@ err_cause image irq hints p (Err e) of shows = licensed image irq hints p e of s
 pub no_hint : (r : Reading) (index : ℕ) → Ok r ≡ Err index → ⊥
 no_hint r index e = cc
 
+pub same_hint : {A : Type 0} (a b : ℕ) → ◌≡◌ {A = Result Reading ℕ} (Err a) (Err b)
+    → ◌≡◌ {A = Result A NotFound} (Err (Hint a)) (Err (Hint b))
+same_hint a b e = let same : a ≡ b = cc in ap (λ i. Err (Hint i)) same
+
 err_is : {A : Type 0} (a b : NotFound) → ◌≡◌ {A = Result A NotFound} (Err a) (Err b) → a ≡ b
 err_is a b e = cc
 

@@ -1,6 +1,6 @@
 -- One more clock of a line, and one more line of a schedule.
 use Rattle.std.proofs.Common.{◌≡◌, ◌∙◌, sym, ap, refl, arith, inl, inr, ⊎_elim, ℕ, suc, ◌+◌, ◌<◌, ◌≤◌, List, [], ◌∷◌, ◌++◌}
-use Rattle.std.proofs.Common.{append_assoc, append-nil, length, length-append, subst, get_or}
+use Rattle.std.proofs.Common.{append_assoc, append-nil, length, length-append, subst, get_or, Fits, w16}
 use Rattle.std.specs.Prelude.{Some, None, slice_get, ◌⊎◌}
 use borrow.Author.Count.{below_more}
 use Rattle.std.proofs.lemmas.Bool.{cases_lt}
@@ -43,6 +43,13 @@ ends marks start k n events all e h =
     sym (ap (λ es. events ++ es) (ap (events_from marks start k) e ∙ none_from marks start k) ∙ append-nil events) ∙ h
 
 -- One more kind
+
+-- the number of a kind of few fits
+pub number_fits : {A : Type 0} (xs ys : List A) (i : ℕ) (x : A) → xs ≡ ys → length ys < 65536 → slice_get xs i ≡ Some x → Fits w16 i
+number_fits xs ys i x same few at =
+    let within : i < length xs = slice_get_within xs i x at in
+    let long = ap length same in
+    record { fits = omega (arith, within, long, few) }
 
 -- a kind that is there already
 pub adds_old : (kinds : List (List Event)) (lengths : List ℕ) (events : List Event) (clocks n : ℕ) → length lengths ≡ length kinds

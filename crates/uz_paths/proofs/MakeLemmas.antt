@@ -4,7 +4,7 @@ use Rattle.std.proofs.Common.{length-append, take, drop, subst, reverse}
 use Rattle.std.specs.Prelude.{Some, slice_get, ◌⊎◌}
 use borrow.Author.Count.{below_more}
 use Rattle.std.proofs.lemmas.Bool.{cases_eq}
-use Rattle.std.proofs.lemmas.List.{reverse-reverse, take_at}
+use Rattle.std.proofs.lemmas.List.{length-drop, length-reverse, reverse-reverse, take_at}
 use Rattle.std.proofs.lemmas.Option.{slice_get_within}
 use Rattle.uz_schedule.specs.Lines.{Lines}
 use Rattle.uz_schedule.specs.Schedule.{response_clocks}
@@ -180,6 +180,12 @@ none_made image p s rests nodes numbers count links left points plan e = record 
   vectors = plan.named;
   own = λ i n x point less at number low there. absurd (omega arith);
 }
+
+-- an instance is left
+pub some_left : (nodes : List Instance) (numbers : List ℕ) (left : List Instance) (i : ℕ) → length numbers ≡ length nodes
+    → i < length numbers → reverse left ≡ drop i nodes → 0 < length left
+some_left nodes numbers left i same less are =
+    let long = ap length are in let back = length-reverse left in let some = length-drop i nodes in omega arith
 
 -- there is a list for each instance
 pub link_there : (image : Flash) (p : Program) (s : Schedule) (rests : List Rest) (nodes : List Instance) (numbers : List ℕ) (count : ℕ)

@@ -6,7 +6,7 @@ use borrow.Author.Count.{below_more}
 use Rattle.std.proofs.Math.Seq.{take-suc}
 use Rattle.std.proofs.lemmas.Bool.{cases_lt}
 use Rattle.std.proofs.lemmas.Bool.Decides.{nat_tests}
-use Rattle.std.proofs.lemmas.List.{length-take-le, take-append-le, take_at}
+use Rattle.std.proofs.lemmas.List.{length-take-le, take-append-le, take_all, take_at}
 use Rattle.std.proofs.lemmas.Option.{slice_get_within, slice_get-get_or, slice_get_cases, slice_get_read}
 use Rattle.uz_search.specs.Following.{Among}
 use Rattle.uz_schedule.specs.Lines.{Lines}
@@ -252,3 +252,10 @@ counted_own r l rests nodes i of of' count within are a e = subst (AreCounted r 
     subst (λ ms. AreNumbers r l rests (take j nodes) ms m) (sym all) (subst (λ n. AreNumbers r l rests (take n nodes) of m) (sym place)
     (subst (AreNumbers r l rests (take i nodes) of) h.1 are)))
     (at_more of count m j there))
+
+-- all instances are numbered
+pub all_numbered : (response : ℕ) (lines : Lines) (rests : List Rest) (nodes : List Instance) (numbers : List ℕ) (count i : ℕ)
+    → length nodes ≤ i
+    → AreNumbers response lines rests (take i nodes) numbers count → AreNumbers response lines rests nodes numbers count
+all_numbered response lines rests nodes numbers count i past a =
+    subst (λ ns. AreNumbers response lines rests ns numbers count) (take_all i nodes past) a

@@ -1,8 +1,9 @@
 -- The rests of noted returns.
 use Rattle.std.proofs.Common.{◌≡◌, ◌∙◌, sym, ap, refl, arith, ℕ, zero, suc, ◌+◌, ◌<◌, ◌≤◌, Bool, true, false, List, [], ◌∷◌, map, length}
-use Rattle.std.proofs.Common.{◌^◌, ◌++◌, append_assoc, drop, get_or, length-append, subst, if◌then◌else◌}
+use Rattle.std.proofs.Common.{◌^◌, ◌++◌, append-nil, append_assoc, drop, get_or, length-append, subst, if◌then◌else◌}
 use Rattle.std.specs.Prelude.{Option, Some, None, ◌&&◌, nat_eq, nat_le, slice_get, Contains}
 use Rattle.std.proofs.Math.Seq.{drop-cons}
+use Rattle.std.proofs.lemmas.List.{drop_all}
 use Rattle.std.proofs.lemmas.Bool.Decides.{nat_tests}
 use Rattle.std.specs.Ordering.{nat_cmp}
 use Rattle.std.specs.FinMap.{FinMap}
@@ -261,3 +262,10 @@ few_more rests new line rest put few =
 
 pub few_kept : (rests new : List Rest) (line : ℕ) → new ≡ rests → length rests ≤ line → length new ≤ line + 1
 few_kept rests new line same few = let long = ap length same in omega (arith, long, few)
+
+-- no return is left
+pub rests_end : (returns : List (Option Return)) (rests : List Rest) (line : ℕ) → length returns ≤ line
+    → rests ++ rests_from line (length rests) (drop line returns) ≡ rests_of returns → rests ≡ rests_of returns
+rests_end returns rests line past left =
+    let none : drop line returns ≡ [] = drop_all line returns past in
+    sym (append-nil rests) ∙ (sym (ap (λ rs. rests ++ rests_from line (length rests) rs) none) ∙ left)

@@ -100,7 +100,6 @@ fn kind_with(kinds: &[LineEvents], lengths: &[u16], events: &[Event], clocks: u1
 }
 
 /// The number of the kind with these events and so many clocks, which is put last where there is none.
-#[tactic(auto, using(crate::proofs::KindLemmas::adds_old))]
 fn number_of(
     kinds: &mut Vec<LineEvents>,
     lengths: &mut Vec<u16>,

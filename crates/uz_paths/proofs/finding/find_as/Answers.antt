@@ -1,6 +1,7 @@
+use Rattle.std.proofs.Common.{inl}
 use Rattle.std.specs.Prelude.{Err}
 use Rattle.uz_search.specs.declared.found.NotFound.TheVariants.{Hint}
-use Rattle.uz_paths.proofs.FindLemmas.{complete_answer, facts_fine, ok_asked, err_cause, no_hint}
+use Rattle.uz_paths.proofs.FindLemmas.{complete_answer, facts_fine, ok_asked, err_cause, no_hint, same_hint}
 use Rattle.uz_paths.proofs.finding.find_as.Goals as goal
 
 pub program_of-requires-clause-facts : goal.program_of-requires-clause-facts
@@ -30,3 +31,6 @@ returns-clause-complete c =
 pub returns-in-Err-clause-complete : goal.returns-in-Err-clause-complete
 returns-in-Err-clause-complete c = complete_answer c.args.image.now c.args.irq c.args.hints.now (Err (Hint c.in-Err.index))
     c.in-Err.ensures.refused
+
+pub returns-in-Err-clause-hint : goal.returns-in-Err-clause-hint
+returns-in-Err-clause-hint c = λ index refused. inl (same_hint c.in-Err.index index (c.in-Err.ensures.exact index refused))

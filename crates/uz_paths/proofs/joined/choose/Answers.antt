@@ -1,4 +1,4 @@
-use Rattle.std.proofs.Common.{List, ap}
+use Rattle.std.proofs.Common.{List, ap, refl}
 use Rattle.uz_schedule.specs.declared.header.Head.{Head}
 use Rattle.uz_schedule.specs.declared.states.Point.{Point}
 use Rattle.uz_paths.specs.JoinedParts.{joined_cert}
@@ -10,3 +10,9 @@ returns-then-accepted-clause-cert c =
 
 pub returns-else-accepted-clause-same : goal.returns-else-accepted-clause-same
 returns-else-accepted-clause-same c = ap (λ (head : Head). record c.args.program { head = head }) c.head_of.ensures
+
+pub returns-then-accepted-clause-fits : goal.returns-then-accepted-clause-fits
+returns-then-accepted-clause-fits c = c.if-accepted.ensures.fits refl
+
+pub returns-then-accepted-clause-accepted : goal.returns-then-accepted-clause-accepted
+returns-then-accepted-clause-accepted c = c.if-accepted.ensures.accepted refl

@@ -1,4 +1,4 @@
-use Rattle.std.proofs.Common.{◌≡◌, ◌∙◌, ◌<◌, ◌^◌, List, ap, arith, length, refl, subst, sym, ℕ}
+use Rattle.std.proofs.Common.{◌≡◌, ◌∙◌, ◌<◌, ◌≤◌, ◌^◌, List, ap, arith, length, refl, subst, sym, ℕ}
 use Rattle.std.specs.Prelude.{Some, slice_get}
 use Rattle.std.proofs.lemmas.Option.{slice_get_read}
 use Rattle.uz_schedule.specs.declared.states.Instance.{Instance}
@@ -28,9 +28,17 @@ loop-i-preserved c =
 few_lists : (xs nodes : List Instance) (i : ℕ) → xs ≡ nodes → i < length xs → length nodes < 524288 → i < 2 ^ 27
 few_lists xs nodes i same within few = let long = ap length same in omega (arith, long, within, few)
 
+all_past : (xs nodes : List Instance) (i k : ℕ) → xs ≡ nodes → length xs ≤ k → i < length nodes → i < k
+all_past xs nodes i k same past less = let long = ap length same in omega (arith, long, past, less)
+
 pub put_list-requires-clause-lists : goal.put_list-requires-clause-lists
 put_list-requires-clause-lists c = c.loop-i.invariant.lists
 
 pub put_list-requires-clause-few : goal.put_list-requires-clause-few
 put_list-requires-clause-few c =
     few_lists _ c.args.nodes.now.keys c.loop-i.i c.as_slice-at-items.ensures.keys c.loop-i-test.true c.requires.few
+
+pub returns : goal.returns
+returns c =
+    λ i less. c.loop-i.invariant.linked i
+    (all_past _ c.args.nodes.now.keys i c.loop-i.i c.as_slice-at-items.ensures.keys c.loop-i-test.false less)

@@ -1,4 +1,4 @@
-use Rattle.std.proofs.Common.{List, ap, arith, length, sym, subst}
+use Rattle.std.proofs.Common.{◌≡◌, Bool, false, true, List, ap, arith, length, sym, subst}
 use Rattle.uz_schedule.specs.declared.states.Instance.{Instance}
 use Rattle.uz_search.specs.Following.{Among}
 use Rattle.uz_paths.specs.Linked.{NamesMore}
@@ -8,8 +8,11 @@ use Rattle.uz_paths.proofs.linking.name_next.Goals as goal
 pub returns-then-next-clause-more : goal.returns-then-next-clause-more
 returns-then-next-clause-more c = none_more c.args.count (length c.args.next.now.out.items) c.args.names.now.items
 
+not_both : (b : Bool) → b ≡ true → b ≡ false → ⊥
+not_both b on off = cc
+
 pub returns-then-next-clause-named : goal.returns-then-next-clause-named
-returns-then-next-clause-named c = λ on y there. absurd (let off = c.if-next.true in cc)
+returns-then-next-clause-named c = λ on y there. absurd (not_both c.args.next.now.back c.if-next.true on)
 
 pub name_all-requires-clause-nodes : goal.name_all-requires-clause-nodes
 name_all-requires-clause-nodes c = λ y there. c.requires.nodes c.if-next.false y

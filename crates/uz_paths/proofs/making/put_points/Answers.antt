@@ -2,7 +2,7 @@ use Rattle.std.proofs.Common.{◌≡◌, ◌<◌, ◌≤◌, ⊎_elim, get_or, l
 use Rattle.std.specs.Prelude.{Some, slice_get}
 use Rattle.std.proofs.lemmas.Bool.{cases_lt}
 use Rattle.std.proofs.lemmas.Option.{slice_get-get_or}
-use Rattle.uz_paths.proofs.MakeLemmas.{all_named, all_pointed, link_there, none_made, own_put, vector_passed}
+use Rattle.uz_paths.proofs.MakeLemmas.{all_named, all_pointed, link_there, none_made, own_put, some_left, vector_passed}
 use Rattle.uz_paths.proofs.making.put_points.Goals as goal
 
 pub loop-i-init : goal.loop-i-init
@@ -40,3 +40,8 @@ pub returns-clause-named : goal.returns-clause-named
 returns-clause-named c = all_named c.args.image.now c.args.program.now c.args.schedule.now c.args.rests.now c.args.nodes.now.keys
     c.args.numbers.now c.args.count c.loop-i.i c.args.links.now c.args.points.now.items c.loop-i.points.items c.loop-i.nodes.keys c.requires
     c.loop-i.invariant c.loop-i-test.false
+
+pub take_last-at-requires-clause-some : goal.take_last-at-requires-clause-some
+take_last-at-requires-clause-some c =
+    some_left c.args.nodes.now.keys c.args.numbers.now c.loop-i.nodes.keys c.loop-i.i c.requires.numbered.lengths c.loop-i-test.true
+    c.loop-i.invariant.left_are

@@ -1,7 +1,7 @@
 use Rattle.std.proofs.Common.{◌≡◌, ◌∙◌, ap}
 use Rattle.uz_schedule.specs.Lines.{order_of}
 use Rattle.uz_schedule.specs.Schedule.{response_clocks}
-use Rattle.uz_paths.proofs.NumberLemmas.{counted_own, counted_vector, own_next, vector_next}
+use Rattle.uz_paths.proofs.NumberLemmas.{all_numbered, counted_own, counted_vector, own_next, vector_next}
 use Rattle.uz_paths.proofs.numbers.numbers_of.Goals as goal
 use Rattle.uz_paths.proofs.numbers.numbers_of.Goals.{in-Some+in_ok-push-in-Some, in-None+in_ok-push-in-None}
 
@@ -31,3 +31,8 @@ loop-at-preserved c =
                 c.loop-at.invariant.numbered c.loop-at.invariant.counted (e ∙ w.in_ok-push-in-None.ensures.items);
           }
     ]
+
+pub returns-clause-numbers : goal.returns-clause-numbers
+returns-clause-numbers c =
+    all_numbered (response_clocks c.args.response) (order_of c.args.schedule.now) c.args.rests.now c.args.nodes.now c.loop-at.of.items
+    c.loop-at.count c.loop-at.at-index c.loop-at-test.false c.loop-at.invariant.numbered

@@ -1,6 +1,6 @@
 use Rattle.std.proofs.Common.{◌∙◌, ◌+◌, ◌++◌, ap, drop, length}
 use Rattle.uz_paths.specs.Rests.{rests_from}
-use Rattle.uz_paths.proofs.RestLemmas.{few_kept, few_more, none_put, rest_put}
+use Rattle.uz_paths.proofs.RestLemmas.{few_kept, few_more, none_put, rest_put, rests_end}
 use Rattle.uz_paths.proofs.rests.rests_of.Goals as goal
 use Rattle.uz_paths.proofs.rests.rests_of.Goals.{in-Some+in_ok-push, in_default}
 
@@ -24,3 +24,6 @@ loop-line-preserved c =
                 c.index-returns-line.is w.in_default.is c.loop-line.invariant.left;
           }
     ]
+
+pub returns : goal.returns
+returns c = rests_end c.args.returns.now c.loop-line.rests.items c.loop-line.line c.loop-line-test.false c.loop-line.invariant.left
