@@ -15,11 +15,13 @@ use crate::kinds::schedule_of;
 use crate::linking::{number_at, place_of, plan_of};
 use crate::making::points_of;
 use crate::rests::rests_of;
+use arrayvec::ArrayVec;
 use indexmap::IndexSet;
 use std::alloc::{AllocError, Global};
+use std::mem::replace;
 use uz_hex::Image;
 use uz_schedule::{
-    Cert, Entry, Instance, Point, Rest, Schedule, Sequence, entry_state, event_by_line,
+    Cert, Entry, Head, Instance, Point, Rest, Schedule, Sequence, entry_state, event_by_line,
 };
 use uz_search::{Found, Program, nodes_are_reached};
 use uz_search_laws::{ended_falls_once, ended_levels_fit, ended_rests_enter};
@@ -196,11 +198,29 @@ pub(crate) fn parts_of(
     }
 }
 
+/// Takes the header out of a program, which is left with one that has no cells.
+pub(crate) fn take_head(program: &mut Program) -> Head
+    ensures head { result ≡ program.old.head }
+    ensures rest { program.new ≡ record program.old { head = program.new.head } }
+{
+    let bare = Head {
+        irq: program.head.irq,
+        lo: 0,
+        hi: 0,
+        main: 0,
+        handler: 0,
+        cells: ArrayVec::new(),
+    };
+    replace(&mut program.head, bare)
+}
+
 /// The certificate of these parts.
 pub(crate) fn certificate_of(program: Program, parts: Parts) -> Cert
     ensures { result ≡ cert_of program parts }
 {
-    let Program { head, .. } = program;
+    let mut program = program;
+    let head = take_head(&mut program);
+    drop(program);
     let Parts {
         schedule,
         rests,

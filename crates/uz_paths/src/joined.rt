@@ -13,15 +13,16 @@ ghost use Rattle.uz_paths.specs.Finding.{IsFoundBy};
 ghost use Rattle.uz_paths.specs.JoinedParts.{AreJoinedOf, joined_cert};
 ghost use Rattle.uz_paths.specs.Rests.{rests_of as rests_of_returns};
 
-use crate::certificate::{made_schedule, with_id};
+use crate::certificate::{made_schedule, take_head, with_id};
 use crate::numbers::vectors_of;
 use crate::rests::rests_of;
 use crate::vectors::vector_of;
 use std::alloc::{AllocError, Global};
+use std::mem::swap;
 use uz_hex::Image;
 use uz_join::{JoinedNodes, entry_of, joined_nodes, passes, rests_of as rests_into};
 use uz_schedule::{
-    Cert, Entry, Head, Instance, Point, Response, Rest, Schedule, Sequence, entry_state,
+    Cert, Entry, Instance, Point, Response, Rest, Schedule, Sequence, entry_state,
 };
 use uz_search::{Found, Program, nodes_are_reached};
 
@@ -210,14 +211,6 @@ fn joined_parts(
     Ok(Some(parts))
 }
 
-/// The header of a certificate. All else is let go.
-fn head_of(cert: Cert) -> Head
-    ensures { result ≡ cert.head }
-{
-    let Cert { head, .. } = cert;
-    head
-}
-
 /// The certificate of joined points, where the check accepts it, and else the program as it was.
 fn choose(image: &Image, program: Program, parts: JoinedParts) -> Result<Cert, Program>
     ensures cert { IfOk result (λ cert. cert ≡ joined_cert program parts) }
@@ -225,20 +218,15 @@ fn choose(image: &Image, program: Program, parts: JoinedParts) -> Result<Cert, P
     ensures accepted { IfOk result (Accepts image.now) }
     ensures same { IfErr result (λ p. p ≡ program) }
 {
-    let Program {
-        head,
-        schedule: frame,
-        facts,
-        starts,
-    } = program;
+    let mut program = program;
     let JoinedParts {
         schedule,
         rests,
         entry,
         points,
     } = parts;
-    let cert = Cert {
-        head,
+    let mut cert = Cert {
+        head: take_head(&mut program),
         schedule,
         rests,
         entry,
@@ -246,17 +234,12 @@ fn choose(image: &Image, program: Program, parts: JoinedParts) -> Result<Cert, P
     };
     let accepted = passes(image, &cert);
     if accepted {
-        drop(frame);
-        drop(facts);
-        drop(starts);
+        drop(program);
         Ok(cert)
     } else {
-        Err(Program {
-            head: head_of(cert),
-            schedule: frame,
-            facts,
-            starts,
-        })
+        swap(&mut program.head, &mut cert.head);
+        drop(cert);
+        Err(program)
     }
 }
 

@@ -80,13 +80,15 @@ pub(crate) fn numbers_of(
     let mut of = Vec::new(alloc);
     let mut count = rests.len() as u32;
     for at in nodes {
-        match vector_of(response, schedule, rests, at) {
-            Some(k) => of.push(k)?,
+        let own = count;
+        let number = match vector_of(response, schedule, rests, at) {
+            Some(k) => k,
             None => {
-                of.push(count)?;
                 count += 1;
+                own
             }
-        }
+        };
+        of.push(number)?;
     }
     Ok(Numbers { of, count })
 }

@@ -1,34 +1,31 @@
-use Rattle.std.proofs.Common.{◌≡◌, ◌∙◌, ap}
+use Rattle.std.proofs.Common.{◌∙◌, ◌∷◌, ◌++◌, [], ap}
 use Rattle.uz_schedule.specs.Lines.{order_of}
 use Rattle.uz_schedule.specs.Schedule.{response_clocks}
 use Rattle.uz_paths.proofs.NumberLemmas.{all_numbered, counted_own, counted_vector, own_next, vector_next}
 use Rattle.uz_paths.proofs.numbers.numbers_of.Goals as goal
-use Rattle.uz_paths.proofs.numbers.numbers_of.Goals.{in-Some+in_ok-push-in-Some, in-None+in_ok-push-in-None}
+use Rattle.uz_paths.proofs.numbers.numbers_of.Goals.{in-Some, in-None}
 
 pub loop-at-preserved : goal.loop-at-preserved
 loop-at-preserved c =
     elim c.match-vector_of.branch [
-      | in-Some+in_ok-push-in-Some w ↦
-          let e : c.match-vector_of.of.items ≡ w.push.new.self.items = ap (λ v. v.items) w.of-is in
+      | in-Some w ↦
+          let put = c.in_ok-push.ensures.items ∙ ap (λ n. c.loop-at.of.items ++ n ∷ []) w.number-is in
           record {
             numbered = vector_next (response_clocks c.args.response) (order_of c.args.schedule.now) c.args.rests.now c.args.nodes.now
-                c.loop-at.at-index c.at-item.result c.loop-at.of.items c.match-vector_of.of.items c.loop-at.count c.match-vector_of.count
-                w.in-Some.k c.loop-at-test.true c.at-item.is c.loop-at.invariant.numbered w.in-Some.ensures
-                (e ∙ w.in_ok-push-in-Some.ensures.items) w.count-is;
+                c.loop-at.at-index c.at-item.result c.loop-at.of.items c.push.new.self.items c.loop-at.count c.match-vector_of.count
+                w.in-Some.k c.loop-at-test.true c.at-item.is c.loop-at.invariant.numbered w.in-Some.ensures put w.count-is;
             counted = counted_vector (response_clocks c.args.response) (order_of c.args.schedule.now) c.args.rests.now c.args.nodes.now
-                c.loop-at.of.items c.match-vector_of.of.items w.in-Some.k c.at-item.result c.loop-at.invariant.counted w.in-Some.ensures
-                (e ∙ w.in_ok-push-in-Some.ensures.items);
+                c.loop-at.of.items c.push.new.self.items w.in-Some.k c.at-item.result c.loop-at.invariant.counted w.in-Some.ensures put;
           }
-      | in-None+in_ok-push-in-None w ↦
-          let e : c.match-vector_of.of.items ≡ w.push-in-None.new.self.items = ap (λ v. v.items) w.of-is in
+      | in-None w ↦
+          let put = c.in_ok-push.ensures.items ∙ ap (λ n. c.loop-at.of.items ++ n ∷ []) w.number-is in
           record {
             numbered = own_next (response_clocks c.args.response) (order_of c.args.schedule.now) c.args.rests.now c.args.nodes.now
-                c.loop-at.at-index c.at-item.result c.loop-at.of.items c.match-vector_of.of.items c.loop-at.count c.match-vector_of.count
-                c.loop-at-test.true c.at-item.is c.loop-at.invariant.numbered w.in-None.ensures
-                (e ∙ w.in_ok-push-in-None.ensures.items) w.count-is;
+                c.loop-at.at-index c.at-item.result c.loop-at.of.items c.push.new.self.items c.loop-at.count c.match-vector_of.count
+                c.loop-at-test.true c.at-item.is c.loop-at.invariant.numbered w.in-None.ensures put w.count-is;
             counted = counted_own (response_clocks c.args.response) (order_of c.args.schedule.now) c.args.rests.now c.args.nodes.now
-                c.loop-at.at-index c.loop-at.of.items c.match-vector_of.of.items c.loop-at.count c.loop-at-test.true
-                c.loop-at.invariant.numbered c.loop-at.invariant.counted (e ∙ w.in_ok-push-in-None.ensures.items);
+                c.loop-at.at-index c.loop-at.of.items c.push.new.self.items c.loop-at.count c.loop-at-test.true
+                c.loop-at.invariant.numbered c.loop-at.invariant.counted put;
           }
     ]
 
