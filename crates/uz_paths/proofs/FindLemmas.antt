@@ -91,6 +91,10 @@ pub same_hint : {A : Type 0} (a b : ℕ) → ◌≡◌ {A = Result Reading ℕ} 
     → ◌≡◌ {A = Result A NotFound} (Err (Hint a)) (Err (Hint b))
 same_hint a b e = let same : a ≡ b = cc in ap (λ i. Err (Hint i)) same
 
+pub some_both : {A : Type 0} (P Q : A → Type 0) (o : Option A) → IfSome o P → IfSome o Q → IfSome o (λ x. P x × Q x)
+some_both P Q None p q = p
+some_both P Q (Some x) p q = (p, q)
+
 err_is : {A : Type 0} (a b : NotFound) → ◌≡◌ {A = Result A NotFound} (Err a) (Err b) → a ≡ b
 err_is a b e = cc
 

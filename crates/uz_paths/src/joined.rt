@@ -21,9 +21,7 @@ use std::alloc::{AllocError, Global};
 use std::mem::swap;
 use uz_hex::Image;
 use uz_join::{JoinedNodes, entry_of, joined_nodes, passes, rests_of as rests_into};
-use uz_schedule::{
-    Cert, Entry, Instance, Point, Response, Rest, Schedule, Sequence, entry_state,
-};
+use uz_schedule::{Cert, Entry, Instance, Point, Response, Rest, Schedule, Sequence, entry_state};
 use uz_search::{Found, Program, nodes_are_reached};
 
 /// What a search makes of a certificate whose points are joined.

@@ -67,3 +67,6 @@ returns-in-Ok-points_of c =
           (subst (λ (rests : List Rest). AreNamed c.args.image.now c.args.program.now c.in-Ok.schedule rests c.nodes_of.result.keys numbers
           points) c.as_slice-4.ensures.value c.in-Ok-points_of.ensures.named);
     }
+
+pub number_of-id-requires-clause-lengths : goal.number_of-id-requires-clause-lengths
+number_of-id-requires-clause-lengths c = ap length c.as_slice-3.ensures.value ∙ c.in-Ok-plan_of.ensures.numbered.lengths

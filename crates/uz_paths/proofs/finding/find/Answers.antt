@@ -1,3 +1,8 @@
+use Rattle.std.proofs.Common.{subst}
+use Rattle.std.specs.Prelude.{IfSome}
+use Rattle.uz_schedule.specs.WellFormed.{WellFormed}
+use Rattle.uz_soundness.specs.Acceptance.{Accepts}
+use Rattle.uz_paths.specs.Finding.{IsAsked}
 use Rattle.uz_paths.proofs.FindLemmas.{found_unhinted, refused_alike}
 use Rattle.uz_paths.proofs.finding.find.Goals as goal
 
@@ -7,3 +12,11 @@ returns-in-Ok-Some-clause-hint c = λ index refused.
 
 pub returns-in-Err-clause-hint : goal.returns-in-Err-clause-hint
 returns-in-Err-clause-hint c = λ index refused. refused_alike c.in-Err.why index (c.in-Err.ensures.hint index refused)
+
+pub returns-in-Ok-Some-clause-accepted : goal.returns-in-Ok-Some-clause-accepted
+returns-in-Ok-Some-clause-accepted c =
+    subst (λ o. IfSome o (λ cert. WellFormed cert × Accepts c.args.image.now cert)) c.in-Ok-Some.field-0-is c.in-Ok-Some.ensures.accepted
+
+pub returns-in-Ok-Some-clause-asked : goal.returns-in-Ok-Some-clause-asked
+returns-in-Ok-Some-clause-asked c =
+    subst (λ o. IfSome o (IsAsked c.args.image.now c.args.irq c.args.hints.now)) c.in-Ok-Some.field-0-is c.in-Ok-Some.ensures.asked

@@ -1,8 +1,11 @@
 use Rattle.std.proofs.Common.{subst, sym}
 use Rattle.uz_paths.specs.Certificate.{IsEntry, ReturnsFromMain}
 use Rattle.uz_paths.specs.Finding.{IsFoundBy}
+use Rattle.uz_schedule.specs.WellFormed.{WellFormed}
 use Rattle.uz_search.specs.Fitting.{ProgramFits}
 use Rattle.uz_search.specs.Searching.{IsEnded}
+use Rattle.uz_soundness.specs.Acceptance.{Accepts}
+use Rattle.uz_paths.proofs.FindLemmas.{some_both}
 use Rattle.uz_paths.proofs.JoinedLemmas.{some_found_joined}
 use Rattle.uz_paths.proofs.finding.find_by.Goals as goal
 
@@ -39,3 +42,10 @@ returns-then-joining-eq1-clause-accepted c = (c.in_ok-certificate.ensures.fits, 
 
 pub returns-then-joining-eq1-clause-found : goal.returns-then-joining-eq1-clause-found
 returns-then-joining-eq1-clause-found c = c.in_ok-certificate.ensures.found
+
+pub returns-in_ok-cert-in-Err-joined_certificate-clause-accepted : goal.returns-in_ok-cert-in-Err-joined_certificate-clause-accepted
+returns-in_ok-cert-in-Err-joined_certificate-clause-accepted c =
+    some_both WellFormed (Accepts c.args.image.now) c.joined.result c.joined.ensures.fits c.joined.ensures.accepted
+
+pub joined-requires-clause-accepted : goal.joined-requires-clause-accepted
+joined-requires-clause-accepted c = c.in_ok-cert-in-Err-joined_certificate.ensures.accepted
