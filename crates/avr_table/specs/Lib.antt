@@ -1,4 +1,5 @@
 pub mod Length
 pub mod Pattern
-pub mod RowClocks
+pub mod Places
+pub mod RowFacts
 pub mod Rows
