@@ -1,4 +1,5 @@
 pub mod EachLemmas
+pub mod EqualLists
 pub mod OldFacts
 pub mod SameFacts
 pub mod TellingLemmas

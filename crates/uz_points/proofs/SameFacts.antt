@@ -3,7 +3,9 @@ use Rattle.std.proofs.Common.{◌≡◌, ◌∙◌, ap, sym, arith, refl, ℕ, s
 use Rattle.std.proofs.Common.{true, false, leb, Bool, ◌&&◌}
 use Rattle.std.specs.Prelude.{Some, None, option_and_then, slice_get}
 use Rattle.std.proofs.lemmas.Bool.{le-leb, leb-true}
+use lib.Pointwise.{pointwise}
 use Rattle.uz_schedule.specs.Exact as exact
+use Rattle.uz_schedule.specs.contracts.facts.PairFactPartialEq as facts
 use Rattle.uz_schedule.specs.Instances.{cell_span, clock_below, instance_of, is_in_box, pairs_of, span_of_val, val_of}
 use Rattle.uz_schedule.specs.Schedule.{length_of, level_at, start_of}
 use Rattle.uz_schedule.specs.declared.facts.Fact.{Fact}
@@ -11,6 +13,7 @@ use Rattle.uz_schedule.specs.declared.facts.PairFact.{PairFact}
 use Rattle.uz_schedule.specs.declared.facts.Val.{Val}
 use Rattle.uz_schedule.specs.declared.states.Instance.{Instance}
 use Rattle.uz_schedule.specs.declared.states.Point.{Point}
+use Rattle.uz_points.proofs.EqualLists.{equal_facts}
 use Rattle.uz_points.specs.Same.{AreTold, IsWhollyTold, SameAt, SameInstances, SamePlace}
 
 -- lists whose elements are made the same are made the same
@@ -33,9 +36,10 @@ pub same_spans : (l c d : ℕ) (fs gs : List Fact) → map (val_of l c) fs ≡ m
 same_spans l c d fs gs same = spans l c fs ∙ (ap (map span_of_val) same ∙ sym (spans l d gs))
 
 -- and pairs, where they are said at both counts alike
-pub same_pairs : (c d : ℕ) (fs gs : List PairFact) → fs ≡ gs → ((l : ℕ) (vals : List Val) → pairs_of l c vals fs ≡ pairs_of l d vals fs)
+pub same_pairs : (c d : ℕ) (fs gs : List PairFact) → pointwise (facts.TheImpl.eq-value).it fs gs ≡ true
+    → ((l : ℕ) (vals : List Val) → pairs_of l c vals fs ≡ pairs_of l d vals fs)
     → (l : ℕ) (x y : List Val) → x ≡ y → pairs_of l c x fs ≡ pairs_of l d y gs
-same_pairs c d fs gs facts keep l x y regs = keep l x ∙ (λ i. pairs_of l d (regs i) (facts i))
+same_pairs c d fs gs equal keep l x y regs = let same = equal_facts fs gs equal in keep l x ∙ (λ i. pairs_of l d (regs i) (same i))
 
 -- an instance is all that is said of it
 pub one : (a b : Instance) → exact.SamePlace a b → exact.SameKnown a b → a ≡ b

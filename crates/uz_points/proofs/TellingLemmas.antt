@@ -6,7 +6,7 @@ use Rattle.std.proofs.lemmas.Bool.{cases_eq}
 use Rattle.uz_schedule.specs.Instances.{instance_of}
 use Rattle.uz_schedule.specs.declared.states.Instance.{Instance}
 use Rattle.uz_schedule.specs.declared.states.Point.{Point}
-use Rattle.uz_points.specs.Telling.{AreSaid, AreSaidBack, IsNoted, IsSaid, IsSaidBack, SaidAt}
+use Rattle.uz_points.specs.Telling.{AreSaid, AreSaidBack, IsOnLine, IsSaid, IsSaidBack, SaidAt}
 use Rattle.uz_points.specs.Telling.{SaidBy, SaidPlace, SaysInstances}
 
 -- a list whose elements are made of another one's
@@ -60,6 +60,12 @@ said_more points numbers counts more nodes i n c y pushed size there numbered at
       said = by.said;
     })
     (cases_eq j i)
+
+-- at this place are the number of a point, a count and an instance on this line
+pub record IsNoted (numbers counts : List ℕ) (nodes : List Instance) (i n l c : ℕ) : Type 0 where
+  pub numbered : slice_get numbers i ≡ Some n
+  pub counted : slice_get counts i ≡ Some c
+  pub on : IsOnLine nodes i l
 
 -- the instance that is noted for a point's line and count
 pub said_back : {points : List Point} {numbers counts : List ℕ} {nodes : List Instance} {i number line count : ℕ} {q : Point}

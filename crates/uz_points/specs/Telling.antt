@@ -34,17 +34,16 @@ pub record SaidBy (points : List Point) (numbers counts : List ℕ) (i : ℕ) (x
 abbrev pub AreSaid : List Point → List ℕ → List ℕ → List Instance → Type 0
 AreSaid points numbers counts nodes = (i : ℕ) (x : Instance) → slice_get nodes i ≡ Some x → SaidBy points numbers counts i x
 
+-- points and the instances that they say
+pub record Telling : Type 0 where
+  pub points : List Point
+  pub nodes : List Instance
+
 -- the instance at a place stands on this line
 pub record IsOnLine (nodes : List Instance) (i l : ℕ) : Type 0 where
   pub instance : Instance
   pub there : slice_get nodes i ≡ Some instance
   pub line : instance.line ≡ l
-
--- at this place are the number of a point, a count and an instance on this line
-pub record IsNoted (numbers counts : List ℕ) (nodes : List Instance) (i n l c : ℕ) : Type 0 where
-  pub numbered : slice_get numbers i ≡ Some n
-  pub counted : slice_get counts i ≡ Some c
-  pub on : IsOnLine nodes i l
 
 -- what the point says at line l and count c is one of these instances
 pub record IsSaidBack (nodes : List Instance) (q : Point) (l c : ℕ) : Type 0 where

@@ -4,9 +4,7 @@ ghost use Rattle.std.specs.Prelude.{◌≡◌, true};
 ghost use Rattle.uz_schedule.specs.Exact.{SameKnown, SamePlace};
 ghost use Rattle.uz_schedule.specs.Instances.{instance_of};
 
-use crate::saying::{
-    same_flags, say, say_cells, say_pairs, say_same, say_same_cells, say_same_pairs,
-};
+use crate::saying::{say, say_cells, say_pairs, say_same, say_same_cells, say_same_pairs};
 use uz_schedule::{Instance, Point};
 
 /// Whether a point says where an instance stands at a line, and what is known of the timer.
@@ -19,12 +17,13 @@ fn says_place(point: &Point, at: &Instance, line: u16, count: u8) -> bool
 }
 
 /// Whether a point says at a line and a count what is known in an instance.
+#[tactic(auto, using(crate::proofs::EqualLists::equal_flags))]
 fn says_known(point: &Point, at: &Instance, line: u16, count: u8) -> bool
     ensures { result ≡ true → SameKnown at.now (instance_of point.now line count at.now.clock at.now.level) }
 {
     (say(&point.regs, &at.regs, line, count)
         && say_pairs(&point.pairs, &at.regs, &at.pairs, line, count))
-        && (same_flags(&at.flags, &point.flags)
+        && (at.flags == point.flags
             && (say(point.stack.as_slice(), at.stack.as_slice(), line, count)
                 && say_cells(point.cells.as_slice(), at.cells.as_slice(), line, count)))
 }
@@ -49,10 +48,11 @@ fn same_place(a: &Point, b: &Point, line: u16, of_a: u8, of_b: u8) -> bool
 }
 
 /// Whether two points say that the same is known at a line, each at its count.
+#[tactic(auto, using(crate::proofs::EqualLists::equal_flags))]
 fn same_known(a: &Point, b: &Point, line: u16, of_a: u8, of_b: u8) -> bool
     ensures { result ≡ true → SameKnown (instance_of a.now line of_a 0 0) (instance_of b.now line of_b 0 0) }
 {
-    (same_flags(&a.flags, &b.flags) && say_same_pairs(&a.pairs, &b.pairs, of_a, of_b))
+    (a.flags == b.flags && say_same_pairs(&a.pairs, &b.pairs, of_a, of_b))
         && (say_same(&a.regs, &b.regs, line, of_a, of_b)
             && (say_same(a.stack.as_slice(), b.stack.as_slice(), line, of_a, of_b)
                 && say_same_cells(a.cells.as_slice(), b.cells.as_slice(), line, of_a, of_b)))

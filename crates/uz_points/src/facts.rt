@@ -48,12 +48,12 @@ pub(crate) fn is_pair_steady(fact: &PairFact, axis: Axis) -> bool {
 }
 
 /// What is known of a byte.
-pub trait Told {
+pub trait Told: PartialEq {
     /// The byte, where one is told.
     fn told(&self) -> Option<u8>;
 
-    /// Whether the same is known.
-    fn is_as(&self, other: &Self) -> bool;
+    /// A number for what is known, the same for all that tell one byte.
+    fn code(&self) -> u64;
 }
 
 impl Told for Fact {
@@ -61,8 +61,15 @@ impl Told for Fact {
         single(self)
     }
 
-    fn is_as(&self, other: &Fact) -> bool {
-        *self == *other
+    fn code(&self) -> u64 {
+        match self {
+            Fact::Any => 1,
+            Fact::Between(span) => span.code(),
+            Fact::Line(a, b) => 4 + 8 * u64::from(*a) + 2048 * u64::from(*b),
+            Fact::Loop(a, b) => 5 + 8 * u64::from(*a) + 2048 * u64::from(*b),
+            Fact::Old(r) => 6 + 8 * u64::from(*r),
+            Fact::OldFlags => 7,
+        }
     }
 }
 
@@ -75,8 +82,12 @@ impl Told for Span {
         }
     }
 
-    fn is_as(&self, other: &Span) -> bool {
-        *self == *other
+    fn code(&self) -> u64 {
+        if self.lo() == self.hi() {
+            2
+        } else {
+            3 + 8 * u64::from(self.lo()) + 2048 * u64::from(self.hi())
+        }
     }
 }
 
@@ -88,8 +99,12 @@ impl Told for Val {
         }
     }
 
-    fn is_as(&self, other: &Val) -> bool {
-        *self == *other
+    fn code(&self) -> u64 {
+        match self {
+            Val::Range(span) => span.code(),
+            Val::Old(r) => 6 + 8 * u64::from(*r),
+            Val::OldFlags => 7,
+        }
     }
 }
 
@@ -97,7 +112,7 @@ impl Told for Val {
 fn same_but_byte<T: Told>(a: &T, b: &T) -> bool {
     match (a.told(), b.told()) {
         (Some(_), Some(_)) => true,
-        _ => a.is_as(b),
+        _ => a == b,
     }
 }
 
@@ -136,7 +151,7 @@ pub(crate) fn put_growths<T: Told>(growths: &mut [u8], from: &[T], to: &[T]) {
 fn follows<T: Told>(by: u8, last: &T, new: &T) -> bool {
     match (last.told(), new.told()) {
         (Some(from), Some(to)) => to.wrapping_sub(from) == by,
-        _ => by == 0 && last.is_as(new),
+        _ => by == 0 && last == new,
     }
 }
 
@@ -209,35 +224,5 @@ pub fn fact_along(axis: Axis, first: &Fact, second: &Fact, start: u16) -> Fact
     match (single(first), single(second)) {
         (Some(from), Some(to)) if from != to => moving(axis, step(from, to), start, from),
         _ => *first,
-    }
-}
-
-/// A number for a range of bytes, the same for all that have one byte.
-pub(crate) fn span_code(span: Span) -> u64 {
-    if span.lo() == span.hi() {
-        2
-    } else {
-        3 + 8 * u64::from(span.lo()) + 2048 * u64::from(span.hi())
-    }
-}
-
-/// A number for what is known of a byte, the same for all that are one byte.
-pub(crate) fn val_code(val: &Val) -> u64 {
-    match val {
-        Val::Range(span) => span_code(*span),
-        Val::Old(r) => 6 + 8 * u64::from(*r),
-        Val::OldFlags => 7,
-    }
-}
-
-/// A number for a fact, the same for all that tell one byte.
-pub(crate) fn code(fact: &Fact) -> u64 {
-    match fact {
-        Fact::Any => 1,
-        Fact::Between(span) => span_code(*span),
-        Fact::Line(a, b) => 4 + 8 * u64::from(*a) + 2048 * u64::from(*b),
-        Fact::Loop(a, b) => 5 + 8 * u64::from(*a) + 2048 * u64::from(*b),
-        Fact::Old(r) => 6 + 8 * u64::from(*r),
-        Fact::OldFlags => 7,
     }
 }

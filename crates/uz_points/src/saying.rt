@@ -6,7 +6,7 @@ ghost use Rattle.uz_schedule.specs.Instances.{cell_span, pair_by as pair_by_fact
 ghost use Rattle.uz_schedule.specs.declared.facts.Val.{Val};
 
 use crate::points::hull_of;
-use uz_schedule::{Bit, Fact, PairFact, Span, Val, Wide, pair_by, span_of, val_of};
+use uz_schedule::{Fact, PairFact, Span, Val, Wide, pair_by, span_of, val_of};
 
 /// Whether a fact says this of a byte at a line and a count.
 fn says_byte(fact: &Fact, val: &Val, line: u16, count: u8) -> bool
@@ -81,27 +81,8 @@ fn pairs_in(facts: &[PairFact; 3], regs: &[Val; 32], line: u16, count: u8) -> [W
     ]
 }
 
-/// Whether ranges, as many as others, are the same.
-fn same_ranges_each(a: &[Wide], b: &[Wide]) -> bool
-    requires { length a.now ≡ length b.now }
-    ensures { result ≡ true → a.now ≡ b.now }
-{
-    for i in 0..a.len() {
-        if a[i] != b[i] {
-            return false;
-        }
-    }
-    true
-}
-
-/// Whether ranges are the same.
-fn same_ranges(a: &[Wide], b: &[Wide]) -> bool
-    ensures { result ≡ true → a.now ≡ b.now }
-{
-    a.len() == b.len() && same_ranges_each(a, b)
-}
-
 /// Whether facts say these pairs, with these registers.
+#[tactic(auto, using(crate::proofs::EqualLists::equal_ranges))]
 pub(crate) fn say_pairs(
     facts: &[PairFact; 3],
     regs: &[Val; 32],
@@ -111,7 +92,7 @@ pub(crate) fn say_pairs(
 ) -> bool
     ensures { result ≡ true → (vals : List Val) → vals ≡ regs.now → pairs.now ≡ pairs_of line count vals facts.now }
 {
-    same_ranges(&pairs_in(facts, regs, line, count), pairs)
+    pairs_in(facts, regs, line, count) == *pairs
 }
 
 /// Whether a fact says of a byte at a line and a count what another says at another count. Two that are alike, as most are, are
@@ -166,46 +147,6 @@ fn pairs_keep(facts: &[PairFact; 3], of_a: u8, of_b: u8) -> bool
             && (keeps_by_counts(&facts[1]) && keeps_by_counts(&facts[2])))
 }
 
-/// Whether flags, as many as others, are known alike.
-fn same_flags_each(a: &[Bit], b: &[Bit]) -> bool
-    requires { length a.now ≡ length b.now }
-    ensures { result ≡ true → a.now ≡ b.now }
-{
-    for i in 0..a.len() {
-        if a[i] != b[i] {
-            return false;
-        }
-    }
-    true
-}
-
-/// Whether flags are known alike.
-pub(crate) fn same_flags(a: &[Bit], b: &[Bit]) -> bool
-    ensures { result ≡ true → a.now ≡ b.now }
-{
-    a.len() == b.len() && same_flags_each(a, b)
-}
-
-/// Whether facts of pairs, as many as others, are the same.
-fn same_pair_facts_each(a: &[PairFact], b: &[PairFact]) -> bool
-    requires { length a.now ≡ length b.now }
-    ensures { result ≡ true → a.now ≡ b.now }
-{
-    for i in 0..a.len() {
-        if a[i] != b[i] {
-            return false;
-        }
-    }
-    true
-}
-
-/// Whether facts of pairs are the same.
-fn same_pair_facts(a: &[PairFact], b: &[PairFact]) -> bool
-    ensures { result ≡ true → a.now ≡ b.now }
-{
-    a.len() == b.len() && same_pair_facts_each(a, b)
-}
-
 /// Whether facts of cells say the same ranges at a line, each at its count.
 #[tactic(auto, using(crate::proofs::SameFacts::same_spans))]
 pub(crate) fn say_same_cells(a: &[Fact], b: &[Fact], line: u16, of_a: u8, of_b: u8) -> bool
@@ -219,5 +160,5 @@ pub(crate) fn say_same_cells(a: &[Fact], b: &[Fact], line: u16, of_a: u8, of_b: 
 pub(crate) fn say_same_pairs(a: &[PairFact; 3], b: &[PairFact; 3], of_a: u8, of_b: u8) -> bool
     ensures { result ≡ true → (l : ℕ) (x y : List Val) → x ≡ y → pairs_of l of_a x a.now ≡ pairs_of l of_b y b.now }
 {
-    same_pair_facts(a, b) && pairs_keep(a, of_a, of_b)
+    a == b && pairs_keep(a, of_a, of_b)
 }

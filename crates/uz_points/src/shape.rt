@@ -2,8 +2,7 @@
 
 use crate::axis::Axis;
 use crate::facts::{
-    Told, are_steady, code, differences, follow_by, is_pair_steady, put_growths, same_but_bytes,
-    span_code, val_code,
+    Told, are_steady, differences, follow_by, is_pair_steady, put_growths, same_but_bytes,
 };
 use crate::points::pair_facts;
 use uz_schedule::{Bit, Fact, Instance, Kind, Point, Span, Val};
@@ -85,11 +84,6 @@ pub trait Shaped {
     fn cells(&self) -> &[Self::Cell];
 }
 
-/// Whether two points say the same of the timer.
-fn same_timer(a: &Point, b: &Point) -> bool {
-    a.pending == b.pending && a.top == b.top && a.temp == b.temp
-}
-
 /// Whether two points stand at the same place of the program, and of the line or of the frame.
 fn same_place(axis: Axis, a: &Point, b: &Point) -> bool {
     a.kind == b.kind
@@ -116,7 +110,7 @@ impl Shaped for Point {
 
     fn same_frame(&self, axis: Axis, other: &Point) -> bool {
         same_place(axis, self, other)
-            && same_timer(self, other)
+            && (self.pending == other.pending && self.top == other.top && self.temp == other.temp)
             && self.flags == other.flags
             && self.pairs == other.pairs
     }
@@ -144,11 +138,6 @@ fn same_instance_place(axis: Axis, a: &Instance, b: &Instance) -> bool {
         }
 }
 
-/// Whether two instances have the same timer.
-fn same_instance_timer(a: &Instance, b: &Instance) -> bool {
-    a.pending == b.pending && a.top == b.top && a.temp == b.temp
-}
-
 impl Shaped for Instance {
     type Byte = Val;
 
@@ -163,7 +152,7 @@ impl Shaped for Instance {
 
     fn same_frame(&self, axis: Axis, other: &Instance) -> bool {
         same_instance_place(axis, self, other)
-            && same_instance_timer(self, other)
+            && (self.pending == other.pending && self.top == other.top && self.temp == other.temp)
             && self.flags == other.flags
             && pair_facts(self) == pair_facts(other)
     }
@@ -214,10 +203,11 @@ fn mixed(key: u64, number: u64) -> u64 {
     (key ^ number).wrapping_mul(FACTOR)
 }
 
-fn mixed_facts(key: u64, facts: &[Fact]) -> u64 {
-    let mut key = mixed(key, facts.len() as u64);
-    for fact in facts {
-        key = mixed(key, code(fact));
+/// A key with what is known of bytes.
+fn mixed_told<T: Told>(key: u64, told: &[T]) -> u64 {
+    let mut key = mixed(key, told.len() as u64);
+    for byte in told {
+        key = mixed(key, byte.code());
     }
     key
 }
@@ -229,22 +219,6 @@ fn flag_code(flag: Bit) -> u64 {
         Bit::Free => 2,
         Bit::Old => 3,
     }
-}
-
-fn mixed_vals(key: u64, vals: &[Val]) -> u64 {
-    let mut key = mixed(key, vals.len() as u64);
-    for val in vals {
-        key = mixed(key, val_code(val));
-    }
-    key
-}
-
-fn mixed_spans(key: u64, spans: &[Span]) -> u64 {
-    let mut key = mixed(key, spans.len() as u64);
-    for span in spans {
-        key = mixed(key, span_code(*span));
-    }
-    key
 }
 
 /// The key of a point's place.
@@ -261,26 +235,24 @@ fn upper_half(key: u64) -> u32 {
     (key >> 32) as u32
 }
 
-/// A number that points of one shape have alike. Few others have it.
-pub fn key(axis: Axis, point: &Point) -> u32 {
-    let mut key = mixed(place_key(axis, point), u64::from(point.top));
-    for flag in &point.flags {
+/// A place's key with what is known there, and of that the upper half.
+fn shape_key<P: Shaped>(place: u64, flags: &[Bit; 7], of: &P) -> u32 {
+    let mut key = place;
+    for flag in flags {
         key = mixed(key, flag_code(*flag));
     }
-    let regs = mixed_facts(key, &point.regs);
-    upper_half(mixed_facts(
-        mixed_facts(regs, point.stack.as_slice()),
-        point.cells.as_slice(),
-    ))
+    let bytes = mixed_told(mixed_told(key, of.regs()), of.stack());
+    upper_half(mixed_told(bytes, of.cells()))
+}
+
+/// A number that points of one shape have alike. Few others have it.
+pub fn key(axis: Axis, point: &Point) -> u32 {
+    let place = mixed(place_key(axis, point), u64::from(point.top));
+    shape_key(place, &point.flags, point)
 }
 
 /// A number that instances have alike which differ in their lines and in single bytes. Few others have it.
 pub fn node_key(at: &Instance) -> u32 {
     let place = mixed(mixed(SEED, u64::from(at.pc)), u64::from(at.clock));
-    let mut key = mixed(place, u64::from(at.top));
-    for flag in &at.flags {
-        key = mixed(key, flag_code(*flag));
-    }
-    let vals = mixed_vals(mixed_vals(key, &at.regs), at.stack.as_slice());
-    upper_half(mixed_spans(vals, at.cells.as_slice()))
+    shape_key(mixed(place, u64::from(at.top)), &at.flags, at)
 }

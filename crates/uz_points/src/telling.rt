@@ -1,13 +1,15 @@
 //! Whether points say what instances of a search say, and nothing else.
 
 ghost use Rattle.std.specs.Prelude.{◌≡◌, ◌<◌, ◌≤◌, ℕ, IfOk, IfSome, Some, true, length, map, slice_get};
-ghost use Rattle.uz_points.specs.Telling.{AreSaid, AreSaidBack, IsNoted, IsOnLine, IsSaid, IsSaidBack, IsSaidOver};
+ghost use Rattle.uz_schedule.specs.declared.states.Point.{Point};
+ghost use Rattle.uz_points.specs.Telling.{AreSaid, AreSaidBack, IsOnLine, IsSaid, IsSaidBack, IsSaidOver};
 ghost use Rattle.uz_points.specs.Telling.{SaidAt, SaidPlace, SaysInstances};
 
 use crate::comparing::says;
 use crate::numbers::{nones, number_of};
 use crate::sameness::{Guide, count_at, offset, starts_of};
 use std::alloc::{AllocError, Global};
+use std::marker::Model;
 use uz_schedule::{Instance, Point, clock_of, is_in_box};
 
 /// Whether a point has a line and a count, and the instance's line and clock there.
@@ -142,93 +144,80 @@ fn is_on_line(nodes: &[Instance], i: usize, line: u16) -> bool
     }
 }
 
-/// Whether at a place of the lists are this number of a point, this count and an instance on this line.
-fn is_noted(
-    numbers: &[u32],
-    counts: &[u8],
-    nodes: &[Instance],
-    i: usize,
-    number: usize,
-    line: u16,
-    count: u8,
-) -> bool
-    ensures { result ≡ true → IsNoted numbers.now counts.now nodes.now i number line count }
-{
-    has_number(numbers, i, number) && (has_count(counts, i, count) && is_on_line(nodes, i, line))
+/// Points that say what instances say.
+///
+/// A clause sees the points and the instances.
+#[derive(Drop)]
+struct Telling<'a> {
+    points: &'a [Point],
+    nodes: &'a [Instance],
+    /// Of each instance the number of the point that says it.
+    numbers: &'a [u32],
+    /// And the count at which it does.
+    counts: &'a [u8],
+    /// From the lines and counts of points back to the instances, of which nothing is believed.
+    guide: Guide,
 }
 
-/// Whether each count of a point on a line is of an instance.
-fn counts_are_said(
-    guide: &Guide,
-    points: &[Point],
-    numbers: &[u32],
-    counts: &[u8],
-    nodes: &[Instance],
-    number: usize,
-    point: &Point,
-    line: u16,
-) -> bool
-    requires said { AreSaid points.now numbers.now counts.now nodes.now }
-    requires there { slice_get points.now number ≡ Some point.now }
-    ensures { result ≡ true → (c : ℕ) → point.now.c0 ≤ c → c ≤ point.now.c1 → IsSaidBack nodes.now point.now line c }
-{
-    for count in u16::from(point.c0)..u16::from(point.c1) + 1 {
-        let i = guide.number(number_of(number), point, line, count as u8) as usize;
-        if !is_noted(numbers, counts, nodes, i, number, line, count as u8) {
-            return false;
-        }
-    }
-    true
+impl<'a> Model for Telling<'a> {
+    ghost use Rattle.uz_points.specs.Telling.{AreSaid, Telling};
+
+    ghost Value = { Telling };
+
+    ghost view = { λ t. record { points = t.points.now; nodes = t.nodes.now } };
+
+    ghost invariant = { λ t. AreSaid t.points.now t.numbers.now t.counts.now t.nodes.now };
 }
 
-/// Whether each line and count of a point is of an instance.
-fn lines_are_said(
-    guide: &Guide,
-    points: &[Point],
-    numbers: &[u32],
-    counts: &[u8],
-    nodes: &[Instance],
-    number: usize,
-    point: &Point,
-) -> bool
-    requires said { AreSaid points.now numbers.now counts.now nodes.now }
-    requires there { slice_get points.now number ≡ Some point.now }
-    ensures { result ≡ true → IsSaidOver nodes.now point.now }
-{
-    for line in u32::from(point.l0)..u32::from(point.l1) + 1 {
-        if !counts_are_said(
-            guide,
-            points,
-            numbers,
-            counts,
-            nodes,
-            number,
-            point,
-            line as u16,
-        ) {
-            return false;
-        }
+impl Telling<'_> {
+    /// Whether the instance at a place is what the point of a number says at a line and a count.
+    fn is_noted(&self, i: usize, number: usize, line: u16, count: u8) -> bool
+        ensures { result ≡ true → (q : Point) → slice_get self.now.points number ≡ Some q → IsSaidBack self.now.nodes q line count }
+    {
+        has_number(self.numbers, i, number)
+            && (has_count(self.counts, i, count) && is_on_line(self.nodes, i, line))
     }
-    true
-}
 
-/// Whether each line and count of points is of an instance.
-fn are_said_back(
-    guide: &Guide,
-    points: &[Point],
-    numbers: &[u32],
-    counts: &[u8],
-    nodes: &[Instance],
-) -> bool
-    requires said { AreSaid points.now numbers.now counts.now nodes.now }
-    ensures { result ≡ true → AreSaidBack nodes.now points.now }
-{
-    for i in 0..points.len() {
-        if !lines_are_said(guide, points, numbers, counts, nodes, i, &points[i]) {
-            return false;
+    /// Whether each count on a line of a point, whose number this is, is of an instance.
+    fn has_counts(&self, number: usize, point: &Point, line: u16) -> bool
+        requires { slice_get self.now.points number ≡ Some point.now }
+        ensures { result ≡ true → (c : ℕ) → point.now.c0 ≤ c → c ≤ point.now.c1 → IsSaidBack self.now.nodes point.now line c }
+    {
+        for count in u16::from(point.c0)..u16::from(point.c1) + 1 {
+            let i = self
+                .guide
+                .number(number_of(number), point, line, count as u8) as usize;
+            if !self.is_noted(i, number, line, count as u8) {
+                return false;
+            }
         }
+        true
     }
-    true
+
+    /// Whether each line and count of a point, whose number this is, is of an instance.
+    fn has_lines(&self, number: usize, point: &Point) -> bool
+        requires { slice_get self.now.points number ≡ Some point.now }
+        ensures { result ≡ true → IsSaidOver self.now.nodes point.now }
+    {
+        for line in u32::from(point.l0)..u32::from(point.l1) + 1 {
+            if !self.has_counts(number, point, line as u16) {
+                return false;
+            }
+        }
+        true
+    }
+
+    /// Whether each line and count of the points is of an instance.
+    fn has_all(&self) -> bool
+        ensures { result ≡ true → AreSaidBack self.now.nodes self.now.points }
+    {
+        for i in 0..self.points.len() {
+            if !self.has_lines(i, &self.points[i]) {
+                return false;
+            }
+        }
+        true
+    }
 }
 
 /// Whether points say what instances say, and nothing else, where of each instance the number of its point is known.
@@ -247,6 +236,12 @@ pub fn say_instances(
         Some(counts) => counts,
         None => return Ok(false),
     };
-    let guide = back(alloc, points, numbers, counts.as_slice(), nodes)?;
-    Ok(are_said_back(&guide, points, numbers, counts.as_slice(), nodes))
+    let telling = Telling {
+        points,
+        nodes,
+        numbers,
+        counts: counts.as_slice(),
+        guide: back(alloc, points, numbers, counts.as_slice(), nodes)?,
+    };
+    Ok(telling.has_all())
 }
