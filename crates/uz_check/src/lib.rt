@@ -17,6 +17,7 @@ mod told;
 mod unsteady;
 
 pub use acceptance::{Accepted, Refused, check, check_counted, verdict};
+pub use family_laws::lines_fold;
 pub use laws::verdict_is_unique;
 pub use refusal::RefusedWhy;
 pub use uz_transfer::Fail;
