@@ -44,7 +44,7 @@ cut_one : (limit : ℕ) (e : Edge) (es : List Edge) (b : Bool) → shown (cond b
 cut_one limit e es true = refl
 cut_one limit e es false = refl
 
-shown_until : (limit : ℕ) (edges : List Edge) → shown (edges_until limit edges) ≡ until limit (shown edges)
+pub shown_until : (limit : ℕ) (edges : List Edge) → shown (edges_until limit edges) ≡ until limit (shown edges)
 shown_until limit [] = refl
 shown_until limit (e ∷ es) =
     let b = leb e.clock limit in

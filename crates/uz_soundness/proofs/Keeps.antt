@@ -187,7 +187,7 @@ module _ (s : Schedule) (laws : PlaceLaws s) (fits : ScheduleFits s) (steady : I
             ]
         | inr in_later ↦ (let late = order.later_ones there.edge_there in_later in absurd (omega arith))
       ]) in
-      record { line = place.line; place = place.place; as_long = equal to (from + length_of s place.line) not_before not_after }
+      record { line = place.line; below = place.below; place = place.place; as_long = equal to (from + length_of s place.line) not_before not_after }
     where
       low_after : (a b : Bool) → (a && not b) ≡ true → b ≡ false
       low_after true true h = sym h

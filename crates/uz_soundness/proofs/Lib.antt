@@ -34,3 +34,4 @@ mod Falls
 mod LinesKept
 mod Order
 mod Keeps
+mod ReturnTimes

@@ -47,6 +47,15 @@ run_timed limit (suc n) s last edges (first, mid, rest, turn, run, cut) =
     subst (λ es. AreTimed s.clock last.clock es) (sym cut) (timed_both s.clock mid.clock last.clock first rest
     (turn_timed s mid first turn.1) (run_timed limit n mid last rest run))
 
+-- and of turns without a limit
+pub turns_timed : (n : ℕ) (s last : State PadHistory) (edges : List Edge) → Run (Turn history_wiring) n s edges last → AreTimed s.clock
+    last.clock edges
+turns_timed zero s last edges run =
+    subst (λ es. AreTimed s.clock last.clock es) (sym run.0) (subst (λ (x : State PadHistory). s.clock ≤ x.clock) (sym run.1) (omega arith))
+turns_timed (suc n) s last edges (first, mid, rest, turn, run, cut) =
+    subst (λ es. AreTimed s.clock last.clock es) (sym cut) (timed_both s.clock mid.clock last.clock first rest
+    (turn_timed s mid first turn) (turns_timed n mid last rest run))
+
 none_until : (limit from to : ℕ) (edges : List Edge) → AreTimed from to edges → limit < from → edges_until limit edges ≡ []
 none_until limit from to [] t past = refl
 none_until limit from to (e ∷ edges) t past =
@@ -54,6 +63,16 @@ none_until limit from to (e ∷ edges) t past =
       | inl within ↦ absurd (let first = t.0 in let in_time = within.1 in omega arith)
       | inr late ↦ (let first = t.0 in let none = none_until limit e.clock to edges t.1 (omega arith) in
           ap (λ b. cond b (e ∷ edges_until limit edges) (edges_until limit edges)) late.0 ∙ none)
+    ]
+
+-- all are in time where the last is
+pub all_in_time : (limit from to : ℕ) (edges : List Edge) → AreTimed from to edges → to ≤ limit → edges_until limit edges ≡ edges
+all_in_time limit from to [] t before = refl
+all_in_time limit from to (e ∷ edges) t before =
+    elim (leb_tells e.clock limit) [
+      | inl within ↦ ap (λ b. cond b (e ∷ edges_until limit edges) (edges_until limit edges)) within.0
+          ∙ ap (λ x. e ∷ x) (all_in_time limit e.clock to edges t.1 before)
+      | inr late ↦ absurd (let past = late.1 in let ends = timed_ends e.clock to edges t.1 in omega arith)
     ]
 
 -- the edges in time come first

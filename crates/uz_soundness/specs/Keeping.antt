@@ -1,5 +1,5 @@
 -- What it is for the rest of a run to keep to a schedule, in the words of its edges and of its picture.
-use Rattle.std.specs.Prelude.{◌≡◌, All, ℕ, ◌+◌, ◌-◌, ◌<◌, nat_lt, true, List, ◌∷◌, ◌++◌, filter, Some}
+use Rattle.std.specs.Prelude.{◌≡◌, All, ℕ, ◌+◌, ◌-◌, ◌<◌, nat_lt, true, List, ◌∷◌, ◌++◌, filter, length, Some}
 use Rattle.uz_schedule.specs.declared.certificate.Cert.{Cert}
 use Rattle.uz_schedule.specs.declared.lines.Schedule.{Schedule}
 use Rattle.uz_schedule.specs.Schedule.{At, event_at, length_of}
@@ -23,10 +23,11 @@ pub record HasLine (edges : List Edge) (from to : ℕ) : Type 0 where
   pub begins : line_start (newest_first before) ≡ Some from
   pub ends_at : ending.clock ≡ to
 
--- it is a line of the schedule, where position p of the frame is a clock of the run: it begins where that line falls, and is
--- as long
+-- it is one of the lines of the frame, where position p of the frame is a clock of the run: it begins where that line falls,
+-- and is as long
 pub record IsScheduledLine (schedule : Schedule) (clock p from to : ℕ) : Type 0 where
   pub line : ℕ
+  pub below : line < length schedule.lines
   pub place : At schedule (p + (from - clock)) line schedule.fall
   pub as_long : to ≡ from + length_of schedule line
 

@@ -3,6 +3,7 @@ pub mod Steady
 pub mod Certified
 pub mod Invariant
 pub mod Ways
+pub mod ReturnTimes
 pub mod Played
 pub mod FrameRules
 pub mod Acceptance

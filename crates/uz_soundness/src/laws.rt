@@ -17,6 +17,7 @@ ghost use Rattle.uz_soundness.specs.Acceptance.{Accepts};
 ghost use Rattle.uz_soundness.specs.Certified.{Certified};
 ghost use Rattle.uz_soundness.specs.Invariant.{KeepsInvariant, HoldsAlong, BeginsWithIt};
 ghost use Rattle.uz_soundness.specs.Played.{Plays};
+ghost use Rattle.uz_soundness.specs.ReturnTimes.{ReturnsHold};
 ghost use Rattle.uz_soundness.specs.Steady.{IsSteady};
 ghost use Rattle.uz_soundness.specs.Ways.{EveryTurnGoes, MainsTimeHolds};
 
@@ -26,8 +27,8 @@ use uz_rules::{
 
 /// What is accepted is certified: every run from a state that meets the entry condition keeps to the schedule. The entry
 /// condition gives the invariant, each turn keeps it and says which way it goes (entry, return, main, handler, alone), so
-/// that it holds at every state of a run; main's time follows. And the same of the runs of so many clocks that a console
-/// makes.
+/// that it holds at every state of a run; main's time follows. Of what is certified: the handler returns at exactly the
+/// clocks whose positions have a return in the schedule; and runs of so many clocks that a console makes keep to it too.
 pub fn soundness()
     ensures certified { (image : FinMap nat_cmp ℕ) (cert : Cert) → WellFormed cert → Accepts image cert → Certified image cert }
     ensures begins { (image : FinMap nat_cmp ℕ) (cert : Cert) → WellFormed cert → Accepts image cert → BeginsWithIt image cert }
@@ -35,6 +36,7 @@ pub fn soundness()
     ensures along { (image : FinMap nat_cmp ℕ) (cert : Cert) → WellFormed cert → Accepts image cert → HoldsAlong image cert }
     ensures goes { (image : FinMap nat_cmp ℕ) (cert : Cert) → WellFormed cert → Accepts image cert → EveryTurnGoes image cert }
     ensures mains_time { (image : FinMap nat_cmp ℕ) (cert : Cert) → WellFormed cert → Accepts image cert → MainsTimeHolds image cert }
+    ensures returns { (image : FinMap nat_cmp ℕ) (cert : Cert) → Certified image cert → ReturnsHold image cert }
     ensures plays { (image : FinMap nat_cmp ℕ) (cert : Cert) → Certified image cert → Plays image cert }
 {
     alone_contained();

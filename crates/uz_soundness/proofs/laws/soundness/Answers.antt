@@ -7,6 +7,7 @@ use Rattle.uz_soundness.proofs.ClockRuns.{plays_of}
 use Rattle.uz_soundness.proofs.Headline.{kept_of, holds_along, every_turn_goes}
 use Rattle.uz_soundness.proofs.MainTime.{mains_time}
 use Rattle.uz_soundness.proofs.Premises.{RuleLaws}
+use Rattle.uz_soundness.proofs.ReturnTimes.{returns_hold}
 use Rattle.uz_soundness.proofs.laws.soundness.Goals as goal
 
 laws_of : AloneContained → HandlerContained → MainContained → StateInside → LiesInPoint → RuleLaws
@@ -44,3 +45,6 @@ returns-clause-mains_time c image cert formed h =
 
 pub returns-clause-plays : goal.returns-clause-plays
 returns-clause-plays c image cert h = plays_of image cert h
+
+pub returns-clause-returns : goal.returns-clause-returns
+returns-clause-returns c image cert h = returns_hold image cert h
