@@ -27,7 +27,7 @@ abbrev pub ReportAnswers : Option FileMap → Type 0 → List ℕ → List ℕ �
 ReportAnswers = PairAnswers report_text
 
 -- What a `report` that is done is worth: of the image and the certificate that the two files spell, whatever the run from a state
--- that meets the certificate's entry condition, main has so many clocks from each return on a line to the next entry, and the sums
--- are those of a round
+-- that meets the certificate's entry condition as main, the handler's entries and returns take turns, main has so many clocks from
+-- each return on a line to the next entry, and from a return to the same one a frame later, a return after each rest, so many in all
 abbrev pub FilesReported : Option FileMap → List ℕ → List ℕ → Type 0
 FilesReported files hex cert = SpellPair files hex cert MainsTimeTells

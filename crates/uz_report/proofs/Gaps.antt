@@ -1,16 +1,16 @@
 -- From each return to the next entry, out of what is told of main's time.
 use Rattle.std.proofs.Common.{◌≡◌, All, ℕ, ◌+◌, ◌-◌, ◌≤◌, List, [], ◌∷◌, ◌++◌, ◌∙◌, ap, subst, arith, append_assoc}
-use Rattle.std.specs.Ordering.{nat_cmp}
-use Rattle.std.specs.FinMap.{FinMap}
 use Rattle.std.proofs.lemmas.List.{map-append}
 use Rattle.std.proofs.lemmas.List.Elements.{All-tail}
 use Rattle.uz_machine.specs.declared.Edge.{Edge}
 use Rattle.uz_machine.specs.declared.EdgeKind.{EdgeKind}
 use Rattle.uz_machine.specs.declared.EdgeKind.TheVariants.{Sync, Pixel, Sound, Enter, Leave}
+use Rattle.uz_schedule.specs.declared.states.Rest.{Rest}
 use Rattle.uz_schedule.specs.declared.certificate.Cert.{Cert}
 use Rattle.uz_schedule.specs.Schedule.{length_of}
-use Rattle.uz_soundness.specs.Ways.{IsPlain, Phase, InMain, InHandler, MainsTime, told, MainsTimeHolds}
-use Rattle.uz_report.specs.MainsTime.{Rested, EachGap, GapsHold}
+use Rattle.uz_soundness.specs.ReturnTimes.{return_at}
+use Rattle.uz_soundness.specs.Ways.{IsPlain, Phase, InMain, InHandler, MainsTime, ReturnsAt, told}
+use Rattle.uz_report.specs.MainsTime.{Rested, EachGap, EachAtRest}
 
 -- what is told after one more entry or return
 one_on : (cert : Cert) (start p : ℕ) (phase : Phase) (clock : ℕ) (kind : EdgeKind) (tail : List (ℕ × EdgeKind))
@@ -23,7 +23,7 @@ one_on cert start p InHandler clock (Enter count) tail h = absurd h
 one_on cert start p (InMain since line at) clock Leave tail h = absurd h
 one_on cert start p InHandler clock Leave tail (rest, returned, more) = (InMain clock rest.line rest.clock, more)
 
-from_on : (cert : Cert) (start p : ℕ) (phase : Phase) (before : List Edge) (tail : List (ℕ × EdgeKind))
+pub from_on : (cert : Cert) (start p : ℕ) (phase : Phase) (before : List Edge) (tail : List (ℕ × EdgeKind))
     → MainsTime cert start p phase (told before ++ tail) → (later : Phase) × MainsTime cert start p later tail
 from_on cert start p phase [] tail h = (phase, h)
 from_on cert start p phase (e ∷ before) tail h =
@@ -45,7 +45,7 @@ past_plain cert start p phase (e ∷ between) tail plain h =
     past_plain cert start p phase between tail (All-tail (λ e. IsPlain e.kind) e between plain)
     (one_plain cert start p phase e.clock e.kind (told between ++ tail) (plain 0 e (omega arith)) h)
 
-within : (length clock left entered count : ℕ) → count ≤ 3 → entered + clock ≡ left + length + count
+pub within : (length clock left entered count : ℕ) → count ≤ 3 → entered + clock ≡ left + length + count
     → (length - clock ≤ entered - left) × (entered - left ≤ length - clock + 3)
 within length clock left entered count few is = (omega arith, omega arith)
 
@@ -83,7 +83,15 @@ each_gap cert start p phase edges h before between after left entered count cut 
     (subst (MainsTime cert start p phase) parts h) in
     at_return cert start p at.0 left entered count between after plain at.1
 
-pub gaps_hold : (image : FinMap nat_cmp ℕ) (cert : Cert) → MainsTimeHolds image cert → GapsHold image cert
-gaps_hold image cert h s p n edges end is_state flash entry kind run =
-    let time = h s p n edges end is_state flash entry kind run in
-    each_gap cert s.clock p _ edges time.3
+-- each return
+handled : (cert : Cert) (start p : ℕ) (phase : Phase) (clock : ℕ) (tail : List (ℕ × EdgeKind))
+    → MainsTime cert start p phase ((clock, Leave) ∷ tail) → (rest : Rest) × ReturnsAt cert start p clock rest
+handled cert start p (InMain since line at) clock tail h = absurd h
+handled cert start p InHandler clock tail (rest, returned, more) = (rest, returned)
+
+pub each_at_rest : (cert : Cert) (start p : ℕ) (phase : Phase) (edges : List Edge) → MainsTime cert start p phase (told edges)
+    → EachAtRest cert start p edges
+each_at_rest cert start p phase edges h clock there =
+    let parts = ap told there.cut ∙ map-append (λ (e : Edge). (e.clock, e.kind)) there.before (return_at clock ∷ there.after) in
+    let at = from_on cert start p phase there.before ((clock, Leave) ∷ told there.after) (subst (MainsTime cert start p phase) parts h) in
+    handled cert start p at.0 clock (told there.after) at.1

@@ -1,3 +1,9 @@
 pub mod Gaps
+pub mod GapLists
+pub mod ReturnClocks
+pub mod Rising
+pub mod Rotation
 pub mod Rounds
 pub mod Samples
+pub mod Sums
+pub mod Turns

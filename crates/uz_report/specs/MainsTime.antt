@@ -1,22 +1,53 @@
--- Main's time, as a list of edges tells it: from each return of the handler to the next entry.
-use Rattle.std.specs.Prelude.{◌≡◌, All, ℕ, ◌+◌, ◌-◌, ◌≤◌, List, ◌∷◌, ◌++◌, map}
-use Rattle.std.specs.List.{sum_by}
-use Rattle.std.specs.List.Sorted.{IsPermutation}
+-- Main's time along a run, as its edges tell it: from each return of the handler to the next entry, and in a round of the frame.
+use Rattle.std.specs.Prelude.{◌≡◌, ◌⊎◌, ⊤, All, Contains, ℕ, ◌+◌, ◌-◌, ◌<◌, ◌≤◌, Bool, true, false, List, [], ◌∷◌, ◌++◌, filter, map}
+use Rattle.std.specs.List.{flat_map, sum_by}
 use Rattle.std.specs.Ordering.{nat_cmp}
 use Rattle.std.specs.FinMap.{FinMap}
 use Rattle.uz_machine.specs.declared.Edge.{Edge}
-use Rattle.uz_machine.specs.declared.EdgeKind.TheVariants.{Enter, Leave}
+use Rattle.uz_machine.specs.declared.EdgeKind.{EdgeKind}
+use Rattle.uz_machine.specs.declared.EdgeKind.TheVariants.{Sync, Pixel, Sound, Enter, Leave}
 use Rattle.uz_machine.specs.PadLine.{PadHistory}
 use Rattle.uz_machine.specs.Space.{history_wiring}
 use Rattle.uz_machine.specs.Turn.{State, Turn}
 use Rattle.uz_machine.specs.StateRange.{IsState}
 use Rattle.uz_machine.specs.Run.{Run}
+use Rattle.uz_schedule.specs.Schedule.{At, frame_of}
 use Rattle.uz_schedule.specs.declared.kinds.Kind.TheVariants.{Main}
 use Rattle.uz_schedule.specs.declared.states.Rest.{Rest}
 use Rattle.uz_schedule.specs.declared.certificate.Cert.{Cert}
 use Rattle.uz_console.specs.Entry.{EntryCondition}
+use Rattle.uz_soundness.specs.ReturnTimes.{HasReturn, return_at}
 use Rattle.uz_soundness.specs.Ways.{IsPlain, ReturnsAt}
 use Rattle.uz_report.specs.Slacks.{least_after, frame_least, frame_most, latest}
+
+-- Entries and returns
+
+abbrev pub is_entry_or_return : EdgeKind → Bool
+is_entry_or_return (Sync level) = false
+is_entry_or_return (Pixel value) = false
+is_entry_or_return (Sound value) = false
+is_entry_or_return (Enter count) = true
+is_entry_or_return Leave = true
+
+-- those among edges, in their order
+abbrev pub entries_and_returns : List Edge → List Edge
+entries_and_returns edges = filter (λ e. is_entry_or_return e.kind) edges
+
+abbrev pub IsEntry : EdgeKind → Type 0
+IsEntry (Sync level) = ⊥
+IsEntry (Pixel value) = ⊥
+IsEntry (Sound value) = ⊥
+IsEntry (Enter count) = ⊤
+IsEntry Leave = ⊥
+
+-- The first of them is an entry. Of two that follow one another one is an entry and the other a return: between two entries lies
+-- exactly one return, and between two returns exactly one entry
+pub record TakeTurns (edges : List Edge) : Type 0 where
+  pub first : (e : Edge) (later : List Edge) → entries_and_returns edges ≡ e ∷ later → IsEntry e.kind
+  pub in_turn : (before : List Edge) (e next : Edge) (later : List Edge) → entries_and_returns edges ≡ before ++ e ∷ next ∷ later
+      → (IsEntry e.kind × (next.kind ≡ Leave)) ⊎ ((e.kind ≡ Leave) × IsEntry next.kind)
+
+-- One gap
 
 -- main goes on for so many clocks after this rest
 abbrev pub IsWithin : Cert → Rest → ℕ → Type 0
@@ -36,23 +67,69 @@ EachGap cert start p edges =
     → All (λ e. IsPlain e.kind) between
     → Rested cert start p left (entered - left)
 
--- whatever run from a state that meets a main entry
-abbrev pub GapsHold : FinMap nat_cmp ℕ → Cert → Type 0
-GapsHold image cert =
-    (s : State PadHistory) (p n : ℕ) (edges : List Edge) (end : State PadHistory) → IsState s → s.image ≡ image → EntryCondition cert s p
-    → cert.entry.kind ≡ Main → Run (Turn history_wiring) n s edges end → EachGap cert s.clock p edges
+-- A round of the frame
 
--- one gap after each of the certificate's rests, in whatever order they come: a round
+-- each return is at a rest, at the rest's place in the frame
+abbrev pub EachAtRest : Cert → ℕ → ℕ → List Edge → Type 0
+EachAtRest cert start p edges = (clock : ℕ) → HasReturn edges clock → (rest : Rest) × ReturnsAt cert start p clock rest
+
+-- and each rest's return comes whenever the rest's place in the frame does, up to the run's end
+abbrev pub EachReturn : Cert → ℕ → ℕ → ℕ → List Edge → Type 0
+EachReturn cert start p end edges =
+    (rest : Rest) (passed : ℕ) → Contains cert.rests rest → At cert.schedule (p + passed) rest.line rest.clock → 0 < passed
+    → start + passed ≤ end → HasReturn edges (start + passed)
+
+-- a return at a rest, and the entry that follows it, where TCNT1 is this count
 pub record Gap : Type 0 where
   pub rest : Rest
-  pub clocks : ℕ
+  pub left : ℕ
+  pub entered : ℕ
+  pub count : ℕ
 
-abbrev pub RoundsHold : Cert → Type 0
-RoundsHold cert =
-    (gaps : List Gap) → IsPermutation (map (λ (g : Gap). g.rest) gaps) cert.rests → All (λ (g : Gap). IsWithin cert g.rest g.clocks) gaps
-    → (frame_least cert ≤ sum_by (λ (g : Gap). g.clocks) gaps) × (sum_by (λ (g : Gap). g.clocks) gaps ≤ frame_most cert)
+abbrev pub edges_of : Gap → List Edge
+edges_of gap = return_at gap.left ∷ record { clock = gap.entered; kind = Enter gap.count } ∷ []
 
--- what the numbers of a report are worth
+-- main's clocks between the two
+abbrev pub clocks_of : Gap → ℕ
+clocks_of gap = gap.entered - gap.left
+
+-- all of a certificate's rests in the frame's order, from one of them on and round to the one before it: a certificate has them by
+-- rising lines, at most one a line
+pub record AreInFrameOrder (all rests : List Rest) : Type 0 where
+  pub earlier : List Rest
+  pub later : List Rest
+  pub cut : all ≡ earlier ++ later
+  pub is : rests ≡ later ++ earlier
+
+-- The entries and returns among these edges are one return after each of the certificate's rests, in the frame's order, and after
+-- each return an entry. Main's clocks from these returns to these entries are the frame's: least and most
+pub record Round (cert : Cert) (start p : ℕ) (edges : List Edge) : Type 0 where
+  pub gaps : List Gap
+  pub passed : entries_and_returns edges ≡ flat_map edges_of gaps
+  pub order : AreInFrameOrder cert.rests (map (λ (gap : Gap). gap.rest) gaps)
+  pub returned : All (λ (gap : Gap). ReturnsAt cert start p gap.left gap.rest) gaps
+  pub within : All (λ (gap : Gap). IsWithin cert gap.rest (clocks_of gap)) gaps
+  pub least : frame_least cert ≤ sum_by clocks_of gaps
+  pub most : sum_by clocks_of gaps ≤ frame_most cert
+
+-- from each return to the same return a frame later
+abbrev pub EachRound : Cert → ℕ → ℕ → List Edge → Type 0
+EachRound cert start p edges =
+    (before between after : List Edge) (left : ℕ)
+    → edges ≡ before ++ return_at left ∷ (between ++ return_at (left + frame_of cert.schedule) ∷ after)
+    → Round cert start p (return_at left ∷ between)
+
+-- Of a whole run, which stood at position p at its clock `start`
+
+pub record IsMainsTime (cert : Cert) (start p end : ℕ) (edges : List Edge) : Type 0 where
+  pub turns : TakeTurns edges
+  pub gaps : EachGap cert start p edges
+  pub rests : EachAtRest cert start p edges
+  pub returns : EachReturn cert start p end edges
+  pub rounds : EachRound cert start p edges
+
+-- What the numbers of a report are worth: so it is in whatever run from a state that meets a main entry
 pub record MainsTimeTells (image : FinMap nat_cmp ℕ) (cert : Cert) : Type 0 where
-  pub gaps : GapsHold image cert
-  pub rounds : RoundsHold cert
+  pub runs : (s : State PadHistory) (p n : ℕ) (edges : List Edge) (end : State PadHistory) → IsState s → s.image ≡ image
+      → EntryCondition cert s p → cert.entry.kind ≡ Main → Run (Turn history_wiring) n s edges end
+      → IsMainsTime cert s.clock p end.clock edges

@@ -6,7 +6,7 @@ ghost use Rattle.uz_report.specs.MainsTime.{MainsTimeTells};
 
 use std::alloc::{AllocError, Global};
 use uz_check::Accepted;
-use uz_schedule::{Rest, Schedule};
+use uz_schedule::{Rest, Schedule, places_go_on};
 use uz_soundness::soundness;
 
 /// An interrupt is taken up to so many clocks after its line's end, while an instruction of main ends.
@@ -49,6 +49,7 @@ pub fn slacks(alloc: Global, accepted: &Accepted) -> Result<Vec<Slack>, AllocErr
     ensures worth { IfOk result (λ all. MainsTimeTells accepted.now.image accepted.now.cert) }
 {
     soundness();
+    places_go_on();
     let cert = accepted.cert();
     let mut all = Vec::new(alloc);
     for rest in cert.rests.as_slice() {
