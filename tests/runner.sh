@@ -1,8 +1,9 @@
 #!/bin/sh
 # Tries ./uzebox, ./prove, tools/release and .ci/run in a small tree of its own, with stand-ins for the program and for
 # the toolchain's command rt: which program is run, and with what status, after files are changed, added, removed or put
-# back, what is said where nothing can be built, and what the comparisons refuse. Needs no toolchain. Its last line is
-# `N passed, M failed`; status 1 if any failed.
+# back, what is said where nothing can be built, and what the comparisons refuse. Needs no toolchain, and takes no words.
+# Its last line is `N passed, M failed, 0 skipped`; ends with 0 where none failed, 1 where one did, and 2 where the tree
+# can't be made.
 #   tests/runner.sh
 top=$(CDPATH="" cd -- "$(dirname -- "$0")/.." && pwd) || exit 2
 room=$(mktemp -d) || exit 2
@@ -165,5 +166,5 @@ echo "0$(tools/sources_sum) kit 1" >release/SOURCES
 expects 1 "$refused" 'the gate: stale SOURCES' gate
 expects 1 "$refused" 'prove: stale SOURCES' prove
 
-echo "$passed passed, $failed failed"
+echo "$passed passed, $failed failed, 0 skipped"
 [ "$failed" = 0 ]
