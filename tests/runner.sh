@@ -1,7 +1,7 @@
 #!/bin/sh
 # Tries ./uzebox, ./prove, tools/release and .ci/run in a small tree of its own, with stand-ins for the program and for
 # the toolchain's command rt: which program is run, and with what status, after files are changed, added, removed or put
-# back, what is said where nothing can be built, and what the comparisons refuse. Needs no toolchain, and takes no words.
+# back, what is said where nothing can be built, and what the comparisons refuse. Needs no toolchain; takes no words.
 # Its last line is `N passed, M failed, 0 skipped`; ends with 0 where none failed, 1 where one did, and 2 where the tree
 # can't be made.
 #   tests/runner.sh
