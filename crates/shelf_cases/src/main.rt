@@ -13,6 +13,8 @@ fn main(rt: HostRuntime) -> Result<()> {
     for length in [4_092, 4_093, 4_094, 99_997] {
         real::long_file(rt, length)?;
     }
+    real::loaded_file(rt)?;
+    real::written_file(rt)?;
     real::output(rt)?;
     in_memory::files(rt)?;
     in_memory::text(rt)

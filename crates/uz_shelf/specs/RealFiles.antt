@@ -1,5 +1,5 @@
 -- What the shelf of real files has met, and what a load and a write of it give.
-use Rattle.std.specs.Prelude.{◌≡◌, ℕ, ◌<◌, List, length, Option, Some, None, option_map, string_bytes, IfSome, Result, Ok, Err}
+use Rattle.std.specs.Prelude.{◌≡◌, ℕ, ◌<◌, List, length, Option, Some, None, option_map, string_bytes, IfSome, Bool, true, false, Result, Ok, Err}
 use Rattle.std.specs.Io.KnownBytes.{Appends}
 use Rattle.uz_shelf.specs.Faults.{raised}
 use Rattle.uz_shelf.specs.Files.{FileMap}
@@ -17,6 +17,16 @@ told_files shelf = None
 -- the name of the file that is open for writing
 abbrev pub open_name : {R F D : Type 0} → DiskShelf R F D → Option (List ℕ)
 open_name shelf = option_map (λ opened. string_bytes opened.name) shelf.target
+
+-- the name of the open file where it was cut short, and else of one that wasn't created
+abbrev pub cut_or_uncreated : Bool → Option (List ℕ) → Option (List ℕ) → Option (List ℕ)
+cut_or_uncreated true (Some name) uncreated = Some name
+cut_or_uncreated true None uncreated = uncreated
+cut_or_uncreated false name uncreated = uncreated
+
+-- the name of the file that couldn't be created or was cut short, if the last one that was to be written is one
+abbrev pub unwritten_name : {R F D : Type 0} → DiskShelf R F D → Option (List ℕ)
+unwritten_name shelf = cut_or_uncreated shelf.is_cut (open_name shelf) (option_map string_bytes shelf.uncreated)
 
 -- its bytes, where a file tells them
 abbrev pub bytes_in : {R F D : Type 0} → (F → Option (List ℕ)) → Option (OpenFile R F D) → Option (List ℕ)
@@ -54,3 +64,15 @@ abbrev pub count_after_write : {A : Type 0} → Result A WriteError → ℕ → 
 count_after_write (Ok x) count = count
 count_after_write (Err write.Failed) count = raised count
 count_after_write (Err write.Memory) count = count
+
+-- the name of the file that failed, after a file was to be created
+abbrev pub name_after_create : {A : Type 0} → Result A WriteError → List ℕ → Option (List ℕ)
+name_after_create (Ok x) name = None
+name_after_create (Err write.Failed) name = Some name
+name_after_create (Err write.Memory) name = None
+
+-- and after a piece was to be added to the open one
+abbrev pub name_after_append : {A : Type 0} → Result A WriteError → (open_name failed : Option (List ℕ)) → Option (List ℕ)
+name_after_append (Ok x) name failed = failed
+name_after_append (Err write.Failed) name failed = name
+name_after_append (Err write.Memory) name failed = failed

@@ -7,22 +7,31 @@ ghost use Rattle.std.specs.Io.KnownBytes.{Appends, Consumes, IsAtEnd};
 ghost use Rattle.uz_shelf.specs.Faults.{Rose};
 ghost use Rattle.uz_shelf.specs.Files.{AppendsAll, AppendsPrefix, Creates, CreatesOrKeeps, HoldsFile, HoldsLonger, LacksFile};
 ghost use Rattle.uz_shelf.specs.RealFiles.{AppendsOpen, IsLonger, IsWhole, count_after_load, count_after_write};
-ghost use Rattle.uz_shelf.specs.RealFiles.{load_faults_of, open_name, told_files, write_faults_of};
+ghost use Rattle.uz_shelf.specs.RealFiles.{load_faults_of, name_after_append, name_after_create, open_name, told_files};
+ghost use Rattle.uz_shelf.specs.RealFiles.{unwritten_name, write_faults_of};
 
 use crate::errors::{LoadError, WriteError};
+use crate::kept_files::KeptFiles;
 use crate::shelf::Shelf;
 use crate::transfers;
 use crate::writing::write_piece;
 use std::alloc::Global;
 use std::fs;
+use std::fs::{Metadata, OpenFile as FileCalls, OpenOptions};
 use std::io::{Read, Write};
 use std::rt::Files;
 
 /// Real files, with the counts of the faults that they have met.
+///
+/// A file that was loaded or created, under any name or link, isn't created: that fails, and nothing is touched. So does the
+/// file that printed text goes to, where it is told. A character device, as a terminal or `/dev/null`, may be any of these.
 #[derive(Drop)]
 pub struct DiskShelf<R: Files + Drop> {
     rt: R,
+    kept: KeptFiles,
     target: Option<OpenFile<R>>,
+    uncreated: Option<String>,
+    is_cut: bool,
     load_faults: u64,
     write_faults: u64,
 }
@@ -40,12 +49,39 @@ impl<R: Files + Drop> DiskShelf<R> {
         ensures open { ⟦<DiskShelf<R> as Shelf>⟧.open_file result ≡ None }
         ensures load_faults { ⟦<DiskShelf<R> as Shelf>⟧.load_faults result ≡ 0 }
         ensures write_faults { ⟦<DiskShelf<R> as Shelf>⟧.write_faults result ≡ 0 }
+        ensures unwritten { unwritten_name result ≡ None }
     {
         DiskShelf {
             rt,
+            kept: KeptFiles::new(),
             target: None,
+            uncreated: None,
+            is_cut: false,
             load_faults: 0,
             write_faults: 0,
+        }
+    }
+
+    /// The file that printed text goes to, as the system tells it. It isn't created from now on. Takes no memory.
+    pub fn set_output(&mut self, file: &Metadata)
+        ensures open { open_name self.new ≡ open_name self.old }
+        ensures load_faults { load_faults_of self.new ≡ load_faults_of self.old }
+        ensures write_faults { write_faults_of self.new ≡ write_faults_of self.old }
+        ensures unwritten { unwritten_name self.new ≡ unwritten_name self.old }
+    {
+        self.kept.set_output(file);
+    }
+
+    /// The name of the file that couldn't be created or didn't take a piece, if the last file that was to be written is one.
+    pub fn unwritten(&self) -> Option<&str>
+        ensures { option_map (λ name. name.now) result ≡ unwritten_name self.now }
+    {
+        match &self.target {
+            Some(opened) if self.is_cut => Some(opened.name.as_str()),
+            _ => match &self.uncreated {
+                Some(name) => Some(name.as_str()),
+                None => None,
+            },
         }
     }
 }
@@ -86,28 +122,45 @@ fn read_all<F: Read>(alloc: Global, file: &mut F, limit: usize) -> Result<Vec<u8
     Err(LoadError::TooLong)
 }
 
-impl<R: Files + Drop> DiskShelf<R> {
-    fn read_file(&self, alloc: Global, name: &str, limit: u32) -> Result<Vec<u8>, LoadError>
-        ensures limit { IfOk result (λ bytes. vec_len bytes ≤ limit) }
-        ensures whole { IfOk result (λ bytes. IsWhole (⟦<R::File as Read>⟧.remaining) bytes.items) }
-        ensures too_long { IsErrOf result LoadError.TooLong → IsLonger (⟦<R::File as Read>⟧.remaining) limit }
-    {
-        match fs::open(&self.rt, name) {
-            Ok(mut file) => read_all(alloc, &mut file, limit as usize),
-            Err(_) => Err(LoadError::Failed),
-        }
-    }
+/// All bytes of the named file, unless there are more than `limit`. From now on it is kept.
+fn read_file<R: Files>(
+    rt: &R,
+    kept: &mut KeptFiles,
+    alloc: Global,
+    name: &str,
+    limit: u32,
+) -> Result<Vec<u8>, LoadError>
+    ensures limit { IfOk result (λ bytes. vec_len bytes ≤ limit) }
+    ensures whole { IfOk result (λ bytes. IsWhole (⟦<R::File as Read>⟧.remaining) bytes.items) }
+    ensures too_long { IsErrOf result LoadError.TooLong → IsLonger (⟦<R::File as Read>⟧.remaining) limit }
+{
+    let mut file = fs::open(rt, name)?;
+    kept.add(alloc, &file.metadata()?)?;
+    read_all(alloc, &mut file, limit as usize)
+}
 
-    /// A new empty file of that name, or the old one made empty.
-    fn open_new(&self, alloc: Global, name: &str) -> Result<OpenFile<R>, WriteError>
-        ensures { IfOk result (λ opened. string_bytes opened.name ≡ name.now) }
-    {
-        let kept = String::from_str(alloc, name)?;
-        match fs::create(&self.rt, name) {
-            Ok(file) => Ok(OpenFile { name: kept, file }),
-            Err(_) => Err(WriteError::Failed),
-        }
+/// The named file, open for writing: the one that is there, with its bytes, or a new empty one.
+fn open_as_is<R: Files>(rt: &R, name: &str) -> Result<R::File, WriteError> {
+    Ok(OpenOptions::new().write(true).create(true).open(rt, name)?)
+}
+
+/// The named file, open for writing and empty, unless it is kept. From now on it is.
+fn open_new<R: Files>(
+    rt: &R,
+    kept: &mut KeptFiles,
+    alloc: Global,
+    name: &str,
+) -> Result<R::File, WriteError> {
+    let file = open_as_is(rt, name)?;
+    let found = file.metadata()?;
+    if kept.has(&found) {
+        return Err(WriteError::Failed);
     }
+    kept.add(alloc, &found)?;
+    if found.is_file() && found.len() > 0 {
+        file.set_len(0)?;
+    }
+    Ok(file)
 }
 
 /// Adds a piece at the end of the file.
@@ -158,8 +211,9 @@ impl<R: Files + Drop> Shelf for DiskShelf<R> {
         ensures whole { IfOk result (λ bytes. IsWhole (⟦<R::File as Read>⟧.remaining) bytes.items) }
         ensures longer { IsErrOf result LoadError.TooLong → IsLonger (⟦<R::File as Read>⟧.remaining) limit }
         ensures counted { load_faults_of self.new ≡ count_after_load result (load_faults_of self.old) }
+        ensures unwritten { unwritten_name self.new ≡ unwritten_name self.old }
     {
-        let loaded = self.read_file(alloc, name, limit);
+        let loaded = read_file(&self.rt, &mut self.kept, alloc, name, limit);
         if matches!(&loaded, Err(LoadError::Failed)) {
             self.load_faults = self.load_faults.saturating_add(1);
         }
@@ -175,16 +229,21 @@ impl<R: Files + Drop> Shelf for DiskShelf<R> {
         ensures load_faults { load_faults_of self.new ≡ load_faults_of self.old }
         ensures write_faults { write_faults_of self.old ≤ write_faults_of self.new }
 
-        // Each failure raises the count by one, and nothing else does.
+        // Each failure raises the count by one, and nothing else does. The name of a file that fails is kept.
         ensures counted { write_faults_of self.new ≡ count_after_write result (write_faults_of self.old) }
+        ensures unwritten { unwritten_name self.new ≡ name_after_create result name.now }
     {
         self.target = None;
-        match self.open_new(alloc, name) {
-            Ok(open) => {
-                self.target = Some(open);
+        self.uncreated = None;
+        self.is_cut = false;
+        let name = String::from_str(alloc, name)?;
+        match open_new(&self.rt, &mut self.kept, alloc, name.as_str()) {
+            Ok(file) => {
+                self.target = Some(OpenFile { name, file });
                 Ok(())
             }
             Err(WriteError::Failed) => {
+                self.uncreated = Some(name);
                 self.write_faults = self.write_faults.saturating_add(1);
                 Err(WriteError::Failed)
             }
@@ -208,9 +267,11 @@ impl<R: Files + Drop> Shelf for DiskShelf<R> {
             AppendsOpen (⟦<R::File as Write>⟧.contents) self.old self.new (take count piece.now)) }
         ensures some { OnErr result (0 < length piece.now) }
         ensures counted { write_faults_of self.new ≡ count_after_write result (write_faults_of self.old) }
+        ensures unwritten { unwritten_name self.new ≡ name_after_append result (open_name self.old) (unwritten_name self.old) }
     {
         let written = append_to(&mut self.target, piece);
         if matches!(&written, Err(WriteError::Failed)) {
+            self.is_cut = true;
             self.write_faults = self.write_faults.saturating_add(1);
         }
         written

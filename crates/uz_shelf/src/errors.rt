@@ -1,6 +1,7 @@
 //! What a shelf and a sink answer when they can't do as asked.
 
 use std::alloc::{AllocError, AllocFailed};
+use std::io;
 use thiserror::Error;
 
 /// Why a file was not loaded.
@@ -36,6 +37,28 @@ impl From<AllocError> for LoadError {
 
     fn from(_e: AllocError) -> LoadError {
         LoadError::Memory
+    }
+}
+
+impl From<io::Error> for LoadError {
+    ghost use Rattle.std.specs.Prelude.{◌≡◌};
+    ghost use Rattle.uz_shelf.specs.declared.errors.LoadError.TheVariants.{Failed};
+
+    ghost from_gives = { λ _ e. e ≡ Failed };
+
+    fn from(_e: io::Error) -> LoadError {
+        LoadError::Failed
+    }
+}
+
+impl From<io::Error> for WriteError {
+    ghost use Rattle.std.specs.Prelude.{◌≡◌};
+    ghost use Rattle.uz_shelf.specs.declared.errors.WriteError.TheVariants.{Failed};
+
+    ghost from_gives = { λ _ e. e ≡ Failed };
+
+    fn from(_e: io::Error) -> WriteError {
+        WriteError::Failed
     }
 }
 

@@ -8,6 +8,7 @@
 mod disk_shelf;
 mod errors;
 mod fail;
+mod kept_files;
 mod memory_shelf;
 mod memory_sink;
 mod out_sink;
