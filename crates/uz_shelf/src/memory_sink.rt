@@ -83,10 +83,13 @@ impl Sink for MemorySink {
 
     ghost faults = { faults_of };
 
+    ghost may_lack = { Unit {0} };
+
     fn put(&mut self, _alloc: Global, piece: &[u8]) -> Result<(), WriteError>
         ensures ok { OnOk result (TakesAll (told_text self.old) piece.now (told_text self.new)) }
         ensures err { OnErr result (TakesPrefix (told_text self.old) piece.now (told_text self.new)) }
         ensures failed { IsErrOf result WriteError.Failed → Rose (faults_of self.old) (faults_of self.new) }
+        ensures memory { IsErrOf result WriteError.Memory → Unit {0} }
         ensures faults { faults_of self.old ≤ faults_of self.new }
 
         // It fails exactly where a fault is planned, which keeps as much as it says. Nothing else raises the count.

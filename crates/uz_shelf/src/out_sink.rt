@@ -38,10 +38,13 @@ impl<W: Write + Drop> Sink for OutSink<W> {
 
     ghost faults = { λ s. faults_of s };
 
+    ghost may_lack = { ⊥ };
+
     fn put(&mut self, _alloc: Global, piece: &[u8]) -> Result<(), WriteError>
         ensures ok { OnOk result (TakesAll None piece.now None) }
         ensures err { OnErr result (TakesPrefix None piece.now None) }
         ensures failed { IsErrOf result WriteError.Failed → Rose (faults_of self.old) (faults_of self.new) }
+        ensures memory { IsErrOf result WriteError.Memory → ⊥ }
         ensures faults { faults_of self.old ≤ faults_of self.new }
 
         // Where the output tells its bytes, the piece is added to them once, and a prefix of it where this fails, which no

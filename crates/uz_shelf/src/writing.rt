@@ -1,6 +1,6 @@
 //! Writing a whole piece to a real output.
 
-ghost use Rattle.std.specs.Prelude.{◌<◌, ℕ, OnErr, OnOk, length, take};
+ghost use Rattle.std.specs.Prelude.{◌<◌, ℕ, IsErrOf, OnErr, OnOk, length, take};
 ghost use Rattle.std.specs.Io.KnownBytes.{Appends};
 
 use crate::errors::WriteError;
@@ -14,6 +14,7 @@ pub(crate) fn write_piece<W: Write>(out: &mut W, piece: &[u8]) -> Result<(), Wri
     ensures ok { OnOk result (Appends (W.contents out.old) (W.contents out.new) piece.now) }
     ensures err { OnErr result ((count : ℕ) × Appends (W.contents out.old) (W.contents out.new) (take count piece.now)) }
     ensures some { OnErr result (0 < length piece.now) }
+    ensures memory { IsErrOf result WriteError.Memory → ⊥ }
 {
     let mut done = 0;
     while done < piece.len() {
