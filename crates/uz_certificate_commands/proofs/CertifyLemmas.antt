@@ -10,7 +10,7 @@ use Rattle.uz_search.specs.declared.found.NotFound.{NotFound}
 use Rattle.uz_search.specs.declared.found.NotFound.TheVariants.{Stuck, Split, Full, Hint, NoRest, Memory as NoRoomToSearch}
 use Rattle.uz_paths.specs.Finding.{Cause}
 use Rattle.uz_files.proofs.WriteLemmas.{comes_after_files, files_cut, files_lack, holds_after, holds_written, with_files}
-use Rattle.uz_shelf.specs.Text.{TakesPrefix}
+use Rattle.uz_shelf.specs.Text.{TakesAll}
 use Rattle.uz_hex.specs.Writing.{hex_text}
 use Rattle.uz_hex.specs.Reading.{Flash}
 use Rattle.avr_asm.specs.Assembly.{Output, seen_built}
@@ -27,7 +27,6 @@ use Rattle.uz_files.specs.declared.ending.Failure.{Failure}
 use Rattle.uz_files.specs.declared.status.Status.{Status}
 use Rattle.uz_files.specs.declared.status.Status.TheVariants.{Done, Unread, BadInput, Refused, Unwritten, NoMemory}
 use Rattle.uz_files.specs.Answers.{Answer, ComesOf, NoPart, MayCome, Write, WritesAll, WritesPart, one_line, outside}
-use Rattle.uz_files.specs.Lines.{no_memory_line}
 use Rattle.uz_files.specs.Endings.{ComesOfFailure, EndsBy, answer_of}
 use Rattle.uz_files.specs.Reading.{Fails, Says, text_limit}
 use Rattle.uz_certificate_commands.specs.CertifyCommand.{AllowedOf, CertifyAnswers, CertifyAnswersBy, CertifySucceeds, FilesCertify}
@@ -132,7 +131,7 @@ module _ (files mid after : Option FileMap) (load_fault : Type 0) (source : List
             text_out fault is (subst (λ f. WritesPart f (both_files hex image name text) after) same part),
       ))
 
-  pub certify_lacks : (wide : Type 0) (old new : Option (List ℕ)) → came ≡ NoMemory → TakesPrefix old no_memory_line new → WritesPart mid
+  pub certify_lacks : (wide : Type 0) (old new : Option (List ℕ)) → came ≡ NoMemory → TakesAll old [] new → WritesPart mid
       (both_files hex image name text) after → MayCome (CertifyAnswers files load_fault source irq hex name) NoPart wide came
       (outside files old) (outside after new)
   certify_lacks wide old new is said part =

@@ -16,9 +16,7 @@ use Rattle.uz_files.specs.declared.status.Status.{Status}
 use Rattle.uz_files.specs.declared.status.Status.TheVariants.{NoMemory, Refused, Unwritten}
 use Rattle.uz_files.specs.Answers.{ComesOf, MayCome, Outside, ended, one_line, outside}
 use Rattle.uz_files.specs.Endings.{answer_of}
-use Rattle.uz_files.specs.Lines.{no_memory_line}
 use Rattle.uz_files.proofs.EndingLemmas.{comes_by}
-use Rattle.uz_files.proofs.TextLemmas.{takes_none}
 use Rattle.uz_files.proofs.PrintedLemmas.{cut_part}
 use Rattle.uz_outcomes.specs.SearchLines.{Allowed}
 use Rattle.uz_outcomes.specs.Runs.{framed}
@@ -61,11 +59,11 @@ module _ (line : List ℕ) (cert : Cert) (start : State PadHistory) (wide : Type
   pub put_failed : wide → came ≡ Unwritten → TakesPrefix old line new → MayCome (IsRunAfter line cert start) (IsPutPart line) wide came
       (outside files old) (outside files new)
   put_failed fault is part = inr
-      (inr (ended line Unwritten [], refl, inl (is, fault, cut_part line [] files old new new part (takes_none new))))
+      (inr (ended line Unwritten [], refl, inl (is, fault, cut_part line files old new part)))
 
-  pub put_lacks : came ≡ NoMemory → TakesPrefix old line mid → TakesPrefix mid no_memory_line new → MayCome (IsRunAfter line cert start)
-      (IsPutPart line) wide came (outside files old) (outside files new)
-  put_lacks is part rest = inr (inr (ended line Unwritten [], refl, inr (is, (rest.0, cut_part line _ files old mid new part rest.1))))
+  pub put_lacks : came ≡ NoMemory → TakesPrefix old line new → MayCome (IsRunAfter line cert start) (IsPutPart line) wide came
+      (outside files old) (outside files new)
+  put_lacks is part = inr (inr (ended line Unwritten [], refl, inr (is, cut_part line files old new part)))
 
 -- The whole command
 

@@ -14,9 +14,7 @@ use avr_asm::Built;
 use std::alloc::{AllocError, Global};
 use uz_cert::{Cert, write_cert};
 use uz_cert_laws::text_is_unique;
-use uz_files::{
-    Ending, Failure, Source, Status, end_with, give_up, put_no_memory, read_file, write_file,
-};
+use uz_files::{Ending, Failure, Source, Status, end_with, give_up, read_file, write_file};
 use uz_hex::{Image, write_hex};
 use uz_outcomes::{accepted, not_found};
 use uz_paths::{NotFound, find};
@@ -170,7 +168,7 @@ pub fn run_certify<H: Shelf, K: Sink>(
                 end_with(alloc, out, &ending)
             }
             Err(WriteError::Failed) => Status::Unwritten,
-            Err(WriteError::Memory) => put_no_memory(alloc, out),
+            Err(WriteError::Memory) => Status::NoMemory,
         },
     }
 }

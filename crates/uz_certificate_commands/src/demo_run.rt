@@ -17,7 +17,7 @@ ghost use Rattle.uz_shelf.specs.Text.{TakesAll};
 use crate::demo_start::{Start, start_demo};
 use std::alloc::{AllocError, Global};
 use uz_console::Console;
-use uz_files::{Ending, Status, end_with, put_no_memory};
+use uz_files::{Ending, Status, end_with};
 use uz_outcomes::ending_of;
 use uz_player::{Captured, Played, Player, RunEnd};
 use uz_schedule::Cert;
@@ -86,7 +86,7 @@ fn end_demo<K: Sink>(alloc: Global, out: &mut K, captured: Captured) -> Status
 {
     match ending_of(alloc, captured) {
         Ok(ending) => end_with(alloc, out, &ending),
-        Err(AllocError) => put_no_memory(alloc, out),
+        Err(AllocError) => Status::NoMemory,
     }
 }
 
@@ -119,7 +119,7 @@ fn play_demo<K: Sink>(
         Err(WriteError::Memory) => {
             drop(console);
             drop(cert);
-            put_no_memory(alloc, out)
+            Status::NoMemory
         }
     }
 }
@@ -139,7 +139,7 @@ pub fn run_demo<K: Sink>(alloc: Global, number: u16, out: &mut K) -> Status
     played_runs_keep();
     let start = match start_demo(alloc, number) {
         Ok(start) => start,
-        Err(AllocError) => return put_no_memory(alloc, out),
+        Err(AllocError) => return Status::NoMemory,
     };
     match start {
         Start::Ready {

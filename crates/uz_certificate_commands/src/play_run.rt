@@ -18,7 +18,7 @@ use crate::clocks::Clocks;
 use crate::play_command::{Start, start_play};
 use std::alloc::{AllocError, Global};
 use uz_console::Console;
-use uz_files::{Status, end_with, give_up, put_no_memory};
+use uz_files::{Status, end_with, give_up};
 use uz_outcomes::ending_of;
 use uz_player::{Captured, capture};
 use uz_schedule::Cert;
@@ -36,7 +36,7 @@ fn end_play<K: Sink>(alloc: Global, out: &mut K, captured: Captured) -> Status
 {
     match ending_of(alloc, captured) {
         Ok(ending) => end_with(alloc, out, &ending),
-        Err(AllocError) => put_no_memory(alloc, out),
+        Err(AllocError) => Status::NoMemory,
     }
 }
 
@@ -63,7 +63,7 @@ fn play_on<H: Shelf, K: Sink>(
     match capture(alloc, console, cert, clocks.count, frames, shelf) {
         Ok(captured) => end_play(alloc, out, captured),
         Err(WriteError::Failed) => Status::Unwritten,
-        Err(WriteError::Memory) => put_no_memory(alloc, out),
+        Err(WriteError::Memory) => Status::NoMemory,
     }
 }
 

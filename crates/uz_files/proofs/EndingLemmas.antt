@@ -1,5 +1,5 @@
 -- What comes of printing the line that ends a command.
-use Rattle.std.proofs.Common.{◌≡◌, ◌≢◌, inl, inr, ℕ, List, [], take, refl, sym, ◌∙◌, subst}
+use Rattle.std.proofs.Common.{◌≡◌, ◌≢◌, inl, inr, ℕ, List, [], refl, sym, ◌∙◌, subst}
 use Rattle.std.specs.Prelude.{Option, Result, Ok, Err, IfOk}
 use Rattle.uz_shelf.specs.Files.{FileMap}
 use Rattle.uz_shelf.specs.Text.{TakesAll, TakesPrefix}
@@ -10,8 +10,7 @@ use Rattle.uz_files.specs.declared.ending.Ending.{Ending}
 use Rattle.uz_files.specs.declared.ending.Failure.{Failure}
 use Rattle.uz_files.specs.declared.ending.Failure.TheVariants.{Unread as UnreadFile, BadInput as BadFile, Memory as NoRoom}
 use Rattle.uz_files.specs.Endings.{ComesOfFailure, ComesOfWork, Gives, answer_of}
-use Rattle.uz_files.specs.Lines.{no_memory_line}
-use Rattle.uz_files.proofs.TextLemmas.{takes_prefix, takes_both}
+use Rattle.uz_files.proofs.TextLemmas.{takes_prefix}
 
 pub comes_done : (s came : Status) (line : List ℕ) (write_fault : Type 0) (files : Option FileMap) (old new : Option (List ℕ)) → came ≡ s
     → TakesAll old line new → ComesOf (one_line s line) write_fault came (outside files old) (outside files new)
@@ -41,11 +40,9 @@ pub comes_unwritten : (s came : Status) (line : List ℕ) (write_fault : Type 0)
 comes_unwritten s came line write_fault files old new done same fault part =
     inr (inl (same, fault, inr (refl, (line, inl (done, refl), part))))
 
-pub comes_without_memory : (s came : Status) (line : List ℕ) (write_fault : Type 0) (files : Option FileMap) (old mid new : Option (List ℕ))
-    → came ≡ status.NoMemory → TakesPrefix old line mid → TakesPrefix mid no_memory_line new → ComesOf (one_line s line) write_fault came
-    (outside files old) (outside files new)
-comes_without_memory s came line write_fault files old mid new same part rest =
-    inr (inr (same, (rest.0, inr (refl, (part.0, takes_both old (take part.0 line) (take rest.0 no_memory_line) mid new part.1 rest.1)))))
+pub comes_without_memory : (s came : Status) (line : List ℕ) (write_fault : Type 0) (files : Option FileMap) (old new : Option (List ℕ))
+    → came ≡ status.NoMemory → TakesPrefix old line new → ComesOf (one_line s line) write_fault came (outside files old) (outside files new)
+comes_without_memory s came line write_fault files old new same part = inr (inr (same, inr (refl, part)))
 
 pub comes_by : (answer : Answer) (came : Status) (narrow wide : Type 0) (old new : Outside) → (narrow → wide) → ComesOf answer narrow came
     old new → ComesOf answer wide came old new
@@ -107,7 +104,8 @@ failure_line (UnreadFile line) = line.items
 failure_line (BadFile line) = line.items
 failure_line NoRoom = []
 
-same_one_line : (s t : Status) (line same : List ℕ) (write_fault : Type 0) (came : Status) (old new : Outside) → t ≡ s → same ≡ line
+-- the same status and line under other names
+pub same_one_line : (s t : Status) (line same : List ℕ) (write_fault : Type 0) (came : Status) (old new : Outside) → t ≡ s → same ≡ line
     → ComesOf (one_line s line) write_fault came old new → ComesOf (one_line t same) write_fault came old new
 same_one_line s t line same write_fault came old new e f h =
     subst (λ x. ComesOf (one_line x same) write_fault came old new) (sym e) (subst (λ l. ComesOf (one_line s l) write_fault came old new)

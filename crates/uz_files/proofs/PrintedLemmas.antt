@@ -1,5 +1,5 @@
 -- What comes after a text that is printed already.
-use Rattle.std.proofs.Common.{◌≡◌, inl, inr, ℕ, ◌+◌, List, [], ◌++◌, length, take, refl, sym, ap, subst, append_assoc}
+use Rattle.std.proofs.Common.{◌≡◌, inl, inr, ℕ, ◌+◌, List, [], ◌++◌, length, take, refl, sym, ap, subst}
 use Rattle.std.specs.Prelude.{Option}
 use Rattle.std.proofs.lemmas.List.{append-nil}
 use Rattle.std.proofs.Math.Seq.{take-append-add, take-append_seam}
@@ -10,7 +10,6 @@ use Rattle.uz_files.specs.declared.status.Status.{Status}
 use Rattle.uz_files.specs.declared.status.Status.TheVariants as status
 use Rattle.uz_files.specs.Answers.{ComesOf, IsCut, ended, one_line, outside}
 use Rattle.uz_files.specs.Endings.{answer_of}
-use Rattle.uz_files.specs.Lines.{no_memory_line}
 use Rattle.uz_files.proofs.TextLemmas.{takes_both}
 
 -- a piece, and then a prefix of another
@@ -22,28 +21,22 @@ takes_then_prefix old mid new a b whole part = (
       part.1),
 )
 
-cut_after : (printed line further : List ℕ) (s : Status) (files : Option FileMap) (old mid new : Option (List ℕ)) → TakesAll old printed mid
-    → IsCut (one_line s line) further (outside files mid) (outside files new) → IsCut (ended printed s line) further (outside files old)
+-- a whole text is a prefix of itself and a line
+takes_seam : (printed line : List ℕ) (old new : Option (List ℕ)) → TakesAll old printed new → TakesPrefix old (printed ++ line) new
+takes_seam printed line old new whole =
+    (length printed, subst (λ p. TakesAll old p new) (sym (take-append_seam printed line)) whole)
+
+cut_after : (printed line : List ℕ) (s : Status) (files : Option FileMap) (old mid new : Option (List ℕ)) → TakesAll old printed mid
+    → IsCut (one_line s line) (outside files mid) (outside files new) → IsCut (ended printed s line) (outside files old)
     (outside files new)
-cut_after printed line further s files old mid new before (inl (same, text)) =
+cut_after printed line s files old mid new before (inl (same, text)) =
     inr (
       refl,
-      (
-        length printed,
-        subst (λ p. TakesAll old (p ++ further) new) (sym (take-append_seam printed line))
-            (takes_both old printed further mid new before text),
-      ),
+      takes_seam printed line old new
+          (subst (λ p. TakesAll old p new) (append-nil printed) (takes_both old printed [] mid new before text)),
     )
-cut_after printed line further s files old mid new before (inr (same, (count, text))) =
-    inr (
-      refl,
-      (
-        length printed + count,
-        subst (λ p. TakesAll old (p ++ further) new) (sym (take-append-add printed line count))
-            (subst (λ p. TakesAll old p new) (sym (append_assoc printed (take count line) further))
-            (takes_both old printed (take count line ++ further) mid new before text)),
-      ),
-    )
+cut_after printed line s files old mid new before (inr (same, part)) =
+    inr (refl, takes_then_prefix old mid new printed line before part)
 
 pub comes_after : (printed line : List ℕ) (s came : Status) (write_fault : Type 0) (files : Option FileMap) (old mid new : Option (List ℕ))
     → TakesAll old printed mid → ComesOf (one_line s line) write_fault came (outside files mid) (outside files new)
@@ -65,39 +58,18 @@ comes_after printed line s came write_fault files old mid new before (inr (inl (
 comes_after printed line s came write_fault files old mid new before (inr (inl (is, fault, inr (same, (text, inr (none, all), part))))) =
     absurd (none refl)
 comes_after printed line s came write_fault files old mid new before (inr (inr lacks)) =
-    inr (inr (lacks.0, (lacks.1.0, cut_after printed line (take lacks.1.0 no_memory_line) s files old mid new before lacks.1.1)))
+    inr (inr (lacks.0, cut_after printed line s files old mid new before lacks.1))
 
-pub lacks_after : (printed line : List ℕ) (s came : Status) (write_fault : Type 0) (files : Option FileMap) (old mid new : Option (List ℕ))
-    → TakesAll old printed mid → came ≡ status.NoMemory → TakesPrefix mid no_memory_line new → ComesOf (ended printed s line) write_fault
-    came (outside files old) (outside files new)
-lacks_after printed line s came write_fault files old mid new before same part =
-    inr (inr (
-      same,
-      (
-        part.0,
-        inr (
-          refl,
-          (
-            length printed,
-            subst (λ p. TakesAll old (p ++ take part.0 no_memory_line) new) (sym (take-append_seam printed line))
-                (takes_both old printed (take part.0 no_memory_line) mid new before part.1),
-          ),
-        ),
-      ),
-    ))
+pub lacks_after : (printed line : List ℕ) (s came : Status) (write_fault : Type 0) (files : Option FileMap) (old new : Option (List ℕ))
+    → TakesAll old printed new → came ≡ status.NoMemory → ComesOf (ended printed s line) write_fault came (outside files old)
+    (outside files new)
+lacks_after printed line s came write_fault files old new before same = inr (inr (same, inr (refl, takes_seam printed line old new before)))
 
 -- a part of the lines is printed, and then it is cut short
-pub cut_part : (printed further : List ℕ) (files : Option FileMap) (old mid new : Option (List ℕ)) → TakesPrefix old printed mid
-    → TakesAll mid further new → IsCut (ended printed status.Unwritten []) further (outside files old) (outside files new)
-cut_part printed further files old mid new part rest =
-    inr (
-      refl,
-      (
-        part.0,
-        subst (λ p. TakesAll old (take part.0 p ++ further) new) (sym (append-nil printed))
-            (takes_both old (take part.0 printed) further mid new part.1 rest),
-      ),
-    )
+pub cut_part : (printed : List ℕ) (files : Option FileMap) (old new : Option (List ℕ)) → TakesPrefix old printed new
+    → IsCut (ended printed status.Unwritten []) (outside files old) (outside files new)
+cut_part printed files old new part =
+    inr (refl, (part.0, subst (λ p. TakesAll old (take part.0 p) new) (sym (append-nil printed)) part.1))
 
 pub comes_ended : (ending : Ending) (printed line : List ℕ) (s came : Status) (write_fault : Type 0) (files : Option FileMap)
     (old mid new : Option (List ℕ)) → (ending.status ≡ s) × (ending.line.items ≡ line) → TakesAll old printed mid

@@ -3,7 +3,7 @@ use Rattle.std.proofs.Common.{◌≡◌, ◌⊎◌, inl, inr, ℕ, List, [], ◌
 use Rattle.std.specs.Prelude.{Option, Result, Ok, Err}
 use Rattle.uz_shelf.specs.Faults.{Rose}
 use Rattle.uz_shelf.specs.Files.{FileMap}
-use Rattle.uz_shelf.specs.Text.{TakesPrefix}
+use Rattle.uz_shelf.specs.Text.{TakesAll}
 use Rattle.uz_files.specs.declared.ending.Failure.{Failure}
 use Rattle.uz_files.specs.declared.ending.Failure.TheVariants.{Unread as UnreadFile, BadInput as BadFile, Memory as NoRoom}
 use Rattle.uz_files.specs.declared.status.Status.{Status}
@@ -11,7 +11,6 @@ use Rattle.uz_files.specs.declared.status.Status.TheVariants.{Done, Unwritten, N
 use Rattle.uz_files.specs.declared.work.Work.{Work}
 use Rattle.uz_files.specs.Answers.{Answer, ComesOf, MayCome, NoPart, Outside, Write, WritesFile, one_line, outside}
 use Rattle.uz_files.specs.Endings.{ComesOfFailure, Gives}
-use Rattle.uz_files.specs.Lines.{no_memory_line}
 use Rattle.uz_files.specs.Writing.{IsAnswerOf, Prepares, WritesSome, WritesWork, answer_of_work}
 use Rattle.uz_files.proofs.EndingLemmas.{comes_by, outcome_of}
 use Rattle.uz_files.proofs.WriteLemmas.{comes_after_files, files_cut, files_lack, part_written}
@@ -40,7 +39,7 @@ module _ (files after : Option FileMap) (name : List ℕ) (work : Work) (came : 
         files_cut file [] Done came work.line.items wide files after text fault is (part_written name work.text.items files after part),
       ))
 
-  pub work_lacks : (wide : Type 0) (old new : Option (List ℕ)) → came ≡ NoMemory → TakesPrefix old no_memory_line new
+  pub work_lacks : (wide : Type 0) (old new : Option (List ℕ)) → came ≡ NoMemory → TakesAll old [] new
       → WritesSome files name work.text.items after
       → MayCome (λ answer. answer ≡ answer_of_work name work) NoPart wide came (outside files old) (outside after new)
   work_lacks wide old new is text part =

@@ -11,12 +11,11 @@ use Rattle.std.specs.Cmp.Lexicographic.{nat_list_cmp_total, slice_cmp, texts_tie
 use Rattle.std.proofs.lemmas.Slice.Eq.{bytes_eq-Decides}
 use Rattle.std.specs.FinMap.{get, insert, get-insert}
 use Rattle.uz_shelf.specs.Files.{FileMap, HoldsFile, AppendsAll, AppendsPrefix, Creates, CreatesOrKeeps, bytes_so_far}
-use Rattle.uz_shelf.specs.Text.{TakesPrefix}
+use Rattle.uz_shelf.specs.Text.{TakesAll}
 use Rattle.uz_shelf.proofs.HeldLemmas.{insert_again}
 use Rattle.uz_files.specs.declared.status.Status.{Status}
 use Rattle.uz_files.specs.declared.status.Status.TheVariants.{Unwritten, NoMemory}
 use Rattle.uz_files.specs.Answers.{Answer, ComesOf, IsCut, Write, WritesAll, WritesFile, WritesPart, one_line, outside}
-use Rattle.uz_files.specs.Lines.{no_memory_line}
 use Rattle.uz_files.specs.Writing.{WritesSome}
 use Rattle.uz_files.proofs.TextLemmas.{takes_none}
 
@@ -82,10 +81,10 @@ with_files ws s line = record { writes = ws; printed = []; status = s; line = li
 
 module _ (ws : List Write) (s : Status) (line : List ℕ) (files after : Option FileMap) (written : WritesAll files ws after)
     (old new : Option (List ℕ)) where
-  cut_after_files : (further : List ℕ) → IsCut (one_line s line) further (outside after old) (outside after new)
-      → IsCut (with_files ws s line) further (outside files old) (outside after new)
-  cut_after_files further (inl (same, text)) = inr (written, (0, text))
-  cut_after_files further (inr (same, text)) = inr (written, text)
+  cut_after_files : IsCut (one_line s line) (outside after old) (outside after new)
+      → IsCut (with_files ws s line) (outside files old) (outside after new)
+  cut_after_files (inl (same, text)) = inr (written, (0, text))
+  cut_after_files (inr (same, text)) = inr (written, text)
 
   pub comes_after_files : (write_fault : Type 0) (came : Status) → ComesOf (one_line s line) write_fault came (outside after old)
       (outside after new) → ComesOf (with_files ws s line) write_fault came (outside files old) (outside after new)
@@ -99,12 +98,12 @@ module _ (ws : List Write) (s : Status) (line : List ℕ) (files after : Option 
   comes_after_files write_fault came (inr (inl (is, fault, inl (none, part, text)))) = absurd (none refl)
   comes_after_files write_fault came (inr (inl (is, fault, inr (same, lost)))) = inr (inl (is, fault, inr (written, lost)))
   comes_after_files write_fault came (inr (inr lacks)) =
-      inr (inr (lacks.0, (lacks.1.0, cut_after_files (take lacks.1.0 no_memory_line) lacks.1.1)))
+      inr (inr (lacks.0, cut_after_files lacks.1))
 
   -- no memory for the line
-  pub lacks_line : (write_fault : Type 0) (came : Status) → came ≡ NoMemory → TakesPrefix old no_memory_line new
+  pub lacks_line : (write_fault : Type 0) (came : Status) → came ≡ NoMemory → TakesAll old [] new
       → ComesOf (with_files ws s line) write_fault came (outside files old) (outside after new)
-  lacks_line write_fault came is text = inr (inr (is, (text.0, inr (written, (0, text.1)))))
+  lacks_line write_fault came is text = inr (inr (is, inr (written, (0, text))))
 
 -- a fault of writing, or want of memory, in the midst of the files
 pub files_cut : (w : Write) (ws : List Write) (s came : Status) (line : List ℕ) (write_fault : Type 0) (files after : Option FileMap)
@@ -114,9 +113,9 @@ files_cut w ws s came line write_fault files after text fault is part =
     inr (inl (is, fault, inl ((λ none. cc none), part, takes_none text)))
 
 pub files_lack : (ws : List Write) (s came : Status) (line : List ℕ) (write_fault : Type 0) (files after : Option FileMap)
-    (old new : Option (List ℕ)) → came ≡ NoMemory → TakesPrefix old no_memory_line new → WritesPart files ws after
+    (old new : Option (List ℕ)) → came ≡ NoMemory → TakesAll old [] new → WritesPart files ws after
     → ComesOf (with_files ws s line) write_fault came (outside files old) (outside after new)
-files_lack ws s came line write_fault files after old new is text part = inr (inr (is, (text.0, inl (part, text.1))))
+files_lack ws s came line write_fault files after old new is text part = inr (inr (is, inl (part, text)))
 
 pub part_written : (name bytes : List ℕ) (files after : Option FileMap) → WritesSome files name bytes after
     → WritesPart files (record { name = name; bytes = bytes } ∷ []) after

@@ -72,21 +72,19 @@ pub record Ends (answer : Answer) (write_fault : Type 0) (came : Status) (old ne
   pub whole : (write_fault → ⊥) → TakesAll old.text (answer.printed ++ answer.line) new.text
   pub text : (count : ℕ) × TakesAll old.text (answer.printed ++ take count answer.line) new.text
 
--- it was cut short: some files are written and nothing is printed, or all are written and a prefix is
--- printed; and then a further text
-abbrev pub IsCut : Answer → List ℕ → Outside → Outside → Type 0
-IsCut answer further old new =
-    (WritesPart old.files answer.writes new.files × TakesAll old.text further new.text)
-    ⊎ (WritesAll old.files answer.writes new.files
-    × ((count : ℕ) × TakesAll old.text (take count (answer.printed ++ answer.line) ++ further) new.text))
+-- it was cut short: some files are written and nothing is printed, or all are written and a prefix is printed
+abbrev pub IsCut : Answer → Outside → Outside → Type 0
+IsCut answer old new =
+    (WritesPart old.files answer.writes new.files × TakesAll old.text [] new.text)
+    ⊎ (WritesAll old.files answer.writes new.files × TakesPrefix old.text (answer.printed ++ answer.line) new.text)
 
--- cut short for want of memory, which a prefix of its own line tells
+-- cut short for want of memory
 abbrev pub LacksMemory : Answer → Status → Outside → Outside → Type 0
-LacksMemory answer came old new = (came ≡ NoMemory) × ((count : ℕ) × IsCut answer (take count no_memory_line) old new)
+LacksMemory answer came old new = (came ≡ NoMemory) × IsCut answer old new
 
 -- cut short by a fault of writing
 abbrev pub IsUnwritten : Answer → Type 0 → Status → Outside → Outside → Type 0
-IsUnwritten answer write_fault came old new = (came ≡ Unwritten) × write_fault × IsCut answer [] old new
+IsUnwritten answer write_fault came old new = (came ≡ Unwritten) × write_fault × IsCut answer old new
 
 -- a text without which the answer's status doesn't stand: all that is printed where the command did its work, and else what is
 -- printed before the line that ends it. A failure of that line itself changes no other status than Done
@@ -112,7 +110,21 @@ ComesOf answer write_fault came old new =
 pub record StartsWithoutMemory (came : Status) (old new : Outside) : Type 0 where
   pub status : came ≡ NoMemory
   pub files : new.files ≡ old.files
-  pub text : TakesPrefix old.text no_memory_line new.text
+  pub text : new.text ≡ old.text
+
+-- A line that was put last: it is printed whole, unless an excuse stands, and then a prefix of it
+abbrev pub PutsLast : List ℕ → Type 0 → Option (List ℕ) → Option (List ℕ) → Type 0
+PutsLast line excuse old new = TakesAll old line new ⊎ (excuse × TakesPrefix old line new)
+
+-- Where memory was lacking, the line that says so is put last, and else nothing
+abbrev pub TellsLack : Status → Type 0 → Option (List ℕ) → Option (List ℕ) → Type 0
+TellsLack came excuse old new =
+    ((came ≢ NoMemory) × (new ≡ old)) ⊎ ((came ≡ NoMemory) × PutsLast no_memory_line excuse old new)
+
+-- Such a thing came of a call, with what was printed until then, and then the line that tells want of memory
+abbrev pub AndTells : (Outside → Type 0) → Status → Type 0 → Outside → Type 0
+AndTells Comes came excuse new =
+    (printed : Option (List ℕ)) × Comes (outside new.files printed) × TellsLack came excuse printed new.text
 
 -- a command whose work isn't cut short before its answer is known
 abbrev pub NoPart : Answer → Type 0

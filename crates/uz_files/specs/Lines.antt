@@ -1,9 +1,6 @@
 -- The lines that the commands print. Each ends in LF.
 use Rattle.std.specs.Prelude.{ℕ, List, ◌++◌, codes, decimal}
 
-abbrev pub usage_line : List ℕ
-usage_line = codes "usage: uzebox asm, dis, trace, certify, check, play, demo, migrate, expand, build, debug, report, wave\n"
-
 abbrev pub no_memory_line : List ℕ
 no_memory_line = codes "no memory\n"
 

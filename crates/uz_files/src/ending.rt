@@ -3,8 +3,7 @@
 ghost use Rattle.std.specs.Prelude.{◌≡◌, ◌≢◌, ◌≤◌, ◌⊎◌, List, Option, ℕ};
 ghost use Rattle.uz_shelf.specs.Files.{FileMap};
 ghost use Rattle.uz_shelf.specs.Faults.{Rose};
-ghost use Rattle.uz_shelf.specs.Text.{TakesPrefix};
-ghost use Rattle.uz_files.specs.Answers.{ComesOf, one_line, outside};
+ghost use Rattle.uz_files.specs.Answers.{ComesOf, PutsLast, one_line, outside};
 ghost use Rattle.uz_files.specs.Endings.{ComesOfFailure, ComesOfWork, answer_of};
 ghost use Rattle.uz_files.specs.Lines.{no_memory_line};
 
@@ -39,36 +38,35 @@ impl From<AllocError> for Failure {
 }
 
 /// Puts a line whose failure isn't told.
-#[tactic(auto, using(crate::proofs::TextLemmas::takes_prefix))]
+#[tactic(auto, using(crate::proofs::TextLemmas::puts_last))]
 fn put_last<K: Sink>(alloc: Global, out: &mut K, line: &[u8])
-    ensures text { TakesPrefix (K.text out.old) line.now (K.text out.new) }
+    ensures text { PutsLast line.now (Rose (K.faults out.old) (K.faults out.new) ⊎ K.may_lack) (K.text out.old) (K.text out.new) }
     ensures faults { K.faults out.old ≤ K.faults out.new }
 {
     let _ = out.put(alloc, line); // the status is the same
 }
 
-/// Says that memory was lacking.
-pub fn put_no_memory<K: Sink>(alloc: Global, out: &mut K) -> Status
-    ensures status { result ≡ Status.NoMemory }
-    ensures text { TakesPrefix (K.text out.old) no_memory_line (K.text out.new) }
+/// Says that memory was lacking. The line is whole unless a fault of the sink cut it short, or the sink lacked memory for it.
+pub fn put_no_memory<K: Sink>(alloc: Global, out: &mut K)
+    ensures text { PutsLast no_memory_line (Rose (K.faults out.old) (K.faults out.new) ⊎ K.may_lack)
+        (K.text out.old) (K.text out.new) }
     ensures faults { K.faults out.old ≤ K.faults out.new }
 {
     put_last(alloc, out, b"no memory\n");
-    Status::NoMemory
 }
 
-/// Prints the line of a command that did its work.
+/// Prints the lines of a command that did its work.
 #[tactic(auto, using(crate::proofs::EndingLemmas::endings))]
-fn end_done<K: Sink>(alloc: Global, out: &mut K, ending: &Ending) -> Status
-    requires { ending.now.status ≡ Status.Done }
-    ensures comes { (files : Option FileMap) → ComesOf (answer_of ending.now) (Rose (K.faults out.old) (K.faults out.new)) result
-        (outside files (K.text out.old)) (outside files (K.text out.new)) }
+pub fn end_done<K: Sink>(alloc: Global, out: &mut K, lines: &[u8]) -> Status
+    ensures comes { (files : Option FileMap) → ComesOf (one_line Status.Done lines.now)
+        (Rose (K.faults out.old) (K.faults out.new)) result (outside files (K.text out.old))
+        (outside files (K.text out.new)) }
     ensures faults { K.faults out.old ≤ K.faults out.new }
 {
-    match out.put(alloc, ending.line.as_slice()) {
+    match out.put(alloc, lines) {
         Ok(()) => Status::Done,
         Err(WriteError::Failed) => Status::Unwritten,
-        Err(WriteError::Memory) => put_no_memory(alloc, out),
+        Err(WriteError::Memory) => Status::NoMemory,
     }
 }
 
@@ -85,7 +83,7 @@ pub fn end_fault<K: Sink>(alloc: Global, out: &mut K, status: Status, line: &[u8
     match out.put(alloc, line) {
         Ok(()) => status,
         Err(WriteError::Failed) => status,
-        Err(WriteError::Memory) => put_no_memory(alloc, out),
+        Err(WriteError::Memory) => Status::NoMemory,
     }
 }
 
@@ -95,10 +93,9 @@ pub fn end_with<K: Sink>(alloc: Global, out: &mut K, ending: &Ending) -> Status
         (outside files (K.text out.old)) (outside files (K.text out.new)) }
     ensures faults { K.faults out.old ≤ K.faults out.new }
 {
-    if matches!(ending.status, Status::Done) {
-        end_done(alloc, out, ending)
-    } else {
-        end_fault(alloc, out, ending.status, ending.line.as_slice())
+    match ending.status {
+        Status::Done => end_done(alloc, out, ending.line.as_slice()),
+        status => end_fault(alloc, out, status, ending.line.as_slice()),
     }
 }
 
@@ -123,6 +120,6 @@ pub fn give_up<K: Sink>(alloc: Global, out: &mut K, failure: &Failure) -> Status
     match failure {
         Failure::Unread(line) => end_fault(alloc, out, Status::Unread, line.as_slice()),
         Failure::BadInput(line) => end_fault(alloc, out, Status::BadInput, line.as_slice()),
-        Failure::Memory => put_no_memory(alloc, out),
+        Failure::Memory => Status::NoMemory,
     }
 }

@@ -12,7 +12,7 @@ mod text_fault;
 mod work;
 mod writing;
 
-pub use ending::{Ending, Failure, end_fault, end_with, finish, give_up, put_no_memory};
+pub use ending::{Ending, Failure, end_done, end_fault, end_with, finish, give_up, put_no_memory};
 pub use format::{Format, read_file};
 pub use formats::{CertificateText, HexText, OldCertificateText, PadWords, Source};
 pub use laws::readings_are_unique;

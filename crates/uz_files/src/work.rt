@@ -5,7 +5,7 @@ ghost use Rattle.uz_shelf.specs.Faults.{Rose};
 ghost use Rattle.uz_files.specs.Answers.{MayCome, NoPart, WritesFile, outside};
 ghost use Rattle.uz_files.specs.Writing.{IsAnswerOf, WritesWork, answer_of_work};
 
-use crate::ending::{Ending, Failure, end_with, give_up, put_no_memory};
+use crate::ending::{Ending, Failure, end_with, give_up};
 use crate::status::Status;
 use crate::writing::write_file;
 use std::alloc::Global;
@@ -41,7 +41,7 @@ fn write_work<H: Shelf, K: Sink>(
             end_with(alloc, out, &ending)
         }
         Err(WriteError::Failed) => Status::Unwritten,
-        Err(WriteError::Memory) => put_no_memory(alloc, out),
+        Err(WriteError::Memory) => Status::NoMemory,
     }
 }
 

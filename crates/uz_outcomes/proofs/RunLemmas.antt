@@ -2,7 +2,7 @@
 use Rattle.std.proofs.Common.{◌≡◌, inl, inr, ℕ, List, [], ◌∷◌, ◌++◌, refl, sym, ap, subst, ◌∙◌}
 use Rattle.std.specs.Prelude.{Option, Some, None}
 use Rattle.uz_shelf.specs.Files.{FileMap, WritesFile}
-use Rattle.uz_shelf.specs.Text.{TakesAll, TakesPrefix}
+use Rattle.uz_shelf.specs.Text.{TakesAll}
 use Rattle.uz_schedule.specs.declared.certificate.Cert.{Cert}
 use Rattle.uz_machine.specs.declared.Edge.{Edge}
 use Rattle.uz_machine.specs.PadLine.{PadHistory}
@@ -20,7 +20,6 @@ use Rattle.uz_files.specs.declared.status.Status.{Status}
 use Rattle.uz_files.specs.declared.status.Status.TheVariants.{Done, Stopped, Unwritten, NoMemory}
 use Rattle.uz_files.specs.Answers.{ComesOf, MayCome, WritesPart, outside}
 use Rattle.uz_files.specs.Endings.{answer_of}
-use Rattle.uz_files.specs.Lines.{no_memory_line}
 use Rattle.uz_outcomes.specs.Runs.{IsFramedPart, IsFramedRun, entered_line, framed, frames_file, numbers_line, numbers_of}
 use Rattle.uz_outcomes.specs.RunValues.{counts_text, end_status, end_text, over_status, over_text}
 use Rattle.uz_outcomes.specs.StopLines.{stopped_at_line}
@@ -33,7 +32,7 @@ use Rattle.uz_files.proofs.WriteLemmas.{comes_after_files, lacks_line}
 -- no memory for the text
 pub lacks_text : (frames : List ℕ) (edges : List Edge) (s : Status) (line : List ℕ) (files after : Option FileMap)
     → WritesFile files frames (records (newest_first edges)) after → (write_fault : Type 0) (came : Status) (old new : Option (List ℕ))
-    → came ≡ NoMemory → TakesPrefix old no_memory_line new
+    → came ≡ NoMemory → TakesAll old [] new
     → ComesOf (framed frames edges s line) write_fault came (outside files old) (outside after new)
 lacks_text frames edges s line files after written write_fault came old new is text =
     lacks_line (frames_file frames edges ∷ []) s line files after (after, written, refl) old new write_fault came is text
@@ -154,8 +153,8 @@ module _ (cert : Cert) (limit : ℕ) (start : State PadHistory) (old new : Optio
         inl (is, fault, inl (part.2, subst (λ t. TakesAll was [] t) (sym same) (takes_none was))),
       ))
 
-  pub run_lacks : IsCapturePart limit start old name new → came ≡ NoMemory → TakesPrefix was no_memory_line now
+  pub run_lacks : IsCapturePart limit start old name new → came ≡ NoMemory → TakesAll was [] now
       → MayCome (IsFramedRun name cert limit start) (IsFramedPart name limit start) wide came (outside old was) (outside new now)
   run_lacks cut is line =
       let part = part_written cut in
-      inr (inr (framed name part.0 Unwritten [], part.1, inr (is, (line.0, inl (part.2, line.1)))))
+      inr (inr (framed name part.0 Unwritten [], part.1, inr (is, inl (part.2, line))))

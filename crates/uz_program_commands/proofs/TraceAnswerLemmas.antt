@@ -15,7 +15,6 @@ use Rattle.uz_files.specs.declared.status.Status.{Status}
 use Rattle.uz_files.specs.declared.status.Status.TheVariants.{Done, Unread, BadInput, Stopped, Unwritten, NoMemory}
 use Rattle.uz_files.specs.Answers.{Answer, ComesOf, MayCome, ended, outside}
 use Rattle.uz_files.specs.Endings.{ComesOfFailure, EndsBy}
-use Rattle.uz_files.specs.Lines.{no_memory_line}
 use Rattle.uz_program_commands.specs.TraceCommand.{IsTrace, TraceAnswers, TraceParts, edge_lines, end_line}
 use Rattle.uz_program_commands.specs.TraceValues.{IsPrinted, IsPrintedPart, end_status, last_line}
 use Rattle.uz_outcomes.specs.RunFiles.{RunLacks, RunPreface, RunSucceeds, StartsRun, start_of}
@@ -23,7 +22,6 @@ use Rattle.uz_outcomes.specs.StopLines.{stopped_line}
 use Rattle.uz_outcomes.proofs.RunFileLemmas.{preface_answers, run_status}
 use Rattle.uz_files.proofs.ReadingLemmas.{ends_by}
 use Rattle.uz_files.proofs.PrintedLemmas.{cut_part}
-use Rattle.uz_files.proofs.TextLemmas.{takes_none}
 use Rattle.uz_files.proofs.EndingLemmas.{comes_by, run_outcome}
 
 is_trace_status : (clocks : ℕ) (start : State PadHistory) (answer : Answer) → IsTrace clocks start answer → (answer.status ≡ Done)
@@ -137,22 +135,18 @@ trace_unwritten files after load_fault wide hex pads irq clocks console came old
     let part = part_answers files hex pads irq clocks console old new starts prints in
     subst (λ f. MayCome (TraceAnswers files load_fault hex pads irq clocks) (TraceParts files hex pads irq clocks) wide came
     (outside files old) (outside f new)) (sym same)
-    (inr (inr (ended part.0 Unwritten [], part.2, inl (is, fault, cut_part part.0 [] files old new new part.1 (takes_none new)))))
+    (inr (inr (ended part.0 Unwritten [], part.2, inl (is, fault, cut_part part.0 files old new part.1))))
 
 pub trace_lacks : (files after : Option FileMap) (load_fault wide : Type 0) (hex pads : List ℕ) (irq : Response) (clocks : ℕ)
-    (console : Console) (came : Status) (old mid new : Option (List ℕ)) → after ≡ files → came ≡ NoMemory → TakesPrefix mid no_memory_line
-    new → StartsRun files hex pads irq console → ((start : State PadHistory) → RunsTo clocks start [] console → IsPrintedPart clocks start
-    old mid) → MayCome (TraceAnswers files load_fault hex pads irq clocks) (TraceParts files hex pads irq clocks) wide came
+    (console : Console) (came : Status) (old new : Option (List ℕ)) → after ≡ files → came ≡ NoMemory
+    → StartsRun files hex pads irq console → ((start : State PadHistory) → RunsTo clocks start [] console → IsPrintedPart clocks start
+    old new) → MayCome (TraceAnswers files load_fault hex pads irq clocks) (TraceParts files hex pads irq clocks) wide came
     (outside files old) (outside after new)
-trace_lacks files after load_fault wide hex pads irq clocks console came old mid new same is line starts prints =
-    let part = part_answers files hex pads irq clocks console old mid starts prints in
+trace_lacks files after load_fault wide hex pads irq clocks console came old new same is starts prints =
+    let part = part_answers files hex pads irq clocks console old new starts prints in
     subst (λ f. MayCome (TraceAnswers files load_fault hex pads irq clocks) (TraceParts files hex pads irq clocks) wide came
     (outside files old) (outside f new)) (sym same)
-    (inr (inr (
-      ended part.0 Unwritten [],
-      part.2,
-      inr (is, (line.0, cut_part part.0 (take line.0 no_memory_line) files old mid new part.1 line.1)),
-    )))
+    (inr (inr (ended part.0 Unwritten [], part.2, inr (is, cut_part part.0 files old new part.1))))
 
 -- a file ends the command
 pub trace_failed : (files after : Option FileMap) (load_fault narrow wide : Type 0) (hex pads : List ℕ) (irq : Response) (clocks : ℕ)

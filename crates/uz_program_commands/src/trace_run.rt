@@ -14,7 +14,7 @@ use crate::trace_command::{RunEnd, ending_of, print_run};
 use std::alloc::{AllocError, Global};
 use uz_cert::Response;
 use uz_console::Console;
-use uz_files::{Status, end_with, give_up, put_no_memory};
+use uz_files::{Status, end_with, give_up};
 use uz_outcomes::reset_console;
 use uz_shelf::{Shelf, Sink, WriteError};
 
@@ -28,7 +28,7 @@ fn end_run<K: Sink>(alloc: Global, out: &mut K, clocks: u32, run_end: RunEnd) ->
 {
     match ending_of(alloc, clocks, run_end) {
         Ok(ending) => end_with(alloc, out, &ending),
-        Err(AllocError) => put_no_memory(alloc, out),
+        Err(AllocError) => Status::NoMemory,
     }
 }
 
@@ -43,7 +43,7 @@ fn trace_on<K: Sink>(alloc: Global, console: &mut Console, clocks: u32, out: &mu
     match print_run(alloc, console, clocks as u64, out) {
         Ok(run_end) => end_run(alloc, out, clocks, run_end),
         Err(WriteError::Failed) => Status::Unwritten,
-        Err(WriteError::Memory) => put_no_memory(alloc, out),
+        Err(WriteError::Memory) => Status::NoMemory,
     }
 }
 

@@ -20,7 +20,7 @@ use crate::listening::{Heard, listen};
 use crate::wave_file::{samples, write_wave};
 use std::alloc::{AllocError, Global};
 use uz_console::Console;
-use uz_files::{Ending, Failure, Status, end_with, give_up, put_no_memory};
+use uz_files::{Ending, Failure, Status, end_with, give_up};
 use uz_outcomes::{reset_console, stopped};
 use uz_report::Wave;
 use uz_schedule::Response;
@@ -111,7 +111,7 @@ fn write_and_tell<H: Shelf, K: Sink>(
             end_with(alloc, out, &ending)
         }
         Err(WriteError::Failed) => Status::Unwritten,
-        Err(WriteError::Memory) => put_no_memory(alloc, out),
+        Err(WriteError::Memory) => Status::NoMemory,
     }
 }
 

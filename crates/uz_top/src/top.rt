@@ -31,7 +31,7 @@ fn end_usage<K: Sink>(alloc: Global, out: &mut K) -> Status
         alloc,
         out,
         Status::Usage,
-        b"usage: uzebox asm, dis, trace, certify, check, play, demo, migrate, expand, build, debug, report, wave\n",
+        b"usage: uzebox asm, dis, trace, certify, check, play, demo, migrate, expand, build, debug, report, wave, help, version\n",
     )
 }
 

@@ -1,12 +1,13 @@
 use Rattle.std.proofs.Common.{◌⊎◌, ap, inl, inr, refl, subst, Ok, Err}
 use Rattle.uz_shelf.specs.Faults.{Rose}
-use Rattle.uz_files.specs.declared.status.Status.TheVariants.{Refused, Unwritten}
+use Rattle.uz_files.specs.declared.status.Status.TheVariants.{NoMemory, Refused, Unwritten}
 use Rattle.uz_files.specs.Answers.{WritesAll, WritesPart}
 use Rattle.uz_certificate_commands.specs.CertifyValues.{IsFound, both_files}
 use Rattle.uz_certificate_commands.proofs.CertifyLemmas.{certify_done, certify_failed, certify_lacks, certify_refused, certify_unwritten}
 use Rattle.uz_certificate_commands.proofs.CertifyLemmas.{certify_worth}
 use Rattle.uz_files.proofs.EndingLemmas.{holds_if_done}
 use Rattle.uz_files.proofs.FaultLemmas.{rose_same}
+use Rattle.uz_files.proofs.TextLemmas.{takes_none}
 use Rattle.uz_certificate_commands.proofs.certify_command.run_certify.Goals as goal
 
 pub returns-in-Err-clause-outcome : goal.returns-in-Err-clause-outcome
@@ -77,11 +78,10 @@ returns-clause-outcome g c =
     c.args.cert.now t) (g.H.Shelf.files c.write_both.new.shelf)) c.as_slice-in-Pair.ensures.value first in
     certify_lacks (g.H.Shelf.files c.args.shelf.now) (g.H.Shelf.files c.prepare.new.shelf) (g.H.Shelf.files c.write_both.new.shelf) _
     c.args.source.now c.args.irq c.args.hex.now c.args.cert.now c.in-Pair.hex_bytes.items c.in-Pair.cert_bytes.items
-    c.in-Pair.line.items c.put_no_memory.result c.prepare.ensures.files given.output given.spelled pair
+    c.in-Pair.line.items NoMemory c.prepare.ensures.files given.output given.spelled pair
     (Rose (g.H.Shelf.write_faults c.args.shelf.now) (g.H.Shelf.write_faults c.write_both.new.shelf) ⊎ Rose (g.K.Sink.faults c.args.out.now)
-    (g.K.Sink.faults c.put_no_memory.new.out))
-    (g.K.Sink.text c.args.out.now) (g.K.Sink.text c.put_no_memory.new.out) c.put_no_memory.ensures.status c.put_no_memory.ensures.text
-    written
+    (g.K.Sink.faults c.args.out.now))
+    (g.K.Sink.text c.args.out.now) (g.K.Sink.text c.args.out.now) refl (takes_none (g.K.Sink.text c.args.out.now)) written
 
 pub returns-in-Err-clause-certified : goal.returns-in-Err-clause-certified
 returns-in-Err-clause-certified g c = λ done apart. holds_if_done _ (Err c.in-Err.failure) c.give_up.result _ _ _ tt

@@ -1,3 +1,5 @@
+use Rattle.std.proofs.Common.{refl}
+use Rattle.uz_files.specs.declared.status.Status.TheVariants.{NoMemory}
 use Rattle.uz_files.proofs.PrintedLemmas.{comes_ended, lacks_after}
 use Rattle.uz_certificate_commands.proofs.demo_run.end_demo.Goals as goal
 
@@ -7,4 +9,4 @@ returns-in-Ok-clause-comes g c = λ printed files old before.
 
 pub returns-in-Err-clause-comes : goal.returns-in-Err-clause-comes
 returns-in-Err-clause-comes g c = λ printed files old before.
-    lacks_after printed _ _ c.put_no_memory.result _ files old _ _ before c.put_no_memory.ensures.status c.put_no_memory.ensures.text
+    lacks_after printed _ _ NoMemory _ files old _ before refl

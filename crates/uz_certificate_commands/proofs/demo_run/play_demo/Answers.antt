@@ -1,5 +1,6 @@
 use Rattle.std.proofs.Common.{ap, refl}
 use Rattle.std.specs.Prelude.{Err}
+use Rattle.uz_files.specs.declared.status.Status.TheVariants.{NoMemory}
 use Rattle.uz_files.proofs.FaultLemmas.{rose_later}
 use Rattle.uz_certificate_commands.proofs.DemoLemmas.{put_failed, put_lacks, run_after}
 use Rattle.uz_certificate_commands.proofs.demo_run.play_demo.Goals as goal
@@ -17,5 +18,4 @@ returns-in-Err-Failed-clause-outcome g c = λ start files stands.
 
 pub returns-in-Err-Memory-clause-outcome : goal.returns-in-Err-Memory-clause-outcome
 returns-in-Err-Memory-clause-outcome g c = λ start files stands.
-    put_lacks c.args.line.now c.args.cert start _ c.put_no_memory.result files _ _ _ c.put_no_memory.ensures.status
-    c.in-Err-Memory.ensures.err c.put_no_memory.ensures.text
+    put_lacks c.args.line.now c.args.cert start _ NoMemory files _ (g.K.Sink.text c.put.new.self) _ refl c.in-Err-Memory.ensures.err

@@ -1,3 +1,6 @@
+use Rattle.std.proofs.Common.{refl}
+use Rattle.uz_files.specs.declared.status.Status.TheVariants.{NoMemory}
+use Rattle.uz_files.proofs.TextLemmas.{takes_none}
 use Rattle.uz_outcomes.proofs.RunLemmas.{comes_of_ending, lacks_text}
 use Rattle.uz_certificate_commands.proofs.play_run.end_play.Goals as goal
 
@@ -7,4 +10,4 @@ returns-in-Ok-clause-comes g c = λ frames edges old new written.
 
 pub returns-in-Err-clause-comes : goal.returns-in-Err-clause-comes
 returns-in-Err-clause-comes g c = λ frames edges old new written.
-    lacks_text frames edges _ _ old new written _ _ _ _ c.put_no_memory.ensures.status c.put_no_memory.ensures.text
+    lacks_text frames edges _ _ old new written _ NoMemory _ _ refl (takes_none (g.K.Sink.text c.args.out.now))

@@ -1,4 +1,6 @@
 use Rattle.std.proofs.Common.{ap, inl, inr, refl, Err}
+use Rattle.uz_files.specs.declared.status.Status.TheVariants.{NoMemory}
+use Rattle.uz_files.proofs.TextLemmas.{takes_none}
 use Rattle.uz_outcomes.proofs.RunLemmas.{run_captured, run_lacks, run_unwritten}
 use Rattle.uz_certificate_commands.proofs.play_run.play_on.Goals as goal
 
@@ -14,5 +16,5 @@ returns-in-Err-Failed-clause-outcome g c = λ start stands.
 
 pub returns-in-Err-Memory-clause-outcome : goal.returns-in-Err-Memory-clause-outcome
 returns-in-Err-Memory-clause-outcome g c = λ start stands.
-    run_lacks c.args.cert c.args.clocks.count start _ _ c.args.frames.now _ c.put_no_memory.result _ _
-    (c.in-Err-Memory.ensures.err start stands) c.put_no_memory.ensures.status c.put_no_memory.ensures.text
+    run_lacks c.args.cert c.args.clocks.count start _ _ c.args.frames.now _ NoMemory _ _
+    (c.in-Err-Memory.ensures.err start stands) refl (takes_none (g.K.Sink.text c.args.out.now))

@@ -1,4 +1,5 @@
 use Rattle.std.proofs.Common.{refl}
+use Rattle.uz_files.specs.declared.status.Status.TheVariants.{NoMemory}
 use Rattle.uz_files.proofs.EndingLemmas.{comes_done, comes_without_memory}
 use Rattle.uz_files.proofs.ending.end_fault.Goals as goal
 
@@ -7,5 +8,4 @@ returns-in-Ok-clause-comes g c = λ files. comes_done c.args.status c.args.statu
 
 pub returns-in-Err-Memory-clause-comes : goal.returns-in-Err-Memory-clause-comes
 returns-in-Err-Memory-clause-comes g c = λ files.
-    comes_without_memory c.args.status c.put_no_memory.result c.args.line.now _ files _ _ _ c.put_no_memory.ensures.status
-    c.in-Err-Memory.ensures.err c.put_no_memory.ensures.text
+    comes_without_memory c.args.status NoMemory c.args.line.now _ files _ _ refl c.in-Err-Memory.ensures.err

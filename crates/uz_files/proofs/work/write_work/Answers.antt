@@ -2,6 +2,8 @@ use Rattle.std.proofs.Common.{◌⊎◌, ap, inl, inr, refl, subst, Err}
 use Rattle.uz_shelf.specs.Faults.{Rose}
 use Rattle.uz_files.specs.Answers.{WritesFile}
 use Rattle.uz_files.specs.Writing.{WritesSome}
+use Rattle.uz_files.specs.declared.status.Status.TheVariants.{NoMemory}
+use Rattle.uz_files.proofs.TextLemmas.{takes_none}
 use Rattle.uz_files.proofs.WorkLemmas.{work_cut, work_done, work_lacks}
 use Rattle.uz_files.proofs.work.write_work.Goals as goal
 
@@ -28,10 +30,10 @@ pub returns-clause-outcome : goal.returns-clause-outcome
 returns-clause-outcome g c =
     let part = subst (λ bytes. WritesSome (g.H.Shelf.files c.args.shelf.now) c.args.name.now bytes (g.H.Shelf.files c.write_file.new.shelf))
     c.as_slice.ensures.value c.in-Err-Memory.ensures.err in
-    work_lacks (g.H.Shelf.files c.args.shelf.now) (g.H.Shelf.files c.write_file.new.shelf) c.args.name.now c.args.work c.put_no_memory.result
+    work_lacks (g.H.Shelf.files c.args.shelf.now) (g.H.Shelf.files c.write_file.new.shelf) c.args.name.now c.args.work NoMemory
     (Rose (g.H.Shelf.write_faults c.args.shelf.now) (g.H.Shelf.write_faults c.write_file.new.shelf) ⊎ Rose (g.K.Sink.faults c.args.out.now)
-    (g.K.Sink.faults c.put_no_memory.new.out))
-    (g.K.Sink.text c.args.out.now) (g.K.Sink.text c.put_no_memory.new.out) c.put_no_memory.ensures.status c.put_no_memory.ensures.text part
+    (g.K.Sink.faults c.args.out.now))
+    (g.K.Sink.text c.args.out.now) (g.K.Sink.text c.args.out.now) refl (takes_none (g.K.Sink.text c.args.out.now)) part
 
 pub returns-in-Ok-clause-written : goal.returns-in-Ok-clause-written
 returns-in-Ok-clause-written g c = λ done.

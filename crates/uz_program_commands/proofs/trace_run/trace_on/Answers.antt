@@ -1,4 +1,5 @@
 use Rattle.std.proofs.Common.{ap, inr, refl, Err}
+use Rattle.uz_files.specs.declared.status.Status.TheVariants.{NoMemory}
 use Rattle.uz_files.proofs.FaultLemmas.{rose_later}
 use Rattle.uz_program_commands.proofs.TraceAnswerLemmas.{trace_lacks, trace_outcome, trace_unwritten}
 use Rattle.uz_program_commands.proofs.trace_run.trace_on.Goals as goal
@@ -17,5 +18,4 @@ returns-in-Err-Failed g c = λ files after load_old load_new write_old write_new
 
 pub returns-in-Err-Memory : goal.returns-in-Err-Memory
 returns-in-Err-Memory g c = λ files after load_old load_new write_old write_new hex pads irq same starts.
-    trace_lacks files after _ _ hex pads irq c.args.clocks c.args.console.now c.put_no_memory.result _ _ _ same
-    c.put_no_memory.ensures.status c.put_no_memory.ensures.text starts c.in-Err-Memory.ensures.err
+    trace_lacks files after _ _ hex pads irq c.args.clocks c.args.console.now NoMemory _ _ same refl starts c.in-Err-Memory.ensures.err

@@ -1,6 +1,7 @@
 use Rattle.std.proofs.Common.{[], ◌∷◌, ap, inl, inr, refl, Err}
-use Rattle.uz_files.specs.declared.status.Status.TheVariants.{Done}
+use Rattle.uz_files.specs.declared.status.Status.TheVariants.{Done, NoMemory}
 use Rattle.uz_files.proofs.EndingLemmas.{comes_by}
+use Rattle.uz_files.proofs.TextLemmas.{takes_none}
 use Rattle.uz_files.proofs.WriteLemmas.{comes_after_files, files_cut, files_lack, part_written}
 use Rattle.uz_report.specs.Waves.{wave_of}
 use Rattle.uz_scan.specs.Pictures.{newest_first}
@@ -24,7 +25,7 @@ returns-in-Err-Failed-clause-comes g c = λ edges holds.
 
 pub returns-clause-comes : goal.returns-clause-comes
 returns-clause-comes g c = λ edges holds.
-    files_lack (wave_file c.args.wav.now edges ∷ []) Done _ c.args.line.items _ (g.H.Shelf.files c.args.shelf.now)
-    (g.H.Shelf.files c.write_wave.new.shelf) _ _ c.put_no_memory.ensures.status c.put_no_memory.ensures.text
+    files_lack (wave_file c.args.wav.now edges ∷ []) Done NoMemory c.args.line.items _ (g.H.Shelf.files c.args.shelf.now)
+    (g.H.Shelf.files c.write_wave.new.shelf) _ _ refl (takes_none (g.K.Sink.text c.args.out.now))
     (part_written c.args.wav.now (wave_of edges) (g.H.Shelf.files c.args.shelf.now) (g.H.Shelf.files c.write_wave.new.shelf)
     (c.in-Err-Memory.ensures.err (newest_first edges) holds))
