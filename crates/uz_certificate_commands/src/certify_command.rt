@@ -133,6 +133,7 @@ pub fn run_certify<H: Shelf, K: Sink>(
         result (outside (H.files shelf.old) (K.text out.old)) (outside (H.files shelf.new) (K.text out.new)) }
     ensures certified { result ≡ Status.Done → hex.now ≢ cert.now
         → FilesCertify (H.files shelf.old) (H.files shelf.new) source.now irq hex.now cert.now }
+    ensures faults { K.faults out.old ≤ K.faults out.new }
 {
     soundness();
     text_is_unique();

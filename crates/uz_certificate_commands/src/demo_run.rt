@@ -134,6 +134,7 @@ pub fn run_demo<K: Sink>(alloc: Global, number: u16, out: &mut K) -> Status
         (outside files (K.text out.new)) }
     ensures played { result ≡ Status.Done → DemoPlayed number }
     ensures halted { result ≡ Status.Stopped → DemoHalted number }
+    ensures faults { K.faults out.old ≤ K.faults out.new }
 {
     soundness();
     played_runs_keep();

@@ -67,6 +67,7 @@ pub fn run_migrate<H: Shelf, K: Sink>(
         (Rose (H.write_faults shelf.old) (H.write_faults shelf.new) ⊎ Rose (K.faults out.old) (K.faults out.new))
         result (outside (H.files shelf.old) (K.text out.old)) (outside (H.files shelf.new) (K.text out.new)) }
     ensures migrated { result ≡ Status.Done → FilesMigrated (H.files shelf.old) (H.files shelf.new) older.now newer.now }
+    ensures faults { K.faults out.old ≤ K.faults out.new }
 {
     let work = prepare(alloc, shelf, older);
     finish_work(alloc, newer, work, shelf, out)

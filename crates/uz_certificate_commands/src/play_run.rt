@@ -59,6 +59,7 @@ fn play_on<H: Shelf, K: Sink>(
         result (outside (H.files shelf.old) (K.text out.old)) (outside (H.files shelf.new) (K.text out.new)) }
     ensures load_faults { H.load_faults shelf.new ≡ H.load_faults shelf.old }
     ensures write_faults { H.write_faults shelf.old ≤ H.write_faults shelf.new }
+    ensures faults { K.faults out.old ≤ K.faults out.new }
 {
     match capture(alloc, console, cert, clocks.count, frames, shelf) {
         Ok(captured) => end_play(alloc, out, captured),
@@ -86,6 +87,7 @@ pub fn run_play<H: Shelf, K: Sink>(
         result (outside (H.files shelf.old) (K.text out.old)) (outside (H.files shelf.new) (K.text out.new)) }
     ensures played { result ≡ Status.Done → FilesPlayed (H.files shelf.old) hex.now cert.now pads.now clocks.count }
     ensures halted { result ≡ Status.Stopped → FilesHalted (H.files shelf.old) hex.now cert.now pads.now clocks.count }
+    ensures faults { K.faults out.old ≤ K.faults out.new }
 {
     played_runs_keep();
     let start = match start_play(alloc, shelf, hex, cert, pads) {

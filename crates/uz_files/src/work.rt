@@ -1,6 +1,6 @@
 //! How a command ends that creates one file and prints one line.
 
-ghost use Rattle.std.specs.Prelude.{◌≡◌, ◌⊎◌};
+ghost use Rattle.std.specs.Prelude.{◌≤◌, ◌≡◌, ◌⊎◌};
 ghost use Rattle.uz_shelf.specs.Faults.{Rose};
 ghost use Rattle.uz_files.specs.Answers.{MayCome, NoPart, WritesFile, outside};
 ghost use Rattle.uz_files.specs.Writing.{IsAnswerOf, WritesWork, answer_of_work};
@@ -31,6 +31,7 @@ fn write_work<H: Shelf, K: Sink>(
         result (outside (H.files shelf.old) (K.text out.old)) (outside (H.files shelf.new) (K.text out.new)) }
     ensures written { result ≡ Status.Done → WritesFile (H.files shelf.old) name.now work.text.items (H.files shelf.new) }
     ensures load_faults { H.load_faults shelf.new ≡ H.load_faults shelf.old }
+    ensures faults { K.faults out.old ≤ K.faults out.new }
 {
     match write_file(alloc, shelf, name, work.text.as_slice()) {
         Ok(()) => {
@@ -59,6 +60,7 @@ pub fn finish_work<H: Shelf, K: Sink>(
         result (outside (H.files shelf.old) (K.text out.old)) (outside (H.files shelf.new) (K.text out.new)) }
     ensures written { result ≡ Status.Done → WritesWork (H.files shelf.old) name.now prepared (H.files shelf.new) }
     ensures load_faults { H.load_faults shelf.new ≡ H.load_faults shelf.old }
+    ensures faults { K.faults out.old ≤ K.faults out.new }
 {
     match prepared {
         Ok(work) => write_work(alloc, name, work, shelf, out),

@@ -49,6 +49,7 @@ pub fn run_asm<H: Shelf, K: Sink>(
         (Rose (H.write_faults shelf.old) (H.write_faults shelf.new) ⊎ Rose (K.faults out.old) (K.faults out.new))
         result (outside (H.files shelf.old) (K.text out.old)) (outside (H.files shelf.new) (K.text out.new)) }
     ensures assembled { result ≡ Status.Done → FilesAssembled (H.files shelf.old) (H.files shelf.new) source.now hex.now }
+    ensures faults { K.faults out.old ≤ K.faults out.new }
 {
     let work = prepare(alloc, shelf, source);
     finish_work(alloc, hex, work, shelf, out)

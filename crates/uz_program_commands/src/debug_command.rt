@@ -99,6 +99,7 @@ pub fn run_debug<H: Shelf, K: Sink>(
         (Rose (H.write_faults shelf.old) (H.write_faults shelf.new) ⊎ Rose (K.faults out.old) (K.faults out.new))
         result (outside (H.files shelf.old) (K.text out.old)) (outside (H.files shelf.new) (K.text out.new)) }
     ensures files { H.files shelf.new ≡ H.files shelf.old }
+    ensures faults { K.faults out.old ≤ K.faults out.new }
 {
     let debugged = debug_files(alloc, shelf, hex, pads, irq, script);
     finish(alloc, out, debugged)

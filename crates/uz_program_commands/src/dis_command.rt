@@ -31,6 +31,7 @@ pub fn run_dis<H: Shelf, K: Sink>(alloc: Global, hex: &str, shelf: &mut H, out: 
         (Rose (H.write_faults shelf.old) (H.write_faults shelf.new) ⊎ Rose (K.faults out.old) (K.faults out.new))
         result (outside (H.files shelf.old) (K.text out.old)) (outside (H.files shelf.new) (K.text out.new)) }
     ensures files { H.files shelf.new ≡ H.files shelf.old }
+    ensures faults { K.faults out.old ≤ K.faults out.new }
 {
     let listed = list_file(alloc, shelf, hex);
     finish(alloc, out, listed)

@@ -144,10 +144,11 @@ pub fn run_expand<H: Shelf, K: Sink>(
     shelf: &mut H,
     out: &mut K,
 ) -> Status
-    ensures { MayCome (ExpandAnswers (H.files shelf.old)
+    ensures outcome { MayCome (ExpandAnswers (H.files shelf.old)
         (Rose (H.load_faults shelf.old) (H.load_faults shelf.new)) source.now file.now) NoPart
         (Rose (H.write_faults shelf.old) (H.write_faults shelf.new) ⊎ Rose (K.faults out.old) (K.faults out.new))
         result (outside (H.files shelf.old) (K.text out.old)) (outside (H.files shelf.new) (K.text out.new)) }
+    ensures faults { K.faults out.old ≤ K.faults out.new }
 {
     let work = prepare_expansion(alloc, shelf, source, file);
     finish_work(alloc, file, work, shelf, out)
@@ -166,6 +167,7 @@ pub fn run_build<H: Shelf, K: Sink>(
         (Rose (H.write_faults shelf.old) (H.write_faults shelf.new) ⊎ Rose (K.faults out.old) (K.faults out.new))
         result (outside (H.files shelf.old) (K.text out.old)) (outside (H.files shelf.new) (K.text out.new)) }
     ensures built { result ≡ Status.Done → FilesBuilt (H.files shelf.old) (H.files shelf.new) source.now hex.now }
+    ensures faults { K.faults out.old ≤ K.faults out.new }
 {
     let work = prepare_build(alloc, shelf, source, hex);
     finish_work(alloc, hex, work, shelf, out)

@@ -34,11 +34,12 @@ fn end_run<K: Sink>(alloc: Global, out: &mut K, clocks: u32, run_end: RunEnd) ->
 
 /// Prints a run from reset, and the line that ends it.
 fn trace_on<K: Sink>(alloc: Global, console: &mut Console, clocks: u32, out: &mut K) -> Status
-    ensures { (files after : Option FileMap) (load_old load_new write_old write_new : ℕ) (hex pads : List ℕ) (irq : Response)
+    ensures outcome { (files after : Option FileMap) (load_old load_new write_old write_new : ℕ) (hex pads : List ℕ) (irq : Response)
         → after ≡ files → StartsRun files hex pads irq console.old
         → MayCome (TraceAnswers files (Rose load_old load_new) hex pads irq clocks) (TraceParts files hex pads irq clocks)
         (Rose write_old write_new ⊎ Rose (K.faults out.old) (K.faults out.new))
         result (outside files (K.text out.old)) (outside after (K.text out.new)) }
+    ensures faults { K.faults out.old ≤ K.faults out.new }
 {
     match print_run(alloc, console, clocks as u64, out) {
         Ok(run_end) => end_run(alloc, out, clocks, run_end),
@@ -63,6 +64,7 @@ pub fn run_trace<H: Shelf, K: Sink>(
         (Rose (H.write_faults shelf.old) (H.write_faults shelf.new) ⊎ Rose (K.faults out.old) (K.faults out.new))
         result (outside (H.files shelf.old) (K.text out.old)) (outside (H.files shelf.new) (K.text out.new)) }
     ensures files { H.files shelf.new ≡ H.files shelf.old }
+    ensures faults { K.faults out.old ≤ K.faults out.new }
 {
     match reset_console(alloc, shelf, hex, pads, irq) {
         Ok(mut console) => trace_on(alloc, &mut console, clocks, out),

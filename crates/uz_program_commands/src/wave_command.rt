@@ -101,6 +101,7 @@ fn write_and_tell<H: Shelf, K: Sink>(
         ⊎ Rose (K.faults out.old) (K.faults out.new))
         result (outside (H.files shelf.old) (K.text out.old)) (outside (H.files shelf.new) (K.text out.new)) }
     ensures load_faults { H.load_faults shelf.new ≡ H.load_faults shelf.old }
+    ensures faults { K.faults out.old ≤ K.faults out.new }
 {
     match write_wave(alloc, shelf, wav, wave) {
         Ok(()) => {
@@ -133,6 +134,7 @@ pub fn run_wave<H: Shelf, K: Sink>(
         result (outside (H.files shelf.old) (K.text out.old)) (outside (H.files shelf.new) (K.text out.new)) }
     ensures heard { result ≡ Status.Done → FilesHeard (H.files shelf.old) (H.files shelf.new) hex.now pads.now irq clocks wav.now }
     ensures stopped { result ≡ Status.Stopped → H.files shelf.new ≡ H.files shelf.old }
+    ensures faults { K.faults out.old ≤ K.faults out.new }
 {
     let task = match prepare(alloc, shelf, hex, pads, irq, clocks) {
         Ok(task) => task,

@@ -4,8 +4,8 @@ use Rattle.uz_program_commands.specs.MacroCommands.{ExpandAnswers, IsExpanded}
 use Rattle.uz_program_commands.proofs.MacroLemmas.{macro_prepared}
 use Rattle.uz_program_commands.proofs.macro_commands.run_expand.Goals as goal
 
-pub returns : goal.returns
-returns g c =
+pub returns-clause-outcome : goal.returns-clause-outcome
+returns-clause-outcome g c =
     let files = g.H.Shelf.files c.args.shelf.now in
     let loads = g.H.Shelf.load_faults c.args.shelf.now in
     finished (λ n. ExpandAnswers files (Rose loads n) c.args.source.now c.args.file.now) c.args.file.now c.prepare_expansion-work.result files

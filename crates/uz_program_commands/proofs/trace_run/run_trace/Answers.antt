@@ -4,7 +4,7 @@ use Rattle.uz_program_commands.proofs.trace_run.run_trace.Goals as goal
 
 pub returns-in-Ok-clause-outcome : goal.returns-in-Ok-clause-outcome
 returns-in-Ok-clause-outcome g c =
-    c.trace_on.ensures _ _ _ _ _ _ c.args.hex.now c.args.pads.now c.args.irq c.reset_console.ensures.files c.in-Ok.ensures.starts
+    c.trace_on.ensures.outcome _ _ _ _ _ _ c.args.hex.now c.args.pads.now c.args.irq c.reset_console.ensures.files c.in-Ok.ensures.starts
 
 pub returns-in-Err-clause-outcome : goal.returns-in-Err-clause-outcome
 returns-in-Err-clause-outcome g c =
