@@ -6,6 +6,8 @@ use Rattle.std.specs.declared.string.String.{String}
 use Rattle.std.specs.declared.alloc.Global.{Global}
 use Rattle.uz_text.specs.Numbers.{number_below, number_within}
 use Rattle.uz_schedule.specs.declared.kinds.Response.{Response}
+use Rattle.uz_help.specs.Topics.{text_of}
+use Rattle.uz_top.specs.Words.{help_words, prints, version_words}
 use Rattle.uz_top.specs.Words.{Command, Asm, Build, Check, Expand, Migrate, Report, WritesApart, asm_words, build_words, certify_with}
 use Rattle.uz_top.specs.Words.{certify_words, migrate_words, report_words, wave_with, wave_words}
 use Rattle.uz_top.specs.Words.{check_words, command_of, debug_with, debug_words, demo_with, demo_words, dis_words, expand_words, play_with}
@@ -154,10 +156,29 @@ wave_apart (a ∷ b ∷ c ∷ d ∷ e ∷ []) =
     (wave_with_apart a b (response_of c) (number_within 1 1000000001 d) e)
 wave_apart (a ∷ b ∷ c ∷ d ∷ e ∷ f ∷ words) = tt
 
+prints_apart : (text : Option (List ℕ)) → Apart (prints text)
+prints_apart (Some text) = tt
+prints_apart None = tt
+
+help_apart : (words : List (List ℕ)) → Apart (help_words words)
+help_apart [] = tt
+help_apart (a ∷ []) = prints_apart (text_of a)
+help_apart (a ∷ b ∷ words) = tt
+
+version_apart : (words : List (List ℕ)) → Apart (version_words words)
+version_apart [] = tt
+version_apart (a ∷ words) = tt
+
 -- the commands from one of them on, in the order in which the first word is compared
 
+abbrev from_version : List ℕ → List (List ℕ) → Option Command
+from_version verb words = if bytes_eq verb (codes "version") then version_words words else None
+
+abbrev from_help : List ℕ → List (List ℕ) → Option Command
+from_help verb words = if bytes_eq verb (codes "help") then help_words words else from_version verb words
+
 abbrev from_wave : List ℕ → List (List ℕ) → Option Command
-from_wave verb words = if bytes_eq verb (codes "wave") then wave_words words else None
+from_wave verb words = if bytes_eq verb (codes "wave") then wave_words words else from_help verb words
 
 abbrev from_report : List ℕ → List (List ℕ) → Option Command
 from_report verb words = if bytes_eq verb (codes "report") then report_words words else from_wave verb words
@@ -207,7 +228,9 @@ command_apart (verb ∷ words) =
     (by_test (bytes_eq verb (codes "demo")) (demo_words words) (from_migrate verb words) (demo_apart words)
     (by_test (bytes_eq verb (codes "migrate")) (migrate_words words) (from_report verb words) (migrate_apart words)
     (by_test (bytes_eq verb (codes "report")) (report_words words) (from_wave verb words) (report_apart words)
-    (by_test (bytes_eq verb (codes "wave")) (wave_words words) None (wave_apart words) tt))))))))))))
+    (by_test (bytes_eq verb (codes "wave")) (wave_words words) (from_help verb words) (wave_apart words)
+    (by_test (bytes_eq verb (codes "help")) (help_words words) (from_version verb words) (help_apart words)
+    (by_test (bytes_eq verb (codes "version")) (version_words words) None (version_apart words) tt))))))))))))))
 
 -- what holds of the command where the names of its files differ
 pub holds_apart : (words : List (String Global)) (c : Command) (holds : Command → Type 0) → Some c ≡ command_of (map string_bytes words)

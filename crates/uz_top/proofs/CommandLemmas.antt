@@ -1,5 +1,5 @@
 -- What holds of every command.
-use Rattle.std.proofs.Common.{◌≡◌, ◌≢◌, ◌⊎◌, inl, inr, sym, subst, ap, ◌∙◌}
+use Rattle.std.proofs.Common.{◌≡◌, ◌≢◌, ◌⊎◌, inl, inr, ℕ, List, refl, sym, subst, ap, ◌∙◌}
 use Rattle.std.specs.Prelude.{Option, Some, None, IfSome, Result, Err}
 use Rattle.uz_shelf.specs.Files.{FileMap}
 use Rattle.uz_schedule.specs.declared.certificate.Cert.{Cert}
@@ -7,11 +7,11 @@ use Rattle.uz_search.specs.declared.found.NotFound.{NotFound}
 use Rattle.uz_search.specs.declared.found.NotFound.TheVariants.{Memory as NoRoomToSearch}
 use Rattle.uz_files.specs.declared.status.Status.{Status}
 use Rattle.uz_files.specs.declared.status.Status.TheVariants as status
-use Rattle.uz_files.specs.Answers.{Answer, Ends, Outside, MayCome}
+use Rattle.uz_files.specs.Answers.{Answer, ComesOf, Ends, Outside, MayCome, one_line, outside}
 use Rattle.uz_files.specs.Formats.{Readings}
-use Rattle.uz_top.specs.Words.{Command, Asm, Build, Certify, Check, Debug, Demo, Dis, Expand, Migrate, Play, Report, Trace, Wave}
+use Rattle.uz_top.specs.Words.{Command, Asm, Build, Certify, Check, Debug, Demo, Dis, Expand, Migrate, Play, Prints, Report, Trace, Wave}
 use Rattle.uz_top.specs.Commands.{AllowedFor, Answers, AnswersBy, IsDecided, LacksRead, PartAnswers, Succeeds}
-use Rattle.uz_files.proofs.EndingLemmas.{comes_by}
+use Rattle.uz_files.proofs.EndingLemmas.{comes_by, comes_of_line}
 use Rattle.uz_files.proofs.OutcomeLemmas.{came_from, from_answer, unwritten_by}
 use Rattle.uz_program_commands.proofs.TraceAnswerLemmas.{trace_status, trace_done}
 use Rattle.uz_program_commands.proofs.TraceSameLemmas.{trace_or_fault, trace_same}
@@ -220,6 +220,12 @@ law_of one readings files load_fault (Wave hex pads irq clocks wav) = record {
   done = λ told h loads answer p. let d = wave_done (Some told) hex pads irq clocks wav h in
       done_as load_fault answer d.0 (wave_same readings told load_fault hex pads irq clocks wav answer d.0 p d.1) d.2 loads;
 }
+law_of one readings files load_fault (Prints text) = record {
+  tells = λ answer h. inr (own answer status.Done (ap (λ a. a.status) h) tt);
+  free = λ answer h. inr h;
+  decided = λ told answer p. unsearched told (Prints text) answer tt (λ wanted q. inl (p ∙ sym q));
+  done = λ told h loads answer p. ap (λ a. a.status) p;
+}
 
 -- What follows for every command
 
@@ -332,7 +338,22 @@ pub outcome_at : (k l : Command) (files : Option FileMap) (load_fault write_faul
 outcome_at k l files load_fault write_fault came old new same h = subst (λ c. MayCome (Answers files load_fault c) (PartAnswers files c)
     write_fault came old new) (sym same) h
 
-abbrev Exact : Command → Option FileMap → Type 0 → Type 0 → Status → Outside → Outside → Type 0
+-- a text that the words alone decide
+pub prints_outcome : (k : Command) (text lines : List ℕ) (files : Option FileMap) (load_fault narrow wide : Type 0) (came : Status)
+    (old new : Option (List ℕ)) → k ≡ Prints text → (narrow → wide) → lines ≡ text
+    → ComesOf (one_line status.Done lines) narrow came (outside files old) (outside files new)
+    → MayCome (Answers files load_fault k) (PartAnswers files k) wide came (outside files old) (outside files new)
+prints_outcome k text lines files load_fault narrow wide came old new is widen same comes =
+    outcome_at k (Prints text) files load_fault wide came (outside files old) (outside files new) is
+    (inr (inl (
+      one_line status.Done text,
+      refl,
+      comes_by (one_line status.Done text) came narrow wide (outside files old) (outside files new) widen
+          (comes_of_line status.Done text lines narrow came (outside files old) (outside files new) same comes),
+    )))
+
+-- told files decide the answer, unless memory is lacking or a fault came
+abbrev pub Exact : Command → Option FileMap → Type 0 → Type 0 → Status → Outside → Outside → Type 0
 Exact c files load_fault write_fault came old new =
     IfSome files (λ told. (came ≡ status.NoMemory)
     ⊎ (load_fault ⊎ (((came ≡ status.Unwritten) × write_fault) ⊎ IsDecided files write_fault c came old new)))

@@ -1,5 +1,5 @@
 -- The command of the code as a command of the words.
-use Rattle.uz_top.specs.Words.{Command, Asm, Build, Certify, Check, Debug, Demo, Dis, Expand, Migrate, Play, Report, Trace, Wave}
+use Rattle.uz_top.specs.Words.{Command, Asm, Build, Certify, Check, Debug, Demo, Dis, Expand, Migrate, Play, Prints, Report, Trace, Wave}
 use Rattle.uz_top.specs.declared.command.Command.{Command as CommandValue}
 use Rattle.uz_top.specs.declared.command.Command.TheVariants as value
 
@@ -17,3 +17,4 @@ value_of (value.Demo number) = Demo number
 value_of (value.Migrate older newer) = Migrate older.now newer.now
 value_of (value.Report hex cert) = Report hex.now cert.now
 value_of (value.Wave hex pads irq clocks wav) = Wave hex.now pads.now irq clocks wav.now
+value_of (value.Prints text) = Prints text.now

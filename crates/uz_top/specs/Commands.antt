@@ -1,11 +1,12 @@
 -- What each command answers, and what is asked of its files.
-use Rattle.std.specs.Prelude.{Option, Result}
+use Rattle.std.specs.Prelude.{◌≡◌, Option, Result}
 use Rattle.uz_shelf.specs.Files.{FileMap, LacksFile}
 use Rattle.uz_schedule.specs.declared.certificate.Cert.{Cert}
 use Rattle.uz_search.specs.declared.found.NotFound.{NotFound}
 use Rattle.uz_files.specs.declared.status.Status.{Status}
-use Rattle.uz_files.specs.Answers.{Answer, Ends, NoPart, Outside}
-use Rattle.uz_top.specs.Words.{Command, Asm, Build, Certify, Check, Debug, Demo, Dis, Expand, Migrate, Play, Report, Trace, Wave}
+use Rattle.uz_files.specs.declared.status.Status.TheVariants.{Done}
+use Rattle.uz_files.specs.Answers.{Answer, Ends, NoPart, Outside, one_line}
+use Rattle.uz_top.specs.Words.{Command, Asm, Build, Certify, Check, Debug, Demo, Dis, Expand, Migrate, Play, Prints, Report, Trace, Wave}
 use Rattle.uz_program_commands.specs.TraceCommand.{TraceAnswers, TraceParts}
 use Rattle.uz_outcomes.specs.RunFiles.{RunLacks, RunSucceeds}
 use Rattle.uz_program_commands.specs.MacroCommands.{BuildAnswers, BuildSucceeds, ExpandAnswers, ExpandSucceeds, FilesBuilt}
@@ -38,6 +39,7 @@ Answers files load_fault (Demo number) answer = DemoAnswers number answer
 Answers files load_fault (Migrate older newer) answer = MigrateAnswers files load_fault older newer answer
 Answers files load_fault (Report hex cert) answer = ReportAnswers files load_fault hex cert answer
 Answers files load_fault (Wave hex pads irq clocks wav) answer = WaveAnswers files load_fault hex pads irq clocks wav answer
+Answers files load_fault (Prints text) answer = answer ≡ one_line Done text
 
 -- a file that the command reads isn't there, and all earlier ones are read
 abbrev pub LacksRead : Option FileMap → Command → Type 0
@@ -54,6 +56,7 @@ LacksRead files (Demo number) = ⊥
 LacksRead files (Migrate older newer) = LacksFile files older
 LacksRead files (Report hex cert) = PairLacks files hex cert
 LacksRead files (Wave hex pads irq clocks wav) = RunLacks files hex pads
+LacksRead files (Prints text) = ⊥
 
 -- all that the command reads is there and in its grammar, and what it asks of it holds
 abbrev pub Succeeds : Option FileMap → Command → Type 0
@@ -70,6 +73,7 @@ Succeeds files (Demo number) = DemoSucceeds number
 Succeeds files (Migrate older newer) = MigrateSucceeds files older
 Succeeds files (Report hex cert) = SpellPair files hex cert Accepts
 Succeeds files (Wave hex pads irq clocks wav) = RunSucceeds files hex pads irq clocks
+Succeeds files (Prints text) = Unit {0}
 
 -- the command creates no file
 abbrev pub CreatesNone : Command → Type 0
@@ -86,6 +90,7 @@ CreatesNone (Demo number) = Unit {0}
 CreatesNone (Migrate older newer) = ⊥
 CreatesNone (Report hex cert) = Unit {0}
 CreatesNone (Wave hex pads irq clocks wav) = ⊥
+CreatesNone (Prints text) = Unit {0}
 
 -- what a command is worth where it is done, with the files before it and after it
 abbrev pub Certifies : Option FileMap → Option FileMap → Command → Type 0
@@ -102,6 +107,7 @@ Certifies files new (Demo number) = DemoPlayed number
 Certifies files new (Migrate older newer) = FilesMigrated files new older newer
 Certifies files new (Report hex cert) = FilesReported files hex cert
 Certifies files new (Wave hex pads irq clocks wav) = FilesHeard files new hex pads irq clocks wav
+Certifies files new (Prints text) = Unit {0}
 
 -- what a command tells where it is stopped
 abbrev pub StopTells : Option FileMap → Command → Type 0
@@ -118,6 +124,7 @@ StopTells files (Demo number) = DemoHalted number
 StopTells files (Migrate older newer) = Unit {0}
 StopTells files (Report hex cert) = Unit {0}
 StopTells files (Wave hex pads irq clocks wav) = Unit {0}
+StopTells files (Prints text) = Unit {0}
 
 -- what a command has come to that is cut short in the midst of its work
 abbrev pub PartAnswers : Option FileMap → Command → Answer → Type 0
@@ -134,6 +141,7 @@ PartAnswers files (Demo number) = DemoParts number
 PartAnswers files (Migrate older newer) = NoPart
 PartAnswers files (Report hex cert) = NoPart
 PartAnswers files (Wave hex pads irq clocks wav) = NoPart
+PartAnswers files (Prints text) = NoPart
 
 -- Where the shelf tells its files, they decide the answer, and for `certify` and `demo` an answer of the search does besides, as plain data
 
@@ -151,6 +159,7 @@ AnswersBy files found (Demo number) answer = DemoAnswersBy number found answer
 AnswersBy files found (Migrate older newer) answer = MigrateAnswers files ⊥ older newer answer
 AnswersBy files found (Report hex cert) answer = ReportAnswers files ⊥ hex cert answer
 AnswersBy files found (Wave hex pads irq clocks wav) answer = WaveAnswers files ⊥ hex pads irq clocks wav answer
+AnswersBy files found (Prints text) answer = answer ≡ one_line Done text
 
 -- what the search's promise allows: a certificate that is accepted and as the hints ask, or a refusal whose cause stands
 abbrev pub AllowedFor : Option FileMap → Command → Result Cert NotFound → Type 0
@@ -167,6 +176,7 @@ AllowedFor files (Demo number) found = AllowedOfDemo number found
 AllowedFor files (Migrate older newer) found = Unit {0}
 AllowedFor files (Report hex cert) found = Unit {0}
 AllowedFor files (Wave hex pads irq clocks wav) found = Unit {0}
+AllowedFor files (Prints text) found = Unit {0}
 
 -- it ended with the one answer that they decide
 pub record IsDecided (files : Option FileMap) (write_fault : Type 0) (c : Command) (came : Status) (old new : Outside) : Type 0 where

@@ -4,6 +4,7 @@ use Rattle.std.specs.Prelude.{if◌then◌else◌}
 use Rattle.std.specs.declared.string.String.{String}
 use Rattle.std.specs.declared.alloc.Global.{Global}
 use Rattle.uz_text.specs.Numbers.{number_below, number_within}
+use Rattle.uz_help.specs.Topics.{help_text, text_of, version_text}
 use Rattle.uz_schedule.specs.declared.kinds.Response.{Response}
 use Rattle.uz_schedule.specs.declared.kinds.Response.TheVariants.{Four, Five}
 
@@ -22,6 +23,8 @@ pub data Command : Type 0 where
   Migrate : (older newer : List ℕ) → Command
   Report : (hex cert : List ℕ) → Command
   Wave : (hex pads : List ℕ) → (irq : Response) → (clocks : ℕ) → (wav : List ℕ) → Command
+  -- `help` and `version`: the words alone decide the text
+  Prints : (text : List ℕ) → Command
 
 -- the file words of a command differ
 abbrev pub check_words : List (List ℕ) → Option Command
@@ -116,6 +119,20 @@ wave_words (hex ∷ pads ∷ irq ∷ clocks ∷ wav ∷ []) =
     else wave_with hex pads (response_of irq) (number_within 1 1000000001 clocks) wav
 wave_words other = None
 
+abbrev pub prints : Option (List ℕ) → Option Command
+prints (Some text) = Some (Prints text)
+prints None = None
+
+-- no word, or the name of a command
+abbrev pub help_words : List (List ℕ) → Option Command
+help_words [] = Some (Prints help_text)
+help_words (name ∷ []) = prints (text_of name)
+help_words other = None
+
+abbrev pub version_words : List (List ℕ) → Option Command
+version_words [] = Some (Prints version_text)
+version_words other = None
+
 abbrev pub command_of : List (List ℕ) → Option Command
 command_of [] = None
 command_of (verb ∷ words) =
@@ -132,6 +149,8 @@ command_of (verb ∷ words) =
     else if bytes_eq verb (codes "migrate") then migrate_words words
     else if bytes_eq verb (codes "report") then report_words words
     else if bytes_eq verb (codes "wave") then wave_words words
+    else if bytes_eq verb (codes "help") then help_words words
+    else if bytes_eq verb (codes "version") then version_words words
     else None
 
 -- the words are no command

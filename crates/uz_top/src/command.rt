@@ -6,12 +6,13 @@ ghost use Rattle.uz_text.specs.Numbers.{number_below, number_within as number_fr
 ghost use Rattle.uz_top.specs.Words.{asm_words, build_words, certify_with as certify_with_response, certify_words};
 ghost use Rattle.uz_top.specs.Words.{check_words, command_of, debug_with as debug_with_response, debug_words};
 ghost use Rattle.uz_top.specs.Words.{demo_with as demo_with_number, demo_words, dis_words, expand_words, migrate_words};
-ghost use Rattle.uz_top.specs.Words.{play_with as play_with_clocks, play_words, report_words, response_of};
-ghost use Rattle.uz_top.specs.Words.{trace_with as trace_with_numbers, trace_words};
+ghost use Rattle.uz_top.specs.Words.{help_words, play_with as play_with_clocks, play_words, report_words, response_of};
+ghost use Rattle.uz_top.specs.Words.{trace_with as trace_with_numbers, trace_words, version_words};
 ghost use Rattle.uz_top.specs.Words.{wave_with as wave_with_numbers, wave_words};
 
 use uz_cert::Response;
 use uz_certificate_commands::{Clocks, number_of_clocks};
+use uz_help::{help_text, text_of, version_text};
 use uz_text::{number, number_within};
 
 /// A command, with the names of its files.
@@ -79,6 +80,9 @@ pub(crate) enum Command<'a> {
         clocks: u32,
         wav: &'a str,
     },
+    Prints {
+        text: &'a str,
+    },
 }
 
 /// The command of these words, without the program's name, or `None` where they are no command.
@@ -109,6 +113,8 @@ fn parse_after<'a>(verb: &str, rest: &'a [String]) -> Option<Command<'a>>
         "migrate" => migrate(rest),
         "report" => report(rest),
         "wave" => wave(rest),
+        "help" => help(rest),
+        "version" => version(rest),
         _ => None,
     }
 }
@@ -438,6 +444,32 @@ fn wave(words: &[String]) -> Option<Command<'_>>
                 )
             }
         }
+        _ => None,
+    }
+}
+
+/// `help`, or `help COMMAND`.
+fn help(words: &[String]) -> Option<Command<'_>>
+    ensures { option_map value_of result ≡ help_words (map string_bytes words.now) }
+{
+    match words {
+        [] => Some(Command::Prints { text: help_text() }),
+        [name] => match text_of(name.as_str()) {
+            Some(text) => Some(Command::Prints { text }),
+            None => None,
+        },
+        _ => None,
+    }
+}
+
+/// `version`.
+fn version(words: &[String]) -> Option<Command<'_>>
+    ensures { option_map value_of result ≡ version_words (map string_bytes words.now) }
+{
+    match words {
+        [] => Some(Command::Prints {
+            text: version_text(),
+        }),
         _ => None,
     }
 }

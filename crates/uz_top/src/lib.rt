@@ -5,4 +5,4 @@ mod command;
 mod top;
 
 pub use top::uzebox;
-pub use uz_files::Status;
+pub use uz_files::{Status, put_no_memory};

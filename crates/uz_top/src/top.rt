@@ -1,12 +1,12 @@
 //! The commands behind one call.
 
-ghost use Rattle.std.specs.Prelude.{◌≡◌, ◌⊎◌, IfSome, Option};
+ghost use Rattle.std.specs.Prelude.{◌≤◌, ◌≡◌, ◌⊎◌, IfSome, Option};
 ghost use Rattle.uz_shelf.specs.Faults.{Rose};
 ghost use Rattle.uz_shelf.specs.Files.{FileMap};
-ghost use Rattle.uz_files.specs.Answers.{ComesOf, LoadFault, MayCome, WriteFault, one_line, outside};
+ghost use Rattle.uz_files.specs.Answers.{AndTells, ComesOf, LoadFault, MayCome, WriteFault, one_line, outside};
 ghost use Rattle.uz_top.specs.CommandValues.{value_of};
 ghost use Rattle.uz_top.specs.Commands.{Answers, Certifies, CreatesNone, IsDecided, LacksRead, PartAnswers, StopTells, Succeeds};
-ghost use Rattle.uz_files.specs.Lines.{usage_line};
+ghost use Rattle.uz_help.specs.Topics.{usage_line};
 ghost use Rattle.uz_top.specs.Words.{AreNoCommand, IfCommand, WritesApart};
 
 use crate::command::{Command, parse};
@@ -15,7 +15,8 @@ use std::alloc::Global;
 use uz_certificate_commands::{
     run_certify, run_check, run_demo, run_migrate, run_play, run_report,
 };
-use uz_files::{Status, end_fault, readings_are_unique};
+use uz_files::{Status, end_done, end_fault, put_no_memory, readings_are_unique};
+use uz_help::usage_line;
 use uz_program_commands::{
     run_asm, run_build, run_debug, run_dis, run_expand, run_trace, run_wave,
 };
@@ -26,13 +27,9 @@ fn end_usage<K: Sink>(alloc: Global, out: &mut K) -> Status
     ensures status { (result ≡ Status.Usage) ⊎ (result ≡ Status.NoMemory) }
     ensures comes { (files : Option FileMap) → ComesOf (one_line Status.Usage usage_line) (Rose (K.faults out.old) (K.faults out.new))
         result (outside files (K.text out.old)) (outside files (K.text out.new)) }
+    ensures faults { K.faults out.old ≤ K.faults out.new }
 {
-    end_fault(
-        alloc,
-        out,
-        Status::Usage,
-        b"usage: uzebox asm, dis, trace, certify, check, play, demo, migrate, expand, build, debug, report, wave, help, version\n",
-    )
+    end_fault(alloc, out, Status::Usage, usage_line().as_bytes())
 }
 
 /// Runs a command.
@@ -50,6 +47,7 @@ fn run<H: Shelf, K: Sink>(
         → Certifies (H.files shelf.old) (H.files shelf.new) (value_of command.now) }
     ensures halted { result ≡ Status.Stopped → StopTells (H.files shelf.old) (value_of command.now) }
     ensures untouched { CreatesNone (value_of command.now) → H.files shelf.new ≡ H.files shelf.old }
+    ensures faults { K.faults out.old ≤ K.faults out.new }
 {
     match *command {
         Command::Check { hex, cert } => run_check(alloc, hex, cert, shelf, out),
@@ -92,6 +90,49 @@ fn run<H: Shelf, K: Sink>(
             clocks,
             wav,
         } => run_wave(alloc, hex, pads, irq, clocks, wav, shelf, out),
+        Command::Prints { text } => end_done(alloc, out, text.as_bytes()),
+    }
+}
+
+/// Runs the command that the words are. The line that tells want of memory is the caller's.
+fn answer<H: Shelf, K: Sink>(alloc: Global, words: &[String], shelf: &mut H, out: &mut K) -> Status
+    ensures usage { result ≡ Status.Usage → AreNoCommand words.now }
+    ensures no_command { AreNoCommand words.now → (result ≡ Status.Usage) ⊎ (result ≡ Status.NoMemory) }
+    ensures usage_line { AreNoCommand words.now → ComesOf (one_line Status.Usage usage_line) (Rose (K.faults out.old) (K.faults out.new))
+        result (outside (H.files shelf.old) (K.text out.old)) (outside (H.files shelf.new) (K.text out.new)) }
+    ensures usage_files { AreNoCommand words.now → H.files shelf.new ≡ H.files shelf.old }
+    ensures answered { IfCommand words.now (λ c.
+        MayCome (Answers (H.files shelf.old) (LoadFault (H.load_faults shelf.old) (H.load_faults shelf.new)) c)
+        (PartAnswers (H.files shelf.old) c)
+        (WriteFault (H.write_faults shelf.old) (H.write_faults shelf.new) (K.faults out.old) (K.faults out.new))
+        result (outside (H.files shelf.old) (K.text out.old)) (outside (H.files shelf.new) (K.text out.new))) }
+    ensures exact { IfCommand words.now (λ c. IfSome (H.files shelf.old) (λ files.
+        (result ≡ Status.NoMemory)
+        ⊎ (LoadFault (H.load_faults shelf.old) (H.load_faults shelf.new)
+        ⊎ (((result ≡ Status.Unwritten) × WriteFault (H.write_faults shelf.old) (H.write_faults shelf.new)
+        (K.faults out.old) (K.faults out.new))
+        ⊎ IsDecided (H.files shelf.old) (WriteFault (H.write_faults shelf.old) (H.write_faults shelf.new)
+        (K.faults out.old) (K.faults out.new)) c
+        result (outside (H.files shelf.old) (K.text out.old)) (outside (H.files shelf.new) (K.text out.new)))))) }
+    ensures unread { result ≡ Status.Unread → IfCommand words.now (λ c.
+        LoadFault (H.load_faults shelf.old) (H.load_faults shelf.new) ⊎ LacksRead (H.files shelf.old) c) }
+    ensures unwritten { result ≡ Status.Unwritten →
+        WriteFault (H.write_faults shelf.old) (H.write_faults shelf.new) (K.faults out.old) (K.faults out.new) }
+    ensures complete { IfCommand words.now (λ c. IfSome (H.files shelf.old) (λ files.
+        Succeeds (H.files shelf.old) c
+        → (LoadFault (H.load_faults shelf.old) (H.load_faults shelf.new) → ⊥)
+        → (WriteFault (H.write_faults shelf.old) (H.write_faults shelf.new) (K.faults out.old) (K.faults out.new) → ⊥)
+        → (result ≡ Status.Done) ⊎ (result ≡ Status.NoMemory))) }
+    ensures certified { result ≡ Status.Done → IfCommand words.now (Certifies (H.files shelf.old) (H.files shelf.new)) }
+    ensures halted { result ≡ Status.Stopped → IfCommand words.now (StopTells (H.files shelf.old)) }
+    ensures untouched { IfCommand words.now (λ c. CreatesNone c → H.files shelf.new ≡ H.files shelf.old) }
+    ensures faults { K.faults out.old ≤ K.faults out.new }
+{
+    expansion_is_unique();
+    readings_are_unique();
+    match parse(words) {
+        Some(command) => run(alloc, &command, shelf, out),
+        None => end_usage(alloc, out),
     }
 }
 
@@ -110,16 +151,19 @@ pub fn uzebox<H: Shelf, K: Sink>(
     // unless the sink's count of faults rose or memory was lacking.
     ensures usage { result ≡ Status.Usage → AreNoCommand words.now }
     ensures no_command { AreNoCommand words.now → (result ≡ Status.Usage) ⊎ (result ≡ Status.NoMemory) }
-    ensures usage_line { AreNoCommand words.now → ComesOf (one_line Status.Usage usage_line) (Rose (K.faults out.old) (K.faults out.new))
-        result (outside (H.files shelf.old) (K.text out.old)) (outside (H.files shelf.new) (K.text out.new)) }
+    ensures usage_line { AreNoCommand words.now → AndTells (ComesOf (one_line Status.Usage usage_line) (Rose (K.faults out.old) (K.faults out.new))
+        result (outside (H.files shelf.old) (K.text out.old))) result (Rose (K.faults out.old) (K.faults out.new) ⊎ K.may_lack)
+        (outside (H.files shelf.new) (K.text out.new)) }
     ensures usage_files { AreNoCommand words.now → H.files shelf.new ≡ H.files shelf.old }
 
-    // The status, what was printed and what was written come of an answer that the words and the loaded bytes give.
-    ensures answered { IfCommand words.now (λ c.
-        MayCome (Answers (H.files shelf.old) (LoadFault (H.load_faults shelf.old) (H.load_faults shelf.new)) c)
+    // The status, what was printed and what was written come of an answer that the words and the loaded bytes give. Where memory was
+    // lacking, the line that says so is printed last: whole, unless the sink's count of faults rose, or the sink lacked memory for it.
+    ensures answered { IfCommand words.now (λ c. AndTells
+        (MayCome (Answers (H.files shelf.old) (LoadFault (H.load_faults shelf.old) (H.load_faults shelf.new)) c)
         (PartAnswers (H.files shelf.old) c)
         (WriteFault (H.write_faults shelf.old) (H.write_faults shelf.new) (K.faults out.old) (K.faults out.new))
-        result (outside (H.files shelf.old) (K.text out.old)) (outside (H.files shelf.new) (K.text out.new))) }
+        result (outside (H.files shelf.old) (K.text out.old))) result (Rose (K.faults out.old) (K.faults out.new) ⊎ K.may_lack)
+        (outside (H.files shelf.new) (K.text out.new))) }
 
     // Where the shelf tells its files, they alone decide the answer, for `certify` and `demo` with what the search answered: unless memory
     // is lacking or a fault came.
@@ -154,10 +198,11 @@ pub fn uzebox<H: Shelf, K: Sink>(
     ensures halted { result ≡ Status.Stopped → IfCommand words.now (StopTells (H.files shelf.old)) }
     ensures untouched { IfCommand words.now (λ c. CreatesNone c → H.files shelf.new ≡ H.files shelf.old) }
 {
-    expansion_is_unique();
-    readings_are_unique();
-    match parse(words) {
-        Some(command) => run(alloc, &command, shelf, out),
-        None => end_usage(alloc, out),
+    match answer(alloc, words, shelf, out) {
+        Status::NoMemory => {
+            put_no_memory(alloc, out);
+            Status::NoMemory
+        }
+        status => status,
     }
 }

@@ -2,7 +2,7 @@ use Rattle.std.proofs.Common.{ap, inr, subst, sym}
 use Rattle.uz_top.specs.CommandValues.{value_of}
 use Rattle.uz_top.specs.Commands.{Certifies, CreatesNone}
 use Rattle.uz_top.specs.Words.{WritesApart}
-use Rattle.uz_top.proofs.CommandLemmas.{outcome_at, outcome_wider}
+use Rattle.uz_top.proofs.CommandLemmas.{outcome_at, outcome_wider, prints_outcome}
 use Rattle.uz_top.proofs.top.run.Goals as goal
 
 pub returns-in-Check-clause-outcome : goal.returns-in-Check-clause-outcome
@@ -30,7 +30,7 @@ returns-in-Asm-clause-untouched g c = λ none. absurd (subst CreatesNone (ap val
 
 pub returns-in-Expand-clause-outcome : goal.returns-in-Expand-clause-outcome
 returns-in-Expand-clause-outcome g c = outcome_at (value_of c.args.command.now) _ _ _ _ _ _ _ (ap value_of c.in-Expand.is)
-    c.run_expand.ensures
+    c.run_expand.ensures.outcome
 
 pub returns-in-Expand-clause-untouched : goal.returns-in-Expand-clause-untouched
 returns-in-Expand-clause-untouched g c = λ none. absurd (subst CreatesNone (ap value_of c.in-Expand.is) none)
@@ -104,3 +104,8 @@ pub returns-in-Wave-clause-certified : goal.returns-in-Wave-clause-certified
 returns-in-Wave-clause-certified g c = λ done apart.
     subst (Certifies (g.H.Shelf.files c.args.shelf.now) (g.H.Shelf.files c.run_wave.new.shelf)) (sym (ap value_of c.in-Wave.is))
     (c.run_wave.ensures.heard done)
+
+pub returns-in-Prints-clause-outcome : goal.returns-in-Prints-clause-outcome
+returns-in-Prints-clause-outcome g c =
+    prints_outcome (value_of c.args.command.now) c.in-Prints.text.now _ _ _ _ _ _ _ _ (ap value_of c.in-Prints.is) inr
+    c.as_bytes.ensures.value (c.end_done.ensures.comes (g.H.Shelf.files c.args.shelf.now))
