@@ -5,8 +5,8 @@
 
 UZEBOX is the built program, EXAMPLES the folder `examples/`. For each command, and each request that its run makes, one run
 in which that request fails; of a command with more than 400 the first and the last 100, and 100 between. It looks whether
-the status is that of want of memory, whether what is printed is a part of what the command prints otherwise, with the line
-`no memory` or a part of it after it, and whether each file that it writes is absent or a part of the whole one. Where points
+the status is that of want of memory, whether what is printed is a part of what the command prints otherwise, with the whole
+line `no memory` after it, and whether each file that it writes is absent or a part of the whole one. Where points
 can't be joined for want of memory, `certify` may write another certificate: then `check` has to accept it. Where the words
 of the command line can't be had, the answer is that of no words: the usage line. Prints a line for each command.
 Needs a C compiler (`cc`).
@@ -61,6 +61,7 @@ COMMANDS = [
     'play pulse.hex pulse.cert no-pads.txt 4000 made.frames',
     'debug pulse.hex no-pads.txt 4 script.txt',
     'demo 0',
+    'help',
     'nothing',
 ]
 
@@ -82,8 +83,8 @@ def run(program, shim, folder, words, fail_at):
 
 
 def is_part_with_line(out, whole, line):
-    """A part of the whole, and then a part of the line."""
-    return any(whole.startswith(out[:k]) and line.startswith(out[k:]) for k in range(len(out) + 1))
+    """A part of the whole, and then the line."""
+    return out.endswith(line) and whole.startswith(out[:-len(line)])
 
 
 def is_other_pair(program, folder, words, out, whole, made, files):
@@ -127,7 +128,8 @@ def main():
                 got, out, made, _ = run(program, shim, folder, line.split(), at)
                 statuses[got] = statuses.get(got, 0) + 1
                 parts = all(v is None or (files[n] or b'').startswith(v) for n, v in made.items())
-                fine = is_part_with_line(out, whole, b'no memory\n') and parts and got in (NO_MEMORY, status)
+                fine = is_part_with_line(out, whole, b'no memory\n') and parts and got == NO_MEMORY
+                fine = fine or (got == status and out == whole and parts)
                 fine = fine or (got == USAGE and out == usage)
                 fine = fine or (got == status and is_other_pair(program, folder, line.split(), out, whole, made, files))
                 if not fine:
