@@ -7,6 +7,7 @@
 # PROGRAM is the built program, and the script uzebox beside this folder where none is named. Of the second form of a row
 # standard output is /dev/full, which takes nothing: where a command did its work that is status 5, and a fault keeps its own.
 # Of the third one it is closed, which is status 5 too, and the file that is written is what it is where it's open.
+# At the end: what is read isn't written over, and what standard error says of the statuses 1 and 5.
 # Prints a line for each run that ends otherwise than it should, and at last how many did. Ends with 0 where none did.
 docs=$(dirname -- "$(readlink -f -- "$0")")
 program=$(readlink -f -- "${1:-$docs/../uzebox}")
@@ -188,6 +189,55 @@ prints 3 migrate ring.cert out
 prints 5 migrate loop-ring-1.cert no/such/folder
 can_not_print 5 migrate loop-ring-1.cert out
 writes_unprinted migrate loop-ring-1.cert out
+
+# help, version
+prints 0 help
+prints 0 help wave
+prints 1 help what
+can_not_print 5 help
+prints 0 version
+prints 1 version 1
+can_not_print 5 version
+
+# What is read, or written before, isn't written over: status 5, its name on standard error, and the file as it was. The
+# first word is the file, the last one a name of it
+keeps() {
+    file=$1
+    shift
+    cp "$file" before
+    for name; do :; done
+    prints 5 "$@"
+    if ! cmp -s before "$file" || ! grep -q "^uzebox: $name could not be written$" errors; then
+        wrong=$((wrong + 1))
+        echo "not kept, or not told: $*"
+    fi
+}
+ln -s pulse.asm soft
+ln pulse.asm hard
+printf '.include pulse.asm\n' >includes.asm
+for name in ./pulse.asm "$PWD/pulse.asm" soft hard; do
+    keeps pulse.asm asm pulse.asm "$name"
+    keeps pulse.asm build includes.asm "$name"
+    keeps pulse.asm expand includes.asm "$name"
+done
+rm -f out.hex
+prints 0 asm pulse.asm whole
+prints 5 certify pulse.asm 4 out.hex ./out.hex
+cmp -s whole out.hex || { wrong=$((wrong + 1)) && echo 'certify leaves another image'; }
+for name in /dev/stdout /proc/self/fd/1 standard; do
+    echo before >standard
+    "$program" asm pulse.asm $name >>standard 2>errors
+    came=$?
+    runs=$((runs + 1))
+    if [ "$came" != 5 ] || [ "$(cat standard)" != before ]; then
+        wrong=$((wrong + 1))
+        echo "status $came and not 5, or something is written, to $name as standard output"
+    fi
+done
+[ "$({ "$program" asm pulse.asm /dev/stdout 2>errors; echo $?; } | cat)" = 5 ] || { wrong=$((wrong + 1)) && echo 'a pipe takes both'; }
+prints 0 asm pulse.asm /dev/null
+prints 1
+grep -q '^uzebox: uzebox help prints the words of each command$' errors || { wrong=$((wrong + 1)) && echo 'no word on help'; }
 
 echo "$runs runs, $wrong of them otherwise than they should"
 [ "$wrong" = 0 ]
