@@ -18,7 +18,7 @@
 //!
 //! `count`, `cut` and `change` print for each answer, told by its status and its first and last word, how often it came; and over
 //! all answers in order a sum, whose next value is 31 times it plus the status or the byte of the text that comes next, modulo 2^32.
-//! What `cut` and `change` are to print is worked out by docs/hostile_answers.py.
+//! What `cut` and `change` are to print is worked out by tests/hostile_answers.py.
 //!
 //! Other lines are left out.
 #![tactic(auto)]

@@ -1,13 +1,18 @@
 #!/usr/bin/env python3
 """What uzebox answers to small files that are cut or changed, worked out without it.
 
-    hostile_answers.py <crates/command_cases/stdin
+    hostile_answers.py [print]
 
-reads the script of the program command_cases and prints the lines of its directives `cut` and `change`: how many runs there
-were of each answer, and a sum over all answers in order. The readers below are written from docs/FORMATS.md, SOURCE.md,
-CERTIFICATES.md and MESSAGES.md, each as plainly as its text allows. Of the commands they know what the script's cases need:
-an assembler of LDI, RJMP and JMP, a machine that stands at `rjmp .-2`, and the check of an image without instructions."""
+reads the script `stdin` of the program crates/command_cases, works out the answers of its directives `cut` and `change`, and
+compares them with the lines of its `stdout`: how many runs there were of each answer, and a sum over all answers in order. With
+the word `print` it prints them. command_rows.py compares the same lines with what the program answers. The readers below are
+written from docs/FORMATS.md, SOURCE.md, CERTIFICATES.md and MESSAGES.md, each as plainly as its text allows. Of the commands they
+know what the script's cases need: an assembler of LDI, RJMP and JMP, a machine that stands at `rjmp .-2`, and the check of an
+image without instructions."""
+import os
 import sys
+
+from outcomes import TOP, Outcomes, usage
 
 KEPT = [0, 10, 13, ord('7'), 255]
 
@@ -724,7 +729,8 @@ def run(words, files, changed):
     raise SystemExit('a command that is not known here: ' + words[0])
 
 
-def tell(title, answers):
+def told(title, answers):
+    """The lines of a directive."""
     counts, total, runs = {}, 0, 0
     for status, text in answers:
         words = text.split()
@@ -733,15 +739,13 @@ def tell(title, answers):
         for byte in [status] + list(text.encode()):
             total = (total * 31 + byte) % 2 ** 32
         runs += 1
-    print(title)
-    for key, count in counts.items():
-        print('%d times %s' % (count, key))
-    print('runs %d sum %d' % (runs, total))
+    return '\n'.join([title, *('%d times %s' % (count, key) for key, count in counts.items()), 'runs %d sum %d\n' % (runs, total)])
 
 
-def main():
+def directives(script):
+    """The lines of each directive of a script."""
     files, name = {}, None
-    for line in sys.stdin.buffer.read().split(b'\n'):
+    for line in script.split(b'\n'):
         word, _, rest = line.partition(b' ')
         if line[:1] == b'|':
             files[name] += line[1:] + b'\n'
@@ -757,7 +761,23 @@ def main():
                 texts = [text[:n] for n in range(len(text))]
             else:
                 texts = [text[:n] + bytes([b]) + text[n + 1:] for n in range(len(text)) for b in KEPT]
-            tell(line.decode(), [run(words, {**files, changed: t}, changed) for t in texts])
+            yield told(line.decode(), [run(words, {**files, changed: t}, changed) for t in texts])
+
+
+def main():
+    words = sys.argv[1:]
+    if words not in ([], ['print']):
+        usage(__doc__)
+    cases, outcomes = os.path.join(TOP, 'crates', 'command_cases'), Outcomes()
+    with open(os.path.join(cases, 'stdin'), 'rb') as script, open(os.path.join(cases, 'stdout'), encoding='latin-1') as stored:
+        answers = '\n' + stored.read()
+        for lines in directives(script.read()):
+            if words:
+                print(lines, end='')
+            else:
+                outcomes.tell('\n' + lines in answers, 'the stored answers lack these lines:\n' + lines)
+    if not words:
+        outcomes.end()
 
 
 if __name__ == '__main__':

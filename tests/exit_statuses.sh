@@ -4,18 +4,21 @@
 #
 #     exit_statuses.sh [PROGRAM]
 #
-# PROGRAM is the built program, and the script uzebox beside this folder where none is named. Of the second form of a row
+# PROGRAM is the program, else the variable UZEBOX, else `uzebox` at the top of the repository. Of the second form of a row
 # standard output is /dev/full, which takes nothing: where a command did its work that is status 5, and a fault keeps its own.
 # Of the third one it is closed, which is status 5 too, and the file that is written is what it is where it's open.
 # At the end: what is read isn't written over, and what standard error says of the statuses 1 and 5.
-# Prints a line for each run that ends otherwise than it should, and at last how many did. Ends with 0 where none did.
-docs=$(dirname -- "$(readlink -f -- "$0")")
-program=$(readlink -f -- "${1:-$docs/../uzebox}")
+# Prints a line for each run that ends otherwise than it should, and at last `N passed, M failed, K skipped`. Ends with 0 where
+# none failed, 1 where one did, 2 where the words aren't these.
+[ $# -le 1 ] || { sed -n '2,12s/^# \{0,1\}//p' "$0" >&2; exit 2; }
+top=$(dirname -- "$(readlink -f -- "$0")")/..
+program=$(readlink -f -- "${1:-${UZEBOX:-$top/uzebox}}")
+[ -x "$program" ] || { echo "$program: no program is there" >&2; exit 2; }
 folder=$(mktemp -d) || exit 70
 trap 'rm -rf "$folder"' EXIT
 trap 'exit 130' HUP INT TERM
 cd "$folder" || exit 70
-cp "$docs"/../examples/*.asm "$docs"/../examples/*.cert "$docs"/../examples/*.hex "$docs"/../examples/no-pads.txt .
+cp "$top"/examples/*.asm "$top"/examples/*.cert "$top"/examples/*.hex "$top"/examples/no-pads.txt .
 printf 'foo\n' >bad
 printf 'step 1\n' >script
 printf '.dw 0xFFFF\n' | cat - loop-ring.asm >stops.asm # the first word is no instruction
@@ -34,7 +37,7 @@ runs_to() {
     runs=$((runs + 1))
     if [ "$came" != "$want" ]; then
         wrong=$((wrong + 1))
-        echo "status $came and not $want, output to $output: $*"
+        echo "failed: status $came and not $want, output to $output: $*"
     fi
 }
 
@@ -60,7 +63,7 @@ writes_unprinted() {
     runs=$((runs + 1))
     if [ "$came" != 5 ] || ! cmp -s whole "$file"; then
         wrong=$((wrong + 1))
-        echo "status $came and not 5, or not the same file, output closed: $*"
+        echo "failed: status $came and not 5, or not the same file, output closed: $*"
     fi
 }
 
@@ -160,7 +163,8 @@ writes_unprinted wave ring.hex no-pads.txt 4 4000 out.wav
 rm -f out.wav
 prints 6 wave late.hex no-pads.txt 4 4000 out.wav
 can_not_print 6 wave late.hex no-pads.txt 4 4000 out.wav
-[ -e out.wav ] && wrong=$((wrong + 1)) && echo "a run that is stopped writes a sound file"
+runs=$((runs + 1))
+[ -e out.wav ] && wrong=$((wrong + 1)) && echo "failed: a run that is stopped writes a sound file"
 
 # play
 prints 0 play ring.hex ring.cert no-pads.txt 4000 frames
@@ -239,5 +243,5 @@ prints 0 asm pulse.asm /dev/null
 prints 1
 grep -q '^uzebox: uzebox help prints the words of each command$' errors || { wrong=$((wrong + 1)) && echo 'no word on help'; }
 
-echo "$runs runs, $wrong of them otherwise than they should"
+echo "$((runs - wrong)) passed, $wrong failed, 0 skipped"
 [ "$wrong" = 0 ]

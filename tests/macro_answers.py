@@ -1,18 +1,20 @@
 #!/usr/bin/env python3
 """A plain expander of macros, written from docs/SOURCE.md and docs/DECISIONS.md and not from the code, beside the program.
 
-    docs/macro_answers.py UZEBOX COUNT [SEED]
+    macro_answers.py [PROGRAM [COUNT [SEED]]]
 
-draws COUNT sources of up to three files with blocks, calls, definitions in calls and `@` at odd places, expands each by
-`UZEBOX expand` and by itself, and compares the status, the printed line and the flat file. It prints the sources that differ, and
-how many cases ended with which answer.
+draws COUNT sources (1000, where nothing is said) of up to three files with blocks, calls, definitions in calls and `@` at odd
+places, expands each by `PROGRAM expand` and by itself, and compares the status, the printed line and the flat file. PROGRAM is the
+program, else the variable UZEBOX, else `uzebox` at the top of the repository. It prints the sources that differ, and how many
+cases ended with which answer.
 """
 import os
 import random
-import subprocess
 import sys
 import tempfile
 from collections import Counter
+
+from outcomes import Outcomes, binary, program, run, usage
 
 MOST_LINES = MOST_BYTES = FILE_LIMIT = 1048576
 BLANKS = ' \t'
@@ -293,38 +295,41 @@ def drawn_files(draw):
     return files
 
 
+def expanded(path, folder, files):
+    """The status, the printed line and the flat file of the program."""
+    flat = os.path.join(folder, 'flat')
+    for name, text in files.items():
+        with open(os.path.join(folder, name), 'w', newline='') as out:
+            out.write(text)
+    if os.path.exists(flat):
+        os.remove(flat)
+    status, printed = run([path, 'expand', 'a.asm', 'flat'], folder)
+    if not os.path.exists(flat):
+        return status, printed.decode(), None
+    with open(flat, newline='') as written:
+        return status, printed.decode(), written.read()
+
+
 def main():
-    if len(sys.argv) not in (3, 4) or not all(word.isdigit() for word in sys.argv[2:]):
-        sys.exit(__doc__)
-    program, count = os.path.abspath(sys.argv[1]), int(sys.argv[2])
-    draw = random.Random(int(sys.argv[3]) if len(sys.argv) > 3 else 1)
-    answers, different = Counter(), 0
+    words = sys.argv[1:]
+    if len(words) > 3 or not all(word.isdigit() for word in words[1:]):
+        usage(__doc__)
+    path, count, seed = binary(program(words[:1], __doc__)), *(list(map(int, words[1:])) + [1000, 1][len(words[1:]):])
+    draw, answers, outcomes = random.Random(seed), Counter(), Outcomes()
     with tempfile.TemporaryDirectory() as folder:
-        flat = os.path.join(folder, 'flat')
         for case in range(count):
             files = drawn_files(draw)
-            for name, text in files.items():
-                with open(os.path.join(folder, name), 'w', newline='') as out:
-                    out.write(text)
-            if os.path.exists(flat):
-                os.remove(flat)
-            status, printed, text = answer(files)
-            run = subprocess.run([program, 'expand', 'a.asm', 'flat'], cwd=folder, capture_output=True, text=True)
-            got = None
-            if os.path.exists(flat):
-                with open(flat, newline='') as written:
-                    got = written.read()
+            wanted = answer(files)
+            status, printed, _ = wanted
+            got = expanded(path, folder, files)
             answers['expanded' if status == 0 else printed.split()[-1] if status == 3 else 'Unread'] += 1
-            if (run.returncode, run.stdout, got) != (status, printed, text):
-                different += 1
-                print('case %d: wanted %r, got %r' % (case, (status, printed, text), (run.returncode, run.stdout, got)))
+            if not outcomes.equal('case %d' % case, wanted, got):
                 for name, text in files.items():
                     print('--', name)
                     print(text)
-    print('%d sources, %d differ' % (count, different))
     for name, number in answers.most_common():
         print(number, name)
-    sys.exit(different > 0)
+    outcomes.end()
 
 
 if __name__ == '__main__':
