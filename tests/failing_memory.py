@@ -5,7 +5,7 @@
 
 PROGRAM is the built program, else the variable UZEBOX, else the one that `uzebox` at the top of the repository runs. For each
 command, and each request that its run makes, one run in which that request fails; of a command with more than COUNT requests
-(80, where nothing is said) the first and the last quarter of COUNT, and as many between. It looks whether the status is that of
+(160, where nothing is said) the first and the last quarter of COUNT, and as many between. It looks whether the status is that of
 want of memory, whether what is printed is a part of what the command prints otherwise, with the whole line `no memory` after it,
 and whether each file that it writes is absent or a part of the whole one. Where points can't be joined for want of
 memory, `certify` may write another certificate: then `check` has to accept it. Where the words of the command line can't be had,
@@ -147,7 +147,7 @@ def main():
     words = sys.argv[1:]
     if len(words) > 2 or not all(word.isdigit() and int(word) >= 4 for word in words[1:]):
         usage(__doc__)
-    path, count = binary(program(words[:1], __doc__)), int(words[1]) if words[1:] else 80
+    path, count = binary(program(words[:1], __doc__)), int(words[1]) if words[1:] else 160
     outcomes = Outcomes()
     if not shutil.which('cc'):
         outcomes.skip('cc is not installed', len(COMMANDS))

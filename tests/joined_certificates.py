@@ -63,7 +63,7 @@ def kernels():
     half_five = [('subi r30,10', 'subi r30,11'), ('.lines 2, 23', '.lines 2, 24')]
     return [
         ('loop-ring', 4, example('loop-ring.asm'), False),
-        ('loop-ring-525-lines', 4, changed('ring.asm', ('.lines 1,', '.lines 525,')), True),
+        ('ring-100-lines', 4, changed('ring.asm', ('.lines 1,', '.lines 100,')), True),
         ('pulse', 4, example('pulse.asm'), False),
         ('pulse-five', 5, changed('pulse.asm', *five), False),
         ('pulse-525-lines', 4, changed('pulse.asm', ('.lines 1,', '.lines 525,')), False),

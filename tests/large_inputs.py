@@ -107,7 +107,7 @@ def test_play_and_wave_of_20_million_clocks(bench):
 
 
 def test_wave_of_millions_of_samples(bench):
-    """A line of eight clocks: CBI at clock 3, SBI at 5, and a jump. So a sample each, of which the first is over at clock 11."""
+    """Sync falls at clock 4 and each eight clocks after it: each fall but the first ends a line, which has a sample."""
     bench.put('fast.asm', '  sbi PORTB,0\nloop: cbi PORTB,0\n  sbi PORTB,0\n  rjmp .\n  rjmp loop\n')
     bench.gives('asm fast.asm fast.hex', 0, 'assembled bytes 10\n')
     for clocks in (8 * 1100000, CLOCKS):
@@ -131,9 +131,9 @@ def halves_source():
     lines = hints + ['  ldi r16,0', '  ldi r17,1'] + ['.fact r16, 0, 0', '.fact r17, 1, 1'] * 550 + ['loop:']
     for line in range(42):
         clocks = 910 if line % 2 == 0 else 1820
-        rest = clocks - 11 - (2 if line == 41 else 0)
+        rest = clocks - 11 - (3 if line == 41 else 0)  # JMP takes three
         lines += ['  out PORTB,r16'] + ['  nop'] * 9 + ['  out PORTB,r17'] + ['  rjmp .'] * (rest // 2) + ['  nop'] * (rest % 2)
-    return '\n'.join(lines + ['  rjmp loop', ''])
+    return '\n'.join(lines + ['  jmp loop', ''])
 
 
 def test_certify_by_40_hints_and_1100_facts(bench):
@@ -204,11 +204,11 @@ def test_search_of_the_most_instances(bench):
 
 
 def growing_macro():
-    """A macro that calls a macro with its argument twice, 24 deep: a line of 16 Mi signs and more."""
+    """Macros of which each calls the next one with its argument four times: the last one's line has above 16,777,216 bytes."""
     lines = []
-    for depth in range(25):
-        lines += ['.macro m%d' % depth, '  m%d @0@0' % (depth + 1) if depth < 24 else '  nop ; @0', '.endm']
-    return '\n'.join(lines + ['  m0 xxxx', ''])
+    for depth in range(12):
+        lines += ['.macro m%d' % depth, '  m%d @0@0@0@0' % (depth + 1), '.endm']
+    return '\n'.join(lines + ['.macro m12', '  nop ; @0', '.endm', '  m0 x', ''])
 
 
 def test_no_memory(bench):

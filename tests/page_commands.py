@@ -38,6 +38,8 @@ WITHOUT = {
 TOOLS = {'avr-gcc': (['-dumpversion'], '5.4.0'), 'avr-objcopy': None, 'avr-objdump': None, 'avr-nm': None, 'srec_cat': None,
          'ffmpeg': None, 'file': None, 'xxd': None, 'sha256sum': None, 'convert': None}
 
+COPIED = ['docs', 'examples', 'tools']  # folders of the repository that a command may write into
+
 
 class Command:
     """A command of a page: its line's number, its text, and the lines that the page prints after it."""
@@ -109,7 +111,9 @@ class Session:
         os.makedirs(clone)
         os.makedirs(self.folder)
         for name in os.listdir(TOP):
-            if name != 'uzebox' and not name.startswith('.git'):
+            if name in COPIED:
+                shutil.copytree(os.path.join(TOP, name), os.path.join(clone, name))
+            elif name != 'uzebox' and not name.startswith('.git'):
                 os.symlink(os.path.join(TOP, name), os.path.join(clone, name))
         os.symlink(path, os.path.join(clone, 'uzebox'))
         here = os.path.dirname(sys.executable)
