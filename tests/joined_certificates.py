@@ -157,7 +157,8 @@ def main():
         for kernel in kernels():
             name = kernel[0]
             cert, said = certified(path, folder, *kernel)
-            outcomes.tell(cert is not None and all(status == 0 for status, _ in said), '%s: %s' % (name, said))
+            right = cert is not None and all(status == 0 for status, _ in said) and said[-1] == said[-2]
+            outcomes.tell(right and said[-1][1].startswith(b'accepted lines '), '%s: %s' % (name, said))
             if cert is not None:
                 certs[name] = cert
     if words[1:]:
