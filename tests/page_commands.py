@@ -12,6 +12,7 @@ folder; `~/dothwelen` is the repository with the program as its `uzebox`.
 A command is skipped where a tool that it names isn't installed, and so is each later one of the page that names a file which
 that command was to make. Commands of WITHOUT aren't run at all.
 """
+import fnmatch
 import os
 import re
 import shutil
@@ -56,9 +57,10 @@ class Command:
         return [part.split() for part in parts if part.split()]
 
     def made(self):
-        """Words that may name a file which the command makes."""
+        """Names of files that the command may make; `*` stands for any rest of a name."""
         last = [words[-1] for words in self.parts() if words[0] == 'uzebox']
-        return [word for word in self.words() if '.' in word] + last
+        pictures = [words[-1] + '*.ppm' for words in self.parts() if words[1:] and words[1].endswith('frames_to_ppm.py')]
+        return [word for word in self.words() if '.' in word] + last + pictures
 
 
 def commands_of(text):
@@ -157,7 +159,7 @@ class Session:
             lacked = lacks(name)
             if lacked:
                 return lacked
-        if self.missing.intersection(command.words()):
+        if any(fnmatch.fnmatch(word, name) for word in command.words() for name in self.missing):
             return 'a file is missing that a skipped command makes'
         return None
 
