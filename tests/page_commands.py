@@ -7,7 +7,7 @@ PROGRAM is the program, else the variable UZEBOX, else `uzebox` at the top of th
 with ```console is a session: a line that begins with `$ ` is a command, lines that follow and begin with `> ` go on with it,
 and the lines up to the next command or the block's end are what it prints, on standard output or standard error, as a terminal
 shows it. A line `...` of a page stands for any lines. The blocks of one page run one after another in one shell in one empty
-folder; `~/dothwelen` is the repository with the program as its `uzebox`.
+folder; `~/dothwelen` is the repository with the program as its `uzebox`. A block whose first command begins with `./` runs there.
 
 A command is skipped where a tool that it names isn't installed, and so is each later one of the page that names a file which
 that command was to make. Commands of WITHOUT aren't run at all.
@@ -45,8 +45,8 @@ COPIED = ['docs', 'examples', 'tools']  # folders of the repository that a comma
 class Command:
     """A command of a page: its line's number, its text, and the lines that the page prints after it."""
 
-    def __init__(self, number, text):
-        self.number, self.text, self.output = number, text, []
+    def __init__(self, number, text, block):
+        self.number, self.text, self.output, self.in_clone = number, text, [], block[0].startswith('./')
 
     def words(self):
         return re.findall(r"[\w./~+-]+", self.text)
@@ -65,13 +65,13 @@ class Command:
 
 def commands_of(text):
     """The commands of a page's sessions."""
-    found, inside = [], False
+    found, inside, block = [], False, []
     for number, line in enumerate(text.split('\n'), 1):
         if line.startswith('```'):
-            inside = line == '```console'
-            fresh = True
+            inside, block, fresh = line == '```console', [], True
         elif inside and line.startswith('$ '):
-            found.append(Command(number, line[2:]))
+            block.append(line[2:])
+            found.append(Command(number, line[2:], block))
             fresh = True
         elif inside and fresh and found and line.startswith('> '):
             found[-1].text += '\n' + line[2:]
@@ -127,6 +127,8 @@ class Session:
     def run(self, command):
         """The lines that a command prints, or None where it takes too long or ends the shell."""
         asked = "{ eval '%s'\n} </dev/null 2>&1; printf '\\001'\n" % command.text.replace("'", "'\\''")
+        if command.in_clone:
+            asked = 'cd ~/dothwelen\n%scd "$OLDPWD"\n' % asked
         try:
             self.shell.stdin.write(asked.encode())
             self.shell.stdin.flush()
