@@ -4,6 +4,8 @@
 """
 import sys
 
+from outcomes import usage
+
 
 def alone_source(lines):
     text = [f".lines {lines}, 1\n.stack 4350, 4351, 0, 0\n.start alone, first"]
@@ -21,5 +23,5 @@ def alone_source(lines):
 
 if __name__ == "__main__":
     if sys.argv[1:] not in (["1"], ["2"]):
-        sys.exit(__doc__)
+        usage(__doc__)
     print(alone_source(int(sys.argv[1])), end="")

@@ -19,6 +19,8 @@ import subprocess
 import sys
 import tempfile
 
+from outcomes import usage
+
 HERE = os.path.dirname(os.path.abspath(__file__))
 LONG = 5.0  # seconds
 LEAST = 16  # MB: more than a process has of this one when it begins
@@ -189,7 +191,7 @@ def counted(uzebox, command):
 
 def main():
     if len(sys.argv) < 3:
-        sys.exit(__doc__)
+        usage(__doc__)
     uzebox, examples, rest = os.path.abspath(sys.argv[1]), os.path.abspath(sys.argv[2]), sys.argv[3:]
     if rest == ['inputs']:
         return write_inputs(uzebox)

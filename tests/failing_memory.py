@@ -18,7 +18,7 @@ import subprocess
 import sys
 import tempfile
 
-from outcomes import EXAMPLES, Outcomes, binary, program, usage
+from outcomes import EXAMPLES, SECONDS, Outcomes, binary, program, usage
 
 USAGE, NO_MEMORY = 1, 8
 
@@ -76,7 +76,7 @@ def run(path, shim, folder, words, fail_at):
     for name in made:
         if os.path.exists(os.path.join(folder, name)):
             os.remove(os.path.join(folder, name))
-    ran = subprocess.run([path, *words], cwd=folder, env=env, capture_output=True)
+    ran = subprocess.run([path, *words], cwd=folder, env=env, capture_output=True, timeout=SECONDS)
     files = {}
     for name in made:
         file = os.path.join(folder, name)

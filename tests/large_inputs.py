@@ -16,7 +16,7 @@ import tempfile
 import wave
 
 from benchmarks import older
-from outcomes import EXAMPLES, HERE, Outcomes, binary, program, run
+from outcomes import EXAMPLES, HERE, Outcomes, binary, program, run, usage
 from slow_certificates import hex_text, write_small
 
 NO_MEMORY = (8, b'no memory\n')
@@ -250,6 +250,8 @@ TESTS = {name[5:]: value for name, value in list(globals().items()) if name.star
 
 def main():
     words = sys.argv[1:]
+    if not set(words[1:]) <= set(TESTS):
+        usage(__doc__)
     path = binary(program(words[:1], __doc__))
     outcomes = Outcomes()
     for name in words[1:] or TESTS:

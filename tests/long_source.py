@@ -10,6 +10,8 @@ certified; with more the search is refused as full.
 """
 import sys
 
+from outcomes import usage
+
 MOST_LINES = 525
 CLOCKS = (135, 1681)  # between the two edges of sync, and after them
 MOST = 3 + sum(CLOCKS)
@@ -42,7 +44,7 @@ def source(wanted):
 
 def main():
     if len(sys.argv) != 2 or not sys.argv[1].isdigit():
-        sys.exit(__doc__)
+        usage(__doc__)
     print('\n'.join(source(int(sys.argv[1]))))
 
 

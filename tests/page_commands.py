@@ -140,9 +140,11 @@ class Session:
         while not out.endswith(b'\x01'):
             piece = self.shell.stdout.read1(65536)
             if not piece:
-                return None
+                break
             out += piece
         late.cancel()
+        if not out.endswith(b'\x01'):
+            return None
         lines = bytes(out[:-1]).decode('latin-1').split('\n')
         return lines[:-1] if lines[-1] == '' else lines
 

@@ -19,6 +19,8 @@ writes NAME.hex and NAME.cert into the folder for each of these, all of them acc
 import os
 import sys
 
+from outcomes import usage
+
 RING = 1819
 
 
@@ -92,7 +94,7 @@ def write_small(folder, name):
 
 def main():
     if len(sys.argv) != 2:
-        sys.exit(__doc__)
+        usage(__doc__)
     folder = sys.argv[1]
     write_rings(folder, 'points', 288)
     write_small(folder, 'small')
