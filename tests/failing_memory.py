@@ -7,10 +7,10 @@ PROGRAM is the built program, else the variable UZEBOX, else the one that `uzebo
 command, and each request that its run makes, one run in which that request fails; of a command with more than COUNT requests
 (160, where nothing is said) the first and the last quarter of COUNT, and as many between. It looks whether the status is that of
 want of memory, whether what is printed is a part of what the command prints otherwise, with the whole line `no memory` after it,
-and whether each file that it writes is absent or a part of the whole one. Where points can't be joined for want of
-memory, `certify` may write another certificate: then `check` has to accept it. Where the words of the command line can't be had,
-the answer is that of no words: the usage line. Each of these runs is a test; a line for each command says how many had which
-status. Needs a C compiler (`cc`): where there is none, all is skipped.
+and whether each file that it writes is absent or a part of the whole one; or whether all is as otherwise. Where points can't be
+joined for want of memory, `certify` may write another certificate: then `check` has to accept it. Where the words of the command
+line can't be had, the answer is that of no words, the usage line, or nothing is printed. Each of these runs is a test; a line for
+each command says how many had which status. Needs a C compiler (`cc`): where there is none, all is skipped.
 """
 import os
 import shutil
@@ -127,15 +127,16 @@ def try_command(outcomes, path, shim, folder, line, count):
     words = line.split()
     status, whole, files, requests = run(path, shim, folder, words, 0)
     no_words = run(path, shim, folder, [], 0)[1]
-    statuses = {}
+    statuses, has_words = {}, False
     numbers = chosen(requests, count)
     for at in numbers:
         got, out, made, _ = run(path, shim, folder, words, at)
         statuses[got] = statuses.get(got, 0) + 1
         parts = all(v is None or (files[n] or b'').startswith(v) for n, v in made.items())
-        fine = is_part_with_line(out, whole, b'no memory\n') and parts and got == NO_MEMORY
-        fine = fine or (got == status and out == whole and parts)
-        fine = fine or (got == USAGE and out == no_words)
+        told = is_part_with_line(out, whole, b'no memory\n')
+        has_words = has_words or told  # requests are for the words until a run says what it lacks
+        fine = got == NO_MEMORY and told and parts or (got, out, made) == (status, whole, files)
+        fine = fine or (not has_words and (got, out) in ((USAGE, no_words), (NO_MEMORY, b'')))
         fine = fine or (got == status and is_other_pair(path, folder, words, out, whole, made, files))
         outcomes.tell(fine, '%s, request %d: status %s, %s' % (line, at, got, out[-80:]))
     outcomes.tell(NO_MEMORY in statuses or words == ['nothing'], '%s: no request that fails gives status 8' % line)
