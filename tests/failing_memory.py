@@ -9,7 +9,7 @@ command, and each request that its run makes, one run in which that request fail
 want of memory, whether what is printed is a part of what the command prints otherwise, with the whole line `no memory` after it,
 and whether each file that it writes is absent or a part of the whole one; or whether all is as otherwise. Where points can't be
 joined for want of memory, `certify` may write another certificate: then `check` has to accept it. Where the words of the command
-line can't be had, the answer is that of no words, the usage line, or nothing is printed. Each of these runs is a test; a line for
+line can't be had, the answer is that of no words: the usage line. Each of these runs is a test; a line for
 each command says how many had which status. Needs a C compiler (`cc`): where there is none, all is skipped.
 """
 import os
@@ -136,7 +136,7 @@ def try_command(outcomes, path, shim, folder, line, count):
         told = is_part_with_line(out, whole, b'no memory\n')
         has_words = has_words or told  # requests are for the words until a run says what it lacks
         fine = got == NO_MEMORY and told and parts or (got, out, made) == (status, whole, files)
-        fine = fine or (not has_words and (got, out) in ((USAGE, no_words), (NO_MEMORY, b'')))
+        fine = fine or (not has_words and (got, out) == (USAGE, no_words))
         fine = fine or (got == status and is_other_pair(path, folder, words, out, whole, made, files))
         outcomes.tell(fine, '%s, request %d: status %s, %s' % (line, at, got, out[-80:]))
     outcomes.tell(NO_MEMORY in statuses or words == ['nothing'], '%s: no request that fails gives status 8' % line)
