@@ -27,17 +27,22 @@ use Rattle.uz_scanlines.proofs.Instances.{level_there, instance_is}
 event_there : (s : Schedule) (l k : ℕ) → ScheduleFits s → AreScanlines s → event_at s (start_of s l + k) ≡ event_by_position s (position l k)
 event_there s l k fits h = ap (event_at s) (place_is s l k h) ∙ event_is s (position l k) fits h
 
+-- and some clocks after it
+pub event_past : (s : Schedule) (l k c : ℕ) → ScheduleFits s → AreScanlines s → event_at s (start_of s l + k + c)
+    ≡ event_by_position s (position l k + c)
+event_past s l k c fits h = ap (λ n. event_at s (n + c)) (place_is s l k h) ∙ event_is s (position l k + c) fits h
+
 -- Lies in
 
-and_true : (a b : Bool) → (a && b) ≡ true → (a ≡ true) × (b ≡ true)
+pub and_true : (a b : Bool) → (a && b) ≡ true → (a ≡ true) × (b ≡ true)
 and_true true b e = (refl, e)
 and_true false b e = absurd cc
 
-or_true : (a b : Bool) → b ≡ true → (a || b) ≡ true
+pub or_true : (a b : Bool) → b ≡ true → (a || b) ≡ true
 or_true true b e = refl
 or_true false b e = e
 
-or_first : (a b : Bool) → a ≡ true → (a || b) ≡ true
+pub or_first : (a b : Bool) → a ≡ true → (a || b) ≡ true
 or_first a b e = rw e refl
 
 -- one of the numbers from k on for which a test holds
@@ -50,12 +55,12 @@ any_told test k (suc n) c low high e =
       | inr t ↦ or_true (test k) (any_from test (suc k) n) (any_told test (suc k) n c (omega (arith, low, t.1)) (omega (arith, high)) e)
     ]
 
-opened : {A B : Type 0} (f : A → Option B) (o : Option A) (b : B) → option_and_then f o ≡ Some b → (a : A) × (o ≡ Some a)
+pub opened : {A B : Type 0} (f : A → Option B) (o : Option A) (b : B) → option_and_then f o ≡ Some b → (a : A) × (o ≡ Some a)
     × (f a ≡ Some b)
 opened f None b e = absurd cc
 opened f (Some a) b e = (a, refl, e)
 
-tested : {A : Type 0} (t : Bool) (o : Option A) (a : A) → cond t o None ≡ Some a → t ≡ true
+pub tested : {A : Type 0} (t : Bool) (o : Option A) (a : A) → cond t o None ≡ Some a → t ≡ true
 tested true o a e = refl
 tested false o a e = absurd cc
 
@@ -95,7 +100,7 @@ lies_told cert id c r b is within =
     any_told (λ c. lies_at (instance_at cert id r.line c) r) p.c0 (suc p.c1 - p.c0) c box.low (omega (arith, box.low, box.high)) here in
     rw found.1 all
 
-lies_is : LiesInPoint → (cert : Cert) (id : ℕ) (r : Instance) → ScheduleFits cert.schedule → AreScanlines cert.schedule
+pub lies_is : LiesInPoint → (cert : Cert) (id : ℕ) (r : Instance) → ScheduleFits cert.schedule → AreScanlines cert.schedule
     → (lies_in_point cert id r ≡ true) ↔ LiesByPosition cert id r
 lies_is laws cert id r fits h = (forth, back)
   where

@@ -1,3 +1,4 @@
 mod Positions
 mod Instances
 mod FrameRules
+mod OldRules

@@ -8,9 +8,12 @@ ghost use Rattle.uz_schedule.specs.WellFormed.{WellFormed};
 ghost use Rattle.uz_schedule.specs.declared.certificate.Cert.{Cert};
 ghost use Rattle.uz_schedule.specs.declared.lines.Schedule.{Schedule};
 ghost use Rattle.uz_schedule.specs.declared.states.Rest.{Rest};
+ghost use Rattle.uz_hex.specs.Reading.{Flash};
+ghost use Rattle.uz_soundness.specs.Acceptance.{Accepts};
 ghost use Rattle.uz_soundness.specs.FrameRules.{RestPasses, EntryPasses};
 ghost use Rattle.uz_scanlines.specs.ByPosition.{AreScanlines, position, frame_clocks, event_by_position, level_by_position};
 ghost use Rattle.uz_scanlines.specs.ByPosition.{instance_by_position, RestByPosition, EntryByPosition};
+ghost use Rattle.uz_scanlines.specs.OldRules.{IsOld, AcceptsOld};
 
 use uz_rules::lies_in_point_tells;
 
@@ -38,6 +41,14 @@ pub fn frame_rules_by_position()
     ensures rests { (cert : Cert) (rest : Rest) → WellFormed cert → AreScanlines cert.schedule → Contains cert.rests rest
         → RestPasses cert rest ↔ RestByPosition cert rest }
     ensures entry { (cert : Cert) → WellFormed cert → AreScanlines cert.schedule → EntryPasses cert ↔ EntryByPosition cert }
+{
+    lies_in_point_tells();
+}
+
+/// And so is the whole acceptance, the local rule too: of a certificate that says what a text of version 1 can say the rules of that version
+/// accept what today's accept, and nothing else. Does nothing.
+pub fn old_rules_accept_the_same()
+    ensures { (image : Flash) (cert : Cert) → WellFormed cert → IsOld cert → AcceptsOld image cert ↔ Accepts image cert }
 {
     lies_in_point_tells();
 }

@@ -4,4 +4,7 @@
 
 mod laws;
 
-pub use laws::{frame_rules_by_position, instances_by_position, scanlines_by_position};
+pub use laws::{
+    frame_rules_by_position, instances_by_position, old_rules_accept_the_same,
+    scanlines_by_position,
+};
