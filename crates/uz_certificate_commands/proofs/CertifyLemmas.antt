@@ -30,7 +30,7 @@ use Rattle.uz_files.specs.Answers.{Answer, ComesOf, NoPart, MayCome, Write, Writ
 use Rattle.uz_files.specs.Endings.{ComesOfFailure, EndsBy, answer_of}
 use Rattle.uz_files.specs.Reading.{Fails, Says, text_limit}
 use Rattle.uz_certificate_commands.specs.CertifyCommand.{AllowedOf, CertifyAnswers, CertifyAnswersBy, CertifySucceeds, FilesCertify}
-use Rattle.uz_outcomes.specs.SearchLines.{Allowed}
+use Rattle.uz_outcomes.specs.SearchLines.{Allowed, IsWorth}
 use Rattle.uz_certificate_commands.specs.CertifyCommand.{IsCertified, IsCertifiedBy, certify_answer}
 use Rattle.uz_certificate_commands.specs.CertifyValues.{IsFound, IsFoundIn, IsPair, IsPairOf, IsRefusal, both_files}
 use Rattle.uz_outcomes.specs.VerdictLines.{accepted_line}
@@ -44,6 +44,20 @@ abbrev done_with : List Write → List ℕ → Answer
 done_with ws = with_files ws Done
 
 -- What the search gives
+
+-- What the search's promise allows, of its clauses. It was handed these hints and answered so
+pub allowed_of : (image : Flash) (irq : Response) (handed hints : List SourceHint) (found result : Result Cert NotFound) → handed ≡ hints
+    → result ≡ found → IsWorth image irq hints found → ((index : ℕ) → Cause image irq handed (Hint index)
+    → (result ≡ Err (Hint index)) ⊎ (result ≡ Err NoRoomToSearch)) → Allowed image irq hints found
+allowed_of image irq handed hints found result same is worth hint = record {
+  worth = worth;
+  hint = λ index fault. of_two index (subst (λ r. (r ≡ Err (Hint index)) ⊎ (r ≡ Err NoRoomToSearch)) is
+      (hint index (subst (λ h. Cause image irq h (Hint index)) (sym same) fault)));
+}
+  where
+    of_two : (index : ℕ) → (found ≡ Err (Hint index)) ⊎ (found ≡ Err NoRoomToSearch) → found ≡ Err (Hint index)
+    of_two index (inl told) = told
+    of_two index (inr lacks) = absurd (subst (IsWorth image irq hints) lacks worth)
 
 pub found_pair : (image : Flash) (irq : Response) (hints : List SourceHint) (cert : Cert) (found : Found) → Allowed image irq hints
     (Ok cert) → IsPairOf image cert found → IsFound image irq hints found
@@ -108,16 +122,16 @@ module _ (files mid after : Option FileMap) (load_fault : Type 0) (source : List
     output = output;
     spelled = spelled;
     certificate = pair.cert;
-    asked = pair.allowed.2;
+    asked = pair.allowed.worth.2;
     image_text = image;
     holds_image = subst (λ f. HoldsFile f hex image) (sym end) (holds_after first last hex image name text apart
         (holds_written mid first hex image wrote) written);
     is_hex = pair.reads_back;
     certificate_text = text;
     holds_certificate = subst (λ f. HoldsFile f name text) (sym end) (holds_written first last name text written);
-    is_certificate = subst (λ t. SpellsCertificate t pair.cert) (sym pair.is_text) (texts pair.cert pair.allowed.0);
-    accepted = pair.allowed.1;
-    certified = sound output.image pair.cert pair.allowed.0 pair.allowed.1;
+    is_certificate = subst (λ t. SpellsCertificate t pair.cert) (sym pair.is_text) (texts pair.cert pair.allowed.worth.0);
+    accepted = pair.allowed.worth.1;
+    certified = sound output.image pair.cert pair.allowed.worth.0 pair.allowed.worth.1;
   }
 
   pub certify_unwritten : (wide : Type 0) (text_out : Option (List ℕ)) → wide → came ≡ Unwritten → WritesPart mid
@@ -187,23 +201,23 @@ certify_status files load_fault source irq hex name answer (inr (output, says, (
 certify_status files load_fault source irq hex name answer (inr (output, says, (Err why, allowed, is))) =
     inr (inr (inl (ap (λ a. a.status) is)))
 
-refusal_not_memory : (image : Flash) (irq : Response) (hints : List SourceHint) (e : NotFound) → Allowed image irq hints (Err e)
+refusal_not_memory : (image : Flash) (irq : Response) (hints : List SourceHint) (e : NotFound) → IsWorth image irq hints (Err e)
     → e ≢ NoRoomToSearch
-refusal_not_memory image irq hints (Stuck trail why) allowed is = absurd (cc is)
-refusal_not_memory image irq hints (Split first second) allowed is = absurd (cc is)
-refusal_not_memory image irq hints (Full count) allowed is = absurd (cc is)
-refusal_not_memory image irq hints (Hint index) allowed is = absurd (cc is)
-refusal_not_memory image irq hints (NoRest count) allowed is = absurd (cc is)
-refusal_not_memory image irq hints NoRoomToSearch allowed is = absurd allowed
+refusal_not_memory image irq hints (Stuck trail why) worth is = absurd (cc is)
+refusal_not_memory image irq hints (Split first second) worth is = absurd (cc is)
+refusal_not_memory image irq hints (Full count) worth is = absurd (cc is)
+refusal_not_memory image irq hints (Hint index) worth is = absurd (cc is)
+refusal_not_memory image irq hints (NoRest count) worth is = absurd (cc is)
+refusal_not_memory image irq hints NoRoomToSearch worth is = absurd worth
 
-refusal_cause : (image : Flash) (irq : Response) (hints : List SourceHint) (e : NotFound) → Allowed image irq hints (Err e)
+refusal_cause : (image : Flash) (irq : Response) (hints : List SourceHint) (e : NotFound) → IsWorth image irq hints (Err e)
     → Cause image irq hints e
-refusal_cause image irq hints (Stuck trail why) allowed = allowed
-refusal_cause image irq hints (Split first second) allowed = allowed
-refusal_cause image irq hints (Full count) allowed = allowed
-refusal_cause image irq hints (Hint index) allowed = allowed
-refusal_cause image irq hints (NoRest count) allowed = allowed
-refusal_cause image irq hints NoRoomToSearch allowed = absurd allowed
+refusal_cause image irq hints (Stuck trail why) worth = worth
+refusal_cause image irq hints (Split first second) worth = worth
+refusal_cause image irq hints (Full count) worth = worth
+refusal_cause image irq hints (Hint index) worth = worth
+refusal_cause image irq hints (NoRest count) worth = worth
+refusal_cause image irq hints NoRoomToSearch worth = absurd worth
 
 -- where all is well each answer is done, unless loading met a fault
 pub certify_always : (readings : Readings) (files : FileMap) (load_fault : Type 0) (source : List ℕ) (irq : Response)
@@ -218,7 +232,7 @@ certify_always readings files load_fault source irq hex name well loads answer (
 certify_always readings files load_fault source irq hex name well loads answer (inr (output, says, (Err why, allowed, is))) =
     let same : output ≡ well.output = says_same files load_fault source text_limit IsAssembly RefusesSource
     readings.source output well.output says well.spelled in
-    let refusal = subst (λ (o : Output). Allowed o.image irq o.hints (Err why)) same allowed in
+    let refusal = subst (λ (o : Output). IsWorth o.image irq o.hints (Err why)) same allowed.worth in
     absurd (well.free why (refusal_not_memory well.output.image irq well.output.hints why refusal)
     (refusal_cause well.output.image irq well.output.hints why refusal))
 
@@ -254,8 +268,8 @@ pub certify_decided : (readings : Readings) (files : FileMap) (source : List ℕ
     (Some files) ⊥ source irq hex name answer → CertifyDecided files source irq hex name answer
 certify_decided readings files source irq hex name answer (inl fails) = record {
   found = Err NoRoomToSearch;
-  allowed = λ output says. fails_says files ⊥ source text_limit IsAssembly RefusesSource readings.source ⊥ answer output
-      fails says;
+  allowed = λ output says. absurd (fails_says files ⊥ source text_limit IsAssembly RefusesSource readings.source ⊥ answer output
+      fails says);
   decided = λ wanted q. same_by readings files source hex name answer wanted (Err NoRoomToSearch) (inl fails) q;
 }
 certify_decided readings files source irq hex name answer (inr (output, says, (found, allowed, is))) = record {

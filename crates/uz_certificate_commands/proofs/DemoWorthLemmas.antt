@@ -62,7 +62,7 @@ module _ (number : ℕ) (begin : Start) (console : Console) (cert : Cert) (line 
     (outcome : MayCome (IsRunAfter told cert (demo_start (given.output).image)) (IsPutPart told) write_fault came old new)
     (accepted : AcceptedHold) where
   holds : Certified (given.output).image cert
-  holds = accepted (given.output).image cert (ready.allowed).0 (ready.allowed).1
+  holds = accepted (given.output).image cert (ready.allowed.worth).0 (ready.allowed.worth).1
 
   pub demo_played : RunsKeep → came ≡ status.Done → DemoPlayed number
   demo_played law is =
@@ -72,8 +72,8 @@ module _ (number : ℕ) (begin : Start) (console : Console) (cert : Cert) (line 
         output = given.output;
         assembles = given.assembles;
         cert = cert;
-        asked = (ready.allowed).2;
-        accepted = (ready.allowed).1;
+        asked = (ready.allowed.worth).2;
+        accepted = (ready.allowed.worth).1;
         certified = holds;
         edges = entered.edges;
         last = entered.last;
@@ -81,8 +81,8 @@ module _ (number : ℕ) (begin : Start) (console : Console) (cert : Cert) (line 
         clock = entered.clock;
         position = entered.position;
         enters = entered.enters;
-        keeps = law image cert (demo_start image) (demo_clocks cert) entered.clock entered.position holds ((ready.allowed).1).steady
-            ((ready.allowed).0).schedule ready.in_range (λ i. image) (low_at_reset image) entered.enters entered.edges entered.last
+        keeps = law image cert (demo_start image) (demo_clocks cert) entered.clock entered.position holds ((ready.allowed.worth).1).steady
+            ((ready.allowed.worth).0).schedule ready.in_range (λ i. image) (low_at_reset image) entered.enters entered.edges entered.last
             entered.run;
       }
 
@@ -94,7 +94,7 @@ module _ (number : ℕ) (begin : Start) (console : Console) (cert : Cert) (line 
         output = given.output;
         assembles = given.assembles;
         cert = cert;
-        accepted = (ready.allowed).1;
+        accepted = (ready.allowed.worth).1;
         unentered = λ clock position enters. law image cert (demo_start image) (demo_clocks cert) clock position holds ready.in_range
             (λ i. image) enters halted.edges halted.last halted.run;
       }

@@ -1,20 +1,56 @@
 -- What `migrate` answers: a file that is written, and a line.
-use Rattle.std.proofs.Common.{◌≡◌, ◌⊎◌, inl, inr, ℕ, List, refl, sym, ap, ◌∙◌}
-use Rattle.std.specs.Prelude.{Option, Some, Result, Ok, Err, IfOk, IfErr}
+use Rattle.std.proofs.Common.{◌≡◌, ◌⊎◌, inl, inr, ℕ, List, refl, sym, ap, subst, ◌∙◌}
+use Rattle.std.specs.Prelude.{◌↔◌, Option, Some, Result, Ok, Err, IfOk, IfErr}
 use Rattle.uz_shelf.specs.Files.{FileMap, LacksFile}
+use Rattle.uz_hex.specs.Reading.{Flash}
+use Rattle.uz_schedule.specs.WellFormed.{WellFormed}
+use Rattle.uz_schedule.specs.declared.certificate.Cert.{Cert}
+use Rattle.uz_soundness.specs.Acceptance.{Accepts}
+use Rattle.uz_scanlines.specs.OldRules.{AcceptsOld, IsOld}
+use Rattle.uz_cert.specs.Texts.{IsOfVersion}
+use Rattle.uz_cert_lines.specs.declared.version.Version.TheVariants.{First}
 use Rattle.uz_files.specs.declared.work.Work.{Work}
 use Rattle.uz_files.specs.declared.ending.Failure.{Failure}
 use Rattle.uz_files.specs.declared.status.Status.TheVariants.{Done, Unread, BadInput}
 use Rattle.uz_files.specs.Answers.{Answer}
 use Rattle.uz_files.specs.Endings.{EndsBy}
 use Rattle.uz_files.specs.Reading.{Fails, certificate_limit}
+use Rattle.uz_certificate_commands.specs.MigrateCommand.{AcceptsOldText, AcceptsText}
 use Rattle.uz_certificate_commands.specs.MigrateCommand.{FilesMigrated, IsMigrated, MigrateAnswers, MigrateSucceeds, migrated_line, new_file}
 use Rattle.uz_files.specs.Writing.{Prepares, WritesWork, written_then}
 use Rattle.uz_certificate_commands.specs.MigrateValues.{IsWork}
 use Rattle.uz_files.proofs.ReadingLemmas.{ends_by}
 use Rattle.uz_files.proofs.ReadsLemmas.{fails_status, reads_or_fault, reads_same}
 use Rattle.uz_files.proofs.WriteLemmas.{holds_written}
-use Rattle.uz_files.specs.Formats.{Readings, RefusesOldCertificate, SpellsOldCertificate}
+use Rattle.uz_files.specs.Formats.{Readings, RefusesOldCertificate, SpellsCertificate, SpellsOldCertificate}
+
+-- What is said of texts and of their rules
+
+pub record TextLaws : Type 0 where
+  pub fits : (older : List ℕ) (cert : Cert) → SpellsOldCertificate older cert → WellFormed cert × IsOfVersion First cert
+  pub one_old : (text : List ℕ) (a b : Cert) → SpellsOldCertificate text a → SpellsOldCertificate text b → a ≡ b
+  pub one_new : (text : List ℕ) (a b : Cert) → SpellsCertificate text a → SpellsCertificate text b → a ≡ b
+  pub same : (image : Flash) (cert : Cert) → WellFormed cert → IsOld cert → AcceptsOld image cert ↔ Accepts image cert
+
+abbrev TextKept : Type 0
+TextKept = (image : Flash) (older newer : List ℕ) (cert : Cert) → SpellsOldCertificate older cert → SpellsCertificate newer cert
+    → AcceptsOldText image older ↔ AcceptsText image newer
+
+pub text_kept : TextLaws → TextKept
+text_kept laws image older newer cert is_old is_new =
+    let fits = laws.fits older cert is_old in
+    let same = laws.same image cert fits.0 (record { lengths = fits.1.lengths; points = fits.1.points }) in (
+      λ told. record {
+        certificate = cert;
+        spelled = is_new;
+        accepted = same.0 (subst (AcceptsOld image) (laws.one_old older told.certificate cert told.spelled is_old) told.accepted);
+      },
+      λ told. record {
+        certificate = cert;
+        spelled = is_old;
+        accepted = same.1 (subst (Accepts image) (laws.one_new newer told.certificate cert told.spelled is_new) told.accepted);
+      },
+    )
 
 -- what is prepared leads to the answer, and a file that ends the command to its own
 pub migrate_prepared : (files : Option FileMap) (load_fault : Type 0) (older newer : List ℕ) (prepared : Result Work Failure)
@@ -30,16 +66,17 @@ migrate_prepared files load_fault older newer (Err failure) given fails =
     ends_by (Fails files load_fault older certificate_limit RefusesOldCertificate) (MigrateAnswers files load_fault older newer) failure
     (λ answer h. inl h) fails
 
-pub migrate_worth : (files mid after : Option FileMap) (older newer : List ℕ) (prepared : Result Work Failure)
+pub migrate_worth : TextKept → (files mid after : Option FileMap) (older newer : List ℕ) (prepared : Result Work Failure)
     → IfOk prepared (IsWork files older) → WritesWork mid newer prepared after → FilesMigrated files after older newer
-migrate_worth files mid after older newer (Ok work) given written = record {
+migrate_worth kept files mid after older newer (Ok work) given written = record {
   certificate = given.certificate;
   spelled = given.spelled;
   text = work.text.items;
   holds = holds_written mid after newer work.text.items written;
   is_text = given.of.reads_back;
+  kept = λ image. kept image given.spelled.bytes work.text.items given.certificate given.spelled.reads given.of.reads_back;
 }
-migrate_worth files mid after older newer (Err failure) given never = absurd never
+migrate_worth kept files mid after older newer (Err failure) given never = absurd never
 
 -- the statuses of `migrate`, and the cause of Unread
 pub migrate_status : (files : Option FileMap) (load_fault : Type 0) (older newer : List ℕ) (answer : Answer) → MigrateAnswers files load_fault older

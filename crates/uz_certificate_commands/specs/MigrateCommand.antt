@@ -1,8 +1,11 @@
 -- `migrate OLD NEW`: a certificate of version 1 is read, its text of version 2 is written, and then a line tells how many
 -- points it has.
-use Rattle.std.specs.Prelude.{◌≡◌, ℕ, List, ◌++◌, codes, decimal, length, Option}
+use Rattle.std.specs.Prelude.{◌≡◌, ◌↔◌, ℕ, List, ◌++◌, codes, decimal, length, Option}
 use Rattle.uz_shelf.specs.Files.{FileMap, HoldsFile}
+use Rattle.uz_hex.specs.Reading.{Flash}
 use Rattle.uz_schedule.specs.declared.certificate.Cert.{Cert}
+use Rattle.uz_soundness.specs.Acceptance.{Accepts}
+use Rattle.uz_scanlines.specs.OldRules.{AcceptsOld}
 use Rattle.uz_cert_lines.specs.declared.version.Version.TheVariants.{Second}
 use Rattle.uz_cert_writer.specs.Spelling.{spelling}
 use Rattle.uz_files.specs.Answers.{Answer, Write}
@@ -30,11 +33,26 @@ pub record MigrateSucceeds (files : Option FileMap) (older : List ℕ) : Type 0 
   pub certificate : Cert
   pub spelled : Says files older certificate_limit SpellsOldCertificate certificate
 
+-- Acceptance of texts
+
+-- a text of version 1 spells a certificate that the rules of that version accept with the image
+pub record AcceptsOldText (image : Flash) (text : List ℕ) : Type 0 where
+  pub certificate : Cert
+  pub spelled : SpellsOldCertificate text certificate
+  pub accepted : AcceptsOld image certificate
+
+-- a text of version 2 spells one that today's rules accept
+pub record AcceptsText (image : Flash) (text : List ℕ) : Type 0 where
+  pub certificate : Cert
+  pub spelled : SpellsCertificate text certificate
+  pub accepted : Accepts image certificate
+
 -- What a `migrate` that is done is worth: the new file holds a text of version 2 of the very certificate that the old one
--- spells, so that the one is accepted exactly where the other was
+-- spells, and with each image this text is accepted exactly where the old one is by the rules of its version
 pub record FilesMigrated (before after : Option FileMap) (older newer : List ℕ) : Type 0 where
   pub certificate : Cert
   pub spelled : Says before older certificate_limit SpellsOldCertificate certificate
   pub text : List ℕ
   pub holds : HoldsFile after newer text
   pub is_text : SpellsCertificate text certificate
+  pub kept : (image : Flash) → AcceptsOldText image spelled.bytes ↔ AcceptsText image text

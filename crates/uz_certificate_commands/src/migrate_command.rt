@@ -10,6 +10,7 @@ ghost use Rattle.uz_files.specs.Endings.{EndsBy};
 ghost use Rattle.uz_files.specs.Reading.{Fails, certificate_limit};
 ghost use Rattle.uz_files.specs.Formats.{RefusesOldCertificate};
 
+use crate::migrate_law::migration_keeps_acceptance;
 use std::alloc::{AllocError, Global};
 use uz_cert_laws::text_is_unique;
 use uz_cert_writer::write_cert;
@@ -69,6 +70,7 @@ pub fn run_migrate<H: Shelf, K: Sink>(
     ensures migrated { result ≡ Status.Done → FilesMigrated (H.files shelf.old) (H.files shelf.new) older.now newer.now }
     ensures faults { K.faults out.old ≤ K.faults out.new }
 {
+    migration_keeps_acceptance();
     let work = prepare(alloc, shelf, older);
     finish_work(alloc, newer, work, shelf, out)
 }

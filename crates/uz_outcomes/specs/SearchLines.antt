@@ -1,5 +1,5 @@
 -- The line that says why a search finds no certificate, and what the search's promise allows.
-use Rattle.std.specs.Prelude.{ℕ, ◌-◌, List, [], ◌++◌, length, codes, decimal, slice_get, Option, option_map, unwrap_or}
+use Rattle.std.specs.Prelude.{◌≡◌, ℕ, ◌-◌, List, [], ◌++◌, length, codes, decimal, slice_get, Option, option_map, unwrap_or}
 use Rattle.std.specs.Prelude.{Result, Ok, Err}
 use Rattle.uz_hex.specs.Reading.{Flash}
 use Rattle.avr_asm.specs.declared.output.Hint.{Hint as SourceHint}
@@ -49,8 +49,18 @@ not_found_line (Hint index) = number_line (codes "refused hint ") index
 not_found_line (NoRest count) = codes "refused no rest\n"
 not_found_line Memory = []
 
--- what the search's promise allows of an image, a response and hints
-abbrev pub Allowed : Flash → Response → List SourceHint → Result Cert NotFound → Type 0
-Allowed image irq hints (Ok cert) = WellFormed cert × Accepts image cert × IsAsked image irq hints cert
-Allowed image irq hints (Err Memory) = ⊥
-Allowed image irq hints (Err e) = Cause image irq hints e
+-- a certificate is accepted and is what the hints ask for, and a refusal has its cause
+abbrev pub IsWorth : Flash → Response → List SourceHint → Result Cert NotFound → Type 0
+IsWorth image irq hints (Ok cert) = WellFormed cert × Accepts image cert × IsAsked image irq hints cert
+IsWorth image irq hints (Err Memory) = ⊥
+IsWorth image irq hints (Err e) = Cause image irq hints e
+
+-- where a hint is at fault or one is missing, this is told and nothing else
+abbrev pub TellsHint : Flash → Response → List SourceHint → Result Cert NotFound → Type 0
+TellsHint image irq hints found = (index : ℕ) → Cause image irq hints (Hint index) → found ≡ Err (Hint index)
+
+-- what the search's promise allows of an image, a response and hints. That a certificate comes where no refusal has a cause follows: each
+-- refusal has one
+pub record Allowed (image : Flash) (irq : Response) (hints : List SourceHint) (found : Result Cert NotFound) : Type 0 where
+  pub worth : IsWorth image irq hints found
+  pub hint : TellsHint image irq hints found
