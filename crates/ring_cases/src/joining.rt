@@ -98,11 +98,14 @@ fn counts(
         Ok(accepted) => {
             let (image, cert) = accepted.into_parts();
             match joined(alloc, &image, cert) {
-                Some(cert) => {
+                Ok(cert) => {
                     let points = cert.points.as_slice();
                     Ok((points.len(), count_joined(points)))
                 }
-                None => Ok((0, 0)),
+                Err(why) => {
+                    drop(why);
+                    Ok((0, 0))
+                }
             }
         }
         Err(refused) => Err(refused.why),

@@ -1,9 +1,9 @@
 -- Points that are put behind others.
-use Rattle.std.proofs.Common.{◌≡◌, ◌∙◌, ◌≢◌, sym, ap, subst, arith, inl, inr, ⊎_elim, ℕ, zero, suc, ◌+◌, ◌<◌, List, [], ◌∷◌, ◌++◌, length}
+use Rattle.std.proofs.Common.{◌≡◌, ◌∙◌, ◌≢◌, refl, sym, ap, subst, arith, inl, inr, ⊎_elim, ℕ, zero, suc, ◌+◌, ◌<◌, ◌≤◌, List, [], ◌∷◌, ◌++◌, length}
 use Rattle.std.proofs.Common.{drop, reverse}
 use Rattle.std.specs.Prelude.{None, Some, slice_get, ◌⊎◌}
 use Rattle.std.proofs.lemmas.Bool.{cases_eq}
-use Rattle.std.proofs.lemmas.List.{reverse-append, reverse-reverse}
+use Rattle.std.proofs.lemmas.List.{append-nil, reverse-append, reverse-reverse}
 use Rattle.std.proofs.lemmas.Option.{slice_get_within}
 use Rattle.uz_schedule.specs.declared.states.Point.{Point}
 use Rattle.uz_points.specs.Same.{AreTold, IsWhollyTold, SameInstances}
@@ -158,11 +158,38 @@ point_let_go points i r r' p taken joined told a =
       only = subst (λ ps. AreTold ps points) (sym joined) a.only;
     }
 
+-- a box begins that isn't put
+pub box_left_out : (points : List Point) (i : ℕ) (r r' : Replacing) → r'.joined.items ≡ r.joined.items → r'.left.items ≡ r.left.items
+    → AreSoFar points i r → AreSoFar points i r'
+box_left_out points i r r' joined left a = record {
+  left = ap reverse left ∙ a.left;
+  told = λ j p less there. subst (λ ps. IsWhollyTold ps p) (sym joined) (a.told j p less there);
+  only = subst (λ ps. AreTold ps points) (sym joined) a.only;
+}
+
+none_past : {A : Type 0} (xs : List A) (i : ℕ) → [] ≡ drop i xs → [] ≡ drop (suc i) xs
+none_past [] i e = refl
+none_past (y ∷ xs) zero e = absurd (cc)
+none_past (y ∷ xs) (suc i) e = none_past xs i e
+
 -- none of the points is left
-pub all_replaced : (points : List Point) (i : ℕ) (r : Replacing) → r.left.items ≡ [] → AreSoFar points i r → SameInstances points r.joined.items
-all_replaced points i r none a =
-    let past = none_dropped points i (ap reverse (sym none) ∙ a.left) in
+pub none_left : (points : List Point) (i : ℕ) (r r' : Replacing) → r.left.items ≡ [] → r.left.items ≡ r'.left.items ++ []
+    → r'.joined.items ≡ r.joined.items → AreSoFar points i r → AreSoFar points (i + 1) r'
+none_left points i r r' none left joined a =
+    let over : [] ≡ drop i points = ap reverse (sym none) ∙ a.left in
+    let past = none_dropped points i over in
+    let empty : r'.left.items ≡ [] = sym (append-nil r'.left.items) ∙ (sym left ∙ none) in
+    let one : suc i ≡ i + 1 = omega arith in
     record {
-      all = λ id p there. a.told id p (let within = slice_get_within points id p there in omega arith) there;
-      only = a.only;
+      left = ap reverse empty ∙ (none_past points i over ∙ ap (λ n. drop n points) one);
+      told = λ j p less there. subst (λ ps. IsWhollyTold ps p) (sym joined)
+          (a.told j p (let within = slice_get_within points j p there in omega arith) there);
+      only = subst (λ ps. AreTold ps points) (sym joined) a.only;
     }
+
+-- all points have been passed
+pub all_passed : (points : List Point) (i : ℕ) (r : Replacing) → length points ≤ i → AreSoFar points i r → SameInstances points r.joined.items
+all_passed points i r all a = record {
+  all = λ id p there. a.told id p (let within = slice_get_within points id p there in omega arith) there;
+  only = a.only;
+}

@@ -1,9 +1,10 @@
 //! The joined certificate, where the check accepts it.
 
-ghost use Rattle.std.specs.Prelude.{◌≡◌, true, IfSome};
+ghost use Rattle.std.specs.Prelude.{◌≡◌, false, true, IfErr, IfOk, OnOk, Ok as OkOf};
 ghost use Rattle.uz_schedule.specs.WellFormed.{WellFormed};
 ghost use Rattle.uz_soundness.specs.Acceptance.{Accepts};
 ghost use Rattle.uz_join.specs.Joined.{SameButPoints};
+ghost use Rattle.uz_join.specs.Unjoined.{IsUnjoined};
 ghost use Rattle.uz_points.specs.Same.{SameInstances};
 
 use crate::copies::{entry_of, rests_of};
@@ -15,70 +16,80 @@ use uz_check::verdict;
 use uz_hex::Image;
 use uz_schedule::{Cert, Sequence};
 
+/// Why a certificate isn't joined.
+#[derive(Drop)]
+pub enum Unjoined {
+    /// There isn't enough memory.
+    Memory,
+    /// The joined certificate says what the other said, and it is not well formed or the check refuses it.
+    Refused { joined: Cert },
+}
+
 /// Whether a certificate is well formed and accepted. Takes no memory.
 pub fn passes(image: &Image, cert: &Cert) -> bool
     ensures fits { result ≡ true → WellFormed cert.now }
     ensures accepted { result ≡ true → Accepts image.now cert.now }
+    ensures refused { result ≡ false → WellFormed cert.now → Accepts image.now cert.now → ⊥ }
 {
     well_formed(cert) && verdict(image, cert).is_none()
 }
 
-/// Has rests and entry name points by other numbers. Whether the check accepts the certificate then; false where memory lacks.
-fn is_numbered(alloc: Global, image: &Image, cert: &mut Cert, numbers: &[u32]) -> bool
-    ensures fits { result ≡ true → WellFormed cert.new }
-    ensures accepted { result ≡ true → Accepts image.now cert.new }
-    ensures same { result ≡ true → SameButPoints cert.old cert.new }
-    ensures points { cert.new.points ≡ cert.old.points }
+/// Has rests and entry name points by other numbers.
+fn renumber(alloc: Global, cert: &mut Cert, numbers: &[u32]) -> Result<(), AllocError>
+    ensures same { OnOk result (SameButPoints cert.old cert.new) }
+    ensures points { OnOk result (cert.new.points ≡ cert.old.points) }
 {
-    match rests_of(alloc, cert.rests.as_slice(), numbers) {
-        Ok(rests) => {
-            cert.rests = rests;
-            cert.entry = entry_of(&cert.entry, numbers);
-            passes(image, cert)
-        }
-        Err(AllocError) => false,
-    }
+    let rests = rests_of(alloc, cert.rests.as_slice(), numbers)?;
+    cert.rests = rests;
+    cert.entry = entry_of(&cert.entry, numbers);
+    Ok(())
 }
 
-/// Joins the points of a certificate. False where points were let go and not all that they say is said, the check doesn't accept the joined
-/// certificate, or memory lacks.
-fn is_joined(alloc: Global, image: &Image, cert: &mut Cert) -> bool
-    requires fits { WellFormed cert.old }
-    requires accepted { Accepts image.now cert.old }
-    ensures fits { result ≡ true → WellFormed cert.new }
-    ensures accepted { result ≡ true → Accepts image.now cert.new }
-    ensures same { result ≡ true → SameButPoints cert.old cert.new }
-    ensures instances { result ≡ true → SameInstances cert.old.points cert.new.points }
+/// Joins the points of a certificate. Whether some are joined; else it stays as it was.
+fn join(alloc: Global, cert: &mut Cert) -> Result<bool, AllocError>
+    ensures same { IfOk result (λ some. SameButPoints cert.old cert.new) }
+    ensures instances { IfOk result (λ some. SameInstances cert.old.points cert.new.points) }
+    ensures stays { result ≡ OkOf false → cert.new ≡ cert.old }
 {
     let points = replace(&mut cert.points, Sequence::new(alloc));
-    match joined_both(alloc, points.into_vec()) {
-        Ok(Some(joined)) => {
-            cert.points = Sequence::from_vec(joined.points);
-            match joined.numbers {
-                Some(numbers) => is_numbered(alloc, image, cert, numbers.as_slice()),
-                None => true,
-            }
+    let joined = joined_both(alloc, points.into_vec())?;
+    cert.points = Sequence::from_vec(joined.points);
+    match joined.numbers {
+        Some(numbers) => {
+            renumber(alloc, cert, numbers.as_slice())?;
+            Ok(true)
         }
-        _ => false,
+        None => Ok(false),
     }
 }
 
 /// An accepted certificate whose points are joined line by line and count by count. Header and schedule stay, and so do entry and
 /// rests but for the numbers of their points, and the instances of its points are the same ones. Its points are let go while the
-/// joined ones are made, so that not all are there twice: so nothing is left where the check doesn't accept the joined certificate, or
-/// memory lacks.
-pub fn joined(alloc: Global, image: &Image, cert: Cert) -> Option<Cert>
+/// joined ones are made, so that not all are there twice: so it isn't left where it isn't joined.
+///
+/// Refused comes only with a joined certificate that says the same, and that isn't well formed or that the check refuses.
+pub fn joined(alloc: Global, image: &Image, cert: Cert) -> Result<Cert, Unjoined>
     requires fits { WellFormed cert }
     requires accepted { Accepts image.now cert }
-    ensures fits { IfSome result WellFormed }
-    ensures accepted { IfSome result (Accepts image.now) }
-    ensures same { IfSome result (SameButPoints cert) }
-    ensures instances { IfSome result (λ c. SameInstances cert.points c.points) }
+    ensures fits { IfOk result WellFormed }
+    ensures accepted { IfOk result (Accepts image.now) }
+    ensures same { IfOk result (SameButPoints cert) }
+    ensures instances { IfOk result (λ c. SameInstances cert.points c.points) }
+    ensures refused { IfErr result (IsUnjoined image.now cert) }
 {
     let mut cert = cert;
-    if is_joined(alloc, image, &mut cert) {
-        Some(cert)
-    } else {
-        None
+    match join(alloc, &mut cert) {
+        Ok(false) => Ok(cert),
+        Ok(true) => {
+            if passes(image, &cert) {
+                Ok(cert)
+            } else {
+                Err(Unjoined::Refused { joined: cert })
+            }
+        }
+        Err(AllocError) => {
+            drop(cert);
+            Err(Unjoined::Memory)
+        }
     }
 }

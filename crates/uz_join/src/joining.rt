@@ -1,6 +1,6 @@
 //! Points joined line by line, and count by count.
 
-ghost use Rattle.std.specs.Prelude.{◌≡◌, IfOk, IfSome, None as NoneOf};
+ghost use Rattle.std.specs.Prelude.{◌≡◌, IfOk, None as NoneOf};
 ghost use Rattle.uz_points.specs.Same.{SameInstances};
 
 use crate::chains::Chains;
@@ -26,22 +26,21 @@ fn chains_along(alloc: Global, axis: Axis, points: &[Point]) -> Result<Option<Ch
     }
 }
 
-/// Points joined along an axis: they say what the points say, and nothing else. Each point is let go when a joined one stands for it. None
-/// where they were let go and not all is said.
+/// Points joined along an axis: they say what the points say, and nothing else. Each point is let go when a joined one stands for it.
 pub(crate) fn joined_along(
     alloc: Global,
     axis: Axis,
     points: Vec<Point>,
-) -> Result<Option<Joined>, AllocError>
-    ensures same { IfOk result (λ o. IfSome o (λ j. SameInstances points.items j.points.items)) }
-    ensures stay { IfOk result (λ o. IfSome o (λ j. j.numbers ≡ NoneOf → j.points.items ≡ points.items)) }
+) -> Result<Joined, AllocError>
+    ensures same { IfOk result (λ j. SameInstances points.items j.points.items) }
+    ensures stay { IfOk result (λ j. j.numbers ≡ NoneOf → j.points.items ≡ points.items) }
 {
     match chains_along(alloc, axis, points.as_slice())? {
         Some(chains) => replaced(alloc, axis, points, chains),
-        None => Ok(Some(Joined {
+        None => Ok(Joined {
             points,
             numbers: None,
-        })),
+        }),
     }
 }
 
@@ -65,22 +64,15 @@ fn numbers_through(lines: Option<Vec<u32>>, counts: Option<Vec<u32>>) -> Option<
     }
 }
 
-/// Points joined line by line, and then count by count: they say what the points say, and nothing else. None where points were let go and
-/// not all is said.
-pub(crate) fn joined_both(alloc: Global, points: Vec<Point>) -> Result<Option<Joined>, AllocError>
-    ensures same { IfOk result (λ o. IfSome o (λ j. SameInstances points.items j.points.items)) }
-    ensures stay { IfOk result (λ o. IfSome o (λ j. j.numbers ≡ NoneOf → j.points.items ≡ points.items)) }
+/// Points joined line by line, and then count by count: they say what the points say, and nothing else.
+pub(crate) fn joined_both(alloc: Global, points: Vec<Point>) -> Result<Joined, AllocError>
+    ensures same { IfOk result (λ j. SameInstances points.items j.points.items) }
+    ensures stay { IfOk result (λ j. j.numbers ≡ NoneOf → j.points.items ≡ points.items) }
 {
-    let lines = match joined_along(alloc, Axis::Lines, points)? {
-        Some(lines) => lines,
-        None => return Ok(None),
-    };
-    let counts = match joined_along(alloc, Axis::Counts, lines.points)? {
-        Some(counts) => counts,
-        None => return Ok(None),
-    };
-    Ok(Some(Joined {
+    let lines = joined_along(alloc, Axis::Lines, points)?;
+    let counts = joined_along(alloc, Axis::Counts, lines.points)?;
+    Ok(Joined {
         points: counts.points,
         numbers: numbers_through(lines.numbers, counts.numbers),
-    }))
+    })
 }

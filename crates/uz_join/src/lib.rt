@@ -14,6 +14,6 @@ mod replacing;
 mod source;
 mod successors;
 
-pub use choice::{joined, passes};
+pub use choice::{Unjoined, joined, passes};
 pub use copies::{entry_of, rests_of};
 pub use nodes::{JoinedNodes, joined_nodes};

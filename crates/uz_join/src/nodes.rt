@@ -60,23 +60,18 @@ fn pays(points: usize, instances: usize) -> bool {
     points < instances && (points <= FEW || points <= instances / SHARE)
 }
 
-/// Points and of each of the others the number of the one that it is joined into, where these are joined again count by count. None where
-/// points were let go and not all is said.
+/// Points and of each of the others the number of the one that it is joined into, where these are joined again count by count.
 fn joined_again(
     alloc: Global,
     points: Vec<Point>,
     numbers: Vec<u32>,
-) -> Result<Option<(Vec<Point>, Vec<u32>)>, AllocError> {
-    match joined_along(alloc, Axis::Counts, points)? {
-        Some(joined) => {
-            let numbers = match &joined.numbers {
-                Some(again) => joined_numbers(numbers, again.as_slice()),
-                None => numbers,
-            };
-            Ok(Some((joined.points, numbers)))
-        }
-        None => Ok(None),
-    }
+) -> Result<(Vec<Point>, Vec<u32>), AllocError> {
+    let joined = joined_along(alloc, Axis::Counts, points)?;
+    let numbers = match &joined.numbers {
+        Some(again) => joined_numbers(numbers, again.as_slice()),
+        None => numbers,
+    };
+    Ok((joined.points, numbers))
 }
 
 /// The points into which those of a source are joined, and of each of those its number. None where there are none to join line by line, or
@@ -90,7 +85,8 @@ fn joined_source(
         chains.begin_others(source)?;
         if cut_to_successors(alloc, Numbering::ByLines, source, &mut chains)? {
             let points = chain_points(alloc, Axis::Lines, source, &chains)?;
-            return joined_again(alloc, points, chains.into_numbers());
+            let joined = joined_again(alloc, points, chains.into_numbers())?;
+            return Ok(Some(joined));
         }
     }
     Ok(None)

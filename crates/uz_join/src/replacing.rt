@@ -1,6 +1,6 @@
 //! Points of which some are joined: a box stands for these, which are let go.
 
-ghost use Rattle.std.specs.Prelude.{◌≡◌, ◌+◌, ◌++◌, ◌∷◌, true, ℕ, List, [], IfOk, IfSome, IsSome, OnOk, option_to_list};
+ghost use Rattle.std.specs.Prelude.{◌≡◌, ◌≤◌, ◌+◌, ◌++◌, ℕ, List, [], true, IfOk, IfSome, IsNone, IsSome, OnOk, length, option_to_list};
 ghost use Rattle.uz_schedule.specs.declared.states.Point.{Point as PointType};
 ghost use Rattle.uz_points.specs.Same.{IsWhollyTold, SameInstances};
 ghost use Rattle.uz_join.specs.Replacing.{AreSoFar, IsPut};
@@ -119,36 +119,38 @@ impl Replacing {
         })
     }
 
-    /// The next one of the joined points is the box of a chain. Whether the points that are left say all that it says.
-    fn begin_box(&mut self, plan: &Plan, room: &mut Room, number: u32) -> Result<bool, AllocError>
-        ensures { IfOk result (λ told. told ≡ true → (points : List PointType) (i : ℕ) → AreSoFar points i self.old
-            → AreSoFar points i self.new) }
+    /// The next one of the joined points is the box of a chain, where the points that are left say all that it says.
+    fn begin_box(&mut self, plan: &Plan, room: &mut Room, number: u32) -> Result<(), AllocError>
+        ensures { OnOk result ((points : List PointType) (i : ℕ) → AreSoFar points i self.old → AreSoFar points i self.new) }
     {
         match box_for(plan, self.left.as_slice(), room, number)? {
             Some(point) => {
                 self.joined.push(point)?;
                 self.begun = self.begun.saturating_add(1);
-                Ok(true)
+                Ok(())
             }
-            None => Ok(false),
+            None => {
+                self.begun = self.begun.saturating_add(1);
+                Ok(())
+            }
         }
     }
 
     /// So it is where that chain's box is the next one that begins.
-    fn begin(&mut self, plan: &Plan, room: &mut Room, number: u32) -> Result<bool, AllocError>
-        ensures { IfOk result (λ told. told ≡ true → (points : List PointType) (i : ℕ) → AreSoFar points i self.old
-            → AreSoFar points i self.new) }
+    fn begin(&mut self, plan: &Plan, room: &mut Room, number: u32) -> Result<(), AllocError>
+        ensures { OnOk result ((points : List PointType) (i : ℕ) → AreSoFar points i self.old → AreSoFar points i self.new) }
     {
         if number == self.begun {
             self.begin_box(plan, room, number)
         } else {
-            Ok(true)
+            Ok(())
         }
     }
 
     /// Takes the next point.
     fn take(&mut self, every: usize) -> Option<Point>
         ensures left { self.old.left.items ≡ self.new.left.items ++ option_to_list result }
+        ensures none { IsNone result → self.old.left.items ≡ [] }
         ensures joined { self.new.joined.items ≡ self.old.joined.items }
     {
         give_back(&mut self.left, every);
@@ -166,49 +168,46 @@ impl Replacing {
         Ok(())
     }
 
-    /// Lets the next point go where a box has its number, and else keeps it. Whether all that it says is said.
+    /// Whether a box has a point's number and all that the point says is said.
+    fn is_said(&self, plan: &Plan, number: u32, id: u32, point: &Point) -> bool
+        ensures { result ≡ true → IsWhollyTold self.now.joined.items point.now }
+    {
+        number != NONE && is_wholly_told(&plan.into, self.joined.as_slice(), id, point)
+    }
+
+    /// Lets the next point go where a box has its number and all that the point says is said, and else keeps it.
     fn pass(
         &mut self,
         plan: &Plan,
         every: usize,
         room: &mut Room,
         id: u32,
-    ) -> Result<bool, AllocError>
-        ensures { IfOk result (λ said. said ≡ true → (points : List PointType) (i : ℕ) → AreSoFar points i self.old
-            → AreSoFar points (i + 1) self.new) }
+    ) -> Result<(), AllocError>
+        ensures { OnOk result ((points : List PointType) (i : ℕ) → AreSoFar points i self.old → AreSoFar points (i + 1) self.new) }
     {
         let number = number_at(plan.chains.numbers(), id);
-        let told = self.begin(plan, room, number)?;
-        if !told {
-            return Ok(false);
-        }
+        self.begin(plan, room, number)?;
         let point = match self.take(every) {
             Some(point) => point,
-            None => return Ok(false),
+            None => return Ok(()),
         };
-        if number == NONE {
-            self.keep(plan.into.numbers(), point)?;
-            return Ok(true);
+        if self.is_said(plan, number, id, &point) {
+            return Ok(());
         }
-        Ok(is_wholly_told(&plan.into, self.joined.as_slice(), id, &point))
+        self.keep(plan.into.numbers(), point)?;
+        Ok(())
     }
 }
 
-/// Whether there are no points.
-fn are_none(points: &[Point]) -> bool
-    ensures { result ≡ true → points.now ≡ [] }
-{
-    points.is_empty()
-}
-
-/// The joined points of a plan. None where not all is said.
+/// The joined points of a plan.
 fn joined_by(
     alloc: Global,
     points: Vec<Point>,
     plan: &Plan,
     joined: u32,
-) -> Result<Option<Vec<Point>>, AllocError>
-    ensures { IfOk result (λ o. IfSome o (λ joined. SameInstances points.items joined.items)) }
+) -> Result<Vec<Point>, AllocError>
+    requires { length points.items ≤ plan.now.count }
+    ensures { IfOk result (λ joined. SameInstances points.items joined.items) }
 {
     let every = points.len() / TIMES + 1;
     let mut room = Room {
@@ -217,27 +216,22 @@ fn joined_by(
     };
     let mut replacing = Replacing::new(alloc, points, joined)?;
     for i in 0..plan.count {
-        if !replacing.pass(plan, every, &mut room, number_of(i))? {
-            return Ok(None);
-        }
+        replacing.pass(plan, every, &mut room, number_of(i))?;
     }
-    let Replacing { left, joined, .. } = replacing;
-    if are_none(left.as_slice()) {
-        Ok(Some(joined))
-    } else {
-        Ok(None)
-    }
+    let Replacing { joined, .. } = replacing;
+    Ok(joined)
 }
 
-/// Points with a box in place of those of each chain. Each point is let go when a box stands for it. None where not all is said.
+/// Points with a box in place of those of each chain. Each point is let go when a box stands for it. Where a chain's points don't say what
+/// its box would, or the joined points don't say what one of them says, the points are kept; where others lead may be wrong then.
 pub(crate) fn replaced(
     alloc: Global,
     axis: Axis,
     points: Vec<Point>,
     chains: Chains,
-) -> Result<Option<Joined>, AllocError>
-    ensures same { IfOk result (λ o. IfSome o (λ j. SameInstances points.items j.points.items)) }
-    ensures numbered { IfOk result (λ o. IfSome o (λ j. IsSome j.numbers)) }
+) -> Result<Joined, AllocError>
+    ensures same { IfOk result (λ j. SameInstances points.items j.points.items) }
+    ensures numbered { IfOk result (λ j. IsSome j.numbers) }
 {
     let (into, joined) = chains.joined_numbers(alloc)?;
     let plan = Plan {
@@ -246,13 +240,10 @@ pub(crate) fn replaced(
         into: Guide::by_numbers(alloc, into),
         count: points.len(),
     };
-    let points = match joined_by(alloc, points, &plan, joined)? {
-        Some(points) => points,
-        None => return Ok(None),
-    };
+    let points = joined_by(alloc, points, &plan, joined)?;
     let Plan { into, .. } = plan;
-    Ok(Some(Joined {
+    Ok(Joined {
         points,
         numbers: Some(into.into_numbers()),
-    }))
+    })
 }

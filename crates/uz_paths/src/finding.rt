@@ -7,6 +7,7 @@ ghost use Rattle.uz_hints.specs.Faults.{HintRefusal};
 ghost use Rattle.uz_search.specs.Fitting.{ProgramFits};
 ghost use Rattle.uz_search.specs.Refusing.{Refusal};
 ghost use Rattle.uz_search.specs.Searching.{IsEnded};
+ghost use Rattle.uz_join.specs.Joined.{SameButPoints};
 ghost use Rattle.uz_paths.specs.Certificate.{IsEntry, ReturnsFromMain};
 ghost use Rattle.uz_paths.specs.declared.finding.Joining.TheVariants.{LeftOut};
 ghost use Rattle.uz_paths.specs.Finding.{instance_limit, Cause, NoCause, IsFoundBy, IsAsked};
@@ -69,6 +70,23 @@ fn certificate(
     }
 }
 
+/// A certificate whose points are joined. None where the joined certificate isn't accepted, or memory lacks.
+fn joined_from(alloc: Global, image: &Image, cert: Cert) -> Option<Cert>
+    requires fits { WellFormed cert }
+    requires accepted { Accepts image.now cert }
+    ensures fits { IfSome result WellFormed }
+    ensures accepted { IfSome result (Accepts image.now) }
+    ensures same { IfSome result (SameButPoints cert) }
+{
+    match joined(alloc, image, cert) {
+        Ok(cert) => Some(cert),
+        Err(why) => {
+            drop(why);
+            None
+        }
+    }
+}
+
 /// Whether points are joined.
 #[derive(Clone, Copy)]
 enum Joining {
@@ -113,7 +131,7 @@ fn find_by(
         }
         Err(program) => {
             let cert = certificate(alloc, image, program, entry, found)?;
-            Ok(joined(alloc, image, cert))
+            Ok(joined_from(alloc, image, cert))
         }
     }
 }

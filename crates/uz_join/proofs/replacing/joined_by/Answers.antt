@@ -1,8 +1,7 @@
-use Rattle.std.proofs.Common.{◌∙◌, refl, sym}
-use Rattle.uz_join.proofs.PutLemmas.{all_replaced}
+use Rattle.std.proofs.Common.{arith}
+use Rattle.uz_join.proofs.PutLemmas.{all_passed}
 use Rattle.uz_join.proofs.replacing.joined_by.Goals as goal
 
-pub returns-then-are_none : goal.returns-then-are_none
-returns-then-are_none c =
-    all_replaced c.args.points.items c.loop-i.i c.loop-i.replacing (sym c.as_slice.ensures.value ∙ c.if-are_none.ensures refl)
+pub returns : goal.returns
+returns c = all_passed c.args.points.items c.loop-i.i c.loop-i.replacing (grind (arith, c.requires, c.loop-i-test.false, c.loop-i.auto.i-end))
     c.loop-i.invariant

@@ -13,7 +13,7 @@ pub returns-in_ok-cert-in-Err-joined_certificate-clause-found : goal.returns-in_
 returns-in_ok-cert-in-Err-joined_certificate-clause-found c =
     let made = c.in_ok-cert-in-Err-joined_certificate in
     let found = subst (λ p. IsFoundBy c.args.image.now p c.args.entry made.cert) c.in-Err-joined_certificate.ensures.same made.ensures.found in
-    some_found_joined c.args.image.now c.args.program c.args.entry made.cert c.joined.result c.joined.ensures.same found
+    some_found_joined c.args.image.now c.args.program c.args.entry made.cert c.joined_from.result c.joined_from.ensures.same found
 
 pub certificate-requires-in-Err-joined_certificate-clause-returns : goal.certificate-requires-in-Err-joined_certificate-clause-returns
 certificate-requires-in-Err-joined_certificate-clause-returns c =
@@ -45,7 +45,7 @@ returns-then-joining-eq1-clause-found c = c.in_ok-certificate.ensures.found
 
 pub returns-in_ok-cert-in-Err-joined_certificate-clause-accepted : goal.returns-in_ok-cert-in-Err-joined_certificate-clause-accepted
 returns-in_ok-cert-in-Err-joined_certificate-clause-accepted c =
-    some_both WellFormed (Accepts c.args.image.now) c.joined.result c.joined.ensures.fits c.joined.ensures.accepted
+    some_both WellFormed (Accepts c.args.image.now) c.joined_from.result c.joined_from.ensures.fits c.joined_from.ensures.accepted
 
-pub joined-requires-clause-accepted : goal.joined-requires-clause-accepted
-joined-requires-clause-accepted c = c.in_ok-cert-in-Err-joined_certificate.ensures.accepted
+pub joined_from-requires-clause-accepted : goal.joined_from-requires-clause-accepted
+joined_from-requires-clause-accepted c = c.in_ok-cert-in-Err-joined_certificate.ensures.accepted
