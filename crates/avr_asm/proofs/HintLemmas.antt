@@ -1,4 +1,4 @@
--- The hints of two and of three operands, by their places.
+-- The hints by the places of their operands.
 use Rattle.std.proofs.Common.{◌≡◌, ℕ, Bool, List, [], ◌∷◌, Bor, length, get_or, map, refl, ◌∙◌, ap, arith}
 use Rattle.std.specs.Prelude.{Err, codes, if◌then◌else◌}
 use Rattle.avr_text.specs.declared.tokens.Token.{Token}
@@ -8,7 +8,7 @@ use Rattle.avr_operands.specs.Faults.{OrFault}
 use Rattle.avr_operands.specs.Operands.{both}
 use Rattle.avr_asm.specs.declared.output.Hint.{Hint}
 use Rattle.avr_asm.specs.declared.output.Hint.TheVariants as hint
-use Rattle.avr_asm.specs.Hints.{byte, bytes_at, fact_at, fact_hint, half_hint, handler_cell_hint, lines_hint, mapped, part_at, place_of}
+use Rattle.avr_asm.specs.Hints.{byte, bytes_at, fact_address, fact_at, fact_hint, half_hint, handler_cell_hint, lines_hint, mapped, part_at, place_of}
 use Rattle.avr_asm.specs.Hints.{ranged, short, shorts_at, stack_hint, start_hint, word_address}
 use Rattle.avr_asm.specs.Layout.{is_word}
 use Rattle.uz_schedule.specs.declared.kinds.Kind.{Kind}
@@ -20,14 +20,6 @@ two [] d e h = absurd (omega arith)
 two (p ∷ []) d e h = absurd (omega arith)
 two (p ∷ q ∷ []) d e h = refl
 two (p ∷ q ∷ r ∷ parts) d e h = absurd (omega arith)
-
-three : (parts : List (Bor (List Token))) (d e f : Bor (List Token)) → length parts ≡ 3
-    → (get_or parts 0 d).now ∷ (get_or parts 1 e).now ∷ (get_or parts 2 f).now ∷ [] ≡ map (λ p. p.now) parts
-three [] d e f h = absurd (omega arith)
-three (p ∷ []) d e f h = absurd (omega arith)
-three (p ∷ q ∷ []) d e f h = absurd (omega arith)
-three (p ∷ q ∷ r ∷ []) d e f h = refl
-three (p ∷ q ∷ r ∷ s ∷ parts) d e f h = absurd (omega arith)
 
 -- two numbers of 16 bits
 shorts_are : (line : List ℕ) (symbols : NameMap) (first second : List Token) (low high : OrFault ℕ) (range : OrFault (ℕ × ℕ))
@@ -58,23 +50,14 @@ lines_told line symbols parts d e low high range len low_is high_is range_is =
     ap lines_from (shorts_are line symbols (get_or parts 0 d).now (get_or parts 1 e).now low high range low_is high_is range_is)
     ∙ ap (lines_hint line symbols) (two parts d e len)
 
-pub fact_told : (line : List ℕ) (symbols : NameMap) (parts : List (Bor (List Token))) (following : ℕ) (d e f : Bor (List Token))
-    (place low high : OrFault ℕ) (range : OrFault (ℕ × ℕ)) → length parts ≡ 3 → low ≡ short line symbols (get_or parts 1 e).now
-    → high ≡ short line symbols (get_or parts 2 f).now → range ≡ both low high → place ≡ place_of line (get_or parts 0 d).now
-    → fact_at following place range ≡ fact_hint line symbols (map (λ p. p.now) parts) following
-fact_told line symbols parts following d e f place low high range len low_is high_is range_is place_is =
-    ap (λ p. fact_at following p range) place_is
-    ∙ ap (fact_at following (place_of line (get_or parts 0 d).now))
-    (shorts_are line symbols (get_or parts 1 e).now (get_or parts 2 f).now low high range low_is high_is range_is)
-    ∙ ap (λ ps. fact_hint line symbols ps following) (three parts d e f len)
-
-pub no_fact : (line : List ℕ) (symbols : NameMap) (parts : List (Bor (List Token))) (following : ℕ) → (length parts ≡ 3 → ⊥)
-    → Err Directive ≡ fact_hint line symbols (map (λ p. p.now) parts) following
-no_fact line symbols [] following h = refl
-no_fact line symbols (p ∷ []) following h = refl
-no_fact line symbols (p ∷ q ∷ []) following h = refl
-no_fact line symbols (p ∷ q ∷ r ∷ []) following h = absurd (h refl)
-no_fact line symbols (p ∷ q ∷ r ∷ s ∷ parts) following h = refl
+pub fact_told : (line : List ℕ) (symbols : NameMap) (parts : List (List Token)) (following : ℕ) (first : List Token) (at place : OrFault ℕ)
+    (range : OrFault (ℕ × ℕ)) (hint : OrFault Hint) → at ≡ fact_address line symbols parts following → place ≡ place_of line first
+    → first ≡ part_at parts 0 → range ≡ shorts_at line symbols parts 1 → hint ≡ fact_at at place range
+    → hint ≡ fact_hint line symbols parts following
+fact_told line symbols parts following first at place range hint at_is place_is first_is range_is hint_is =
+    hint_is ∙ ap (λ a. fact_at a place range) at_is
+    ∙ ap (λ p. fact_at (fact_address line symbols parts following) p range) (place_is ∙ ap (place_of line) first_is)
+    ∙ ap (fact_at (fact_address line symbols parts following) (place_of line (part_at parts 0))) range_is
 
 -- the stack's ranges
 abbrev pub stack_from : OrFault ((ℕ × ℕ) × (ℕ × ℕ)) → OrFault Hint

@@ -24,3 +24,4 @@ pub mod FirstPassFaults
 pub mod FirstPassRuns
 pub mod SecondPassFaults
 pub mod FirstFaults
+pub mod TakenLemmas

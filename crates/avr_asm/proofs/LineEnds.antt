@@ -25,7 +25,7 @@ use Rattle.avr_asm.specs.Emission.{word_bytes, instruction_bytes}
 use Rattle.avr_operands.specs.Faults.{OrFault}
 use Rattle.avr_asm.specs.Hints.{hint_of, mapped}
 use Rattle.avr_operands.specs.Instructions.{instruction_of}
-use Rattle.avr_asm.specs.Layout.{is_start, is_cell, moved, set, org_effect, equ_effect, directive_effect, effect_of, address_after}
+use Rattle.avr_asm.specs.Layout.{is_start, is_cell, is_fact, moved, set, org_effect, equ_effect, directive_effect, effect_of, address_after}
 use Rattle.avr_asm.specs.LineOutputs.{LineOutput, no_output, instruction_output, data_output, hint_output, directive_output, action_output}
 use Rattle.avr_asm.specs.Lines.{is_name}
 use Rattle.avr_operands.specs.Mnemonics.{words_of}
@@ -230,7 +230,7 @@ directive_end directive.Cell line known symbols arguments parts follows address 
     address next out.bytes (shaped_none (is_cell line parts) effect is) (hint_empty (hint_of directive.Cell line symbols parts following)
     out puts) e
 directive_end directive.Fact line known symbols arguments parts follows address following next effect out is puts e = none_end effect
-    address next out.bytes (shaped_none ((length parts == 3) && follows) effect is)
+    address next out.bytes (shaped_none (is_fact (length parts) follows) effect is)
     (hint_empty (hint_of directive.Fact line symbols parts following) out puts) e
 
 pub line_end : (counts : WordsByName) (a : Action) (line : List ℕ) (known symbols : NameMap) (arguments : List Token)

@@ -63,7 +63,7 @@ with_action (action.Instruction mnemonic) line symbols k address following parts
 with_action (action.Directive d) line symbols k address following parts out = with_directive d line symbols address following parts out
 with_action other line symbols k address following parts out = Ok out
 
--- the k-th line, at its address; a `.fact` speaks of the word address that follows
+-- the k-th line, at its address; a `.fact` without an address speaks of the word address that follows
 abbrev pub with_tokens : List ℕ → NameMap → ℕ → ℕ → ℕ → Output → List Token → OrFault Output
 with_tokens line symbols k address following out tokens =
     with_action (action_of line (body_of tokens)) line symbols k address following (parts_of (arguments_in line tokens)) out

@@ -102,14 +102,14 @@ abbrev pub TakesTooMuch : Bool → List ℕ → Place → List Token → Type 0
 TakesTooMuch follows line place tokens =
     (bytes : ℕ) × (even : Bool) × (effect_in line place.symbols follows tokens ≡ Ok (Take bytes even)) × (65536 < place.address + bytes)
 
--- a directive is unknown, has the wrong operands, or is a `.fact` that no instruction line follows; or an instruction
+-- a directive is unknown, has the wrong operands, or is a `.fact` without an address that no instruction line follows; or an instruction
 -- stands at an odd address
 abbrev pub IsMisplaced : Bool → List ℕ → Place → List Token → Type 0
 IsMisplaced follows line place tokens =
     (effect_in line place.symbols follows tokens ≡ Ok Wrong)
     ⊎ ((bytes : ℕ) × (effect_in line place.symbols follows tokens ≡ Ok (Take bytes true)) × (place.address % 2 ≡ 1))
 
--- what each why of the first pass means of a line after a place; whether an instruction line follows decides on a `.fact`
+-- what each why of the first pass means of a line after a place; whether an instruction line follows decides on a `.fact` without an address
 abbrev pub InFirstPass : Bool → List ℕ → Place → AsmWhy → Type 0
 InFirstPass follows line place why.Lex = content_of line ≡ Err why.Lex
 InFirstPass follows line place why.Mnemonic = InLine line (λ tokens. action_of line (body_of tokens) ≡ action.Unknown)
@@ -156,7 +156,7 @@ abbrev pub bytes_by : List Filled → List (ℕ × ℕ)
 bytes_by [] = []
 bytes_by (f ∷ fs) = bytes_from f.laid.address f.output.bytes ++ bytes_by fs
 
--- what a line puts out by all names; a `.fact` speaks of the first instruction line after it
+-- what a line puts out by all names; a `.fact` without an address speaks of the first instruction line after it
 abbrev pub puts_out : NameMap → Laid → List Laid → Result LineOutput AsmWhy
 puts_out symbols l after = tokens_output l.source symbols l.address (following (map (λ x. x.source) after) (map (λ x. x.address) after))
     l.tokens

@@ -98,13 +98,16 @@ handler_cell_hint line symbols parts =
 abbrev pub cell_hint : List ℕ → NameMap → List (List Token) → OrFault Hint
 cell_hint line symbols parts = if length parts == 4 then main_cell_hint line symbols parts else handler_cell_hint line symbols parts
 
-abbrev pub fact_at : ℕ → OrFault ℕ → OrFault (ℕ × ℕ) → OrFault Hint
-fact_at following place range = mapped (both place range) (λ p. hint.Fact following p.0 p.1.0 p.1.1)
+-- a fact of three operands speaks of the following instruction's word address, one of four names a byte address
+abbrev pub fact_at : OrFault ℕ → OrFault ℕ → OrFault (ℕ × ℕ) → OrFault Hint
+fact_at at place range = mapped (both at (both place range)) (λ p. hint.Fact p.0 p.1.0 p.1.1.0 p.1.1.1)
+
+abbrev pub fact_address : List ℕ → NameMap → List (List Token) → ℕ → OrFault ℕ
+fact_address line symbols parts following = if length parts == 3 then Ok following else word_address line symbols (part_at parts 3)
 
 abbrev pub fact_hint : List ℕ → NameMap → List (List Token) → ℕ → OrFault Hint
-fact_hint line symbols (place ∷ lo ∷ hi ∷ []) following =
-    fact_at following (place_of line place) (both (short line symbols lo) (short line symbols hi))
-fact_hint line symbols other following = Err why.Directive
+fact_hint line symbols parts following =
+    fact_at (fact_address line symbols parts following) (place_of line (part_at parts 0)) (shorts_at line symbols parts 1)
 
 -- the hint of a directive, where it is one
 abbrev pub hint_of : Directive → List ℕ → NameMap → List (List Token) → ℕ → OrFault (Option Hint)

@@ -78,8 +78,11 @@ equ_effect line symbols (n ∷ e ∷ rest) =
     if is_name n.kind && is_equals e.kind then set (expression line symbols None rest) else Ok Wrong
 equ_effect line symbols other = Ok Wrong
 
--- what a directive does: `.db` takes bytes in pairs and `.dw` words; a hint takes none, and a `.fact` has to be followed by
--- an instruction line
+-- a fact has four operands, or three where an instruction line follows
+abbrev pub is_fact : ℕ → Bool → Bool
+is_fact count follows = (count == 4) || ((count == 3) && follows)
+
+-- what a directive does: `.db` takes bytes in pairs and `.dw` words; a hint takes none
 abbrev pub directive_effect : Directive → List ℕ → NameMap → List Token → List (List Token) → Bool → OrFault Effect
 directive_effect Org line symbols arguments parts follows = org_effect line symbols parts
 directive_effect Db line symbols arguments parts follows =
@@ -91,7 +94,7 @@ directive_effect Lines line symbols arguments parts follows = Ok (if_shaped (len
 directive_effect Half line symbols arguments parts follows = Ok (if_shaped (length parts == 2) Nothing)
 directive_effect Stack line symbols arguments parts follows = Ok (if_shaped (length parts == 4) Nothing)
 directive_effect Cell line symbols arguments parts follows = Ok (if_shaped (is_cell line parts) Nothing)
-directive_effect Fact line symbols arguments parts follows = Ok (if_shaped ((length parts == 3) && follows) Nothing)
+directive_effect Fact line symbols arguments parts follows = Ok (if_shaped (is_fact (length parts) follows) Nothing)
 
 -- what a line does, or the fault that goes before those of its names and places
 abbrev pub effect_of : Action → List ℕ → NameMap → List Token → List (List Token) → Bool → OrFault Effect
@@ -145,7 +148,7 @@ unfoldable pub effect_in : List ℕ → NameMap → Bool → List Token → OrFa
 effect_in line symbols follows tokens =
     effect_of (action_of line (body_of tokens)) line symbols (arguments_in line tokens) (parts_of (arguments_in line tokens)) follows
 
--- the place after a line; whether an instruction line follows decides on a `.fact`
+-- the place after a line; whether an instruction line follows decides on a `.fact` without an address
 unfoldable pub after_line : Bool → List ℕ → Place → OrFault Place
 after_line follows line place = do
   tokens ← content_of line

@@ -9,3 +9,4 @@ pub mod Layout
 pub mod LineOutputs
 pub mod Lines
 pub mod Relation
+pub mod Taken

@@ -38,8 +38,8 @@ directive_output directive.Db line symbols following parts = mapped (byte_data l
 directive_output directive.Dw line symbols following parts = mapped (word_data line symbols parts) data_output
 directive_output d line symbols following parts = mapped (hint_of d line symbols parts following) hint_output
 
--- an instruction's relative target counts from the address after its first word; a `.fact` speaks of the following
--- instruction's word address
+-- an instruction's relative target counts from the address after its first word; a `.fact` without an address speaks of the
+-- following instruction's word address
 abbrev pub action_output : Action → List ℕ → NameMap → ℕ → ℕ → List (List Token) → OrFault LineOutput
 action_output (action.Instruction mnemonic) line symbols address following parts =
     mapped (instruction_of mnemonic (record { line = line; symbols = symbols; next = address + 2; parts = parts })) instruction_output

@@ -123,7 +123,7 @@ pub record IsStatement (symbols : NameMap) (before : List Statement) (s : Statem
   pub does : effect_in s.source symbols (list_any is_instruction_line (map (λ t. t.source) after)) s.tokens ≡ Ok s.effect
   -- its bytes end within the flash, an instruction stands at an even address, and a directive has its operands
   pub fits : address_after s.effect s.address ≡ Ok (end_by s.effect s.address s.output.bytes)
-  -- what it puts out is by the values of all names; a `.fact` speaks of the first instruction line after it
+  -- what it puts out is by the values of all names; a `.fact` without an address speaks of the first instruction line after it
   pub puts : tokens_output s.source symbols s.address (following (map (λ t. t.source) after) (map (λ t. t.address) after)) s.tokens ≡ Ok
       s.output
 

@@ -11,8 +11,8 @@ ghost use Rattle.avr_asm.specs.Relation.{IsAssembly};
 ghost use Rattle.avr_asm.specs.FirstFault.{IsFirstFault};
 ghost use Rattle.avr_operands.specs.declared.errors.AsmWhy.{AsmWhy};
 ghost use Rattle.avr_asm.specs.Assembly.{Output, seen_built, with_instruction, with_data, with_hint, with_directive};
-ghost use Rattle.avr_asm.specs.Assembly.{with_action, with_line, following as following_address, output_from, nothing};
-ghost use Rattle.avr_asm.specs.Assembly.{assembly};
+ghost use Rattle.avr_asm.specs.Assembly.{with_action, with_line, following as following_address, output_from, assembly};
+ghost use Rattle.avr_asm.specs.Taken.{assembly_over, over};
 
 use crate::directives::Directive;
 use crate::emission::{byte_data, code_of, put, word_data};
@@ -242,23 +242,25 @@ fn put_each(
     Ok(())
 }
 
-/// Puts out all lines at their addresses.
+/// Puts out all lines at their addresses, beside the cells that are taken.
 fn put_lines(
     alloc: Global,
     lines: &[&[u8]],
     addresses: &[u32],
     symbols: &Symbols,
+    taken: Image,
 ) -> Result<Built, AsmError>
     requires short { EachShort lines.now }
     requires few { length lines.now < 2 ^ 32 - 1 }
     requires same { length addresses.now ≡ length lines.now }
     requires below { All (λ a. a ≤ 65536) addresses.now }
-    ensures built { GivesLayout seen_built result (output_from 1 symbols.now nothing (mapped (λ line. line.now) lines.now) addresses.now) }
+    ensures built { GivesLayout seen_built result
+        (output_from 1 symbols.now (over taken) (mapped (λ line. line.now) lines.now) addresses.now) }
     ensures flash { IfOk result (λ built. IsFlash built.image) }
     ensures memory { IfErr result (λ e. e.why ≡ AsmWhy.Memory → e.line ≡ 0) }
 {
     let mut built = Built {
-        image: Image::empty(alloc)?,
+        image: taken,
         items: Vec::new(alloc),
         hints: Vec::new(alloc),
     };
@@ -271,6 +273,20 @@ fn put_lines(
     }
 }
 
+/// Assembles a source where cells of the flash are taken already: the bytes of its lines go beside them, and the first
+/// line one of whose bytes falls on a taken cell is refused with `Overlap`, as where an earlier line placed one.
+pub fn assemble_over(alloc: Global, text: &[u8], taken: Image) -> Result<Built, AsmError>
+    requires { length text.now < 2 ^ 32 - 1 }
+    ensures built { GivesLayout seen_built result (assembly_over taken text.now) }
+    ensures flash { IfOk result (λ built. IsFlash built.image) }
+    ensures memory { IfErr result (λ e. e.why ≡ AsmWhy.Memory → e.line ≡ 0) }
+{
+    let lines = lines_of(alloc, text)?;
+    let lines = lines.as_slice();
+    let (addresses, symbols) = lay_out(alloc, lines)?;
+    put_lines(alloc, lines, addresses.as_slice(), &symbols, taken)
+}
+
 /// Assembles a source as the definition in two passes says.
 fn assemble_lines(alloc: Global, text: &[u8]) -> Result<Built, AsmError>
     requires { length text.now < 2 ^ 32 - 1 }
@@ -278,10 +294,8 @@ fn assemble_lines(alloc: Global, text: &[u8]) -> Result<Built, AsmError>
     ensures flash { IfOk result (λ built. IsFlash built.image) }
     ensures memory { IfErr result (λ e. e.why ≡ AsmWhy.Memory → e.line ≡ 0) }
 {
-    let lines = lines_of(alloc, text)?;
-    let lines = lines.as_slice();
-    let (addresses, symbols) = lay_out(alloc, lines)?;
-    put_lines(alloc, lines, addresses.as_slice(), &symbols)
+    let empty = Image::empty(alloc)?;
+    assemble_over(alloc, text, empty)
 }
 
 /// Assembles a source: its image, its instruction lines and its hints, or its first fault.

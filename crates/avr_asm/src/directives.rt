@@ -26,7 +26,8 @@ pub enum Directive {
     Stack,
     /// `.cell A, main, LO, HI` or `.cell A, handler, LO, HI, FIRST`: a tracked byte of RAM.
     Cell,
-    /// `.fact R, LO, HI`: a fact on a register or pointer at the next instruction.
+    /// `.fact R, LO, HI`: a fact on a register or pointer at the next instruction. `.fact R, LO, HI, E`: at byte
+    /// address E.
     Fact,
 }
 

@@ -4,7 +4,7 @@ ghost use Rattle.std.specs.Prelude.{◌≡◌, ◌<◌, ◌≤◌, ◌^◌, fals
 ghost use Rattle.avr_operands.specs.Operands.{AllLie, EachLies};
 ghost use Rattle.avr_asm.specs.declared.first_pass.Effect.TheVariants.{Take};
 ghost use Rattle.avr_asm.specs.Layout.{is_reserved as is_reserved_name, is_word as is_word_operand};
-ghost use Rattle.avr_asm.specs.Layout.{is_start as is_start_shape, is_cell as is_cell_shape};
+ghost use Rattle.avr_asm.specs.Layout.{is_start as is_start_shape, is_cell as is_cell_shape, is_fact as is_fact_of};
 ghost use Rattle.avr_asm.specs.Layout.{if_shaped as effect_if_shaped, org_effect as org_effect_of};
 ghost use Rattle.avr_asm.specs.Layout.{equ_effect as equ_effect_of, directive_effect as directive_effect_of};
 ghost use Rattle.avr_asm.specs.Layout.{effect_of as effect_of_line, address_after as address_after_effect, IsWithin};
@@ -122,7 +122,14 @@ fn equ_effect(line: &[u8], symbols: &Symbols, arguments: &[Token]) -> Result<Eff
     }
 }
 
-/// What a directive does. A `.fact` has to be followed by an instruction line.
+/// Whether a fact with so many operands is one: a fact of three has to be followed by an instruction line.
+fn is_fact(count: usize, follows: bool) -> bool
+    ensures { result ≡ is_fact_of count follows }
+{
+    count == 4 || (count == 3 && follows)
+}
+
+/// What a directive does.
 fn directive_effect(
     directive: Directive,
     line: &[u8],
@@ -148,7 +155,7 @@ fn directive_effect(
         Directive::Half => Ok(if_shaped(count == 2, Effect::Nothing)),
         Directive::Stack => Ok(if_shaped(count == 4, Effect::Nothing)),
         Directive::Cell => Ok(if_shaped(is_cell(line, parts), Effect::Nothing)),
-        Directive::Fact => Ok(if_shaped(count == 3 && follows, Effect::Nothing)),
+        Directive::Fact => Ok(if_shaped(is_fact(count, follows), Effect::Nothing)),
     }
 }
 

@@ -4,7 +4,8 @@ ghost use Rattle.std.specs.Prelude.{◌≡◌, ◌<◌, length, map};
 ghost use Rattle.avr_operands.specs.Operands.{AllLie, EachLies};
 ghost use Rattle.avr_asm.specs.Hints.{short as short_operand, byte as byte_operand};
 ghost use Rattle.avr_asm.specs.Hints.{word_address as word_address_operand, place_of as place_of_operand, start_hint};
-ghost use Rattle.avr_asm.specs.Hints.{lines_hint, half_hint, stack_hint, cell_hint, fact_at as fact_at_address, fact_hint, part_at};
+ghost use Rattle.avr_asm.specs.Hints.{lines_hint, half_hint, stack_hint, cell_hint, fact_at as fact_at_address};
+ghost use Rattle.avr_asm.specs.Hints.{fact_address as fact_address_of, fact_hint, part_at};
 ghost use Rattle.avr_asm.specs.Hints.{shorts_at, bytes_at, ranged as ranged_cell, main_cell_hint, handler_cell_hint};
 ghost use Rattle.avr_asm.specs.Hints.{pointer_place as pointer_place_of, hint_of as hint_of_directive};
 
@@ -247,25 +248,38 @@ fn cell_of(line: &[u8], symbols: &Symbols, parts: &[&[Token]]) -> Result<Hint, A
     }
 }
 
-/// The fact of a place and of a range at the word address that follows.
+/// The fact of a place and of a range at a word address.
 fn fact_at(
-    following: u16,
+    at: Result<u16, AsmWhy>,
     place: Result<u8, AsmWhy>,
     range: Result<(u16, u16), AsmWhy>,
 ) -> Result<Hint, AsmWhy>
-    ensures { result ≡ fact_at_address following place range }
+    ensures { result ≡ fact_at_address at place range }
 {
-    match both(place, range) {
-        Ok((place, (lo, hi))) => Ok(Hint::Fact {
-            at: following,
-            place,
-            lo,
-            hi,
-        }),
+    match both(at, both(place, range)) {
+        Ok((at, (place, (lo, hi)))) => Ok(Hint::Fact { at, place, lo, hi }),
         Err(why) => Err(why),
     }
 }
 
+/// The word address of a fact: the one that follows, or that of its fourth operand.
+fn fact_address(
+    line: &[u8],
+    symbols: &Symbols,
+    parts: &[&[Token]],
+    following: u16,
+) -> Result<u16, AsmWhy>
+    requires { EachLies (length line.now) parts.now }
+    ensures { result ≡ fact_address_of line.now symbols.now (map (λ p. p.now) parts.now) following }
+{
+    if parts.len() == 3 {
+        Ok(following)
+    } else {
+        word_address(line, symbols, part(line.len(), parts, 3))
+    }
+}
+
+/// A fact: `.fact R, LO, HI` or `.fact R, LO, HI, E`.
 fn fact_of(
     line: &[u8],
     symbols: &Symbols,
@@ -275,16 +289,12 @@ fn fact_of(
     requires { EachLies (length line.now) parts.now }
     ensures { result ≡ fact_hint line.now symbols.now (map (λ p. p.now) parts.now) following }
 {
-    match parts {
-        [place, lo, hi] => {
-            let range = both(short(line, symbols, lo), short(line, symbols, hi));
-            fact_at(following, place_of(line, place), range)
-        }
-        _ => Err(AsmWhy::Directive),
-    }
+    let at = fact_address(line, symbols, parts, following);
+    let place = place_of(line, part(line.len(), parts, 0));
+    fact_at(at, place, shorts(line, symbols, parts, 1))
 }
 
-/// The hint that a directive is, where it is one. A `.fact` speaks of the word address that follows.
+/// The hint that a directive is, where it is one. A `.fact` without an address speaks of the word address that follows.
 pub fn hint_of(
     directive: Directive,
     line: &[u8],

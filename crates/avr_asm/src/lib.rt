@@ -12,7 +12,7 @@ mod layout;
 mod lines;
 mod output;
 
-pub use assembler::assemble;
+pub use assembler::{assemble, assemble_over};
 pub use avr_operands::AsmWhy;
 pub use errors::AsmError;
 pub use laws::{

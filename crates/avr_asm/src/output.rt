@@ -48,8 +48,8 @@ pub enum Hint {
         hi: u8,
         first: u8,
     },
-    /// The range of a register, 0 to 31, or of X, Y or Z, 32 to 34, at the first instruction line after the hint:
-    /// its word address.
+    /// The range of a register, 0 to 31, or of X, Y or Z, 32 to 34, at a word address: that of the first instruction
+    /// line after the hint, or the one that the hint names.
     Fact {
         at: u16,
         place: u8,

@@ -4,7 +4,7 @@ use Rattle.std.proofs.lemmas.List.{length-map}
 use Rattle.avr_text.specs.declared.tokens.Token.{Token}
 use Rattle.avr_asm.specs.declared.first_pass.Effect.{Effect}
 use Rattle.avr_asm.specs.declared.first_pass.Effect.TheVariants.{Nothing, Take}
-use Rattle.avr_asm.specs.Layout.{if_shaped, directive_effect}
+use Rattle.avr_asm.specs.Layout.{if_shaped, is_fact, directive_effect}
 use Rattle.avr_asm.proofs.first_pass.directive_effect.Goals as goal
 
 -- what depends on the number of operands alone
@@ -55,3 +55,10 @@ returns-in-Stack-clause-effect c =
     ap Ok (counted c.args.parts.now _ (λ n. if_shaped (n == 4) Nothing) c.if_shaped-in-Stack.ensures.effect)
     ∙ ap (λ d. directive_effect d c.args.line.now c.args.symbols.now c.args.arguments.now (map (λ p. p.now) c.args.parts.now)
     c.args.follows) (sym c.in-Stack.is)
+
+pub returns-in-Fact-clause-effect : goal.returns-in-Fact-clause-effect
+returns-in-Fact-clause-effect c =
+    ap Ok (counted c.args.parts.now _ (λ n. if_shaped (is_fact n c.args.follows) Nothing)
+    (c.if_shaped-in-Fact.ensures.effect ∙ ap (λ b. if_shaped b Nothing) c.is_fact.ensures))
+    ∙ ap (λ d. directive_effect d c.args.line.now c.args.symbols.now c.args.arguments.now (map (λ p. p.now) c.args.parts.now)
+    c.args.follows) (sym c.in-Fact.is)
