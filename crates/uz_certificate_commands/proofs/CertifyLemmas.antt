@@ -201,7 +201,7 @@ certify_status files load_fault source irq hex name answer (inr (output, says, (
 certify_status files load_fault source irq hex name answer (inr (output, says, (Err why, allowed, is))) =
     inr (inr (inl (ap (λ a. a.status) is)))
 
-refusal_not_memory : (image : Flash) (irq : Response) (hints : List SourceHint) (e : NotFound) → IsWorth image irq hints (Err e)
+pub refusal_not_memory : (image : Flash) (irq : Response) (hints : List SourceHint) (e : NotFound) → IsWorth image irq hints (Err e)
     → e ≢ NoRoomToSearch
 refusal_not_memory image irq hints (Stuck trail why) worth is = absurd (cc is)
 refusal_not_memory image irq hints (Split first second) worth is = absurd (cc is)
@@ -210,7 +210,7 @@ refusal_not_memory image irq hints (Hint index) worth is = absurd (cc is)
 refusal_not_memory image irq hints (NoRest count) worth is = absurd (cc is)
 refusal_not_memory image irq hints NoRoomToSearch worth is = absurd worth
 
-refusal_cause : (image : Flash) (irq : Response) (hints : List SourceHint) (e : NotFound) → IsWorth image irq hints (Err e)
+pub refusal_cause : (image : Flash) (irq : Response) (hints : List SourceHint) (e : NotFound) → IsWorth image irq hints (Err e)
     → Cause image irq hints e
 refusal_cause image irq hints (Stuck trail why) worth = worth
 refusal_cause image irq hints (Split first second) worth = worth

@@ -7,3 +7,6 @@ pub mod DemoWorthLemmas
 pub mod PlayLemmas
 pub mod PlaySameLemmas
 pub mod PlayWorthLemmas
+pub mod FindBytes
+pub mod FindLemmas
+pub mod FindLawLemmas

@@ -8,3 +8,6 @@ pub mod DemoCommand
 pub mod DemoValues
 pub mod PlayCommand
 pub mod PlayValues
+pub mod FindCommand
+pub mod FindValues
+pub mod FindLaw

@@ -1,4 +1,4 @@
-//! The commands that make a certificate, or read one and print or write, `certify`, `check`, `report` and `migrate`, and those
+//! The commands that make a certificate, or read one and print or write, `certify`, `find`, `check`, `report` and `migrate`, and those
 //! that play a certified console, `play` and `demo`.
 #![tactic(auto)]
 
@@ -7,6 +7,8 @@ mod check_command;
 mod clocks;
 mod demo_run;
 mod demo_start;
+mod find_command;
+mod find_law;
 mod migrate_command;
 mod migrate_law;
 mod play_command;
@@ -18,6 +20,8 @@ pub use certify_command::run_certify;
 pub use check_command::run_check;
 pub use clocks::{Clocks, number_of_clocks};
 pub use demo_run::run_demo;
+pub use find_command::run_find;
+pub use find_law::find_is_certify;
 pub use migrate_command::run_migrate;
 pub use migrate_law::migration_keeps_acceptance;
 pub use play_run::run_play;

@@ -147,7 +147,7 @@ refusal_status names at why.Argument = inr refl
 refusal_status names at why.Full = inr refl
 refusal_status names at why.Memory = inr refl
 
-fails_status : (files : Option FileMap) (load_fault : Type 0) (source : List ℕ) (answer : Answer) → ExpandFails files load_fault source
+pub fails_status : (files : Option FileMap) (load_fault : Type 0) (source : List ℕ) (answer : Answer) → ExpandFails files load_fault source
     answer → ((answer.status ≡ Unread) × (load_fault ⊎ MacroLacks files source)) ⊎ (answer.status ≡ BadInput)
 fails_status files load_fault source answer (inl (fault, (name, is))) = inl (ap (λ a. a.status) is, inl fault)
 fails_status files load_fault source answer (inr r) =
@@ -186,11 +186,11 @@ OneEnd = (files : FileMap) (name : List ℕ) (x y : End) → Expands (Some files
 same_refusal : (x y : End) (p q : Refusal) → x ≡ y → x.answer ≡ Err p → y.answer ≡ Err q → p ≡ q
 same_refusal x y p q e f g = let k : ◌≡◌ {A = Result FlatText Refusal} (Err p) (Err q) = sym f ∙ ap (λ (z : End). z.answer) e ∙ g in cc
 
-not_both : (x y : End) (flat : FlatText) (p : Refusal) → x ≡ y → x.answer ≡ Ok flat → y.answer ≡ Err p → ⊥
+pub not_both : (x y : End) (flat : FlatText) (p : Refusal) → x ≡ y → x.answer ≡ Ok flat → y.answer ≡ Err p → ⊥
 not_both x y flat p e f g = let k : ◌≡◌ {A = Result FlatText Refusal} (Ok flat) (Err p) = sym f ∙ ap (λ (z : End). z.answer) e ∙ g in cc
 
 -- one flat text, with its names, and what it leads on to
-same_next : (a b : List (List ℕ)) (x y : FlatText) (next : List (List ℕ) → FlatText → Answer → Type 0) (answer : Answer) → flat_of a x
+pub same_next : (a b : List (List ℕ)) (x y : FlatText) (next : List (List ℕ) → FlatText → Answer → Type 0) (answer : Answer) → flat_of a x
     ≡ flat_of b y → next b y answer → next a x answer
 same_next a b x y next answer e h =
     let names : a ≡ b = ap (λ (z : End). z.names) e in
@@ -207,10 +207,10 @@ refused_same one files source a b p q =
     ∙ ap (λ (z : Refusal). refusal_answer q.end.names z.at z.reason) r ∙ sym q.told
 
 -- a flat text leads on to one answer
-abbrev OneAnswer : (List (List ℕ) → FlatText → Answer → Type 0) → Type 0
+abbrev pub OneAnswer : (List (List ℕ) → FlatText → Answer → Type 0) → Type 0
 OneAnswer next = (names : List (List ℕ)) (flat : FlatText) (a b : Answer) → next names flat a → next names flat b → a ≡ b
 
-flat_same : (one : OneEnd) (files : FileMap) (load_fault : Type 0) (source : List ℕ) (next : List (List ℕ) → FlatText → Answer → Type 0)
+pub flat_same : (one : OneEnd) (files : FileMap) (load_fault : Type 0) (source : List ℕ) (next : List (List ℕ) → FlatText → Answer → Type 0)
     (a b : Answer) → OneAnswer next → ReadsFlat (Some files) load_fault source next a → ReadsFlat (Some files) ⊥ source next b → (a ≡ b)
     ⊎ load_fault
 flat_same one files load_fault source next a b same (inl (inl (fault, rest))) q = inr fault

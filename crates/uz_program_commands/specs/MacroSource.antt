@@ -21,8 +21,11 @@ last_name (name ∷ []) = name
 last_name (name ∷ more ∷ names) = last_name (more ∷ names)
 
 -- a refusal is told at its line of its file, and a file that can't be read by its name
+abbrev pub bad_line_of : List (List ℕ) → Origin → List ℕ → List ℕ
+bad_line_of names at why = bad_line (name_at names at.file) at.line why
+
 abbrev pub bad_at : List (List ℕ) → Origin → List ℕ → Answer
-bad_at names at why = one_line BadInput (bad_line (name_at names at.file) at.line why)
+bad_at names at why = one_line BadInput (bad_line_of names at why)
 
 abbrev pub refusal_answer : List (List ℕ) → Origin → MacroWhy → Answer
 refusal_answer names at why.Unread = one_line Unread (unread_line (last_name names))

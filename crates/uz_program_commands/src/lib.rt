@@ -18,6 +18,7 @@ mod wave_file;
 pub use asm_command::run_asm;
 pub use debug_command::run_debug;
 pub use dis_command::run_dis;
-pub use macro_commands::{run_build, run_expand};
+pub use macro_commands::{assemble_flat, fault_line, run_build, run_expand};
+pub use macro_source::{Expanded, expand_file};
 pub use trace_run::run_trace;
 pub use wave_command::run_wave;

@@ -12,7 +12,7 @@ ghost use Rattle.uz_program_commands.specs.AsmCommand.{assembled_line};
 ghost use Rattle.uz_files.specs.Endings.{EndsBy};
 ghost use Rattle.uz_program_commands.specs.MacroCommands.{BuildAnswers, ExpandAnswers, FilesBuilt, IsBuilt, IsExpanded};
 ghost use Rattle.uz_program_commands.specs.MacroCommands.{IsUnbuilt, expanded_line, origin_of as origin_of_line};
-ghost use Rattle.uz_program_commands.specs.MacroSource.{ReadsFlat};
+ghost use Rattle.uz_program_commands.specs.MacroSource.{ReadsFlat, bad_line_of};
 ghost use Rattle.uz_program_commands.specs.MacroValues.{IsImageWork, IsMacroWork, TellsAt};
 
 use crate::asm_command::assembled;
@@ -80,6 +80,20 @@ fn origin_of(origins: &[Origin], line: u32) -> Origin
     }
 }
 
+/// The line of a fault of a flat line, at its origin.
+pub fn fault_line(
+    alloc: Global,
+    source: &Expanded,
+    line: u32,
+    why: &str,
+) -> Result<Vec<u8>, AllocError>
+    ensures { IfOk result (λ text. text.items ≡ bad_line_of (names_of source.now.names)
+        (origin_of_line source.now.flat.origins.items line) why.now) }
+{
+    let at = origin_of(source.flat.origins.as_slice(), line);
+    bad_line_at(alloc, source.names.as_slice(), at, why)
+}
+
 /// The end of a command whose flat text the assembler refuses.
 fn fault_of(alloc: Global, source: &Expanded, error: AsmError) -> Result<Failure, AllocError>
     ensures { IfOk result (EndsBy (TellsAt (names_of source.now.names) source.now.flat.origins.items error)) }
@@ -87,15 +101,14 @@ fn fault_of(alloc: Global, source: &Expanded, error: AsmError) -> Result<Failure
     match error.why {
         AsmWhy::Memory => Ok(Failure::Memory),
         why => {
-            let at = origin_of(source.flat.origins.as_slice(), error.line);
-            let line = bad_line_at(alloc, source.names.as_slice(), at, why.name())?;
+            let line = fault_line(alloc, source, error.line, why.name())?;
             Ok(Failure::BadInput(line))
         }
     }
 }
 
-/// Assembles the flat text of a source.
-fn assemble_flat(alloc: Global, source: &Expanded) -> Result<Built, Failure>
+/// Assembles the flat text of a source, or says how it ends the command.
+pub fn assemble_flat(alloc: Global, source: &Expanded) -> Result<Built, Failure>
     requires { length source.now.flat.text.items < 2 ^ 32 - 1 }
     ensures built { IfOk result (λ built. IsAssembly source.now.flat.text.items (seen_built built)) }
     ensures fails { IfErr result (EndsBy (IsUnbuilt (names_of source.now.names) source.now.flat.origins.items source.now.flat.text.items)) }

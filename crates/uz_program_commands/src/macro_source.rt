@@ -15,8 +15,10 @@ use uz_shelf::Shelf;
 
 /// A flat text with its origins, and the names of the files that they speak of.
 #[derive(Drop)]
-pub(crate) struct Expanded {
+pub struct Expanded {
+    /// Its text, and the origins of its lines.
     pub flat: Flat,
+    /// The files, in the order in which they were asked for.
     pub names: Vec<String>,
 }
 
@@ -64,8 +66,8 @@ fn refusal_of(alloc: Global, names: &[String], error: MacroError) -> Result<Fail
     }
 }
 
-/// What a source file expands to.
-pub(crate) fn expand_file<H: Shelf>(
+/// What a source file expands to, or how it ends the command.
+pub fn expand_file<H: Shelf>(
     alloc: Global,
     shelf: &mut H,
     source: &str,

@@ -9,7 +9,7 @@ use Rattle.uz_schedule.specs.declared.kinds.Response.{Response}
 use Rattle.uz_help.specs.Topics.{text_of}
 use Rattle.uz_top.specs.Words.{help_words, prints, version_words}
 use Rattle.uz_top.specs.Words.{Command, Asm, Build, Check, Expand, Migrate, Report, WritesApart, asm_words, build_words, certify_with}
-use Rattle.uz_top.specs.Words.{certify_words, migrate_words, report_words, wave_with, wave_words}
+use Rattle.uz_top.specs.Words.{certify_words, find_with, find_words, migrate_words, report_words, wave_with, wave_words}
 use Rattle.uz_top.specs.Words.{check_words, command_of, debug_with, debug_words, demo_with, demo_words, dis_words, expand_words, play_with}
 use Rattle.uz_top.specs.Words.{play_words, response_of, trace_with, trace_words}
 
@@ -169,10 +169,26 @@ version_apart : (words : List (List ℕ)) → Apart (version_words words)
 version_apart [] = tt
 version_apart (a ∷ words) = tt
 
+find_with_apart : (hex hints : List ℕ) (irq : Option Response) (cert : List ℕ) → Apart (find_with hex hints irq cert)
+find_with_apart hex hints (Some irq) cert = tt
+find_with_apart hex hints None cert = tt
+
+find_apart : (words : List (List ℕ)) → Apart (find_words words)
+find_apart [] = tt
+find_apart (a ∷ []) = tt
+find_apart (a ∷ b ∷ []) = tt
+find_apart (a ∷ b ∷ c ∷ []) = tt
+find_apart (a ∷ b ∷ c ∷ d ∷ []) = by_test (bytes_eq a b || (bytes_eq a d || bytes_eq b d)) None (find_with a b (response_of c) d) tt
+    (find_with_apart a b (response_of c) d)
+find_apart (a ∷ b ∷ c ∷ d ∷ e ∷ words) = tt
+
 -- the commands from one of them on, in the order in which the first word is compared
 
+abbrev from_find : List ℕ → List (List ℕ) → Option Command
+from_find verb words = if bytes_eq verb (codes "find") then find_words words else None
+
 abbrev from_version : List ℕ → List (List ℕ) → Option Command
-from_version verb words = if bytes_eq verb (codes "version") then version_words words else None
+from_version verb words = if bytes_eq verb (codes "version") then version_words words else from_find verb words
 
 abbrev from_help : List ℕ → List (List ℕ) → Option Command
 from_help verb words = if bytes_eq verb (codes "help") then help_words words else from_version verb words
@@ -230,7 +246,8 @@ command_apart (verb ∷ words) =
     (by_test (bytes_eq verb (codes "report")) (report_words words) (from_wave verb words) (report_apart words)
     (by_test (bytes_eq verb (codes "wave")) (wave_words words) (from_help verb words) (wave_apart words)
     (by_test (bytes_eq verb (codes "help")) (help_words words) (from_version verb words) (help_apart words)
-    (by_test (bytes_eq verb (codes "version")) (version_words words) None (version_apart words) tt))))))))))))))
+    (by_test (bytes_eq verb (codes "version")) (version_words words) (from_find verb words) (version_apart words)
+    (by_test (bytes_eq verb (codes "find")) (find_words words) None (find_apart words) tt)))))))))))))))
 
 -- what holds of the command where the names of its files differ
 pub holds_apart : (words : List (String Global)) (c : Command) (holds : Command → Type 0) → Some c ≡ command_of (map string_bytes words)

@@ -9,7 +9,7 @@ use Rattle.uz_files.specs.declared.status.Status.{Status}
 use Rattle.uz_files.specs.declared.status.Status.TheVariants as status
 use Rattle.uz_files.specs.Answers.{Answer, ComesOf, Ends, Outside, MayCome, one_line, outside}
 use Rattle.uz_files.specs.Formats.{Readings}
-use Rattle.uz_top.specs.Words.{Command, Asm, Build, Certify, Check, Debug, Demo, Dis, Expand, Migrate, Play, Prints, Report, Trace, Wave}
+use Rattle.uz_top.specs.Words.{Command, Asm, Build, Certify, Check, Debug, Demo, Dis, Expand, Find, Migrate, Play, Prints, Report, Trace, Wave}
 use Rattle.uz_top.specs.Commands.{AllowedFor, Answers, AnswersBy, IsDecided, LacksRead, PartAnswers, Succeeds}
 use Rattle.uz_files.proofs.EndingLemmas.{comes_by, comes_of_line}
 use Rattle.uz_files.proofs.OutcomeLemmas.{came_from, from_answer, unwritten_by}
@@ -25,6 +25,7 @@ use Rattle.uz_program_commands.proofs.AsmLemmas.{asm_done_answer, asm_or_fault, 
 use Rattle.uz_program_commands.proofs.DisLemmas.{dis_status, dis_or_fault, dis_same, dis_done}
 use Rattle.uz_certificate_commands.proofs.CertifyLemmas.{certify_always, certify_decided, certify_or_fault, certify_status}
 use Rattle.uz_certificate_commands.proofs.DemoSameLemmas.{demo_allowed, demo_done, demo_same, demo_status}
+use Rattle.uz_certificate_commands.proofs.FindLemmas.{find_always, find_decided, find_or_fault, find_status}
 use Rattle.uz_certificate_commands.proofs.MigrateLemmas.{migrate_done_answer, migrate_or_fault, migrate_same, migrate_status}
 use Rattle.uz_outcomes.proofs.PairLemmas.{pair_done, pair_or_fault, pair_same, pair_status}
 use Rattle.uz_outcomes.specs.VerdictLines.{accepted_line}
@@ -225,6 +226,13 @@ law_of one readings files load_fault (Prints text) = record {
   free = λ answer h. inr h;
   decided = λ told answer p. unsearched told (Prints text) answer tt (λ wanted q. inl (p ∙ sym q));
   done = λ told h loads answer p. ap (λ a. a.status) p;
+law_of one readings files load_fault (Find hex hints irq cert) = record {
+  tells = λ answer h. own_three _ answer status.BadInput status.Refused status.Done tt tt tt
+      (find_status files load_fault hex hints irq cert answer h);
+  free = λ answer h. find_or_fault files load_fault hex hints irq cert answer h;
+  decided = λ told answer p. let d = find_decided one readings told hex hints irq cert answer p in
+      record { found = d.found; allowed = d.allowed; same = d.decided };
+  done = λ told h loads answer p. find_always one readings told load_fault hex hints irq cert h loads answer p;
 }
 
 -- What follows for every command

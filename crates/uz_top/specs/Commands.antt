@@ -6,7 +6,7 @@ use Rattle.uz_search.specs.declared.found.NotFound.{NotFound}
 use Rattle.uz_files.specs.declared.status.Status.{Status}
 use Rattle.uz_files.specs.declared.status.Status.TheVariants.{Done}
 use Rattle.uz_files.specs.Answers.{Answer, Ends, NoPart, Outside, one_line}
-use Rattle.uz_top.specs.Words.{Command, Asm, Build, Certify, Check, Debug, Demo, Dis, Expand, Migrate, Play, Prints, Report, Trace, Wave}
+use Rattle.uz_top.specs.Words.{Command, Asm, Build, Certify, Check, Debug, Demo, Dis, Expand, Find, Migrate, Play, Prints, Report, Trace, Wave}
 use Rattle.uz_program_commands.specs.TraceCommand.{TraceAnswers, TraceParts}
 use Rattle.uz_outcomes.specs.RunFiles.{RunLacks, RunSucceeds}
 use Rattle.uz_program_commands.specs.MacroCommands.{BuildAnswers, BuildSucceeds, ExpandAnswers, ExpandSucceeds, FilesBuilt}
@@ -17,6 +17,7 @@ use Rattle.uz_program_commands.specs.AsmCommand.{AsmAnswers, AsmSucceeds, FilesA
 use Rattle.uz_program_commands.specs.DisCommand.{DisAnswers, DisSucceeds}
 use Rattle.uz_certificate_commands.specs.CertifyCommand.{AllowedOf, CertifyAnswers, CertifyAnswersBy, CertifySucceeds, FilesCertify}
 use Rattle.uz_certificate_commands.specs.DemoCommand.{AllowedOfDemo, DemoAnswers, DemoAnswersBy, DemoHalted, DemoParts, DemoPlayed, DemoSucceeds}
+use Rattle.uz_certificate_commands.specs.FindCommand.{AllowedOfFind, FilesFound, FindAnswers, FindAnswersBy, FindLacks, FindSucceeds}
 use Rattle.uz_certificate_commands.specs.MigrateCommand.{FilesMigrated, MigrateAnswers, MigrateSucceeds}
 use Rattle.uz_certificate_commands.specs.CheckCommand.{CheckAnswers, FilesCertified}
 use Rattle.uz_certificate_commands.specs.ReportCommand.{FilesReported, ReportAnswers}
@@ -40,6 +41,7 @@ Answers files load_fault (Migrate older newer) answer = MigrateAnswers files loa
 Answers files load_fault (Report hex cert) answer = ReportAnswers files load_fault hex cert answer
 Answers files load_fault (Wave hex pads irq clocks wav) answer = WaveAnswers files load_fault hex pads irq clocks wav answer
 Answers files load_fault (Prints text) answer = answer ≡ one_line Done text
+Answers files load_fault (Find hex hints irq cert) answer = FindAnswers files load_fault hex hints irq cert answer
 
 -- a file that the command reads isn't there, and all earlier ones are read
 abbrev pub LacksRead : Option FileMap → Command → Type 0
@@ -57,6 +59,7 @@ LacksRead files (Migrate older newer) = LacksFile files older
 LacksRead files (Report hex cert) = PairLacks files hex cert
 LacksRead files (Wave hex pads irq clocks wav) = RunLacks files hex pads
 LacksRead files (Prints text) = ⊥
+LacksRead files (Find hex hints irq cert) = FindLacks files hex hints
 
 -- all that the command reads is there and in its grammar, and what it asks of it holds
 abbrev pub Succeeds : Option FileMap → Command → Type 0
@@ -74,6 +77,7 @@ Succeeds files (Migrate older newer) = MigrateSucceeds files older
 Succeeds files (Report hex cert) = SpellPair files hex cert Accepts
 Succeeds files (Wave hex pads irq clocks wav) = RunSucceeds files hex pads irq clocks
 Succeeds files (Prints text) = Unit {0}
+Succeeds files (Find hex hints irq cert) = FindSucceeds files hex hints irq
 
 -- the command creates no file
 abbrev pub CreatesNone : Command → Type 0
@@ -91,6 +95,7 @@ CreatesNone (Migrate older newer) = ⊥
 CreatesNone (Report hex cert) = Unit {0}
 CreatesNone (Wave hex pads irq clocks wav) = ⊥
 CreatesNone (Prints text) = Unit {0}
+CreatesNone (Find hex hints irq cert) = ⊥
 
 -- what a command is worth where it is done, with the files before it and after it
 abbrev pub Certifies : Option FileMap → Option FileMap → Command → Type 0
@@ -108,6 +113,7 @@ Certifies files new (Migrate older newer) = FilesMigrated files new older newer
 Certifies files new (Report hex cert) = FilesReported files hex cert
 Certifies files new (Wave hex pads irq clocks wav) = FilesHeard files new hex pads irq clocks wav
 Certifies files new (Prints text) = Unit {0}
+Certifies files new (Find hex hints irq cert) = FilesFound files new hex hints irq cert
 
 -- what a command tells where it is stopped
 abbrev pub StopTells : Option FileMap → Command → Type 0
@@ -125,6 +131,7 @@ StopTells files (Migrate older newer) = Unit {0}
 StopTells files (Report hex cert) = Unit {0}
 StopTells files (Wave hex pads irq clocks wav) = Unit {0}
 StopTells files (Prints text) = Unit {0}
+StopTells files (Find hex hints irq cert) = Unit {0}
 
 -- what a command has come to that is cut short in the midst of its work
 abbrev pub PartAnswers : Option FileMap → Command → Answer → Type 0
@@ -142,8 +149,10 @@ PartAnswers files (Migrate older newer) = NoPart
 PartAnswers files (Report hex cert) = NoPart
 PartAnswers files (Wave hex pads irq clocks wav) = NoPart
 PartAnswers files (Prints text) = NoPart
+PartAnswers files (Find hex hints irq cert) = NoPart
 
--- Where the shelf tells its files, they decide the answer, and for `certify` and `demo` an answer of the search does besides, as plain data
+-- Where the shelf tells its files, they decide the answer, and for `certify`, `find` and `demo` an answer of the search does besides, as
+-- plain data
 
 abbrev pub AnswersBy : Option FileMap → Result Cert NotFound → Command → Answer → Type 0
 AnswersBy files found (Check hex cert) answer = CheckAnswers files ⊥ hex cert answer
@@ -160,6 +169,7 @@ AnswersBy files found (Migrate older newer) answer = MigrateAnswers files ⊥ ol
 AnswersBy files found (Report hex cert) answer = ReportAnswers files ⊥ hex cert answer
 AnswersBy files found (Wave hex pads irq clocks wav) answer = WaveAnswers files ⊥ hex pads irq clocks wav answer
 AnswersBy files found (Prints text) answer = answer ≡ one_line Done text
+AnswersBy files found (Find hex hints irq cert) answer = FindAnswersBy files hex hints cert found answer
 
 -- what the search's promise allows: a certificate that is accepted and as the hints ask, or a refusal whose cause stands
 abbrev pub AllowedFor : Option FileMap → Command → Result Cert NotFound → Type 0
@@ -177,6 +187,7 @@ AllowedFor files (Migrate older newer) found = Unit {0}
 AllowedFor files (Report hex cert) found = Unit {0}
 AllowedFor files (Wave hex pads irq clocks wav) found = Unit {0}
 AllowedFor files (Prints text) found = Unit {0}
+AllowedFor files (Find hex hints irq cert) found = AllowedOfFind files hex hints irq found
 
 -- it ended with the one answer that they decide
 pub record IsDecided (files : Option FileMap) (write_fault : Type 0) (c : Command) (came : Status) (old new : Outside) : Type 0 where

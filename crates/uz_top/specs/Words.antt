@@ -25,6 +25,7 @@ pub data Command : Type 0 where
   Wave : (hex pads : List ℕ) → (irq : Response) → (clocks : ℕ) → (wav : List ℕ) → Command
   -- `help` and `version`: the words alone decide the text
   Prints : (text : List ℕ) → Command
+  Find : (hex hints : List ℕ) → (irq : Response) → (cert : List ℕ) → Command
 
 -- the file words of a command differ
 abbrev pub check_words : List (List ℕ) → Option Command
@@ -133,6 +134,15 @@ abbrev pub version_words : List (List ℕ) → Option Command
 version_words [] = Some (Prints version_text)
 version_words other = None
 
+abbrev pub find_with : List ℕ → List ℕ → Option Response → List ℕ → Option Command
+find_with hex hints (Some irq) cert = Some (Find hex hints irq cert)
+find_with hex hints None cert = None
+
+abbrev pub find_words : List (List ℕ) → Option Command
+find_words (hex ∷ hints ∷ irq ∷ cert ∷ []) =
+    if bytes_eq hex hints || (bytes_eq hex cert || bytes_eq hints cert) then None else find_with hex hints (response_of irq) cert
+find_words other = None
+
 abbrev pub command_of : List (List ℕ) → Option Command
 command_of [] = None
 command_of (verb ∷ words) =
@@ -151,6 +161,7 @@ command_of (verb ∷ words) =
     else if bytes_eq verb (codes "wave") then wave_words words
     else if bytes_eq verb (codes "help") then help_words words
     else if bytes_eq verb (codes "version") then version_words words
+    else if bytes_eq verb (codes "find") then find_words words
     else None
 
 -- the words are no command

@@ -6,7 +6,8 @@ ghost use Rattle.uz_text.specs.Numbers.{number_below, number_within as number_fr
 ghost use Rattle.uz_top.specs.Words.{asm_words, build_words, certify_with as certify_with_response, certify_words};
 ghost use Rattle.uz_top.specs.Words.{check_words, command_of, debug_with as debug_with_response, debug_words};
 ghost use Rattle.uz_top.specs.Words.{demo_with as demo_with_number, demo_words, dis_words, expand_words, migrate_words};
-ghost use Rattle.uz_top.specs.Words.{help_words, play_with as play_with_clocks, play_words, report_words, response_of};
+ghost use Rattle.uz_top.specs.Words.{find_with as find_with_response, find_words, help_words};
+ghost use Rattle.uz_top.specs.Words.{play_with as play_with_clocks, play_words, report_words, response_of};
 ghost use Rattle.uz_top.specs.Words.{trace_with as trace_with_numbers, trace_words, version_words};
 ghost use Rattle.uz_top.specs.Words.{wave_with as wave_with_numbers, wave_words};
 
@@ -83,6 +84,12 @@ pub(crate) enum Command<'a> {
     Prints {
         text: &'a str,
     },
+    Find {
+        hex: &'a str,
+        hints: &'a str,
+        irq: Response,
+        cert: &'a str,
+    },
 }
 
 /// The command of these words, without the program's name, or `None` where they are no command.
@@ -115,6 +122,7 @@ fn parse_after<'a>(verb: &str, rest: &'a [String]) -> Option<Command<'a>>
         "wave" => wave(rest),
         "help" => help(rest),
         "version" => version(rest),
+        "find" => find(rest),
         _ => None,
     }
 }
@@ -470,6 +478,37 @@ fn version(words: &[String]) -> Option<Command<'_>>
         [] => Some(Command::Prints {
             text: version_text(),
         }),
+        _ => None,
+    }
+}
+
+/// The command once its files are known to differ.
+fn find_with<'a>(hex: &'a str, hints: &'a str, irq: &str, cert: &'a str) -> Option<Command<'a>>
+    ensures { option_map value_of result ≡ find_with_response hex.now hints.now (response_of irq.now) cert.now }
+{
+    match response(irq) {
+        Some(irq) => Some(Command::Find {
+            hex,
+            hints,
+            irq,
+            cert,
+        }),
+        None => None,
+    }
+}
+
+/// `find HEX HINTS IRQ CERT`, of three files.
+fn find(words: &[String]) -> Option<Command<'_>>
+    ensures { option_map value_of result ≡ find_words (map string_bytes words.now) }
+{
+    match words {
+        [hex, hints, irq, cert] => {
+            if are_some_same(hex.as_str(), hints.as_str(), cert.as_str()) {
+                None
+            } else {
+                find_with(hex.as_str(), hints.as_str(), irq.as_str(), cert.as_str())
+            }
+        }
         _ => None,
     }
 }

@@ -13,7 +13,7 @@ use crate::command::{Command, parse};
 use avr_macro::expansion_is_unique;
 use std::alloc::Global;
 use uz_certificate_commands::{
-    run_certify, run_check, run_demo, run_migrate, run_play, run_report,
+    run_certify, run_check, run_demo, run_find, run_migrate, run_play, run_report,
 };
 use uz_files::{Status, end_done, end_fault, put_no_memory, readings_are_unique};
 use uz_help::usage_line;
@@ -91,6 +91,12 @@ fn run<H: Shelf, K: Sink>(
             wav,
         } => run_wave(alloc, hex, pads, irq, clocks, wav, shelf, out),
         Command::Prints { text } => end_done(alloc, out, text.as_bytes()),
+        Command::Find {
+            hex,
+            hints,
+            irq,
+            cert,
+        } => run_find(alloc, hex, hints, irq, cert, shelf, out),
     }
 }
 
@@ -165,8 +171,8 @@ pub fn uzebox<H: Shelf, K: Sink>(
         result (outside (H.files shelf.old) (K.text out.old))) result (Rose (K.faults out.old) (K.faults out.new) ⊎ K.may_lack)
         (outside (H.files shelf.new) (K.text out.new))) }
 
-    // Where the shelf tells its files, they alone decide the answer, for `certify` and `demo` with what the search answered: unless memory
-    // is lacking or a fault came.
+    // Where the shelf tells its files, they alone decide the answer, for `certify`, `find` and `demo` with what the search answered: unless
+    // memory is lacking or a fault came.
     ensures exact { IfCommand words.now (λ c. IfSome (H.files shelf.old) (λ files.
         (result ≡ Status.NoMemory)
         ⊎ (LoadFault (H.load_faults shelf.old) (H.load_faults shelf.new)
@@ -191,7 +197,8 @@ pub fn uzebox<H: Shelf, K: Sink>(
 
     // What a command that is done is worth: after `asm` and `build` the written file is Intel HEX of the image that the source
     // assembles to, after `migrate` it is a text of the very certificate that was read; `check` certifies the image and the
-    // certificate that its files spell, `certify` those that the written files spell; after `report` the clocks that are printed
+    // certificate that its files spell, `certify` those that the written files spell, `find` the image that is read and the
+    // certificate that is written; after `report` the clocks that are printed
     // are those that main has; after `wave` the written file is the sound of the run; and a run that is played, by `play` or
     // `demo`, keeps to the schedule once a state of it has entered. One that is stopped never entered.
     ensures certified { result ≡ Status.Done → IfCommand words.now (Certifies (H.files shelf.old) (H.files shelf.new)) }

@@ -109,3 +109,15 @@ pub returns-in-Prints-clause-outcome : goal.returns-in-Prints-clause-outcome
 returns-in-Prints-clause-outcome g c =
     prints_outcome (value_of c.args.command.now) c.in-Prints.text.now _ _ _ _ _ _ _ _ (ap value_of c.in-Prints.is) inr
     c.as_bytes.ensures.value (c.end_done.ensures.comes (g.H.Shelf.files c.args.shelf.now))
+
+pub returns-in-Find-clause-outcome : goal.returns-in-Find-clause-outcome
+returns-in-Find-clause-outcome g c = outcome_at (value_of c.args.command.now) _ _ _ _ _ _ _ (ap value_of c.in-Find.is)
+    c.run_find.ensures.outcome
+
+pub returns-in-Find-clause-untouched : goal.returns-in-Find-clause-untouched
+returns-in-Find-clause-untouched g c = λ none. absurd (subst CreatesNone (ap value_of c.in-Find.is) none)
+
+pub returns-in-Find-clause-certified : goal.returns-in-Find-clause-certified
+returns-in-Find-clause-certified g c = λ done apart.
+    subst (Certifies (g.H.Shelf.files c.args.shelf.now) (g.H.Shelf.files c.run_find.new.shelf)) (sym (ap value_of c.in-Find.is))
+    (c.run_find.ensures.certified done)
