@@ -198,6 +198,7 @@ pub fn run_find<H: Shelf, K: Sink>(
         result (outside (H.files shelf.old) (K.text out.old)) (outside (H.files shelf.new) (K.text out.new)) }
     ensures certified { result ≡ Status.Done
         → FilesFound (H.files shelf.old) (H.files shelf.new) hex.now hints.now irq cert.now }
+    ensures faults { K.faults out.old ≤ K.faults out.new }
 {
     soundness();
     let sought = match prepare(alloc, shelf, hex, hints, irq) {

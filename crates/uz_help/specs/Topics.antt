@@ -101,6 +101,12 @@ topics =
       does = codes "prints the release, and the toolchain that it is proved with";
       more = codes "reads and writes no file\n0 done, 5 not written, 8 no memory\n";
     }
+    ∷ record {
+      name = codes "find";
+      words = codes "find HEX HINTS IRQ CERT";
+      does = codes "finds a certificate of an image by hints beside it, and writes it";
+      more = codes "reads HEX, HINTS and the files that it includes; writes CERT; IRQ is 4 or 5\n0 done, 2 a file not read, 3 a fault in a file, 4 refused, 5 not written, 8 no memory\n";
+    }
     ∷ []
 
 -- a command's words, and below them what it does
