@@ -242,8 +242,8 @@ find_always one readings files load_fault hex hints irq name well loads answer h
     by_case (inl fault) = absurd (loads fault)
     by_case (inr (Ok cert, allowed, is)) = ap (λ a. a.status) is
     by_case (inr (Err why, allowed, is)) =
-        absurd (well.free why (refusal_not_memory well.image irq well.output.hints why allowed)
-        (refusal_cause well.image irq well.output.hints why allowed))
+        absurd (well.free why (refusal_not_memory well.image irq well.output.hints why allowed.worth)
+        (refusal_cause well.image irq well.output.hints why allowed.worth))
 
 -- A shelf that tells its files and what the search answered give one answer
 
@@ -406,10 +406,10 @@ module _ (files : Option FileMap) (load_fault : Type 0) (hex hints : List ℕ) (
     output = found.output;
     spelled = found.spelled;
     certificate = found.is.cert;
-    asked = found.is.allowed.2;
+    asked = found.is.allowed.worth.2;
     certificate_text = work.text.items;
     holds_certificate = holds_written mid after name work.text.items written;
     is_certificate = found.is.of.reads_back;
-    accepted = found.is.allowed.1;
-    certified = sound found.image found.is.cert found.is.allowed.0 found.is.allowed.1;
+    accepted = found.is.allowed.worth.1;
+    certified = sound found.image found.is.cert found.is.allowed.worth.0 found.is.allowed.worth.1;
   }
