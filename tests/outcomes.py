@@ -35,21 +35,20 @@ def program(words, doc):
     return path
 
 
-def reader_of(path):
-    """The program of another process that has a file open, or None."""
-    for name in os.listdir('/proc'):
-        if name.isdigit() and int(name) != os.getpid():
-            try:
-                if any(os.path.samefile('/proc/%s/fd/%s' % (name, fd), path) for fd in os.listdir('/proc/%s/fd' % name)):
-                    return os.readlink('/proc/%s/exe' % name)
-            except OSError:
-                pass  # the process ended, or is another user's
+def program_with(process, path):
+    """The program that a process runs, where it has a file open; else None."""
+    own = '/proc/%d/' % process.pid
+    try:
+        if any(os.path.samefile(own + 'fd/' + fd, path) for fd in os.listdir(own + 'fd')):
+            return os.readlink(own + 'exe')
+    except OSError:
+        pass  # the process ended
     return None
 
 
 def binary(path):
-    """The program itself, where the path is the runner of this repository, whose own time thousands of runs would add up. It is
-    the program that has a pipe open which the runner was told to list."""
+    """The program itself, where the path is the runner of this repository, whose own time thousands of runs would add up. The runner
+    becomes that program: it is what its process is when it has a pipe open that it was told to list."""
     if os.path.realpath(path) != os.path.join(TOP, 'uzebox'):
         return path
     with tempfile.TemporaryDirectory() as folder:
@@ -62,7 +61,7 @@ def binary(path):
                 writer = os.open(pipe, os.O_WRONLY | os.O_NONBLOCK)
             except OSError:
                 time.sleep(0.01)  # nobody reads it yet
-        found = reader_of(pipe)
+        found = program_with(runner, pipe)
         if writer is not None:
             os.close(writer)
         runner.wait()
