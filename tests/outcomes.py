@@ -55,13 +55,15 @@ def binary(path):
         pipe = os.path.join(folder, 'pipe')
         os.mkfifo(pipe)
         runner = subprocess.Popen([path, 'dis', pipe], stdin=subprocess.DEVNULL, stdout=subprocess.DEVNULL, stderr=subprocess.DEVNULL)
-        writer = None
-        while writer is None and runner.poll() is None:
+        writer, found, looks = None, None, 0
+        while not found and looks < 500 and runner.poll() is None:
             try:
-                writer = os.open(pipe, os.O_WRONLY | os.O_NONBLOCK)
+                writer = os.open(pipe, os.O_WRONLY | os.O_NONBLOCK) if writer is None else writer
+                found = program_with(runner, pipe)
+                looks += 1  # it may have the file only after the pipe has a writer
             except OSError:
-                time.sleep(0.01)  # nobody reads it yet
-        found = program_with(runner, pipe)
+                pass  # nobody reads it yet
+            time.sleep(0.01)
         if writer is not None:
             os.close(writer)
         runner.wait()
