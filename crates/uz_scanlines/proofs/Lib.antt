@@ -2,3 +2,4 @@ mod Positions
 mod Instances
 mod FrameRules
 mod OldRules
+mod OldTimer

@@ -48,14 +48,14 @@ use Rattle.uz_scanlines.proofs.Instances.{instance_is}
 
 -- Tests
 
-both_true : (a b : Bool) → a ≡ true → b ≡ true → (a && b) ≡ true
+pub both_true : (a b : Bool) → a ≡ true → b ≡ true → (a && b) ≡ true
 both_true a b p q = λ i. p i && q i
 
 either_true : (a b : Bool) → (a || b) ≡ true → (a ≡ true) ⊎ (b ≡ true)
 either_true true b e = inl refl
 either_true false b e = inr e
 
-unrefused : (b : Bool) (why : Fail) (later : Option Fail) → None ≡ refuse_if b why later → (b ≡ false) × (None ≡ later)
+pub unrefused : (b : Bool) (why : Fail) (later : Option Fail) → None ≡ refuse_if b why later → (b ≡ false) × (None ≡ later)
 unrefused true why later e = absurd cc
 unrefused false why later e = (refl, e)
 
@@ -148,6 +148,9 @@ each_all : (test : Exit → Bool) (exits : List Exit) → ((exit : Exit) → Con
 each_all test [] all = refl
 each_all test (x ∷ exits) all = both_true (test x) (each_exit test exits) (all x (zero, omega arith, refl))
     (each_all test exits (λ exit has. all exit (suc has.0, omega (arith, has.1), has.2)))
+
+pub each_true : (test : Exit → Bool) (exits : List Exit) → ((exit : Exit) → test exit ≡ true) → each_exit test exits ≡ true
+each_true test exits all = each_all test exits (λ exit _. all exit)
 
 -- at an instance of a frame of scanlines
 

@@ -1,14 +1,22 @@
 //! Laws of the definitions. Each is the contract of a function that does nothing.
 
-ghost use Rattle.std.specs.Prelude.{◌≡◌, ◌↔◌, ℕ, ◌*◌, ◌%◌, Contains};
+ghost use Rattle.std.specs.Prelude.{◌≡◌, ◌↔◌, ℕ, ◌-◌, ◌*◌, ◌%◌, true, Contains, List, None};
+ghost use Rattle.uz_machine.specs.declared.Effect.{Effect};
+ghost use Rattle.uz_schedule.specs.Ends.{whole_byte};
 ghost use Rattle.uz_schedule.specs.Instances.{instance_at};
 ghost use Rattle.uz_schedule.specs.Limits.{ScheduleFits};
+ghost use Rattle.uz_schedule.specs.Lines.{uniform};
 ghost use Rattle.uz_schedule.specs.Schedule.{scanline, length_of, start_of, frame_of, At, event_at, level_at};
 ghost use Rattle.uz_schedule.specs.WellFormed.{WellFormed};
 ghost use Rattle.uz_schedule.specs.declared.certificate.Cert.{Cert};
+ghost use Rattle.uz_schedule.specs.declared.header.Head.{Head};
 ghost use Rattle.uz_schedule.specs.declared.lines.Schedule.{Schedule};
+ghost use Rattle.uz_schedule.specs.declared.states.Instance.{Instance};
 ghost use Rattle.uz_schedule.specs.declared.states.Rest.{Rest};
 ghost use Rattle.uz_hex.specs.Reading.{Flash};
+ghost use Rattle.uz_transfer.specs.declared.step.Exit.{Exit};
+ghost use Rattle.uz_transfer.specs.InTime.{clock_holds};
+ghost use Rattle.uz_transfer.specs.Refusals.{fail_of};
 ghost use Rattle.uz_soundness.specs.Acceptance.{Accepts};
 ghost use Rattle.uz_soundness.specs.FrameRules.{RestPasses, EntryPasses};
 ghost use Rattle.uz_scanlines.specs.ByPosition.{AreScanlines, position, frame_clocks, event_by_position, level_by_position};
@@ -52,3 +60,10 @@ pub fn old_rules_accept_the_same()
 {
     lies_in_point_tells();
 }
+
+/// The rule that the timer keeps time with the lines refuses nothing there: where an instance's OCR1A is the last clock of a scanline and
+/// its TEMP may be any byte, no instruction that isn't refused elsewhere changes OCR1A. So version 1 has no such rule. Does nothing.
+pub fn old_timer_keeps_time()
+    ensures { (head : Head) (e : Effect) (inst : Instance) (exits : List Exit) (n : ℕ) → inst.top ≡ scanline - 1
+        → inst.temp ≡ whole_byte → fail_of head e inst ≡ None → clock_holds (uniform n) e inst exits ≡ true }
+{}

@@ -6,5 +6,5 @@ mod laws;
 
 pub use laws::{
     frame_rules_by_position, instances_by_position, old_rules_accept_the_same,
-    scanlines_by_position,
+    old_timer_keeps_time, scanlines_by_position,
 };
