@@ -1,0 +1,7 @@
+use Rattle.std.proofs.Common.{◌≡◌, drop}
+use Rattle.uz_timing.specs.FrameText.{has}
+use Rattle.uz_timing.proofs.frame_text.has.Given as goal
+
+-- what is left answers for all
+abbrev pub invariant-loop-other : goal.invariant-loop-other
+invariant-loop-other l = has l.number (drop l.other-index l.numbers) ≡ has l.number l.numbers
