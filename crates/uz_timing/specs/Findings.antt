@@ -1,5 +1,5 @@
 -- How many of the lines that NTSC says something of end in `out`.
-use Rattle.std.specs.Prelude.{ℕ, zero, suc, ◌+◌, Bool, true, false, List, Option, Some, None, slice_get, length}
+use Rattle.std.specs.Prelude.{ℕ, zero, suc, ◌+◌, Bool, true, false, List, Option, Some, None, slice_get, length, if◌then◌else◌}
 use Rattle.uz_schedule.specs.declared.lines.Event.{Event}
 use Rattle.uz_schedule.specs.declared.lines.Schedule.{Schedule}
 use Rattle.uz_schedule.specs.Schedule.{frame_of}
@@ -10,6 +10,7 @@ use Rattle.uz_timing.specs.declared.range.Range.{Range}
 use Rattle.uz_timing.specs.Pulses.{pulse_in, low_of, high_of, kind_of, range_of, serration, is_in}
 use Rattle.uz_timing.specs.KindText.{length_of_kind}
 use Rattle.uz_timing.specs.FrameText.{is_frame}
+use Rattle.uz_timing.specs.Places.{has}
 use Rattle.uz_timing.specs.Order.{pulses_of, is_field}
 
 abbrev pub one_unless : Bool → ℕ
@@ -30,9 +31,10 @@ abbrev pub sync_out : ℕ → Option Pulse → ℕ
 sync_out clocks None = 1
 sync_out clocks (Some p) = out_of (low_of p) (range_of (kind_of (low_of p))) + serration_out (kind_of (low_of p)) (high_of clocks p)
 
+-- of a kind that a line of the frame is of
 abbrev pub kind_out : Schedule → ℕ → Option (List Event) → ℕ
 kind_out s kind None = 0
-kind_out s kind (Some events) = sync_out (length_of_kind s kind) (pulse_in events)
+kind_out s kind (Some events) = if has kind s.lines then sync_out (length_of_kind s kind) (pulse_in events) else 0
 
 -- of the kinds below one
 abbrev pub kinds_out_below : Schedule → ℕ → ℕ

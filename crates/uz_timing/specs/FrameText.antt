@@ -1,11 +1,11 @@
 -- The lines of the whole frame.
-use Rattle.std.specs.Prelude.{ℕ, ◌+◌, ◌*◌, ◌/◌, ◌%◌, ◌==◌, nat_le, ◌&&◌, Bool, true, false, List, [], ◌∷◌, ◌++◌, length, map, if◌then◌else◌, codes, decimal}
+use Rattle.std.specs.Prelude.{ℕ, ◌+◌, ◌*◌, ◌/◌, ◌%◌, nat_le, ◌&&◌, Bool, List, [], ◌∷◌, ◌++◌, length, map, if◌then◌else◌, codes, decimal}
 use Rattle.uz_schedule.specs.declared.lines.Schedule.{Schedule}
 use Rattle.uz_schedule.specs.Schedule.{scanline, half_line, frame_of}
 use Rattle.uz_timing.specs.declared.pulse_kind.PulseKind.{PulseKind}
 use Rattle.uz_timing.specs.KindText.{length_of_kind}
 use Rattle.uz_timing.specs.Order.{pulses_of, is_field, is_same}
-use Rattle.uz_timing.specs.Places.{place_words}
+use Rattle.uz_timing.specs.Places.{has, place_words}
 use Rattle.uz_timing.specs.Words.{name_of, range_words, verdict}
 
 -- A field of NTSC has 262.5 lines (SMPTE 170M-2004). A console that shows the same picture in each frame has 262 or 263 of them
@@ -54,11 +54,6 @@ order_line s = order_words (pulses_of s) (is_field s (pulses_of s))
 
 unfoldable pub lengths_of : Schedule → List ℕ
 lengths_of s = map (length_of_kind s) s.lines
-
--- whether a number stands in a list
-abbrev pub has : ℕ → List ℕ → Bool
-has n [] = false
-has n (m ∷ numbers) = if m == n then true else has n numbers
 
 -- A line has one fall of sync, at the clock at which each line has it: so from its fall to the next one is its length.
 -- The lines with this distance, where there are some

@@ -1,6 +1,6 @@
 -- The lines of one kind of line.
 use Rattle.std.specs.Prelude.{ℕ, zero, suc, ◌+◌, ◌-◌, List, [], ◌∷◌, ◌++◌, length, Option, Some, None, slice_get, slice_index_or}
-use Rattle.std.specs.Prelude.{codes, decimal}
+use Rattle.std.specs.Prelude.{if◌then◌else◌, codes, decimal}
 use Rattle.uz_schedule.specs.declared.lines.Event.{Event}
 use Rattle.uz_schedule.specs.declared.lines.Schedule.{Schedule}
 use Rattle.uz_schedule.specs.Schedule.{scanline}
@@ -10,7 +10,7 @@ use Rattle.uz_timing.specs.declared.pulse_kind.PulseKind.TheVariants.{Equalizing
 use Rattle.uz_timing.specs.declared.shown.Shown.TheVariants.{Pixels, Sounds, Returns}
 use Rattle.uz_timing.specs.Pulses.{pulse_in, low_of, high_of, kind_of, range_of, serration}
 use Rattle.uz_timing.specs.Shown.{clocks_of, distances, times, odd_in}
-use Rattle.uz_timing.specs.Places.{place_words}
+use Rattle.uz_timing.specs.Places.{has, place_words}
 use Rattle.uz_timing.specs.Words.{name_of, time_words, judged}
 
 -- the number of the kind, its length, and the lines of the frame that are of it
@@ -91,9 +91,10 @@ length_of_kind s kind = slice_index_or s.lengths kind scanline
 unfoldable pub kind_block : Schedule → ℕ → List Event → List ℕ
 kind_block s kind events = head_line s kind (length_of_kind s kind) ++ event_lines (length_of_kind s kind) events
 
+-- of a kind that no line of the frame is of nothing is told
 abbrev pub block_of : Schedule → ℕ → Option (List Event) → List ℕ
 block_of s kind None = []
-block_of s kind (Some events) = kind_block s kind events
+block_of s kind (Some events) = if has kind s.lines then kind_block s kind events else []
 
 -- of the kinds below one
 abbrev pub blocks_below : Schedule → ℕ → List ℕ

@@ -1,7 +1,12 @@
 -- The places at which a number stands in a list, as words: runs of places that follow each other, a run of one by its place and a longer
 -- one by its first and its last place.
-use Rattle.std.specs.Prelude.{ℕ, zero, suc, ◌+◌, ◌-◌, ◌==◌, nat_lt, ◌&&◌, Bool, false, List, [], ◌++◌, length, Option, Some, None}
+use Rattle.std.specs.Prelude.{ℕ, zero, suc, ◌+◌, ◌-◌, ◌==◌, nat_lt, ◌&&◌, Bool, true, false, List, [], ◌∷◌, ◌++◌, length, Option, Some, None}
 use Rattle.std.specs.Prelude.{slice_get, if◌then◌else◌, codes, decimal}
+
+-- whether a number stands in a list
+abbrev pub has : ℕ → List ℕ → Bool
+has n [] = false
+has n (m ∷ numbers) = if m == n then true else has n numbers
 
 abbrev pub is_number : ℕ → Option ℕ → Bool
 is_number n None = false

@@ -37,7 +37,10 @@ fn put_frame_lines(text: &mut Vec<u8>, alloc: Global, schedule: &Schedule) -> Re
     put_frame(text, schedule.lines.len(), clocks)?;
     put_order(text, pulses.as_slice(), is_field)?;
     put_all_falls(text, alloc, schedule)?;
-    put_last(text, kinds_out(schedule) + one_unless(is_frame(clocks)) + one_unless(is_field))
+    put_last(
+        text,
+        kinds_out(schedule) + one_unless(is_frame(clocks)) + one_unless(is_field),
+    )
 }
 
 /// What `timing` prints of a certificate's schedule: a block for each kind of line, the lines of the frame, and `ntsc ok` or

@@ -1,10 +1,11 @@
 //! How many lines that NTSC says something of end in `out`.
 
-ghost use Rattle.std.specs.Prelude.{◌≡◌, ◌≤◌, ◌*◌, length};
+ghost use Rattle.std.specs.Prelude.{◌≡◌, ◌≤◌, ◌*◌, length, slice_get};
 ghost use Rattle.uz_schedule.specs.Limits.{ScheduleFits};
-ghost use Rattle.uz_timing.specs.Findings.{kinds_out_below, one_unless as one_or_none, out_of, serration_out as out_behind, sync_out as out_in};
+ghost use Rattle.uz_timing.specs.Findings.{kind_out as out_in_kind, kinds_out_below, one_unless as one_or_none, out_of, serration_out as out_behind, sync_out as out_in};
 
 use crate::kind_text::length_of_kind;
+use crate::places::has;
 use crate::pulse::{Pulse, pulse_in};
 use crate::pulse_kind::PulseKind;
 use crate::range::{Range, SERRATION};
@@ -55,16 +56,28 @@ fn sync_out(clocks: u16, pulse: Option<Pulse>) -> u32
     }
 }
 
+/// How many lines of a kind's block are out.
+fn kind_out(schedule: &Schedule, kind: u16) -> u32
+    ensures value { result ≡ out_in_kind schedule.now kind (slice_get schedule.now.kinds kind) }
+    ensures few { result ≤ 2 }
+{
+    match schedule.kinds.as_slice().get(usize::from(kind)) {
+        Some(events) if has(kind, schedule.lines.as_slice()) => {
+            sync_out(length_of_kind(schedule, kind), pulse_in(events.as_slice()))
+        }
+        _ => 0,
+    }
+}
+
 /// How many lines of all kinds are out.
 pub(crate) fn kinds_out(schedule: &Schedule) -> u32
     requires { ScheduleFits schedule.now }
     ensures value { result ≡ kinds_out_below schedule.now (length schedule.now.kinds) }
     ensures few { result ≤ 2 * length schedule.now.kinds }
 {
-    let kinds = schedule.kinds.as_slice();
     let mut out: u32 = 0;
-    for kind in 0..kinds.len() {
-        out += sync_out(length_of_kind(schedule, kind as u16), pulse_in(kinds[kind].as_slice()));
+    for kind in 0..schedule.kinds.len() as u16 {
+        out += kind_out(schedule, kind);
     }
     out
 }

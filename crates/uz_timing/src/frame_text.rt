@@ -2,11 +2,11 @@
 
 ghost use Rattle.std.specs.Prelude.{◌≡◌, ◌<◌, ◌≤◌, ◌++◌, IfOk, OnOk, length};
 ghost use Rattle.uz_schedule.specs.Limits.{ScheduleFits};
-ghost use Rattle.uz_timing.specs.FrameText.{distance_line, each_words, falls_line, falls_lines, frame_line, has as has_number, hundredths as rate_of, is_frame as is_field_long};
+ghost use Rattle.uz_timing.specs.FrameText.{distance_line, each_words, falls_line, falls_lines, frame_line, hundredths as rate_of, is_frame as is_field_long};
 ghost use Rattle.uz_timing.specs.FrameText.{lengths_of, order_words, rate_words, run_words, runs, runs_after, size_words};
 
 use crate::kind_text::length_of_kind;
-use crate::places::put_places;
+use crate::places::{has, put_places};
 use crate::pulse_kind::PulseKind;
 use crate::words::{put_decimal, put_number, put_range, put_verdict};
 use std::alloc::{AllocError, Global};
@@ -128,18 +128,6 @@ fn line_lengths(alloc: Global, schedule: &Schedule) -> Result<Vec<u16>, AllocErr
         lengths.push(length_of_kind(schedule, *kind))?;
     }
     Ok(lengths)
-}
-
-/// Whether a number stands in a list.
-fn has(number: u16, numbers: &[u16]) -> bool
-    ensures { result ≡ has_number number numbers.now }
-{
-    for other in numbers {
-        if *other == number {
-            return true;
-        }
-    }
-    false
 }
 
 /// Puts how far apart falls are.

@@ -8,7 +8,7 @@ ghost use Rattle.uz_timing.specs.KindText.{event_lines, head_line, high_line, ki
 ghost use Rattle.uz_timing.specs.KindText.{pulse_line, return_line, return_lines, serration_line, sync_lines};
 
 use crate::distances::{count_at, distances, odd_in, tally};
-use crate::places::put_places;
+use crate::places::{has, put_places};
 use crate::pulse::{Pulse, pulse_in};
 use crate::pulse_kind::PulseKind;
 use crate::range::SERRATION;
@@ -255,7 +255,7 @@ fn put_kind(
     put_events(text, alloc, clocks, events)
 }
 
-/// Puts the block of a kind of line.
+/// Puts the block of a kind of line, where a line of the frame is of it.
 fn put_block(
     text: &mut Vec<u8>,
     alloc: Global,
@@ -265,12 +265,14 @@ fn put_block(
     ensures { OnOk result (text.new.items ≡ text.old.items ++ block_of schedule.now kind (slice_get schedule.now.kinds kind)) }
 {
     match schedule.kinds.as_slice().get(usize::from(kind)) {
-        Some(events) => put_kind(text, alloc, schedule, kind, events.as_slice()),
-        None => Ok(()),
+        Some(events) if has(kind, schedule.lines.as_slice()) => {
+            put_kind(text, alloc, schedule, kind, events.as_slice())
+        }
+        _ => Ok(()),
     }
 }
 
-/// Puts a block for each kind of line. It takes time for each kind and line, 275,625 at most, and for each event.
+/// Puts a block for each kind that a line is of. It takes time for each event, and for each kind and line, 275,625 at most.
 pub(crate) fn put_kinds(
     text: &mut Vec<u8>,
     alloc: Global,

@@ -37,10 +37,7 @@ fn pulse_at(pulses: &[PulseKind], place: usize) -> PulseKind
 
 /// The pulse of each line.
 #[tactic(auto, unfolding(crate::specs::Order::pulses_of))]
-pub(crate) fn line_pulses(
-    alloc: Global,
-    schedule: &Schedule,
-) -> Result<Vec<PulseKind>, AllocError>
+pub(crate) fn line_pulses(alloc: Global, schedule: &Schedule) -> Result<Vec<PulseKind>, AllocError>
     ensures pulses { IfOk result (λ pulses. pulses.items ≡ pulses_of schedule.now) }
     ensures count { IfOk result (λ pulses. length pulses.items ≡ length schedule.now.lines) }
 {

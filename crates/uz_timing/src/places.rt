@@ -1,10 +1,22 @@
 //! The places at which a number stands in a list, as words.
 
 ghost use Rattle.std.specs.Prelude.{◌≡◌, ◌<◌, ◌++◌, OnOk, length};
-ghost use Rattle.uz_timing.specs.Places.{end_word, goes_on_to as goes_on, place_word, place_words, stands_at as stands, word_at};
+ghost use Rattle.uz_timing.specs.Places.{end_word, goes_on_to as goes_on, has as has_number, place_word, place_words, stands_at as stands, word_at};
 
 use crate::words::put_number;
 use std::alloc::AllocError;
+
+/// Whether a number stands in a list.
+pub(crate) fn has(number: u16, numbers: &[u16]) -> bool
+    ensures { result ≡ has_number number numbers.now }
+{
+    for other in numbers {
+        if *other == number {
+            return true;
+        }
+    }
+    false
+}
 
 /// Whether a number stands at a place.
 fn stands_at(numbers: &[u16], number: u16, place: usize) -> bool
@@ -24,12 +36,7 @@ fn goes_on_to(numbers: &[u16], number: u16, place: usize) -> bool
 }
 
 /// Puts the last place of a run where it ends here.
-fn put_end(
-    text: &mut Vec<u8>,
-    numbers: &[u16],
-    number: u16,
-    place: usize,
-) -> Result<(), AllocError>
+fn put_end(text: &mut Vec<u8>, numbers: &[u16], number: u16, place: usize) -> Result<(), AllocError>
     requires { place < length numbers.now }
     ensures { OnOk result (text.new.items ≡ text.old.items ++ end_word numbers.now number place) }
 {
@@ -76,11 +83,7 @@ fn put_word(
 
 /// Puts the places at which a number stands: runs as ` A` and ` A-B`.
 #[tactic(auto, unfolding(crate::specs::Places::place_words))]
-pub(crate) fn put_places(
-    text: &mut Vec<u8>,
-    numbers: &[u16],
-    number: u16,
-) -> Result<(), AllocError>
+pub(crate) fn put_places(text: &mut Vec<u8>, numbers: &[u16], number: u16) -> Result<(), AllocError>
     ensures { OnOk result (text.new.items ≡ text.old.items ++ place_words numbers.now number) }
 {
     for place in 0..numbers.len() {

@@ -1,6 +1,6 @@
 use Rattle.std.proofs.Common.{◌≡◌, drop}
-use Rattle.uz_timing.specs.FrameText.{has}
-use Rattle.uz_timing.proofs.frame_text.has.Given as goal
+use Rattle.uz_timing.specs.Places.{has}
+use Rattle.uz_timing.proofs.places.has.Given as goal
 
 -- what is left answers for all
 abbrev pub invariant-loop-other : goal.invariant-loop-other
