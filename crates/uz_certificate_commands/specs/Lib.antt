@@ -4,6 +4,7 @@ pub mod CheckCommand
 pub mod MigrateCommand
 pub mod MigrateValues
 pub mod ReportCommand
+pub mod TimingCommand
 pub mod DemoCommand
 pub mod DemoValues
 pub mod PlayCommand

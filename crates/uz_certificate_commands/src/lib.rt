@@ -1,4 +1,4 @@
-//! The commands that make a certificate, or read one and print or write, `certify`, `find`, `check`, `report` and `migrate`, and those
+//! The commands that make a certificate, or read one and print or write, `certify`, `find`, `check`, `report`, `timing` and `migrate`, and those
 //! that play a certified console, `play` and `demo`.
 #![tactic(auto)]
 
@@ -15,6 +15,7 @@ mod play_command;
 mod play_run;
 mod report_command;
 mod report_lines;
+mod timing_command;
 
 pub use certify_command::run_certify;
 pub use check_command::run_check;
@@ -26,3 +27,4 @@ pub use migrate_command::run_migrate;
 pub use migrate_law::migration_keeps_acceptance;
 pub use play_run::run_play;
 pub use report_command::run_report;
+pub use timing_command::run_timing;

@@ -1,0 +1,18 @@
+use Rattle.uz_soundness.specs.Certified.{Certified}
+use Rattle.uz_outcomes.proofs.PairLemmas.{checked_answers, checked_pair, preface_answers}
+use Rattle.uz_timing.specs.Timing.{timing_text}
+use Rattle.uz_certificate_commands.proofs.timing_command.timing_of.Goals as goal
+
+pub returns-in-Err-clause-gives : goal.returns-in-Err-clause-gives
+returns-in-Err-clause-gives g c =
+    preface_answers timing_text _ _ c.args.hex.now c.args.cert.now c.in-Err.failure c.in-Err.ensures.fails
+
+pub returns-clause-gives : goal.returns-clause-gives
+returns-clause-gives g c =
+    checked_answers timing_text _ _ c.args.hex.now c.args.cert.now c.in-Ok.checked c.in_ok-ending_of.field-0 c.in-Ok.ensures.checked
+    c.in_ok-ending_of.ensures.answer
+
+pub returns-clause-certified : goal.returns-clause-certified
+returns-clause-certified g c = λ done.
+    checked_pair _ c.args.hex.now c.args.cert.now c.in-Ok.checked Certified c.in-Ok.ensures.checked
+    (λ image cert is. c.in_ok-ending_of.ensures.certified image cert is done)
