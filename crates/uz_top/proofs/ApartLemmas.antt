@@ -8,8 +8,8 @@ use Rattle.uz_text.specs.Numbers.{number_below, number_within}
 use Rattle.uz_schedule.specs.declared.kinds.Response.{Response}
 use Rattle.uz_help.specs.Topics.{text_of}
 use Rattle.uz_top.specs.Words.{help_words, prints, version_words}
-use Rattle.uz_top.specs.Words.{Command, Asm, Build, Check, Expand, Migrate, Report, WritesApart, asm_words, build_words, certify_with}
-use Rattle.uz_top.specs.Words.{certify_words, find_with, find_words, migrate_words, report_words, wave_with, wave_words}
+use Rattle.uz_top.specs.Words.{Command, Asm, Build, Check, Expand, Migrate, Report, Timing, WritesApart, asm_words, build_words, certify_with}
+use Rattle.uz_top.specs.Words.{certify_words, find_with, find_words, migrate_words, report_words, timing_words, wave_with, wave_words}
 use Rattle.uz_top.specs.Words.{check_words, command_of, debug_with, debug_words, demo_with, demo_words, dis_words, expand_words, play_with}
 use Rattle.uz_top.specs.Words.{play_words, response_of, trace_with, trace_words}
 
@@ -139,6 +139,12 @@ report_apart (a ∷ []) = tt
 report_apart (a ∷ b ∷ []) = by_test (bytes_eq a b) None (Some (Report a b)) tt tt
 report_apart (a ∷ b ∷ c ∷ words) = tt
 
+timing_apart : (words : List (List ℕ)) → Apart (timing_words words)
+timing_apart [] = tt
+timing_apart (a ∷ []) = tt
+timing_apart (a ∷ b ∷ []) = by_test (bytes_eq a b) None (Some (Timing a b)) tt tt
+timing_apart (a ∷ b ∷ c ∷ words) = tt
+
 wave_with_apart : (hex pads : List ℕ) (irq : Option Response) (clocks : Option ℕ) (wav : List ℕ)
     → Apart (wave_with hex pads irq clocks wav)
 wave_with_apart hex pads (Some irq) (Some clocks) wav = tt
@@ -196,8 +202,11 @@ from_help verb words = if bytes_eq verb (codes "help") then help_words words els
 abbrev from_wave : List ℕ → List (List ℕ) → Option Command
 from_wave verb words = if bytes_eq verb (codes "wave") then wave_words words else from_help verb words
 
+abbrev from_timing : List ℕ → List (List ℕ) → Option Command
+from_timing verb words = if bytes_eq verb (codes "timing") then timing_words words else from_wave verb words
+
 abbrev from_report : List ℕ → List (List ℕ) → Option Command
-from_report verb words = if bytes_eq verb (codes "report") then report_words words else from_wave verb words
+from_report verb words = if bytes_eq verb (codes "report") then report_words words else from_timing verb words
 
 abbrev from_migrate : List ℕ → List (List ℕ) → Option Command
 from_migrate verb words = if bytes_eq verb (codes "migrate") then migrate_words words else from_report verb words
@@ -243,11 +252,12 @@ command_apart (verb ∷ words) =
     (by_test (bytes_eq verb (codes "certify")) (certify_words words) (from_demo verb words) (certify_apart words)
     (by_test (bytes_eq verb (codes "demo")) (demo_words words) (from_migrate verb words) (demo_apart words)
     (by_test (bytes_eq verb (codes "migrate")) (migrate_words words) (from_report verb words) (migrate_apart words)
-    (by_test (bytes_eq verb (codes "report")) (report_words words) (from_wave verb words) (report_apart words)
+    (by_test (bytes_eq verb (codes "report")) (report_words words) (from_timing verb words) (report_apart words)
+    (by_test (bytes_eq verb (codes "timing")) (timing_words words) (from_wave verb words) (timing_apart words)
     (by_test (bytes_eq verb (codes "wave")) (wave_words words) (from_help verb words) (wave_apart words)
     (by_test (bytes_eq verb (codes "help")) (help_words words) (from_version verb words) (help_apart words)
     (by_test (bytes_eq verb (codes "version")) (version_words words) (from_find verb words) (version_apart words)
-    (by_test (bytes_eq verb (codes "find")) (find_words words) None (find_apart words) tt)))))))))))))))
+    (by_test (bytes_eq verb (codes "find")) (find_words words) None (find_apart words) tt))))))))))))))))
 
 -- what holds of the command where the names of its files differ
 pub holds_apart : (words : List (String Global)) (c : Command) (holds : Command → Type 0) → Some c ≡ command_of (map string_bytes words)

@@ -9,7 +9,7 @@ use Rattle.uz_files.specs.declared.status.Status.{Status}
 use Rattle.uz_files.specs.declared.status.Status.TheVariants as status
 use Rattle.uz_files.specs.Answers.{Answer, ComesOf, Ends, Outside, MayCome, one_line, outside}
 use Rattle.uz_files.specs.Formats.{Readings}
-use Rattle.uz_top.specs.Words.{Command, Asm, Build, Certify, Check, Debug, Demo, Dis, Expand, Find, Migrate, Play, Prints, Report, Trace, Wave}
+use Rattle.uz_top.specs.Words.{Command, Asm, Build, Certify, Check, Debug, Demo, Dis, Expand, Find, Migrate, Play, Prints, Report, Timing, Trace, Wave}
 use Rattle.uz_top.specs.Commands.{AllowedFor, Answers, AnswersBy, IsDecided, LacksRead, PartAnswers, Succeeds}
 use Rattle.uz_files.proofs.EndingLemmas.{comes_by, comes_of_line}
 use Rattle.uz_files.proofs.OutcomeLemmas.{came_from, from_answer, unwritten_by}
@@ -30,6 +30,7 @@ use Rattle.uz_certificate_commands.proofs.MigrateLemmas.{migrate_done_answer, mi
 use Rattle.uz_outcomes.proofs.PairLemmas.{pair_done, pair_or_fault, pair_same, pair_status}
 use Rattle.uz_outcomes.specs.VerdictLines.{accepted_line}
 use Rattle.uz_certificate_commands.specs.ReportCommand.{report_text}
+use Rattle.uz_timing.specs.Timing.{timing_text}
 use Rattle.uz_program_commands.proofs.WaveLemmas.{wave_done, wave_or_fault, wave_same, wave_status}
 
 -- a status that a command's own work gives
@@ -211,6 +212,15 @@ law_of one readings files load_fault (Report hex cert) = record {
       (λ wanted q. pair_same report_text readings told ⊥ hex cert answer wanted p q);
   done = λ told h loads answer p. let d = pair_done report_text (Some told) hex cert h in
       done_as load_fault answer d.0 (pair_same report_text readings told load_fault hex cert answer d.0 p d.1) d.2 loads;
+}
+law_of one readings files load_fault (Timing hex cert) = record {
+  tells = λ answer h. own_three _ answer status.BadInput status.Done status.Refused tt tt tt
+      (pair_status timing_text files load_fault hex cert answer h);
+  free = λ answer h. pair_or_fault timing_text files load_fault hex cert answer h;
+  decided = λ told answer p. unsearched told (Timing hex cert) answer tt
+      (λ wanted q. pair_same timing_text readings told ⊥ hex cert answer wanted p q);
+  done = λ told h loads answer p. let d = pair_done timing_text (Some told) hex cert h in
+      done_as load_fault answer d.0 (pair_same timing_text readings told load_fault hex cert answer d.0 p d.1) d.2 loads;
 }
 law_of one readings files load_fault (Wave hex pads irq clocks wav) = record {
   tells = λ answer h. own_three _ answer status.BadInput status.Done status.Stopped tt tt tt

@@ -6,7 +6,7 @@ use Rattle.uz_search.specs.declared.found.NotFound.{NotFound}
 use Rattle.uz_files.specs.declared.status.Status.{Status}
 use Rattle.uz_files.specs.declared.status.Status.TheVariants.{Done}
 use Rattle.uz_files.specs.Answers.{Answer, Ends, NoPart, Outside, one_line}
-use Rattle.uz_top.specs.Words.{Command, Asm, Build, Certify, Check, Debug, Demo, Dis, Expand, Find, Migrate, Play, Prints, Report, Trace, Wave}
+use Rattle.uz_top.specs.Words.{Command, Asm, Build, Certify, Check, Debug, Demo, Dis, Expand, Find, Migrate, Play, Prints, Report, Timing, Trace, Wave}
 use Rattle.uz_program_commands.specs.TraceCommand.{TraceAnswers, TraceParts}
 use Rattle.uz_outcomes.specs.RunFiles.{RunLacks, RunSucceeds}
 use Rattle.uz_program_commands.specs.MacroCommands.{BuildAnswers, BuildSucceeds, ExpandAnswers, ExpandSucceeds, FilesBuilt}
@@ -21,6 +21,7 @@ use Rattle.uz_certificate_commands.specs.FindCommand.{AllowedOfFind, FilesFound,
 use Rattle.uz_certificate_commands.specs.MigrateCommand.{FilesMigrated, MigrateAnswers, MigrateSucceeds}
 use Rattle.uz_certificate_commands.specs.CheckCommand.{CheckAnswers, FilesCertified}
 use Rattle.uz_certificate_commands.specs.ReportCommand.{FilesReported, ReportAnswers}
+use Rattle.uz_certificate_commands.specs.TimingCommand.{TimingAnswers}
 use Rattle.uz_program_commands.specs.WaveCommand.{FilesHeard, WaveAnswers}
 use Rattle.uz_outcomes.specs.PairFiles.{PairLacks, SpellPair}
 use Rattle.uz_soundness.specs.Acceptance.{Accepts}
@@ -39,6 +40,7 @@ Answers files load_fault (Certify source irq hex cert) answer = CertifyAnswers f
 Answers files load_fault (Demo number) answer = DemoAnswers number answer
 Answers files load_fault (Migrate older newer) answer = MigrateAnswers files load_fault older newer answer
 Answers files load_fault (Report hex cert) answer = ReportAnswers files load_fault hex cert answer
+Answers files load_fault (Timing hex cert) answer = TimingAnswers files load_fault hex cert answer
 Answers files load_fault (Wave hex pads irq clocks wav) answer = WaveAnswers files load_fault hex pads irq clocks wav answer
 Answers files load_fault (Prints text) answer = answer ≡ one_line Done text
 Answers files load_fault (Find hex hints irq cert) answer = FindAnswers files load_fault hex hints irq cert answer
@@ -57,6 +59,7 @@ LacksRead files (Certify source irq hex cert) = LacksFile files source
 LacksRead files (Demo number) = ⊥
 LacksRead files (Migrate older newer) = LacksFile files older
 LacksRead files (Report hex cert) = PairLacks files hex cert
+LacksRead files (Timing hex cert) = PairLacks files hex cert
 LacksRead files (Wave hex pads irq clocks wav) = RunLacks files hex pads
 LacksRead files (Prints text) = ⊥
 LacksRead files (Find hex hints irq cert) = FindLacks files hex hints
@@ -75,6 +78,7 @@ Succeeds files (Certify source irq hex cert) = CertifySucceeds files source irq
 Succeeds files (Demo number) = DemoSucceeds number
 Succeeds files (Migrate older newer) = MigrateSucceeds files older
 Succeeds files (Report hex cert) = SpellPair files hex cert Accepts
+Succeeds files (Timing hex cert) = SpellPair files hex cert Accepts
 Succeeds files (Wave hex pads irq clocks wav) = RunSucceeds files hex pads irq clocks
 Succeeds files (Prints text) = Unit {0}
 Succeeds files (Find hex hints irq cert) = FindSucceeds files hex hints irq
@@ -93,6 +97,7 @@ CreatesNone (Certify source irq hex cert) = ⊥
 CreatesNone (Demo number) = Unit {0}
 CreatesNone (Migrate older newer) = ⊥
 CreatesNone (Report hex cert) = Unit {0}
+CreatesNone (Timing hex cert) = Unit {0}
 CreatesNone (Wave hex pads irq clocks wav) = ⊥
 CreatesNone (Prints text) = Unit {0}
 CreatesNone (Find hex hints irq cert) = ⊥
@@ -111,6 +116,7 @@ Certifies files new (Certify source irq hex cert) = FilesCertify files new sourc
 Certifies files new (Demo number) = DemoPlayed number
 Certifies files new (Migrate older newer) = FilesMigrated files new older newer
 Certifies files new (Report hex cert) = FilesReported files hex cert
+Certifies files new (Timing hex cert) = FilesCertified files hex cert
 Certifies files new (Wave hex pads irq clocks wav) = FilesHeard files new hex pads irq clocks wav
 Certifies files new (Prints text) = Unit {0}
 Certifies files new (Find hex hints irq cert) = FilesFound files new hex hints irq cert
@@ -129,6 +135,7 @@ StopTells files (Certify source irq hex cert) = Unit {0}
 StopTells files (Demo number) = DemoHalted number
 StopTells files (Migrate older newer) = Unit {0}
 StopTells files (Report hex cert) = Unit {0}
+StopTells files (Timing hex cert) = Unit {0}
 StopTells files (Wave hex pads irq clocks wav) = Unit {0}
 StopTells files (Prints text) = Unit {0}
 StopTells files (Find hex hints irq cert) = Unit {0}
@@ -147,6 +154,7 @@ PartAnswers files (Certify source irq hex cert) = NoPart
 PartAnswers files (Demo number) = DemoParts number
 PartAnswers files (Migrate older newer) = NoPart
 PartAnswers files (Report hex cert) = NoPart
+PartAnswers files (Timing hex cert) = NoPart
 PartAnswers files (Wave hex pads irq clocks wav) = NoPart
 PartAnswers files (Prints text) = NoPart
 PartAnswers files (Find hex hints irq cert) = NoPart
@@ -167,6 +175,7 @@ AnswersBy files found (Certify source irq hex cert) answer = CertifyAnswersBy fi
 AnswersBy files found (Demo number) answer = DemoAnswersBy number found answer
 AnswersBy files found (Migrate older newer) answer = MigrateAnswers files ⊥ older newer answer
 AnswersBy files found (Report hex cert) answer = ReportAnswers files ⊥ hex cert answer
+AnswersBy files found (Timing hex cert) answer = TimingAnswers files ⊥ hex cert answer
 AnswersBy files found (Wave hex pads irq clocks wav) answer = WaveAnswers files ⊥ hex pads irq clocks wav answer
 AnswersBy files found (Prints text) answer = answer ≡ one_line Done text
 AnswersBy files found (Find hex hints irq cert) answer = FindAnswersBy files hex hints cert found answer
@@ -185,6 +194,7 @@ AllowedFor files (Certify source irq hex cert) found = AllowedOf files source ir
 AllowedFor files (Demo number) found = AllowedOfDemo number found
 AllowedFor files (Migrate older newer) found = Unit {0}
 AllowedFor files (Report hex cert) found = Unit {0}
+AllowedFor files (Timing hex cert) found = Unit {0}
 AllowedFor files (Wave hex pads irq clocks wav) found = Unit {0}
 AllowedFor files (Prints text) found = Unit {0}
 AllowedFor files (Find hex hints irq cert) found = AllowedOfFind files hex hints irq found

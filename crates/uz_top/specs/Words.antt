@@ -22,6 +22,7 @@ pub data Command : Type 0 where
   Demo : (number : ℕ) → Command
   Migrate : (older newer : List ℕ) → Command
   Report : (hex cert : List ℕ) → Command
+  Timing : (hex cert : List ℕ) → Command
   Wave : (hex pads : List ℕ) → (irq : Response) → (clocks : ℕ) → (wav : List ℕ) → Command
   -- `help` and `version`: the words alone decide the text
   Prints : (text : List ℕ) → Command
@@ -109,6 +110,10 @@ abbrev pub report_words : List (List ℕ) → Option Command
 report_words (hex ∷ cert ∷ []) = if bytes_eq hex cert then None else Some (Report hex cert)
 report_words other = None
 
+abbrev pub timing_words : List (List ℕ) → Option Command
+timing_words (hex ∷ cert ∷ []) = if bytes_eq hex cert then None else Some (Timing hex cert)
+timing_words other = None
+
 abbrev pub wave_with : List ℕ → List ℕ → Option Response → Option ℕ → List ℕ → Option Command
 wave_with hex pads (Some irq) (Some clocks) wav = Some (Wave hex pads irq clocks wav)
 wave_with hex pads irq clocks wav = None
@@ -158,6 +163,7 @@ command_of (verb ∷ words) =
     else if bytes_eq verb (codes "demo") then demo_words words
     else if bytes_eq verb (codes "migrate") then migrate_words words
     else if bytes_eq verb (codes "report") then report_words words
+    else if bytes_eq verb (codes "timing") then timing_words words
     else if bytes_eq verb (codes "wave") then wave_words words
     else if bytes_eq verb (codes "help") then help_words words
     else if bytes_eq verb (codes "version") then version_words words

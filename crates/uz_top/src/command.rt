@@ -7,7 +7,7 @@ ghost use Rattle.uz_top.specs.Words.{asm_words, build_words, certify_with as cer
 ghost use Rattle.uz_top.specs.Words.{check_words, command_of, debug_with as debug_with_response, debug_words};
 ghost use Rattle.uz_top.specs.Words.{demo_with as demo_with_number, demo_words, dis_words, expand_words, migrate_words};
 ghost use Rattle.uz_top.specs.Words.{find_with as find_with_response, find_words, help_words};
-ghost use Rattle.uz_top.specs.Words.{play_with as play_with_clocks, play_words, report_words, response_of};
+ghost use Rattle.uz_top.specs.Words.{play_with as play_with_clocks, play_words, report_words, response_of, timing_words};
 ghost use Rattle.uz_top.specs.Words.{trace_with as trace_with_numbers, trace_words, version_words};
 ghost use Rattle.uz_top.specs.Words.{wave_with as wave_with_numbers, wave_words};
 
@@ -74,6 +74,10 @@ pub(crate) enum Command<'a> {
         hex: &'a str,
         cert: &'a str,
     },
+    Timing {
+        hex: &'a str,
+        cert: &'a str,
+    },
     Wave {
         hex: &'a str,
         pads: &'a str,
@@ -119,6 +123,7 @@ fn parse_after<'a>(verb: &str, rest: &'a [String]) -> Option<Command<'a>>
         "demo" => demo(rest),
         "migrate" => migrate(rest),
         "report" => report(rest),
+        "timing" => timing(rest),
         "wave" => wave(rest),
         "help" => help(rest),
         "version" => version(rest),
@@ -401,6 +406,19 @@ fn report(words: &[String]) -> Option<Command<'_>>
 {
     match words {
         [hex, cert] if differ(hex.as_str(), cert.as_str()) => Some(Command::Report {
+            hex: hex.as_str(),
+            cert: cert.as_str(),
+        }),
+        _ => None,
+    }
+}
+
+/// `timing HEX CERT`, of two files.
+fn timing(words: &[String]) -> Option<Command<'_>>
+    ensures { option_map value_of result ≡ timing_words (map string_bytes words.now) }
+{
+    match words {
+        [hex, cert] if differ(hex.as_str(), cert.as_str()) => Some(Command::Timing {
             hex: hex.as_str(),
             cert: cert.as_str(),
         }),

@@ -13,7 +13,7 @@ use crate::command::{Command, parse};
 use avr_macro::expansion_is_unique;
 use std::alloc::Global;
 use uz_certificate_commands::{
-    run_certify, run_check, run_demo, run_find, run_migrate, run_play, run_report,
+    run_certify, run_check, run_demo, run_find, run_migrate, run_play, run_report, run_timing,
 };
 use uz_files::{Status, end_done, end_fault, put_no_memory, readings_are_unique};
 use uz_help::usage_line;
@@ -83,6 +83,7 @@ fn run<H: Shelf, K: Sink>(
         Command::Demo { number } => run_demo(alloc, number, out),
         Command::Migrate { older, newer } => run_migrate(alloc, older, newer, shelf, out),
         Command::Report { hex, cert } => run_report(alloc, hex, cert, shelf, out),
+        Command::Timing { hex, cert } => run_timing(alloc, hex, cert, shelf, out),
         Command::Wave {
             hex,
             pads,
@@ -196,8 +197,8 @@ pub fn uzebox<H: Shelf, K: Sink>(
         → (result ≡ Status.Done) ⊎ (result ≡ Status.NoMemory))) }
 
     // What a command that is done is worth: after `asm` and `build` the written file is Intel HEX of the image that the source
-    // assembles to, after `migrate` it is a text of the very certificate that was read; `check` certifies the image and the
-    // certificate that its files spell, `certify` those that the written files spell, `find` the image that is read and the
+    // assembles to, after `migrate` it is a text of the very certificate that was read; `check` and `timing` certify the image and
+    // the certificate that their files spell, `certify` those that the written files spell, `find` the image that is read and the
     // certificate that is written; after `report` the clocks that are printed
     // are those that main has; after `wave` the written file is the sound of the run; and a run that is played, by `play` or
     // `demo`, keeps to the schedule once a state of it has entered. One that is stopped never entered.

@@ -93,6 +93,10 @@ pub returns-in-Report-clause-outcome : goal.returns-in-Report-clause-outcome
 returns-in-Report-clause-outcome g c = outcome_at (value_of c.args.command.now) _ _ _ _ _ _ _ (ap value_of c.in-Report.is)
     c.run_report.ensures.outcome
 
+pub returns-in-Timing-clause-outcome : goal.returns-in-Timing-clause-outcome
+returns-in-Timing-clause-outcome g c = outcome_at (value_of c.args.command.now) _ _ _ _ _ _ _ (ap value_of c.in-Timing.is)
+    c.run_timing.ensures.outcome
+
 pub returns-in-Wave-clause-outcome : goal.returns-in-Wave-clause-outcome
 returns-in-Wave-clause-outcome g c = outcome_at (value_of c.args.command.now) _ _ _ _ _ _ _ (ap value_of c.in-Wave.is)
     c.run_wave.ensures.outcome
