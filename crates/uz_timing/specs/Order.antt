@@ -2,7 +2,7 @@
 --
 -- SMPTE 170M-2004, vertical blanking interval: 6 equalizing pulses, 6 broad ones and 6 equalizing ones, half a line each, and horizontal
 -- sync on whole lines otherwise.
-use Rattle.std.specs.Prelude.{ℕ, zero, suc, ◌+◌, ◌-◌, ◌%◌, ◌==◌, nat_lt, nat_le, ◌&&◌, not, Bool, true, false, List, length, map}
+use Rattle.std.specs.Prelude.{◌≡◌, ◌<◌, ◌≤◌, ℕ, zero, suc, ◌+◌, ◌-◌, ◌%◌, ◌==◌, nat_lt, nat_le, ◌&&◌, not, Bool, true, false, List, length, map}
 use Rattle.std.specs.Prelude.{Option, Some, None, slice_index_or, if◌then◌else◌}
 use Rattle.uz_schedule.specs.declared.lines.Schedule.{Schedule}
 use Rattle.uz_schedule.specs.Schedule.{scanline, half_line, length_of, or_else}
@@ -83,3 +83,11 @@ is_field_from s pulses (Some broad) = are_wanted s pulses broad (length pulses)
 -- all pulses are those of a field, wherever the frame begins in it
 unfoldable pub is_field : Schedule → List PulseKind → Bool
 is_field s pulses = nat_le 18 (length pulses) && is_field_from s pulses (first_broad pulses (length pulses))
+
+-- from this line on, round the frame, each line is as that line of a field is
+abbrev pub IsFieldFrom : Schedule → List PulseKind → ℕ → Type 0
+IsFieldFrom s pulses start = (i : ℕ) → i < length pulses → is_wanted s pulses i ((start + i) % length pulses) ≡ true
+
+-- what `ok` of the pulses is worth
+abbrev pub IsSomeField : Schedule → List PulseKind → Type 0
+IsSomeField s pulses = (18 ≤ length pulses) × ((start : ℕ) × IsFieldFrom s pulses start)

@@ -9,6 +9,7 @@ mod distances;
 mod findings;
 mod frame_text;
 mod kind_text;
+mod laws;
 mod order;
 mod places;
 mod pulse;
@@ -18,3 +19,4 @@ mod shown;
 mod words;
 
 pub use certificate_text::timing;
+pub use laws::ok_is_a_field;
