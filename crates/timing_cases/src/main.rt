@@ -1,5 +1,5 @@
 //! Tells the schedules of certificates as a person reads them, as a script on standard input says. What is to be printed is
-//! worked out by docs/timing_answers.py.
+//! worked out by tests/timing_answers.py.
 //!
 //! The script's lines:
 //!

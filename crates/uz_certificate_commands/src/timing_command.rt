@@ -74,6 +74,7 @@ pub fn run_timing<H: Shelf, K: Sink>(
         result (outside (H.files shelf.old) (K.text out.old)) (outside (H.files shelf.new) (K.text out.new)) }
     ensures certified { result ≡ Status.Done → FilesCertified (H.files shelf.old) hex.now cert.now }
     ensures files { H.files shelf.new ≡ H.files shelf.old }
+    ensures faults { K.faults out.old ≤ K.faults out.new }
 {
     let told = timing_of(alloc, shelf, hex, cert);
     finish(alloc, out, told)

@@ -107,6 +107,12 @@ topics =
       does = codes "finds a certificate of an image by hints beside it, and writes it";
       more = codes "reads HEX, HINTS and the files that it includes; writes CERT; IRQ is 4 or 5\n0 done, 2 a file not read, 3 a fault in a file, 4 refused, 5 not written, 8 no memory\n";
     }
+    ∷ record {
+      name = codes "timing";
+      words = codes "timing HEX CERT";
+      does = codes "checks, and says what the schedule is beside NTSC's";
+      more = codes "reads HEX, CERT; writes no file\n0 done, 2 a file not read, 3 a fault in a file, 4 refused, 5 not written, 8 no memory\n";
+    }
     ∷ []
 
 -- a command's words, and below them what it does

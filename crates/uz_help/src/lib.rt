@@ -41,6 +41,8 @@ macro_rules! topics {
             "reads and writes no file\n0 done, 5 not written, 8 no memory\n";
             "find" "find HEX HINTS IRQ CERT" "finds a certificate of an image by hints beside it, and writes it"
             "reads HEX, HINTS and the files that it includes; writes CERT; IRQ is 4 or 5\n0 done, 2 a file not read, 3 a fault in a file, 4 refused, 5 not written, 8 no memory\n";
+            "timing" "timing HEX CERT" "checks, and says what the schedule is beside NTSC's"
+            "reads HEX, CERT; writes no file\n0 done, 2 a file not read, 3 a fault in a file, 4 refused, 5 not written, 8 no memory\n";
         }
     };
 }

@@ -1,7 +1,7 @@
 #!/usr/bin/env python3
 """What crates/timing_cases is to print: reads its script on standard input, and works each schedule out by itself.
 
-python3 docs/timing_answers.py <crates/timing_cases/stdin | cmp - crates/timing_cases/stdout
+python3 tests/timing_answers.py <crates/timing_cases/stdin | cmp - crates/timing_cases/stdout
 
 Durations are exact fractions of the clock of NTSC, 315 / 11 MHz; the ranges are those of SMPTE 170M-2004.
 """
