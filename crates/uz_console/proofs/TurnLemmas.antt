@@ -150,7 +150,7 @@ byte_is c s at h =
     ap (λ x. if is_core_address at then core_byte s.core at else x) (same_byte pads_wiring history_wiring StandsFor pads_alike
     (state_of c).space s.space at (space_is (state_of c) s h))
 
-entry_is : (c : Console) (s : State PadHistory) → console.StandsFor c s → is_entry s ≡ is_entry (state_of c)
+pub entry_is : (c : Console) (s : State PadHistory) → console.StandsFor c s → is_entry s ≡ is_entry (state_of c)
 entry_is c s h =
     ap (λ timer. is_due timer && bit_is_set s.core.sreg 7 && not s.is_owed) h.timer ∙
     (ap (λ core. is_due (state_of c).space.timer && bit_is_set core.sreg 7 && not s.is_owed) h.core ∙

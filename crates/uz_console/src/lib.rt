@@ -9,6 +9,7 @@ mod laws;
 mod paging;
 mod passing;
 mod turn;
+mod watching;
 
 pub use approach::Approach;
 pub use console::Console;

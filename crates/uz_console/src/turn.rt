@@ -77,7 +77,7 @@ fn step(cpu: &mut Cpu, program: &Program, board: &mut Board) -> Step
 
 impl Console {
     /// Whether the next turn is an interrupt entry.
-    fn enters(&self) -> bool
+    pub(crate) fn enters(&self) -> bool
         ensures { result ≡ is_entry (state_of self.now) }
     {
         self.board.timer().due() && self.cpu.sreg() >> 7 & 1 == 1 && !self.owed
