@@ -1,0 +1,3 @@
+pub mod GlanceLemmas
+pub mod ReachLemmas
+pub mod WindowLemmas

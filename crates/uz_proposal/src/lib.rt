@@ -1,0 +1,17 @@
+//! Hints proposed for a kernel from one of its runs, and the source that says them.
+#![tactic(auto)]
+
+mod alone;
+mod flood;
+mod frame;
+mod lines;
+mod no_hints;
+mod proposing;
+mod remarks;
+mod seen;
+mod text;
+
+pub use no_hints::NoHints;
+pub use proposing::propose;
+pub use remarks::{Remark, Remarked};
+pub use text::hint_source;

@@ -1,0 +1,30 @@
+//! Why a run gives no hints.
+
+use std::alloc::AllocError;
+use uz_core::Why;
+
+/// Why a run gives no hints.
+#[derive(Clone, Copy, Debug)]
+pub enum NoHints {
+    /// There was not enough memory.
+    Memory,
+    /// The run stops at a pc.
+    Stopped { pc: u16, why: Why },
+    /// So many lines have no frame of at most 525 lines that came twice, or one of a line that is no scanline and no half line.
+    Frame { lines: u32 },
+    /// No instruction of main came twice at the greatest SP.
+    Loop,
+    /// Sync doesn't fall.
+    Fall,
+}
+
+impl From<AllocError> for NoHints {
+    ghost use Rattle.std.specs.Prelude.{◌≡◌};
+    ghost use Rattle.uz_proposal.specs.declared.no_hints.NoHints.TheVariants.{Memory};
+
+    ghost from_gives = { λ _ error. error ≡ Memory };
+
+    fn from(_e: AllocError) -> NoHints {
+        NoHints::Memory
+    }
+}
