@@ -104,12 +104,8 @@ pub fn registers_at(
         if console.clock() >= limit {
             break;
         }
-        if !handling
-            && console.pc() == pc
-            && stack_pointer(console) == sp
-            && !console.is_entering()
-        {
-            add_visit(&mut seen, &all_registers(console));
+        if !handling && !console.is_entering() {
+            look_at(&mut seen, console, pc, sp);
         }
         match console.turn() {
             Turn::Took { edges } => handling = runs_on(handling, edges.as_slice()),
