@@ -2,6 +2,7 @@
 #![tactic(auto)]
 
 mod alone;
+mod checked;
 mod flood;
 mod frame;
 mod lines;
@@ -11,6 +12,7 @@ mod remarks;
 mod seen;
 mod text;
 
+pub use checked::checked_source;
 pub use no_hints::NoHints;
 pub use proposing::propose;
 pub use remarks::{Remark, Remarked};
