@@ -132,6 +132,17 @@ prints 5 certify pulse.asm 4 out.hex no/such/folder
 can_not_print 5 certify pulse.asm 4 out.hex out.cert
 writes_unprinted certify pulse.asm 4 out.hex out.cert
 
+# find
+prints 0 find pulse.hex pulse.asm 4 out.cert
+prints 1 find pulse.hex pulse.hex 4 out.cert
+prints 2 find pulse.hex none 4 out.cert
+prints 3 find ring.hex pulse.asm 4 out.cert
+prints 4 find pulse.hex unstarted.asm 4 out.cert
+can_not_print 4 find pulse.hex unstarted.asm 4 out.cert
+prints 5 find pulse.hex pulse.asm 4 no/such/folder
+can_not_print 5 find pulse.hex pulse.asm 4 out.cert
+writes_unprinted find pulse.hex pulse.asm 4 out.cert
+
 # check
 prints 0 check ring.hex ring.cert
 prints 1 check ring.hex

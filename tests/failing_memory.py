@@ -8,7 +8,7 @@ command, and each request that its run makes, one run in which that request fail
 (160, where nothing is said) the first and the last quarter of COUNT, and as many between. It looks whether the status is that of
 want of memory, whether what is printed is a part of what the command prints otherwise, with the whole line `no memory` after it,
 and whether each file that it writes is absent or a part of the whole one; or whether all is as otherwise. Where points can't be
-joined for want of memory, `certify` may write another certificate: then `check` has to accept it. Where the words of the command
+joined for want of memory, `certify` and `find` may write another certificate: then `check` has to accept it. Where the words of the command
 line can't be had, the answer is that of no words: the usage line. Each of these runs is a test; a line for
 each command says how many had which status. Needs a C compiler (`cc`): where there is none, all is skipped.
 """
@@ -61,6 +61,8 @@ COMMANDS = [
     'migrate loop-ring-1.cert made.cert',
     'wave pulse.hex no-pads.txt 4 4000 made.wav',
     'certify pulse.asm 4 made.hex made.cert',
+    'find pulse.hex pulse.asm 4 made.cert',
+    'timing pulse.hex pulse.cert',
     'play pulse.hex pulse.cert no-pads.txt 4000 made.frames',
     'debug pulse.hex no-pads.txt 4 script.txt',
     'demo 0',
@@ -91,10 +93,13 @@ def is_part_with_line(out, whole, line):
 
 
 def is_other_pair(path, folder, words, out, whole, made, files):
-    """Whether `certify` printed all, wrote the same image, and with it another certificate, which `check` accepts alike."""
-    if words[0] != 'certify' or out != whole or made[words[3]] != files[words[3]] or made[words[4]] is None:
+    """Whether `certify` or `find` printed all, and wrote another certificate, which `check` accepts alike, of the same image."""
+    image = {'certify': 3, 'find': 1}.get(words[0])
+    if image is None or out != whole or made[words[4]] is None:
         return False
-    ran = subprocess.run([path, 'check', *words[3:]], cwd=folder, capture_output=True)
+    if words[image] in made and made[words[image]] != files[words[image]]:
+        return False
+    ran = subprocess.run([path, 'check', words[image], words[4]], cwd=folder, capture_output=True)
     return ran.returncode == 0 and ran.stdout == whole
 
 

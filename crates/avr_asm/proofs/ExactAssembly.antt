@@ -43,7 +43,7 @@ use Rattle.avr_asm.proofs.LineEnds.{WordsByName, line_end}
 use Rattle.avr_asm.proofs.Statements.{Chain, chain_from, end_more, names_more, bytes_more, definitions_append}
 
 -- no two entries have one key
-abbrev Once : {K X : Type 0} → List (K × X) → Type 0
+abbrev pub Once : {K X : Type 0} → List (K × X) → Type 0
 Once entries = AllPairs (λ a b. a.0 ≢ b.0) entries
 
 front_at : {A : Type 0} (xs ys : List A) (i : ℕ) (d : A) → i < length xs → get_or (xs ++ ys) i d ≡ get_or xs i d
@@ -57,7 +57,7 @@ back_at (x ∷ xs) ys y d = back_at xs ys y d
 
 module _ {K X : Type 0} {R : K → K → Ordering} (o : IsTotalOrder R) (exact : IsAntisymmetric R) where
   -- a key is none of those before it
-  new_key : (xs ys : List (K × X)) (k : K) (v : X) → Once (xs ++ (k, v) ∷ ys) → find R k xs ≡ None
+  pub new_key : (xs ys : List (K × X)) (k : K) (v : X) → Once (xs ++ (k, v) ∷ ys) → find R k xs ≡ None
   new_key xs ys k v once = by_case (find R k xs) refl
     where
       by_case : (f : Option X) → find R k xs ≡ f → f ≡ None
@@ -70,7 +70,7 @@ module _ {K X : Type 0} {R : K → K → Ordering} (o : IsTotalOrder R) (exact :
           absurd (once c.0 (length xs) (k, w) c.1 inside (ap (λ e. e.0) first ∙ sym (ap (λ e. e.0) second)))
 
   -- one that is there is found
-  found_there : (es : List (K × X)) (k : K) (v : X) (i : ℕ) → i < length es → get_or es i (k, v) ≡ (k, v) → find R k es ≡ None → ⊥
+  pub found_there : (es : List (K × X)) (k : K) (v : X) (i : ℕ) → i < length es → get_or es i (k, v) ≡ (k, v) → find R k es ≡ None → ⊥
   found_there [] k v i h e none = omega arith
   found_there (x ∷ es) k v zero h e none =
       let hit : eq_by_cmp R k x.0 ≡ true = ap (λ (p : K × X). eq_by_cmp R k p.0) e ∙ (eq_by_cmp_equiv o).refl k in
@@ -213,7 +213,7 @@ all_laid symbols k address before (s ∷ ss) chain at free once =
     ∙ ap (λ bs. Ok (record { addresses = s.address ∷ map (λ (t : Statement). t.address) ss; symbols = from_entries (names_of bs) })) front
 
 -- the bytes of a statement end within the flash
-within_flash : (counts : WordsByName) (symbols : NameMap) (before : List Statement) (s : Statement) (after : List Statement)
+pub within_flash : (counts : WordsByName) (symbols : NameMap) (before : List Statement) (s : Statement) (after : List Statement)
     → IsStatement symbols before s after → 0 < length s.output.bytes → s.address + length s.output.bytes ≤ 65536
 unfolding effect_in
 within_flash counts symbols before s after is =
@@ -265,7 +265,7 @@ statement_put counts symbols k before s after ys out is number image once =
       hints = out.hints ++ hint_list s.output.hint;
     })) (bytes_more before s)
 
-bytes_append : (xs ys : List Statement) → bytes_of (xs ++ ys) ≡ bytes_of xs ++ bytes_of ys
+pub bytes_append : (xs ys : List Statement) → bytes_of (xs ++ ys) ≡ bytes_of xs ++ bytes_of ys
 bytes_append [] ys = refl
 bytes_append (x ∷ xs) ys = ap (λ ds. bytes_from x.address x.output.bytes ++ ds) (bytes_append xs ys)
     ∙ sym (append_assoc (bytes_from x.address x.output.bytes) (bytes_of xs) (bytes_of ys))
@@ -304,13 +304,14 @@ all_put counts symbols k before (s ∷ ss) out chain count image once =
       hints = append_assoc out.hints (hint_list s.output.hint) (hints_of ss) i;
     }))
 
-pub exact_assembly : (counts : WordsByName) (text : List ℕ) (out : Output) → IsAssembly text out → assembly text ≡ Ok out
-exact_assembly counts text out is =
+-- the first pass over an assembly
+pub exact_layout : (text : List ℕ) (out : Output) (is : IsAssembly text out) → layout_of (lines_of text) ≡ Ok
+    (record { addresses = map (λ s. s.address) is.statements; symbols = is.symbols })
+exact_layout text out is =
     let ss = is.statements in
     let chain = chain_from is.symbols [] ss is.meanings in
     let symbols : is.symbols ≡ from_entries (names_of ss) = is_made nat_list_cmp_total (slice_cmp-IsAntisymmetric nat_cmp-IsAntisymmetric)
     is.symbols (names_of ss) is.names in
-    let image : out.image ≡ from_entries (bytes_of ss) = is_made nat_cmp_total nat_cmp-IsAntisymmetric out.image (bytes_of ss) is.image in
     let begins : start ≡ place_of 0 (names_of []) =
     λ i. record {
       address = 0;
@@ -319,13 +320,17 @@ exact_assembly counts text out is =
     } in
     let laid = all_laid is.symbols 1 0 [] ss chain refl (recursion_from_All (λ entry. is_reserved entry.0 ≡ false) (definitions_of ss)
     is.free) is.names.once in
-    let layout : layout_of (lines_of text) ≡ Ok
-    (record { addresses = map (λ (s : Statement). s.address) ss; symbols = from_entries (names_of ss) }) =
-    ap layout_of (sym is.sources) ∙ ap (λ p. layout_from 1 p (map (λ (s : Statement). s.source) ss)) begins ∙ laid in
+    ap layout_of (sym is.sources) ∙ ap (λ p. layout_from 1 p (map (λ (s : Statement). s.source) ss)) begins ∙ laid
+    ∙ ap (λ m. Ok (record { addresses = map (λ (s : Statement). s.address) ss; symbols = m })) (sym symbols)
+
+pub exact_assembly : (counts : WordsByName) (text : List ℕ) (out : Output) → IsAssembly text out → assembly text ≡ Ok out
+exact_assembly counts text out is =
+    let ss = is.statements in
+    let chain = chain_from is.symbols [] ss is.meanings in
+    let image : out.image ≡ from_entries (bytes_of ss) = is_made nat_cmp_total nat_cmp-IsAntisymmetric out.image (bytes_of ss) is.image in
     let puts = all_put counts is.symbols 1 [] ss nothing chain refl refl is.image.once in
     let same : Output = record { image = from_entries (bytes_of ss); items = items_of ss; hints = hints_of ss } in
-    ap (output_of (lines_of text)) layout
-    ∙ ap (λ m. output_from 1 m nothing (lines_of text) (map (λ (s : Statement). s.address) ss)) (sym symbols)
+    ap (output_of (lines_of text)) (exact_layout text out is)
     ∙ ap (λ ls. output_from 1 is.symbols nothing ls (map (λ (s : Statement). s.address) ss)) (sym is.sources)
     ∙ puts
     ∙ (λ i. Ok (record { image = sym image i; items = sym is.items i; hints = sym is.hints i }))

@@ -25,3 +25,4 @@ pub mod FirstPassRuns
 pub mod SecondPassFaults
 pub mod FirstFaults
 pub mod TakenLemmas
+pub mod TakenLaws

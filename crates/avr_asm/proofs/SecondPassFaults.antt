@@ -30,11 +30,11 @@ use Rattle.avr_asm.proofs.OutcomeLemmas.{ok_same}
 
 -- ---- bytes
 
-get_other : (m : Flash) (k v q : ℕ) → ¬ (q ≡ k) → get (insert m k v) q ≡ get m q
+pub get_other : (m : Flash) (k v q : ℕ) → ¬ (q ≡ k) → get (insert m k v) q ≡ get m q
 get_other m k v q h = grind (arith, gets, nat_tests)
 
 -- bytes within the flash fall on free addresses, or one of them on another byte
-abbrev PutSays : ℕ → List ℕ → Flash → OrFault Flash → Type 0
+abbrev pub PutSays : ℕ → List ℕ → Flash → OrFault Flash → Type 0
 PutSays at bytes image (Ok next) = (i : ℕ) → i < length bytes → get image (at + i) ≡ None
 PutSays at bytes image (Err w) = (w ≡ why.Overlap) × (i : ℕ) × (i < length bytes) × (byte : ℕ) × (get image (at + i) ≡ Some byte)
 
@@ -53,7 +53,7 @@ more_says at b bs image (Err w) free h =
     let other : ¬ (at + 1 + h.1 ≡ at) = (λ same. omega (arith, same)) in
     (h.0, suc h.1, omega (arith, h.2), h.3, ap (get image) e ∙ sym (get_other image at b (at + 1 + h.1) other) ∙ h.4)
 
-put_says : (at : ℕ) (bytes : List ℕ) (image : Flash) → (0 < length bytes → at + length bytes ≤ 65536) → PutSays at bytes image
+pub put_says : (at : ℕ) (bytes : List ℕ) (image : Flash) → (0 < length bytes → at + length bytes ≤ 65536) → PutSays at bytes image
     (put at bytes image)
 put_says at [] image within = λ i lt. absurd (omega arith)
 put_says at (b ∷ bs) image within =

@@ -1,9 +1,11 @@
 //! Laws of what a source assembles to.
 
-ghost use Rattle.std.specs.Prelude.{◌≡◌, ◌↔◌, ◌⊎◌, ℕ, ◌+◌, List, ◌∷◌, ◌++◌, Ok, Err};
+ghost use Rattle.std.specs.Prelude.{◌≡◌, ◌↔◌, ◌⊎◌, ℕ, ◌+◌, All, List, ◌∷◌, ◌++◌, Ok, Err};
 ghost use Rattle.avr_asm.specs.Assembly.{Output, assembly};
 ghost use Rattle.avr_asm.specs.FirstFault.{IsFirstFault};
+ghost use Rattle.avr_asm.specs.Emission.{Flash};
 ghost use Rattle.avr_asm.specs.Relation.{Statement, end_of, HaveNoOrigin, length_of, IsAssembly};
+ghost use Rattle.avr_asm.specs.Taken.{Hits, Misses, assembly_over};
 ghost use Rattle.avr_asm.specs.declared.errors.AsmError.{AsmError};
 ghost use Rattle.avr_asm.specs.declared.first_pass.Effect.TheVariants.{Move};
 ghost use Rattle.avr_operands.specs.declared.errors.AsmWhy.{AsmWhy};
@@ -52,3 +54,15 @@ pub fn address_is_origin_and_lengths()
     ensures later { (before between : List Statement) (origin : Statement) (to : ℕ) → origin.effect ≡ Move to → HaveNoOrigin between
         → end_of 0 (before ++ origin ∷ between) ≡ to + length_of between }
 {}
+
+/// The law of a source that is assembled where cells are taken: it is refused at the first statement that places a byte on
+/// one of them, and where none does it is assembled. Does nothing.
+pub fn taken_cells_refuse()
+    ensures first { (text : List ℕ) (taken : Flash) (out : Output) (is : IsAssembly text out) (before after : List Statement)
+        (s : Statement) → is.statements ≡ before ++ s ∷ after → All (Misses taken) before → Hits taken s
+        → assembly_over taken text ≡ Err (record { line = s.number; why = AsmWhy.Overlap }) }
+    ensures none { (text : List ℕ) (taken : Flash) (out : Output) (is : IsAssembly text out) → All (Misses taken) is.statements
+        → (built : Output) × (assembly_over taken text ≡ Ok built) }
+{
+    name_gives_word_count();
+}

@@ -17,7 +17,7 @@ pub use avr_operands::AsmWhy;
 pub use errors::AsmError;
 pub use laws::{
     address_is_origin_and_lengths, assembly_is_exact, assembly_is_unique, fault_is_exact,
-    source_or_fault,
+    source_or_fault, taken_cells_refuse,
 };
 pub use layout::predefined;
 pub use lines::{is_equals, is_name};
