@@ -132,6 +132,16 @@ prints 5 certify pulse.asm 4 out.hex no/such/folder
 can_not_print 5 certify pulse.asm 4 out.hex out.cert
 writes_unprinted certify pulse.asm 4 out.hex out.cert
 
+# timing
+prints 0 timing pulse.hex pulse.cert
+prints 0 timing ring.hex ring.cert
+prints 1 timing ring.hex
+prints 2 timing ring.hex none
+prints 3 timing ring.hex bad
+prints 4 timing ring-short.hex ring-short.cert
+can_not_print 4 timing ring-short.hex ring-short.cert
+can_not_print 5 timing ring.hex ring.cert
+
 # find
 prints 0 find pulse.hex pulse.asm 4 out.cert
 prints 1 find pulse.hex pulse.hex 4 out.cert
