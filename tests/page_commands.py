@@ -59,7 +59,7 @@ class Command:
     def made(self):
         """Names of files that the command may make; `*` stands for any rest of a name."""
         last = [words[-1] for words in self.parts() if words[0] == 'uzebox']
-        pictures = [words[-1] + '*.ppm' for words in self.parts() if words[1:] and words[1].endswith('frames_to_ppm.py')]
+        pictures = [word[:-4] + '*.png' for words in self.parts() if words[0].endswith('tools/frames') for word in words if word.endswith('.png')]
         return [word for word in self.words() if '.' in word] + last + pictures
 
 
