@@ -86,6 +86,11 @@ echo "$(tools/sources_sum) kit 1" >release/SOURCES
 
 runs_release 'a fresh clone'
 runs_release 'a second call'
+expects 3 'release version' 'a version that ends otherwise than with 0' uzebox version
+make_program release/x86_64-linux/uzebox release 0
+expects 0 "sources $(tools/sources_sum)" 'the sum behind the version' uzebox version
+expects 0 'release version x' 'other words' uzebox version x
+make_program release/x86_64-linux/uzebox release 3
 ln -s "$tree/uzebox" "$room/link"
 expects 3 'release x' 'called by a link' env PATH="$without_rt" "$room/link" x
 expects 3 'release x' 'called by its name' env PATH="$tree:$without_rt" uzebox x
