@@ -21,7 +21,7 @@ use Rattle.uz_cert.specs.declared.due.Due.{Due}
 use Rattle.uz_cert.specs.declared.draft.Draft.{Draft}
 use Rattle.uz_cert.specs.declared.errors.CertError.{CertError}
 use Rattle.uz_cert.proofs.KeptLaws.{first_kept, kept_after}
-use Rattle.uz_cert.proofs.SaidLaws.{said_fits}
+use Rattle.uz_cert.proofs.Onward.{LineSpelling}
 use Rattle.uz_cert.proofs.TextLaws.{told, says_ok, fault_ok, same_cert}
 use Rattle.uz_cert.proofs.Whole.{whole_fits}
 
@@ -72,9 +72,9 @@ before_fits d [] [] c k due e = with_entry d d.entry c k due refl e
 before_fits d [] (piece ∷ rest) c k due e = absurd cc
 before_fits d (b ∷ bs) rest c k due e = absurd cc
 
-from_fits : (d : Draft) (pieces : List (List ℕ)) (c : Cert) → Kept d → read_from d pieces ≡ told c → FitsIn d.version c
-from_fits d [] c k e = absurd cc
-from_fits d (line ∷ rest) c k e = by (due_of d) refl e (λ m km h. from_fits m rest c km h)
+from_fits : (l : LineSpelling) (d : Draft) (pieces : List (List ℕ)) (c : Cert) → Kept d → read_from d pieces ≡ told c → FitsIn d.version c
+from_fits l d [] c k e = absurd cc
+from_fits l d (line ∷ rest) c k e = by (due_of d) refl e (λ m km h. from_fits l m rest c km h)
   where
     by : (o : Option Due) → due_of d ≡ o → read_by o d line rest (λ more. read_from more rest) ≡ told c
         → ((m : Draft) → Kept m → read_from m rest ≡ told c → FitsIn m.version c) → FitsIn d.version c
@@ -82,17 +82,17 @@ from_fits d (line ∷ rest) c k e = by (due_of d) refl e (λ m km h. from_fits m
     by (Some due) is h later =
         let m = fault_ok (d.read + 1) (line_says d due line (is_more rest)) (λ more. read_from more rest) c h in
         let s = says_ok d m.0 due line (is_more rest) m.1 in
-        let fits = said_fits d due (words_in line (is_more rest)) s.0 k is s.1 in
+        let fits = (l.only d due (words_in line (is_more rest)) s.0 k is s.1).2 in
         let kept : Kept m.0 = subst Kept (sym s.2) (kept_after d s.0 k fits) in
         subst (λ v. FitsIn v c) (ap (λ x. x.version) s.2 ∙ version_kept d s.0) (later m.0 kept m.2)
 
-pub text_fits : (version : Version) (text : List ℕ) (c : Cert) → cert_of_text version text ≡ told c → FitsIn version c
-text_fits version text c e = by (pieces_of text) e
+pub text_fits : (l : LineSpelling) (version : Version) (text : List ℕ) (c : Cert) → cert_of_text version text ≡ told c → FitsIn version c
+text_fits l version text c e = by (pieces_of text) e
   where
     of_head : (rest : List (List ℕ)) (t : Bool) (m : Bool)
         → or_fault 1 (cond t (cond m (Ok (first_draft version)) (Err why.NoEnd)) (Err why.Head)) (λ d. read_from d rest) ≡ told c
         → FitsIn version c
-    of_head rest true true h = from_fits (first_draft version) rest c (first_kept version) h
+    of_head rest true true h = from_fits l (first_draft version) rest c (first_kept version) h
     of_head rest true false h = absurd cc
     of_head rest false m h = absurd cc
 
@@ -100,7 +100,7 @@ text_fits version text c e = by (pieces_of text) e
     by [] h = absurd cc
     by (line ∷ rest) h = of_head rest (bytes_eq line (head_line version)) (is_more rest) h
 
-pub gives_version : (version : Version) (text : List ℕ) (result : Result Cert CertError) → Gives result (cert_of_text version text)
+pub gives_version : (l : LineSpelling) (version : Version) (text : List ℕ) (result : Result Cert CertError) → Gives result (cert_of_text version text)
     → IfOk result (IsOfVersion version)
-gives_version version text (Ok c) g = (text_fits version text c g).1
-gives_version version text (Err e) g = tt
+gives_version l version text (Ok c) g = (text_fits l version text c g).1
+gives_version l version text (Err e) g = tt

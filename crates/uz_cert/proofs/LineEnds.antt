@@ -13,7 +13,7 @@ use Rattle.uz_cert_lines.specs.Forms.{with_span, spans_of, LineForm, fixed, numb
 use Rattle.uz_cert_lines.specs.declared.items.Shape.{Shape}
 use Rattle.uz_cert_lines.specs.declared.items.Facts.{Facts}
 use Rattle.uz_cert_lines.specs.declared.lines.Said.{Said}
-use Rattle.uz_cert.proofs.Numbers.{bind_ok, ok_same}
+use Rattle.uz_cert.proofs.Results.{bind_ok, ok_same}
 
 end_ended : (ended : Bool) (list : List (List ℕ)) (n : ℕ) → end_of ended list ≡ Ok n → ended ≡ true
 end_ended true list n e = refl

@@ -25,7 +25,7 @@ use Rattle.uz_cert.specs.declared.draft.Draft.{Draft}
 use Rattle.uz_cert.specs.declared.errors.CertError.{CertError}
 use Rattle.uz_cert.proofs.DueLaws.{is_whole}
 use Rattle.uz_cert.proofs.LineEnds.{line_ended}
-use Rattle.uz_cert.proofs.Numbers.{bind_ok, accepted, ok_same}
+use Rattle.uz_cert.proofs.Results.{bind_ok, accepted, ok_same}
 use Rattle.uz_cert.proofs.Pieces.{some_piece}
 
 -- what is known of one line

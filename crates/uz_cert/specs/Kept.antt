@@ -1,6 +1,6 @@
 -- What holds of what the lines of a text say, as long as none has a fault: it is within the limits and orders of a well
 -- formed certificate.
-use Rattle.std.specs.Prelude.{◌≡◌, ◌⊎◌, ℕ, ◌+◌, ◌<◌, ◌≤◌, IsTrue, List, [], ◌∷◌, All, length, map, sum_by, IfSome, None}
+use Rattle.std.specs.Prelude.{◌≡◌, ◌≢◌, ◌⊎◌, ℕ, ◌+◌, ◌<◌, ◌≤◌, IsTrue, List, [], ◌∷◌, All, length, map, sum_by, IfSome, None}
 use Rattle.uz_schedule.specs.Limits.{clock_limit, most_events, rises, clocks_below, lengths_fit, EventFits, EventsFit}
 use Rattle.uz_schedule.specs.WellFormed.{StackFits, CellFits, RestFits, EntryFits, PointFits, instances_of}
 use Rattle.uz_schedule.specs.declared.header.Cell.{Cell}
@@ -127,11 +127,13 @@ pub record EventSaid (d : Draft) (e : Event) : Type 0 where
   pub below : e.clock < d.clocks
   pub order : d.event_least ≤ e.clock
 
--- a kind of line that there is, and no line too many
+-- lines of a kind that there is and that isn't the one of the run before, and no line too many
 pub record RunSaid (d : Draft) (count kind : ℕ) : Type 0 where
   pub body : IsBody d
+  pub some : 1 ≤ count
   pub few : length d.lines + count ≤ d.sizes.lines
   pub there : kind < d.sizes.kinds
+  pub other : kind ≢ d.run_kind
 
 pub record RestSaid (d : Draft) (r : Rest) : Type 0 where
   pub after : IsAfterCells d
@@ -158,7 +160,7 @@ SaidFits d (said.Stack s) = IsOpening d × StackFits (record d.head { lo = s.lo;
 SaidFits d (said.Cell c) = CellSaid d c
 SaidFits d (said.Kind k) = KindSaid d k
 SaidFits d (said.Event e) = EventSaid d e
-SaidFits d (said.Fall clock) = IsBody d × (clock < clock_limit)
+SaidFits d (said.Fall clock) = IsBody d × (1 ≤ clock) × (clock < clock_limit)
 SaidFits d (said.Run r) = RunSaid d r.count r.kind
 SaidFits d (said.Rest r) = RestSaid d r
 SaidFits d (said.Entry e) = EntrySaid d e

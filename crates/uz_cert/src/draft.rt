@@ -11,6 +11,7 @@ ghost use Rattle.uz_cert.specs.Reading.{IsMemory, line_says};
 
 use crate::due::Due;
 use crate::errors::CertError;
+use crate::line_laws::said_lines;
 use arrayvec::ArrayVec;
 use std::alloc::{AllocError, Global};
 use std::mem;
@@ -358,6 +359,7 @@ impl Draft {
         ensures err { IfErr result (λ e. IsMemory e ⊎ ((e.line ≡ self.old.read + 1)
             × (line_says self.old due line.now ended ≡ Err e.why))) }
     {
+        said_lines();
         let number = self.read + 1;
         match self.line(due, &mut Words::new(line, ended)) {
             Ok(said) => {

@@ -5,12 +5,15 @@
 mod draft;
 mod due;
 mod errors;
+mod line_laws;
 mod reading;
+mod text_laws;
 
 pub use draft::Draft;
 pub use due::Due;
 pub use errors::CertError;
 pub use reading::{read_cert, read_cert_1, text_or_fault};
+pub use text_laws::text_is_unique;
 pub use uz_cert_limits::well_formed;
 pub use uz_cert_lines::Version;
 pub use uz_cert_words::CertWhy;

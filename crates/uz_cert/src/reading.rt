@@ -14,6 +14,7 @@ ghost use Rattle.uz_schedule.specs.Schedule.{scanline};
 
 use crate::draft::Draft;
 use crate::errors::CertError;
+use crate::line_laws::said_lines;
 use std::alloc::Global;
 use uz_cert_lines::{Version, line_or_fault};
 use uz_cert_words::CertWhy;
@@ -150,6 +151,7 @@ fn read_version(alloc: Global, version: Version, text: &[u8]) -> Result<Cert, Ce
     ensures faulty { (line : ℕ) (why : CertWhy) → IsFirstFault version text.now line why → Gives result (Err (line, why)) }
     ensures exact { Gives result (cert_of_text version text.now) }
 {
+    said_lines();
     line_or_fault();
     read_text(alloc, version, text)
 }
@@ -223,5 +225,6 @@ pub fn text_or_fault()
     ensures fits { (version : TheVersion) (text : List ℕ) (c : TheCert)
         → cert_of_text version text ≡ Ok c → WellFormed c × IsOfVersion version c }
 {
+    said_lines();
     line_or_fault();
 }

@@ -17,11 +17,4 @@ pub mod Taken
 pub mod Takes
 pub mod Tests
 pub mod WordsOfLines
-pub mod Backward
-pub mod BackwardStates
-pub mod Due
-pub mod Lines
-pub mod Onward
 pub mod Plains
-pub mod Runs
-pub mod Whole

@@ -1,12 +1,9 @@
-//! Laws about a certificate's text: what is spelled is read again, and only what is spelled is read, of its lines and of the
-//! whole.
+//! Laws about the lines of a certificate's text: what is spelled is read again, and only what is spelled is read.
 #![tactic(auto)]
 
 mod line_laws;
-mod text_laws;
 
 pub use line_laws::{
     cell_line, end_line, entry_line, event_line, fall_line, irq_line, kind_line, point_line,
     rest_line, run_line, size_line, stack_line, words_line,
 };
-pub use text_laws::text_is_unique;

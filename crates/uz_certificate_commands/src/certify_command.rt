@@ -12,8 +12,7 @@ ghost use Rattle.uz_files.specs.Formats.{RefusesSource};
 
 use avr_asm::Built;
 use std::alloc::{AllocError, Global};
-use uz_cert::{Cert, write_cert};
-use uz_cert_laws::text_is_unique;
+use uz_cert::{Cert, text_is_unique, write_cert};
 use uz_files::{Ending, Failure, Source, Status, end_with, give_up, read_file, write_file};
 use uz_hex::{Image, write_hex};
 use uz_outcomes::{accepted, not_found};

@@ -14,8 +14,7 @@ ghost use Rattle.uz_certificate_commands.specs.FindValues.{FindFails, HintsFail,
 
 use avr_asm::{AsmError, AsmWhy, Built, Hint, assemble_over};
 use std::alloc::{AllocError, Global};
-use uz_cert::{Cert, write_cert};
-use uz_cert_laws::text_is_unique;
+use uz_cert::{Cert, text_is_unique, write_cert};
 use uz_files::{Ending, Failure, HexText, Status, Work, end_with, finish_work, give_up, read_file};
 use uz_hex::{FLASH_BYTES, Image};
 use uz_outcomes::{accepted, not_found};

@@ -12,7 +12,7 @@ ghost use Rattle.uz_files.specs.Formats.{RefusesOldCertificate};
 
 use crate::migrate_law::migration_keeps_acceptance;
 use std::alloc::{AllocError, Global};
-use uz_cert_laws::text_is_unique;
+use uz_cert::text_is_unique;
 use uz_cert_writer::write_cert;
 use uz_files::{Failure, OldCertificateText, Status, Work, finish_work, number_line, read_file};
 use uz_schedule::Cert;

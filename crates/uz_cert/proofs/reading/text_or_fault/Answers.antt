@@ -16,5 +16,5 @@ returns c =
       again = certificate_text law;
       refused = text_fault law;
       faulty = fault_text law;
-      fits = text_fits;
+      fits = text_fits (record { again = c.said_lines.ensures.again; only = c.said_lines.ensures.only });
     }

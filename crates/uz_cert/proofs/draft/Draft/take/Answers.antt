@@ -1,14 +1,15 @@
 use Rattle.std.proofs.Common.{sym, ◌∙◌}
 use Rattle.uz_cert.proofs.KeptLaws.{kept_read}
-use Rattle.uz_cert.proofs.SaidLaws.{said_fits}
 use Rattle.uz_cert.proofs.draft.Draft.take.Goals as goal
 
 pub put-requires-clause-fits : goal.put-requires-clause-fits
 put-requires-clause-fits c =
-    said_fits c.args.self.now c.args.due c.new.result c.in-Ok.said c.requires.kept c.requires.due (sym c.line.ensures ∙ c.in-Ok.is)
+    (c.said_lines.ensures.only c.args.self.now c.args.due c.new.result c.in-Ok.said c.requires.kept c.requires.due
+    (sym c.line.ensures ∙ c.in-Ok.is)).2
 
 pub returns-in_ok-put-in-Ok-clause-kept : goal.returns-in_ok-put-in-Ok-clause-kept
 returns-in_ok-put-in-Ok-clause-kept c =
     let d = c.args.self.now in
-    let fits = said_fits d c.args.due c.new.result c.in-Ok.said c.requires.kept c.requires.due (sym c.line.ensures ∙ c.in-Ok.is) in
+    let fits = (c.said_lines.ensures.only d c.args.due c.new.result c.in-Ok.said c.requires.kept c.requires.due
+    (sym c.line.ensures ∙ c.in-Ok.is)).2 in
     kept_read d c.put.new.self c.in-Ok.said c.requires.kept fits c.in_ok-put-in-Ok.ensures

@@ -16,22 +16,22 @@ use Rattle.uz_cert_lines.specs.Lines.{head_line}
 use Rattle.uz_cert_lines.specs.declared.lines.KindLine.{KindLine}
 use Rattle.uz_cert_lines.specs.declared.lines.Sizes.{Sizes}
 use Rattle.uz_cert_lines.specs.declared.lines.StackLine.{StackLine}
-use Rattle.uz_cert_lines.specs.declared.lines.Said.{Said}
 use Rattle.uz_cert_lines.specs.declared.lines.Said.TheVariants as said
 use Rattle.uz_cert_lines.specs.declared.version.Version.{Version}
 use Rattle.uz_text.proofs.Plain.{Lacks, EachLacks, lacks_nil}
 use Rattle.uz_cert.specs.Drafts.{first_draft, due_of, draft_after}
-use Rattle.uz_cert.specs.Kept.{Kept, SaidFits}
+use Rattle.uz_cert.specs.Kept.{Kept}
 use Rattle.uz_cert.specs.Reading.{cert_from, cert_before, read_by, read_from}
 use Rattle.uz_cert.specs.declared.due.Due.{Due}
 use Rattle.uz_cert.specs.declared.due.Due.TheVariants as due
 use Rattle.uz_cert.specs.declared.draft.Draft.{Draft}
 use Rattle.uz_cert.proofs.KeptLaws.{first_kept}
-use Rattle.uz_cert_laws.proofs.Due.{PastCells, PastKinds}
-use Rattle.uz_cert_laws.proofs.Due.{due_size, due_irq, due_stack, due_cell, due_event, due_kind, due_fall}
-use Rattle.uz_cert_laws.proofs.Onward.{LineSpelling, spelled, told, fall_lines, expand, Apart, with_kinds, BetweenKinds, no_kind_more}
-use Rattle.uz_cert_laws.proofs.Runs.{runs_expand}
-use Rattle.uz_cert_laws.proofs.BackwardStates.{wrap, NextRead, next_read, NoRestsYet, runs_back}
+use Rattle.uz_cert.proofs.Lines.{no_line_end}
+use Rattle.uz_cert.proofs.LineOrder.{PastCells, PastKinds}
+use Rattle.uz_cert.proofs.LineOrder.{due_size, due_irq, due_stack, due_cell, due_event, due_kind, due_fall}
+use Rattle.uz_cert.proofs.Onward.{LineSpelling, spelled, told, fall_lines, expand, Apart, with_kinds, BetweenKinds, no_kind_more}
+use Rattle.uz_cert.proofs.Runs.{runs_expand}
+use Rattle.uz_cert.proofs.BackwardStates.{wrap, NextRead, next_read, NoRestsYet, runs_back}
 
 -- the fall
 
@@ -70,7 +70,7 @@ fall_back l d pieces c k b p none h =
     let no_lines = no_length d.lines none.2 in
     let no_rests = no_length d.rests none.0.1 in
     let y = runs_back l d.sizes.lines d.sizes.lines (with_fall d x.value) x.rest c (omega arith) (subst Kept next x.kept) (omega (arith, b))
-    (p, x.keeps) none.0 (omega (arith, no_lines))
+    (p, x.fits.1) none.0 (omega (arith, no_lines))
     (ap (λ m. read_from m x.rest) (sym next) ∙ x.more) in
     let lines = y.line_count in
     let rests = y.rest_count in
@@ -319,17 +319,14 @@ stack_next d s = refl
 
 -- pieces that are read lack line ends, where the lines that are spelled do
 
-abbrev pub PlainLines : Type 0
-PlainLines = (d : Draft) (s : Said) → Kept d → SaidFits d s → Lacks 10 (spelled d.version d.head s)
-
-plain_next : (plain : PlainLines) (l : LineSpelling) (d : Draft) (kind : Due) (line : List ℕ) (rest : List (List ℕ)) (c : Cert) → Kept d
+plain_next : (l : LineSpelling) (d : Draft) (kind : Due) (line : List ℕ) (rest : List (List ℕ)) (c : Cert) → Kept d
     → due_of d ≡ Some kind
     → NextRead d kind (line ∷ rest) c → ((m : Draft) → Kept m → read_from m rest ≡ told c → EachLacks 10 rest) → EachLacks 10 (line ∷ rest)
-plain_next plain l d kind line rest c k is x later =
+plain_next l d kind line rest c k is x later =
     let line_is : line ≡ spelled d.version d.head (wrap kind x.value) = first_same line (spelled d.version d.head (wrap kind x.value))
     rest x.rest x.parts in
     let rest_is : rest ≡ x.rest = others_same line (spelled d.version d.head (wrap kind x.value)) rest x.rest x.parts in (
-      subst (Lacks 10) (sym line_is) (plain d (wrap kind x.value) k x.fits),
+      subst (Lacks 10) (sym line_is) (no_line_end d (wrap kind x.value) k x.fits),
       later (draft_after d (wrap kind x.value)) x.kept (ap (read_from (draft_after d (wrap kind x.value))) rest_is ∙ x.more),
     )
   where
@@ -345,15 +342,15 @@ plain_end d [] [] c e = (lacks_nil 10, tt)
 plain_end d [] (piece ∷ rest) c e = absurd cc
 plain_end d (b ∷ bs) rest c e = absurd cc
 
-pub pieces_plain : (plain : PlainLines) (l : LineSpelling) (d : Draft) (pieces : List (List ℕ)) (c : Cert) → Kept d
+pub pieces_plain : (l : LineSpelling) (d : Draft) (pieces : List (List ℕ)) (c : Cert) → Kept d
     → read_from d pieces ≡ told c → EachLacks 10 pieces
-pieces_plain plain l d [] c k e = tt
-pieces_plain plain l d (line ∷ rest) c k e = by (due_of d) refl (λ m km h. pieces_plain plain l m rest c km h)
+pieces_plain l d [] c k e = tt
+pieces_plain l d (line ∷ rest) c k e = by (due_of d) refl (λ m km h. pieces_plain l m rest c km h)
   where
     by : (o : Option Due) → due_of d ≡ o → ((m : Draft) → Kept m → read_from m rest ≡ told c → EachLacks 10 rest)
         → EachLacks 10 (line ∷ rest)
     by None is later = plain_end d line rest c (sym (ap (λ o. read_by o d line rest (λ x. read_from x rest)) is) ∙ e)
-    by (Some kind) is later = plain_next plain l d kind line rest c k is (next_read l d kind (line ∷ rest) c k is e) later
+    by (Some kind) is later = plain_next l d kind line rest c k is (next_read l d kind (line ∷ rest) c k is e) later
 
 -- all lines after the first
 

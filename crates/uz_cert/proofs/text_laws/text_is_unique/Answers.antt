@@ -10,9 +10,9 @@ use Rattle.uz_cert_lines.specs.declared.version.Version.TheVariants.{First, Seco
 use Rattle.uz_schedule.specs.declared.certificate.Cert.{Cert}
 use Rattle.uz_cert_writer.specs.Spelling.{spelling}
 use Rattle.uz_cert.specs.Reading.{Fault, cert_of_text}
-use Rattle.uz_cert_laws.proofs.Lines.{TwelveLines, line_spelling, plain_lines}
-use Rattle.uz_cert_laws.proofs.Whole.{spelling_read, text_spelled}
-use Rattle.uz_cert_laws.proofs.text_laws.text_is_unique.Goals as goal
+use Rattle.uz_cert.proofs.Onward.{LineSpelling}
+use Rattle.uz_cert.proofs.WholeText.{spelling_read, text_spelled}
+use Rattle.uz_cert.proofs.text_laws.text_is_unique.Goals as goal
 
 abbrev answer : Cert → Result Cert Fault
 answer c = Ok c
@@ -22,43 +22,17 @@ same_cert a b e = cc
 
 pub returns : goal.returns
 returns c =
-    let twelve : TwelveLines = record {
-      size_again = c.size_line.ensures.again;
-      size_only = c.size_line.ensures.only;
-      irq_again = c.irq_line.ensures.again;
-      irq_only = c.irq_line.ensures.only;
-      stack_again = c.stack_line.ensures.again;
-      stack_only = c.stack_line.ensures.only;
-      cell_again = c.cell_line.ensures.again;
-      cell_only = c.cell_line.ensures.only;
-      kind_again = c.kind_line.ensures.again;
-      kind_only = c.kind_line.ensures.only;
-      event_again = c.event_line.ensures.again;
-      event_only = c.event_line.ensures.only;
-      fall_again = c.fall_line.ensures.again;
-      fall_only = c.fall_line.ensures.only;
-      run_again = c.run_line.ensures.again;
-      run_only = c.run_line.ensures.only;
-      rest_again = c.rest_line.ensures.again;
-      rest_only = c.rest_line.ensures.only;
-      entry_again = c.entry_line.ensures.again;
-      entry_only = c.entry_line.ensures.only;
-      point_again = c.point_line.ensures.again;
-      point_only = c.point_line.ensures.only;
-      end_again = c.end_line.ensures.again;
-      end_only = c.end_line.ensures.only;
-    } in
-    let l = line_spelling twelve in
+    let l : LineSpelling = record { again = c.said_lines.ensures.again; only = c.said_lines.ensures.only } in
     let text = c.text_or_fault.ensures in
     let again : (x : Cert) → WellFormed x → cert_of_text Second (spelling Second x) ≡ answer x =
-    λ x w. spelling_read plain_lines l Second x w
+    λ x w. spelling_read l Second x w
     (record { lengths = each_length x.schedule.kinds x.schedule.lengths w.schedule.lengths; points = each_point x.points }) in
     record {
       read = text_spelled l;
-      again = spelling_read plain_lines l;
+      again = spelling_read l;
       again_2 = again;
       spelled = λ v t x h. text_spelled l v t x (text.again v t x h);
-      is_text = λ v x w own. text.read v (spelling v x) x (spelling_read plain_lines l v x w own);
+      is_text = λ v x w own. text.read v (spelling v x) x (spelling_read l v x w own);
       is_text_2 = λ x w. text.read Second (spelling Second x) x (again x w);
       once = λ x y w z e. same_cert x y (sym (again x w) ∙ (ap (cert_of_text Second) e ∙ again y z));
       migrated = λ t x e. again x (text.fits First t x e).0;

@@ -9,7 +9,7 @@ use Rattle.std.proofs.lemmas.Bool.Decides.{nat_tests}
 use Rattle.std.proofs.lemmas.List.{length-replicate}
 use Rattle.std.proofs.lemmas.List.Elements.{All-head, All-tail, All-weaker}
 use Rattle.std.proofs.lemmas.List.Sums.{sum_by-cons}
-use Rattle.uz_schedule.specs.Schedule.{response_clocks, scanline}
+use Rattle.uz_schedule.specs.Schedule.{scanline}
 use Rattle.uz_schedule.specs.Limits.{clock_limit, rises_from, is_length, clocks_below, lengths_fit, EventFits, EventsFit}
 use Rattle.uz_schedule.specs.WellFormed.{CellFits, RestFits, EntryFits, PointFits, instances_of}
 use Rattle.uz_schedule.specs.declared.header.Cell.{Cell}
@@ -19,7 +19,7 @@ use Rattle.uz_schedule.specs.declared.states.Rest.{Rest}
 use Rattle.uz_schedule.specs.declared.states.Entry.{Entry}
 use Rattle.uz_schedule.specs.declared.states.Point.{Point}
 use Rattle.uz_schedule.specs.declared.certificate.Cert.{Cert}
-use Rattle.uz_cert_writer.specs.Spelling.{line_of, cell_words, kind_words, event_words, run_words, rest_words}
+use Rattle.uz_cert_writer.specs.Spelling.{line_of, cell_words, event_words, run_words, rest_words}
 use Rattle.uz_cert_writer.specs.Spelling.{entry_words, point_words, kinds_then}
 use Rattle.uz_cert_writer.specs.Spelling.{last_lines}
 use Rattle.uz_cert_words.specs.Why.{◌>>=◌}
@@ -31,66 +31,26 @@ use Rattle.uz_cert_lines.specs.declared.version.Version.{Version}
 use Rattle.uz_cert_lines.specs.declared.lines.Said.TheVariants as said
 use Rattle.uz_cert.specs.Drafts.{due_of, form_of, draft_after}
 use Rattle.uz_cert.specs.Kept.{Kept, SaidFits}
+use Rattle.uz_cert.specs.SaidLines.{due_as, said_words}
+use Rattle.uz_cert_words.specs.Grammar.{Words}
+use Rattle.uz_cert_laws.specs.Said.{line}
+use Rattle.uz_cert.proofs.Lines.{line_cut}
 use Rattle.uz_cert.specs.Reading.{Fault, is_more, words_in, line_says, or_fault, cert_from, cert_with, cert_before, read_by, read_from}
 use Rattle.uz_cert.specs.declared.due.Due.{Due}
-use Rattle.uz_cert.specs.declared.due.Due.TheVariants as due
 use Rattle.uz_cert.specs.declared.draft.Draft.{Draft}
 use Rattle.uz_cert.proofs.KeptLaws.{kept_after}
-use Rattle.uz_cert_laws.proofs.Due.{PastCells, PastKinds, PastFall, PastRuns, PastRests, PastEntry, PastPoints}
-use Rattle.uz_cert_laws.proofs.Due.{due_cell, due_event, due_kind, due_fall, due_run, due_rest, due_entry, due_point, due_end, due_none}
+use Rattle.uz_cert.proofs.LineOrder.{PastCells, PastKinds, PastFall, PastRuns, PastRests, PastEntry, PastPoints}
+use Rattle.uz_cert.proofs.LineOrder.{due_cell, due_event, due_kind, due_fall, due_run, due_rest, due_entry, due_point, due_end, due_none}
 
--- the line that says this
 abbrev pub spelled : Version → Head → Said → List ℕ
-spelled v h (said.Size s) = line_of (codes "size" ∷ decimal s.kinds ∷ decimal s.lines ∷ decimal s.rests ∷ decimal s.points ∷ decimal
-    s.cells ∷ [])
-spelled v h (said.Irq r) = line_of (codes "irq" ∷ decimal (response_clocks r) ∷ [])
-spelled v h (said.Stack s) = line_of (codes "stack" ∷ decimal s.lo ∷ decimal s.hi ∷ decimal s.main ∷ decimal s.handler ∷ [])
-spelled v h (said.Cell c) = line_of (cell_words c)
-spelled v h (said.Kind k) = line_of (kind_words v k.events k.clocks)
-spelled v h (said.Event e) = line_of (event_words e)
-spelled v h (said.Fall k) = line_of (codes "fall" ∷ decimal k ∷ [])
-spelled v h (said.Run r) = line_of (run_words (r.count, r.kind))
-spelled v h (said.Rest r) = line_of (rest_words r)
-spelled v h (said.Entry e) = line_of (entry_words h.cells.items e)
-spelled v h (said.Point p) = line_of (point_words h.cells.items p)
-spelled v h said.End = codes "end"
+spelled v h s = line_of (said_words v h s)
 
-abbrev pub due_as : Said → Due
-due_as (said.Size s) = due.Size
-due_as (said.Irq r) = due.Irq
-due_as (said.Stack s) = due.Stack
-due_as (said.Cell c) = due.Cell
-due_as (said.Kind n) = due.Kind
-due_as (said.Event e) = due.Event
-due_as (said.Fall k) = due.Fall
-due_as (said.Run r) = due.Run
-due_as (said.Rest r) = due.Rest
-due_as (said.Entry e) = due.Entry
-due_as (said.Point p) = due.Point
-due_as said.End = due.End
-
--- what else a line keeps: a run has a line, and isn't of the kind of the run before; the fall isn't at clock 0
-abbrev pub Keeps : Draft → Said → Type 0
-Keeps d (said.Size s) = ⊤
-Keeps d (said.Irq r) = ⊤
-Keeps d (said.Stack s) = ⊤
-Keeps d (said.Cell c) = ⊤
-Keeps d (said.Kind n) = ⊤
-Keeps d (said.Event e) = ⊤
-Keeps d (said.Fall k) = 1 ≤ k
-Keeps d (said.Run r) = (1 ≤ r.count) × (r.kind ≢ d.run_kind)
-Keeps d (said.Rest r) = ⊤
-Keeps d (said.Entry e) = ⊤
-Keeps d (said.Point p) = ⊤
-Keeps d said.End = ⊤
-
--- what is known of one line
+-- what is known of one line where it is due
 pub record LineSpelling : Type 0 where
-  pub again : (d : Draft) (s : Said) → Kept d → due_of d ≡ Some (due_as s) → SaidFits d s → Keeps d s
-      → reads (form_of d (due_as s)) (words_in (spelled d.version d.head s) true) ≡ Ok s
-  pub only : (d : Draft) (due : Due) (line : List ℕ) (s : Said) → Kept d → due_of d ≡ Some due → reads (form_of d due) (words_in line true)
-      ≡ Ok s
-      → (line ≡ spelled d.version d.head s) × (due ≡ due_as s) × Keeps d s
+  pub again : (d : Draft) (s : Said) → Kept d → due_of d ≡ Some (due_as s) → SaidFits d s
+      → reads (form_of d (due_as s)) (line (said_words d.version d.head s)) ≡ Ok s
+  pub only : (d : Draft) (due : Due) (words : Words) (s : Said) → Kept d → due_of d ≡ Some due → reads (form_of d due) words ≡ Ok s
+      → (words ≡ line (said_words d.version d.head s)) × (due ≡ due_as s) × SaidFits d s
 
 abbrev pub told : Cert → Result Cert Fault
 told c = Ok c
@@ -106,13 +66,14 @@ says : (d : Draft) (due : Due) (line : List ℕ) (s : Said) → reads (form_of d
 unfolding line_says
 says d due line s e = ap (λ m. m >>= (λ x. Ok (draft_after d x))) e
 
-pub step : (l : LineSpelling) (d : Draft) (s : Said) (rest : List (List ℕ)) → Kept d → due_of d ≡ Some (due_as s) → SaidFits d s → Keeps d s
+pub step : (l : LineSpelling) (d : Draft) (s : Said) (rest : List (List ℕ)) → Kept d → due_of d ≡ Some (due_as s) → SaidFits d s
     → is_more rest ≡ true → read_from d (spelled d.version d.head s ∷ rest) ≡ read_from (draft_after d s) rest
-step l d s rest k is fits keeps more =
+step l d s rest k is fits more =
     ap (λ o. read_by o d (spelled d.version d.head s) rest (λ x. read_from x rest)) is
     ∙ ap (λ r. or_fault (d.read + 1) r (λ x. read_from x rest))
     (ap (line_says d (due_as s) (spelled d.version d.head s)) more
-    ∙ says d (due_as s) (spelled d.version d.head s) s (l.again d s k is fits keeps))
+    ∙ says d (due_as s) (spelled d.version d.head s) s
+    (ap (reads (form_of d (due_as s))) (line_cut d s k fits) ∙ l.again d s k is fits))
 
 more_after : (lines : List (List ℕ)) (piece : List ℕ) (rest : List (List ℕ)) → is_more (lines ++ piece ∷ rest) ≡ true
 more_after [] piece rest = refl
@@ -137,7 +98,7 @@ pub end_again : (l : LineSpelling) (d : Draft) (e : Entry) → Kept d → 4 ≤ 
     → read_from d last_lines ≡ told (cert_from d e)
 end_again l d e k b p open_end =
     let a = after_end d e b p in
-    step l d said.End ([] ∷ []) k (due_end d e b p open_end) b tt refl
+    step l d said.End ([] ∷ []) k (due_end d e b p open_end) b refl
     ∙ (whole_again (draft_after d said.End) e a.0 a.1 ∙ same_end d e)
 
 -- points
@@ -175,7 +136,7 @@ points_again l d e (x ∷ xs) k b p o count fits own sum =
     } in
     let next = with_point d x in
     let kept : Kept next = subst Kept (point_next d x) (kept_after d (said.Point x) k fit) in
-    step l d (said.Point x) (point_lines d.head.cells.items xs) k (due_point d e b p room) fit tt (points_more d.head.cells.items xs)
+    step l d (said.Point x) (point_lines d.head.cells.items xs) k (due_point d e b p room) fit (points_more d.head.cells.items xs)
     ∙ (ap (λ y. read_from y (point_lines d.head.cells.items xs)) (point_next d x)
     ∙ (points_again l next e xs kept (omega (arith, b)) p o (simp length-append (omega (arith, count)))
     (All-tail (PointFits d.head d.sizes.lines d.sizes.points) x xs fits) (All-tail (IsPointIn d.version) x xs own) (less_sum (instances_of x) (sum_by instances_of xs)
@@ -207,7 +168,7 @@ entry_again l d e ps k b p none no_points o count entry fits own sum =
     let fit : SaidFits d (said.Entry e) = record { after = record { body = b; cells = omega (arith, cells) }; fits = entry } in
     let next = with_entry d e in
     let kept : Kept next = subst Kept (entry_next d e) (kept_after d (said.Entry e) k fit) in
-    step l d (said.Entry e) (point_lines d.head.cells.items ps) k (due_entry d b p none) fit tt (points_more d.head.cells.items ps)
+    step l d (said.Entry e) (point_lines d.head.cells.items ps) k (due_entry d b p none) fit (points_more d.head.cells.items ps)
     ∙ (ap (λ y. read_from y (point_lines d.head.cells.items ps)) (entry_next d e)
     ∙ (points_again l next e ps kept (omega (arith, b)) (p, refl) o (ap (λ xs. length xs + length ps) no_points
     ∙ (zero-add (length ps) ∙ count)) fits own sum
@@ -253,7 +214,7 @@ rests_again l d (r ∷ rs) e ps k b p s =
     } in
     let next = with_rest d r in
     let kept : Kept next = subst Kept (rest_next d r) (kept_after d (said.Rest r) k fit) in
-    step l d (said.Rest r) (rest_lines d.head.cells.items rs e ps) k (due_rest d b p room) fit tt
+    step l d (said.Rest r) (rest_lines d.head.cells.items rs e ps) k (due_rest d b p room) fit
     (more_after (map (λ x. line_of (rest_words x)) rs) (line_of (entry_words d.head.cells.items e)) (point_lines d.head.cells.items ps))
     ∙ (ap (λ y. read_from y (rest_lines d.head.cells.items rs e ps)) (rest_next d r)
     ∙ (rests_again l next rs e ps kept (omega (arith, b)) p (
@@ -316,13 +277,14 @@ runs_again l d (r ∷ runs) rs e ps k b p apart kinds count s =
     let room : length d.lines < d.sizes.lines = omega (arith, count, size, same, some) in
     let fit : SaidFits d (said.Run (record { count = r.0; kind = r.1 })) = record {
       body = b;
+      some = apart.0;
       few = omega (arith, count, size, same);
       there = All-head (λ x. x.1 < d.sizes.kinds) r runs kinds;
+      other = apart.1;
     } in
     let next = with_run d r in
     let kept : Kept next = subst Kept (run_next d r) (kept_after d (said.Run (record { count = r.0; kind = r.1 })) k fit) in
     step l d (said.Run (record { count = r.0; kind = r.1 })) (run_lines runs d.head.cells.items rs e ps) k (due_run d b p room) fit
-    (apart.0, apart.1)
     (more_lines (map (λ x. line_of (run_words x)) runs) (rest_lines d.head.cells.items rs e ps) (some_rest d.head.cells.items rs e ps))
     ∙ (ap (λ y. read_from y (run_lines runs d.head.cells.items rs e ps)) (run_next d r)
     ∙ (runs_again l next runs rs e ps kept (omega (arith, b)) p apart.2 (All-tail (λ x. x.1 < d.sizes.kinds) r runs kinds)
@@ -349,10 +311,10 @@ pub fall_again : (l : LineSpelling) (d : Draft) (clock : ℕ) (runs : List (ℕ 
     → read_from d (fall_lines clock runs d.head.cells.items rs e ps)
     ≡ told (cert_from (record d { fall = clock; lines = expand runs; rests = d.rests ++ rs; points = ps }) e)
 fall_again l d clock runs rs e ps k b p none some low no_lines apart kinds count s =
-    let fit : SaidFits d (said.Fall clock) = (b, low) in
+    let fit : SaidFits d (said.Fall clock) = (b, some, low) in
     let next = with_fall d clock in
     let kept : Kept next = subst Kept (fall_next d clock) (kept_after d (said.Fall clock) k fit) in
-    step l d (said.Fall clock) (run_lines runs d.head.cells.items rs e ps) k (due_fall d b p none) fit some
+    step l d (said.Fall clock) (run_lines runs d.head.cells.items rs e ps) k (due_fall d b p none) fit
     (more_lines (map (λ x. line_of (run_words x)) runs) (rest_lines d.head.cells.items rs e ps) (some_rest d.head.cells.items rs e ps))
     ∙ (ap (λ y. read_from y (run_lines runs d.head.cells.items rs e ps)) (fall_next d clock)
     ∙ (runs_again l next runs rs e ps kept (omega (arith, b)) (p, some) apart kinds
@@ -449,7 +411,7 @@ events_again l d e [] others k b p owed fits rise low more =
       read = d.read + 1;
       body = omega (arith, b);
       kept = subst Kept last (kept_after d (said.Event e) k fit);
-      same = step l d (said.Event e) others k (due_event d b p (omega (arith, owed))) fit tt more ∙ ap (λ y. read_from y others) last;
+      same = step l d (said.Event e) others k (due_event d b p (omega (arith, owed))) fit more ∙ ap (λ y. read_from y others) last;
     }
 events_again l d e (x ∷ es) others k b p owed fits rise low more =
     let order = and_true (leb d.event_least e.clock) (rises_from (e.clock + 1) (map (λ y. y.clock) (x ∷ es))) rise in
@@ -471,7 +433,7 @@ events_again l d e (x ∷ es) others k b p owed fits rise low more =
       body = later.body;
       kept = subst (λ ys. Kept (with_kinds d later.read (d.kinds ++ ys ∷ []) (d.lengths ++ d.clocks ∷ []))) seam later.kept;
       same =
-          step l d (said.Event e) (event_lines (x ∷ es) ++ others) k (due_event d b p (omega (arith, owed))) fit tt refl
+          step l d (said.Event e) (event_lines (x ∷ es) ++ others) k (due_event d b p (omega (arith, owed))) fit refl
           ∙ (ap (λ y. read_from y (event_lines (x ∷ es) ++ others)) next
           ∙ (later.same ∙ ap (λ ys. read_from (with_kinds d later.read (d.kinds ++ ys ∷ []) (d.lengths ++ d.clocks ∷ [])) others) seam));
     }
@@ -558,7 +520,7 @@ kinds_again l d ((e ∷ es) ∷ kinds) (n ∷ lengths) others k b p between coun
       kept = subst (λ ns. Kept (with_kinds d later.read (d.kinds ++ (e ∷ es) ∷ kinds) ns)) measured
           (subst (λ ks. Kept (with_kinds d later.read ks ((d.lengths ++ n ∷ []) ++ lengths))) joined later.kept);
       same =
-          step l d (said.Kind says) (event_lines (e ∷ es) ++ later_lines) k (due_kind d b p between.0 room) fit tt refl
+          step l d (said.Kind says) (event_lines (e ∷ es) ++ later_lines) k (due_kind d b p between.0 room) fit refl
           ∙ (ap (λ y. read_from y (event_lines (e ∷ es) ++ later_lines)) (kind_next d says)
           ∙ (a.same ∙ (ap (λ ys. read_from (with ys) later_lines) seam
           ∙ (later.same ∙ (ap (λ ks. read_from (with_kinds d later.read ks ((d.lengths ++ n ∷ []) ++ lengths)) others) joined
@@ -624,7 +586,7 @@ cells_again l d (c ∷ cells) others k b count fits rise more =
       body = later.body;
       kept = subst (λ cs. Kept (with_cells d later.read later.least cs)) joined later.kept;
       same =
-          step l d (said.Cell c) (cell_lines cells ++ others) k (due_cell d b room) fit tt (more_lines (cell_lines cells) others more)
+          step l d (said.Cell c) (cell_lines cells ++ others) k (due_cell d b room) fit (more_lines (cell_lines cells) others more)
           ∙ (ap (λ y. read_from y (cell_lines cells ++ others)) (cell_next d c)
           ∙ (later.same ∙ ap (λ cs. read_from (with_cells d later.read later.least cs) others) joined));
     }

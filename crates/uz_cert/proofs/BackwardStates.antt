@@ -1,7 +1,7 @@
 -- The states of a text that is read: from its last line to its first run of lines, it is the spelling of what it says.
 use Rattle.std.proofs.Common.{◌≡◌, ℕ, zero, suc, ◌+◌, ◌-◌, ◌≤◌, Bool, true, false, List, [], ◌∷◌, ◌++◌, length, replicate, codes, refl, sym}
 use Rattle.std.proofs.Common.{◌∙◌, ap, subst, append_assoc, append-nil, arith, length-append}
-use Rattle.std.specs.Prelude.{Some, None, Result, Ok, Err, ⊤}
+use Rattle.std.specs.Prelude.{Some, None, Ok, ⊤}
 use Rattle.std.proofs.lemmas.List.{length-replicate}
 use Rattle.uz_schedule.specs.WellFormed.{instances_of}
 use Rattle.uz_schedule.specs.declared.kinds.Response.{Response}
@@ -19,21 +19,20 @@ use Rattle.uz_cert_lines.specs.declared.lines.KindLine.{KindLine}
 use Rattle.uz_cert_lines.specs.declared.lines.Run.{Run}
 use Rattle.uz_cert_lines.specs.declared.lines.Said.{Said}
 use Rattle.uz_cert_lines.specs.declared.lines.Said.TheVariants as said
-use Rattle.uz_cert_words.specs.declared.why.CertWhy.{CertWhy}
 use Rattle.uz_cert.specs.Drafts.{due_of, form_of, draft_after}
 use Rattle.uz_cert.specs.Kept.{Kept, SaidFits}
-use Rattle.uz_cert.specs.Reading.{Fault, is_more, words_in, line_says, or_fault, cert_from, cert_with, cert_before, read_by, read_from}
+use Rattle.uz_cert.specs.Reading.{is_more, words_in, line_says, cert_from, cert_with, cert_before, read_by, read_from}
 use Rattle.uz_cert.specs.declared.due.Due.{Due}
 use Rattle.uz_cert.specs.declared.due.Due.TheVariants as due
 use Rattle.uz_cert.specs.declared.draft.Draft.{Draft}
 use Rattle.uz_cert.proofs.KeptLaws.{kept_after}
-use Rattle.uz_cert.proofs.SaidLaws.{said_fits}
-use Rattle.uz_cert.proofs.LineEnds.{line_ended}
-use Rattle.uz_cert.proofs.Numbers.{bind_ok, accepted, ok_same}
-use Rattle.uz_cert_laws.proofs.Due.{PastFall, PastRuns, PastRests, PastEntry, PastPoints}
-use Rattle.uz_cert_laws.proofs.Due.{due_run, due_rest, due_entry, due_point, due_end, due_none}
-use Rattle.uz_cert_laws.proofs.Onward.{LineSpelling, spelled, due_as, Keeps, told, point_lines, entry_lines, rest_lines, run_lines, expand}
-use Rattle.uz_cert_laws.proofs.Onward.{Apart}
+use Rattle.uz_cert.proofs.TextLaws.{says_ok, fault_ok}
+use Rattle.uz_cert.proofs.Lines.{joined}
+use Rattle.uz_cert.specs.SaidLines.{due_as, said_words}
+use Rattle.uz_cert.proofs.LineOrder.{PastFall, PastRuns, PastRests, PastEntry, PastPoints}
+use Rattle.uz_cert.proofs.LineOrder.{due_run, due_rest, due_entry, due_point, due_end, due_none}
+use Rattle.uz_cert.proofs.Onward.{LineSpelling, spelled, told, point_lines, entry_lines, rest_lines, run_lines, expand}
+use Rattle.uz_cert.proofs.Onward.{Apart}
 
 -- what a line of each kind says
 
@@ -88,37 +87,22 @@ pub record NextRead (d : Draft) (kind : Due) (pieces : List (List ℕ)) (c : Cer
   pub rest : List (List ℕ)
   pub parts : pieces ≡ spelled d.version d.head (wrap kind value) ∷ rest
   pub fits : SaidFits d (wrap kind value)
-  pub keeps : Keeps d (wrap kind value)
   pub kept : Kept (draft_after d (wrap kind value))
   pub more : read_from (draft_after d (wrap kind value)) rest ≡ told c
 
-fault_ok : (n : ℕ) (r : Result Draft CertWhy) (more : Draft → Result Cert Fault) (c : Cert) → or_fault n r more ≡ told c
-    → (m : Draft) × (r ≡ Ok m) × (more m ≡ told c)
-fault_ok n (Ok m) more c e = (m, refl, e)
-fault_ok n (Err w) more c e = absurd cc
-
-says_ok : (d m : Draft) (kind : Due) (line : List ℕ) (ended : Bool) → line_says d kind line ended ≡ Ok m
-    → (s : Said) × (reads (form_of d kind) (words_in line ended) ≡ Ok s) × (m ≡ draft_after d s)
-unfolding line_says
-says_ok d m kind line ended e =
-    let b = bind_ok (reads (form_of d kind) (words_in line ended)) (λ s. accepted Draft (draft_after d s)) m e in
-    (b.0, b.1, sym (ok_same (draft_after d b.0) m b.2))
-
-said_next : (l : LineSpelling) (d : Draft) (kind : Due) (line : List ℕ) (rest : List (List ℕ)) (c : Cert) (s : Said) → Kept d
-    → due_of d ≡ Some kind
-    → reads (form_of d kind) (words_in line true) ≡ Ok s → read_from (draft_after d s) rest ≡ told c → NextRead d kind (line ∷ rest) c
-said_next l d kind line rest c s k is r more =
-    let o = l.only d kind line s k is r in
+said_next : (l : LineSpelling) (d : Draft) (kind : Due) (line : List ℕ) (ended : Bool) (rest : List (List ℕ)) (c : Cert) (s : Said)
+    → Kept d → due_of d ≡ Some kind
+    → reads (form_of d kind) (words_in line ended) ≡ Ok s → read_from (draft_after d s) rest ≡ told c → NextRead d kind (line ∷ rest) c
+said_next l d kind line ended rest c s k is r more =
+    let o = l.only d kind (words_in line ended) s k is r in
     let x = subst (λ y. Wrapped y s) (sym o.1) (unwrap s) in
-    let fits = said_fits d kind (words_in line true) s k is r in
     let same = x.1 in
     record {
       value = x.0;
       rest = rest;
-      parts = ap (λ w. w ∷ rest) (o.0 ∙ ap (spelled d.version d.head) same);
-      fits = subst (SaidFits d) same fits;
-      keeps = subst (Keeps d) same o.2;
-      kept = subst (λ y. Kept (draft_after d y)) same (kept_after d s k fits);
+      parts = ap (λ w. w ∷ rest) (joined line ended (said_words d.version d.head s) o.0 ∙ ap (spelled d.version d.head) same);
+      fits = subst (SaidFits d) same o.2;
+      kept = subst (λ y. Kept (draft_after d y)) same (kept_after d s k o.2);
       more = ap (λ y. read_from (draft_after d y) rest) (sym same) ∙ more;
     }
 
@@ -130,9 +114,7 @@ next_read l d kind (line ∷ rest) c k is e =
     let f = fault_ok (d.read + 1) (line_says d kind line (is_more rest)) (λ x. read_from x rest) c
     (sym (ap (λ o. read_by o d line rest (λ x. read_from x rest)) is) ∙ e) in
     let s = says_ok d f.0 kind line (is_more rest) f.1 in
-    let ended = line_ended (form_of d kind) (words_in line (is_more rest)) s.0 s.1 in
-    said_next l d kind line rest c s.0 k is (ap (λ t. reads (form_of d kind) (words_in line t)) (sym ended) ∙ s.1)
-    (ap (λ x. read_from x rest) (sym s.2) ∙ f.2)
+    said_next l d kind line (is_more rest) rest c s.0 k is s.1 (ap (λ x. read_from x rest) (sym s.2) ∙ f.2)
 
 -- the end
 
@@ -339,7 +321,7 @@ runs_back l (suc bound) (suc n) d pieces c few k b p none count h =
     let x = next_read l d due.Run pieces c k (due_run d b p (omega (arith, count))) h in
     let next = run_next d x.value in
     let fits = x.fits.few in
-    let some = x.keeps.0 in
+    let some = x.fits.some in
     let same = length-replicate x.value.count x.value.kind in
     let size = length-append d.lines (replicate x.value.count x.value.kind) in
     let left : length (d.lines ++ replicate x.value.count x.value.kind) + (suc n - x.value.count) ≡ d.sizes.lines =
@@ -360,5 +342,5 @@ runs_back l (suc bound) (suc n) d pieces c few k b p none count h =
       count = y.count;
       rest_count = y.rest_count;
       line_count = omega (arith, size, same, later, all);
-      apart = (x.keeps.0, x.keeps.1, y.apart);
+      apart = (x.fits.some, x.fits.other, y.apart);
     }

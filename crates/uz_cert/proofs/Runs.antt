@@ -6,7 +6,7 @@ use Rattle.std.proofs.lemmas.Bool.{eqb-true, eqb-false}
 use Rattle.std.proofs.lemmas.Bool.Decides.{nat_tests}
 use Rattle.std.proofs.lemmas.List.Elements.{All-nil, All-cons, All-head, All-tail}
 use Rattle.uz_cert_writer.specs.Spelling.{run_before, runs_of}
-use Rattle.uz_cert_laws.proofs.Onward.{expand, Apart}
+use Rattle.uz_cert.proofs.Onward.{expand, Apart}
 
 -- the runs of lines give the lines
 

@@ -9,11 +9,8 @@ ghost use Rattle.uz_cert_writer.specs.Spelling.{spelling};
 ghost use Rattle.uz_cert.specs.Reading.{cert_of_text};
 ghost use Rattle.uz_cert.specs.Texts.{IsCertificateText, IsOfVersion};
 
-use crate::line_laws::{
-    cell_line, end_line, entry_line, event_line, fall_line, irq_line, kind_line, point_line,
-    rest_line, run_line, size_line, stack_line,
-};
-use uz_cert::text_or_fault;
+use crate::line_laws::said_lines;
+use crate::reading::text_or_fault;
 
 /// A text of a version is a certificate's exactly where it is the spelling of that certificate, which says what the version
 /// can say: a text that is read is the spelling of what it says, and the spelling of a well formed certificate is read as
@@ -32,17 +29,6 @@ pub fn text_is_unique()
     ensures once { (c d : Cert) → WellFormed c → WellFormed d → spelling Second c ≡ spelling Second d → c ≡ d }
     ensures migrated { (text : List ℕ) (c : Cert) → cert_of_text First text ≡ Ok c → cert_of_text Second (spelling Second c) ≡ Ok c }
 {
-    size_line();
-    irq_line();
-    stack_line();
-    cell_line();
-    kind_line();
-    event_line();
-    fall_line();
-    run_line();
-    rest_line();
-    entry_line();
-    point_line();
-    end_line();
+    said_lines();
     text_or_fault();
 }

@@ -27,12 +27,12 @@ use Rattle.uz_cert.specs.Reading.{pieces_of, is_more, or_fault, cert_from, read_
 use Rattle.uz_cert.specs.Texts.{IsOfVersion}
 use Rattle.uz_cert.specs.declared.draft.Draft.{Draft}
 use Rattle.uz_cert.proofs.KeptLaws.{first_kept, kept_after}
-use Rattle.uz_cert_laws.proofs.Due.{due_size, due_irq, due_stack}
-use Rattle.uz_cert_laws.proofs.Onward.{LineSpelling, spelled, told, step, more_lines, cell_lines, cells_again, kinds_again, fall_lines}
-use Rattle.uz_cert_laws.proofs.Onward.{fall_again, with_kinds, kinds_more}
-use Rattle.uz_cert_laws.proofs.Runs.{expand_runs, all_runs, runs_apart}
-use Rattle.uz_cert_laws.proofs.Backward.{PlainLines, draft_sizes, draft_irq, draft_stack, size_next, irq_next, stack_next, pieces_plain}
-use Rattle.uz_cert_laws.proofs.Backward.{lines_back}
+use Rattle.uz_cert.proofs.LineOrder.{due_size, due_irq, due_stack}
+use Rattle.uz_cert.proofs.Onward.{LineSpelling, spelled, told, step, more_lines, cell_lines, cells_again, kinds_again, fall_lines}
+use Rattle.uz_cert.proofs.Onward.{fall_again, with_kinds, kinds_more}
+use Rattle.uz_cert.proofs.Runs.{expand_runs, all_runs, runs_apart}
+use Rattle.uz_cert.proofs.Backward.{draft_sizes, draft_irq, draft_stack, size_next, irq_next, stack_next, pieces_plain}
+use Rattle.uz_cert.proofs.Backward.{lines_back}
 
 -- a certificate's text is read as it
 
@@ -131,17 +131,17 @@ lines_again l v c w own =
     (omega arith, stack)) in
     step l (first_draft v) (said.Size (sizes_of c)) (spelled v (first_draft v).head (said.Irq c.head.irq) ∷ spelled v (first_draft v).head
     (said.Stack (stack_of c.head)) ∷ middle_lines v c)
-    (first_kept v) (due_size (first_draft v) refl) (omega arith, sizes) tt refl
+    (first_kept v) (due_size (first_draft v) refl) (omega arith, sizes) refl
     ∙ (ap (λ m. read_from m (spelled v (first_draft v).head (said.Irq c.head.irq)
     ∷ spelled v (first_draft v).head (said.Stack (stack_of c.head))
     ∷ middle_lines v c)) sized
     ∙ (step l (draft_sizes v (sizes_of c)) (said.Irq c.head.irq) (spelled v (first_draft v).head (said.Stack (stack_of c.head))
     ∷ middle_lines v c)
-    kept_a (due_irq (draft_sizes v (sizes_of c)) refl) (omega arith) tt refl
+    kept_a (due_irq (draft_sizes v (sizes_of c)) refl) (omega arith) refl
     ∙ (ap (λ m. read_from m (spelled v (first_draft v).head (said.Stack (stack_of c.head)) ∷ middle_lines v c)) answered
     ∙ (step l (draft_irq v (sizes_of c) c.head.irq) (said.Stack (stack_of c.head)) (middle_lines v c) kept_b
     (due_stack (draft_irq v (sizes_of c) c.head.irq) refl)
-    (omega arith, stack) tt (middle_some v c)
+    (omega arith, stack) (middle_some v c)
     ∙ (ap (λ m. read_from m (middle_lines v c)) stacked ∙ middle_again l v c w own kept_c)))))
 
 -- whole texts
@@ -159,12 +159,12 @@ head_lacks First =
 head_lacks Second =
     lacks_cons 10 117 (122 ∷ 99 ∷ 101 ∷ 114 ∷ 116 ∷ 32 ∷ 50 ∷ []) (λ e. omega (arith, e)) (head_begins 50 (λ e. omega (arith, e)))
 
-pub spelling_read : (plain : PlainLines) (l : LineSpelling) (v : Version) (c : Cert) → WellFormed c → IsOfVersion v c
+pub spelling_read : (l : LineSpelling) (v : Version) (c : Cert) → WellFormed c → IsOfVersion v c
     → cert_of_text v (spelling v c) ≡ told c
-spelling_read plain l v c w own =
+spelling_read l v c w own =
     let read = lines_again l v c w own in
     ap (read_pieces v) (split_join 10 (head_line v) (other_lines v c) (head_lacks v)
-    (pieces_plain plain l (first_draft v) (other_lines v c) c (first_kept v) read))
+    (pieces_plain l (first_draft v) (other_lines v c) c (first_kept v) read))
     ∙ (head_read v (other_lines v c) refl ∙ read)
 
 head_of : (v : Version) (line : List ℕ) (rest : List (List ℕ)) (c : Cert) → read_pieces v (line ∷ rest) ≡ told c
