@@ -23,20 +23,21 @@ IsDue d due.Size = d.read ≡ 1
 IsDue d due.Irq = d.read ≡ 2
 IsDue d due.Stack = d.read ≡ 3
 IsDue d due.Cell = IsBody d × (length d.head.cells.items < d.sizes.cells)
-IsDue d due.Event = IsBody d × (1 ≤ d.owed)
-IsDue d due.Kind = IsBody d × (d.owed ≡ 0) × (length d.kinds < d.sizes.kinds)
-IsDue d due.Fall = IsBody d
-IsDue d due.Run = IsBody d × (length d.lines < d.sizes.lines)
-IsDue d due.Rest = IsAfterCells d × (length d.rests < d.sizes.rests)
-IsDue d due.Entry = IsAfterCells d
-IsDue d due.Point = IsAfterCells d × (length d.points < d.sizes.points)
-IsDue d due.End = IsBody d
+IsDue d due.Event = IsAfterCells d × (1 ≤ d.owed)
+IsDue d due.Kind = IsAfterCells d × (d.owed ≡ 0) × (length d.kinds < d.sizes.kinds)
+IsDue d due.Fall = IsAfterCells d × (d.owed ≡ 0) × (d.sizes.kinds ≤ length d.kinds) × (d.fall ≡ 0)
+IsDue d due.Run = IsAfterCells d × (d.fall ≢ 0) × (length d.lines < d.sizes.lines)
+IsDue d due.Rest = InStates d × (length d.rests < d.sizes.rests)
+IsDue d due.Entry = InStates d × (d.sizes.rests ≤ length d.rests) × (lacks d.entry ≡ true)
+IsDue d due.Point = InStates d × (d.sizes.rests ≤ length d.rests) × (lacks d.entry ≡ false) × (length d.points < d.sizes.points)
+IsDue d due.End = InStates d × (d.sizes.points ≤ length d.points) × (d.ended ≡ false)
 
 pub record IsWhole (d : Draft) : Type 0 where
   pub states : InStates d
   pub rests : d.sizes.rests ≤ length d.rests
   pub entry : lacks d.entry ≡ false
   pub points : d.sizes.points ≤ length d.points
+  pub ended : d.ended ≡ true
 
 abbrev DueIs : Draft → Option Due → Type 0
 DueIs d None = IsWhole d
@@ -49,29 +50,32 @@ choose P false x y h k = k refl
 
 states_due : (d : Draft) → InStates d → DueIs d (due_of_states d)
 states_due d h =
-    choose (DueIs d) (ltb (length d.rests) d.sizes.rests) _ _ (λ t. (h.after, ltb-true (length d.rests) d.sizes.rests t))
-    (λ r. choose (DueIs d) (lacks d.entry) _ _ (λ t. h.after)
-    (λ e. choose (DueIs d) (ltb (length d.points) d.sizes.points) _ _ (λ t. (h.after, ltb-true (length d.points) d.sizes.points t))
+    choose (DueIs d) (ltb (length d.rests) d.sizes.rests) _ _ (λ t. (h, ltb-true (length d.rests) d.sizes.rests t))
+    (λ r. choose (DueIs d) (lacks d.entry) _ _ (λ t. (h, ltb-false (length d.rests) d.sizes.rests r, t))
+    (λ e. choose (DueIs d) (ltb (length d.points) d.sizes.points) _ _
+    (λ t. (h, ltb-false (length d.rests) d.sizes.rests r, e, ltb-true (length d.points) d.sizes.points t))
     (λ p. choose (DueIs d) d.ended _ _
     (λ t. record {
       states = h;
       rests = ltb-false (length d.rests) d.sizes.rests r;
       entry = e;
-      points = ltb-false (length d.points)
-          d.sizes.points p;
+      points = ltb-false (length d.points) d.sizes.points p;
+      ended = t;
     })
-    (λ f. h.after.body))))
+    (λ f. (h, ltb-false (length d.points) d.sizes.points p, f)))))
 
 none_owed : (n : ℕ) → ltb 0 n ≡ false → n ≡ 0
 none_owed n e = let few = ltb-false 0 n e in omega (arith, few)
 
 schedule_due : (d : Draft) → IsAfterCells d → DueIs d (due_of_schedule d)
 schedule_due d h =
-    choose (DueIs d) (ltb 0 d.owed) _ _ (λ t. (h.body, ltb-true 0 d.owed t))
+    choose (DueIs d) (ltb 0 d.owed) _ _ (λ t. (h, ltb-true 0 d.owed t))
     (λ o. choose (DueIs d) (ltb (length d.kinds) d.sizes.kinds) _ _
-    (λ t. (h.body, none_owed d.owed o, ltb-true (length d.kinds) d.sizes.kinds t))
-    (λ k. choose (DueIs d) (eqb d.fall 0) _ _ (λ t. h.body)
-    (λ f. choose (DueIs d) (ltb (length d.lines) d.sizes.lines) _ _ (λ t. (h.body, ltb-true (length d.lines) d.sizes.lines t))
+    (λ t. (h, none_owed d.owed o, ltb-true (length d.kinds) d.sizes.kinds t))
+    (λ k. choose (DueIs d) (eqb d.fall 0) _ _
+    (λ t. (h, none_owed d.owed o, ltb-false (length d.kinds) d.sizes.kinds k, eqb-true d.fall 0 t))
+    (λ f. choose (DueIs d) (ltb (length d.lines) d.sizes.lines) _ _
+    (λ t. (h, eqb-false d.fall 0 f, ltb-true (length d.lines) d.sizes.lines t))
     (λ l. states_due d (record {
       after = h;
       none_owed = none_owed d.owed o;

@@ -29,7 +29,7 @@ use Rattle.uz_cert.proofs.Whole.{whole_fits}
 abbrev pub FitsIn : Version → Cert → Type 0
 FitsIn version c = WellFormed c × IsOfVersion version c
 
-version_kept : (d : Draft) (s : Said) → (draft_after d s).version ≡ d.version
+pub version_kept : (d : Draft) (s : Said) → (draft_after d s).version ≡ d.version
 unfolding draft_after
 version_kept d (said.Size s) = refl
 version_kept d (said.Irq r) = refl

@@ -1,12 +1,13 @@
-pub mod Backward
-pub mod BackwardStates
-pub mod LineOrder
 pub mod DueLaws
 pub mod FitLaws
 pub mod KeptLaws
+pub mod Later
 pub mod LineEnds
 pub mod LineLimits
+pub mod LineOrder
 pub mod Lines
+pub mod LinesSoFar
+pub mod NextLine
 pub mod Onward
 pub mod Pieces
 pub mod Results

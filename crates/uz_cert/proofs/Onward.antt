@@ -331,11 +331,11 @@ unfolding draft_after
 kind_next d n = refl
 
 -- one more event, of which more are owed
-abbrev with_event : Draft → Event → Draft
+abbrev pub with_event : Draft → Event → Draft
 with_event d e = record d { read = d.read + 1; owed = d.owed - 1; events = d.events ++ e ∷ []; event_least = e.clock + 1 }
 
 -- the last event of a kind
-abbrev with_last : Draft → Event → Draft
+abbrev pub with_last : Draft → Event → Draft
 with_last d e = record d {
   read = d.read + 1;
   owed = d.owed - 1;
@@ -358,11 +358,11 @@ with_kinds d read kinds lengths = record d {
   event_least = 0;
 }
 
-event_next : (d : Draft) (e : Event) → eqb (d.owed - 1) 0 ≡ false → draft_after d (said.Event e) ≡ with_event d e
+pub event_next : (d : Draft) (e : Event) → eqb (d.owed - 1) 0 ≡ false → draft_after d (said.Event e) ≡ with_event d e
 unfolding draft_after
 event_next d e h = rw h refl
 
-last_next : (d : Draft) (e : Event) → eqb (d.owed - 1) 0 ≡ true → draft_after d (said.Event e) ≡ with_last d e
+pub last_next : (d : Draft) (e : Event) → eqb (d.owed - 1) 0 ≡ true → draft_after d (said.Event e) ≡ with_last d e
 unfolding draft_after
 last_next d e h = rw h refl
 

@@ -1,6 +1,6 @@
 -- The lines of a frame as runs of one kind, and back.
 use Rattle.std.proofs.Common.{◌≡◌, ◌≢◌, ℕ, zero, suc, ◌+◌, ◌<◌, ◌≤◌, Bool, true, false, cond, eqb, List, [], ◌∷◌, ◌++◌, replicate, All}
-use Rattle.std.proofs.Common.{refl, sym, ◌∙◌, ap, subst, arith}
+use Rattle.std.proofs.Common.{refl, sym, ◌∙◌, ap, subst, append-nil, arith}
 use Rattle.std.specs.Prelude.{⊤}
 use Rattle.std.proofs.lemmas.Bool.{eqb-true, eqb-false}
 use Rattle.std.proofs.lemmas.Bool.Decides.{nat_tests}
@@ -95,10 +95,54 @@ run_again : (n kind : ℕ) (rs : List (ℕ × ℕ)) → Apart kind rs → runs_o
 run_again zero kind rs apart e = ap (run_before kind) e ∙ new_before kind rs apart
 run_again (suc n) kind rs apart e = ap (run_before kind) (run_again n kind rs apart e) ∙ same_before (suc n) kind rs
 
-pub runs_expand : (other : ℕ) (rs : List (ℕ × ℕ)) → Apart other rs → runs_of (expand rs) ≡ rs
-runs_expand other [] h = refl
-runs_expand other (r ∷ rs) h = by r.0 r.1 h.0 h.2 (runs_expand r.1 rs h.2)
+-- lines whose last is of this kind, if there is one
+abbrev pub LastIs : ℕ → List ℕ → Type 0
+LastIs kind [] = ⊤
+LastIs kind (x ∷ []) = x ≡ kind
+LastIs kind (x ∷ y ∷ ys) = LastIs kind (y ∷ ys)
+
+last_copies : (kind n : ℕ) → LastIs kind (replicate (suc n) kind)
+last_copies kind zero = refl
+last_copies kind (suc n) = last_copies kind n
+
+pub last_more : (kind : ℕ) (lines : List ℕ) (n : ℕ) → 1 ≤ n → LastIs kind (lines ++ replicate n kind)
+last_more kind lines zero h = absurd (omega (arith, h))
+last_more kind lines (suc n) h = behind lines
   where
-    by : (n kind : ℕ) → 1 ≤ n → Apart kind rs → runs_of (expand rs) ≡ rs → runs_of (replicate n kind ++ expand rs) ≡ (n, kind) ∷ rs
-    by zero kind some apart e = absurd (omega (arith, some))
-    by (suc n) kind some apart e = run_again n kind rs apart e
+    behind : (ls : List ℕ) → LastIs kind (ls ++ replicate (suc n) kind)
+    behind [] = last_copies kind n
+    behind (x ∷ []) = last_copies kind n
+    behind (x ∷ y ∷ ys) = behind (y ∷ ys)
+
+-- one run more, of another kind than the last line
+
+before_some : (kind : ℕ) (rs : List (ℕ × ℕ)) (r : ℕ × ℕ) → rs ≢ [] → run_before kind (rs ++ r ∷ []) ≡ run_before kind rs ++ r ∷ []
+before_some kind [] r h = absurd (h refl)
+before_some kind (q ∷ rs) r h = by (eqb q.1 kind)
+  where
+    by : (t : Bool) → cond t ((q.0 + 1, kind) ∷ (rs ++ r ∷ [])) ((1, kind) ∷ q ∷ (rs ++ r ∷ []))
+        ≡ cond t ((q.0 + 1, kind) ∷ rs) ((1, kind) ∷ q ∷ rs) ++ r ∷ []
+    by true = refl
+    by false = refl
+
+runs_some : (x : ℕ) (xs : List ℕ) → runs_of (x ∷ xs) ≢ []
+runs_some x xs = by (runs_of xs)
+  where
+    by : (rs : List (ℕ × ℕ)) → run_before x rs ≢ []
+    by [] e = cc e
+    by (r ∷ rs) e = tested (eqb r.1 x) e
+      where
+        tested : (t : Bool) → cond t ((r.0 + 1, x) ∷ rs) ((1, x) ∷ r ∷ rs) ≢ []
+        tested true e = cc e
+        tested false e = cc e
+
+pub runs_more : (before kind : ℕ) (lines : List ℕ) (n : ℕ) → LastIs before lines → kind ≢ before → 1 ≤ n
+    → runs_of (lines ++ replicate n kind) ≡ runs_of lines ++ (n, kind) ∷ []
+runs_more before kind lines zero l other h = absurd (omega (arith, h))
+runs_more before kind [] (suc n) l other h = ap runs_of (sym (append-nil (replicate (suc n) kind))) ∙ run_again n kind [] tt refl
+runs_more before kind (x ∷ []) (suc n) l other h =
+    ap (run_before x) (runs_more before kind [] (suc n) tt other h)
+    ∙ new_before x ((suc n, kind) ∷ []) (omega arith, (λ e. other (e ∙ l)), tt)
+runs_more before kind (x ∷ y ∷ ys) (suc n) l other h =
+    ap (run_before x) (runs_more before kind (y ∷ ys) (suc n) l other h)
+    ∙ before_some x (runs_of (y ∷ ys)) (suc n, kind) (runs_some y ys)

@@ -1,5 +1,5 @@
 -- Whole texts: a certificate's text is read as it, and a text that is read is its certificate's.
-use Rattle.std.proofs.Common.{◌≡◌, ◌≢◌, ℕ, Bool, true, false, cond, List, [], ◌∷◌, ◌++◌, length}
+use Rattle.std.proofs.Common.{◌≡◌, ◌≢◌, ℕ, ◌+◌, Bool, true, false, cond, List, [], ◌∷◌, ◌++◌, length}
 use Rattle.std.proofs.Common.{bytes_eq, zero-add, refl, sym, ◌∙◌, ap, subst}
 use Rattle.std.proofs.Common.{arith}
 use Rattle.std.specs.Prelude.{Ok, Err}
@@ -17,7 +17,7 @@ use Rattle.uz_cert_lines.specs.declared.lines.Sizes.{Sizes}
 use Rattle.uz_cert_lines.specs.declared.lines.StackLine.{StackLine}
 use Rattle.uz_cert_lines.specs.declared.lines.Said.TheVariants as said
 use Rattle.uz_cert_words.specs.declared.why.CertWhy.TheVariants as why
-use Rattle.uz_cert.specs.Drafts.{first_draft}
+use Rattle.uz_cert.specs.Drafts.{first_draft, draft_after}
 use Rattle.uz_cert_lines.specs.Lines.{head_line, SizesFit}
 use Rattle.uz_cert_lines.specs.declared.version.Version.{Version}
 use Rattle.uz_cert_lines.specs.declared.version.Version.TheVariants.{First, Second}
@@ -31,8 +31,43 @@ use Rattle.uz_cert.proofs.LineOrder.{due_size, due_irq, due_stack}
 use Rattle.uz_cert.proofs.Onward.{LineSpelling, spelled, told, step, more_lines, cell_lines, cells_again, kinds_again, fall_lines}
 use Rattle.uz_cert.proofs.Onward.{fall_again, with_kinds, kinds_more}
 use Rattle.uz_cert.proofs.Runs.{expand_runs, all_runs, runs_apart}
-use Rattle.uz_cert.proofs.Backward.{draft_sizes, draft_irq, draft_stack, size_next, irq_next, stack_next, pieces_plain}
-use Rattle.uz_cert.proofs.Backward.{lines_back}
+use Rattle.uz_cert.proofs.NextLine.{pieces_plain, lines_back}
+use Rattle.uz_schedule.specs.declared.kinds.Response.{Response}
+
+-- the opening
+
+abbrev draft_sizes : Version → Sizes → Draft
+draft_sizes v s = record (first_draft v) { read = 2; sizes = s }
+
+abbrev draft_irq : Version → Sizes → Response → Draft
+draft_irq v s r = record (first_draft v) { read = 3; sizes = s; head = record (first_draft v).head { irq = r } }
+
+abbrev draft_stack : Version → Sizes → Response → StackLine → Draft
+draft_stack v s r t = record (first_draft v) {
+  read = 4;
+  sizes = s;
+  head = record {
+    irq = r;
+    lo = t.lo;
+    hi = t.hi;
+    main = t.main;
+    handler = t.handler;
+    cells = record { items = [] };
+  };
+}
+
+size_next : (d : Draft) (s : Sizes) → draft_after d (said.Size s) ≡ record d { read = d.read + 1; sizes = s }
+unfolding draft_after
+size_next d s = refl
+
+irq_next : (d : Draft) (r : Response) → draft_after d (said.Irq r) ≡ record d { read = d.read + 1; head = record d.head { irq = r } }
+unfolding draft_after
+irq_next d r = refl
+
+stack_next : (d : Draft) (s : StackLine) → draft_after d (said.Stack s)
+    ≡ record d { read = d.read + 1; head = record d.head { lo = s.lo; hi = s.hi; main = s.main; handler = s.handler } }
+unfolding draft_after
+stack_next d s = refl
 
 -- a certificate's text is read as it
 
@@ -183,7 +218,7 @@ pieces_spelled : (l : LineSpelling) (v : Version) (pieces : List (List ℕ)) (c 
 pieces_spelled l v [] c e = absurd cc
 pieces_spelled l v (line ∷ rest) c e =
     let h = head_of v line rest c e in
-    ap (λ x. x ∷ rest) h.0 ∙ lines_back l v rest c h.1
+    ap (λ x. x ∷ rest) h.0 ∙ ap (λ xs. head_line v ∷ xs) (lines_back l v rest c h.1)
 
 pub text_spelled : (l : LineSpelling) (v : Version) (text : List ℕ) (c : Cert) → cert_of_text v text ≡ told c → text ≡ spelling v c
 text_spelled l v text c e = sym (join_with_byte-slice_split 10 text) ∙ ap (join_with_byte 10) (pieces_spelled l v (pieces_of text) c e)

@@ -59,32 +59,32 @@ returns c = record { again = again; only = λ d kind words s k e h. only d kind 
         subst (IsSaid d due.Cell words) (sym x.1) (x.2, refl, record { body = i.0; room = i.1; fits = x.3; order = x.4 })
     only d due.Kind words s k i h =
         let x = c.kind_line.ensures.only d.version words s h in
-        subst (IsSaid d due.Kind words) (sym x.1) (x.2, refl, record { body = i.0; none_owed = i.1; room = i.2; fits = x.3 })
+        subst (IsSaid d due.Kind words) (sym x.1) (x.2, refl, record { body = i.0.body; none_owed = i.1; room = i.2; fits = x.3 })
     only d due.Event words s k i h =
         let x = c.event_line.ensures.only d.clocks d.event_least words s (clocks_few d k) h in
         subst (IsSaid d due.Event words) (sym x.1)
-        (x.2, refl, record { body = i.0; owed = i.1; fits = x.3; below = x.4; order = x.5 })
+        (x.2, refl, record { body = i.0.body; owed = i.1; fits = x.3; below = x.4; order = x.5 })
     only d due.Fall words s k i h =
         let x = c.fall_line.ensures.only words s h in
-        subst (IsSaid d due.Fall words) (sym x.1) (x.2, refl, (i, x.3, x.4))
+        subst (IsSaid d due.Fall words) (sym x.1) (x.2, refl, (i.0.body, x.3, x.4))
     only d due.Run words s k i h =
         let x = c.run_line.ensures.only d.sizes.kinds (d.sizes.lines - length d.lines) d.run_kind words s (kinds_few d k)
         (lines_left d k) h in
-        let room = i.1 in
+        let room = i.2 in
         let few = x.3.few in
         subst (IsSaid d due.Run words) (sym x.1)
-        (x.2, refl, record { body = i.0; some = x.3.some; few = omega (arith, room, few); there = x.3.there; other = x.3.other })
+        (x.2, refl, record { body = i.0.body; some = x.3.some; few = omega (arith, room, few); there = x.3.there; other = x.3.other })
     only d due.Rest words s k i h =
         let x = c.rest_line.ensures.only d.head d.sizes.lines d.sizes.points d.rest_least words s (places d k) h in
-        subst (IsSaid d due.Rest words) (sym x.1) (x.2, refl, record { after = i.0; room = i.1; fits = x.3; order = x.4 })
+        subst (IsSaid d due.Rest words) (sym x.1) (x.2, refl, record { after = i.0.after; room = i.1; fits = x.3; order = x.4 })
     only d due.Entry words s k i h =
         let x = c.entry_line.ensures.only d.head d.sizes.lines d.sizes.points words s (places d k) k.sizes.lines_some h in
-        subst (IsSaid d due.Entry words) (sym x.1) (x.2, refl, record { after = i; fits = x.3 })
+        subst (IsSaid d due.Entry words) (sym x.1) (x.2, refl, record { after = i.0.after; fits = x.3 })
     only d due.Point words s k i h =
         let x = c.point_line.ensures.only d.version d.head d.sizes.lines d.sizes.points d.left words s (places d k)
         k.sizes.lines_some (few_left d k) h in
         subst (IsSaid d due.Point words) (sym x.1)
-        (x.2, refl, record { after = i.0; room = i.1; fits = x.3; own = x.4; instances = x.5 })
+        (x.2, refl, record { after = i.0.after; room = i.3; fits = x.3; own = x.4; instances = x.5 })
     only d due.End words s k i h =
         let x = c.end_line.ensures.only words s h in
-        subst (IsSaid d due.End words) (sym x.0) (x.1, refl, i)
+        subst (IsSaid d due.End words) (sym x.0) (x.1, refl, i.0.after.body)
