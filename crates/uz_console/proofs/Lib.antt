@@ -1,6 +1,7 @@
 pub mod ApproachLemmas
 pub mod EdgeTimes
 pub mod EntryLaws
+pub mod HoldLaws
 pub mod InternalTurns
 pub mod ManyTurns
 pub mod PageLemmas

@@ -2,6 +2,7 @@ pub mod Approaches
 pub mod Consoles
 pub mod Entering
 pub mod Entry
+pub mod Holding
 pub mod ManyTurns
 pub mod Pages
 pub mod Runs

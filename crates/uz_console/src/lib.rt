@@ -5,6 +5,7 @@ mod approach;
 mod console;
 mod copying;
 mod entry;
+mod holding;
 mod laws;
 mod paging;
 mod passing;

@@ -1,4 +1,5 @@
 pub mod History
+pub mod Holding
 pub mod ItemLaws
 pub mod ItemLemmas
 pub mod LineCuts

@@ -1,6 +1,6 @@
 -- What a value of the pads stands for, and what becomes of it.
-use Rattle.std.specs.Prelude.{◌≡◌, ℕ, ◌+◌, ◌-◌, ◌*◌, not, if◌then◌else◌, List, [], ◌∷◌, length, map, min, slice_index_or, nat_le, nat_lt}
-use Rattle.std.specs.Prelude.{Option, Some, None}
+use Rattle.std.specs.Prelude.{◌≡◌, ℕ, ◌+◌, ◌-◌, ◌*◌, not, if◌then◌else◌, List, [], ◌∷◌, length, map, min, slice_index_or, nat_le, nat_lt, ◌++◌, take, replicate}
+use Rattle.std.specs.Prelude.{Option, Some, None, Result, is_ok}
 use Rattle.uz_machine.specs.Arithmetic.{bit_value, bit_is_set}
 use Rattle.uz_machine.specs.PadLine.{PadHistory, is_fall, is_rise, latches, moves}
 use Rattle.uz_machine.specs.Space.{PadWiring}
@@ -53,6 +53,24 @@ pub record StateStandsFor (list : List Pad) (state : PadState) (history : PadHis
 -- pads stand for what their list in their state stands for
 abbrev pub StandsFor : Pads → PadHistory → Type 0
 StandsFor p history = StateStandsFor (list_of p) (pad_state_of p) history
+
+-- Held buttons
+
+-- the list up to the pair that was latched last, and then a pair so many times
+abbrev pub held_list : Pad → ℕ → Pads → List Pad
+held_list pad times p = take p.next p.list.items ++ replicate times pad
+
+-- The next latches, so many of them, find this pair, and those after them none. What was latched stays
+abbrev pub holding : Pad → ℕ → PadHistory → PadHistory
+holding pad times history = record history { pairs = take (latches history.levels) history.pairs ++ replicate times (pad.one, pad.two) }
+
+-- so many times, or none where memory ran out
+abbrev pub times_held : {E : Type 0} → Result (Unit {0}) E → ℕ → ℕ
+times_held result times = if is_ok result then times else 0
+
+-- so many pairs of the list aren't latched yet
+abbrev pub pads_left : Pads → ℕ
+pads_left p = length p.list.items - p.next
 
 -- The pads by themselves
 

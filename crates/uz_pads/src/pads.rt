@@ -1,8 +1,8 @@
 //! The pads, and the lines that they drive.
 
-ghost use Rattle.std.specs.Prelude.{◌≡◌, ◌<◌, ◌+◌, ◌∷◌, [], not, List, IfOk};
+ghost use Rattle.std.specs.Prelude.{◌≡◌, ◌<◌, ◌≤◌, ◌+◌, ◌∷◌, [], not, length, List, IfOk};
 ghost use Rattle.uz_machine.specs.Arithmetic.{bit_value, bit_is_set};
-ghost use Rattle.uz_machine.specs.PadLine.{PadHistory, pad_lines, with_level, is_fall, is_rise};
+ghost use Rattle.uz_machine.specs.PadLine.{PadHistory, pad_lines, with_level, is_fall, is_rise, latches};
 ghost use Rattle.uz_machine.specs.Turn.{history_at_reset};
 
 use std::alloc::{AllocError, Global};
@@ -70,6 +70,7 @@ fn shown(word: u16, at: u8) -> u8
 
 impl Pads {
     ghost use Rattle.uz_pads.specs.Pads.{StandsFor, StateStandsFor, pairs_of, list_of, pad_state_of, with_pad_state};
+    ghost use Rattle.uz_pads.specs.Pads.{held_list, holding, pads_left, times_held};
     ghost use Rattle.uz_pads.specs.Pads.{pads_after, pads_loaded, pads_lines};
     ghost use Rattle.uz_pads.specs.declared.pads.Pad.{Pad};
 
@@ -128,6 +129,36 @@ impl Pads {
         self.next = state.next;
         self.current = state.current;
         self.moves = state.moves;
+    }
+
+    /// Holds buttons: the next latches, so many of them, find this pair, and those after them none. What was latched
+    /// stays. Where memory runs out no latch finds a pair.
+    pub fn hold(&mut self, alloc: Global, pad: Pad, times: usize) -> Result<(), AllocError>
+        ensures list { list_of self.new ≡ held_list pad (times_held result times) self.old }
+        ensures state { pad_state_of self.new ≡ pad_state_of self.old }
+        ensures stands { (history : PadHistory) → StandsFor self.old history → latches history.levels ≤ length history.pairs
+            → StandsFor self.new (holding pad (times_held result times) history) }
+    {
+        self.hold_in_list(alloc, pad, times)
+    }
+
+    fn hold_in_list(&mut self, alloc: Global, pad: Pad, times: usize) -> Result<(), AllocError>
+        ensures list { list_of self.new ≡ held_list pad (times_held result times) self.old }
+        ensures state { pad_state_of self.new ≡ pad_state_of self.old }
+    {
+        self.list.truncate(self.next);
+        let copies = Vec::from_elem(alloc, pad, times)?;
+        self.list.extend_from_slice(copies.as_slice())
+    }
+
+    /// So many pairs of the list aren't latched yet. Where there is one, no latch found the list at its end.
+    #[tactic(auto, using(crate::proofs::Holding::is_within))]
+    pub fn left(&self) -> usize
+        ensures exact { result ≡ pads_left self.now }
+        ensures stands { (history : PadHistory) → StandsFor self.now history → 0 < result
+            → latches history.levels < length history.pairs }
+    {
+        self.list.len().saturating_sub(self.next)
     }
 
     /// PORTA takes a value. A fall of bit 2 loads the next pair, and a rise of bit 3 moves to the next bit. Where

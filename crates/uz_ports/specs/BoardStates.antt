@@ -3,7 +3,8 @@ use Rattle.std.specs.Prelude.{◌≡◌, ℕ, List, None}
 use Rattle.uz_machine.specs.Timer.{Timer}
 use Rattle.uz_pads.specs.declared.pads.Pads.{Pads}
 use Rattle.uz_pads.specs.declared.pads.PadState.{PadState}
-use Rattle.uz_pads.specs.Pads.{list_of, pad_state_of, with_pad_state}
+use Rattle.uz_pads.specs.declared.pads.Pad.{Pad}
+use Rattle.uz_pads.specs.Pads.{held_list, list_of, pad_state_of, with_pad_state}
 use Rattle.uz_machine.specs.Space.{Space}
 use Rattle.uz_ports.specs.declared.board.Board.{Board}
 use Rattle.uz_ports.specs.declared.copying.BoardState.{BoardState}
@@ -22,6 +23,16 @@ pub record SameSpace (s t : Space Pads) : Type 0 where
 -- two boards with the same parts
 pub record SameBoard (a b : Board) : Type 0 where
   pub space : SameSpace (space_of a) (space_of b)
+  pub held : held_of b ≡ held_of a
+  pub entered : entered_of b ≡ entered_of a
+  pub clock : clock_of b ≡ clock_of a
+
+-- a board whose pads find a pair at the next latches, so many of them
+pub record HoldsPad (pad : Pad) (times : ℕ) (a b : Board) : Type 0 where
+  pub bytes : (space_of b).bytes ≡ (space_of a).bytes
+  pub timer : (space_of b).timer ≡ (space_of a).timer
+  pub list : list_of (space_of b).pads ≡ held_list pad times (space_of a).pads
+  pub state : pad_state_of (space_of b).pads ≡ pad_state_of (space_of a).pads
   pub held : held_of b ≡ held_of a
   pub entered : entered_of b ≡ entered_of a
   pub clock : clock_of b ≡ clock_of a

@@ -3,6 +3,7 @@
 
 mod board;
 mod copying;
+mod holding;
 mod stores;
 
 pub use board::Board;
