@@ -1,5 +1,5 @@
 -- What a play stands for, and how it goes on.
-use Rattle.std.specs.Prelude.{◌≡◌, ℕ, ◌+◌, ◌*◌, ◌-◌, ◌≤◌, ◌<◌, Option, None, Some, List, [], ◌∷◌, ◌++◌, drop, length, reverse}
+use Rattle.std.specs.Prelude.{◌≡◌, ℕ, ◌+◌, ◌*◌, ◌-◌, ◌^◌, ◌≤◌, ◌<◌, min, Option, None, Some, List, [], ◌∷◌, ◌++◌, drop, length, reverse}
 use Rattle.uz_machine.specs.declared.Edge.{Edge}
 use Rattle.uz_machine.specs.PadLine.{PadHistory, latches}
 use Rattle.uz_machine.specs.Turn.{State}
@@ -109,22 +109,29 @@ IsNext until old new Stopped =
     Goes old new [] × (left_of new ≡ []) × (clock_of new < until) ×
     ((s : State PadHistory) (seen : List Edge) → IsAt new s seen → HasNoTurn s)
 
--- Records are put behind a list, as the play goes on. Where a frame is over, its end's record is the last one
-abbrev pub EndsIn : List ℕ → Frame → Type 0
-EndsIn bytes Over = (rows : List ℕ) × (info : FrameInfo) × (bytes ≡ rows ++ end_bytes info)
-EndsIn bytes how.Quiet = Unit {0}
-EndsIn bytes how.Stopped = Unit {0}
+-- Where a frame is over, its end's record is the last one. Else every edge is scanned: each turn that begins before a clock is made, or
+-- the next one begins before it and there is none
+abbrev pub EndsIn : ℕ → Play → List ℕ → Frame → Type 0
+EndsIn until new bytes Over = (rows : List ℕ) × (info : FrameInfo) × (bytes ≡ rows ++ end_bytes info)
+EndsIn until new bytes how.Quiet = (left_of new ≡ []) × (until ≤ clock_of new)
+EndsIn until new bytes how.Stopped =
+    (left_of new ≡ []) × (clock_of new < until) × ((s : State PadHistory) (seen : List Edge) → IsAt new s seen → HasNoTurn s)
 
-pub record IsFrame (old new : Play) (out_old out_new : List ℕ) (frame : Frame) : Type 0 where
+-- records are put behind a list, as the play goes on
+pub record IsFrame (until : ℕ) (old new : Play) (out_old out_new : List ℕ) (frame : Frame) : Type 0 where
   pub bytes : List ℕ
   pub put : out_new ≡ out_old ++ bytes
   pub goes : Goes old new bytes
-  pub ends : EndsIn bytes frame
+  pub ends : EndsIn until new bytes frame
+
+-- no turn begins at this clock or after it
+abbrev pub end_of : ℕ → ℕ → ℕ
+end_of clock clocks = min (clock + clocks) (2 ^ 62)
 
 -- The same from the state in which buttons are held, where no latch found the list at its end
-pub record PlaysFrame (pad : Pad) (old new : Play) (out_old out_new : List ℕ) (frame : Frame) : Type 0 where
+pub record PlaysFrame (pad : Pad) (clocks : ℕ) (old new : Play) (out_old out_new : List ℕ) (frame : Frame) : Type 0 where
   pub bytes : List ℕ
   pub put : out_new ≡ out_old ++ bytes
   pub goes : (s : State PadHistory) (seen : List Edge) → IsAt old s seen → latches s.space.pads.levels ≤ length s.space.pads.pairs
       → GoesOn old new (holding_state pad 65536 s) seen bytes
-  pub ends : EndsIn bytes frame
+  pub ends : EndsIn (end_of (clock_of old) clocks) new bytes frame

@@ -27,7 +27,7 @@ impl Play {
     /// Puts the records of the picture behind a list, up to the end of a frame.
     fn frame_until(&mut self, until: u64, out: &mut Vec<u8>) -> Result<Frame, AllocError>
         requires { until ≤ 2 ^ 62 }
-        ensures { IfOk result (λ frame. IsFrame self.old self.new out.old.items out.new.items frame) }
+        ensures { IfOk result (λ frame. IsFrame until self.old self.new out.old.items out.new.items frame) }
     {
         'records: loop {
             match self.advance(until) {
@@ -52,7 +52,7 @@ impl Play {
         clocks: u32,
         out: &mut Vec<u8>,
     ) -> Result<Frame, AllocError>
-        ensures { IfOk result (λ frame. PlaysFrame pad self.old self.new out.old.items out.new.items frame) }
+        ensures { IfOk result (λ frame. PlaysFrame pad clocks self.old self.new out.old.items out.new.items frame) }
     {
         self.hold(alloc, pad)?;
         let until = self.clock().saturating_add(u64::from(clocks)).min(LAST);

@@ -32,7 +32,7 @@ returns-in-Quiet c =
       bytes = before.0;
       put = before.1;
       goes = more_quietly c.args.self.now c.records.self c.advance.new.self before.0 before.2 c.in-Quiet.ensures.0;
-      ends = tt;
+      ends = (c.in-Quiet.ensures.1, c.in-Quiet.ensures.2);
     }
 
 pub returns-in-Stopped : goal.returns-in-Stopped
@@ -42,5 +42,5 @@ returns-in-Stopped c =
       bytes = before.0;
       put = before.1;
       goes = more_quietly c.args.self.now c.records.self c.advance.new.self before.0 before.2 c.in-Stopped.ensures.0;
-      ends = tt;
+      ends = (c.in-Stopped.ensures.1, c.in-Stopped.ensures.2, c.in-Stopped.ensures.3);
     }
