@@ -5,6 +5,10 @@ use Rattle.avr_asm.specs.declared.output.Built.{Built}
 use Rattle.avr_asm.specs.Assembly.{Output}
 use Rattle.avr_asm.specs.Relation.{IsAssembly}
 
+-- the most bytes of a source of hints: what the commands read of a source
+abbrev pub most_bytes : ℕ
+most_bytes = 1048576
+
 -- nothing but hints
 abbrev pub IsSilent : Built → Type 0
 IsSilent built = (built.items.items ≡ []) × (map.len built.image ≡ 0)

@@ -1,8 +1,8 @@
 //! The source of some hints, tried by the assembler.
 
-ghost use Rattle.std.specs.Prelude.{◌≡◌, ◌<◌, ◌^◌, [], IfOk, IfSome, IsTrue, length};
+ghost use Rattle.std.specs.Prelude.{◌≡◌, ◌<◌, ◌≤◌, ◌^◌, [], IfOk, IfSome, IsTrue, length};
 ghost use Rattle.std.specs.FinMap as map;
-ghost use Rattle.uz_proposal.specs.Sources.{IsSilent, PutsOutNothing};
+ghost use Rattle.uz_proposal.specs.Sources.{IsSilent, PutsOutNothing, most_bytes};
 ghost use Rattle.uz_proposal.specs.Text.{source_of};
 
 use crate::remarks::Remarked;
@@ -23,7 +23,8 @@ fn is_empty(built: &Built) -> bool
 /// Whether the assembler takes a source, and puts out nothing for it.
 #[tactic(auto, using(crate::proofs::SourceLemmas::silent))]
 fn puts_out_nothing(alloc: Global, text: &[u8]) -> Result<bool, AllocError>
-    ensures { IfOk result (λ nothing. IsTrue nothing → PutsOutNothing text.now) }
+    ensures nothing { IfOk result (λ nothing. IsTrue nothing → PutsOutNothing text.now) }
+    ensures short { IfOk result (λ nothing. IsTrue nothing → length text.now ≤ most_bytes) }
 {
     if text.len() > MOST_BYTES {
         return Ok(false);
@@ -40,11 +41,12 @@ fn puts_out_nothing(alloc: Global, text: &[u8]) -> Result<bool, AllocError>
     }
 }
 
-/// The source of some hints, as `hint_source` writes it. `None` comes where the assembler doesn't take it, or puts out an instruction
-/// or a byte for it. The one error is want of memory.
+/// The source of some hints, as `hint_source` writes it, of at most 1 MiB. `None` comes where it is longer, where the assembler doesn't
+/// take it, and where that puts out an instruction or a byte for it. The one error is want of memory.
 pub fn checked_source(alloc: Global, hints: &[Remarked]) -> Result<Option<Vec<u8>>, AllocError>
     ensures source { IfOk result (λ some. IfSome some (λ text. text.items ≡ source_of hints.now)) }
     ensures silent { IfOk result (λ some. IfSome some (λ text. PutsOutNothing text.items)) }
+    ensures short { IfOk result (λ some. IfSome some (λ text. length text.items ≤ most_bytes)) }
 {
     let text = hint_source(alloc, hints)?;
     if puts_out_nothing(alloc, text.as_slice())? {
