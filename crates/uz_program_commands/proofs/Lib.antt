@@ -10,3 +10,4 @@ pub mod TraceLemmas
 pub mod TraceSameLemmas
 pub mod WaveFileLemmas
 pub mod WaveLemmas
+pub mod HintsLemmas

@@ -10,3 +10,5 @@ pub mod TraceCommand
 pub mod TraceValues
 pub mod WaveCommand
 pub mod WaveValues
+pub mod HintsCommand
+pub mod HintsValues

@@ -1,0 +1,11 @@
+use Rattle.std.proofs.Common.{◌≡◌, ◌+◌, ◌≤◌, drop, length}
+use Rattle.std.specs.Prelude.{filter}
+use Rattle.uz_program_commands.specs.HintsCommand.{is_fact}
+use Rattle.uz_program_commands.proofs.hints_lines.count_facts.Given as goal
+
+-- what was counted, and what is left
+abbrev pub invariant-loop-remarked : goal.invariant-loop-remarked
+invariant-loop-remarked l = record {
+  few : l.count ≤ l.remarked-index;
+  left : l.count + length (filter (λ r. is_fact r.hint) (drop l.remarked-index l.hints)) ≡ length (filter (λ r. is_fact r.hint) l.hints);
+}
