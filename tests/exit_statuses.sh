@@ -187,6 +187,21 @@ can_not_print 6 wave late.hex no-pads.txt 4 4000 out.wav
 runs=$((runs + 1))
 [ -e out.wav ] && wrong=$((wrong + 1)) && echo "failed: a run that is stopped writes a sound file"
 
+# hints
+prints 0 hints ring.hex no-pads.txt 4 20000 out.hints
+prints 1 hints ring.hex no-pads.txt 4 20000 ring.hex
+prints 2 hints none no-pads.txt 4 20000 out.hints
+prints 3 hints bad no-pads.txt 4 20000 out.hints
+can_not_print 3 hints bad no-pads.txt 4 20000 out.hints
+prints 5 hints ring.hex no-pads.txt 4 20000 no/such/folder
+can_not_print 5 hints ring.hex no-pads.txt 4 20000 out.hints
+writes_unprinted hints ring.hex no-pads.txt 4 20000 out.hints
+rm -f out.hints
+prints 4 hints late.hex no-pads.txt 4 20000 out.hints
+can_not_print 4 hints late.hex no-pads.txt 4 20000 out.hints
+runs=$((runs + 1))
+[ -e out.hints ] && wrong=$((wrong + 1)) && echo "failed: a run that gives no hints writes a file of them"
+
 # play
 prints 0 play ring.hex ring.cert no-pads.txt 4000 frames
 prints 1 play ring.hex ring.cert no-pads.txt 4000

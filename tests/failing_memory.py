@@ -60,6 +60,7 @@ COMMANDS = [
     'report pulse.hex pulse.cert',
     'migrate loop-ring-1.cert made.cert',
     'wave pulse.hex no-pads.txt 4 4000 made.wav',
+    'hints pulse.hex no-pads.txt 4 20000 made.hints',
     'certify pulse.asm 4 made.hex made.cert',
     'find pulse.hex pulse.asm 4 made.cert',
     'timing pulse.hex pulse.cert',

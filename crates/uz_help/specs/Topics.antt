@@ -113,6 +113,12 @@ topics =
       does = codes "checks, and says what the schedule is beside NTSC's";
       more = codes "reads HEX, CERT; writes no file\n0 done, 2 a file not read, 3 a fault in a file, 4 refused, 5 not written, 8 no memory\n";
     }
+    ∷ record {
+      name = codes "hints";
+      words = codes "hints HEX PADS IRQ CLOCKS HINTS";
+      does = codes "runs from reset, and writes hints for find by what the run shows";
+      more = codes "reads HEX, PADS; writes HINTS; IRQ is 4 or 5, CLOCKS 1 to 1000000000\n0 done, 2 a file not read, 3 a fault in a file, 4 no hints, 5 not written, 8 no memory\n";
+    }
     ∷ []
 
 -- a command's words, and below them what it does

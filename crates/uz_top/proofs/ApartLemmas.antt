@@ -7,7 +7,7 @@ use Rattle.std.specs.declared.alloc.Global.{Global}
 use Rattle.uz_text.specs.Numbers.{number_below, number_within}
 use Rattle.uz_schedule.specs.declared.kinds.Response.{Response}
 use Rattle.uz_help.specs.Topics.{text_of}
-use Rattle.uz_top.specs.Words.{help_words, prints, version_words}
+use Rattle.uz_top.specs.Words.{help_words, hints_with, hints_words, prints, version_words}
 use Rattle.uz_top.specs.Words.{Command, Asm, Build, Check, Expand, Migrate, Report, Timing, WritesApart, asm_words, build_words, certify_with}
 use Rattle.uz_top.specs.Words.{certify_words, find_with, find_words, migrate_words, report_words, timing_words, wave_with, wave_words}
 use Rattle.uz_top.specs.Words.{check_words, command_of, debug_with, debug_words, demo_with, demo_words, dis_words, expand_words, play_with}
@@ -188,10 +188,30 @@ find_apart (a ∷ b ∷ c ∷ d ∷ []) = by_test (bytes_eq a b || (bytes_eq a d
     (find_with_apart a b (response_of c) d)
 find_apart (a ∷ b ∷ c ∷ d ∷ e ∷ words) = tt
 
+hints_with_apart : (hex pads : List ℕ) (irq : Option Response) (clocks : Option ℕ) (hints : List ℕ)
+    → Apart (hints_with hex pads irq clocks hints)
+hints_with_apart hex pads (Some irq) (Some clocks) hints = tt
+hints_with_apart hex pads (Some irq) None hints = tt
+hints_with_apart hex pads None clocks hints = tt
+
+hints_apart : (words : List (List ℕ)) → Apart (hints_words words)
+hints_apart [] = tt
+hints_apart (a ∷ []) = tt
+hints_apart (a ∷ b ∷ []) = tt
+hints_apart (a ∷ b ∷ c ∷ []) = tt
+hints_apart (a ∷ b ∷ c ∷ d ∷ []) = tt
+hints_apart (a ∷ b ∷ c ∷ d ∷ e ∷ []) =
+    by_test (bytes_eq a b || (bytes_eq a e || bytes_eq b e)) None (hints_with a b (response_of c) (number_within 1 1000000001 d) e) tt
+    (hints_with_apart a b (response_of c) (number_within 1 1000000001 d) e)
+hints_apart (a ∷ b ∷ c ∷ d ∷ e ∷ f ∷ words) = tt
+
 -- the commands from one of them on, in the order in which the first word is compared
 
+abbrev from_hints : List ℕ → List (List ℕ) → Option Command
+from_hints verb words = if bytes_eq verb (codes "hints") then hints_words words else None
+
 abbrev from_find : List ℕ → List (List ℕ) → Option Command
-from_find verb words = if bytes_eq verb (codes "find") then find_words words else None
+from_find verb words = if bytes_eq verb (codes "find") then find_words words else from_hints verb words
 
 abbrev from_version : List ℕ → List (List ℕ) → Option Command
 from_version verb words = if bytes_eq verb (codes "version") then version_words words else from_find verb words
@@ -257,7 +277,8 @@ command_apart (verb ∷ words) =
     (by_test (bytes_eq verb (codes "wave")) (wave_words words) (from_help verb words) (wave_apart words)
     (by_test (bytes_eq verb (codes "help")) (help_words words) (from_version verb words) (help_apart words)
     (by_test (bytes_eq verb (codes "version")) (version_words words) (from_find verb words) (version_apart words)
-    (by_test (bytes_eq verb (codes "find")) (find_words words) None (find_apart words) tt))))))))))))))))
+    (by_test (bytes_eq verb (codes "find")) (find_words words) (from_hints verb words) (find_apart words)
+    (by_test (bytes_eq verb (codes "hints")) (hints_words words) None (hints_apart words) tt)))))))))))))))))
 
 -- what holds of the command where the names of its files differ
 pub holds_apart : (words : List (String Global)) (c : Command) (holds : Command → Type 0) → Some c ≡ command_of (map string_bytes words)

@@ -9,7 +9,7 @@ use Rattle.uz_files.specs.declared.status.Status.{Status}
 use Rattle.uz_files.specs.declared.status.Status.TheVariants as status
 use Rattle.uz_files.specs.Answers.{Answer, ComesOf, Ends, Outside, MayCome, one_line, outside}
 use Rattle.uz_files.specs.Formats.{Readings}
-use Rattle.uz_top.specs.Words.{Command, Asm, Build, Certify, Check, Debug, Demo, Dis, Expand, Find, Migrate, Play, Prints, Report, Timing, Trace, Wave}
+use Rattle.uz_top.specs.Words.{Command, Asm, Build, Certify, Check, Debug, Demo, Dis, Expand, Find, Hints, Migrate, Play, Prints, Report, Timing, Trace, Wave}
 use Rattle.uz_top.specs.Commands.{AllowedFor, Answers, AnswersBy, IsDecided, LacksRead, PartAnswers, Succeeds}
 use Rattle.uz_files.proofs.EndingLemmas.{comes_by, comes_of_line}
 use Rattle.uz_files.proofs.OutcomeLemmas.{came_from, from_answer, unwritten_by}
@@ -31,6 +31,8 @@ use Rattle.uz_outcomes.proofs.PairLemmas.{pair_done, pair_or_fault, pair_same, p
 use Rattle.uz_outcomes.specs.VerdictLines.{accepted_line}
 use Rattle.uz_certificate_commands.specs.ReportCommand.{report_text}
 use Rattle.uz_timing.specs.Timing.{timing_text}
+use Rattle.uz_program_commands.specs.HintsCommand.{BadSource, Proposal}
+use Rattle.uz_program_commands.proofs.HintsLemmas.{hints_decided, hints_or_fault, hints_status}
 use Rattle.uz_program_commands.proofs.WaveLemmas.{wave_done, wave_or_fault, wave_same, wave_status}
 
 -- a status that a command's own work gives
@@ -49,11 +51,12 @@ IsOwn status.NoMemory = Unit {0}
 abbrev StatusTells : Option FileMap → Type 0 → Command → Answer → Type 0
 StatusTells files load_fault c answer = ((answer.status ≡ status.Unread) × (load_fault ⊎ LacksRead files c)) ⊎ IsOwn answer.status
 
--- what the told files and an answer of the search decide
+-- what the told files, an answer of the search and what is proposed decide
 record Decision (told : FileMap) (c : Command) (answer : Answer) : Type 0 where
   found : Result Cert NotFound
-  allowed : AllowedFor (Some told) c found
-  same : (wanted : Answer) → AnswersBy (Some told) found c wanted → answer ≡ wanted
+  proposal : Proposal
+  allowed : AllowedFor (Some told) c found proposal
+  same : (wanted : Answer) → AnswersBy (Some told) found proposal c wanted → answer ≡ wanted
 
 -- What holds of each command
 record CommandLaw (files : Option FileMap) (load_fault : Type 0) (c : Command) : Type 0 where
@@ -87,11 +90,12 @@ sure : (a b : Answer) → (a ≡ b) ⊎ ⊥ → a ≡ b
 sure a b (inl same) = same
 sure a b (inr never) = absurd never
 
--- no certificate is searched
-unsearched : (told : FileMap) (c : Command) (answer : Answer) → AllowedFor (Some told) c (Err NoRoomToSearch)
-    → ((wanted : Answer) → AnswersBy (Some told) (Err NoRoomToSearch) c wanted → (answer ≡ wanted) ⊎ ⊥) → Decision told c answer
+-- no certificate is searched, and no hints are proposed
+unsearched : (told : FileMap) (c : Command) (answer : Answer) → AllowedFor (Some told) c (Err NoRoomToSearch) BadSource
+    → ((wanted : Answer) → AnswersBy (Some told) (Err NoRoomToSearch) BadSource c wanted → (answer ≡ wanted) ⊎ ⊥) → Decision told c answer
 unsearched told c answer allowed same = record {
   found = Err NoRoomToSearch;
+  proposal = BadSource;
   allowed = allowed;
   same = λ wanted q. sure answer wanted (same wanted q);
 }
@@ -178,7 +182,7 @@ law_of one readings files load_fault (Certify source irq hex cert) = record {
       (certify_status files load_fault source irq hex cert answer h);
   free = λ answer h. certify_or_fault files load_fault source irq hex cert answer h;
   decided = λ told answer p. let d = certify_decided readings told source irq hex cert answer p in
-      record { found = d.found; allowed = d.allowed; same = d.decided };
+      record { found = d.found; proposal = BadSource; allowed = d.allowed; same = d.decided };
   done = λ told h loads answer p. certify_always readings told load_fault source irq hex cert h loads answer p;
 }
 law_of one readings files load_fault (Demo number) = record {
@@ -191,6 +195,7 @@ law_of one readings files load_fault (Demo number) = record {
   free = λ answer h. inr h;
   decided = λ told answer p. record {
     found = p.found;
+    proposal = BadSource;
     allowed = demo_allowed readings number answer p;
     same = λ wanted q. demo_same readings number answer wanted p q;
   };
@@ -236,13 +241,22 @@ law_of one readings files load_fault (Prints text) = record {
   free = λ answer h. inr h;
   decided = λ told answer p. unsearched told (Prints text) answer tt (λ wanted q. inl (p ∙ sym q));
   done = λ told h loads answer p. ap (λ a. a.status) p;
+}
 law_of one readings files load_fault (Find hex hints irq cert) = record {
   tells = λ answer h. own_three _ answer status.BadInput status.Refused status.Done tt tt tt
       (find_status files load_fault hex hints irq cert answer h);
   free = λ answer h. find_or_fault files load_fault hex hints irq cert answer h;
   decided = λ told answer p. let d = find_decided one readings told hex hints irq cert answer p in
-      record { found = d.found; allowed = d.allowed; same = d.decided };
+      record { found = d.found; proposal = BadSource; allowed = d.allowed; same = d.decided };
   done = λ told h loads answer p. find_always one readings told load_fault hex hints irq cert h loads answer p;
+}
+law_of one readings files load_fault (Hints hex pads irq clocks hints) = record {
+  tells = λ answer h. own_three _ answer status.BadInput status.Refused status.Done tt tt tt
+      (hints_status files load_fault hex pads irq hints answer h);
+  free = λ answer h. hints_or_fault files load_fault hex pads irq hints answer h;
+  decided = λ told answer p. let d = hints_decided readings told hex pads irq hints answer p in
+      record { found = Err NoRoomToSearch; proposal = d.proposal; allowed = d.allowed; same = d.decided };
+  done = λ told never loads answer p. absurd never;
 }
 
 -- What follows for every command
@@ -278,6 +292,7 @@ decided_by one readings files write_fault c answer came old new h ends =
     let d = (law_of one readings (Some files) ⊥ c).decided files answer h in
     record {
       found = d.found;
+      proposal = d.proposal;
       allowed = d.allowed;
       decided = λ wanted q. subst (λ a. Ends a write_fault came old new) (d.same wanted q) ends;
     }

@@ -6,7 +6,7 @@ use Rattle.uz_search.specs.declared.found.NotFound.{NotFound}
 use Rattle.uz_files.specs.declared.status.Status.{Status}
 use Rattle.uz_files.specs.declared.status.Status.TheVariants.{Done}
 use Rattle.uz_files.specs.Answers.{Answer, Ends, NoPart, Outside, one_line}
-use Rattle.uz_top.specs.Words.{Command, Asm, Build, Certify, Check, Debug, Demo, Dis, Expand, Find, Migrate, Play, Prints, Report, Timing, Trace, Wave}
+use Rattle.uz_top.specs.Words.{Command, Asm, Build, Certify, Check, Debug, Demo, Dis, Expand, Find, Hints, Migrate, Play, Prints, Report, Timing, Trace, Wave}
 use Rattle.uz_program_commands.specs.TraceCommand.{TraceAnswers, TraceParts}
 use Rattle.uz_outcomes.specs.RunFiles.{RunLacks, RunSucceeds}
 use Rattle.uz_program_commands.specs.MacroCommands.{BuildAnswers, BuildSucceeds, ExpandAnswers, ExpandSucceeds, FilesBuilt}
@@ -23,6 +23,7 @@ use Rattle.uz_certificate_commands.specs.CheckCommand.{CheckAnswers, FilesCertif
 use Rattle.uz_certificate_commands.specs.ReportCommand.{FilesReported, ReportAnswers}
 use Rattle.uz_certificate_commands.specs.TimingCommand.{TimingAnswers}
 use Rattle.uz_program_commands.specs.WaveCommand.{FilesHeard, WaveAnswers}
+use Rattle.uz_program_commands.specs.HintsCommand.{FilesHinted, HintsAnswers, HintsAnswersBy, IsProposal, Proposal}
 use Rattle.uz_outcomes.specs.PairFiles.{PairLacks, SpellPair}
 use Rattle.uz_soundness.specs.Acceptance.{Accepts}
 
@@ -44,6 +45,7 @@ Answers files load_fault (Timing hex cert) answer = TimingAnswers files load_fau
 Answers files load_fault (Wave hex pads irq clocks wav) answer = WaveAnswers files load_fault hex pads irq clocks wav answer
 Answers files load_fault (Prints text) answer = answer ≡ one_line Done text
 Answers files load_fault (Find hex hints irq cert) answer = FindAnswers files load_fault hex hints irq cert answer
+Answers files load_fault (Hints hex pads irq clocks hints) answer = HintsAnswers files load_fault hex pads irq hints answer
 
 -- a file that the command reads isn't there, and all earlier ones are read
 abbrev pub LacksRead : Option FileMap → Command → Type 0
@@ -63,6 +65,7 @@ LacksRead files (Timing hex cert) = PairLacks files hex cert
 LacksRead files (Wave hex pads irq clocks wav) = RunLacks files hex pads
 LacksRead files (Prints text) = ⊥
 LacksRead files (Find hex hints irq cert) = FindLacks files hex hints
+LacksRead files (Hints hex pads irq clocks hints) = RunLacks files hex pads
 
 -- all that the command reads is there and in its grammar, and what it asks of it holds
 abbrev pub Succeeds : Option FileMap → Command → Type 0
@@ -82,6 +85,8 @@ Succeeds files (Timing hex cert) = SpellPair files hex cert Accepts
 Succeeds files (Wave hex pads irq clocks wav) = RunSucceeds files hex pads irq clocks
 Succeeds files (Prints text) = Unit {0}
 Succeeds files (Find hex hints irq cert) = FindSucceeds files hex hints irq
+-- which hints a run gives, and whether it gives some, is a choice: nothing that is asked of the files leads to them
+Succeeds files (Hints hex pads irq clocks hints) = ⊥
 
 -- the command creates no file
 abbrev pub CreatesNone : Command → Type 0
@@ -101,6 +106,7 @@ CreatesNone (Timing hex cert) = Unit {0}
 CreatesNone (Wave hex pads irq clocks wav) = ⊥
 CreatesNone (Prints text) = Unit {0}
 CreatesNone (Find hex hints irq cert) = ⊥
+CreatesNone (Hints hex pads irq clocks hints) = ⊥
 
 -- what a command is worth where it is done, with the files before it and after it
 abbrev pub Certifies : Option FileMap → Option FileMap → Command → Type 0
@@ -120,6 +126,7 @@ Certifies files new (Timing hex cert) = FilesCertified files hex cert
 Certifies files new (Wave hex pads irq clocks wav) = FilesHeard files new hex pads irq clocks wav
 Certifies files new (Prints text) = Unit {0}
 Certifies files new (Find hex hints irq cert) = FilesFound files new hex hints irq cert
+Certifies files new (Hints hex pads irq clocks hints) = FilesHinted files new hex pads hints
 
 -- what a command tells where it is stopped
 abbrev pub StopTells : Option FileMap → Command → Type 0
@@ -139,6 +146,7 @@ StopTells files (Timing hex cert) = Unit {0}
 StopTells files (Wave hex pads irq clocks wav) = Unit {0}
 StopTells files (Prints text) = Unit {0}
 StopTells files (Find hex hints irq cert) = Unit {0}
+StopTells files (Hints hex pads irq clocks hints) = Unit {0}
 
 -- what a command has come to that is cut short in the midst of its work
 abbrev pub PartAnswers : Option FileMap → Command → Answer → Type 0
@@ -158,49 +166,54 @@ PartAnswers files (Timing hex cert) = NoPart
 PartAnswers files (Wave hex pads irq clocks wav) = NoPart
 PartAnswers files (Prints text) = NoPart
 PartAnswers files (Find hex hints irq cert) = NoPart
+PartAnswers files (Hints hex pads irq clocks hints) = NoPart
 
--- Where the shelf tells its files, they decide the answer, and for `certify`, `find` and `demo` an answer of the search does besides, as
--- plain data
+-- Where the shelf tells its files, they decide the answer, and for `certify`, `find` and `demo` an answer of the search does besides, for
+-- `hints` what is proposed, as plain data
 
-abbrev pub AnswersBy : Option FileMap → Result Cert NotFound → Command → Answer → Type 0
-AnswersBy files found (Check hex cert) answer = CheckAnswers files ⊥ hex cert answer
-AnswersBy files found (Dis hex) answer = DisAnswers files ⊥ hex answer
-AnswersBy files found (Asm source hex) answer = AsmAnswers files ⊥ source hex answer
-AnswersBy files found (Trace hex pads irq clocks) answer = TraceAnswers files ⊥ hex pads irq clocks answer
-AnswersBy files found (Expand source flat) answer = ExpandAnswers files ⊥ source flat answer
-AnswersBy files found (Build source hex) answer = BuildAnswers files ⊥ source hex answer
-AnswersBy files found (Play hex cert pads clocks frames) answer = PlayAnswers files ⊥ hex cert pads clocks frames answer
-AnswersBy files found (Debug hex pads irq script) answer = DebugAnswers files ⊥ hex pads irq script answer
-AnswersBy files found (Certify source irq hex cert) answer = CertifyAnswersBy files source hex cert found answer
-AnswersBy files found (Demo number) answer = DemoAnswersBy number found answer
-AnswersBy files found (Migrate older newer) answer = MigrateAnswers files ⊥ older newer answer
-AnswersBy files found (Report hex cert) answer = ReportAnswers files ⊥ hex cert answer
-AnswersBy files found (Timing hex cert) answer = TimingAnswers files ⊥ hex cert answer
-AnswersBy files found (Wave hex pads irq clocks wav) answer = WaveAnswers files ⊥ hex pads irq clocks wav answer
-AnswersBy files found (Prints text) answer = answer ≡ one_line Done text
-AnswersBy files found (Find hex hints irq cert) answer = FindAnswersBy files hex hints cert found answer
+abbrev pub AnswersBy : Option FileMap → Result Cert NotFound → Proposal → Command → Answer → Type 0
+AnswersBy files found proposal (Check hex cert) answer = CheckAnswers files ⊥ hex cert answer
+AnswersBy files found proposal (Dis hex) answer = DisAnswers files ⊥ hex answer
+AnswersBy files found proposal (Asm source hex) answer = AsmAnswers files ⊥ source hex answer
+AnswersBy files found proposal (Trace hex pads irq clocks) answer = TraceAnswers files ⊥ hex pads irq clocks answer
+AnswersBy files found proposal (Expand source flat) answer = ExpandAnswers files ⊥ source flat answer
+AnswersBy files found proposal (Build source hex) answer = BuildAnswers files ⊥ source hex answer
+AnswersBy files found proposal (Play hex cert pads clocks frames) answer = PlayAnswers files ⊥ hex cert pads clocks frames answer
+AnswersBy files found proposal (Debug hex pads irq script) answer = DebugAnswers files ⊥ hex pads irq script answer
+AnswersBy files found proposal (Certify source irq hex cert) answer = CertifyAnswersBy files source hex cert found answer
+AnswersBy files found proposal (Demo number) answer = DemoAnswersBy number found answer
+AnswersBy files found proposal (Migrate older newer) answer = MigrateAnswers files ⊥ older newer answer
+AnswersBy files found proposal (Report hex cert) answer = ReportAnswers files ⊥ hex cert answer
+AnswersBy files found proposal (Timing hex cert) answer = TimingAnswers files ⊥ hex cert answer
+AnswersBy files found proposal (Wave hex pads irq clocks wav) answer = WaveAnswers files ⊥ hex pads irq clocks wav answer
+AnswersBy files found proposal (Prints text) answer = answer ≡ one_line Done text
+AnswersBy files found proposal (Find hex hints irq cert) answer = FindAnswersBy files hex hints cert found answer
+AnswersBy files found proposal (Hints hex pads irq clocks hints) answer = HintsAnswersBy files hex pads irq hints proposal answer
 
--- what the search's promise allows: a certificate that is accepted and as the hints ask, or a refusal whose cause stands
-abbrev pub AllowedFor : Option FileMap → Command → Result Cert NotFound → Type 0
-AllowedFor files (Check hex cert) found = Unit {0}
-AllowedFor files (Dis hex) found = Unit {0}
-AllowedFor files (Asm source hex) found = Unit {0}
-AllowedFor files (Trace hex pads irq clocks) found = Unit {0}
-AllowedFor files (Expand source flat) found = Unit {0}
-AllowedFor files (Build source hex) found = Unit {0}
-AllowedFor files (Play hex cert pads clocks frames) found = Unit {0}
-AllowedFor files (Debug hex pads irq script) found = Unit {0}
-AllowedFor files (Certify source irq hex cert) found = AllowedOf files source irq found
-AllowedFor files (Demo number) found = AllowedOfDemo number found
-AllowedFor files (Migrate older newer) found = Unit {0}
-AllowedFor files (Report hex cert) found = Unit {0}
-AllowedFor files (Timing hex cert) found = Unit {0}
-AllowedFor files (Wave hex pads irq clocks wav) found = Unit {0}
-AllowedFor files (Prints text) found = Unit {0}
-AllowedFor files (Find hex hints irq cert) found = AllowedOfFind files hex hints irq found
+-- what the search's promise allows: a certificate that is accepted and as the hints ask, or a refusal whose cause stands; and what may be
+-- proposed
+abbrev pub AllowedFor : Option FileMap → Command → Result Cert NotFound → Proposal → Type 0
+AllowedFor files (Check hex cert) found proposal = Unit {0}
+AllowedFor files (Dis hex) found proposal = Unit {0}
+AllowedFor files (Asm source hex) found proposal = Unit {0}
+AllowedFor files (Trace hex pads irq clocks) found proposal = Unit {0}
+AllowedFor files (Expand source flat) found proposal = Unit {0}
+AllowedFor files (Build source hex) found proposal = Unit {0}
+AllowedFor files (Play hex cert pads clocks frames) found proposal = Unit {0}
+AllowedFor files (Debug hex pads irq script) found proposal = Unit {0}
+AllowedFor files (Certify source irq hex cert) found proposal = AllowedOf files source irq found
+AllowedFor files (Demo number) found proposal = AllowedOfDemo number found
+AllowedFor files (Migrate older newer) found proposal = Unit {0}
+AllowedFor files (Report hex cert) found proposal = Unit {0}
+AllowedFor files (Timing hex cert) found proposal = Unit {0}
+AllowedFor files (Wave hex pads irq clocks wav) found proposal = Unit {0}
+AllowedFor files (Prints text) found proposal = Unit {0}
+AllowedFor files (Find hex hints irq cert) found proposal = AllowedOfFind files hex hints irq found
+AllowedFor files (Hints hex pads irq clocks hints) found proposal = IsProposal proposal
 
 -- it ended with the one answer that they decide
 pub record IsDecided (files : Option FileMap) (write_fault : Type 0) (c : Command) (came : Status) (old new : Outside) : Type 0 where
   pub found : Result Cert NotFound
-  pub allowed : AllowedFor files c found
-  pub decided : (wanted : Answer) → AnswersBy files found c wanted → Ends wanted write_fault came old new
+  pub proposal : Proposal
+  pub allowed : AllowedFor files c found proposal
+  pub decided : (wanted : Answer) → AnswersBy files found proposal c wanted → Ends wanted write_fault came old new

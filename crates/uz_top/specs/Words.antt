@@ -27,6 +27,7 @@ pub data Command : Type 0 where
   -- `help` and `version`: the words alone decide the text
   Prints : (text : List ℕ) → Command
   Find : (hex hints : List ℕ) → (irq : Response) → (cert : List ℕ) → Command
+  Hints : (hex pads : List ℕ) → (irq : Response) → (clocks : ℕ) → (hints : List ℕ) → Command
 
 -- the file words of a command differ
 abbrev pub check_words : List (List ℕ) → Option Command
@@ -148,6 +149,17 @@ find_words (hex ∷ hints ∷ irq ∷ cert ∷ []) =
     if bytes_eq hex hints || (bytes_eq hex cert || bytes_eq hints cert) then None else find_with hex hints (response_of irq) cert
 find_words other = None
 
+abbrev pub hints_with : List ℕ → List ℕ → Option Response → Option ℕ → List ℕ → Option Command
+hints_with hex pads (Some irq) (Some clocks) hints = Some (Hints hex pads irq clocks hints)
+hints_with hex pads irq clocks hints = None
+
+-- the clocks are 1 to 1,000,000,000
+abbrev pub hints_words : List (List ℕ) → Option Command
+hints_words (hex ∷ pads ∷ irq ∷ clocks ∷ hints ∷ []) =
+    if bytes_eq hex pads || (bytes_eq hex hints || bytes_eq pads hints) then None
+    else hints_with hex pads (response_of irq) (number_within 1 1000000001 clocks) hints
+hints_words other = None
+
 abbrev pub command_of : List (List ℕ) → Option Command
 command_of [] = None
 command_of (verb ∷ words) =
@@ -168,6 +180,7 @@ command_of (verb ∷ words) =
     else if bytes_eq verb (codes "help") then help_words words
     else if bytes_eq verb (codes "version") then version_words words
     else if bytes_eq verb (codes "find") then find_words words
+    else if bytes_eq verb (codes "hints") then hints_words words
     else None
 
 -- the words are no command

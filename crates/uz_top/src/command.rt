@@ -7,6 +7,7 @@ ghost use Rattle.uz_top.specs.Words.{asm_words, build_words, certify_with as cer
 ghost use Rattle.uz_top.specs.Words.{check_words, command_of, debug_with as debug_with_response, debug_words};
 ghost use Rattle.uz_top.specs.Words.{demo_with as demo_with_number, demo_words, dis_words, expand_words, migrate_words};
 ghost use Rattle.uz_top.specs.Words.{find_with as find_with_response, find_words, help_words};
+ghost use Rattle.uz_top.specs.Words.{hints_with as hints_with_numbers, hints_words};
 ghost use Rattle.uz_top.specs.Words.{play_with as play_with_clocks, play_words, report_words, response_of, timing_words};
 ghost use Rattle.uz_top.specs.Words.{trace_with as trace_with_numbers, trace_words, version_words};
 ghost use Rattle.uz_top.specs.Words.{wave_with as wave_with_numbers, wave_words};
@@ -94,6 +95,13 @@ pub(crate) enum Command<'a> {
         irq: Response,
         cert: &'a str,
     },
+    Hints {
+        hex: &'a str,
+        pads: &'a str,
+        irq: Response,
+        clocks: u32,
+        hints: &'a str,
+    },
 }
 
 /// The command of these words, without the program's name, or `None` where they are no command.
@@ -128,6 +136,7 @@ fn parse_after<'a>(verb: &str, rest: &'a [String]) -> Option<Command<'a>>
         "help" => help(rest),
         "version" => version(rest),
         "find" => find(rest),
+        "hints" => hints(rest),
         _ => None,
     }
 }
@@ -525,6 +534,54 @@ fn find(words: &[String]) -> Option<Command<'_>>
                 None
             } else {
                 find_with(hex.as_str(), hints.as_str(), irq.as_str(), cert.as_str())
+            }
+        }
+        _ => None,
+    }
+}
+
+/// The command once its files are known to differ.
+fn hints_with<'a>(
+    hex: &'a str,
+    pads: &'a str,
+    irq: &str,
+    clocks: &str,
+    hints: &'a str,
+) -> Option<Command<'a>>
+    ensures { option_map value_of result ≡ hints_with_numbers hex.now pads.now (response_of irq.now)
+        (number_from_low 1 1000000001 clocks.now) hints.now }
+{
+    match (
+        response(irq),
+        number_within(clocks.as_bytes(), 1, 1_000_000_001),
+    ) {
+        (Some(irq), Some(clocks)) => Some(Command::Hints {
+            hex,
+            pads,
+            irq,
+            clocks,
+            hints,
+        }),
+        _ => None,
+    }
+}
+
+/// `hints HEX PADS IRQ CLOCKS HINTS`, of three files, for 1 to 1,000,000,000 clocks.
+fn hints(words: &[String]) -> Option<Command<'_>>
+    ensures { option_map value_of result ≡ hints_words (map string_bytes words.now) }
+{
+    match words {
+        [hex, pads, irq, clocks, hints] => {
+            if are_some_same(hex.as_str(), pads.as_str(), hints.as_str()) {
+                None
+            } else {
+                hints_with(
+                    hex.as_str(),
+                    pads.as_str(),
+                    irq.as_str(),
+                    clocks.as_str(),
+                    hints.as_str(),
+                )
             }
         }
         _ => None,

@@ -18,7 +18,7 @@ use uz_certificate_commands::{
 use uz_files::{Status, end_done, end_fault, put_no_memory, readings_are_unique};
 use uz_help::usage_line;
 use uz_program_commands::{
-    run_asm, run_build, run_debug, run_dis, run_expand, run_trace, run_wave,
+    run_asm, run_build, run_debug, run_dis, run_expand, run_hints, run_trace, run_wave,
 };
 use uz_shelf::{Shelf, Sink};
 
@@ -98,6 +98,13 @@ fn run<H: Shelf, K: Sink>(
             irq,
             cert,
         } => run_find(alloc, hex, hints, irq, cert, shelf, out),
+        Command::Hints {
+            hex,
+            pads,
+            irq,
+            clocks,
+            hints,
+        } => run_hints(alloc, hex, pads, irq, clocks, hints, shelf, out),
     }
 }
 
@@ -172,8 +179,8 @@ pub fn uzebox<H: Shelf, K: Sink>(
         result (outside (H.files shelf.old) (K.text out.old))) result (Rose (K.faults out.old) (K.faults out.new) ⊎ K.may_lack)
         (outside (H.files shelf.new) (K.text out.new))) }
 
-    // Where the shelf tells its files, they alone decide the answer, for `certify`, `find` and `demo` with what the search answered: unless
-    // memory is lacking or a fault came.
+    // Where the shelf tells its files, they alone decide the answer, for `certify`, `find` and `demo` with what the search answered, for
+    // `hints` with what is proposed: unless memory is lacking or a fault came.
     ensures exact { IfCommand words.now (λ c. IfSome (H.files shelf.old) (λ files.
         (result ≡ Status.NoMemory)
         ⊎ (LoadFault (H.load_faults shelf.old) (H.load_faults shelf.new)
@@ -189,7 +196,8 @@ pub fn uzebox<H: Shelf, K: Sink>(
     ensures unwritten { result ≡ Status.Unwritten →
         WriteFault (H.write_faults shelf.old) (H.write_faults shelf.new) (K.faults out.old) (K.faults out.new) }
 
-    // Where the files are told and all is well with them, and no fault came, the command is done unless memory is lacking.
+    // Where the files are told and all is well with them, and no fault came, the command is done unless memory is lacking; of `hints`
+    // nothing is said here, for which hints there are is a choice.
     ensures complete { IfCommand words.now (λ c. IfSome (H.files shelf.old) (λ files.
         Succeeds (H.files shelf.old) c
         → (LoadFault (H.load_faults shelf.old) (H.load_faults shelf.new) → ⊥)
@@ -200,7 +208,8 @@ pub fn uzebox<H: Shelf, K: Sink>(
     // assembles to, after `migrate` it is a text of the very certificate that was read; `check` and `timing` certify the image and
     // the certificate that their files spell, `certify` those that the written files spell, `find` the image that is read and the
     // certificate that is written; after `report` the clocks that are printed
-    // are those that main has; after `wave` the written file is the sound of the run; and a run that is played, by `play` or
+    // are those that main has; after `wave` the written file is the sound of the run; after `hints` it is a source of hints that the
+    // assembler takes, and for which it puts out no byte; and a run that is played, by `play` or
     // `demo`, keeps to the schedule once a state of it has entered. One that is stopped never entered.
     ensures certified { result ≡ Status.Done → IfCommand words.now (Certifies (H.files shelf.old) (H.files shelf.new)) }
     ensures halted { result ≡ Status.Stopped → IfCommand words.now (StopTells (H.files shelf.old)) }

@@ -125,3 +125,15 @@ pub returns-in-Find-clause-certified : goal.returns-in-Find-clause-certified
 returns-in-Find-clause-certified g c = λ done apart.
     subst (Certifies (g.H.Shelf.files c.args.shelf.now) (g.H.Shelf.files c.run_find.new.shelf)) (sym (ap value_of c.in-Find.is))
     (c.run_find.ensures.certified done)
+
+pub returns-in-Hints-clause-outcome : goal.returns-in-Hints-clause-outcome
+returns-in-Hints-clause-outcome g c = outcome_at (value_of c.args.command.now) _ _ _ _ _ _ _ (ap value_of c.in-Hints.is)
+    c.run_hints.ensures.outcome
+
+pub returns-in-Hints-clause-untouched : goal.returns-in-Hints-clause-untouched
+returns-in-Hints-clause-untouched g c = λ none. absurd (subst CreatesNone (ap value_of c.in-Hints.is) none)
+
+pub returns-in-Hints-clause-certified : goal.returns-in-Hints-clause-certified
+returns-in-Hints-clause-certified g c = λ done apart.
+    subst (Certifies (g.H.Shelf.files c.args.shelf.now) (g.H.Shelf.files c.run_hints.new.shelf)) (sym (ap value_of c.in-Hints.is))
+    (c.run_hints.ensures.hinted done)
