@@ -40,7 +40,7 @@ use Rattle.uz_cert_laws.proofs.Spelled.{register_only, flag_usual_only, range_on
 use Rattle.uz_cert_laws.proofs.Taken.{with_register, with_pair, with_flag, with_slot, with_cell, with_top, with_temp, cell_form, pair_letter}
 use Rattle.uz_cert_laws.proofs.Taken.{flag_letter}
 use Rattle.uz_cert_laws.proofs.Takes.{register_takes, pair_takes, flag_takes, slot_takes, cell_takes, top_takes, temp_takes, successor_takes}
-use Rattle.uz_cert_laws.proofs.OneMore.{letters_of_pairs, letters_of_flags}
+use Rattle.uz_cert_laws.specs.Spells.{letters_of_pairs, letters_of_flags}
 use Rattle.uz_cert_laws.proofs.OnlyItems.{ShapeFits, IsMeant, names_letter}
 
 abbrev pub facts_with : ℕ → ℕ → List Fact → List PairFact → List Bit → List Fact → List Fact → ℕ → Ends → List ℕ → Facts
@@ -629,7 +629,7 @@ pub record Sayable (shape : Shape) (cells : List Cell) (regs : List Fact) (pairs
   pub temp_fit : RangeFits 255 temp
   pub timed_fit : shape.timed ≡ false → (top ≡ scanline - 1) × (temp ≡ whole_byte)
   pub next_fit : (rises next ≡ true) × All (λ id. id < shape.points) next × (length next ≤ 16) × (shape.plain ≡ true → next ≡ [])
-  pub plain_fit : shape.plain ≡ true → All (λ x. is_any_pair x ≡ true) pairs
+  pub plain_fit : shape.plain ≡ true → pairs ≡ AnyPair ∷ AnyPair ∷ AnyPair ∷ []
   pub meant : is_zero_or_one (get_or pairs 2 AnyPair) ≡ true → IsMeant shape.kind flags
 
 abbrev pub items_of : Kind → List Cell → List Fact → List PairFact → List Bit → List Fact → List Fact → ℕ → Ends → List ℕ
@@ -709,14 +709,15 @@ module _ (shape : Shape) (cells : List Cell) (h : ShapeFits shape cells) (regs s
       let flags = c ∷ z ∷ n ∷ v ∷ s ∷ a ∷ t ∷ [] in
       let ds = dk ∷ dk ∷ dk ∷ dk ∷ dk ∷ dk ∷ dk ∷ [] in
       let f = say.pairs_fit in
-      let any : (k : ℕ) → (q : PairFact) → get_or pairs k AnyPair ≡ q → k < 3 → shape.plain ≡ true → q ≡ AnyPair =
-      λ k q e b w. pair_usual_only q (ap is_any_pair (sym e) ∙ say.plain_fit w k AnyPair b) in
+      let any : (k : ℕ) (q : PairFact) → get_or pairs k AnyPair ≡ q → get_or (AnyPair ∷ AnyPair ∷ AnyPair ∷ []) k AnyPair ≡ AnyPair
+      → shape.plain ≡ true → q ≡ AnyPair =
+      λ k q e b w. sym e ∙ ap (λ (ps : List PairFact). get_or ps k AnyPair) (say.plain_fit w) ∙ b in
       pair_next shape cells h regs pairs flags stack cs top temp next [] (AnyPair ∷ AnyPair ∷ []) ds 0 x least _ refl (lit< tt) f.0
-      (any 0 x refl (lit< tt)) l (λ e. absurd (omega arith))
+      (any 0 x refl refl) l (λ e. absurd (omega arith))
       (λ l0 b0. pair_next shape cells h regs pairs flags stack cs top temp next (x ∷ []) (AnyPair ∷ []) ds 1 y l0 _ refl (lit< tt) f.1.0
-      (any 1 y refl (lit< tt)) b0 (λ e. absurd (omega arith))
+      (any 1 y refl refl) b0 (λ e. absurd (omega arith))
       (λ l1 b1. pair_next shape cells h regs pairs flags stack cs top temp next (x ∷ y ∷ []) [] ds 2 p l1 _ refl (lit< tt) f.1.1.0
-      (any 2 p refl (lit< tt)) b1
+      (any 2 p refl refl) b1
       (λ _ one. names_then shape.kind c z (n ∷ v ∷ s ∷ a ∷ t ∷ []) after_flags (say.meant one))
       (λ l2 b2. seven_flags pairs c z n v s a t say l2 b2)))
 

@@ -1,7 +1,7 @@
 -- The line of an entry.
 use Rattle.std.proofs.Common.{◌≡◌, ℕ, zero, suc, ◌-◌, ◌<◌, ◌≤◌, Bool, true, false, cond, ◌&&◌, eqb, List, [], ◌∷◌, ◌++◌, map, length, decimal}
 use Rattle.std.proofs.Common.{codes, lit<, lit≤, refl, sym, ◌∙◌, ap, subst, append-nil, arith}
-use Rattle.std.specs.Prelude.{All, Some, Result, Ok, slice_get}
+use Rattle.std.specs.Prelude.{All, Ok}
 use Rattle.std.proofs.lemmas.List.{length-map}
 use Rattle.std.proofs.lemmas.List.Elements.{All-nil, All-cons, All-head, All-tail}
 use Rattle.uz_schedule.specs.Ends.{Ends, whole_byte}
@@ -17,35 +17,33 @@ use Rattle.uz_schedule.specs.declared.facts.Fact.{Fact}
 use Rattle.uz_schedule.specs.declared.facts.PairFact.{PairFact}
 use Rattle.uz_schedule.specs.declared.facts.PairFact.TheVariants.{Any as AnyPair}
 use Rattle.uz_schedule.specs.declared.states.Entry.{Entry}
-use Rattle.uz_cert_words.specs.Why.{◌>>=◌}
 use Rattle.uz_cert_words.specs.Grammar.{Words, choice_of}
-use Rattle.uz_cert_lines.specs.Defaults.{is_any_pair, range_fact}
-use Rattle.uz_cert_lines.specs.Items.{is_handler, bytes_forms, read_items}
+use Rattle.uz_cert_lines.specs.Defaults.{range_fact}
+use Rattle.uz_cert_lines.specs.Items.{is_handler, bytes_forms}
 use Rattle.uz_cert_lines.specs.Forms.{LineForm, number, items, reads}
 use Rattle.uz_cert_lines.specs.Lines.{within, one_of, none_in_main, shape_of, span_of_fact, entry_of, entry_kind, entry_form}
 use Rattle.uz_cert_words.specs.declared.values.FactForms.{FactForms}
 use Rattle.uz_cert_lines.specs.declared.items.Facts.{Facts}
 use Rattle.uz_cert_lines.specs.declared.lines.Said.{Said}
 use Rattle.uz_cert_lines.specs.declared.lines.Said.TheVariants as said
-use Rattle.uz_cert_words.specs.declared.why.CertWhy.{CertWhy}
 use Rattle.uz_cert_writer.specs.Spelling.{kind_word, range_facts, register_items, pair_items, flag_items, slot_items, cell_items}
 use Rattle.uz_cert_writer.specs.Spelling.{top_items, temp_items, successor_items, entry_items, entry_words}
 use Rattle.uz_cert_laws.specs.Said.{line, PlacesAre}
-use Rattle.uz_cert_laws.proofs.Tests.{fine, fine_is, true_not, bind_ok}
-use Rattle.uz_cert_laws.proofs.Numbers.{number_so, number_only}
+use Rattle.uz_cert_laws.proofs.Tests.{fine, true_not}
+use Rattle.uz_cert_laws.specs.Spells.{word_at, Parts, says, spells}
+use Rattle.uz_cert_laws.proofs.OnlyItems.{ShapeFits}
+use Rattle.uz_cert_laws.proofs.AgainItems.{Sayable, items_of, facts_with}
+use Rattle.uz_cert_laws.proofs.Spans.{bytes_of}
+use Rattle.uz_cert_laws.proofs.Steps.{is_within as within_so, one_so}
+use Rattle.uz_cert_laws.proofs.FormLaws.{FactsFit, Fit, SaysFacts, IsReadable, form_again, form_only}
 use Rattle.uz_cert_laws.proofs.Facts.{FactIn, BitIn}
 use Rattle.uz_cert_laws.proofs.Options.{each_length, each_other}
 use Rattle.uz_cert_laws.proofs.Spelled.{registers, numbered_cells}
 use Rattle.uz_cert_laws.proofs.Taken.{cell_form}
-use Rattle.uz_cert_laws.proofs.OneMore.{letters_of_pairs, letters_of_flags, timer_and_next, spelled, Regular}
-use Rattle.uz_cert_laws.proofs.OnlyItems.{ShapeFits, items_only}
-use Rattle.uz_cert_laws.proofs.AgainItems.{Sayable, items_of, items_again, facts_with}
+use Rattle.uz_cert_laws.specs.Spells.{letters_of_pairs, letters_of_flags, timer_and_next, spelled}
 use Rattle.uz_cert_laws.proofs.Fitting.{each_of_all, all_of_each, all_other, all_map, map_back, bit_in, bit_out, range_in, SaysRange}
 use Rattle.uz_cert_laws.proofs.Fitting.{says_range, span_back, entry_cell, entry_form_is, spans_in, spans_out, under_none, none_under}
 use Rattle.uz_cert_laws.proofs.Fitting.{none_small}
-use Rattle.uz_cert_laws.proofs.Steps.{words_in, line_same, form_rest, advance, fixed_word, retreat, fixed_is, choice_is, with_front}
-use Rattle.uz_cert_laws.proofs.Steps.{is_within as within_so}
-use Rattle.uz_cert_laws.proofs.RestLine.{bytes_of, one_so}
 
 -- an entry after the word for its kind
 
@@ -68,11 +66,6 @@ shape_fits h lines points kind plain a w =
       whole = w;
       ranges = ranges_of h h.cells.items a.each;
     }
-
-no_handler : (kind : Kind) (e : Entry) → EntryKindFits kind e → kind ≡ Handler → true ≡ false
-no_handler Main e h f = absurd cc
-no_handler Handler e h f = absurd h
-no_handler Alone e h f = absurd cc
 
 at_begin : (kind : Kind) (e : Entry) → EntryKindFits kind e → kind ≡ Main → (e.line ≡ 0) × (e.clock ≡ 0)
 at_begin Main e h f = h
@@ -101,7 +94,7 @@ entry_sayable h lines points e f =
       temp_fit = record { order = lit≤ tt; high = lit≤ tt };
       timed_fit = λ _. (refl, refl);
       next_fit = (refl, All-nil (λ id. id < points), lit≤ tt, λ _. refl);
-      plain_fit = λ _. any_three;
+      plain_fit = λ _. refl;
       meant = λ one. absurd (true_not false one refl);
     }
   where
@@ -109,12 +102,6 @@ entry_sayable h lines points e f =
     facts es a =
         all_map (RangeFits 255) (FactIn (bytes_forms (shape_of h e.kind true points))) range_fact es
         (λ x r. range_in (bytes_forms (shape_of h e.kind true points)) x refl r (omega arith) (omega (arith, r.high))) a
-
-    any_three : All (λ x. is_any_pair x ≡ true) (AnyPair ∷ AnyPair ∷ AnyPair ∷ [])
-    any_three =
-        All-cons (λ x. is_any_pair x ≡ true) AnyPair (AnyPair ∷ AnyPair ∷ []) refl
-        (All-cons (λ x. is_any_pair x ≡ true) AnyPair (AnyPair ∷ []) refl
-        (All-cons (λ x. is_any_pair x ≡ true) AnyPair [] refl (All-nil (λ x. is_any_pair x ≡ true))))
 
 entry_items_are : (cells : List Cell) (e : Entry)
     → entry_items cells e ≡ items_of e.kind cells (range_facts e.regs) (AnyPair ∷ AnyPair ∷ AnyPair ∷ []) e.flags
@@ -165,89 +152,90 @@ entry_back h e least after f =
         ap (λ (x : List Ends). make x ss cs) p ∙ ap (λ (x : List Ends). make e.regs x cs) q
         ∙ ap (λ (x : List Ends). make e.regs e.stack.items x) r
 
-entry_after_again : (h : Head) (lines points : ℕ) (e : Entry) → PlacesAre h lines points → EntryFits h lines points e
-    → reads (entry_after h lines points e.kind)
-    (line (decimal e.id ∷ decimal e.pc ∷ decimal e.line ∷ decimal e.clock ∷ entry_items h.cells.items e)) ≡ Ok (said.Entry e)
-entry_after_again h lines points e a f =
-    let lines_few : lines ≤ 525 = a.lines_few in
-    let many : points ≤ 524288 = a.points_few in
-    let kind = e.kind in
-    let cells = h.cells.items in
-    let shape = shape_of h kind true points in
-    let says = Ok (said.Entry e) in
-    let w4 = entry_items cells e in
-    let w3 = decimal e.clock ∷ w4 in
-    let w2 = decimal e.line ∷ w3 in
-    let w1 = decimal e.pc ∷ w2 in
-    let f0 = entry_after h lines points kind in
-    let f1 = form_rest f0 e.id in
-    let f2 = form_rest f1 e.pc in
-    let f3 = form_rest f2 e.line in
-    let lines_small = none_small kind lines (omega arith) in
-    let clocks_small = none_small kind clock_limit (lit≤ tt) in
-    let r = items_again shape cells (range_facts e.regs) (AnyPair ∷ AnyPair ∷ AnyPair ∷ []) e.flags (range_facts e.stack.items)
-    (range_facts e.cells.items) (scanline - 1) whole_byte []
-    (shape_fits h lines points kind true a (no_handler kind e f.kind)) (entry_sayable h lines points e f.facts) in
-    let say : Facts → Said = λ x. said.Entry (entry_of kind e.id e.pc e.line e.clock x) in
-    advance f0 (decimal e.id) w1 e.id says (number_so (one_of points) e.id (omega arith) (one_so points e.id (omega arith) f.id))
-    (advance f1 (decimal e.pc) w2 e.pc says
-    (number_so (within 0 32768) e.pc (lit≤ tt) (within_so 0 32768 e.pc (lit≤ tt) (omega arith) f.pc))
-    (advance f2 (decimal e.line) w3 e.line says (number_so (within 0 (none_in_main kind lines)) e.line (omega (arith, lines_small))
-    (within_so 0 (none_in_main kind lines) e.line lines_small (omega arith)
-    (under_none kind lines e.line (λ m. (at_begin kind e f.kind m).0) f.line)))
-    (advance f3 (decimal e.clock) w4 e.clock says
-    (number_so (within 0 (none_in_main kind clock_limit)) e.clock (omega (arith, clocks_small))
-    (within_so 0 (none_in_main kind clock_limit) e.clock clocks_small (omega arith)
-    (under_none kind clock_limit e.clock (λ m. (at_begin kind e f.kind m).1) f.clock)))
-    (ap (λ (ws : List (List ℕ)). read_items shape cells (line ws) >>= (λ x. fine (say x))) (entry_items_are cells e)
-    ∙ ap (λ (m : Result Facts CertWhy). m >>= (λ x. fine (say x))) r.read
-    ∙ ap (λ (x : Entry). fine (said.Entry x)) (entry_back h e r.least r.after f.facts)))))
+entry_says : (kind : Kind) (id pc line clock : ℕ) → SaysFacts (λ f. said.Entry (entry_of kind id pc line clock f))
+unfolding entry_of
+entry_says kind id pc line clock f least after = refl
 
-kind_place : Kind → ℕ
-kind_place Main = 0
-kind_place Handler = 1
-kind_place Alone = 1
+after_sound : (h : Head) (lines points : ℕ) (kind : Kind) → PlacesAre h lines points → (kind ≡ Handler → true ≡ false)
+    → IsReadable (entry_after h lines points kind)
+after_sound h lines points kind a n =
+    let few : lines ≤ 525 = a.lines_few in
+    let many : points ≤ 524288 = a.points_few in
+    let lines_small = none_small kind lines (omega arith) in
+    let clocks_small = none_small kind clock_limit (lit≤ tt) in (
+      omega arith,
+      λ id i. (
+        lit≤ tt,
+        λ pc j. (
+          omega (arith, lines_small),
+          λ line k. (
+            omega (arith, clocks_small),
+            λ clock o.
+                (shape_fits h lines points kind true a n, entry_says kind id pc line clock),
+          ),
+        ),
+      ),
+    )
 
 abbrev entry_kinds : List (List ℕ)
 entry_kinds = codes "main" ∷ codes "alone" ∷ []
 
-kind_again : (kind : Kind) (e : Entry) → EntryKindFits kind e → choice_of entry_kinds (kind_word kind) ≡ Ok (kind_place kind)
-unfolding choice_of kind_place
-kind_again Main e h = refl
-kind_again Handler e h = absurd h
-kind_again Alone e h = refl
-
-kind_back : (kind : Kind) (e : Entry) → EntryKindFits kind e → entry_kind (kind_place kind) ≡ kind
-unfolding kind_place
-kind_back Main e h = refl
-kind_back Handler e h = absurd h
-kind_back Alone e h = refl
-
-pub entry_again : (h : Head) (lines points : ℕ) (e : Entry) → PlacesAre h lines points → EntryFits h lines points e
-    → reads (entry_form h lines points) (line (entry_words h.cells.items e)) ≡ Ok (said.Entry e)
-entry_again h lines points e a f =
-    let says = Ok (said.Entry e) in
-    let ws = decimal e.id ∷ decimal e.pc ∷ decimal e.line ∷ decimal e.clock ∷ entry_items h.cells.items e in
-    let f1 = form_rest (entry_form h lines points) 0 in
-    advance (entry_form h lines points) (codes "entry") (kind_word e.kind ∷ ws) 0 says (fixed_word (codes "entry"))
-    (advance f1 (kind_word e.kind) ws (kind_place e.kind) says (kind_again e.kind e f.kind)
-    (ap (λ (k : Kind). reads (entry_after h lines points k) (line ws)) (kind_back e.kind e f.kind) ∙ entry_after_again h lines points e a
-    f))
-
--- only
-
-kind_word_back : (n : ℕ) (w : List ℕ) → slice_get entry_kinds n ≡ Some w → w ≡ kind_word (entry_kind n)
-kind_word_back zero w e = let same : codes "main" ≡ w = cc in sym same
-kind_word_back (suc zero) w e = let same : codes "alone" ≡ w = cc in sym same
-kind_word_back (suc (suc n)) w e = absurd cc
-
 not_handler : (n : ℕ) → entry_kind n ≡ Handler → true ≡ false
-not_handler zero e = absurd cc
-not_handler (suc n) e = by_test (eqb (suc n) 0) e
+not_handler n e = by_test (eqb n 0) e
   where
     by_test : (t : Bool) → cond t Main Alone ≡ Handler → true ≡ false
     by_test true e = absurd cc
     by_test false e = absurd cc
+
+entry_sound : (h : Head) (lines points : ℕ) → PlacesAre h lines points → IsReadable (entry_form h lines points)
+entry_sound h lines points a n = after_sound h lines points (entry_kind n) a (not_handler n)
+
+entry_so : (h : Head) (lines points : ℕ) (kind : Kind) (e : Entry) (q : Parts (entry_after h lines points kind)) → PlacesAre h lines points
+    → EntryKindFits kind e → Fit (entry_after h lines points kind) q
+    → reads (entry_form h lines points) (line (codes "entry" ∷ kind_word kind ∷ spells (entry_after h lines points kind) q))
+    ≡ Ok (says (entry_after h lines points kind) q)
+unfolding choice_of
+entry_so h lines points Main e q a k f = form_again (entry_form h lines points) (0, q) (entry_sound h lines points a) (refl, f)
+entry_so h lines points Handler e q a k f = absurd k
+entry_so h lines points Alone e q a k f = form_again (entry_form h lines points) (1, q) (entry_sound h lines points a) (refl, f)
+
+pub entry_again : (h : Head) (lines points : ℕ) (e : Entry) → PlacesAre h lines points → EntryFits h lines points e
+    → reads (entry_form h lines points) (line (entry_words h.cells.items e)) ≡ Ok (said.Entry e)
+entry_again h lines points e a f =
+    let few : lines ≤ 525 = a.lines_few in
+    let many : points ≤ 524288 = a.points_few in
+    let kind = e.kind in
+    let lines_small = none_small kind lines (omega arith) in
+    let clocks_small = none_small kind clock_limit (lit≤ tt) in
+    let facts = facts_with 0 0 (range_facts e.regs) (AnyPair ∷ AnyPair ∷ AnyPair ∷ []) e.flags (range_facts e.stack.items)
+    (range_facts e.cells.items) (scanline - 1) whole_byte [] in
+    ap (λ ws. reads (entry_form h lines points)
+    (line (codes "entry" ∷ kind_word kind ∷ decimal e.id ∷ decimal e.pc ∷ decimal e.line ∷ decimal e.clock ∷ ws)))
+    (entry_items_are h.cells.items e)
+    ∙ entry_so h lines points kind e (e.id, (e.pc, (e.line, (e.clock, facts)))) a f.kind (
+      one_so points e.id (omega arith) f.id,
+      (
+        within_so 0 32768 e.pc (lit≤ tt) (omega arith) f.pc,
+        (
+          within_so 0 (none_in_main kind lines) e.line lines_small (omega arith)
+              (under_none kind lines e.line (λ m. (at_begin kind e f.kind m).0) f.line),
+          (
+            within_so 0 (none_in_main kind clock_limit) e.clock clocks_small (omega arith)
+                (under_none kind clock_limit e.clock (λ m. (at_begin kind e f.kind m).1) f.clock),
+            entry_sayable h lines points e f.facts,
+          ),
+        ),
+      ),
+    )
+    ∙ ap (λ (x : Entry). fine (said.Entry x)) (entry_back h e 0 0 f.facts)
+
+-- only
+
+kind_read : (n : ℕ) → choice_of entry_kinds (word_at entry_kinds n) ≡ Ok n → word_at entry_kinds n ≡ kind_word (entry_kind n)
+unfolding choice_of
+kind_read zero e = refl
+kind_read (suc zero) e = refl
+kind_read (suc (suc n)) e = absurd cc
 
 kind_fits : (kind : Kind) (e : Entry) → (kind ≡ Handler → true ≡ false) → (kind ≡ Main → e.line ≡ 0) → (kind ≡ Main → e.clock ≡ 0)
     → EntryKindFits kind e
@@ -271,31 +259,31 @@ record FactsSaid (h : Head) (kind : Kind) (points : ℕ) (f : Facts) : Type 0 wh
   pub top : f.top ≡ scanline - 1
   pub temp : f.temp ≡ whole_byte
 
-facts_said : (h : Head) (kind : Kind) (points : ℕ) (f : Facts) → Regular (shape_of h kind true points) h.cells.items f → FactsSaid h kind
+facts_said : (h : Head) (kind : Kind) (points : ℕ) (f : Facts) → FactsFit (shape_of h kind true points) h.cells.items f → FactsSaid h kind
     points f
 facts_said h kind points f r =
     let shape = shape_of h kind true points in
-    let regs = all_of_each (FactIn (bytes_forms shape)) registers f.regs r.regs in
+    let regs = all_of_each (FactIn (bytes_forms shape)) registers f.regs r.regs_fit in
     let cells = spans_out kind 0 h.cells.items f.cells.items
     (each_other (λ p x. FactIn (cell_form shape p.1) x) (λ p x. FactIn (entry_cell p.1) x) (numbered_cells kind 0 h.cells.items)
     f.cells.items
-    (λ p x i. subst (λ (g : FactForms). FactIn g x) (entry_form_is shape p.1 refl) i) r.tracked_cells) in
+    (λ p x i. subst (λ (g : FactForms). FactIn g x) (entry_form_is shape p.1 refl) i) r.cells_fit) in
     record {
       regs_back = back f.regs regs;
       regs_fit = fit f.regs regs;
-      regs_count = length-map f.regs span_of_fact ∙ each_length (λ k x. FactIn (bytes_forms shape) x) registers f.regs r.regs;
-      flag_count = each_length (λ k x. BitIn (is_handler kind) x) letters_of_flags f.flags r.flags;
+      regs_count = length-map f.regs span_of_fact ∙ each_length (λ k x. FactIn (bytes_forms shape) x) registers f.regs r.regs_fit;
+      flag_count = each_length (λ k x. BitIn (is_handler kind) x) letters_of_flags f.flags r.flags_fit;
       flags_fit = all_other (BitIn (is_handler kind)) (BitFits kind) f.flags (bit_out kind)
-          (all_of_each (BitIn (is_handler kind)) letters_of_flags f.flags r.flags);
-      stack_back = back f.stack.items r.stack;
-      stack_fit = fit f.stack.items r.stack;
-      slots = omega (arith, r.slots, length-map f.stack.items span_of_fact);
+          (all_of_each (BitIn (is_handler kind)) letters_of_flags f.flags r.flags_fit);
+      stack_back = back f.stack.items r.stack_fit;
+      stack_fit = fit f.stack.items r.stack_fit;
+      slots = omega (arith, r.slots_fit, length-map f.stack.items span_of_fact);
       cells_back = cells.2;
       cells_fit = record { ranges = cells.0; within = cells.1 };
-      pairs = r.plain_pairs refl;
-      next = r.plain_next refl;
-      top = (r.untimed refl).0;
-      temp = (r.untimed refl).1;
+      pairs = r.plain_fit refl;
+      next = r.next_fit.3 refl;
+      top = (r.timed_fit refl).0;
+      temp = (r.timed_fit refl).1;
     }
   where
     no_old : (b : Bool) → (b && false) ≡ false
@@ -363,57 +351,30 @@ entry_fits h lines points kind id pc line clock f s n i p l c =
       facts = entry_facts_fit h kind points id pc line clock f s;
     }
 
-entry_words_are : (h : Head) (kind : Kind) (id pc line clock : ℕ) (f : Facts)
-    → codes "entry" ∷ kind_word kind ∷ decimal id ∷ decimal pc ∷ decimal line ∷ decimal clock ∷ entry_items h.cells.items
-    (entry_of kind id pc line clock f)
-    ≡ entry_words h.cells.items (entry_of kind id pc line clock f)
-unfolding entry_of
-entry_words_are h kind id pc line clock f = refl
-
 pub entry_only : (h : Head) (lines points : ℕ) (words : Words) (says : Said) → PlacesAre h lines points → 1 ≤ lines
     → reads (entry_form h lines points) words ≡ Ok says
     → (e : Entry) × (says ≡ said.Entry e) × (words ≡ line (entry_words h.cells.items e)) × EntryFits h lines points e
+unfolding entry_of
 entry_only h lines points words says a some e =
-    let lines_few : lines ≤ 525 = a.lines_few in
-    let many : points ≤ 524288 = a.points_few in
-    let cells = h.cells.items in
-    let f0 = entry_form h lines points in
-    let b = retreat f0 words.list words.ended says tt e in
-    let f1 = form_rest f0 b.number in
-    let k = retreat f1 b.left words.ended says tt b.rest in
-    let kind = entry_kind k.number in
-    let f2 = form_rest f1 k.number in
-    let i = retreat f2 k.left words.ended says tt k.rest in
-    let f3 = form_rest f2 i.number in
-    let p = retreat f3 i.left words.ended says tt i.rest in
-    let f4 = form_rest f3 p.number in
-    let l = retreat f4 p.left words.ended says tt p.rest in
-    let f5 = form_rest f4 l.number in
-    let c = retreat f5 l.left words.ended says tt l.rest in
-    let lines_small = none_small kind lines (omega arith) in
-    let clocks_small = none_small kind clock_limit (lit≤ tt) in
-    let idn = number_only (one_of points) i.word i.number (omega arith) i.is in
-    let pn = number_only (within 0 32768) p.word p.number (lit≤ tt) p.is in
-    let ln = number_only (within 0 (none_in_main kind lines)) l.word l.number (omega (arith, lines_small)) l.is in
-    let cn = number_only (within 0 (none_in_main kind clock_limit)) c.word c.number (omega (arith, clocks_small)) c.is in
-    let shape = shape_of h kind true points in
-    let say : Facts → Said = λ x. said.Entry (entry_of kind i.number p.number l.number c.number x) in
-    let m = bind_ok (read_items shape cells (words_in c.left words.ended)) (λ x. fine (say x)) says c.rest in
-    let g = items_only shape cells (words_in c.left words.ended) m.0 (shape_fits h lines points kind true a (not_handler k.number)) m.1 in
-    let s = facts_said h kind points m.0 g.regular in
-    let made = entry_of kind i.number p.number l.number c.number m.0 in (
-      made,
-      sym (fine_is (said.Entry made) says m.2),
-      line_same words.list (entry_words cells made) words.ended
-          (with_front words.list b.left _ b.word (codes "entry") b.parts (fixed_is (codes "entry") b.word b.number b.is)
-          (with_front b.left k.left _ k.word (kind_word kind) k.parts
-          (kind_word_back k.number k.word (choice_is entry_kinds k.word k.number k.is))
-          (with_front k.left i.left _ i.word (decimal i.number) i.parts idn.0
-          (with_front i.left p.left _ p.word (decimal p.number) p.parts pn.0
-          (with_front p.left l.left _ l.word (decimal l.number) l.parts ln.0
-          (with_front l.left c.left (entry_items cells made) c.word (decimal c.number) c.parts cn.0
-          (g.words ∙ spelled_entry h kind points i.number p.number l.number c.number m.0 s))))))
-          ∙ entry_words_are h kind i.number p.number l.number c.number m.0) g.end,
-      entry_fits h lines points kind i.number p.number l.number c.number m.0 s (not_handler k.number) idn.1.below pn.1.below
-          (none_under kind lines l.number some ln.1.below) (none_under kind clock_limit c.number (lit≤ tt) cn.1.below),
-    )
+    let r = form_only (entry_form h lines points) words says (entry_sound h lines points a) e in
+    made r.0.0 r.0.1.0 r.0.1.1.0 r.0.1.1.1.0 r.0.1.1.1.1.0 r.0.1.1.1.1.1 r.1 r.2 r.3.0 r.3.1.0.below r.3.1.1.0.below r.3.1.1.1.0.below
+    r.3.1.1.1.1.0.below r.3.1.1.1.1.1
+  where
+    made : (n id pc at clock : ℕ) (f : Facts) → says ≡ said.Entry (entry_of (entry_kind n) id pc at clock f)
+        → words ≡ line (codes "entry" ∷ word_at entry_kinds n ∷ decimal id ∷ decimal pc ∷ decimal at ∷ decimal clock
+        ∷ spelled (entry_kind n) h.cells.items f)
+        → choice_of entry_kinds (word_at entry_kinds n) ≡ Ok n → id < points → pc < 32768 → at < none_in_main (entry_kind n) lines
+        → clock < none_in_main (entry_kind n) clock_limit → FactsFit (shape_of h (entry_kind n) true points) h.cells.items f
+        → (e : Entry) × (says ≡ said.Entry e) × (words ≡ line (entry_words h.cells.items e)) × EntryFits h lines points e
+    made n id pc at clock f told words_are choice i p l c fit =
+        let kind = entry_kind n in
+        let s = facts_said h kind points f fit in (
+          entry_of kind id pc at clock f,
+          told,
+          words_are ∙ ap (λ w. line (codes "entry" ∷ w ∷ decimal id ∷ decimal pc ∷ decimal at ∷ decimal clock
+              ∷ spelled kind h.cells.items f)) (kind_read n choice)
+              ∙ ap (λ ws. line (codes "entry" ∷ kind_word kind ∷ decimal id ∷ decimal pc ∷ decimal at ∷ decimal clock ∷ ws))
+              (spelled_entry h kind points id pc at clock f s),
+          entry_fits h lines points kind id pc at clock f s (not_handler n) i p (none_under kind lines at some l)
+              (none_under kind clock_limit clock (lit≤ tt) c),
+        )

@@ -21,6 +21,7 @@ use Rattle.uz_cert_lines.specs.declared.items.Shape.{Shape}
 use Rattle.uz_cert_lines.specs.declared.items.Facts.{Facts}
 use Rattle.uz_cert_writer.specs.Spelling.{fact_word, range_word, item, register_items, pair_items, flag_items, slot_items, cell_items}
 use Rattle.uz_cert_writer.specs.Spelling.{top_items, temp_items, successor_items}
+use Rattle.uz_cert_laws.specs.Spells.{letters_of_pairs, letters_of_flags, timer_and_next, spelled}
 use Rattle.uz_cert_laws.proofs.Tests.{and_true, both_true, else_so, is_le, true_not}
 use Rattle.uz_cert_laws.proofs.Facts.{FactIn, PairIn, BitIn, part_not_whole}
 use Rattle.uz_cert_laws.proofs.Options.{options, Each, IsUsual, each_length, each_map, each_set, no_options, option_set, drop_set}
@@ -33,26 +34,6 @@ use Rattle.uz_cert_laws.proofs.Taken.{with_register, with_pair, with_flag, with_
 use Rattle.uz_cert_laws.proofs.Taken.{TakesRegister, TakesPair, TakesTop, TakesTemp, timer_top, timer_temp}
 use Rattle.uz_cert_laws.proofs.Taken.{TakesFlag, TakesSlot, TakesCell, TakesSuccessor, Taken, register, pair, flag, slot, cell, successor}
 use Rattle.uz_cert_laws.proofs.Taken.{cell_form}
-
-abbrev pub letters_of_pairs : List ℕ
-letters_of_pairs = codes "xyz"
-
-abbrev pub letters_of_flags : List ℕ
-letters_of_flags = codes "cznvsht"
-
--- what is spelled of facts, in the order of a line
-
-abbrev pub timer_and_next : Facts → List (List ℕ)
-timer_and_next f = top_items f.top ++ (temp_items f.temp ++ successor_items f.next.items)
-
-abbrev pub spelled : Kind → List Cell → Facts → List (List ℕ)
-spelled kind cells f =
-    register_items kind 0 f.regs
-    ++ (pair_items letters_of_pairs f.pairs
-    ++ (flag_items kind letters_of_flags f.flags
-    ++ (slot_items f.stack.items
-    ++ (cell_items kind 0 cells f.cells.items
-    ++ timer_and_next f))))
 
 -- the number after the last one
 abbrev pub number_after : ℕ → List ℕ → ℕ

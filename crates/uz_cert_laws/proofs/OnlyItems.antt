@@ -35,7 +35,8 @@ use Rattle.uz_cert_laws.proofs.Spelled.{count_from, registers, numbered_cells, r
 use Rattle.uz_cert_laws.proofs.Spelled.{registers_are, registers_usual, cells_usual, register_default}
 use Rattle.uz_cert_laws.proofs.Taken.{with_pair, with_flag, TakesPair, TakesFlag, Taken, register, pair, flag, slot, cell, timer_top, timer_temp}
 use Rattle.uz_cert_laws.proofs.Taken.{successor, PlacesFit, cell_form, flag_letter, item_taken}
-use Rattle.uz_cert_laws.proofs.OneMore.{letters_of_pairs, letters_of_flags, spelled, Regular, from_pairs, one_more}
+use Rattle.uz_cert_laws.specs.Spells.{letters_of_pairs, letters_of_flags, spelled}
+use Rattle.uz_cert_laws.proofs.OneMore.{Regular, from_pairs, one_more}
 
 -- the facts where nothing is said
 

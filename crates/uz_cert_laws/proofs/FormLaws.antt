@@ -1,0 +1,193 @@
+-- What is spelled in a form is read back, and only what is spelled is read: by one step for each constructor.
+use Rattle.std.proofs.Common.{◌≡◌, ℕ, ◌≤◌, ◌<◌, ◌^◌, ℤ, Bool, true, false, List, [], ◌∷◌, ◌++◌, map, decimal, refl, sym, ◌∙◌, ap}
+use Rattle.std.specs.Prelude.{⊤, All, Result, Ok}
+use Rattle.uz_schedule.specs.Ends.{Ends}
+use Rattle.uz_schedule.specs.WellFormed.{RangeFits, magnitude, spans_fit}
+use Rattle.uz_schedule.specs.declared.header.Cell.{Cell}
+use Rattle.uz_cert_words.specs.Why.{◌>>=◌}
+use Rattle.uz_cert_words.specs.Grammar.{Words, rest_of, next_as, fixed_of, number_of, choice_of, slope_of}
+use Rattle.uz_cert_words.specs.declared.why.CertWhy.{CertWhy}
+use Rattle.uz_cert_words.specs.declared.why.CertWhy.TheVariants as why
+use Rattle.uz_cert_lines.specs.Forms.{LineForm, fixed, number, choice, slope, spans, items, finish, reads, spans_of}
+use Rattle.uz_cert_lines.specs.Items.{read_items}
+use Rattle.uz_cert_lines.specs.declared.items.Shape.{Shape}
+use Rattle.uz_cert_lines.specs.declared.items.Facts.{Facts}
+use Rattle.uz_cert_lines.specs.declared.lines.Said.{Said}
+use Rattle.uz_cert_writer.specs.Spelling.{ends_word, signed_word}
+use Rattle.uz_cert_laws.specs.Said.{line}
+use Rattle.uz_cert_laws.specs.Spells.{word_at, Parts, says, spells}
+use Rattle.uz_cert_laws.proofs.Tests.{fine_is, fault_not, bind_ok, then}
+use Rattle.uz_cert_laws.proofs.Numbers.{IsAsked, number_so, number_only, slope_so, slope_only}
+use Rattle.uz_cert_laws.proofs.OnlyItems.{ShapeFits, items_only}
+use Rattle.uz_cert_laws.proofs.AgainItems.{Sayable, items_again}
+use Rattle.uz_cert_laws.proofs.Spans.{Bytes, own, spans_read, spans_gone}
+use Rattle.uz_cert_laws.proofs.Steps.{words_in, line_same, fixed_word, fixed_is, choice_word, with_front}
+
+abbrev pub FactsFit : Shape → List Cell → Facts → Type 0
+FactsFit shape cells f = Sayable shape cells f.regs f.pairs f.flags f.stack.items f.cells.items f.top f.temp f.next.items
+
+-- each part is within its limits
+abbrev pub Fit : (form : LineForm) → Parts form → Type 0
+Fit (fixed wanted form) p = Fit form p
+Fit (number a form) p = IsAsked a p.0 × Fit (form p.0) p.1
+Fit (choice wanted form) p = (choice_of wanted (word_at wanted p.0) ≡ Ok p.0) × Fit (form p.0) p.1
+Fit (slope limit form) p = (magnitude p.0 < limit) × Fit (form p.0) p.1
+Fit (spans cells form) p = (All (RangeFits 255) p.0 × (spans_fit (own cells) p.0 ≡ true)) × Fit (form p.0) p.1
+Fit (items shape cells say) f = FactsFit shape cells f
+Fit (finish said) p = ⊤
+
+-- what is said of facts hangs on what they are, and not on how far they were read
+abbrev pub SaysFacts : (Facts → Said) → Type 0
+SaysFacts say = (f : Facts) (least after : ℕ) → say (record f { least = least; after = after }) ≡ say f
+
+-- the numbers that are asked for are few enough to be read
+abbrev pub IsReadable : LineForm → Type 0
+IsReadable (fixed wanted form) = IsReadable form
+IsReadable (number a form) = (a.limit ≤ 2 ^ 32) × ((n : ℕ) → IsAsked a n → IsReadable (form n))
+IsReadable (choice wanted form) = (n : ℕ) → IsReadable (form n)
+IsReadable (slope limit form) = (limit ≤ 2 ^ 32) × ((z : ℤ) → IsReadable (form z))
+IsReadable (spans cells form) = Bytes cells × ((es : List Ends) → IsReadable (form es))
+IsReadable (items shape cells say) = ShapeFits shape cells × SaysFacts say
+IsReadable (finish said) = ⊤
+
+abbrev Pieces : Type 0
+Pieces = List Ends × Words
+
+pub form_again : (form : LineForm) (p : Parts form) → IsReadable form → Fit form p → reads form (line (spells form p)) ≡ Ok (says form p)
+form_again (fixed wanted form) p s f =
+    then (fixed_of wanted wanted) (λ n. reads form (line (spells form p))) 0 (Ok (says form p)) (fixed_word wanted) (form_again form p s f)
+form_again (number a form) p s f =
+    then (number_of a (decimal p.0)) (λ n. reads (form n) (line (spells (form p.0) p.1))) p.0 (Ok (says (form p.0) p.1))
+    (number_so a p.0 s.0 f.0) (form_again (form p.0) p.1 (s.1 p.0 f.0) f.1)
+form_again (choice wanted form) p s f =
+    then (choice_of wanted (word_at wanted p.0)) (λ n. reads (form n) (line (spells (form p.0) p.1))) p.0 (Ok (says (form p.0) p.1)) f.0
+    (form_again (form p.0) p.1 (s p.0) f.1)
+form_again (slope limit form) p s f =
+    then (slope_of limit (signed_word p.0)) (λ z. reads (form z) (line (spells (form p.0) p.1))) p.0 (Ok (says (form p.0) p.1))
+    (slope_so limit p.0 s.0 f.0) (form_again (form p.0) p.1 (s.1 p.0) f.1)
+form_again (spans cells form) p s f =
+    ap (λ (m : Result Pieces CertWhy). m >>= (λ q. reads (form q.0) q.1))
+    (spans_read cells p.0 (spells (form p.0) p.1) s.0 f.0.0 f.0.1)
+    ∙ form_again (form p.0) p.1 (s.1 p.0) f.1
+form_again (items shape cells say) g s f =
+    let r = items_again shape cells g.regs g.pairs g.flags g.stack.items g.cells.items g.top g.temp g.next.items s.0 f in
+    ap (λ (m : Result Facts CertWhy). m >>= (λ x. Ok (say x))) r.read ∙ ap (λ (x : Said). Ok x) (s.1 g r.least r.after)
+form_again (finish said) p s f = refl
+
+-- a word that is due, what it is read as, and the words after it
+record Due {A : Type 0} (judge : List ℕ → Result A CertWhy) (later : A → Words → Result Said CertWhy) (list : List (List ℕ))
+    (ended : Bool) (said : Said) : Type 0 where
+  is : A
+  word : List ℕ
+  left : List (List ℕ)
+  parts : list ≡ word ∷ left
+  judged : judge word ≡ Ok is
+  rest : later is (words_in left ended) ≡ Ok said
+
+due : {A : Type 0} (judge : List ℕ → Result A CertWhy) (later : A → Words → Result Said CertWhy) (list : List (List ℕ)) (ended : Bool)
+    (said : Said) → next_as judge (words_in list ended) >>= (λ n. later n (rest_of (words_in list ended))) ≡ Ok said
+    → Due judge later list ended said
+due judge later [] true said e = absurd (fault_not why.Word said e)
+due judge later [] false said e = absurd (fault_not why.NoEnd said e)
+due judge later (w ∷ ws) ended said e =
+    let m = bind_ok (judge w) (λ n. later n (words_in ws ended)) said e in
+    record { is = m.0; word = w; left = ws; parts = refl; judged = m.1; rest = m.2 }
+
+-- the parts that were read, of which these words are the spelling
+record Read (form : LineForm) (list : List (List ℕ)) (ended : Bool) (said : Said) : Type 0 where
+  parts : Parts form
+  told : said ≡ says form parts
+  words : list ≡ spells form parts
+  end : ended ≡ true
+  fit : Fit form parts
+
+only : (form : LineForm) (list : List (List ℕ)) (ended : Bool) (said : Said) → IsReadable form → reads form (words_in list ended) ≡ Ok said
+    → Read form list ended said
+only (fixed wanted form) list ended said s e =
+    let d = due (fixed_of wanted) (λ n words. reads form words) list ended said e in
+    let r = only form d.left ended said s d.rest in
+    record {
+      parts = r.parts;
+      told = r.told;
+      words = with_front list d.left (spells form r.parts) d.word wanted d.parts (fixed_is wanted d.word d.is d.judged) r.words;
+      end = r.end;
+      fit = r.fit;
+    }
+only (number a form) list ended said s e =
+    let d = due (number_of a) (λ n words. reads (form n) words) list ended said e in
+    let n = number_only a d.word d.is s.0 d.judged in
+    let r = only (form d.is) d.left ended said (s.1 d.is n.1) d.rest in
+    record {
+      parts = (d.is, r.parts);
+      told = r.told;
+      words = with_front list d.left (spells (form d.is) r.parts) d.word (decimal d.is) d.parts n.0 r.words;
+      end = r.end;
+      fit = (n.1, r.fit);
+    }
+only (choice wanted form) list ended said s e =
+    let d = due (choice_of wanted) (λ n words. reads (form n) words) list ended said e in
+    let w = choice_word wanted d.word d.is d.judged in
+    let r = only (form d.is) d.left ended said (s d.is) d.rest in
+    record {
+      parts = (d.is, r.parts);
+      told = r.told;
+      words = with_front list d.left (spells (form d.is) r.parts) d.word (word_at wanted d.is) d.parts w r.words;
+      end = r.end;
+      fit = (ap (choice_of wanted) (sym w) ∙ d.judged, r.fit);
+    }
+only (slope limit form) list ended said s e =
+    let d = due (slope_of limit) (λ z words. reads (form z) words) list ended said e in
+    let z = slope_only limit d.word d.is s.0 d.judged in
+    let r = only (form d.is) d.left ended said (s.1 d.is) d.rest in
+    record {
+      parts = (d.is, r.parts);
+      told = r.told;
+      words = with_front list d.left (spells (form d.is) r.parts) d.word (signed_word d.is) d.parts z.0 r.words;
+      end = r.end;
+      fit = (z.1, r.fit);
+    }
+only (spans cells form) list ended said s e =
+    let m = bind_ok (spans_of cells (words_in list ended)) (λ (p : Pieces). reads (form p.0) p.1) said e in
+    let g = spans_gone cells list ended m.0 s.0 m.1 in
+    let r = only (form m.0.0) m.0.1.list m.0.1.ended said (s.1 m.0.0) m.2 in
+    record {
+      parts = (m.0.0, r.parts);
+      told = r.told;
+      words = g.words ∙ ap (λ ws. map (ends_word 255) m.0.0 ++ ws) r.words;
+      end = sym g.end ∙ r.end;
+      fit = ((g.ranges, g.inside), r.fit);
+    }
+only (items shape cells say) list ended said s e =
+    let m = bind_ok (read_items shape cells (words_in list ended)) (λ f. Ok (say f)) said e in
+    let g = items_only shape cells (words_in list ended) m.0 s.0 m.1 in
+    let h = g.regular in
+    record {
+      parts = m.0;
+      told = sym (fine_is (say m.0) said m.2);
+      words = g.words;
+      end = g.end;
+      fit = record {
+        regs_fit = h.regs;
+        pairs_fit = h.pairs;
+        flags_fit = h.flags;
+        slots_fit = h.slots;
+        stack_fit = h.stack;
+        cells_fit = h.tracked_cells;
+        top_fit = h.top;
+        temp_fit = h.temp;
+        timed_fit = h.untimed;
+        next_fit = (h.next_rise, h.next_there, h.next_few, h.plain_next);
+        plain_fit = h.plain_pairs;
+        meant = g.meant;
+      };
+    }
+only (finish told) [] true said s e = record { parts = tt; told = sym (fine_is told said e); words = refl; end = refl; fit = tt }
+only (finish told) [] false said s e = absurd (fault_not why.NoEnd said e)
+only (finish told) (w ∷ ws) true said s e = absurd (fault_not why.Word said e)
+only (finish told) (w ∷ ws) false said s e = absurd (fault_not why.Word said e)
+
+pub form_only : (form : LineForm) (words : Words) (said : Said) → IsReadable form → reads form words ≡ Ok said
+    → (p : Parts form) × (said ≡ says form p) × (words ≡ line (spells form p)) × Fit form p
+form_only form words said s e =
+    let r = only form words.list words.ended said s e in
+    (r.parts, r.told, line_same words.list (spells form r.parts) words.ended r.words r.end, r.fit)
