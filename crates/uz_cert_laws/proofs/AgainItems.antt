@@ -451,9 +451,6 @@ module _ (shape : Shape) (cells : List Cell) (h : ShapeFits shape cells)
 
   -- flags and pairs
 
-  abbrev slots_and_on : List (List ℕ)
-  slots_and_on = slot_items stack ++ cell_words_and_next
-
   abbrev start : ℕ → List Fact → List PairFact → List Bit → Facts
   start least rs ps bs = facts_before least rs ps bs [] (map usual_cell (numbered_cells shape.kind 0 cells))
 

@@ -167,16 +167,16 @@ only (items shape cells say) list ended said s e =
       words = g.words;
       end = g.end;
       fit = record {
-        regs_fit = h.regs;
-        pairs_fit = h.pairs;
-        flags_fit = h.flags;
-        slots_fit = h.slots;
-        stack_fit = h.stack;
-        cells_fit = h.tracked_cells;
-        top_fit = h.top;
-        temp_fit = h.temp;
+        regs_fit = h.fit.0.0;
+        pairs_fit = h.fit.1.0.0;
+        flags_fit = h.fit.1.1.0.0;
+        slots_fit = h.fit.1.1.1.0.0;
+        stack_fit = h.fit.1.1.1.0.1;
+        cells_fit = h.fit.1.1.1.1.0.0;
+        top_fit = h.fit.1.1.1.1.1.0.0;
+        temp_fit = h.fit.1.1.1.1.1.1.0.0;
         timed_fit = h.untimed;
-        next_fit = (h.next_rise, h.next_there, h.next_few, h.plain_next);
+        next_fit = let s = h.fit.1.1.1.1.1.1.1 in (s.2, s.1, s.0, h.plain_next);
         plain_fit = h.plain_pairs;
         meant = g.meant;
       };

@@ -13,6 +13,7 @@ pub mod PointLine
 pub mod Raws
 pub mod RestLine
 pub mod ScheduleLines
+pub mod Sections
 pub mod Spans
 pub mod Spelled
 pub mod Steps

@@ -1,31 +1,26 @@
 -- Facts as they grow while items are read: what is spelled of them is what was read.
-use Rattle.std.proofs.Common.{◌≡◌, ℕ, zero, suc, ◌+◌, ◌-◌, ◌<◌, ◌≤◌, true, false, leb, List, [], ◌∷◌, ◌++◌, map, length, drop, decimal}
-use Rattle.std.proofs.Common.{codes, lit≤, refl, sym, ◌∙◌, ap, subst, append_assoc, append-nil, add-one, length-append, arith}
-use Rattle.std.proofs.lemmas.List.{length-set}
+use Rattle.std.proofs.Common.{◌≡◌, ℕ, zero, suc, ◌+◌, ◌-◌, ◌<◌, ◌≤◌, true, false, leb, List, [], ◌∷◌, ◌++◌, map, length, decimal, codes}
+use Rattle.std.proofs.Common.{lit≤, refl, sym, ◌∙◌, ap, subst, add-one, length-append, arith}
 use Rattle.std.proofs.lemmas.List.{map-append}
 use Rattle.uz_schedule.specs.Ends.{Ends, whole_byte}
 use Rattle.uz_schedule.specs.Schedule.{scanline}
-use Rattle.uz_schedule.specs.Tracked.{tracks}
 use Rattle.uz_schedule.specs.WellFormed.{RangeFits}
 use Rattle.std.specs.Prelude.{IsTrue, Some, All, slice_get, slice_set}
 use Rattle.std.proofs.lemmas.List.Elements.{All-nil, All-cons, All-append}
 use Rattle.uz_schedule.specs.Limits.{is_top, rises_from, rises}
-use Rattle.uz_schedule.specs.declared.kinds.Kind.{Kind}
 use Rattle.uz_schedule.specs.declared.header.Cell.{Cell}
 use Rattle.uz_schedule.specs.declared.facts.Fact.{Fact}
 use Rattle.uz_schedule.specs.declared.facts.PairFact.{PairFact}
 use Rattle.uz_schedule.specs.declared.facts.Bit.{Bit}
-use Rattle.uz_cert_lines.specs.Defaults.{is_default, is_any_pair, is_range, is_default_top, is_default_temp}
+use Rattle.uz_cert_lines.specs.Defaults.{is_default, is_default_top, is_default_temp}
 use Rattle.uz_cert_lines.specs.Items.{is_handler, bytes_forms, pair_forms, tracked_before}
 use Rattle.uz_cert_lines.specs.declared.items.Shape.{Shape}
 use Rattle.uz_cert_lines.specs.declared.items.Facts.{Facts}
 use Rattle.uz_cert_writer.specs.Spelling.{fact_word, range_word, item, register_items, pair_items, flag_items, slot_items, cell_items}
 use Rattle.uz_cert_writer.specs.Spelling.{top_items, temp_items, successor_items}
-use Rattle.uz_cert_laws.specs.Spells.{letters_of_pairs, letters_of_flags, timer_and_next, spelled}
+use Rattle.uz_cert_laws.specs.Spells.{letters_of_pairs, letters_of_flags, spelled}
 use Rattle.uz_cert_laws.proofs.Tests.{and_true, both_true, else_so, is_le, true_not}
 use Rattle.uz_cert_laws.proofs.Facts.{FactIn, PairIn, BitIn, part_not_whole}
-use Rattle.uz_cert_laws.proofs.Options.{options, Each, IsUsual, each_length, each_map, each_set, no_options, option_set, drop_set}
-use Rattle.uz_cert_laws.proofs.Options.{drop_later, drop_none}
 use Rattle.uz_cert_laws.proofs.Spelled.{registers, numbered_cells, register_word, any_pair, pair_item, usual_flag, flag_item, in_range}
 use Rattle.uz_cert_laws.proofs.Spelled.{cell_word, usual_fact, usual_pair, usual_bit, usual_cell, registers_are, pairs_are, flags_are}
 use Rattle.uz_cert_laws.proofs.Spelled.{cells_are, register_default, flag_default, range_default, register_at, cell_number}
@@ -34,64 +29,13 @@ use Rattle.uz_cert_laws.proofs.Taken.{with_register, with_pair, with_flag, with_
 use Rattle.uz_cert_laws.proofs.Taken.{TakesRegister, TakesPair, TakesTop, TakesTemp, timer_top, timer_temp}
 use Rattle.uz_cert_laws.proofs.Taken.{TakesFlag, TakesSlot, TakesCell, TakesSuccessor, Taken, register, pair, flag, slot, cell, successor}
 use Rattle.uz_cert_laws.proofs.Taken.{cell_form}
+use Rattle.uz_cert_laws.proofs.Sections.{Section, IsSection, Sections, last, section, Values, FitAll, AreSections, Grown, here, behind}
+use Rattle.uz_cert_laws.proofs.Sections.{OptionList, AreOptions, option_section, options_are, option_more, value_section, value_is}
 
 -- the number after the last one
 abbrev pub number_after : ℕ → List ℕ → ℕ
 number_after least [] = least
 number_after least (x ∷ xs) = number_after (x + 1) xs
-
--- the facts so far: what is due from the next place on is still as where nothing is said
-pub record Regular (shape : Shape) (cells : List Cell) (f : Facts) : Type 0 where
-  pub few : f.least ≤ 61
-  pub regs : Each (λ r x. FactIn (bytes_forms shape) x) registers f.regs
-  pub regs_left : drop f.least f.regs ≡ drop f.least (map (usual_fact shape.kind) registers)
-  pub pairs : Each (λ l x. PairIn pair_forms x) letters_of_pairs f.pairs
-  pub pairs_left : drop (f.least - 32) f.pairs ≡ drop (f.least - 32) (map usual_pair letters_of_pairs)
-  pub flags : Each (λ l x. BitIn (is_handler shape.kind) x) letters_of_flags f.flags
-  pub flags_left : drop (f.least - 35) f.flags ≡ drop (f.least - 35) (map (usual_bit shape.kind) letters_of_flags)
-  pub slots : length f.stack.items ≤ shape.depth
-  pub stack : All (FactIn (bytes_forms shape)) f.stack.items
-  pub stack_left : f.least < 42 → f.stack.items ≡ []
-  pub tracked_cells : Each (λ p x. FactIn (cell_form shape p.1) x) (numbered_cells shape.kind 0 cells) f.cells.items
-  pub cells_left : drop (tracked_before shape.kind (f.least - 43) cells) f.cells.items
-      ≡ drop (tracked_before shape.kind (f.least - 43) cells) (map usual_cell (numbered_cells shape.kind 0 cells))
-  pub top : is_top f.top ≡ true
-  pub top_left : f.least ≤ 59 → f.top ≡ scanline - 1
-  pub temp : RangeFits 255 f.temp
-  pub temp_left : f.least ≤ 60 → f.temp ≡ whole_byte
-  pub next_few : length f.next.items ≤ 16
-  pub next_there : All (λ id. id < shape.points) f.next.items
-  pub next_rise : IsTrue (rises f.next.items)
-  pub next_after : f.after ≡ number_after 0 f.next.items
-  pub next_left : f.least < 61 → f.next.items ≡ []
-  pub plain_pairs : shape.plain ≡ true → f.pairs ≡ map usual_pair letters_of_pairs
-  pub plain_next : shape.plain ≡ true → f.next.items ≡ []
-  pub untimed : shape.timed ≡ false → (f.top ≡ scanline - 1) × (f.temp ≡ whole_byte)
-
--- words at the end
-
-last_in : (xs tail : List (List ℕ)) (w : List ℕ) → tail ≡ [] → (xs ++ w ∷ []) ++ tail ≡ (xs ++ tail) ++ w ∷ []
-last_in xs tail w e =
-    ap (λ t. (xs ++ w ∷ []) ++ t) e ∙ append-nil (xs ++ w ∷ []) ∙ ap (λ t. t ++ w ∷ []) (sym (append-nil xs))
-    ∙ ap (λ t. (xs ++ t) ++ w ∷ []) (sym e)
-
-behind : (front xs ys : List (List ℕ)) (w : List ℕ) → ys ≡ xs ++ w ∷ [] → front ++ ys ≡ (front ++ xs) ++ w ∷ []
-behind front xs ys w e = ap (λ t. front ++ t) e ∙ sym (append_assoc front xs (w ∷ []))
-
--- the defaults
-
-usual_regs : (kind : Kind) → Each (IsUsual (is_default kind)) registers (map (usual_fact kind) registers)
-usual_regs kind = each_map (IsUsual (is_default kind)) (usual_fact kind) registers (register_default kind)
-
-usual_pairs : Each (IsUsual any_pair) letters_of_pairs (map usual_pair letters_of_pairs)
-usual_pairs = each_map (IsUsual any_pair) usual_pair letters_of_pairs (λ l. refl)
-
-usual_flags : (kind : Kind) → Each (IsUsual (usual_flag kind)) letters_of_flags (map (usual_bit kind) letters_of_flags)
-usual_flags kind = each_map (IsUsual (usual_flag kind)) (usual_bit kind) letters_of_flags (λ l. flag_default kind)
-
-usual_cells : (kind : Kind) (cells : List Cell) → Each (IsUsual in_range) (numbered_cells kind 0 cells)
-    (map usual_cell (numbered_cells kind 0 cells))
-usual_cells kind cells = each_map (IsUsual in_range) usual_cell (numbered_cells kind 0 cells) (λ p. range_default p.1.range)
 
 -- numbers that rise
 
@@ -106,559 +50,344 @@ pub after_more : (least : ℕ) (xs : List ℕ) (id : ℕ) → id + 1 ≡ number_
 after_more least [] id = refl
 after_more least (x ∷ xs) id = after_more (x + 1) xs id
 
--- what isn't due yet spells nothing
+-- the sections of a line's items
+
+module _ (shape : Shape) (cells : List Cell) where
+  abbrev pub registers_list : OptionList ℕ Fact
+  registers_list = record {
+    keys = registers;
+    is_usual = is_default shape.kind;
+    usual = usual_fact shape.kind;
+    word = register_word;
+    Within = λ r x. FactIn (bytes_forms shape) x;
+    spelled = register_items shape.kind 0;
+    before = λ m. m;
+    start = 0;
+  }
+
+  abbrev pub pairs_list : OptionList ℕ PairFact
+  pairs_list = record {
+    keys = letters_of_pairs;
+    is_usual = any_pair;
+    usual = usual_pair;
+    word = pair_item;
+    Within = λ l x. PairIn pair_forms x;
+    spelled = pair_items letters_of_pairs;
+    before = λ m. m - 32;
+    start = 32;
+  }
+
+  abbrev pub flags_list : OptionList ℕ Bit
+  flags_list = record {
+    keys = letters_of_flags;
+    is_usual = usual_flag shape.kind;
+    usual = usual_bit shape.kind;
+    word = flag_item;
+    Within = λ l x. BitIn (is_handler shape.kind) x;
+    spelled = flag_items shape.kind letters_of_flags;
+    before = λ m. m - 35;
+    start = 35;
+  }
+
+  abbrev pub slots_section : Section (List Fact)
+  slots_section = record {
+    words = slot_items;
+    Fits = λ m xs. (length xs ≤ shape.depth) × All (FactIn (bytes_forms shape)) xs × (m < 42 → xs ≡ []);
+    from = 41;
+  }
+
+  abbrev pub cells_list : OptionList (ℕ × Cell) Fact
+  cells_list = record {
+    keys = numbered_cells shape.kind 0 cells;
+    is_usual = in_range;
+    usual = usual_cell;
+    word = cell_word;
+    Within = λ p x. FactIn (cell_form shape p.1) x;
+    spelled = cell_items shape.kind 0 cells;
+    before = λ m. tracked_before shape.kind (m - 43) cells;
+    start = 43;
+  }
+
+  abbrev pub top_section : Section ℕ
+  top_section = value_section top_items (λ n. is_top n ≡ true) (scanline - 1) 59
+
+  abbrev pub temp_section : Section Ends
+  temp_section = value_section temp_items (RangeFits 255) whole_byte 60
+
+  -- the successors, and the least number that may follow them
+  abbrev pub next_section : Section (List ℕ × ℕ)
+  next_section = record {
+    words = λ p. successor_items p.0;
+    Fits = λ m p. (length p.0 ≤ 16) × All (λ id. id < shape.points) p.0 × IsTrue (rises p.0) × (p.1 ≡ number_after 0 p.0)
+        × (m < 61 → p.0 ≡ []);
+    from = 60;
+  }
+
+  abbrev pub from_next : Sections
+  from_next = last next_section
+
+  abbrev pub from_temp : Sections
+  from_temp = section temp_section from_next
+
+  abbrev pub from_top : Sections
+  from_top = section top_section from_temp
+
+  abbrev pub from_cells : Sections
+  from_cells = section (option_section cells_list) from_top
+
+  abbrev pub from_slots : Sections
+  from_slots = section slots_section from_cells
+
+  abbrev pub from_flags : Sections
+  from_flags = section (option_section flags_list) from_slots
+
+  abbrev pub from_pairs : Sections
+  from_pairs = section (option_section pairs_list) from_flags
+
+  abbrev pub all_items : Sections
+  all_items = section (option_section registers_list) from_pairs
+
+  abbrev pub values : Facts → Values all_items
+  values f = (f.regs, (f.pairs, (f.flags, (f.stack.items, (f.cells.items, (f.top, (f.temp, (f.next.items, f.after))))))))
+
+  registers_options : AreOptions registers_list
+  registers_options = record {
+    usual_is = register_default shape.kind;
+    words_are = registers_are shape.kind 0 32;
+    rise = λ m n l. l;
+    none = λ m l. omega (arith, l);
+  }
+
+  pairs_options : AreOptions pairs_list
+  pairs_options = record {
+    usual_is = λ l. refl;
+    words_are = λ xs e. pairs_are letters_of_pairs xs;
+    rise = λ m n l. omega (arith, l);
+    none = λ m l. omega (arith, l);
+  }
+
+  flags_options : AreOptions flags_list
+  flags_options = record {
+    usual_is = λ l. flag_default shape.kind;
+    words_are = λ xs e. flags_are shape.kind letters_of_flags xs;
+    rise = λ m n l. omega (arith, l);
+    none = λ m l. omega (arith, l);
+  }
+
+  none_before : (n : ℕ) → n ≡ 0 → tracked_before shape.kind n cells ≡ 0
+  none_before n e = ap (λ k. tracked_before shape.kind k cells) e
+
+  cells_options : AreOptions cells_list
+  cells_options = record {
+    usual_is = λ p. range_default p.1.range;
+    words_are = λ xs e. cells_are shape.kind 0 cells xs;
+    rise = λ m n l. cells_before_rise shape.kind cells (m - 43) (n - 43) (omega (arith, l));
+    none = λ m l. none_before (m - 43) (omega (arith, l));
+  }
+
+  slots_are : IsSection slots_section
+  slots_are = record {
+    later = λ m n xs l f. (f.0, f.1, λ h. f.2 (omega (arith, l, h)));
+    empty = λ m xs l f. ap slot_items (f.2 (omega (arith, l)));
+  }
+
+  next_is : IsSection next_section
+  next_is = record {
+    later = λ m n p l f. (f.0, f.1, f.2, f.3, λ h. f.4 (omega (arith, l, h)));
+    empty = λ m p l f. ap successor_items (f.4 (omega (arith, l)));
+  }
+
+  pub are_sections : AreSections all_items
+  are_sections = (
+    options_are registers_list registers_options,
+    (
+      options_are pairs_list pairs_options,
+      (
+        options_are flags_list flags_options,
+        (
+          slots_are,
+          (
+            options_are cells_list cells_options,
+            (
+              value_is top_items (λ n. is_top n ≡ true) (scanline - 1) 59 refl,
+              (value_is temp_items (RangeFits 255) whole_byte 60 refl, next_is),
+            ),
+          ),
+        ),
+      ),
+    ),
+  )
+
+-- the facts so far: what is due from the next place on is still as where nothing is said
+pub record Regular (shape : Shape) (cells : List Cell) (f : Facts) : Type 0 where
+  pub few : f.least ≤ 61
+  pub fit : FitAll (all_items shape cells) f.least (values shape cells f)
+  pub plain_pairs : shape.plain ≡ true → f.pairs ≡ map usual_pair letters_of_pairs
+  pub plain_next : shape.plain ≡ true → f.next.items ≡ []
+  pub untimed : shape.timed ≡ false → (f.top ≡ scanline - 1) × (f.temp ≡ whole_byte)
 
 module _ (shape : Shape) (cells : List Cell) (f : Facts) (h : Regular shape cells f) where
-  pairs_nothing : f.least ≤ 32 → pair_items letters_of_pairs f.pairs ≡ []
-  pairs_nothing l =
-      let same = drop_none f.pairs (map usual_pair letters_of_pairs) (f.least - 32) (omega arith) h.pairs_left in
-      ap (λ (x : List PairFact). pair_items letters_of_pairs x) same
-      ∙ pairs_are letters_of_pairs (map usual_pair letters_of_pairs) ∙ no_options any_pair pair_item letters_of_pairs
-      (map usual_pair letters_of_pairs) usual_pairs
+  abbrev are : AreSections (all_items shape cells)
+  are = are_sections shape cells
 
-  flags_nothing : f.least ≤ 35 → flag_items shape.kind letters_of_flags f.flags ≡ []
-  flags_nothing l =
-      let ds = map (usual_bit shape.kind) letters_of_flags in
-      let same = drop_none f.flags ds (f.least - 35) (omega arith) h.flags_left in
-      ap (λ (x : List Bit). flag_items shape.kind letters_of_flags x) same
-      ∙ flags_are shape.kind letters_of_flags ds ∙ no_options (usual_flag shape.kind) flag_item letters_of_flags ds (usual_flags shape.kind)
+  abbrev fit : FitAll (all_items shape cells) f.least (values shape cells f)
+  fit = h.fit
 
-  slots_nothing : f.least < 42 → slot_items f.stack.items ≡ []
-  slots_nothing l = ap slot_items (h.stack_left l)
+  -- this much more
+  abbrev MoreAll : ℕ → Facts → List ℕ → Type 0
+  MoreAll n more w = Grown (all_items shape cells) n (values shape cells f) (values shape cells more) w
 
-  none_before : (cs : List Cell) (n : ℕ) → n ≡ 0 → tracked_before shape.kind n cs ≡ 0
-  none_before cs n e = ap (λ k. tracked_before shape.kind k cs) e
+  in_pairs : (n : ℕ) (u : Values (from_pairs shape cells)) (w : List ℕ) → f.least ≤ n
+      → Grown (from_pairs shape cells) n (values shape cells f).1 u w → Grown (all_items shape cells) n (values shape cells f) (f.regs, u) w
+  in_pairs n u w l g = behind (option_section (registers_list shape cells)) (from_pairs shape cells) are.0 f.least n f.regs _ u w l fit.0 g
 
-  cells_nothing : f.least ≤ 43 → cell_items shape.kind 0 cells f.cells.items ≡ []
-  cells_nothing l =
-      let ds = map usual_cell (numbered_cells shape.kind 0 cells) in
-      let same = drop_none f.cells.items ds (tracked_before shape.kind (f.least - 43) cells)
-      (none_before cells (f.least - 43) (omega arith)) h.cells_left in
-      ap (λ (x : List Fact). cell_items shape.kind 0 cells x) same
-      ∙ cells_are shape.kind 0 cells ds ∙ no_options in_range cell_word (numbered_cells shape.kind 0 cells) ds
-      (usual_cells shape.kind cells)
+  in_flags : (n : ℕ) (u : Values (from_flags shape cells)) (w : List ℕ) → f.least ≤ n
+      → Grown (from_flags shape cells) n (values shape cells f).1.1 u w
+      → Grown (all_items shape cells) n (values shape cells f) (f.regs, (f.pairs, u)) w
+  in_flags n u w l g =
+      in_pairs n (f.pairs, u) w l
+      (behind (option_section (pairs_list shape cells)) (from_flags shape cells) are.1.0 f.least n f.pairs _ u w l fit.1.0 g)
 
-  top_nothing : f.least ≤ 59 → top_items f.top ≡ []
-  top_nothing l = ap top_items (h.top_left l)
+  in_slots : (n : ℕ) (u : Values (from_slots shape cells)) (w : List ℕ) → f.least ≤ n
+      → Grown (from_slots shape cells) n (values shape cells f).1.1.1 u w
+      → Grown (all_items shape cells) n (values shape cells f) (f.regs, (f.pairs, (f.flags, u))) w
+  in_slots n u w l g =
+      in_flags n (f.flags, u) w l
+      (behind (option_section (flags_list shape cells)) (from_slots shape cells) are.1.1.0 f.least n f.flags _ u w l fit.1.1.0 g)
 
-  temp_nothing : f.least ≤ 60 → temp_items f.temp ≡ []
-  temp_nothing l = ap temp_items (h.temp_left l)
+  in_cells : (n : ℕ) (u : Values (from_cells shape cells)) (w : List ℕ) → f.least ≤ n
+      → Grown (from_cells shape cells) n (values shape cells f).1.1.1.1 u w
+      → Grown (all_items shape cells) n (values shape cells f) (f.regs, (f.pairs, (f.flags, (f.stack.items, u)))) w
+  in_cells n u w l g =
+      in_slots n (f.stack.items, u) w l
+      (behind (slots_section shape cells) (from_cells shape cells) are.1.1.1.0 f.least n f.stack.items _ u w l fit.1.1.1.0 g)
 
-  next_nothing : f.least < 61 → successor_items f.next.items ≡ []
-  next_nothing l = ap successor_items (h.next_left l)
+  in_top : (n : ℕ) (u : Values (from_top shape cells)) (w : List ℕ) → f.least ≤ n
+      → Grown (from_top shape cells) n (values shape cells f).1.1.1.1.1 u w
+      → Grown (all_items shape cells) n (values shape cells f) (f.regs, (f.pairs, (f.flags, (f.stack.items, (f.cells.items, u))))) w
+  in_top n u w l g =
+      in_cells n (f.cells.items, u) w l
+      (behind (option_section (cells_list shape cells)) (from_top shape cells) are.1.1.1.1.0 f.least n f.cells.items _ u w l fit.1.1.1.1.0 g)
 
-  none_two : (a b : List (List ℕ)) → a ≡ [] → b ≡ [] → a ++ b ≡ []
-  none_two a b e g = ap (λ t. t ++ b) e ∙ g
+  in_temp : (n : ℕ) (u : Values (from_temp shape cells)) (w : List ℕ) → f.least ≤ n
+      → Grown (from_temp shape cells) n (values shape cells f).1.1.1.1.1.1 u w
+      → Grown (all_items shape cells) n (values shape cells f) (f.regs, (f.pairs, (f.flags, (f.stack.items, (f.cells.items, (f.top, u)))))) w
+  in_temp n u w l g =
+      in_top n (f.top, u) w l
+      (behind (top_section shape cells) (from_temp shape cells) are.1.1.1.1.1.0 f.least n f.top _ u w l fit.1.1.1.1.1.0 g)
 
-  from_temp : f.least ≤ 60 → temp_items f.temp ++ successor_items f.next.items ≡ []
-  from_temp l = none_two (temp_items f.temp) (successor_items f.next.items) (temp_nothing l) (next_nothing (omega arith))
+  -- each item
 
-  from_top : f.least ≤ 59 → timer_and_next f ≡ []
-  from_top l = none_two (top_items f.top) (temp_items f.temp ++ successor_items f.next.items) (top_nothing l) (from_temp (omega arith))
+  spoken : (old : List (List ℕ)) {v w : List ℕ} {new : List (List ℕ)} → new ≡ old ++ v ∷ [] → w ≡ v → new ≡ old ++ w ∷ []
+  spoken old {v} {w} {new} e s = e ∙ ap (λ x. old ++ x ∷ []) (sym s)
 
-  from_cells : f.least ≤ 43 → cell_items shape.kind 0 cells f.cells.items ++ timer_and_next f ≡ []
-  from_cells l = none_two (cell_items shape.kind 0 cells f.cells.items) (timer_and_next f) (cells_nothing l) (from_top (omega arith))
-
-  from_slots : f.least < 42 → slot_items f.stack.items ++ (cell_items shape.kind 0 cells f.cells.items ++ timer_and_next f) ≡ []
-  from_slots l = none_two (slot_items f.stack.items) (cell_items shape.kind 0 cells f.cells.items ++ timer_and_next f)
-      (slots_nothing l) (from_cells (omega arith))
-
-  from_flags : f.least ≤ 35
-      → flag_items shape.kind letters_of_flags f.flags
-      ++ (slot_items f.stack.items ++ (cell_items shape.kind 0 cells f.cells.items ++ timer_and_next f)) ≡ []
-  from_flags l =
-      none_two (flag_items shape.kind letters_of_flags f.flags)
-      (slot_items f.stack.items ++ (cell_items shape.kind 0 cells f.cells.items ++ timer_and_next f)) (flags_nothing l)
-      (from_slots (omega arith))
-
-  pub from_pairs : f.least ≤ 32
-      → pair_items letters_of_pairs f.pairs
-      ++ (flag_items shape.kind letters_of_flags f.flags
-      ++ (slot_items f.stack.items ++ (cell_items shape.kind 0 cells f.cells.items ++ timer_and_next f))) ≡ []
-  from_pairs l =
-      none_two (pair_items letters_of_pairs f.pairs)
-      (flag_items shape.kind letters_of_flags f.flags
-      ++ (slot_items f.stack.items ++ (cell_items shape.kind 0 cells f.cells.items ++ timer_and_next f)))
-      (pairs_nothing l) (from_flags (omega arith))
-
-  -- one thing is set, and its item is the last
-
-  regs_more : (r : ℕ) (x : Fact) → r < 32 → f.least ≤ r → is_default shape.kind r x ≡ false
-      → register_items shape.kind 0 (slice_set f.regs r x) ≡ register_items shape.kind 0 f.regs ++ register_word r x ∷ []
-  regs_more r x t l o =
-      let count : length f.regs ≡ 32 = each_length (λ r x. FactIn (bytes_forms shape) x) registers f.regs h.regs in
-      registers_are shape.kind 0 32 (slice_set f.regs r x) (length-set f.regs r x ∙ count)
-      ∙ option_set (is_default shape.kind) register_word registers f.regs (map (usual_fact shape.kind) registers) r r x count
-      (usual_regs shape.kind)
-      (drop_later f.regs (map (usual_fact shape.kind) registers) f.least r l h.regs_left) (register_at r t) o
-      ∙ ap (λ ws. ws ++ register_word r x ∷ []) (sym (registers_are shape.kind 0 32 f.regs count))
-
-  pairs_more : (k letter : ℕ) (x : PairFact) → slice_get letters_of_pairs k ≡ Some letter → f.least ≤ 32 + k → is_any_pair x ≡ false
-      → pair_items letters_of_pairs (slice_set f.pairs k x) ≡ pair_items letters_of_pairs f.pairs ++ pair_item letter x ∷ []
-  pairs_more k letter x t l o =
-      pairs_are letters_of_pairs (slice_set f.pairs k x)
-      ∙ option_set any_pair pair_item letters_of_pairs f.pairs (map usual_pair letters_of_pairs) k letter x
-      (each_length (λ l x. PairIn pair_forms x) letters_of_pairs f.pairs h.pairs) usual_pairs
-      (drop_later f.pairs (map usual_pair letters_of_pairs) (f.least - 32) k (omega arith) h.pairs_left) t o
-      ∙ ap (λ ws. ws ++ pair_item letter x ∷ []) (sym (pairs_are letters_of_pairs f.pairs))
-
-  flags_more : (b letter : ℕ) (x : Bit) → slice_get letters_of_flags b ≡ Some letter → f.least ≤ 35 + b → usual_flag shape.kind letter
-      x ≡ false
-      → flag_items shape.kind letters_of_flags (slice_set f.flags b x) ≡ flag_items shape.kind letters_of_flags f.flags ++ flag_item letter
-      x ∷ []
-  flags_more b letter x t l o =
-      flags_are shape.kind letters_of_flags (slice_set f.flags b x)
-      ∙ option_set (usual_flag shape.kind) flag_item letters_of_flags f.flags (map (usual_bit shape.kind) letters_of_flags) b letter x
-      (each_length (λ l x. BitIn (is_handler shape.kind) x) letters_of_flags f.flags h.flags) (usual_flags shape.kind)
-      (drop_later f.flags (map (usual_bit shape.kind) letters_of_flags) (f.least - 35) b (omega arith) h.flags_left) t o
-      ∙ ap (λ ws. ws ++ flag_item letter x ∷ []) (sym (flags_are shape.kind letters_of_flags f.flags))
-
-  cells_more : (i : ℕ) (c : Cell) (x : Fact) → slice_get cells i ≡ Some c → tracks shape.kind c.owner ≡ true → f.least ≤ 43 + i
-      → is_range c.range x ≡ false
-      → cell_items shape.kind 0 cells (slice_set f.cells.items (tracked_before shape.kind i cells) x)
-      ≡ cell_items shape.kind 0 cells f.cells.items ++ cell_word (i, c) x ∷ []
-  cells_more i c x t own l o =
-      let keys = numbered_cells shape.kind 0 cells in
-      let place = tracked_before shape.kind i cells in
-      let word : cell_word (0 + i, c) x ≡ cell_word (i, c) x = ap (λ n. cell_word (n, c) x) (plus i) in
-      cells_are shape.kind 0 cells (slice_set f.cells.items place x)
-      ∙ option_set in_range cell_word keys f.cells.items (map usual_cell keys) place (0 + i, c) x
-      (each_length (λ p x. FactIn (cell_form shape p.1) x) keys f.cells.items h.tracked_cells) (usual_cells shape.kind cells)
-      (drop_later f.cells.items (map usual_cell keys) (tracked_before shape.kind (f.least - 43) cells) place
-      (cells_before_rise shape.kind cells (f.least - 43) i (omega arith)) h.cells_left)
-      (cell_number shape.kind cells i 0 c t own) o
-      ∙ ap (λ w. options in_range cell_word keys f.cells.items ++ w ∷ []) word
-      ∙ ap (λ ws. ws ++ cell_word (i, c) x ∷ []) (sym (cells_are shape.kind 0 cells f.cells.items))
-    where
-      plus : (i : ℕ) → 0 + i ≡ i
-      plus i = omega arith
-
-  -- what isn't touched, from a later place on
-
-  later_regs : (m : ℕ) → f.least ≤ m → drop m f.regs ≡ drop m (map (usual_fact shape.kind) registers)
-  later_regs m l = drop_later f.regs (map (usual_fact shape.kind) registers) f.least m l h.regs_left
-
-  later_pairs : (m : ℕ) → f.least ≤ m → drop (m - 32) f.pairs ≡ drop (m - 32) (map usual_pair letters_of_pairs)
-  later_pairs m l = drop_later f.pairs (map usual_pair letters_of_pairs) (f.least - 32) (m - 32) (omega arith) h.pairs_left
-
-  later_flags : (m : ℕ) → f.least ≤ m → drop (m - 35) f.flags ≡ drop (m - 35) (map (usual_bit shape.kind) letters_of_flags)
-  later_flags m l = drop_later f.flags (map (usual_bit shape.kind) letters_of_flags) (f.least - 35) (m - 35) (omega arith) h.flags_left
-
-  later_cells : (m : ℕ) → f.least ≤ m → drop (tracked_before shape.kind (m - 43) cells) f.cells.items
-      ≡ drop (tracked_before shape.kind (m - 43) cells) (map usual_cell (numbered_cells shape.kind 0 cells))
-  later_cells m l =
-      drop_later f.cells.items (map usual_cell (numbered_cells shape.kind 0 cells)) (tracked_before shape.kind (f.least - 43) cells)
-      (tracked_before shape.kind (m - 43) cells) (cells_before_rise shape.kind cells (f.least - 43) (m - 43) (omega arith)) h.cells_left
-
-  -- each item leaves the facts regular
-
-  register_regular : (r : ℕ) (x : Fact) (w : List ℕ) → TakesRegister shape f w r x → Regular shape cells (with_register f r x)
-  register_regular r x w t =
+  register_grown : (r : ℕ) (x : Fact) (w : List ℕ) → TakesRegister shape f w r x → MoreAll (r + 1) (with_register f r x) w
+  register_grown r x w t =
       let there : r < 32 = t.there in
       let order : f.least ≤ r = t.order in
-      let ds = map (usual_fact shape.kind) registers in
-      record {
-        few = omega arith;
-        regs = each_set (λ r x. FactIn (bytes_forms shape) x) registers f.regs r r x h.regs (register_at r there) t.fits;
-        regs_left = ap (λ n. drop n (slice_set f.regs r x)) (add-one r) ∙ drop_set f.regs r x ∙ later_regs (suc r) (omega arith)
-            ∙ ap (λ n. drop n ds) (sym (add-one r));
-        pairs = h.pairs;
-        pairs_left = later_pairs (r + 1) (omega arith);
-        flags = h.flags;
-        flags_left = later_flags (r + 1) (omega arith);
-        slots = h.slots;
-        stack = h.stack;
-        stack_left = λ l. h.stack_left (omega arith);
-        tracked_cells = h.tracked_cells;
-        cells_left = later_cells (r + 1) (omega arith);
-        top = h.top;
-        top_left = λ l. h.top_left (omega arith);
-        temp = h.temp;
-        temp_left = λ l. h.temp_left (omega arith);
-        next_few = h.next_few;
-        next_there = h.next_there;
-        next_rise = h.next_rise;
-        next_after = h.next_after;
-        next_left = λ l. h.next_left (omega arith);
-        plain_pairs = h.plain_pairs;
-        plain_next = h.plain_next;
-        untimed = h.untimed;
-      }
+      let g = option_more (registers_list shape cells) (registers_options shape cells) f.least (r + 1) r r x f.regs fit.0 (register_at r there)
+      order (add-one r) t.fits t.other in
+      here (option_section (registers_list shape cells)) (from_pairs shape cells) are.1 f.least (r + 1) 32 f.regs (slice_set f.regs r x) _ w
+      (lit≤ tt, (lit≤ tt, (lit≤ tt, (lit≤ tt, (lit≤ tt, (lit≤ tt, lit≤ tt)))))) (omega arith) (omega arith) fit.1 g.0
+      (spoken (register_items shape.kind 0 f.regs) g.1 t.word)
 
-  pair_regular : (k letter : ℕ) (x : PairFact) (w : List ℕ) (later : List (List ℕ)) → slice_get letters_of_pairs k ≡ Some letter
-      → TakesPair shape f w later k x → Regular shape cells (with_pair f k x)
-  pair_regular k letter x w later at t =
+  pair_grown : (k letter : ℕ) (x : PairFact) (w : List ℕ) (later : List (List ℕ)) → slice_get letters_of_pairs k ≡ Some letter
+      → w ≡ pair_item letter x → TakesPair shape f w later k x → MoreAll (33 + k) (with_pair f k x) w
+  pair_grown k letter x w later at is t =
       let there : k < 3 = t.there in
       let order : f.least ≤ 32 + k = t.order in
-      let ds = map usual_pair letters_of_pairs in
-      record {
-        few = omega arith;
-        regs = h.regs;
-        regs_left = later_regs (33 + k) (omega arith);
-        pairs = each_set (λ l x. PairIn pair_forms x) letters_of_pairs f.pairs k letter x h.pairs at t.fits;
-        pairs_left =
-            ap (λ n. drop n (slice_set f.pairs k x)) (plus k) ∙ drop_set f.pairs k x
-            ∙ drop_later f.pairs ds (f.least - 32) (suc k) (omega arith) h.pairs_left ∙ ap (λ n. drop n ds) (sym (plus k));
-        flags = h.flags;
-        flags_left = later_flags (33 + k) (omega arith);
-        slots = h.slots;
-        stack = h.stack;
-        stack_left = λ l. h.stack_left (omega arith);
-        tracked_cells = h.tracked_cells;
-        cells_left = later_cells (33 + k) (omega arith);
-        top = h.top;
-        top_left = λ l. h.top_left (omega arith);
-        temp = h.temp;
-        temp_left = λ l. h.temp_left (omega arith);
-        next_few = h.next_few;
-        next_there = h.next_there;
-        next_rise = h.next_rise;
-        next_after = h.next_after;
-        next_left = λ l. h.next_left (omega arith);
-        plain_pairs = λ p. absurd (true_not shape.plain p t.whole);
-        plain_next = h.plain_next;
-        untimed = h.untimed;
-      }
-    where
-      plus : (k : ℕ) → 33 + k - 32 ≡ suc k
-      plus k = omega arith
+      let g = option_more (pairs_list shape cells) (pairs_options shape cells) f.least (33 + k) k letter x f.pairs fit.1.0 at (omega arith)
+      (omega arith) t.fits t.other in
+      in_pairs (33 + k) _ w (omega arith)
+      (here (option_section (pairs_list shape cells)) (from_flags shape cells) are.1.1 f.least (33 + k) 35 f.pairs (slice_set f.pairs k x) _ w
+      (lit≤ tt, (lit≤ tt, (lit≤ tt, (lit≤ tt, (lit≤ tt, lit≤ tt))))) (omega arith) (omega arith) fit.1.1 g.0
+      (spoken (pair_items letters_of_pairs f.pairs) g.1 is))
 
-  flag_regular : (b letter : ℕ) (x : Bit) (w : List ℕ) (later : List (List ℕ)) → slice_get letters_of_flags b ≡ Some letter
-      → TakesFlag shape f w later b x → Regular shape cells (with_flag f b x)
-  flag_regular b letter x w later at t =
+  flag_grown : (b letter : ℕ) (x : Bit) (w : List ℕ) (later : List (List ℕ)) → slice_get letters_of_flags b ≡ Some letter
+      → w ≡ flag_item letter x → TakesFlag shape f w later b x → MoreAll (36 + b) (with_flag f b x) w
+  flag_grown b letter x w later at is t =
       let there : b < 7 = t.there in
       let order : f.least ≤ 35 + b = t.order in
-      let ds = map (usual_bit shape.kind) letters_of_flags in
-      record {
-        few = omega arith;
-        regs = h.regs;
-        regs_left = later_regs (36 + b) (omega arith);
-        pairs = h.pairs;
-        pairs_left = later_pairs (36 + b) (omega arith);
-        flags = each_set (λ l x. BitIn (is_handler shape.kind) x) letters_of_flags f.flags b letter x h.flags at t.fits;
-        flags_left =
-            ap (λ n. drop n (slice_set f.flags b x)) (plus b) ∙ drop_set f.flags b x
-            ∙ drop_later f.flags ds (f.least - 35) (suc b) (omega arith) h.flags_left ∙ ap (λ n. drop n ds) (sym (plus b));
-        slots = h.slots;
-        stack = h.stack;
-        stack_left = λ l. h.stack_left (omega arith);
-        tracked_cells = h.tracked_cells;
-        cells_left = later_cells (36 + b) (omega arith);
-        top = h.top;
-        top_left = λ l. h.top_left (omega arith);
-        temp = h.temp;
-        temp_left = λ l. h.temp_left (omega arith);
-        next_few = h.next_few;
-        next_there = h.next_there;
-        next_rise = h.next_rise;
-        next_after = h.next_after;
-        next_left = λ l. h.next_left (omega arith);
-        plain_pairs = h.plain_pairs;
-        plain_next = h.plain_next;
-        untimed = h.untimed;
-      }
-    where
-      plus : (b : ℕ) → 36 + b - 35 ≡ suc b
-      plus b = omega arith
+      let g = option_more (flags_list shape cells) (flags_options shape cells) f.least (36 + b) b letter x f.flags fit.1.1.0 at (omega arith)
+      (omega arith) t.fits t.other in
+      in_flags (36 + b) _ w (omega arith)
+      (here (option_section (flags_list shape cells)) (from_slots shape cells) are.1.1.1 f.least (36 + b) 41 f.flags (slice_set f.flags b x) _ w
+      (lit≤ tt, (lit≤ tt, (lit≤ tt, (lit≤ tt, lit≤ tt)))) (omega arith) (omega arith) fit.1.1.1 g.0
+      (spoken (flag_items shape.kind letters_of_flags f.flags) g.1 is))
 
-  slot_regular : (x : Fact) (w : List ℕ) → TakesSlot shape f w x → Regular shape cells (with_slot f x)
-  slot_regular x w t =
+  slot_grown : (x : Fact) (w : List ℕ) → TakesSlot shape f w x → MoreAll 42 (with_slot f x) w
+  slot_grown x w t =
       let order : f.least ≤ 42 = t.order in
       let room : length f.stack.items < shape.depth = t.room in
-      record {
-        few = lit≤ tt;
-        regs = h.regs;
-        regs_left = later_regs 42 order;
-        pairs = h.pairs;
-        pairs_left = later_pairs 42 order;
-        flags = h.flags;
-        flags_left = later_flags 42 order;
-        slots = omega (arith, length-append f.stack.items (x ∷ []));
-        stack = All-append (FactIn (bytes_forms shape)) f.stack.items (x ∷ []) h.stack (All-cons (FactIn (bytes_forms shape)) x [] t.fits
-            (All-nil (FactIn (bytes_forms shape))));
-        stack_left = λ l. absurd (omega arith);
-        tracked_cells = h.tracked_cells;
-        cells_left = later_cells 42 order;
-        top = h.top;
-        top_left = λ l. h.top_left (omega arith);
-        temp = h.temp;
-        temp_left = λ l. h.temp_left (omega arith);
-        next_few = h.next_few;
-        next_there = h.next_there;
-        next_rise = h.next_rise;
-        next_after = h.next_after;
-        next_left = λ l. h.next_left (omega arith);
-        plain_pairs = h.plain_pairs;
-        plain_next = h.plain_next;
-        untimed = h.untimed;
-      }
+      let s = fit.1.1.1.0 in
+      in_slots 42 _ w order
+      (here (slots_section shape cells) (from_cells shape cells) are.1.1.1.1 f.least 42 43 f.stack.items (f.stack.items ++ x ∷ []) _ w
+      (lit≤ tt, (lit≤ tt, (lit≤ tt, lit≤ tt))) (omega arith) order fit.1.1.1.1 (
+        omega (arith, length-append f.stack.items (x ∷ [])),
+        All-append (FactIn (bytes_forms shape)) f.stack.items (x ∷ []) s.1 (All-cons (FactIn (bytes_forms shape)) x [] t.fits
+            (All-nil (FactIn (bytes_forms shape)))),
+        λ l. absurd (omega arith),
+      )
+      (spoken (slot_items f.stack.items) (map-append (λ y. codes "s:" ++ fact_word y) f.stack.items (x ∷ [])) t.word))
 
-  cell_regular : (i : ℕ) (c : Cell) (x : Fact) (w : List ℕ) → length cells ≤ 16 → TakesCell shape cells f w i c x → Regular shape cells
-      (with_cell shape cells f i x)
-  cell_regular i c x w sixteen t =
+  cell_grown : (i : ℕ) (c : Cell) (x : Fact) (w : List ℕ) → length cells ≤ 16 → TakesCell shape cells f w i c x
+      → MoreAll (44 + i) (with_cell shape cells f i x) w
+  cell_grown i c x w sixteen t =
       let below : i < length cells = t.below in
       let order : f.least ≤ 43 + i = t.order in
-      let keys = numbered_cells shape.kind 0 cells in
       let place = tracked_before shape.kind i cells in
-      let after = cells_before_next shape.kind cells i c t.there t.own in
-      let next : tracked_before shape.kind (44 + i - 43) cells ≡ suc place = ap (λ n. tracked_before shape.kind n cells) (plus i) ∙ after in
-      record {
-        few = omega arith;
-        regs = h.regs;
-        regs_left = later_regs (44 + i) (omega arith);
-        pairs = h.pairs;
-        pairs_left = later_pairs (44 + i) (omega arith);
-        flags = h.flags;
-        flags_left = later_flags (44 + i) (omega arith);
-        slots = h.slots;
-        stack = h.stack;
-        stack_left = λ l. absurd (omega arith);
-        tracked_cells = each_set (λ p x. FactIn (cell_form shape p.1) x) keys f.cells.items place (0 + i, c) x h.tracked_cells
-            (cell_number shape.kind cells i 0 c t.there t.own) t.fits;
-        cells_left =
-            ap (λ n. drop n (slice_set f.cells.items place x)) next ∙ drop_set f.cells.items place x
-            ∙ ap (λ n. drop n f.cells.items) (sym next) ∙ later_cells (44 + i) (omega arith);
-        top = h.top;
-        top_left = λ l. h.top_left (omega arith);
-        temp = h.temp;
-        temp_left = λ l. h.temp_left (omega arith);
-        next_few = h.next_few;
-        next_there = h.next_there;
-        next_rise = h.next_rise;
-        next_after = h.next_after;
-        next_left = λ l. h.next_left (omega arith);
-        plain_pairs = h.plain_pairs;
-        plain_next = h.plain_next;
-        untimed = h.untimed;
-      }
+      let next : tracked_before shape.kind (44 + i - 43) cells ≡ suc place =
+      ap (λ n. tracked_before shape.kind n cells) (plus i) ∙ cells_before_next shape.kind cells i c t.there t.own in
+      let g = option_more (cells_list shape cells) (cells_options shape cells) f.least (44 + i) place (0 + i, c) x f.cells.items
+      fit.1.1.1.1.0 (cell_number shape.kind cells i 0 c t.there t.own)
+      (cells_before_rise shape.kind cells (f.least - 43) i (omega arith)) next t.fits t.other in
+      in_cells (44 + i) _ w (omega arith)
+      (here (option_section (cells_list shape cells)) (from_top shape cells) are.1.1.1.1.1 f.least (44 + i) 59 f.cells.items
+      (slice_set f.cells.items place x) _ w (lit≤ tt, (lit≤ tt, lit≤ tt)) (omega arith) (omega arith) fit.1.1.1.1.1 g.0
+      (spoken (cell_items shape.kind 0 cells f.cells.items) g.1 (t.word ∙ ap (λ n. cell_word (n, c) x) (sym (none_more i)))))
     where
       plus : (i : ℕ) → 44 + i - 43 ≡ suc i
       plus i = omega arith
 
-  top_regular : (top : ℕ) (w : List ℕ) → TakesTop shape f w top → Regular shape cells (with_top f top)
-  top_regular top w t =
+      none_more : (i : ℕ) → 0 + i ≡ i
+      none_more i = omega arith
+
+  top_grown : (top : ℕ) (w : List ℕ) → TakesTop shape f w top → MoreAll 60 (with_top f top) w
+  top_grown top w t =
       let order : f.least ≤ 59 = t.order in
-      record {
-        few = lit≤ tt;
-        regs = h.regs;
-        regs_left = later_regs 60 (omega arith);
-        pairs = h.pairs;
-        pairs_left = later_pairs 60 (omega arith);
-        flags = h.flags;
-        flags_left = later_flags 60 (omega arith);
-        slots = h.slots;
-        stack = h.stack;
-        stack_left = λ l. absurd (omega arith);
-        tracked_cells = h.tracked_cells;
-        cells_left = later_cells 60 (omega arith);
-        top = t.fits;
-        top_left = λ l. absurd (omega arith);
-        temp = h.temp;
-        temp_left = λ l. h.temp_left (omega arith);
-        next_few = h.next_few;
-        next_there = h.next_there;
-        next_rise = h.next_rise;
-        next_after = h.next_after;
-        next_left = λ l. h.next_left (omega arith);
-        plain_pairs = h.plain_pairs;
-        plain_next = h.plain_next;
-        untimed = λ u. absurd (true_not shape.timed t.timed u);
-      }
+      let s = fit.1.1.1.1.1.0 in
+      in_top 60 _ w (omega arith)
+      (here (top_section shape cells) (from_temp shape cells) are.1.1.1.1.1.1 f.least 60 60 f.top top _ w (lit≤ tt, lit≤ tt) (omega arith)
+      (omega arith) fit.1.1.1.1.1.1 (t.fits, λ l. absurd (omega arith))
+      (else_so (is_default_top top) [] (item (codes "top") (decimal top) ∷ []) t.other ∙ ap (λ v. v ∷ []) (sym t.word)
+      ∙ ap (λ ws. ws ++ w ∷ []) (sym (ap top_items (s.1 order)))))
 
-  temp_regular : (temp : Ends) (w : List ℕ) → TakesTemp shape f w temp → Regular shape cells (with_temp f temp)
-  temp_regular temp w t =
+  temp_grown : (temp : Ends) (w : List ℕ) → TakesTemp shape f w temp → MoreAll 61 (with_temp f temp) w
+  temp_grown temp w t =
       let order : f.least ≤ 60 = t.order in
-      record {
-        few = lit≤ tt;
-        regs = h.regs;
-        regs_left = later_regs 61 (omega arith);
-        pairs = h.pairs;
-        pairs_left = later_pairs 61 (omega arith);
-        flags = h.flags;
-        flags_left = later_flags 61 (omega arith);
-        slots = h.slots;
-        stack = h.stack;
-        stack_left = λ l. absurd (omega arith);
-        tracked_cells = h.tracked_cells;
-        cells_left = later_cells 61 (omega arith);
-        top = h.top;
-        top_left = λ l. absurd (omega arith);
-        temp = t.fits.range;
-        temp_left = λ l. absurd (omega arith);
-        next_few = h.next_few;
-        next_there = h.next_there;
-        next_rise = h.next_rise;
-        next_after = h.next_after;
-        next_left = λ l. absurd (omega arith);
-        plain_pairs = h.plain_pairs;
-        plain_next = h.plain_next;
-        untimed = λ u. absurd (true_not shape.timed t.timed u);
-      }
+      let s = fit.1.1.1.1.1.1.0 in
+      in_temp 61 _ w (omega arith)
+      (here (temp_section shape cells) (from_next shape cells) are.1.1.1.1.1.1.1 f.least 61 60 f.temp temp _ w (lit≤ tt) order (omega arith)
+      fit.1.1.1.1.1.1.1 (t.fits.range, λ l. absurd (omega arith))
+      (else_so (is_default_temp temp) [] (item (codes "temp") (range_word temp) ∷ []) (part_not_whole 255 temp t.fits)
+      ∙ ap (λ v. v ∷ []) (sym t.word) ∙ ap (λ ws. ws ++ w ∷ []) (sym (ap temp_items (s.1 order)))))
 
-  successor_regular : (id : ℕ) (w : List ℕ) → TakesSuccessor shape f w id → Regular shape cells (with_successor f id)
-  successor_regular id w t =
+  successor_grown : (id : ℕ) (w : List ℕ) → TakesSuccessor shape f w id → MoreAll 61 (with_successor f id) w
+  successor_grown id w t =
       let room : length f.next.items < 16 = t.room in
-      record {
-        few = lit≤ tt;
-        regs = h.regs;
-        regs_left = later_regs 61 h.few;
-        pairs = h.pairs;
-        pairs_left = later_pairs 61 h.few;
-        flags = h.flags;
-        flags_left = later_flags 61 h.few;
-        slots = h.slots;
-        stack = h.stack;
-        stack_left = λ l. absurd (omega arith);
-        tracked_cells = h.tracked_cells;
-        cells_left = later_cells 61 h.few;
-        top = h.top;
-        top_left = λ l. absurd (omega arith);
-        temp = h.temp;
-        temp_left = λ l. absurd (omega arith);
-        next_few = omega (arith, length-append f.next.items (id ∷ []));
-        next_there = All-append (λ n. n < shape.points) f.next.items (id ∷ []) h.next_there (All-cons (λ n. n < shape.points) id [] t.there
-            (All-nil (λ n. n < shape.points)));
-        next_rise = rises_more 0 f.next.items id h.next_rise (subst (λ n. n ≤ id) h.next_after t.order);
-        next_after = after_more 0 f.next.items id;
-        next_left = λ l. absurd (omega arith);
-        plain_pairs = h.plain_pairs;
-        plain_next = λ p. absurd (true_not shape.plain p t.whole);
-        untimed = h.untimed;
-      }
-
-  -- and its word is the last that is spelled
-
-  register_spelled : (r : ℕ) (x : Fact) (w : List ℕ) → TakesRegister shape f w r x
-      → spelled shape.kind cells (with_register f r x) ≡ spelled shape.kind cells f ++ w ∷ []
-  register_spelled r x w t =
-      let tail = pair_items letters_of_pairs f.pairs ++ (flag_items shape.kind letters_of_flags f.flags ++ (slot_items f.stack.items
-      ++ (cell_items shape.kind 0 cells f.cells.items ++ timer_and_next f))) in
-      let order : f.least ≤ r = t.order in
-      let there : r < 32 = t.there in
-      ap (λ ws. ws ++ tail) (regs_more r x there order t.other ∙ ap (λ v. register_items shape.kind 0 f.regs ++ v ∷ []) (sym t.word))
-      ∙ last_in (register_items shape.kind 0 f.regs) tail w (from_pairs (omega arith))
-
-  pair_spelled : (k letter : ℕ) (x : PairFact) (w : List ℕ) (later : List (List ℕ)) → slice_get letters_of_pairs k ≡ Some letter
-      → w ≡ pair_item letter x
-      → TakesPair shape f w later k x → spelled shape.kind cells (with_pair f k x) ≡ spelled shape.kind cells f ++ w ∷ []
-  pair_spelled k letter x w later at is t =
-      let regs = register_items shape.kind 0 f.regs in
-      let pairs = pair_items letters_of_pairs f.pairs in
-      let tail = flag_items shape.kind letters_of_flags f.flags ++ (slot_items f.stack.items
-      ++ (cell_items shape.kind 0 cells f.cells.items ++ timer_and_next f)) in
-      let order : f.least ≤ 32 + k = t.order in
-      let there : k < 3 = t.there in
-      behind regs (pairs ++ tail) (pair_items letters_of_pairs (slice_set f.pairs k x) ++ tail) w
-      (ap (λ ws. ws ++ tail) (pairs_more k letter x at order t.other ∙ ap (λ v. pairs ++ v ∷ []) (sym is)) ∙ last_in pairs tail w
-      (from_flags (omega arith)))
-
-  flag_spelled : (b letter : ℕ) (x : Bit) (w : List ℕ) (later : List (List ℕ)) → slice_get letters_of_flags b ≡ Some letter → w ≡ flag_item
-      letter x
-      → TakesFlag shape f w later b x → spelled shape.kind cells (with_flag f b x) ≡ spelled shape.kind cells f ++ w ∷ []
-  flag_spelled b letter x w later at is t =
-      let regs = register_items shape.kind 0 f.regs in
-      let pairs = pair_items letters_of_pairs f.pairs in
-      let flags = flag_items shape.kind letters_of_flags f.flags in
-      let more = flag_items shape.kind letters_of_flags (slice_set f.flags b x) in
-      let tail = slot_items f.stack.items ++ (cell_items shape.kind 0 cells f.cells.items ++ timer_and_next f) in
-      let order : f.least ≤ 35 + b = t.order in
-      let there : b < 7 = t.there in
-      behind regs (pairs ++ (flags ++ tail)) (pairs ++ (more ++ tail)) w
-      (behind pairs (flags ++ tail) (more ++ tail) w
-      (ap (λ ws. ws ++ tail) (flags_more b letter x at order t.other ∙ ap (λ v. flags ++ v ∷ []) (sym is)) ∙ last_in flags tail w
-      (from_slots (omega arith))))
-
-  slots_more : (x : Fact) → slot_items (f.stack.items ++ x ∷ []) ≡ slot_items f.stack.items ++ (codes "s:" ++ fact_word x) ∷ []
-  slots_more x = map-append (λ y. codes "s:" ++ fact_word y) f.stack.items (x ∷ [])
-
-  slot_spelled : (x : Fact) (w : List ℕ) → TakesSlot shape f w x → spelled shape.kind cells (with_slot f x) ≡ spelled shape.kind cells f
-      ++ w ∷ []
-  slot_spelled x w t =
-      let regs = register_items shape.kind 0 f.regs in
-      let pairs = pair_items letters_of_pairs f.pairs in
-      let flags = flag_items shape.kind letters_of_flags f.flags in
-      let slots = slot_items f.stack.items in
-      let more = slot_items (f.stack.items ++ x ∷ []) in
-      let tail = cell_items shape.kind 0 cells f.cells.items ++ timer_and_next f in
-      let order : f.least ≤ 42 = t.order in
-      behind regs (pairs ++ (flags ++ (slots ++ tail))) (pairs ++ (flags ++ (more ++ tail))) w
-      (behind pairs (flags ++ (slots ++ tail)) (flags ++ (more ++ tail)) w
-      (behind flags (slots ++ tail) (more ++ tail) w
-      (ap (λ ws. ws ++ tail) (slots_more x ∙ ap (λ v. slots ++ v ∷ []) (sym t.word)) ∙ last_in slots tail w (from_cells (omega arith)))))
-
-  cell_spelled : (i : ℕ) (c : Cell) (x : Fact) (w : List ℕ) → length cells ≤ 16 → TakesCell shape cells f w i c x
-      → spelled shape.kind cells (with_cell shape cells f i x) ≡ spelled shape.kind cells f ++ w ∷ []
-  cell_spelled i c x w sixteen t =
-      let regs = register_items shape.kind 0 f.regs in
-      let pairs = pair_items letters_of_pairs f.pairs in
-      let flags = flag_items shape.kind letters_of_flags f.flags in
-      let slots = slot_items f.stack.items in
-      let facts = cell_items shape.kind 0 cells f.cells.items in
-      let more = cell_items shape.kind 0 cells (slice_set f.cells.items (tracked_before shape.kind i cells) x) in
-      let tail = timer_and_next f in
-      let order : f.least ≤ 43 + i = t.order in
-      let below : i < length cells = t.below in
-      behind regs (pairs ++ (flags ++ (slots ++ (facts ++ tail)))) (pairs ++ (flags ++ (slots ++ (more ++ tail)))) w
-      (behind pairs (flags ++ (slots ++ (facts ++ tail))) (flags ++ (slots ++ (more ++ tail))) w
-      (behind flags (slots ++ (facts ++ tail)) (slots ++ (more ++ tail)) w
-      (behind slots (facts ++ tail) (more ++ tail) w
-      (ap (λ ws. ws ++ tail) (cells_more i c x t.there t.own order t.other ∙ ap (λ v. facts ++ v ∷ []) (sym t.word))
-      ∙ last_in facts tail w (from_top (omega arith))))))
-
-  -- the same behind the items of registers to cells
-  behind_cells : (old new : List (List ℕ)) (w : List ℕ) → new ≡ old ++ w ∷ []
-      → register_items shape.kind 0 f.regs ++ (pair_items letters_of_pairs f.pairs ++ (flag_items shape.kind letters_of_flags f.flags
-      ++ (slot_items f.stack.items ++ (cell_items shape.kind 0 cells f.cells.items ++ new))))
-      ≡ (register_items shape.kind 0 f.regs ++ (pair_items letters_of_pairs f.pairs ++ (flag_items shape.kind letters_of_flags f.flags
-      ++ (slot_items f.stack.items ++ (cell_items shape.kind 0 cells f.cells.items ++ old))))) ++ w ∷ []
-  behind_cells old new w e =
-      let regs = register_items shape.kind 0 f.regs in
-      let pairs = pair_items letters_of_pairs f.pairs in
-      let flags = flag_items shape.kind letters_of_flags f.flags in
-      let slots = slot_items f.stack.items in
-      let facts = cell_items shape.kind 0 cells f.cells.items in
-      behind regs (pairs ++ (flags ++ (slots ++ (facts ++ old)))) (pairs ++ (flags ++ (slots ++ (facts ++ new)))) w
-      (behind pairs (flags ++ (slots ++ (facts ++ old))) (flags ++ (slots ++ (facts ++ new))) w
-      (behind flags (slots ++ (facts ++ old)) (slots ++ (facts ++ new)) w
-      (behind slots (facts ++ old) (facts ++ new) w
-      (behind facts old new w e))))
-
-  top_spelled : (top : ℕ) (w : List ℕ) → TakesTop shape f w top → spelled shape.kind cells (with_top f top) ≡ spelled shape.kind cells f
-      ++ w ∷ []
-  top_spelled top w t =
-      let said = top_items f.top in
-      let tail = temp_items f.temp ++ successor_items f.next.items in
-      let order : f.least ≤ 59 = t.order in
-      let word : top_items top ≡ w ∷ [] =
-      else_so (is_default_top top) [] (item (codes "top") (decimal top) ∷ []) t.other ∙ ap (λ v. v ∷ []) (sym t.word) in
-      behind_cells (said ++ tail) (top_items top ++ tail) w
-      (ap (λ ws. ws ++ tail) (word ∙ ap (λ ws. ws ++ w ∷ []) (sym (top_nothing order))) ∙ last_in said tail w (from_temp (omega arith)))
-
-  temp_spelled : (temp : Ends) (w : List ℕ) → TakesTemp shape f w temp → spelled shape.kind cells (with_temp f temp)
-      ≡ spelled shape.kind cells f ++ w ∷ []
-  temp_spelled temp w t =
-      let top = top_items f.top in
-      let said = temp_items f.temp in
-      let next = successor_items f.next.items in
-      let order : f.least ≤ 60 = t.order in
-      let word : temp_items temp ≡ w ∷ [] =
-      else_so (is_default_temp temp) [] (item (codes "temp") (range_word temp) ∷ []) (part_not_whole 255 temp t.fits)
-      ∙ ap (λ v. v ∷ []) (sym t.word) in
-      behind_cells (top ++ (said ++ next)) (top ++ (temp_items temp ++ next)) w
-      (behind top (said ++ next) (temp_items temp ++ next) w
-      (ap (λ ws. ws ++ next) (word ∙ ap (λ ws. ws ++ w ∷ []) (sym (temp_nothing order))) ∙ last_in said next w (next_nothing (omega arith))))
-
-  successor_spelled : (id : ℕ) (w : List ℕ) → TakesSuccessor shape f w id → spelled shape.kind cells (with_successor f id) ≡ spelled
-      shape.kind cells f ++ w ∷ []
-  successor_spelled id w t =
-      let top = top_items f.top in
-      let temp = temp_items f.temp in
-      let ids = successor_items f.next.items in
-      let more = successor_items (f.next.items ++ id ∷ []) in
-      behind_cells (top ++ (temp ++ ids)) (top ++ (temp ++ more)) w
-      (behind top (temp ++ ids) (temp ++ more) w
-      (behind temp ids more w
-      (map-append (λ n. 62 ∷ decimal n) f.next.items (id ∷ []) ∙ ap (λ v. ids ++ v ∷ []) (sym t.word))))
+      let s = fit.1.1.1.1.1.1.1 in
+      in_temp 61 _ w h.few
+      (behind (temp_section shape cells) (from_next shape cells) are.1.1.1.1.1.1.0 f.least 61 f.temp _ _ w h.few fit.1.1.1.1.1.1.0 (record {
+        fit = (
+          omega (arith, length-append f.next.items (id ∷ [])),
+          All-append (λ n. n < shape.points) f.next.items (id ∷ []) s.1 (All-cons (λ n. n < shape.points) id [] t.there
+              (All-nil (λ n. n < shape.points))),
+          rises_more 0 f.next.items id s.2 (subst (λ n. n ≤ id) s.3 t.order),
+          after_more 0 f.next.items id,
+          λ l. absurd (omega arith),
+        );
+        words = spoken (successor_items f.next.items) (map-append (λ n. 62 ∷ decimal n) f.next.items (id ∷ [])) t.word;
+      }))
 
   -- whatever item is taken
 
@@ -668,42 +397,92 @@ module _ (shape : Shape) (cells : List Cell) (f : Facts) (h : Regular shape cell
   at_same : (w : List ℕ) (a more : Facts) → more ≡ a → OneMore w a → OneMore w more
   at_same w a more e o = subst (λ (x : Facts). OneMore w x) (sym e) o
 
+  pair_more : (k letter : ℕ) (x : PairFact) (w : List ℕ) (later : List (List ℕ)) → slice_get letters_of_pairs k ≡ Some letter
+      → w ≡ pair_item letter x → TakesPair shape f w later k x → OneMore w (with_pair f k x)
+  pair_more k letter x w later at is t =
+      let g = pair_grown k letter x w later at is t in
+      let there : k < 3 = t.there in (
+        record {
+          few = omega arith;
+          fit = g.fit;
+          plain_pairs = λ p. absurd (true_not shape.plain p t.whole);
+          plain_next = h.plain_next;
+          untimed = h.untimed;
+        },
+        g.words,
+      )
+
+  flag_more : (b letter : ℕ) (x : Bit) (w : List ℕ) (later : List (List ℕ)) → slice_get letters_of_flags b ≡ Some letter
+      → w ≡ flag_item letter x → TakesFlag shape f w later b x → OneMore w (with_flag f b x)
+  flag_more b letter x w later at is t =
+      let g = flag_grown b letter x w later at is t in
+      let there : b < 7 = t.there in (
+        record { few = omega arith; fit = g.fit; plain_pairs = h.plain_pairs; plain_next = h.plain_next; untimed = h.untimed },
+        g.words,
+      )
+
   pair_at : (k : ℕ) (x : PairFact) (w : List ℕ) (later : List (List ℕ)) → TakesPair shape f w later k x → OneMore w (with_pair f k x)
-  pair_at zero x w later t = (pair_regular 0 120 x w later refl t, pair_spelled 0 120 x w later refl t.word t)
-  pair_at (suc zero) x w later t = (pair_regular 1 121 x w later refl t, pair_spelled 1 121 x w later refl t.word t)
-  pair_at (suc (suc zero)) x w later t = (pair_regular 2 122 x w later refl t, pair_spelled 2 122 x w later refl t.word t)
+  pair_at zero x w later t = pair_more 0 120 x w later refl t.word t
+  pair_at (suc zero) x w later t = pair_more 1 121 x w later refl t.word t
+  pair_at (suc (suc zero)) x w later t = pair_more 2 122 x w later refl t.word t
   pair_at (suc (suc (suc k))) x w later t = absurd (past k t.there)
     where
       past : (k : ℕ) → suc (suc (suc k)) < 3 → ⊥
       past k h = omega arith
 
   flag_at : (b : ℕ) (x : Bit) (w : List ℕ) (later : List (List ℕ)) → TakesFlag shape f w later b x → OneMore w (with_flag f b x)
-  flag_at zero x w later t = (flag_regular 0 99 x w later refl t, flag_spelled 0 99 x w later refl t.word t)
-  flag_at (suc zero) x w later t = (flag_regular 1 122 x w later refl t, flag_spelled 1 122 x w later refl t.word t)
-  flag_at (suc (suc zero)) x w later t = (flag_regular 2 110 x w later refl t, flag_spelled 2 110 x w later refl t.word t)
-  flag_at (suc (suc (suc zero))) x w later t = (flag_regular 3 118 x w later refl t, flag_spelled 3 118 x w later refl t.word t)
-  flag_at (suc (suc (suc (suc zero)))) x w later t = (flag_regular 4 115 x w later refl t, flag_spelled 4 115 x w later refl t.word t)
-  flag_at (suc (suc (suc (suc (suc zero))))) x w later t = (flag_regular 5 104 x w later refl t, flag_spelled 5 104 x w later refl t.word t)
-  flag_at (suc (suc (suc (suc (suc (suc zero)))))) x w later t = (
-    flag_regular 6 116 x w later refl t,
-    flag_spelled 6 116 x w later refl
-        t.word t,
-  )
+  flag_at zero x w later t = flag_more 0 99 x w later refl t.word t
+  flag_at (suc zero) x w later t = flag_more 1 122 x w later refl t.word t
+  flag_at (suc (suc zero)) x w later t = flag_more 2 110 x w later refl t.word t
+  flag_at (suc (suc (suc zero))) x w later t = flag_more 3 118 x w later refl t.word t
+  flag_at (suc (suc (suc (suc zero)))) x w later t = flag_more 4 115 x w later refl t.word t
+  flag_at (suc (suc (suc (suc (suc zero))))) x w later t = flag_more 5 104 x w later refl t.word t
+  flag_at (suc (suc (suc (suc (suc (suc zero)))))) x w later t = flag_more 6 116 x w later refl t.word t
   flag_at (suc (suc (suc (suc (suc (suc (suc b))))))) x w later t = absurd (past b t.there)
     where
       past : (b : ℕ) → suc (suc (suc (suc (suc (suc (suc b)))))) < 7 → ⊥
       past b h = omega arith
 
+  kept : (n : ℕ) (more : Facts) (w : List ℕ) → more.least ≡ n → n ≤ 61 → MoreAll n more w → more.pairs ≡ f.pairs → more.next.items ≡ f.next.items
+      → (shape.timed ≡ false → (more.top ≡ scanline - 1) × (more.temp ≡ whole_byte)) → OneMore w more
+  kept n more w e few g ps ns u = (
+    record {
+      few = subst (λ m. m ≤ 61) (sym e) few;
+      fit = subst (λ m. FitAll (all_items shape cells) m (values shape cells more)) (sym e) g.fit;
+      plain_pairs = λ p. ps ∙ h.plain_pairs p;
+      plain_next = λ p. ns ∙ h.plain_next p;
+      untimed = u;
+    },
+    g.words,
+  )
+
   pub one_more : (w : List ℕ) (later : List (List ℕ)) (more : Facts) → length cells ≤ 16 → Taken shape cells f w later more → OneMore w more
-  one_more w later more s (register r x t e) = at_same w (with_register f r x) more e (register_regular r x w t, register_spelled r x w t)
+  one_more w later more s (register r x t e) =
+      let there : r < 32 = t.there in
+      at_same w (with_register f r x) more e (kept (r + 1) (with_register f r x) w refl (omega arith) (register_grown r x w t) refl refl h.untimed)
   one_more w later more s (pair k x t e) = at_same w (with_pair f k x) more e (pair_at k x w later t)
   one_more w later more s (flag b x t e) = at_same w (with_flag f b x) more e (flag_at b x w later t)
-  one_more w later more s (slot x t e) = at_same w (with_slot f x) more e (slot_regular x w t, slot_spelled x w t)
-  one_more w later more s (cell i c x t e) = at_same w (with_cell shape cells f i x) more e (
-    cell_regular i c x w s t,
-    cell_spelled i c x w
-        s t,
-  )
-  one_more w later more s (timer_top top t e) = at_same w (with_top f top) more e (top_regular top w t, top_spelled top w t)
-  one_more w later more s (timer_temp temp t e) = at_same w (with_temp f temp) more e (temp_regular temp w t, temp_spelled temp w t)
-  one_more w later more s (successor id t e) = at_same w (with_successor f id) more e (successor_regular id w t, successor_spelled id w t)
+  one_more w later more s (slot x t e) =
+      at_same w (with_slot f x) more e (kept 42 (with_slot f x) w refl (lit≤ tt) (slot_grown x w t) refl refl h.untimed)
+  one_more w later more s (cell i c x t e) =
+      let below : i < length cells = t.below in
+      at_same w (with_cell shape cells f i x) more e
+      (kept (44 + i) (with_cell shape cells f i x) w refl (omega (arith, s)) (cell_grown i c x w s t) refl refl h.untimed)
+  one_more w later more s (timer_top top t e) =
+      at_same w (with_top f top) more e (kept 60 (with_top f top) w refl (lit≤ tt) (top_grown top w t) refl refl
+      (λ u. absurd (true_not shape.timed t.timed u)))
+  one_more w later more s (timer_temp temp t e) =
+      at_same w (with_temp f temp) more e (kept 61 (with_temp f temp) w refl (lit≤ tt) (temp_grown temp w t) refl refl
+      (λ u. absurd (true_not shape.timed t.timed u)))
+  one_more w later more s (successor id t e) =
+      let g = successor_grown id w t in
+      at_same w (with_successor f id) more e (
+        record {
+          few = lit≤ tt;
+          fit = g.fit;
+          plain_pairs = h.plain_pairs;
+          plain_next = λ p. absurd (true_not shape.plain p t.whole);
+          untimed = h.untimed;
+        },
+        g.words,
+      )

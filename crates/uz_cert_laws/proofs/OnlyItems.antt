@@ -4,7 +4,6 @@ use Rattle.std.proofs.Common.{◌∷◌, ◌++◌, map, length, take, drop, get_
 use Rattle.std.proofs.Common.{append_assoc, append-nil, arith}
 use Rattle.std.specs.Prelude.{Ok, All, slice_set}
 use Rattle.std.proofs.lemmas.List.Elements.{All-nil, All-head, All-tail}
-use Rattle.std.proofs.lemmas.List.{length-map}
 use Rattle.std.proofs.lemmas.Fmt.{decimal_digit}
 use Rattle.uz_schedule.specs.Ends.{Ends}
 use Rattle.uz_schedule.specs.Tracked.{tracks}
@@ -19,24 +18,24 @@ use Rattle.uz_schedule.specs.declared.facts.PairFact.TheVariants.{Any as AnyPair
 use Rattle.uz_schedule.specs.declared.facts.PairFact.TheVariants.{Loop as LoopPair}
 use Rattle.uz_schedule.specs.declared.facts.Bit.{Bit}
 use Rattle.uz_cert_words.specs.Grammar.{Words}
-use Rattle.uz_cert_lines.specs.Defaults.{is_default}
 use Rattle.uz_cert_words.specs.FlagNames.{names_c_or_z, any_names}
-use Rattle.uz_cert_lines.specs.Items.{first_facts, default_regs, default_flag, is_handler, bytes_forms, pair_forms}
+use Rattle.uz_cert_lines.specs.Items.{first_facts, default_flag, is_handler, bytes_forms, pair_forms}
 use Rattle.uz_cert_lines.specs.Items.{is_flag_z, tracked_count, take_item, items_from, read_items}
 use Rattle.uz_cert_words.specs.declared.values.FactForms.{FactForms}
 use Rattle.uz_cert_lines.specs.declared.items.Shape.{Shape}
 use Rattle.uz_cert_lines.specs.declared.items.Facts.{Facts}
 use Rattle.uz_cert_words.specs.declared.why.CertWhy.TheVariants as why
-use Rattle.uz_cert_writer.specs.Spelling.{range_word, fact_word, pair_word, flag_word, register_items}
+use Rattle.uz_cert_writer.specs.Spelling.{range_word, fact_word, pair_word, flag_word}
 use Rattle.uz_cert_laws.proofs.Tests.{and_true, or_false, fine_is, fault_not, true_not, bind_ok, number_is, lt_is}
 use Rattle.uz_cert_laws.proofs.Facts.{FactIn, PairIn, BitIn, part_from}
-use Rattle.uz_cert_laws.proofs.Options.{Each, IsUsual, each_length, each_map, no_options}
-use Rattle.uz_cert_laws.proofs.Spelled.{count_from, registers, numbered_cells, register_word, usual_fact, usual_bit, usual_cell}
-use Rattle.uz_cert_laws.proofs.Spelled.{registers_are, registers_usual, cells_usual, register_default}
+use Rattle.uz_cert_laws.proofs.Options.{Each, each_length, each_map}
+use Rattle.uz_cert_laws.proofs.Spelled.{count_from, registers, numbered_cells, usual_fact, usual_bit, usual_cell}
+use Rattle.uz_cert_laws.proofs.Spelled.{registers_usual, cells_usual}
 use Rattle.uz_cert_laws.proofs.Taken.{with_pair, with_flag, TakesPair, TakesFlag, Taken, register, pair, flag, slot, cell, timer_top, timer_temp}
 use Rattle.uz_cert_laws.proofs.Taken.{successor, PlacesFit, cell_form, flag_letter, item_taken}
 use Rattle.uz_cert_laws.specs.Spells.{letters_of_pairs, letters_of_flags, spelled}
-use Rattle.uz_cert_laws.proofs.OneMore.{Regular, from_pairs, one_more}
+use Rattle.uz_cert_laws.proofs.OneMore.{Regular, all_items, values, are_sections, one_more}
+use Rattle.uz_cert_laws.proofs.Sections.{all_empty}
 
 -- the facts where nothing is said
 
@@ -96,49 +95,47 @@ first_regular shape cells h =
     let cs = cells_usual shape.kind 0 cells in
     record {
       few = lit≤ tt;
-      regs = subst (λ (x : List Fact). Each (λ r x. FactIn (bytes_forms shape) x) registers x) (sym rs)
-          (first_regs shape shape.kind refl h.whole);
-      regs_left = rs;
-      pairs = ((refl, lit< tt), ((refl, lit< tt), ((refl, lit< tt), tt)));
-      pairs_left = refl;
-      flags = each_map (λ l x. BitIn (is_handler shape.kind) x) (usual_bit shape.kind) letters_of_flags (λ l. first_bit shape.kind);
-      flags_left = refl;
-      slots = omega arith;
-      stack = All-nil (FactIn (bytes_forms shape));
-      stack_left = λ l. refl;
-      tracked_cells = subst (λ (x : List Fact). Each (λ p x. FactIn (cell_form shape p.1) x) (numbered_cells shape.kind 0 cells) x) (sym cs)
-          (first_cells shape shape.kind 0 cells h.ranges);
-      cells_left = ap (λ (x : List Fact). drop (tracked_count shape.kind (take 0 cells)) x) cs;
-      top = refl;
-      top_left = λ l. refl;
-      temp = record { order = lit≤ tt; high = lit≤ tt };
-      temp_left = λ l. refl;
-      next_few = lit≤ tt;
-      next_there = All-nil (λ id. id < shape.points);
-      next_rise = refl;
-      next_after = refl;
-      next_left = λ l. refl;
+      fit = (
+        (
+          subst (λ (x : List Fact). Each (λ r x. FactIn (bytes_forms shape) x) registers x) (sym rs)
+              (first_regs shape shape.kind refl h.whole),
+          rs,
+        ),
+        (
+          (((refl, lit< tt), ((refl, lit< tt), ((refl, lit< tt), tt))), refl),
+          (
+            (each_map (λ l x. BitIn (is_handler shape.kind) x) (usual_bit shape.kind) letters_of_flags (λ l. first_bit shape.kind), refl),
+            (
+              (omega arith, All-nil (FactIn (bytes_forms shape)), λ l. refl),
+              (
+                (
+                  subst (λ (x : List Fact). Each (λ p x. FactIn (cell_form shape p.1) x) (numbered_cells shape.kind 0 cells) x) (sym cs)
+                      (first_cells shape shape.kind 0 cells h.ranges),
+                  ap (λ (x : List Fact). drop (tracked_count shape.kind (take 0 cells)) x) cs,
+                ),
+                (
+                  (refl, λ l. refl),
+                  (
+                    (record { order = lit≤ tt; high = lit≤ tt }, λ l. refl),
+                    (lit≤ tt, All-nil (λ id. id < shape.points), refl, refl, λ l. refl),
+                  ),
+                ),
+              ),
+            ),
+          ),
+        ),
+      );
       plain_pairs = λ p. refl;
       plain_next = λ p. refl;
       untimed = λ u. (refl, refl);
     }
 
-none_append : (xs ys : List (List ℕ)) → xs ≡ [] → ys ≡ [] → xs ++ ys ≡ []
-none_append xs ys e f = ap (λ t. t ++ ys) e ∙ f
-
-first_regs_nothing : (kind : Kind) → register_items kind 0 (default_regs kind) ≡ []
-first_regs_nothing kind =
-    ap (register_items kind 0) (registers_usual kind)
-    ∙ registers_are kind 0 32 (map (usual_fact kind) registers) (length-map registers (usual_fact kind))
-    ∙ no_options (is_default kind) register_word registers (map (usual_fact kind) registers)
-    (each_map (IsUsual (is_default kind)) (usual_fact kind) registers (register_default kind))
-
 pub first_nothing : (shape : Shape) (cells : List Cell) → ShapeFits shape cells → spelled shape.kind cells (first_facts shape.kind cells)
     ≡ []
 unfolding first_facts
 first_nothing shape cells h =
-    none_append (register_items shape.kind 0 (default_regs shape.kind)) _ (first_regs_nothing shape.kind)
-    (from_pairs shape cells (first_facts shape.kind cells) (first_regular shape cells h) (lit≤ tt))
+    all_empty (all_items shape cells) (are_sections shape cells) 0 0 (values shape cells (first_facts shape.kind cells))
+    (lit≤ tt, (lit≤ tt, (lit≤ tt, (lit≤ tt, (lit≤ tt, (lit≤ tt, (lit≤ tt, lit≤ tt))))))) (lit≤ tt) (first_regular shape cells h).fit
 
 -- Z as a pair
 
@@ -265,7 +262,7 @@ module _ (shape : Shape) (cells : List Cell) (f : Facts) (h : Regular shape cell
   z_pair k x w ws t z one = by_place (decide k t.there)
     where
       three : 3 ≤ length f.pairs
-      three = omega (arith, each_length (λ l x. PairIn pair_forms x) letters_of_pairs f.pairs h.pairs)
+      three = omega (arith, each_length (λ l x. PairIn pair_forms x) letters_of_pairs f.pairs h.fit.1.0.0)
 
       decide : (k : ℕ) → k < 3 → (k < 2) ⊎ (k ≡ 2)
       decide zero l = inl (lit< tt)
@@ -289,7 +286,7 @@ module _ (shape : Shape) (cells : List Cell) (f : Facts) (h : Regular shape cell
   z_flag b x w ws t z one = by_place (decide b)
     where
       two : 2 ≤ length f.flags
-      two = omega (arith, each_length (λ l x. BitIn (is_handler shape.kind) x) letters_of_flags f.flags h.flags)
+      two = omega (arith, each_length (λ l x. BitIn (is_handler shape.kind) x) letters_of_flags f.flags h.fit.1.1.0.0)
 
       decide : (b : ℕ) → (b < 2) ⊎ (2 ≤ b)
       decide zero = inl (lit< tt)

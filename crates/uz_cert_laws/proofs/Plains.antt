@@ -1,12 +1,11 @@
 -- The words of spelled lines: each byte is above the space, so that a line is cut into its words again, and has no line end.
 use Rattle.std.proofs.Common.{◌≡◌, ◌≢◌, ℕ, suc, ◌+◌, ◌-◌, ◌<◌, ◌≤◌, ◌^◌, Bool, true, false, ◌&&◌, ◌||◌, cond, eqb, ltb, List, [], ◌∷◌, ◌++◌, length}
-use Rattle.std.proofs.Common.{map, All, codes, decimal, lit≤, refl, sym, ◌∙◌, ap, arith}
+use Rattle.std.proofs.Common.{map, All, codes, decimal, lit≤, refl, ◌∙◌, ap, arith}
 use Rattle.std.specs.Prelude.{⊤, ℤ, pos, negsuc}
-use Rattle.std.specs.List.{slice_split, onto_first, join_with_byte}
+use Rattle.std.specs.List.{slice_split, onto_first}
 use Rattle.std.proofs.lemmas.Bool.{eqb-true}
 use Rattle.std.proofs.lemmas.List.{length-map}
 use Rattle.std.proofs.lemmas.List.Elements.{All-head, All-tail, All-weaker, All-map}
-use Rattle.std.proofs.lemmas.List.Splits.{join_with_byte-slice_split}
 use Rattle.uz_text.proofs.Plain.{plain, EachPlain, Lacks, each_lacks, split_join, join_lacks, plain_append, plain_decimal}
 use Rattle.uz_text.proofs.Plain.{each_plain_append}
 use Rattle.uz_schedule.specs.Ends.{Ends}
@@ -70,10 +69,6 @@ pub words_again : (b : ℕ) (w : List ℕ) (ws : List (List ℕ)) → EachPlain 
 words_again b w ws h =
     let l = each_lacks 32 ((b ∷ w) ∷ ws) (lit≤ tt) h in
     words_some (line_of ((b ∷ w) ∷ ws)) (joined_some b w ws) ∙ (cut_split (line_of ((b ∷ w) ∷ ws)) ∙ split_join 32 (b ∷ w) ws l.0 l.1)
-
-pub words_only : (text : List ℕ) (w : List ℕ) (ws : List (List ℕ)) → words_of text ≡ w ∷ ws → text ≡ line_of (w ∷ ws)
-words_only [] w ws e = absurd (cc e)
-words_only (b ∷ bs) w ws e = sym (join_with_byte-slice_split 32 (b ∷ bs)) ∙ ap (join_with_byte 32) (sym (cut_split (b ∷ bs)) ∙ e)
 
 -- a line of such words has no line end
 pub line_lacks : (ws : List (List ℕ)) → EachPlain ws → Lacks 10 (line_of ws)

@@ -96,11 +96,6 @@ so t r s e = ap (λ b. cond b r s) e
 pub else_so : {A : Type 0} (t : Bool) (r s : A) → t ≡ false → cond t r s ≡ s
 else_so t r s e = ap (λ b. cond b r s) e
 
--- one of two answers, by a test
-pub chosen : {A : Type 0} (t : Bool) (r s x : A) → cond t r s ≡ x → ((t ≡ true) × (r ≡ x)) ⊎ ((t ≡ false) × (s ≡ x))
-chosen true r s x e = inl (refl, e)
-chosen false r s x e = inr (refl, e)
-
 -- a step, and then another
 pub bind_ok : {A B : Type 0} (m : Result A CertWhy) (f : A → Result B CertWhy) (b : B)
     → m >>= f ≡ Ok b → (a : A) × (m ≡ Ok a) × (f a ≡ Ok b)
