@@ -11,7 +11,7 @@ import os
 import sys
 import tempfile
 
-from outcomes import TOP, Outcomes, program, run
+from outcomes import TOP, Outcomes, binary, program, run
 
 CASES = os.path.join(TOP, 'crates', 'command_cases')
 CHANGED = [0, 10, 13, ord('7'), 255]  # what stands in place of a byte
@@ -259,7 +259,7 @@ class Outside:
 
 
 def main():
-    path = program(sys.argv[1:], __doc__)
+    path = binary(program(sys.argv[1:], __doc__))
     outcomes = Outcomes()
     with tempfile.TemporaryDirectory() as base:
         rows = Rows(path, base, outcomes)
