@@ -21,7 +21,7 @@ use Rattle.uz_cert.specs.declared.due.Due.{Due}
 use Rattle.uz_cert.specs.declared.draft.Draft.{Draft}
 use Rattle.uz_cert.specs.declared.errors.CertError.{CertError}
 use Rattle.uz_cert.proofs.KeptLaws.{first_kept, kept_after}
-use Rattle.uz_cert.proofs.Onward.{LineSpelling}
+use Rattle.uz_cert.proofs.Lines.{LineSpelling}
 use Rattle.uz_cert.proofs.TextLaws.{told, says_ok, fault_ok, same_cert}
 use Rattle.uz_cert.proofs.Whole.{whole_fits}
 

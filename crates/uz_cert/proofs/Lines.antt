@@ -1,115 +1,58 @@
 -- A line that fits where it is due has plain words: it is cut into them again, and has no line end.
 use Rattle.std.proofs.Common.{◌≡◌, ℕ, ◌-◌, ◌<◌, ◌≤◌, ◌^◌, Bool, true, List, [], ◌∷◌, length, codes, decimal, lit≤, refl, sym, ◌∙◌, ap}
 use Rattle.std.proofs.Common.{subst, arith}
+use Rattle.std.specs.Prelude.{Some, Ok}
 use Rattle.std.proofs.lemmas.Fmt.{decimal_nonempty}
 use Rattle.uz_text.proofs.Plain.{EachPlain, Lacks}
-use Rattle.uz_schedule.specs.Limits.{clock_limit}
-use Rattle.uz_schedule.specs.WellFormed.{StackFits}
-use Rattle.uz_schedule.specs.declared.kinds.Response.{Response}
-use Rattle.uz_schedule.specs.declared.kinds.Response.TheVariants.{Four, Five}
-use Rattle.uz_schedule.specs.declared.header.Head.{Head}
-use Rattle.uz_cert_lines.specs.Lines.{SizesFit, KindLineFits}
-use Rattle.uz_cert_lines.specs.declared.lines.KindLine.{KindLine}
-use Rattle.uz_cert_lines.specs.declared.version.Version.{Version}
-use Rattle.uz_cert_lines.specs.declared.version.Version.TheVariants.{First, Second}
-use Rattle.uz_cert_lines.proofs.Lengths.{length_few}
-use Rattle.uz_cert_lines.specs.declared.lines.Run.{Run}
+use Rattle.uz_cert_words.specs.Grammar.{Words}
+use Rattle.uz_cert_lines.specs.Forms.{reads}
 use Rattle.uz_cert_lines.specs.declared.lines.Said.{Said}
 use Rattle.uz_cert_lines.specs.declared.lines.Said.TheVariants as said
-use Rattle.uz_cert_lines.specs.declared.lines.Sizes.{Sizes}
-use Rattle.uz_cert_lines.specs.declared.lines.StackLine.{StackLine}
-use Rattle.uz_cert_writer.specs.Spelling.{kind_words, line_of, run_words}
-use Rattle.uz_cert_laws.specs.Said.{line, sizes_words, response_words, stack_line_words, with_stack}
+use Rattle.uz_cert_writer.specs.Spelling.{line_of}
+use Rattle.uz_cert_laws.specs.Said.{line}
 use Rattle.uz_cert_laws.proofs.WordsOfLines.{words_only}
-use Rattle.uz_cert_laws.proofs.Plains.{words_again, line_lacks, plain_number, plain_cell_line, plain_event_line}
-use Rattle.uz_cert_laws.proofs.Plains.{plain_rest_line, plain_entry_line, plain_point_line}
+use Rattle.uz_cert_laws.proofs.Plains.{words_again, line_lacks}
+use Rattle.uz_cert_laws.proofs.FormLaws.{IsReadable, read_plain}
+use Rattle.uz_cert_laws.proofs.HeadLines.{size_sound, irq_sound, stack_sound, cell_sound}
+use Rattle.uz_cert_laws.proofs.ScheduleLines.{kind_sound, event_sound, fall_sound, run_sound}
+use Rattle.uz_cert_laws.proofs.RestLine.{rest_sound}
+use Rattle.uz_cert_laws.proofs.EntryLine.{entry_sound}
+use Rattle.uz_cert_laws.proofs.PointLine.{point_sound}
+use Rattle.uz_cert.specs.Drafts.{due_of, form_of}
 use Rattle.uz_cert.specs.Kept.{Kept, SaidFits}
 use Rattle.uz_cert.specs.Reading.{words_in}
-use Rattle.uz_cert.specs.SaidLines.{said_words}
+use Rattle.uz_cert.specs.SaidLines.{due_as, said_words}
+use Rattle.uz_cert.specs.declared.due.Due.{Due}
+use Rattle.uz_cert.specs.declared.due.Due.TheVariants as due
 use Rattle.uz_cert.specs.declared.draft.Draft.{Draft}
-use Rattle.uz_cert.proofs.KeptLaws.{length_in}
-use Rattle.uz_cert.proofs.LineLimits.{places}
+use Rattle.uz_cert.proofs.LineLimits.{places, kinds_few, lines_left, clocks_few}
 
--- lines of plain words
+-- what is known of one line where it is due
+pub record LineSpelling : Type 0 where
+  pub again : (d : Draft) (s : Said) → Kept d → due_of d ≡ Some (due_as s) → SaidFits d s
+      → reads (form_of d (due_as s)) (line (said_words d.version d.head s)) ≡ Ok s
+  pub only : (d : Draft) (due : Due) (words : Words) (s : Said) → Kept d → due_of d ≡ Some due → reads (form_of d due) words ≡ Ok s
+      → (words ≡ line (said_words d.version d.head s)) × (due ≡ due_as s) × SaidFits d s
 
-plain_sizes : (s : Sizes) → SizesFit s → EachPlain (sizes_words s)
-plain_sizes s f =
-    let kinds = f.kinds_few in
-    let lines = f.lines_few in
-    let rests = f.rests_few in
-    let points = f.points_few in
-    let cells = f.cells_few in (
-      refl,
-      (
-        plain_number s.kinds (omega (arith, kinds)),
-        (
-          plain_number s.lines (omega (arith, lines)),
-          (
-            plain_number s.rests (omega (arith, lines, rests)),
-            (plain_number s.points (omega (arith, points)), (plain_number s.cells (omega (arith, cells)), tt)),
-          ),
-        ),
-      ),
-    )
+readable : (d : Draft) (kind : Due) → Kept d → IsReadable (form_of d kind)
+unfolding form_of
+readable d due.Size k = size_sound
+readable d due.Irq k = irq_sound
+readable d due.Stack k = stack_sound
+readable d due.Cell k = cell_sound d.head.lo d.head.hi d.cell_least
+readable d due.Kind k = kind_sound d.version
+readable d due.Event k = event_sound d.clocks d.event_least (clocks_few d k)
+readable d due.Fall k = fall_sound
+readable d due.Run k = run_sound d.sizes.kinds (d.sizes.lines - length d.lines) d.run_kind (kinds_few d k) (lines_left d k)
+readable d due.Rest k = rest_sound d.head d.sizes.lines d.sizes.points d.rest_least (places d k)
+readable d due.Entry k = entry_sound d.head d.sizes.lines d.sizes.points (places d k)
+readable d due.Point k = point_sound d.version d.head d.sizes.lines d.sizes.points d.left (places d k)
+readable d due.End k = (refl, tt)
 
-plain_response : (r : Response) → EachPlain (response_words r)
-plain_response Four = (refl, (plain_number 4 (omega arith), tt))
-plain_response Five = (refl, (plain_number 5 (omega arith), tt))
-
-plain_stack : (h : Head) (s : StackLine) → StackFits (with_stack h s) → EachPlain (stack_line_words s)
-plain_stack h s f =
-    let order = f.order in
-    let high = f.high in
-    let main = f.main in
-    let handler = f.handler in (
-      refl,
-      (
-        plain_number s.lo (omega (arith, order, high)),
-        (
-          plain_number s.hi (omega (arith, high)),
-          (plain_number s.main (omega (arith, main)), (plain_number s.handler (omega (arith, handler)), tt)),
-        ),
-      ),
-    )
-
-one_number : (word : List ℕ) (n most : ℕ) → most < 1048576 → n ≤ most → EachPlain (word ∷ []) → EachPlain (word ∷ decimal n ∷ [])
-one_number word n most low few h = (h.0, (plain_number n (omega (arith, low, few)), tt))
-
-plain_kind_line : (v : Version) (k : KindLine) → KindLineFits v k → EachPlain (kind_words v k.events k.clocks)
-plain_kind_line First k f =
-    let few = f.few in
-    let most = length_few k.clocks (length_in First k.clocks f.clocks) in
-    (refl, (plain_number k.events (omega (arith, few, most)), tt))
-plain_kind_line Second k f =
-    let few = f.few in
-    let most = length_few k.clocks (length_in Second k.clocks f.clocks) in
-    (refl, (plain_number k.events (omega (arith, few, most)), (plain_number k.clocks (omega (arith, most)), tt)))
-
-plain_run : (d : Draft) (r : Run) → Kept d → SaidFits d (said.Run r) → EachPlain (run_words (r.count, r.kind))
-plain_run d r k f =
-    let lines = k.sizes.lines_few in
-    let kinds = k.sizes.kinds_few in
-    let few = f.few in
-    let there = f.there in
-    (refl, (plain_number r.count (omega (arith, lines, few)), (plain_number r.kind (omega (arith, kinds, there)), tt)))
-
-plain_words : (d : Draft) (s : Said) → Kept d → SaidFits d s → EachPlain (said_words d.version d.head s)
-plain_words d (said.Size s) k f = plain_sizes s f.1
-plain_words d (said.Irq r) k f = plain_response r
-plain_words d (said.Stack s) k f = plain_stack d.head s f.1
-plain_words d (said.Cell c) k f = plain_cell_line d.head c f.fits
-plain_words d (said.Kind n) k f = plain_kind_line d.version n f.fits
-plain_words d (said.Event x) k f = plain_event_line x f.fits
-plain_words d (said.Fall n) k f =
-    let low = f.2 in
-    one_number (codes "fall") n (clock_limit - 1) (omega arith) (omega (arith, low)) (refl, tt)
-plain_words d (said.Run r) k f = plain_run d r k f
-plain_words d (said.Rest r) k f = plain_rest_line d.head d.sizes.lines d.sizes.points r k.sizes.lines_few k.sizes.points_few f.fits
-plain_words d (said.Entry x) k f =
-    plain_entry_line d.head d.sizes.lines d.sizes.points x k.sizes.lines_few k.sizes.points_few (places d k).few f.fits
-plain_words d (said.Point p) k f =
-    plain_point_line d.head d.sizes.lines d.sizes.points p k.sizes.lines_few k.sizes.points_few (places d k).few f.fits
-plain_words d said.End k f = (refl, tt)
+plain_words : (l : LineSpelling) (d : Draft) (s : Said) → Kept d → due_of d ≡ Some (due_as s) → SaidFits d s
+    → EachPlain (said_words d.version d.head s)
+plain_words l d s k is f =
+    read_plain (form_of d (due_as s)) (line (said_words d.version d.head s)) s (readable d (due_as s) k) (l.again d s k is f)
 
 -- the first word isn't empty
 
@@ -150,13 +93,14 @@ cut_again ws s p =
     subst (λ vs. words_in (line_of vs) true ≡ line vs) (sym s.3)
     (ap line (words_again s.0 s.1 s.2 (subst EachPlain s.3 p)))
 
-pub line_cut : (d : Draft) (s : Said) → Kept d → SaidFits d s
+pub line_cut : (l : LineSpelling) (d : Draft) (s : Said) → Kept d → due_of d ≡ Some (due_as s) → SaidFits d s
     → words_in (line_of (said_words d.version d.head s)) true ≡ line (said_words d.version d.head s)
-line_cut d s k f = cut_again (said_words d.version d.head s) (starts d s f) (plain_words d s k f)
+line_cut l d s k is f = cut_again (said_words d.version d.head s) (starts d s f) (plain_words l d s k is f)
 
 -- and only so
 pub joined : (text : List ℕ) (ended : Bool) (ws : List (List ℕ)) → words_in text ended ≡ line ws → text ≡ line_of ws
 joined text ended ws e = sym (words_only text) ∙ ap (λ x. line_of x.list) e
 
-pub no_line_end : (d : Draft) (s : Said) → Kept d → SaidFits d s → Lacks 10 (line_of (said_words d.version d.head s))
-no_line_end d s k f = line_lacks (said_words d.version d.head s) (plain_words d s k f)
+pub no_line_end : (l : LineSpelling) (d : Draft) (s : Said) → Kept d → due_of d ≡ Some (due_as s) → SaidFits d s
+    → Lacks 10 (line_of (said_words d.version d.head s))
+no_line_end l d s k is f = line_lacks (said_words d.version d.head s) (plain_words l d s k is f)

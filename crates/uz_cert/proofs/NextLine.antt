@@ -16,9 +16,9 @@ use Rattle.uz_cert.proofs.DueLaws.{IsDue, is_due, is_whole}
 use Rattle.uz_cert.proofs.FitLaws.{version_kept}
 use Rattle.uz_cert.proofs.KeptLaws.{first_kept, kept_after}
 use Rattle.uz_cert.proofs.Later.{Later, first_later, later_after}
-use Rattle.uz_cert.proofs.Lines.{joined, no_line_end}
+use Rattle.uz_cert.proofs.Lines.{LineSpelling, joined, no_line_end}
 use Rattle.uz_cert.proofs.LinesSoFar.{so_far, so_far_after, later_lines, whole_text}
-use Rattle.uz_cert.proofs.Onward.{LineSpelling, spelled}
+use Rattle.uz_cert.proofs.Onward.{spelled}
 use Rattle.uz_cert.proofs.TextLaws.{told, same_cert, says_ok, fault_ok}
 
 -- the next line of a text that is read to its end
@@ -26,6 +26,7 @@ record NextRead (d : Draft) (line : List ℕ) (rest : List (List ℕ)) (c : Cert
   says : Said
   is : line ≡ spelled d.version d.head says
   due : IsDue d (due_as says)
+  due_is : due_of d ≡ Some (due_as says)
   fits : SaidFits d says
   kept : Kept (draft_after d says)
   more : read_from (draft_after d says) rest ≡ told c
@@ -41,6 +42,7 @@ next_read l d due line rest c k is e =
       says = s.0;
       is = joined line (is_more rest) (said_words d.version d.head s.0) o.0;
       due = subst (IsDue d) o.1 (is_due d due k.begun is);
+      due_is = is ∙ ap (λ x. Some x) o.1;
       fits = o.2;
       kept = kept_after d s.0 k o.2;
       more = ap (λ x. read_from x rest) (sym s.2) ∙ f.2;
@@ -64,7 +66,7 @@ pieces_plain l d (line ∷ rest) c k e = by (due_of d) refl (λ m km h. pieces_p
     by None is later = plain_end d line rest c (sym (ap (λ o. read_by o d line rest (λ x. read_from x rest)) is) ∙ e)
     by (Some due) is later =
         let n = next_read l d due line rest c k is e in
-        (subst (Lacks 10) (sym n.is) (no_line_end d n.says k n.fits), later (draft_after d n.says) n.kept n.more)
+        (subst (Lacks 10) (sym n.is) (no_line_end l d n.says k n.due_is n.fits), later (draft_after d n.says) n.kept n.more)
 
 -- all lines
 

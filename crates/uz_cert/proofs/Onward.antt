@@ -32,9 +32,8 @@ use Rattle.uz_cert_lines.specs.declared.lines.Said.TheVariants as said
 use Rattle.uz_cert.specs.Drafts.{due_of, form_of, draft_after}
 use Rattle.uz_cert.specs.Kept.{Kept, SaidFits}
 use Rattle.uz_cert.specs.SaidLines.{due_as, said_words}
-use Rattle.uz_cert_words.specs.Grammar.{Words}
 use Rattle.uz_cert_laws.specs.Said.{line}
-use Rattle.uz_cert.proofs.Lines.{line_cut}
+use Rattle.uz_cert.proofs.Lines.{LineSpelling, line_cut}
 use Rattle.uz_cert.specs.Reading.{Fault, is_more, words_in, line_says, or_fault, cert_from, cert_with, cert_before, read_by, read_from}
 use Rattle.uz_cert.specs.declared.due.Due.{Due}
 use Rattle.uz_cert.specs.declared.draft.Draft.{Draft}
@@ -44,13 +43,6 @@ use Rattle.uz_cert.proofs.LineOrder.{due_cell, due_event, due_kind, due_fall, du
 
 abbrev pub spelled : Version → Head → Said → List ℕ
 spelled v h s = line_of (said_words v h s)
-
--- what is known of one line where it is due
-pub record LineSpelling : Type 0 where
-  pub again : (d : Draft) (s : Said) → Kept d → due_of d ≡ Some (due_as s) → SaidFits d s
-      → reads (form_of d (due_as s)) (line (said_words d.version d.head s)) ≡ Ok s
-  pub only : (d : Draft) (due : Due) (words : Words) (s : Said) → Kept d → due_of d ≡ Some due → reads (form_of d due) words ≡ Ok s
-      → (words ≡ line (said_words d.version d.head s)) × (due ≡ due_as s) × SaidFits d s
 
 abbrev pub told : Cert → Result Cert Fault
 told c = Ok c
@@ -73,7 +65,7 @@ step l d s rest k is fits more =
     ∙ ap (λ r. or_fault (d.read + 1) r (λ x. read_from x rest))
     (ap (line_says d (due_as s) (spelled d.version d.head s)) more
     ∙ says d (due_as s) (spelled d.version d.head s) s
-    (ap (reads (form_of d (due_as s))) (line_cut d s k fits) ∙ l.again d s k is fits))
+    (ap (reads (form_of d (due_as s))) (line_cut l d s k is fits) ∙ l.again d s k is fits))
 
 more_after : (lines : List (List ℕ)) (piece : List ℕ) (rest : List (List ℕ)) → is_more (lines ++ piece ∷ rest) ≡ true
 more_after [] piece rest = refl

@@ -28,7 +28,8 @@ use Rattle.uz_cert.specs.Texts.{IsOfVersion}
 use Rattle.uz_cert.specs.declared.draft.Draft.{Draft}
 use Rattle.uz_cert.proofs.KeptLaws.{first_kept, kept_after}
 use Rattle.uz_cert.proofs.LineOrder.{due_size, due_irq, due_stack}
-use Rattle.uz_cert.proofs.Onward.{LineSpelling, spelled, told, step, more_lines, cell_lines, cells_again, kinds_again, fall_lines}
+use Rattle.uz_cert.proofs.Lines.{LineSpelling}
+use Rattle.uz_cert.proofs.Onward.{spelled, told, step, more_lines, cell_lines, cells_again, kinds_again, fall_lines}
 use Rattle.uz_cert.proofs.Onward.{fall_again, with_kinds, kinds_more}
 use Rattle.uz_cert.proofs.Runs.{expand_runs, all_runs, runs_apart}
 use Rattle.uz_cert.proofs.NextLine.{pieces_plain, lines_back}

@@ -187,8 +187,8 @@ not_handler n e = by_test (eqb n 0) e
     by_test true e = absurd cc
     by_test false e = absurd cc
 
-entry_sound : (h : Head) (lines points : ℕ) → PlacesAre h lines points → IsReadable (entry_form h lines points)
-entry_sound h lines points a n = after_sound h lines points (entry_kind n) a (not_handler n)
+pub entry_sound : (h : Head) (lines points : ℕ) → PlacesAre h lines points → IsReadable (entry_form h lines points)
+entry_sound h lines points a = (refl, ((refl, (refl, tt)), λ n. after_sound h lines points (entry_kind n) a (not_handler n)))
 
 entry_so : (h : Head) (lines points : ℕ) (kind : Kind) (e : Entry) (q : Parts (entry_after h lines points kind)) → PlacesAre h lines points
     → EntryKindFits kind e → Fit (entry_after h lines points kind) q

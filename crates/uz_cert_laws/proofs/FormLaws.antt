@@ -1,5 +1,5 @@
 -- What is spelled in a form is read back, and only what is spelled is read: by one step for each constructor.
-use Rattle.std.proofs.Common.{◌≡◌, ℕ, ◌≤◌, ◌<◌, ◌^◌, ℤ, Bool, true, false, List, [], ◌∷◌, ◌++◌, map, decimal, refl, sym, ◌∙◌, ap}
+use Rattle.std.proofs.Common.{◌≡◌, ℕ, ◌≤◌, ◌<◌, ◌^◌, ℤ, Bool, true, false, List, [], ◌∷◌, ◌++◌, map, decimal, refl, sym, ◌∙◌, ap, subst}
 use Rattle.std.specs.Prelude.{⊤, All, Result, Ok}
 use Rattle.uz_schedule.specs.Ends.{Ends}
 use Rattle.uz_schedule.specs.WellFormed.{RangeFits, magnitude, spans_fit}
@@ -20,6 +20,8 @@ use Rattle.uz_cert_laws.proofs.Tests.{fine_is, fault_not, bind_ok, then}
 use Rattle.uz_cert_laws.proofs.Numbers.{IsAsked, number_so, number_only, slope_so, slope_only}
 use Rattle.uz_cert_laws.proofs.OnlyItems.{ShapeFits, items_only}
 use Rattle.uz_cert_laws.proofs.AgainItems.{Sayable, items_again}
+use Rattle.uz_cert_laws.proofs.Plains.{plain_read, plain_at, plain_signed, plain_spans, plain_items}
+use Rattle.uz_text.proofs.Plain.{plain, EachPlain, each_plain_append}
 use Rattle.uz_cert_laws.proofs.Spans.{Bytes, own, spans_read, spans_gone}
 use Rattle.uz_cert_laws.proofs.Steps.{words_in, line_same, fixed_word, fixed_is, choice_word, with_front}
 
@@ -40,11 +42,11 @@ Fit (finish said) p = ⊤
 abbrev pub SaysFacts : (Facts → Said) → Type 0
 SaysFacts say = (f : Facts) (least after : ℕ) → say (record f { least = least; after = after }) ≡ say f
 
--- the numbers that are asked for are few enough to be read
+-- the words that are due have no blank, and the numbers that are asked for are few enough to be read
 abbrev pub IsReadable : LineForm → Type 0
-IsReadable (fixed wanted form) = IsReadable form
+IsReadable (fixed wanted form) = (plain wanted ≡ true) × IsReadable form
 IsReadable (number a form) = (a.limit ≤ 2 ^ 32) × ((n : ℕ) → IsAsked a n → IsReadable (form n))
-IsReadable (choice wanted form) = (n : ℕ) → IsReadable (form n)
+IsReadable (choice wanted form) = EachPlain wanted × ((n : ℕ) → IsReadable (form n))
 IsReadable (slope limit form) = (limit ≤ 2 ^ 32) × ((z : ℤ) → IsReadable (form z))
 IsReadable (spans cells form) = Bytes cells × ((es : List Ends) → IsReadable (form es))
 IsReadable (items shape cells say) = ShapeFits shape cells × SaysFacts say
@@ -55,13 +57,13 @@ Pieces = List Ends × Words
 
 pub form_again : (form : LineForm) (p : Parts form) → IsReadable form → Fit form p → reads form (line (spells form p)) ≡ Ok (says form p)
 form_again (fixed wanted form) p s f =
-    then (fixed_of wanted wanted) (λ n. reads form (line (spells form p))) 0 (Ok (says form p)) (fixed_word wanted) (form_again form p s f)
+    then (fixed_of wanted wanted) (λ n. reads form (line (spells form p))) 0 (Ok (says form p)) (fixed_word wanted) (form_again form p s.1 f)
 form_again (number a form) p s f =
     then (number_of a (decimal p.0)) (λ n. reads (form n) (line (spells (form p.0) p.1))) p.0 (Ok (says (form p.0) p.1))
     (number_so a p.0 s.0 f.0) (form_again (form p.0) p.1 (s.1 p.0 f.0) f.1)
 form_again (choice wanted form) p s f =
     then (choice_of wanted (word_at wanted p.0)) (λ n. reads (form n) (line (spells (form p.0) p.1))) p.0 (Ok (says (form p.0) p.1)) f.0
-    (form_again (form p.0) p.1 (s p.0) f.1)
+    (form_again (form p.0) p.1 (s.1 p.0) f.1)
 form_again (slope limit form) p s f =
     then (slope_of limit (signed_word p.0)) (λ z. reads (form z) (line (spells (form p.0) p.1))) p.0 (Ok (says (form p.0) p.1))
     (slope_so limit p.0 s.0 f.0) (form_again (form p.0) p.1 (s.1 p.0) f.1)
@@ -105,7 +107,7 @@ only : (form : LineForm) (list : List (List ℕ)) (ended : Bool) (said : Said) �
     → Read form list ended said
 only (fixed wanted form) list ended said s e =
     let d = due (fixed_of wanted) (λ n words. reads form words) list ended said e in
-    let r = only form d.left ended said s d.rest in
+    let r = only form d.left ended said s.1 d.rest in
     record {
       parts = r.parts;
       told = r.told;
@@ -127,7 +129,7 @@ only (number a form) list ended said s e =
 only (choice wanted form) list ended said s e =
     let d = due (choice_of wanted) (λ n words. reads (form n) words) list ended said e in
     let w = choice_word wanted d.word d.is d.judged in
-    let r = only (form d.is) d.left ended said (s d.is) d.rest in
+    let r = only (form d.is) d.left ended said (s.1 d.is) d.rest in
     record {
       parts = (d.is, r.parts);
       told = r.told;
@@ -191,3 +193,20 @@ pub form_only : (form : LineForm) (words : Words) (said : Said) → IsReadable f
 form_only form words said s e =
     let r = only form words.list words.ended said s e in
     (r.parts, r.told, line_same words.list (spells form r.parts) words.ended r.words r.end, r.fit)
+
+-- the words of a line that is read have no blank
+
+form_plain : (form : LineForm) (p : Parts form) → IsReadable form → Fit form p → EachPlain (spells form p)
+form_plain (fixed wanted form) p s f = (s.0, form_plain form p s.1 f)
+form_plain (number a form) p s f = (plain_read p.0 a.limit s.0 f.0.below, form_plain (form p.0) p.1 (s.1 p.0 f.0) f.1)
+form_plain (choice wanted form) p s f = (plain_at wanted p.0 s.0, form_plain (form p.0) p.1 (s.1 p.0) f.1)
+form_plain (slope limit form) p s f = (plain_signed p.0 limit s.0 f.0, form_plain (form p.0) p.1 (s.1 p.0) f.1)
+form_plain (spans cells form) p s f =
+    each_plain_append (map (ends_word 255) p.0) (spells (form p.0) p.1) (plain_spans p.0 f.0.0) (form_plain (form p.0) p.1 (s.1 p.0) f.1)
+form_plain (items shape cells say) g s f = plain_items shape cells g s.0 f
+form_plain (finish said) p s f = tt
+
+pub read_plain : (form : LineForm) (words : Words) (said : Said) → IsReadable form → reads form words ≡ Ok said → EachPlain words.list
+read_plain form words said s e =
+    let r = form_only form words said s e in
+    subst (λ w. EachPlain w.list) (sym r.2) (form_plain form r.0 s r.3)

@@ -29,9 +29,9 @@ use Rattle.uz_cert_laws.proofs.FormLaws.{IsReadable, form_again, form_only}
 
 -- size
 
-size_sound : IsReadable size_form
+pub size_sound : IsReadable size_form
 size_sound =
-    (lit≤ tt, λ k i. (lit≤ tt, λ l j. let few = j.below in (omega (arith, few), λ r o. (lit≤ tt, λ p q. (lit≤ tt, λ c t. tt)))))
+    (refl, (lit≤ tt, λ k i. (lit≤ tt, λ l j. let few = j.below in (omega (arith, few), λ r o. (lit≤ tt, λ p q. (lit≤ tt, λ c t. tt))))))
 
 pub size_again : (s : Sizes) → SizesFit s → reads size_form (line (sizes_words s)) ≡ Ok (said.Size s)
 size_again s h =
@@ -72,8 +72,9 @@ size_only words says e =
 
 -- irq
 
-irq_sound : IsReadable irq_form
-irq_sound = (lit≤ tt, λ n i. tt)
+pub irq_sound : IsReadable irq_form
+irq_sound =
+    (refl, (lit≤ tt, λ n i. tt))
 
 pub irq_again : (r : Response) → reads irq_form (line (response_words r)) ≡ Ok (said.Irq r)
 irq_again Four = form_again irq_form (4, tt) irq_sound (is_within 4 6 4 (lit≤ tt) (lit≤ tt) (lit< tt), tt)
@@ -97,13 +98,16 @@ irq_only words says e =
 
 -- stack
 
-stack_sound : IsReadable stack_form
+pub stack_sound : IsReadable stack_form
 stack_sound = (
-  lit≤ tt,
-  λ lo i. (
+  refl,
+  (
     lit≤ tt,
-    λ hi j.
-        (omega (arith, least_small 33 (hi - lo) (lit≤ tt)), λ m k. (omega (arith, least_small 33 (hi - lo - m) (lit≤ tt)), λ n o. tt)),
+    λ lo i. (
+      lit≤ tt,
+      λ hi j.
+          (omega (arith, least_small 33 (hi - lo) (lit≤ tt)), λ m k. (omega (arith, least_small 33 (hi - lo - m) (lit≤ tt)), λ n o. tt)),
+    ),
   ),
 )
 
@@ -198,8 +202,9 @@ off_stack_so lo hi least n a b d l =
     apart : (n : ℕ) → n < 2 ^ 31 → n ≡ 4294967295 → ⊥
     apart n h e = omega arith
 
-cell_sound : (lo hi least : ℕ) → IsReadable (cell_form lo hi least)
-cell_sound lo hi least = (lit≤ tt, λ at i. λ o. (lit≤ tt, λ low j. (lit≤ tt, λ high k. tt)))
+pub cell_sound : (lo hi least : ℕ) → IsReadable (cell_form lo hi least)
+cell_sound lo hi least =
+    (refl, (lit≤ tt, λ at i. ((refl, (refl, tt)), λ o. (lit≤ tt, λ low j. (lit≤ tt, λ high k. tt)))))
 
 pub cell_again : (h : Head) (least : ℕ) (c : Cell) → CellFits h c → least ≤ c.at → reads (cell_form h.lo h.hi least) (line (cell_words c))
     ≡ Ok (said.Cell c)

@@ -1,23 +1,19 @@
 -- The words of spelled lines: each byte is above the space, so that a line is cut into its words again, and has no line end.
-use Rattle.std.proofs.Common.{◌≡◌, ◌≢◌, ℕ, suc, ◌+◌, ◌-◌, ◌<◌, ◌≤◌, ◌^◌, Bool, true, false, ◌&&◌, ◌||◌, cond, eqb, ltb, List, [], ◌∷◌, ◌++◌, length}
+use Rattle.std.proofs.Common.{◌≡◌, ◌≢◌, ℕ, zero, suc, ◌+◌, ◌-◌, ◌<◌, ◌≤◌, ◌^◌, Bool, true, false, ◌&&◌, ◌||◌, cond, eqb, ltb, List, [], ◌∷◌, ◌++◌, length}
 use Rattle.std.proofs.Common.{map, All, codes, decimal, lit≤, refl, ◌∙◌, ap, arith}
 use Rattle.std.specs.Prelude.{⊤, ℤ, pos, negsuc}
 use Rattle.std.specs.List.{slice_split, onto_first}
 use Rattle.std.proofs.lemmas.Bool.{eqb-true}
-use Rattle.std.proofs.lemmas.List.{length-map}
-use Rattle.std.proofs.lemmas.List.Elements.{All-head, All-tail, All-weaker, All-map}
+use Rattle.std.proofs.lemmas.List.Elements.{All-head, All-tail, All-weaker}
 use Rattle.uz_text.proofs.Plain.{plain, EachPlain, Lacks, each_lacks, split_join, join_lacks, plain_append, plain_decimal}
 use Rattle.uz_text.proofs.Plain.{each_plain_append}
 use Rattle.uz_schedule.specs.Ends.{Ends}
 use Rattle.uz_schedule.specs.Tracked.{tracks}
-use Rattle.uz_schedule.specs.Limits.{clock_limit, is_top, EventFits, KindFits}
+use Rattle.uz_schedule.specs.Limits.{is_top}
 use Rattle.uz_schedule.specs.Schedule.{scanline, half_line}
-use Rattle.uz_schedule.specs.WellFormed.{RangeFits, FactFits, CellFactFits, PairFits, CellFits, RestFits, EntryFits, PointFits, magnitude}
+use Rattle.uz_schedule.specs.WellFormed.{RangeFits, magnitude}
 use Rattle.uz_schedule.specs.WellFormed.{is_default_flag}
 use Rattle.uz_schedule.specs.declared.kinds.Kind.{Kind}
-use Rattle.uz_schedule.specs.declared.kinds.Kind.TheVariants as kinds
-use Rattle.uz_schedule.specs.declared.kinds.Owner.{Owner}
-use Rattle.uz_schedule.specs.declared.kinds.Owner.TheVariants.{Main as MainCell, Handler as HandlerCell}
 use Rattle.uz_schedule.specs.declared.facts.Fact.{Fact}
 use Rattle.uz_schedule.specs.declared.facts.Fact.TheVariants as fact
 use Rattle.uz_schedule.specs.declared.facts.PairFact.{PairFact}
@@ -25,20 +21,23 @@ use Rattle.uz_schedule.specs.declared.facts.PairFact.TheVariants as pair
 use Rattle.uz_schedule.specs.declared.facts.Bit.{Bit}
 use Rattle.uz_schedule.specs.declared.facts.Bit.TheVariants as bit
 use Rattle.uz_schedule.specs.declared.header.Cell.{Cell}
-use Rattle.uz_schedule.specs.declared.header.Head.{Head}
-use Rattle.uz_schedule.specs.declared.lines.Event.{Event}
-use Rattle.uz_schedule.specs.declared.lines.EventKind.{EventKind}
-use Rattle.uz_schedule.specs.declared.lines.EventKind.TheVariants as event
-use Rattle.uz_schedule.specs.declared.states.Rest.{Rest}
-use Rattle.uz_schedule.specs.declared.states.Entry.{Entry}
-use Rattle.uz_schedule.specs.declared.states.Point.{Point}
-use Rattle.uz_cert_lines.specs.Defaults.{is_default, is_any_pair, is_range, is_default_top, is_default_temp, range_fact}
+use Rattle.uz_cert_lines.specs.Defaults.{is_default, is_any_pair, is_range, is_default_top, is_default_temp}
 use Rattle.uz_cert_words.specs.Grammar.{with_byte, cut_words, words_of}
 use Rattle.uz_cert_writer.specs.Spelling.{line_of, range_word, ends_word, slope_word, fact_word, pair_word, flag_word, item, unless}
 use Rattle.uz_cert_writer.specs.Spelling.{register_items, pair_items, flag_items, slot_items, cell_items, top_items, temp_items, successor_items}
-use Rattle.uz_cert_writer.specs.Spelling.{owner_word, cell_words, event_kind_words, event_words, rest_words, kind_word, range_facts}
-use Rattle.uz_cert_writer.specs.Spelling.{entry_words, signed_word, truth_word, point_words}
-use Rattle.uz_cert_laws.proofs.PointLine.{point_top, point_temp}
+use Rattle.uz_cert_writer.specs.Spelling.{signed_word}
+use Rattle.uz_cert_words.specs.declared.values.FactForms.{FactForms}
+use Rattle.uz_cert_lines.specs.Items.{bytes_forms, pair_forms}
+use Rattle.uz_cert_lines.specs.declared.items.Shape.{Shape}
+use Rattle.uz_cert_lines.specs.declared.items.Facts.{Facts}
+use Rattle.uz_cert_laws.specs.Spells.{word_at, letters_of_pairs, spelled}
+use Rattle.uz_cert_laws.proofs.Facts.{FactIn, PairIn}
+use Rattle.uz_cert_laws.proofs.Options.{each_length, each_other}
+use Rattle.uz_cert_laws.proofs.Spelled.{registers, numbered_cells}
+use Rattle.uz_cert_laws.proofs.Taken.{cell_form}
+use Rattle.uz_cert_laws.proofs.Fitting.{all_of_each}
+use Rattle.uz_cert_laws.proofs.OnlyItems.{ShapeFits}
+use Rattle.uz_cert_laws.proofs.AgainItems.{Sayable}
 
 -- lines are cut into their words again
 
@@ -76,11 +75,18 @@ line_lacks ws h = join_lacks 10 32 ws (λ e. omega (arith, e)) (each_lacks 10 ws
 
 -- numbers
 
-pub plain_number : (n : ℕ) → n < 1048576 → plain (decimal n) ≡ true
+plain_number : (n : ℕ) → n < 1048576 → plain (decimal n) ≡ true
 plain_number n h = plain_decimal n (below n h (lit≤ tt))
   where
     below : (n : ℕ) → n < 1048576 → 1048576 ≤ 2 ^ 64 → n < 2 ^ 64
     below n h g = omega (arith, h, g)
+
+-- a number that can be read
+pub plain_read : (n limit : ℕ) → limit ≤ 2 ^ 32 → n < limit → plain (decimal n) ≡ true
+plain_read n limit l h = plain_decimal n (below (lit≤ tt))
+  where
+    below : 2 ^ 32 ≤ 2 ^ 64 → n < 2 ^ 64
+    below g = omega (arith, l, h, g)
 
 plain_more : (b : ℕ) (w : List ℕ) → ltb 32 b ≡ true → plain w ≡ true → plain (b ∷ w) ≡ true
 plain_more b w h k = and_is (ltb 32 b) (plain w) h k
@@ -125,28 +131,24 @@ SmallFact (fact.Loop a b) = (a < 1048576) × (b < 1048576)
 SmallFact (fact.Old r) = r < 1048576
 SmallFact fact.OldFlags = ⊤
 
-small_fact : (kind : Kind) (f : Fact) → FactFits kind f → SmallFact f
-small_fact kind fact.Any h = tt
-small_fact kind (fact.Between e) h = small_range 255 e (omega arith) h.range
-small_fact kind (fact.Line a b) h = (omega (arith, h.factor), omega (arith, h.offset))
-small_fact kind (fact.Loop a b) h = (omega (arith, h.factor), omega (arith, h.offset))
-small_fact kind (fact.Old r) h = let low = h.1 in omega (arith, low)
-small_fact kind fact.OldFlags h = tt
+-- a fact that is in forms whose numbers are small
+small_in : (forms : FactForms) (f : Fact) → (forms.sloped ≡ true → forms.limit ≤ 1048576) → FactIn forms f → SmallFact f
+small_in forms fact.Any w h = tt
+small_in forms (fact.Between e) w h = small_range 255 e (omega arith) h.0.range
+small_in forms (fact.Line a b) w h = let low = w h.0 in (omega (arith, low, h.2), omega (arith, low, h.3))
+small_in forms (fact.Loop a b) w h = let low = w h.0 in (omega (arith, low, h.2), omega (arith, low, h.3))
+small_in forms (fact.Old r) w h = let low = h.1 in omega (arith, low)
+small_in forms fact.OldFlags w h = tt
 
-small_cell : (f : Fact) → CellFactFits f → SmallFact f
-small_cell fact.Any h = tt
-small_cell (fact.Between e) h = small_range 255 e (omega arith) h.range
-small_cell (fact.Line a b) h = (omega (arith, h.factor), omega (arith, h.offset))
-small_cell (fact.Loop a b) h = (omega (arith, h.factor), omega (arith, h.offset))
-small_cell (fact.Old r) h = absurd h
-small_cell fact.OldFlags h = tt
-
-small_ends : (e : Ends) → RangeFits 255 e → SmallFact (range_fact e)
-small_ends e h = by (eqb e.lo 0 && eqb e.hi 255)
+small_cell : (shape : Shape) (c : Cell) (f : Fact) → FactIn (cell_form shape c) f → SmallFact f
+small_cell shape c f h = by shape.plain h
   where
-    by : (t : Bool) → SmallFact (cond t fact.Any (fact.Between e))
-    by true = tt
-    by false = small_range 255 e (omega arith) h
+    by : (t : Bool)
+        → FactIn (cond {A = FactForms} t (record { low = c.range.lo; limit = c.range.hi + 1; top = 255; sloped = false; old = false })
+        (record { low = 0; limit = 256; top = 255; sloped = true; old = false })) f
+        → SmallFact f
+    by true i = small_in (record { low = c.range.lo; limit = c.range.hi + 1; top = 255; sloped = false; old = false }) f (λ e. absurd cc) i
+    by false i = small_in (record { low = 0; limit = 256; top = 255; sloped = true; old = false }) f (λ e. lit≤ tt) i
 
 plain_fact : (f : Fact) → SmallFact f → plain (fact_word f) ≡ true
 plain_fact fact.Any h = refl
@@ -156,11 +158,11 @@ plain_fact (fact.Loop a b) h = plain_slope (codes "c") a b refl h.0 h.1
 plain_fact (fact.Old r) h = plain_more 111 (decimal r) refl (plain_number r h)
 plain_fact fact.OldFlags h = refl
 
-plain_pair : (f : PairFact) → PairFits f → plain (pair_word f) ≡ true
+plain_pair : (f : PairFact) → PairIn pair_forms f → plain (pair_word f) ≡ true
 plain_pair pair.Any h = refl
-plain_pair (pair.Between e) h = plain_ends 65535 e (small_range 65535 e (omega arith) h.range)
-plain_pair (pair.Line a b) h = plain_slope (codes "l") a b refl (omega (arith, h.factor)) (omega (arith, h.offset))
-plain_pair (pair.Loop a b) h = plain_slope (codes "c") a b refl (omega (arith, h.factor)) (omega (arith, h.offset))
+plain_pair (pair.Between e) h = plain_ends 65535 e (small_range 65535 e (omega arith) h.0.range)
+plain_pair (pair.Line a b) h = plain_slope (codes "l") a b refl (omega (arith, h.2)) (omega (arith, h.3))
+plain_pair (pair.Loop a b) h = plain_slope (codes "c") a b refl (omega (arith, h.2)) (omega (arith, h.3))
 
 plain_flag : (b : Bit) → plain (flag_word b) ≡ true
 plain_flag bit.Zero = refl
@@ -185,14 +187,14 @@ plain_registers kind r (f ∷ fs) h all =
     (plain_fact f (All-head SmallFact f fs all)))
     (plain_registers kind (suc r) fs (omega (arith, h)) (All-tail SmallFact f fs all))
 
-plain_pairs : (letters : List ℕ) (fs : List PairFact) → plain letters ≡ true → All PairFits fs → EachPlain (pair_items letters fs)
+plain_pairs : (letters : List ℕ) (fs : List PairFact) → plain letters ≡ true → All (PairIn pair_forms) fs → EachPlain (pair_items letters fs)
 plain_pairs [] fs h all = tt
 plain_pairs (c ∷ cs) [] h all = tt
 plain_pairs (c ∷ cs) (f ∷ fs) h all =
     let both = and_both (ltb 32 c) (plain cs) h in
     plain_unless (is_any_pair f) (item (c ∷ []) (pair_word f)) (pair_items cs fs)
-    (plain_item (c ∷ []) (pair_word f) (plain_more c [] both.0 refl) (plain_pair f (All-head PairFits f fs all)))
-    (plain_pairs cs fs both.1 (All-tail PairFits f fs all))
+    (plain_item (c ∷ []) (pair_word f) (plain_more c [] both.0 refl) (plain_pair f (All-head (PairIn pair_forms) f fs all)))
+    (plain_pairs cs fs both.1 (All-tail (PairIn pair_forms) f fs all))
   where
     and_both : (s t : Bool) → (s && t) ≡ true → (s ≡ true) × (t ≡ true)
     and_both true t e = (refl, e)
@@ -248,161 +250,54 @@ plain_temp temp h =
     plain_unless (is_default_temp temp) (item (codes "temp") (range_word temp)) []
     (plain_item (codes "temp") (range_word temp) refl (plain_range temp (small_range 255 temp (omega arith) h))) tt
 
-plain_successors : (most : ℕ) (ids : List ℕ) → most ≤ 1048576 → All (λ id. id < most) ids → EachPlain (successor_items ids)
+plain_successors : (most : ℕ) (ids : List ℕ) → most ≤ 2 ^ 32 → All (λ id. id < most) ids → EachPlain (successor_items ids)
 plain_successors most [] h all = tt
 plain_successors most (id ∷ ids) h all =
     let low = All-head (λ n. n < most) id ids all in (
-      plain_more 62 (decimal id) refl (plain_number id (omega (arith, h, low))),
+      plain_more 62 (decimal id) refl (plain_read id most h low),
       plain_successors most ids h
           (All-tail (λ n. n < most) id ids all),
     )
 
-small_facts : (kind : Kind) (fs : List Fact) → All (FactFits kind) fs → All SmallFact fs
-small_facts kind fs all = All-weaker (FactFits kind) SmallFact (λ f h. small_fact kind f h) fs all
+small_facts : (forms : FactForms) (fs : List Fact) → (forms.sloped ≡ true → forms.limit ≤ 1048576) → All (FactIn forms) fs → All SmallFact fs
+small_facts forms fs w all = All-weaker (FactIn forms) SmallFact (λ f h. small_in forms f w h) fs all
 
-small_spans : (es : List Ends) → All (RangeFits 255) es → All SmallFact (range_facts es)
-small_spans es all = All-map SmallFact range_fact es (All-weaker (RangeFits 255) (λ e. SmallFact (range_fact e)) (λ e h. small_ends e h) es
-    all)
+-- all items of a line
+pub plain_items : (shape : Shape) (cells : List Cell) (f : Facts) → ShapeFits shape cells
+    → Sayable shape cells f.regs f.pairs f.flags f.stack.items f.cells.items f.top f.temp f.next.items
+    → EachPlain (spelled shape.kind cells f)
+plain_items shape cells f h s =
+    let kind = shape.kind in
+    let few = h.places.few in
+    let points = h.places.points in
+    let regs = each_length (λ r x. FactIn (bytes_forms shape) x) registers f.regs s.regs_fit in
+    each_plain_append (register_items kind 0 f.regs) _ (plain_registers kind 0 f.regs (omega (arith, regs))
+    (small_facts (bytes_forms shape) f.regs (λ e. lit≤ tt) (all_of_each (FactIn (bytes_forms shape)) registers f.regs s.regs_fit)))
+    (each_plain_append (pair_items (codes "xyz") f.pairs) _
+    (plain_pairs (codes "xyz") f.pairs refl (all_of_each (PairIn pair_forms) letters_of_pairs f.pairs s.pairs_fit))
+    (each_plain_append (flag_items kind (codes "cznvsht") f.flags) _ (plain_flags kind (codes "cznvsht") f.flags refl)
+    (each_plain_append (slot_items f.stack.items) _
+    (plain_slots f.stack.items (small_facts (bytes_forms shape) f.stack.items (λ e. lit≤ tt) s.stack_fit))
+    (each_plain_append (cell_items kind 0 cells f.cells.items) _ (plain_cells kind 0 cells f.cells.items (omega (arith, few))
+    (all_of_each SmallFact (numbered_cells kind 0 cells) f.cells.items
+    (each_other (λ p x. FactIn (cell_form shape p.1) x) (λ p x. SmallFact x) (numbered_cells kind 0 cells) f.cells.items
+    (λ p x i. small_cell shape p.1 x i) s.cells_fit)))
+    (each_plain_append (top_items f.top) _ (plain_top f.top s.top_fit)
+    (each_plain_append (temp_items f.temp) _ (plain_temp f.temp s.temp_fit)
+    (plain_successors shape.points f.next.items points s.next_fit.1)))))))
 
--- lines
+pub plain_signed : (z : ℤ) (limit : ℕ) → limit ≤ 2 ^ 32 → magnitude z < limit → plain (signed_word z) ≡ true
+plain_signed (pos n) limit l h = plain_read n limit l h
+plain_signed (negsuc n) limit l h = plain_more 45 (decimal (n + 1)) refl (plain_read (n + 1) limit l (omega (arith, h)))
 
-plain_kind : (kind : Kind) → plain (kind_word kind) ≡ true
-plain_kind kinds.Main = refl
-plain_kind kinds.Handler = refl
-plain_kind kinds.Alone = refl
-
-plain_owner : (owner : Owner) → plain (owner_word owner) ≡ true
-plain_owner MainCell = refl
-plain_owner HandlerCell = refl
-
-plain_truth : (t : Bool) → plain (truth_word t) ≡ true
-plain_truth true = refl
-plain_truth false = refl
-
-plain_signed : (z : ℤ) → magnitude z < clock_limit → plain (signed_word z) ≡ true
-plain_signed (pos n) h = plain_number n (omega (arith, h))
-plain_signed (negsuc n) h = plain_more 45 (decimal (n + 1)) refl (plain_number (n + 1) (omega (arith, h)))
-
-pub plain_cell_line : (h : Head) (c : Cell) → CellFits h c → EachPlain (cell_words c)
-plain_cell_line h c f =
-    let s = small_range 255 c.range (omega arith) f.range in (
-      refl,
-      (
-        plain_number c.at (omega (arith, f.high)),
-        (plain_owner c.owner, (plain_number c.range.lo s.0, (plain_number c.range.hi s.1, tt))),
-      ),
-    )
-
-plain_event_kind : (k : EventKind) → KindFits k → EachPlain (event_kind_words k)
-plain_event_kind (event.Sync level) h = (refl, (plain_number level (omega (arith, h)), tt))
-plain_event_kind event.Pixel h = (refl, tt)
-plain_event_kind event.Sound h = (refl, tt)
-plain_event_kind event.Leave h = (refl, tt)
-
-pub plain_event_line : (e : Event) → EventFits e → EachPlain (event_words e)
-plain_event_line e f = let low = f.clock in (plain_number e.clock (omega (arith, low)), plain_event_kind e.kind f.kind)
-
-plain_spans : (es : List Ends) → All (RangeFits 255) es → EachPlain (map (ends_word 255) es)
+pub plain_spans : (es : List Ends) → All (RangeFits 255) es → EachPlain (map (ends_word 255) es)
 plain_spans [] all = tt
 plain_spans (e ∷ es) all = (
   plain_ends 255 e (small_range 255 e (omega arith) (All-head (RangeFits 255) e es all)),
   plain_spans es (All-tail (RangeFits 255) e es all),
 )
 
-pub plain_rest_line : (h : Head) (lines points : ℕ) (r : Rest) → lines ≤ 525 → points ≤ 524288 → RestFits h lines points r
-    → EachPlain (rest_words r)
-plain_rest_line h lines points r a b f =
-    let clock = f.clock in (
-      refl,
-      (
-        plain_number r.line (omega (arith, a, f.line)),
-        (
-          plain_number r.clock (omega (arith, clock)),
-          (
-            plain_number r.vector (omega (arith, b, f.vector)),
-            plain_spans r.cells.items f.cells.ranges,
-          ),
-        ),
-      ),
-    )
-
-pub plain_entry_line : (h : Head) (lines points : ℕ) (e : Entry) → lines ≤ 525 → points ≤ 524288 → length h.cells.items ≤ 16
-    → EntryFits h lines points e
-    → EachPlain (entry_words h.cells.items e)
-plain_entry_line h lines points e a b cells f =
-    let clock = f.clock in
-    let count = length-map e.regs range_fact in
-    let regs = f.facts.registers in (
-      refl,
-      (
-        plain_kind e.kind,
-        (
-          plain_number e.id (omega (arith, b, f.id)),
-          (
-            plain_number e.pc (omega (arith, f.pc)),
-            (
-              plain_number e.line (omega (arith, a, f.line)),
-              (
-                plain_number e.clock (omega (arith, clock)),
-                each_plain_append (register_items e.kind 0 (range_facts e.regs)) _ (plain_registers e.kind 0 (range_facts e.regs)
-                    (omega (arith, count, regs)) (small_spans e.regs f.facts.ranges))
-                    (each_plain_append (flag_items e.kind (codes "cznvsht") e.flags) _ (plain_flags e.kind (codes "cznvsht") e.flags refl)
-                    (each_plain_append (slot_items (range_facts e.stack.items)) _
-                    (plain_slots (range_facts e.stack.items) (small_spans e.stack.items f.facts.stack))
-                    (plain_cells e.kind 0 h.cells.items (range_facts e.cells.items) (omega (arith, cells))
-                    (small_spans e.cells.items f.facts.cells.ranges)))),
-              ),
-            ),
-          ),
-        ),
-      ),
-    )
-
-pub plain_point_line : (h : Head) (lines points : ℕ) (p : Point) → lines ≤ 525 → points ≤ 524288 → length h.cells.items ≤ 16
-    → PointFits h lines points p
-    → EachPlain (point_words h.cells.items p)
-plain_point_line h lines points p a b cells f =
-    let clock = f.box.clock in
-    let regs = f.core.register_count in (
-      refl,
-      (
-        plain_kind p.kind,
-        (
-          plain_number p.pc (omega (arith, f.pc)),
-          (
-            plain_number p.l0 (omega (arith, a, f.box.line_order, f.box.line)),
-            (
-              plain_number p.l1 (omega (arith, a, f.box.line)),
-              (
-                plain_number p.c0 (omega (arith, f.box.count_order, f.box.count)),
-                (
-                  plain_number p.c1 (omega (arith, f.box.count)),
-                  (
-                    plain_number p.clock (omega (arith, clock)),
-                    (
-                      plain_signed p.slope f.box.slope,
-                      (
-                        plain_truth p.pending,
-                        each_plain_append (register_items p.kind 0 p.regs) _ (plain_registers p.kind 0 p.regs (omega (arith, regs))
-                            (small_facts p.kind p.regs f.core.registers))
-                            (each_plain_append (pair_items (codes "xyz") p.pairs) _ (plain_pairs (codes "xyz") p.pairs refl f.core.pairs)
-                            (each_plain_append (flag_items p.kind (codes "cznvsht") p.flags) _
-                            (plain_flags p.kind (codes "cznvsht") p.flags refl)
-                            (each_plain_append (slot_items p.stack.items) _
-                            (plain_slots p.stack.items (small_facts p.kind p.stack.items f.memory.stack))
-                            (each_plain_append (cell_items p.kind 0 h.cells.items p.cells.items) _
-                            (plain_cells p.kind 0 h.cells.items p.cells.items (omega (arith, cells))
-                            (All-weaker CellFactFits SmallFact (λ x g. small_cell x g) p.cells.items f.memory.cells))
-                            (each_plain_append (top_items p.top) _ (plain_top p.top (point_top p.kind p f.kind))
-                            (each_plain_append (temp_items p.temp) _ (plain_temp p.temp (point_temp p.kind p f.kind))
-                            (plain_successors points p.next.items (omega (arith, b)) f.next.there))))))),
-                      ),
-                    ),
-                  ),
-                ),
-              ),
-            ),
-          ),
-        ),
-      ),
-    )
+pub plain_at : (ws : List (List ℕ)) (n : ℕ) → EachPlain ws → plain (word_at ws n) ≡ true
+plain_at [] n h = refl
+plain_at (w ∷ ws) zero h = h.0
+plain_at (w ∷ ws) (suc n) h = plain_at ws n h.1

@@ -212,8 +212,9 @@ after_sound version h lines points left kind a =
       ),
     )
 
-point_sound : (version : Version) (h : Head) (lines points left : ℕ) → PlacesAre h lines points → IsReadable (point_form version h lines points left)
-point_sound version h lines points left a n = after_sound version h lines points left (point_kind n) a
+pub point_sound : (version : Version) (h : Head) (lines points left : ℕ) → PlacesAre h lines points → IsReadable (point_form version h lines points left)
+point_sound version h lines points left a =
+    (refl, ((refl, (refl, (refl, tt))), λ n. after_sound version h lines points left (point_kind n) a))
 
 abbrev point_kinds : List (List ℕ)
 point_kinds = codes "main" ∷ codes "handler" ∷ codes "alone" ∷ []

@@ -1,5 +1,5 @@
 -- The line of a rest.
-use Rattle.std.proofs.Common.{◌≡◌, ℕ, ◌≤◌, ◌∷◌, map, decimal, codes, lit≤}
+use Rattle.std.proofs.Common.{refl, ◌≡◌, ℕ, ◌≤◌, ◌∷◌, map, decimal, codes, lit≤}
 use Rattle.std.proofs.Common.{sym, ◌∙◌, ap, append-nil, arith}
 use Rattle.std.specs.Prelude.{Ok}
 use Rattle.uz_schedule.specs.Limits.{clock_limit}
@@ -17,11 +17,11 @@ use Rattle.uz_cert_laws.proofs.Steps.{is_within as within_so, one_so, rising_so}
 use Rattle.uz_cert_laws.proofs.Spans.{bytes_of}
 use Rattle.uz_cert_laws.proofs.FormLaws.{IsReadable, form_again, form_only}
 
-rest_sound : (h : Head) (lines points least : ℕ) → PlacesAre h lines points → IsReadable (rest_form lines points h.cells.items least)
+pub rest_sound : (h : Head) (lines points least : ℕ) → PlacesAre h lines points → IsReadable (rest_form lines points h.cells.items least)
 rest_sound h lines points least a =
     let few : lines ≤ 525 = a.lines_few in
     let many : points ≤ 524288 = a.points_few in
-    (omega arith, λ line i. (lit≤ tt, λ clock j. (omega arith, λ vector k. (bytes_of h h.cells.items a.each, λ es. tt))))
+    (refl, (omega arith, λ line i. (lit≤ tt, λ clock j. (omega arith, λ vector k. (bytes_of h h.cells.items a.each, λ es. tt)))))
 
 pub rest_again : (h : Head) (lines points least : ℕ) (r : Rest) → PlacesAre h lines points → RestFits h lines points r → least ≤ r.line
     → reads (rest_form lines points h.cells.items least) (line (rest_words r)) ≡ Ok (said.Rest r)

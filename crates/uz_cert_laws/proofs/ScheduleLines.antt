@@ -45,9 +45,9 @@ length_so events clocks few is =
     apart : (n : ℕ) → n ≤ scanline → n ≡ 4294967295 → ⊥
     apart n h e = omega arith
 
-kind_sound : (version : Version) → IsReadable (kind_form version)
-kind_sound First = (lit≤ tt, λ n i. tt)
-kind_sound Second = (lit≤ tt, λ n i. (lit≤ tt, λ m j. tt))
+pub kind_sound : (version : Version) → IsReadable (kind_form version)
+kind_sound First = (refl, (lit≤ tt, λ n i. tt))
+kind_sound Second = (refl, (lit≤ tt, λ n i. (lit≤ tt, λ m j. tt)))
 
 pub kind_again : (version : Version) (k : KindLine) → KindLineFits version k
     → reads (kind_form version) (line (kind_words version k.events k.clocks)) ≡ told (said.Kind k)
@@ -98,8 +98,9 @@ after_sound clock n = by (eqb n 0) (eqb n 1) (eqb n 2)
     by false false true = tt
     by false false false = tt
 
-event_sound : (clocks least : ℕ) → clocks ≤ scanline → IsReadable (event_form clocks least)
-event_sound clocks least few = (omega (arith, few), λ clock i. λ n. after_sound clock n)
+pub event_sound : (clocks least : ℕ) → clocks ≤ scanline → IsReadable (event_form clocks least)
+event_sound clocks least few =
+    (omega (arith, few), λ clock i. ((refl, (refl, (refl, (refl, tt)))), λ n. after_sound clock n))
 
 event_so : (clocks least clock : ℕ) (kind : EventKind) → clocks ≤ scanline → KindFits kind → clock < clocks → least ≤ clock
     → reads (event_form clocks least) (line (decimal clock ∷ event_kind_words kind)) ≡ told (said.Event (record { clock = clock; kind = kind }))
@@ -149,8 +150,9 @@ event_only clocks least words says few e =
 
 -- fall
 
-fall_sound : IsReadable fall_form
-fall_sound = (lit≤ tt, λ n i. tt)
+pub fall_sound : IsReadable fall_form
+fall_sound =
+    (refl, (lit≤ tt, λ n i. tt))
 
 pub fall_again : (clock : ℕ) → 1 ≤ clock → clock < clock_limit → reads fall_form (line (codes "fall" ∷ decimal clock ∷ [])) ≡ Ok
     (said.Fall clock)
@@ -164,8 +166,9 @@ fall_only words says e =
 
 -- runs
 
-run_sound : (kinds left before : ℕ) → kinds ≤ 2 ^ 31 → left < 2 ^ 31 → IsReadable (run_form kinds left before)
-run_sound kinds left before k l = (omega arith, λ count i. (omega arith, λ kind j. tt))
+pub run_sound : (kinds left before : ℕ) → kinds ≤ 2 ^ 31 → left < 2 ^ 31 → IsReadable (run_form kinds left before)
+run_sound kinds left before k l =
+    (refl, (omega arith, λ count i. (omega arith, λ kind j. tt)))
 
 pub run_again : (kinds left before count kind : ℕ) → kinds ≤ 2 ^ 31 → left < 2 ^ 31 → RunFits kinds left before count kind
     → reads (run_form kinds left before) (line (run_words (count, kind))) ≡ Ok (said.Run (record { count = count; kind = kind }))
@@ -189,7 +192,7 @@ run_only kinds left before words says k l e =
 -- end
 
 pub end_again : reads end_form (line (codes "end" ∷ [])) ≡ Ok said.End
-end_again = form_again end_form tt tt tt
+end_again = form_again end_form tt (refl, tt) tt
 
 pub end_only : (words : Words) (says : Said) → reads end_form words ≡ Ok says → (says ≡ said.End) × (words ≡ line (codes "end" ∷ []))
-end_only words says e = let r = form_only end_form words says tt e in (r.1, r.2)
+end_only words says e = let r = form_only end_form words says (refl, tt) e in (r.1, r.2)

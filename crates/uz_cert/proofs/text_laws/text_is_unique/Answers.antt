@@ -10,7 +10,7 @@ use Rattle.uz_cert_lines.specs.declared.version.Version.TheVariants.{First, Seco
 use Rattle.uz_schedule.specs.declared.certificate.Cert.{Cert}
 use Rattle.uz_cert_writer.specs.Spelling.{spelling}
 use Rattle.uz_cert.specs.Reading.{Fault, cert_of_text}
-use Rattle.uz_cert.proofs.Onward.{LineSpelling}
+use Rattle.uz_cert.proofs.Lines.{LineSpelling}
 use Rattle.uz_cert.proofs.WholeText.{spelling_read, text_spelled}
 use Rattle.uz_cert.proofs.text_laws.text_is_unique.Goals as goal
 
