@@ -401,108 +401,34 @@ successor_taken shape cells facts w id later more points e h =
 
 -- items that are named by a letter
 
-letter_word : (letter c : ℕ) (w value : List ℕ) → letter ≡ c → w ≡ letter ∷ 61 ∷ value → w ≡ c ∷ 61 ∷ value
-letter_word letter c w value e h = h ∙ ap (λ l. l ∷ 61 ∷ value) e
+-- one of two, by a test
+tested : (t : Bool) {x y a : Result Facts CertWhy} {P : Type 0} → cond t x y ≡ a → (t ≡ true → x ≡ a → P) → (t ≡ false → y ≡ a → P) → P
+tested true e f g = f refl e
+tested false e f g = g refl e
 
 letter_taken : (shape : Shape) (cells : List Cell) (facts : Facts) (w value : List ℕ) (letter : ℕ) (later : List (List ℕ)) (more : Facts)
     → w ≡ letter ∷ 61 ∷ value → take_letter shape facts letter value later ≡ Ok more → Taken shape cells facts w later more
 unfolding take_letter
-letter_taken shape cells facts w value letter later more e h = is_x (eqb letter 120) refl h
+letter_taken shape cells facts w value letter later more e h =
+    tested (eqb letter 120) h (λ t. is_pair 0 120 (lit< tt) refl t (λ k. absurd (omega (arith, k))))
+    (λ _ h. tested (eqb letter 121) h (λ t. is_pair 1 121 (lit< tt) refl t (λ k. absurd (omega (arith, k))))
+    (λ _ h. tested (eqb letter 122) h (λ t h. tested (is_flag_z shape facts value later) h
+    (λ z. is_flag 1 122 (lit< tt) refl t (λ _. z)) (λ z. is_pair 2 122 (lit< tt) refl t (λ _. z)))
+    (λ _ h. tested (eqb letter 99) h (λ t. is_flag 0 99 (lit< tt) refl t (λ k. absurd (omega (arith, k))))
+    (λ _ h. tested (eqb letter 110) h (λ t. is_flag 2 110 (lit< tt) refl t (λ k. absurd (omega (arith, k))))
+    (λ _ h. tested (eqb letter 118) h (λ t. is_flag 3 118 (lit< tt) refl t (λ k. absurd (omega (arith, k))))
+    (λ _ h. tested (eqb letter 115) h (λ t. is_flag 4 115 (lit< tt) refl t (λ k. absurd (omega (arith, k))))
+    (λ _ h. tested (eqb letter 104) h (λ t. is_flag 5 104 (lit< tt) refl t (λ k. absurd (omega (arith, k))))
+    (λ _ h. tested (eqb letter 116) h (λ t. is_flag 6 116 (lit< tt) refl t (λ k. absurd (omega (arith, k))))
+    (λ _ h. absurd (fault_not why.Word more h))))))))))
   where
-    no_z : (k : ℕ) → k ≢ 2 → k ≡ 2 → is_flag_z shape facts value later ≡ false
-    no_z k n e = absurd (n e)
+    is_pair : (k c : ℕ) → k < 3 → c ≡ pair_letter k → eqb letter c ≡ true → (k ≡ 2 → is_flag_z shape facts value later ≡ false)
+        → take_pair shape facts k value ≡ Ok more → Taken shape cells facts w later more
+    is_pair k c l is t z = pair_taken shape cells facts w value later k more (e ∙ ap (λ x. x ∷ 61 ∷ value) (number_is letter c t ∙ is)) l z
 
-    no_flag_z : (b : ℕ) → b ≢ 1 → b ≡ 1 → is_flag_z shape facts value later ≡ true
-    no_flag_z b n e = absurd (n e)
-
-    is_t : (t : Bool) → eqb letter 116 ≡ t → cond t (take_flag shape facts 6 value) (Err why.Word) ≡ Ok more → Taken shape cells facts w
-        later more
-    is_t true t h = flag_taken shape cells facts w value later 6 more (letter_word letter 116 w value (number_is letter 116 t) e) (lit< tt)
-        (no_flag_z 6 (λ e. omega arith)) h
-    is_t false t h = absurd (fault_not why.Word more h)
-
-    is_h : (t : Bool) → eqb letter 104 ≡ t → cond t (take_flag shape facts 5 value) (cond (eqb letter 116) (take_flag shape facts 6 value)
-        (Err why.Word)) ≡ Ok more
-        → Taken shape cells facts w later more
-    is_h true t h = flag_taken shape cells facts w value later 5 more (letter_word letter 104 w value (number_is letter 104 t) e) (lit< tt)
-        (no_flag_z 5 (λ e. omega arith)) h
-    is_h false t h = is_t (eqb letter 116) refl h
-
-    is_s : (t : Bool) → eqb letter 115 ≡ t
-        → cond t (take_flag shape facts 4 value) (cond (eqb letter 104) (take_flag shape facts 5 value)
-        (cond (eqb letter 116) (take_flag shape facts 6 value) (Err why.Word))) ≡ Ok more
-        → Taken shape cells facts w later more
-    is_s true t h = flag_taken shape cells facts w value later 4 more (letter_word letter 115 w value (number_is letter 115 t) e) (lit< tt)
-        (no_flag_z 4 (λ e. omega arith)) h
-    is_s false t h = is_h (eqb letter 104) refl h
-
-    is_v : (t : Bool) → eqb letter 118 ≡ t
-        → cond t (take_flag shape facts 3 value) (cond (eqb letter 115) (take_flag shape facts 4 value)
-        (cond (eqb letter 104) (take_flag shape facts 5 value)
-        (cond (eqb letter 116) (take_flag shape facts 6 value) (Err why.Word)))) ≡ Ok more
-        → Taken shape cells facts w later more
-    is_v true t h = flag_taken shape cells facts w value later 3 more (letter_word letter 118 w value (number_is letter 118 t) e) (lit< tt)
-        (no_flag_z 3 (λ e. omega arith)) h
-    is_v false t h = is_s (eqb letter 115) refl h
-
-    is_n : (t : Bool) → eqb letter 110 ≡ t
-        → cond t (take_flag shape facts 2 value) (cond (eqb letter 118) (take_flag shape facts 3 value)
-        (cond (eqb letter 115) (take_flag shape facts 4 value)
-        (cond (eqb letter 104) (take_flag shape facts 5 value) (cond (eqb letter 116) (take_flag shape facts 6 value) (Err why.Word)))))
-        ≡ Ok more
-        → Taken shape cells facts w later more
-    is_n true t h = flag_taken shape cells facts w value later 2 more (letter_word letter 110 w value (number_is letter 110 t) e) (lit< tt)
-        (no_flag_z 2 (λ e. omega arith)) h
-    is_n false t h = is_v (eqb letter 118) refl h
-
-    is_c : (t : Bool) → eqb letter 99 ≡ t
-        → cond t (take_flag shape facts 0 value) (cond (eqb letter 110) (take_flag shape facts 2 value)
-        (cond (eqb letter 118) (take_flag shape facts 3 value)
-        (cond (eqb letter 115) (take_flag shape facts 4 value) (cond (eqb letter 104) (take_flag shape facts 5 value)
-        (cond (eqb letter 116) (take_flag shape facts 6 value) (Err why.Word)))))) ≡ Ok more
-        → Taken shape cells facts w later more
-    is_c true t h = flag_taken shape cells facts w value later 0 more (letter_word letter 99 w value (number_is letter 99 t) e) (lit< tt)
-        (no_flag_z 0 (λ e. omega arith)) h
-    is_c false t h = is_n (eqb letter 110) refl h
-
-    which_z : letter ≡ 122 → (t : Bool) → is_flag_z shape facts value later ≡ t
-        → cond t (take_flag shape facts 1 value) (take_pair shape facts 2 value) ≡ Ok more → Taken shape cells facts w later more
-    which_z l true t h = flag_taken shape cells facts w value later 1 more (letter_word letter 122 w value l e) (lit< tt) (λ _. t) h
-    which_z l false t h = pair_taken shape cells facts w value later 2 more (letter_word letter 122 w value l e) (lit< tt) (λ _. t) h
-
-    is_z : (t : Bool) → eqb letter 122 ≡ t
-        → cond t (cond (is_flag_z shape facts value later) (take_flag shape facts 1 value) (take_pair shape facts 2 value))
-        (cond (eqb letter 99) (take_flag shape facts 0 value) (cond (eqb letter 110) (take_flag shape facts 2 value)
-        (cond (eqb letter 118) (take_flag shape facts 3 value)
-        (cond (eqb letter 115) (take_flag shape facts 4 value) (cond (eqb letter 104) (take_flag shape facts 5 value)
-        (cond (eqb letter 116) (take_flag shape facts 6 value) (Err why.Word))))))) ≡ Ok more
-        → Taken shape cells facts w later more
-    is_z true t h = which_z (number_is letter 122 t) (is_flag_z shape facts value later) refl h
-    is_z false t h = is_c (eqb letter 99) refl h
-
-    is_y : (t : Bool) → eqb letter 121 ≡ t
-        → cond t (take_pair shape facts 1 value)
-        (cond (eqb letter 122) (cond (is_flag_z shape facts value later) (take_flag shape facts 1 value) (take_pair shape facts 2 value))
-        (cond (eqb letter 99) (take_flag shape facts 0 value) (cond (eqb letter 110) (take_flag shape facts 2 value)
-        (cond (eqb letter 118) (take_flag shape facts 3 value)
-        (cond (eqb letter 115) (take_flag shape facts 4 value) (cond (eqb letter 104) (take_flag shape facts 5 value)
-        (cond (eqb letter 116) (take_flag shape facts 6 value) (Err why.Word)))))))) ≡ Ok more
-        → Taken shape cells facts w later more
-    is_y true t h = pair_taken shape cells facts w value later 1 more (letter_word letter 121 w value (number_is letter 121 t) e) (lit< tt)
-        (no_z 1 (λ e. omega arith)) h
-    is_y false t h = is_z (eqb letter 122) refl h
-
-    is_x : (t : Bool) → eqb letter 120 ≡ t
-        → cond t (take_pair shape facts 0 value) (cond (eqb letter 121) (take_pair shape facts 1 value)
-        (cond (eqb letter 122) (cond (is_flag_z shape facts value later) (take_flag shape facts 1 value) (take_pair shape facts 2 value))
-        (cond (eqb letter 99) (take_flag shape facts 0 value) (cond (eqb letter 110) (take_flag shape facts 2 value)
-        (cond (eqb letter 118) (take_flag shape facts 3 value)
-        (cond (eqb letter 115) (take_flag shape facts 4 value) (cond (eqb letter 104) (take_flag shape facts 5 value)
-        (cond (eqb letter 116) (take_flag shape facts 6 value) (Err why.Word))))))))) ≡ Ok more
-        → Taken shape cells facts w later more
-    is_x true t h = pair_taken shape cells facts w value later 0 more (letter_word letter 120 w value (number_is letter 120 t) e) (lit< tt)
-        (no_z 0 (λ e. omega arith)) h
-    is_x false t h = is_y (eqb letter 121) refl h
+    is_flag : (b c : ℕ) → b < 7 → c ≡ flag_letter b → eqb letter c ≡ true → (b ≡ 1 → is_flag_z shape facts value later ≡ true)
+        → take_flag shape facts b value ≡ Ok more → Taken shape cells facts w later more
+    is_flag b c l is t z = flag_taken shape cells facts w value later b more (e ∙ ap (λ x. x ∷ 61 ∷ value) (number_is letter c t ∙ is)) l z
 
 -- items that have a name
 
@@ -516,7 +442,14 @@ keyed_taken : (shape : Shape) (cells : List Cell) (facts : Facts) (w key value :
     → PlacesFit shape cells → w ≡ key ++ 61 ∷ value → take_keyed shape cells facts key value later ≡ Ok more → Taken shape cells facts w
     later more
 keyed_taken shape cells facts w [] value later more fits e h = absurd (fault_not why.Word more h)
-keyed_taken shape cells facts w (c ∷ cs) value later more fits e h = is_r (eqb c 114) refl h
+keyed_taken shape cells facts w (c ∷ cs) value later more fits e h =
+    tested (eqb c 114) h (λ t. register_taken shape cells facts w cs value later more (at 114 t))
+    (λ _ h. tested (eqb c 109) h (λ t. cell_taken shape cells facts w cs value later more fits.few fits.bytes (at 109 t))
+    (λ _ h. tested (eqb (length cs) 0) h
+    (λ t. letter_taken shape cells facts w value c later more (e ∙ ap (λ ks. (c ∷ ks) ++ 61 ∷ value) (no_key cs t)))
+    (λ _ h. tested (bytes_eq (c ∷ cs) (codes "top")) h (λ t. top_taken shape cells facts w value later more (named (codes "top") t))
+    (λ _ h. tested (bytes_eq (c ∷ cs) (codes "temp")) h (λ t. temp_taken shape cells facts w value later more (named (codes "temp") t))
+    (λ _ h. absurd (fault_not why.Word more h))))))
   where
     at : (b : ℕ) → eqb c b ≡ true → w ≡ (b ∷ cs) ++ 61 ∷ value
     at b t = e ∙ ap (λ x. (x ∷ cs) ++ 61 ∷ value) (number_is c b t)
@@ -530,37 +463,6 @@ keyed_taken shape cells facts w (c ∷ cs) value later more fits e h = is_r (eqb
 
     named : (key : List ℕ) → bytes_eq (c ∷ cs) key ≡ true → w ≡ key ++ 61 ∷ value
     named key t = e ∙ ap (λ ks. ks ++ 61 ∷ value) (word_is (c ∷ cs) key t)
-
-    is_temp : (t : Bool) → bytes_eq (c ∷ cs) (codes "temp") ≡ t → cond t (take_temp shape facts value) (Err why.Word) ≡ Ok more
-        → Taken shape cells facts w later more
-    is_temp true t h = temp_taken shape cells facts w value later more (named (codes "temp") t) h
-    is_temp false t h = absurd (fault_not why.Word more h)
-
-    is_timer : (t : Bool) → bytes_eq (c ∷ cs) (codes "top") ≡ t
-        → cond t (take_top shape facts value) (cond (bytes_eq (c ∷ cs) (codes "temp")) (take_temp shape facts value) (Err why.Word)) ≡ Ok more
-        → Taken shape cells facts w later more
-    is_timer true t h = top_taken shape cells facts w value later more (named (codes "top") t) h
-    is_timer false t h = is_temp (bytes_eq (c ∷ cs) (codes "temp")) refl h
-
-    is_letter : (t : Bool) → eqb (length cs) 0 ≡ t
-        → cond t (take_letter shape facts c value later) (take_timer shape facts (c ∷ cs) value) ≡ Ok more
-        → Taken shape cells facts w later more
-    is_letter true t h = letter_taken shape cells facts w value c later more (e ∙ ap (λ ks. (c ∷ ks) ++ 61 ∷ value) (no_key cs t)) h
-    is_letter false t h = is_timer (bytes_eq (c ∷ cs) (codes "top")) refl h
-
-    is_m : (t : Bool) → eqb c 109 ≡ t
-        → cond t (take_cell shape cells facts cs value) (cond (eqb (length cs) 0) (take_letter shape facts c value later)
-        (take_timer shape facts (c ∷ cs) value)) ≡ Ok more
-        → Taken shape cells facts w later more
-    is_m true t h = cell_taken shape cells facts w cs value later more fits.few fits.bytes (at 109 t) h
-    is_m false t h = is_letter (eqb (length cs) 0) refl h
-
-    is_r : (t : Bool) → eqb c 114 ≡ t
-        → cond t (take_register shape facts cs value) (cond (eqb c 109) (take_cell shape cells facts cs value)
-        (cond (eqb (length cs) 0) (take_letter shape facts c value later) (take_timer shape facts (c ∷ cs) value))) ≡ Ok more
-        → Taken shape cells facts w later more
-    is_r true t h = register_taken shape cells facts w cs value later more (at 114 t) h
-    is_r false t h = is_m (eqb c 109) refl h
 
 named_taken : (shape : Shape) (cells : List Cell) (facts : Facts) (w : List ℕ) (later : List (List ℕ)) (more : Facts)
     → PlacesFit shape cells → take_named shape cells facts w later ≡ Ok more → Taken shape cells facts w later more
@@ -576,29 +478,15 @@ pub item_taken : (shape : Shape) (cells : List Cell) (facts : Facts) (w : List �
     → PlacesFit shape cells → take_item shape cells facts w later ≡ Ok more → Taken shape cells facts w later more
 unfolding take_item
 item_taken shape cells facts [] later more fits h = absurd (fault_not why.Word more h)
-item_taken shape cells facts (c ∷ cs) later more fits h = is_successor (eqb c 62) refl h
+item_taken shape cells facts (c ∷ cs) later more fits h =
+    tested (eqb c 62) h (λ t. successor_taken shape cells facts (c ∷ cs) cs later more fits.points (ap (λ x. x ∷ cs) (number_is c 62 t)))
+    (λ _ h. tested (eqb c 115) h (λ t. second t cs refl) (λ _. named_taken shape cells facts (c ∷ cs) later more fits))
   where
-    second : eqb c 115 ≡ true → (ds : List ℕ) → cs ≡ ds → take_second shape cells facts (c ∷ cs) ds later ≡ Ok more → Taken shape cells
-        facts (c ∷ cs) later more
+    second : eqb c 115 ≡ true → (ds : List ℕ) → cs ≡ ds → take_second shape cells facts (c ∷ cs) ds later ≡ Ok more
+        → Taken shape cells facts (c ∷ cs) later more
     second s [] e h = named_taken shape cells facts (c ∷ cs) later more fits h
-    second s (d ∷ ds) e h = by_colon (eqb d 58) refl h
-      where
-        by_colon : (t : Bool) → eqb d 58 ≡ t → cond t (take_slot shape facts ds) (take_named shape cells facts (c ∷ cs) later) ≡ Ok more
-            → Taken shape cells facts (c ∷ cs) later more
-        by_colon true t h =
-            slot_taken shape cells facts (c ∷ cs) ds later more
-            (ap (λ x. c ∷ x) e ∙ ap (λ x. x ∷ d ∷ ds) (number_is c 115 s) ∙ ap (λ x. 115 ∷ x ∷ ds) (number_is d 58 t)) h
-        by_colon false t h = named_taken shape cells facts (c ∷ cs) later more fits h
-
-    is_slot : (t : Bool) → eqb c 115 ≡ t
-        → cond t (take_second shape cells facts (c ∷ cs) cs later) (take_named shape cells facts (c ∷ cs) later) ≡ Ok more
-        → Taken shape cells facts (c ∷ cs) later more
-    is_slot true t h = second t cs refl h
-    is_slot false t h = named_taken shape cells facts (c ∷ cs) later more fits h
-
-    is_successor : (t : Bool) → eqb c 62 ≡ t
-        → cond t (take_successor shape facts cs) (cond (eqb c 115) (take_second shape cells facts (c ∷ cs) cs later)
-        (take_named shape cells facts (c ∷ cs) later)) ≡ Ok more
-        → Taken shape cells facts (c ∷ cs) later more
-    is_successor true t h = successor_taken shape cells facts (c ∷ cs) cs later more fits.points (ap (λ x. x ∷ cs) (number_is c 62 t)) h
-    is_successor false t h = is_slot (eqb c 115) refl h
+    second s (d ∷ ds) e h =
+        tested (eqb d 58) h
+        (λ t. slot_taken shape cells facts (c ∷ cs) ds later more
+        (ap (λ x. c ∷ x) e ∙ ap (λ x. x ∷ d ∷ ds) (number_is c 115 s) ∙ ap (λ x. 115 ∷ x ∷ ds) (number_is d 58 t)))
+        (λ _. named_taken shape cells facts (c ∷ cs) later more fits)

@@ -76,68 +76,20 @@ flag_set_so shape facts b bit i l o =
 
 -- by the letter
 
-abbrev Takes : Shape → List Cell → Facts → ℕ → List ℕ → List (List ℕ) → Result Facts CertWhy
-Takes shape cells facts letter value later = take_item shape cells facts (letter ∷ 61 ∷ value) later
-
-x_is : (shape : Shape) (cells : List Cell) (facts : Facts) (value : List ℕ) (later : List (List ℕ)) → Takes shape cells facts 120 value
-    later ≡ take_pair shape facts 0 value
-unfolding take_item take_named take_letter
-x_is shape cells facts value later = refl
-
-y_is : (shape : Shape) (cells : List Cell) (facts : Facts) (value : List ℕ) (later : List (List ℕ)) → Takes shape cells facts 121 value
-    later ≡ take_pair shape facts 1 value
-unfolding take_item take_named take_letter
-y_is shape cells facts value later = refl
-
-z_is : (shape : Shape) (cells : List Cell) (facts : Facts) (value : List ℕ) (later : List (List ℕ))
-    → Takes shape cells facts 122 value later ≡ cond (is_flag_z shape facts value later) (take_flag shape facts 1 value)
-    (take_pair shape facts 2 value)
-unfolding take_item take_named take_letter
-z_is shape cells facts value later = refl
-
-c_is : (shape : Shape) (cells : List Cell) (facts : Facts) (value : List ℕ) (later : List (List ℕ)) → Takes shape cells facts 99 value
-    later ≡ take_flag shape facts 0 value
-unfolding take_item take_named take_letter
-c_is shape cells facts value later = refl
-
-n_is : (shape : Shape) (cells : List Cell) (facts : Facts) (value : List ℕ) (later : List (List ℕ)) → Takes shape cells facts 110 value
-    later ≡ take_flag shape facts 2 value
-unfolding take_item take_named take_letter
-n_is shape cells facts value later = refl
-
-v_is : (shape : Shape) (cells : List Cell) (facts : Facts) (value : List ℕ) (later : List (List ℕ)) → Takes shape cells facts 118 value
-    later ≡ take_flag shape facts 3 value
-unfolding take_item take_named take_letter
-v_is shape cells facts value later = refl
-
-s_is : (shape : Shape) (cells : List Cell) (facts : Facts) (value : List ℕ) (later : List (List ℕ)) → Takes shape cells facts 115 value
-    later ≡ take_flag shape facts 4 value
-unfolding take_item take_named take_letter
-s_is shape cells facts value later = refl
-
-h_is : (shape : Shape) (cells : List Cell) (facts : Facts) (value : List ℕ) (later : List (List ℕ)) → Takes shape cells facts 104 value
-    later ≡ take_flag shape facts 5 value
-unfolding take_item take_named take_letter
-h_is shape cells facts value later = refl
-
-t_is : (shape : Shape) (cells : List Cell) (facts : Facts) (value : List ℕ) (later : List (List ℕ)) → Takes shape cells facts 116 value
-    later ≡ take_flag shape facts 6 value
-unfolding take_item take_named take_letter
-t_is shape cells facts value later = refl
-
 past_two : (k : ℕ) → suc (suc (suc k)) < 3 → ⊥
 past_two k h = omega arith
 
 pub pair_takes : (shape : Shape) (cells : List Cell) (facts : Facts) (later : List (List ℕ)) (w : List ℕ) (k : ℕ) (f : PairFact)
     → TakesPair shape facts w later k f → take_item shape cells facts w later ≡ Ok (with_pair facts k f)
+unfolding take_item take_named take_letter
 pair_takes shape cells facts later w zero f t =
-    ap (λ v. take_item shape cells facts v later) t.word ∙ x_is shape cells facts (pair_word f) later ∙ pair_set_so shape facts 0 f t.whole
+    ap (λ v. take_item shape cells facts v later) t.word ∙ pair_set_so shape facts 0 f t.whole
     t.fits t.order t.other
 pair_takes shape cells facts later w (suc zero) f t =
-    ap (λ v. take_item shape cells facts v later) t.word ∙ y_is shape cells facts (pair_word f) later ∙ pair_set_so shape facts 1 f t.whole
+    ap (λ v. take_item shape cells facts v later) t.word ∙ pair_set_so shape facts 1 f t.whole
     t.fits t.order t.other
 pair_takes shape cells facts later w (suc (suc zero)) f t =
-    ap (λ v. take_item shape cells facts v later) t.word ∙ z_is shape cells facts (pair_word f) later
+    ap (λ v. take_item shape cells facts v later) t.word
     ∙ else_so (is_flag_z shape facts (pair_word f) later) (take_flag shape facts 1 (pair_word f)) (take_pair shape facts 2 (pair_word f))
     (t.meant refl)
     ∙ pair_set_so shape facts 2 f t.whole t.fits t.order t.other
@@ -148,28 +100,29 @@ past_six b h = omega arith
 
 pub flag_takes : (shape : Shape) (cells : List Cell) (facts : Facts) (later : List (List ℕ)) (w : List ℕ) (b : ℕ) (bit : Bit)
     → TakesFlag shape facts w later b bit → take_item shape cells facts w later ≡ Ok (with_flag facts b bit)
+unfolding take_item take_named take_letter
 flag_takes shape cells facts later w zero bit t =
-    ap (λ v. take_item shape cells facts v later) t.word ∙ c_is shape cells facts (flag_word bit) later ∙ flag_set_so shape facts 0 bit
+    ap (λ v. take_item shape cells facts v later) t.word ∙ flag_set_so shape facts 0 bit
     t.fits t.order t.other
 flag_takes shape cells facts later w (suc zero) bit t =
-    ap (λ v. take_item shape cells facts v later) t.word ∙ z_is shape cells facts (flag_word bit) later
+    ap (λ v. take_item shape cells facts v later) t.word
     ∙ so (is_flag_z shape facts (flag_word bit) later) (take_flag shape facts 1 (flag_word bit)) (take_pair shape facts 2 (flag_word bit))
     (t.meant refl)
     ∙ flag_set_so shape facts 1 bit t.fits t.order t.other
 flag_takes shape cells facts later w (suc (suc zero)) bit t =
-    ap (λ v. take_item shape cells facts v later) t.word ∙ n_is shape cells facts (flag_word bit) later ∙ flag_set_so shape facts 2 bit
+    ap (λ v. take_item shape cells facts v later) t.word ∙ flag_set_so shape facts 2 bit
     t.fits t.order t.other
 flag_takes shape cells facts later w (suc (suc (suc zero))) bit t =
-    ap (λ v. take_item shape cells facts v later) t.word ∙ v_is shape cells facts (flag_word bit) later ∙ flag_set_so shape facts 3 bit
+    ap (λ v. take_item shape cells facts v later) t.word ∙ flag_set_so shape facts 3 bit
     t.fits t.order t.other
 flag_takes shape cells facts later w (suc (suc (suc (suc zero)))) bit t =
-    ap (λ v. take_item shape cells facts v later) t.word ∙ s_is shape cells facts (flag_word bit) later ∙ flag_set_so shape facts 4 bit
+    ap (λ v. take_item shape cells facts v later) t.word ∙ flag_set_so shape facts 4 bit
     t.fits t.order t.other
 flag_takes shape cells facts later w (suc (suc (suc (suc (suc zero))))) bit t =
-    ap (λ v. take_item shape cells facts v later) t.word ∙ h_is shape cells facts (flag_word bit) later ∙ flag_set_so shape facts 5 bit
+    ap (λ v. take_item shape cells facts v later) t.word ∙ flag_set_so shape facts 5 bit
     t.fits t.order t.other
 flag_takes shape cells facts later w (suc (suc (suc (suc (suc (suc zero)))))) bit t =
-    ap (λ v. take_item shape cells facts v later) t.word ∙ t_is shape cells facts (flag_word bit) later ∙ flag_set_so shape facts 6 bit
+    ap (λ v. take_item shape cells facts v later) t.word ∙ flag_set_so shape facts 6 bit
     t.fits t.order t.other
 flag_takes shape cells facts later w (suc (suc (suc (suc (suc (suc (suc b))))))) bit t = absurd (past_six b t.there)
 
@@ -223,36 +176,24 @@ top_below top h = by_half (eqb top (half_line - 1)) refl h
     by_half true e h = omega (arith, number_is top (half_line - 1) e)
     by_half false e h = omega (arith, number_is top (scanline - 1) h)
 
-top_is : (shape : Shape) (cells : List Cell) (facts : Facts) (value : List ℕ) (later : List (List ℕ))
-    → take_item shape cells facts (item (codes "top") value) later ≡ take_top shape facts value
-unfolding take_item take_named
-top_is shape cells facts value later = refl
-
 pub top_takes : (shape : Shape) (cells : List Cell) (facts : Facts) (later : List (List ℕ)) (top : ℕ)
     → TakesTop shape facts (item (codes "top") (decimal top)) top
     → take_item shape cells facts (item (codes "top") (decimal top)) later ≡ Ok (with_top facts top)
-unfolding take_top
+unfolding take_item take_named take_top
 top_takes shape cells facts later top t =
-    top_is shape cells facts (decimal top) later
-    ∙ so shape.timed (one_number 0 scanline (decimal top) >>= (λ n. top_value facts n)) (Err why.Word) t.timed
+    so shape.timed (one_number 0 scanline (decimal top) >>= (λ n. top_value facts n)) (Err why.Word) t.timed
     ∙ then (one_number 0 scanline (decimal top)) (λ n. top_value facts n) top (Ok (with_top facts top))
     (one_so 0 scanline top (lit≤ tt) (omega arith) (top_below top t.fits))
     (so (is_top top) (top_set facts top) (Err why.Limit) t.fits
     ∙ order_so facts 59 (is_default_top top) (with_top facts top) t.order t.other)
 
-temp_is : (shape : Shape) (cells : List Cell) (facts : Facts) (value : List ℕ) (later : List (List ℕ))
-    → take_item shape cells facts (item (codes "temp") value) later ≡ take_temp shape facts value
-unfolding take_item take_named
-temp_is shape cells facts value later = refl
-
 pub temp_takes : (shape : Shape) (cells : List Cell) (facts : Facts) (later : List (List ℕ)) (temp : Ends)
     → TakesTemp shape facts (item (codes "temp") (range_word temp)) temp
     → take_item shape cells facts (item (codes "temp") (range_word temp)) later ≡ Ok (with_temp facts temp)
-unfolding take_temp
+unfolding take_item take_named take_temp
 temp_takes shape cells facts later temp t =
     let is = temp_so temp t.fits in
-    temp_is shape cells facts (range_word temp) later
-    ∙ so shape.timed (range temp_forms (range_word temp) >>= (λ raw. ends_of raw >>= (λ e. temp_set facts e))) (Err why.Word) t.timed
+    so shape.timed (range temp_forms (range_word temp) >>= (λ raw. ends_of raw >>= (λ e. temp_set facts e))) (Err why.Word) t.timed
     ∙ then (range temp_forms (range_word temp)) (λ raw. ends_of raw >>= (λ e. temp_set facts e)) (temp_raw temp)
     (Ok (with_temp facts temp)) is.0
     (then (ends_of (temp_raw temp)) (λ e. temp_set facts e) temp (Ok (with_temp facts temp)) is.1
