@@ -21,7 +21,7 @@ use Rattle.uz_cert_words.specs.declared.values.Raw.{Raw}
 use Rattle.uz_cert_words.specs.declared.values.Raw.TheVariants as raw
 use Rattle.uz_cert_words.specs.declared.why.CertWhy.TheVariants as why
 use Rattle.uz_cert_writer.specs.Spelling.{range_word, ends_word, fact_word, pair_word, flag_word}
-use Rattle.uz_cert_laws.proofs.Tests.{and_true, both_true, and_false, not_true, fine, fine_is, fault_not, passed, so, else_so, bind_ok}
+use Rattle.uz_cert_laws.proofs.Tests.{tested, and_true, both_true, and_false, not_true, fine, fine_is, fault_not, passed, so, else_so, bind_ok}
 use Rattle.uz_cert_laws.proofs.Tests.{then, le_is, is_le, lt_is, is_lt, number_is, number_not, same_number, word_is}
 use Rattle.uz_cert_laws.proofs.Raws.{raw_word, RawFits, range_only, range_not_all, one_range, two_range, raw_only, raw_so}
 
@@ -425,36 +425,16 @@ BitIn old Free = ⊤
 BitIn old OldBit = old ≡ true
 
 pub bit_only : (old : Bool) (w : List ℕ) (bit : Bit) → bit_of old w ≡ Ok bit → (w ≡ flag_word bit) × BitIn old bit
-bit_only old w bit e = zero_word (bytes_eq w (codes "0")) refl e
+bit_only old w bit e =
+    tested (bytes_eq w (codes "0")) e (λ t e. at Zero e (word_is w (codes "0") t, tt))
+    (λ _ e. tested (bytes_eq w (codes "1")) e (λ t e. at One e (word_is w (codes "1") t, tt))
+    (λ _ e. tested (bytes_eq w (codes "?")) e (λ t e. at Free e (word_is w (codes "?") t, tt))
+    (λ _ e. tested (bytes_eq w (codes "o") && old) e
+    (λ t e. let two = and_true (bytes_eq w (codes "o")) old t in at OldBit e (word_is w (codes "o") two.0, two.1))
+    (λ _ e. absurd (fault_not why.Word bit e)))))
   where
     at : (a : Bit) → fine a ≡ fine bit → (w ≡ flag_word a) × BitIn old a → (w ≡ flag_word bit) × BitIn old bit
     at a e h = subst (λ (x : Bit). (w ≡ flag_word x) × BitIn old x) (fine_is a bit e) h
-
-    old_word : (t : Bool) → (bytes_eq w (codes "o") && old) ≡ t → cond t (Ok OldBit) (Err why.Word) ≡ Ok bit → (w ≡ flag_word bit)
-        × BitIn old bit
-    old_word true t e =
-        let two = and_true (bytes_eq w (codes "o")) old t in
-        at OldBit e (word_is w (codes "o") two.0, two.1)
-    old_word false t e = absurd (fault_not why.Word bit e)
-
-    free_word : (t : Bool) → bytes_eq w (codes "?") ≡ t
-        → cond t (Ok Free) (cond (bytes_eq w (codes "o") && old) (Ok OldBit) (Err why.Word)) ≡ Ok bit → (w ≡ flag_word bit) × BitIn old bit
-    free_word true t e = at Free e (word_is w (codes "?") t, tt)
-    free_word false t e = old_word (bytes_eq w (codes "o") && old) refl e
-
-    one_word : (t : Bool) → bytes_eq w (codes "1") ≡ t
-        → cond t (Ok One) (cond (bytes_eq w (codes "?")) (Ok Free) (cond (bytes_eq w (codes "o") && old) (Ok OldBit) (Err why.Word))) ≡ Ok
-        bit
-        → (w ≡ flag_word bit) × BitIn old bit
-    one_word true t e = at One e (word_is w (codes "1") t, tt)
-    one_word false t e = free_word (bytes_eq w (codes "?")) refl e
-
-    zero_word : (t : Bool) → bytes_eq w (codes "0") ≡ t
-        → cond t (Ok Zero) (cond (bytes_eq w (codes "1")) (Ok One) (cond (bytes_eq w (codes "?")) (Ok Free)
-        (cond (bytes_eq w (codes "o") && old) (Ok OldBit) (Err why.Word)))) ≡ Ok bit
-        → (w ≡ flag_word bit) × BitIn old bit
-    zero_word true t e = at Zero e (word_is w (codes "0") t, tt)
-    zero_word false t e = one_word (bytes_eq w (codes "1")) refl e
 
 pub bit_so : (old : Bool) (bit : Bit) → BitIn old bit → bit_of old (flag_word bit) ≡ Ok bit
 bit_so old Zero i = refl

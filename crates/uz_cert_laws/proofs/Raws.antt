@@ -13,7 +13,7 @@ use Rattle.uz_cert_words.specs.declared.values.Raw.TheVariants as raw
 use Rattle.uz_cert_words.specs.declared.why.CertWhy.{CertWhy}
 use Rattle.uz_cert_words.specs.declared.why.CertWhy.TheVariants as why
 use Rattle.uz_cert_writer.specs.Spelling.{slope_word}
-use Rattle.uz_cert_laws.proofs.Tests.{and_true, both_true, fine, fine_is, passed, so, else_so, bind_ok, then, lt_is, is_lt, number_is, not_number}
+use Rattle.uz_cert_laws.proofs.Tests.{tested, and_true, both_true, fine, fine_is, passed, so, else_so, bind_ok, then, lt_is, is_lt, number_is, not_number}
 use Rattle.uz_cert_laws.proofs.Tests.{word_is}
 use Rattle.uz_cert_laws.proofs.Numbers.{one_only, one_so, two_only, two_so, first_digit, decimal_lacks_below, cut_none}
 
@@ -176,29 +176,11 @@ head_is c b cs f r e h = subst (λ x. Reads f (x ∷ cs) r) (sym (number_is c b 
 pub raw_only : (f : FactForms) (w : List ℕ) (r : Raw) → f.limit ≤ 2 ^ 32 → raw_of f w ≡ Ok r → (w ≡ raw_word r) × RawFits f r
 unfolding raw_of
 raw_only f [] r h e = absurd cc
-raw_only f (c ∷ cs) r h e = star (eqb c 42) refl e
-  where
-    other : (t : Bool) → eqb c 111 ≡ t → cond t (old f cs) (range f (c ∷ cs)) ≡ Ok r → Reads f (c ∷ cs) r
-    other true is e = head_is c 111 cs f r is (old_only f cs r e)
-    other false is e = range_only f (c ∷ cs) r h e
-
-    loop : (t : Bool) → eqb c 99 ≡ t → cond t (sloped false f cs) (cond (eqb c 111) (old f cs) (range f (c ∷ cs))) ≡ Ok r → Reads f (c ∷ cs)
-        r
-    loop true is e = head_is c 99 cs f r is (loop_only f cs r h e)
-    loop false is e = other (eqb c 111) refl e
-
-    line : (t : Bool) → eqb c 108 ≡ t
-        → cond t (sloped true f cs) (cond (eqb c 99) (sloped false f cs) (cond (eqb c 111) (old f cs) (range f (c ∷ cs)))) ≡ Ok r
-        → Reads f (c ∷ cs) r
-    line true is e = head_is c 108 cs f r is (line_only f cs r h e)
-    line false is e = loop (eqb c 99) refl e
-
-    star : (t : Bool) → eqb c 42 ≡ t
-        → cond t (whole f cs) (cond (eqb c 108) (sloped true f cs)
-        (cond (eqb c 99) (sloped false f cs) (cond (eqb c 111) (old f cs) (range f (c ∷ cs))))) ≡ Ok r
-        → Reads f (c ∷ cs) r
-    star true is e = head_is c 42 cs f r is (whole_only f cs r e)
-    star false is e = line (eqb c 108) refl e
+raw_only f (c ∷ cs) r h e =
+    tested (eqb c 42) e (λ t e. head_is c 42 cs f r t (whole_only f cs r e))
+    (λ _ e. tested (eqb c 108) e (λ t e. head_is c 108 cs f r t (line_only f cs r h e))
+    (λ _ e. tested (eqb c 99) e (λ t e. head_is c 99 cs f r t (loop_only f cs r h e))
+    (λ _ e. tested (eqb c 111) e (λ t e. head_is c 111 cs f r t (old_only f cs r e)) (λ _ e. range_only f (c ∷ cs) r h e))))
 
 -- what is written is read
 

@@ -1,5 +1,5 @@
 -- What it takes that an item is taken: its word is spelled as one of the eight forms, and it sets one thing.
-use Rattle.std.proofs.Common.{◌≡◌, ℕ, zero, suc, ◌+◌, ◌<◌, ◌≤◌, ◌≢◌, ◌^◌, Bool, true, false, cond, not, ◌&&◌, ◌||◌, eqb, leb, ltb, List, []}
+use Rattle.std.proofs.Common.{◌≡◌, ℕ, zero, suc, ◌+◌, ◌<◌, ◌≤◌, ◌^◌, Bool, true, false, cond, not, ◌&&◌, ◌||◌, eqb, leb, ltb, List, []}
 use Rattle.std.proofs.Common.{◌∷◌, ◌++◌, length, decimal, codes, bytes_eq, lit<, lit≤, refl, sym, ◌∙◌, ap, subst, arith}
 use Rattle.std.specs.Prelude.{Option, Some, None, Result, Ok, Err, All, slice_get, slice_set, slice_index}
 use Rattle.std.proofs.lemmas.List.Elements.{All-head, All-tail}
@@ -24,7 +24,7 @@ use Rattle.uz_cert_lines.specs.Items.{take_pair}
 use Rattle.uz_cert_lines.specs.Items.{flag_set, take_flag, slot_set, slot_room, take_slot, tracked_before, with_number, cell_at, cell_forms}
 use Rattle.uz_cert_lines.specs.Items.{numbered}
 use Rattle.uz_cert_lines.specs.Items.{cell_set, cell_value, take_cell, successor_set, take_successor, is_flag_z, take_letter, take_keyed}
-use Rattle.uz_cert_lines.specs.Items.{top_set, top_value, take_top, temp_forms, temp_set, take_temp, take_timer, take_cut}
+use Rattle.uz_cert_lines.specs.Items.{top_set, top_value, take_top, temp_forms, temp_set, take_temp, take_cut}
 use Rattle.uz_cert_lines.specs.Items.{take_named, take_second, take_item}
 use Rattle.uz_cert_words.specs.declared.values.FactForms.{FactForms}
 use Rattle.uz_cert_words.specs.declared.values.Raw.{Raw}
@@ -33,7 +33,7 @@ use Rattle.uz_cert_lines.specs.declared.items.Facts.{Facts}
 use Rattle.uz_cert_words.specs.declared.why.CertWhy.{CertWhy}
 use Rattle.uz_cert_words.specs.declared.why.CertWhy.TheVariants as why
 use Rattle.uz_cert_writer.specs.Spelling.{range_word, item, fact_word, pair_word, flag_word}
-use Rattle.uz_cert_laws.proofs.Tests.{and_true, both_true, or_false, not_true, fine_is, fault_not, passed, failed, so, bind_ok, then, le_is}
+use Rattle.uz_cert_laws.proofs.Tests.{tested, and_true, both_true, or_false, not_true, fine_is, fault_not, passed, failed, so, bind_ok, then, le_is}
 use Rattle.uz_cert_laws.proofs.Tests.{is_le, lt_is, number_is, word_is}
 use Rattle.uz_cert_laws.proofs.Numbers.{one_only}
 use Rattle.uz_cert_laws.proofs.Facts.{FactIn, fact_only, PairIn, pair_only, BitIn, bit_only, temp_only}
@@ -400,11 +400,6 @@ successor_taken shape cells facts w id later more points e h =
         }) (sym (fine_is (with_successor facts n) more order.1))
 
 -- items that are named by a letter
-
--- one of two, by a test
-tested : (t : Bool) {x y a : Result Facts CertWhy} {P : Type 0} → cond t x y ≡ a → (t ≡ true → x ≡ a → P) → (t ≡ false → y ≡ a → P) → P
-tested true e f g = f refl e
-tested false e f g = g refl e
 
 letter_taken : (shape : Shape) (cells : List Cell) (facts : Facts) (w value : List ℕ) (letter : ℕ) (later : List (List ℕ)) (more : Facts)
     → w ≡ letter ∷ 61 ∷ value → take_letter shape facts letter value later ≡ Ok more → Taken shape cells facts w later more

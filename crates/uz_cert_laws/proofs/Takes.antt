@@ -1,7 +1,7 @@
 -- An item that is spelled as one of the eight forms is taken.
 use Rattle.std.proofs.Common.{◌≡◌, ℕ, zero, suc, ◌+◌, ◌<◌, ◌≤◌, ◌≢◌, ◌^◌, Bool, true, false, cond, not, ◌-◌, ◌||◌, eqb, leb, ltb, List, ◌∷◌, ◌++◌, length}
 use Rattle.std.proofs.Common.{decimal, codes, lit<, lit≤, refl, ◌∙◌, ap, arith}
-use Rattle.std.specs.Prelude.{Some, Result, Ok, Err}
+use Rattle.std.specs.Prelude.{Some, Ok, Err}
 use Rattle.uz_text.specs.Numbers.{is_numeral, number_below}
 use Rattle.uz_text.proofs.Cuts.{cut_again}
 use Rattle.uz_text.proofs.NumberWords.{number_again}
@@ -24,7 +24,6 @@ use Rattle.uz_cert_lines.specs.Items.{cell_set, cell_value, take_cell, successor
 use Rattle.uz_cert_lines.specs.Items.{top_set, top_value, take_top, temp_forms, temp_set, take_temp, take_named, take_item}
 use Rattle.uz_cert_lines.specs.declared.items.Shape.{Shape}
 use Rattle.uz_cert_lines.specs.declared.items.Facts.{Facts}
-use Rattle.uz_cert_words.specs.declared.why.CertWhy.{CertWhy}
 use Rattle.uz_cert_words.specs.declared.why.CertWhy.TheVariants as why
 use Rattle.uz_cert_writer.specs.Spelling.{range_word, item, fact_word, pair_word, flag_word}
 use Rattle.uz_cert_laws.proofs.Tests.{so, else_so, then, is_le, is_lt, number_is}

@@ -96,6 +96,11 @@ so t r s e = ap (λ b. cond b r s) e
 pub else_so : {A : Type 0} (t : Bool) (r s : A) → t ≡ false → cond t r s ≡ s
 else_so t r s e = ap (λ b. cond b r s) e
 
+-- one of two answers, by a test
+pub tested : {A : Type 0} (t : Bool) {x y a : A} {P : Type 0} → cond t x y ≡ a → (t ≡ true → x ≡ a → P) → (t ≡ false → y ≡ a → P) → P
+tested true e f g = f refl e
+tested false e f g = g refl e
+
 -- a step, and then another
 pub bind_ok : {A B : Type 0} (m : Result A CertWhy) (f : A → Result B CertWhy) (b : B)
     → m >>= f ≡ Ok b → (a : A) × (m ≡ Ok a) × (f a ≡ Ok b)
