@@ -1,5 +1,6 @@
 pub mod FrameCounts
 pub mod PictureLaws
 pub mod SampleLaws
+pub mod ScanStateLaws
 pub mod ScannerLaws
 pub mod TrackerLaws

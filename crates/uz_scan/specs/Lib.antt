@@ -1,4 +1,5 @@
 pub mod Lines
 pub mod Pictures
 pub mod Places
+pub mod ScanStates
 pub mod Scanning

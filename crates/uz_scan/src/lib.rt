@@ -7,9 +7,11 @@
 mod records;
 mod sampler;
 mod scanner;
+mod states;
 mod tracker;
 mod whole;
 
 pub use records::{FrameInfo, LineInfo, end_record, row_record};
 pub use scanner::{Scan, Scanner};
+pub use states::ScanState;
 pub use whole::picture;
