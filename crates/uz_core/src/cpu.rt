@@ -44,6 +44,26 @@ impl Cpu {
         }
     }
 
+    /// A core with these registers.
+    pub fn at(pc: u16, registers: [u8; 32], sreg: u8, sp: u16) -> Cpu
+        requires { pc < 32768 }
+        ensures { result ≡ record { pc = pc; registers = registers; sreg = sreg; sp = sp } }
+    {
+        Cpu {
+            pc,
+            registers,
+            sreg,
+            sp,
+        }
+    }
+
+    /// R0 to R31.
+    pub fn registers(&self) -> [u8; 32]
+        ensures { result ≡ self.now.registers }
+    {
+        self.registers
+    }
+
     /// A core with the same registers.
     pub fn copy(&self) -> Cpu
         ensures { result ≡ self.now }

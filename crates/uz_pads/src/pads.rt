@@ -18,10 +18,14 @@ pub struct Pad {
 /// What changes of pads, beside their list: PORTA's value, how far the list is used, and what the lines show.
 #[derive(Clone, Copy)]
 pub struct PadState {
-    level: u8,
-    next: usize,
-    current: Option<Pad>,
-    moves: u8,
+    /// PORTA's value.
+    pub level: u8,
+    /// The place of the pair that the next latch loads.
+    pub next: usize,
+    /// The pair that the last latch loaded.
+    pub current: Option<Pad>,
+    /// Moves since the last latch, counted up to 12.
+    pub moves: u8,
 }
 
 /// Two game pads on PORTA, answering from a list of pairs, one pair a latch.

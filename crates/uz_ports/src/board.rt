@@ -4,7 +4,7 @@ ghost use Rattle.std.specs.Prelude.{◌≡◌, ◌<◌, ◌+◌, ◌^◌, [], le
 ghost use Rattle.uz_machine.specs.Core.{is_core_address};
 ghost use Rattle.uz_machine.specs.Space.{space_at_reset, byte_at, history_wiring, plain_byte};
 ghost use Rattle.uz_machine.specs.PadLine.{PadHistory};
-ghost use Rattle.uz_pads.specs.Pads.{pads_wiring, StandsFor};
+ghost use Rattle.uz_pads.specs.Pads.{pad_state_of, pads_wiring, StandsFor};
 ghost use Rattle.uz_ports.specs.HeldStoreFits.{HeldStoreFits};
 
 use arrayvec::ArrayVec;
@@ -12,7 +12,7 @@ use std::alloc::{AllocError, Global};
 use uz_core::Data;
 use uz_machine::HeldStore;
 use uz_machine::address::{PINA, PINB, PINC, PIND, PORTA, RAM_END, is_core_address};
-use uz_pads::Pads;
+use uz_pads::{PadState, Pads};
 use uz_timer::Timer1;
 
 /// The data space of the ATmega644 but for the core's own addresses, with timer 1, the pads on PORTA, the stores
@@ -47,6 +47,38 @@ impl Board {
             entered: None,
             clock: 0,
         })
+    }
+
+    /// A board between turns with these bytes of the data space, timer and pads, at a clock.
+    pub fn at(bytes: Vec<u8>, timer: Timer1, pads: Pads, clock: u64) -> Board
+        requires { length bytes.items ≡ 4352 }
+        ensures space { space_of result ≡ record { bytes = bytes.items; timer = timer; pads = pads } }
+        ensures idle { (held_of result ≡ []) × (entered_of result ≡ None) }
+        ensures clock { clock_of result ≡ clock }
+    {
+        Board {
+            bytes,
+            timer,
+            pads,
+            held: ArrayVec::new(),
+            entered: None,
+            clock,
+        }
+    }
+
+    /// The bytes of the data space as they were stored. Those of the core's own addresses and of the timer's aren't used.
+    pub fn bytes(&self) -> &[u8]
+        ensures bytes { result.now ≡ (space_of self.now).bytes }
+        ensures size { length result.now ≡ 4352 }
+    {
+        self.bytes.as_slice()
+    }
+
+    /// What changes of the pads.
+    pub fn pads(&self) -> PadState
+        ensures { result ≡ pad_state_of (space_of self.now).pads }
+    {
+        self.pads.state()
     }
 
     /// The clock, counted from reset.
