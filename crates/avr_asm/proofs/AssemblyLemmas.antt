@@ -28,18 +28,18 @@ line_here [] i d h = absurd (omega arith)
 line_here (l ∷ ls) zero d h = refl
 line_here (l ∷ ls) (suc i) d h = line_here ls i d (omega arith)
 
-lines_len : (ls : List (Bor (List ℕ))) → length (map (λ l. l.now) ls) ≡ length ls
+pub lines_len : (ls : List (Bor (List ℕ))) → length (map (λ l. l.now) ls) ≡ length ls
 lines_len [] = refl
 lines_len (l ∷ ls) = ap suc (lines_len ls)
 
-cut_lines : (ls : List (Bor (List ℕ))) (i : ℕ) (d : Bor (List ℕ)) → i < length ls → drop i (map (λ l. l.now) ls) ≡ (get_or ls i d).now
+pub cut_lines : (ls : List (Bor (List ℕ))) (i : ℕ) (d : Bor (List ℕ)) → i < length ls → drop i (map (λ l. l.now) ls) ≡ (get_or ls i d).now
     ∷ drop (i + 1) (map (λ l. l.now) ls)
 cut_lines ls i d h =
     let lines = map (λ (l : Bor (List ℕ)). l.now) ls in
     let inside : i < length lines = omega (arith, lines_len ls) in
     rw (add-one, drop-cons lines i [] inside) (ap (λ p. p ∷ drop (suc i) lines) (line_here ls i d h))
 
-cut_addresses : (xs : List ℕ) (i : ℕ) → i < length xs → drop i xs ≡ get_or xs i 0 ∷ drop (i + 1) xs
+pub cut_addresses : (xs : List ℕ) (i : ℕ) → i < length xs → drop i xs ≡ get_or xs i 0 ∷ drop (i + 1) xs
 cut_addresses xs i h = rw (add-one, drop-cons xs i 0 h) refl
 
 follow_here : (ls : List (Bor (List ℕ))) (xs : List ℕ) (i : ℕ) (d : Bor (List ℕ)) → i < length ls → i < length xs

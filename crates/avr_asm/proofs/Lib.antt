@@ -26,3 +26,7 @@ pub mod SecondPassFaults
 pub mod FirstFaults
 pub mod TakenLemmas
 pub mod TakenLaws
+pub mod LabelOrder
+pub mod NearestLemmas
+pub mod MappedLines
+pub mod MapLaws

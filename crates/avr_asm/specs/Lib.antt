@@ -5,8 +5,10 @@ pub mod Emission
 pub mod FirstFault
 pub mod Hints
 pub mod Items
+pub mod Labels
 pub mod Layout
 pub mod LineOutputs
 pub mod Lines
 pub mod Relation
+pub mod SourceMap
 pub mod Taken

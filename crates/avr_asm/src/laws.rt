@@ -1,12 +1,17 @@
 //! Laws of what a source assembles to.
 
-ghost use Rattle.std.specs.Prelude.{◌≡◌, ◌↔◌, ◌⊎◌, ℕ, ◌+◌, All, List, ◌∷◌, ◌++◌, Ok, Err};
+ghost use Rattle.std.specs.Prelude.{◌≡◌, ◌↔◌, ◌⊎◌, ℕ, ◌+◌, ◌==◌, All, List, ◌∷◌, ◌++◌, length, Ok, Err};
+ghost use Rattle.std.specs.List.{filter};
+ghost use Rattle.std.specs.List.Sorted.{IsNonDecreasingBy};
 ghost use Rattle.avr_asm.specs.Assembly.{Output, assembly};
 ghost use Rattle.avr_asm.specs.FirstFault.{IsFirstFault};
 ghost use Rattle.avr_asm.specs.Emission.{Flash};
+ghost use Rattle.avr_asm.specs.Labels.{by_address};
 ghost use Rattle.avr_asm.specs.Relation.{Statement, end_of, HaveNoOrigin, length_of, IsAssembly};
+ghost use Rattle.avr_asm.specs.SourceMap.{labels_of, labels_in, hint_lines_of, hint_numbers};
 ghost use Rattle.avr_asm.specs.Taken.{Hits, Misses, assembly_over};
 ghost use Rattle.avr_asm.specs.declared.errors.AsmError.{AsmError};
+ghost use Rattle.avr_asm.specs.declared.labels.Label.{Label};
 ghost use Rattle.avr_asm.specs.declared.first_pass.Effect.TheVariants.{Move};
 ghost use Rattle.avr_operands.specs.declared.errors.AsmWhy.{AsmWhy};
 
@@ -66,3 +71,18 @@ pub fn taken_cells_refuse()
 {
     name_gives_word_count();
 }
+
+/// The law that labels in order of their addresses are in that order, and that those of one address stay in the order that
+/// they had. Does nothing.
+pub fn labels_stay_in_order()
+    ensures rising { (labels : List Label) → IsNonDecreasingBy (λ l. l.address) (by_address labels) }
+    ensures stable { (labels : List Label) (n : ℕ) → filter (λ l. l.address == n) (by_address labels) ≡ filter (λ l. l.address == n) labels }
+{}
+
+/// The law of the source map of an assembly: its labels are those of the statements, and each hint has the number of its
+/// statement. Does nothing.
+pub fn map_is_of_statements()
+    ensures labels { (text : List ℕ) (out : Output) (is : IsAssembly text out) → labels_of text ≡ by_address (labels_in is.statements) }
+    ensures hint_lines { (text : List ℕ) (out : Output) (is : IsAssembly text out) → hint_lines_of text ≡ hint_numbers is.statements }
+    ensures as_many { (text : List ℕ) (out : Output) → IsAssembly text out → length (hint_lines_of text) ≡ length out.hints }
+{}
