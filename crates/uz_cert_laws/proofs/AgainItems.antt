@@ -1,6 +1,6 @@
 -- All items of a line: what is spelled of facts is read as these facts.
-use Rattle.std.proofs.Common.{◌≡◌, ℕ, zero, suc, ◌+◌, ◌-◌, ◌<◌, ◌≤◌, Bool, true, false, cond, not, ◌&&◌, ◌||◌, eqb, leb, ltb, List, [], ◌∷◌}
-use Rattle.std.proofs.Common.{◌++◌, map, length, take, get_or, decimal, codes, bytes_eq, lit<, lit≤, refl, sym, ◌∙◌, ap, subst}
+use Rattle.std.proofs.Common.{◌≡◌, ◌≢◌, ℕ, zero, suc, ◌+◌, ◌-◌, ◌<◌, ◌≤◌, Bool, true, false, cond, not, ◌&&◌, ◌||◌, eqb, leb, ltb, List, []}
+use Rattle.std.proofs.Common.{◌∷◌, ◌++◌, map, length, take, get_or, decimal, codes, bytes_eq, lit<, lit≤, refl, sym, ◌∙◌, ap, subst}
 use Rattle.std.proofs.Common.{append_assoc, append-nil, add-one, length-append, arith}
 use Rattle.std.specs.Prelude.{Some, Ok, Err, All, slice_get, slice_set}
 use Rattle.std.proofs.lemmas.List.Elements.{All-head, All-tail}
@@ -20,7 +20,7 @@ use Rattle.uz_schedule.specs.declared.facts.Bit.{Bit}
 use Rattle.uz_schedule.specs.declared.facts.Bit.TheVariants.{Zero, One, Free, Old as OldBit}
 use Rattle.uz_cert_words.specs.Values.{raw_of, range, one_number}
 use Rattle.uz_cert_lines.specs.Defaults.{is_default, is_any_pair, is_default_top, is_default_temp}
-use Rattle.uz_cert_lines.specs.Items.{first_facts, default_flag, default_cells, is_handler, bytes_forms, pair_forms, tracked_count}
+use Rattle.uz_cert_lines.specs.Items.{first_facts, is_handler, bytes_forms, pair_forms, tracked_count}
 use Rattle.uz_cert_words.specs.FlagNames.{names_c_or_z, any_names}
 use Rattle.uz_cert_lines.specs.Items.{tracked_before, is_flag_z, take_item, items_from, read_items}
 use Rattle.uz_cert_words.specs.declared.values.Raw.{Raw}
@@ -28,38 +28,22 @@ use Rattle.uz_cert_words.specs.declared.values.Raw.TheVariants as raw
 use Rattle.uz_cert_lines.specs.declared.items.Shape.{Shape}
 use Rattle.uz_cert_lines.specs.declared.items.Facts.{Facts}
 use Rattle.uz_cert_words.specs.declared.why.CertWhy.TheVariants as why
-use Rattle.uz_cert_writer.specs.Spelling.{item, unless, range_word, fact_word, pair_word, flag_word, register_items, pair_items, flag_items}
-use Rattle.uz_cert_writer.specs.Spelling.{slot_items, cell_items, top_items, temp_items, successor_items}
-use Rattle.uz_cert_laws.proofs.Tests.{and_true, or_false, fine, fault_not, true_not, then, le_is, number_is, word_is, is_lt, is_not_lt}
+use Rattle.uz_cert_writer.specs.Spelling.{item, unless, range_word, fact_word, pair_word, flag_word, pair_items, flag_items, slot_items}
+use Rattle.uz_cert_writer.specs.Spelling.{cell_items, top_items, temp_items, successor_items}
+use Rattle.uz_cert_laws.proofs.Tests.{and_true, or_false, fine, fault_not, true_not, refuted, neither, then, le_is, number_is, word_is, is_lt}
+use Rattle.uz_cert_laws.proofs.Tests.{is_not_lt}
 use Rattle.uz_cert_laws.proofs.Facts.{FactIn, PairIn, BitIn, raw_by, pair_raw, pair_so, whole_ends, part_from}
 use Rattle.uz_cert_laws.proofs.Raws.{one_raw}
-use Rattle.uz_cert_laws.proofs.Options.{options, Each, each_length, Ordered, section}
-use Rattle.uz_cert_laws.proofs.Spelled.{count_from, pair_usual_only, registers, numbered_cells, register_word, flag_item, in_range}
-use Rattle.uz_cert_laws.proofs.Spelled.{cell_word, usual_fact, usual_cell, registers_are, registers_usual, cells_are, cells_usual}
+use Rattle.uz_cert_laws.proofs.Options.{options, Each, each_length, Ordered, options_read}
+use Rattle.uz_cert_laws.proofs.Spelled.{count_from, pair_usual_only, registers, numbered_cells, register_word, pair_item, flag_item, in_range}
+use Rattle.uz_cert_laws.proofs.Spelled.{cell_word, usual_fact, usual_pair, usual_bit, usual_cell, cells_are, registers_usual, cells_usual}
 use Rattle.uz_cert_laws.proofs.Spelled.{register_only, flag_usual_only, range_only_usual}
-use Rattle.uz_cert_laws.proofs.Taken.{with_register, with_pair, with_flag, with_slot, with_cell, with_top, with_temp, cell_form, pair_letter}
-use Rattle.uz_cert_laws.proofs.Taken.{flag_letter}
+use Rattle.uz_cert_laws.proofs.Taken.{with_register, with_pair, with_flag, with_slot, with_cell, cell_form, pair_letter, flag_letter}
 use Rattle.uz_cert_laws.proofs.Takes.{register_takes, pair_takes, flag_takes, slot_takes, cell_takes, top_takes, temp_takes, successor_takes}
-use Rattle.uz_cert_laws.specs.Spells.{letters_of_pairs, letters_of_flags}
-use Rattle.uz_cert_laws.proofs.OnlyItems.{ShapeFits, IsMeant, names_letter}
-
-abbrev pub facts_with : ℕ → ℕ → List Fact → List PairFact → List Bit → List Fact → List Fact → ℕ → Ends → List ℕ → Facts
-facts_with least after regs pairs flags stack cells top temp next = record {
-  least = least;
-  after = after;
-  regs = regs;
-  pairs = pairs;
-  flags = flags;
-  stack = record { items = stack };
-  cells = record { items = cells };
-  top = top;
-  temp = temp;
-  next = record { items = next };
-}
-
--- before the items of the timer
-abbrev facts_before : ℕ → List Fact → List PairFact → List Bit → List Fact → List Fact → Facts
-facts_before least regs pairs flags stack cells = facts_with least 0 regs pairs flags stack cells (scanline - 1) whole_byte []
+use Rattle.uz_cert_laws.specs.Spells.{letters_of_pairs, letters_of_flags, timer_and_next, spelled}
+use Rattle.uz_cert_laws.proofs.OneMore.{registers_list, pairs_list, flags_list, cells_list, registers_options, pairs_options, flags_options}
+use Rattle.uz_cert_laws.proofs.OneMore.{cells_options}
+use Rattle.uz_cert_laws.proofs.OnlyItems.{ShapeFits, IsMeant, names_letter, flag_other_name}
 
 -- a value in the middle of a list
 set_middle : {A : Type 0} (front back : List A) (n : ℕ) (x y : A) → n ≡ length front → slice_set (front ++ x ∷ back) n y ≡ front ++ y ∷ back
@@ -96,20 +80,16 @@ names_append : (xs ys : List (List ℕ)) → any_names xs ≡ false → any_name
 names_append [] ys e f = f
 names_append (w ∷ ws) ys e f =
     let two = or_false (names_c_or_z w) (any_names ws) e in
-    ap (λ b. b || any_names (ws ++ ys)) two.0 ∙ names_append ws ys two.1 f
+    neither (names_c_or_z w) (any_names (ws ++ ys)) two.0 (names_append ws ys two.1 f)
 
-names_slots : (fs : List Fact) → any_names (slot_items fs) ≡ false
-names_slots [] = refl
-names_slots (f ∷ fs) = ap (λ b. b || any_names (slot_items fs)) (names_letter 115 (58 ∷ fact_word f) refl) ∙ names_slots fs
-
-names_next : (ids : List ℕ) → any_names (successor_items ids) ≡ false
-names_next [] = refl
-names_next (id ∷ ids) = ap (λ b. b || any_names (successor_items ids)) (names_letter 62 (decimal id) refl) ∙ names_next ids
+names_map : {A : Type 0} (f : A → List ℕ) (xs : List A) → ((x : A) → names_c_or_z (f x) ≡ false) → any_names (map f xs) ≡ false
+names_map f [] h = refl
+names_map f (x ∷ xs) h = neither (names_c_or_z (f x)) (any_names (map f xs)) (h x) (names_map f xs h)
 
 names_unless : (t : Bool) (w : List ℕ) (ws : List (List ℕ)) → names_c_or_z w ≡ false → any_names ws ≡ false
     → any_names (unless t w ws) ≡ false
 names_unless true w ws e f = f
-names_unless false w ws e f = ap (λ b. b || any_names ws) e ∙ f
+names_unless false w ws e f = neither (names_c_or_z w) (any_names ws) e f
 
 names_cells : (ks : List (ℕ × Cell)) (fs : List Fact) → any_names (options in_range cell_word ks fs) ≡ false
 names_cells [] fs = refl
@@ -118,39 +98,48 @@ names_cells (k ∷ ks) (f ∷ fs) =
     names_unless (in_range k f) (cell_word k f) (options in_range cell_word ks fs) (names_letter 109 (decimal k.0 ++ 61 ∷ fact_word f) refl)
     (names_cells ks fs)
 
-names_timer : (top : ℕ) (temp : Ends) (ws : List (List ℕ)) → any_names ws ≡ false
-    → any_names (top_items top ++ (temp_items temp ++ ws)) ≡ false
-names_timer top temp ws e =
-    names_append (top_items top) (temp_items temp ++ ws)
-    (names_unless (is_default_top top) (item (codes "top") (decimal top)) [] (names_letter 116 (111 ∷ 112 ∷ 61 ∷ decimal top) refl) refl)
-    (names_append (temp_items temp) ws
-    (names_unless (is_default_temp temp) (item (codes "temp") (range_word temp)) []
-    (names_letter 116 (101 ∷ 109 ∷ 112 ∷ 61 ∷ range_word temp) refl) refl) e)
+-- the words after the flags
+abbrev after_flags : Kind → List Cell → Facts → List (List ℕ)
+after_flags kind cells f = slot_items f.stack.items ++ (cell_items kind 0 cells f.cells.items ++ timer_and_next f)
+
+no_names_after : (kind : Kind) (cells : List Cell) (f : Facts) → any_names (after_flags kind cells f) ≡ false
+no_names_after kind cells f =
+    names_append (slot_items f.stack.items) (cell_items kind 0 cells f.cells.items ++ timer_and_next f)
+    (names_map (λ x. codes "s:" ++ fact_word x) f.stack.items (λ x. names_letter 115 (58 ∷ fact_word x) refl))
+    (names_append (cell_items kind 0 cells f.cells.items) (timer_and_next f)
+    (ap any_names (cells_are kind 0 cells f.cells.items) ∙ names_cells (numbered_cells kind 0 cells) f.cells.items)
+    (names_append (top_items f.top) (temp_items f.temp ++ successor_items f.next.items)
+    (names_unless (is_default_top f.top) (item (codes "top") (decimal f.top)) [] (names_letter 116 (111 ∷ 112 ∷ 61 ∷ decimal f.top) refl) refl)
+    (names_append (temp_items f.temp) (successor_items f.next.items)
+    (names_unless (is_default_temp f.temp) (item (codes "temp") (range_word f.temp)) []
+    (names_letter 116 (101 ∷ 109 ∷ 112 ∷ 61 ∷ range_word f.temp) refl) refl)
+    (names_map (λ id. 62 ∷ decimal id) f.next.items (λ id. names_letter 62 (decimal id) refl)))))
+
+-- where C or Z is said, a word for it comes
+names_said : (kind : Kind) (R : Bit → Type 0) (bs : List Bit) (later : List (List ℕ)) → Each (λ l x. R x) letters_of_flags bs
+    → IsMeant kind bs → any_names (flag_items kind letters_of_flags bs ++ later) ≡ true
+names_said kind R [] later f m = absurd f
+names_said kind R (c ∷ []) later f m = absurd f.1
+names_said kind R (c ∷ z ∷ bs) later f m = by_tests (is_default_flag kind c) (is_default_flag kind z) m
+  where
+    by_tests : (t u : Bool) → (t && u) ≡ false
+        → any_names (unless t (flag_item 99 c) (unless u (flag_item 122 z) (flag_items kind (codes "nvsht") bs)) ++ later) ≡ true
+    by_tests true true e = absurd (true_not true refl e)
+    by_tests true false e = refl
+    by_tests false u e = refl
 
 -- the flag Z
 
+or_second : (a b : Bool) → b ≡ true → (a || b) ≡ true
+or_second true b e = refl
+or_second false b e = e
+
 flag_z_so : (shape : Shape) (f : Facts) (x : Bit) (later : List (List ℕ)) → any_names later ≡ false → is_flag_z shape f (flag_word x)
     later ≡ true
-flag_z_so shape f Zero later e = second (shape.plain || ltb 35 f.least) (not (any_names later)) (ap not e)
-  where
-    second : (a b : Bool) → b ≡ true → (a || b) ≡ true
-    second true b e = refl
-    second false b e = e
-flag_z_so shape f One later e = second (shape.plain || ltb 35 f.least) (not (any_names later)) (ap not e)
-  where
-    second : (a b : Bool) → b ≡ true → (a || b) ≡ true
-    second true b e = refl
-    second false b e = e
-flag_z_so shape f Free later e = second (shape.plain || ltb 35 f.least)
-  where
-    second : (a : Bool) → (a || true) ≡ true
-    second true = refl
-    second false = refl
-flag_z_so shape f OldBit later e = second (shape.plain || ltb 35 f.least)
-  where
-    second : (a : Bool) → (a || true) ≡ true
-    second true = refl
-    second false = refl
+flag_z_so shape f Zero later e = or_second (shape.plain || ltb 35 f.least) (not (any_names later)) (ap not e)
+flag_z_so shape f One later e = or_second (shape.plain || ltb 35 f.least) (not (any_names later)) (ap not e)
+flag_z_so shape f Free later e = or_second (shape.plain || ltb 35 f.least) true refl
+flag_z_so shape f OldBit later e = or_second (shape.plain || ltb 35 f.least) true refl
 
 -- the pair Z
 
@@ -187,34 +176,19 @@ is_one_number (BetweenPair x) n l e = by_single (eqb x.lo x.hi) refl e
 not_flag_z : (shape : Shape) (f : Facts) (x : PairFact) (later : List (List ℕ)) → shape.plain ≡ false → f.least ≤ 34 → PairIn pair_forms x
     → (is_zero_or_one x ≡ true → any_names later ≡ true) → is_flag_z shape f (pair_word x) later ≡ false
 not_flag_z shape f x later p l i z =
-    three (shape.plain || ltb 35 f.least) (bytes_eq (pair_word x) (codes "?") || bytes_eq (pair_word x) (codes "o"))
-    ((bytes_eq (pair_word x) (codes "0") || bytes_eq (pair_word x) (codes "1")) && not (any_names later))
-    (ap (λ b. b || ltb 35 f.least) p ∙ is_not_lt 35 f.least (omega arith))
-    (two (bytes_eq (pair_word x) (codes "?")) (bytes_eq (pair_word x) (codes "o")) (not_mark (bytes_eq (pair_word x) (codes "?")) refl)
-    (not_old (bytes_eq (pair_word x) (codes "o")) refl))
-    (digit (bytes_eq (pair_word x) (codes "0")) (bytes_eq (pair_word x) (codes "1")) refl refl)
+    neither (shape.plain || ltb 35 f.least) _
+    (neither shape.plain (ltb 35 f.least) p (is_not_lt 35 f.least (omega arith)))
+    (neither (bytes_eq (pair_word x) (codes "?") || bytes_eq (pair_word x) (codes "o")) _
+    (neither (bytes_eq (pair_word x) (codes "?")) (bytes_eq (pair_word x) (codes "o")) (other (codes "?") no_mark) (other (codes "o") no_old))
+    (digit (bytes_eq (pair_word x) (codes "0")) (bytes_eq (pair_word x) (codes "1")) refl refl))
   where
     reads : raw_of pair_forms (pair_word x) ≡ Ok (pair_raw x)
     reads = (pair_so pair_forms x (lit≤ tt) i).0
 
-    three : (a b c : Bool) → a ≡ false → b ≡ false → c ≡ false → (a || (b || c)) ≡ false
-    three true b c e f g = absurd cc
-    three false true c e f g = absurd cc
-    three false false c e f g = g
-
-    two : (a b : Bool) → a ≡ false → b ≡ false → (a || b) ≡ false
-    two true b e f = absurd cc
-    two false b e f = f
-
-    not_mark : (t : Bool) → bytes_eq (pair_word x) (codes "?") ≡ t → t ≡ false
-    not_mark true e = absurd (fault_not why.Word (pair_raw x)
-        (sym no_mark ∙ ap (raw_of pair_forms) (sym (word_is (pair_word x) (codes "?") e)) ∙ reads))
-    not_mark false e = refl
-
-    not_old : (t : Bool) → bytes_eq (pair_word x) (codes "o") ≡ t → t ≡ false
-    not_old true e = absurd (fault_not why.Word (pair_raw x)
-        (sym no_old ∙ ap (raw_of pair_forms) (sym (word_is (pair_word x) (codes "o") e)) ∙ reads))
-    not_old false e = refl
+    other : (w : List ℕ) → raw_of pair_forms w ≡ Err why.Word → bytes_eq (pair_word x) w ≡ false
+    other w none =
+        refuted (bytes_eq (pair_word x) w)
+        (λ e. fault_not why.Word (pair_raw x) (sym none ∙ ap (raw_of pair_forms) (sym (word_is (pair_word x) w e)) ∙ reads))
 
     named : (n : ℕ) (w : List ℕ) → n < 2 → raw_of pair_forms w ≡ Ok (raw.One n) → bytes_eq (pair_word x) w ≡ true
         → not (any_names later) ≡ false
@@ -228,146 +202,143 @@ not_flag_z shape f x later p l i z =
     digit false true e f = named 1 (codes "1") (lit< tt) one_raw_word f
     digit false false e f = refl
 
--- one item more
+-- what may be said of a state
+pub record FactsFit (shape : Shape) (cells : List Cell) (f : Facts) : Type 0 where
+  pub regs_fit : Each (λ r x. FactIn (bytes_forms shape) x) registers f.regs
+  pub pairs_fit : Each (λ l x. PairIn pair_forms x) letters_of_pairs f.pairs
+  pub flags_fit : Each (λ l x. BitIn (is_handler shape.kind) x) letters_of_flags f.flags
+  pub slots_fit : length f.stack.items ≤ shape.depth
+  pub stack_fit : All (FactIn (bytes_forms shape)) f.stack.items
+  pub cells_fit : Each (λ p x. FactIn (cell_form shape p.1) x) (numbered_cells shape.kind 0 cells) f.cells.items
+  pub top_fit : is_top f.top ≡ true
+  pub temp_fit : RangeFits 255 f.temp
+  pub timed_fit : shape.timed ≡ false → (f.top ≡ scanline - 1) × (f.temp ≡ whole_byte)
+  pub next_fit : (rises f.next.items ≡ true) × All (λ id. id < shape.points) f.next.items × (length f.next.items ≤ 16)
+      × (shape.plain ≡ true → f.next.items ≡ [])
+  pub plain_fit : shape.plain ≡ true → f.pairs ≡ AnyPair ∷ AnyPair ∷ AnyPair ∷ []
+  pub meant : is_zero_or_one (get_or f.pairs 2 AnyPair) ≡ true → IsMeant shape.kind f.flags
 
-module _ (shape : Shape) (cells : List Cell) (h : ShapeFits shape cells)
-    (regs : List Fact) (pairs : List PairFact) (flags : List Bit) (stack : List Fact) (cs : List Fact) (top : ℕ) (temp : Ends)
-    (next : List ℕ) where
+-- items from the last section to the first
+
+module _ (shape : Shape) (cells : List Cell) (h : ShapeFits shape cells) (g : Facts) (s : FactsFit shape cells g) where
   -- these words say the rest, and with it all
-  abbrev pub Done : Facts → List (List ℕ) → Type 0
-  Done f words = (least : ℕ) × (after : ℕ)
-      × (items_from shape cells true f words ≡ Ok (facts_with least after regs pairs flags stack cs top temp next))
+  abbrev Done : Facts → List (List ℕ) → Type 0
+  Done f words = (least : ℕ) × (after : ℕ) × (items_from shape cells true f words ≡ Ok (record g { least = least; after = after }))
 
-  step : (f more : Facts) (w : List ℕ) (ws : List (List ℕ)) → take_item shape cells f w ws ≡ Ok more → Done more ws → Done f (w ∷ ws)
-  step f more w ws e d = (
+  done : (f more : Facts) (w : List ℕ) (ws : List (List ℕ)) → take_item shape cells f w ws ≡ Ok more → Done more ws → Done f (w ∷ ws)
+  done f more w ws e d = (
     d.0,
     d.1,
-    then (take_item shape cells f w ws) (λ m. items_from shape cells true m ws) more
-        (Ok (facts_with d.0 d.1 regs pairs flags stack cs top temp next)) e d.2,
+    then (take_item shape cells f w ws) (λ m. items_from shape cells true m ws) more (Ok (record g { least = d.0; after = d.1 })) e d.2,
   )
 
-  at_facts : (f g : Facts) (words : List (List ℕ)) → f ≡ g → Done g words → Done f words
-  at_facts f g words e d = subst (λ (x : Facts). Done x words) (sym e) d
+  at_facts : (f k : Facts) (words : List (List ℕ)) → f ≡ k → Done k words → Done f words
+  at_facts f k words e d = subst (λ (x : Facts). Done x words) (sym e) d
 
   -- successors
 
-  next_stage : (front ids : List ℕ) (least after : ℕ) → front ++ ids ≡ next → rises_from after ids ≡ true → All (λ id. id < shape.points)
-      ids
-      → length next ≤ 16 → (shape.plain ≡ true → ids ≡ [])
-      → Done (facts_with least after regs pairs flags stack cs top temp front) (successor_items ids)
-  next_stage front [] least after e r t few p =
-      (least, after, ap (λ (x : List ℕ). fine (facts_with least after regs pairs flags stack cs top temp x)) (sym (append-nil front) ∙ e))
-  next_stage front (id ∷ ids) least after e r t few p =
+  abbrev next_facts : ℕ → ℕ → List ℕ → Facts
+  next_facts least after ids = record g { least = least; after = after; next = record { items = ids } }
+
+  next_stage : (front ids : List ℕ) (least after : ℕ) → front ++ ids ≡ g.next.items → rises_from after ids ≡ true
+      → All (λ id. id < shape.points) ids → Done (next_facts least after front) (successor_items ids)
+  next_stage front [] least after e r t =
+      (least, after, ap (λ (x : List ℕ). fine (next_facts least after x)) (sym (append-nil front) ∙ e))
+  next_stage front (id ∷ ids) least after e r t =
       let two = and_true (leb after id) (rises_from (id + 1) ids) r in
-      let count : length front + length (id ∷ ids) ≡ length next = sym (length-append front (id ∷ ids)) ∙ ap length e in
-      step (facts_with least after regs pairs flags stack cs top temp front) (facts_with 61 (id + 1) regs pairs flags stack cs top temp (front ++ id ∷ []))
-      (62 ∷ decimal id) (successor_items ids)
-      (successor_takes shape cells (facts_with least after regs pairs flags stack cs top temp front) (successor_items ids) id h.places
+      let count : length front + length (id ∷ ids) ≡ length g.next.items = sym (length-append front (id ∷ ids)) ∙ ap length e in
+      let few : length g.next.items ≤ 16 = s.next_fit.2 in
+      done (next_facts least after front) (next_facts 61 (id + 1) (front ++ id ∷ [])) (62 ∷ decimal id) (successor_items ids)
+      (successor_takes shape cells (next_facts least after front) (successor_items ids) id h.places
       (record {
         word = refl;
-        whole = whole shape.plain refl;
+        whole = refuted shape.plain (λ p. some (length front) (length ids) (length g.next.items) count (ap length (s.next_fit.3 p)));
         there = All-head (λ id. id < shape.points) id ids t;
-        room = omega (arith, count);
+        room = omega (arith, count, few);
         order = le_is after id two.0;
       }))
       (next_stage (front ++ id ∷ []) ids 61 (id + 1) (append_assoc front (id ∷ []) ids ∙ e) two.1
-      (All-tail (λ id. id < shape.points) id ids t) few
-      (λ q. absurd (some (p q))))
+      (All-tail (λ id. id < shape.points) id ids t))
     where
-      some : id ∷ ids ≡ [] → ⊥
-      some e = cc
-
-      whole : (t : Bool) → shape.plain ≡ t → shape.plain ≡ false
-      whole true e = absurd (some (p e))
-      whole false e = e
-
-  abbrev pub NextFits : Type 0
-  NextFits = (rises next ≡ true) × All (λ id. id < shape.points) next × (length next ≤ 16) × (shape.plain ≡ true → next ≡ [])
+      some : (m n k : ℕ) → m + suc n ≡ k → k ≡ 0 → ⊥
+      some m n k e z = omega arith
 
   -- the timer
 
-  abbrev pub TimerFits : Type 0
-  TimerFits = (is_top top ≡ true) × RangeFits 255 temp × (shape.timed ≡ false → (top ≡ scanline - 1) × (temp ≡ whole_byte))
+  abbrev temp_facts : ℕ → Ends → Facts
+  temp_facts least temp = record (next_facts least 0 []) { temp = temp }
 
-  abbrev timer_words : List (List ℕ)
-  timer_words = top_items top ++ (temp_items temp ++ successor_items next)
+  abbrev top_facts : ℕ → ℕ → Facts
+  top_facts least top = record (temp_facts least whole_byte) { top = top }
+
+  unless_done : (f : Facts) (t : Bool) (w : List ℕ) (words : List (List ℕ)) → (t ≡ true → Done f words) → (t ≡ false → Done f (w ∷ words))
+      → Done f (unless t w [] ++ words)
+  unless_done f true w words a b = a refl
+  unless_done f false w words a b = b refl
 
   told : (t u : Bool) → t ≡ false → (u ≡ false → t ≡ true) → u ≡ true
   told t true o k = refl
   told t false o k = absurd (true_not t (k refl) o)
 
-  temp_stage : (least : ℕ) → least ≤ 60 → TimerFits → NextFits
-      → Done (facts_with least 0 regs pairs flags stack cs top whole_byte []) (temp_items temp ++ successor_items next)
-  temp_stage least l f n = by_default (is_default_temp temp) refl
-    where
-      by_default : (t : Bool) → is_default_temp temp ≡ t
-          → Done (facts_with least 0 regs pairs flags stack cs top whole_byte [])
-          (unless t (item (codes "temp") (range_word temp)) [] ++ successor_items next)
-      by_default true t =
-          at_facts (facts_with least 0 regs pairs flags stack cs top whole_byte []) (facts_with least 0 regs pairs flags stack cs top temp [])
-          (successor_items next) (ap (λ (e : Ends). facts_with least 0 regs pairs flags stack cs top e []) (whole_ends temp t))
-          (next_stage [] next least 0 refl n.0 n.1 n.2 n.3)
-      by_default false t =
-          let before = facts_with least 0 regs pairs flags stack cs top whole_byte [] in
-          step before (with_temp before temp) (item (codes "temp") (range_word temp)) (successor_items next)
-          (temp_takes shape cells before (successor_items next) temp
-          (record {
-            word = refl;
-            timed = told (is_default_temp temp) shape.timed t (λ u. ap is_default_temp (f.2 u).1);
-            fits = part_from temp f.1 t;
-            order = l;
-          }))
-          (next_stage [] next 61 0 refl n.0 n.1 n.2 n.3)
+  temp_stage : (least : ℕ) → least ≤ 60 → Done (temp_facts least whole_byte) (temp_items g.temp ++ successor_items g.next.items)
+  temp_stage least l =
+      let word = item (codes "temp") (range_word g.temp) in
+      let words = successor_items g.next.items in
+      unless_done (temp_facts least whole_byte) (is_default_temp g.temp) word words
+      (λ t. at_facts (temp_facts least whole_byte) (temp_facts least g.temp) words (ap (temp_facts least) (whole_ends g.temp t))
+      (next_stage [] g.next.items least 0 refl s.next_fit.0 s.next_fit.1))
+      (λ t. done (temp_facts least whole_byte) (temp_facts 61 g.temp) word words
+      (temp_takes shape cells (temp_facts least whole_byte) words g.temp
+      (record {
+        word = refl;
+        timed = told (is_default_temp g.temp) shape.timed t (λ u. ap is_default_temp (s.timed_fit u).1);
+        fits = part_from g.temp s.temp_fit t;
+        order = l;
+      }))
+      (next_stage [] g.next.items 61 0 refl s.next_fit.0 s.next_fit.1))
 
-  top_stage : (least : ℕ) → least ≤ 59 → TimerFits → NextFits → Done (facts_before least regs pairs flags stack cs) timer_words
-  top_stage least l f n = by_default (is_default_top top) refl
-    where
-      by_default : (t : Bool) → is_default_top top ≡ t
-          → Done (facts_before least regs pairs flags stack cs) (unless t (item (codes "top") (decimal top)) []
-          ++ (temp_items temp ++ successor_items next))
-      by_default true t =
-          at_facts (facts_before least regs pairs flags stack cs) (facts_with least 0 regs pairs flags stack cs top whole_byte [])
-          (temp_items temp ++ successor_items next)
-          (ap (λ (m : ℕ). facts_with least 0 regs pairs flags stack cs m whole_byte []) (sym (number_is top (scanline - 1) t)))
-          (temp_stage least (omega arith) f n)
-      by_default false t =
-          let before = facts_before least regs pairs flags stack cs in
-          step before (with_top before top) (item (codes "top") (decimal top)) (temp_items temp ++ successor_items next)
-          (top_takes shape cells before (temp_items temp ++ successor_items next) top
-          (record {
-            word = refl;
-            timed = told (is_default_top top) shape.timed t (λ u. ap is_default_top (f.2 u).0);
-            fits = f.0;
-            order = l;
-            other = t;
-          }))
-          (temp_stage 60 (lit≤ tt) f n)
+  top_stage : (least : ℕ) → least ≤ 59 → Done (top_facts least (scanline - 1)) (timer_and_next g)
+  top_stage least l =
+      let word = item (codes "top") (decimal g.top) in
+      let words = temp_items g.temp ++ successor_items g.next.items in
+      unless_done (top_facts least (scanline - 1)) (is_default_top g.top) word words
+      (λ t. at_facts (top_facts least (scanline - 1)) (top_facts least g.top) words
+      (ap (top_facts least) (sym (number_is g.top (scanline - 1) t))) (temp_stage least (omega arith)))
+      (λ t. done (top_facts least (scanline - 1)) (top_facts 60 g.top) word words
+      (top_takes shape cells (top_facts least (scanline - 1)) words g.top
+      (record {
+        word = refl;
+        timed = told (is_default_top g.top) shape.timed t (λ u. ap is_default_top (s.timed_fit u).0);
+        fits = s.top_fit;
+        order = l;
+        other = t;
+      }))
+      (temp_stage 60 (lit≤ tt)))
 
   -- cells
+
+  abbrev cells_facts : ℕ → List Fact → Facts
+  cells_facts least cs = record (top_facts least (scanline - 1)) { cells = record { items = cs } }
 
   abbrev CellAt : ℕ × Cell → ℕ → Type 0
   CellAt p n = (slice_get cells p.0 ≡ Some p.1) × (p.0 < length cells) × (tracks shape.kind p.1.owner ≡ true)
       × (tracked_before shape.kind p.0 cells ≡ n)
 
-  abbrev cell_place : ℕ × Cell → ℕ
-  cell_place p = 43 + p.0
-
-  abbrev CellsRead : ℕ → List Fact → List (List ℕ) → Type 0
-  CellsRead least values words = Done (facts_before least regs pairs flags stack values) words
+  abbrev cell_place : ℕ × Cell → ℕ → ℕ
+  cell_place p n = 43 + p.0
 
   cell_step : (front back : List Fact) (p : ℕ × Cell) (x : Fact) (least : ℕ) (words : List (List ℕ)) → CellAt p (length front)
-      → FactIn (cell_form shape p.1) x → in_range p x ≡ false → least ≤ cell_place p
-      → CellsRead (cell_place p + 1) (front ++ x ∷ back) words → CellsRead least (front ++ usual_cell p ∷ back) (cell_word p x ∷ words)
+      → FactIn (cell_form shape p.1) x → in_range p x ≡ false → least ≤ 43 + p.0
+      → Done (cells_facts (43 + p.0 + 1) (front ++ x ∷ back)) words
+      → Done (cells_facts least (front ++ usual_cell p ∷ back)) (cell_word p x ∷ words)
   cell_step front back p x least words at i o l d =
-      let before = facts_before least regs pairs flags stack (front ++ usual_cell p ∷ back) in
-      step before (with_cell shape cells before p.0 x) (cell_word p x) words
+      let before = cells_facts least (front ++ usual_cell p ∷ back) in
+      done before (with_cell shape cells before p.0 x) (cell_word p x) words
       (cell_takes shape cells before words p.0 p.1 x h.places
       (record { word = refl; below = at.1; there = at.0; own = at.2; fits = i; order = l; other = o }))
-      (at_facts (with_cell shape cells before p.0 x) (facts_before (43 + p.0 + 1) regs pairs flags stack (front ++ x ∷ back)) words
-      (ap (λ n. facts_before n regs pairs flags stack (slice_set (front ++ usual_cell p ∷ back) (tracked_before shape.kind p.0 cells) x))
-      (plus p.0)
-      ∙ ap (λ (ys : List Fact). facts_before (43 + p.0 + 1) regs pairs flags stack ys)
-      (set_middle front back (tracked_before shape.kind p.0 cells) (usual_cell p) x at.3)) d)
+      (at_facts (with_cell shape cells before p.0 x) (cells_facts (43 + p.0 + 1) (front ++ x ∷ back)) words
+      (ap (λ n. cells_facts n (slice_set (front ++ usual_cell p ∷ back) (tracked_before shape.kind p.0 cells) x)) (plus p.0)
+      ∙ ap (cells_facts (43 + p.0 + 1)) (set_middle front back (tracked_before shape.kind p.0 cells) (usual_cell p) x at.3)) d)
     where
       plus : (i : ℕ) → 44 + i ≡ 43 + i + 1
       plus i = omega arith
@@ -412,370 +383,211 @@ module _ (shape : Shape) (cells : List Cell) (h : ShapeFits shape cells)
           subst (λ j. Ordered CellAt cell_place n least 59 (numbered_cells shape.kind j later)) longer
           (again n least (count_more ∙ ap (λ b. cond b (n + 1) n) t) (omega (arith, longer)))
 
-  abbrev pub CellsFit : Type 0
-  CellsFit = Each (λ p x. FactIn (cell_form shape p.1) x) (numbered_cells shape.kind 0 cells) cs
+  abbrev usual_cells : List Fact
+  usual_cells = map usual_cell (numbered_cells shape.kind 0 cells)
 
-  cells_stage : (least : ℕ) → least ≤ 43 → CellsFit → TimerFits → NextFits
-      → Done (facts_before least regs pairs flags stack (map usual_cell (numbered_cells shape.kind 0 cells)))
-      (options in_range cell_word (numbered_cells shape.kind 0 cells) cs ++ timer_words)
-  cells_stage least l c f n =
-      section in_range cell_word usual_cell cell_place CellAt (λ p x. FactIn (cell_form shape p.1) x) CellsRead
-      (λ p x i e. range_only_usual shape p.1 x i e) cell_step (numbered_cells shape.kind 0 cells) [] cs least 59 timer_words c
-      (cells_ordered [] cells 0 least refl refl l)
-      (λ low b. top_stage low b f n)
+  abbrev cell_words_and_on : List (List ℕ)
+  cell_words_and_on = cell_items shape.kind 0 cells g.cells.items ++ timer_and_next g
+
+  cells_stage : (least : ℕ) → least ≤ 43 → Done (cells_facts least usual_cells) cell_words_and_on
+  cells_stage least l =
+      options_read (cells_list shape cells) cell_place CellAt (λ p x. FactIn (cell_form shape p.1) x)
+      (λ low values words. Done (cells_facts low values) words) (λ p x i e. range_only_usual shape p.1 x i e) cell_step
+      (cells_options shape cells) g.cells.items least 59 (timer_and_next g) s.cells_fit (cells_ordered [] cells 0 least refl refl l) top_stage
 
   -- slots
 
-  abbrev cell_words_and_next : List (List ℕ)
-  cell_words_and_next = options in_range cell_word (numbered_cells shape.kind 0 cells) cs ++ timer_words
+  abbrev slots_facts : ℕ → List Fact → Facts
+  slots_facts least slots = record (cells_facts least usual_cells) { stack = record { items = slots } }
 
-  slots_stage : (front slots : List Fact) (least : ℕ) → least ≤ 42 → front ++ slots ≡ stack → All (FactIn (bytes_forms shape)) slots
-      → length stack ≤ shape.depth
-      → CellsFit → TimerFits → NextFits
-      → Done (facts_before least regs pairs flags front (map usual_cell (numbered_cells shape.kind 0 cells)))
-      (slot_items slots ++ cell_words_and_next)
-  slots_stage front [] least l e a d c f n =
-      at_facts (facts_before least regs pairs flags front (map usual_cell (numbered_cells shape.kind 0 cells)))
-      (facts_before least regs pairs flags stack (map usual_cell (numbered_cells shape.kind 0 cells))) cell_words_and_next
-      (ap (λ (ys : List Fact). facts_before least regs pairs flags ys (map usual_cell (numbered_cells shape.kind 0 cells)))
-      (sym (append-nil front) ∙ e))
-      (cells_stage least (omega arith) c f n)
-  slots_stage front (x ∷ slots) least l e a d c f n =
-      let before = facts_before least regs pairs flags front (map usual_cell (numbered_cells shape.kind 0 cells)) in
-      let count : length front + length (x ∷ slots) ≡ length stack = sym (length-append front (x ∷ slots)) ∙ ap length e in
-      step before (with_slot before x) (codes "s:" ++ fact_word x) (slot_items slots ++ cell_words_and_next)
-      (slot_takes shape cells before (slot_items slots ++ cell_words_and_next) x
-      (record { word = refl; fits = All-head (FactIn (bytes_forms shape)) x slots a; room = omega (arith, count); order = l }))
+  slots_stage : (front slots : List Fact) (least : ℕ) → least ≤ 42 → front ++ slots ≡ g.stack.items → All (FactIn (bytes_forms shape)) slots
+      → Done (slots_facts least front) (slot_items slots ++ cell_words_and_on)
+  slots_stage front [] least l e a =
+      at_facts (slots_facts least front) (cells_facts least usual_cells) cell_words_and_on (ap (slots_facts least) (sym (append-nil front) ∙ e))
+      (cells_stage least (omega arith))
+  slots_stage front (x ∷ slots) least l e a =
+      let count : length front + length (x ∷ slots) ≡ length g.stack.items = sym (length-append front (x ∷ slots)) ∙ ap length e in
+      let few : length g.stack.items ≤ shape.depth = s.slots_fit in
+      done (slots_facts least front) (slots_facts 42 (front ++ x ∷ [])) (codes "s:" ++ fact_word x) (slot_items slots ++ cell_words_and_on)
+      (slot_takes shape cells (slots_facts least front) (slot_items slots ++ cell_words_and_on) x
+      (record { word = refl; fits = All-head (FactIn (bytes_forms shape)) x slots a; room = omega (arith, count, few); order = l }))
       (slots_stage (front ++ x ∷ []) slots 42 (lit≤ tt) (append_assoc front (x ∷ []) slots ∙ e)
-      (All-tail (FactIn (bytes_forms shape)) x slots a) d c f n)
+      (All-tail (FactIn (bytes_forms shape)) x slots a))
 
-  -- flags and pairs
+  -- flags
 
-  abbrev start : ℕ → List Fact → List PairFact → List Bit → Facts
-  start least rs ps bs = facts_before least rs ps bs [] (map usual_cell (numbered_cells shape.kind 0 cells))
+  abbrev flags_facts : ℕ → List Bit → Facts
+  flags_facts least bs = record (slots_facts least []) { flags = bs }
 
-  flag_next : (front rest : List Bit) (b : ℕ) (x : Bit) (least : ℕ) (words : List (List ℕ)) → b ≡ length front → b < 7
-      → BitIn (is_handler shape.kind) x → least ≤ 35 + b → (b ≡ 1 → any_names words ≡ false)
-      → ((low : ℕ) → low ≤ 36 + b → Done (start low regs pairs (front ++ x ∷ rest)) words)
-      → Done (start least regs pairs (front ++ default_flag shape.kind ∷ rest))
-      (unless (is_default_flag shape.kind x) (flag_item (flag_letter b) x) words)
-  flag_next front rest b x least words e s i l z go = by_default (is_default_flag shape.kind x) refl
+  -- the words after Z name no flag C or Z
+  abbrev FlagsRead : ℕ → List Bit → List (List ℕ) → Type 0
+  FlagsRead least bs words = Done (flags_facts least bs) words × (37 ≤ least → any_names words ≡ false)
+
+  abbrev FlagAt : ℕ → ℕ → Type 0
+  FlagAt letter n = (letter ≡ flag_letter n) × (n < 7)
+
+  flag_step : (front back : List Bit) (letter : ℕ) (x : Bit) (least : ℕ) (words : List (List ℕ)) → FlagAt letter (length front)
+      → BitIn (is_handler shape.kind) x → is_default_flag shape.kind x ≡ false → least ≤ 35 + length front
+      → FlagsRead (35 + length front + 1) (front ++ x ∷ back) words
+      → FlagsRead least (front ++ usual_bit shape.kind letter ∷ back) (flag_item letter x ∷ words)
+  flag_step front back letter x least words at i o l d =
+      let b = length front in
+      let before = flags_facts least (front ++ usual_bit shape.kind letter ∷ back) in
+      let is : flag_item letter x ≡ flag_item (flag_letter b) x = ap (λ c. flag_item c x) at.0 in (
+        done before (with_flag before b x) (flag_item letter x) words
+            (flag_takes shape cells before words (flag_item letter x) b x
+            (record {
+              word = is;
+              there = at.1;
+              fits = i;
+              order = l;
+              other = o;
+              meant = λ one. flag_z_so shape before x words (d.1 (omega (arith, one)));
+            }))
+            (at_facts (with_flag before b x) (flags_facts (35 + b + 1) (front ++ x ∷ back)) words
+            (ap (λ n. flags_facts n (slice_set (front ++ usual_bit shape.kind letter ∷ back) b x)) (plus b)
+            ∙ ap (flags_facts (35 + b + 1)) (set_middle front back b (usual_bit shape.kind letter) x refl)) d.0),
+        λ past. neither (names_c_or_z (flag_item letter x)) (any_names words)
+            (flag_other_name b x (flag_item letter x) is (omega (arith, past, l)) at.1) (d.1 (omega (arith, past, l))),
+      )
     where
-      d : Bit
-      d = default_flag shape.kind
+      plus : (i : ℕ) → 36 + i ≡ 35 + i + 1
+      plus i = omega arith
 
-      by_default : (t : Bool) → is_default_flag shape.kind x ≡ t
-          → Done (start least regs pairs (front ++ default_flag shape.kind ∷ rest)) (unless t (flag_item (flag_letter b) x) words)
-      by_default true t =
-          at_facts (start least regs pairs (front ++ default_flag shape.kind ∷ rest)) (start least regs pairs (front ++ x ∷ rest)) words
-          (ap (λ (y : Bit). start least regs pairs (front ++ y ∷ rest)) (sym (flag_usual_only shape.kind x t))) (go least (omega arith))
-      by_default false t =
-          let before = start least regs pairs (front ++ default_flag shape.kind ∷ rest) in
-          step before (with_flag before b x) (flag_item (flag_letter b) x) words
-          (flag_takes shape cells before words (flag_item (flag_letter b) x) b x
-          (record { word = refl; there = s; fits = i; order = l; other = t; meant = λ one. flag_z_so shape before x words (z one) }))
-          (at_facts (with_flag before b x) (start (36 + b) regs pairs (front ++ x ∷ rest)) words
-          (ap (λ (ys : List Bit). start (36 + b) regs pairs ys) (set_middle front rest b (default_flag shape.kind) x e))
-          (go (36 + b) (omega arith)))
+  abbrev flag_words_and_on : List (List ℕ)
+  flag_words_and_on = flag_items shape.kind letters_of_flags g.flags ++ after_flags shape.kind cells g
 
-  pair_next : (front rest : List PairFact) (bs : List Bit) (k : ℕ) (x : PairFact) (least : ℕ) (words : List (List ℕ)) → k ≡ length front
-      → k < 3
-      → PairIn pair_forms x → (shape.plain ≡ true → x ≡ AnyPair) → least ≤ 32 + k
-      → (k ≡ 2 → is_zero_or_one x ≡ true → any_names words ≡ true)
-      → ((low : ℕ) → low ≤ 33 + k → Done (start low regs (front ++ x ∷ rest) bs) words)
-      → Done (start least regs (front ++ AnyPair ∷ rest) bs) (unless (is_any_pair x) (item (pair_letter k ∷ []) (pair_word x)) words)
-  pair_next front rest bs k x least words e s i p l z go = by_default (is_any_pair x) refl
+  flags_stage : (least : ℕ) → least ≤ 35 → Done (flags_facts least (map (usual_bit shape.kind) letters_of_flags)) flag_words_and_on
+  flags_stage least l =
+      (options_read (flags_list shape cells) (λ c n. 35 + n) FlagAt (λ c x. BitIn (is_handler shape.kind) x) FlagsRead
+      (λ c x i e. flag_usual_only shape.kind x e) flag_step (flags_options shape cells) g.flags least 42 (after_flags shape.kind cells g)
+      s.flags_fit (
+        (refl, lit< tt),
+        l,
+        (
+          (refl, lit< tt),
+          lit≤ tt,
+          (
+            (refl, lit< tt),
+            lit≤ tt,
+            ((refl, lit< tt), lit≤ tt, ((refl, lit< tt), lit≤ tt, ((refl, lit< tt), lit≤ tt, ((refl, lit< tt), lit≤ tt, lit≤ tt)))),
+          ),
+        ),
+      )
+      (λ low b. (slots_stage [] g.stack.items low b refl s.stack_fit, λ past. no_names_after shape.kind cells g))).0
+
+  -- pairs
+
+  abbrev pairs_facts : ℕ → List PairFact → Facts
+  pairs_facts least ps = record (flags_facts least (map (usual_bit shape.kind) letters_of_flags)) { pairs = ps }
+
+  -- where C or Z is said, the words after the pair Z name it
+  abbrev PairsRead : ℕ → List PairFact → List (List ℕ) → Type 0
+  PairsRead least ps words = Done (pairs_facts least ps) words × (35 ≤ least → IsMeant shape.kind g.flags → any_names words ≡ true)
+
+  abbrev PairAt : ℕ → ℕ → Type 0
+  PairAt letter n = (letter ≡ pair_letter n) × (n < 3)
+
+  abbrev PairSaid : ℕ → PairFact → Type 0
+  PairSaid letter x =
+      PairIn pair_forms x × (shape.plain ≡ true → is_any_pair x ≡ true)
+      × (letter ≡ 122 → is_zero_or_one x ≡ true → IsMeant shape.kind g.flags)
+
+  pair_step : (front back : List PairFact) (letter : ℕ) (x : PairFact) (least : ℕ) (words : List (List ℕ)) → PairAt letter (length front)
+      → PairSaid letter x → is_any_pair x ≡ false → least ≤ 32 + length front
+      → PairsRead (32 + length front + 1) (front ++ x ∷ back) words
+      → PairsRead least (front ++ AnyPair ∷ back) (pair_item letter x ∷ words)
+  pair_step front back letter x least words at i o l d =
+      let k = length front in
+      let there : k < 3 = at.1 in
+      let before = pairs_facts least (front ++ AnyPair ∷ back) in
+      let whole = refuted shape.plain (λ p. true_not (is_any_pair x) (i.1 p) o) in (
+        done before (with_pair before k x) (pair_item letter x) words
+            (pair_takes shape cells before words (pair_item letter x) k x
+            (record {
+              word = ap (λ c. pair_item c x) at.0;
+              there = there;
+              whole = whole;
+              fits = i.0;
+              order = l;
+              other = o;
+              meant = λ two. not_flag_z shape before x words whole (omega (arith, l, there)) i.0
+                  (λ one. d.1 (omega (arith, two)) (i.2 (at.0 ∙ ap pair_letter two) one));
+            }))
+            (at_facts (with_pair before k x) (pairs_facts (32 + k + 1) (front ++ x ∷ back)) words
+            (ap (λ n. pairs_facts n (slice_set (front ++ AnyPair ∷ back) k x)) (plus k)
+            ∙ ap (pairs_facts (32 + k + 1)) (set_middle front back k AnyPair x refl)) d.0),
+        λ past. absurd (omega (arith, past, l, there)),
+      )
     where
-      by_default : (t : Bool) → is_any_pair x ≡ t
-          → Done (start least regs (front ++ AnyPair ∷ rest) bs) (unless t (item (pair_letter k ∷ []) (pair_word x)) words)
-      by_default true t =
-          at_facts (start least regs (front ++ AnyPair ∷ rest) bs) (start least regs (front ++ x ∷ rest) bs) words
-          (ap (λ (y : PairFact). start least regs (front ++ y ∷ rest) bs) (sym (pair_usual_only x t))) (go least (omega arith))
-      by_default false t =
-          let before = start least regs (front ++ AnyPair ∷ rest) bs in
-          step before (with_pair before k x) (item (pair_letter k ∷ []) (pair_word x)) words
-          (pair_takes shape cells before words (item (pair_letter k ∷ []) (pair_word x)) k x
-          (record {
-            word = refl;
-            there = s;
-            whole = whole shape.plain refl;
-            fits = i;
-            order = l;
-            other = t;
-            meant = λ two. not_flag_z shape before x words (whole shape.plain refl) (omega (arith, two)) i (z two);
-          }))
-          (at_facts (with_pair before k x) (start (33 + k) regs (front ++ x ∷ rest) bs) words
-          (ap (λ (ys : List PairFact). start (33 + k) regs ys bs) (set_middle front rest k AnyPair x e)) (go (33 + k) (omega arith)))
+      plus : (i : ℕ) → 33 + i ≡ 32 + i + 1
+      plus i = omega arith
+
+  pairs_said : (ps : List PairFact) → Each (λ c x. PairIn pair_forms x) letters_of_pairs ps
+      → (shape.plain ≡ true → ps ≡ map usual_pair letters_of_pairs)
+      → (is_zero_or_one (get_or ps 2 AnyPair) ≡ true → IsMeant shape.kind g.flags) → Each PairSaid letters_of_pairs ps
+  pairs_said [] f p m = absurd f
+  pairs_said (x ∷ []) f p m = absurd f.1
+  pairs_said (x ∷ y ∷ []) f p m = absurd f.1.1
+  pairs_said (x ∷ y ∷ z ∷ q ∷ rest) f p m = absurd f.1.1.1
+  pairs_said (x ∷ y ∷ z ∷ []) f p m = (
+    (f.0, λ w. any 0 w, λ e. absurd (omega (arith, e))),
+    ((f.1.0, λ w. any 1 w, λ e. absurd (omega (arith, e))), ((f.1.1.0, λ w. any 2 w, λ e. m), tt)),
+  )
+    where
+      any : (n : ℕ) → shape.plain ≡ true → is_any_pair (get_or (x ∷ y ∷ z ∷ []) n AnyPair) ≡ true
+      any n w = ap (λ (ps : List PairFact). is_any_pair (get_or ps n AnyPair)) (p w) ∙ usual n
         where
-          whole : (q : Bool) → shape.plain ≡ q → shape.plain ≡ false
-          whole true e = absurd (true_not (is_any_pair x) (ap is_any_pair (p e)) t)
-          whole false e = e
+          usual : (n : ℕ) → is_any_pair (get_or (AnyPair ∷ AnyPair ∷ AnyPair ∷ []) n AnyPair) ≡ true
+          usual zero = refl
+          usual (suc zero) = refl
+          usual (suc (suc zero)) = refl
+          usual (suc (suc (suc n))) = refl
+
+  abbrev pair_words_and_on : List (List ℕ)
+  pair_words_and_on = pair_items letters_of_pairs g.pairs ++ flag_words_and_on
+
+  pairs_stage : (least : ℕ) → least ≤ 32 → Done (pairs_facts least (map usual_pair letters_of_pairs)) pair_words_and_on
+  pairs_stage least l =
+      (options_read (pairs_list shape cells) (λ c n. 32 + n) PairAt PairSaid PairsRead (λ c x i e. pair_usual_only x e) pair_step
+      (pairs_options shape cells) g.pairs least 35 flag_words_and_on (pairs_said g.pairs s.pairs_fit s.plain_fit s.meant)
+      ((refl, lit< tt), l, ((refl, lit< tt), lit≤ tt, ((refl, lit< tt), lit≤ tt, lit≤ tt)))
+      (λ low b. (
+        flags_stage low b,
+        λ past m. names_said shape.kind (BitIn (is_handler shape.kind)) g.flags (after_flags shape.kind cells g) s.flags_fit m,
+      ))).0
 
   -- registers
+
+  abbrev regs_facts : ℕ → List Fact → Facts
+  regs_facts least rs = record (pairs_facts least (map usual_pair letters_of_pairs)) { regs = rs }
 
   abbrev RegisterAt : ℕ → ℕ → Type 0
   RegisterAt r n = (r ≡ n) × (r < 32)
 
-  abbrev register_place : ℕ → ℕ
-  register_place r = r
-
-  registers_ordered : (a n least : ℕ) → a + n ≤ 32 → least ≤ a → Ordered RegisterAt register_place a least 32 (count_from a n)
+  registers_ordered : (a n least : ℕ) → a + n ≤ 32 → least ≤ a → Ordered RegisterAt (λ r n. r) a least 32 (count_from a n)
   registers_ordered a zero least h l = omega arith
   registers_ordered a (suc n) least h l = ((refl, omega arith), l, registers_ordered (suc a) n (a + 1) (omega arith) (omega arith))
 
-  register_step : (ps : List PairFact) (bs : List Bit) (front back : List Fact) (r : ℕ) (x : Fact) (least : ℕ) (words : List (List ℕ))
-      → RegisterAt r (length front) → FactIn (bytes_forms shape) x → is_default shape.kind r x ≡ false → least ≤ r
-      → Done (start (r + 1) (front ++ x ∷ back) ps bs) words → Done (start least (front ++ usual_fact shape.kind r ∷ back) ps bs)
-      (register_word r x ∷ words)
-  register_step ps bs front back r x least words at i o l d =
-      let before = start least (front ++ usual_fact shape.kind r ∷ back) ps bs in
-      step before (with_register before r x) (register_word r x) words
+  register_step : (front back : List Fact) (r : ℕ) (x : Fact) (least : ℕ) (words : List (List ℕ)) → RegisterAt r (length front)
+      → FactIn (bytes_forms shape) x → is_default shape.kind r x ≡ false → least ≤ r
+      → Done (regs_facts (r + 1) (front ++ x ∷ back)) words
+      → Done (regs_facts least (front ++ usual_fact shape.kind r ∷ back)) (register_word r x ∷ words)
+  register_step front back r x least words at i o l d =
+      let before = regs_facts least (front ++ usual_fact shape.kind r ∷ back) in
+      done before (with_register before r x) (register_word r x) words
       (register_takes shape cells before words r x (record { word = refl; there = at.1; fits = i; order = l; other = o }))
-      (at_facts (with_register before r x) (start (r + 1) (front ++ x ∷ back) ps bs) words
-      (ap (λ (ys : List Fact). start (r + 1) ys ps bs) (set_middle front back r (usual_fact shape.kind r) x at.0)) d)
+      (at_facts (with_register before r x) (regs_facts (r + 1) (front ++ x ∷ back)) words
+      (ap (regs_facts (r + 1)) (set_middle front back r (usual_fact shape.kind r) x at.0)) d)
 
-  abbrev pub RegistersFit : Type 0
-  RegistersFit = Each (λ r x. FactIn (bytes_forms shape) x) registers regs
-
-  registers_stage : (ps : List PairFact) (bs : List Bit) (later : List (List ℕ)) → RegistersFit
-      → ((low : ℕ) → low ≤ 32 → Done (start low regs ps bs) later)
-      → Done (start 0 (map (usual_fact shape.kind) registers) ps bs) (options (is_default shape.kind) register_word registers regs ++ later)
-  registers_stage ps bs later f go =
-      section (is_default shape.kind) register_word (usual_fact shape.kind) register_place RegisterAt (λ r x. FactIn (bytes_forms shape) x)
-      (λ least values words. Done (start least values ps bs) words) (λ r x i e. register_only shape.kind r x e) (register_step ps bs)
-      registers [] regs 0 32 later f
-      (registers_ordered 0 32 0 (lit≤ tt) (lit≤ tt)) go
-
--- the words of flags and pairs, and then others
-
-abbrev flags_then : Kind → List ℕ → List Bit → List (List ℕ) → List (List ℕ)
-flags_then kind [] bs later = later
-flags_then kind (l ∷ ls) [] later = later
-flags_then kind (l ∷ ls) (b ∷ bs) later = unless (is_default_flag kind b) (flag_item l b) (flags_then kind ls bs later)
-
-unless_then : (t : Bool) (word : List ℕ) (xs ys : List (List ℕ)) → unless t word xs ++ ys ≡ unless t word (xs ++ ys)
-unless_then true word xs ys = refl
-unless_then false word xs ys = refl
-
-flags_then_are : (kind : Kind) (ls : List ℕ) (bs : List Bit) (later : List (List ℕ)) → flag_items kind ls bs ++ later ≡ flags_then kind ls
-    bs later
-flags_then_are kind [] bs later = refl
-flags_then_are kind (l ∷ ls) [] later = refl
-flags_then_are kind (l ∷ ls) (b ∷ bs) later =
-    unless_then (is_default_flag kind b) (flag_item l b) (flag_items kind ls bs) later
-    ∙ ap (unless (is_default_flag kind b) (flag_item l b)) (flags_then_are kind ls bs later)
-
-abbrev pairs_then : List ℕ → List PairFact → List (List ℕ) → List (List ℕ)
-pairs_then [] fs later = later
-pairs_then (l ∷ ls) [] later = later
-pairs_then (l ∷ ls) (f ∷ fs) later = unless (is_any_pair f) (item (l ∷ []) (pair_word f)) (pairs_then ls fs later)
-
-pairs_then_are : (ls : List ℕ) (fs : List PairFact) (later : List (List ℕ)) → pair_items ls fs ++ later ≡ pairs_then ls fs later
-pairs_then_are [] fs later = refl
-pairs_then_are (l ∷ ls) [] later = refl
-pairs_then_are (l ∷ ls) (f ∷ fs) later =
-    unless_then (is_any_pair f) (item (l ∷ []) (pair_word f)) (pair_items ls fs) later
-    ∙ ap (unless (is_any_pair f) (item (l ∷ []) (pair_word f))) (pairs_then_are ls fs later)
-
-no_names_then : (kind : Kind) (bs : List Bit) (later : List (List ℕ)) → any_names later ≡ false
-    → any_names (flags_then kind (codes "nvsht") bs later) ≡ false
-no_names_then kind [] later e = e
-no_names_then kind (n ∷ []) later e = names_unless (is_default_flag kind n) (flag_item 110 n) later
-    (names_letter 110 (61 ∷ flag_word n) refl) e
-no_names_then kind (n ∷ v ∷ []) later e =
-    names_unless (is_default_flag kind n) (flag_item 110 n) _ (names_letter 110 (61 ∷ flag_word n) refl)
-    (names_unless (is_default_flag kind v) (flag_item 118 v) later (names_letter 118 (61 ∷ flag_word v) refl) e)
-no_names_then kind (n ∷ v ∷ s ∷ []) later e =
-    names_unless (is_default_flag kind n) (flag_item 110 n) _ (names_letter 110 (61 ∷ flag_word n) refl)
-    (names_unless (is_default_flag kind v) (flag_item 118 v) _ (names_letter 118 (61 ∷ flag_word v) refl)
-    (names_unless (is_default_flag kind s) (flag_item 115 s) later (names_letter 115 (61 ∷ flag_word s) refl) e))
-no_names_then kind (n ∷ v ∷ s ∷ h ∷ []) later e =
-    names_unless (is_default_flag kind n) (flag_item 110 n) _ (names_letter 110 (61 ∷ flag_word n) refl)
-    (names_unless (is_default_flag kind v) (flag_item 118 v) _ (names_letter 118 (61 ∷ flag_word v) refl)
-    (names_unless (is_default_flag kind s) (flag_item 115 s) _ (names_letter 115 (61 ∷ flag_word s) refl)
-    (names_unless (is_default_flag kind h) (flag_item 104 h) later (names_letter 104 (61 ∷ flag_word h) refl) e)))
-no_names_then kind (n ∷ v ∷ s ∷ h ∷ t ∷ rest) later e =
-    names_unless (is_default_flag kind n) (flag_item 110 n) _ (names_letter 110 (61 ∷ flag_word n) refl)
-    (names_unless (is_default_flag kind v) (flag_item 118 v) _ (names_letter 118 (61 ∷ flag_word v) refl)
-    (names_unless (is_default_flag kind s) (flag_item 115 s) _ (names_letter 115 (61 ∷ flag_word s) refl)
-    (names_unless (is_default_flag kind h) (flag_item 104 h) _ (names_letter 104 (61 ∷ flag_word h) refl)
-    (names_unless (is_default_flag kind t) (flag_item 116 t) later (names_letter 116 (61 ∷ flag_word t) refl) e))))
-
--- where C or Z is said, a word for it comes
-names_then : (kind : Kind) (c z : Bit) (bs : List Bit) (later : List (List ℕ)) → IsMeant kind (c ∷ z ∷ bs)
-    → any_names (flags_then kind letters_of_flags (c ∷ z ∷ bs) later) ≡ true
-names_then kind c z bs later m = by_c (is_default_flag kind c) (is_default_flag kind z) m
-  where
-    by_c : (t u : Bool) → (t && u) ≡ false
-        → any_names (unless t (flag_item 99 c) (unless u (flag_item 122 z) (flags_then kind (codes "nvsht") bs later))) ≡ true
-    by_c true true e = absurd (true_not true refl e)
-    by_c true false e = refl
-    by_c false u e = refl
-
--- what may be said of a state
-
-pub record Sayable (shape : Shape) (cells : List Cell) (regs : List Fact) (pairs : List PairFact) (flags : List Bit) (stack : List Fact)
-    (cs : List Fact) (top : ℕ) (temp : Ends) (next : List ℕ) : Type 0 where
-  pub regs_fit : Each (λ r x. FactIn (bytes_forms shape) x) registers regs
-  pub pairs_fit : Each (λ l x. PairIn pair_forms x) letters_of_pairs pairs
-  pub flags_fit : Each (λ l x. BitIn (is_handler shape.kind) x) letters_of_flags flags
-  pub slots_fit : length stack ≤ shape.depth
-  pub stack_fit : All (FactIn (bytes_forms shape)) stack
-  pub cells_fit : Each (λ p x. FactIn (cell_form shape p.1) x) (numbered_cells shape.kind 0 cells) cs
-  pub top_fit : is_top top ≡ true
-  pub temp_fit : RangeFits 255 temp
-  pub timed_fit : shape.timed ≡ false → (top ≡ scanline - 1) × (temp ≡ whole_byte)
-  pub next_fit : (rises next ≡ true) × All (λ id. id < shape.points) next × (length next ≤ 16) × (shape.plain ≡ true → next ≡ [])
-  pub plain_fit : shape.plain ≡ true → pairs ≡ AnyPair ∷ AnyPair ∷ AnyPair ∷ []
-  pub meant : is_zero_or_one (get_or pairs 2 AnyPair) ≡ true → IsMeant shape.kind flags
-
-abbrev pub items_of : Kind → List Cell → List Fact → List PairFact → List Bit → List Fact → List Fact → ℕ → Ends → List ℕ
-    → List (List ℕ)
-items_of kind cells regs pairs flags stack cs top temp next =
-    register_items kind 0 regs
-    ++ (pair_items letters_of_pairs pairs
-    ++ (flag_items kind letters_of_flags flags
-    ++ (slot_items stack
-    ++ (cell_items kind 0 cells cs
-    ++ (top_items top
-    ++ (temp_items temp
-    ++ successor_items next))))))
-
-pub record ReadsAs (shape : Shape) (cells : List Cell) (regs : List Fact) (pairs : List PairFact) (flags : List Bit) (stack : List Fact)
-    (cs : List Fact) (top : ℕ) (temp : Ends) (next : List ℕ) : Type 0 where
-  pub least : ℕ
-  pub after : ℕ
-  pub read : read_items shape cells (record { list = items_of shape.kind cells regs pairs flags stack cs top temp next; ended = true })
-      ≡ Ok (facts_with least after regs pairs flags stack cs top temp next)
-
-module _ (shape : Shape) (cells : List Cell) (h : ShapeFits shape cells) (regs stack cs : List Fact) (top : ℕ) (temp : Ends)
-    (next : List ℕ) where
-  abbrev dk : Bit
-  dk = default_flag shape.kind
-
-  abbrev timer_and_on : List (List ℕ)
-  timer_and_on = top_items top ++ (temp_items temp ++ successor_items next)
-
-  abbrev after_flags : List (List ℕ)
-  after_flags = slot_items stack ++ (options in_range cell_word (numbered_cells shape.kind 0 cells) cs ++ timer_and_on)
-
-  no_names_after : any_names after_flags ≡ false
-  no_names_after =
-      names_append (slot_items stack) (options in_range cell_word (numbered_cells shape.kind 0 cells) cs ++ timer_and_on)
-      (names_slots stack)
-      (names_append (options in_range cell_word (numbered_cells shape.kind 0 cells) cs) timer_and_on
-      (names_cells (numbered_cells shape.kind 0 cells) cs) (names_timer top temp (successor_items next) (names_next next)))
-
-  seven_flags : (pairs : List PairFact) (c z n v s a t : Bit) → Sayable shape cells regs pairs (c ∷ z ∷ n ∷ v ∷ s ∷ a ∷ t ∷ []) stack cs top temp
-      next
-      → (least : ℕ) → least ≤ 35
-      → Done shape cells h regs pairs (c ∷ z ∷ n ∷ v ∷ s ∷ a ∷ t ∷ []) stack cs top temp next
-      (start shape cells h regs pairs (c ∷ z ∷ n ∷ v ∷ s ∷ a ∷ t ∷ []) stack cs top temp next least regs pairs
-      (dk ∷ dk ∷ dk ∷ dk ∷ dk ∷ dk ∷ dk ∷ []))
-      (flags_then shape.kind letters_of_flags (c ∷ z ∷ n ∷ v ∷ s ∷ a ∷ t ∷ []) after_flags)
-  seven_flags pairs c z n v s a t say least l =
-      let flags = c ∷ z ∷ n ∷ v ∷ s ∷ a ∷ t ∷ [] in
-      let f = say.flags_fit in
-      flag_next shape cells h regs pairs flags stack cs top temp next [] (dk ∷ dk ∷ dk ∷ dk ∷ dk ∷ dk ∷ []) 0 c least _ refl (lit< tt) f.0 l
-      (λ e. absurd (omega arith))
-      (λ l0 b0. flag_next shape cells h regs pairs flags stack cs top temp next (c ∷ []) (dk ∷ dk ∷ dk ∷ dk ∷ dk ∷ []) 1 z l0 _ refl (lit< tt) f.1.0
-      b0
-      (λ _. no_names_then shape.kind (n ∷ v ∷ s ∷ a ∷ t ∷ []) after_flags no_names_after)
-      (λ l1 b1. flag_next shape cells h regs pairs flags stack cs top temp next (c ∷ z ∷ []) (dk ∷ dk ∷ dk ∷ dk ∷ []) 2 n l1 _ refl (lit< tt) f.1.1.0
-      b1 (λ e. absurd (omega arith))
-      (λ l2 b2. flag_next shape cells h regs pairs flags stack cs top temp next (c ∷ z ∷ n ∷ []) (dk ∷ dk ∷ dk ∷ []) 3 v l2 _ refl (lit< tt)
-      f.1.1.1.0 b2 (λ e. absurd (omega arith))
-      (λ l3 b3. flag_next shape cells h regs pairs flags stack cs top temp next (c ∷ z ∷ n ∷ v ∷ []) (dk ∷ dk ∷ []) 4 s l3 _ refl (lit< tt)
-      f.1.1.1.1.0 b3 (λ e. absurd (omega arith))
-      (λ l4 b4. flag_next shape cells h regs pairs flags stack cs top temp next (c ∷ z ∷ n ∷ v ∷ s ∷ []) (dk ∷ []) 5 a l4 _ refl (lit< tt)
-      f.1.1.1.1.1.0 b4 (λ e. absurd (omega arith))
-      (λ l5 b5. flag_next shape cells h regs pairs flags stack cs top temp next (c ∷ z ∷ n ∷ v ∷ s ∷ a ∷ []) [] 6 t l5 _ refl (lit< tt)
-      f.1.1.1.1.1.1.0 b5 (λ e. absurd (omega arith))
-      (λ l6 b6. slots_stage shape cells h regs pairs flags stack cs top temp next [] stack l6 b6 refl say.stack_fit say.slots_fit say.cells_fit
-      (say.top_fit, say.temp_fit, say.timed_fit) say.next_fit)))))))
-
-  three_pairs : (x y p : PairFact) (c z n v s a t : Bit) → Sayable shape cells regs (x ∷ y ∷ p ∷ []) (c ∷ z ∷ n ∷ v ∷ s ∷ a ∷ t ∷ []) stack
-      cs top temp next
-      → (least : ℕ) → least ≤ 32
-      → Done shape cells h regs (x ∷ y ∷ p ∷ []) (c ∷ z ∷ n ∷ v ∷ s ∷ a ∷ t ∷ []) stack cs top temp next
-      (start shape cells h regs (x ∷ y ∷ p ∷ []) (c ∷ z ∷ n ∷ v ∷ s ∷ a ∷ t ∷ []) stack cs top temp next least regs
-      (AnyPair ∷ AnyPair ∷ AnyPair ∷ []) (dk ∷ dk ∷ dk ∷ dk ∷ dk ∷ dk ∷ dk ∷ []))
-      (pairs_then letters_of_pairs (x ∷ y ∷ p ∷ []) (flags_then shape.kind letters_of_flags (c ∷ z ∷ n ∷ v ∷ s ∷ a ∷ t ∷ []) after_flags))
-  three_pairs x y p c z n v s a t say least l =
-      let pairs = x ∷ y ∷ p ∷ [] in
-      let flags = c ∷ z ∷ n ∷ v ∷ s ∷ a ∷ t ∷ [] in
-      let ds = dk ∷ dk ∷ dk ∷ dk ∷ dk ∷ dk ∷ dk ∷ [] in
-      let f = say.pairs_fit in
-      let any : (k : ℕ) (q : PairFact) → get_or pairs k AnyPair ≡ q → get_or (AnyPair ∷ AnyPair ∷ AnyPair ∷ []) k AnyPair ≡ AnyPair
-      → shape.plain ≡ true → q ≡ AnyPair =
-      λ k q e b w. sym e ∙ ap (λ (ps : List PairFact). get_or ps k AnyPair) (say.plain_fit w) ∙ b in
-      pair_next shape cells h regs pairs flags stack cs top temp next [] (AnyPair ∷ AnyPair ∷ []) ds 0 x least _ refl (lit< tt) f.0
-      (any 0 x refl refl) l (λ e. absurd (omega arith))
-      (λ l0 b0. pair_next shape cells h regs pairs flags stack cs top temp next (x ∷ []) (AnyPair ∷ []) ds 1 y l0 _ refl (lit< tt) f.1.0
-      (any 1 y refl refl) b0 (λ e. absurd (omega arith))
-      (λ l1 b1. pair_next shape cells h regs pairs flags stack cs top temp next (x ∷ y ∷ []) [] ds 2 p l1 _ refl (lit< tt) f.1.1.0
-      (any 2 p refl refl) b1
-      (λ _ one. names_then shape.kind c z (n ∷ v ∷ s ∷ a ∷ t ∷ []) after_flags (say.meant one))
-      (λ l2 b2. seven_flags pairs c z n v s a t say l2 b2)))
-
-  all_again : (x y p : PairFact) (c z n v s a t : Bit) → Sayable shape cells regs (x ∷ y ∷ p ∷ []) (c ∷ z ∷ n ∷ v ∷ s ∷ a ∷ t ∷ []) stack cs top temp
-      next
-      → ReadsAs shape cells regs (x ∷ y ∷ p ∷ []) (c ∷ z ∷ n ∷ v ∷ s ∷ a ∷ t ∷ []) stack cs top temp next
+  pub items_again : (least : ℕ) × (after : ℕ)
+      × (read_items shape cells (record { list = spelled shape.kind cells g; ended = true }) ≡ Ok (record g { least = least; after = after }))
   unfolding read_items first_facts
-  all_again x y p c z n v s a t say =
-      let pairs = x ∷ y ∷ p ∷ [] in
-      let flags = c ∷ z ∷ n ∷ v ∷ s ∷ a ∷ t ∷ [] in
-      let ds = dk ∷ dk ∷ dk ∷ dk ∷ dk ∷ dk ∷ dk ∷ [] in
-      let later = pairs_then letters_of_pairs pairs (flags_then shape.kind letters_of_flags flags after_flags) in
-      let d = registers_stage shape cells h regs pairs flags stack cs top temp next (AnyPair ∷ AnyPair ∷ AnyPair ∷ []) ds later say.regs_fit
-      (λ low b. three_pairs x y p c z n v s a t say low b) in
-      record {
-        least = d.0;
-        after = d.1;
-        read =
-            ap (λ (ws : List (List ℕ)). items_from shape cells true (first_facts shape.kind cells) ws) words
-            ∙ ap (λ (rs : List Fact). items_from shape cells true (facts_before 0 rs (AnyPair ∷ AnyPair ∷ AnyPair ∷ []) ds []
-            (default_cells shape.kind cells))
-            (options (is_default shape.kind) register_word registers regs ++ later)) (registers_usual shape.kind)
-            ∙ ap (λ (fs : List Fact). items_from shape cells true (facts_before 0 (map (usual_fact shape.kind) registers)
-            (AnyPair ∷ AnyPair ∷ AnyPair ∷ []) ds [] fs)
-            (options (is_default shape.kind) register_word registers regs ++ later)) (cells_usual shape.kind 0 cells)
-            ∙ d.2;
-      }
-    where
-      words : items_of shape.kind cells regs (x ∷ y ∷ p ∷ []) (c ∷ z ∷ n ∷ v ∷ s ∷ a ∷ t ∷ []) stack cs top temp next
-          ≡ options (is_default shape.kind) register_word registers regs
-          ++ pairs_then letters_of_pairs (x ∷ y ∷ p ∷ []) (flags_then shape.kind letters_of_flags (c ∷ z ∷ n ∷ v ∷ s ∷ a ∷ t ∷ [])
-          after_flags)
-      words =
-          let pairs = x ∷ y ∷ p ∷ [] in
-          let flags = c ∷ z ∷ n ∷ v ∷ s ∷ a ∷ t ∷ [] in
-          ap (λ ws. ws ++ (pair_items letters_of_pairs pairs ++ (flag_items shape.kind letters_of_flags flags
-          ++ (slot_items stack ++ (cell_items shape.kind 0 cells cs ++ timer_and_on)))))
-          (registers_are shape.kind 0 32 regs (each_length (λ r x. FactIn (bytes_forms shape) x) registers regs say.regs_fit))
-          ∙ ap (λ ws. options (is_default shape.kind) register_word registers regs ++ ws)
-          (ap (λ ws. pair_items letters_of_pairs pairs ++ (flag_items shape.kind letters_of_flags flags
-          ++ (slot_items stack ++ (ws ++ timer_and_on))))
-          (cells_are shape.kind 0 cells cs)
-          ∙ ap (λ ws. pair_items letters_of_pairs pairs ++ ws) (flags_then_are shape.kind letters_of_flags flags after_flags)
-          ∙ pairs_then_are letters_of_pairs pairs (flags_then shape.kind letters_of_flags flags after_flags))
-
--- whatever the lists are
-pub items_again : (shape : Shape) (cells : List Cell) (regs : List Fact) (pairs : List PairFact) (flags : List Bit) (stack cs : List Fact)
-    (top : ℕ) (temp : Ends) (next : List ℕ)
-    → ShapeFits shape cells → Sayable shape cells regs pairs flags stack cs top temp next → ReadsAs shape cells regs pairs flags stack cs top temp next
-items_again shape cells regs (x ∷ y ∷ p ∷ []) (c ∷ z ∷ n ∷ v ∷ s ∷ a ∷ t ∷ []) stack cs top temp next h say =
-    all_again shape cells h regs stack cs top temp next x y p c z n v s a t say
-items_again shape cells regs [] flags stack cs top temp next h say = absurd say.pairs_fit
-items_again shape cells regs (x ∷ []) flags stack cs top temp next h say = absurd say.pairs_fit.1
-items_again shape cells regs (x ∷ y ∷ []) flags stack cs top temp next h say = absurd say.pairs_fit.1.1
-items_again shape cells regs (x ∷ y ∷ p ∷ q ∷ rest) flags stack cs top temp next h say = absurd say.pairs_fit.1.1.1
-items_again shape cells regs (x ∷ y ∷ p ∷ []) [] stack cs top temp next h say = absurd say.flags_fit
-items_again shape cells regs (x ∷ y ∷ p ∷ []) (c ∷ []) stack cs top temp next h say = absurd say.flags_fit.1
-items_again shape cells regs (x ∷ y ∷ p ∷ []) (c ∷ z ∷ []) stack cs top temp next h say = absurd say.flags_fit.1.1
-items_again shape cells regs (x ∷ y ∷ p ∷ []) (c ∷ z ∷ n ∷ []) stack cs top temp next h say = absurd say.flags_fit.1.1.1
-items_again shape cells regs (x ∷ y ∷ p ∷ []) (c ∷ z ∷ n ∷ v ∷ []) stack cs top temp next h say = absurd say.flags_fit.1.1.1.1
-items_again shape cells regs (x ∷ y ∷ p ∷ []) (c ∷ z ∷ n ∷ v ∷ s ∷ []) stack cs top temp next h say = absurd say.flags_fit.1.1.1.1.1
-items_again shape cells regs (x ∷ y ∷ p ∷ []) (c ∷ z ∷ n ∷ v ∷ s ∷ a ∷ []) stack cs top temp next h say = absurd say.flags_fit.1.1.1.1.1.1
-items_again shape cells regs (x ∷ y ∷ p ∷ []) (c ∷ z ∷ n ∷ v ∷ s ∷ a ∷ t ∷ u ∷ rest) stack cs top temp next h say =
-    absurd say.flags_fit.1.1.1.1.1.1.1
+  items_again =
+      let kind = shape.kind in
+      at_facts (first_facts kind cells) (regs_facts 0 (map (usual_fact kind) registers)) (spelled kind cells g)
+      (ap (λ (fs : List Fact). record (first_facts kind cells) { cells = record { items = fs } }) (cells_usual kind 0 cells)
+      ∙ ap (regs_facts 0) (registers_usual kind))
+      (options_read (registers_list shape cells) (λ r n. r) RegisterAt (λ r x. FactIn (bytes_forms shape) x)
+      (λ low values words. Done (regs_facts low values) words) (λ r x i e. register_only kind r x e) register_step
+      (registers_options shape cells) g.regs 0 32 pair_words_and_on s.regs_fit (registers_ordered 0 32 0 (lit≤ tt) (lit≤ tt)) pairs_stage)

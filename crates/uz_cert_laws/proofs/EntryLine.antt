@@ -32,10 +32,10 @@ use Rattle.uz_cert_laws.specs.Said.{line, PlacesAre}
 use Rattle.uz_cert_laws.proofs.Tests.{fine, true_not}
 use Rattle.uz_cert_laws.specs.Spells.{word_at, Parts, says, spells}
 use Rattle.uz_cert_laws.proofs.OnlyItems.{ShapeFits}
-use Rattle.uz_cert_laws.proofs.AgainItems.{Sayable, items_of, facts_with}
+use Rattle.uz_cert_laws.proofs.AgainItems.{FactsFit}
 use Rattle.uz_cert_laws.proofs.Spans.{bytes_of}
 use Rattle.uz_cert_laws.proofs.Steps.{is_within as within_so, one_so}
-use Rattle.uz_cert_laws.proofs.FormLaws.{FactsFit, Fit, SaysFacts, IsReadable, form_again, form_only}
+use Rattle.uz_cert_laws.proofs.FormLaws.{Fit, SaysFacts, IsReadable, form_again, form_only}
 use Rattle.uz_cert_laws.proofs.Facts.{FactIn, BitIn}
 use Rattle.uz_cert_laws.proofs.Options.{each_length, each_other}
 use Rattle.uz_cert_laws.proofs.Spelled.{registers, numbered_cells}
@@ -72,10 +72,23 @@ at_begin Main e h f = h
 at_begin Handler e h f = absurd h
 at_begin Alone e h f = absurd cc
 
+-- what an entry says by its items
+abbrev facts_of : Entry → Facts
+facts_of e = record {
+  least = 0;
+  after = 0;
+  regs = range_facts e.regs;
+  pairs = AnyPair ∷ AnyPair ∷ AnyPair ∷ [];
+  flags = e.flags;
+  stack = record { items = range_facts e.stack.items };
+  cells = record { items = range_facts e.cells.items };
+  top = scanline - 1;
+  temp = whole_byte;
+  next = record { items = [] };
+}
+
 entry_sayable : (h : Head) (lines points : ℕ) (e : Entry) → EntryFactsFit h e
-    → Sayable (shape_of h e.kind true points) h.cells.items (range_facts e.regs) (AnyPair ∷ AnyPair ∷ AnyPair ∷ []) e.flags
-    (range_facts e.stack.items)
-    (range_facts e.cells.items) (scanline - 1) whole_byte []
+    → FactsFit (shape_of h e.kind true points) h.cells.items (facts_of e)
 entry_sayable h lines points e f =
     let shape = shape_of h e.kind true points in
     record {
@@ -104,18 +117,15 @@ entry_sayable h lines points e f =
         (λ x r. range_in (bytes_forms (shape_of h e.kind true points)) x refl r (omega arith) (omega (arith, r.high))) a
 
 entry_items_are : (cells : List Cell) (e : Entry)
-    → entry_items cells e ≡ items_of e.kind cells (range_facts e.regs) (AnyPair ∷ AnyPair ∷ AnyPair ∷ []) e.flags
-    (range_facts e.stack.items) (range_facts e.cells.items) (scanline - 1) whole_byte []
+    → entry_items cells e ≡ spelled e.kind cells (facts_of e)
 entry_items_are cells e =
     ap (λ ws. register_items e.kind 0 (range_facts e.regs) ++ (flag_items e.kind letters_of_flags e.flags
     ++ (slot_items (range_facts e.stack.items) ++ ws)))
     (sym (append-nil (cell_items e.kind 0 cells (range_facts e.cells.items))))
 
-entry_back : (h : Head) (e : Entry) (least after : ℕ) → EntryFactsFit h e
-    → entry_of e.kind e.id e.pc e.line e.clock (facts_with least after (range_facts e.regs) (AnyPair ∷ AnyPair ∷ AnyPair ∷ []) e.flags
-    (range_facts e.stack.items) (range_facts e.cells.items) (scanline - 1) whole_byte []) ≡ e
+entry_back : (h : Head) (e : Entry) → EntryFactsFit h e → entry_of e.kind e.id e.pc e.line e.clock (facts_of e) ≡ e
 unfolding entry_of
-entry_back h e least after f =
+entry_back h e f =
     with_lists (map span_of_fact (range_facts e.regs)) (map span_of_fact (range_facts e.stack.items))
     (map span_of_fact (range_facts e.cells.items))
     (back e.regs f.ranges) (back e.stack.items f.stack) (back e.cells.items f.cells.ranges)
@@ -207,12 +217,10 @@ entry_again h lines points e a f =
     let kind = e.kind in
     let lines_small = none_small kind lines (omega arith) in
     let clocks_small = none_small kind clock_limit (lit≤ tt) in
-    let facts = facts_with 0 0 (range_facts e.regs) (AnyPair ∷ AnyPair ∷ AnyPair ∷ []) e.flags (range_facts e.stack.items)
-    (range_facts e.cells.items) (scanline - 1) whole_byte [] in
     ap (λ ws. reads (entry_form h lines points)
     (line (codes "entry" ∷ kind_word kind ∷ decimal e.id ∷ decimal e.pc ∷ decimal e.line ∷ decimal e.clock ∷ ws)))
     (entry_items_are h.cells.items e)
-    ∙ entry_so h lines points kind e (e.id, (e.pc, (e.line, (e.clock, facts)))) a f.kind (
+    ∙ entry_so h lines points kind e (e.id, (e.pc, (e.line, (e.clock, facts_of e)))) a f.kind (
       one_so points e.id (omega arith) f.id,
       (
         within_so 0 32768 e.pc (lit≤ tt) (omega arith) f.pc,
@@ -227,7 +235,7 @@ entry_again h lines points e a f =
         ),
       ),
     )
-    ∙ ap (λ (x : Entry). fine (said.Entry x)) (entry_back h e 0 0 f.facts)
+    ∙ ap (λ (x : Entry). fine (said.Entry x)) (entry_back h e f.facts)
 
 -- only
 

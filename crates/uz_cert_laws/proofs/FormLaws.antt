@@ -19,14 +19,11 @@ use Rattle.uz_cert_laws.specs.Spells.{word_at, Parts, says, spells}
 use Rattle.uz_cert_laws.proofs.Tests.{fine_is, fault_not, bind_ok, then}
 use Rattle.uz_cert_laws.proofs.Numbers.{IsAsked, number_so, number_only, slope_so, slope_only}
 use Rattle.uz_cert_laws.proofs.OnlyItems.{ShapeFits, items_only}
-use Rattle.uz_cert_laws.proofs.AgainItems.{Sayable, items_again}
+use Rattle.uz_cert_laws.proofs.AgainItems.{FactsFit, items_again}
 use Rattle.uz_cert_laws.proofs.Plains.{plain_read, plain_at, plain_signed, plain_spans, plain_items}
 use Rattle.uz_text.proofs.Plain.{plain, EachPlain, each_plain_append}
 use Rattle.uz_cert_laws.proofs.Spans.{Bytes, own, spans_read, spans_gone}
 use Rattle.uz_cert_laws.proofs.Steps.{words_in, line_same, fixed_word, fixed_is, choice_word, with_front}
-
-abbrev pub FactsFit : Shape → List Cell → Facts → Type 0
-FactsFit shape cells f = Sayable shape cells f.regs f.pairs f.flags f.stack.items f.cells.items f.top f.temp f.next.items
 
 -- each part is within its limits
 abbrev pub Fit : (form : LineForm) → Parts form → Type 0
@@ -72,8 +69,8 @@ form_again (spans cells form) p s f =
     (spans_read cells p.0 (spells (form p.0) p.1) s.0 f.0.0 f.0.1)
     ∙ form_again (form p.0) p.1 (s.1 p.0) f.1
 form_again (items shape cells say) g s f =
-    let r = items_again shape cells g.regs g.pairs g.flags g.stack.items g.cells.items g.top g.temp g.next.items s.0 f in
-    ap (λ (m : Result Facts CertWhy). m >>= (λ x. Ok (say x))) r.read ∙ ap (λ (x : Said). Ok x) (s.1 g r.least r.after)
+    let r = items_again shape cells s.0 g f in
+    ap (λ (m : Result Facts CertWhy). m >>= (λ x. Ok (say x))) r.2 ∙ ap (λ (x : Said). Ok x) (s.1 g r.0 r.1)
 form_again (finish said) p s f = refl
 
 -- a word that is due, what it is read as, and the words after it

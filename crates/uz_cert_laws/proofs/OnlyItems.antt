@@ -135,7 +135,7 @@ pub first_nothing : (shape : Shape) (cells : List Cell) → ShapeFits shape cell
 unfolding first_facts
 first_nothing shape cells h =
     all_empty (all_items shape cells) (are_sections shape cells) 0 0 (values shape cells (first_facts shape.kind cells))
-    (lit≤ tt, (lit≤ tt, (lit≤ tt, (lit≤ tt, (lit≤ tt, (lit≤ tt, (lit≤ tt, lit≤ tt))))))) (lit≤ tt) (first_regular shape cells h).fit
+    refl (lit≤ tt) (first_regular shape cells h).fit
 
 -- Z as a pair
 
@@ -225,23 +225,23 @@ pub names_letter : (c : ℕ) (value : List ℕ) → (eqb c 99 || eqb c 122) ≡ 
 names_letter c [] e = refl
 names_letter c (d ∷ cs) e = ap (λ b. b && eqb d 61) e
 
+pub flag_other_name : (b : ℕ) (x : Bit) (w : List ℕ) → w ≡ flag_letter b ∷ 61 ∷ flag_word x → 2 ≤ b → b < 7 → names_c_or_z w ≡ false
+flag_other_name zero x w e l s = absurd (omega arith)
+flag_other_name (suc zero) x w e l s = absurd (omega arith)
+flag_other_name (suc (suc zero)) x w e l s = ap names_c_or_z e
+flag_other_name (suc (suc (suc zero))) x w e l s = ap names_c_or_z e
+flag_other_name (suc (suc (suc (suc zero)))) x w e l s = ap names_c_or_z e
+flag_other_name (suc (suc (suc (suc (suc zero))))) x w e l s = ap names_c_or_z e
+flag_other_name (suc (suc (suc (suc (suc (suc zero)))))) x w e l s = ap names_c_or_z e
+flag_other_name (suc (suc (suc (suc (suc (suc (suc b))))))) x w e l s = absurd (past b s)
+  where
+    past : (b : ℕ) → suc (suc (suc (suc (suc (suc (suc b)))))) < 7 → ⊥
+    past b h = omega arith
+
 names_later : (w : List ℕ) (ws : List (List ℕ)) → names_c_or_z w ≡ false → any_names (w ∷ ws) ≡ true → any_names ws ≡ true
 names_later w ws e h = sym (ap (λ b. b || any_names ws) e) ∙ h
 
 module _ (shape : Shape) (cells : List Cell) (f : Facts) (h : Regular shape cells f) where
-  flag_other_name : (b : ℕ) (x : Bit) (w : List ℕ) → w ≡ flag_letter b ∷ 61 ∷ flag_word x → 2 ≤ b → b < 7 → names_c_or_z w ≡ false
-  flag_other_name zero x w e l s = absurd (omega arith)
-  flag_other_name (suc zero) x w e l s = absurd (omega arith)
-  flag_other_name (suc (suc zero)) x w e l s = ap names_c_or_z e
-  flag_other_name (suc (suc (suc zero))) x w e l s = ap names_c_or_z e
-  flag_other_name (suc (suc (suc (suc zero)))) x w e l s = ap names_c_or_z e
-  flag_other_name (suc (suc (suc (suc (suc zero))))) x w e l s = ap names_c_or_z e
-  flag_other_name (suc (suc (suc (suc (suc (suc zero)))))) x w e l s = ap names_c_or_z e
-  flag_other_name (suc (suc (suc (suc (suc (suc (suc b))))))) x w e l s = absurd (past b s)
-    where
-      past : (b : ℕ) → suc (suc (suc (suc (suc (suc (suc b)))))) < 7 → ⊥
-      past b h = omega arith
-
   -- an item that comes before the flags: Z isn't said yet, or its flags are
   early : (w : List ℕ) (ws : List (List ℕ)) (pairs : List PairFact) (least : ℕ) → f.least < 35 → get_or pairs 2 AnyPair ≡ get_or f.pairs 2
       AnyPair

@@ -97,60 +97,82 @@ drop_later xs ys n m h e = by_sum (m - n) (omega arith)
 pub drop_none : {A : Type 0} (xs ys : List A) (n : ℕ) → n ≡ 0 → drop n xs ≡ drop n ys → xs ≡ ys
 drop_none {A} xs ys n z e = subst (λ k. drop k xs ≡ drop k ys) z e
 
+-- lists of optional items: a value for each key, and how many keys stand before a place
+
+pub record OptionList (K A : Type 0) : Type 1 where
+  pub keys : List K
+  pub is_usual : K → A → Bool
+  pub usual : K → A
+  pub word : K → A → List ℕ
+  pub Within : K → A → Type 0
+  pub spelled : List A → List (List ℕ)
+  pub before : ℕ → ℕ
+  pub start : ℕ
+
+pub record AreOptions {K A : Type 0} (o : OptionList K A) : Type 0 where
+  pub usual_is : (k : K) → o.is_usual k (o.usual k) ≡ true
+  pub words_are : (xs : List A) → length xs ≡ length o.keys → o.spelled xs ≡ options o.is_usual o.word o.keys xs
+  pub rise : (m n : ℕ) → m ≤ n → o.before m ≤ o.before n
+  pub none : (m : ℕ) → m ≤ o.start → o.before m ≡ 0
+
 -- items that are read one after another
 
 -- keys whose places rise from least on, each at its index; all places are below limit
-abbrev pub Ordered : {K : Type 0} → (K → ℕ → Type 0) → (K → ℕ) → ℕ → ℕ → ℕ → List K → Type 0
+abbrev pub Ordered : {K : Type 0} → (K → ℕ → Type 0) → (K → ℕ → ℕ) → ℕ → ℕ → ℕ → List K → Type 0
 Ordered I place n least limit [] = least ≤ limit
-Ordered I place n least limit (k ∷ ks) = I k n × (least ≤ place k) × Ordered I place (suc n) (place k + 1) limit ks
+Ordered I place n least limit (k ∷ ks) = I k n × (least ≤ place k n) × Ordered I place (suc n) (place k n + 1) limit ks
 
-ordered_lower : {K : Type 0} (I : K → ℕ → Type 0) (place : K → ℕ) (n low least limit : ℕ) (ks : List K)
+ordered_lower : {K : Type 0} (I : K → ℕ → Type 0) (place : K → ℕ → ℕ) (n low least limit : ℕ) (ks : List K)
     → low ≤ least → Ordered I place n least limit ks → Ordered I place n low limit ks
 ordered_lower I place n low least limit [] h o = omega arith
 ordered_lower I place n low least limit (k ∷ ks) h o = (o.0, omega (arith, h, o.1), o.2)
 
 -- Reads least values words: reading goes on so, where these values stand, and items are due from the place least on.
 -- Where each item that isn't a default is read, all are read, and the default stands where there was none.
-pub section : {K A : Type 0} (d : K → A → Bool) (w : K → A → List ℕ) (usual : K → A) (place : K → ℕ) (I : K → ℕ → Type 0)
-    (R : K → A → Type 0)
+module _ {K A : Type 0} (o : OptionList K A) (place : K → ℕ → ℕ) (I : K → ℕ → Type 0) (R : K → A → Type 0)
     (Reads : ℕ → List A → List (List ℕ) → Type 0)
-    → ((k : K) (x : A) → R k x → d k x ≡ true → x ≡ usual k)
-    → ((front back : List A) (k : K) (x : A) (least : ℕ) (words : List (List ℕ)) → I k (length front) → R k x → d k x ≡ false
-    → least ≤ place k
-    → Reads (place k + 1) (front ++ x ∷ back) words → Reads least (front ++ usual k ∷ back) (w k x ∷ words))
-    → (ks : List K) (front xs : List A) (least limit : ℕ) (later : List (List ℕ)) → Each R ks xs → Ordered I place (length front) least
-    limit ks
-    → ((least : ℕ) → least ≤ limit → Reads least (front ++ xs) later)
-    → Reads least (front ++ map usual ks) (options d w ks xs ++ later)
-section d w usual place I R Reads is step [] front [] least limit later h o go = go least o
-section d w usual place I R Reads is step [] front (x ∷ xs) least limit later h o go = absurd h
-section d w usual place I R Reads is step (k ∷ ks) front [] least limit later h o go = absurd h
-section {K} {A} d w usual place I R Reads is step (k ∷ ks) front (x ∷ xs) least limit later h o go =
-    by_default (λ y low b g. section d w usual place I R Reads is step ks (front ++ y ∷ []) xs low limit later h.1 b g) (d k x) refl
-  where
-    Again : Type 0
-    Again =
-        (y : A) (low : ℕ) → Ordered I place (length (front ++ y ∷ [])) low limit ks
-        → ((n : ℕ) → n ≤ limit → Reads n ((front ++ y ∷ []) ++ xs) later)
-        → Reads low ((front ++ y ∷ []) ++ map usual ks) (options d w ks xs ++ later)
+    (is : (k : K) (x : A) → R k x → o.is_usual k x ≡ true → x ≡ o.usual k)
+    (step : (front back : List A) (k : K) (x : A) (least : ℕ) (words : List (List ℕ)) → I k (length front) → R k x
+    → o.is_usual k x ≡ false → least ≤ place k (length front) → Reads (place k (length front) + 1) (front ++ x ∷ back) words
+    → Reads least (front ++ o.usual k ∷ back) (o.word k x ∷ words)) where
+  abbrev Again : List K → List A → Type 0
+  Again ks xs =
+      (front : List A) (least limit : ℕ) (later : List (List ℕ)) → Ordered I place (length front) least limit ks
+      → ((low : ℕ) → low ≤ limit → Reads low (front ++ xs) later)
+      → Reads least (front ++ map o.usual ks) (options o.is_usual o.word ks xs ++ later)
 
-    longer : (y : A) → length (front ++ y ∷ []) ≡ suc (length front)
-    longer y = length-append front (y ∷ []) ∙ add-one (length front)
+  one_more : (k : K) (ks : List K) (x : A) (xs : List A) → R k x → Again ks xs → Again (k ∷ ks) (x ∷ xs)
+  one_more k ks x xs r again front least limit later b go = by_default (o.is_usual k x) refl
+    where
+      longer : (y : A) → length (front ++ y ∷ []) ≡ suc (length front)
+      longer y = length-append front (y ∷ []) ∙ add-one (length front)
 
-    ordered : (y : A) (low : ℕ) → low ≤ place k + 1 → Ordered I place (length (front ++ y ∷ [])) low limit ks
-    ordered y low l =
-        ordered_lower I place (length (front ++ y ∷ [])) low (place k + 1) limit ks l
-        (subst (λ n. Ordered I place n (place k + 1) limit ks) (sym (longer y)) o.2)
+      from : (y : A) (low : ℕ) → low ≤ place k (length front) + 1 → x ≡ y
+          → Reads low (front ++ y ∷ map o.usual ks) (options o.is_usual o.word ks xs ++ later)
+      from y low l e =
+          subst (λ (ys : List A). Reads low ys (options o.is_usual o.word ks xs ++ later)) (append_assoc front (y ∷ []) (map o.usual ks))
+          (again (front ++ y ∷ []) low limit later
+          (ordered_lower I place (length (front ++ y ∷ [])) low (place k (length front) + 1) limit ks l
+          (subst (λ n. Ordered I place n (place k (length front) + 1) limit ks) (sym (longer y)) b.2))
+          (λ n m. subst (λ (ys : List A). Reads n ys later)
+          (ap (λ (z : A). front ++ z ∷ xs) e ∙ sym (append_assoc front (y ∷ []) xs)) (go n m)))
 
-    from : Again → (y : A) (low : ℕ) → low ≤ place k + 1 → x ≡ y → Reads low (front ++ y ∷ map usual ks) (options d w ks xs ++ later)
-    from again y low l e =
-        subst (λ (ys : List A). Reads low ys (options d w ks xs ++ later)) (append_assoc front (y ∷ []) (map usual ks))
-        (again y low (ordered y low l)
-        (λ n b. subst (λ (ys : List A). Reads n ys later) (ap (λ (z : A). front ++ z ∷ xs) e ∙ sym (append_assoc front (y ∷ []) xs))
-        (go n b)))
+      by_default : (t : Bool) → o.is_usual k x ≡ t → Reads least (front ++ o.usual k ∷ map o.usual ks)
+          (unless t (o.word k x) (options o.is_usual o.word ks xs) ++ later)
+      by_default true t = from (o.usual k) least (omega (arith, b.1)) (is k x r t)
+      by_default false t =
+          step front (map o.usual ks) k x least (options o.is_usual o.word ks xs ++ later) b.0 r t b.1
+          (from x (place k (length front) + 1) (omega arith) refl)
 
-    by_default : Again → (t : Bool) → d k x ≡ t → Reads least (front ++ usual k ∷ map usual ks) (unless t (w k x) (options d w ks xs)
-        ++ later)
-    by_default again true t = from again (usual k) least (omega (arith, o.1)) (is k x h.0 t)
-    by_default again false t =
-        step front (map usual ks) k x least (options d w ks xs ++ later) o.0 h.0 t o.1 (from again x (place k + 1) (omega arith) refl)
+  all_more : (ks : List K) (xs : List A) → Each R ks xs → Again ks xs
+  all_more [] [] h = λ front least limit later b go. go least b
+  all_more [] (x ∷ xs) h = absurd h
+  all_more (k ∷ ks) [] h = absurd h
+  all_more (k ∷ ks) (x ∷ xs) h = one_more k ks x xs h.0 (all_more ks xs h.1)
+
+  pub options_read : AreOptions o → (xs : List A) (least limit : ℕ) (later : List (List ℕ)) → Each R o.keys xs
+      → Ordered I place 0 least limit o.keys → ((low : ℕ) → low ≤ limit → Reads low xs later)
+      → Reads least (map o.usual o.keys) (o.spelled xs ++ later)
+  options_read are xs least limit later h b go =
+      subst (λ ws. Reads least (map o.usual o.keys) (ws ++ later)) (sym (are.words_are xs (each_length R o.keys xs h)))
+      (all_more o.keys xs h [] least limit later b go)

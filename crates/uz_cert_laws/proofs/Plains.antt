@@ -37,7 +37,7 @@ use Rattle.uz_cert_laws.proofs.Spelled.{registers, numbered_cells}
 use Rattle.uz_cert_laws.proofs.Taken.{cell_form}
 use Rattle.uz_cert_laws.proofs.Fitting.{all_of_each}
 use Rattle.uz_cert_laws.proofs.OnlyItems.{ShapeFits}
-use Rattle.uz_cert_laws.proofs.AgainItems.{Sayable}
+use Rattle.uz_cert_laws.proofs.AgainItems.{FactsFit}
 
 -- lines are cut into their words again
 
@@ -264,8 +264,7 @@ small_facts forms fs w all = All-weaker (FactIn forms) SmallFact (λ f h. small_
 
 -- all items of a line
 pub plain_items : (shape : Shape) (cells : List Cell) (f : Facts) → ShapeFits shape cells
-    → Sayable shape cells f.regs f.pairs f.flags f.stack.items f.cells.items f.top f.temp f.next.items
-    → EachPlain (spelled shape.kind cells f)
+    → FactsFit shape cells f → EachPlain (spelled shape.kind cells f)
 plain_items shape cells f h s =
     let kind = shape.kind in
     let few = h.places.few in

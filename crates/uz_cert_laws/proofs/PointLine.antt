@@ -31,9 +31,9 @@ use Rattle.uz_cert_laws.specs.Said.{line, PlacesAre}
 use Rattle.uz_cert_laws.proofs.Tests.{fine, true_not}
 use Rattle.uz_cert_laws.specs.Spells.{word_at, Parts, says, spells}
 use Rattle.uz_cert_laws.proofs.OnlyItems.{ShapeFits}
-use Rattle.uz_cert_laws.proofs.AgainItems.{Sayable, facts_with}
+use Rattle.uz_cert_laws.proofs.AgainItems.{FactsFit}
 use Rattle.uz_cert_laws.proofs.Steps.{is_within as within_so, under_both, both_under, least_small}
-use Rattle.uz_cert_laws.proofs.FormLaws.{FactsFit, Fit, SaysFacts, IsReadable, form_again, form_only}
+use Rattle.uz_cert_laws.proofs.FormLaws.{Fit, SaysFacts, IsReadable, form_again, form_only}
 use Rattle.uz_cert_laws.proofs.Facts.{FactIn, PairIn, BitIn}
 use Rattle.uz_cert_laws.proofs.Options.{each_length}
 use Rattle.uz_cert_laws.proofs.Spelled.{registers}
@@ -77,8 +77,23 @@ point_untimed Second Main p h o u = h.1
 point_untimed Second Handler p h o u = absurd cc
 point_untimed Second Alone p h o u = h.1
 
+-- what a point says by its items
+abbrev facts_of : Point → Facts
+facts_of p = record {
+  least = 0;
+  after = 0;
+  regs = p.regs;
+  pairs = p.pairs;
+  flags = p.flags;
+  stack = p.stack;
+  cells = p.cells;
+  top = p.top;
+  temp = p.temp;
+  next = p.next;
+}
+
 point_sayable : (version : Version) (h : Head) (lines points : ℕ) (p : Point) → PointFits h lines points p → IsPointIn version p
-    → Sayable (point_shape version h p.kind points) h.cells.items p.regs p.pairs p.flags p.stack.items p.cells.items p.top p.temp p.next.items
+    → FactsFit (point_shape version h p.kind points) h.cells.items (facts_of p)
 point_sayable version h lines points p f o =
     let shape = point_shape version h p.kind points in
     record {
@@ -117,11 +132,10 @@ place_of p = record {
   pending = p.pending;
 }
 
-point_back : (p : Point) (n least after : ℕ) → IsPointTold p → eqb n 1 ≡ p.pending
-    → point_of (record (place_of p) { pending = eqb n 1 }) (facts_with least after p.regs p.pairs p.flags p.stack.items p.cells.items
-    p.top p.temp p.next.items) ≡ p
+point_back : (p : Point) (n : ℕ) → IsPointTold p → eqb n 1 ≡ p.pending
+    → point_of (record (place_of p) { pending = eqb n 1 }) (facts_of p) ≡ p
 unfolding point_of
-point_back p n least after told e = ap (λ (waits : Bool). told_over blank_point (record p { pending = waits })) e ∙ told
+point_back p n told e = ap (λ (waits : Bool). told_over blank_point (record p { pending = waits })) e ∙ told
 
 -- the number of the word for pending
 abbrev truth_number : Bool → ℕ
@@ -250,12 +264,11 @@ point_again version h lines points left p a small f o fits =
     let limit = count_limit kind left p.l0 p.l1 p.c0 in
     let limit_small = least_small (none_in_main kind 256) (p.c0 + left / (p.l1 - p.l0 + 1)) counts_small in
     let n = truth_number p.pending in
-    let facts = facts_with 0 0 p.regs p.pairs p.flags p.stack.items p.cells.items p.top p.temp p.next.items in
     ap (λ w. reads (point_form version h lines points left)
     (line (codes "point" ∷ kind_word kind ∷ decimal p.pc ∷ decimal p.l0 ∷ decimal p.l1 ∷ decimal p.c0 ∷ decimal p.c1 ∷ decimal p.clock
     ∷ signed_word p.slope ∷ w ∷ point_items h.cells.items p))) (truth_spelled p.pending)
     ∙ point_so version h lines points left kind
-    (p.pc, (p.l0, (p.l1, (p.c0, (p.c1, (p.clock, (p.slope, (n, facts)))))))) a (
+    (p.pc, (p.l0, (p.l1, (p.c0, (p.c1, (p.clock, (p.slope, (n, facts_of p)))))))) a (
       within_so 0 32768 p.pc (lit≤ tt) (omega arith) f.pc,
       (
         within_so 0 (none_in_main kind lines) p.l0 lines_small (omega arith)
@@ -285,7 +298,7 @@ point_again version h lines points left p a small f o fits =
         ),
       ),
     )
-    ∙ ap (λ (x : Point). fine (said.Point x)) (point_back p n 0 0 f.told (truth_back p.pending))
+    ∙ ap (λ (x : Point). fine (said.Point x)) (point_back p n f.told (truth_back p.pending))
 
 -- only
 

@@ -1,9 +1,10 @@
 -- Items in sections, one after another: those of a section have places from its first on, and nothing of it is spelled before.
-use Rattle.std.proofs.Common.{◌≡◌, ℕ, suc, ◌≤◌, Bool, true, false, List, [], ◌∷◌, ◌++◌, map, length, drop, sym, ◌∙◌, ap, arith}
+use Rattle.std.proofs.Common.{◌≡◌, ℕ, zero, suc, ◌≤◌, Bool, true, false, ◌&&◌, leb, List, [], ◌∷◌, ◌++◌, map, length, drop, sym, ◌∙◌, ap, arith}
 use Rattle.std.proofs.Common.{append_assoc, append-nil}
 use Rattle.std.specs.Prelude.{Some, slice_get, slice_set}
-use Rattle.uz_cert_laws.proofs.Options.{options, Each, IsUsual, each_length, each_map, each_set, no_options, option_set, drop_set}
-use Rattle.uz_cert_laws.proofs.Options.{drop_later, drop_none}
+use Rattle.uz_cert_laws.proofs.Tests.{and_true, le_is}
+use Rattle.uz_cert_laws.proofs.Options.{options, Each, IsUsual, OptionList, AreOptions, each_length, each_map, each_set, no_options}
+use Rattle.uz_cert_laws.proofs.Options.{option_set, drop_set, drop_later, drop_none}
 
 pub record Section (X : Type 0) : Type 1 where
   pub words : X → List (List ℕ)
@@ -36,9 +37,9 @@ AreSections (last s) = IsSection s
 AreSections (section s ss) = IsSection s × AreSections ss
 
 -- all of them begin at a place or later
-abbrev pub FromOn : Sections → ℕ → Type 0
-FromOn (last s) p = p ≤ s.from
-FromOn (section s ss) p = (p ≤ s.from) × FromOn ss p
+abbrev pub from_on : Sections → ℕ → Bool
+from_on (last s) p = leb p s.from
+from_on (section s ss) p = leb p s.from && from_on ss p
 
 all_later : (ss : Sections) → AreSections ss → (m n : ℕ) (v : Values ss) → m ≤ n → FitAll ss m v → FitAll ss n v
 all_later (last s) is m n v l f = is.later m n v l f
@@ -47,11 +48,41 @@ all_later (section s ss) is m n v l f = (is.0.later m n v.0 l f.0, all_later ss 
 none_two : (a b : List (List ℕ)) → a ≡ [] → b ≡ [] → a ++ b ≡ []
 none_two a b e g = ap (λ t. t ++ b) e ∙ g
 
-pub all_empty : (ss : Sections) → AreSections ss → (m p : ℕ) (v : Values ss) → FromOn ss p → m ≤ p → FitAll ss m v → all_words ss v ≡ []
-all_empty (last s) is m p v o l f = is.empty m v (omega (arith, o, l)) f
+pub all_empty : (ss : Sections) → AreSections ss → (m p : ℕ) (v : Values ss) → from_on ss p ≡ true → m ≤ p → FitAll ss m v
+    → all_words ss v ≡ []
+all_empty (last s) is m p v o l f = is.empty m v (omega (arith, le_is p s.from o, l)) f
 all_empty (section s ss) is m p v o l f =
-    let first = o.0 in
-    none_two (s.words v.0) (all_words ss v.1) (is.0.empty m v.0 (omega (arith, first, l)) f.0) (all_empty ss is.1 m p v.1 o.1 l f.1)
+    let two = and_true (leb p s.from) (from_on ss p) o in
+    none_two (s.words v.0) (all_words ss v.1) (is.0.empty m v.0 (omega (arith, le_is p s.from two.0, l)) f.0)
+    (all_empty ss is.1 m p v.1 two.1 l f.1)
+
+-- the section at a place, its value, and another value there
+
+abbrev pub TypeAt : Sections → ℕ → Type 0
+TypeAt (last {X} s) k = X
+TypeAt (section {X} s ss) zero = X
+TypeAt (section s ss) (suc k) = TypeAt ss k
+
+abbrev pub section_at : (ss : Sections) (k : ℕ) → Section (TypeAt ss k)
+section_at (last s) k = s
+section_at (section s ss) zero = s
+section_at (section s ss) (suc k) = section_at ss k
+
+abbrev pub value_at : (ss : Sections) (k : ℕ) → Values ss → TypeAt ss k
+value_at (last s) k v = v
+value_at (section s ss) zero v = v.0
+value_at (section s ss) (suc k) v = value_at ss k v.1
+
+abbrev pub with_value : (ss : Sections) (k : ℕ) → Values ss → TypeAt ss k → Values ss
+with_value (last s) k v y = y
+with_value (section s ss) zero v y = (y, v.1)
+with_value (section s ss) (suc k) v y = (v.0, with_value ss k v.1 y)
+
+-- those after it begin at a place or later
+abbrev pub after_from : Sections → ℕ → ℕ → Bool
+after_from (last s) k p = true
+after_from (section s ss) zero p = from_on ss p
+after_from (section s ss) (suc k) p = after_from ss k p
 
 -- one item more
 
@@ -59,41 +90,25 @@ pub record Grown (ss : Sections) (n : ℕ) (old new : Values ss) (w : List ℕ) 
   pub fit : FitAll ss n new
   pub words : all_words ss new ≡ all_words ss old ++ w ∷ []
 
--- in this section, where those behind it are still empty
-pub here : {X : Type 0} (s : Section X) (ss : Sections) → AreSections ss → (m n p : ℕ) (x y : X) (v : Values ss) (w : List ℕ) → FromOn ss p
-    → m ≤ p → m ≤ n → FitAll ss m v → s.Fits n y → s.words y ≡ s.words x ++ w ∷ [] → Grown (section s ss) n (x, v) (y, v) w
-here s ss is m n p x y v w o l k f g e = record {
-  fit = (g, all_later ss is m n v k f);
-  words = let none = all_empty ss is m p v o l f in
-      ap (λ t. t ++ all_words ss v) e ∙ ap (λ t. (s.words x ++ w ∷ []) ++ t) none ∙ append-nil (s.words x ++ w ∷ [])
-      ∙ ap (λ t. t ++ w ∷ []) (sym (append-nil (s.words x))) ∙ ap (λ t. (s.words x ++ t) ++ w ∷ []) (sym none);
+-- in one section, where those behind it are still empty
+pub grown : (ss : Sections) → AreSections ss → (k m n p : ℕ) (v : Values ss) (y : TypeAt ss k) (w : List ℕ) → after_from ss k p ≡ true → m ≤ p
+    → m ≤ n → FitAll ss m v → (section_at ss k).Fits n y → (section_at ss k).words y ≡ (section_at ss k).words (value_at ss k v) ++ w ∷ []
+    → Grown ss n v (with_value ss k v y) w
+grown (last s) is k m n p v y w o l j f g e = record { fit = g; words = e }
+grown (section s ss) is zero m n p v y w o l j f g e = record {
+  fit = (g, all_later ss is.1 m n v.1 j f.1);
+  words = let none = all_empty ss is.1 m p v.1 o l f.1 in
+      ap (λ t. t ++ all_words ss v.1) e ∙ ap (λ t. (s.words v.0 ++ w ∷ []) ++ t) none ∙ append-nil (s.words v.0 ++ w ∷ [])
+      ∙ ap (λ t. t ++ w ∷ []) (sym (append-nil (s.words v.0))) ∙ ap (λ t. (s.words v.0 ++ t) ++ w ∷ []) (sym none);
 }
+grown (section s ss) is (suc k) m n p v y w o l j f g e =
+    let more = grown ss is.1 k m n p v.1 y w o l j f.1 g e in
+    record {
+      fit = (is.0.later m n v.0 j f.0, more.fit);
+      words = ap (λ t. s.words v.0 ++ t) more.words ∙ sym (append_assoc (s.words v.0) (all_words ss v.1) (w ∷ []));
+    }
 
--- in a later one
-pub behind : {X : Type 0} (s : Section X) (ss : Sections) → IsSection s → (m n : ℕ) (x : X) (v u : Values ss) (w : List ℕ) → m ≤ n
-    → s.Fits m x → Grown ss n v u w → Grown (section s ss) n (x, v) (x, u) w
-behind s ss is m n x v u w l f g = record {
-  fit = (is.later m n x l f, g.fit);
-  words = ap (λ t. s.words x ++ t) g.words ∙ sym (append_assoc (s.words x) (all_words ss v) (w ∷ []));
-}
-
--- a section of optional items: a value for each key, and how many keys stand before a place
-
-pub record OptionList (K A : Type 0) : Type 1 where
-  pub keys : List K
-  pub is_usual : K → A → Bool
-  pub usual : K → A
-  pub word : K → A → List ℕ
-  pub Within : K → A → Type 0
-  pub spelled : List A → List (List ℕ)
-  pub before : ℕ → ℕ
-  pub start : ℕ
-
-pub record AreOptions {K A : Type 0} (o : OptionList K A) : Type 0 where
-  pub usual_is : (k : K) → o.is_usual k (o.usual k) ≡ true
-  pub words_are : (xs : List A) → length xs ≡ length o.keys → o.spelled xs ≡ options o.is_usual o.word o.keys xs
-  pub rise : (m n : ℕ) → m ≤ n → o.before m ≤ o.before n
-  pub none : (m : ℕ) → m ≤ o.start → o.before m ≡ 0
+-- a section of optional items
 
 abbrev pub option_section : {K A : Type 0} → OptionList K A → Section (List A)
 option_section o = record {

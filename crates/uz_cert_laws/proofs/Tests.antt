@@ -31,6 +31,14 @@ pub true_not : (a : Bool) → a ≡ true → a ≡ false → ⊥
 true_not true e f = absurd cc
 true_not false e f = absurd cc
 
+pub neither : (a b : Bool) → a ≡ false → b ≡ false → (a || b) ≡ false
+neither true b e f = absurd cc
+neither false b e f = f
+
+pub refuted : (a : Bool) → (a ≡ true → ⊥) → a ≡ false
+refuted true h = absurd (h refl)
+refuted false h = refl
+
 pub word_is : (w v : List ℕ) → bytes_eq w v ≡ true → w ≡ v
 word_is w v e = (bytes_eq-Decides w v).0 e
 
