@@ -34,11 +34,11 @@ use Rattle.uz_cert_laws.proofs.Tests.{and_true, or_false, fine, fault_not, true_
 use Rattle.uz_cert_laws.proofs.Tests.{is_not_lt}
 use Rattle.uz_cert_laws.proofs.Facts.{FactIn, PairIn, BitIn, raw_by, pair_raw, pair_so, whole_ends, part_from}
 use Rattle.uz_cert_laws.proofs.Raws.{one_raw}
-use Rattle.uz_cert_laws.proofs.Options.{options, Each, each_length, Ordered, options_read}
+use Rattle.uz_cert_laws.proofs.Options.{options, Each, Ordered, options_read}
 use Rattle.uz_cert_laws.proofs.Spelled.{count_from, pair_usual_only, registers, numbered_cells, register_word, pair_item, flag_item, in_range}
 use Rattle.uz_cert_laws.proofs.Spelled.{cell_word, usual_fact, usual_pair, usual_bit, usual_cell, cells_are, registers_usual, cells_usual}
 use Rattle.uz_cert_laws.proofs.Spelled.{register_only, flag_usual_only, range_only_usual}
-use Rattle.uz_cert_laws.proofs.Taken.{with_register, with_pair, with_flag, with_slot, with_cell, cell_form, pair_letter, flag_letter}
+use Rattle.uz_cert_laws.proofs.Taken.{with_register, with_pair, with_flag, with_cell, cell_form, pair_letter, flag_letter}
 use Rattle.uz_cert_laws.proofs.Takes.{register_takes, pair_takes, flag_takes, slot_takes, cell_takes, top_takes, temp_takes, successor_takes}
 use Rattle.uz_cert_laws.specs.Spells.{letters_of_pairs, letters_of_flags, timer_and_next, spelled}
 use Rattle.uz_cert_laws.proofs.OneMore.{registers_list, pairs_list, flags_list, cells_list, registers_options, pairs_options, flags_options}

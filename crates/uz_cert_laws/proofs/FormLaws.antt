@@ -3,14 +3,12 @@ use Rattle.std.proofs.Common.{◌≡◌, ℕ, ◌≤◌, ◌<◌, ◌^◌, ℤ, 
 use Rattle.std.specs.Prelude.{⊤, All, Result, Ok}
 use Rattle.uz_schedule.specs.Ends.{Ends}
 use Rattle.uz_schedule.specs.WellFormed.{RangeFits, magnitude, spans_fit}
-use Rattle.uz_schedule.specs.declared.header.Cell.{Cell}
 use Rattle.uz_cert_words.specs.Why.{◌>>=◌}
 use Rattle.uz_cert_words.specs.Grammar.{Words, rest_of, next_as, fixed_of, number_of, choice_of, slope_of}
 use Rattle.uz_cert_words.specs.declared.why.CertWhy.{CertWhy}
 use Rattle.uz_cert_words.specs.declared.why.CertWhy.TheVariants as why
 use Rattle.uz_cert_lines.specs.Forms.{LineForm, fixed, number, choice, slope, spans, items, finish, reads, spans_of}
 use Rattle.uz_cert_lines.specs.Items.{read_items}
-use Rattle.uz_cert_lines.specs.declared.items.Shape.{Shape}
 use Rattle.uz_cert_lines.specs.declared.items.Facts.{Facts}
 use Rattle.uz_cert_lines.specs.declared.lines.Said.{Said}
 use Rattle.uz_cert_writer.specs.Spelling.{ends_word, signed_word}

@@ -1,11 +1,11 @@
 -- Facts as they grow while items are read: what is spelled of them is what was read.
-use Rattle.std.proofs.Common.{◌≡◌, ℕ, zero, suc, ◌+◌, ◌-◌, ◌<◌, ◌≤◌, Bool, true, false, leb, List, [], ◌∷◌, ◌++◌, map, length, decimal, codes}
+use Rattle.std.proofs.Common.{◌≡◌, ℕ, suc, ◌+◌, ◌-◌, ◌<◌, ◌≤◌, Bool, true, false, leb, List, [], ◌∷◌, ◌++◌, map, length, decimal, codes}
 use Rattle.std.proofs.Common.{lit≤, refl, sym, ◌∙◌, ap, subst, add-one, length-append, arith}
 use Rattle.std.proofs.lemmas.List.{map-append}
 use Rattle.uz_schedule.specs.Ends.{Ends, whole_byte}
 use Rattle.uz_schedule.specs.Schedule.{scanline}
 use Rattle.uz_schedule.specs.WellFormed.{RangeFits}
-use Rattle.std.specs.Prelude.{IsTrue, Some, All, slice_get, slice_set}
+use Rattle.std.specs.Prelude.{IsTrue, All, slice_set}
 use Rattle.std.proofs.lemmas.List.Elements.{All-push}
 use Rattle.std.proofs.lemmas.Option.{slice_get-get_or}
 use Rattle.uz_schedule.specs.Limits.{is_top, rises_from, rises}
