@@ -63,7 +63,7 @@ with_entry : (d : Draft) (o : Option Entry) (c : Cert) → Kept d → due_of d �
 with_entry d None c k due is e = absurd cc
 with_entry d (Some x) c k due is e =
     subst (FitsIn d.version) (same_cert (cert_from d x) c e)
-    (whole_fits d x k due is, record { lengths = k.kinds.own; points = k.points.own })
+    (whole_fits d x k due is, record { lengths = k.schedule.1.own; points = k.states.2.own })
 
 before_fits : (d : Draft) (line : List ℕ) (rest : List (List ℕ)) (c : Cert) → Kept d → due_of d ≡ None → cert_before d line rest ≡ told c
     → FitsIn d.version c
@@ -82,8 +82,8 @@ from_fits l d (line ∷ rest) c k e = by (due_of d) refl e (λ m km h. from_fits
     by (Some due) is h later =
         let m = fault_ok (d.read + 1) (line_says d due line (is_more rest)) (λ more. read_from more rest) c h in
         let s = says_ok d m.0 due line (is_more rest) m.1 in
-        let fits = (l.only d due (words_in line (is_more rest)) s.0 k is s.1).2 in
-        let kept : Kept m.0 = subst Kept (sym s.2) (kept_after d s.0 k fits) in
+        let o = l.only d due (words_in line (is_more rest)) s.0 k is s.1 in
+        let kept : Kept m.0 = subst Kept (sym s.2) (kept_after d s.0 k (is ∙ ap (λ x. Some x) o.1) o.2) in
         subst (λ v. FitsIn v c) (ap (λ x. x.version) s.2 ∙ version_kept d s.0) (later m.0 kept m.2)
 
 pub text_fits : (l : LineSpelling) (version : Version) (text : List ℕ) (c : Cert) → cert_of_text version text ≡ told c → FitsIn version c

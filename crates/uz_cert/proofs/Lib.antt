@@ -1,7 +1,6 @@
 pub mod DueLaws
 pub mod FitLaws
 pub mod KeptLaws
-pub mod Later
 pub mod LineEnds
 pub mod LineLimits
 pub mod LineOrder

@@ -20,7 +20,7 @@ places d k =
     }
 
 pub few_left : (d : Draft) → Kept d → d.left ≤ 2 ^ 30
-few_left d k = let sum = k.points.instances in omega (arith, sum)
+few_left d k = let sum = k.states.2.instances in omega (arith, sum)
 
 pub kinds_few : (d : Draft) → Kept d → d.sizes.kinds ≤ 2 ^ 31
 kinds_few d k = let few = k.sizes.kinds_few in omega (arith, few)
@@ -29,4 +29,4 @@ pub lines_left : (d : Draft) → Kept d → d.sizes.lines - length d.lines < 2 ^
 lines_left d k = let few = k.sizes.lines_few in omega (arith, few)
 
 pub clocks_few : (d : Draft) → Kept d → d.clocks ≤ scanline
-clocks_few d k = length_few d.clocks (length_in d.version d.clocks k.events.own)
+clocks_few d k = length_few d.clocks (length_in d.version d.clocks k.schedule.0.own)

@@ -17,7 +17,7 @@ use Rattle.uz_cert_laws.proofs.Tests.{and_true, so, else_so, number_is, not_numb
 use Rattle.uz_cert_writer.specs.Spelling.{line_of, cell_words, kind_words, event_words, run_words, rest_words, entry_words, point_words}
 use Rattle.uz_cert_writer.specs.Spelling.{kinds_then, runs_of, size_words, irq_words, stack_words, schedule_lines, state_lines, last_lines}
 use Rattle.uz_cert.specs.Drafts.{lacks, draft_after}
-use Rattle.uz_cert.specs.Kept.{Kept, SaidFits, EventSaid, CellSaid}
+use Rattle.uz_cert.specs.Kept.{LateLater, Later, Kept, SaidFits, EventSaid, CellSaid}
 use Rattle.uz_cert.specs.Reading.{cert_from}
 use Rattle.uz_cert_lines.specs.declared.lines.KindLine.{KindLine}
 use Rattle.uz_cert_lines.specs.declared.lines.Sizes.{Sizes}
@@ -28,7 +28,7 @@ use Rattle.uz_cert.specs.declared.draft.Draft.{Draft}
 use Rattle.uz_cert.proofs.DueLaws.{IsDue, IsWhole}
 use Rattle.uz_cert.proofs.Onward.{spelled, with_event, with_last, event_next, last_next}
 use Rattle.uz_cert.proofs.Runs.{runs_more}
-use Rattle.uz_cert.proofs.Later.{Later, none}
+use Rattle.uz_cert.proofs.KeptLaws.{none}
 
 abbrev Lines : Type 0
 Lines = List (List ℕ)
@@ -95,13 +95,16 @@ so_far d = take (d.read - 1) (opening d) ++ from_cells d
 no_lines : (xs ys : Lines) → xs ≡ [] → ys ≡ [] → xs ++ ys ≡ []
 no_lines xs ys e f = ap (λ t. t ++ ys) e ∙ f
 
-module _ (d : Draft) (k : Kept d) (l : Later d) (cells : List Cell) where
+module _ (d : Draft) (k : Kept d) (cells : List Cell) where
+  abbrev later : LateLater d
+  later = k.later.late
+
   no_end : length d.points < d.sizes.points → end_line d.ended ≡ []
-  no_end h = ap end_line (l.end h)
+  no_end h = ap end_line (later.4 h)
 
   no_points : d.entry ≡ None → from_points cells d ≡ []
   no_points e =
-      let none_yet = l.points e in
+      let none_yet = later.3 e in
       no_lines (map (λ p. line_of (point_words cells p)) d.points) (end_line d.ended)
       (ap (λ ps. map (λ p. line_of (point_words cells p)) ps) none_yet)
       (no_end (none d.points d.sizes.points none_yet k.sizes.points_some))
@@ -111,12 +114,12 @@ module _ (d : Draft) (k : Kept d) (l : Later d) (cells : List Cell) where
 
   no_rests : length d.lines < d.sizes.lines → from_rests cells d ≡ []
   no_rests h =
-      no_lines (map (λ r. line_of (rest_words r)) d.rests) (from_entry cells d) (ap (λ rs. map (λ r. line_of (rest_words r)) rs) (l.rests h))
-      (no_entry (l.entry (inl h)))
+      no_lines (map (λ r. line_of (rest_words r)) d.rests) (from_entry cells d) (ap (λ rs. map (λ r. line_of (rest_words r)) rs) (later.1 h))
+      (no_entry (later.2 (inl h)))
 
   no_runs : d.fall ≡ 0 → from_runs cells d ≡ []
   no_runs e =
-      let none_yet = l.lines e in
+      let none_yet = later.0 e in
       no_lines (map (λ r. line_of (run_words r)) (runs_of d.lines)) (from_rests cells d)
       (ap (λ ls. map (λ r. line_of (run_words r)) (runs_of ls)) none_yet)
       (no_rests (none d.lines d.sizes.lines none_yet k.sizes.lines_some))
@@ -134,12 +137,12 @@ module _ (d : Draft) (k : Kept d) (l : Later d) (cells : List Cell) where
       no_lines (kinds_then d.version d.kinds d.lengths []) (from_begun cells d)
       (ap (λ ks. kinds_then d.version ks d.lengths []) n) (no_begun o e)
 
-no_cells : (d : Draft) → Kept d → Later d → d.read ≤ 3 → from_cells d ≡ []
-no_cells d k l o =
-    let empty = k.opening o in
+no_cells : (d : Draft) → Kept d → d.read ≤ 3 → from_cells d ≡ []
+no_cells d k o =
+    let empty = k.later.kinds (inl o) in
     no_lines (map (λ c. line_of (cell_words c)) d.head.cells.items) (from_kinds d.head.cells.items d)
-    (ap (λ cs. map (λ c. line_of (cell_words c)) cs) empty.cells)
-    (no_kinds d k l d.head.cells.items empty.kinds empty.lengths empty.owed (l.fall (inl o)))
+    (ap (λ cs. map (λ c. line_of (cell_words c)) cs) (k.later.cells o))
+    (no_kinds d k d.head.cells.items empty.0 empty.1 empty.2 (k.later.fall (inl (inl o))))
 
 some_number : (n : ℕ) → 1 ≤ n → eqb n 0 ≡ false
 some_number n h = grind (arith, nat_tests)
@@ -200,12 +203,12 @@ body_more d e w b c o more =
 
 -- each line adds its own: in the opening
 
-opened : (d e : Draft) (w : List ℕ) → Kept d → Later d → d.read ≤ 3 → e.read ≡ d.read + 1 → from_cells e ≡ from_cells d
+opened : (d e : Draft) (w : List ℕ) → Kept d → d.read ≤ 3 → e.read ≡ d.read + 1 → from_cells e ≡ from_cells d
     → take (d.read + 1 - 1) (opening e) ≡ take (d.read - 1) (opening d) ++ w ∷ [] → so_far e ≡ so_far d ++ w ∷ []
-opened d e w k l o r c t =
+opened d e w k o r c t =
     ap (λ xs. take (e.read - 1) (opening e) ++ xs) c
     ∙ last_in (take (d.read - 1) (opening d)) (take (e.read - 1) (opening e)) (from_cells d) w (ap (λ n. take (n - 1) (opening e)) r ∙ t)
-    (no_cells d k l o)
+    (no_cells d k o)
 
 -- in the sections
 
@@ -213,7 +216,10 @@ in_cells : (d e : Draft) (w : List ℕ) → 4 ≤ d.read → e.read ≡ d.read +
     → so_far e ≡ so_far d ++ w ∷ []
 in_cells d e w b r o h = body_more d e w b (omega (arith, r, b)) o h
 
-module _ (d : Draft) (k : Kept d) (l : Later d) where
+module _ (d : Draft) (k : Kept d) where
+  abbrev l : Later d
+  l = k.later
+
   abbrev cs : List Cell
   cs = d.head.cells.items
 
@@ -264,7 +270,7 @@ module _ (d : Draft) (k : Kept d) (l : Later d) where
       → begun_lines d.version n.events d.events n.clocks ≡ begun_so_far ++ kind_line n ∷ []
   begin_kind n o some =
       else_so (eqb n.events 0) [] (kind_lines d.version (length d.events + n.events) d.events n.clocks) (some_number n.events some)
-      ∙ ap (λ es. kind_lines d.version (length es + n.events) es n.clocks) (k.events.present o)
+      ∙ ap (λ es. kind_lines d.version (length es + n.events) es n.clocks) (k.schedule.0.present o)
       ∙ ap (λ m. line_of (kind_words d.version m n.clocks) ∷ []) (zero-add n.events)
       ∙ ap (λ m. begun_lines d.version m d.events d.clocks ++ kind_line n ∷ []) (sym o)
 
@@ -288,6 +294,7 @@ module _ (d : Draft) (k : Kept d) (l : Later d) where
 
   event_adds : (e : Event) → EventSaid d e → (t : Bool) → eqb (d.owed - 1) 0 ≡ t
       → so_far (draft_after d (said.Event e)) ≡ so_far d ++ event_line e ∷ []
+  unfolding draft_after
   event_adds e f false is =
       let longer = one_longer e in
       let some = f.owed in
@@ -297,12 +304,12 @@ module _ (d : Draft) (k : Kept d) (l : Later d) where
       (last_in begun_so_far (begun_lines d.version (d.owed - 1) (with e) d.clocks) (from_fall cs d) (event_line e)
       (else_so (eqb (d.owed - 1) 0) [] (kind_lines d.version (length (with e) + (d.owed - 1)) (with e) d.clocks) is
       ∙ begun_with e (length (with e) + (d.owed - 1)) f.owed (omega (arith, longer, some)))
-      (no_fall d k l cs (l.fall (inr (inr (inl f.owed)))))))
+      (no_fall d k cs (l.fall (inr (inl f.owed))))))
   event_adds e f true is =
       let longer = one_longer e in
       let some = f.owed in
       let last = number_is (d.owed - 1) 0 is in
-      let empty = no_fall d k l cs (l.fall (inr (inr (inl f.owed)))) in
+      let empty = no_fall d k cs (l.fall (inr (inl f.owed))) in
       let kinds = kinds_then d.version (d.kinds ++ with e ∷ []) (d.lengths ++ d.clocks ∷ []) [] in
       ap so_far (last_next d e is)
       ∙ in_cells d (with_last d e) (event_line e) f.body refl refl
@@ -310,7 +317,7 @@ module _ (d : Draft) (k : Kept d) (l : Later d) where
       (ap (λ t. kinds ++ t) (no_lines (begun_lines d.version (d.owed - 1) [] scanline) (from_fall cs d)
       (so (eqb (d.owed - 1) 0) [] (kind_lines d.version (length {A = Event} [] + (d.owed - 1)) [] scanline) is) empty)
       ∙ append-nil kinds
-      ∙ kinds_last d.version d.kinds d.lengths (with e) d.clocks k.kinds.fit
+      ∙ kinds_last d.version d.kinds d.lengths (with e) d.clocks k.schedule.1.fit
       ∙ ap (λ t. kinds_so_far ++ t) (begun_with e (length (with e)) f.owed (omega (arith, longer, last, some)))
       ∙ behind kinds_so_far begun_so_far (begun_so_far ++ event_line e ∷ []) (event_line e) refl
       ∙ ap (λ t. (kinds_so_far ++ t) ++ event_line e ∷ []) (sym (ap (λ t. begun_so_far ++ t) empty ∙ append-nil begun_so_far))))
@@ -318,15 +325,15 @@ module _ (d : Draft) (k : Kept d) (l : Later d) where
   cell_adds : (c : Cell) → CellSaid d c → so_far (draft_after d (said.Cell c)) ≡ so_far d ++ line_of (cell_words c) ∷ []
   unfolding draft_after
   cell_adds c f =
-      let empty = l.kinds f.room in
-      let fall = l.fall (inr (inl f.room)) in
+      let empty = l.kinds (inr f.room) in
+      let fall = l.fall (inl (inr f.room)) in
       let more = map (λ x. line_of (cell_words x)) (cs ++ c ∷ []) in
       in_cells d (draft_after d (said.Cell c)) (line_of (cell_words c)) f.body refl refl
-      (ap (λ t. more ++ t) (no_kinds d k l (cs ++ c ∷ []) empty.0 empty.1 empty.2 fall)
+      (ap (λ t. more ++ t) (no_kinds d k (cs ++ c ∷ []) empty.0 empty.1 empty.2 fall)
       ∙ append-nil more
       ∙ map_last (λ x. line_of (cell_words x)) cs c
       ∙ ap (λ t. t ++ line_of (cell_words c) ∷ [])
-      (sym (ap (λ t. cell_lines ++ t) (no_kinds d k l cs empty.0 empty.1 empty.2 fall) ∙ append-nil cell_lines)))
+      (sym (ap (λ t. cell_lines ++ t) (no_kinds d k cs empty.0 empty.1 empty.2 fall) ∙ append-nil cell_lines)))
 
   lacks_none : (o : Option Entry) → lacks o ≡ true → o ≡ None
   lacks_none None e = refl
@@ -336,17 +343,17 @@ module _ (d : Draft) (k : Kept d) (l : Later d) where
   unfolding draft_after
   so_far_after (said.Size s) i f =
       let e = draft_after d (said.Size s) in
-      opened d e (spelled d.version d.head (said.Size s)) k l f.0 refl refl
+      opened d e (spelled d.version d.head (said.Size s)) k f.0 refl refl
       (ap (λ n. take (n + 1 - 1) (opening e)) i
       ∙ ap (λ n. take (n - 1) (opening d) ++ spelled d.version d.head (said.Size s) ∷ []) (sym i))
   so_far_after (said.Irq r) i f =
       let e = draft_after d (said.Irq r) in
-      opened d e (spelled d.version d.head (said.Irq r)) k l f refl refl
+      opened d e (spelled d.version d.head (said.Irq r)) k f refl refl
       (ap (λ n. take (n + 1 - 1) (opening e)) i
       ∙ ap (λ n. take (n - 1) (opening d) ++ spelled d.version d.head (said.Irq r) ∷ []) (sym i))
   so_far_after (said.Stack s) i f =
       let e = draft_after d (said.Stack s) in
-      opened d e (spelled d.version d.head (said.Stack s)) k l f.0 refl refl
+      opened d e (spelled d.version d.head (said.Stack s)) k f.0 refl refl
       (ap (λ n. take (n + 1 - 1) (opening e)) i
       ∙ ap (λ n. take (n - 1) (opening d) ++ spelled d.version d.head (said.Stack s) ∷ []) (sym i))
   so_far_after (said.Cell c) i f = cell_adds c f
@@ -355,7 +362,7 @@ module _ (d : Draft) (k : Kept d) (l : Later d) where
       (in_begun (from_begun cs (draft_after d (said.Kind n))) (kind_line n)
       (last_in begun_so_far (begun_lines d.version n.events d.events n.clocks) (from_fall cs d) (kind_line n)
       (begin_kind n f.none_owed f.fits.some)
-      (no_fall d k l cs (l.fall (inr (inr (inr f.room)))))))
+      (no_fall d k cs (l.fall (inr (inr f.room))))))
   so_far_after (said.Event e) i f = event_adds e f (eqb (d.owed - 1) 0) refl
   so_far_after (said.Fall n) i f =
       let w = line_of (codes "fall" ∷ decimal n ∷ []) in
@@ -363,7 +370,7 @@ module _ (d : Draft) (k : Kept d) (l : Later d) where
       (in_fall (from_fall cs (draft_after d (said.Fall n))) w
       (last_in (fall_line d.fall) (fall_line n) (from_runs cs d) w
       (else_so (eqb n 0) [] (w ∷ []) (some_number n f.1) ∙ ap (λ m. fall_line m ++ w ∷ []) (sym i.3))
-      (no_runs d k l cs i.3)))
+      (no_runs d k cs i.3)))
   so_far_after (said.Run r) i f =
       let w = line_of (run_words (r.count, r.kind)) in
       in_cells d (draft_after d (said.Run r)) w f.body refl refl
@@ -371,25 +378,25 @@ module _ (d : Draft) (k : Kept d) (l : Later d) where
       (last_in run_lines (map (λ x. line_of (run_words x)) (runs_of (d.lines ++ replicate r.count r.kind))) (from_rests cs d) w
       (ap (map (λ x. line_of (run_words x))) (runs_more d.run_kind r.kind d.lines r.count l.run f.other f.some)
       ∙ map_last (λ x. line_of (run_words x)) (runs_of d.lines) (r.count, r.kind))
-      (no_rests d k l cs i.2)))
+      (no_rests d k cs i.2)))
   so_far_after (said.Rest r) i f =
       in_cells d (draft_after d (said.Rest r)) (line_of (rest_words r)) f.after.body refl refl
       (in_rests (from_rests cs (draft_after d (said.Rest r))) (line_of (rest_words r))
       (last_in rest_lines (map (λ x. line_of (rest_words x)) (d.rests ++ r ∷ [])) (from_entry cs d) (line_of (rest_words r))
-      (map_last (λ x. line_of (rest_words x)) d.rests r) (no_entry d k l cs (l.entry (inr f.room)))))
+      (map_last (λ x. line_of (rest_words x)) d.rests r) (no_entry d k cs (l.late.2 (inr f.room)))))
   so_far_after (said.Entry e) i f =
       let w = line_of (entry_words cs e) in
       let none_yet = lacks_none d.entry i.2 in
       in_cells d (draft_after d (said.Entry e)) w f.after.body refl refl
       (in_entry (from_entry cs (draft_after d (said.Entry e))) w
       (last_in (entry_line cs d.entry) (w ∷ []) (from_points cs d) w (ap (λ o. entry_line cs o ++ w ∷ []) (sym none_yet))
-      (no_points d k l cs none_yet)))
+      (no_points d k cs none_yet)))
   so_far_after (said.Point p) i f =
       let w = line_of (point_words cs p) in
       in_cells d (draft_after d (said.Point p)) w f.after.body refl refl
       (in_points (from_points cs (draft_after d (said.Point p))) w
       (last_in (map (λ x. line_of (point_words cs x)) d.points) (map (λ x. line_of (point_words cs x)) (d.points ++ p ∷ []))
-      (end_line d.ended) w (map_last (λ x. line_of (point_words cs x)) d.points p) (no_end d k l cs f.room)))
+      (end_line d.ended) w (map_last (λ x. line_of (point_words cs x)) d.points p) (no_end d k cs f.room)))
   so_far_after said.End i f =
       in_cells d (draft_after d said.End) (codes "end") f refl refl
       (in_points (from_points cs (draft_after d said.End)) (codes "end")
@@ -419,13 +426,13 @@ sizes_same s kinds lines rests points cells a b x y z =
 pub whole_text : (d : Draft) (e : Entry) → Kept d → 4 ≤ d.read → IsWhole d → d.entry ≡ Some e
     → so_far d ++ [] ∷ [] ≡ later_lines d.version (cert_from d e)
 whole_text d e k b w is =
-    let few_kinds = k.kinds.few in
+    let few_kinds = k.schedule.1.few in
     let all_kinds = w.states.kinds in
-    let few_lines = k.lines.few in
+    let few_lines = k.schedule.3.few in
     let all_lines = w.states.lines in
-    let few_rests = k.rests.few in
+    let few_rests = k.states.0.few in
     let all_rests = w.rests in
-    let few_points = k.points.few in
+    let few_points = k.states.2.few in
     let all_points = w.points in
     let few_cells = k.cells.few in
     let all_cells = w.states.after.cells in

@@ -15,7 +15,6 @@ use Rattle.uz_cert.specs.declared.draft.Draft.{Draft}
 use Rattle.uz_cert.proofs.DueLaws.{IsDue, is_due, is_whole}
 use Rattle.uz_cert.proofs.FitLaws.{version_kept}
 use Rattle.uz_cert.proofs.KeptLaws.{first_kept, kept_after}
-use Rattle.uz_cert.proofs.Later.{Later, first_later, later_after}
 use Rattle.uz_cert.proofs.Lines.{LineSpelling, joined, no_line_end}
 use Rattle.uz_cert.proofs.LinesSoFar.{so_far, so_far_after, later_lines, whole_text}
 use Rattle.uz_cert.proofs.Onward.{spelled}
@@ -44,7 +43,7 @@ next_read l d due line rest c k is e =
       due = subst (IsDue d) o.1 (is_due d due k.begun is);
       due_is = is ∙ ap (λ x. Some x) o.1;
       fits = o.2;
-      kept = kept_after d s.0 k o.2;
+      kept = kept_after d s.0 k (is ∙ ap (λ x. Some x) o.1) o.2;
       more = ap (λ x. read_from x rest) (sym s.2) ∙ f.2;
     }
 
@@ -83,13 +82,13 @@ at_end d [] [] c k is e = by d.entry refl e
 at_end d [] (piece ∷ rest) c k is e = absurd cc
 at_end d (b ∷ bs) rest c k is e = absurd cc
 
-lines_read : (l : LineSpelling) (d : Draft) (pieces : List (List ℕ)) (c : Cert) → Kept d → Later d → read_from d pieces ≡ told c
+lines_read : (l : LineSpelling) (d : Draft) (pieces : List (List ℕ)) (c : Cert) → Kept d → read_from d pieces ≡ told c
     → so_far d ++ pieces ≡ later_lines d.version c
-lines_read l d [] c k e h = absurd cc
-lines_read l d (line ∷ rest) c k e h = by (due_of d) refl (λ m km em g. lines_read l m rest c km em g)
+lines_read l d [] c k h = absurd cc
+lines_read l d (line ∷ rest) c k h = by (due_of d) refl (λ m km g. lines_read l m rest c km g)
   where
     by : (o : Option Due) → due_of d ≡ o
-        → ((m : Draft) → Kept m → Later m → read_from m rest ≡ told c → so_far m ++ rest ≡ later_lines m.version c)
+        → ((m : Draft) → Kept m → read_from m rest ≡ told c → so_far m ++ rest ≡ later_lines m.version c)
         → so_far d ++ line ∷ rest ≡ later_lines d.version c
     by None is later = at_end d line rest c k is (sym (ap (λ o. read_by o d line rest (λ x. read_from x rest)) is) ∙ h)
     by (Some due) is later =
@@ -97,10 +96,10 @@ lines_read l d (line ∷ rest) c k e h = by (due_of d) refl (λ m km em g. lines
         let w = spelled d.version d.head n.says in
         ap (λ t. so_far d ++ t ∷ rest) n.is
         ∙ sym (append_assoc (so_far d) (w ∷ []) rest)
-        ∙ ap (λ t. t ++ rest) (sym (so_far_after d k e n.says n.due n.fits))
-        ∙ later (draft_after d n.says) n.kept (later_after d n.says k n.due n.fits e) n.more
+        ∙ ap (λ t. t ++ rest) (sym (so_far_after d k n.says n.due n.fits))
+        ∙ later (draft_after d n.says) n.kept n.more
         ∙ ap (λ v. later_lines v c) (version_kept d n.says)
 
 pub lines_back : (l : LineSpelling) (v : Version) (pieces : List (List ℕ)) (c : Cert) → read_from (first_draft v) pieces ≡ told c
     → pieces ≡ later_lines v c
-lines_back l v pieces c h = lines_read l (first_draft v) pieces c (first_kept v) (first_later v) h
+lines_back l v pieces c h = lines_read l (first_draft v) pieces c (first_kept v) h

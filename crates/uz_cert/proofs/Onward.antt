@@ -1,5 +1,5 @@
 -- A certificate's text is read as it: section by section, from the last line to the first.
-use Rattle.std.proofs.Common.{◌≡◌, ◌≢◌, ℕ, suc, ◌+◌, ◌-◌, ◌<◌, ◌≤◌, Bool, true, false, ◌&&◌, eqb}
+use Rattle.std.proofs.Common.{◌≡◌, ◌≢◌, ℕ, suc, ◌+◌, ◌-◌, ◌<◌, ◌≤◌, true, false, ◌&&◌, eqb}
 use Rattle.std.proofs.Common.{List, [], ◌∷◌, ◌++◌, length, map, replicate}
 use Rattle.std.proofs.Common.{All, codes, decimal, leb, ltb, zero-add, refl, sym, ◌∙◌, ap}
 use Rattle.std.proofs.Common.{subst, append_assoc, append-nil, arith, length-append}
@@ -37,7 +37,8 @@ use Rattle.uz_cert.proofs.Lines.{LineSpelling, line_cut}
 use Rattle.uz_cert.specs.Reading.{Fault, is_more, words_in, line_says, or_fault, cert_from, cert_with, cert_before, read_by, read_from}
 use Rattle.uz_cert.specs.declared.due.Due.{Due}
 use Rattle.uz_cert.specs.declared.draft.Draft.{Draft}
-use Rattle.uz_cert.proofs.KeptLaws.{kept_after}
+use Rattle.uz_cert_laws.proofs.Tests.{and_true}
+use Rattle.uz_cert.proofs.KeptLaws.{next_of, kept_next, same_cell}
 use Rattle.uz_cert.proofs.LineOrder.{PastCells, PastKinds, PastFall, PastRuns, PastRests, PastEntry, PastPoints}
 use Rattle.uz_cert.proofs.LineOrder.{due_cell, due_event, due_kind, due_fall, due_run, due_rest, due_entry, due_point, due_end, due_none}
 
@@ -47,19 +48,15 @@ spelled v h s = line_of (said_words v h s)
 abbrev pub told : Cert → Result Cert Fault
 told c = Ok c
 
-and_true : (a b : Bool) → (a && b) ≡ true → (a ≡ true) × (b ≡ true)
-and_true true b e = (refl, e)
-and_true false b e = absurd cc
-
 -- one line more
 
 says : (d : Draft) (due : Due) (line : List ℕ) (s : Said) → reads (form_of d due) (words_in line true) ≡ Ok s → line_says d due line
-    true ≡ Ok (draft_after d s)
-unfolding line_says
+    true ≡ Ok (next_of d s)
+unfolding line_says draft_after
 says d due line s e = ap (λ m. m >>= (λ x. Ok (draft_after d x))) e
 
 pub step : (l : LineSpelling) (d : Draft) (s : Said) (rest : List (List ℕ)) → Kept d → due_of d ≡ Some (due_as s) → SaidFits d s
-    → is_more rest ≡ true → read_from d (spelled d.version d.head s ∷ rest) ≡ read_from (draft_after d s) rest
+    → is_more rest ≡ true → read_from d (spelled d.version d.head s ∷ rest) ≡ read_from (next_of d s) rest
 step l d s rest k is fits more =
     ap (λ o. read_by o d (spelled d.version d.head s) rest (λ x. read_from x rest)) is
     ∙ ap (λ r. or_fault (d.read + 1) r (λ x. read_from x rest))
@@ -77,21 +74,12 @@ whole_again : (d : Draft) (e : Entry) → due_of d ≡ None → d.entry ≡ Some
 unfolding cert_before
 whole_again d e due is = ap (λ o. read_by o d [] [] (λ more. read_from more [])) due ∙ ap (cert_with d) is
 
-after_end : (d : Draft) (e : Entry) → 4 ≤ d.read → PastPoints d e → (due_of (draft_after d said.End) ≡ None)
-    × ((draft_after d said.End).entry ≡ Some e)
-unfolding draft_after
-after_end d e b p = (due_none (record d { read = d.read + 1; ended = true }) e (omega (arith, b)) p refl, p.0.1)
-
-same_end : (d : Draft) (e : Entry) → told (cert_from (draft_after d said.End) e) ≡ told (cert_from d e)
-unfolding draft_after
-same_end d e = refl
-
 pub end_again : (l : LineSpelling) (d : Draft) (e : Entry) → Kept d → 4 ≤ d.read → PastPoints d e → d.ended ≡ false
     → read_from d last_lines ≡ told (cert_from d e)
 end_again l d e k b p open_end =
-    let a = after_end d e b p in
+    let next = next_of d said.End in
     step l d said.End ([] ∷ []) k (due_end d e b p open_end) b refl
-    ∙ (whole_again (draft_after d said.End) e a.0 a.1 ∙ same_end d e)
+    ∙ whole_again next e (due_none next e (omega (arith, b)) p refl) p.0.1
 
 -- points
 
@@ -101,13 +89,6 @@ point_lines cells ps = map (λ p. line_of (point_words cells p)) ps ++ last_line
 points_more : (cells : List Cell) (ps : List Point) → is_more (point_lines cells ps) ≡ true
 points_more cells [] = refl
 points_more cells (p ∷ ps) = refl
-
-abbrev with_point : Draft → Point → Draft
-with_point d p = record d { read = d.read + 1; points = d.points ++ p ∷ []; left = d.left - instances_of p }
-
-point_next : (d : Draft) (p : Point) → draft_after d (said.Point p) ≡ with_point d p
-unfolding draft_after
-point_next d p = refl
 
 pub points_again : (l : LineSpelling) (d : Draft) (e : Entry) (ps : List Point) → Kept d → 4 ≤ d.read → PastEntry d e → d.ended ≡ false
     → length d.points + length ps ≡ d.sizes.points → All (PointFits d.head d.sizes.lines d.sizes.points) ps → All (IsPointIn d.version) ps
@@ -126,26 +107,17 @@ points_again l d e (x ∷ xs) k b p o count fits own sum =
       own = All-head (IsPointIn d.version) x xs own;
       instances = omega (arith, sum, split);
     } in
-    let next = with_point d x in
-    let kept : Kept next = subst Kept (point_next d x) (kept_after d (said.Point x) k fit) in
-    step l d (said.Point x) (point_lines d.head.cells.items xs) k (due_point d e b p room) fit (points_more d.head.cells.items xs)
-    ∙ (ap (λ y. read_from y (point_lines d.head.cells.items xs)) (point_next d x)
-    ∙ (points_again l next e xs kept (omega (arith, b)) p o (simp length-append (omega (arith, count)))
+    let is = due_point d e b p room in
+    step l d (said.Point x) (point_lines d.head.cells.items xs) k is fit (points_more d.head.cells.items xs)
+    ∙ (points_again l (next_of d (said.Point x)) e xs (kept_next d (said.Point x) k is fit) (omega (arith, b)) p o (simp length-append (omega (arith, count)))
     (All-tail (PointFits d.head d.sizes.lines d.sizes.points) x xs fits) (All-tail (IsPointIn d.version) x xs own) (less_sum (instances_of x) (sum_by instances_of xs)
     (sum_by instances_of (x ∷ xs)) d.left split sum)
-    ∙ ap (λ ps. told (cert_from (record d { points = ps }) e)) (append_assoc d.points (x ∷ []) xs)))
+    ∙ ap (λ ps. told (cert_from (record d { points = ps }) e)) (append_assoc d.points (x ∷ []) xs))
   where
     less_sum : (n rest all left : ℕ) → all ≡ n + rest → all ≤ left → rest ≤ left - n
     less_sum n rest all left h g = omega (arith, h, g)
 
 -- the entry
-
-abbrev with_entry : Draft → Entry → Draft
-with_entry d e = record d { read = d.read + 1; entry = Some e }
-
-entry_next : (d : Draft) (e : Entry) → draft_after d (said.Entry e) ≡ with_entry d e
-unfolding draft_after
-entry_next d e = refl
 
 abbrev pub entry_lines : List Cell → Entry → List Point → List (List ℕ)
 entry_lines cells e ps = line_of (entry_words cells e) ∷ point_lines cells ps
@@ -158,22 +130,13 @@ pub entry_again : (l : LineSpelling) (d : Draft) (e : Entry) (ps : List Point) �
 entry_again l d e ps k b p none no_points o count entry fits own sum =
     let cells : d.sizes.cells ≡ length d.head.cells.items = p.0.0.0.0 in
     let fit : SaidFits d (said.Entry e) = record { after = record { body = b; cells = omega (arith, cells) }; fits = entry } in
-    let next = with_entry d e in
-    let kept : Kept next = subst Kept (entry_next d e) (kept_after d (said.Entry e) k fit) in
-    step l d (said.Entry e) (point_lines d.head.cells.items ps) k (due_entry d b p none) fit (points_more d.head.cells.items ps)
-    ∙ (ap (λ y. read_from y (point_lines d.head.cells.items ps)) (entry_next d e)
-    ∙ (points_again l next e ps kept (omega (arith, b)) (p, refl) o (ap (λ xs. length xs + length ps) no_points
+    let is = due_entry d b p none in
+    step l d (said.Entry e) (point_lines d.head.cells.items ps) k is fit (points_more d.head.cells.items ps)
+    ∙ (points_again l (next_of d (said.Entry e)) e ps (kept_next d (said.Entry e) k is fit) (omega (arith, b)) (p, refl) o (ap (λ xs. length xs + length ps) no_points
     ∙ (zero-add (length ps) ∙ count)) fits own sum
-    ∙ ap (λ xs. told (cert_from (record d { points = xs ++ ps }) e)) no_points))
+    ∙ ap (λ xs. told (cert_from (record d { points = xs ++ ps }) e)) no_points)
 
 -- rests
-
-abbrev with_rest : Draft → Rest → Draft
-with_rest d r = record d { read = d.read + 1; rests = d.rests ++ r ∷ []; rest_least = r.line + 1 }
-
-rest_next : (d : Draft) (r : Rest) → draft_after d (said.Rest r) ≡ with_rest d r
-unfolding draft_after
-rest_next d r = refl
 
 abbrev pub rest_lines : List Cell → List Rest → Entry → List Point → List (List ℕ)
 rest_lines cells rs e ps = map (λ r. line_of (rest_words r)) rs ++ entry_lines cells e ps
@@ -204,12 +167,10 @@ rests_again l d (r ∷ rs) e ps k b p s =
       fits = All-head (RestFits d.head d.sizes.lines d.sizes.points) r rs s.4;
       order = leb-true d.rest_least r.line order.0;
     } in
-    let next = with_rest d r in
-    let kept : Kept next = subst Kept (rest_next d r) (kept_after d (said.Rest r) k fit) in
-    step l d (said.Rest r) (rest_lines d.head.cells.items rs e ps) k (due_rest d b p room) fit
+    let is = due_rest d b p room in
+    step l d (said.Rest r) (rest_lines d.head.cells.items rs e ps) k is fit
     (more_after (map (λ x. line_of (rest_words x)) rs) (line_of (entry_words d.head.cells.items e)) (point_lines d.head.cells.items ps))
-    ∙ (ap (λ y. read_from y (rest_lines d.head.cells.items rs e ps)) (rest_next d r)
-    ∙ (rests_again l next rs e ps kept (omega (arith, b)) p (
+    ∙ (rests_again l (next_of d (said.Rest r)) rs e ps (kept_next d (said.Rest r) k is fit) (omega (arith, b)) p (
       s.0,
       s.1,
       s.2,
@@ -222,7 +183,7 @@ rests_again l d (r ∷ rs) e ps k b p s =
       s.9,
       s.10,
     )
-    ∙ ap (λ xs. told (cert_from (record d { rests = xs; points = ps }) e)) (append_assoc d.rests (r ∷ []) rs)))
+    ∙ ap (λ xs. told (cert_from (record d { rests = xs; points = ps }) e)) (append_assoc d.rests (r ∷ []) rs))
 
 -- runs
 
@@ -235,13 +196,6 @@ expand (r ∷ rs) = replicate r.0 r.1 ++ expand rs
 abbrev pub Apart : ℕ → List (ℕ × ℕ) → Type 0
 Apart kind [] = ⊤
 Apart kind (r ∷ rs) = (1 ≤ r.0) × (r.1 ≢ kind) × Apart r.1 rs
-
-abbrev with_run : Draft → ℕ × ℕ → Draft
-with_run d r = record d { read = d.read + 1; lines = d.lines ++ replicate r.0 r.1; run_kind = r.1 }
-
-run_next : (d : Draft) (r : ℕ × ℕ) → draft_after d (said.Run (record { count = r.0; kind = r.1 })) ≡ with_run d r
-unfolding draft_after
-run_next d r = refl
 
 abbrev pub run_lines : List (ℕ × ℕ) → List Cell → List Rest → Entry → List Point → List (List ℕ)
 run_lines runs cells rs e ps = map (λ r. line_of (run_words r)) runs ++ rest_lines cells rs e ps
@@ -274,24 +228,16 @@ runs_again l d (r ∷ runs) rs e ps k b p apart kinds count s =
       there = All-head (λ x. x.1 < d.sizes.kinds) r runs kinds;
       other = apart.1;
     } in
-    let next = with_run d r in
-    let kept : Kept next = subst Kept (run_next d r) (kept_after d (said.Run (record { count = r.0; kind = r.1 })) k fit) in
-    step l d (said.Run (record { count = r.0; kind = r.1 })) (run_lines runs d.head.cells.items rs e ps) k (due_run d b p room) fit
+    let says = said.Run (record { count = r.0; kind = r.1 }) in
+    let is = due_run d b p room in
+    step l d says (run_lines runs d.head.cells.items rs e ps) k is fit
     (more_lines (map (λ x. line_of (run_words x)) runs) (rest_lines d.head.cells.items rs e ps) (some_rest d.head.cells.items rs e ps))
-    ∙ (ap (λ y. read_from y (run_lines runs d.head.cells.items rs e ps)) (run_next d r)
-    ∙ (runs_again l next runs rs e ps kept (omega (arith, b)) p apart.2 (All-tail (λ x. x.1 < d.sizes.kinds) r runs kinds)
+    ∙ (runs_again l (next_of d says) runs rs e ps (kept_next d says k is fit) (omega (arith, b)) p apart.2 (All-tail (λ x. x.1 < d.sizes.kinds) r runs kinds)
     (simp (length-append, length-replicate) (omega (arith, count, size, same))) s
     ∙ ap (λ ls. told (cert_from (record d { lines = ls; rests = d.rests ++ rs; points = ps }) e))
-    (append_assoc d.lines (replicate r.0 r.1) (expand runs))))
+    (append_assoc d.lines (replicate r.0 r.1) (expand runs)))
 
 -- the fall
-
-abbrev with_fall : Draft → ℕ → Draft
-with_fall d clock = record d { read = d.read + 1; fall = clock }
-
-fall_next : (d : Draft) (clock : ℕ) → draft_after d (said.Fall clock) ≡ with_fall d clock
-unfolding draft_after
-fall_next d clock = refl
 
 abbrev pub fall_lines : ℕ → List (ℕ × ℕ) → List Cell → List Rest → Entry → List Point → List (List ℕ)
 fall_lines clock runs cells rs e ps = line_of (codes "fall" ∷ decimal clock ∷ []) ∷ run_lines runs cells rs e ps
@@ -304,23 +250,14 @@ pub fall_again : (l : LineSpelling) (d : Draft) (clock : ℕ) (runs : List (ℕ 
     ≡ told (cert_from (record d { fall = clock; lines = expand runs; rests = d.rests ++ rs; points = ps }) e)
 fall_again l d clock runs rs e ps k b p none some low no_lines apart kinds count s =
     let fit : SaidFits d (said.Fall clock) = (b, some, low) in
-    let next = with_fall d clock in
-    let kept : Kept next = subst Kept (fall_next d clock) (kept_after d (said.Fall clock) k fit) in
-    step l d (said.Fall clock) (run_lines runs d.head.cells.items rs e ps) k (due_fall d b p none) fit
+    let is = due_fall d b p none in
+    step l d (said.Fall clock) (run_lines runs d.head.cells.items rs e ps) k is fit
     (more_lines (map (λ x. line_of (run_words x)) runs) (rest_lines d.head.cells.items rs e ps) (some_rest d.head.cells.items rs e ps))
-    ∙ (ap (λ y. read_from y (run_lines runs d.head.cells.items rs e ps)) (fall_next d clock)
-    ∙ (runs_again l next runs rs e ps kept (omega (arith, b)) (p, some) apart kinds
+    ∙ (runs_again l (next_of d (said.Fall clock)) runs rs e ps (kept_next d (said.Fall clock) k is fit) (omega (arith, b)) (p, some) apart kinds
     (ap (λ ls. length ls + length (expand runs)) no_lines ∙ (zero-add (length (expand runs)) ∙ count)) s
-    ∙ ap (λ ls. told (cert_from (record d { fall = clock; lines = ls ++ expand runs; rests = d.rests ++ rs; points = ps }) e)) no_lines))
+    ∙ ap (λ ls. told (cert_from (record d { fall = clock; lines = ls ++ expand runs; rests = d.rests ++ rs; points = ps }) e)) no_lines)
 
 -- the kinds of line, each with its events
-
-abbrev with_kind : Draft → KindLine → Draft
-with_kind d k = record d { read = d.read + 1; owed = k.events; clocks = k.clocks }
-
-kind_next : (d : Draft) (n : KindLine) → draft_after d (said.Kind n) ≡ with_kind d n
-unfolding draft_after
-kind_next d n = refl
 
 -- one more event, of which more are owed
 abbrev pub with_event : Draft → Event → Draft
@@ -350,12 +287,10 @@ with_kinds d read kinds lengths = record d {
   event_least = 0;
 }
 
-pub event_next : (d : Draft) (e : Event) → eqb (d.owed - 1) 0 ≡ false → draft_after d (said.Event e) ≡ with_event d e
-unfolding draft_after
+pub event_next : (d : Draft) (e : Event) → eqb (d.owed - 1) 0 ≡ false → next_of d (said.Event e) ≡ with_event d e
 event_next d e h = rw h refl
 
-pub last_next : (d : Draft) (e : Event) → eqb (d.owed - 1) 0 ≡ true → draft_after d (said.Event e) ≡ with_last d e
-unfolding draft_after
+pub last_next : (d : Draft) (e : Event) → eqb (d.owed - 1) 0 ≡ true → next_of d (said.Event e) ≡ with_last d e
 last_next d e h = rw h refl
 
 -- where these kinds were read
@@ -397,12 +332,12 @@ events_again l d e [] others k b p owed fits rise low more =
     } in
     let none : d.owed - 1 ≡ 0 = omega (arith, owed) in
     let next = last_next d e (zero_test (d.owed - 1) none) in
-    let last : draft_after d (said.Event e) ≡ record (with_last d e) { owed = 0 } = next ∙ ap (λ n. record (with_last d e) { owed = n })
+    let last : next_of d (said.Event e) ≡ record (with_last d e) { owed = 0 } = next ∙ ap (λ n. record (with_last d e) { owed = n })
     none in
     record {
       read = d.read + 1;
       body = omega (arith, b);
-      kept = subst Kept last (kept_after d (said.Event e) k fit);
+      kept = subst Kept last (kept_next d (said.Event e) k (due_event d b p (omega (arith, owed))) fit);
       same = step l d (said.Event e) others k (due_event d b p (omega (arith, owed))) fit more ∙ ap (λ y. read_from y others) last;
     }
 events_again l d e (x ∷ es) others k b p owed fits rise low more =
@@ -416,7 +351,7 @@ events_again l d e (x ∷ es) others k b p owed fits rise low more =
       order = leb-true d.event_least e.clock order.0;
     } in
     let next = event_next d e (some_test (d.owed - 1) (omega (arith, owed))) in
-    let kept : Kept (with_event d e) = subst Kept next (kept_after d (said.Event e) k fit) in
+    let kept : Kept (with_event d e) = subst Kept next (kept_next d (said.Event e) k (due_event d b p (omega (arith, owed))) fit) in
     let later = events_again l (with_event d e) x es others kept (omega (arith, b)) p (omega (arith, owed))
     (All-tail EventFits e (x ∷ es) fits) order.1 below.1 more in
     let seam = append_assoc d.events (e ∷ []) (x ∷ es) in
@@ -491,11 +426,12 @@ kinds_again l d ((e ∷ es) ∷ kinds) (n ∷ lengths) others k b p between coun
       fits = record { some = first.some; few = omega (arith, few); clocks = All-head (IsLengthIn d.version) n lengths own };
     } in
     let later_lines = kinds_then d.version kinds lengths others in
-    let kept : Kept (with_kind d says) = subst Kept (kind_next d says) (kept_after d (said.Kind says) k fit) in
+    let is = due_kind d b p between.0 room in
+    let next = next_of d (said.Kind says) in
     let rise : rises_from d.event_least (map (λ x. x.clock) (e ∷ es)) ≡ true =
     subst (λ m. rises_from m (map (λ x. x.clock) (e ∷ es)) ≡ true) (sym between.3) first.rise in
     let body : 4 ≤ d.read + 1 = omega (arith, b) in
-    let a = events_again l (with_kind d says) e es later_lines kept body p (omega arith) first.each rise this.1
+    let a = events_again l next e es later_lines (kept_next d (said.Kind says) k is fit) body p (omega arith) first.each rise this.1
     (kinds_more d.version kinds lengths others more) in
     let seam : d.events ++ e ∷ es ≡ e ∷ es = ap (λ ys. ys ++ e ∷ es) between.2 in
     let with : List Event → Draft = λ ys. with_kinds d a.read (d.kinds ++ ys ∷ []) (d.lengths ++ n ∷ []) in
@@ -512,25 +448,13 @@ kinds_again l d ((e ∷ es) ∷ kinds) (n ∷ lengths) others k b p between coun
       kept = subst (λ ns. Kept (with_kinds d later.read (d.kinds ++ (e ∷ es) ∷ kinds) ns)) measured
           (subst (λ ks. Kept (with_kinds d later.read ks ((d.lengths ++ n ∷ []) ++ lengths))) joined later.kept);
       same =
-          step l d (said.Kind says) (event_lines (e ∷ es) ++ later_lines) k (due_kind d b p between.0 room) fit refl
-          ∙ (ap (λ y. read_from y (event_lines (e ∷ es) ++ later_lines)) (kind_next d says)
+          step l d (said.Kind says) (event_lines (e ∷ es) ++ later_lines) k is fit refl
           ∙ (a.same ∙ (ap (λ ys. read_from (with ys) later_lines) seam
           ∙ (later.same ∙ (ap (λ ks. read_from (with_kinds d later.read ks ((d.lengths ++ n ∷ []) ++ lengths)) others) joined
-          ∙ ap (λ ns. read_from (with_kinds d later.read (d.kinds ++ (e ∷ es) ∷ kinds) ns) others) measured)))));
+          ∙ ap (λ ns. read_from (with_kinds d later.read (d.kinds ++ (e ∷ es) ∷ kinds) ns) others) measured))));
     }
 
 -- the cells
-
-abbrev with_cell : Draft → Cell → Draft
-with_cell d c = record d {
-  read = d.read + 1;
-  head = record d.head { cells = record { items = d.head.cells.items ++ c ∷ [] } };
-  cell_least = c.at + 1;
-}
-
-cell_next : (d : Draft) (c : Cell) → draft_after d (said.Cell c) ≡ with_cell d c
-unfolding draft_after
-cell_next d c = refl
 
 abbrev pub with_cells : Draft → ℕ → ℕ → List Cell → Draft
 with_cells d read least cs = record d { read = read; head = record d.head { cells = record { items = cs } }; cell_least = least }
@@ -545,9 +469,6 @@ pub record CellsRead (d : Draft) (cells : List Cell) (lines others : List (List 
 
 abbrev pub cell_lines : List Cell → List (List ℕ)
 cell_lines cs = map (λ m. line_of (cell_words m)) cs
-
-refit : (h : Head) (c x : Cell) → CellFits h x → CellFits (record h { cells = record { items = h.cells.items ++ c ∷ [] } }) x
-refit h c x f = record { low = f.low; high = f.high; off_stack = f.off_stack; range = f.range }
 
 pub cells_again : (l : LineSpelling) (d : Draft) (cells : List Cell) (others : List (List ℕ)) → Kept d → 4 ≤ d.read
     → length d.head.cells.items + length cells ≡ d.sizes.cells → All (CellFits d.head) cells → rises_from d.cell_least
@@ -566,10 +487,11 @@ cells_again l d (c ∷ cells) others k b count fits rise more =
       fits = All-head (CellFits d.head) c cells fits;
       order = leb-true d.cell_least c.at order.0;
     } in
-    let kept : Kept (with_cell d c) = subst Kept (cell_next d c) (kept_after d (said.Cell c) k fit) in
-    let refitted = All-weaker (CellFits d.head) (CellFits (with_cell d c).head) (λ x f. refit d.head c x f) cells
+    let is = due_cell d b room in
+    let next = next_of d (said.Cell c) in
+    let refitted = All-weaker (CellFits d.head) (CellFits next.head) (λ x f. same_cell d.head next.head x refl refl f) cells
     (All-tail (CellFits d.head) c cells fits) in
-    let later = cells_again l (with_cell d c) cells others kept (omega (arith, b)) (simp length-append (omega (arith, count))) refitted
+    let later = cells_again l next cells others (kept_next d (said.Cell c) k is fit) (omega (arith, b)) (simp length-append (omega (arith, count))) refitted
     order.1 more in
     let joined = append_assoc d.head.cells.items (c ∷ []) cells in
     record {
@@ -578,7 +500,6 @@ cells_again l d (c ∷ cells) others k b count fits rise more =
       body = later.body;
       kept = subst (λ cs. Kept (with_cells d later.read later.least cs)) joined later.kept;
       same =
-          step l d (said.Cell c) (cell_lines cells ++ others) k (due_cell d b room) fit (more_lines (cell_lines cells) others more)
-          ∙ (ap (λ y. read_from y (cell_lines cells ++ others)) (cell_next d c)
-          ∙ (later.same ∙ ap (λ cs. read_from (with_cells d later.read later.least cs) others) joined));
+          step l d (said.Cell c) (cell_lines cells ++ others) k is fit (more_lines (cell_lines cells) others more)
+          ∙ (later.same ∙ ap (λ cs. read_from (with_cells d later.read later.least cs) others) joined);
     }

@@ -6,6 +6,7 @@ use Rattle.std.proofs.lemmas.Bool.{eqb-true, eqb-false}
 use Rattle.std.proofs.lemmas.Bool.Decides.{nat_tests}
 use Rattle.std.proofs.lemmas.List.Elements.{All-nil, All-cons, All-head, All-tail}
 use Rattle.uz_cert_writer.specs.Spelling.{run_before, runs_of}
+use Rattle.uz_cert.specs.Kept.{LastIs}
 use Rattle.uz_cert.proofs.Onward.{expand, Apart}
 
 -- the runs of lines give the lines
@@ -94,25 +95,6 @@ run_again : (n kind : ℕ) (rs : List (ℕ × ℕ)) → Apart kind rs → runs_o
     ≡ (suc n, kind) ∷ rs
 run_again zero kind rs apart e = ap (run_before kind) e ∙ new_before kind rs apart
 run_again (suc n) kind rs apart e = ap (run_before kind) (run_again n kind rs apart e) ∙ same_before (suc n) kind rs
-
--- lines whose last is of this kind, if there is one
-abbrev pub LastIs : ℕ → List ℕ → Type 0
-LastIs kind [] = ⊤
-LastIs kind (x ∷ []) = x ≡ kind
-LastIs kind (x ∷ y ∷ ys) = LastIs kind (y ∷ ys)
-
-last_copies : (kind n : ℕ) → LastIs kind (replicate (suc n) kind)
-last_copies kind zero = refl
-last_copies kind (suc n) = last_copies kind n
-
-pub last_more : (kind : ℕ) (lines : List ℕ) (n : ℕ) → 1 ≤ n → LastIs kind (lines ++ replicate n kind)
-last_more kind lines zero h = absurd (omega (arith, h))
-last_more kind lines (suc n) h = behind lines
-  where
-    behind : (ls : List ℕ) → LastIs kind (ls ++ replicate (suc n) kind)
-    behind [] = last_copies kind n
-    behind (x ∷ []) = last_copies kind n
-    behind (x ∷ y ∷ ys) = behind (y ∷ ys)
 
 -- one run more, of another kind than the last line
 

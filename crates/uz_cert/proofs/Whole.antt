@@ -17,17 +17,17 @@ schedule_fits : (d : Draft) → Kept d → IsWhole d
 schedule_fits d k w =
     let s = k.sizes in
     let enough = w.states.kinds in
-    let same : d.sizes.kinds ≡ length d.kinds = omega (arith, k.kinds.few, enough) in
+    let same : d.sizes.kinds ≡ length d.kinds = omega (arith, k.schedule.1.few, enough) in
     record {
-      kinds = record { some = omega (arith, s.kinds_some, enough); few = omega (arith, s.kinds_few, k.kinds.few); each = k.kinds.each };
-      lengths = k.kinds.fit;
+      kinds = record { some = omega (arith, s.kinds_some, enough); few = omega (arith, s.kinds_few, k.schedule.1.few); each = k.schedule.1.each };
+      lengths = k.schedule.1.fit;
       lines = record {
         some = omega (arith, s.lines_some, w.states.lines);
-        few = omega (arith, s.lines_few, k.lines.few);
-        there = subst (λ n. All (λ kind. kind < n) d.lines) same k.lines.there;
+        few = omega (arith, s.lines_few, k.schedule.3.few);
+        there = subst (λ n. All (λ kind. kind < n) d.lines) same k.schedule.3.there;
       };
       fall_some = some_fall d.fall w.states.fall;
-      fall_in_line = k.fall;
+      fall_in_line = k.schedule.2;
     }
   where
     some_fall : (n : ℕ) → n ≢ 0 → 1 ≤ n
@@ -37,9 +37,9 @@ pub whole_fits : (d : Draft) (e : Entry) → Kept d → due_of d ≡ None → d.
 whole_fits d e k due is =
     let w = is_whole d k.begun due in
     let s = k.sizes in
-    let lines : d.sizes.lines ≡ length d.lines = omega (arith, k.lines.few, w.states.lines) in
-    let points : d.sizes.points ≡ length d.points = omega (arith, k.points.few, w.points) in
-    let sum = k.points.instances in
+    let lines : d.sizes.lines ≡ length d.lines = omega (arith, k.schedule.3.few, w.states.lines) in
+    let points : d.sizes.points ≡ length d.points = omega (arith, k.states.2.few, w.points) in
+    let sum = k.states.2.instances in
     record {
       head = record {
         stack = k.stack;
@@ -49,18 +49,18 @@ whole_fits d e k due is =
       };
       schedule = schedule_fits d k w;
       rests = record {
-        few = omega (arith, k.rests.few, s.rests_few, lines);
+        few = omega (arith, k.states.0.few, s.rests_few, lines);
         each = subst (λ n. All (RestFits d.head (length d.lines) n) d.rests) points
-            (subst (λ n. All (RestFits d.head n d.sizes.points) d.rests) lines k.rests.each);
-        rise = k.rests.rise;
+            (subst (λ n. All (RestFits d.head n d.sizes.points) d.rests) lines k.states.0.each);
+        rise = k.states.0.rise;
       };
       entry = subst (λ n. EntryFits d.head (length d.lines) n e) points (subst (λ n. EntryFits d.head n d.sizes.points e) lines
-          (subst (λ o. IfSome o (EntryFits d.head d.sizes.lines d.sizes.points)) is k.entry));
+          (subst (λ o. IfSome o (EntryFits d.head d.sizes.lines d.sizes.points)) is k.states.1));
       points = record {
         some = omega (arith, s.points_some, points);
         few = omega (arith, s.points_few, points);
         each = subst (λ n. All (PointFits d.head (length d.lines) n) d.points) points
-            (subst (λ n. All (PointFits d.head n d.sizes.points) d.points) lines k.points.each);
+            (subst (λ n. All (PointFits d.head n d.sizes.points) d.points) lines k.states.2.each);
         instances = few_instances d.left (sum_by instances_of d.points) sum;
       };
     }

@@ -1,6 +1,6 @@
 -- Whole texts: a certificate's text is read as it, and a text that is read is its certificate's.
 use Rattle.std.proofs.Common.{◌≡◌, ◌≢◌, ℕ, ◌+◌, Bool, true, false, cond, List, [], ◌∷◌, ◌++◌, length}
-use Rattle.std.proofs.Common.{bytes_eq, zero-add, refl, sym, ◌∙◌, ap, subst}
+use Rattle.std.proofs.Common.{bytes_eq, zero-add, refl, sym, ◌∙◌, ap}
 use Rattle.std.proofs.Common.{arith}
 use Rattle.std.specs.Prelude.{Ok, Err}
 use Rattle.std.specs.List.{join_with_byte}
@@ -9,7 +9,6 @@ use Rattle.std.proofs.lemmas.List.Elements.{All-weaker}
 use Rattle.std.proofs.lemmas.List.Splits.{join_with_byte-slice_split}
 use Rattle.uz_text.proofs.Plain.{Lacks, lacks_nil, lacks_cons, split_join}
 use Rattle.uz_schedule.specs.WellFormed.{StackFits, CellFits, WellFormed}
-use Rattle.uz_schedule.specs.declared.header.Cell.{Cell}
 use Rattle.uz_schedule.specs.declared.header.Head.{Head}
 use Rattle.uz_schedule.specs.declared.certificate.Cert.{Cert}
 use Rattle.uz_cert_writer.specs.Spelling.{kinds_then, runs_of, lines_of_certificate, spelling}
@@ -17,7 +16,7 @@ use Rattle.uz_cert_lines.specs.declared.lines.Sizes.{Sizes}
 use Rattle.uz_cert_lines.specs.declared.lines.StackLine.{StackLine}
 use Rattle.uz_cert_lines.specs.declared.lines.Said.TheVariants as said
 use Rattle.uz_cert_words.specs.declared.why.CertWhy.TheVariants as why
-use Rattle.uz_cert.specs.Drafts.{first_draft, draft_after}
+use Rattle.uz_cert.specs.Drafts.{first_draft}
 use Rattle.uz_cert_lines.specs.Lines.{head_line, SizesFit}
 use Rattle.uz_cert_lines.specs.declared.version.Version.{Version}
 use Rattle.uz_cert_lines.specs.declared.version.Version.TheVariants.{First, Second}
@@ -26,7 +25,7 @@ use Rattle.uz_cert.specs.Kept.{Kept}
 use Rattle.uz_cert.specs.Reading.{pieces_of, is_more, or_fault, cert_from, read_from, read_pieces, cert_of_text}
 use Rattle.uz_cert.specs.Texts.{IsOfVersion}
 use Rattle.uz_cert.specs.declared.draft.Draft.{Draft}
-use Rattle.uz_cert.proofs.KeptLaws.{first_kept, kept_after}
+use Rattle.uz_cert.proofs.KeptLaws.{first_kept, kept_next, same_cell}
 use Rattle.uz_cert.proofs.LineOrder.{due_size, due_irq, due_stack}
 use Rattle.uz_cert.proofs.Lines.{LineSpelling}
 use Rattle.uz_cert.proofs.Onward.{spelled, told, step, more_lines, cell_lines, cells_again, kinds_again, fall_lines}
@@ -56,19 +55,6 @@ draft_stack v s r t = record (first_draft v) {
     cells = record { items = [] };
   };
 }
-
-size_next : (d : Draft) (s : Sizes) → draft_after d (said.Size s) ≡ record d { read = d.read + 1; sizes = s }
-unfolding draft_after
-size_next d s = refl
-
-irq_next : (d : Draft) (r : Response) → draft_after d (said.Irq r) ≡ record d { read = d.read + 1; head = record d.head { irq = r } }
-unfolding draft_after
-irq_next d r = refl
-
-stack_next : (d : Draft) (s : StackLine) → draft_after d (said.Stack s)
-    ≡ record d { read = d.read + 1; head = record d.head { lo = s.lo; hi = s.hi; main = s.main; handler = s.handler } }
-unfolding draft_after
-stack_next d s = refl
 
 -- a certificate's text is read as it
 
@@ -110,16 +96,12 @@ middle_some : (v : Version) (c : Cert) → is_more (middle_lines v c) ≡ true
 middle_some v c = more_lines (cell_lines c.head.cells.items) (kinds_then v c.schedule.kinds c.schedule.lengths (late_lines c))
     (kinds_some v c)
 
-refit : (h : Head) (x : Cell) → CellFits h x
-    → CellFits (record { irq = h.irq; lo = h.lo; hi = h.hi; main = h.main; handler = h.handler; cells = record { items = [] } }) x
-refit h x f = record { low = f.low; high = f.high; off_stack = f.off_stack; range = f.range }
-
 middle_again : (l : LineSpelling) (v : Version) (c : Cert) → WellFormed c → IsOfVersion v c
     → Kept (draft_stack v (sizes_of c) c.head.irq (stack_of c.head))
     → read_from (draft_stack v (sizes_of c) c.head.irq (stack_of c.head)) (middle_lines v c) ≡ told c
 middle_again l v c w own kept =
     let d = draft_stack v (sizes_of c) c.head.irq (stack_of c.head) in
-    let fits = All-weaker (CellFits c.head) (CellFits d.head) (λ x f. refit c.head x f) c.head.cells.items w.head.cells in
+    let fits = All-weaker (CellFits c.head) (CellFits d.head) (λ x f. same_cell c.head d.head x refl refl f) c.head.cells.items w.head.cells in
     let m = cells_again l d c.head.cells.items (kinds_then v c.schedule.kinds c.schedule.lengths (late_lines c)) kept (omega arith)
     (zero-add (length c.head.cells.items)) fits w.head.rise (kinds_some v c) in
     let d_cells : Draft = record d {
@@ -150,35 +132,23 @@ lines_again : (l : LineSpelling) (v : Version) (c : Cert) → WellFormed c → I
     → read_from (first_draft v) (other_lines v c) ≡ told c
 lines_again l v c w own =
     let sizes = sizes_fit c w in
-    let sized = size_next (first_draft v) (sizes_of c) in
-    let kept_a = subst Kept sized (kept_after (first_draft v) (said.Size (sizes_of c)) (first_kept v) (omega arith, sizes)) in
-    let answered = irq_next (draft_sizes v (sizes_of c)) c.head.irq in
-    let kept_b = subst Kept answered (kept_after (draft_sizes v (sizes_of c)) (said.Irq c.head.irq) kept_a (omega arith)) in
     let s = w.head.stack in
-    let stack : StackFits (record (draft_irq v (sizes_of c) c.head.irq).head {
-      lo = c.head.lo;
-      hi = c.head.hi;
-      main = c.head.main;
-      handler = c.head.handler;
-    }) =
+    let d_size = draft_sizes v (sizes_of c) in
+    let d_irq = draft_irq v (sizes_of c) c.head.irq in
+    let stack : StackFits (record d_irq.head { lo = c.head.lo; hi = c.head.hi; main = c.head.main; handler = c.head.handler }) =
     record { low = s.low; order = s.order; high = s.high; main = s.main; handler = s.handler; room = s.room } in
-    let stacked = stack_next (draft_irq v (sizes_of c) c.head.irq) (stack_of c.head) in
-    let kept_c = subst Kept stacked (kept_after (draft_irq v (sizes_of c) c.head.irq) (said.Stack (stack_of c.head)) kept_b
-    (omega arith, stack)) in
-    step l (first_draft v) (said.Size (sizes_of c)) (spelled v (first_draft v).head (said.Irq c.head.irq) ∷ spelled v (first_draft v).head
-    (said.Stack (stack_of c.head)) ∷ middle_lines v c)
-    (first_kept v) (due_size (first_draft v) refl) (omega arith, sizes) refl
-    ∙ (ap (λ m. read_from m (spelled v (first_draft v).head (said.Irq c.head.irq)
-    ∷ spelled v (first_draft v).head (said.Stack (stack_of c.head))
-    ∷ middle_lines v c)) sized
-    ∙ (step l (draft_sizes v (sizes_of c)) (said.Irq c.head.irq) (spelled v (first_draft v).head (said.Stack (stack_of c.head))
-    ∷ middle_lines v c)
-    kept_a (due_irq (draft_sizes v (sizes_of c)) refl) (omega arith) refl
-    ∙ (ap (λ m. read_from m (spelled v (first_draft v).head (said.Stack (stack_of c.head)) ∷ middle_lines v c)) answered
-    ∙ (step l (draft_irq v (sizes_of c) c.head.irq) (said.Stack (stack_of c.head)) (middle_lines v c) kept_b
-    (due_stack (draft_irq v (sizes_of c) c.head.irq) refl)
-    (omega arith, stack) (middle_some v c)
-    ∙ (ap (λ m. read_from m (middle_lines v c)) stacked ∙ middle_again l v c w own kept_c)))))
+    let is_size = due_size (first_draft v) refl in
+    let is_irq = due_irq d_size refl in
+    let is_stack = due_stack d_irq refl in
+    let kept_size = kept_next (first_draft v) (said.Size (sizes_of c)) (first_kept v) is_size (omega arith, sizes) in
+    let kept_irq = kept_next d_size (said.Irq c.head.irq) kept_size is_irq (omega arith) in
+    let kept_stack = kept_next d_irq (said.Stack (stack_of c.head)) kept_irq is_stack (omega arith, stack) in
+    let stack_on = spelled v (first_draft v).head (said.Stack (stack_of c.head)) ∷ middle_lines v c in
+    step l (first_draft v) (said.Size (sizes_of c)) (spelled v (first_draft v).head (said.Irq c.head.irq) ∷ stack_on) (first_kept v) is_size
+    (omega arith, sizes) refl
+    ∙ (step l d_size (said.Irq c.head.irq) stack_on kept_size is_irq (omega arith) refl
+    ∙ (step l d_irq (said.Stack (stack_of c.head)) (middle_lines v c) kept_irq is_stack (omega arith, stack) (middle_some v c)
+    ∙ middle_again l v c w own kept_stack))
 
 -- whole texts
 

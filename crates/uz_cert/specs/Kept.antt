@@ -1,6 +1,6 @@
 -- What holds of what the lines of a text say, as long as none has a fault: it is within the limits and orders of a well
 -- formed certificate.
-use Rattle.std.specs.Prelude.{◌≡◌, ◌≢◌, ◌⊎◌, ℕ, ◌+◌, ◌<◌, ◌≤◌, IsTrue, List, [], ◌∷◌, All, length, map, sum_by, IfSome, None}
+use Rattle.std.specs.Prelude.{◌≡◌, ◌≢◌, ◌⊎◌, ⊤, ℕ, ◌+◌, ◌<◌, ◌≤◌, IsTrue, false, List, [], ◌∷◌, All, length, map, sum_by, IfSome, None}
 use Rattle.uz_schedule.specs.Limits.{clock_limit, most_events, rises, clocks_below, lengths_fit, EventFits, EventsFit}
 use Rattle.uz_schedule.specs.WellFormed.{StackFits, CellFits, RestFits, EntryFits, PointFits, instances_of}
 use Rattle.uz_schedule.specs.declared.header.Cell.{Cell}
@@ -65,34 +65,54 @@ pub record PointsKept (version : Version) (h : Head) (s : Sizes) (points : List 
   pub own : All (IsPointIn version) points
   pub instances : left + sum_by instances_of points ≡ 16777216
 
--- no rest, entry and point so far
-pub record NoStates (d : Draft) : Type 0 where
-  pub rests : d.rests ≡ []
-  pub entry : d.entry ≡ None
-  pub points : d.points ≡ []
+-- the kinds of line, the fall and the lines so far
+abbrev pub ScheduleKept : Draft → Type 0
+ScheduleKept d =
+    EventsKept d.version d.events d.owed d.event_least d.clocks × KindsKept d.version d.kinds d.lengths d.sizes.kinds d.owed
+    × (d.fall < clock_limit) × LinesKept d.lines d.sizes.kinds d.sizes.lines
 
--- no cell, kind and line so far
-pub record NoSchedule (d : Draft) : Type 0 where
-  pub cells : d.head.cells.items ≡ []
-  pub owed : d.owed ≡ 0
-  pub kinds : d.kinds ≡ []
-  pub lengths : d.lengths ≡ []
-  pub lines : d.lines ≡ []
+-- the rests, the entry and the points so far
+abbrev pub StatesKept : Draft → Type 0
+StatesKept d =
+    RestsKept d.head d.sizes d.rests d.rest_least × IfSome d.entry (EntryFits d.head d.sizes.lines d.sizes.points)
+    × PointsKept d.version d.head d.sizes d.points d.left
+
+-- lines whose last is of this kind, if there is one
+abbrev pub LastIs : ℕ → List ℕ → Type 0
+LastIs kind [] = ⊤
+LastIs kind (x ∷ []) = x ≡ kind
+LastIs kind (x ∷ y ∷ ys) = LastIs kind (y ∷ ys)
+
+-- lines of cells, and lines of the schedule, are still to come
+abbrev pub AreCellsDue : Draft → Type 0
+AreCellsDue d = (d.read ≤ 3) ⊎ (length d.head.cells.items < d.sizes.cells)
+
+abbrev pub AreKindsDue : Draft → Type 0
+AreKindsDue d = AreCellsDue d ⊎ ((1 ≤ d.owed) ⊎ (length d.kinds < d.sizes.kinds))
+
+-- what comes after the fall is still empty
+abbrev pub LateLater : Draft → Type 0
+LateLater d =
+    (d.fall ≡ 0 → d.lines ≡ []) × (length d.lines < d.sizes.lines → d.rests ≡ [])
+    × ((length d.lines < d.sizes.lines) ⊎ (length d.rests < d.sizes.rests) → d.entry ≡ None)
+    × (d.entry ≡ None → d.points ≡ []) × (length d.points < d.sizes.points → d.ended ≡ false)
+
+-- what isn't due yet is still empty
+pub record Later (d : Draft) : Type 0 where
+  pub cells : d.read ≤ 3 → d.head.cells.items ≡ []
+  pub kinds : AreCellsDue d → (d.kinds ≡ []) × (d.lengths ≡ []) × (d.owed ≡ 0)
+  pub fall : AreKindsDue d → d.fall ≡ 0
+  pub late : LateLater d
+  pub run : LastIs d.run_kind d.lines
 
 pub record Kept (d : Draft) : Type 0 where
   pub begun : 1 ≤ d.read
   pub sizes : SizesFit d.sizes
   pub stack : StackFits d.head
   pub cells : CellsKept d.head d.sizes.cells d.cell_least
-  pub events : EventsKept d.version d.events d.owed d.event_least d.clocks
-  pub kinds : KindsKept d.version d.kinds d.lengths d.sizes.kinds d.owed
-  pub fall : d.fall < clock_limit
-  pub lines : LinesKept d.lines d.sizes.kinds d.sizes.lines
-  pub rests : RestsKept d.head d.sizes d.rests d.rest_least
-  pub entry : IfSome d.entry (EntryFits d.head d.sizes.lines d.sizes.points)
-  pub points : PointsKept d.version d.head d.sizes d.points d.left
-  pub opening : d.read ≤ 3 → NoSchedule d
-  pub early : (d.read ≤ 3) ⊎ (length d.head.cells.items < d.sizes.cells) → NoStates d
+  pub schedule : ScheduleKept d
+  pub states : StatesKept d
+  pub later : Later d
 
 -- What a line may say where it is due
 

@@ -1,4 +1,5 @@
-use Rattle.std.proofs.Common.{sym, ◌∙◌}
+use Rattle.std.proofs.Common.{sym, ◌∙◌, ap}
+use Rattle.std.specs.Prelude.{Some}
 use Rattle.uz_cert.proofs.KeptLaws.{kept_read}
 use Rattle.uz_cert.proofs.draft.Draft.take.Goals as goal
 
@@ -10,6 +11,7 @@ put-requires-clause-fits c =
 pub returns-in_ok-put-in-Ok-clause-kept : goal.returns-in_ok-put-in-Ok-clause-kept
 returns-in_ok-put-in-Ok-clause-kept c =
     let d = c.args.self.now in
-    let fits = (c.said_lines.ensures.only d c.args.due c.new.result c.in-Ok.said c.requires.kept c.requires.due
-    (sym c.line.ensures ∙ c.in-Ok.is)).2 in
-    kept_read d c.put.new.self c.in-Ok.said c.requires.kept fits c.in_ok-put-in-Ok.ensures
+    let said = c.said_lines.ensures.only d c.args.due c.new.result c.in-Ok.said c.requires.kept c.requires.due
+    (sym c.line.ensures ∙ c.in-Ok.is) in
+    kept_read d c.put.new.self c.in-Ok.said c.requires.kept (c.requires.due ∙ ap (λ x. Some x) said.1) said.2
+    c.in_ok-put-in-Ok.ensures
