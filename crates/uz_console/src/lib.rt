@@ -8,6 +8,7 @@ mod entry;
 mod holding;
 mod laws;
 mod paging;
+mod parts;
 mod passing;
 mod turn;
 mod watching;
