@@ -10,5 +10,5 @@ mod operands;
 mod print;
 
 pub use laws::listing_is_unique;
-pub use lines::listing;
+pub use lines::{data_word, listing, write_words};
 pub use print::print_one;

@@ -82,8 +82,8 @@ fn add_line(alloc: Global, image: &Image, at: u16, text: &mut Vec<u8>) -> Result
     }
 }
 
-/// The text of a word that no row reads.
-fn data_word(alloc: Global, word: u16) -> Result<String, AllocError>
+/// The text of a word that no row reads: `.dw` and its decimal value. The one error is want of memory.
+pub fn data_word(alloc: Global, word: u16) -> Result<String, AllocError>
     ensures { IfOk result (λ text. string_bytes text ≡ codes ".dw " ++ decimal word) }
 {
     let mut text = String::from_str(alloc, ".dw ")?;
@@ -114,7 +114,9 @@ fn write_address(text: &mut Vec<u8>, at: u16) -> Result<(), AllocError>
     text.extend_from_slice(b": ")
 }
 
-fn write_words(text: &mut Vec<u8>, first: u16, second: Option<u16>) -> Result<(), AllocError>
+/// Adds the words of an instruction as a line of the listing has them: the first in four digits of base 16, a space, the second in four
+/// or four spaces, and a space. The one error is want of memory.
+pub fn write_words(text: &mut Vec<u8>, first: u16, second: Option<u16>) -> Result<(), AllocError>
     ensures { OnOk result (text.new.items ≡ text.old.items ++ both_words first (second_text second)) }
 {
     text.extend_from_slice(&word_digits(first))?;

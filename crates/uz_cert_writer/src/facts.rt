@@ -57,8 +57,8 @@ fn add_old(text: &mut Vec<u8>, register: u8) -> Result<(), AllocError>
     add_decimal(text, u32::from(register))
 }
 
-/// Adds what is known of a byte.
-pub(crate) fn add_fact(text: &mut Vec<u8>, fact: &Fact) -> Result<(), AllocError>
+/// Adds what is known of a byte, in the words of a certificate. The one error is want of memory.
+pub fn add_fact(text: &mut Vec<u8>, fact: &Fact) -> Result<(), AllocError>
     ensures { OnOk result (text.new.items ≡ text.old.items ++ fact_word fact.now) }
 {
     match *fact {
@@ -71,8 +71,8 @@ pub(crate) fn add_fact(text: &mut Vec<u8>, fact: &Fact) -> Result<(), AllocError
     }
 }
 
-/// Adds what is known of a pair.
-pub(crate) fn add_pair_fact(text: &mut Vec<u8>, fact: &PairFact) -> Result<(), AllocError>
+/// Adds what is known of a pair, in the words of a certificate. The one error is want of memory.
+pub fn add_pair_fact(text: &mut Vec<u8>, fact: &PairFact) -> Result<(), AllocError>
     ensures { OnOk result (text.new.items ≡ text.old.items ++ pair_word fact.now) }
 {
     match *fact {
@@ -83,8 +83,8 @@ pub(crate) fn add_pair_fact(text: &mut Vec<u8>, fact: &PairFact) -> Result<(), A
     }
 }
 
-/// The word of a flag.
-pub(crate) fn flag(bit: Bit) -> &'static [u8]
+/// The word of a flag, in a certificate.
+pub fn flag(bit: Bit) -> &'static [u8]
     ensures { result.now ≡ flag_word bit }
 {
     match bit {

@@ -9,4 +9,5 @@ mod state_lines;
 mod words;
 mod writing;
 
+pub use facts::{add_fact, add_pair_fact, flag as flag_word};
 pub use writing::write_cert;

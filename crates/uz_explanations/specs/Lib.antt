@@ -1,0 +1,9 @@
+pub mod Beginnings
+pub mod Explanations
+pub mod Known
+pub mod Labels
+pub mod Pieces
+pub mod Readings
+pub mod TrailLines
+pub mod Turns
+pub mod Ways
