@@ -1,5 +1,5 @@
 -- What a console's next turn stores, of the states that it stands for.
-use Rattle.std.proofs.Common.{◌≡◌, ℕ, ◌+◌, ◌%◌, true, false, refl, sym, subst, ◌∙◌, ap}
+use Rattle.std.proofs.Common.{◌≡◌, ℕ, ◌+◌, ◌*◌, ◌/◌, ◌%◌, arith, true, false, refl, sym, subst, ◌∙◌, ap}
 use Rattle.std.specs.Prelude.{Option, None}
 use Rattle.std.specs.Ordering.{nat_cmp}
 use Rattle.std.specs.FinMap.{FinMap}
@@ -13,6 +13,10 @@ use Rattle.uz_console.specs.declared.console.Console.{Console}
 use Rattle.uz_console.specs.Consoles.{StandsFor, state_of}
 use Rattle.uz_observation.specs.declared.stores.Stored.{Stored}
 use Rattle.uz_observation.specs.Stores.{StoresOf, instruction_store}
+
+-- SP by its two bytes
+pub sp_of_core : (sp : ℕ) → sp % 256 + 256 * (sp / 256) ≡ sp
+sp_of_core sp = omega arith
 
 pub entry_stores : (s : State PadHistory) → is_entry s ≡ true → StoresOf s None
 entry_stores s enters = record {

@@ -7,7 +7,7 @@ use Rattle.std.proofs.lemmas.Grind.{get_or-set_at}
 use Rattle.std.proofs.lemmas.List.{get_or-replicate, length-replicate, length-set}
 use Rattle.uz_machine.specs.PadLine.{PadHistory}
 use Rattle.uz_machine.specs.Space.{history_wiring}
-use Rattle.uz_machine.specs.Turn.{State, Turn}
+use Rattle.uz_machine.specs.Turn.{State, Turn, is_entry}
 use Rattle.uz_core.specs.declared.step.Why.{Why}
 use Rattle.uz_console.specs.declared.console.Console.{Console}
 use Rattle.uz_console.specs.Consoles.{StandsFor, clock_of}
@@ -15,6 +15,7 @@ use Rattle.uz_observation.specs.declared.extents.Extent.{Extent}
 use Rattle.uz_observation.specs.declared.glance.Glance.{Glance}
 use Rattle.uz_observation.specs.declared.stores.Stored.{Stored}
 use Rattle.uz_observation.specs.declared.window.Window.{Window}
+use Rattle.uz_observation.specs.Depths.{deeper, handler_top}
 use Rattle.uz_observation.specs.Extents.{after_store, extent_of, is_in_ram, with_byte}
 use Rattle.uz_observation.specs.Matches.{matches_in}
 use Rattle.uz_observation.specs.Moments.{Moment, Leads, after_edges, byte_at, bytes_stored, is_handling, matches_of, store_by}
@@ -73,9 +74,15 @@ stored_more first who turns m was is handling store so_far runs same e =
           ∙ one_store was (store_by who (is_handling first turns) m.store) (bytes_stored first who (256 + k) turns) k so_far.size h (so_far.each k h);
     }
 
+-- the handler's first SP after one more turn
+stands_at : (was top : ℕ) (entering : Bool) (m : Moment) → was ≡ top → entering ≡ is_entry m.before
+    → (if entering then m.after.core.sp else was) ≡ (if is_entry m.before then m.after.core.sp else top)
+stands_at was top entering m same entry =
+    ap (λ b. if b then m.after.core.sp else was) entry ∙ ap (λ t. if is_entry m.before then m.after.core.sp else t) same
+
 -- what a window tells after one more turn
 pub tells_more : (first : Bool) (turns : List Moment) (m : Moment) (was is : Window) (glance : Glance) → Tells first turns was
-    → IsGlance m.before glance → glance.store ≡ m.store → TakesTurn was is glance m.after.clock m.edges → Tells first (m ∷ turns) is
+    → IsGlance m.before glance → glance.store ≡ m.store → TakesTurn was is glance m.after.clock m.after.core.sp m.edges → Tells first (m ∷ turns) is
 tells_more first turns m was is glance so_far seen same takes = record {
   edges = takes.edges ∙ ap (λ es. es ++ m.edges) so_far.edges;
   matches = takes.matches ∙ ap (λ xs. xs ++ matches_in glance.clock m.after.clock glance.left) so_far.matches
@@ -84,18 +91,25 @@ tells_more first turns m was is glance so_far seen same takes = record {
   handler = stored_more first true turns m was.handler.items is.handler.items was.handling glance.store so_far.handler so_far.handling same
       takes.handler;
   handling = takes.handling ∙ ap (λ h. after_edges h m.edges) so_far.handling;
+  top = takes.top ∙ stands_at was.top (handler_top turns) glance.entering m so_far.top seen.entering;
+  depth = takes.depth ∙ ap (λ h. deeper (after_edges h m.edges) (if glance.entering then m.after.core.sp else was.top) m.after.core.sp was.depth) so_far.handling
+      ∙ ap (λ t. deeper (is_handling first (m ∷ turns)) t m.after.core.sp was.depth)
+      (stands_at was.top (handler_top turns) glance.entering m so_far.top seen.entering)
+      ∙ ap (λ d. deeper (is_handling first (m ∷ turns)) (handler_top (m ∷ turns)) m.after.core.sp d) so_far.depth;
 }
 
 -- the window of no turn
 pub tells_none : (handling : Bool) (window : Window) → window.edges.items ≡ [] → window.matches.items ≡ []
     → window.main.items ≡ replicate 4096 None → window.handler.items ≡ replicate 4096 None → window.handling ≡ handling
-    → Tells handling [] window
-tells_none handling window edges matches main handler runs = record {
+    → window.top ≡ 0 → window.depth ≡ 0 → Tells handling [] window
+tells_none handling window edges matches main handler runs top depth = record {
   edges = edges;
   matches = matches;
   main = none_stored handling false window.main.items main;
   handler = none_stored handling true window.handler.items handler;
   handling = runs;
+  top = top;
+  depth = depth;
 }
 
 -- before the first turn

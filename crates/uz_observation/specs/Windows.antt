@@ -1,9 +1,9 @@
 -- What a window onto a run shows of its turns.
-use Rattle.std.specs.Prelude.{◌≡◌, ℕ, ◌+◌, ◌<◌, ◌≤◌, Bool, true, false, List, ◌++◌, length, slice_index_or, Option, None, Some}
+use Rattle.std.specs.Prelude.{◌≡◌, ℕ, ◌+◌, ◌<◌, ◌≤◌, Bool, true, false, if◌then◌else◌, List, ◌++◌, length, slice_index_or, Option, None, Some}
 use Rattle.uz_machine.specs.declared.Edge.{Edge}
 use Rattle.uz_machine.specs.PadLine.{PadHistory}
 use Rattle.uz_machine.specs.Space.{history_wiring}
-use Rattle.uz_machine.specs.Turn.{State, Turn}
+use Rattle.uz_machine.specs.Turn.{State, Turn, is_entry}
 use Rattle.uz_core.specs.declared.step.Why.{Why}
 use Rattle.uz_console.specs.declared.console.Console.{Console}
 use Rattle.uz_console.specs.Consoles.{StandsFor, clock_of}
@@ -12,6 +12,7 @@ use Rattle.uz_observation.specs.declared.extents.Extent.{Extent}
 use Rattle.uz_observation.specs.declared.glance.Glance.{Glance}
 use Rattle.uz_observation.specs.declared.window.Window.{Window}
 use Rattle.uz_observation.specs.Extents.{RAM_BEGIN, after_store, extent_of}
+use Rattle.uz_observation.specs.Depths.{deeper, handler_depth, handler_top}
 use Rattle.uz_observation.specs.Matches.{clocks_left, matches_in}
 use Rattle.uz_observation.specs.Moments.{Moment, Leads, after_edges, bytes_stored, edges_of, is_handling, matches_of, store_by}
 use Rattle.uz_observation.specs.Stores.{StoresOf}
@@ -28,6 +29,8 @@ pub record Tells (first : Bool) (turns : List Moment) (window : Window) : Type 0
   pub main : AreExtents first false turns window.main.items
   pub handler : AreExtents first true turns window.handler.items
   pub handling : window.handling ≡ is_handling first turns
+  pub top : window.top ≡ handler_top turns
+  pub depth : window.depth ≡ handler_depth first turns
 
 -- The end of what is watched: the clock has come to the limit, or the next turn begins before it, and there is none
 abbrev pub IsEnd : ℕ → State PadHistory → Option Why → Type 0
@@ -56,20 +59,33 @@ pub record IsGlance (s : State PadHistory) (glance : Glance) : Type 0 where
   pub clock : glance.clock ≡ s.clock
   pub left : glance.left ≡ clocks_left s.space.timer
   pub store : StoresOf s glance.store
+  pub entering : glance.entering ≡ is_entry s
 
--- one more turn, which ends at a clock and shows some edges
-pub record TakesTurn (was is : Window) (glance : Glance) (ended : ℕ) (shown : List Edge) : Type 0 where
+-- SP behind a turn, which was an entry or not; the window knows already whether the handler runs behind it
+pub record Stands (was is : Window) (entering : Bool) (sp : ℕ) : Type 0 where
+  pub edges : is.edges ≡ was.edges
+  pub matches : is.matches ≡ was.matches
+  pub main : is.main ≡ was.main
+  pub handler : is.handler ≡ was.handler
+  pub handling : is.handling ≡ was.handling
+  pub top : is.top ≡ (if entering then sp else was.top)
+  pub depth : is.depth ≡ deeper was.handling (if entering then sp else was.top) sp was.depth
+
+-- one more turn, which ends at a clock, leaves an SP and shows some edges
+pub record TakesTurn (was is : Window) (glance : Glance) (ended sp : ℕ) (shown : List Edge) : Type 0 where
   pub edges : is.edges.items ≡ was.edges.items ++ shown
   pub matches : is.matches.items ≡ was.matches.items ++ matches_in glance.clock ended glance.left
   pub main : is.main.items ≡ after_store was.main.items (store_by false was.handling glance.store)
   pub handler : is.handler.items ≡ after_store was.handler.items (store_by true was.handling glance.store)
   pub handling : is.handling ≡ after_edges was.handling shown
+  pub top : is.top ≡ (if glance.entering then sp else was.top)
+  pub depth : is.depth ≡ deeper (after_edges was.handling shown) (if glance.entering then sp else was.top) sp was.depth
 
 -- One turn of a state: it is made, and its window takes it; or there is none
 abbrev pub IsSeen : State PadHistory → Console → Window → Window → Option Why → Type 0
 IsSeen s console was is None =
     (m : Moment) × (glance : Glance) × (m.before ≡ s) × Turn history_wiring s m.edges m.after × StandsFor console m.after
-    × IsGlance s glance × (glance.store ≡ m.store) × TakesTurn was is glance m.after.clock m.edges
+    × IsGlance s glance × (glance.store ≡ m.store) × TakesTurn was is glance m.after.clock m.after.core.sp m.edges
 IsSeen s console was is (Some why) = Halts s why × StandsFor console s × (is ≡ was)
 
 -- a turn takes time

@@ -3,12 +3,13 @@
 ghost use Rattle.std.specs.Prelude.{◌≡◌, ◌<◌, ◌≤◌, IfSome};
 ghost use Rattle.uz_machine.specs.PadLine.{PadHistory};
 ghost use Rattle.uz_machine.specs.Turn.{State};
-ghost use Rattle.uz_console.specs.Consoles.{StandsFor, clock_of};
+ghost use Rattle.uz_console.specs.Consoles.{StandsFor, clock_of, state_of};
 ghost use Rattle.uz_observation.specs.Matches.{clocks_left, clocks_to_match};
 ghost use Rattle.uz_observation.specs.Windows.{IsGlance};
 
 use crate::stores::{Stored, next_store};
 use uz_console::Console;
+use uz_machine::address::{SPH, SPL};
 use uz_timer::Timer1;
 
 /// What is read of a console before its turn.
@@ -19,6 +20,17 @@ pub(crate) struct Glance {
     pub left: Option<u32>,
     /// What the turn stores from a register.
     pub store: Option<Stored>,
+    /// Whether the turn is an entry of the interrupt.
+    pub entering: bool,
+}
+
+/// SP of a console.
+#[tactic(auto, using(crate::proofs::GlanceLemmas::sp_of_core))]
+pub(crate) fn stack_pointer(console: &Console) -> u16
+    ensures own { result ≡ (state_of console.now).core.sp }
+    ensures stands { (s : State PadHistory) → StandsFor console.now s → result ≡ s.core.sp }
+{
+    u16::from(console.byte(SPL)) + 256 * u16::from(console.byte(SPH))
 }
 
 /// The clocks until the count goes from the top to 0.
@@ -54,5 +66,6 @@ pub(crate) fn look(console: &Console) -> Glance
         clock: console.clock(),
         left: left(console.timer()),
         store: next_store(console),
+        entering: console.is_entering(),
     }
 }

@@ -3,6 +3,8 @@
 
 mod extents;
 mod glance;
+mod lines;
+mod periods;
 mod reaching;
 mod stores;
 mod survey;
@@ -12,6 +14,8 @@ mod watching;
 mod window;
 
 pub use extents::Extent;
+pub use lines::{Line, is_broad, lines_between, mix};
+pub use periods::{Period, period_in};
 pub use reaching::reach;
 pub use stores::Stored;
 pub use survey::{Fall, Place, Survey, survey_window};

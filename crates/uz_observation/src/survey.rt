@@ -3,10 +3,10 @@
 ghost use Rattle.std.specs.Prelude.{◌≡◌, ◌<◌, ◌≤◌, ◌^◌, length};
 ghost use Rattle.uz_console.specs.Consoles.{clock_of};
 
-use crate::glance::left;
+use crate::glance::{left, stack_pointer};
 use std::alloc::{AllocError, Global};
 use uz_console::{Console, Turn};
-use uz_machine::address::{SPH, SPL, SREG};
+use uz_machine::address::SREG;
 use uz_machine::{Edge, EdgeKind};
 
 /// What is seen of main at a pc, at the greatest SP with which main was there.
@@ -49,14 +49,10 @@ pub struct Survey {
     pub main_least: u16,
     /// The least SP of all.
     pub least: u16,
-    /// The most bytes that the handler has pushed, its return address apart.
-    pub depth: u16,
     handling: bool,
     /// Whether the handler returned since the last match, and whether the last turn was its return.
     returned: bool,
     owed: bool,
-    /// SP at the handler's first instruction.
-    top: u16,
 }
 
 /// What is read of a console before its turn.
@@ -79,11 +75,6 @@ const NOWHERE: Place = Place {
 
 /// The words of the flash.
 const WORDS: usize = 32768;
-
-/// SP of a console.
-pub(crate) fn stack_pointer(console: &Console) -> u16 {
-    u16::from(console.byte(SPL)) + 256 * u16::from(console.byte(SPH))
-}
 
 fn spot_of(console: &Console) -> Spot {
     let timer = console.timer();
@@ -116,11 +107,9 @@ impl Survey {
             main_top: 0,
             main_least: 0xFFFF,
             least: 0xFFFF,
-            depth: 0,
             handling,
             returned: false,
             owed: false,
-            top: 0,
         })
     }
 
@@ -190,14 +179,9 @@ impl Survey {
     }
 
     /// SP after a turn.
-    fn stand(&mut self, spot: &Spot, sp: u16) {
+    fn stand(&mut self, sp: u16) {
         self.least = self.least.min(sp);
-        if spot.entering {
-            self.top = sp;
-        }
-        if self.handling {
-            self.depth = self.depth.max(self.top.saturating_sub(sp));
-        } else {
+        if !self.handling {
             self.main_least = self.main_least.min(sp);
         }
     }
@@ -211,7 +195,7 @@ impl Survey {
         for edge in edges {
             self.edge(spot, *edge)?;
         }
-        self.stand(spot, stack_pointer(console));
+        self.stand(stack_pointer(console));
         Ok(())
     }
 }

@@ -1,10 +1,16 @@
 //! Main at one place of a window, and the first of some places in a run.
 
-ghost use Rattle.std.specs.Prelude.{◌≡◌, ◌<◌, ◌≤◌, ◌^◌};
+ghost use Rattle.std.specs.Prelude.{◌≡◌, ◌<◌, ◌≤◌, ◌^◌, [], if◌then◌else◌, nat_eq};
+ghost use Rattle.uz_machine.specs.PadLine.{PadHistory};
+ghost use Rattle.uz_machine.specs.Turn.{State};
+ghost use Rattle.uz_console.specs.Consoles.{StandsFor, clock_of, state_of};
+ghost use Rattle.uz_observation.specs.Visits.{AreRegisters, AreStill, IsLook, IsVisited, IsVisitTurn, KeepsVisits, MovesBy, TellsVisits, VisitIsAdded};
+ghost use Rattle.uz_observation.specs.Visits.{is_place, is_still, is_visit, one_more};
 
+use crate::glance::stack_pointer;
 use crate::stores::next_effect;
-use crate::survey::stack_pointer;
 use crate::uses::{registers_read, registers_written};
+use crate::window::handles_after;
 use uz_console::{Console, Turn};
 use uz_machine::{Edge, EdgeKind};
 
@@ -25,7 +31,9 @@ pub struct Registers {
 }
 
 /// The registers of a console.
-fn all_registers(console: &Console) -> [u8; 32] {
+fn all_registers(console: &Console) -> [u8; 32]
+    ensures { AreRegisters (state_of console.now).core result }
+{
     let mut values = [0; 32];
     for n in 0..32u8 {
         values[usize::from(n)] = console.reg(n);
@@ -33,55 +41,167 @@ fn all_registers(console: &Console) -> [u8; 32] {
     values
 }
 
-/// Adds a visit.
-fn add_visit(seen: &mut Registers, now: &[u8; 32]) {
-    if seen.visits == 0 {
-        seen.values = *now;
-    }
-    for n in 0..32usize {
-        if seen.values[n] != now[n] {
-            seen.same[n] = false;
-        }
-    }
-    seen.visits = seen.visits.saturating_add(1);
-    seen.fresh = 0;
+/// Whether a register still has its first value.
+fn stays(same: bool, first: u8, now: u8) -> bool
+    ensures { result ≡ is_still same first now }
+{
+    same && first == now
 }
 
-/// Adds the registers of main's next instruction.
-fn add_uses(seen: &mut Registers, console: &Console) {
-    if let Some(effect) = next_effect(console) {
-        if seen.visits > 0 {
+/// Which registers still have their first values.
+fn still_same(same: &[bool; 32], first: &[u8; 32], now: &[u8; 32]) -> [bool; 32]
+    ensures { AreStill same.now first.now now.now result }
+{
+    let mut still = [false; 32];
+    for n in 0..32usize {
+        still[n] = stays(same[n], first[n], now[n]);
+    }
+    still
+}
+
+/// One visit more, as far as they are counted.
+fn counted_on(visits: u32) -> u32
+    ensures { result ≡ one_more visits }
+{
+    if visits < u32::MAX {
+        visits + 1
+    } else {
+        visits
+    }
+}
+
+/// The registers' values at the first visit, which is this one if none was before.
+fn first_values(seen: &Registers, now: &[u8; 32]) -> [u8; 32]
+    ensures { result ≡ (if nat_eq seen.now.visits 0 then now.now else seen.now.values) }
+{
+    if seen.visits == 0 { *now } else { seen.values }
+}
+
+/// One more visit, with the registers there.
+fn with_visit(seen: &Registers, now: &[u8; 32]) -> Registers
+    ensures { VisitIsAdded seen.now now.now result }
+{
+    let values = first_values(seen, now);
+    let same = still_same(&seen.same, &values, now);
+    Registers {
+        values,
+        same,
+        visits: counted_on(seen.visits),
+        live: seen.live,
+        written: seen.written,
+        fresh: 0,
+    }
+}
+
+/// One more visit, if it is one.
+fn with_visit_if(here: bool, seen: &Registers, console: &Console) -> Registers
+    ensures { IsLook here (state_of console.now).core seen.now result }
+{
+    if here {
+        with_visit(seen, &all_registers(console))
+    } else {
+        *seen
+    }
+}
+
+/// With the registers of main's next instruction.
+fn with_uses(seen: Registers, console: &Console) -> Registers
+    ensures { KeepsVisits seen result }
+{
+    match next_effect(console) {
+        Some(effect) if seen.visits > 0 => {
             let read = registers_read(&effect);
             let written = registers_written(&effect);
-            seen.live = seen.live | read & !seen.fresh;
-            seen.fresh = seen.fresh | written;
-            seen.written = seen.written | written;
+            let values = seen.values;
+            let same = seen.same;
+            Registers {
+                values,
+                same,
+                visits: seen.visits,
+                live: seen.live | read & !seen.fresh,
+                written: seen.written | written,
+                fresh: seen.fresh | written,
+            }
         }
+        _ => seen,
     }
 }
 
-/// What is seen before main's turn.
-fn look_at(seen: &mut Registers, console: &Console, pc: u16, sp: u16) {
-    if console.pc() == pc && stack_pointer(console) == sp {
-        add_visit(seen, &all_registers(console));
+/// The same, if the next instruction is one of main.
+fn with_uses_if(of_main: bool, seen: Registers, console: &Console) -> Registers
+    ensures { KeepsVisits seen result }
+{
+    if of_main {
+        with_uses(seen, console)
+    } else {
+        seen
     }
-    add_uses(seen, console);
 }
 
-/// Whether the handler runs after some edges.
-fn runs_on(was: bool, edges: &[Edge]) -> bool {
-    let mut handling = was;
-    for edge in edges {
-        match edge.kind {
-            EdgeKind::Enter(_) => handling = true,
-            EdgeKind::Leave => handling = false,
-            _ => {}
+/// Whether a console is at a place.
+fn is_at(console: &Console, pc: u16, sp: u16) -> bool
+    ensures own { result ≡ is_place pc sp (state_of console.now).core }
+    ensures stands { (s : State PadHistory) → StandsFor console.now s → result ≡ is_place pc sp s.core }
+{
+    console.pc() == pc && stack_pointer(console) == sp
+}
+
+/// Whether main is at a place.
+fn visits_here(console: &Console, handling: bool, pc: u16, sp: u16) -> bool
+    ensures { (s : State PadHistory) → StandsFor console.now s → result ≡ is_visit handling pc sp s }
+{
+    !handling && !console.is_entering() && is_at(console, pc, sp)
+}
+
+/// What is seen before a turn.
+fn look(seen: &Registers, console: &Console, handling: bool, pc: u16, sp: u16) -> Registers
+    ensures { (s : State PadHistory) → StandsFor console.now s → IsLook (is_visit handling pc sp s) s.core seen.now result }
+{
+    let here = visits_here(console, handling, pc, sp);
+    let visited = with_visit_if(here, seen, console);
+    let of_main = !handling && !console.is_entering();
+    with_uses_if(of_main, visited, console)
+}
+
+/// Makes one turn, and answers whether the handler runs behind it, or nothing if there is none.
+fn visit_turn(
+    console: &mut Console,
+    seen: &mut Registers,
+    handling: bool,
+    pc: u16,
+    sp: u16,
+) -> Option<bool>
+    requires { clock_of console.old < 2 ^ 62 }
+    ensures turn { (s : State PadHistory) → StandsFor console.old s
+        → IsVisitTurn (is_visit handling pc sp s) s console.new handling seen.old seen.new result }
+    ensures time { MovesBy console.old console.new result }
+{
+    let next = look(seen, console, handling, pc, sp);
+    match console.turn() {
+        Turn::Took { edges } => {
+            *seen = next;
+            Some(handles_after(handling, edges.as_slice()))
         }
+        Turn::Stopped(_) => None,
     }
-    handling
 }
 
-/// The registers at the visits of main to a pc with an SP, in the turns that begin before the limit.
+/// No visit.
+fn no_visit() -> Registers
+    ensures { TellsVisits [] result }
+{
+    Registers {
+        values: [0; 32],
+        same: [true; 32],
+        visits: 0,
+        live: 0,
+        written: 0,
+        fresh: 0,
+    }
+}
+
+/// The registers at the visits of main to a pc with an SP, in the turns that begin before the limit. `handling` says whether the
+/// interrupt's handler runs at the first of them.
 pub fn registers_at(
     console: &mut Console,
     limit: u64,
@@ -90,26 +210,14 @@ pub fn registers_at(
     sp: u16,
 ) -> Registers
     requires { limit ≤ 2 ^ 62 }
+    ensures { (s : State PadHistory) → StandsFor console.old s → IsVisited limit handling pc sp s console.new result }
 {
-    let mut seen = Registers {
-        values: [0; 32],
-        same: [true; 32],
-        visits: 0,
-        live: 0,
-        written: 0,
-        fresh: 0,
-    };
+    let mut seen = no_visit();
     let mut handling = handling;
-    for _ in 0..limit {
-        if console.clock() >= limit {
-            break;
-        }
-        if !handling && !console.is_entering() {
-            look_at(&mut seen, console, pc, sp);
-        }
-        match console.turn() {
-            Turn::Took { edges } => handling = runs_on(handling, edges.as_slice()),
-            Turn::Stopped(_) => break,
+    'turns: while console.clock() < limit {
+        match visit_turn(console, &mut seen, handling, pc, sp) {
+            Some(runs) => handling = runs,
+            None => return seen,
         }
     }
     seen

@@ -6,7 +6,7 @@ ghost use Rattle.uz_machine.specs.Turn.{State};
 ghost use Rattle.uz_console.specs.Consoles.{StandsFor, clock_of};
 ghost use Rattle.uz_observation.specs.Windows.{IsSeen, IsWatched, MovesOn};
 
-use crate::glance::look;
+use crate::glance::{look, stack_pointer};
 use crate::window::Window;
 use std::alloc::{AllocError, Global};
 use uz_console::{Console, Turn};
@@ -31,7 +31,8 @@ fn watch_turn(console: &mut Console, window: &mut Window) -> Result<Option<Why>,
     let before = look(console);
     match console.turn() {
         Turn::Took { edges } => {
-            window.take(&before, console.clock(), edges.as_slice())?;
+            let sp = stack_pointer(console);
+            window.take(&before, console.clock(), sp, edges.as_slice())?;
             Ok(None)
         }
         Turn::Stopped(why) => Ok(Some(why)),

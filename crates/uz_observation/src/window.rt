@@ -2,17 +2,20 @@
 
 ghost use Rattle.std.specs.Prelude.{◌≡◌, ◌≤◌, ◌<◌, ◌^◌, ◌++◌, [], IfOk, IfSome, List, OnOk, length, Bool, false, true};
 ghost use Rattle.uz_observation.specs.Extents.{after_store, extent_of};
+ghost use Rattle.uz_observation.specs.Lines.{line_shapes, shapes_of};
 ghost use Rattle.uz_observation.specs.Matches.{matches_in};
+ghost use Rattle.uz_observation.specs.Depths.{deeper, handler_depth};
 ghost use Rattle.uz_observation.specs.Moments.{Moment, after_edges, after_kind, bytes_stored, edges_of, matches_of, store_by};
 
 use crate::extents::{Extent, RAM_BEGIN, add_store, no_extents};
 use crate::glance::Glance;
+use crate::lines::{Line, lines_between};
 use crate::stores::Stored;
 use std::alloc::{AllocError, Global};
 use uz_machine::{Edge, EdgeKind};
 
-/// What the turns of a window show: their edges, the clocks at which timer 1 matches within them, and for each byte of RAM the least
-/// and the greatest value that main stores there and that the interrupt's handler stores there.
+/// What the turns of a window show: their edges, the clocks at which timer 1 matches within them, for each byte of RAM the least and
+/// the greatest value that main stores there and that the interrupt's handler stores there, and how deep the handler's stack gets.
 #[derive(Drop)]
 pub struct Window {
     pub(crate) edges: Vec<Edge>,
@@ -21,6 +24,9 @@ pub struct Window {
     pub(crate) handler: Vec<Option<Extent>>,
     /// Whether the handler runs.
     pub(crate) handling: bool,
+    /// SP at the handler's first instruction, and the most bytes below it that the handler has put on the stack.
+    pub(crate) top: u16,
+    pub(crate) depth: u16,
     ghost main_size: { length main.items ≡ 4096 },
     ghost handler_size: { length handler.items ≡ 4096 },
 }
@@ -37,7 +43,7 @@ fn goes_on(was: bool, kind: EdgeKind) -> bool
 }
 
 /// Whether the handler runs after some edges.
-fn handles_after(was: bool, edges: &[Edge]) -> bool
+pub(crate) fn handles_after(was: bool, edges: &[Edge]) -> bool
     ensures { result ≡ after_edges was edges.now }
 {
     let mut handling = was;
@@ -82,8 +88,19 @@ fn add_match(
     }
 }
 
+/// The depth of a stack whose top and pointer are given, if it is the handler's and deeper.
+fn deepest(handling: bool, top: u16, sp: u16, depth: u16) -> u16
+    ensures { result ≡ deeper handling top sp depth }
+{
+    if handling && depth < top.saturating_sub(sp) {
+        top.saturating_sub(sp)
+    } else {
+        depth
+    }
+}
+
 impl Window {
-    ghost use Rattle.uz_observation.specs.Windows.{TakesTurn, Tells};
+    ghost use Rattle.uz_observation.specs.Windows.{Stands, TakesTurn, Tells};
 
     /// The window of no turn. `handling` says whether the handler runs before the first one.
     pub(crate) fn new(alloc: Global, handling: bool) -> Result<Window, AllocError>
@@ -95,6 +112,8 @@ impl Window {
             main: no_extents(alloc)?,
             handler: no_extents(alloc)?,
             handling,
+            top: 0,
+            depth: 0,
         })
     }
 
@@ -104,26 +123,38 @@ impl Window {
         ensures edges { self.new.edges ≡ self.old.edges }
         ensures matches { self.new.matches ≡ self.old.matches }
         ensures handling { self.new.handling ≡ self.old.handling }
+        ensures top { self.new.top ≡ self.old.top }
+        ensures depth { self.new.depth ≡ self.old.depth }
     {
         add_store(&mut self.main, if_by(false, self.handling, store));
         add_store(&mut self.handler, if_by(true, self.handling, store));
     }
 
-    /// Takes a turn by what was read before it, its last clock and its edges.
+    /// Takes a turn by what was read before it, its last clock, SP behind it and its edges.
     pub(crate) fn take(
         &mut self,
         glance: &Glance,
         ended: u64,
+        sp: u16,
         edges: &[Edge],
     ) -> Result<(), AllocError>
         requires { glance.now.clock < 2 ^ 62 }
-        ensures { OnOk result (TakesTurn self.old self.new glance.now ended edges.now) }
+        ensures { OnOk result (TakesTurn self.old self.new glance.now ended sp edges.now) }
     {
         add_match(&mut self.matches, glance.clock, ended, glance.left)?;
         self.edges.extend_from_slice(edges)?;
         self.add_stores(glance.store);
         self.handling = handles_after(self.handling, edges);
+        self.stand(glance.entering, sp);
         Ok(())
+    }
+
+    /// SP behind a turn.
+    fn stand(&mut self, entering: bool, sp: u16)
+        ensures { Stands self.old self.new entering sp }
+    {
+        self.top = if entering { sp } else { self.top };
+        self.depth = deepest(self.handling, self.top, sp, self.depth);
     }
 
     /// The edges of the turns, in the order of time.
@@ -138,6 +169,14 @@ impl Window {
         ensures { (first : Bool) (turns : List Moment) → Tells first turns self.now → result.now ≡ matches_of turns }
     {
         self.matches.as_slice()
+    }
+
+    /// The lines between the matches. The one error is want of memory.
+    pub fn lines(&self, alloc: Global) -> Result<Vec<Line>, AllocError>
+        ensures { IfOk result (λ lines. (first : Bool) (turns : List Moment) → Tells first turns self.now
+            → shapes_of lines.items ≡ line_shapes (edges_of turns) (matches_of turns)) }
+    {
+        lines_between(alloc, self.edges.as_slice(), self.matches.as_slice())
     }
 
     /// The least and the greatest byte that main stored at a data address of RAM, or `None` if it stored none there.
@@ -156,5 +195,12 @@ impl Window {
             → result ≡ extent_of (bytes_stored first true at turns) }
     {
         self.handler[usize::from(at - RAM_BEGIN)]
+    }
+
+    /// The most bytes that the handler put on the stack below its return address, by what it pushed and called.
+    pub fn handler_depth(&self) -> u16
+        ensures { (first : Bool) (turns : List Moment) → Tells first turns self.now → result ≡ handler_depth first turns }
+    {
+        self.depth
     }
 }

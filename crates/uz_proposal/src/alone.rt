@@ -3,11 +3,10 @@
 ghost use Rattle.std.specs.Prelude.{◌≡◌, ◌<◌, ◌≤◌};
 
 use crate::frame::{Frame, have_lengths, no_frame, part};
-use crate::lines::{Line, Period, is_broad, lines_between, mix, period_in};
 use crate::no_hints::NoHints;
 use std::alloc::{AllocError, Global};
 use uz_machine::Edge;
-use uz_observation::Fall;
+use uz_observation::{Fall, Line, Period, is_broad, lines_between, mix, period_in};
 use uz_schedule::HALF_LINE;
 
 /// The words of the flash.

@@ -2,9 +2,9 @@
 
 ghost use Rattle.std.specs.Prelude.{◌≡◌, ◌<◌, ◌≤◌, ◌+◌, length};
 
-use crate::lines::{Line, Period, is_broad, mix, period_in};
 use crate::no_hints::NoHints;
 use std::alloc::{AllocError, Global};
+use uz_observation::{Line, Period, is_broad, mix, period_in};
 use uz_schedule::{HALF_LINE, SCANLINE};
 
 /// The bytes at the entries of the interrupt, so many an entry.
@@ -114,6 +114,19 @@ pub(crate) fn have_lengths(lines: &[Line]) -> bool {
     true
 }
 
+/// The clocks of two fields of NTSC, of 525 half lines each.
+const TWO_FIELDS: u64 = 2 * 525 * 910;
+
+/// Whether the lines have fewer clocks than two fields of NTSC. If the handler has a byte then with which they aren't periodic, it may
+/// count lines of a frame that is longer.
+pub(crate) fn is_short(lines: &[Line]) -> bool {
+    let mut clocks = 0u64;
+    for line in lines {
+        clocks = clocks.saturating_add(line.length);
+    }
+    clocks < TWO_FIELDS
+}
+
 /// On how many lines sync falls at a clock.
 fn falling(lines: &[Line], clock: u64) -> u16 {
     let mut count = 0u16;
@@ -189,7 +202,17 @@ pub(crate) fn part(lines: &[Line], from: usize, count: usize) -> &[Line] {
     }
 }
 
-/// The frame of a period.
+/// Why lines that come again without a fall of sync, or without an entry, make no frame: sync falls on none of all lines, or the frame is
+/// longer than that.
+fn no_part(lines: &[Line]) -> NoHints {
+    if fall_of(lines).is_some() {
+        no_frame(lines)
+    } else {
+        NoHints::Fall
+    }
+}
+
+/// The frame of a period. The handler is entered in each frame: a period without an entry is a part of one.
 fn frame_at(
     lines: &[Line],
     period: Period,
@@ -200,8 +223,14 @@ fn frame_at(
     if !have_lengths(frame) {
         return Err(no_frame(lines));
     }
-    let (fall, falling) = fall_of(frame).ok_or(NoHints::Fall)?;
-    let zero = zero_of(frame, cells, chosen).ok_or(NoHints::Fall)?;
+    let (fall, falling) = match fall_of(frame) {
+        None => return Err(no_part(lines)),
+        Some(fall) => fall,
+    };
+    let zero = match zero_of(frame, cells, chosen) {
+        None => return Err(no_part(lines)),
+        Some(zero) => zero,
+    };
     Ok(Frame {
         from: period.from,
         lines: period.lines,

@@ -5,7 +5,6 @@ mod alone;
 mod checked;
 mod flood;
 mod frame;
-mod lines;
 mod no_hints;
 mod proposing;
 mod remarks;

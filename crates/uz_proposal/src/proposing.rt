@@ -4,8 +4,7 @@ ghost use Rattle.std.specs.Prelude.{◌≡◌, ◌<◌, ◌≤◌, ◌^◌, leng
 
 use crate::alone::find_alone;
 use crate::flood::{Flood, flood_from};
-use crate::frame::{Cells, Frame, frame_of, is_periodic};
-use crate::lines::{Line, lines_between};
+use crate::frame::{Cells, Frame, frame_of, is_periodic, is_short, no_frame};
 use crate::no_hints::NoHints;
 use crate::remarks::{Remark, Remarked};
 use crate::seen::{Seen, candidates, main_loop, see};
@@ -13,7 +12,7 @@ use avr_asm::Hint;
 use std::alloc::{AllocError, Global};
 use uz_console::Console;
 use uz_machine::address::TIMER1_COMPA;
-use uz_observation::{Registers, register_bit, registers_at};
+use uz_observation::{Line, Registers, register_bit, registers_at};
 use uz_schedule::{HALF_LINE, Kind};
 
 /// The most bytes that main or the handler may push.
@@ -61,6 +60,25 @@ fn chosen_cells(
         }
     }
     Ok(chosen)
+}
+
+/// Whether a byte of the handler is one with which the lines aren't periodic.
+fn has_open_byte(
+    alloc: Global,
+    seen: &Seen,
+    lines: &[Line],
+    addresses: &[u16],
+) -> Result<bool, AllocError> {
+    let cells = Cells {
+        bytes: seen.survey.cells.as_slice(),
+        width: addresses.len(),
+    };
+    for (n, at) in addresses.iter().enumerate() {
+        if is_handlers(seen, *at) && !is_periodic(alloc, lines, cells, n)? {
+            return Ok(true);
+        }
+    }
+    Ok(false)
 }
 
 fn put(hints: &mut Vec<Remarked>, remark: Remark, hint: Hint) -> Result<(), AllocError> {
@@ -140,7 +158,7 @@ fn pushed(code: &Flood) -> u16 {
 
 /// What the handler pushes.
 fn handler_pushes(seen: &Seen, handler: &Flood) -> u16 {
-    seen.survey.depth.max(pushed(handler))
+    seen.window.handler_depth().max(pushed(handler))
 }
 
 /// The hint of the stack, whose highest address is SP at the start.
@@ -265,7 +283,7 @@ struct Kernel {
     registers: Registers,
 }
 
-/// Finds main's loop, the frame and the cells.
+/// Finds the frame and the cells, and then main's loop.
 fn find_kernel(
     alloc: Global,
     seen: &mut Seen,
@@ -275,14 +293,17 @@ fn find_kernel(
 ) -> Result<Kernel, NoHints>
     requires { limit ≤ 2 ^ 62 }
 {
-    let pc = main_loop(alloc, start, limit, &seen.survey)?;
-    let lines = lines_between(alloc, seen.window.edges(), seen.window.matches())?;
+    let lines = seen.window.lines(alloc)?;
+    if is_short(lines.as_slice()) && has_open_byte(alloc, seen, lines.as_slice(), addresses)? {
+        return Err(no_frame(lines.as_slice()));
+    }
     let chosen = chosen_cells(alloc, seen, lines.as_slice(), addresses)?;
     let cells = Cells {
         bytes: seen.survey.cells.as_slice(),
         width: addresses.len(),
     };
     let frame = frame_of(alloc, lines.as_slice(), cells, chosen.as_slice())?;
+    let pc = main_loop(alloc, start, limit, &seen.survey)?;
     let main = flood_from(alloc, start.image(), pc)?;
     let top = seen.survey.main_top;
     let registers = registers_at(&mut seen.begin, limit, seen.handling, pc, top);
