@@ -28,14 +28,15 @@ use Rattle.uz_cert_words.specs.declared.values.Raw.TheVariants as raw
 use Rattle.uz_cert_lines.specs.declared.items.Shape.{Shape}
 use Rattle.uz_cert_lines.specs.declared.items.Facts.{Facts}
 use Rattle.uz_cert_words.specs.declared.why.CertWhy.TheVariants as why
-use Rattle.uz_cert_writer.specs.Spelling.{item, unless, range_word, fact_word, pair_word, flag_word, pair_items, flag_items, slot_items}
+use Rattle.uz_cert_writer.specs.Spelling.{numbers_from, register_item, pair_item, flag_item}
+use Rattle.uz_cert_writer.specs.Spelling.{options, item, unless, range_word, fact_word, pair_word, flag_word, pair_items, flag_items, slot_items}
 use Rattle.uz_cert_writer.specs.Spelling.{cell_items, top_items, temp_items, successor_items}
 use Rattle.uz_cert_laws.proofs.Tests.{and_true, or_false, fine, fault_not, true_not, refuted, neither, then, le_is, number_is, word_is, is_lt}
 use Rattle.uz_cert_laws.proofs.Tests.{is_not_lt}
 use Rattle.uz_cert_laws.proofs.Facts.{FactIn, PairIn, BitIn, raw_by, pair_raw, pair_so, whole_ends, part_from}
 use Rattle.uz_cert_laws.proofs.Raws.{one_raw}
-use Rattle.uz_cert_laws.proofs.Options.{options, Each, Ordered, options_read}
-use Rattle.uz_cert_laws.proofs.Spelled.{count_from, pair_usual_only, registers, numbered_cells, register_word, pair_item, flag_item, in_range}
+use Rattle.uz_cert_laws.proofs.Options.{Each, Ordered, options_read}
+use Rattle.uz_cert_laws.proofs.Spelled.{pair_usual_only, registers, numbered_cells, in_range}
 use Rattle.uz_cert_laws.proofs.Spelled.{cell_word, usual_fact, usual_pair, usual_bit, usual_cell, cells_are, registers_usual, cells_usual}
 use Rattle.uz_cert_laws.proofs.Spelled.{register_only, flag_usual_only, range_only_usual}
 use Rattle.uz_cert_laws.proofs.Taken.{with_register, with_pair, with_flag, with_cell, cell_form, pair_letter, flag_letter}
@@ -565,17 +566,17 @@ module _ (shape : Shape) (cells : List Cell) (h : ShapeFits shape cells) (g : Fa
   abbrev RegisterAt : ℕ → ℕ → Type 0
   RegisterAt r n = (r ≡ n) × (r < 32)
 
-  registers_ordered : (a n least : ℕ) → a + n ≤ 32 → least ≤ a → Ordered RegisterAt (λ r n. r) a least 32 (count_from a n)
+  registers_ordered : (a n least : ℕ) → a + n ≤ 32 → least ≤ a → Ordered RegisterAt (λ r n. r) a least 32 (numbers_from a n)
   registers_ordered a zero least h l = omega arith
   registers_ordered a (suc n) least h l = ((refl, omega arith), l, registers_ordered (suc a) n (a + 1) (omega arith) (omega arith))
 
   register_step : (front back : List Fact) (r : ℕ) (x : Fact) (least : ℕ) (words : List (List ℕ)) → RegisterAt r (length front)
       → FactIn (bytes_forms shape) x → is_default shape.kind r x ≡ false → least ≤ r
       → Done (regs_facts (r + 1) (front ++ x ∷ back)) words
-      → Done (regs_facts least (front ++ usual_fact shape.kind r ∷ back)) (register_word r x ∷ words)
+      → Done (regs_facts least (front ++ usual_fact shape.kind r ∷ back)) (register_item r x ∷ words)
   register_step front back r x least words at i o l d =
       let before = regs_facts least (front ++ usual_fact shape.kind r ∷ back) in
-      done before (with_register before r x) (register_word r x) words
+      done before (with_register before r x) (register_item r x) words
       (register_takes shape cells before words r x (record { word = refl; there = at.1; fits = i; order = l; other = o }))
       (at_facts (with_register before r x) (regs_facts (r + 1) (front ++ x ∷ back)) words
       (ap (regs_facts (r + 1)) (set_middle front back r (usual_fact shape.kind r) x at.0)) d)

@@ -17,13 +17,14 @@ use Rattle.uz_cert_lines.specs.Defaults.{is_default, is_default_top, is_default_
 use Rattle.uz_cert_lines.specs.Items.{is_handler, bytes_forms, pair_forms, tracked_before}
 use Rattle.uz_cert_lines.specs.declared.items.Shape.{Shape}
 use Rattle.uz_cert_lines.specs.declared.items.Facts.{Facts}
+use Rattle.uz_cert_writer.specs.Spelling.{register_item, pair_item, flag_item}
 use Rattle.uz_cert_writer.specs.Spelling.{fact_word, range_word, item, unless, register_items, pair_items, flag_items, slot_items, cell_items}
 use Rattle.uz_cert_writer.specs.Spelling.{top_items, temp_items, successor_items}
 use Rattle.uz_cert_laws.specs.Spells.{letters_of_pairs, letters_of_flags, spelled}
 use Rattle.uz_cert_laws.proofs.Tests.{and_true, both_true, else_so, is_le, true_not}
 use Rattle.uz_cert_laws.proofs.Facts.{FactIn, PairIn, BitIn, part_not_whole}
-use Rattle.uz_cert_laws.proofs.Spelled.{registers, numbered_cells, register_word, any_pair, pair_item, usual_flag, flag_item, in_range}
-use Rattle.uz_cert_laws.proofs.Spelled.{cell_word, usual_fact, usual_pair, usual_bit, usual_cell, registers_are, pairs_are, flags_are}
+use Rattle.uz_cert_laws.proofs.Spelled.{registers, numbered_cells, any_pair, usual_flag, in_range}
+use Rattle.uz_cert_laws.proofs.Spelled.{cell_word, usual_fact, usual_pair, usual_bit, usual_cell, registers_are}
 use Rattle.uz_cert_laws.proofs.Spelled.{cells_are, register_default, flag_default, range_default, register_at, cell_number}
 use Rattle.uz_cert_laws.proofs.Spelled.{cells_before_next, cells_before_rise}
 use Rattle.uz_cert_laws.proofs.Taken.{with_register, with_pair, with_flag, with_slot, with_cell, with_top, with_temp, with_successor}
@@ -61,7 +62,7 @@ module _ (shape : Shape) (cells : List Cell) where
     keys = registers;
     is_usual = is_default shape.kind;
     usual = usual_fact shape.kind;
-    word = register_word;
+    word = register_item;
     Within = λ r x. FactIn (bytes_forms shape) x;
     spelled = register_items shape.kind 0;
     before = λ m. m;
@@ -145,7 +146,7 @@ module _ (shape : Shape) (cells : List Cell) where
   pub pairs_options : AreOptions pairs_list
   pairs_options = record {
     usual_is = λ l. refl;
-    words_are = λ xs e. pairs_are letters_of_pairs xs;
+    words_are = λ xs e. refl;
     rise = λ m n l. omega (arith, l);
     none = λ m l. omega (arith, l);
   }
@@ -153,7 +154,7 @@ module _ (shape : Shape) (cells : List Cell) where
   pub flags_options : AreOptions flags_list
   flags_options = record {
     usual_is = λ l. flag_default shape.kind;
-    words_are = λ xs e. flags_are shape.kind letters_of_flags xs;
+    words_are = λ xs e. refl;
     rise = λ m n l. omega (arith, l);
     none = λ m l. omega (arith, l);
   }

@@ -25,11 +25,12 @@ use Rattle.uz_cert_words.specs.declared.values.FactForms.{FactForms}
 use Rattle.uz_cert_lines.specs.declared.items.Shape.{Shape}
 use Rattle.uz_cert_lines.specs.declared.items.Facts.{Facts}
 use Rattle.uz_cert_words.specs.declared.why.CertWhy.TheVariants as why
+use Rattle.uz_cert_writer.specs.Spelling.{numbers_from}
 use Rattle.uz_cert_writer.specs.Spelling.{range_word, fact_word, pair_word, flag_word}
 use Rattle.uz_cert_laws.proofs.Tests.{and_true, or_false, fine_is, fault_not, true_not, bind_ok, number_is, lt_is}
 use Rattle.uz_cert_laws.proofs.Facts.{FactIn, PairIn, BitIn, part_from}
 use Rattle.uz_cert_laws.proofs.Options.{Each, each_length, each_map}
-use Rattle.uz_cert_laws.proofs.Spelled.{count_from, registers, numbered_cells, usual_fact, usual_bit, usual_cell}
+use Rattle.uz_cert_laws.proofs.Spelled.{registers, numbered_cells, usual_fact, usual_bit, usual_cell}
 use Rattle.uz_cert_laws.proofs.Spelled.{registers_usual, cells_usual}
 use Rattle.uz_cert_laws.proofs.Taken.{with_pair, with_flag, TakesPair, TakesFlag, Taken, register, pair, flag, slot, cell, timer_top, timer_temp}
 use Rattle.uz_cert_laws.proofs.Taken.{successor, PlacesFit, cell_form, flag_letter, item_taken}
@@ -44,8 +45,8 @@ pub record ShapeFits (shape : Shape) (cells : List Cell) : Type 0 where
   pub whole : shape.kind ≡ Handler → shape.plain ≡ false
   pub ranges : All (λ c. RangeFits 255 c.range) cells
 
-own_each : (f : FactForms) (r n : ℕ) → f.old ≡ true → r + n ≤ 32 → Each (λ r x. FactIn f x) (count_from r n)
-    (map (usual_fact Handler) (count_from r n))
+own_each : (f : FactForms) (r n : ℕ) → f.old ≡ true → r + n ≤ 32 → Each (λ r x. FactIn f x) (numbers_from r n)
+    (map (usual_fact Handler) (numbers_from r n))
 own_each f r zero o h = tt
 own_each f r (suc n) o h = ((o, omega arith), own_each f (suc r) n o (omega arith))
 

@@ -4,12 +4,7 @@ use Rattle.std.proofs.Common.{◌≡◌, ℕ, zero, suc, ◌+◌, ◌-◌, ◌�
 use Rattle.std.proofs.Common.{◌∙◌, ap, subst, append_assoc, add-one, length-append, arith}
 use Rattle.std.specs.Prelude.{⊤, Some, slice_get, slice_set}
 use Rattle.std.proofs.lemmas.List.{drop-drop}
-use Rattle.uz_cert_writer.specs.Spelling.{unless}
-
-abbrev pub options : {K A : Type 0} → (K → A → Bool) → (K → A → List ℕ) → List K → List A → List (List ℕ)
-options d w [] xs = []
-options d w (k ∷ ks) [] = []
-options d w (k ∷ ks) (x ∷ xs) = unless (d k x) (w k x) (options d w ks xs)
+use Rattle.uz_cert_writer.specs.Spelling.{unless, options}
 
 -- a value for each key, and the relation holds of each
 abbrev pub Each : {K A : Type 0} → (K → A → Type 0) → List K → List A → Type 0

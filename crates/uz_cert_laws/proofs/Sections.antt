@@ -2,8 +2,9 @@
 use Rattle.std.proofs.Common.{◌≡◌, ℕ, zero, suc, ◌≤◌, Bool, true, false, ◌&&◌, leb, List, [], ◌∷◌, ◌++◌, map, drop, sym, ◌∙◌, ap, arith}
 use Rattle.std.proofs.Common.{append_assoc, append-nil}
 use Rattle.std.specs.Prelude.{Some, slice_get, slice_set}
+use Rattle.uz_cert_writer.specs.Spelling.{options}
 use Rattle.uz_cert_laws.proofs.Tests.{and_true, le_is}
-use Rattle.uz_cert_laws.proofs.Options.{options, Each, IsUsual, OptionList, AreOptions, each_length, each_map, each_set, no_options}
+use Rattle.uz_cert_laws.proofs.Options.{Each, IsUsual, OptionList, AreOptions, each_length, each_map, each_set, no_options}
 use Rattle.uz_cert_laws.proofs.Options.{option_set, drop_set, drop_later, drop_none}
 
 pub record Section (X : Type 0) : Type 1 where

@@ -18,20 +18,15 @@ use Rattle.uz_schedule.specs.declared.facts.Bit.TheVariants.{Zero, One, Free, Ol
 use Rattle.uz_cert_lines.specs.Defaults.{is_default, is_any_pair, is_range, range_fact}
 use Rattle.uz_cert_lines.specs.Items.{own_regs, any_regs, default_regs, default_flag, default_cells, tracked_before}
 use Rattle.uz_cert_lines.specs.declared.items.Shape.{Shape}
-use Rattle.uz_cert_writer.specs.Spelling.{item, unless, fact_word, pair_word, flag_word, register_items, pair_items, flag_items, cell_items}
+use Rattle.uz_cert_writer.specs.Spelling.{options, numbers_from, item, unless, fact_word, register_item, register_items, cell_items}
 use Rattle.uz_cert_laws.proofs.Tests.{and_true, both_true, number_is, same_number, so, else_so}
 use Rattle.uz_cert_laws.proofs.Facts.{FactIn, part_not_whole}
-use Rattle.uz_cert_laws.proofs.Options.{options}
 use Rattle.uz_cert_laws.proofs.Taken.{cell_form}
 
 -- the keys: registers by number, pairs and flags by letter, cells by number
 
-abbrev pub count_from : ℕ → ℕ → List ℕ
-count_from r zero = []
-count_from r (suc n) = r ∷ count_from (suc r) n
-
 abbrev pub registers : List ℕ
-registers = count_from 0 32
+registers = numbers_from 0 32
 
 -- the cells that a kind tracks, each with its number
 abbrev pub numbered_cells : Kind → ℕ → List Cell → List (ℕ × Cell)
@@ -40,20 +35,11 @@ numbered_cells kind i (c ∷ cs) = cond (tracks kind c.owner) ((i, c) ∷ number
 
 -- the items and the defaults by key
 
-abbrev pub register_word : ℕ → Fact → List ℕ
-register_word r f = item (114 ∷ decimal r) (fact_word f)
-
 abbrev pub any_pair : ℕ → PairFact → Bool
 any_pair letter f = is_any_pair f
 
-abbrev pub pair_item : ℕ → PairFact → List ℕ
-pair_item letter f = item (letter ∷ []) (pair_word f)
-
 abbrev pub usual_flag : Kind → ℕ → Bit → Bool
 usual_flag kind letter b = is_default_flag kind b
-
-abbrev pub flag_item : ℕ → Bit → List ℕ
-flag_item letter b = item (letter ∷ []) (flag_word b)
 
 abbrev pub in_range : ℕ × Cell → Fact → Bool
 in_range p f = is_range p.1.range f
@@ -78,23 +64,8 @@ usual_cell p = range_fact p.1.range
 -- the items are these
 
 pub registers_are : (kind : Kind) (r n : ℕ) (fs : List Fact) → length fs ≡ n
-    → register_items kind r fs ≡ options (is_default kind) register_word (count_from r n) fs
-registers_are kind r zero [] e = refl
-registers_are kind r zero (f ∷ fs) e = absurd (omega arith)
-registers_are kind r (suc n) [] e = absurd (omega arith)
-registers_are kind r (suc n) (f ∷ fs) e = ap (unless (is_default kind r f) (register_word r f))
-    (registers_are kind (suc r) n fs (omega (arith, e)))
-
-pub pairs_are : (letters : List ℕ) (fs : List PairFact) → pair_items letters fs ≡ options any_pair pair_item letters fs
-pairs_are [] fs = refl
-pairs_are (l ∷ ls) [] = refl
-pairs_are (l ∷ ls) (f ∷ fs) = ap (unless (is_any_pair f) (pair_item l f)) (pairs_are ls fs)
-
-pub flags_are : (kind : Kind) (letters : List ℕ) (bs : List Bit) → flag_items kind letters bs ≡ options (usual_flag kind) flag_item letters
-    bs
-flags_are kind [] bs = refl
-flags_are kind (l ∷ ls) [] = refl
-flags_are kind (l ∷ ls) (b ∷ bs) = ap (unless (is_default_flag kind b) (flag_item l b)) (flags_are kind ls bs)
+    → register_items kind r fs ≡ options (is_default kind) register_item (numbers_from r n) fs
+registers_are kind r n fs e = ap (λ m. options (is_default kind) register_item (numbers_from r m) fs) e
 
 no_values : (ks : List (ℕ × Cell)) → options in_range cell_word ks [] ≡ []
 no_values [] = refl
@@ -115,15 +86,15 @@ cells_are kind i (c ∷ cs) (f ∷ fs) = by_own (tracks kind c.owner) (cells_are
 
 -- the defaults are these
 
-any_map : (r n : ℕ) → any_regs n ≡ map (usual_fact Main) (count_from r n)
+any_map : (r n : ℕ) → any_regs n ≡ map (usual_fact Main) (numbers_from r n)
 any_map r zero = refl
 any_map r (suc n) = ap (λ fs. Any ∷ fs) (any_map (suc r) n)
 
-any_map_alone : (r n : ℕ) → any_regs n ≡ map (usual_fact Alone) (count_from r n)
+any_map_alone : (r n : ℕ) → any_regs n ≡ map (usual_fact Alone) (numbers_from r n)
 any_map_alone r zero = refl
 any_map_alone r (suc n) = ap (λ fs. Any ∷ fs) (any_map_alone (suc r) n)
 
-own_map : (r n : ℕ) → own_regs r n ≡ map (usual_fact Handler) (count_from r n)
+own_map : (r n : ℕ) → own_regs r n ≡ map (usual_fact Handler) (numbers_from r n)
 own_map r zero = refl
 own_map r (suc n) = ap (λ fs. Old r ∷ fs) (own_map (suc r) n)
 
@@ -220,7 +191,7 @@ range_only_usual shape c OldFlags i e = absurd cc
 
 -- places of keys
 
-pub count_at : (a n r : ℕ) → r < n → slice_get (count_from a n) r ≡ Some (a + r)
+pub count_at : (a n r : ℕ) → r < n → slice_get (numbers_from a n) r ≡ Some (a + r)
 count_at a zero r h = absurd (omega arith)
 count_at a (suc n) zero h = ap (λ k. Some k) (plus a)
   where

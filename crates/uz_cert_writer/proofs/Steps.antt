@@ -12,8 +12,7 @@ use Rattle.uz_schedule.specs.declared.facts.Bit.{Bit}
 use Rattle.uz_schedule.specs.declared.header.Cell.{Cell}
 use Rattle.uz_schedule.specs.declared.lines.Event.{Event}
 use Rattle.uz_cert_lines.specs.Defaults.{is_any_pair, is_default, is_range}
-use Rattle.uz_cert_writer.specs.Spelling.{line_of, unless, item, fact_word, pair_word, flag_word, pair_items, flag_items, cell_items}
-use Rattle.uz_cert_writer.specs.Spelling.{register_items}
+use Rattle.uz_cert_writer.specs.Spelling.{line_of, unless, options, item, fact_word, register_item, register_items, cell_items}
 use Rattle.uz_cert_lines.specs.declared.version.Version.TheVariants.{Second}
 use Rattle.uz_cert_writer.specs.Spelling.{kind_words, event_words, kinds_then}
 use Rattle.uz_cert_writer.specs.Joined.{spaced, ended, line_end}
@@ -78,16 +77,27 @@ pub words_over : {A : Type 0} (word : A → List ℕ) (text all : List ℕ) (xs 
     → text ++ spaced (map word (drop k xs)) ≡ all → text ≡ all
 words_over word text all xs k h before = nothing_left text _ all (ap (λ ys. spaced (map word ys)) (drop_all k xs h)) before
 
--- registers
+-- lists of optional items
 
-pub register_left : (kind : Kind) (fs : List Fact) (r : ℕ) (x : Fact) → r < length fs → x ≡ get_or fs r x
-    → spaced (register_items kind r (drop r fs))
-    ≡ spaced (unless (is_default kind r x) (item (114 ∷ decimal r) (fact_word x)) []) ++ spaced (register_items kind (r + 1) (drop (r + 1) fs))
-register_left kind fs r x h e =
-    let word = item (114 ∷ decimal r) (fact_word x) in
-    ap (λ ys. spaced (register_items kind r ys)) (left fs r x x h e)
-    ∙ unless_first (is_default kind r x) word (register_items kind (suc r) (drop (r + 1) fs))
-    ∙ ap (λ n. spaced (unless (is_default kind r x) word []) ++ spaced (register_items kind n (drop (r + 1) fs))) (sym (add-one r))
+pub item_left : {K A : Type 0} (d : K → A → Bool) (w : K → A → List ℕ) (keys : List K) (xs : List A) (i : ℕ) (k k0 : K) (x x0 : A)
+    → i < length keys → i < length xs → k ≡ get_or keys i k0 → x ≡ get_or xs i x0
+    → spaced (options d w (drop i keys) (drop i xs))
+    ≡ spaced (unless (d k x) (w k x) []) ++ spaced (options d w (drop (i + 1) keys) (drop (i + 1) xs))
+item_left d w keys xs i k k0 x x0 h j e f =
+    ap (λ ks. spaced (options d w ks (drop i xs))) (left keys i k k0 h e)
+    ∙ ap (λ ys. spaced (options d w (k ∷ drop (i + 1) keys) ys)) (left xs i x x0 j f)
+    ∙ unless_first (d k x) (w k x) (options d w (drop (i + 1) keys) (drop (i + 1) xs))
+
+no_values : {K A : Type 0} (d : K → A → Bool) (w : K → A → List ℕ) (keys : List K) → options d w keys [] ≡ []
+no_values d w [] = refl
+no_values d w (key ∷ keys) = refl
+
+pub items_over : {K A : Type 0} (d : K → A → Bool) (w : K → A → List ℕ) (keys : List K) (xs : List A) (i : ℕ) → length xs ≤ i
+    → spaced (options d w (drop i keys) (drop i xs)) ≡ []
+items_over d w keys xs i h =
+    ap (λ ys. spaced (options d w (drop i keys) ys)) (drop_all i xs h) ∙ ap spaced (no_values d w (drop i keys))
+
+-- registers
 
 -- one more register
 pub register_added : (old new all : List ℕ) (kind : Kind) (fs : List Fact) (r : ℕ) (x : Fact) → r < length fs → x ≡ get_or fs r x
@@ -95,41 +105,16 @@ pub register_added : (old new all : List ℕ) (kind : Kind) (fs : List Fact) (r 
     → old ++ spaced (register_items kind r (drop r fs)) ≡ all
     → new ++ spaced (register_items kind (r + 1) (drop (r + 1) fs)) ≡ all
 register_added old new all kind fs r x h e f g =
+    let word = register_item r x in
     put old new _ (spaced (register_items kind (r + 1) (drop (r + 1) fs))) (spaced (register_items kind r (drop r fs))) all f
-    (register_left kind fs r x h e) g
+    (ap (λ ys. spaced (register_items kind r ys)) (left fs r x x h e)
+    ∙ unless_first (is_default kind r x) word (register_items kind (suc r) (drop (r + 1) fs))
+    ∙ ap (λ n. spaced (unless (is_default kind r x) word []) ++ spaced (register_items kind n (drop (r + 1) fs))) (sym (add-one r))) g
 
 -- no register is left
 pub registers_over : (text all : List ℕ) (kind : Kind) (fs : List Fact) (r : ℕ) → length fs ≤ r
     → text ++ spaced (register_items kind r (drop r fs)) ≡ all → text ≡ all
 registers_over text all kind fs r h before = nothing_left text _ all (ap (λ ys. spaced (register_items kind r ys)) (drop_all r fs h)) before
-
--- pairs and flags
-
-pub pair_left : (letters : List ℕ) (fs : List PairFact) (k letter : ℕ) (x : PairFact)
-    → k < length letters → k < length fs → letter ≡ get_or letters k 0 → x ≡ get_or fs k x
-    → spaced (pair_items (drop k letters) (drop k fs))
-    ≡ spaced (unless (is_any_pair x) (item (letter ∷ []) (pair_word x)) []) ++ spaced (pair_items (drop (k + 1) letters) (drop (k + 1) fs))
-pair_left letters fs k letter x h i e f =
-    ap (λ ls. spaced (pair_items ls (drop k fs))) (left letters k letter 0 h e)
-    ∙ ap (λ ys. spaced (pair_items (letter ∷ drop (k + 1) letters) ys)) (left fs k x x i f)
-    ∙ unless_first (is_any_pair x) (item (letter ∷ []) (pair_word x)) (pair_items (drop (k + 1) letters) (drop (k + 1) fs))
-
-no_pairs : (letters : List ℕ) → pair_items letters [] ≡ []
-no_pairs [] = refl
-no_pairs (letter ∷ letters) = refl
-
-pub pairs_over : (letters : List ℕ) (fs : List PairFact) (k : ℕ) → length fs ≤ k → spaced (pair_items (drop k letters) (drop k fs)) ≡ []
-pairs_over letters fs k h = ap (λ ys. spaced (pair_items (drop k letters) ys)) (drop_all k fs h) ∙ ap spaced (no_pairs (drop k letters))
-
-pub flag_left : (kind : Kind) (letters : List ℕ) (bs : List Bit) (k letter : ℕ) (x d : Bit)
-    → k < length letters → k < length bs → letter ≡ get_or letters k 0 → x ≡ get_or bs k d
-    → spaced (flag_items kind (drop k letters) (drop k bs))
-    ≡ spaced (unless (is_default_flag kind x) (item (letter ∷ []) (flag_word x)) [])
-    ++ spaced (flag_items kind (drop (k + 1) letters) (drop (k + 1) bs))
-flag_left kind letters bs k letter x d h i e f =
-    ap (λ ls. spaced (flag_items kind ls (drop k bs))) (left letters k letter 0 h e)
-    ∙ ap (λ ys. spaced (flag_items kind (letter ∷ drop (k + 1) letters) ys)) (left bs k x d i f)
-    ∙ unless_first (is_default_flag kind x) (item (letter ∷ []) (flag_word x)) (flag_items kind (drop (k + 1) letters) (drop (k + 1) bs))
 
 -- cells
 

@@ -1,5 +1,5 @@
 -- The text of a certificate. Its lines end in LF (10), words stand apart by one space (32), numbers are decimal.
-use Rattle.std.specs.Prelude.{ℕ, suc, ◌+◌, ◌==◌, ◌&&◌, Bool, true, false, ℤ, pos, negsuc, List, [], ◌∷◌, ◌++◌, map, length, codes, decimal}
+use Rattle.std.specs.Prelude.{ℕ, zero, suc, ◌+◌, ◌==◌, ◌&&◌, Bool, true, false, ℤ, pos, negsuc, List, [], ◌∷◌, ◌++◌, map, length, codes, decimal}
 use Rattle.std.specs.Prelude.{if◌then◌else◌}
 use Rattle.std.specs.List.{join_with_byte}
 use Prim.Native.Char.{code}
@@ -78,23 +78,36 @@ item key value = key ++ code "=" ∷ value
 abbrev pub unless : Bool → List ℕ → List (List ℕ) → List (List ℕ)
 unless is_default word words = if is_default then words else word ∷ words
 
+-- of each key one value, whose item is left out where the value is its default
+abbrev pub options : {K A : Type 0} → (K → A → Bool) → (K → A → List ℕ) → List K → List A → List (List ℕ)
+options is_usual word [] values = []
+options is_usual word (key ∷ keys) [] = []
+options is_usual word (key ∷ keys) (value ∷ values) = unless (is_usual key value) (word key value) (options is_usual word keys values)
+
+abbrev pub numbers_from : ℕ → ℕ → List ℕ
+numbers_from r zero = []
+numbers_from r (suc count) = r ∷ numbers_from (suc r) count
+
 -- the registers from r on
+abbrev pub register_item : ℕ → Fact → List ℕ
+register_item r f = item (code "r" ∷ decimal r) (fact_word f)
+
 abbrev pub register_items : Kind → ℕ → List Fact → List (List ℕ)
-register_items kind r [] = []
-register_items kind r (f ∷ fs) = unless (is_default kind r f) (item (code "r" ∷ decimal r) (fact_word f)) (register_items kind (suc r) fs)
+register_items kind r fs = options (is_default kind) register_item (numbers_from r (length fs)) fs
 
 -- the pairs of these letters
+abbrev pub pair_item : ℕ → PairFact → List ℕ
+pair_item letter f = item (letter ∷ []) (pair_word f)
+
 abbrev pub pair_items : List ℕ → List PairFact → List (List ℕ)
-pair_items [] fs = []
-pair_items (letter ∷ letters) [] = []
-pair_items (letter ∷ letters) (f ∷ fs) = unless (is_any_pair f) (item (letter ∷ []) (pair_word f)) (pair_items letters fs)
+pair_items letters fs = options (λ letter f. is_any_pair f) pair_item letters fs
 
 -- the flags of these letters
+abbrev pub flag_item : ℕ → Bit → List ℕ
+flag_item letter b = item (letter ∷ []) (flag_word b)
+
 abbrev pub flag_items : Kind → List ℕ → List Bit → List (List ℕ)
-flag_items kind [] bits = []
-flag_items kind (letter ∷ letters) [] = []
-flag_items kind (letter ∷ letters) (b ∷ bs) = unless (is_default_flag kind b) (item (letter ∷ []) (flag_word b))
-    (flag_items kind letters bs)
+flag_items kind letters bs = options (λ letter b. is_default_flag kind b) flag_item letters bs
 
 -- the stack from the bottom, no slot left out
 abbrev pub slot_items : List Fact → List (List ℕ)

@@ -4,8 +4,8 @@ use Rattle.std.specs.Prelude.{codes}
 use Rattle.uz_schedule.specs.WellFormed.{is_default_flag}
 use Rattle.uz_schedule.specs.declared.facts.Bit.TheVariants.{Free}
 use Rattle.uz_cert_writer.specs.Joined.{spaced}
-use Rattle.uz_cert_writer.specs.Spelling.{item, unless, flag_word, flag_items}
-use Rattle.uz_cert_writer.proofs.Steps.{put, flag_left}
+use Rattle.uz_cert_writer.specs.Spelling.{item, unless, flag_word, flag_item, flag_items}
+use Rattle.uz_cert_writer.proofs.Steps.{put, item_left}
 use Rattle.uz_cert_writer.proofs.items.add_flags.Goals as goal
 
 pub loop-b-preserved : goal.loop-b-preserved
@@ -18,7 +18,6 @@ loop-b-preserved c =
     (spaced (flag_items c.args.kind (drop c.loop-b.b (codes "cznvsht")) (drop c.loop-b.b c.args.bits.now)))
     _
     (grind (arith, common_steps, c.in_ok-add_flag.ensures))
-    (flag_left c.args.kind (codes "cznvsht") c.args.bits.now c.loop-b.b (get_or (codes "cznvsht") c.loop-b.b 0)
-    (get_or c.args.bits.now c.loop-b.b Free) Free
-    c.loop-b-test.true few refl refl)
+    (item_left (λ letter x. is_default_flag c.args.kind x) flag_item (codes "cznvsht") c.args.bits.now c.loop-b.b
+    (get_or (codes "cznvsht") c.loop-b.b 0) 0 (get_or c.args.bits.now c.loop-b.b Free) Free c.loop-b-test.true few refl refl)
     c.loop-b.invariant

@@ -2,8 +2,8 @@ use Rattle.std.proofs.Common.{◌<◌, ◌≤◌, ◌+◌, ◌∷◌, [], length
 use Rattle.std.specs.Prelude.{codes}
 use Rattle.uz_cert_lines.specs.Defaults.{is_any_pair}
 use Rattle.uz_cert_writer.specs.Joined.{spaced}
-use Rattle.uz_cert_writer.specs.Spelling.{item, unless, pair_word, pair_items}
-use Rattle.uz_cert_writer.proofs.Steps.{put, nothing_left, pair_left, pairs_over}
+use Rattle.uz_cert_writer.specs.Spelling.{item, unless, pair_word, pair_item, pair_items}
+use Rattle.uz_cert_writer.proofs.Steps.{put, nothing_left, item_left, items_over}
 use Rattle.uz_cert_writer.proofs.items.add_pairs.Goals as goal
 
 pub loop-k-preserved : goal.loop-k-preserved
@@ -16,11 +16,11 @@ loop-k-preserved c =
     (spaced (pair_items (drop c.loop-k.k (codes "xyz")) (drop c.loop-k.k c.args.facts.now)))
     _
     (search rules)
-    (pair_left (codes "xyz") c.args.facts.now c.loop-k.k (get_or (codes "xyz") c.loop-k.k 0) c.index-facts-k.result c.loop-k-test.true few
-    refl c.index-facts-k.is)
+    (item_left (λ letter x. is_any_pair x) pair_item (codes "xyz") c.args.facts.now c.loop-k.k (get_or (codes "xyz") c.loop-k.k 0) 0
+    c.index-facts-k.result c.index-facts-k.result c.loop-k-test.true few refl c.index-facts-k.is)
     c.loop-k.invariant
 
 pub returns : goal.returns
 returns c =
     let over : length c.args.facts.now ≤ c.loop-k.k = omega (arith, c.loop-k-test.false, c.type_inv.facts) in
-    nothing_left _ _ _ (pairs_over (codes "xyz") c.args.facts.now c.loop-k.k over) c.loop-k.invariant
+    nothing_left _ _ _ (items_over (λ letter x. is_any_pair x) pair_item (codes "xyz") c.args.facts.now c.loop-k.k over) c.loop-k.invariant
