@@ -19,7 +19,7 @@ import browser
 from outcomes import EXAMPLES, TOP, Outcomes, program
 
 MODULES = [os.path.join(TOP, *it) for it in (('web', 'uzebox.wasm'), ('release', 'wasm64', 'uzebox.wasm'))]
-FRAMES, MORE = 300, 40
+FRAMES = 300
 ROW, END = 461, 5  # bytes of a record of a row, and of a frame's end
 KEYS = [('ArrowRight', 8), ('ArrowDown', 8), ('KeyZ', 4), ('KeyX', 4), ('Enter', 4), ('KeyL', 4), ('ArrowUp', 8)]
 
