@@ -168,7 +168,7 @@ static void show(SDL_Texture *picture, unsigned count) {
 
 /* Reads what a call wrote: the samples of each line and its sound, and the frame's end. */
 static void take(SDL_Texture *picture, size_t length) {
-    static uint8_t wave[ROWS];
+    static uint8_t wave[ROWS], start[512];
     size_t sounds = 0;
     for (const uint8_t *at = records, *end = at + length; at < end; at += at[0] == 'R' ? 6 + WIDTH : 5) {
         unsigned first = at[1] | at[2] << 8, second = at[3] | at[4] << 8;
@@ -177,6 +177,8 @@ static void take(SDL_Texture *picture, size_t length) {
         if (at[0] == 'F') show(picture, second);
     }
     if (SDL_GetQueuedAudioSize(sound) > 15734 / 5) SDL_ClearQueuedAudio(sound); /* more than a fifth of a second late */
+    memset(start, wave[0], sizeof start);
+    if (!SDL_GetQueuedAudioSize(sound)) SDL_QueueAudio(sound, start, sizeof start); /* so long a frame may come late unheard */
     if (sound) SDL_QueueAudio(sound, wave, sounds);
     if (frames_file) fwrite(records, 1, length, frames_file);
 }
@@ -294,7 +296,5 @@ int main(int count, char **words) {
     SDL_RenderSetLogicalSize(renderer, 4 * TALL, 3 * TALL); /* 4 by 3 in a window of any form */
     loop(window, renderer, picture);
     if (pads_name) write_pads();
-    end_frames();
-    SDL_Quit();
-    return 0;
+    return end_frames(), SDL_Quit(), 0;
 }

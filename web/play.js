@@ -205,7 +205,7 @@ export class Player {
 
   turn(now) {
     requestAnimationFrame(next => this.turn(next));
-    const passed = Math.min(now - this.last, 100);
+    const passed = Math.min(now - this.last, 34); // two frames: a processor that is too slow for the console makes it slower
     this.last = now;
     if (this.playing && !this.paused && this.isShown()) {
       this.debt += passed / 1000 * CLOCKS;
