@@ -9,6 +9,8 @@
 //! - `moves TEXT MOVES`: the lines of the pads at first and after each move, a latch (`L`) or a shift (`S`).
 //! - `words FIRST SECOND`: the instruction of two words, `----` for none, as text, and the words that encode it.
 //! - `listing TEXT`: the listing of an image in Intel HEX.
+//! - `labels TEXT`: the labels of a source with their addresses, and the lines of its hints.
+//! - `nearest ADDRESSES TEXT`: the nearest label to each address, and the distance.
 //! - `file NAME TEXT`, `expand NAME`: files, and what one of them expands to.
 //!
 //! Other rows are printed as they are.
@@ -16,6 +18,7 @@
 
 mod hex;
 mod instructions;
+mod labels;
 mod macros;
 mod pads;
 mod text;
@@ -35,6 +38,8 @@ fn tell(rt: HostRuntime, row: &str) -> Result<()> {
         "moves" => pads::tell_moves(rt, rest),
         "words" => instructions::tell(rt, rest),
         "listing" => instructions::tell_listing(rt, rest),
+        "labels" => labels::tell(rt, rest),
+        "nearest" => labels::tell_nearest(rt, rest),
         _ => {
             println!(rt; "{row}")?;
             Ok(())
