@@ -1,1 +1,5 @@
+pub mod Calls
 pub mod Frames
+pub mod PadRuns
+pub mod StateParts
+pub mod States

@@ -1,6 +1,6 @@
 //! A console that is played.
 
-ghost use Rattle.std.specs.Prelude.{◌≡◌, ◌<◌, ◌≤◌, ◌^◌, [], length, List, IfOk};
+ghost use Rattle.std.specs.Prelude.{◌≡◌, ◌<◌, ◌≤◌, ◌+◌, ◌^◌, [], length, List, IfOk};
 ghost use Rattle.uz_schedule.specs.Schedule.{response_clocks};
 ghost use Rattle.uz_machine.specs.declared.Edge.{Edge};
 ghost use Rattle.uz_machine.specs.PadLine.{PadHistory, latches};
@@ -68,6 +68,16 @@ impl Play {
             → latches s.space.pads.levels < length s.space.pads.pairs }
     {
         self.console.pads_left()
+    }
+
+    /// So many latches have found the pair that is held, since it is.
+    pub fn pads_taken(&self) -> usize
+        ensures within { result ≤ 65536 }
+        ensures stands { (s : State PadHistory) (seen : List Edge) → IsAt self.now s seen
+            → length s.space.pads.pairs ≤ latches s.space.pads.levels + 65536 → result < 65536
+            → latches s.space.pads.levels + 65536 ≡ length s.space.pads.pairs + result }
+    {
+        HELD.saturating_sub(self.console.pads_left())
     }
 
     /// Scans the next edge of the last turn.
