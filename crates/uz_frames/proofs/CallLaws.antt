@@ -20,9 +20,9 @@ use Rattle.uz_frames.specs.declared.frame.Frame.{Frame}
 use Rattle.uz_frames.specs.declared.frame.Frame.TheVariants as how
 use Rattle.uz_frames.specs.declared.play.Play.{Play}
 use Rattle.uz_frames.specs.declared.state.State.{State}
-use Rattle.uz_frames.specs.Calls.{CallEnds, CallGoesOn, Calls, IsCalled}
+use Rattle.uz_frames.specs.Calls.{CallEnds, IsCalled}
 use Rattle.uz_frames.specs.Frames.{EndsIn, GoesOn, IsAt, PlaysFrame, clock_of, end_of, left_of}
-use Rattle.uz_frames.specs.States.{PadsStandFor, StandsFor, flag, left_in, pads_in, levels_since_latch, remembering}
+use Rattle.uz_frames.specs.States.{StandsFor, flag, left_in, pads_in, remembering}
 use Rattle.uz_frames.proofs.PadMemory.{begun_since, latches_since}
 use Rattle.uz_frames.proofs.PadRunLaws.{run_latches}
 

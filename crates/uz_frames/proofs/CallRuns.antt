@@ -1,7 +1,7 @@
 -- Calls one after another are one run over the pairs that they recorded.
 use Rattle.std.proofs.Common.{◌≡◌, ℕ, ◌+◌, ◌-◌, ◌≤◌, ◌<◌, Bool, true, false, if◌then◌else◌, ◌&&◌, List, [], ◌∷◌, ◌++◌, length, take, replicate}
-use Rattle.std.proofs.Common.{nat_le, refl, sym, ◌∙◌, ap, subst, arith, append_assoc, length-append, zero, suc}
-use Rattle.std.specs.Prelude.{slice_index_or, Option, Some, None}
+use Rattle.std.proofs.Common.{nat_le, refl, sym, ◌∙◌, ap, subst, arith, append_assoc, length-append}
+use Rattle.std.specs.Prelude.{slice_index_or, Some, None}
 use Rattle.std.proofs.Math.ListN.{get_or-append}
 use Rattle.std.proofs.Math.Seq.{take-append_seam}
 use Rattle.std.proofs.lemmas.Bool.Decides.{nat_tests}
@@ -84,14 +84,14 @@ one_call held times turns pair more s mid edges ready few run count =
     let start = with_pairs_ahead (replicate held pair) s in
     let size = size_found n times pair s.space.pads.pairs ready.few in
     let a : RunsAlike turns start edges mid pads = runs_alike turns start mid edges pads run
-        (record { value = ready.value; before = ready.before; others = ready.before; a_is = ready.levels; b_is = ready.levels; since = refl })
-        (λ i j e from below.
-            let same : i ≡ j = omega (arith, e) in
-            let within : i ≤ length found = omega (arith, size, count, below) in
-            ap (pair_of_latch i) (split_held held times pair before few) ∙
-            (found_within i found (replicate (held - times) pair) more within ∙
-            (ap (pair_of_latch i) (append_assoc before (replicate times pair) more) ∙
-            ap (λ k. pair_of_latch k pads.pairs) same))) in
+    (record { value = ready.value; before = ready.before; others = ready.before; a_is = ready.levels; b_is = ready.levels; since = refl })
+    (λ i j e from below.
+    let same : i ≡ j = omega (arith, e) in
+    let within : i ≤ length found = omega (arith, size, count, below) in
+    ap (pair_of_latch i) (split_held held times pair before few) ∙
+    (found_within i found (replicate (held - times) pair) more within ∙
+    (ap (pair_of_latch i) (append_assoc before (replicate times pair) more) ∙
+    ap (λ k. pair_of_latch k pads.pairs) same))) in
     let levels : a.after.levels ≡ mid.space.pads.levels = a.others_take ∙ sym a.takes in
     record {
       run = subst (λ (h : PadHistory). Run MachineTurn turns (with_history pads s) edges (with_history h mid)) (same_pads a.after pads.pairs
@@ -120,7 +120,7 @@ ready_again held times turns pair s mid edges ready few run count =
     let size = size_found n times pair s.space.pads.pairs ready.few in
     let all = ap (λ (ps : Pairs). length ps) pairs ∙ length-append found (replicate (held - times) pair) in (
       ap (λ ps. take (latches mid.space.pads.levels) ps) pairs ∙
-      (ap (λ k. take k (found ++ replicate (held - times) pair)) (count ∙ sym size) ∙ take-append_seam found (replicate (held - times) pair)),
+          (ap (λ k. take k (found ++ replicate (held - times) pair)) (count ∙ sym size) ∙ take-append_seam found (replicate (held - times) pair)),
       record { value = kept.1.0; before = kept.1.1; levels = kept.1.2; few = omega (arith, all, size, count) },
     )
 
@@ -143,6 +143,8 @@ one_run ((pair, times) ∷ calls) s last edges (turns, first, mid, rest, run, fe
     one.run in
     let here = subst (λ ps. Run MachineTurn turns (with_pairs ps s) first (with_pairs_ahead ahead mid)) joined there in
     let both = run_again turns all.0 (with_pairs_ahead (recorded ((pair, times) ∷ calls) ++ more) s) (with_pairs_ahead ahead mid)
-    (with_pairs_ahead more last) first rest here all.1 in
-    (both.0, subst (λ es. Run MachineTurn both.0 (with_pairs_ahead (recorded ((pair, times) ∷ calls) ++ more) s) es (with_pairs_ahead more last))
-    (sym cut) both.1)
+    (with_pairs_ahead more last) first rest here all.1 in (
+      both.0,
+      subst (λ es. Run MachineTurn both.0 (with_pairs_ahead (recorded ((pair, times) ∷ calls) ++ more) s) es (with_pairs_ahead more last))
+          (sym cut) both.1,
+    )

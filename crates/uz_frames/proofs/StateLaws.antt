@@ -15,7 +15,6 @@ use Rattle.uz_ports.specs.declared.board.Board.{Board}
 use Rattle.uz_ports.specs.Boards as board
 use Rattle.uz_console.specs.Consoles.{StateStandsFor, state_of}
 use Rattle.uz_console.specs.Runs.{AreTimed}
-use Rattle.uz_scan.specs.declared.scanner.Scanner.{Scanner}
 use Rattle.uz_scan.specs.ScanStates.{HasSeen}
 use Rattle.uz_scan.specs.Scanning as scanning
 use Rattle.uz_scan.specs.declared.states.ScanState.{ScanState}

@@ -73,7 +73,6 @@ byte_alike w v R h at n s t r =
     (choose (nat_lt 0x10FF at) _ _ _ _ (SpaceAlike R) r
     (record { bytes = ap (λ x. slice_set x at n) r.bytes; timer = r.timer; pads = r.pads })))))
 
-
 -- A store of a bit reads no pin of port A
 
 left_false : (a b : Bool) → (a || b) ≡ false → a ≡ false
@@ -85,14 +84,14 @@ byte_off : {P Q : Type 0} → (w : PadWiring P) (v : PadWiring Q) (R : P → Q �
 byte_off w v R s t at off r =
     let no : nat_eq at 32 ≡ false = left_false (nat_eq at 32) (is_pin at) (left_false (nat_eq at 32 || is_pin at) (nat_eq at 54) off) in
     let mine : ℕ → ℕ = λ pins. if is_pin at then slice_index s.bytes (at + 2) else
-        if is_timer_address at then timer_byte s.timer at else if nat_lt 0x10FF at then 0 else slice_index s.bytes at in
+    if is_timer_address at then timer_byte s.timer at else if nat_lt 0x10FF at then 0 else slice_index s.bytes at in
     let others : ℕ → ℕ = λ pins. if is_pin at then slice_index t.bytes (at + 2) else
-        if is_timer_address at then timer_byte t.timer at else if nat_lt 0x10FF at then 0 else slice_index t.bytes at in
+    if is_timer_address at then timer_byte t.timer at else if nat_lt 0x10FF at then 0 else slice_index t.bytes at in
     ap (λ b. if b then slice_index s.bytes 34 / 4 * 4 + w.lines s.pads else mine 0) no ∙
     (ap (λ x. if is_pin at then slice_index x (at + 2) else
-        if is_timer_address at then timer_byte s.timer at else if nat_lt 0x10FF at then 0 else slice_index x at) r.bytes ∙
+    if is_timer_address at then timer_byte s.timer at else if nat_lt 0x10FF at then 0 else slice_index x at) r.bytes ∙
     (ap (λ x. if is_pin at then slice_index t.bytes (at + 2) else
-        if is_timer_address at then timer_byte x at else if nat_lt 0x10FF at then 0 else slice_index t.bytes at) r.timer ∙
+    if is_timer_address at then timer_byte x at else if nat_lt 0x10FF at then 0 else slice_index t.bytes at) r.timer ∙
     sym (ap (λ b. if b then slice_index t.bytes 34 / 4 * 4 + v.lines t.pads else others 0) no)))
 
 bit_alike : {P Q : Type 0} → (w : PadWiring P) (v : PadWiring Q) (R : P → Q → Type 0) → GoesAlike w v R → (at k : ℕ) (set one : Bool)

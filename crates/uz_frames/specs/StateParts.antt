@@ -1,5 +1,5 @@
 -- The parts of a play that is made of plain fields.
-use Rattle.std.specs.Prelude.{◌≡◌, ℕ, [], None}
+use Rattle.std.specs.Prelude.{◌≡◌, [], None}
 use Rattle.uz_machine.specs.declared.Edge.{Edge}
 use Rattle.uz_machine.specs.declared.EdgeKind.TheVariants.{Leave}
 use Rattle.uz_machine.specs.PadLine.{PadHistory}

@@ -1,6 +1,5 @@
 -- A play as plain fields: the states of the machine that they stand for.
 use Rattle.std.specs.Prelude.{◌≡◌, ℕ, ◌%◌, ◌==◌, Bool, not, if◌then◌else◌, List, [], ◌∷◌, take, drop, slice_index_or, Option, Some, None}
-use Rattle.uz_machine.specs.Arithmetic.{bit_is_set}
 use Rattle.uz_machine.specs.Core.{Core}
 use Rattle.uz_machine.specs.declared.Edge.{Edge}
 use Rattle.uz_machine.specs.declared.EdgeKind.{EdgeKind}

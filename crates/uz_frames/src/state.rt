@@ -6,8 +6,10 @@ ghost use Rattle.uz_machine.specs.PadLine.{PadHistory};
 ghost use Rattle.uz_machine.specs.Turn.{State as MachineState};
 
 use crate::play::Play;
-use crate::state_parts::{board_of, clocks_of, count_of, edges_of, edge_states, response_of};
-use crate::state_parts::{core_state, cpu_of, pads_state, picture_state, scanner_of, timer_state};
+use crate::state_parts::{
+    board_of, clocks_of, core_state, count_of, cpu_of, edge_states, edges_of, pads_state,
+    picture_state, response_of, scanner_of, timer_state,
+};
 use std::alloc::{AllocError, Global};
 use uz_console::Console;
 use uz_hex::Image;

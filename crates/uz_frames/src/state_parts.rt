@@ -19,9 +19,7 @@ use arrayvec::ArrayVec;
 use std::alloc::{AllocError, Global};
 use uz_console::Response;
 use uz_core::Cpu;
-use uz_machine::address::{
-    OCR1AH, OCR1AL, TCCR1A, TCCR1B, TCNT1H, TCNT1L, TIFR1, TIMSK1,
-};
+use uz_machine::address::{OCR1AH, OCR1AL, TCCR1A, TCCR1B, TCNT1H, TCNT1L, TIFR1, TIMSK1};
 use uz_machine::{Edge, EdgeKind};
 use uz_pads::{Pad, PadState, Pads};
 use uz_ports::Board;
@@ -302,12 +300,7 @@ fn edge_at(state: &State, k: usize) -> Edge
         kind: 0,
         unused: [0; 5],
     };
-    let edge = state
-        .edges
-        .as_slice()
-        .get(k)
-        .copied()
-        .unwrap_or(none);
+    let edge = state.edges.as_slice().get(k).copied().unwrap_or(none);
     Edge {
         clock: edge.clock,
         kind: kind_of(edge.kind, edge.value),

@@ -1,5 +1,3 @@
-use Rattle.std.proofs.Common.{subst}
-use Rattle.uz_scan.specs.ScanStates.{HasSeen}
 use Rattle.uz_frames.proofs.StateLaws.{seen_in}
 use Rattle.uz_frames.proofs.state_parts.scanner_of.Goals as goal
 
