@@ -109,7 +109,7 @@ enum Answer {
     Found(usize, Option<EventKind>, Option<EventKind>, Option<EventKind>),
     /// A trail of so many instances.
     Stuck(usize, Fail),
-    Full(u32),
+    Full(usize),
     Other,
 }
 
@@ -135,7 +135,7 @@ fn searched(alloc: Global, fall: u16, limit: u32) -> Result<Answer, AllocError> 
             shown(&found, 3),
         )),
         Err(NotFound::Stuck { trail, why }) => Ok(Answer::Stuck(trail.len(), why)),
-        Err(NotFound::Full { count }) => Ok(Answer::Full(count)),
+        Err(NotFound::Full { instances }) => Ok(Answer::Full(instances.len())),
         Err(_) => Ok(Answer::Other),
     }
 }

@@ -44,7 +44,7 @@ split_line first second =
 abbrev pub not_found_line : NotFound → List ℕ
 not_found_line (Stuck trail why) = stuck_line trail why
 not_found_line (Split first second) = split_line first second
-not_found_line (Full count) = number_line (codes "refused full ") count
+not_found_line (Full instances) = number_line (codes "refused full ") (length instances)
 not_found_line (Hint index) = number_line (codes "refused hint ") index
 not_found_line (NoRest count) = codes "refused no rest\n"
 not_found_line Memory = []

@@ -83,7 +83,9 @@ pub fn not_found(alloc: Global, why: &NotFound) -> Result<Vec<u8>, AllocError>
     match why {
         NotFound::Stuck { trail, why } => stuck(alloc, trail.as_slice(), *why),
         NotFound::Split { first, second } => split(alloc, first.as_slice(), second.as_slice()),
-        NotFound::Full { count } => number_line(alloc, b"refused full ", u64::from(*count)),
+        NotFound::Full { instances } => {
+            number_line(alloc, b"refused full ", instances.len() as u64)
+        }
         NotFound::Hint { index } => number_line(alloc, b"refused hint ", u64::from(*index)),
         NotFound::NoRest { .. } => Vec::from_slice(alloc, b"refused no rest\n"),
         NotFound::Memory => Ok(Vec::new(alloc)),

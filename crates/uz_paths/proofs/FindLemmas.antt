@@ -52,7 +52,7 @@ pub licensed : (image : FinMap nat_cmp ℕ) (irq : Response) (hints : List Sourc
     → Refusal image p instance_limit e → Cause image irq hints e
 licensed image irq hints p (Stuck trail why) of shows = record { program = p; of = of; shows = shows }
 licensed image irq hints p (Split first second) of shows = record { program = p; of = of; shows = shows }
-licensed image irq hints p (Full count) of shows = record { program = p; of = of; shows = shows }
+licensed image irq hints p (Full instances) of shows = record { program = p; of = of; shows = shows }
 licensed image irq hints p (Hint index) of shows = absurd shows
 licensed image irq hints p (NoRest count) of shows = record { program = p; of = of; shows = shows }
 licensed image irq hints p Memory of shows = tt
@@ -118,7 +118,7 @@ pub complete_answer : {A : Type 0} (image : FinMap nat_cmp ℕ) (irq : Response)
 complete_answer image irq hints (Ok found) cause none = inl refl
 complete_answer image irq hints (Err (Stuck trail why)) cause none = absurd (none (Stuck trail why) (λ h. cc) cause)
 complete_answer image irq hints (Err (Split first second)) cause none = absurd (none (Split first second) (λ h. cc) cause)
-complete_answer image irq hints (Err (Full count)) cause none = absurd (none (Full count) (λ h. cc) cause)
+complete_answer image irq hints (Err (Full instances)) cause none = absurd (none (Full instances) (λ h. cc) cause)
 complete_answer image irq hints (Err (Hint index)) cause none = absurd (none (Hint index) (λ h. cc) cause)
 complete_answer image irq hints (Err (NoRest count)) cause none = absurd (none (NoRest count) (λ h. cc) cause)
 complete_answer image irq hints (Err Memory) cause none = inr refl

@@ -32,7 +32,7 @@ pub record Licensed (image : FinMap nat_cmp ℕ) (irq : Response) (hints : List 
 abbrev pub Cause : FinMap nat_cmp ℕ → Response → List SourceHint → NotFound → Type 0
 Cause image irq hints (Stuck trail why) = Licensed image irq hints (Stuck trail why)
 Cause image irq hints (Split first second) = Licensed image irq hints (Split first second)
-Cause image irq hints (Full count) = Licensed image irq hints (Full count)
+Cause image irq hints (Full instances) = Licensed image irq hints (Full instances)
 Cause image irq hints (Hint index) = HintRefusal image irq hints index
 Cause image irq hints (NoRest count) = Licensed image irq hints (NoRest count)
 Cause image irq hints Memory = ⊤

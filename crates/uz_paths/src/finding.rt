@@ -183,7 +183,7 @@ fn find_alone(alloc: Global, image: &Image, hints: &[Hint], irq: Response) -> Re
 /// where the check accepts them so. Where none of the causes stands, only want of memory leaves it without one.
 ///
 /// Hint comes exactly where a hint is at fault or start, lines or stack are missing, before all other refusals; Stuck and
-/// Split only with trails that show them; Full only where 524,288 distinct instances lie on trails; NoRest only where runs
+/// Split only with trails that show them; Full only with 524,288 distinct instances that lie on trails; NoRest only where runs
 /// enter main, and the instances on trails hold no return. Time is linear in the instances and their results. Points are let go while they
 /// are joined: where the joined certificate isn't accepted, all is searched again.
 pub fn find(alloc: Global, image: &Image, hints: &[Hint], irq: Response) -> Result<Cert, NotFound>

@@ -14,7 +14,7 @@ use Rattle.uz_search.specs.Trails.{last_of, Leads, OnTrail}
 use Rattle.uz_search.specs.Visiting.{IsTree}
 use Rattle.uz_search.specs.Returning.{ReturnAt}
 use Rattle.uz_search.specs.Searching.{IsSearch, Treated}
-use Rattle.uz_search.specs.Refusing.{AreDistinct, OnTrails, ClosedWithoutReturn}
+use Rattle.uz_search.specs.Refusing.{AreDistinct, AreOnTrails, ClosedWithoutReturn}
 use Rattle.uz_search.proofs.OneResult.{one_next}
 use Rattle.uz_search.proofs.VisitingLemmas.{get_front, some_is}
 use Rattle.uz_search.proofs.SearchingLemmas.{tree_all}
@@ -76,14 +76,15 @@ module _ {A : Type 0} where
     one_place (y ∷ ys) d (suc i) zero x h k = absurd (apart ys i y x d.0 h (some_is y x k))
     one_place (y ∷ ys) d (suc i) (suc j) x h k = ap suc (one_place ys d.1 i j x h k)
 
-pub on_trails : (image : Flash) (program : Program) (nodes : List Instance) (parents : List (Option ℕ)) (limit : ℕ) → IsTree image program
-    nodes parents
-    → AreDistinct nodes → limit ≤ length nodes → OnTrails image program limit
-on_trails image program nodes parents limit tree one le = record {
-  list = take limit nodes;
-  length = length-take-le limit nodes le;
-  distinct = λ i j x h k. one i j x (get_take limit nodes i x h) (get_take limit nodes j x k);
-  on_trail = λ x h. all_on_trails image program nodes parents tree x (h.0, get_take limit nodes h.0 x h.1);
+-- the first instances of a tree, as many as the limit
+pub on_trails : (image : Flash) (program : Program) (nodes list : List Instance) (parents : List (Option ℕ)) (limit : ℕ)
+    → IsTree image program nodes parents → limit ≤ length nodes → list ≡ take limit nodes → AreDistinct list
+    → AreOnTrails image program limit list
+on_trails image program nodes list parents limit tree le is one = record {
+  length = ap length is ∙ length-take-le limit nodes le;
+  distinct = one;
+  on_trail = λ x h. all_on_trails image program nodes parents tree x
+      (h.0, get_take limit nodes h.0 x (subst (λ l. slice_get l h.0 ≡ Some x) is h.1));
 }
 
 -- a search that ends and has no return is a closed list without one

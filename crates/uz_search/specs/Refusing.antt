@@ -27,9 +27,8 @@ Split image p a b = ShowApart image p a b ⊎ ReturnApart image p a b
 abbrev pub AreDistinct : List Instance → Type 0
 AreDistinct list = (i j : ℕ) (x : Instance) → slice_get list i ≡ Some x → slice_get list j ≡ Some x → i ≡ j
 
--- so many distinct instances lie on trails
-pub record OnTrails (image : Flash) (p : Program) (count : ℕ) : Type 0 where
-  pub list : List Instance
+-- these are so many distinct instances, and each lies on a trail
+pub record AreOnTrails (image : Flash) (p : Program) (count : ℕ) (list : List Instance) : Type 0 where
   pub length : length list ≡ count
   pub distinct : AreDistinct list
   pub on_trail : (x : Instance) → Among list x → OnTrail image p x
@@ -50,7 +49,7 @@ abbrev pub Refusal : Flash → Program → ℕ → NotFound → Type 0
 Refusal image p limit (Stuck trail why) = (x : Instance) × IsTrail image p trail x × IsStuck image p x why
 Refusal image p limit (SplitAnswer first second) = (a : Instance) × (b : Instance) × IsTrail image p first a × IsTrail image p second b
     × Split image p a b
-Refusal image p limit (Full count) = (count ≡ limit) × OnTrails image p count
+Refusal image p limit (Full instances) = AreOnTrails image p limit instances
 Refusal image p limit (Hint index) = ⊥
 Refusal image p limit (NoRest count) = ClosedWithoutReturn image p count
 Refusal image p limit Memory = ⊤

@@ -1,5 +1,6 @@
 //! What a search finds, and why it finds nothing.
 
+use crate::instances::Instances;
 use crate::marks::Mark;
 use crate::returns::Return;
 use crate::ways::Ways;
@@ -22,9 +23,9 @@ pub enum NotFound {
         first: Sequence<Instance>,
         second: Sequence<Instance>,
     },
-    /// So many distinct instances lie on trails: the search's limit.
+    /// These distinct instances lie on trails, as many as the search's limit.
     Full {
-        count: u32,
+        instances: Instances,
     },
     /// The hint of this index, counted from 0, is at fault; or with the number of hints one is missing. Never an answer of `search`.
     Hint {

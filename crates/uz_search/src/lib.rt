@@ -6,6 +6,7 @@ mod asking;
 mod chain;
 mod facts;
 mod found;
+mod instances;
 mod laws;
 mod marks;
 mod passing;
@@ -23,6 +24,7 @@ mod widening;
 
 pub use facts::Facts;
 pub use found::{Found, NotFound};
+pub use instances::Instances;
 pub use laws::nodes_are_reached;
 pub use marks::Mark;
 pub use program::{Program, last_clock, widened_copy};

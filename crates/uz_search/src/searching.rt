@@ -16,6 +16,7 @@ ghost use Rattle.uz_search.specs.Visiting.{AddsAll, ComeFrom, IsTree};
 
 use crate::asking::{Stop, examine};
 use crate::found::{Found, NotFound};
+use crate::instances::Instances;
 use crate::marks::{Mark, unpassed};
 use crate::passing::line_start;
 use crate::program::{Program, copied_starts, followers, starts_in_main};
@@ -188,6 +189,27 @@ fn begin(alloc: Global, program: &Program) -> Result<Found, AllocError>
     started(alloc, starts, marks, returns)
 }
 
+/// The refusal of a search that has reached its limit: the instances that it reached first, as many as the limit.
+fn full(found: Found, limit: u32) -> NotFound
+    requires many { limit ≤ length found.nodes.keys }
+    ensures { (image : Flash) (p : Program) → IsTree image p found.nodes.keys found.parents.items → Refusal image p limit result }
+{
+    let Found {
+        nodes,
+        parents,
+        marks,
+        returns,
+        ways,
+    } = found;
+    drop(parents);
+    drop(marks);
+    drop(returns);
+    drop(ways);
+    NotFound::Full {
+        instances: Instances::first(nodes, limit),
+    }
+}
+
 /// Searches until every instance found is treated, or the search is refused.
 fn explore(alloc: Global, image: &Image, program: &Program, limit: u32) -> Result<Found, NotFound>
     requires fits { ProgramFits program.now }
@@ -201,9 +223,8 @@ fn explore(alloc: Global, image: &Image, program: &Program, limit: u32) -> Resul
     let mut done = 0;
     'work: while (done as usize) < found.nodes.len() {
         if found.nodes.len() >= limit as usize {
-            drop(found);
             drop(next);
-            return Err(NotFound::Full { count: limit });
+            return Err(full(found, limit));
         }
         if let Err(refusal) = step(alloc, image, program, &mut found, done, &mut next) {
             drop(found);
@@ -219,7 +240,7 @@ fn explore(alloc: Global, image: &Image, program: &Program, limit: u32) -> Resul
 /// Searches for the instances that a program reaches: from the starts it goes on to what follows each instance, until nothing new comes.
 ///
 /// Ok has all instances that lie on trails, fewer than `limit`, and a return where some start is of main. Stuck and Split come only
-/// with trails that show them, Full only where `limit` distinct instances lie on trails, NoRest only where some start is of
+/// with trails that show them, Full only with `limit` distinct instances that lie on trails, NoRest only where some start is of
 /// main and the instances on trails hold no return. Hint never comes. Time is linear in the instances and their results.
 pub fn search(
     alloc: Global,
