@@ -212,8 +212,7 @@ static void press(SDL_KeyboardEvent *event, bool down) {
     if (!down || event->repeat) return;
     note[0] = 0;
     if (key >= SDLK_F1 && key < SDLK_F1 + 4) keep_state(key - SDLK_F1 + 1, !(event->keysym.mod & KMOD_SHIFT));
-    if (key == SDLK_p) paused = !paused;
-    if (key == SDLK_n) paused = one_frame = true;
+    paused = key == SDLK_n || (key == SDLK_p ? !paused : paused), one_frame = key == SDLK_n;
     if (key == SDLK_r) write_pads();
     if (key == SDLK_BACKSPACE) reset(), end_frames();
     if (key == SDLK_ESCAPE) over = true;
@@ -257,8 +256,9 @@ static void loop(SDL_Window *window, SDL_Renderer *renderer, SDL_Texture *pictur
         double end = seconds();
         if (end - since > 0.5) {
             char title[1000];
-            snprintf(title, sizeof title, "%s%s, %.0f %%, %.1f ms a frame%s%s%s", name, verdict, passed / (end - since) * 100,
-                     played ? spent / played * 1000 : 0, paused ? ", paused" : "", stopped ? ", stopped" : "", note);
+            snprintf(title, sizeof title, "%s%s, %.0f %%, %.1f ms a frame%s%s%s%s", name, verdict, passed / (end - since) * 100,
+                     played ? spent / played * 1000 : 0, paused ? ", paused" : "", stopped ? ", stopped" : "",
+                     now.pairs < PAIRS ? "" : ", the record is full", note);
             SDL_SetWindowTitle(window, title);
             since = end, spent = passed = played = 0;
         }

@@ -3,10 +3,10 @@
 
     web_page.py [PROGRAM]
 
-PROGRAM is the program, else the variable UZEBOX, else `uzebox` at the top of the repository. Of 300 frames of each game, and of 40
-more with keys: the sum of all rows and sounds is that of `play` over the pads that the page recorded. A loaded state plays on as the
-saved one did. What is printed, and the certificate that is found, are the program's. Skipped where Chromium or the page's module,
-which web/build makes, isn't there.
+PROGRAM is the program, else the variable UZEBOX, else `uzebox` at the top of the repository. Of 300 frames of the tile kernel,
+100 of the console, and of 40 more with keys: the sum of all rows and sounds is that of `play` over the pads that the page
+recorded. A loaded state plays on as the saved one did. What is printed, and the certificate that is found, are the program's.
+Skipped where Chromium or the page's module, which web/build makes, isn't there.
 """
 import base64
 import os
@@ -19,7 +19,7 @@ import browser
 from outcomes import EXAMPLES, TOP, Outcomes, program
 
 MODULES = [os.path.join(TOP, *it) for it in (('web', 'uzebox.wasm'), ('release', 'wasm64', 'uzebox.wasm'))]
-FRAMES = 300
+FRAMES = {'tiles': 300, 'console': 100}  # the console reads the pads some 300 times a frame, and a record has 65,536 readings
 ROW, END = 461, 5  # bytes of a record of a row, and of a frame's end
 KEYS = [('ArrowRight', 8), ('ArrowDown', 8), ('KeyZ', 4), ('KeyX', 4), ('Enter', 4), ('KeyL', 4), ('ArrowUp', 8)]
 
@@ -45,12 +45,12 @@ def played(path, folder, name, pads, frames):
 
 
 def try_game(outcomes, path, folder, page, address, name):
-    page.open('%s/web/?game=%s&frames=%d' % (address, name, FRAMES))
+    page.open('%s/web/?game=%s&frames=%d' % (address, name, FRAMES[name]))
     if not outcomes.tell(page.wait("document.body.dataset.ready === 'yes'"), '%s: the page says %s' % (name, page.value('says.textContent'))):
         return
     now = '[page.player.frames, page.player.sum]'
-    outcomes.equal(name + ': frames and their sum', list(played(path, folder, name, '', FRAMES)[1:]), page.value(now))
-    total = FRAMES
+    outcomes.equal(name + ': frames and their sum', list(played(path, folder, name, '', FRAMES[name])[1:]), page.value(now))
+    total = FRAMES[name]
     for code, count in KEYS:
         page.key(code, True)
         for _ in range(count):
@@ -104,13 +104,13 @@ def main():
         with tempfile.TemporaryDirectory() as folder:
             for name in os.listdir(EXAMPLES):
                 os.symlink(os.path.join(EXAMPLES, name), os.path.join(folder, name))
-            for name in ('tiles', 'console'):
+            for name in FRAMES:
                 said(path, folder, 'build', name + '.asm', name + '.hex')
             said(path, folder, 'find', 'console.hex', 'console.asm', '4', 'console.cert')
             address, end = browser.served()
             page = browser.Browser(folder)
             try:
-                for name in ('tiles', 'console'):
+                for name in FRAMES:
                     try_game(outcomes, path, folder, page, address, name)
                 for name in ('pulse', 'button-late'):
                     try_certify(outcomes, path, folder, page, address, name)

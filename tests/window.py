@@ -34,6 +34,15 @@ def bytes_of(folder, name):
         return b''
 
 
+def memory_of_toolchain():
+    """The toolchain's functions for memory, for a library without them, where the toolchain is installed."""
+    if not shutil.which('rt'):
+        return []
+    page = subprocess.run(['rt', 'doc'], capture_output=True, text=True).stdout.strip()
+    archive = os.path.join(os.path.dirname(page), 'c', 'liblibc_c.a')
+    return [archive] if os.path.exists(archive) else []
+
+
 def built(outcomes, folder):
     """The window, or None where something that it needs is lacking."""
     compiler = shutil.which(os.environ.get('CC', 'cc'))
@@ -47,8 +56,8 @@ def built(outcomes, folder):
     if said([compiler, 'sdl.c', '-lSDL2', '-o', 'sdl'], folder)[0]:
         return outcomes.skip('SDL2 is not installed')
     window = os.path.join(folder, 'window')
-    words = [compiler, '-O2', '-Wall', '-Wextra', '-Werror', '-o', window, os.path.join(EMBED, 'window.c'), os.path.abspath(library), '-lSDL2']
-    status, text = said(words, folder)
+    words = [compiler, '-O2', '-Wall', '-Wextra', '-Werror', '-o', window, os.path.join(EMBED, 'window.c')]
+    status, text = said([*words, os.path.abspath(library), *memory_of_toolchain(), '-lSDL2'], folder)
     return window if outcomes.tell(status == 0, 'the window is not built: ' + text) else None
 
 

@@ -227,7 +227,7 @@ export class Player {
     if (!this.playing) parts.push('stopped: its next instruction is none that a game has');
     else if (this.paused) parts.push('paused');
     else if (this.speed !== undefined) parts.push(`${this.speed.toFixed(0)} %`, `${this.each.toFixed(1)} ms a frame`);
-    parts.push(`${this.pairs.length} latches`);
+    parts.push(`${this.pairs.length} latches`, this.pairs.length < PAIRS ? '' : 'the record is full');
     if (this.summing && this.whole) parts.push(`sum ${this.sum.toString(16).toUpperCase().padStart(8, '0')}`);
     const kept = [0, 1, 2, 3].filter(it => this.slots[it]).map(it => it + 1);
     if (kept.length) parts.push(`states ${kept.join(' ')}`);
