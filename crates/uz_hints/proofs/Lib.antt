@@ -3,3 +3,4 @@ pub mod CellLemmas
 pub mod HalfLemmas
 mod HeadLemmas
 pub mod OneRefusal
+pub mod RuleLemmas

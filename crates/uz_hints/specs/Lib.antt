@@ -1,4 +1,5 @@
 pub mod Cells
 pub mod Faults
 pub mod Reading
+pub mod Rules
 pub mod Words

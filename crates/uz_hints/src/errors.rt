@@ -19,16 +19,16 @@ use uz_schedule::{CLOCK_LIMIT, HALF_LINE, Kind, MOST_LINES, Response};
 use uz_transfer::word_after;
 
 /// The lowest and the highest address of RAM in the data space (ATmega644 data sheet).
-const RAM: (u16, u16) = (256, 4351);
+pub(crate) const RAM: (u16, u16) = (256, 4351);
 
 /// The most bytes that main or the handler may push.
-const MOST_SLOTS: u8 = 32;
+pub(crate) const MOST_SLOTS: u8 = 32;
 
 /// The most cells.
-const MOST_CELLS: usize = 16;
+pub(crate) const MOST_CELLS: usize = 16;
 
 /// The greatest place of a fact: 0 to 31 are registers, 32 to 34 the pairs X, Y and Z.
-const LAST_PLACE: u8 = 34;
+pub(crate) const LAST_PLACE: u8 = 34;
 
 /// What is read at a word address.
 fn row_at(image: &Image, at: u16) -> Option<Instr>
@@ -39,14 +39,14 @@ fn row_at(image: &Image, at: u16) -> Option<Instr>
 }
 
 /// Whether a row reads the words at this word address of the flash.
-fn is_instruction(image: &Image, at: u16) -> bool
+pub(crate) fn is_instruction(image: &Image, at: u16) -> bool
     ensures { IsTrue result ↔ Reads image.now at }
 {
     at < FLASH_WORDS && row_at(image, at).is_some()
 }
 
 /// Whether runs enter main.
-fn starts_main(start: Option<Beginning>) -> bool
+pub(crate) fn starts_main(start: Option<Beginning>) -> bool
     ensures { result ≡ enters_main start }
 {
     match start {
@@ -109,7 +109,7 @@ fn is_fine_stack(hints: &[Hint], i: usize, lo: u16, hi: u16, main: u8, handler: 
 }
 
 /// Whether an address lies off the stack.
-fn is_off_stack(at: u16, stack: Option<StackRegion>) -> bool
+pub(crate) fn is_off_stack(at: u16, stack: Option<StackRegion>) -> bool
     ensures { IsTrue result ↔ OffStack at stack }
 {
     match stack {

@@ -5,8 +5,10 @@
 mod cells;
 mod errors;
 mod reading;
+mod rules;
 mod words;
 
 pub use cells::Tracked;
 pub use reading::{Reading, read_hints};
+pub use rules::{Rule, broken_rule};
 pub use words::{Beginning, FrameSize, PlaceRange, StackRegion};
