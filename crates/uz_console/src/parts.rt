@@ -26,7 +26,13 @@ impl Console {
         requires held { held_of board ≡ [] }
         requires entered { entered_of board ≡ None }
         ensures { IfOk result (λ console. state_of console ≡ record {
-            image = image; core = cpu; space = space_of board; response = response_clocks irq; is_owed = owed; clock = clock_of board }) }
+          image = image;
+          core = cpu;
+          space = space_of board;
+          response = response_clocks irq;
+          is_owed = owed;
+          clock = clock_of board;
+        }) }
     {
         Ok(Console {
             program: Program::new(alloc, image)?,
