@@ -20,8 +20,8 @@ EMBED = os.path.join(TOP, 'embed')
 FRAMES = 120
 
 
-def said(words, folder):
-    no_screen = dict(os.environ, SDL_VIDEODRIVER='dummy', SDL_AUDIODRIVER='dummy')
+def said(words, folder, program=''):
+    no_screen = dict(os.environ, SDL_VIDEODRIVER='dummy', SDL_AUDIODRIVER='dummy', UZEBOX=program)
     ran = subprocess.run(words, cwd=folder, stdin=subprocess.DEVNULL, capture_output=True, text=True, timeout=120, env=no_screen)
     return ran.returncode, ran.stdout + ran.stderr
 
@@ -63,7 +63,7 @@ def built(outcomes, folder):
 
 def try_game(outcomes, path, folder, window, name):
     words = [window, name + '.hex', name + '.cert', '-n', str(FRAMES), '-o', 'shown', '-r', 'pads']
-    status, text = said(words, folder)
+    status, text = said(words, folder, path)
     lines = text.split('\n')
     outcomes.tell(status == 0 and lines[0] == name + '.hex, certified', '%s: the window says %s, status %s' % (name, text, status))
     shown, pads = bytes_of(folder, 'shown'), bytes_of(folder, 'pads')
@@ -86,7 +86,7 @@ def main():
             for name in ('tiles', 'console'):
                 try_game(outcomes, path, folder, window, name)
             refused = said([path, 'check', 'ring-short.hex', 'ring.cert'], folder)[1]
-            told = said([window, 'ring-short.hex', 'ring.cert', '-n', '1'], folder)[1]
+            told = said([window, 'ring-short.hex', 'ring.cert', '-n', '1'], folder, path)[1]
             outcomes.tell(told.startswith('ring-short.hex, ' + refused), 'a refused certificate: %s' % told)
     outcomes.end()
 
