@@ -76,6 +76,12 @@ def try_game(outcomes, path, folder, page, address, name):
     outcomes.equal(name + ': a state that was loaded', first, second)
 
 
+def try_hex(outcomes, folder, name):
+    """The HEX file beside the page, for a module without commands, is what `build` makes."""
+    with open(os.path.join(TOP, 'web', name + '.hex'), 'rb') as one, open(os.path.join(folder, name + '.hex'), 'rb') as other:
+        outcomes.tell(one.read() == other.read(), 'web/%s.hex is not what build makes of the example' % name)
+
+
 def try_certify(outcomes, path, folder, page, address, name):
     page.open('%s/web/?game=%s&tab=make' % (address, name))
     page.wait("document.body.dataset.ready === 'yes' && document.getElementById('do-certify') !== null")
@@ -106,14 +112,18 @@ def main():
                 os.symlink(os.path.join(EXAMPLES, name), os.path.join(folder, name))
             for name in FRAMES:
                 said(path, folder, 'build', name + '.asm', name + '.hex')
+                try_hex(outcomes, folder, name)
             said(path, folder, 'find', 'console.hex', 'console.asm', '4', 'console.cert')
             address, end = browser.served()
             page = browser.Browser(folder)
             try:
                 for name in FRAMES:
                     try_game(outcomes, path, folder, page, address, name)
-                for name in ('pulse', 'button-late'):
-                    try_certify(outcomes, path, folder, page, address, name)
+                if page.value('page.commands !== null'):
+                    for name in ('pulse', 'button-late'):
+                        try_certify(outcomes, path, folder, page, address, name)
+                else:
+                    outcomes.skip('the module has no commands', 2)
                 outcomes.equal('faults of the scripts', [], page.faults)
             except browser.Late as late:
                 outcomes.tell(False, 'the page: %s' % late)

@@ -31,7 +31,7 @@ export class Desk {
     this.text.addEventListener('input', () => this.files.set(this.shown, new TextEncoder().encode(this.text.value)));
     document.getElementById('begin').addEventListener('click', () => this.begin());
     document.getElementById('fetch').addEventListener('click', () => this.download());
-    this.buttons();
+    if (commands) this.buttons();
   }
 
   async buttons() {

@@ -116,6 +116,11 @@ class Library {
     this.bytes(this.state).set(state);
   }
 
+  // Whether the module has the commands too.
+  hasCommands() {
+    return 'uzebox_run' in this.wasm;
+  }
+
   // A command of uzebox over files in memory, a Map from names to bytes: its status, what it prints, and the files that its words name.
   run(words, files) {
     const coder = new TextEncoder(), fields = [coder.encode(words.map(it => it + '\n').join(''))];

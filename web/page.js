@@ -15,6 +15,8 @@ const EXAMPLES = {
   ring: ['ring.asm', 'ring.cert'],
 };
 
+const GAMES = ['tiles', 'console']; // those whose HEX files lie beside the page
+
 const element = id => document.getElementById(id);
 const say = text => { element('says').textContent = text; };
 
@@ -50,10 +52,12 @@ class Page {
   async start() {
     // of each tab a library of its own, so that a look at a frame leaves the game alone
     const [game, look] = await Promise.all([load(), load()]);
-    this.commands = new Commands();
+    this.commands = game.hasCommands() ? new Commands() : null;
     this.player = new Player(game, say);
     this.desk = new Desk(look, this.commands, (name, hex, cert) => this.play(name, hex, cert));
-    for (const name of Object.keys(EXAMPLES)) element('example').add(new Option(name));
+    element('to-make').hidden = !this.commands;
+    const names = this.commands ? Object.keys(EXAMPLES) : GAMES;
+    for (const name of names) element('example').add(new Option(name));
     element('example').addEventListener('change', event => {
       this.open(event.target.value);
       event.target.blur();
@@ -65,16 +69,20 @@ class Page {
       event.preventDefault();
       this.take(event.dataTransfer.files);
     });
-    const wanted = new URLSearchParams(location.search), name = EXAMPLES[wanted.get('game')] ? wanted.get('game') : 'tiles';
-    if (wanted.get('tab') === 'make') choose('make');
+    const wanted = new URLSearchParams(location.search), name = names.includes(wanted.get('game')) ? wanted.get('game') : names[0];
+    if (wanted.get('tab') === 'make' && this.commands) choose('make');
     element('example').value = name;
     await this.open(name);
     if (wanted.has('frames')) this.player.run(Number(wanted.get('frames')));
     document.body.dataset.ready = 'yes';
   }
 
-  // An example: its files, and the game that they make.
+  // An example: its files, and the game that they make. A module without commands takes the HEX file that lies beside the page.
   async open(name) {
+    if (!this.commands) {
+      await this.play(`${name}.hex`, new Uint8Array(await (await fetch(`${name}.hex`)).arrayBuffer()), undefined, true);
+      return;
+    }
     for (const file of EXAMPLES[name]) {
       const answer = await fetch(`../examples/${file}`);
       if (!answer.ok) throw new Error(`../examples/${file} isn't there: serve the top of the repository.`);
@@ -91,7 +99,7 @@ class Page {
   // Plays, and says what check says of the certificate, if there is one.
   async play(name, hex, cert, stays = false) {
     let verdict = '';
-    if (cert) {
+    if (cert && this.commands) {
       const { status, text, failed } = await this.commands.run(['check', 'hex', 'cert'], new Map([['hex', hex], ['cert', cert]]));
       verdict = status === 0 ? 'certified' : (failed ?? text).split('\n')[0];
     }
@@ -105,7 +113,7 @@ class Page {
     this.desk.show(names.find(it => /\.asm$/i.test(it)) ?? names[0]);
     const cert = names.find(it => /\.cert$/i.test(it));
     if (hex) await this.play(hex, this.desk.files.get(hex), cert && this.desk.files.get(cert));
-    else choose('make');
+    else if (this.commands) choose('make');
   }
 }
 
