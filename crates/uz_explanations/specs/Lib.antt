@@ -1,7 +1,6 @@
 pub mod Beginnings
 pub mod Explanations
 pub mod Known
-pub mod Labels
 pub mod Pieces
 pub mod Readings
 pub mod TrailLines

@@ -11,8 +11,8 @@ use Rattle.avr_dis.specs.Text.{text_of}
 use Rattle.uz_schedule.specs.declared.kinds.Kind.{Kind}
 use Rattle.uz_schedule.specs.declared.kinds.Kind.TheVariants.{Main, Handler, Alone}
 use Rattle.uz_schedule.specs.declared.states.Instance.{Instance}
-use Rattle.uz_explanations.specs.declared.labels.Label.{Label}
-use Rattle.uz_explanations.specs.Labels.{nearest}
+use Rattle.avr_asm.specs.declared.labels.Label.{Label}
+use Rattle.avr_asm.specs.Labels.{nearest}
 
 -- Places
 

@@ -5,7 +5,7 @@ use Rattle.std.specs.Prelude.{nat_le}
 use Rattle.std.specs.Ordering.{nat_cmp}
 use Rattle.std.specs.FinMap.{FinMap}
 use Rattle.uz_schedule.specs.declared.states.Instance.{Instance}
-use Rattle.uz_explanations.specs.declared.labels.Label.{Label}
+use Rattle.avr_asm.specs.declared.labels.Label.{Label}
 use Rattle.uz_explanations.specs.Beginnings.{common}
 use Rattle.uz_explanations.specs.Readings.{Reading}
 use Rattle.uz_explanations.specs.TrailLines.{trail_line}
@@ -30,7 +30,7 @@ stretch_from trail i n (suc left) = if comes_again trail i n then n else stretch
 abbrev pub stretch : List Instance → ℕ → ℕ
 stretch trail i = stretch_from trail i 1 64
 
--- n instances that come so many times more
+-- the last n instances come so many times more
 unfoldable pub turns_line : ℕ → ℕ → List ℕ
 turns_line n times =
     (codes "; the last " ++ decimal n) ++ (codes " instructions come " ++ decimal times) ++ codes " times more\n"

@@ -4,7 +4,7 @@ use Rattle.std.specs.Ordering.{nat_cmp}
 use Rattle.std.specs.FinMap.{FinMap}
 use Rattle.uz_schedule.specs.declared.states.Instance.{Instance}
 use Rattle.uz_schedule.specs.contracts.states.InstancePartialEq as instances
-use Rattle.uz_explanations.specs.declared.labels.Label.{Label}
+use Rattle.avr_asm.specs.declared.labels.Label.{Label}
 use Rattle.uz_explanations.specs.Beginnings.{common}
 use Rattle.uz_explanations.specs.Known.{known_line}
 use Rattle.uz_explanations.specs.Readings.{Reading}

@@ -4,8 +4,8 @@ ghost use Rattle.std.specs.Prelude.{◌≡◌, ◌++◌, IfOk, OnOk};
 ghost use Rattle.uz_explanations.specs.Readings.{Reading, IsReading};
 ghost use Rattle.uz_explanations.specs.Explanations.{explanation};
 
-use crate::labels::Labels;
 use crate::ways::{add_way, add_ways};
+use avr_asm::Labels;
 use std::alloc::{AllocError, Global};
 use uz_hex::Image;
 use uz_search::NotFound;

@@ -4,7 +4,6 @@
 mod dependence;
 mod explaining;
 mod known;
-mod labels;
 mod laws;
 mod reading;
 mod trail_lines;
@@ -12,5 +11,4 @@ mod turns;
 mod ways;
 
 pub use explaining::explain;
-pub use labels::{Label, Labels};
 pub use laws::flash_has_one_reading;

@@ -7,8 +7,8 @@ ghost use Rattle.uz_explanations.specs.Readings.{Reading, IsReading};
 ghost use Rattle.uz_explanations.specs.TrailLines.{clock_text, kind_text, place_text, second_of, instruction_text};
 ghost use Rattle.uz_explanations.specs.TrailLines.{distance_text, nearest_text, trail_line};
 
-use crate::labels::Labels;
 use crate::reading::row_at;
+use avr_asm::Labels;
 use avr_dis::{data_word, print_one, write_words};
 use avr_table::{Instr, words};
 use itoa::Buffer;

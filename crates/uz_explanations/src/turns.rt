@@ -6,8 +6,8 @@ ghost use Rattle.uz_explanations.specs.Beginnings.{common};
 ghost use Rattle.uz_explanations.specs.Readings.{Reading, IsReading};
 ghost use Rattle.uz_explanations.specs.Turns.{same_pc, repeated, comes_again, stretch, turns_line, lines_from, turned_lines};
 
-use crate::labels::Labels;
 use crate::trail_lines::{add_trail_line, put_number};
+use avr_asm::Labels;
 use std::alloc::{AllocError, Global};
 use uz_hex::Image;
 use uz_schedule::Instance;

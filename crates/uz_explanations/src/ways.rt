@@ -8,10 +8,10 @@ ghost use Rattle.uz_explanations.specs.TrailLines.{trail_line};
 ghost use Rattle.uz_explanations.specs.Ways.{last_text, way_text, same_instance, shared, from_last, both_ways};
 
 use crate::known::add_known;
-use crate::labels::Labels;
 use crate::reading::row_at;
 use crate::trail_lines::add_line;
 use crate::turns::add_turned;
+use avr_asm::Labels;
 use std::alloc::{AllocError, Global};
 use uz_hex::Image;
 use uz_schedule::Instance;

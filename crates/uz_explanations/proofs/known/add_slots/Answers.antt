@@ -1,5 +1,5 @@
 use Rattle.std.proofs.Common.{arith}
-use Rattle.uz_explanations.specs.Known.{slot_item, val_word}
+use Rattle.uz_explanations.specs.Known.{slot_item}
 use Rattle.uz_explanations.proofs.PieceLemmas.{slot_put, pieces_over}
 use Rattle.uz_explanations.proofs.known.add_slots.Goals as goal
 

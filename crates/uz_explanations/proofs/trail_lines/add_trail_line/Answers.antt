@@ -1,4 +1,4 @@
-use Rattle.std.proofs.Common.{◌++◌, ◌∙◌, ap, ℕ, List}
+use Rattle.std.proofs.Common.{◌++◌, ◌∙◌, ap}
 use Rattle.std.proofs.lemmas.Result.{on_ok_weaker}
 use Rattle.uz_explanations.specs.TrailLines.{trail_line}
 use Rattle.uz_explanations.proofs.trail_lines.add_trail_line.Goals as goal

@@ -1,5 +1,0 @@
-use Rattle.std.proofs.Common.{length}
-use Rattle.uz_explanations.proofs.labels.+nearest_of.Given as goal
-
-abbrev pub decreases-nearest_of : goal.decreases-nearest_of
-decreases-nearest_of l = length l.labels.now
