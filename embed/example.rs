@@ -1,4 +1,4 @@
-// Plays 60 frames and saves the state after the 30th: rustc -L . -Clink-arg=liblibc_c.a example.rs && ./example kernel.hex
+// Plays 60 frames and saves the state after the 30th: rustc -O -L . -Clink-arg=liblibc_c.a example.rs && ./example kernel.hex
 #[repr(C)]
 struct Answer {
     status: u32,
@@ -33,5 +33,6 @@ fn main() {
             saved = state;
         }
     }
-    println!("the state after frame 30 was at clock {}", u64::from_le_bytes(saved.0[..8].try_into().unwrap()));
+    let clock = (0..8).rev().fold(0u64, |sum, k| sum << 8 | u64::from(saved.0[k]));
+    println!("the state after frame 30 was at clock {clock}");
 }
