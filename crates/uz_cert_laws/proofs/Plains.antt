@@ -1,16 +1,14 @@
 -- The words of spelled lines: each byte is above the space, so that a line is cut into its words again, and has no line end.
 use Rattle.std.proofs.Common.{◌≡◌, ◌≢◌, ℕ, zero, suc, ◌+◌, ◌-◌, ◌<◌, ◌≤◌, ◌^◌, Bool, true, false, ◌&&◌, ◌||◌, cond, eqb, ltb, List, [], ◌∷◌, ◌++◌, length}
-use Rattle.std.proofs.Common.{map, All, codes, decimal, lit≤, refl, ◌∙◌, ap, arith}
+use Rattle.std.proofs.Common.{map, All, codes, decimal, lit≤, refl, ◌∙◌, arith}
 use Rattle.std.specs.Prelude.{⊤, ℤ, pos, negsuc}
-use Rattle.std.specs.List.{slice_split, onto_first}
-use Rattle.std.proofs.lemmas.Bool.{eqb-true}
 use Rattle.std.proofs.lemmas.List.Elements.{All-head, All-tail, All-weaker}
-use Rattle.uz_text.proofs.Plain.{plain, EachPlain, Lacks, each_lacks, split_join, join_lacks, plain_append, plain_decimal}
+use Rattle.uz_text.proofs.Plain.{plain, EachPlain, Lacks, each_lacks, join_lacks, plain_append, plain_decimal}
 use Rattle.uz_text.proofs.Plain.{each_plain_append}
 use Rattle.uz_schedule.specs.Ends.{Ends}
 use Rattle.uz_schedule.specs.Tracked.{tracks}
 use Rattle.uz_schedule.specs.Limits.{is_top}
-use Rattle.uz_schedule.specs.Schedule.{scanline, half_line}
+use Rattle.uz_schedule.specs.Schedule.{scanline}
 use Rattle.uz_schedule.specs.WellFormed.{RangeFits, magnitude}
 use Rattle.uz_schedule.specs.WellFormed.{is_default_flag}
 use Rattle.uz_schedule.specs.declared.kinds.Kind.{Kind}
@@ -22,7 +20,7 @@ use Rattle.uz_schedule.specs.declared.facts.Bit.{Bit}
 use Rattle.uz_schedule.specs.declared.facts.Bit.TheVariants as bit
 use Rattle.uz_schedule.specs.declared.header.Cell.{Cell}
 use Rattle.uz_cert_lines.specs.Defaults.{is_default, is_any_pair, is_range, is_default_top, is_default_temp}
-use Rattle.uz_cert_words.specs.Grammar.{with_byte, cut_words, words_of}
+use Rattle.uz_cert_words.specs.Grammar.{words_of}
 use Rattle.uz_cert_writer.specs.Spelling.{line_of, range_word, ends_word, slope_word, fact_word, pair_word, flag_word, item, unless}
 use Rattle.uz_cert_writer.specs.Spelling.{register_items, pair_items, flag_items, slot_items, cell_items, top_items, temp_items, successor_items}
 use Rattle.uz_cert_writer.specs.Spelling.{signed_word}
@@ -31,43 +29,23 @@ use Rattle.uz_cert_lines.specs.Items.{bytes_forms, pair_forms}
 use Rattle.uz_cert_lines.specs.declared.items.Shape.{Shape}
 use Rattle.uz_cert_lines.specs.declared.items.Facts.{Facts}
 use Rattle.uz_cert_laws.specs.Spells.{word_at, letters_of_pairs, spelled}
+use Rattle.uz_cert_laws.proofs.Tests.{and_true, both_true}
+use Rattle.uz_cert_laws.proofs.WordsOfLines.{lacking_again}
 use Rattle.uz_cert_laws.proofs.Facts.{FactIn, PairIn}
 use Rattle.uz_cert_laws.proofs.Options.{each_length, each_other}
 use Rattle.uz_cert_laws.proofs.Spelled.{registers, numbered_cells}
 use Rattle.uz_cert_laws.proofs.Taken.{cell_form}
+use Rattle.uz_cert_laws.proofs.Takes.{top_below}
 use Rattle.uz_cert_laws.proofs.Fitting.{all_of_each}
 use Rattle.uz_cert_laws.proofs.OnlyItems.{ShapeFits}
 use Rattle.uz_cert_laws.proofs.AgainItems.{FactsFit}
 
 -- lines are cut into their words again
 
-onto_word : (b : ℕ) (ws : List (List ℕ)) → with_byte b ws ≡ onto_first b ws
-onto_word b [] = refl
-onto_word b (w ∷ ws) = refl
-
-cut_split : (bs : List ℕ) → cut_words bs ≡ slice_split (λ b. eqb b 32) bs
-cut_split [] = refl
-cut_split (b ∷ bs) = by (eqb b 32) (cut_split bs)
-  where
-    by : (t : Bool) → cut_words bs ≡ slice_split (λ x. eqb x 32) bs
-        → cond t ([] ∷ cut_words bs) (with_byte b (cut_words bs)) ≡ cond t ([] ∷ slice_split (λ x. eqb x 32) bs)
-        (onto_first b (slice_split (λ x. eqb x 32) bs))
-    by true e = ap (λ ws. [] ∷ ws) e
-    by false e = onto_word b (cut_words bs) ∙ ap (onto_first b) e
-
--- a text that isn't empty
-words_some : (text : List ℕ) → text ≢ [] → words_of text ≡ cut_words text
-words_some [] h = absurd (h refl)
-words_some (b ∷ bs) h = refl
-
-joined_some : (b : ℕ) (w : List ℕ) (ws : List (List ℕ)) → line_of ((b ∷ w) ∷ ws) ≢ []
-joined_some b w [] e = cc e
-joined_some b w (v ∷ vs) e = cc e
-
 pub words_again : (b : ℕ) (w : List ℕ) (ws : List (List ℕ)) → EachPlain ((b ∷ w) ∷ ws) → words_of (line_of ((b ∷ w) ∷ ws)) ≡ (b ∷ w) ∷ ws
 words_again b w ws h =
     let l = each_lacks 32 ((b ∷ w) ∷ ws) (lit≤ tt) h in
-    words_some (line_of ((b ∷ w) ∷ ws)) (joined_some b w ws) ∙ (cut_split (line_of ((b ∷ w) ∷ ws)) ∙ split_join 32 (b ∷ w) ws l.0 l.1)
+    lacking_again b w ws l.0 l.1
 
 -- a line of such words has no line end
 pub line_lacks : (ws : List (List ℕ)) → EachPlain ws → Lacks 10 (line_of ws)
@@ -89,11 +67,7 @@ plain_read n limit l h = plain_decimal n (below (lit≤ tt))
     below g = omega (arith, l, h, g)
 
 plain_more : (b : ℕ) (w : List ℕ) → ltb 32 b ≡ true → plain w ≡ true → plain (b ∷ w) ≡ true
-plain_more b w h k = and_is (ltb 32 b) (plain w) h k
-  where
-    and_is : (s t : Bool) → s ≡ true → t ≡ true → (s && t) ≡ true
-    and_is true t x y = y
-    and_is false t x y = absurd cc
+plain_more b w h k = both_true (ltb 32 b) (plain w) h k
 
 either : (t : Bool) (x y : List ℕ) → plain x ≡ true → plain y ≡ true → plain (cond t x y) ≡ true
 either true x y h k = h
@@ -191,26 +165,18 @@ plain_pairs : (letters : List ℕ) (fs : List PairFact) → plain letters ≡ tr
 plain_pairs [] fs h all = tt
 plain_pairs (c ∷ cs) [] h all = tt
 plain_pairs (c ∷ cs) (f ∷ fs) h all =
-    let both = and_both (ltb 32 c) (plain cs) h in
+    let both = and_true (ltb 32 c) (plain cs) h in
     plain_unless (is_any_pair f) (item (c ∷ []) (pair_word f)) (pair_items cs fs)
     (plain_item (c ∷ []) (pair_word f) (plain_more c [] both.0 refl) (plain_pair f (All-head (PairIn pair_forms) f fs all)))
     (plain_pairs cs fs both.1 (All-tail (PairIn pair_forms) f fs all))
-  where
-    and_both : (s t : Bool) → (s && t) ≡ true → (s ≡ true) × (t ≡ true)
-    and_both true t e = (refl, e)
-    and_both false t e = absurd cc
 
 plain_flags : (kind : Kind) (letters : List ℕ) (bs : List Bit) → plain letters ≡ true → EachPlain (flag_items kind letters bs)
 plain_flags kind [] bs h = tt
 plain_flags kind (c ∷ cs) [] h = tt
 plain_flags kind (c ∷ cs) (b ∷ bs) h =
-    let both = and_both (ltb 32 c) (plain cs) h in
+    let both = and_true (ltb 32 c) (plain cs) h in
     plain_unless (is_default_flag kind b) (item (c ∷ []) (flag_word b)) (flag_items kind cs bs)
     (plain_item (c ∷ []) (flag_word b) (plain_more c [] both.0 refl) (plain_flag b)) (plain_flags kind cs bs both.1)
-  where
-    and_both : (s t : Bool) → (s && t) ≡ true → (s ≡ true) × (t ≡ true)
-    and_both true t e = (refl, e)
-    and_both false t e = absurd cc
 
 plain_slots : (fs : List Fact) → All SmallFact fs → EachPlain (slot_items fs)
 plain_slots [] all = tt
@@ -238,12 +204,9 @@ plain_cells kind i (c ∷ cs) (f ∷ fs) h all =
 
 plain_top : (top : ℕ) → is_top top ≡ true → EachPlain (top_items top)
 plain_top top h =
+    let few : top < scanline = top_below top h in
     plain_unless (is_default_top top) (item (codes "top") (decimal top)) []
-    (plain_item (codes "top") (decimal top) refl (plain_number top (by_half (eqb top (half_line - 1)) refl h))) tt
-  where
-    by_half : (t : Bool) → eqb top (half_line - 1) ≡ t → (t || eqb top (scanline - 1)) ≡ true → top < 1048576
-    by_half true e h = omega (arith, eqb-true top (half_line - 1) e)
-    by_half false e h = omega (arith, eqb-true top (scanline - 1) h)
+    (plain_item (codes "top") (decimal top) refl (plain_number top (omega arith))) tt
 
 plain_temp : (temp : Ends) → RangeFits 255 temp → EachPlain (temp_items temp)
 plain_temp temp h =

@@ -1,5 +1,5 @@
 -- An item that is spelled as one of the eight forms is taken.
-use Rattle.std.proofs.Common.{◌≡◌, ℕ, zero, suc, ◌+◌, ◌<◌, ◌≤◌, ◌≢◌, ◌^◌, Bool, true, false, cond, not, ◌-◌, ◌||◌, eqb, leb, ltb, List, ◌∷◌, ◌++◌, length}
+use Rattle.std.proofs.Common.{◌≡◌, ℕ, zero, suc, ◌+◌, ◌<◌, ◌≤◌, ◌≢◌, ◌^◌, Bool, true, false, cond, not, ◌-◌, ◌||◌, eqb, leb, ltb, List, [], ◌∷◌, ◌++◌, length}
 use Rattle.std.proofs.Common.{decimal, codes, lit<, lit≤, refl, ◌∙◌, ap, arith}
 use Rattle.std.specs.Prelude.{Some, Ok, Err}
 use Rattle.uz_text.specs.Numbers.{is_numeral, number_below}
@@ -29,7 +29,8 @@ use Rattle.uz_cert_writer.specs.Spelling.{range_word, item, fact_word, pair_word
 use Rattle.uz_cert_laws.proofs.Tests.{so, else_so, then, is_le, is_lt, number_is}
 use Rattle.uz_cert_laws.proofs.Numbers.{digits_so, numeral_so, one_so}
 use Rattle.uz_cert_laws.proofs.Facts.{fact_raw, fact_so, PairIn, pair_raw, pair_so, BitIn, bit_so, temp_raw, temp_so}
-use Rattle.uz_cert_laws.proofs.Taken.{with_register, with_pair, with_flag, with_slot, with_cell, with_top, with_temp, with_successor}
+use Rattle.uz_cert_laws.proofs.Taken.{with_register, with_pair, with_flag, with_slot, with_cell, with_top, with_temp, with_successor, pair_letter}
+use Rattle.uz_cert_laws.proofs.Taken.{flag_letter}
 use Rattle.uz_cert_laws.proofs.Taken.{TakesRegister, TakesPair, TakesTop, TakesTemp}
 use Rattle.uz_cert_laws.proofs.Taken.{TakesFlag, TakesSlot, TakesCell, TakesSuccessor, PlacesFit, cell_form, cell_limit, cell_range}
 use Rattle.uz_cert_laws.proofs.Taken.{order_so}
@@ -75,55 +76,47 @@ flag_set_so shape facts b bit i l o =
 
 -- by the letter
 
-past_two : (k : ℕ) → suc (suc (suc k)) < 3 → ⊥
-past_two k h = omega arith
+pair_letter_takes : (shape : Shape) (cells : List Cell) (facts : Facts) (value : List ℕ) (later : List (List ℕ)) (k : ℕ) → k < 3
+    → (k ≡ 2 → is_flag_z shape facts value later ≡ false)
+    → take_item shape cells facts (item (pair_letter k ∷ []) value) later ≡ take_pair shape facts k value
+unfolding take_item take_named take_letter
+pair_letter_takes shape cells facts value later zero l z = refl
+pair_letter_takes shape cells facts value later (suc zero) l z = refl
+pair_letter_takes shape cells facts value later (suc (suc zero)) l z =
+    else_so (is_flag_z shape facts value later) (take_flag shape facts 1 value) (take_pair shape facts 2 value) (z refl)
+pair_letter_takes shape cells facts value later (suc (suc (suc k))) l z = absurd (past k l)
+  where
+    past : (k : ℕ) → suc (suc (suc k)) < 3 → ⊥
+    past k h = omega arith
 
 pub pair_takes : (shape : Shape) (cells : List Cell) (facts : Facts) (later : List (List ℕ)) (w : List ℕ) (k : ℕ) (f : PairFact)
     → TakesPair shape facts w later k f → take_item shape cells facts w later ≡ Ok (with_pair facts k f)
-unfolding take_item take_named take_letter
-pair_takes shape cells facts later w zero f t =
-    ap (λ v. take_item shape cells facts v later) t.word ∙ pair_set_so shape facts 0 f t.whole
-    t.fits t.order t.other
-pair_takes shape cells facts later w (suc zero) f t =
-    ap (λ v. take_item shape cells facts v later) t.word ∙ pair_set_so shape facts 1 f t.whole
-    t.fits t.order t.other
-pair_takes shape cells facts later w (suc (suc zero)) f t =
-    ap (λ v. take_item shape cells facts v later) t.word
-    ∙ else_so (is_flag_z shape facts (pair_word f) later) (take_flag shape facts 1 (pair_word f)) (take_pair shape facts 2 (pair_word f))
-    (t.meant refl)
-    ∙ pair_set_so shape facts 2 f t.whole t.fits t.order t.other
-pair_takes shape cells facts later w (suc (suc (suc k))) f t = absurd (past_two k t.there)
+pair_takes shape cells facts later w k f t =
+    ap (λ v. take_item shape cells facts v later) t.word ∙ pair_letter_takes shape cells facts (pair_word f) later k t.there t.meant
+    ∙ pair_set_so shape facts k f t.whole t.fits t.order t.other
 
-past_six : (b : ℕ) → suc (suc (suc (suc (suc (suc (suc b)))))) < 7 → ⊥
-past_six b h = omega arith
+flag_letter_takes : (shape : Shape) (cells : List Cell) (facts : Facts) (value : List ℕ) (later : List (List ℕ)) (b : ℕ) → b < 7
+    → (b ≡ 1 → is_flag_z shape facts value later ≡ true)
+    → take_item shape cells facts (item (flag_letter b ∷ []) value) later ≡ take_flag shape facts b value
+unfolding take_item take_named take_letter
+flag_letter_takes shape cells facts value later zero l z = refl
+flag_letter_takes shape cells facts value later (suc zero) l z =
+    so (is_flag_z shape facts value later) (take_flag shape facts 1 value) (take_pair shape facts 2 value) (z refl)
+flag_letter_takes shape cells facts value later (suc (suc zero)) l z = refl
+flag_letter_takes shape cells facts value later (suc (suc (suc zero))) l z = refl
+flag_letter_takes shape cells facts value later (suc (suc (suc (suc zero)))) l z = refl
+flag_letter_takes shape cells facts value later (suc (suc (suc (suc (suc zero))))) l z = refl
+flag_letter_takes shape cells facts value later (suc (suc (suc (suc (suc (suc zero)))))) l z = refl
+flag_letter_takes shape cells facts value later (suc (suc (suc (suc (suc (suc (suc b))))))) l z = absurd (past b l)
+  where
+    past : (b : ℕ) → suc (suc (suc (suc (suc (suc (suc b)))))) < 7 → ⊥
+    past b h = omega arith
 
 pub flag_takes : (shape : Shape) (cells : List Cell) (facts : Facts) (later : List (List ℕ)) (w : List ℕ) (b : ℕ) (bit : Bit)
     → TakesFlag shape facts w later b bit → take_item shape cells facts w later ≡ Ok (with_flag facts b bit)
-unfolding take_item take_named take_letter
-flag_takes shape cells facts later w zero bit t =
-    ap (λ v. take_item shape cells facts v later) t.word ∙ flag_set_so shape facts 0 bit
-    t.fits t.order t.other
-flag_takes shape cells facts later w (suc zero) bit t =
-    ap (λ v. take_item shape cells facts v later) t.word
-    ∙ so (is_flag_z shape facts (flag_word bit) later) (take_flag shape facts 1 (flag_word bit)) (take_pair shape facts 2 (flag_word bit))
-    (t.meant refl)
-    ∙ flag_set_so shape facts 1 bit t.fits t.order t.other
-flag_takes shape cells facts later w (suc (suc zero)) bit t =
-    ap (λ v. take_item shape cells facts v later) t.word ∙ flag_set_so shape facts 2 bit
-    t.fits t.order t.other
-flag_takes shape cells facts later w (suc (suc (suc zero))) bit t =
-    ap (λ v. take_item shape cells facts v later) t.word ∙ flag_set_so shape facts 3 bit
-    t.fits t.order t.other
-flag_takes shape cells facts later w (suc (suc (suc (suc zero)))) bit t =
-    ap (λ v. take_item shape cells facts v later) t.word ∙ flag_set_so shape facts 4 bit
-    t.fits t.order t.other
-flag_takes shape cells facts later w (suc (suc (suc (suc (suc zero))))) bit t =
-    ap (λ v. take_item shape cells facts v later) t.word ∙ flag_set_so shape facts 5 bit
-    t.fits t.order t.other
-flag_takes shape cells facts later w (suc (suc (suc (suc (suc (suc zero)))))) bit t =
-    ap (λ v. take_item shape cells facts v later) t.word ∙ flag_set_so shape facts 6 bit
-    t.fits t.order t.other
-flag_takes shape cells facts later w (suc (suc (suc (suc (suc (suc (suc b))))))) bit t = absurd (past_six b t.there)
+flag_takes shape cells facts later w b bit t =
+    ap (λ v. take_item shape cells facts v later) t.word ∙ flag_letter_takes shape cells facts (flag_word bit) later b t.there t.meant
+    ∙ flag_set_so shape facts b bit t.fits t.order t.other
 
 pub slot_takes : (shape : Shape) (cells : List Cell) (facts : Facts) (later : List (List ℕ)) (f : Fact)
     → TakesSlot shape facts (codes "s:" ++ fact_word f) f → take_item shape cells facts (codes "s:" ++ fact_word f) later ≡ Ok
@@ -168,7 +161,7 @@ cell_takes shape cells facts later i c f fits t =
 
 -- OCR1A and TEMP
 
-top_below : (top : ℕ) → is_top top ≡ true → top < scanline
+pub top_below : (top : ℕ) → is_top top ≡ true → top < scanline
 top_below top h = by_half (eqb top (half_line - 1)) refl h
   where
     by_half : (t : Bool) → eqb top (half_line - 1) ≡ t → (t || eqb top (scanline - 1)) ≡ true → top < scanline

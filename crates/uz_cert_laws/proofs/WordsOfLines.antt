@@ -4,7 +4,7 @@ use Rattle.std.specs.Prelude.{All}
 use Rattle.std.specs.List.{slice_split, onto_first, join_with_byte}
 use Rattle.std.proofs.lemmas.List.Splits.{join_with_byte-slice_split}
 use Rattle.std.proofs.lemmas.List.Elements.{All-head, All-tail}
-use Rattle.uz_text.proofs.Plain.{EachLacks, split_join}
+use Rattle.uz_text.proofs.Plain.{Lacks, EachLacks, split_join}
 use Rattle.uz_cert_words.specs.Grammar.{with_byte, cut_words, words_of}
 use Rattle.uz_cert_writer.specs.Spelling.{line_of}
 
@@ -25,13 +25,15 @@ each_lacks (w ∷ ws) h = (
   each_lacks ws (All-tail (λ w. All (λ b. eqb b 32 ≡ false) w) w ws h),
 )
 
+pub lacking_again : (c : ℕ) (cs : List ℕ) (ws : List (List ℕ)) → Lacks 32 (c ∷ cs) → EachLacks 32 ws
+    → words_of (line_of ((c ∷ cs) ∷ ws)) ≡ (c ∷ cs) ∷ ws
+lacking_again c cs [] h k = cut_is (c ∷ cs) ∙ split_join 32 (c ∷ cs) [] h k
+lacking_again c cs (v ∷ vs) h k = cut_is (line_of ((c ∷ cs) ∷ v ∷ vs)) ∙ split_join 32 (c ∷ cs) (v ∷ vs) h k
+
 pub words_again : (w : List ℕ) (ws : List (List ℕ)) → 0 < length w → All (λ v. All (λ b. eqb b 32 ≡ false) v) (w ∷ ws)
     → words_of (line_of (w ∷ ws)) ≡ w ∷ ws
 words_again [] ws some h = absurd (omega arith)
-words_again (c ∷ cs) [] some h = cut_is (c ∷ cs) ∙ split_join 32 (c ∷ cs) [] (each_lacks ((c ∷ cs) ∷ []) h).0 tt
-words_again (c ∷ cs) (v ∷ vs) some h =
-    let lacks = each_lacks ((c ∷ cs) ∷ v ∷ vs) h in
-    cut_is (line_of ((c ∷ cs) ∷ v ∷ vs)) ∙ split_join 32 (c ∷ cs) (v ∷ vs) lacks.0 lacks.1
+words_again (c ∷ cs) ws some h = let lacks = each_lacks ((c ∷ cs) ∷ ws) h in lacking_again c cs ws lacks.0 lacks.1
 
 pub words_only : (line : List ℕ) → line_of (words_of line) ≡ line
 words_only [] = refl
