@@ -47,7 +47,7 @@ TILES = [
 NONE = [
     ('an image of one SPM', '.dw 0x95E8\n', CLOCKS, 'no hints Stopped'),
     ('no interrupt and no sync', 'loop: rjmp loop\n', CLOCKS, 'no hints Loop'),
-    ('a run that is too short', None, '1000', 'no hints Loop'),
+    ('a run that is too short', None, '1000', 'no hints Frame'),
 ]
 
 

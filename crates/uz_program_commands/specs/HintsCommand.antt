@@ -14,6 +14,7 @@ use Rattle.avr_asm.specs.declared.output.Hint.{Hint}
 use Rattle.avr_asm.specs.declared.output.Hint.TheVariants as hint
 use Rattle.uz_proposal.specs.Sources.{PutsOutNothing}
 use Rattle.uz_proposal.specs.Text.{source_of}
+use Rattle.uz_proposal.specs.NoFrames.{no_frame_lines}
 use Rattle.uz_proposal.specs.declared.no_hints.NoHints.{NoHints}
 use Rattle.uz_proposal.specs.declared.no_hints.NoHints.TheVariants as none
 use Rattle.uz_proposal.specs.declared.remarks.Remarked.{Remarked}
@@ -70,17 +71,13 @@ hints_line hints =
 
 -- Why there are none
 
--- the lines of a run that make no frame
-abbrev pub run_lines : ℕ → List ℕ
-run_lines lines = codes "lines " ++ decimal lines ++ codes "\n"
-
 abbrev pub no_hints_line : List ℕ → List ℕ
 no_hints_line why = codes "no hints " ++ why ++ codes "\n"
 
 -- numbers on lines of their own, and then the cause
 abbrev pub why_lines : NoHints → List ℕ
 why_lines (none.Stopped pc why) = stopped_line pc why ++ no_hints_line (codes "Stopped")
-why_lines (none.Frame lines) = run_lines lines ++ no_hints_line (codes "Frame")
+why_lines (none.Frame found) = no_frame_lines found ++ no_hints_line (codes "Frame")
 why_lines none.Loop = no_hints_line (codes "Loop")
 why_lines none.Fall = no_hints_line (codes "Fall")
 why_lines none.Memory = []

@@ -2,13 +2,13 @@
 
 ghost use Rattle.std.specs.Prelude.{◌≡◌, ◌++◌, IfOk, codes, filter, length};
 ghost use Rattle.uz_program_commands.specs.HintsCommand.{cell_count, fact_count, frame_lines, hints_line as line_of_hints};
-ghost use Rattle.uz_program_commands.specs.HintsCommand.{is_cell, is_fact, no_hints_line, run_lines, why_lines};
+ghost use Rattle.uz_program_commands.specs.HintsCommand.{is_cell, is_fact, no_hints_line, why_lines};
 
 use avr_asm::Hint;
 use std::alloc::{AllocError, Global};
-use uz_files::{number_line, put_number};
+use uz_files::put_number;
 use uz_outcomes::stopped;
-use uz_proposal::{NoHints, Remarked};
+use uz_proposal::{NoHints, Remarked, frame_text};
 
 /// The lines of the frame that some hints name: those of the first that does, 0 where none does.
 fn lines_named(hints: &[Remarked]) -> u16
@@ -90,9 +90,7 @@ pub(crate) fn why_none(alloc: Global, why: NoHints) -> Result<Vec<u8>, AllocErro
 {
     match why {
         NoHints::Stopped { pc, why } => no_hints(stopped(alloc, pc, why)?, b"Stopped"),
-        NoHints::Frame { lines } => {
-            no_hints(number_line(alloc, b"lines ", u64::from(lines))?, b"Frame")
-        }
+        NoHints::Frame(found) => no_hints(frame_text(alloc, &found)?, b"Frame"),
         NoHints::Loop => no_hints(Vec::new(alloc), b"Loop"),
         NoHints::Fall => no_hints(Vec::new(alloc), b"Fall"),
         NoHints::Memory => Ok(Vec::new(alloc)),

@@ -1,2 +1,3 @@
+pub mod NoFrames
 pub mod Sources
 pub mod Text

@@ -2,7 +2,7 @@
 
 ghost use Rattle.std.specs.Prelude.{◌≡◌, ◌<◌, ◌≤◌};
 
-use crate::frame::{Frame, have_lengths, no_frame, part};
+use crate::frame::{Frame, have_lengths, no_frame, odd_frame, part};
 use crate::no_hints::NoHints;
 use std::alloc::{AllocError, Global};
 use uz_machine::Edge;
@@ -105,7 +105,7 @@ fn frame_alone(
 ) -> Result<(Frame, Fall), NoHints> {
     let frame = part(lines, period.from, period.lines);
     if !have_lengths(frame) {
-        return Err(no_frame(lines));
+        return Err(odd_frame(lines));
     }
     let zero = zero_alone(frame, falls, period.from, pc).ok_or(NoHints::Fall)?;
     let start = falls

@@ -2,7 +2,7 @@
 
 ghost use Rattle.std.specs.Prelude.{◌≡◌, ◌<◌, ◌≤◌, ◌+◌, length};
 
-use crate::no_hints::NoHints;
+use crate::no_hints::{NoFrame, NoHints};
 use std::alloc::{AllocError, Global};
 use uz_observation::{Line, Period, is_broad, mix, period_in};
 use uz_schedule::{HALF_LINE, SCANLINE};
@@ -221,7 +221,7 @@ fn frame_at(
 ) -> Result<Frame, NoHints> {
     let frame = part(lines, period.from, period.lines);
     if !have_lengths(frame) {
-        return Err(no_frame(lines));
+        return Err(odd_frame(lines));
     }
     let (fall, falling) = match fall_of(frame) {
         None => return Err(no_part(lines)),
@@ -240,10 +240,27 @@ fn frame_at(
     })
 }
 
+fn frameless(lines: usize, short: bool) -> NoHints {
+    NoHints::Frame(NoFrame {
+        lines: u32::try_from(lines).unwrap_or(u32::MAX),
+        apart: [0; 4],
+        short,
+    })
+}
+
+/// The lines have no frame. Two of the longest frames don't fit into fewer than 1050 lines.
 pub(crate) fn no_frame(lines: &[Line]) -> NoHints {
-    NoHints::Frame {
-        lines: u32::try_from(lines.len()).unwrap_or(u32::MAX),
-    }
+    frameless(lines.len(), lines.len() < 1050)
+}
+
+/// There is no line yet.
+pub(crate) fn no_line() -> NoHints {
+    frameless(0, true)
+}
+
+/// The lines have a frame, with a line that is no scanline and no half line.
+pub(crate) fn odd_frame(lines: &[Line]) -> NoHints {
+    frameless(lines.len(), false)
 }
 
 /// The frame that the lines make.

@@ -3,6 +3,7 @@
 
 mod alone;
 mod checked;
+mod falls;
 mod flood;
 mod frame;
 mod no_hints;
@@ -12,7 +13,7 @@ mod seen;
 mod text;
 
 pub use checked::checked_source;
-pub use no_hints::NoHints;
+pub use no_hints::{NoFrame, NoHints};
 pub use proposing::propose;
 pub use remarks::{Remark, Remarked};
-pub use text::hint_source;
+pub use text::{frame_text, hint_source};

@@ -3,15 +3,16 @@
 ghost use Rattle.std.specs.Prelude.{◌≡◌, ◌<◌, ◌≤◌, ◌^◌, length};
 
 use crate::alone::find_alone;
+use crate::falls::with_falls;
 use crate::flood::{Flood, flood_from};
-use crate::frame::{Cells, Frame, frame_of, is_periodic, is_short, no_frame};
+use crate::frame::{Cells, Frame, frame_of, is_periodic, is_short, no_frame, no_line};
 use crate::no_hints::NoHints;
 use crate::remarks::{Remark, Remarked};
 use crate::seen::{Seen, candidates, main_loop, see};
 use avr_asm::Hint;
 use std::alloc::{AllocError, Global};
 use uz_console::Console;
-use uz_machine::address::TIMER1_COMPA;
+use uz_machine::address::{SREG, TIMER1_COMPA};
 use uz_observation::{Line, Registers, register_bit, registers_at};
 use uz_schedule::{HALF_LINE, Kind};
 
@@ -345,15 +346,40 @@ fn kernel_hints(
     Ok(hints)
 }
 
-/// The hints of a program without interrupts.
+/// The hints of a kernel with interrupts, where there are some.
+fn interrupted_hints(
+    alloc: Global,
+    seen: &mut Seen,
+    start: &mut Console,
+    limit: u64,
+    handler: &Flood,
+    addresses: &[u16],
+) -> Result<Vec<Remarked>, NoHints>
+    requires { limit ≤ 2 ^ 62 }
+{
+    let kernel = find_kernel(alloc, seen, start, limit, addresses)?;
+    let handlers = handler_pushes(seen, handler);
+    Ok(kernel_hints(alloc, seen, &kernel, handlers, addresses)?)
+}
+
+/// Whether an interrupt is to come: timer 1 counts, and I is set.
+fn waits_for_entry(console: &Console) -> bool {
+    console.timer().counting() && console.byte(SREG) >> 7 & 1 == 1
+}
+
+/// The hints of a program without interrupts. If one is to come, the run is too short where it shows no line.
 fn alone_hints(
     alloc: Global,
     seen: &mut Seen,
     start: &Console,
     limit: u64,
+    waits: bool,
 ) -> Result<Vec<Remarked>, NoHints>
     requires { limit ≤ 2 ^ 62 }
 {
+    if waits && seen.survey.falls.len() < 2 {
+        return Err(no_line());
+    }
     let found = find_alone(alloc, seen.window.edges(), seen.survey.falls.as_slice())?;
     let pc = found.start.pc;
     let code = flood_from(alloc, start.image(), pc)?;
@@ -379,10 +405,20 @@ pub fn propose(alloc: Global, console: &mut Console, limit: u64) -> Result<Vec<R
     let handler = flood_from(alloc, console.image(), TIMER1_COMPA)?;
     let addresses = candidates(alloc, &handler)?;
     let mut seen = see(alloc, console, limit, addresses.as_slice())?;
-    if seen.survey.entries == 0 {
-        return alone_hints(alloc, &mut seen, &start, limit);
+    let hints = if seen.survey.entries == 0 {
+        alone_hints(alloc, &mut seen, &start, limit, waits_for_entry(console))
+    } else {
+        interrupted_hints(
+            alloc,
+            &mut seen,
+            &mut start,
+            limit,
+            &handler,
+            addresses.as_slice(),
+        )
+    };
+    match hints {
+        Ok(hints) => Ok(hints),
+        Err(why) => Err(with_falls(why, seen.window.edges())),
     }
-    let kernel = find_kernel(alloc, &mut seen, &mut start, limit, addresses.as_slice())?;
-    let handlers = handler_pushes(&seen, &handler);
-    Ok(kernel_hints(alloc, &seen, &kernel, handlers, addresses.as_slice())?)
 }

@@ -1,9 +1,11 @@
 //! Hints as a source without bytes.
 
 ghost use Rattle.std.specs.Prelude.{◌≡◌, ◌*◌, ◌%◌, ◌++◌, IfOk, OnOk};
+ghost use Rattle.uz_proposal.specs.NoFrames.{apart_words, distance_word, no_frame_lines, short_line};
 ghost use Rattle.uz_proposal.specs.Text.{addressed, counts_part, fact_line, falling_part, half_line, hint_line, kind_word, lines_line, numbered, paired};
 ghost use Rattle.uz_proposal.specs.Text.{place_word, remark_line, remarked_lines, source_of, falls_line, handler_cell_line, main_cell_line, stack_line, start_line, stored_line};
 
+use crate::no_hints::NoFrame;
 use crate::remarks::{Remark, Remarked};
 use avr_asm::Hint;
 use itoa::Buffer;
@@ -247,6 +249,53 @@ fn add_remarked(text: &mut Vec<u8>, remarked: Remarked) -> Result<(), AllocError
     text.extend_from_slice(b"\n")?;
     add_hint(text, remarked.hint)?;
     text.extend_from_slice(b"\n")
+}
+
+/// Adds the clocks between falls of sync.
+fn add_apart(text: &mut Vec<u8>, apart: &[u32]) -> Result<(), AllocError>
+    ensures { OnOk result (text.new.items ≡ text.old.items ++ apart_words apart.now) }
+{
+    for clocks in apart {
+        add_distance(text, *clocks)?;
+    }
+    Ok(())
+}
+
+/// Adds the clocks between two falls of sync, if there are two.
+fn add_distance(text: &mut Vec<u8>, clocks: u32) -> Result<(), AllocError>
+    ensures { OnOk result (text.new.items ≡ text.old.items ++ distance_word clocks) }
+{
+    if clocks == 0 {
+        Ok(())
+    } else {
+        add_number(text, b" ", clocks)
+    }
+}
+
+/// Adds the line that says that the run is too short, if it is.
+fn add_short(text: &mut Vec<u8>, short: bool) -> Result<(), AllocError>
+    ensures { OnOk result (text.new.items ≡ text.old.items ++ short_line short) }
+{
+    if short {
+        text.extend_from_slice(b"run longer: fewer than two frames\n")
+    } else {
+        Ok(())
+    }
+}
+
+/// The lines that tell of lines that make no frame: how many they are, the clocks between the last falls of sync, and whether the run
+/// is too short. The one error is want of memory.
+pub fn frame_text(alloc: Global, found: &NoFrame) -> Result<Vec<u8>, AllocError>
+    ensures { IfOk result (λ text. text.items ≡ no_frame_lines found.now) }
+{
+    let mut text = Vec::new(alloc);
+    add_number(&mut text, b"lines ", found.lines)?;
+    text.extend_from_slice(b"\nfalls")?;
+    let apart = found.apart;
+    add_apart(&mut text, &apart)?;
+    text.extend_from_slice(b"\n")?;
+    add_short(&mut text, found.short)?;
+    Ok(text)
 }
 
 /// A source without bytes that says some hints in their order, each on a line of its own behind a comment that says what was seen.
