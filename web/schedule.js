@@ -50,7 +50,7 @@ function waveform(kind, name, y) {
     more = `<rect class="main" x="${x(leave.clock)}" y="${high - 6}" width="${(WIDE * (kind.length - leave.clock) / 1820).toFixed(1)}" height="46"/>` +
       `<text x="${x(leave.clock)}" y="${high - 8}">return ${leave.clock}</text>` + more;
   }
-  return `<g>${more}<path d="${path}H${x(kind.length)}"/><text x="4" y="${y + 18}">${name}: ${kind.lines} lines</text>` +
+  return `<g>${more}<path d="${path}H${x(kind.length)}"/><text x="4" y="${y + 18}">${name}: ${kind.lines} line${kind.lines === 1 ? '' : 's'}</text>` +
     `<text x="4" y="${y + 32}">${kind.length} clocks</text></g>`;
 }
 
@@ -64,7 +64,7 @@ function strip({ kinds, lines }, y) {
     out += `<rect class="kind${number % 4}" x="${left.toFixed(1)}" y="${y}" width="${wide.toFixed(2)}" height="20"/>`;
     if (wide > 14) out += `<text x="${(left + wide / 2 - 4).toFixed(1)}" y="${y + 14}">${letter(number)}</text>`;
   }
-  return `${out}<text x="4" y="${y + 14}">frame: ${lines.length} lines</text>`;
+  return `${out}<text x="4" y="${y + 14}">frame: ${lines.length} line${lines.length === 1 ? '' : 's'}</text>`;
 }
 
 const letter = number => number < 26 ? String.fromCharCode(65 + number) : String(number);
