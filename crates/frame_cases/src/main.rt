@@ -9,6 +9,7 @@
 //! - `frame ONE TWO CLOCKS`: the players' buttons are held, and a frame is played, in so many clocks.
 //! - `hold ONE TWO`: buttons are held. `advance CLOCKS`: the next record within so many clocks.
 //! - `clock`: the clock since reset.
+//! - `again`: goes on with a play that is made of the plain fields of this one. What comes after it is as without it.
 //!
 //! Other rows are printed as they are.
 #![tactic(auto)]
@@ -32,12 +33,33 @@ fn image_of(alloc: Global, text: &[u8]) -> Option<Image> {
     read_hex(alloc, text).ok()
 }
 
+/// A play with its flash.
+#[derive(Drop)]
+struct Played {
+    image: Image,
+    play: Play,
+}
+
+/// The play at reset of an image.
+fn start(alloc: Global, image: Image) -> Result<Played> {
+    let play = Play::reset(alloc, image.copy(alloc)?, Response::Four)?;
+    Ok(Played { image, play })
+}
+
 /// The play at reset of a text's image.
-fn reset(rt: &HostRuntime, text: &[u8], play: &mut Play) -> Result<()> {
+fn reset(rt: &HostRuntime, text: &[u8], played: &mut Played) -> Result<()> {
     match image_of(rt.alloc(), text) {
-        Some(image) => *play = Play::reset(rt.alloc(), image, Response::Four)?,
+        Some(image) => *played = start(rt.alloc(), image)?,
         None => println!(rt; "no image")?,
     }
+    Ok(())
+}
+
+/// The play that its plain fields give.
+fn again(alloc: Global, played: &mut Played) -> Result<()> {
+    let image = played.image.copy(alloc)?;
+    let state = played.play.state();
+    played.play = Play::of_state(alloc, image, &state)?;
     Ok(())
 }
 
@@ -49,20 +71,21 @@ fn pad_of(row: &mut Row) -> Pad {
 }
 
 /// Does what a row says.
-fn act(rt: &HostRuntime, line: &str, text: &mut Vec<u8>, play: &mut Play) -> Result<()> {
+fn act(rt: &HostRuntime, line: &str, text: &mut Vec<u8>, played: &mut Played) -> Result<()> {
     let mut row = Row::new(line);
     match row.word() {
         "reset" => {
-            reset(rt, text.as_slice(), play)?;
+            reset(rt, text.as_slice(), played)?;
             text.clear();
         }
         "frame" => {
             let pad = pad_of(&mut row);
-            frame(rt, play, pad, row.number())?;
+            frame(rt, &mut played.play, pad, row.number())?;
         }
-        "hold" => play.hold(rt.alloc(), pad_of(&mut row))?,
-        "advance" => advance(rt, play, row.number())?,
-        "clock" => println!(rt; "{}", play.clock())?,
+        "hold" => played.play.hold(rt.alloc(), pad_of(&mut row))?,
+        "advance" => advance(rt, &mut played.play, row.number())?,
+        "clock" => println!(rt; "{}", played.play.clock())?,
+        "again" => again(rt.alloc(), played)?,
         _ => {}
     }
     Ok(())
@@ -70,7 +93,7 @@ fn act(rt: &HostRuntime, line: &str, text: &mut Vec<u8>, play: &mut Play) -> Res
 
 fn main(rt: HostRuntime) -> Result<()> {
     let alloc = rt.alloc();
-    let mut play = Play::reset(alloc, Image::empty(alloc)?, Response::Four)?;
+    let mut played = start(alloc, Image::empty(alloc)?)?;
     let mut text = Vec::new(alloc);
     for line in rt.lines(alloc) {
         let line = line?;
@@ -79,7 +102,7 @@ fn main(rt: HostRuntime) -> Result<()> {
             text.push(b'\n')?;
         } else {
             println!(rt; "{}", line)?;
-            act(&rt, line.as_str(), &mut text, &mut play)?;
+            act(&rt, line.as_str(), &mut text, &mut played)?;
         }
     }
     Ok(())
