@@ -1,6 +1,6 @@
 -- A crowd among those that are ranked.
-use Rattle.std.proofs.Common.{◌≡◌, ◌≤◌, ◌<◌, ◌+◌, ◌∙◌, ℕ, zero, suc, Bool, true, false, List, [], ◌∷◌, refl, sym, ap, take, drop, length, get_or, ltb, eqb, arith, add-one}
-use Rattle.std.specs.Prelude.{insert, if◌then◌else◌}
+use Rattle.std.proofs.Common.{◌≡◌, ◌≤◌, ◌<◌, ◌+◌, ◌∙◌, ℕ, zero, suc, Bool, true, false, List, [], ◌∷◌, refl, sym, ap, take, drop, length, get_or, ltb, arith, add-one}
+use Rattle.std.specs.Prelude.{insert}
 use Rattle.std.proofs.lemmas.Bool.{ne_eqb}
 use Rattle.std.proofs.lemmas.List.{drop_more}
 use Rattle.uz_crowds.specs.declared.ranking.Crowd.{Crowd}

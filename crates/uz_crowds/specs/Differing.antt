@@ -1,5 +1,5 @@
 -- In which parts instances differ, and how many values each of these has.
-use Rattle.std.specs.Prelude.{ℕ, zero, suc, ◌+◌, Bool, not, List, [], ◌∷◌, ◌++◌, length, codes, decimal, filter, filter_map, min, nat_lt}
+use Rattle.std.specs.Prelude.{ℕ, zero, suc, not, List, [], ◌∷◌, ◌++◌, length, codes, decimal, filter, filter_map, min, nat_lt}
 use Rattle.std.specs.Prelude.{if◌then◌else◌}
 use Rattle.uz_schedule.specs.declared.kinds.Kind.TheVariants.{Main, Handler, Alone}
 use Rattle.uz_schedule.specs.declared.states.Instance.{Instance}

@@ -1,6 +1,5 @@
 use Rattle.std.proofs.Common.{◌++◌, ◌∙◌, ap}
 use Rattle.std.specs.Prelude.{flat_map}
-use Rattle.uz_crowds.specs.Ranking.{greatest}
 use Rattle.uz_crowds.specs.Telling.{crowd_lines}
 use Rattle.uz_crowds.proofs.Lines.{all_told}
 use Rattle.uz_crowds.proofs.telling.crowd_text.Goals as goal
