@@ -2,13 +2,24 @@
 
 ghost use Rattle.std.specs.Prelude.{◌≡◌, ◌++◌, IfOk, OnOk};
 ghost use Rattle.uz_explanations.specs.Readings.{Reading, IsReading};
+ghost use Rattle.uz_crowds.specs.Telling.{crowds_text};
 ghost use Rattle.uz_explanations.specs.Explanations.{explanation};
 
 use crate::ways::{add_way, add_ways};
 use avr_asm::Labels;
 use std::alloc::{AllocError, Global};
+use uz_crowds::crowd_text;
 use uz_hex::Image;
-use uz_search::NotFound;
+use uz_search::{Instances, NotFound};
+
+/// Adds the places with most instances of a search that is full.
+fn add_full(alloc: Global, text: &mut Vec<u8>, instances: &Instances) -> Result<(), AllocError>
+    ensures { OnOk result (text.new.items ≡ text.old.items ++ crowds_text instances.now) }
+{
+    let crowds = crowd_text(alloc, instances.as_slice())?;
+    text.extend_from_slice(crowds.as_slice())?;
+    Ok(())
+}
 
 /// Adds what is told of a refusal.
 fn add_explanation(
@@ -31,7 +42,7 @@ fn add_explanation(
             first.as_slice(),
             second.as_slice(),
         ),
-        NotFound::Full { .. } => Ok(()),
+        NotFound::Full { instances } => add_full(alloc, text, instances),
         NotFound::Hint { .. } => Ok(()),
         NotFound::NoRest { .. } => Ok(()),
         NotFound::Memory => Ok(()),
@@ -39,7 +50,8 @@ fn add_explanation(
 }
 
 /// Why a search of this image finds no certificate, besides the line that names the refusal: of an instance that is refused the way to
-/// it, of two trails that differ both ways, each from the last instance on that both share, and else nothing.
+/// it, of two trails that differ both ways, each from the last instance on that both share, of a search that is full the places with
+/// most instances and what differs there (`uz_crowds`), and else nothing.
 ///
 /// An instance is a line: its kind, and outside main its line of the frame and the clock of it; its program counter; the words and the
 /// text of its instruction as a listing has them; and the nearest label at or before its byte address, with the bytes between. A stretch

@@ -20,9 +20,10 @@ returns-in-Split c = on_ok_weaker c.add_ways.result
     c.add_ways.ensures
 
 pub returns-in-Full : goal.returns-in-Full
-returns-in-Full c read is =
-    sym (append-nil c.args.text.now.items)
-    ∙ ap (λ why. c.args.text.now.items ++ explanation c.args.image.now read c.args.labels.now why) (sym c.in-Full.is)
+returns-in-Full c = on_ok_weaker c.add_full.result
+    (λ added read is. added
+    ∙ ap (λ why. c.args.text.now.items ++ explanation c.args.image.now read c.args.labels.now why) (sym c.in-Full.is))
+    c.add_full.ensures
 
 pub returns-in-Hint : goal.returns-in-Hint
 returns-in-Hint c read is =
