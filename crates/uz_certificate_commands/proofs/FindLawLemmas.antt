@@ -16,9 +16,10 @@ use Rattle.uz_files.proofs.ReadsLemmas.{fails_says, says_same}
 use Rattle.uz_outcomes.specs.SearchLines.{Allowed}
 use Rattle.uz_program_commands.proofs.MacroLemmas.{OneEnd}
 use Rattle.uz_certificate_commands.specs.CertifyCommand.{CertifyAnswers, certify_answer}
-use Rattle.uz_certificate_commands.specs.FindCommand.{FindAnswers, IsSought, SpellsHinted, find_answer}
+use Rattle.uz_certificate_commands.specs.FindCommand.{FindAnswers, FindTells, find_answer}
+use Rattle.uz_certificate_commands.specs.HintedSearch.{IsSought, SpellsHinted, source_of}
 use Rattle.uz_certificate_commands.specs.FindLaw.{AreAlike, IsFlatWith}
-use Rattle.uz_certificate_commands.proofs.FindLemmas.{other_of, reads_goes, spelled_reads}
+use Rattle.uz_certificate_commands.proofs.HintedLemmas.{other_of, reads_goes, spelled_reads}
 
 answers_alike : (other name : List ℕ) (image : Flash) (found : Result Cert NotFound) → AreAlike (hex_file other image)
     (certify_answer other name image found) (find_answer name found)
@@ -27,12 +28,10 @@ answers_alike other name image (Err why) = (refl, refl, refl, inl (refl, refl))
 
 module _ (files : FileMap) (hex source other name : List ℕ) (irq : Response) (output : Output)
     (flat : IsFlatWith (Some files) hex source output) where
-  spelled : SpellsHinted (Some files) hex source output.image output
+  spelled : SpellsHinted (Some files) hex source output.image (source_of flat.names flat.flat output)
   spelled = record {
     spelled_image = flat.image;
     fits = record {
-      names = flat.names;
-      flat = flat.flat;
       expands = flat.expands;
       assembles = flat.assembles;
       within = λ at byte is. is;
@@ -48,7 +47,8 @@ module _ (files : FileMap) (hex source other name : List ℕ) (irq : Response) (
       let told : answer ≡ certify_answer other name output.image found =
       subst (λ (o : Output). answer ≡ certify_answer other name o.image found) same is in (
         find_answer name found,
-        spelled_reads (Some files) ⊥ hex source (λ image. IsSought image irq name) output.image output (find_answer name found) spelled
+        spelled_reads (Some files) ⊥ hex source (IsSought (FindTells name) irq) output.image (source_of flat.names flat.flat output)
+            (find_answer name found) spelled
             (found, subst (λ (o : Output). Allowed o.image irq o.hints found) same allowed, refl),
         subst (λ a. AreAlike (hex_file other output.image) a (find_answer name found)) (sym told)
             (answers_alike other name output.image found),
@@ -57,10 +57,10 @@ module _ (files : FileMap) (hex source other name : List ℕ) (irq : Response) (
   pub find_certified : (one : OneEnd) (readings : Readings) (answer : Answer) → FindAnswers (Some files) ⊥ hex source irq name answer
       → (certified : Answer) × CertifyAnswers (Some files) ⊥ source irq other name certified
       × AreAlike (hex_file other output.image) certified answer
-  find_certified one readings answer h = by_case (other_of (reads_goes one readings files ⊥ hex source (λ image. IsSought image irq name)
-      answer output.image output spelled h))
+  find_certified one readings answer h = by_case (other_of (reads_goes one readings files ⊥ hex source (IsSought (FindTells name) irq)
+      answer output.image (source_of flat.names flat.flat output) spelled h))
     where
-      by_case : IsSought output.image irq name output.hints answer
+      by_case : IsSought (FindTells name) irq output.image (source_of flat.names flat.flat output) answer
           → (certified : Answer) × CertifyAnswers (Some files) ⊥ source irq other name certified
           × AreAlike (hex_file other output.image) certified answer
       by_case (found, allowed, is) = (

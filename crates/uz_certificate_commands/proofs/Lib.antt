@@ -7,6 +7,8 @@ pub mod DemoWorthLemmas
 pub mod PlayLemmas
 pub mod PlaySameLemmas
 pub mod PlayWorthLemmas
-pub mod FindBytes
+pub mod HintedBytes
+pub mod HintedLemmas
 pub mod FindLemmas
 pub mod FindLawLemmas
+pub mod WhyLemmas

@@ -2,10 +2,7 @@
 use Rattle.std.specs.Prelude.{◌≡◌, ℕ, List, Option, Ok, Err}
 use Rattle.uz_shelf.specs.Files.{FileMap}
 use Rattle.uz_hex.specs.Reading.{Flash}
-use Rattle.avr_asm.specs.Assembly.{Output}
 use Rattle.avr_asm.specs.declared.output.Hint.{Hint as SourceHint}
-use Rattle.avr_macro.specs.declared.flat.Flat.{Flat}
-use Rattle.avr_macro.specs.Expansion.{FlatText}
 use Rattle.uz_schedule.specs.declared.kinds.Response.{Response}
 use Rattle.uz_schedule.specs.declared.certificate.Cert.{Cert}
 use Rattle.uz_cert_lines.specs.declared.version.Version.TheVariants.{Second}
@@ -14,28 +11,12 @@ use Rattle.uz_search.specs.declared.found.NotFound.{NotFound}
 use Rattle.uz_files.specs.declared.ending.Ending.{Ending}
 use Rattle.uz_files.specs.declared.status.Status.TheVariants.{Refused}
 use Rattle.uz_files.specs.declared.work.Work.{Work}
-use Rattle.uz_files.specs.Answers.{Answer}
 use Rattle.uz_files.specs.Formats.{SpellsCertificate}
 use Rattle.uz_outcomes.specs.SearchLines.{Allowed, not_found_line}
 use Rattle.uz_outcomes.specs.VerdictLines.{accepted_line}
-use Rattle.uz_program_commands.specs.MacroSource.{ReadsFlat}
-use Rattle.uz_certificate_commands.specs.FindCommand.{IsHinted, ReadsHinted, SpellsHinted}
+use Rattle.uz_certificate_commands.specs.HintedSearch.{HintSource, SpellsHinted}
 use Rattle.uz_certificate_commands.specs.declared.find_command.Sought.{Sought}
 use Rattle.uz_certificate_commands.specs.declared.find_command.Sought.TheVariants.{Made, Refusal}
-
--- a flat text as the program keeps it
-abbrev pub text_of : Flat → FlatText
-text_of flat = record { text = flat.text.items; origins = flat.origins.items }
-
--- the hints' source ends the command, or one of both files does: no search is made
-abbrev pub NoSearch : Flash → List SourceHint → Answer → Type 0
-NoSearch image hints answer = ⊥
-
-abbrev pub HintsFail : Option FileMap → Type 0 → List ℕ → Flash → Answer → Type 0
-HintsFail files load_fault hints image = ReadsFlat files load_fault hints (IsHinted image (NoSearch image))
-
-abbrev pub FindFails : Option FileMap → Type 0 → List ℕ → List ℕ → Answer → Type 0
-FindFails files load_fault hex hints = ReadsHinted files load_fault hex hints NoSearch
 
 -- what is to be written and printed of a certificate
 pub record IsWorkOfCert (cert : Cert) (work : Work) : Type 0 where
@@ -62,6 +43,6 @@ IsSoughtFor image irq hints (Refusal ending) = IsSearchRefusal image irq hints e
 -- of both files
 pub record IsFoundFor (files : Option FileMap) (hex hints : List ℕ) (irq : Response) (sought : Sought) : Type 0 where
   pub image : Flash
-  pub output : Output
-  pub spelled : SpellsHinted files hex hints image output
-  pub is : IsSoughtFor image irq output.hints sought
+  pub source : HintSource
+  pub spelled : SpellsHinted files hex hints image source
+  pub is : IsSoughtFor image irq source.output.hints sought

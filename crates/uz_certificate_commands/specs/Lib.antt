@@ -9,6 +9,10 @@ pub mod DemoCommand
 pub mod DemoValues
 pub mod PlayCommand
 pub mod PlayValues
+pub mod HintedSearch
+pub mod HintedValues
 pub mod FindCommand
 pub mod FindValues
 pub mod FindLaw
+pub mod HintLines
+pub mod WhyCommand

@@ -1,4 +1,4 @@
-//! The commands that make a certificate, or read one and print or write, `certify`, `find`, `check`, `report`, `timing` and `migrate`, and those
+//! The commands that make a certificate, or read one and print or write, `certify`, `find`, `why`, `check`, `report`, `timing` and `migrate`, and those
 //! that play a certified console, `play` and `demo`.
 #![tactic(auto)]
 
@@ -9,6 +9,8 @@ mod demo_run;
 mod demo_start;
 mod find_command;
 mod find_law;
+mod hint_lines;
+mod hinted;
 mod migrate_command;
 mod migrate_law;
 mod play_command;
@@ -16,6 +18,8 @@ mod play_run;
 mod report_command;
 mod report_lines;
 mod timing_command;
+mod why_command;
+mod why_law;
 
 pub use certify_command::run_certify;
 pub use check_command::run_check;
@@ -28,3 +32,5 @@ pub use migrate_law::migration_keeps_acceptance;
 pub use play_run::run_play;
 pub use report_command::run_report;
 pub use timing_command::run_timing;
+pub use why_command::run_why;
+pub use why_law::reading_is_unique;

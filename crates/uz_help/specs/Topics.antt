@@ -119,6 +119,12 @@ topics =
       does = codes "runs from reset, and writes hints for find by what the run shows";
       more = codes "reads HEX, PADS; writes HINTS; IRQ is 4 or 5, CLOCKS 1 to 1000000000\n0 done, 2 a file not read, 3 a fault in a file, 4 no hints, 5 not written, 8 no memory\n";
     }
+    ∷ record {
+      name = codes "why";
+      words = codes "why HEX HINTS IRQ";
+      does = codes "searches as find does, and if it finds none says how the refusal comes about";
+      more = codes "reads HEX, HINTS and the files that it includes; writes no file; IRQ is 4 or 5\n0 accepted, 2 a file not read, 3 a fault in a file, 4 refused, 5 not written, 8 no memory\n";
+    }
     ∷ []
 
 -- a command's words, and below them what it does

@@ -45,6 +45,8 @@ macro_rules! topics {
             "reads HEX, CERT; writes no file\n0 done, 2 a file not read, 3 a fault in a file, 4 refused, 5 not written, 8 no memory\n";
             "hints" "hints HEX PADS IRQ CLOCKS HINTS" "runs from reset, and writes hints for find by what the run shows"
             "reads HEX, PADS; writes HINTS; IRQ is 4 or 5, CLOCKS 1 to 1000000000\n0 done, 2 a file not read, 3 a fault in a file, 4 no hints, 5 not written, 8 no memory\n";
+            "why" "why HEX HINTS IRQ" "searches as find does, and if it finds none says how the refusal comes about"
+            "reads HEX, HINTS and the files that it includes; writes no file; IRQ is 4 or 5\n0 accepted, 2 a file not read, 3 a fault in a file, 4 refused, 5 not written, 8 no memory\n";
         }
     };
 }

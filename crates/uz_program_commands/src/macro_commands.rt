@@ -67,9 +67,9 @@ fn prepare_expansion<H: Shelf>(
     })
 }
 
-/// The origin of a flat line.
+/// The origin of a flat line, counted from 1; line 0 of the first file where there is no such line.
 #[tactic(auto, using(crate::proofs::MacroNames::origin_past))]
-fn origin_of(origins: &[Origin], line: u32) -> Origin
+pub fn origin_of(origins: &[Origin], line: u32) -> Origin
     ensures { result ≡ origin_of_line origins.now line }
 {
     let at = line.saturating_sub(1) as usize;

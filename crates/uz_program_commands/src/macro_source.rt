@@ -22,8 +22,8 @@ pub struct Expanded {
     pub names: Vec<String>,
 }
 
-/// The name of a file by its place.
-fn name_at(names: &[String], file: usize) -> &str
+/// The name of a file by its place among the names of an expansion's files; empty where it has none there.
+pub fn name_at(names: &[String], file: usize) -> &str
     ensures { result.now ≡ name_of (map string_bytes names.now) file }
 {
     if file < names.len() {

@@ -11,7 +11,7 @@ use Rattle.uz_top.specs.Words.{help_words, hints_with, hints_words, prints, vers
 use Rattle.uz_top.specs.Words.{Command, Asm, Build, Check, Expand, Migrate, Report, Timing, WritesApart, asm_words, build_words, certify_with}
 use Rattle.uz_top.specs.Words.{certify_words, find_with, find_words, migrate_words, report_words, timing_words, wave_with, wave_words}
 use Rattle.uz_top.specs.Words.{check_words, command_of, debug_with, debug_words, demo_with, demo_words, dis_words, expand_words, play_with}
-use Rattle.uz_top.specs.Words.{play_words, response_of, trace_with, trace_words}
+use Rattle.uz_top.specs.Words.{play_words, response_of, trace_with, trace_words, why_with, why_words}
 
 abbrev Apart : Option Command → Type 0
 Apart o = IfSome o WritesApart
@@ -205,10 +205,24 @@ hints_apart (a ∷ b ∷ c ∷ d ∷ e ∷ []) =
     (hints_with_apart a b (response_of c) (number_within 1 1000000001 d) e)
 hints_apart (a ∷ b ∷ c ∷ d ∷ e ∷ f ∷ words) = tt
 
+why_with_apart : (hex hints : List ℕ) (irq : Option Response) → Apart (why_with hex hints irq)
+why_with_apart hex hints (Some irq) = tt
+why_with_apart hex hints None = tt
+
+why_apart : (words : List (List ℕ)) → Apart (why_words words)
+why_apart [] = tt
+why_apart (a ∷ []) = tt
+why_apart (a ∷ b ∷ []) = tt
+why_apart (a ∷ b ∷ c ∷ []) = by_test (bytes_eq a b) None (why_with a b (response_of c)) tt (why_with_apart a b (response_of c))
+why_apart (a ∷ b ∷ c ∷ d ∷ words) = tt
+
 -- the commands from one of them on, in the order in which the first word is compared
 
+abbrev from_why : List ℕ → List (List ℕ) → Option Command
+from_why verb words = if bytes_eq verb (codes "why") then why_words words else None
+
 abbrev from_hints : List ℕ → List (List ℕ) → Option Command
-from_hints verb words = if bytes_eq verb (codes "hints") then hints_words words else None
+from_hints verb words = if bytes_eq verb (codes "hints") then hints_words words else from_why verb words
 
 abbrev from_find : List ℕ → List (List ℕ) → Option Command
 from_find verb words = if bytes_eq verb (codes "find") then find_words words else from_hints verb words
@@ -278,7 +292,8 @@ command_apart (verb ∷ words) =
     (by_test (bytes_eq verb (codes "help")) (help_words words) (from_version verb words) (help_apart words)
     (by_test (bytes_eq verb (codes "version")) (version_words words) (from_find verb words) (version_apart words)
     (by_test (bytes_eq verb (codes "find")) (find_words words) (from_hints verb words) (find_apart words)
-    (by_test (bytes_eq verb (codes "hints")) (hints_words words) None (hints_apart words) tt)))))))))))))))))
+    (by_test (bytes_eq verb (codes "hints")) (hints_words words) (from_why verb words) (hints_apart words)
+    (by_test (bytes_eq verb (codes "why")) (why_words words) None (why_apart words) tt))))))))))))))))))
 
 -- what holds of the command where the names of its files differ
 pub holds_apart : (words : List (String Global)) (c : Command) (holds : Command → Type 0) → Some c ≡ command_of (map string_bytes words)

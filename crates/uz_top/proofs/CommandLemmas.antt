@@ -9,7 +9,7 @@ use Rattle.uz_files.specs.declared.status.Status.{Status}
 use Rattle.uz_files.specs.declared.status.Status.TheVariants as status
 use Rattle.uz_files.specs.Answers.{Answer, ComesOf, Ends, Outside, MayCome, one_line, outside}
 use Rattle.uz_files.specs.Formats.{Readings}
-use Rattle.uz_top.specs.Words.{Command, Asm, Build, Certify, Check, Debug, Demo, Dis, Expand, Find, Hints, Migrate, Play, Prints, Report, Timing, Trace, Wave}
+use Rattle.uz_top.specs.Words.{Command, Asm, Build, Certify, Check, Debug, Demo, Dis, Expand, Find, Hints, Migrate, Play, Prints, Report, Timing, Trace, Wave, Why}
 use Rattle.uz_top.specs.Commands.{AllowedFor, Answers, AnswersBy, IsDecided, LacksRead, PartAnswers, Succeeds}
 use Rattle.uz_files.proofs.EndingLemmas.{comes_by, comes_of_line}
 use Rattle.uz_files.proofs.OutcomeLemmas.{came_from, from_answer, unwritten_by}
@@ -25,7 +25,11 @@ use Rattle.uz_program_commands.proofs.AsmLemmas.{asm_done_answer, asm_or_fault, 
 use Rattle.uz_program_commands.proofs.DisLemmas.{dis_status, dis_or_fault, dis_same, dis_done}
 use Rattle.uz_certificate_commands.proofs.CertifyLemmas.{certify_always, certify_decided, certify_or_fault, certify_status}
 use Rattle.uz_certificate_commands.proofs.DemoSameLemmas.{demo_allowed, demo_done, demo_same, demo_status}
-use Rattle.uz_certificate_commands.proofs.FindLemmas.{find_always, find_decided, find_or_fault, find_status}
+use Rattle.uz_certificate_commands.proofs.HintedLemmas.{search_always, search_decided, search_or_fault, search_status}
+use Rattle.uz_certificate_commands.proofs.FindLemmas.{find_statuses, find_tells_one}
+use Rattle.uz_certificate_commands.specs.FindCommand.{FindTells}
+use Rattle.uz_certificate_commands.specs.WhyCommand.{OneReading, WhyTells}
+use Rattle.uz_certificate_commands.proofs.WhyLemmas.{why_statuses, why_tells_one}
 use Rattle.uz_certificate_commands.proofs.MigrateLemmas.{migrate_done_answer, migrate_or_fault, migrate_same, migrate_status}
 use Rattle.uz_outcomes.proofs.PairLemmas.{pair_done, pair_or_fault, pair_same, pair_status}
 use Rattle.uz_outcomes.specs.VerdictLines.{accepted_line}
@@ -107,8 +111,8 @@ done_as load_fault answer wanted (inl same) is loads = ap (λ a. a.status) same 
 done_as load_fault answer wanted (inr fault) is loads = absurd (loads fault)
 
 -- a new command has its clause here
-law_of : (one : OneEnd) (readings : Readings) (files : Option FileMap) (load_fault : Type 0) (c : Command) → CommandLaw files load_fault c
-law_of one readings files load_fault (Check hex cert) = record {
+law_of : (one : OneEnd) (readings : Readings) (reading : OneReading) (files : Option FileMap) (load_fault : Type 0) (c : Command) → CommandLaw files load_fault c
+law_of one readings reading files load_fault (Check hex cert) = record {
   tells = λ answer h. own_three _ answer status.BadInput status.Done status.Refused tt tt tt
       (pair_status accepted_line files load_fault hex cert answer h);
   free = λ answer h. pair_or_fault accepted_line files load_fault hex cert answer h;
@@ -117,21 +121,21 @@ law_of one readings files load_fault (Check hex cert) = record {
   done = λ told h loads answer p. let d = pair_done accepted_line (Some told) hex cert h in
       done_as load_fault answer d.0 (pair_same accepted_line readings told load_fault hex cert answer d.0 p d.1) d.2 loads;
 }
-law_of one readings files load_fault (Dis hex) = record {
+law_of one readings reading files load_fault (Dis hex) = record {
   tells = λ answer h. own_two _ answer status.BadInput status.Done tt tt (dis_status files load_fault hex answer h);
   free = λ answer h. dis_or_fault files load_fault hex answer h;
   decided = λ told answer p. unsearched told (Dis hex) answer tt (λ wanted q. dis_same readings told ⊥ hex answer wanted p q);
   done = λ told h loads answer p. let d = dis_done (Some told) hex h in
       done_as load_fault answer d.0 (dis_same readings told load_fault hex answer d.0 p d.1) d.2 loads;
 }
-law_of one readings files load_fault (Asm source hex) = record {
+law_of one readings reading files load_fault (Asm source hex) = record {
   tells = λ answer h. own_two _ answer status.BadInput status.Done tt tt (asm_status files load_fault source hex answer h);
   free = λ answer h. asm_or_fault files load_fault source hex answer h;
   decided = λ told answer p. unsearched told (Asm source hex) answer tt (λ wanted q. asm_same readings told ⊥ source hex answer wanted p q);
   done = λ told h loads answer p. let d = asm_done_answer (Some told) source hex h in
       done_as load_fault answer d.0 (asm_same readings told load_fault source hex answer d.0 p d.1) d.2 loads;
 }
-law_of one readings files load_fault (Expand source flat) = record {
+law_of one readings reading files load_fault (Expand source flat) = record {
   tells = λ answer h. own_two _ answer status.BadInput status.Done tt tt (expand_status files load_fault source flat answer h);
   free = λ answer h. flat_or_fault files load_fault source (IsExpanded flat) answer h;
   decided = λ told answer p.
@@ -139,7 +143,7 @@ law_of one readings files load_fault (Expand source flat) = record {
   done = λ told h loads answer p. let d = expand_done (Some told) source flat h in
       done_as load_fault answer d.0 (expand_same one told load_fault source flat answer d.0 p d.1) d.2 loads;
 }
-law_of one readings files load_fault (Build source hex) = record {
+law_of one readings reading files load_fault (Build source hex) = record {
   tells = λ answer h. own_two _ answer status.BadInput status.Done tt tt (build_status files load_fault source hex answer h);
   free = λ answer h. flat_or_fault files load_fault source (IsBuilt hex) answer h;
   decided = λ told answer p.
@@ -147,7 +151,7 @@ law_of one readings files load_fault (Build source hex) = record {
   done = λ told h loads answer p. let d = build_done (Some told) source hex h in
       done_as load_fault answer d.0 (build_same one readings told load_fault source hex answer d.0 p d.1) d.2 loads;
 }
-law_of one readings files load_fault (Trace hex pads irq clocks) = record {
+law_of one readings reading files load_fault (Trace hex pads irq clocks) = record {
   tells = λ answer h. own_three _ answer status.BadInput status.Done status.Stopped tt tt tt
       (trace_status files load_fault hex pads irq clocks answer h);
   free = λ answer h. trace_or_fault files load_fault hex pads irq clocks answer h;
@@ -156,7 +160,7 @@ law_of one readings files load_fault (Trace hex pads irq clocks) = record {
   done = λ told h loads answer p. let d = trace_done (Some told) hex pads irq clocks h in
       done_as load_fault answer d.0 (trace_same readings told load_fault hex pads irq clocks answer d.0 p d.1) d.2 loads;
 }
-law_of one readings files load_fault (Play hex cert pads clocks frames) = record {
+law_of one readings reading files load_fault (Play hex cert pads clocks frames) = record {
   tells = λ answer h. elim (play_status files load_fault hex cert pads clocks frames answer h) [
     | inl unread ↦ inl unread
     | inr (inl e) ↦ inr (own answer _ e tt)
@@ -170,14 +174,14 @@ law_of one readings files load_fault (Play hex cert pads clocks frames) = record
       (λ wanted q. play_same readings told ⊥ hex cert pads clocks frames answer wanted p q);
   done = λ told h loads answer p. play_done readings told load_fault hex cert pads clocks frames h loads answer p;
 }
-law_of one readings files load_fault (Debug hex pads irq script) = record {
+law_of one readings reading files load_fault (Debug hex pads irq script) = record {
   tells = λ answer h. own_two _ answer status.BadInput status.Done tt tt (debug_status files load_fault hex pads irq script answer h);
   free = λ answer h. debug_or_fault files load_fault hex pads irq script answer h;
   decided = λ told answer p. unsearched told (Debug hex pads irq script) answer tt
       (λ wanted q. debug_same readings told ⊥ hex pads irq script answer wanted p q);
   done = λ told h loads answer p. debug_done readings told load_fault hex pads irq script h loads answer p;
 }
-law_of one readings files load_fault (Certify source irq hex cert) = record {
+law_of one readings reading files load_fault (Certify source irq hex cert) = record {
   tells = λ answer h. own_three _ answer status.BadInput status.Refused status.Done tt tt tt
       (certify_status files load_fault source irq hex cert answer h);
   free = λ answer h. certify_or_fault files load_fault source irq hex cert answer h;
@@ -185,7 +189,7 @@ law_of one readings files load_fault (Certify source irq hex cert) = record {
       record { found = d.found; proposal = BadSource; allowed = d.allowed; same = d.decided };
   done = λ told h loads answer p. certify_always readings told load_fault source irq hex cert h loads answer p;
 }
-law_of one readings files load_fault (Demo number) = record {
+law_of one readings reading files load_fault (Demo number) = record {
   tells = λ answer h. elim (demo_status number answer h) [
     | inl e ↦ inr (own answer _ e tt)
     | inr (inl e) ↦ inr (own answer _ e tt)
@@ -201,7 +205,7 @@ law_of one readings files load_fault (Demo number) = record {
   };
   done = λ told h loads answer p. demo_done readings number h answer p;
 }
-law_of one readings files load_fault (Migrate older newer) = record {
+law_of one readings reading files load_fault (Migrate older newer) = record {
   tells = λ answer h. own_two _ answer status.BadInput status.Done tt tt (migrate_status files load_fault older newer answer h);
   free = λ answer h. migrate_or_fault files load_fault older newer answer h;
   decided = λ told answer p. unsearched told (Migrate older newer) answer tt
@@ -209,7 +213,7 @@ law_of one readings files load_fault (Migrate older newer) = record {
   done = λ told h loads answer p. let d = migrate_done_answer (Some told) older newer h in
       done_as load_fault answer d.0 (migrate_same readings told load_fault older newer answer d.0 p d.1) d.2 loads;
 }
-law_of one readings files load_fault (Report hex cert) = record {
+law_of one readings reading files load_fault (Report hex cert) = record {
   tells = λ answer h. own_three _ answer status.BadInput status.Done status.Refused tt tt tt
       (pair_status report_text files load_fault hex cert answer h);
   free = λ answer h. pair_or_fault report_text files load_fault hex cert answer h;
@@ -218,7 +222,7 @@ law_of one readings files load_fault (Report hex cert) = record {
   done = λ told h loads answer p. let d = pair_done report_text (Some told) hex cert h in
       done_as load_fault answer d.0 (pair_same report_text readings told load_fault hex cert answer d.0 p d.1) d.2 loads;
 }
-law_of one readings files load_fault (Timing hex cert) = record {
+law_of one readings reading files load_fault (Timing hex cert) = record {
   tells = λ answer h. own_three _ answer status.BadInput status.Done status.Refused tt tt tt
       (pair_status timing_text files load_fault hex cert answer h);
   free = λ answer h. pair_or_fault timing_text files load_fault hex cert answer h;
@@ -227,7 +231,7 @@ law_of one readings files load_fault (Timing hex cert) = record {
   done = λ told h loads answer p. let d = pair_done timing_text (Some told) hex cert h in
       done_as load_fault answer d.0 (pair_same timing_text readings told load_fault hex cert answer d.0 p d.1) d.2 loads;
 }
-law_of one readings files load_fault (Wave hex pads irq clocks wav) = record {
+law_of one readings reading files load_fault (Wave hex pads irq clocks wav) = record {
   tells = λ answer h. own_three _ answer status.BadInput status.Done status.Stopped tt tt tt
       (wave_status files load_fault hex pads irq clocks wav answer h);
   free = λ answer h. wave_or_fault files load_fault hex pads irq clocks wav answer h;
@@ -236,21 +240,22 @@ law_of one readings files load_fault (Wave hex pads irq clocks wav) = record {
   done = λ told h loads answer p. let d = wave_done (Some told) hex pads irq clocks wav h in
       done_as load_fault answer d.0 (wave_same readings told load_fault hex pads irq clocks wav answer d.0 p d.1) d.2 loads;
 }
-law_of one readings files load_fault (Prints text) = record {
+law_of one readings reading files load_fault (Prints text) = record {
   tells = λ answer h. inr (own answer status.Done (ap (λ a. a.status) h) tt);
   free = λ answer h. inr h;
   decided = λ told answer p. unsearched told (Prints text) answer tt (λ wanted q. inl (p ∙ sym q));
   done = λ told h loads answer p. ap (λ a. a.status) p;
 }
-law_of one readings files load_fault (Find hex hints irq cert) = record {
+law_of one readings reading files load_fault (Find hex hints irq cert) = record {
   tells = λ answer h. own_three _ answer status.BadInput status.Refused status.Done tt tt tt
-      (find_status files load_fault hex hints irq cert answer h);
-  free = λ answer h. find_or_fault files load_fault hex hints irq cert answer h;
-  decided = λ told answer p. let d = find_decided one readings told hex hints irq cert answer p in
+      (search_status (FindTells cert) (find_statuses cert) irq files load_fault hex hints answer h);
+  free = λ answer h. search_or_fault (FindTells cert) irq files load_fault hex hints answer h;
+  decided = λ told answer p. let d = search_decided (FindTells cert) (find_tells_one cert) one readings told hex hints irq answer p in
       record { found = d.found; proposal = BadSource; allowed = d.allowed; same = d.decided };
-  done = λ told h loads answer p. find_always one readings told load_fault hex hints irq cert h loads answer p;
+  done = λ told h loads answer p.
+      search_always (FindTells cert) (find_statuses cert) irq one readings told load_fault hex hints h loads answer p;
 }
-law_of one readings files load_fault (Hints hex pads irq clocks hints) = record {
+law_of one readings reading files load_fault (Hints hex pads irq clocks hints) = record {
   tells = λ answer h. own_three _ answer status.BadInput status.Refused status.Done tt tt tt
       (hints_status files load_fault hex pads irq hints answer h);
   free = λ answer h. hints_or_fault files load_fault hex pads irq hints answer h;
@@ -258,38 +263,47 @@ law_of one readings files load_fault (Hints hex pads irq clocks hints) = record 
       record { found = Err NoRoomToSearch; proposal = d.proposal; allowed = d.allowed; same = d.decided };
   done = λ told never loads answer p. absurd never;
 }
+law_of one readings reading files load_fault (Why hex hints irq) = record {
+  tells = λ answer h. own_three _ answer status.BadInput status.Refused status.Done tt tt tt
+      (search_status (WhyTells irq) (why_statuses irq) irq files load_fault hex hints answer h);
+  free = λ answer h. search_or_fault (WhyTells irq) irq files load_fault hex hints answer h;
+  decided = λ told answer p. let d = search_decided (WhyTells irq) (why_tells_one reading irq) one readings told hex hints irq answer p in
+      record { found = d.found; proposal = BadSource; allowed = d.allowed; same = d.decided };
+  done = λ told h loads answer p.
+      search_always (WhyTells irq) (why_statuses irq) irq one readings told load_fault hex hints h loads answer p;
+}
 
 -- What follows for every command
 
-never_usage : (one : OneEnd) (readings : Readings) (files : Option FileMap) (load_fault : Type 0) (c : Command) (answer : Answer)
+never_usage : (one : OneEnd) (readings : Readings) (reading : OneReading) (files : Option FileMap) (load_fault : Type 0) (c : Command) (answer : Answer)
     → Answers files load_fault c answer → answer.status ≢ status.Usage
-never_usage one readings files load_fault c answer h is =
-    elim ((law_of one readings files load_fault c).tells answer h) [
+never_usage one readings reading files load_fault c answer h is =
+    elim ((law_of one readings reading files load_fault c).tells answer h) [
       | inl (e, cause) ↦ absurd (cc (e, is))
       | inr is_own ↦ subst IsOwn is is_own
     ]
 
-never_unwritten : (one : OneEnd) (readings : Readings) (files : Option FileMap) (load_fault : Type 0) (c : Command) (answer : Answer)
+never_unwritten : (one : OneEnd) (readings : Readings) (reading : OneReading) (files : Option FileMap) (load_fault : Type 0) (c : Command) (answer : Answer)
     → Answers files load_fault c answer → answer.status ≢ status.Unwritten
-never_unwritten one readings files load_fault c answer h is =
-    elim ((law_of one readings files load_fault c).tells answer h) [
+never_unwritten one readings reading files load_fault c answer h is =
+    elim ((law_of one readings reading files load_fault c).tells answer h) [
       | inl (e, cause) ↦ absurd (cc (e, is))
       | inr is_own ↦ subst IsOwn is is_own
     ]
 
-unread_cause : (one : OneEnd) (readings : Readings) (files : Option FileMap) (load_fault : Type 0) (c : Command) (answer : Answer)
+unread_cause : (one : OneEnd) (readings : Readings) (reading : OneReading) (files : Option FileMap) (load_fault : Type 0) (c : Command) (answer : Answer)
     → Answers files load_fault c answer → answer.status ≡ status.Unread → load_fault ⊎ LacksRead files c
-unread_cause one readings files load_fault c answer h is =
-    elim ((law_of one readings files load_fault c).tells answer h) [
+unread_cause one readings reading files load_fault c answer h is =
+    elim ((law_of one readings reading files load_fault c).tells answer h) [
       | inl (e, cause) ↦ cause
       | inr is_own ↦ absurd (subst IsOwn is is_own)
     ]
 
-decided_by : (one : OneEnd) (readings : Readings) (files : FileMap) (write_fault : Type 0) (c : Command) (answer : Answer) (came : Status)
+decided_by : (one : OneEnd) (readings : Readings) (reading : OneReading) (files : FileMap) (write_fault : Type 0) (c : Command) (answer : Answer) (came : Status)
     (old new : Outside) → Answers (Some files) ⊥ c answer → Ends answer write_fault came old new
     → IsDecided (Some files) write_fault c came old new
-decided_by one readings files write_fault c answer came old new h ends =
-    let d = (law_of one readings (Some files) ⊥ c).decided files answer h in
+decided_by one readings reading files write_fault c answer came old new h ends =
+    let d = (law_of one readings reading (Some files) ⊥ c).decided files answer h in
     record {
       found = d.found;
       proposal = d.proposal;
@@ -309,27 +323,27 @@ unread_not_memory e = cc
 unread_not_unwritten : status.Unread ≢ status.Unwritten
 unread_not_unwritten e = cc
 
-module _ (one : OneEnd) (readings : Readings) (files : Option FileMap) (load_fault write_fault : Type 0) (c : Command) (came : Status)
+module _ (one : OneEnd) (readings : Readings) (reading : OneReading) (files : Option FileMap) (load_fault write_fault : Type 0) (c : Command) (came : Status)
     (old new : Outside) where
   not_usage : MayCome (Answers files load_fault c) (PartAnswers files c) write_fault came old new → came ≢ status.Usage
   not_usage h is =
       let from = from_answer (Answers files load_fault c) (PartAnswers files c) write_fault came old new status.Usage usage_not_memory
       usage_not_unwritten h is in
-      never_usage one readings files load_fault c from.0 from.1 from.2
+      never_usage one readings reading files load_fault c from.0 from.1 from.2
 
   unread_by : MayCome (Answers files load_fault c) (PartAnswers files c) write_fault came old new → came ≡ status.Unread → load_fault
       ⊎ LacksRead files c
   unread_by h is =
       let from = from_answer (Answers files load_fault c) (PartAnswers files c) write_fault came old new status.Unread unread_not_memory
       unread_not_unwritten h is in
-      unread_cause one readings files load_fault c from.0 from.1 from.2
+      unread_cause one readings reading files load_fault c from.0 from.1 from.2
 
   pub unwritten : MayCome (Answers files load_fault c) (PartAnswers files c) write_fault came old new → came ≡ status.Unwritten
       → write_fault
   unwritten = unwritten_by (Answers files load_fault c) (PartAnswers files c) write_fault came old new
-      (never_unwritten one readings files load_fault c)
+      (never_unwritten one readings reading files load_fault c)
 
-module _ (one : OneEnd) (readings : Readings) (told : FileMap) (load_fault write_fault : Type 0) (c : Command) (came : Status)
+module _ (one : OneEnd) (readings : Readings) (reading : OneReading) (told : FileMap) (load_fault write_fault : Type 0) (c : Command) (came : Status)
     (old new : Outside) where
   exact : MayCome (Answers (Some told) load_fault c) (PartAnswers (Some told) c) write_fault came old new → (came ≡ status.NoMemory)
       ⊎ (load_fault ⊎ (((came ≡ status.Unwritten) × write_fault) ⊎ IsDecided (Some told) write_fault c came old new))
@@ -337,14 +351,14 @@ module _ (one : OneEnd) (readings : Readings) (told : FileMap) (load_fault write
       elim (came_from (Answers (Some told) load_fault c) (PartAnswers (Some told) c) write_fault came old new h) [
         | inl none ↦ inl none
         | inr (inl cut) ↦ inr (inr (inl cut))
-        | inr (inr given) ↦ ended given.0 given.2 ((law_of one readings (Some told) load_fault c).free given.0 given.1)
+        | inr (inr given) ↦ ended given.0 given.2 ((law_of one readings reading (Some told) load_fault c).free given.0 given.1)
       ]
     where
       ended : (answer : Answer) → Ends answer write_fault came old new → load_fault ⊎ Answers (Some told) ⊥ c answer
           → (came ≡ status.NoMemory)
           ⊎ (load_fault ⊎ (((came ≡ status.Unwritten) × write_fault) ⊎ IsDecided (Some told) write_fault c came old new))
       ended answer ends (inl fault) = inr (inl fault)
-      ended answer ends (inr free) = inr (inr (inr (decided_by one readings told write_fault c answer came old new free ends)))
+      ended answer ends (inr free) = inr (inr (inr (decided_by one readings reading told write_fault c answer came old new free ends)))
 
   complete : MayCome (Answers (Some told) load_fault c) (PartAnswers (Some told) c) write_fault came old new → Succeeds (Some told) c
       → (load_fault → ⊥) → (write_fault → ⊥) → (came ≡ status.Done) ⊎ (came ≡ status.NoMemory)
@@ -352,7 +366,7 @@ module _ (one : OneEnd) (readings : Readings) (told : FileMap) (load_fault write
       elim (came_from (Answers (Some told) load_fault c) (PartAnswers (Some told) c) write_fault came old new h) [
         | inl none ↦ inr none
         | inr (inl cut) ↦ absurd (writes cut.1)
-        | inr (inr given) ↦ inl (given.2.status ∙ (law_of one readings (Some told) load_fault c).done told well loads given.0 given.1)
+        | inr (inr given) ↦ inl (given.2.status ∙ (law_of one readings reading (Some told) load_fault c).done told well loads given.0 given.1)
       ]
 
 -- a fault of the sink is one of writing
@@ -391,52 +405,52 @@ Exact c files load_fault write_fault came old new =
     IfSome files (λ told. (came ≡ status.NoMemory)
     ⊎ (load_fault ⊎ (((came ≡ status.Unwritten) × write_fault) ⊎ IsDecided files write_fault c came old new)))
 
-exact_told : (one : OneEnd) (readings : Readings) (files : Option FileMap) (load_fault write_fault : Type 0) (c : Command)
+exact_told : (one : OneEnd) (readings : Readings) (reading : OneReading) (files : Option FileMap) (load_fault write_fault : Type 0) (c : Command)
     (came : Status) (old new : Outside)
     → MayCome (Answers files load_fault c) (PartAnswers files c) write_fault came old new → Exact c files load_fault write_fault came old
     new
-exact_told one readings None load_fault write_fault c came old new h = tt
-exact_told one readings (Some told) load_fault write_fault c came old new h =
-    exact one readings told load_fault write_fault c came old new h
+exact_told one readings reading None load_fault write_fault c came old new h = tt
+exact_told one readings reading (Some told) load_fault write_fault c came old new h =
+    exact one readings reading told load_fault write_fault c came old new h
 
-pub exact_in : (one : OneEnd) (readings : Readings) (o : Option Command) (c : Command) (files : Option FileMap)
+pub exact_in : (one : OneEnd) (readings : Readings) (reading : OneReading) (o : Option Command) (c : Command) (files : Option FileMap)
     (load_fault write_fault : Type 0) (came : Status)
     (old new : Outside) → Some c ≡ o → MayCome (Answers files load_fault c) (PartAnswers files c) write_fault came old new
     → IfSome o (λ k. Exact k files load_fault write_fault came old new)
-exact_in one readings o c files load_fault write_fault came old new is h =
+exact_in one readings reading o c files load_fault write_fault came old new is h =
     subst (λ p. IfSome p (λ k. Exact k files load_fault write_fault came old new)) is
-    (exact_told one readings files load_fault write_fault c came old new h)
+    (exact_told one readings reading files load_fault write_fault c came old new h)
 
-pub unread_in : (one : OneEnd) (readings : Readings) (o : Option Command) (c : Command) (files : Option FileMap)
+pub unread_in : (one : OneEnd) (readings : Readings) (reading : OneReading) (o : Option Command) (c : Command) (files : Option FileMap)
     (load_fault write_fault : Type 0) (came : Status) (old new : Outside) → Some c ≡ o
     → MayCome (Answers files load_fault c) (PartAnswers files c) write_fault came old new
     → came ≡ status.Unread → IfSome o (λ k. load_fault ⊎ LacksRead files k)
-unread_in one readings o c files load_fault write_fault came old new is h unread =
+unread_in one readings reading o c files load_fault write_fault came old new is h unread =
     subst (λ p. IfSome p (λ k. load_fault ⊎ LacksRead files k)) is
-    (unread_by one readings files load_fault write_fault c came old new h unread)
+    (unread_by one readings reading files load_fault write_fault c came old new h unread)
 
-complete_told : (one : OneEnd) (readings : Readings) (files : Option FileMap) (load_fault write_fault : Type 0) (c : Command)
+complete_told : (one : OneEnd) (readings : Readings) (reading : OneReading) (files : Option FileMap) (load_fault write_fault : Type 0) (c : Command)
     (came : Status) (old new : Outside)
     → MayCome (Answers files load_fault c) (PartAnswers files c) write_fault came old new
     → IfSome files (λ told. Succeeds files c → (load_fault → ⊥) → (write_fault → ⊥) → (came ≡ status.Done) ⊎ (came ≡ status.NoMemory))
-complete_told one readings None load_fault write_fault c came old new h = tt
-complete_told one readings (Some told) load_fault write_fault c came old new h =
-    complete one readings told load_fault write_fault c came old new h
+complete_told one readings reading None load_fault write_fault c came old new h = tt
+complete_told one readings reading (Some told) load_fault write_fault c came old new h =
+    complete one readings reading told load_fault write_fault c came old new h
 
-pub complete_in : (one : OneEnd) (readings : Readings) (o : Option Command) (c : Command) (files : Option FileMap)
+pub complete_in : (one : OneEnd) (readings : Readings) (reading : OneReading) (o : Option Command) (c : Command) (files : Option FileMap)
     (load_fault write_fault : Type 0)
     (came : Status) (old new : Outside) → Some c ≡ o
     → MayCome (Answers files load_fault c) (PartAnswers files c) write_fault came old new
     → IfSome o (λ k. IfSome files (λ told. Succeeds files k → (load_fault → ⊥) → (write_fault → ⊥) → (came ≡ status.Done)
     ⊎ (came ≡ status.NoMemory)))
-complete_in one readings o c files load_fault write_fault came old new is h =
+complete_in one readings reading o c files load_fault write_fault came old new is h =
     subst (λ p. IfSome p (λ k. IfSome files (λ told. Succeeds files k → (load_fault → ⊥) → (write_fault → ⊥) → (came ≡ status.Done)
     ⊎ (came ≡ status.NoMemory)))) is
-    (complete_told one readings files load_fault write_fault c came old new h)
+    (complete_told one readings reading files load_fault write_fault c came old new h)
 
-pub usage_in : (one : OneEnd) (readings : Readings) (o : Option Command) (c : Command) (files : Option FileMap)
+pub usage_in : (one : OneEnd) (readings : Readings) (reading : OneReading) (o : Option Command) (c : Command) (files : Option FileMap)
     (load_fault write_fault : Type 0) (came : Status) (old new : Outside) → Some c ≡ o
     → MayCome (Answers files load_fault c) (PartAnswers files c) write_fault came old new
     → came ≡ status.Usage → o ≡ None
-usage_in one readings o c files load_fault write_fault came old new is h usage =
-    absurd (not_usage one readings files load_fault write_fault c came old new h usage)
+usage_in one readings reading o c files load_fault write_fault came old new is h usage =
+    absurd (not_usage one readings reading files load_fault write_fault c came old new h usage)

@@ -1,5 +1,5 @@
 -- The command of the code as a command of the words.
-use Rattle.uz_top.specs.Words.{Command, Asm, Build, Certify, Check, Debug, Demo, Dis, Expand, Find, Hints, Migrate, Play, Prints, Report, Timing, Trace, Wave}
+use Rattle.uz_top.specs.Words.{Command, Asm, Build, Certify, Check, Debug, Demo, Dis, Expand, Find, Hints, Migrate, Play, Prints, Report, Timing, Trace, Wave, Why}
 use Rattle.uz_top.specs.declared.command.Command.{Command as CommandValue}
 use Rattle.uz_top.specs.declared.command.Command.TheVariants as value
 
@@ -21,3 +21,4 @@ value_of (value.Wave hex pads irq clocks wav) = Wave hex.now pads.now irq clocks
 value_of (value.Prints text) = Prints text.now
 value_of (value.Find hex hints irq cert) = Find hex.now hints.now irq cert.now
 value_of (value.Hints hex pads irq clocks hints) = Hints hex.now pads.now irq clocks hints.now
+value_of (value.Why hex hints irq) = Why hex.now hints.now irq

@@ -6,7 +6,7 @@ use Rattle.uz_search.specs.declared.found.NotFound.{NotFound}
 use Rattle.uz_files.specs.declared.status.Status.{Status}
 use Rattle.uz_files.specs.declared.status.Status.TheVariants.{Done}
 use Rattle.uz_files.specs.Answers.{Answer, Ends, NoPart, Outside, one_line}
-use Rattle.uz_top.specs.Words.{Command, Asm, Build, Certify, Check, Debug, Demo, Dis, Expand, Find, Hints, Migrate, Play, Prints, Report, Timing, Trace, Wave}
+use Rattle.uz_top.specs.Words.{Command, Asm, Build, Certify, Check, Debug, Demo, Dis, Expand, Find, Hints, Migrate, Play, Prints, Report, Timing, Trace, Wave, Why}
 use Rattle.uz_program_commands.specs.TraceCommand.{TraceAnswers, TraceParts}
 use Rattle.uz_outcomes.specs.RunFiles.{RunLacks, RunSucceeds}
 use Rattle.uz_program_commands.specs.MacroCommands.{BuildAnswers, BuildSucceeds, ExpandAnswers, ExpandSucceeds, FilesBuilt}
@@ -17,7 +17,9 @@ use Rattle.uz_program_commands.specs.AsmCommand.{AsmAnswers, AsmSucceeds, FilesA
 use Rattle.uz_program_commands.specs.DisCommand.{DisAnswers, DisSucceeds}
 use Rattle.uz_certificate_commands.specs.CertifyCommand.{AllowedOf, CertifyAnswers, CertifyAnswersBy, CertifySucceeds, FilesCertify}
 use Rattle.uz_certificate_commands.specs.DemoCommand.{AllowedOfDemo, DemoAnswers, DemoAnswersBy, DemoHalted, DemoParts, DemoPlayed, DemoSucceeds}
-use Rattle.uz_certificate_commands.specs.FindCommand.{AllowedOfFind, FilesFound, FindAnswers, FindAnswersBy, FindLacks, FindSucceeds}
+use Rattle.uz_certificate_commands.specs.HintedSearch.{AllowedOfHinted, HintedLacks, HintedSucceeds}
+use Rattle.uz_certificate_commands.specs.FindCommand.{FilesFound, FindAnswers, FindAnswersBy}
+use Rattle.uz_certificate_commands.specs.WhyCommand.{HintsLead, WhyAnswers, WhyAnswersBy}
 use Rattle.uz_certificate_commands.specs.MigrateCommand.{FilesMigrated, MigrateAnswers, MigrateSucceeds}
 use Rattle.uz_certificate_commands.specs.CheckCommand.{CheckAnswers, FilesCertified}
 use Rattle.uz_certificate_commands.specs.ReportCommand.{FilesReported, ReportAnswers}
@@ -46,6 +48,7 @@ Answers files load_fault (Wave hex pads irq clocks wav) answer = WaveAnswers fil
 Answers files load_fault (Prints text) answer = answer ≡ one_line Done text
 Answers files load_fault (Find hex hints irq cert) answer = FindAnswers files load_fault hex hints irq cert answer
 Answers files load_fault (Hints hex pads irq clocks hints) answer = HintsAnswers files load_fault hex pads irq hints answer
+Answers files load_fault (Why hex hints irq) answer = WhyAnswers files load_fault hex hints irq answer
 
 -- a file that the command reads isn't there, and all earlier ones are read
 abbrev pub LacksRead : Option FileMap → Command → Type 0
@@ -64,8 +67,9 @@ LacksRead files (Report hex cert) = PairLacks files hex cert
 LacksRead files (Timing hex cert) = PairLacks files hex cert
 LacksRead files (Wave hex pads irq clocks wav) = RunLacks files hex pads
 LacksRead files (Prints text) = ⊥
-LacksRead files (Find hex hints irq cert) = FindLacks files hex hints
+LacksRead files (Find hex hints irq cert) = HintedLacks files hex hints
 LacksRead files (Hints hex pads irq clocks hints) = RunLacks files hex pads
+LacksRead files (Why hex hints irq) = HintedLacks files hex hints
 
 -- all that the command reads is there and in its grammar, and what it asks of it holds
 abbrev pub Succeeds : Option FileMap → Command → Type 0
@@ -84,9 +88,10 @@ Succeeds files (Report hex cert) = SpellPair files hex cert Accepts
 Succeeds files (Timing hex cert) = SpellPair files hex cert Accepts
 Succeeds files (Wave hex pads irq clocks wav) = RunSucceeds files hex pads irq clocks
 Succeeds files (Prints text) = Unit {0}
-Succeeds files (Find hex hints irq cert) = FindSucceeds files hex hints irq
+Succeeds files (Find hex hints irq cert) = HintedSucceeds files hex hints irq
 -- which hints a run gives, and whether it gives some, is a choice: nothing that is asked of the files leads to them
 Succeeds files (Hints hex pads irq clocks hints) = ⊥
+Succeeds files (Why hex hints irq) = HintedSucceeds files hex hints irq
 
 -- the command creates no file
 abbrev pub CreatesNone : Command → Type 0
@@ -107,6 +112,7 @@ CreatesNone (Wave hex pads irq clocks wav) = ⊥
 CreatesNone (Prints text) = Unit {0}
 CreatesNone (Find hex hints irq cert) = ⊥
 CreatesNone (Hints hex pads irq clocks hints) = ⊥
+CreatesNone (Why hex hints irq) = Unit {0}
 
 -- what a command is worth where it is done, with the files before it and after it
 abbrev pub Certifies : Option FileMap → Option FileMap → Command → Type 0
@@ -127,6 +133,7 @@ Certifies files new (Wave hex pads irq clocks wav) = FilesHeard files new hex pa
 Certifies files new (Prints text) = Unit {0}
 Certifies files new (Find hex hints irq cert) = FilesFound files new hex hints irq cert
 Certifies files new (Hints hex pads irq clocks hints) = FilesHinted files new hex pads hints
+Certifies files new (Why hex hints irq) = HintsLead files hex hints irq
 
 -- what a command tells where it is stopped
 abbrev pub StopTells : Option FileMap → Command → Type 0
@@ -147,6 +154,7 @@ StopTells files (Wave hex pads irq clocks wav) = Unit {0}
 StopTells files (Prints text) = Unit {0}
 StopTells files (Find hex hints irq cert) = Unit {0}
 StopTells files (Hints hex pads irq clocks hints) = Unit {0}
+StopTells files (Why hex hints irq) = Unit {0}
 
 -- what a command has come to that is cut short in the midst of its work
 abbrev pub PartAnswers : Option FileMap → Command → Answer → Type 0
@@ -167,9 +175,10 @@ PartAnswers files (Wave hex pads irq clocks wav) = NoPart
 PartAnswers files (Prints text) = NoPart
 PartAnswers files (Find hex hints irq cert) = NoPart
 PartAnswers files (Hints hex pads irq clocks hints) = NoPart
+PartAnswers files (Why hex hints irq) = NoPart
 
--- Where the shelf tells its files, they decide the answer, and for `certify`, `find` and `demo` an answer of the search does besides, for
--- `hints` what is proposed, as plain data
+-- Where the shelf tells its files, they decide the answer, and for `certify`, `find`, `why` and `demo` an answer of the search does besides,
+-- for `hints` what is proposed, as plain data
 
 abbrev pub AnswersBy : Option FileMap → Result Cert NotFound → Proposal → Command → Answer → Type 0
 AnswersBy files found proposal (Check hex cert) answer = CheckAnswers files ⊥ hex cert answer
@@ -189,6 +198,7 @@ AnswersBy files found proposal (Wave hex pads irq clocks wav) answer = WaveAnswe
 AnswersBy files found proposal (Prints text) answer = answer ≡ one_line Done text
 AnswersBy files found proposal (Find hex hints irq cert) answer = FindAnswersBy files hex hints cert found answer
 AnswersBy files found proposal (Hints hex pads irq clocks hints) answer = HintsAnswersBy files hex pads irq hints proposal answer
+AnswersBy files found proposal (Why hex hints irq) answer = WhyAnswersBy files hex hints irq found answer
 
 -- what the search's promise allows: a certificate that is accepted and as the hints ask, or a refusal whose cause stands; and what may be
 -- proposed
@@ -208,8 +218,9 @@ AllowedFor files (Report hex cert) found proposal = Unit {0}
 AllowedFor files (Timing hex cert) found proposal = Unit {0}
 AllowedFor files (Wave hex pads irq clocks wav) found proposal = Unit {0}
 AllowedFor files (Prints text) found proposal = Unit {0}
-AllowedFor files (Find hex hints irq cert) found proposal = AllowedOfFind files hex hints irq found
+AllowedFor files (Find hex hints irq cert) found proposal = AllowedOfHinted files hex hints irq found
 AllowedFor files (Hints hex pads irq clocks hints) found proposal = IsProposal proposal
+AllowedFor files (Why hex hints irq) found proposal = AllowedOfHinted files hex hints irq found
 
 -- it ended with the one answer that they decide
 pub record IsDecided (files : Option FileMap) (write_fault : Type 0) (c : Command) (came : Status) (old new : Outside) : Type 0 where

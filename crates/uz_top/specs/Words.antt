@@ -28,6 +28,7 @@ pub data Command : Type 0 where
   Prints : (text : List ℕ) → Command
   Find : (hex hints : List ℕ) → (irq : Response) → (cert : List ℕ) → Command
   Hints : (hex pads : List ℕ) → (irq : Response) → (clocks : ℕ) → (hints : List ℕ) → Command
+  Why : (hex hints : List ℕ) → (irq : Response) → Command
 
 -- the file words of a command differ
 abbrev pub check_words : List (List ℕ) → Option Command
@@ -160,6 +161,14 @@ hints_words (hex ∷ pads ∷ irq ∷ clocks ∷ hints ∷ []) =
     else hints_with hex pads (response_of irq) (number_within 1 1000000001 clocks) hints
 hints_words other = None
 
+abbrev pub why_with : List ℕ → List ℕ → Option Response → Option Command
+why_with hex hints (Some irq) = Some (Why hex hints irq)
+why_with hex hints None = None
+
+abbrev pub why_words : List (List ℕ) → Option Command
+why_words (hex ∷ hints ∷ irq ∷ []) = if bytes_eq hex hints then None else why_with hex hints (response_of irq)
+why_words other = None
+
 abbrev pub command_of : List (List ℕ) → Option Command
 command_of [] = None
 command_of (verb ∷ words) =
@@ -181,6 +190,7 @@ command_of (verb ∷ words) =
     else if bytes_eq verb (codes "version") then version_words words
     else if bytes_eq verb (codes "find") then find_words words
     else if bytes_eq verb (codes "hints") then hints_words words
+    else if bytes_eq verb (codes "why") then why_words words
     else None
 
 -- the words are no command

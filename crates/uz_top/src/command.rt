@@ -10,7 +10,7 @@ ghost use Rattle.uz_top.specs.Words.{find_with as find_with_response, find_words
 ghost use Rattle.uz_top.specs.Words.{hints_with as hints_with_numbers, hints_words};
 ghost use Rattle.uz_top.specs.Words.{play_with as play_with_clocks, play_words, report_words, response_of, timing_words};
 ghost use Rattle.uz_top.specs.Words.{trace_with as trace_with_numbers, trace_words, version_words};
-ghost use Rattle.uz_top.specs.Words.{wave_with as wave_with_numbers, wave_words};
+ghost use Rattle.uz_top.specs.Words.{wave_with as wave_with_numbers, wave_words, why_with as why_with_response, why_words};
 
 use uz_cert::Response;
 use uz_certificate_commands::{Clocks, number_of_clocks};
@@ -102,6 +102,11 @@ pub(crate) enum Command<'a> {
         clocks: u32,
         hints: &'a str,
     },
+    Why {
+        hex: &'a str,
+        hints: &'a str,
+        irq: Response,
+    },
 }
 
 /// The command of these words, without the program's name, or `None` where they are no command.
@@ -137,6 +142,7 @@ fn parse_after<'a>(verb: &str, rest: &'a [String]) -> Option<Command<'a>>
         "version" => version(rest),
         "find" => find(rest),
         "hints" => hints(rest),
+        "why" => why(rest),
         _ => None,
     }
 }
@@ -583,6 +589,28 @@ fn hints(words: &[String]) -> Option<Command<'_>>
                     hints.as_str(),
                 )
             }
+        }
+        _ => None,
+    }
+}
+
+/// The command once its files are known to differ.
+fn why_with<'a>(hex: &'a str, hints: &'a str, irq: &str) -> Option<Command<'a>>
+    ensures { option_map value_of result ≡ why_with_response hex.now hints.now (response_of irq.now) }
+{
+    match response(irq) {
+        Some(irq) => Some(Command::Why { hex, hints, irq }),
+        None => None,
+    }
+}
+
+/// `why HEX HINTS IRQ`, of two files.
+fn why(words: &[String]) -> Option<Command<'_>>
+    ensures { option_map value_of result ≡ why_words (map string_bytes words.now) }
+{
+    match words {
+        [hex, hints, irq] if differ(hex.as_str(), hints.as_str()) => {
+            why_with(hex.as_str(), hints.as_str(), irq.as_str())
         }
         _ => None,
     }

@@ -13,7 +13,8 @@ use crate::command::{Command, parse};
 use avr_macro::expansion_is_unique;
 use std::alloc::Global;
 use uz_certificate_commands::{
-    run_certify, run_check, run_demo, run_find, run_migrate, run_play, run_report, run_timing,
+    reading_is_unique, run_certify, run_check, run_demo, run_find, run_migrate, run_play,
+    run_report, run_timing, run_why,
 };
 use uz_files::{Status, end_done, end_fault, put_no_memory, readings_are_unique};
 use uz_help::usage_line;
@@ -105,6 +106,7 @@ fn run<H: Shelf, K: Sink>(
             clocks,
             hints,
         } => run_hints(alloc, hex, pads, irq, clocks, hints, shelf, out),
+        Command::Why { hex, hints, irq } => run_why(alloc, hex, hints, irq, shelf, out),
     }
 }
 
@@ -144,6 +146,7 @@ fn answer<H: Shelf, K: Sink>(alloc: Global, words: &[String], shelf: &mut H, out
 {
     expansion_is_unique();
     readings_are_unique();
+    reading_is_unique();
     match parse(words) {
         Some(command) => run(alloc, &command, shelf, out),
         None => end_usage(alloc, out),
@@ -179,8 +182,8 @@ pub fn uzebox<H: Shelf, K: Sink>(
         result (outside (H.files shelf.old) (K.text out.old))) result (Rose (K.faults out.old) (K.faults out.new) ⊎ K.may_lack)
         (outside (H.files shelf.new) (K.text out.new))) }
 
-    // Where the shelf tells its files, they alone decide the answer, for `certify`, `find` and `demo` with what the search answered, for
-    // `hints` with what is proposed: unless memory is lacking or a fault came.
+    // Where the shelf tells its files, they alone decide the answer, for `certify`, `find`, `why` and `demo` with what the search answered,
+    // for `hints` with what is proposed: unless memory is lacking or a fault came.
     ensures exact { IfCommand words.now (λ c. IfSome (H.files shelf.old) (λ files.
         (result ≡ Status.NoMemory)
         ⊎ (LoadFault (H.load_faults shelf.old) (H.load_faults shelf.new)
@@ -207,7 +210,7 @@ pub fn uzebox<H: Shelf, K: Sink>(
     // What a command that is done is worth: after `asm` and `build` the written file is Intel HEX of the image that the source
     // assembles to, after `migrate` it is a text of the very certificate that was read; `check` and `timing` certify the image and
     // the certificate that their files spell, `certify` those that the written files spell, `find` the image that is read and the
-    // certificate that is written; after `report` the clocks that are printed
+    // certificate that is written, and after `why` there is one to the image that is read; after `report` the clocks that are printed
     // are those that main has; after `wave` the written file is the sound of the run; after `hints` it is a source of hints that the
     // assembler takes, and for which it puts out no byte; and a run that is played, by `play` or
     // `demo`, keeps to the schedule once a state of it has entered. One that is stopped never entered.

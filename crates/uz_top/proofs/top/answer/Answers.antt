@@ -6,26 +6,26 @@ use Rattle.uz_top.proofs.top.answer.Goals as goal
 
 pub returns-in-Some-clause-usage : goal.returns-in-Some-clause-usage
 returns-in-Some-clause-usage g c =
-    usage_in c.expansion_is_unique.ensures c.readings_are_unique.ensures _ (value_of c.in-Some.command)
+    usage_in c.expansion_is_unique.ensures c.readings_are_unique.ensures c.reading_is_unique.ensures _ (value_of c.in-Some.command)
     _ _ _ _ _ _ c.in-Some.ensures c.run.ensures.outcome
 
 pub returns-in-Some-clause-exact : goal.returns-in-Some-clause-exact
-returns-in-Some-clause-exact g c = exact_in c.expansion_is_unique.ensures c.readings_are_unique.ensures _
+returns-in-Some-clause-exact g c = exact_in c.expansion_is_unique.ensures c.readings_are_unique.ensures c.reading_is_unique.ensures _
     (value_of c.in-Some.command) _ _ _ _ _ _
     c.in-Some.ensures c.run.ensures.outcome
 
 pub returns-in-Some-clause-unread : goal.returns-in-Some-clause-unread
 returns-in-Some-clause-unread g c =
-    unread_in c.expansion_is_unique.ensures c.readings_are_unique.ensures _ (value_of c.in-Some.command)
+    unread_in c.expansion_is_unique.ensures c.readings_are_unique.ensures c.reading_is_unique.ensures _ (value_of c.in-Some.command)
     _ _ _ _ _ _ c.in-Some.ensures c.run.ensures.outcome
 
 pub returns-in-Some-clause-unwritten : goal.returns-in-Some-clause-unwritten
 returns-in-Some-clause-unwritten g c =
-    unwritten c.expansion_is_unique.ensures c.readings_are_unique.ensures _ _ _ (value_of c.in-Some.command)
+    unwritten c.expansion_is_unique.ensures c.readings_are_unique.ensures c.reading_is_unique.ensures _ _ _ (value_of c.in-Some.command)
     _ _ _ c.run.ensures.outcome
 
 pub returns-in-Some-clause-complete : goal.returns-in-Some-clause-complete
-returns-in-Some-clause-complete g c = complete_in c.expansion_is_unique.ensures c.readings_are_unique.ensures _
+returns-in-Some-clause-complete g c = complete_in c.expansion_is_unique.ensures c.readings_are_unique.ensures c.reading_is_unique.ensures _
     (value_of c.in-Some.command) _ _ _ _ _ _
     c.in-Some.ensures c.run.ensures.outcome
 

@@ -137,3 +137,12 @@ pub returns-in-Hints-clause-certified : goal.returns-in-Hints-clause-certified
 returns-in-Hints-clause-certified g c = λ done apart.
     subst (Certifies (g.H.Shelf.files c.args.shelf.now) (g.H.Shelf.files c.run_hints.new.shelf)) (sym (ap value_of c.in-Hints.is))
     (c.run_hints.ensures.hinted done)
+
+pub returns-in-Why-clause-outcome : goal.returns-in-Why-clause-outcome
+returns-in-Why-clause-outcome g c = outcome_at (value_of c.args.command.now) _ _ _ _ _ _ _ (ap value_of c.in-Why.is)
+    c.run_why.ensures.outcome
+
+pub returns-in-Why-clause-certified : goal.returns-in-Why-clause-certified
+returns-in-Why-clause-certified g c = λ done apart.
+    subst (Certifies (g.H.Shelf.files c.args.shelf.now) (g.H.Shelf.files c.run_why.new.shelf)) (sym (ap value_of c.in-Why.is))
+    (c.run_why.ensures.certified done)

@@ -1,7 +1,7 @@
 use Rattle.std.proofs.Common.{◌∙◌, sym, subst, arith}
-use Rattle.uz_certificate_commands.proofs.FindBytes.{AreOddBelow, odd_kept, odd_set, odd_start, odd_told, odd_whole}
-use Rattle.uz_certificate_commands.proofs.find_command.odd_bytes.Goals.{in-Some, in_default}
-use Rattle.uz_certificate_commands.proofs.find_command.odd_bytes.Goals as goal
+use Rattle.uz_certificate_commands.proofs.HintedBytes.{AreOddBelow, odd_kept, odd_set, odd_start, odd_told, odd_whole}
+use Rattle.uz_certificate_commands.proofs.hinted.odd_bytes.Goals.{in-Some, in_default}
+use Rattle.uz_certificate_commands.proofs.hinted.odd_bytes.Goals as goal
 
 pub loop-at-init : goal.loop-at-init
 loop-at-init c = odd_start c.args.placed.now c.args.image.now c.in_ok-odd.odd c.in_ok-odd.ensures

@@ -7,7 +7,7 @@ use Rattle.std.specs.Cmp.{nat_cmp_total}
 use Rattle.std.proofs.lemmas.Bool.Decides.{nat_tests}
 use Rattle.uz_hex.specs.Cells.{IsFlash}
 use Rattle.uz_hex.specs.Reading.{Flash}
-use Rattle.uz_certificate_commands.specs.FindCommand.{AreOdd, IsWithin, unless_same}
+use Rattle.uz_certificate_commands.specs.HintedSearch.{AreOdd, IsWithin, unless_same}
 
 -- the same byte on both sides
 same_byte : (byte : ℕ) → unless_same (Some byte) (Some byte) ≡ None

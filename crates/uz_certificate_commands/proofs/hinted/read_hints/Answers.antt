@@ -6,15 +6,13 @@ use Rattle.avr_macro.specs.Answers.{names_of}
 use Rattle.uz_files.proofs.HintCount.{few_hints}
 use Rattle.uz_files.specs.Answers.{one_line}
 use Rattle.uz_files.specs.declared.status.Status.TheVariants.{BadInput}
-use Rattle.uz_certificate_commands.specs.FindValues.{text_of}
-use Rattle.uz_certificate_commands.proofs.FindBytes.{none_within, some_odd}
-use Rattle.uz_certificate_commands.proofs.FindLemmas.{hints_misfit, hints_unbuilt, hints_unread}
-use Rattle.uz_certificate_commands.proofs.find_command.read_hints.Goals as goal
+use Rattle.uz_certificate_commands.specs.HintedValues.{text_of}
+use Rattle.uz_certificate_commands.proofs.HintedBytes.{none_within, some_odd}
+use Rattle.uz_certificate_commands.proofs.HintedLemmas.{hints_misfit, hints_unbuilt, hints_unread}
+use Rattle.uz_certificate_commands.proofs.hinted.read_hints.Goals as goal
 
 pub returns-then-count-eq0-clause-fits : goal.returns-then-count-eq0-clause-fits
 returns-then-count-eq0-clause-fits g c = record {
-  names = names_of c.in-Ok.source.names;
-  flat = text_of c.in-Ok.source.flat;
   expands = c.in-Ok.ensures.said;
   assembles = c.in-Ok-assemble_flat.ensures.built;
   within = none_within c.in-Ok-assemble_flat.built.image c.args.image.now c.in_ok-odd.odd c.in_ok-odd.ensures

@@ -1,5 +1,5 @@
-use Rattle.uz_certificate_commands.proofs.FindBytes.{AreOddBelow}
-use Rattle.uz_certificate_commands.proofs.find_command.odd_bytes.Given as goal
+use Rattle.uz_certificate_commands.proofs.HintedBytes.{AreOddBelow}
+use Rattle.uz_certificate_commands.proofs.hinted.odd_bytes.Given as goal
 
 -- the odd bytes below the address
 abbrev pub invariant-loop-at : goal.invariant-loop-at
